@@ -6,6 +6,17 @@
 //! say of that word or halfword, for every one of them, and that none of them has two lines there.
 #![tactic(auto)]
 
+mod assemble;
+mod bits;
+mod encode;
+mod formats;
+mod half_immediates;
+mod halfwords;
 mod instruction;
+mod opcodes;
+mod words;
 
+pub use bits::sign_extend;
+pub use halfwords::{decode16, expand, is_long, no_halfword_has_two_rows};
 pub use instruction::{Instr, Op};
+pub use words::{decode32, no_word_has_two_rows};
