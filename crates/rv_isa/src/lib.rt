@@ -14,6 +14,8 @@ mod half_immediates;
 mod halfwords;
 mod instruction;
 mod opcodes;
+#[cfg(test)]
+mod tests;
 mod words;
 
 pub use bits::sign_extend;
