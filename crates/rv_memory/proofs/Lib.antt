@@ -1,0 +1,7 @@
+pub mod Apart
+pub mod Tables
+pub mod Offsets
+pub mod Places
+pub mod Views
+pub mod Accesses
+pub mod Opening
