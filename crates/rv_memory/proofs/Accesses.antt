@@ -1,22 +1,25 @@
 -- What an access gives, by where its bytes stand.
-use Rattle.std.proofs.Common.{◌≡◌, ℕ, zero, suc, ◌+◌, ◌-◌, ◌*◌, ◌/◌, ◌%◌, ◌<◌, ◌≤◌, Bool, true, false, not, ◌&&◌, ◌||◌, cond, eqb, leb, List, [], ◌∷◌, Result, Ok, Err, MatchOption, MatchResult, sym, ap, subst, ◌∙◌, refl, arith, get_or, length}
+use Rattle.std.proofs.Common.{◌≡◌, ℕ, zero, suc, ◌+◌, ◌-◌, ◌*◌, ◌/◌, ◌%◌, ◌<◌, ◌≤◌, Bool, true, false, not, ◌&&◌, ◌||◌, cond, eqb, leb, List, [], ◌∷◌, ◌++◌, Option, None, drop, ltb, Result, Ok, Err, sym, ap, subst, ◌∙◌, refl, arith, get_or, length}
 use Rattle.std.specs.List.{list_any}
 use Rattle.std.proofs.Common.{◌⊎◌, inl, inr}
-use Rattle.std.proofs.lemmas.Bool.{or_parts, or_from, or_right}
+use Rattle.std.proofs.lemmas.Bool.{or_parts, or_from, or_right, and_from, and_right, ne_eqb, both_ways, le-leb, lt-ltb}
 use Rattle.std.specs.FinSet as finset
 use Rattle.std.proofs.Math.ListN.{replicate}
 use Rattle.rv_memory.specs.declared.map.Region.{Region}
 use Rattle.rv_memory.specs.declared.bus.Width.{Width}
 use Rattle.rv_memory.specs.declared.bus.Width.TheVariants.{Byte, Half, Word}
 use Rattle.rv_memory.specs.declared.bus.BusFault.{BusFault}
-use Rattle.rv_memory.specs.declared.bus.BusFault.TheVariants.{Misaligned, Access}
+use Rattle.rv_memory.specs.declared.bus.BusFault.TheVariants.{Misaligned, Access, ConsoleFull}
 use Rattle.rv_memory.specs.declared.bus.FetchFault.{FetchFault}
 use Rattle.rv_memory.specs.declared.bus.FetchFault.TheVariants.{Unmapped, Stale}
 use Rattle.rv_memory.specs.Regions.{covers, in_one, in_writable}
+use Rattle.rv_memory.specs.Maps.{map_error}
 use Rattle.rv_memory.specs.Places.{IsPlace}
 use Rattle.std.proofs.Math.ListN.{set, length-set}
 use Rattle.rv_memory.specs.View.{memory_of, stored_of, read_at, written_at, marked_at}
-use Rattle.rv_memory.specs.Bus.{Contents, size_of, in_console, value_at, half_at, byte_at, load_from, console_load, store_to, console_store, put, fetch_half_from, is_stale}
+use Rattle.rv_memory.specs.Bus.{Contents, size_of, in_console, value_at, half_at, byte_at, load_from, console_load, next_of, store_to, console_store, put, fetch_half_from, is_stale}
+use Rattle.rv_memory.proofs.Apart.{not_console}
+use Rattle.rv_memory.proofs.Accepted.{accepted}
 use Rattle.rv_memory.proofs.Views.{is_stored, value_at-memory_of, stands}
 
 pub in_one-sized : (rs : List Region) (a : ℕ) (w : Width) (b : Bool) → list_any (covers a (size_of w)) rs ≡ b → in_one rs a (size_of w) ≡ b
@@ -29,42 +32,70 @@ size_positive Byte = omega arith
 size_positive Half = omega arith
 size_positive Word = omega arith
 
-module _ (c : Contents) (a : ℕ) (w : Width) (aligned : eqb (a % size_of w) 0 ≡ true) (plain : in_console a ≡ false) where
-  load_tested : (b : Bool) → list_any (covers a (size_of w)) c.regions ≡ b → load_from c a w ≡ cond b (Ok (value_at c.memory a w, c)) (Err Access)
-  load_tested b e =
+-- an address that isn't the console's gives nothing there
+module _ (c : Contents) (a : ℕ) (outside : in_console a ≡ false) where
+  not_at : (b : ℕ) → 0x1000_0000 ≤ b → b < 0x1000_0010 → eqb a b ≡ false
+  not_at b l h = ne_eqb a b (λ e. both_ways _ outside (and_from _ _ (le-leb 0x1000_0000 a (omega arith)) (lt-ltb a 0x1000_0010 (omega arith))))
+
+  console_load-outside : (w : Width) → console_load c a w ≡ Err Access
+  console_load-outside Byte = refl
+  console_load-outside Half = refl
+  console_load-outside Word =
+      ap (λ x. cond x (Ok (next_of c.script, record c { script = drop 1 c.script })) (cond (eqb a 0x1000_0004) (Ok (length c.script, c)) (Err Access))) (not_at 0x1000_0000 (omega arith) (omega arith))
+      ∙ ap (λ x. cond x (Ok (length c.script, c)) (Err Access)) (not_at 0x1000_0004 (omega arith) (omega arith))
+
+  console_store-outside : (w : Width) (v : ℕ) → console_store c a w v ≡ Err Access
+  console_store-outside Byte v = refl
+  console_store-outside Half v = refl
+  console_store-outside Word v =
+      ap (λ x. cond (not x) (Err Access) (cond (ltb (length c.output) 0x1_0000) (Ok (record c { output = c.output ++ (v % 0x100) ∷ [] })) (Err ConsoleFull))) (not_at 0x1000_0000 (omega arith) (omega arith))
+
+module _ (c : Contents) (a : ℕ) (w : Width) (aligned : eqb (a % size_of w) 0 ≡ true) where
+  load_tested : (b d : Bool) → in_console a ≡ b → list_any (covers a (size_of w)) c.regions ≡ d → load_from c a w ≡ cond b (console_load c a w) (cond d (Ok (value_at c.memory a w, c)) (Err Access))
+  load_tested b d e f =
       ap (λ x. cond (not x) (Err Misaligned) (cond (in_console a) (console_load c a w) (cond (in_one c.regions a (size_of w)) (Ok (value_at c.memory a w, c)) (Err Access)))) aligned
-      ∙ ap (λ x. cond x (console_load c a w) (cond (in_one c.regions a (size_of w)) (Ok (value_at c.memory a w, c)) (Err Access))) plain
-      ∙ ap (λ x. cond x (Ok (value_at c.memory a w, c)) (Err Access)) (in_one-sized c.regions a w b e)
+      ∙ ap (λ x. cond x (console_load c a w) (cond (in_one c.regions a (size_of w)) (Ok (value_at c.memory a w, c)) (Err Access))) e
+      ∙ ap (λ x. cond b (console_load c a w) (cond x (Ok (value_at c.memory a w, c)) (Err Access))) (in_one-sized c.regions a w d f)
 
-  store_tested : (v : ℕ) (b : Bool) → in_writable c.regions a (size_of w) ≡ b → store_to c a w v ≡ cond b (Ok (put c a w v)) (Err Access)
-  store_tested v b e =
+  store_tested : (v : ℕ) (b d : Bool) → in_console a ≡ b → in_writable c.regions a (size_of w) ≡ d → store_to c a w v ≡ cond b (console_store c a w v) (cond d (Ok (put c a w v)) (Err Access))
+  store_tested v b d e f =
       ap (λ x. cond (not x) (Err Misaligned) (cond (in_console a) (console_store c a w v) (cond (in_writable c.regions a (size_of w)) (Ok (put c a w v)) (Err Access)))) aligned
-      ∙ ap (λ x. cond x (console_store c a w v) (cond (in_writable c.regions a (size_of w)) (Ok (put c a w v)) (Err Access))) plain
-      ∙ ap (λ x. cond x (Ok (put c a w v)) (Err Access)) e
+      ∙ ap (λ x. cond x (console_store c a w v) (cond (in_writable c.regions a (size_of w)) (Ok (put c a w v)) (Err Access))) e
+      ∙ ap (λ x. cond b (console_store c a w v) (cond x (Ok (put c a w v)) (Err Access))) f
 
-  pub load_missing : list_any (covers a (size_of w)) c.regions ≡ false → load_from c a w ≡ Err Access
-  load_missing e = load_tested false e
+  -- where no region has the bytes, an access is the console's, which refuses what isn't its own
+  pub load_elsewhere : list_any (covers a (size_of w)) c.regions ≡ false → load_from c a w ≡ console_load c a w
+  load_elsewhere e =
+      elim (in_console a) as (λ b. in_console a ≡ b → load_from c a w ≡ console_load c a w) [
+        | true ↦ λ h. load_tested true false h e
+        | false ↦ λ h. load_tested false false h e ∙ sym (console_load-outside c a h w)
+      ] refl
 
-  pub load_found : (at : ℕ) (may : Bool) (bytes : List ℕ) (v : ℕ) → IsPlace c.regions a (size_of w) at may → c.memory ≡ memory_of c.regions bytes → v ≡ read_at bytes at w → load_from c a w ≡ Ok (v, c)
-  load_found at may bytes v p m e =
-      load_tested true p.one ∙ ap (λ x. Ok (x, c)) (ap (λ x. value_at x a w) m ∙ value_at-memory_of c.regions bytes a at w may p ∙ sym e)
-
-  pub store_missing : (v : ℕ) → list_any (covers a (size_of w)) c.regions ≡ false → store_to c a w v ≡ Err Access
-  store_missing v e = store_tested v false (no_writable c.regions e)
+  pub store_elsewhere : (v : ℕ) → list_any (covers a (size_of w)) c.regions ≡ false → store_to c a w v ≡ console_store c a w v
+  store_elsewhere v e =
+      elim (in_console a) as (λ b. in_console a ≡ b → store_to c a w v ≡ console_store c a w v) [
+        | true ↦ λ h. store_tested v true false h (none_writable c.regions e)
+        | false ↦ λ h. store_tested v false false h (none_writable c.regions e) ∙ sym (console_store-outside c a h w v)
+      ] refl
     where
-      none : (b d : Bool) → d ≡ false → (b && d) ≡ false
-      none true d e = e
-      none false d e = refl
+      none_writable : (rs : List Region) → list_any (covers a (size_of w)) rs ≡ false → in_writable rs a (size_of w) ≡ false
+      none_writable [] e = refl
+      none_writable (r ∷ rs) e = let p = or_parts (covers a (size_of w) r) (list_any (covers a (size_of w)) rs) e in or_from _ _ (and_right r.writable _ p.0) (none_writable rs p.1)
 
-      no_writable : (rs : List Region) → list_any (covers a (size_of w)) rs ≡ false → in_writable rs a (size_of w) ≡ false
-      no_writable [] e = refl
-      no_writable (r ∷ rs) e = let p = or_parts (covers a (size_of w) r) (list_any (covers a (size_of w)) rs) e in or_from _ _ (none r.writable (covers a (size_of w) r) p.0) (no_writable rs p.1)
+  -- where one has them, it isn't
+  module _ (at : ℕ) (may : Bool) (p : IsPlace c.regions a (size_of w) at may) (regions : map_error c.regions ≡ None) where
+    no_console : in_console a ≡ false
+    no_console = not_console c.regions a (size_of w) (size_positive w) ((accepted c.regions regions).console) p.one
 
-  pub store_read_only : (at v : ℕ) (may : Bool) → IsPlace c.regions a (size_of w) at may → may ≡ false → store_to c a w v ≡ Err Access
-  store_read_only at v may p e = store_tested v false (p.may ∙ e)
+    pub load_found : (bytes : List ℕ) (v : ℕ) → c.memory ≡ memory_of c.regions bytes → v ≡ read_at bytes at w → load_from c a w ≡ Ok (v, c)
+    load_found bytes v m e =
+        load_tested false true no_console p.one ∙ ap (λ x. Ok (x, c)) (ap (λ x. value_at x a w) m ∙ value_at-memory_of c.regions bytes a at w may p ∙ sym e)
 
-  pub store_found : (at v : ℕ) (may : Bool) → IsPlace c.regions a (size_of w) at may → may ≡ true → store_to c a w v ≡ Ok (put c a w v)
-  store_found at v may p e = store_tested v true (p.may ∙ e)
+    pub store_read_only : (v : ℕ) → may ≡ false → store_to c a w v ≡ Err Access
+    store_read_only v e = store_tested v false false no_console (p.may ∙ e)
+
+    pub store_found : (v : ℕ) → may ≡ true → store_to c a w v ≡ Ok (put c a w v)
+    store_found v e = store_tested v false true no_console (p.may ∙ e)
 
 pub no_marks : (n k : ℕ) → ◌≡◌ {A = ℕ} (get_or (replicate n 0) k 0) 0
 no_marks zero k = refl

@@ -1,4 +1,5 @@
 pub mod Apart
+pub mod Accepted
 pub mod Tables
 pub mod Offsets
 pub mod Places

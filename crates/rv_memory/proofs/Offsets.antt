@@ -7,6 +7,7 @@ use Rattle.rv_memory.specs.declared.map.Region.{Region}
 use Rattle.rv_memory.specs.Regions.{covers, in_one, in_writable, addresses, total_size}
 use Rattle.rv_memory.specs.Places.{covered, offset}
 use Rattle.rv_memory.proofs.Tables.{among}
+use Rattle.rv_memory.proofs.Apart.{covers_bounds}
 
 any_append : (p : ℕ → Bool) (xs ys : List ℕ) → list_any p (xs ++ ys) ≡ (list_any p xs || list_any p ys)
 any_append p [] ys = refl
@@ -25,9 +26,6 @@ among_addresses [] q = refl
 among_addresses (r ∷ rs) q =
     any_append (eqb q) (range_with_len r.base r.size) (addresses rs)
     ∙ or_congruence _ _ _ _ (among_range q r.base r.size) (among_addresses rs q)
-
-pub covers_bounds : (a n : ℕ) (r : Region) → covers a n r ≡ true → (r.base ≤ a) × (a + n ≤ r.base + r.size)
-covers_bounds a n r h = let p = and_parts (leb r.base a) (leb (a + n) (r.base + r.size)) h in (leb-true _ _ p.0, leb-true _ _ p.1)
 
 -- an address that some region has stands within the bytes
 pub offset_below : (rs : List Region) (a : ℕ) → covered rs a ≡ true → offset rs a < total_size rs

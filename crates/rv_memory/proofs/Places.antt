@@ -2,18 +2,13 @@
 use Rattle.std.proofs.Common.{◌≡◌, ℕ, zero, suc, ◌+◌, ◌-◌, ◌<◌, ◌≤◌, Bool, true, false, ◌&&◌, ◌||◌, cond, eqb, leb, List, [], ◌∷◌, ◌++◌, Option, Some, None, MatchOption, sym, ap, subst, ◌∙◌, refl, arith, inl, inr, ⊎_elim, get_or, drop, length}
 use Rattle.std.specs.List.{list_any}
 use Rattle.std.proofs.lemmas.List.{at_drop_more, at_drop_all}
-use Rattle.std.proofs.lemmas.Bool.{and_parts, leb-true, leb-false, or_parts, or_cases, true≢false, false≢true, and_from, le-leb, both_ways, false_from_ne_true, and_left, and_right, or_from}
+use Rattle.std.proofs.lemmas.Bool.{and_parts, leb-true, leb-false, or_parts, or_cases, true≢false, false≢true, and_from, le-leb, both_ways, false_from_ne_true, and_left, and_right, or_from, or_left, or_right}
 use Rattle.std.proofs.lemmas.Bool.Decides.{nat_tests}
 use Rattle.rv_memory.specs.declared.map.Region.{Region}
+use Rattle.rv_memory.specs.declared.map.Place.{Place}
 use Rattle.rv_memory.specs.Regions.{covers, in_writable, total_size}
-use Rattle.rv_memory.specs.Places.{covered, offset, IsPlace}
-use Rattle.rv_memory.proofs.Apart.{Apart, ApartFrom, AllApart}
-use Rattle.rv_memory.proofs.Offsets.{covers_bounds}
-
--- what the search answers, from a start on
-abbrev pub search_place : List Region → ℕ → ℕ → ℕ → Option (ℕ × Bool)
-search_place [] start a n = None
-search_place (r ∷ rs) start a n = cond (covers a n r) (Some (start + (a - r.base), r.writable)) (search_place rs (start + r.size) a n)
+use Rattle.rv_memory.specs.Places.{covered, offset, IsPlace, search_place}
+use Rattle.rv_memory.proofs.Apart.{Apart, ApartFrom, AllApart, covers_bounds}
 
 pub covers_each : (a n k : ℕ) (r : Region) → k < n → covers a n r ≡ true → covers (a + k) 1 r ≡ true
 covers_each a n k r l h = let p = covers_bounds a n r h in and_from _ _ (le-leb r.base (a + k) (omega arith)) (le-leb (a + k + 1) (r.base + r.size) (omega arith))
@@ -47,10 +42,10 @@ pub record IsPlaceFrom (rs : List Region) (start a n at : ℕ) (writable : Bool)
   pub each : (k : ℕ) → k < n → (covered rs (a + k) ≡ true) × (start + offset rs (a + k) ≡ at + k)
   pub ends : at + n ≤ start + total_size rs
 
-pub search_place_is : (rs : List Region) (start a n : ℕ) → 0 < n → AllApart rs → MatchOption (search_place rs start a n) (list_any (covers a n) rs ≡ false) (λ p. IsPlaceFrom rs start a n p.0 p.1)
+pub search_place_is : (rs : List Region) (start a n : ℕ) → 0 < n → AllApart rs → MatchOption (search_place rs start a n) (list_any (covers a n) rs ≡ false) (λ p. IsPlaceFrom rs start a n p.at p.writable)
 search_place_is [] start a n l ap = refl
 search_place_is (r ∷ rs) start a n l apart =
-    elim (covers a n r) as (λ b. covers a n r ≡ b → MatchOption (cond b (Some (start + (a - r.base), r.writable)) (search_place rs (start + r.size) a n)) ((b || list_any (covers a n) rs) ≡ false) (λ p. IsPlaceFrom (r ∷ rs) start a n p.0 p.1)) [
+    elim (covers a n r) as (λ b. covers a n r ≡ b → MatchOption (cond b (Some (record { at = start + (a - r.base); writable = r.writable })) (search_place rs (start + r.size) a n)) ((b || list_any (covers a n) rs) ≡ false) (λ p. IsPlaceFrom (r ∷ rs) start a n p.at p.writable)) [
       | true ↦ λ h.
           (let after = none_after a n r rs l apart.0 h in
           let b = covers_bounds a n r h in
@@ -61,7 +56,7 @@ search_place_is (r ∷ rs) start a n l apart =
             ends = omega arith;
           })
       | false ↦ λ h.
-          (elim (search_place rs (start + r.size) a n) as (λ o. MatchOption o (list_any (covers a n) rs ≡ false) (λ p. IsPlaceFrom rs (start + r.size) a n p.0 p.1) → MatchOption o (list_any (covers a n) rs ≡ false) (λ p. IsPlaceFrom (r ∷ rs) start a n p.0 p.1)) [
+          (elim (search_place rs (start + r.size) a n) as (λ o. MatchOption o (list_any (covers a n) rs ≡ false) (λ p. IsPlaceFrom rs (start + r.size) a n p.at p.writable) → MatchOption o (list_any (covers a n) rs ≡ false) (λ p. IsPlaceFrom (r ∷ rs) start a n p.at p.writable)) [
             | None ↦ λ e. e
             | Some p ↦ λ i. record {
               one = ap (λ x. x || list_any (covers a n) rs) h ∙ i.one;
@@ -76,20 +71,38 @@ search_place_is (r ∷ rs) start a n l apart =
     plain true = refl
     plain false = refl
 
--- the loop's answer
-module _ (rs : List Region) (i start a n : ℕ) (some_bytes : 0 < n) (apart : AllApart rs) (found : search_place (drop i rs) start a n ≡ search_place rs 0 a n) where
-  at_whole : (p : ℕ × Bool) → IsPlaceFrom rs 0 a n p.0 p.1 → IsPlace rs a n p.0 p.1
-  at_whole p h = record { one = h.one; may = h.may; each = λ k l. (let e = h.each k l in (e.0, omega arith)); ends = (let e = h.ends in omega arith) }
+-- what a search of all regions gives
+pub searched : (rs : List Region) (a n : ℕ) (o : Option Place) → 0 < n → AllApart rs → search_place rs 0 a n ≡ o → MatchOption o (list_any (covers a n) rs ≡ false) (λ p. IsPlace rs a n p.at p.writable)
+searched rs a n o l apart e =
+    whole o (subst (λ o. MatchOption o (list_any (covers a n) rs ≡ false) (λ p. IsPlaceFrom rs 0 a n p.at p.writable)) e (search_place_is rs 0 a n l apart))
+  where
+    whole : (o : Option Place) → MatchOption o (list_any (covers a n) rs ≡ false) (λ p. IsPlaceFrom rs 0 a n p.at p.writable) → MatchOption o (list_any (covers a n) rs ≡ false) (λ p. IsPlace rs a n p.at p.writable)
+    whole None h = h
+    whole (Some p) h = record { one = h.one; may = h.may; each = λ k l. (let e = h.each k l in (e.0, omega arith)); ends = (let e = h.ends in omega arith) }
 
-  pub place_found : (d : Region) → i < length rs → (get_or rs i d).base ≤ a → a + n ≤ (get_or rs i d).base + (get_or rs i d).size → IsPlace rs a n (start + (a - (get_or rs i d).base)) (get_or rs i d).writable
-  place_found d l low high =
-      let r = get_or rs i d in
-      let hit : covers a n r ≡ true = and_from _ _ (le-leb r.base a low) (le-leb (a + n) (r.base + r.size) high) in
-      let e : search_place rs 0 a n ≡ Some (start + (a - r.base), r.writable) =
-      sym found ∙ at_drop_more (λ xs. search_place xs start a n) rs i d l ∙ ap (λ b. cond b (Some (start + (a - r.base), r.writable)) (search_place (drop (i + 1) rs) (start + r.size) a n)) hit in
-      at_whole (start + (a - r.base), r.writable) (subst (λ o. MatchOption o (list_any (covers a n) rs ≡ false) (λ p. IsPlaceFrom rs 0 a n p.0 p.1)) e (search_place_is rs 0 a n some_bytes apart))
+-- what it gives at the first region, and after it
+module _ (rs : List Region) (r : Region) (more : List Region) (same : rs ≡ r ∷ more) (a n : ℕ) (some : 0 < n) (apart : AllApart rs) where
+  first_tested : (b : Bool) → covers a n r ≡ b → search_place rs 0 a n ≡ cond b (Some (record { at = 0 + (a - r.base); writable = r.writable })) (search_place more (0 + r.size) a n)
+  first_tested b h =
+      ap (λ xs. search_place xs 0 a n) same
+      ∙ ap (λ x. cond x (Some (record { at = 0 + (a - r.base); writable = r.writable })) (search_place more (0 + r.size) a n)) h
 
-  pub place_missing : length rs ≤ i → list_any (covers a n) rs ≡ false
-  place_missing l =
-      let e : search_place rs 0 a n ≡ None = sym found ∙ at_drop_all (λ xs. search_place xs start a n) rs i l in
-      subst (λ o. MatchOption o (list_any (covers a n) rs ≡ false) (λ p. IsPlaceFrom rs 0 a n p.0 p.1)) e (search_place_is rs 0 a n some_bytes apart)
+  pub first_place : (k : ℕ) → covers a n r ≡ true → r.base + k ≡ a → IsPlace rs a n k r.writable
+  first_place k h e = subst (λ j. IsPlace rs a n j r.writable) (omega arith) (searched rs a n (Some (record { at = 0 + (a - r.base); writable = r.writable })) some apart (first_tested true h))
+
+  pub later_place : (o : Option Place) → covers a n r ≡ false → o ≡ search_place more r.size a n → MatchOption o (list_any (covers a n) rs ≡ false) (λ p. IsPlace rs a n p.at p.writable)
+  later_place o h e = searched rs a n o some apart (first_tested false h ∙ ap (λ start. search_place more start a n) (omega arith) ∙ sym e)
+
+any_within : (rs : List Region) (a n k m : ℕ) → k + m ≤ n → list_any (covers a n) rs ≡ true → list_any (covers (a + k) m) rs ≡ true
+any_within [] a n k m l h = h
+any_within (r ∷ rs) a n k m l h =
+    ⊎_elim (λ g. or_left _ _ (let b = covers_bounds a n r g in and_from _ _ (le-leb r.base (a + k) (omega arith)) (le-leb (a + k + m) (r.base + r.size) (omega arith)))) (λ g. or_right (covers (a + k) m r) _ (any_within rs a n k m l g)) (or_cases (covers a n r) (list_any (covers a n) rs) h)
+
+-- bytes among those of a place have theirs
+pub within : (rs : List Region) (a n at k m : ℕ) (may : Bool) → IsPlace rs a n at may → k + m ≤ n → IsPlace rs (a + k) m (at + k) (in_writable rs (a + k) m)
+within rs a n at k m may p l = record {
+  one = any_within rs a n k m l p.one;
+  may = refl;
+  each = λ j i. (let e = p.each (k + j) (omega arith) in (ap (covered rs) (omega arith) ∙ e.0, ap (offset rs) (omega arith) ∙ e.1 ∙ omega arith));
+  ends = (let e = p.ends in omega arith);
+}

@@ -1,7 +1,8 @@
 -- How the parts of a bus make its contents.
-use Rattle.std.specs.Prelude.{◌≡◌, ℕ, ◌+◌, ◌<◌, ◌≤◌, length, drop, vec_capacity, slice_index}
+use Rattle.std.specs.Prelude.{◌≡◌, ℕ, ◌+◌, ◌<◌, ◌≤◌, length, drop, vec_capacity, slice_index, None}
 use Rattle.rv_memory.specs.declared.bus.Bus.TheInside.{Inside}
 use Rattle.rv_memory.specs.Regions.{total_size}
+use Rattle.rv_memory.specs.Maps.{map_error}
 use Rattle.rv_memory.specs.Bus.{Contents}
 use Rattle.rv_memory.specs.View.{memory_of, stored_of}
 
@@ -15,6 +16,7 @@ contents_of a = record {
 }
 
 pub record IsBusInside (a : Inside) : Type 0 where
+  pub map : map_error a.map ≡ None
   pub bytes : length a.bytes.items ≡ total_size a.map
   pub marks : length a.marks.items ≡ total_size a.map
   pub older : (k : ℕ) → slice_index a.marks.items k ≤ a.present

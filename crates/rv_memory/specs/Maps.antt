@@ -33,7 +33,7 @@ first_error [] = None
 first_error (row ∷ rows) = cond row.0 (Some row.1) (first_error rows)
 
 -- why a list of regions isn't a map; each row is asked of the whole list before the next one is
-abbrev pub map_error : List Region → Option MapError
+unfoldable pub map_error : List Region → Option MapError
 map_error regions = first_error (
     (not (nat_le 1 (length regions) && nat_le (length regions) 4), Count)
   ∷ (not (list_all is_aligned regions), Align)

@@ -1,5 +1,5 @@
 -- What the bytes and marks of all regions, one region after another, make of memory and of the stored addresses.
-use Rattle.std.specs.Prelude.{◌≡◌, ℕ, ◌+◌, ◌-◌, ◌*◌, ◌/◌, ◌%◌, ◌<◌, ◌≤◌, eqb, List, [], ◌∷◌, length, slice_index, slice_set}
+use Rattle.std.specs.Prelude.{◌≡◌, ℕ, ◌+◌, ◌-◌, ◌*◌, ◌/◌, ◌%◌, ◌<◌, ◌≤◌, Bool, ◌||◌, eqb, List, [], ◌∷◌, length, slice_index, slice_set}
 use Rattle.std.specs.Ordering.{nat_cmp}
 use Rattle.std.specs.FinMap as fin
 use Rattle.std.specs.FinSet as set
@@ -32,3 +32,8 @@ abbrev pub marked_at : List ℕ → ℕ → Width → ℕ → List ℕ
 marked_at marks at Byte now = slice_set marks at now
 marked_at marks at Half now = slice_set (slice_set marks at now) (at + 1) now
 marked_at marks at Word now = slice_set (slice_set (slice_set (slice_set marks at now) (at + 1) now) (at + 2) now) (at + 3) now
+
+-- one of the four marks at a place is the present one
+abbrev pub any_marked : List ℕ → ℕ → ℕ → Bool
+any_marked marks at now =
+    eqb (slice_index marks at) now || eqb (slice_index marks (at + 1)) now || eqb (slice_index marks (at + 2)) now || eqb (slice_index marks (at + 3)) now

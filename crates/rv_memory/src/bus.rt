@@ -3,7 +3,7 @@ ghost use Rattle.rv_memory.specs.Regions.{in_one};
 ghost use Rattle.rv_memory.specs.Maps.{map_error};
 ghost use Rattle.rv_memory.specs.Bus.{size_of, load_from, store_to, fetch_half_from, fetch_word_from, console_load, console_store, synced, placed, opened};
 
-use crate::access::{is_console, mark, read, write};
+use crate::access::{has_mark, mark, read, read_word, write};
 use crate::map::Map;
 use std::alloc::{AllocError, Global};
 use std::marker::Model;
@@ -131,11 +131,8 @@ impl Bus {
         if addr % width.size() != 0 {
             return Err(BusFault::Misaligned);
         }
-        if is_console(addr) {
-            return self.load_console(addr, width);
-        }
         let Some(place) = self.map.place(addr, width.size()) else {
-            return Err(BusFault::Access);
+            return self.load_console(addr, width);
         };
         Ok(read(&self.bytes, place.at, width))
     }
@@ -148,11 +145,8 @@ impl Bus {
         if addr % width.size() != 0 {
             return Err(BusFault::Misaligned);
         }
-        if is_console(addr) {
-            return self.store_console(addr, width, value);
-        }
         let Some(place) = self.map.place(addr, width.size()) else {
-            return Err(BusFault::Access);
+            return self.store_console(addr, width, value);
         };
         if !place.writable {
             return Err(BusFault::Access);
@@ -187,14 +181,10 @@ impl Bus {
         ensures halves { IfSome result (λ w. (fetch_half_from self.now addr ≡ Ok (w % 0x1_0000)) × (fetch_half_from self.now ((addr + 2) % 0x1_0000_0000) ≡ Ok (w / 0x1_0000))) }
     {
         let place = self.map.place(addr, 4)?;
-        if read(&self.marks, place.at, Width::Word) != 0 {
-            for k in 0..4 {
-                if self.marks[place.at + k] == self.present {
-                    return None;
-                }
-            }
+        if has_mark(&self.marks, place.at, self.present) {
+            return None;
         }
-        Some(read(&self.bytes, place.at, Width::Word))
+        Some(read_word(&self.bytes, place.at))
     }
 
     /// What FENCE.I does to memory: nothing counts as stored.

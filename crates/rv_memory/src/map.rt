@@ -1,8 +1,8 @@
 ghost use Rattle.std.specs.Prelude.{◌≡◌, ◌+◌, ◌<◌, ◌≤◌, MatchOption, MatchResult, false, true, List, [], ◌∷◌, length, None, Some};
-ghost use Rattle.std.specs.List.{list_any};
+ghost use Rattle.std.specs.List.{list_any, list_all};
 ghost use Rattle.rv_memory.specs.Regions.{covers, total_size, in_one};
-ghost use Rattle.rv_memory.specs.Maps.{map_error, any_overlap};
-ghost use Rattle.rv_memory.specs.Places.{IsPlace};
+ghost use Rattle.rv_memory.specs.Maps.{map_error, any_overlap, is_aligned, is_sized, overlap, console_region};
+ghost use Rattle.rv_memory.specs.Places.{IsPlace, search_place};
 
 use std::marker::Model;
 
@@ -80,20 +80,8 @@ impl Map {
     pub fn of(regions: &[Region]) -> Result<Map, MapError>
         ensures { MatchResult result (λ m. (m ≡ regions.now) × (map_error regions.now ≡ None)) (λ e. map_error regions.now ≡ Some e) }
     {
-        if regions.is_empty() || regions.len() > 4 {
-            return Err(MapError::Count);
-        }
-        if !regions.iter().all(|r| r.is_aligned()) {
-            return Err(MapError::Align);
-        }
-        if !regions.iter().all(|r| r.is_sized()) || total_size(regions) > ROOM {
-            return Err(MapError::Size);
-        }
-        if any_overlap(regions) {
-            return Err(MapError::Overlap);
-        }
-        if regions.iter().any(|r| r.has_console()) {
-            return Err(MapError::Console);
+        if let Some(error) = first_error(regions) {
+            return Err(error);
         }
         let mut places = [NO_REGION; 4];
         places[..regions.len()].copy_from_slice(regions);
@@ -104,6 +92,7 @@ impl Map {
     }
 
     /// One writable region of 1,048,576 bytes at `0x8000_0000`.
+    #[tactic(auto, unfolding(crate::specs::Maps::map_error))]
     pub fn default_map() -> Map
         ensures { result ≡ record { base = 0x8000_0000; size = 0x10_0000; writable = true } ∷ [] }
     {
@@ -128,41 +117,65 @@ impl Map {
     /// The number of bytes of all regions.
     pub(crate) fn total(&self) -> usize
         ensures value { result ≡ total_size self.now }
-        ensures small { result ≤ 16777216 }
+        ensures accepted { map_error self.now ≡ None }
     {
-        let mut sum = 0;
-        for region in &self.regions[..self.count] {
-            sum += region.size as usize;
-        }
-        sum
+        total_size(&self.regions[..self.count]) as usize
     }
 
-    /// Where the `len` bytes from an address on stand, if they lie in one region.
+    /// Where the `len` bytes from an address on stand, if they lie in one region. Most maps have one
+    /// region, or most accesses in the first: it is tried at once.
     #[inline]
     pub(crate) fn place(&self, addr: u32, len: u32) -> Option<Place>
         requires { 0 < len }
         ensures { MatchOption result (list_any (covers addr len) self.now ≡ false) (λ p. IsPlace self.now addr len p.at p.writable) }
     {
-        let mut start = 0;
-        for region in &self.regions[..self.count] {
-            if region.base <= addr
-                && u64::from(addr) + u64::from(len)
-                    <= u64::from(region.base) + u64::from(region.size)
-            {
-                let at = start + (addr - region.base) as usize;
-                return Some(Place {
-                    at,
-                    writable: region.writable,
-                });
-            }
-            start += region.size as usize;
+        let first = &self.regions[0];
+        if let Some(offset) = first.offset_of(addr, len) {
+            return Some(Place {
+                at: offset as usize,
+                writable: first.writable,
+            });
         }
-        None
+        search(&self.regions[1..self.count], first.size as usize, addr, len)
     }
 }
 
+/// The search of [`Map::place`] among regions whose bytes begin at a place.
+#[inline(never)]
+fn search(regions: &[Region], start: usize, addr: u32, len: u32) -> Option<Place>
+    requires some { 0 < len }
+    requires sized { list_all is_sized regions.now ≡ true }
+    requires room { start + total_size regions.now ≤ 16777216 }
+    ensures { result ≡ search_place regions.now start addr len }
+{
+    let mut at = start;
+    for region in regions {
+        if let Some(offset) = region.offset_of(addr, len) {
+            return Some(Place {
+                at: at + offset as usize,
+                writable: region.writable,
+            });
+        }
+        at += region.size as usize;
+    }
+    None
+}
+
 impl Region {
-    ghost use Rattle.rv_memory.specs.Maps.{is_aligned, is_sized, overlap, console_region};
+    /// How far into the region the `len` bytes from an address on begin, if it has them all. An
+    /// address below the base wraps to an offset past every region's end.
+    #[inline]
+    fn offset_of(&self, addr: u32, len: u32) -> Option<u32>
+        requires some { 0 < len }
+        requires sized { is_sized self.now ≡ true }
+        ensures { MatchOption result (covers addr len self.now ≡ false) (λ k. (covers addr len self.now ≡ true) × (self.now.base + k ≡ addr)) }
+    {
+        let offset = addr.wrapping_sub(self.base);
+        if (len <= 4 || len <= self.size) && offset <= self.size - len {
+            return Some(offset);
+        }
+        None
+    }
 
     fn is_aligned(&self) -> bool
         ensures { result ≡ is_aligned self.now }
@@ -189,10 +202,10 @@ impl Region {
         u64::from(self.base) < other.end() && u64::from(other.base) < self.end()
     }
 
-    fn has_console(&self) -> bool
-        ensures { result ≡ overlap console_region self.now }
+    fn overlaps_any(&self, others: &[Region]) -> bool
+        ensures { result ≡ list_any (overlap self.now) others.now }
     {
-        CONSOLE.overlaps(self)
+        others.iter().any(|other| self.overlaps(other))
     }
 }
 
@@ -202,6 +215,44 @@ const CONSOLE: Region = Region {
     size: 0x10,
     writable: true,
 };
+
+/// The first of the errors that the regions have, each asked of all of them before the next one is.
+#[tactic(auto, unfolding(crate::specs::Maps::map_error))]
+fn first_error(regions: &[Region]) -> Option<MapError>
+    ensures { result ≡ map_error regions.now }
+{
+    if regions.is_empty() || regions.len() > 4 {
+        return Some(MapError::Count);
+    }
+    if !all_aligned(regions) {
+        return Some(MapError::Align);
+    }
+    if !all_sized(regions) {
+        return Some(MapError::Size);
+    }
+    if total_size(regions) > ROOM {
+        return Some(MapError::Size);
+    }
+    if any_overlap(regions) {
+        return Some(MapError::Overlap);
+    }
+    if CONSOLE.overlaps_any(regions) {
+        return Some(MapError::Console);
+    }
+    None
+}
+
+fn all_aligned(regions: &[Region]) -> bool
+    ensures { result ≡ list_all is_aligned regions.now }
+{
+    regions.iter().all(|region| region.is_aligned())
+}
+
+fn all_sized(regions: &[Region]) -> bool
+    ensures { result ≡ list_all is_sized regions.now }
+{
+    regions.iter().all(|region| region.is_sized())
+}
 
 fn total_size(regions: &[Region]) -> u64
     requires { length regions.now ≤ 4 }
@@ -214,15 +265,14 @@ fn total_size(regions: &[Region]) -> u64
     sum
 }
 
+/// Whether a region overlaps one that comes after it.
 fn any_overlap(regions: &[Region]) -> bool
     ensures { result ≡ any_overlap regions.now }
 {
-    let mut later = regions;
-    while let [first, rest @ ..] = later {
-        if rest.iter().any(|other| first.overlaps(other)) {
+    for k in 0..regions.len() {
+        if regions[k].overlaps_any(&regions[k + 1..]) {
             return true;
         }
-        later = rest;
     }
     false
 }

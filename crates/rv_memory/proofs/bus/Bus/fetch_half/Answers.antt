@@ -8,7 +8,6 @@ use Rattle.rv_memory.proofs.bus.Bus.fetch_half.Goals as goal
 pub returns-then-index-self : goal.returns-then-index-self
 returns-then-index-self c =
     let s = c.self.inside in
-    let p = c.in-Some.ensures in
     let at = c.in-Some.place.at in
     let mark = get_or_read s.marks.items at c.index.result.now (omega (arith, c.in-Some.ensures.ends, c.self.invariant.marks)) c.index.ensures 0 in
     rw (← c.self.view_is) (sym (fetch_stale (contents_of s) c.args.addr at s.present c.in-Some.place.writable s.bytes.items s.marks.items c.in-Some.ensures refl refl (inl (eq-eqb _ _ (sym mark ∙ c.if-index-self.true)))))
