@@ -14,6 +14,7 @@ use Rattle.rv_memory.proofs.Apart.{AllApart, AllApart-from_overlap, covers_bound
 
 pub record IsAccepted (rs : List Region) : Type 0 where
   pub some : 0 < length rs
+  pub few : length rs ≤ 4
   pub aligned : list_all is_aligned rs ≡ true
   pub sized : list_all is_sized rs ≡ true
   pub room : total_size rs ≤ 16777216
@@ -32,10 +33,11 @@ accepted rs h =
     let size = passed _ _ _ align.1 in
     let overlaps = passed _ _ _ size.1 in
     let console = passed _ _ _ overlaps.1 in
-    let few = and_parts _ _ (not-false _ count.0) in
+    let counts = and_parts _ _ (not-false _ count.0) in
     let sizes = and_parts _ _ (not-false _ size.0) in
     record {
-      some = (let l = leb-true 1 (length rs) few.0 in omega arith);
+      some = (let l = leb-true 1 (length rs) counts.0 in omega arith);
+      few = leb-true _ _ counts.1;
       aligned = not-false _ align.0;
       sized = sizes.0;
       room = leb-true _ _ sizes.1;

@@ -1,5 +1,5 @@
 -- What an access gives, by where its bytes stand.
-use Rattle.std.proofs.Common.{◌≡◌, ℕ, zero, suc, ◌+◌, ◌-◌, ◌*◌, ◌/◌, ◌%◌, ◌<◌, ◌≤◌, Bool, true, false, not, ◌&&◌, ◌||◌, cond, eqb, leb, List, [], ◌∷◌, ◌++◌, Option, None, drop, ltb, Result, Ok, Err, sym, ap, subst, ◌∙◌, refl, arith, get_or, length}
+use Rattle.std.proofs.Common.{◌≡◌, ℕ, zero, suc, ◌+◌, ◌-◌, ◌*◌, ◌/◌, ◌%◌, ◌<◌, ◌≤◌, Bool, true, false, not, ◌&&◌, ◌||◌, cond, eqb, leb, List, [], ◌∷◌, ◌++◌, Option, None, Some, drop, ltb, Result, Ok, Err, sym, ap, subst, ◌∙◌, refl, arith, get_or, length}
 use Rattle.std.specs.List.{list_any}
 use Rattle.std.proofs.Common.{◌⊎◌, inl, inr}
 use Rattle.std.proofs.lemmas.Bool.{or_parts, or_from, or_right, and_from, and_right, ne_eqb, both_ways, le-leb, lt-ltb}
@@ -16,10 +16,12 @@ use Rattle.rv_memory.specs.Regions.{covers, in_one, in_writable}
 use Rattle.rv_memory.specs.Maps.{map_error}
 use Rattle.rv_memory.specs.Places.{IsPlace}
 use Rattle.std.proofs.Math.ListN.{set, length-set}
-use Rattle.rv_memory.specs.View.{memory_of, stored_of, read_at, written_at, marked_at}
-use Rattle.rv_memory.specs.Bus.{Contents, size_of, in_console, value_at, half_at, byte_at, load_from, console_load, next_of, store_to, console_store, put, fetch_half_from, is_stale}
+use Rattle.rv_memory.specs.View.{memory_of, stored_of, read_at, written_at, marked_at, any_marked}
+use Rattle.rv_memory.specs.Bus.{Contents, size_of, in_console, value_at, half_at, byte_at, load_from, console_load, next_of, store_to, console_store, put, fetch_half_from, fetch_word_from, is_stale, word_at}
 use Rattle.rv_memory.proofs.Apart.{not_console}
 use Rattle.rv_memory.proofs.Accepted.{accepted}
+use Rattle.rv_memory.proofs.Places.{within}
+use Rattle.std.proofs.Math.Bool.{or_assoc}
 use Rattle.rv_memory.proofs.Views.{is_stored, value_at-memory_of, stands}
 
 pub in_one-sized : (rs : List Region) (a : ℕ) (w : Width) (b : Bool) → list_any (covers a (size_of w)) rs ≡ b → in_one rs a (size_of w) ≡ b
@@ -118,6 +120,53 @@ module _ (c : Contents) (a at now : ℕ) (may : Bool) (bytes marks : List ℕ) (
 
   pub fetch_clean : (v : ℕ) → eqb (get_or marks at 0) now ≡ false → eqb (get_or marks (at + 1) 0) now ≡ false → v ≡ get_or bytes at 0 + 0x100 * get_or bytes (at + 1) 0 → fetch_half_from c a ≡ Ok v
   fetch_clean v e f g = stale false false e f ∙ ap (λ x. Ok x) (ap (λ x. half_at x a) m ∙ value_at-memory_of c.regions bytes a at Half may p ∙ sym g)
+
+-- a fetch of a word
+module _ (c : Contents) (a at now : ℕ) (may : Bool) (bytes marks : List ℕ) (p : IsPlace c.regions a 4 at may) (m : c.memory ≡ memory_of c.regions bytes) (s : c.stored ≡ stored_of c.regions marks now) where
+  is_marked : (k b j : ℕ) → k < 4 → b ≡ a + k → j ≡ at + k → finset.contains c.stored b ≡ eqb (get_or marks j 0) now
+  is_marked k b j l e f =
+      let h = stands c.regions a 4 at k b j may p l e f in
+      ap (λ x. finset.contains x b) s ∙ is_stored c.regions marks now b h.0 ∙ ap (λ x. eqb (get_or marks x 0) now) h.1
+
+  any_stale : (is_stale c a || is_stale c (a + 2)) ≡ any_marked marks at now
+  any_stale =
+      let s0 = is_marked 0 a at (omega arith) (omega arith) (omega arith) in
+      let s1 = is_marked 1 (a + 1) (at + 1) (omega arith) (omega arith) (omega arith) in
+      let s2 = is_marked 2 (a + 2) (at + 2) (omega arith) (omega arith) (omega arith) in
+      let s3 = is_marked 3 (a + 2 + 1) (at + 3) (omega arith) (omega arith) (omega arith) in
+      (λ i. (s0 i || s1 i) || (s2 i || s3 i)) ∙ sym (or_assoc (eqb (get_or marks at 0) now || eqb (get_or marks (at + 1) 0) now) (eqb (get_or marks (at + 2) 0) now) (eqb (get_or marks (at + 3) 0) now))
+
+  word_tested : (b : Bool) → any_marked marks at now ≡ b → fetch_word_from c a ≡ cond (not b) (Some (word_at c.memory a)) None
+  word_tested b e =
+      ap (λ x. cond (x && not (is_stale c a || is_stale c (a + 2))) (Some (word_at c.memory a)) None) p.one
+      ∙ ap (λ x. cond (not x) (Some (word_at c.memory a)) None) (any_stale ∙ e)
+
+  pub fetch_word_stale : any_marked marks at now ≡ true → fetch_word_from c a ≡ None
+  fetch_word_stale e = word_tested true e
+
+  module _ (clean : any_marked marks at now ≡ false) where
+    pub fetch_word_clean : (v : ℕ) → v ≡ read_at bytes at Word → fetch_word_from c a ≡ Some v
+    fetch_word_clean v g = word_tested false clean ∙ ap (λ x. Some x) (ap (λ x. word_at x a) m ∙ value_at-memory_of c.regions bytes a at Word may p ∙ sym g)
+
+    unmarked : (eqb (get_or marks at 0) now ≡ false) × (eqb (get_or marks (at + 1) 0) now ≡ false) × (eqb (get_or marks (at + 2) 0) now ≡ false) × (eqb (get_or marks (at + 3) 0) now ≡ false)
+    unmarked =
+        let t3 = or_parts _ _ clean in
+        let t2 = or_parts _ _ t3.0 in
+        let t1 = or_parts _ _ t2.0 in
+        (t1.0, t1.1, t2.1, t3.1)
+
+    -- its two halfwords are those that the two fetches of a halfword give
+    pub fetch_low : (v : ℕ) → v ≡ read_at bytes at Half → fetch_half_from c a ≡ Ok v
+    fetch_low v g =
+        fetch_clean c a at now _ bytes marks (within c.regions a 4 at 0 2 a at may p (omega arith) (omega arith) (omega arith)) m s v (unmarked.0) (unmarked.1) g
+
+    pub fetch_high : (b v : ℕ) → b ≡ a + 2 → v ≡ read_at bytes (at + 2) Half → fetch_half_from c b ≡ Ok v
+    fetch_high b v e g =
+        fetch_clean c b (at + 2) now _ bytes marks (within c.regions a 4 at 2 2 b (at + 2) may p (omega arith) e refl) m s v (unmarked.2) (ap (λ k. eqb (get_or marks k 0) now) (omega arith) ∙ unmarked.3) g
+
+-- a fetch where no region has the bytes
+pub fetch_word_missing : (c : Contents) (a : ℕ) → list_any (covers a 4) c.regions ≡ false → fetch_word_from c a ≡ None
+fetch_word_missing c a e = ap (λ x. cond (x && not (is_stale c a || is_stale c (a + 2))) (Some (word_at c.memory a)) None) e
 
 pub length-written_at : (bytes : List ℕ) (at : ℕ) (w : Width) (v : ℕ) → length (written_at bytes at w v) ≡ length bytes
 length-written_at bytes at Byte v = simp length-set

@@ -93,16 +93,16 @@ module _ (rs : List Region) (r : Region) (more : List Region) (same : rs ≡ r �
   pub later_place : (o : Option Place) → covers a n r ≡ false → o ≡ search_place more r.size a n → MatchOption o (list_any (covers a n) rs ≡ false) (λ p. IsPlace rs a n p.at p.writable)
   later_place o h e = searched rs a n o some apart (first_tested false h ∙ ap (λ start. search_place more start a n) (omega arith) ∙ sym e)
 
-any_within : (rs : List Region) (a n k m : ℕ) → k + m ≤ n → list_any (covers a n) rs ≡ true → list_any (covers (a + k) m) rs ≡ true
-any_within [] a n k m l h = h
-any_within (r ∷ rs) a n k m l h =
-    ⊎_elim (λ g. or_left _ _ (let b = covers_bounds a n r g in and_from _ _ (le-leb r.base (a + k) (omega arith)) (le-leb (a + k + m) (r.base + r.size) (omega arith)))) (λ g. or_right (covers (a + k) m r) _ (any_within rs a n k m l g)) (or_cases (covers a n r) (list_any (covers a n) rs) h)
+any_within : (rs : List Region) (a n b m : ℕ) → a ≤ b → b + m ≤ a + n → list_any (covers a n) rs ≡ true → list_any (covers b m) rs ≡ true
+any_within [] a n b m l k h = h
+any_within (r ∷ rs) a n b m l k h =
+    ⊎_elim (λ g. or_left _ _ (let c = covers_bounds a n r g in and_from _ _ (le-leb r.base b (omega arith)) (le-leb (b + m) (r.base + r.size) (omega arith)))) (λ g. or_right (covers b m r) _ (any_within rs a n b m l k g)) (or_cases (covers a n r) (list_any (covers a n) rs) h)
 
 -- bytes among those of a place have theirs
-pub within : (rs : List Region) (a n at k m : ℕ) (may : Bool) → IsPlace rs a n at may → k + m ≤ n → IsPlace rs (a + k) m (at + k) (in_writable rs (a + k) m)
-within rs a n at k m may p l = record {
-  one = any_within rs a n k m l p.one;
+pub within : (rs : List Region) (a n at k m b j : ℕ) (may : Bool) → IsPlace rs a n at may → k + m ≤ n → b ≡ a + k → j ≡ at + k → IsPlace rs b m j (in_writable rs b m)
+within rs a n at k m b j may p l e f = record {
+  one = any_within rs a n b m (omega arith) (omega arith) p.one;
   may = refl;
-  each = λ j i. (let e = p.each (k + j) (omega arith) in (ap (covered rs) (omega arith) ∙ e.0, ap (offset rs) (omega arith) ∙ e.1 ∙ omega arith));
-  ends = (let e = p.ends in omega arith);
+  each = λ i h. (let g = p.each (k + i) (omega arith) in (ap (covered rs) (omega arith) ∙ g.0, ap (offset rs) (omega arith) ∙ g.1 ∙ omega arith));
+  ends = (let g = p.ends in omega arith);
 }

@@ -75,7 +75,7 @@ unfolding memory_of
 memory_of-zero rs bytes zeros = tabulate-same (addresses rs) (λ _. 0) (λ a. get_or bytes (offset rs a) 0) (λ q m. zeros (offset rs q))
 
 module _ (rs : List Region) where
-  wrote : (bytes : List ℕ) (a at v : ℕ) → (covered rs a ≡ true) × (offset rs a ≡ at) → length bytes ≡ total_size rs → memory_of rs (set bytes at v) ≡ fin.insert (memory_of rs bytes) a v
+  pub wrote : (bytes : List ℕ) (a at v : ℕ) → (covered rs a ≡ true) × (offset rs a ≡ at) → length bytes ≡ total_size rs → memory_of rs (set bytes at v) ≡ fin.insert (memory_of rs bytes) a v
   wrote bytes a at v h n = ap (λ i. memory_of rs (set bytes i v)) (sym h.1) ∙ memory_of-set rs bytes a v h.0 n
 
   marked : (marks : List ℕ) (now a at : ℕ) → (covered rs a ≡ true) × (offset rs a ≡ at) → length marks ≡ total_size rs → stored_of rs (set marks at now) now ≡ finset.insert (stored_of rs marks now) a
