@@ -33,14 +33,10 @@ overlay-front [] (b ∷ bs) l = absurd (omega arith)
 overlay-front (x ∷ xs) (b ∷ bs) l = overlay-behind b xs 0 bs ∙ ap (λ ys. b ∷ ys) (overlay-front xs bs (omega arith))
 
 -- the list before the place, the others, and what stood after them
-pub overlay-is : (xs : List ℕ) (at : ℕ) (new : List ℕ) → at + length new ≤ length xs → overlay xs at new ≡ take at xs ++ (new ++ drop (at + length new) xs)
-overlay-is xs zero new l = overlay-front xs new (omega arith) ∙ ap (λ k. new ++ drop k xs) (omega arith)
+pub overlay-is : (xs : List ℕ) (at : ℕ) (new : List ℕ) → at + length new ≤ length xs → overlay xs at new ≡ take at xs ++ (new ++ drop (length new) (drop at xs))
+overlay-is xs zero new l = overlay-front xs new (omega arith)
 overlay-is [] (suc at) new l = absurd (omega arith)
-overlay-is (x ∷ xs) (suc at) new l =
-    overlay-behind x xs at new ∙ ap (λ ys. x ∷ ys) (overlay-is xs at new (omega arith)) ∙ ap (λ k. x ∷ (take at xs ++ (new ++ drop k (x ∷ xs)))) (more at (length new))
-  where
-    more : (m n : ℕ) → suc (m + n) ≡ suc m + n
-    more m n = omega arith
+overlay-is (x ∷ xs) (suc at) new l = overlay-behind x xs at new ∙ ap (λ ys. x ∷ ys) (overlay-is xs at new (omega arith))
 
 -- in memory they are put one by one
 pub bytes_put-is : (rs : List Region) (old : List ℕ) (a at : ℕ) (new : List ℕ) (may : Bool) → IsPlace rs a (length new) at may → length old ≡ total_size rs
