@@ -1,4 +1,4 @@
-ghost use Rattle.std.specs.Prelude.{◌≡◌, ◌+◌, ◌*◌, ◌/◌, ◌%◌, ◌<◌, ◌≤◌, IsTrue, IfOk, IfSome, MatchResult, Ok, None, length, vec_len};
+ghost use Rattle.std.specs.Prelude.{◌≡◌, ◌+◌, ◌*◌, ◌/◌, ◌%◌, ◌^◌, ◌<◌, ◌≤◌, IsTrue, IfOk, IfSome, MatchResult, Ok, None, length, vec_len};
 ghost use Rattle.rv_memory.specs.Regions.{in_one};
 ghost use Rattle.rv_memory.specs.Maps.{map_error};
 ghost use Rattle.rv_memory.specs.Bus.{size_of, load_from, store_to, fetch_half_from, fetch_word_from, console_load, console_store, synced, placed, opened};
@@ -126,7 +126,8 @@ impl Bus {
     /// The unsigned value of the bytes at an address.
     #[inline]
     pub fn load(&mut self, addr: u32, width: Width) -> Result<u32, BusFault>
-        ensures { MatchResult result (λ v. load_from self.old addr width ≡ Ok (v, self.new)) (λ e. (load_from self.old addr width ≡ Err e) × (self.new ≡ self.old)) }
+        ensures narrow { IfOk result (λ v. v < 2 ^ (8 * size_of width)) }
+        ensures value { MatchResult result (λ v. load_from self.old addr width ≡ Ok (v, self.new)) (λ e. (load_from self.old addr width ≡ Err e) × (self.new ≡ self.old)) }
     {
         if addr % width.size() != 0 {
             return Err(BusFault::Misaligned);
@@ -216,7 +217,8 @@ impl Bus {
 
     #[inline(never)]
     fn load_console(&mut self, addr: u32, width: Width) -> Result<u32, BusFault>
-        ensures { MatchResult result (λ v. console_load self.old addr width ≡ Ok (v, self.new)) (λ e. (console_load self.old addr width ≡ Err e) × (self.new ≡ self.old)) }
+        ensures narrow { IfOk result (λ v. v < 2 ^ (8 * size_of width)) }
+        ensures value { MatchResult result (λ v. console_load self.old addr width ≡ Ok (v, self.new)) (λ e. (console_load self.old addr width ≡ Err e) × (self.new ≡ self.old)) }
     {
         match width {
             Width::Byte => Err(BusFault::Access),
