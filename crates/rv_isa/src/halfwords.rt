@@ -53,7 +53,7 @@ pub fn no_halfword_has_two_rows()
     ensures { (half : ℕ) → count_by (fits16 half) rows16 ≤ 1 }
 {}
 
-#[tactic(auto, using(crate::proofs::ByQuadrant::no_quadrant))]
+#[tactic(auto, using(crate::proofs::ByQuadrant::quadrant_3))]
 fn find_word(half: u16) -> Option<u32>
     ensures { Expands half result }
 {
@@ -62,7 +62,7 @@ fn find_word(half: u16) -> Option<u32>
         0 => quadrant0(half),
         1 => quadrant1(half),
         2 => quadrant2(half),
-        _ => None,
+        _ => None, // begins a 32-bit instruction
     }
 }
 
