@@ -36,8 +36,8 @@ first_error (row ∷ rows) = cond row.0 (Some row.1) (first_error rows)
 unfoldable pub map_error : List Region → Option MapError
 map_error regions = first_error (
     (not (nat_le 1 (length regions) && nat_le (length regions) 4), Count)
-  ∷ (not (list_all is_aligned regions), Align)
-  ∷ (not (list_all is_sized regions && nat_le (total_size regions) 16777216), Size)
-  ∷ (any_overlap regions, Overlap)
-  ∷ (list_any (overlap console_region) regions, Console)
-  ∷ [])
+    ∷ (not (list_all is_aligned regions), Align)
+    ∷ (not (list_all is_sized regions && nat_le (total_size regions) 16777216), Size)
+    ∷ (any_overlap regions, Overlap)
+    ∷ (list_any (overlap console_region) regions, Console)
+    ∷ [])
