@@ -1,4 +1,4 @@
-ghost use Rattle.std.specs.Prelude.{◌≡◌, ◌+◌, ◌*◌, ◌/◌, ◌%◌, ◌^◌, ◌<◌, ◌≤◌, IsTrue, IfOk, IfSome, MatchResult, Ok, None, length, vec_len};
+ghost use Rattle.std.specs.Prelude.{◌≡◌, ◌==◌, ◌+◌, ◌*◌, ◌/◌, ◌%◌, ◌^◌, ◌<◌, ◌≤◌, IsTrue, IfOk, IfSome, MatchResult, Ok, None, length, vec_len};
 ghost use Rattle.rv_memory.specs.Regions.{in_one};
 ghost use Rattle.rv_memory.specs.Maps.{map_error};
 ghost use Rattle.rv_memory.specs.Bus.{size_of, load_from, store_to, fetch_half_from, fetch_word_from, console_load, console_store, synced, placed, opened};
@@ -82,6 +82,14 @@ impl Width {
             Width::Word => 4,
         }
     }
+
+    /// Whether an address is a multiple of the number of bytes.
+    #[inline]
+    fn divides(self, addr: u32) -> bool
+        ensures { result ≡ (addr % size_of self == 0) }
+    {
+        addr % self.size() == 0
+    }
 }
 
 /// The most bytes that the console's output has.
@@ -129,7 +137,7 @@ impl Bus {
         ensures narrow { IfOk result (λ v. v < 2 ^ (8 * size_of width)) }
         ensures value { MatchResult result (λ v. load_from self.old addr width ≡ Ok (v, self.new)) (λ e. (load_from self.old addr width ≡ Err e) × (self.new ≡ self.old)) }
     {
-        if addr % width.size() != 0 {
+        if !width.divides(addr) {
             return Err(BusFault::Misaligned);
         }
         let Some(place) = self.map.place(addr, width.size()) else {
@@ -143,7 +151,7 @@ impl Bus {
     pub fn store(&mut self, addr: u32, width: Width, value: u32) -> Result<(), BusFault>
         ensures { MatchResult result (λ _. store_to self.old addr width value ≡ Ok self.new) (λ e. (store_to self.old addr width value ≡ Err e) × (self.new ≡ self.old)) }
     {
-        if addr % width.size() != 0 {
+        if !width.divides(addr) {
             return Err(BusFault::Misaligned);
         }
         let Some(place) = self.map.place(addr, width.size()) else {
@@ -215,7 +223,7 @@ impl Bus {
         self.map
     }
 
-    #[inline(never)]
+    #[inline]
     fn load_console(&mut self, addr: u32, width: Width) -> Result<u32, BusFault>
         ensures narrow { IfOk result (λ v. v < 2 ^ (8 * size_of width)) }
         ensures value { MatchResult result (λ v. console_load self.old addr width ≡ Ok (v, self.new)) (λ e. (console_load self.old addr width ≡ Err e) × (self.new ≡ self.old)) }
@@ -241,7 +249,7 @@ impl Bus {
         }
     }
 
-    #[inline(never)]
+    #[inline]
     fn store_console(&mut self, addr: u32, width: Width, value: u32) -> Result<(), BusFault>
         ensures { MatchResult result (λ _. console_store self.old addr width value ≡ Ok self.new) (λ e. (console_store self.old addr width value ≡ Err e) × (self.new ≡ self.old)) }
     {
@@ -255,10 +263,8 @@ impl Bus {
                 if self.console.len() >= CONSOLE_ROOM {
                     return Err(BusFault::ConsoleFull);
                 }
-                match self.console.push((value % 0x100) as u8) {
-                    Ok(()) => Ok(()),
-                    Err(_) => unreachable!(),
-                }
+                self.console.push_reserved((value % 0x100) as u8);
+                Ok(())
             }
         }
     }

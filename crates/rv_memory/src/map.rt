@@ -141,7 +141,7 @@ impl Map {
 }
 
 /// The search of [`Map::place`] among regions whose bytes begin at a place.
-#[inline(never)]
+#[inline]
 fn search(regions: &[Region], start: usize, addr: u32, len: u32) -> Option<Place>
     requires some { 0 < len }
     requires sized { list_all is_sized regions.now ≡ true }
