@@ -24,6 +24,7 @@ rows_apart : pairs_pass apart rows16 ≡ true
 unfolding rows16
 rows_apart = refl
 
+-- a field that is barred is not there
 barred_in : (h : ℕ) (fs : List Fixed) (f : Fixed) → lacks_fields h fs ≡ true → list_any (λ g. same f g) fs ≡ true → field h f.high f.low ≡ f.value → ⊥
 barred_in h [] f l t p = false≢true t
 barred_in h (g ∷ gs) f l t p =
@@ -68,6 +69,7 @@ meaning16_means h i = (
   (λ m. first_of-only (fits16 h) (λ r. r.gives h) rows16 m.0 m.1 (one_row h) m.2 m.3 m.4.0 ∙ ap (λ j. Some j) (sym m.4.1)),
 )
 
+-- an answer that is not `None`
 found : {A : Type 0} (o : Option A) → o ≢ None → (x : A) × (o ≡ Some x)
 found None n = absurd (n refl)
 found (Some x) n = (x, refl)

@@ -15,6 +15,7 @@ pairs_pass test (r ∷ rs) = list_all (test r) rs && pairs_pass test rs
 abbrev pub KeepsApart : {A : Type 0} → (A → Bool) → (A → A → Bool) → Type 0
 KeepsApart {A} fits apart = (x y : A) → apart x y ≡ true → fits x ≡ true → fits y ≡ true → ⊥
 
+-- a test that all pass, at one place
 pub all_at : {A : Type 0} (test : A → Bool) (xs : List A) (k : ℕ) (x : A) → list_all test xs ≡ true → k < length xs → get_or xs k x ≡ x → test x ≡ true
 all_at test [] k x h l e = absurd (omega arith)
 all_at test (y ∷ ys) zero x h l e = subst (λ z. test z ≡ true) e (and_parts (test y) (list_all test ys) h).0

@@ -17,9 +17,11 @@ refutes f g = eqb f.low 0 && (leb g.low g.high && (leb g.high f.high && not (eqb
 abbrev pub differ : Fixed → Fixed → Bool
 differ f g = eqb f.high g.high && (eqb f.low g.low && not (eqb f.value g.value))
 
+-- no word has both fields
 abbrev clash : Fixed → Fixed → Bool
 clash f g = differ f g || (refutes f g || refutes g f)
 
+-- a field of one row clashes with a field of the other
 abbrev apart : Row → Row → Bool
 apart r s = list_any (λ f. list_any (λ g. clash f g) s.fixed) r.fixed
 
@@ -56,10 +58,7 @@ clash_sound w f g c p q =
       ]
     ]
 
-some_of : {A : Type 0} (test : A → Bool) (xs : List A) → list_any test xs ≡ true → (P : Type 0) → ((x : A) → test x ≡ true → P) → P
-some_of test [] h P k = absurd (false≢true h)
-some_of test (x ∷ xs) h P k = elim (or_cases (test x) (list_any test xs) h) [ inl here ↦ k x here | inr later ↦ some_of test xs later P k ]
-
+-- of the fields that a word has, one passes the test
 pub fixed_in : (w : ℕ) (fs : List Fixed) (test : Fixed → Bool) → has_fields w fs ≡ true → list_any test fs ≡ true → (P : Type 0) → ((f : Fixed) → test f ≡ true → field w f.high f.low ≡ f.value → P) → P
 fixed_in w [] test h t P k = absurd (false≢true t)
 fixed_in w (f ∷ fs) test h t P k =
