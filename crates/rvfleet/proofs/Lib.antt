@@ -1,1 +1,3 @@
+pub mod Numerals
 pub mod Outgoing
+mod WrittenWords

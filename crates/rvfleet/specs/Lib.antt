@@ -1,2 +1,4 @@
+pub mod CommandLine
 pub mod Report
+pub mod Requests
 pub mod Sending
