@@ -1,3 +1,5 @@
+pub mod Answering
+pub mod Incoming
 pub mod Numerals
 pub mod Outgoing
 mod WrittenWords
