@@ -37,16 +37,17 @@ pub fn read_words<'a>(alloc: Global, words: &'a [&'a str]) -> Result<Option<Aske
 fn fleet_command<'a>(alloc: Global) -> Result<Command<'a>, AllocError>
     ensures { IfOk result (λ command. app_of command ≡ fleet_app) }
 {
-    top_command(alloc).subcommand(raw_command(alloc)?)
+    top_command(alloc)?.subcommand(raw_command(alloc)?)
 }
 
-fn top_command<'a>(alloc: Global) -> Command<'a>
-    ensures { (app_of result ≡ top_app) × ((out-Command result).has_globals ≡ false) }
+fn top_command<'a>(alloc: Global) -> Result<Command<'a>, AllocError>
+    ensures { IfOk result (λ command. (app_of command ≡ top_app) × ((out-Command command).has_globals ≡ false)) }
 {
     Command::new(alloc, "rvfleet")
         .subcommand_required(true)
         .disable_help_subcommand(true)
         .about("Runs RV32IMC firmware images and reports how each run ended")
+        .bin_name("rvfleet")
 }
 
 fn raw_command<'a>(alloc: Global) -> Result<Command<'a>, AllocError>

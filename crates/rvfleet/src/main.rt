@@ -7,6 +7,8 @@ mod raw;
 mod report;
 mod row;
 mod sink;
+#[cfg(test)]
+mod tests;
 mod words;
 
 pub use command::{Asked, read_words};
