@@ -1,6 +1,18 @@
 //! One hart over a bus: fetch, effect, and runs within a budget of steps.
+//!
+//! Callers see a machine as its state: the pc, the 32 registers and what stands in the bus. `step` is one
+//! fetch and one effect of the instruction definitions, and `run` is as many steps as the budget allows.
+//! A step that ends a run leaves the state as it was. Nothing here takes memory once a machine is made.
 #![tactic(auto)]
 
+mod alu;
 mod ending;
+mod execute;
+mod fetch;
+mod hart;
+mod machine;
+#[cfg(test)]
+mod tests;
 
 pub use ending::{Ending, FaultKind, Outcome};
+pub use machine::Machine;

@@ -1,0 +1,6 @@
+use Rattle.std.proofs.Common.{refl}
+use Rattle.rv_isa.proofs.ByOpcode.{at_branch}
+use Rattle.rv_isa.proofs.assemble.beq.Goals as goal
+
+pub returns : goal.returns
+returns c = rw (at_branch c.b_word.result c.b_word.ensures.opcode, c.b_word.ensures.funct3, c.b_word.ensures.rs1, c.b_word.ensures.rs2, c.b_word.ensures.imm) refl

@@ -1,0 +1,4 @@
+pub mod Bits
+pub mod Tables
+pub mod Words
+pub mod Halfwords

@@ -1,0 +1,183 @@
+//! The words of the instructions that 16-bit ones stand for, each with its meaning. Immediates and offsets are given as
+//! the functions of the formats take them.
+
+ghost use Rattle.rv_isa.specs.Bits.{sign_extended};
+ghost use Rattle.rv_isa.specs.Words.{meaning32, operands};
+ghost use Rattle.rv_isa.specs.declared.instruction.Op.TheVariants as op;
+ghost use Rattle.std.specs.Prelude.{◌≡◌, ◌*◌, ◌<◌, ◌^◌, ◌%◌, pos};
+
+use crate::encode::{b_word, i_word, j_word, r_word, s_word, u_word};
+use crate::opcodes::{BRANCH, JAL, JALR, LOAD, LUI, OP, OP_IMM, STORE};
+
+pub const EBREAK: u32 = 0x0010_0073;
+
+#[inline]
+pub fn addi(rd: u32, rs1: u32, imm: u32) -> u32
+    requires rd { rd < 32 }
+    requires rs1 { rs1 < 32 }
+    requires imm { imm < 4096 }
+    ensures { meaning32 result ≡ Some (operands op.Addi rd rs1 0 (sign_extended 12 imm)) }
+{
+    i_word(imm, rs1, 0, rd, OP_IMM)
+}
+
+#[inline]
+pub fn andi(rd: u32, rs1: u32, imm: u32) -> u32
+    requires rd { rd < 32 }
+    requires rs1 { rs1 < 32 }
+    requires imm { imm < 4096 }
+    ensures { meaning32 result ≡ Some (operands op.Andi rd rs1 0 (sign_extended 12 imm)) }
+{
+    i_word(imm, rs1, 7, rd, OP_IMM)
+}
+
+#[inline]
+pub fn lw(rd: u32, rs1: u32, imm: u32) -> u32
+    requires rd { rd < 32 }
+    requires rs1 { rs1 < 32 }
+    requires imm { imm < 4096 }
+    ensures { meaning32 result ≡ Some (operands op.Lw rd rs1 0 (sign_extended 12 imm)) }
+{
+    i_word(imm, rs1, 2, rd, LOAD)
+}
+
+#[inline]
+pub fn jalr(rd: u32, rs1: u32, imm: u32) -> u32
+    requires rd { rd < 32 }
+    requires rs1 { rs1 < 32 }
+    requires imm { imm < 4096 }
+    ensures { meaning32 result ≡ Some (operands op.Jalr rd rs1 0 (sign_extended 12 imm)) }
+{
+    i_word(imm, rs1, 0, rd, JALR)
+}
+
+#[inline]
+pub fn slli(rd: u32, rs1: u32, shift: u32) -> u32
+    requires rd { rd < 32 }
+    requires rs1 { rs1 < 32 }
+    requires shift { shift < 32 }
+    ensures { meaning32 result ≡ Some (operands op.Slli rd rs1 0 (pos shift)) }
+{
+    r_word(0, shift, rs1, 1, rd, OP_IMM)
+}
+
+#[inline]
+pub fn srli(rd: u32, rs1: u32, shift: u32) -> u32
+    requires rd { rd < 32 }
+    requires rs1 { rs1 < 32 }
+    requires shift { shift < 32 }
+    ensures { meaning32 result ≡ Some (operands op.Srli rd rs1 0 (pos shift)) }
+{
+    r_word(0, shift, rs1, 5, rd, OP_IMM)
+}
+
+#[inline]
+pub fn srai(rd: u32, rs1: u32, shift: u32) -> u32
+    requires rd { rd < 32 }
+    requires rs1 { rs1 < 32 }
+    requires shift { shift < 32 }
+    ensures { meaning32 result ≡ Some (operands op.Srai rd rs1 0 (pos shift)) }
+{
+    r_word(0x20, shift, rs1, 5, rd, OP_IMM)
+}
+
+#[inline]
+pub fn add(rd: u32, rs1: u32, rs2: u32) -> u32
+    requires rd { rd < 32 }
+    requires rs1 { rs1 < 32 }
+    requires rs2 { rs2 < 32 }
+    ensures { meaning32 result ≡ Some (operands op.Add rd rs1 rs2 (pos 0)) }
+{
+    r_word(0, rs2, rs1, 0, rd, OP)
+}
+
+#[inline]
+pub fn sub(rd: u32, rs1: u32, rs2: u32) -> u32
+    requires rd { rd < 32 }
+    requires rs1 { rs1 < 32 }
+    requires rs2 { rs2 < 32 }
+    ensures { meaning32 result ≡ Some (operands op.Sub rd rs1 rs2 (pos 0)) }
+{
+    r_word(0x20, rs2, rs1, 0, rd, OP)
+}
+
+#[inline]
+pub fn xor(rd: u32, rs1: u32, rs2: u32) -> u32
+    requires rd { rd < 32 }
+    requires rs1 { rs1 < 32 }
+    requires rs2 { rs2 < 32 }
+    ensures { meaning32 result ≡ Some (operands op.Xor rd rs1 rs2 (pos 0)) }
+{
+    r_word(0, rs2, rs1, 4, rd, OP)
+}
+
+#[inline]
+pub fn or(rd: u32, rs1: u32, rs2: u32) -> u32
+    requires rd { rd < 32 }
+    requires rs1 { rs1 < 32 }
+    requires rs2 { rs2 < 32 }
+    ensures { meaning32 result ≡ Some (operands op.Or rd rs1 rs2 (pos 0)) }
+{
+    r_word(0, rs2, rs1, 6, rd, OP)
+}
+
+#[inline]
+pub fn and(rd: u32, rs1: u32, rs2: u32) -> u32
+    requires rd { rd < 32 }
+    requires rs1 { rs1 < 32 }
+    requires rs2 { rs2 < 32 }
+    ensures { meaning32 result ≡ Some (operands op.And rd rs1 rs2 (pos 0)) }
+{
+    r_word(0, rs2, rs1, 7, rd, OP)
+}
+
+#[inline]
+pub fn sw(rs1: u32, rs2: u32, imm: u32) -> u32
+    requires rs1 { rs1 < 32 }
+    requires rs2 { rs2 < 32 }
+    requires imm { imm < 4096 }
+    ensures { meaning32 result ≡ Some (operands op.Sw 0 rs1 rs2 (sign_extended 12 imm)) }
+{
+    s_word(imm, rs2, rs1, 2, STORE)
+}
+
+#[inline]
+pub fn beq(rs1: u32, rs2: u32, offset: u32) -> u32
+    requires rs1 { rs1 < 32 }
+    requires rs2 { rs2 < 32 }
+    requires offset { offset < 8192 }
+    requires even { offset % 2 ≡ 0 }
+    ensures { meaning32 result ≡ Some (operands op.Beq 0 rs1 rs2 (sign_extended 13 offset)) }
+{
+    b_word(offset, rs2, rs1, 0, BRANCH)
+}
+
+#[inline]
+pub fn bne(rs1: u32, rs2: u32, offset: u32) -> u32
+    requires rs1 { rs1 < 32 }
+    requires rs2 { rs2 < 32 }
+    requires offset { offset < 8192 }
+    requires even { offset % 2 ≡ 0 }
+    ensures { meaning32 result ≡ Some (operands op.Bne 0 rs1 rs2 (sign_extended 13 offset)) }
+{
+    b_word(offset, rs2, rs1, 1, BRANCH)
+}
+
+#[inline]
+pub fn jal(rd: u32, offset: u32) -> u32
+    requires rd { rd < 32 }
+    requires offset { offset < 2 ^ 21 }
+    requires even { offset % 2 ≡ 0 }
+    ensures { meaning32 result ≡ Some (operands op.Jal rd 0 0 (sign_extended 21 offset)) }
+{
+    j_word(offset, rd, JAL)
+}
+
+#[inline]
+pub fn lui(rd: u32, upper: u32) -> u32
+    requires rd { rd < 32 }
+    requires upper { upper < 2 ^ 20 }
+    ensures { meaning32 result ≡ Some (operands op.Lui rd 0 0 (sign_extended 32 (4096 * upper))) }
+{
+    u_word(upper, rd, LUI)
+}

@@ -1,0 +1,45 @@
+ghost use Rattle.rv_isa.specs.Bits.{field as bits_of, sign_extended};
+ghost use Rattle.std.specs.Prelude.{ℕ, ◌≡◌, ◌+◌, ◌*◌, ◌-◌, ◌<◌, ◌≤◌, ◌^◌};
+
+/// The low `bits` bits of `value` read as two's complement.
+///
+/// `bits` is from 1 to 32, and `value` has no bit set from there on.
+#[inline]
+pub fn sign_extend(value: u32, bits: u32) -> i32
+    requires some { 1 ≤ bits }
+    requires within { bits ≤ 32 }
+    requires small { value < 2 ^ bits }
+    ensures { result ≡ sign_extended bits value }
+{
+    if value < 1 << (bits - 1) {
+        value as i32
+    } else {
+        (i64::from(value) - (1 << bits)) as i32
+    }
+}
+
+/// The bits of `word` from `high` down to `low`.
+#[inline]
+pub fn field(word: u32, high: u32, low: u32) -> u32
+    requires ordered { low ≤ high }
+    requires within { high < 32 }
+    ensures value { result ≡ bits_of word high low }
+    ensures small { result < 2 ^ (high - low + 1) }
+{
+    (word >> low) & (u32::MAX >> (31 - (high - low)))
+}
+
+/// `high` with the `width` bits of `low` behind it.
+#[inline]
+pub fn join(high: u32, low: u32, width: u32) -> u32
+    requires fits { low < 2 ^ width }
+    requires within { width < 32 }
+    requires whole { high * 2 ^ width < 2 ^ 32 }
+    ensures value { result ≡ high * 2 ^ width + low }
+    // The fields of the result are those of the two.
+    ensures above { (h l : ℕ) → width ≤ l → l ≤ h →
+        bits_of result h l ≡ bits_of high (h - width) (l - width) }
+    ensures below { (h l : ℕ) → l ≤ h → h < width → bits_of result h l ≡ bits_of low h l }
+{
+    high << width | low
+}

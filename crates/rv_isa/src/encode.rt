@@ -1,0 +1,144 @@
+//! One function for each format of a 32-bit word (section 2.2 and 2.3), which puts a word together from its fields.
+//! An immediate is given as the low bits of its two's complement: 12 of them in formats I and S, 13 in B, 21 in J; of
+//! a U immediate the upper 20.
+
+ghost use Rattle.rv_isa.specs.Bits.{field as bits_of, sign_extended};
+ghost use Rattle.rv_isa.specs.Words.{immediate_s, immediate_b, immediate_j};
+ghost use Rattle.std.specs.Prelude.{◌≡◌, ◌+◌, ◌*◌, ◌-◌, ◌<◌, ◌≤◌, ◌^◌, ◌%◌};
+
+use crate::bits::{field, join};
+
+#[inline]
+#[tactic(auto, using(crate::proofs::Fields::field_self))]
+pub fn r_word(funct7: u32, rs2: u32, rs1: u32, funct3: u32, rd: u32, opcode: u32) -> u32
+    requires funct7 { funct7 < 128 }
+    requires rs2 { rs2 < 32 }
+    requires rs1 { rs1 < 32 }
+    requires funct3 { funct3 < 8 }
+    requires rd { rd < 32 }
+    requires opcode { opcode < 128 }
+
+    ensures funct7 { bits_of result 31 25 ≡ funct7 }
+    ensures rs2 { bits_of result 24 20 ≡ rs2 }
+    ensures rs1 { bits_of result 19 15 ≡ rs1 }
+    ensures funct3 { bits_of result 14 12 ≡ funct3 }
+    ensures rd { bits_of result 11 7 ≡ rd }
+    ensures opcode { bits_of result 6 0 ≡ opcode }
+{
+    let sources = join(join(funct7, rs2, 5), rs1, 5);
+    let rest = join(join(funct3, rd, 5), opcode, 7);
+    join(sources, rest, 15)
+}
+
+#[inline]
+#[tactic(auto, using(crate::proofs::Fields::field_self))]
+pub fn i_word(imm: u32, rs1: u32, funct3: u32, rd: u32, opcode: u32) -> u32
+    requires imm { imm < 4096 }
+    requires rs1 { rs1 < 32 }
+    requires funct3 { funct3 < 8 }
+    requires rd { rd < 32 }
+    requires opcode { opcode < 128 }
+
+    ensures imm { bits_of result 31 20 ≡ imm }
+    ensures rs1 { bits_of result 19 15 ≡ rs1 }
+    ensures funct3 { bits_of result 14 12 ≡ funct3 }
+    ensures rd { bits_of result 11 7 ≡ rd }
+    ensures opcode { bits_of result 6 0 ≡ opcode }
+{
+    let with_rs1 = join(imm, rs1, 5);
+    let with_funct3 = join(with_rs1, funct3, 3);
+    let with_rd = join(with_funct3, rd, 5);
+    join(with_rd, opcode, 7)
+}
+
+#[inline]
+#[tactic(auto, using(crate::proofs::Fields::field_self))]
+pub fn s_word(imm: u32, rs2: u32, rs1: u32, funct3: u32, opcode: u32) -> u32
+    requires imm { imm < 4096 }
+    requires rs2 { rs2 < 32 }
+    requires rs1 { rs1 < 32 }
+    requires funct3 { funct3 < 8 }
+    requires opcode { opcode < 128 }
+
+    ensures imm { immediate_s result ≡ sign_extended 12 imm }
+    ensures rs2 { bits_of result 24 20 ≡ rs2 }
+    ensures rs1 { bits_of result 19 15 ≡ rs1 }
+    ensures funct3 { bits_of result 14 12 ≡ funct3 }
+    ensures opcode { bits_of result 6 0 ≡ opcode }
+{
+    let upper = field(imm, 11, 5);
+    let lower = field(imm, 4, 0);
+    r_word(upper, rs2, rs1, funct3, lower, opcode)
+}
+
+#[inline]
+#[tactic(auto, using(crate::proofs::Fields::field_self))]
+pub fn b_word(offset: u32, rs2: u32, rs1: u32, funct3: u32, opcode: u32) -> u32
+    requires offset { offset < 8192 }
+    requires even { offset % 2 ≡ 0 }
+    requires rs2 { rs2 < 32 }
+    requires rs1 { rs1 < 32 }
+    requires funct3 { funct3 < 8 }
+    requires opcode { opcode < 128 }
+
+    ensures imm { immediate_b result ≡ sign_extended 13 offset }
+    ensures rs2 { bits_of result 24 20 ≡ rs2 }
+    ensures rs1 { bits_of result 19 15 ≡ rs1 }
+    ensures funct3 { bits_of result 14 12 ≡ funct3 }
+    ensures opcode { bits_of result 6 0 ≡ opcode }
+{
+    let upper = join(field(offset, 12, 12), field(offset, 10, 5), 6);
+    let lower = join(field(offset, 4, 1), field(offset, 11, 11), 1);
+    r_word(upper, rs2, rs1, funct3, lower, opcode)
+}
+
+#[inline]
+#[tactic(auto, using(crate::proofs::Fields::field_self))]
+pub fn u_word(upper: u32, rd: u32, opcode: u32) -> u32
+    requires upper { upper < 2 ^ 20 }
+    requires rd { rd < 32 }
+    requires opcode { opcode < 128 }
+
+    ensures upper { bits_of result 31 12 ≡ upper }
+    ensures rd { bits_of result 11 7 ≡ rd }
+    ensures opcode { bits_of result 6 0 ≡ opcode }
+{
+    let with_rd = join(upper, rd, 5);
+    join(with_rd, opcode, 7)
+}
+
+#[inline]
+#[tactic(auto, using(crate::proofs::Fields::field_self))]
+pub fn j_word(offset: u32, rd: u32, opcode: u32) -> u32
+    requires offset { offset < 2 ^ 21 }
+    requires even { offset % 2 ≡ 0 }
+    requires rd { rd < 32 }
+    requires opcode { opcode < 128 }
+
+    ensures imm { immediate_j result ≡ sign_extended 21 offset }
+    ensures rd { bits_of result 11 7 ≡ rd }
+    ensures opcode { bits_of result 6 0 ≡ opcode }
+{
+    let with_low = join(field(offset, 20, 20), field(offset, 10, 1), 10);
+    let with_middle = join(with_low, field(offset, 11, 11), 1);
+    let with_high = join(with_middle, field(offset, 19, 12), 8);
+    u_word(with_high, rd, opcode)
+}
+
+/// `value`, a number of `bits` bits in two's complement, as one of `wider` bits.
+#[inline]
+pub fn widen(value: u32, bits: u32, wider: u32) -> u32
+    requires some { 1 ≤ bits }
+    requires order { bits ≤ wider }
+    requires within { wider < 32 }
+    requires small { value < 2 ^ bits }
+    ensures same { sign_extended wider result ≡ sign_extended bits value }
+    ensures below { result < 2 ^ wider }
+    ensures parity { result % 2 ≡ value % 2 }
+{
+    if value < 1 << (bits - 1) {
+        value
+    } else {
+        value + ((1 << wider) - (1 << bits))
+    }
+}

@@ -1,0 +1,177 @@
+//! The operands that each format takes from a word.
+
+ghost use Rattle.rv_isa.specs.Bits.{field as bits_of};
+ghost use Rattle.rv_isa.specs.Words.{immediate_i, immediate_s, immediate_b, immediate_u, immediate_j, instruction};
+ghost use Rattle.rv_isa.specs.Words.{TypeR, TypeI, TypeShift, TypeS, TypeB, TypeU, TypeJ, NoOperands};
+ghost use Rattle.std.specs.Prelude.{◌≡◌, ◌+◌, ◌*◌, ◌-◌, ◌<◌, ◌≤◌, ◌^◌};
+
+use crate::bits::{field, join, sign_extend};
+use crate::instruction::{Instr, Op};
+
+#[inline]
+pub fn type_r(op: Op, word: u32) -> Instr
+    ensures { result ≡ instruction op TypeR word }
+{
+    Instr {
+        op,
+        rd: rd(word),
+        rs1: rs1(word),
+        rs2: rs2(word),
+        imm: 0,
+    }
+}
+
+#[inline]
+pub fn type_i(op: Op, word: u32) -> Instr
+    ensures { result ≡ instruction op TypeI word }
+{
+    Instr {
+        op,
+        rd: rd(word),
+        rs1: rs1(word),
+        rs2: 0,
+        imm: imm_i(word),
+    }
+}
+
+/// A shift by an immediate, the number where `rs2` would be.
+#[inline]
+pub fn type_shift(op: Op, word: u32) -> Instr
+    ensures { result ≡ instruction op TypeShift word }
+{
+    Instr {
+        op,
+        rd: rd(word),
+        rs1: rs1(word),
+        rs2: 0,
+        imm: field(word, 24, 20) as i32,
+    }
+}
+
+#[inline]
+pub fn type_s(op: Op, word: u32) -> Instr
+    ensures { result ≡ instruction op TypeS word }
+{
+    Instr {
+        op,
+        rd: 0,
+        rs1: rs1(word),
+        rs2: rs2(word),
+        imm: imm_s(word),
+    }
+}
+
+#[inline]
+pub fn type_b(op: Op, word: u32) -> Instr
+    ensures { result ≡ instruction op TypeB word }
+{
+    Instr {
+        op,
+        rd: 0,
+        rs1: rs1(word),
+        rs2: rs2(word),
+        imm: imm_b(word),
+    }
+}
+
+#[inline]
+pub fn type_u(op: Op, word: u32) -> Instr
+    ensures { result ≡ instruction op TypeU word }
+{
+    Instr {
+        op,
+        rd: rd(word),
+        rs1: 0,
+        rs2: 0,
+        imm: imm_u(word),
+    }
+}
+
+#[inline]
+pub fn type_j(op: Op, word: u32) -> Instr
+    ensures { result ≡ instruction op TypeJ word }
+{
+    Instr {
+        op,
+        rd: rd(word),
+        rs1: 0,
+        rs2: 0,
+        imm: imm_j(word),
+    }
+}
+
+/// An instruction that takes nothing from its word.
+#[inline]
+pub fn no_operands(op: Op) -> Instr
+    ensures { result ≡ instruction op NoOperands 0 }
+{
+    Instr {
+        op,
+        rd: 0,
+        rs1: 0,
+        rs2: 0,
+        imm: 0,
+    }
+}
+
+#[inline]
+fn rd(word: u32) -> u8
+    ensures { result ≡ bits_of word 11 7 }
+{
+    field(word, 11, 7) as u8
+}
+
+#[inline]
+fn rs1(word: u32) -> u8
+    ensures { result ≡ bits_of word 19 15 }
+{
+    field(word, 19, 15) as u8
+}
+
+#[inline]
+fn rs2(word: u32) -> u8
+    ensures { result ≡ bits_of word 24 20 }
+{
+    field(word, 24, 20) as u8
+}
+
+#[inline]
+fn imm_i(word: u32) -> i32
+    ensures { result ≡ immediate_i word }
+{
+    sign_extend(field(word, 31, 20), 12)
+}
+
+#[inline]
+fn imm_s(word: u32) -> i32
+    ensures { result ≡ immediate_s word }
+{
+    sign_extend(join(field(word, 31, 25), field(word, 11, 7), 5), 12)
+}
+
+#[inline]
+fn imm_b(word: u32) -> i32
+    ensures { result ≡ immediate_b word }
+{
+    let top = join(field(word, 31, 31), field(word, 7, 7), 1);
+    let upper = join(top, field(word, 30, 25), 6);
+    let halves = join(upper, field(word, 11, 8), 4);
+    sign_extend(halves << 1, 13)
+}
+
+#[inline]
+fn imm_u(word: u32) -> i32
+    ensures { result ≡ immediate_u word }
+{
+    sign_extend(field(word, 31, 12) << 12, 32)
+}
+
+#[inline]
+fn imm_j(word: u32) -> i32
+    ensures { result ≡ immediate_j word }
+{
+    let top = join(field(word, 31, 31), field(word, 19, 12), 8);
+    let upper = join(top, field(word, 20, 20), 1);
+    let halves = join(upper, field(word, 30, 21), 10);
+    sign_extend(halves << 1, 21)
+}

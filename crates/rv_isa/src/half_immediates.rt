@@ -1,0 +1,93 @@
+//! The immediates of the 16-bit instructions, not yet sign-extended.
+
+ghost use Rattle.rv_isa.specs.Bits.{bit, field as bits_of};
+ghost use Rattle.rv_isa.specs.Halfwords as row;
+ghost use Rattle.std.specs.Prelude.{◌≡◌, ◌+◌, ◌*◌, ◌-◌, ◌<◌, ◌≤◌, ◌^◌, ◌%◌};
+
+use crate::bits::{field, join};
+
+/// C.ADDI, C.LI and C.ANDI, and in units of 4096 C.LUI.
+#[inline]
+pub fn small(half: u32) -> u32
+    ensures value { result ≡ row.small half }
+    ensures below { result < 64 }
+{
+    join(field(half, 12, 12), field(half, 6, 2), 5)
+}
+
+/// C.ADDI4SPN.
+#[inline]
+pub fn stack_address(half: u32) -> u32
+    ensures value { result ≡ row.stack_address half }
+    ensures below { result < 1024 }
+{
+    let upper = join(field(half, 10, 7), field(half, 12, 11), 2);
+    let words = join(join(upper, field(half, 5, 5), 1), field(half, 6, 6), 1);
+    words << 2
+}
+
+/// C.LW and C.SW.
+#[inline]
+pub fn word_offset(half: u32) -> u32
+    ensures value { result ≡ row.word_offset half }
+    ensures below { result < 128 }
+{
+    let upper = join(field(half, 5, 5), field(half, 12, 10), 3);
+    join(upper, field(half, 6, 6), 1) << 2
+}
+
+/// C.ADDI16SP.
+#[inline]
+pub fn stack_step(half: u32) -> u32
+    ensures value { result ≡ row.stack_step half }
+    ensures below { result < 1024 }
+{
+    let upper = join(field(half, 12, 12), field(half, 4, 3), 2);
+    let middle = join(join(upper, field(half, 5, 5), 1), field(half, 2, 2), 1);
+    join(middle, field(half, 6, 6), 1) << 4
+}
+
+/// C.J and C.JAL.
+#[inline]
+pub fn jump_offset(half: u32) -> u32
+    ensures value { result ≡ row.jump_offset half }
+    ensures below { result < 4096 }
+    ensures even { result % 2 ≡ 0 }
+{
+    let first = join(field(half, 12, 12), field(half, 8, 8), 1);
+    let top = join(first, field(half, 10, 9), 2);
+    let upper = join(join(top, field(half, 6, 6), 1), field(half, 7, 7), 1);
+    let middle = join(join(upper, field(half, 2, 2), 1), field(half, 11, 11), 1);
+    join(middle, field(half, 5, 3), 3) << 1
+}
+
+/// C.BEQZ and C.BNEZ.
+#[inline]
+pub fn branch_offset(half: u32) -> u32
+    ensures value { result ≡ row.branch_offset half }
+    ensures below { result < 512 }
+    ensures even { result % 2 ≡ 0 }
+{
+    let first = join(field(half, 12, 12), field(half, 6, 5), 2);
+    let top = join(first, field(half, 2, 2), 1);
+    join(join(top, field(half, 11, 10), 2), field(half, 4, 3), 2) << 1
+}
+
+/// C.LWSP.
+#[inline]
+pub fn stack_load(half: u32) -> u32
+    ensures value { result ≡ row.stack_load half }
+    ensures below { result < 256 }
+{
+    let upper = join(field(half, 3, 2), field(half, 12, 12), 1);
+    join(upper, field(half, 6, 4), 3) << 2
+}
+
+/// C.SWSP.
+#[inline]
+pub fn stack_store(half: u32) -> u32
+    ensures value { result ≡ row.stack_store half }
+    ensures below { result < 256 }
+{
+    join(field(half, 8, 7), field(half, 12, 9), 4) << 2
+}

@@ -1,0 +1,173 @@
+ghost use Rattle.rv_isa.specs.Bits.{field as bits_of};
+ghost use Rattle.rv_isa.specs.Halfwords.{rows16, fits16, Means16, meaning16, Expands};
+ghost use Rattle.rv_isa.specs.Words.{Means32, IsWellFormed};
+ghost use Rattle.rv_isa.specs.declared.instruction.Instr.{Instr};
+ghost use Rattle.std.specs.Prelude.{ℕ, ◌≡◌, ◌↔◌, ◌≤◌, IfSome, IsNone, IsTrue, count_by};
+
+use crate::assemble::{
+    EBREAK, add, addi, and, andi, beq, bne, jal, jalr, lui, lw, or, slli, srai, srli, sub, sw, xor,
+};
+use crate::bits::field;
+use crate::encode::widen;
+use crate::half_immediates::{
+    branch_offset, jump_offset, small, stack_address, stack_load, stack_step, stack_store,
+    word_offset,
+};
+use crate::instruction::Instr;
+use crate::words::decode32;
+
+/// Whether a halfword begins a 32-bit instruction: its low two bits are 11 (section 1.5 of the RISC-V Unprivileged ISA
+/// 20191213). Every other halfword is a whole instruction, or illegal.
+#[inline]
+pub fn is_long(half: u16) -> bool
+    ensures { IsTrue result ↔ (bits_of half 1 0 ≡ 0b11) }
+{
+    field(u32::from(half), 1, 0) == 3
+}
+
+/// A 32-bit word with the meaning of a 16-bit instruction, or `None` where no row of the RVC listing (section 16.8, the
+/// RV32 lines without F and D) fits the halfword: it is reserved, of another extension, or begins a 32-bit instruction.
+///
+/// Hints have rows. The halfword 0x0000 has none.
+#[inline]
+pub fn expand(half: u16) -> Option<u32>
+    ensures none { IsNone result ↔ ((i : Instr) → Means16 half i → ⊥) }
+    ensures word { IfSome result (λ w. (i : Instr) → Means32 w i ↔ Means16 half i) }
+    ensures value { Expands half result }
+{
+    find_word(half)
+}
+
+/// The instruction of a halfword: that of its only row in the RVC listing, or `None` where no row fits, as for `expand`.
+#[inline]
+pub fn decode16(half: u16) -> Option<Instr>
+    ensures meaning { (i : Instr) → (result ≡ Some i) ↔ Means16 half i }
+    ensures value { result ≡ meaning16 half }
+    ensures well_formed { IfSome result IsWellFormed }
+{
+    decode32(expand(half)?)
+}
+
+/// A law of the listing, with nothing to run: no halfword has two rows.
+pub fn no_halfword_has_two_rows()
+    ensures { (half : ℕ) → count_by (fits16 half) rows16 ≤ 1 }
+{}
+
+#[tactic(auto, using(crate::proofs::ByQuadrant::no_quadrant))]
+fn find_word(half: u16) -> Option<u32>
+    ensures { Expands half result }
+{
+    let half = u32::from(half);
+    match field(half, 1, 0) {
+        0 => quadrant0(half),
+        1 => quadrant1(half),
+        2 => quadrant2(half),
+        _ => None,
+    }
+}
+
+#[tactic(auto, using(crate::proofs::ByQuadrant::by_quadrant))]
+fn quadrant0(half: u32) -> Option<u32>
+    requires { bits_of half 1 0 ≡ 0 }
+    ensures { Expands half result }
+{
+    let low = 8 + field(half, 4, 2);
+    let high = 8 + field(half, 9, 7);
+    match field(half, 15, 13) {
+        0 if stack_address(half) != 0 => Some(addi(low, 2, stack_address(half))),
+        2 => Some(lw(low, high, word_offset(half))),
+        6 => Some(sw(high, low, word_offset(half))),
+        _ => None,
+    }
+}
+
+#[tactic(auto, using(crate::proofs::ByQuadrant::by_quadrant))]
+fn quadrant1(half: u32) -> Option<u32>
+    requires { bits_of half 1 0 ≡ 1 }
+    ensures { Expands half result }
+{
+    let rd = field(half, 11, 7);
+    let high = 8 + field(half, 9, 7);
+    match field(half, 15, 13) {
+        0 => Some(addi(rd, rd, widen(small(half), 6, 12))),
+        1 => Some(jal(1, widen(jump_offset(half), 12, 21))),
+        2 => Some(addi(rd, 0, widen(small(half), 6, 12))),
+        3 => upper(half),
+        4 => arithmetic(half),
+        5 => Some(jal(0, widen(jump_offset(half), 12, 21))),
+        6 => Some(beq(high, 0, widen(branch_offset(half), 9, 13))),
+        _ => Some(bne(high, 0, widen(branch_offset(half), 9, 13))),
+    }
+}
+
+/// C.ADDI16SP and C.LUI. The two take their immediates from the same bits, so both are 0 together.
+#[tactic(auto, using(crate::proofs::ByQuadrant::by_quadrant))]
+fn upper(half: u32) -> Option<u32>
+    requires quadrant { bits_of half 1 0 ≡ 1 }
+    requires top { bits_of half 15 13 ≡ 3 }
+    ensures { Expands half result }
+{
+    let rd = field(half, 11, 7);
+    let imm = small(half);
+    if imm == 0 {
+        None
+    } else if rd == 2 {
+        Some(addi(2, 2, widen(stack_step(half), 10, 12)))
+    } else {
+        Some(lui(rd, widen(imm, 6, 20)))
+    }
+}
+
+#[tactic(auto, using(crate::proofs::ByQuadrant::by_quadrant))]
+fn arithmetic(half: u32) -> Option<u32>
+    requires quadrant { bits_of half 1 0 ≡ 1 }
+    requires top { bits_of half 15 13 ≡ 4 }
+    ensures { Expands half result }
+{
+    let low = 8 + field(half, 4, 2);
+    let high = 8 + field(half, 9, 7);
+    match (field(half, 11, 10), field(half, 12, 12)) {
+        (0, 0) => Some(srli(high, high, field(half, 6, 2))),
+        (1, 0) => Some(srai(high, high, field(half, 6, 2))),
+        (2, _) => Some(andi(high, high, widen(small(half), 6, 12))),
+        (3, 0) => Some(match field(half, 6, 5) {
+            0 => sub(high, high, low),
+            1 => xor(high, high, low),
+            2 => or(high, high, low),
+            _ => and(high, high, low),
+        }),
+        _ => None,
+    }
+}
+
+#[tactic(auto, using(crate::proofs::ByQuadrant::by_quadrant))]
+fn quadrant2(half: u32) -> Option<u32>
+    requires { bits_of half 1 0 ≡ 2 }
+    ensures { Expands half result }
+{
+    let rd = field(half, 11, 7);
+    match field(half, 15, 13) {
+        0 if field(half, 12, 12) == 0 => Some(slli(rd, rd, field(half, 6, 2))),
+        2 if rd != 0 => Some(lw(rd, 2, stack_load(half))),
+        4 => registers(half),
+        6 => Some(sw(2, field(half, 6, 2), stack_store(half))),
+        _ => None,
+    }
+}
+
+/// C.JR, C.MV, C.EBREAK, C.JALR and C.ADD.
+#[tactic(auto, using(crate::proofs::ByQuadrant::by_quadrant))]
+fn registers(half: u32) -> Option<u32>
+    requires quadrant { bits_of half 1 0 ≡ 2 }
+    requires top { bits_of half 15 13 ≡ 4 }
+    ensures { Expands half result }
+{
+    match (field(half, 12, 12), field(half, 11, 7), field(half, 6, 2)) {
+        (0, 0, 0) => None,
+        (0, rs1, 0) => Some(jalr(0, rs1, 0)),
+        (0, rd, rs2) => Some(add(rd, 0, rs2)),
+        (_, 0, 0) => Some(EBREAK),
+        (_, rs1, 0) => Some(jalr(1, rs1, 0)),
+        (_, rd, rs2) => Some(add(rd, rd, rs2)),
+    }
+}

@@ -1,0 +1,208 @@
+ghost use Rattle.rv_isa.specs.Bits.{field as bits_of};
+ghost use Rattle.rv_isa.specs.Words.{rows, fits, Means32, meaning32, IsWellFormed, named};
+ghost use Rattle.rv_isa.specs.Words.{branches, loads, stores, immediates, shifts, arithmetic_shifts, registers, registers_alternate, fences, products};
+ghost use Rattle.rv_isa.specs.declared.instruction.Instr.{Instr};
+ghost use Rattle.std.specs.Prelude.{ℕ, ◌≡◌, ◌↔◌, ◌≤◌, ◌==◌, if◌then◌else◌, IfSome, count_by};
+
+use crate::bits::field;
+use crate::formats::{no_operands, type_b, type_i, type_j, type_r, type_s, type_shift, type_u};
+use crate::instruction::{Instr, Op};
+use crate::opcodes::{AUIPC, BRANCH, JAL, JALR, LOAD, LUI, MISC_MEM, OP, OP_IMM, STORE, SYSTEM};
+
+/// The instruction of a 32-bit word: that of the word's only row in the RV32G listing of the RISC-V Unprivileged ISA
+/// 20191213 (chapter 24; RV32I, RV32M and Zifencei), or `None` where no row fits it.
+///
+/// Words of other extensions, Zicsr, WFI and MRET among them, have no row. FENCE and FENCE.I ignore their other fields.
+#[inline]
+pub fn decode32(word: u32) -> Option<Instr>
+    ensures meaning { (i : Instr) → (result ≡ Some i) ↔ Means32 word i }
+    ensures value { result ≡ meaning32 word }
+    ensures well_formed { IfSome result IsWellFormed }
+{
+    find(word)
+}
+
+/// A law of the listing, with nothing to run: no word has two rows.
+pub fn no_word_has_two_rows()
+    ensures { (word : ℕ) → count_by (fits word) rows ≤ 1 }
+{}
+
+#[inline]
+#[tactic(auto, using(crate::proofs::ByOpcode::by_opcode))]
+fn find(word: u32) -> Option<Instr>
+    ensures { result ≡ meaning32 word }
+{
+    let funct3 = field(word, 14, 12);
+    let funct7 = field(word, 31, 25);
+    match field(word, 6, 0) {
+        LUI => Some(type_u(Op::Lui, word)),
+        AUIPC => Some(type_u(Op::Auipc, word)),
+        JAL => Some(type_j(Op::Jal, word)),
+        JALR if funct3 == 0 => Some(type_i(Op::Jalr, word)),
+        BRANCH => Some(type_b(branch(funct3)?, word)),
+        LOAD => Some(type_i(load(funct3)?, word)),
+        STORE => Some(type_s(store(funct3)?, word)),
+        OP_IMM => match immediate(funct3) {
+            Some(op) => Some(type_i(op, word)),
+            None => Some(type_shift(shift(funct7, funct3)?, word)),
+        },
+        OP => Some(type_r(register(funct7, funct3)?, word)),
+        MISC_MEM => Some(no_operands(fence(funct3)?)),
+        SYSTEM => system(word),
+        _ => None,
+    }
+}
+
+#[inline]
+fn branch(funct3: u32) -> Option<Op>
+    ensures { result ≡ named branches funct3 }
+{
+    match funct3 {
+        0 => Some(Op::Beq),
+        1 => Some(Op::Bne),
+        4 => Some(Op::Blt),
+        5 => Some(Op::Bge),
+        6 => Some(Op::Bltu),
+        7 => Some(Op::Bgeu),
+        _ => None,
+    }
+}
+
+#[inline]
+fn load(funct3: u32) -> Option<Op>
+    ensures { result ≡ named loads funct3 }
+{
+    match funct3 {
+        0 => Some(Op::Lb),
+        1 => Some(Op::Lh),
+        2 => Some(Op::Lw),
+        4 => Some(Op::Lbu),
+        5 => Some(Op::Lhu),
+        _ => None,
+    }
+}
+
+#[inline]
+fn store(funct3: u32) -> Option<Op>
+    ensures { result ≡ named stores funct3 }
+{
+    match funct3 {
+        0 => Some(Op::Sb),
+        1 => Some(Op::Sh),
+        2 => Some(Op::Sw),
+        _ => None,
+    }
+}
+
+#[inline]
+fn immediate(funct3: u32) -> Option<Op>
+    ensures { result ≡ named immediates funct3 }
+{
+    match funct3 {
+        0 => Some(Op::Addi),
+        2 => Some(Op::Slti),
+        3 => Some(Op::Sltiu),
+        4 => Some(Op::Xori),
+        6 => Some(Op::Ori),
+        7 => Some(Op::Andi),
+        _ => None,
+    }
+}
+
+#[inline]
+fn shift(funct7: u32, funct3: u32) -> Option<Op>
+    ensures { result ≡ (if funct7 == 0 then named shifts funct3
+        else if funct7 == 0x20 then named arithmetic_shifts funct3
+        else None) }
+{
+    match (funct7, funct3) {
+        (0x00, 1) => Some(Op::Slli),
+        (0x00, 5) => Some(Op::Srli),
+        (0x20, 5) => Some(Op::Srai),
+        _ => None,
+    }
+}
+
+#[inline]
+fn register(funct7: u32, funct3: u32) -> Option<Op>
+    ensures { result ≡ (if funct7 == 0 then named registers funct3
+        else if funct7 == 0x20 then named registers_alternate funct3
+        else if funct7 == 1 then named products funct3
+        else None) }
+{
+    match funct7 {
+        0x00 => register_plain(funct3),
+        0x20 => register_alternate(funct3),
+        0x01 => product(funct3),
+        _ => None,
+    }
+}
+
+#[inline]
+fn register_plain(funct3: u32) -> Option<Op>
+    ensures { result ≡ named registers funct3 }
+{
+    match funct3 {
+        0 => Some(Op::Add),
+        1 => Some(Op::Sll),
+        2 => Some(Op::Slt),
+        3 => Some(Op::Sltu),
+        4 => Some(Op::Xor),
+        5 => Some(Op::Srl),
+        6 => Some(Op::Or),
+        7 => Some(Op::And),
+        _ => None,
+    }
+}
+
+#[inline]
+fn register_alternate(funct3: u32) -> Option<Op>
+    ensures { result ≡ named registers_alternate funct3 }
+{
+    match funct3 {
+        0 => Some(Op::Sub),
+        5 => Some(Op::Sra),
+        _ => None,
+    }
+}
+
+#[inline]
+fn product(funct3: u32) -> Option<Op>
+    ensures { result ≡ named products funct3 }
+{
+    match funct3 {
+        0 => Some(Op::Mul),
+        1 => Some(Op::Mulh),
+        2 => Some(Op::Mulhsu),
+        3 => Some(Op::Mulhu),
+        4 => Some(Op::Div),
+        5 => Some(Op::Divu),
+        6 => Some(Op::Rem),
+        7 => Some(Op::Remu),
+        _ => None,
+    }
+}
+
+#[inline]
+fn fence(funct3: u32) -> Option<Op>
+    ensures { result ≡ named fences funct3 }
+{
+    match funct3 {
+        0 => Some(Op::Fence),
+        1 => Some(Op::FenceI),
+        _ => None,
+    }
+}
+
+#[inline]
+#[tactic(auto, using(crate::proofs::ByOpcode::by_opcode))]
+fn system(word: u32) -> Option<Instr>
+    requires { bits_of word 6 0 ≡ 0x73 }
+    ensures { result ≡ meaning32 word }
+{
+    match word {
+        0x0000_0073 => Some(no_operands(Op::Ecall)),
+        0x0010_0073 => Some(no_operands(Op::Ebreak)),
+        _ => None,
+    }
+}

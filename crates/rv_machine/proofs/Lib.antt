@@ -1,0 +1,3 @@
+pub mod Fetching
+pub mod Running
+pub mod Remainders

@@ -1,0 +1,143 @@
+-- What stands in a bus, and what each access gives and leaves.
+-- Memory is little-endian (RISC-V Unprivileged ISA 20191213, sections 1.4 and 2.6); the fences' part is that of its chapter 3, "Zifencei".
+use Rattle.std.specs.Prelude.{◌≡◌, ℕ, ◌+◌, ◌*◌, ◌/◌, ◌%◌, Bool, ◌&&◌, ◌||◌, ◌==◌, nat_lt, nat_le, not, cond, if◌then◌else◌, List, [], ◌∷◌, ◌++◌, length, drop, unwrap_or, Option, Some, None, Result, Ok, Err, refl}
+use Rattle.std.specs.Ordering.{nat_cmp}
+use Rattle.std.specs.FinMap as fin
+use Rattle.std.specs.FinSet as set
+use Rattle.std.specs.Coded.{Coded, code_by, coded_ℕ, coded_bool, coded_list, coded×}
+use Rattle.rv_memory.specs.declared.map.Region.{Region}
+use Rattle.rv_memory.specs.declared.bus.Width.{Width}
+use Rattle.rv_memory.specs.declared.bus.Width.TheVariants.{Byte, Half, Word}
+use Rattle.rv_memory.specs.declared.bus.BusFault.{BusFault}
+use Rattle.rv_memory.specs.declared.bus.BusFault.TheVariants.{Misaligned, Access, ConsoleFull}
+use Rattle.rv_memory.specs.declared.bus.FetchFault.{FetchFault}
+use Rattle.rv_memory.specs.declared.bus.FetchFault.TheVariants.{Unmapped, Stale}
+use Rattle.rv_memory.specs.Regions.{in_one, in_writable, addresses, tabulate}
+
+pub record Contents : Type 0 where
+  pub regions : List Region
+  -- from the regions' addresses to bytes
+  pub memory : fin.FinMap nat_cmp ℕ
+  -- the addresses stored since the start or the last FENCE.I
+  pub stored : set.FinSet nat_cmp
+  -- what is left of the script
+  pub script : List ℕ
+  -- what the console was given so far
+  pub output : List ℕ
+
+abbrev pub region_code : Coded Region
+region_code = code_by (ℕ × (ℕ × Bool)) (coded× coded_ℕ (coded× coded_ℕ coded_bool)) (λ r. (r.base, (r.size, r.writable))) (λ p. record { base = p.0; size = p.1.0; writable = p.1.1 }) (λ _. refl)
+
+-- contents as nested pairs, so that they may be the value of a struct
+abbrev pub contents_code : Coded Contents
+contents_code =
+    code_by (List Region × (fin.FinMap nat_cmp ℕ × (set.FinSet nat_cmp × (List ℕ × List ℕ))))
+    (coded× (coded_list region_code) (coded× (fin.code coded_ℕ coded_ℕ) (coded× (set.code coded_ℕ) (coded× (coded_list coded_ℕ) (coded_list coded_ℕ)))))
+    (λ c. (c.regions, (c.memory, (c.stored, (c.script, c.output)))))
+    (λ p. record { regions = p.0; memory = p.1.0; stored = p.1.1.0; script = p.1.1.1.0; output = p.1.1.1.1 })
+    (λ _. refl)
+
+-- the byte at an address of the regions
+abbrev pub byte_at : fin.FinMap nat_cmp ℕ → ℕ → ℕ
+byte_at m a = unwrap_or (fin.get m a) 0
+
+-- the little-endian halfword of two bytes
+abbrev pub half_at : fin.FinMap nat_cmp ℕ → ℕ → ℕ
+half_at m a = byte_at m a + 0x100 * byte_at m (a + 1)
+
+-- the little-endian word of four
+abbrev pub word_at : fin.FinMap nat_cmp ℕ → ℕ → ℕ
+word_at m a = byte_at m a + 0x100 * byte_at m (a + 1) + 0x1_0000 * byte_at m (a + 2) + 0x100_0000 * byte_at m (a + 3)
+
+-- the number of bytes of an access
+abbrev pub size_of : Width → ℕ
+size_of Byte = 1
+size_of Half = 2
+size_of Word = 4
+
+abbrev pub value_at : fin.FinMap nat_cmp ℕ → ℕ → Width → ℕ
+value_at m a Byte = byte_at m a
+value_at m a Half = half_at m a
+value_at m a Word = word_at m a
+
+-- the address is one of the console's 16
+abbrev pub in_console : ℕ → Bool
+in_console a = nat_le 0x1000_0000 a && nat_lt a 0x1000_0010
+
+-- what a read of the script gives: its next byte, or all ones at its end
+abbrev pub next_of : List ℕ → ℕ
+next_of [] = 0xffff_ffff
+next_of (b ∷ bs) = b
+
+-- a load from the console: a word at its first address takes a byte of the script, the word after it counts what is left
+abbrev pub console_load : Contents → ℕ → Width → Result (ℕ × Contents) BusFault
+console_load c a Byte = Err Access
+console_load c a Half = Err Access
+console_load c a Word =
+    if a == 0x1000_0000 then Ok (next_of c.script, record c { script = drop 1 c.script })
+    else (if a == 0x1000_0004 then Ok (length c.script, c) else Err Access)
+
+-- a load gives an unsigned value: misaligned addresses are refused first, then those that are neither the console's nor in one region
+abbrev pub load_from : Contents → ℕ → Width → Result (ℕ × Contents) BusFault
+load_from c a w =
+    if not (a % size_of w == 0) then Err Misaligned
+    else (if in_console a then console_load c a w
+    else (if in_one c.regions a (size_of w) then Ok (value_at c.memory a w, c) else Err Access))
+
+-- one byte stored, and marked as stored whatever it held before
+abbrev pub put_byte : Contents → ℕ → ℕ → Contents
+put_byte c a b = record c { memory = fin.insert c.memory a b; stored = set.insert c.stored a }
+
+-- the low bytes of a value stored, the lowest first
+abbrev pub put : Contents → ℕ → Width → ℕ → Contents
+put c a Byte v = put_byte c a (v % 0x100)
+put c a Half v = put_byte (put_byte c a (v % 0x100)) (a + 1) (v / 0x100 % 0x100)
+put c a Word v =
+    put_byte (put_byte (put_byte (put_byte c a (v % 0x100)) (a + 1) (v / 0x100 % 0x100)) (a + 2) (v / 0x1_0000 % 0x100)) (a + 3) (v / 0x100_0000 % 0x100)
+
+-- a store to the console: a word at its first address appends its low byte, up to 65,536 bytes in all
+abbrev pub console_store : Contents → ℕ → Width → ℕ → Result Contents BusFault
+console_store c a Byte v = Err Access
+console_store c a Half v = Err Access
+console_store c a Word v =
+    if not (a == 0x1000_0000) then Err Access
+    else (if nat_lt (length c.output) 0x1_0000 then Ok (record c { output = c.output ++ (v % 0x100) ∷ [] }) else Err ConsoleFull)
+
+-- a store: misaligned addresses are refused first, then those that are neither the console's nor in one writable region
+abbrev pub store_to : Contents → ℕ → Width → ℕ → Result Contents BusFault
+store_to c a w v =
+    if not (a % size_of w == 0) then Err Misaligned
+    else (if in_console a then console_store c a w v
+    else (if in_writable c.regions a (size_of w) then Ok (put c a w v) else Err Access))
+
+-- one of the two bytes was stored since the last FENCE.I
+abbrev pub is_stale : Contents → ℕ → Bool
+is_stale c a = set.contains c.stored a || set.contains c.stored (a + 1)
+
+-- a fetch of the halfword of the two bytes
+abbrev pub fetch_half_from : Contents → ℕ → Result ℕ FetchFault
+fetch_half_from c a =
+    if not (in_one c.regions a 2) then Err Unmapped
+    else (if is_stale c a then Err Stale else Ok (half_at c.memory a))
+
+-- a fetch of the word of the four bytes, where they lie in one region and none was stored
+abbrev pub fetch_word_from : Contents → ℕ → Option ℕ
+fetch_word_from c a =
+    if in_one c.regions a 4 && not (is_stale c a || is_stale c (a + 2)) then Some (word_at c.memory a) else None
+
+-- FENCE.I: nothing counts as stored
+abbrev pub synced : Contents → Contents
+synced c = record c { stored = set.empty }
+
+-- the memory with bytes put one after another, from an address on
+abbrev pub bytes_put : fin.FinMap nat_cmp ℕ → ℕ → List ℕ → fin.FinMap nat_cmp ℕ
+bytes_put m a [] = m
+bytes_put m a (b ∷ bs) = bytes_put (fin.insert m a b) (a + 1) bs
+
+-- bytes placed from an address on, as an image's are: none of them counts as stored
+abbrev pub placed : Contents → ℕ → List ℕ → Contents
+placed c a bytes = record c { memory = bytes_put c.memory a bytes }
+
+-- a new bus: zero memory, and nothing stored
+unfoldable pub opened : List Region → List ℕ → Contents
+opened regions script = record { regions = regions; memory = tabulate (addresses regions) (λ _. 0); stored = set.empty; script = script; output = [] }

@@ -1,0 +1,265 @@
+ghost use Rattle.std.specs.Prelude.{◌≡◌, ◌+◌, ◌*◌, ◌/◌, ◌%◌, ◌^◌, ◌<◌, ◌≤◌, IsTrue, IfOk, IfSome, MatchResult, Ok, None, length, vec_len};
+ghost use Rattle.rv_memory.specs.Regions.{in_one};
+ghost use Rattle.rv_memory.specs.Maps.{map_error};
+ghost use Rattle.rv_memory.specs.Bus.{size_of, load_from, store_to, fetch_half_from, fetch_word_from, console_load, console_store, synced, placed, opened};
+
+use crate::access::{has_mark, mark, read, read_word, write};
+use crate::map::Map;
+use std::alloc::{AllocError, Global};
+use std::marker::Model;
+
+/// How many bytes an access has: one, two or four.
+#[derive(Clone, Copy, Debug, PartialEq, Eq)]
+pub enum Width {
+    Byte,
+    Half,
+    Word,
+}
+
+/// Why a load or a store is refused; of two reasons the one that stands first here.
+#[derive(Clone, Copy, Debug, PartialEq, Eq)]
+pub enum BusFault {
+    /// The address is no multiple of the width.
+    Misaligned,
+    /// The bytes lie in no region, or for a store in none that is writable; or the console has no
+    /// such access.
+    Access,
+    /// The console's output has its 65,536 bytes.
+    ConsoleFull,
+}
+
+/// Why a fetch of a halfword is refused; of two reasons the one that stands first here.
+#[derive(Clone, Copy, Debug, PartialEq, Eq)]
+pub enum FetchFault {
+    /// The two bytes lie in no region.
+    Unmapped,
+    /// One of them was stored since the last FENCE.I.
+    Stale,
+}
+
+/// The memory of a map with its marks of stored bytes, and the console.
+///
+/// The console has the addresses `0x1000_0000` to `0x1000_000f`. A word load at the first gives the
+/// next byte of the script, or `0xffff_ffff` at its end, and a word store there appends its low byte
+/// to the output, which takes 65,536 bytes. A word load at `0x1000_0004` gives the number of bytes
+/// that are left of the script. Every other access to the console is refused.
+#[derive(Drop)]
+pub struct Bus {
+    map: Map,
+    // The bytes of the regions, one region after another, and their marks.
+    bytes: Vec<u8>,
+    marks: Vec<u8>,
+    // A byte is stored where its mark is this generation; the older ones are below it.
+    present: u8,
+    console: Vec<u8>,
+    script: Vec<u8>,
+    // How many bytes of the script were read.
+    taken: usize,
+}
+
+impl Model for Bus {
+    ghost use Rattle.rv_memory.specs.Bus.{Contents, contents_code};
+
+    ghost Value = { Contents };
+
+    ghost coded = { contents_code };
+
+    ghost use Rattle.rv_memory.specs.BusInside.{contents_of, IsBusInside};
+
+    ghost view = { contents_of };
+
+    ghost invariant = { IsBusInside };
+}
+
+impl Width {
+    #[inline]
+    fn size(self) -> u32
+        ensures { result ≡ size_of self }
+    {
+        match self {
+            Width::Byte => 1,
+            Width::Half => 2,
+            Width::Word => 4,
+        }
+    }
+}
+
+/// The most bytes that the console's output has.
+const CONSOLE_ROOM: usize = 0x1_0000;
+
+impl Bus {
+    /// A bus over the regions of a map: zero memory, nothing stored, and no output.
+    pub fn new(alloc: Global, map: Map, script: Vec<u8>) -> Result<Bus, AllocError>
+        requires { vec_len script ≤ 0x1_0000 }
+        ensures { IfOk result (λ b. b ≡ opened map script.items) }
+    {
+        let total = map.total();
+        let bytes = vec![in alloc; 0u8; total]?;
+        let marks = vec![in alloc; 0u8; total]?;
+        let console = Vec::with_capacity(alloc, CONSOLE_ROOM)?;
+        Ok(Bus {
+            map,
+            bytes,
+            marks,
+            present: 1,
+            console,
+            script,
+            taken: 0,
+        })
+    }
+
+    /// Places bytes from an address on, as an image's are: in a region that is not writable too, and
+    /// none of them counts as stored.
+    pub fn place(&mut self, addr: u32, bytes: &[u8])
+        requires { IsTrue (in_one self.old.regions addr (length bytes.now)) }
+        ensures { self.new ≡ placed self.old addr bytes.now }
+    {
+        if bytes.is_empty() {
+            return;
+        }
+        let Some(place) = self.map.place(addr, bytes.len() as u32) else {
+            unreachable!();
+        };
+        self.bytes[place.at..place.at + bytes.len()].copy_from_slice(bytes);
+    }
+
+    /// The unsigned value of the bytes at an address.
+    #[inline]
+    pub fn load(&mut self, addr: u32, width: Width) -> Result<u32, BusFault>
+        ensures narrow { IfOk result (λ v. v < 2 ^ (8 * size_of width)) }
+        ensures value { MatchResult result (λ v. load_from self.old addr width ≡ Ok (v, self.new)) (λ e. (load_from self.old addr width ≡ Err e) × (self.new ≡ self.old)) }
+    {
+        if addr % width.size() != 0 {
+            return Err(BusFault::Misaligned);
+        }
+        let Some(place) = self.map.place(addr, width.size()) else {
+            return self.load_console(addr, width);
+        };
+        Ok(read(&self.bytes, place.at, width))
+    }
+
+    /// Writes the low bytes of a value, and marks them as stored.
+    #[inline]
+    pub fn store(&mut self, addr: u32, width: Width, value: u32) -> Result<(), BusFault>
+        ensures { MatchResult result (λ _. store_to self.old addr width value ≡ Ok self.new) (λ e. (store_to self.old addr width value ≡ Err e) × (self.new ≡ self.old)) }
+    {
+        if addr % width.size() != 0 {
+            return Err(BusFault::Misaligned);
+        }
+        let Some(place) = self.map.place(addr, width.size()) else {
+            return self.store_console(addr, width, value);
+        };
+        if !place.writable {
+            return Err(BusFault::Access);
+        }
+        write(&mut self.bytes, place.at, width, value);
+        mark(&mut self.marks, place.at, width, self.present);
+        Ok(())
+    }
+
+    /// The halfword of the two bytes at an address, which may be odd.
+    #[inline]
+    pub fn fetch_half(&self, addr: u32) -> Result<u16, FetchFault>
+        ensures { result ≡ fetch_half_from self.now addr }
+    {
+        let Some(place) = self.map.place(addr, 2) else {
+            return Err(FetchFault::Unmapped);
+        };
+        if self.marks[place.at] == self.present {
+            return Err(FetchFault::Stale);
+        }
+        if self.marks[place.at + 1] == self.present {
+            return Err(FetchFault::Stale);
+        }
+        Ok(u16::from(self.bytes[place.at]) + 0x100 * u16::from(self.bytes[place.at + 1]))
+    }
+
+    /// The word of the four bytes at an address, where they lie in one region and none was stored
+    /// since the last FENCE.I: its two halfwords are those that [`Bus::fetch_half`] gives.
+    #[inline]
+    pub fn fetch_word(&self, addr: u32) -> Option<u32>
+        ensures value { result ≡ fetch_word_from self.now addr }
+        ensures halves { IfSome result (λ w. (fetch_half_from self.now addr ≡ Ok (w % 0x1_0000)) × (fetch_half_from self.now ((addr + 2) % 0x1_0000_0000) ≡ Ok (w / 0x1_0000))) }
+    {
+        let place = self.map.place(addr, 4)?;
+        if has_mark(&self.marks, place.at, self.present) {
+            return None;
+        }
+        Some(read_word(&self.bytes, place.at))
+    }
+
+    /// What FENCE.I does to memory: nothing counts as stored.
+    pub fn sync_code(&mut self)
+        ensures { self.new ≡ synced self.old }
+    {
+        if self.present < u8::MAX {
+            self.present += 1;
+        } else {
+            self.marks.fill(0);
+            self.present = 1;
+        }
+    }
+
+    /// The output so far.
+    pub fn console(&self) -> &[u8]
+        ensures { result.now ≡ self.now.output }
+    {
+        &self.console
+    }
+
+    /// The map that the bus was made with.
+    pub fn map(&self) -> Map
+        ensures value { result ≡ self.now.regions }
+        ensures accepted { map_error self.now.regions ≡ None }
+    {
+        self.map
+    }
+
+    #[inline(never)]
+    fn load_console(&mut self, addr: u32, width: Width) -> Result<u32, BusFault>
+        ensures narrow { IfOk result (λ v. v < 2 ^ (8 * size_of width)) }
+        ensures value { MatchResult result (λ v. console_load self.old addr width ≡ Ok (v, self.new)) (λ e. (console_load self.old addr width ≡ Err e) × (self.new ≡ self.old)) }
+    {
+        match width {
+            Width::Byte => Err(BusFault::Access),
+            Width::Half => Err(BusFault::Access),
+            Width::Word => {
+                if addr == 0x1000_0000 {
+                    if self.taken < self.script.len() {
+                        let byte = self.script[self.taken];
+                        self.taken += 1;
+                        Ok(u32::from(byte))
+                    } else {
+                        Ok(0xffff_ffff)
+                    }
+                } else if addr == 0x1000_0004 {
+                    Ok((self.script.len() - self.taken) as u32)
+                } else {
+                    Err(BusFault::Access)
+                }
+            }
+        }
+    }
+
+    #[inline(never)]
+    fn store_console(&mut self, addr: u32, width: Width, value: u32) -> Result<(), BusFault>
+        ensures { MatchResult result (λ _. console_store self.old addr width value ≡ Ok self.new) (λ e. (console_store self.old addr width value ≡ Err e) × (self.new ≡ self.old)) }
+    {
+        match width {
+            Width::Byte => Err(BusFault::Access),
+            Width::Half => Err(BusFault::Access),
+            Width::Word => {
+                if addr != 0x1000_0000 {
+                    return Err(BusFault::Access);
+                }
+                if self.console.len() >= CONSOLE_ROOM {
+                    return Err(BusFault::ConsoleFull);
+                }
+                match self.console.push((value % 0x100) as u8) {
+                    Ok(()) => Ok(()),
+                    Err(_) => unreachable!(),
+                }
+            }
+        }
+    }
+}
