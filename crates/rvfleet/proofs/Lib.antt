@@ -1,4 +1,5 @@
 pub mod Answering
+pub mod FlatImages
 pub mod Incoming
 pub mod Numerals
 pub mod Outgoing
