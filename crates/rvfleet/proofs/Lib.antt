@@ -1,0 +1,6 @@
+pub mod Answering
+pub mod FlatImages
+pub mod Incoming
+pub mod Numerals
+pub mod Outgoing
+mod WrittenWords

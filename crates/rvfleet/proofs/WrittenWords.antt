@@ -1,0 +1,33 @@
+-- The command line's definitions, computed at words that are written out.
+use Rattle.std.proofs.Common.{◌≡◌, refl, true, false, [], ◌∷◌, None, Some, codes}
+use Rattle.clap.specs.Words.{takes}
+use Rattle.clap.proofs.OnLiterals.{clap_on_literals}
+use Rattle.rvfleet.specs.CommandLine.{fleet_app, raw, request_of}
+
+raw_is_taken : takes fleet_app (codes "rvfleet" ∷ codes "raw" ∷ codes "--budget" ∷ codes "3" ∷ []) ≡ true
+unfolding clap_on_literals
+raw_is_taken = refl
+
+raw_asks : request_of (codes "rvfleet" ∷ codes "raw" ∷ codes "--budget" ∷ codes "3" ∷ []) ≡ Some (raw 3)
+unfolding clap_on_literals
+raw_asks = refl
+
+greatest_budget : request_of (codes "rvfleet" ∷ codes "raw" ∷ codes "--budget=1000000000" ∷ []) ≡ Some (raw 1000000000)
+unfolding clap_on_literals
+greatest_budget = refl
+
+no_budget : takes fleet_app (codes "rvfleet" ∷ codes "raw" ∷ []) ≡ false
+unfolding clap_on_literals
+no_budget = refl
+
+budget_zero : takes fleet_app (codes "rvfleet" ∷ codes "raw" ∷ codes "--budget=0" ∷ []) ≡ false
+unfolding clap_on_literals
+budget_zero = refl
+
+budget_above : takes fleet_app (codes "rvfleet" ∷ codes "raw" ∷ codes "--budget=1000000001" ∷ []) ≡ false
+unfolding clap_on_literals
+budget_above = refl
+
+help_is_not_taken : takes fleet_app (codes "rvfleet" ∷ codes "--help" ∷ []) ≡ false
+unfolding clap_on_literals
+help_is_not_taken = refl

@@ -1,0 +1,56 @@
+-- The command line: the rules that `clap` reads words by, and what words ask for.
+use Rattle.std.specs.Prelude.{◌^◌, ℕ, Bool, true, List, Option, Some, None, pos, codes, option_map, option_and_then, if◌then◌else◌, ◌&&◌, nat_lt}
+use Rattle.std.specs.Str.{bytes_eq}
+use Rattle.std.specs.Str.Parse.{digits_value, without_leading_plus}
+use Rattle.clap.specs.ValueTests.{is_numeral}
+use Rattle.clap.specs.Words.{App, Row, Rule, Text, new_app, new_rule, one_of, subcommand_of, takes, with_rule, with_subcommand}
+use Rattle.clap.specs.declared.builder.value_parser.ValueParser.TheVariants as value_parser
+
+-- --budget N, required: from 1 to 1,000,000,000
+abbrev pub budget_rule : Rule
+budget_rule = record (new_rule (codes "budget")) {
+  long = Some (codes "budget");
+  required = true;
+  parser = Some (value_parser.Signed (pos 1) (pos 1000000000));
+}
+
+-- raw --budget N
+abbrev pub raw_app : App
+raw_app = with_rule (new_app (codes "raw")) budget_rule
+
+-- a subcommand is required, and none is called help
+abbrev pub top_app : App
+top_app = let app = new_app (codes "rvfleet") in
+  record app { top = record app.top { subcommand_required = true; disable_help_subcommand = true } }
+
+-- the whole command
+abbrev pub fleet_app : App
+fleet_app = with_subcommand top_app raw_app.top
+
+-- what words ask for
+pub data Request : Type 0 where
+  raw : ℕ → Request
+
+-- a decimal number of 32 bits; a plus may stand before it
+abbrev pub number_of : Text → Option ℕ
+number_of text = let number = digits_value 10 (without_leading_plus text) in
+  if is_numeral (without_leading_plus text) && nat_lt number (2 ^ 32) then Some number else None
+
+-- the number that stands for an argument
+abbrev pub number_in : Text → List Row → Option ℕ
+number_in id rows = option_and_then number_of (one_of id rows)
+
+abbrev pub raw_in : List Row → Option Request
+raw_in rows = option_map raw (number_in (codes "budget") rows)
+
+-- what a subcommand with these values asks for
+abbrev pub request_in : Text → List Row → Option Request
+request_in name rows = if bytes_eq name (codes "raw") then raw_in rows else None
+
+-- the subcommand and the values are the matches that `clap` defines for the words
+abbrev pub request_of : List Text → Option Request
+request_of words = option_and_then (λ found. request_in found.0 found.1) (subcommand_of fleet_app words)
+
+-- the command takes the words
+unfoldable pub is_taken : List Text → Bool
+is_taken words = takes fleet_app words

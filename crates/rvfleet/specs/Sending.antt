@@ -1,0 +1,28 @@
+-- What a sink took, and how often it failed.
+use Rattle.std.specs.Prelude.{◌≡◌, ◌≤◌, ◌+◌, ◌^◌, ◌-◌, ℕ, List, ◌++◌, Option, min}
+use Rattle.std.specs.Io.KnownBytes.{Appends}
+
+-- the known bytes grew by a beginning of the text
+pub record AppendsBeginning (old new : Option (List ℕ)) (text : List ℕ) : Type 0 where
+  pub part : List ℕ
+  pub rest : List ℕ
+  pub whole : text ≡ part ++ rest
+  pub appended : Appends old new part
+
+-- the first part of the text went out, and the second is gathered
+pub record IsUnderWay (old new : Option (List ℕ)) (gathered text : List ℕ) : Type 0 where
+  pub sent : List ℕ
+  pub appended : Appends old new sent
+  pub whole : text ≡ sent ++ gathered
+
+-- the greatest count of failures
+abbrev pub most_failures : ℕ
+most_failures = 2 ^ 64 - 1
+
+-- one failure more; at its greatest the count stays
+abbrev pub one_more : ℕ → ℕ
+one_more failures = min (failures + 1) most_failures
+
+-- the count rose by one or more; at its greatest it passes as risen
+abbrev pub Rose : ℕ → ℕ → Type 0
+Rose old new = one_more old ≤ new

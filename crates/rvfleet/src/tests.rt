@@ -1,0 +1,470 @@
+//! Reports, words and runs, over readers and sinks in memory.
+
+ghost use Rattle.std.specs.Prelude.{Some};
+
+use crate::command::{Asked, read_words};
+use crate::flat::flat_row;
+use crate::raw::{RunError, run_raw};
+use crate::report::{WriteError, write_report};
+use crate::row::{Bytes, Name, Refusal, Report, Row, RowEnd, Rows, Verdict, Words};
+use crate::sink::{Sink, SinkFailed, StreamSink, put_all};
+use crate::words::run_words;
+use rv_machine::FaultKind;
+use std::alloc::{AllocError, Global};
+use std::io::{self, Read, Write};
+use std::test::Fail;
+
+// A sink over memory, which takes so many bytes a put, and may fail at one put.
+#[derive(Drop)]
+struct MemorySink {
+    bytes: Vec<u8>,
+    most: usize,
+    puts: u64,
+    fails_at: u64,
+    failures: u64,
+}
+
+impl MemorySink {
+    fn new(alloc: Global) -> MemorySink {
+        MemorySink {
+            bytes: Vec::new(alloc),
+            most: usize::MAX,
+            puts: 0,
+            fails_at: 0,
+            failures: 0,
+        }
+    }
+
+    fn slow(alloc: Global, most: usize) -> MemorySink {
+        let mut sink = MemorySink::new(alloc);
+        sink.most = most;
+        sink
+    }
+
+    fn failing(alloc: Global, most: usize, fails_at: u64) -> MemorySink {
+        let mut sink = MemorySink::slow(alloc, most);
+        sink.fails_at = fails_at;
+        sink
+    }
+
+    fn text(&self) -> Result<&str, Fail> {
+        Ok(std::str::from_utf8(self.bytes.as_slice())?)
+    }
+}
+
+impl Sink for MemorySink {
+    ghost taken = { λ sink. Some sink.bytes.items };
+
+    ghost failed = { λ sink. sink.failures };
+
+    fn put(&mut self, bytes: &[u8]) -> Result<usize, SinkFailed> {
+        self.puts = self.puts.saturating_add(1);
+        let count = bytes.len().min(self.most.max(1));
+        if self.puts != self.fails_at && self.bytes.extend_from_slice(&bytes[..count]).is_ok() {
+            return Ok(count);
+        }
+        self.failures = self.failures.saturating_add(1);
+        Err(SinkFailed)
+    }
+
+    fn failures(&self) -> u64 {
+        self.failures
+    }
+}
+
+// A reader that gives one byte a read, and fails where an end is named.
+#[derive(Drop)]
+struct SlowReader<'a> {
+    bytes: &'a [u8],
+    fails: bool,
+}
+
+impl<'a> Read for SlowReader<'a> {
+    fn read(&mut self, buffer: &mut [u8]) -> io::Result<usize> {
+        if buffer.is_empty() {
+            return Ok(0);
+        }
+        if self.bytes.is_empty() {
+            return if self.fails { Err(io::ErrorKind::Other.into()) } else { Ok(0) };
+        }
+        buffer[0] = self.bytes[0];
+        self.bytes = &self.bytes[1..];
+        Ok(1)
+    }
+}
+
+// A writer whose flush fails.
+#[derive(Drop)]
+struct Stuck;
+
+impl Write for Stuck {
+    fn write(&mut self, bytes: &[u8]) -> io::Result<usize> {
+        Ok(bytes.len())
+    }
+
+    fn flush(&mut self) -> io::Result<()> {
+        Err(io::ErrorKind::Other.into())
+    }
+}
+
+// What the program answered.
+#[derive(Drop)]
+struct Answer {
+    status: u8,
+    out: MemorySink,
+    faults: MemorySink,
+}
+
+fn ask<R: Read>(alloc: Global, words: &[&str], input: &mut R, out: MemorySink) -> Answer {
+    let mut out = out;
+    let mut faults = MemorySink::new(alloc);
+    let status = run_words(alloc, words, input, &mut out, &mut faults);
+    Answer {
+        status,
+        out,
+        faults,
+    }
+}
+
+// Ends a run by the exit call, with the code in x10.
+const X: &str = "05d00893 00000073";
+
+// The bytes of an image that is written as hexadecimal numbers, each stored little-endian; `X`
+// stands for the two words above, and `0001*3` for three times 0001.
+fn image(alloc: Global, text: &str) -> Result<Vec<u8>, Fail> {
+    let mut bytes = Vec::new(alloc);
+    for number in text.split(' ') {
+        if number == "X" {
+            for word in X.split(' ') {
+                push_number(alloc, &mut bytes, word, 1)?;
+            }
+        } else if let Some((number, count)) = number.split_once('*') {
+            push_number(alloc, &mut bytes, number, count.parse::<u32>()?)?;
+        } else if !number.is_empty() {
+            push_number(alloc, &mut bytes, number, 1)?;
+        }
+    }
+    Ok(bytes)
+}
+
+fn push_number(alloc: Global, bytes: &mut Vec<u8>, number: &str, count: u32) -> Result<(), Fail> {
+    let mut digits = hex::decode(alloc, number)?;
+    digits.reverse();
+    for _ in 0..count {
+        bytes.extend_from_slice(digits.as_slice())?;
+    }
+    Ok(())
+}
+
+#[test]
+fn runs_flat_images(rt: HostRuntime) -> Result<(), Fail> {
+    let alloc = rt.alloc();
+    let runs = [
+        ("exit", "00500513 X", "3", "exit 5", 2, "-"),
+        ("budget", "00500513 X", "2", "budget", 2, "-"),
+        ("no bytes", "", "1", "fault illegal pc=80000000 value=00000000", 0, "-"),
+        ("another call", "04000893 00000073", "10", "fault unknown-call pc=80000004 value=00000040", 1, "-"),
+        ("branch", "00000463 00000000 00500513 X", "10", "exit 5", 3, "-"),
+        ("the sum wraps", "80000537 00a50533 X", "10", "exit 0", 3, "-"),
+        ("jump before the region", "ffdff06f", "10", "fault fetch-access pc=7ffffffc value=7ffffffc", 1, "-"),
+        ("half a word", "12340000", "10", "fault illegal pc=80000000 value=00000000", 0, "-"),
+        (
+            "the largest image, a word across its end",
+            "7ffff06f 00*1048570 0013",
+            "10",
+            "fault fetch-access pc=800ffffe value=80100000",
+            1,
+            "-",
+        ),
+        (
+            "the largest image, run through",
+            "0001*524287 0013",
+            "600000",
+            "fault fetch-access pc=800ffffe value=80100000",
+            524_287,
+            "-",
+        ),
+        ("one byte more", "0001*524287 0013 00", "600000", "refused image-too-long", 0, "-"),
+    ];
+    for (label, text, budget, end, steps, console) in runs {
+        let bytes = image(alloc, text)?;
+        let mut input = bytes.as_slice();
+        let words = ["rvfleet", "raw", "--budget", budget];
+        let answer = ask(alloc, &words, &mut input, MemorySink::new(alloc));
+        let report = format!(in alloc;
+            "job 1 raw\nend {end}\nsteps {steps}\nconsole {console}\nsignature -\nverdict none\ndone 1\n"
+        )?;
+        assert_eq!(rt; answer.out.text()?, report.as_str(), "{label}");
+        assert_eq!(rt; answer.status, 0, "{label}");
+        assert_eq!(rt; answer.faults.text()?, "", "{label}");
+    }
+    Ok(())
+}
+
+fn row_of(alloc: Global, ending: RowEnd, steps: u32) -> Result<Row, AllocError> {
+    Ok(Row {
+        name: Name::new(String::from_str(alloc, "a.b_c-d")?),
+        ending,
+        steps,
+        console: Bytes::new(Vec::new(alloc)),
+        signature: None,
+        verdict: Verdict::Unasked,
+    })
+}
+
+#[test]
+fn writes_each_ending(rt: HostRuntime) -> Result<(), Fail> {
+    let alloc = rt.alloc();
+    let (pc, value) = (0x8000_0004, 0xdead_beef);
+    let endings = [
+        (RowEnd::Exit(0), "exit 0"),
+        (RowEnd::Exit(u32::MAX), "exit 4294967295"),
+        (RowEnd::Budget, "budget"),
+        (RowEnd::Refused(Refusal::ImageTooLong), "refused image-too-long"),
+        (RowEnd::Fault(FaultKind::FetchAccess, 0, 7), "fault fetch-access pc=00000000 value=00000007"),
+        (RowEnd::Fault(FaultKind::StaleCode, pc, value), "fault stale-code pc=80000004 value=deadbeef"),
+        (RowEnd::Fault(FaultKind::Illegal, pc, value), "fault illegal pc=80000004 value=deadbeef"),
+        (RowEnd::Fault(FaultKind::Breakpoint, pc, value), "fault breakpoint pc=80000004 value=deadbeef"),
+        (RowEnd::Fault(FaultKind::LoadMisaligned, pc, value), "fault load-misaligned pc=80000004 value=deadbeef"),
+        (RowEnd::Fault(FaultKind::LoadAccess, pc, value), "fault load-access pc=80000004 value=deadbeef"),
+        (RowEnd::Fault(FaultKind::StoreMisaligned, pc, value), "fault store-misaligned pc=80000004 value=deadbeef"),
+        (RowEnd::Fault(FaultKind::StoreAccess, pc, value), "fault store-access pc=80000004 value=deadbeef"),
+        (RowEnd::Fault(FaultKind::ConsoleFull, pc, value), "fault console-full pc=80000004 value=deadbeef"),
+        (RowEnd::Fault(FaultKind::UnknownCall, pc, value), "fault unknown-call pc=80000004 value=deadbeef"),
+    ];
+    for (ending, text) in endings {
+        let mut rows = Vec::new(alloc);
+        rows.push(row_of(alloc, ending, 12)?)?;
+        let mut out = MemorySink::new(alloc);
+        let report = Report {
+            rows: Rows::new(rows),
+        };
+        assert_eq!(rt; write_report(alloc, &report, &mut out), Ok(()));
+        let expected = format!(in alloc;
+            "job 1 a.b_c-d\nend {text}\nsteps 12\nconsole -\nsignature -\nverdict none\ndone 1\n"
+        )?;
+        assert_eq!(rt; out.text()?, expected.as_str());
+    }
+    Ok(())
+}
+
+// Three rows with all that a row may have.
+fn full_report(alloc: Global) -> Result<Report, AllocError> {
+    let mut first = row_of(alloc, RowEnd::Exit(5), 2)?;
+    first.console = Bytes::new([0x41, 0x00, 0xff].to_vec(alloc)?);
+    first.signature = Some(Words::new(Vec::new(alloc)));
+    first.verdict = Verdict::Pass;
+    let mut second = row_of(alloc, RowEnd::Budget, u32::MAX)?;
+    second.signature = Some(Words::new([0x8000_0000, 0x1f].to_vec(alloc)?));
+    second.verdict = Verdict::Fail;
+    let mut rows = Vec::new(alloc);
+    rows.push(first)?;
+    rows.push(second)?;
+    rows.push(row_of(alloc, RowEnd::Exit(1), 0)?)?;
+    Ok(Report {
+        rows: Rows::new(rows),
+    })
+}
+
+const FULL_TEXT: &str = "\
+job 1 a.b_c-d
+end exit 5
+steps 2
+console 4100ff
+signature 0
+verdict pass
+job 2 a.b_c-d
+end budget
+steps 4294967295
+console -
+signature 2
+80000000
+0000001f
+verdict fail
+job 3 a.b_c-d
+end exit 1
+steps 0
+console -
+signature -
+verdict none
+done 3
+";
+
+#[test]
+fn writes_reports(rt: HostRuntime) -> Result<(), Fail> {
+    let alloc = rt.alloc();
+    let none = Report {
+        rows: Rows::new(Vec::new(alloc)),
+    };
+    let mut out = MemorySink::new(alloc);
+    assert_eq!(rt; write_report(alloc, &none, &mut out), Ok(()));
+    assert_eq!(rt; out.text()?, "done 0\n");
+
+    let report = full_report(alloc)?;
+    let mut out = MemorySink::slow(alloc, 1);
+    assert_eq!(rt; write_report(alloc, &report, &mut out), Ok(()));
+    assert_eq!(rt; out.text()?, FULL_TEXT);
+
+    let mut out = MemorySink::failing(alloc, 30, 3);
+    assert_eq!(rt; write_report(alloc, &report, &mut out), Err(WriteError::Failed));
+    assert_eq!(rt; Some(out.text()?), FULL_TEXT.get(..60));
+    assert_eq!(rt; (out.puts, out.failures()), (3, 1));
+
+    // Rows of about 70 bytes go out together, some 32,768 bytes a put.
+    let mut rows = Vec::new(alloc);
+    for _ in 0..4096 {
+        rows.push(row_of(alloc, RowEnd::Exit(5), 2)?)?;
+    }
+    let report = Report {
+        rows: Rows::new(rows),
+    };
+    let mut out = MemorySink::new(alloc);
+    assert_eq!(rt; write_report(alloc, &report, &mut out), Ok(()));
+    assert_eq!(rt; out.text()?.lines().count(), 4096 * 6 + 1);
+    assert!(rt; out.puts < 16, "{} puts", out.puts);
+    Ok(())
+}
+
+#[test]
+fn keeps_what_rows_are_made_from(rt: HostRuntime) -> Result<(), Fail> {
+    let alloc = rt.alloc();
+    let name = Name::new(String::from_str(alloc, "raw")?);
+    assert_eq!(rt; name.as_str(), "raw");
+    assert_eq!(rt; name.into_string().as_str(), "raw");
+    let bytes = Bytes::new([1, 2, 3].to_vec(alloc)?);
+    assert_eq!(rt; bytes.as_slice(), [1, 2, 3].as_slice());
+    assert_eq!(rt; bytes.into_vec().as_slice(), [1, 2, 3].as_slice());
+    let words = Words::new([1, 2].to_vec(alloc)?);
+    assert_eq!(rt; words.as_slice(), [1, 2].as_slice());
+    assert_eq!(rt; words.into_vec().as_slice(), [1, 2].as_slice());
+    let rows = full_report(alloc)?.rows;
+    assert_eq!(rt; rows.as_slice().len(), 3);
+    assert_eq!(rt; rows.into_vec().len(), 3);
+    let code = image(alloc, "00500513 X")?;
+    let row = flat_row(alloc, code.as_slice(), 3)?;
+    assert_eq!(rt; (row.name.as_str(), row.ending, row.steps), ("raw", RowEnd::Exit(5), 2));
+    assert_eq!(rt; (row.verdict, row.signature.is_none()), (Verdict::Unasked, true));
+    assert!(rt; row.console.as_slice().is_empty());
+    Ok(())
+}
+
+#[test]
+fn answers_words(rt: HostRuntime) -> Result<(), Fail> {
+    let alloc = rt.alloc();
+    let refused: [&[&str]; 14] = [
+        &["rvfleet"],
+        &["rvfleet", "walk"],
+        &["rvfleet", "help"],
+        &["rvfleet", "raw"],
+        &["rvfleet", "raw", "--budget"],
+        &["rvfleet", "raw", "--budget", "0"],
+        &["rvfleet", "raw", "--budget", "1000000001"],
+        &["rvfleet", "raw", "--budget", "x"],
+        &["rvfleet", "raw", "--budget", "-1"],
+        &["rvfleet", "raw", "--budget", "3", "more"],
+        &["rvfleet", "raw", "--budget", "3", "--budget", "4"],
+        &["rvfleet", "raw", "--budget", "3", "--workers", "1"],
+        &["rvfleet", "one", "a", "--budget", "3"],
+        &["rvfleet", "run", "a"],
+    ];
+    for words in refused {
+        let mut input: &[u8] = &[];
+        let answer = ask(alloc, words, &mut input, MemorySink::new(alloc));
+        assert_eq!(rt; answer.status, 2, "{words:?}");
+        assert_eq!(rt; answer.faults.text()?, "rvfleet: bad words\n", "{words:?}");
+        assert_eq!(rt; answer.out.puts, 0, "{words:?}");
+    }
+
+    let greatest = ["rvfleet", "raw", "--budget", "1000000000"];
+    assert_eq!(rt; read_words(alloc, &greatest).ok(), Some(Some(Asked::Raw { budget: 1_000_000_000 })));
+    let mut input: &[u8] = &[];
+    let taken = ask(alloc, &greatest, &mut input, MemorySink::new(alloc));
+    assert_eq!(rt; taken.status, 0);
+    assert!(rt; taken.out.text()?.contains("end fault illegal pc=80000000 value=00000000\n"));
+
+    let helped = ask(alloc, &["rvfleet", "--help"], &mut input, MemorySink::new(alloc));
+    assert_eq!(rt; helped.out.text()?, HELP);
+    assert_eq!(rt; (helped.status, helped.faults.puts), (0, 0));
+    Ok(())
+}
+
+const HELP: &str = "\
+Runs RV32IMC firmware images and reports how each run ended
+
+Usage: rvfleet <COMMAND>
+
+Commands:
+  raw  Runs the flat image on standard input, placed at 0x80000000
+
+Options:
+  -h, --help  Print help
+";
+
+const RAW_WORDS: [&str; 4] = ["rvfleet", "raw", "--budget", "3"];
+
+const RAW_TEXT: &str = "\
+job 1 raw
+end exit 5
+steps 2
+console -
+signature -
+verdict none
+done 1
+";
+
+#[test]
+fn reads_in_parts(rt: HostRuntime) -> Result<(), Fail> {
+    let alloc = rt.alloc();
+    let code = image(alloc, "00500513 X")?;
+    let mut input = SlowReader {
+        bytes: code.as_slice(),
+        fails: false,
+    };
+    let slow = ask(alloc, &RAW_WORDS, &mut input, MemorySink::new(alloc));
+    assert_eq!(rt; slow.out.text()?, RAW_TEXT);
+
+    let (start, _) = code.split_at_checked(4).ok_or("four bytes")?;
+    let mut input = SlowReader {
+        bytes: start,
+        fails: true,
+    };
+    let cut = ask(alloc, &RAW_WORDS, &mut input, MemorySink::new(alloc));
+    assert_eq!(rt; (cut.status, cut.out.puts), (3, 0));
+    assert_eq!(rt; cut.faults.text()?, "rvfleet: read failed\n");
+    let mut out = MemorySink::new(alloc);
+    assert_eq!(rt; run_raw(alloc, &mut input, &mut out, 3), Err(RunError::ReadFailed));
+    assert_eq!(rt; out.puts, 0);
+    Ok(())
+}
+
+#[test]
+fn writes_in_parts(rt: HostRuntime) -> Result<(), Fail> {
+    let alloc = rt.alloc();
+    let code = image(alloc, "00500513 X")?;
+    let mut input = code.as_slice();
+    let slow = ask(alloc, &RAW_WORDS, &mut input, MemorySink::slow(alloc, 1));
+    assert_eq!(rt; slow.out.text()?, RAW_TEXT);
+
+    // The report has 71 bytes, so ten bytes a put make eight puts.
+    for fails_at in 1..9 {
+        let mut input = code.as_slice();
+        let cut = ask(alloc, &RAW_WORDS, &mut input, MemorySink::failing(alloc, 10, fails_at));
+        assert_eq!(rt; Some(cut.out.text()?), RAW_TEXT.get(..(fails_at as usize - 1) * 10));
+        assert_eq!(rt; (cut.status, cut.out.puts, cut.out.failures()), (3, fails_at, 1));
+        assert_eq!(rt; cut.faults.text()?, "rvfleet: write failed\n");
+    }
+    let mut input = code.as_slice();
+    let mut out = MemorySink::failing(alloc, 10, 1);
+    assert_eq!(rt; run_raw(alloc, &mut input, &mut out, 3), Err(RunError::WriteFailed));
+
+    // A line on the other sink that fails changes no status.
+    let mut faults = MemorySink::failing(alloc, 10, 1);
+    let words = ["rvfleet", "raw"];
+    assert_eq!(rt; run_words(alloc, &words, &mut input, &mut out, &mut faults), 2);
+    assert_eq!(rt; faults.failures(), 1);
+
+    let mut stream = StreamSink::new(Stuck);
+    assert_eq!(rt; put_all(&mut stream, b"text"), Err(SinkFailed));
+    assert_eq!(rt; stream.failures(), 1);
+    Ok(())
+}
