@@ -29,7 +29,7 @@ pub fn is_long(half: u16) -> bool
 /// RV32 lines without F and D) fits the halfword: it is reserved, of another extension, or begins a 32-bit instruction.
 ///
 /// Hints have rows. The halfword 0x0000 has none.
-#[inline]
+#[inline(always)]
 pub fn expand(half: u16) -> Option<u32>
     ensures none { IsNone result ↔ ((i : Instr) → Means16 half i → ⊥) }
     ensures word { IfSome result (λ w. (i : Instr) → Means32 w i ↔ Means16 half i) }
@@ -39,7 +39,7 @@ pub fn expand(half: u16) -> Option<u32>
 }
 
 /// The instruction of a halfword: that of its only row in the RVC listing, or `None` where no row fits, as for `expand`.
-#[inline]
+#[inline(always)]
 pub fn decode16(half: u16) -> Option<Instr>
     ensures meaning { (i : Instr) → (result ≡ Some i) ↔ Means16 half i }
     ensures value { result ≡ meaning16 half }

@@ -13,7 +13,7 @@ use crate::opcodes::{AUIPC, BRANCH, JAL, JALR, LOAD, LUI, MISC_MEM, OP, OP_IMM, 
 /// 20191213 (chapter 24; RV32I, RV32M and Zifencei), or `None` where no row fits it.
 ///
 /// Words of other extensions, Zicsr, WFI and MRET among them, have no row. FENCE and FENCE.I ignore their other fields.
-#[inline]
+#[inline(always)]
 pub fn decode32(word: u32) -> Option<Instr>
     ensures meaning { (i : Instr) → (result ≡ Some i) ↔ Means32 word i }
     ensures value { result ≡ meaning32 word }
@@ -27,7 +27,7 @@ pub fn no_word_has_two_rows()
     ensures { (word : ℕ) → count_by (fits word) rows ≤ 1 }
 {}
 
-#[inline]
+#[inline(always)]
 #[tactic(auto, using(crate::proofs::ByOpcode::by_opcode))]
 fn find(word: u32) -> Option<Instr>
     ensures { result ≡ meaning32 word }

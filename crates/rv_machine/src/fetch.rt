@@ -11,7 +11,7 @@ use rv_memory::FetchFault;
 
 impl Hart {
     /// The instruction at the pc with its length in bytes, or the fault with its value.
-    #[inline]
+    #[inline(always)]
     pub(crate) fn fetch(&self) -> Result<(Instr, u32), (FaultKind, u32)>
         ensures fetched { result ≡ fetch self.now.bus self.now.pc }
         ensures well_formed { IfOk result (λ p. IsWellFormed p.0) }
@@ -51,7 +51,7 @@ impl Hart {
 }
 
 /// The instruction of a word.
-#[inline]
+#[inline(always)]
 fn long(word: u32) -> Result<(Instr, u32), (FaultKind, u32)>
     ensures fetched { result ≡ or_illegal (meaning32 word) 4 word }
     ensures well_formed { IfOk result (λ p. IsWellFormed p.0) }
@@ -63,7 +63,7 @@ fn long(word: u32) -> Result<(Instr, u32), (FaultKind, u32)>
 }
 
 /// The instruction of a halfword.
-#[inline]
+#[inline(always)]
 fn short(half: u16) -> Result<(Instr, u32), (FaultKind, u32)>
     ensures fetched { result ≡ or_illegal (meaning16 half) 2 half }
     ensures well_formed { IfOk result (λ p. IsWellFormed p.0) }
