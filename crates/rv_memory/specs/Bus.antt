@@ -1,6 +1,6 @@
 -- What stands in a bus, and what each access gives and leaves.
 -- Memory is little-endian (RISC-V Unprivileged ISA 20191213, sections 1.4 and 2.6); the fences' part is that of its chapter 3, "Zifencei".
-use Rattle.std.specs.Prelude.{◌≡◌, ℕ, ◌+◌, ◌*◌, ◌/◌, ◌%◌, Bool, ◌&&◌, ◌||◌, ◌==◌, nat_lt, nat_le, not, cond, if◌then◌else◌, List, [], ◌∷◌, ◌++◌, length, drop, unwrap_or, Option, Some, None, Result, Ok, Err, refl}
+use Rattle.std.specs.Prelude.{ℕ, ◌+◌, ◌*◌, ◌/◌, ◌%◌, Bool, ◌&&◌, ◌||◌, ◌==◌, nat_lt, nat_le, not, if◌then◌else◌, List, [], ◌∷◌, ◌++◌, length, drop, unwrap_or, Option, Some, None, Result, Ok, Err, refl}
 use Rattle.std.specs.Ordering.{nat_cmp}
 use Rattle.std.specs.FinMap as fin
 use Rattle.std.specs.FinSet as set

@@ -1,5 +1,5 @@
 -- How the parts of a bus make its contents.
-use Rattle.std.specs.Prelude.{◌≡◌, ℕ, ◌+◌, ◌<◌, ◌≤◌, length, drop, vec_capacity, slice_index, None}
+use Rattle.std.specs.Prelude.{◌≡◌, ℕ, ◌<◌, ◌≤◌, length, drop, vec_capacity, slice_index, None}
 use Rattle.rv_memory.specs.declared.bus.Bus.TheInside.{Inside}
 use Rattle.rv_memory.specs.Regions.{total_size}
 use Rattle.rv_memory.specs.Maps.{map_error}

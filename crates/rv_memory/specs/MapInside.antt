@@ -1,5 +1,5 @@
 -- How four places hold one to four regions.
-use Rattle.std.specs.Prelude.{◌≡◌, ℕ, ◌-◌, ◌≤◌, false, List, ◌++◌, length, take, drop, replicate, None}
+use Rattle.std.specs.Prelude.{◌≡◌, ◌-◌, ◌≤◌, false, List, ◌++◌, length, take, drop, replicate, None}
 use Rattle.rv_memory.specs.declared.map.Region.{Region}
 use Rattle.rv_memory.specs.declared.map.Map.TheInside.{Inside}
 use Rattle.rv_memory.specs.Maps.{map_error}

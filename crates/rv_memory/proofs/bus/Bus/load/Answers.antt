@@ -1,6 +1,5 @@
-use Rattle.std.proofs.Common.{◌≡◌, ◌%◌, ◌∙◌, ap, sym, refl, subst, false}
+use Rattle.std.proofs.Common.{◌≡◌, ◌∙◌, ap, sym, refl, subst, false}
 use Rattle.std.specs.List.{list_any}
-use Rattle.std.proofs.lemmas.Bool.{not-false}
 use Rattle.rv_memory.specs.Regions.{covers}
 use Rattle.rv_memory.specs.Places.{IsPlace}
 use Rattle.rv_memory.specs.View.{read_at}
