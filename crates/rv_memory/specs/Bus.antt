@@ -1,6 +1,6 @@
 -- What stands in a bus, and what each access gives and leaves.
 -- Memory is little-endian (RISC-V Unprivileged ISA 20191213, sections 1.4 and 2.6); the fences' part is that of its chapter 3, "Zifencei".
-use Rattle.std.specs.Prelude.{◌≡◌, ℕ, ◌+◌, ◌*◌, ◌/◌, ◌%◌, Bool, ◌&&◌, ◌||◌, ◌==◌, nat_lt, nat_le, not, cond, if◌then◌else◌, List, [], ◌∷◌, ◌++◌, length, drop, unwrap_or, Option, Some, None, Result, Ok, Err, refl}
+use Rattle.std.specs.Prelude.{ℕ, ◌+◌, ◌*◌, ◌/◌, ◌%◌, Bool, ◌&&◌, ◌||◌, ◌==◌, nat_lt, nat_le, not, if◌then◌else◌, List, [], ◌∷◌, ◌++◌, length, drop, unwrap_or, Option, Some, None, Result, Ok, Err, refl}
 use Rattle.std.specs.Ordering.{nat_cmp}
 use Rattle.std.specs.FinMap as fin
 use Rattle.std.specs.FinSet as set
@@ -14,6 +14,7 @@ use Rattle.rv_memory.specs.declared.bus.FetchFault.{FetchFault}
 use Rattle.rv_memory.specs.declared.bus.FetchFault.TheVariants.{Unmapped, Stale}
 use Rattle.rv_memory.specs.Regions.{in_one, in_writable, addresses, tabulate}
 
+-- what callers see of a bus
 pub record Contents : Type 0 where
   pub regions : List Region
   -- from the regions' addresses to bytes
@@ -25,6 +26,7 @@ pub record Contents : Type 0 where
   -- what the console was given so far
   pub output : List ℕ
 
+-- a region as nested pairs
 abbrev pub region_code : Coded Region
 region_code = code_by (ℕ × (ℕ × Bool)) (coded× coded_ℕ (coded× coded_ℕ coded_bool)) (λ r. (r.base, (r.size, r.writable))) (λ p. record { base = p.0; size = p.1.0; writable = p.1.1 }) (λ _. refl)
 
@@ -55,6 +57,7 @@ size_of Byte = 1
 size_of Half = 2
 size_of Word = 4
 
+-- the value of an access's bytes
 abbrev pub value_at : fin.FinMap nat_cmp ℕ → ℕ → Width → ℕ
 value_at m a Byte = byte_at m a
 value_at m a Half = half_at m a

@@ -1,7 +1,7 @@
-ghost use Rattle.std.specs.Prelude.{◌≡◌, ◌==◌, ◌+◌, ◌*◌, ◌/◌, ◌%◌, ◌^◌, ◌<◌, ◌≤◌, IsTrue, IfOk, IfSome, MatchResult, Ok, None, length, vec_len};
+ghost use Rattle.std.specs.Prelude.{◌≡◌, ◌==◌, ◌+◌, ◌*◌, ◌/◌, ◌%◌, ◌^◌, ◌<◌, ◌≤◌, IsTrue, IfOk, IfSome, MatchResult, Ok, None, length, drop, vec_len};
 ghost use Rattle.rv_memory.specs.Regions.{in_one};
 ghost use Rattle.rv_memory.specs.Maps.{map_error};
-ghost use Rattle.rv_memory.specs.Bus.{size_of, load_from, store_to, fetch_half_from, fetch_word_from, console_load, console_store, synced, placed, opened};
+ghost use Rattle.rv_memory.specs.Bus.{size_of, load_from, store_to, fetch_half_from, fetch_word_from, console_load, console_store, next_of, synced, placed, opened};
 
 use crate::access::{has_mark, mark, read, read_word, write};
 use crate::map::Map;
@@ -91,6 +91,12 @@ impl Width {
         addr % self.size() == 0
     }
 }
+
+/// Where a word load takes a byte of the script, and a word store appends one to the output.
+const CONSOLE_BYTE: u32 = 0x1000_0000;
+
+/// Where a word load counts what is left of the script.
+const SCRIPT_LEFT: u32 = 0x1000_0004;
 
 /// The most bytes that the console's output has.
 const CONSOLE_ROOM: usize = 0x1_0000;
@@ -223,49 +229,52 @@ impl Bus {
         self.map
     }
 
+    /// A load from an address that no region has.
     #[inline]
     fn load_console(&mut self, addr: u32, width: Width) -> Result<u32, BusFault>
         ensures narrow { IfOk result (λ v. v < 2 ^ (8 * size_of width)) }
         ensures value { MatchResult result (λ v. console_load self.old addr width ≡ Ok (v, self.new)) (λ e. (console_load self.old addr width ≡ Err e) × (self.new ≡ self.old)) }
     {
-        match width {
-            Width::Byte => Err(BusFault::Access),
-            Width::Half => Err(BusFault::Access),
-            Width::Word => {
-                if addr == 0x1000_0000 {
-                    if self.taken < self.script.len() {
-                        let byte = self.script[self.taken];
-                        self.taken += 1;
-                        Ok(u32::from(byte))
-                    } else {
-                        Ok(0xffff_ffff)
-                    }
-                } else if addr == 0x1000_0004 {
-                    Ok((self.script.len() - self.taken) as u32)
-                } else {
-                    Err(BusFault::Access)
-                }
-            }
+        let Width::Word = width else {
+            return Err(BusFault::Access);
+        };
+        if addr == CONSOLE_BYTE {
+            return Ok(self.take_script());
         }
+        if addr == SCRIPT_LEFT {
+            return Ok((self.script.len() - self.taken) as u32);
+        }
+        Err(BusFault::Access)
     }
 
+    #[inline]
+    fn take_script(&mut self) -> u32
+        ensures value { result ≡ next_of self.old.script }
+        ensures rest { self.new ≡ record self.old { script = drop 1 self.old.script } }
+    {
+        if self.taken == self.script.len() {
+            return u32::MAX;
+        }
+        let byte = self.script[self.taken];
+        self.taken += 1;
+        u32::from(byte)
+    }
+
+    /// A store to an address that no region has.
     #[inline]
     fn store_console(&mut self, addr: u32, width: Width, value: u32) -> Result<(), BusFault>
         ensures { MatchResult result (λ _. console_store self.old addr width value ≡ Ok self.new) (λ e. (console_store self.old addr width value ≡ Err e) × (self.new ≡ self.old)) }
     {
-        match width {
-            Width::Byte => Err(BusFault::Access),
-            Width::Half => Err(BusFault::Access),
-            Width::Word => {
-                if addr != 0x1000_0000 {
-                    return Err(BusFault::Access);
-                }
-                if self.console.len() >= CONSOLE_ROOM {
-                    return Err(BusFault::ConsoleFull);
-                }
-                self.console.push_reserved((value % 0x100) as u8);
-                Ok(())
-            }
+        let Width::Word = width else {
+            return Err(BusFault::Access);
+        };
+        if addr != CONSOLE_BYTE {
+            return Err(BusFault::Access);
         }
+        if self.console.len() >= CONSOLE_ROOM {
+            return Err(BusFault::ConsoleFull);
+        }
+        self.console.push_reserved((value % 0x100) as u8);
+        Ok(())
     }
 }
