@@ -1,9 +1,8 @@
 -- Answers to words that the command takes.
 use Rattle.std.proofs.Common.{◌≡◌, ℕ, Bool, true, false, List, [], ◌∷◌, Option, Some, None, IfSome, refl, inl, inr, arith, length, nat_lt}
 use Rattle.std.specs.Io.KnownBytes.{Appends, Keeps}
-use Rattle.std.proofs.lemmas.Bool.{cases_Bool}
 use Rattle.rvfleet.specs.declared.row.Row.{Row}
-use Rattle.rvfleet.specs.Answers.{Answers, Reported, is_fail, rows_of, status_of}
+use Rattle.rvfleet.specs.Answers.{Answers, Reported, rows_of, status_of}
 use Rattle.rvfleet.specs.CommandLine.{request_of}
 use Rattle.rvfleet.specs.Flat.{flat_row_of, image_room}
 use Rattle.rvfleet.specs.Raw.{raw_rows}

@@ -21,7 +21,7 @@ raw_app = with_rule (new_app (codes "raw")) budget_rule
 -- a subcommand is required, and none is called help
 abbrev pub top_app : App
 top_app = let app = new_app (codes "rvfleet") in
-  record app { top = record app.top { subcommand_required = true; disable_help_subcommand = true } }
+    record app { top = record app.top { subcommand_required = true; disable_help_subcommand = true } }
 
 -- the whole command
 abbrev pub fleet_app : App
@@ -34,7 +34,7 @@ pub data Request : Type 0 where
 -- a decimal number of 32 bits; a plus may stand before it
 abbrev pub number_of : Text → Option ℕ
 number_of text = let number = digits_value 10 (without_leading_plus text) in
-  if is_numeral (without_leading_plus text) && nat_lt number (2 ^ 32) then Some number else None
+    if is_numeral (without_leading_plus text) && nat_lt number (2 ^ 32) then Some number else None
 
 -- the number that stands for an argument
 abbrev pub number_in : Text → List Row → Option ℕ

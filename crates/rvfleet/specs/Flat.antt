@@ -58,4 +58,4 @@ row_of ran = record {
 -- the row of these bytes within a budget of steps
 unfoldable pub flat_row_of : List ℕ → ℕ → Row
 flat_row_of bytes budget =
-  if nat_lt image_room (length bytes) then refused_row refusal.ImageTooLong else row_of (run_of budget (flat_state bytes))
+    if nat_lt image_room (length bytes) then refused_row refusal.ImageTooLong else row_of (run_of budget (flat_state bytes))

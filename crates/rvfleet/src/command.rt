@@ -76,7 +76,11 @@ fn budget_option<'a>(alloc: Global) -> Arg<'a>
 fn subcommand_asked(name: &str, values: &ArgMatches<'_>) -> Option<Asked>
     ensures { option_map request result ≡ request_in name.now (rows_of (found_of values.now)) }
 {
-    if name == "raw" { raw_asked(values) } else { None }
+    if name == "raw" {
+        raw_asked(values)
+    } else {
+        None
+    }
 }
 
 fn raw_asked(values: &ArgMatches<'_>) -> Option<Asked>

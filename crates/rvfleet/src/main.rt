@@ -1,4 +1,10 @@
-//! The program.
+//! `rvfleet` runs RV32IMC firmware images and reports how each run ended.
+//!
+//! `rvfleet raw --budget N` runs the flat image on standard input, at most N steps, and prints its
+//! report. The program is [`run_words`] over the process's words, its reader and two sinks: where
+//! it answers 0 to words that the command takes, the report that went out is the one that the
+//! instruction definitions give the input; where it answers 3, a beginning of that report went
+//! out, or nothing. What a stream outside takes of it is not known to any contract.
 #![tactic(auto)]
 
 mod command;
@@ -17,13 +23,12 @@ pub use raw::{RunError, run_raw};
 pub use report::{WriteError, write_report};
 pub use row::{Bytes, Name, Refusal, Report, Row, RowEnd, Rows, Verdict, Words};
 pub use sink::{Sink, SinkFailed, StreamSink, put_all};
-pub use words::run_words;
-
 use std::alloc::Global;
+use std::env;
 use std::env::Env;
 use std::io::{self, ErrorKind};
 use std::process::ExitCode;
-use std::env;
+pub use words::run_words;
 use words::{failed, refused};
 
 fn main(rt: HostRuntime) -> ExitCode {

@@ -85,7 +85,11 @@ impl<'a> Read for SlowReader<'a> {
             return Ok(0);
         }
         if self.bytes.is_empty() {
-            return if self.fails { Err(io::ErrorKind::Other.into()) } else { Ok(0) };
+            return if self.fails {
+                Err(io::ErrorKind::Other.into())
+            } else {
+                Ok(0)
+            };
         }
         buffer[0] = self.bytes[0];
         self.bytes = &self.bytes[1..];
@@ -156,45 +160,70 @@ fn push_number(alloc: Global, bytes: &mut Vec<u8>, number: &str, count: u32) -> 
     Ok(())
 }
 
+// label | numbers | budget | ending | steps | console
+const FLAT_RUNS: &str = "\
+exit | 00500513 X | 3 | exit 5 | 2 | -
+budget | 00500513 X | 2 | budget | 2 | -
+no bytes | | 1 | fault illegal pc=80000000 value=00000000 | 0 | -
+another call | 04000893 00000073 | 10 | fault unknown-call pc=80000004 value=00000040 | 1 | -
+branch | 00000463 00000000 00500513 X | 10 | exit 5 | 3 | -
+the sum wraps | 80000537 00a50533 X | 10 | exit 0 | 3 | -
+jump before the region | ffdff06f | 10 | fault fetch-access pc=7ffffffc value=7ffffffc | 1 | -
+illegal halfword | 12340000 | 10 | fault illegal pc=80000000 value=00000000 | 0 | -
+a word across the end | 7ffff06f 00*1048570 0013 | 10 | fault fetch-access pc=800ffffe value=80100000 | 1 | -
+the largest image | 0001*524287 0013 | 600000 | fault fetch-access pc=800ffffe value=80100000 | 524287 | -
+one byte more | 0001*524287 0013 00 | 600000 | refused image-too-long | 0 | -
+";
+
+#[derive(Drop)]
+struct Run<'a> {
+    label: &'a str,
+    numbers: &'a str,
+    budget: &'a str,
+    ending: &'a str,
+    steps: &'a str,
+    console: &'a str,
+}
+
+fn run_of(line: &str) -> Option<Run<'_>> {
+    let mut cells = line.split('|');
+    Some(Run {
+        label: cells.next()?.trim(),
+        numbers: cells.next()?.trim(),
+        budget: cells.next()?.trim(),
+        ending: cells.next()?.trim(),
+        steps: cells.next()?.trim(),
+        console: cells.next()?.trim(),
+    })
+}
+
+fn report_of(alloc: Global, run: &Run<'_>) -> Result<String, AllocError> {
+    let (ending, steps, console) = (run.ending, run.steps, run.console);
+    let mut text = String::new(alloc);
+    write!(
+        text,
+        "job 1 raw\nend {ending}\nsteps {steps}\nconsole {console}\n"
+    )?;
+    text.push_str("signature -\nverdict none\ndone 1\n")?;
+    Ok(text)
+}
+
 #[test]
 fn runs_flat_images(rt: HostRuntime) -> Result<(), Fail> {
     let alloc = rt.alloc();
-    let runs = [
-        ("exit", "00500513 X", "3", "exit 5", 2, "-"),
-        ("budget", "00500513 X", "2", "budget", 2, "-"),
-        ("no bytes", "", "1", "fault illegal pc=80000000 value=00000000", 0, "-"),
-        ("another call", "04000893 00000073", "10", "fault unknown-call pc=80000004 value=00000040", 1, "-"),
-        ("branch", "00000463 00000000 00500513 X", "10", "exit 5", 3, "-"),
-        ("the sum wraps", "80000537 00a50533 X", "10", "exit 0", 3, "-"),
-        ("jump before the region", "ffdff06f", "10", "fault fetch-access pc=7ffffffc value=7ffffffc", 1, "-"),
-        ("half a word", "12340000", "10", "fault illegal pc=80000000 value=00000000", 0, "-"),
-        (
-            "the largest image, a word across its end",
-            "7ffff06f 00*1048570 0013",
-            "10",
-            "fault fetch-access pc=800ffffe value=80100000",
-            1,
-            "-",
-        ),
-        (
-            "the largest image, run through",
-            "0001*524287 0013",
-            "600000",
-            "fault fetch-access pc=800ffffe value=80100000",
-            524_287,
-            "-",
-        ),
-        ("one byte more", "0001*524287 0013 00", "600000", "refused image-too-long", 0, "-"),
-    ];
-    for (label, text, budget, end, steps, console) in runs {
-        let bytes = image(alloc, text)?;
+    assert_eq!(rt; FLAT_RUNS.lines().count(), 11);
+    for line in FLAT_RUNS.lines() {
+        let run = run_of(line).ok_or("six cells")?;
+        let label = run.label;
+        let bytes = image(alloc, run.numbers)?;
         let mut input = bytes.as_slice();
-        let words = ["rvfleet", "raw", "--budget", budget];
+        let words = ["rvfleet", "raw", "--budget", run.budget];
         let answer = ask(alloc, &words, &mut input, MemorySink::new(alloc));
-        let report = format!(in alloc;
-            "job 1 raw\nend {end}\nsteps {steps}\nconsole {console}\nsignature -\nverdict none\ndone 1\n"
-        )?;
-        assert_eq!(rt; answer.out.text()?, report.as_str(), "{label}");
+        assert_eq!(rt;
+            answer.out.text()?,
+            report_of(alloc, &run)?.as_str(),
+            "{label}"
+        );
         assert_eq!(rt; answer.status, 0, "{label}");
         assert_eq!(rt; answer.faults.text()?, "", "{label}");
     }
@@ -212,39 +241,64 @@ fn row_of(alloc: Global, ending: RowEnd, steps: u32) -> Result<Row, AllocError> 
     })
 }
 
+const FAULTS: [FaultKind; 10] = [
+    FaultKind::FetchAccess,
+    FaultKind::StaleCode,
+    FaultKind::Illegal,
+    FaultKind::Breakpoint,
+    FaultKind::LoadMisaligned,
+    FaultKind::LoadAccess,
+    FaultKind::StoreMisaligned,
+    FaultKind::StoreAccess,
+    FaultKind::ConsoleFull,
+    FaultKind::UnknownCall,
+];
+
+const ENDINGS: &str = "\
+exit 0
+exit 4294967295
+budget
+refused image-too-long
+fault fetch-access pc=80000004 value=00000abc
+fault stale-code pc=80000004 value=00000abc
+fault illegal pc=80000004 value=00000abc
+fault breakpoint pc=80000004 value=00000abc
+fault load-misaligned pc=80000004 value=00000abc
+fault load-access pc=80000004 value=00000abc
+fault store-misaligned pc=80000004 value=00000abc
+fault store-access pc=80000004 value=00000abc
+fault console-full pc=80000004 value=00000abc
+fault unknown-call pc=80000004 value=00000abc
+";
+
 #[test]
 fn writes_each_ending(rt: HostRuntime) -> Result<(), Fail> {
     let alloc = rt.alloc();
-    let (pc, value) = (0x8000_0004, 0xdead_beef);
-    let endings = [
-        (RowEnd::Exit(0), "exit 0"),
-        (RowEnd::Exit(u32::MAX), "exit 4294967295"),
-        (RowEnd::Budget, "budget"),
-        (RowEnd::Refused(Refusal::ImageTooLong), "refused image-too-long"),
-        (RowEnd::Fault(FaultKind::FetchAccess, 0, 7), "fault fetch-access pc=00000000 value=00000007"),
-        (RowEnd::Fault(FaultKind::StaleCode, pc, value), "fault stale-code pc=80000004 value=deadbeef"),
-        (RowEnd::Fault(FaultKind::Illegal, pc, value), "fault illegal pc=80000004 value=deadbeef"),
-        (RowEnd::Fault(FaultKind::Breakpoint, pc, value), "fault breakpoint pc=80000004 value=deadbeef"),
-        (RowEnd::Fault(FaultKind::LoadMisaligned, pc, value), "fault load-misaligned pc=80000004 value=deadbeef"),
-        (RowEnd::Fault(FaultKind::LoadAccess, pc, value), "fault load-access pc=80000004 value=deadbeef"),
-        (RowEnd::Fault(FaultKind::StoreMisaligned, pc, value), "fault store-misaligned pc=80000004 value=deadbeef"),
-        (RowEnd::Fault(FaultKind::StoreAccess, pc, value), "fault store-access pc=80000004 value=deadbeef"),
-        (RowEnd::Fault(FaultKind::ConsoleFull, pc, value), "fault console-full pc=80000004 value=deadbeef"),
-        (RowEnd::Fault(FaultKind::UnknownCall, pc, value), "fault unknown-call pc=80000004 value=deadbeef"),
-    ];
-    for (ending, text) in endings {
-        let mut rows = Vec::new(alloc);
-        rows.push(row_of(alloc, ending, 12)?)?;
-        let mut out = MemorySink::new(alloc);
-        let report = Report {
-            rows: Rows::new(rows),
-        };
-        assert_eq!(rt; write_report(alloc, &report, &mut out), Ok(()));
-        let expected = format!(in alloc;
-            "job 1 a.b_c-d\nend {text}\nsteps 12\nconsole -\nsignature -\nverdict none\ndone 1\n"
-        )?;
-        assert_eq!(rt; out.text()?, expected.as_str());
+    let mut endings = Vec::new(alloc);
+    endings.push(RowEnd::Exit(0))?;
+    endings.push(RowEnd::Exit(u32::MAX))?;
+    endings.push(RowEnd::Budget)?;
+    endings.push(RowEnd::Refused(Refusal::ImageTooLong))?;
+    for kind in FAULTS {
+        endings.push(RowEnd::Fault(kind, 0x8000_0004, 0xabc))?;
     }
+    let mut rows = Vec::new(alloc);
+    for ending in &endings {
+        rows.push(row_of(alloc, *ending, 12)?)?;
+    }
+    let report = Report {
+        rows: Rows::new(rows),
+    };
+    let mut out = MemorySink::new(alloc);
+    assert_eq!(rt; write_report(alloc, &report, &mut out), Ok(()));
+    let mut expected = String::new(alloc);
+    for (place, ending) in ENDINGS.lines().enumerate() {
+        let number = place.saturating_add(1);
+        write!(expected, "job {number} a.b_c-d\nend {ending}\n")?;
+        expected.push_str("steps 12\nconsole -\nsignature -\nverdict none\n")?;
+    }
+    expected.push_str("done 14\n")?;
+    assert_eq!(rt; out.text()?, expected.as_str());
     Ok(())
 }
 
@@ -306,7 +360,10 @@ fn writes_reports(rt: HostRuntime) -> Result<(), Fail> {
     assert_eq!(rt; out.text()?, FULL_TEXT);
 
     let mut out = MemorySink::failing(alloc, 30, 3);
-    assert_eq!(rt; write_report(alloc, &report, &mut out), Err(WriteError::Failed));
+    assert_eq!(rt;
+        write_report(alloc, &report, &mut out),
+        Err(WriteError::Failed)
+    );
     assert_eq!(rt; Some(out.text()?), FULL_TEXT.get(..60));
     assert_eq!(rt; (out.puts, out.failures()), (3, 1));
 
@@ -342,8 +399,14 @@ fn keeps_what_rows_are_made_from(rt: HostRuntime) -> Result<(), Fail> {
     assert_eq!(rt; rows.into_vec().len(), 3);
     let code = image(alloc, "00500513 X")?;
     let row = flat_row(alloc, code.as_slice(), 3)?;
-    assert_eq!(rt; (row.name.as_str(), row.ending, row.steps), ("raw", RowEnd::Exit(5), 2));
-    assert_eq!(rt; (row.verdict, row.signature.is_none()), (Verdict::Unasked, true));
+    assert_eq!(rt;
+        (row.name.as_str(), row.ending, row.steps),
+        ("raw", RowEnd::Exit(5), 2)
+    );
+    assert_eq!(rt;
+        (row.verdict, row.signature.is_none()),
+        (Verdict::Unasked, true)
+    );
     assert!(rt; row.console.as_slice().is_empty());
     Ok(())
 }
@@ -376,13 +439,28 @@ fn answers_words(rt: HostRuntime) -> Result<(), Fail> {
     }
 
     let greatest = ["rvfleet", "raw", "--budget", "1000000000"];
-    assert_eq!(rt; read_words(alloc, &greatest).ok(), Some(Some(Asked::Raw { budget: 1_000_000_000 })));
+    assert_eq!(rt;
+        read_words(alloc, &greatest).ok(),
+        Some(Some(Asked::Raw {
+            budget: 1_000_000_000
+        }))
+    );
     let mut input: &[u8] = &[];
     let taken = ask(alloc, &greatest, &mut input, MemorySink::new(alloc));
     assert_eq!(rt; taken.status, 0);
-    assert!(rt; taken.out.text()?.contains("end fault illegal pc=80000000 value=00000000\n"));
+    assert!(rt;
+        taken
+            .out
+            .text()?
+            .contains("end fault illegal pc=80000000 value=00000000\n")
+    );
 
-    let helped = ask(alloc, &["rvfleet", "--help"], &mut input, MemorySink::new(alloc));
+    let helped = ask(
+        alloc,
+        &["rvfleet", "--help"],
+        &mut input,
+        MemorySink::new(alloc),
+    );
     assert_eq!(rt; helped.out.text()?, HELP);
     assert_eq!(rt; (helped.status, helped.faults.puts), (0, 0));
     Ok(())
@@ -432,7 +510,10 @@ fn reads_in_parts(rt: HostRuntime) -> Result<(), Fail> {
     assert_eq!(rt; (cut.status, cut.out.puts), (3, 0));
     assert_eq!(rt; cut.faults.text()?, "rvfleet: read failed\n");
     let mut out = MemorySink::new(alloc);
-    assert_eq!(rt; run_raw(alloc, &mut input, &mut out, 3), Err(RunError::ReadFailed));
+    assert_eq!(rt;
+        run_raw(alloc, &mut input, &mut out, 3),
+        Err(RunError::ReadFailed)
+    );
     assert_eq!(rt; out.puts, 0);
     Ok(())
 }
@@ -448,19 +529,36 @@ fn writes_in_parts(rt: HostRuntime) -> Result<(), Fail> {
     // The report has 71 bytes, so ten bytes a put make eight puts.
     for fails_at in 1..9 {
         let mut input = code.as_slice();
-        let cut = ask(alloc, &RAW_WORDS, &mut input, MemorySink::failing(alloc, 10, fails_at));
-        assert_eq!(rt; Some(cut.out.text()?), RAW_TEXT.get(..(fails_at as usize - 1) * 10));
-        assert_eq!(rt; (cut.status, cut.out.puts, cut.out.failures()), (3, fails_at, 1));
+        let cut = ask(
+            alloc,
+            &RAW_WORDS,
+            &mut input,
+            MemorySink::failing(alloc, 10, fails_at),
+        );
+        assert_eq!(rt;
+            Some(cut.out.text()?),
+            RAW_TEXT.get(..(fails_at as usize - 1) * 10)
+        );
+        assert_eq!(rt;
+            (cut.status, cut.out.puts, cut.out.failures()),
+            (3, fails_at, 1)
+        );
         assert_eq!(rt; cut.faults.text()?, "rvfleet: write failed\n");
     }
     let mut input = code.as_slice();
     let mut out = MemorySink::failing(alloc, 10, 1);
-    assert_eq!(rt; run_raw(alloc, &mut input, &mut out, 3), Err(RunError::WriteFailed));
+    assert_eq!(rt;
+        run_raw(alloc, &mut input, &mut out, 3),
+        Err(RunError::WriteFailed)
+    );
 
     // A line on the other sink that fails changes no status.
     let mut faults = MemorySink::failing(alloc, 10, 1);
     let words = ["rvfleet", "raw"];
-    assert_eq!(rt; run_words(alloc, &words, &mut input, &mut out, &mut faults), 2);
+    assert_eq!(rt;
+        run_words(alloc, &words, &mut input, &mut out, &mut faults),
+        2
+    );
     assert_eq!(rt; faults.failures(), 1);
 
     let mut stream = StreamSink::new(Stuck);

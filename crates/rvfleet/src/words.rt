@@ -18,14 +18,22 @@ use std::alloc::Global;
 use std::io::Read;
 
 const DONE: u8 = 0;
+
 const BAD_WORDS: u8 = 2;
+
 const FAILED: u8 = 3;
 
 /// Answers words, the first of which is the program's name, with the status of the program: 0
 /// where a report or help went out, 2 for words refused, 3 for want of memory, a failed read or a
 /// failed write. A line on `faults` tells why a status is 2 or 3; where that line fails nothing
 /// changes.
-pub fn run_words<'a, R: Read, O: Sink, F: Sink>(alloc: Global, words: &'a [&'a str], input: &mut R, out: &mut O, faults: &mut F) -> u8
+pub fn run_words<'a, R: Read, O: Sink, F: Sink>(
+    alloc: Global,
+    words: &'a [&'a str],
+    input: &mut R,
+    out: &mut O,
+    faults: &mut F,
+) -> u8
     ensures answers { is_taken (map (λ word. word.now) words.entry.now) ≡ true
         → Answers (map (λ word. word.now) words.entry.now) (R.remaining input.old) (O.taken out.old) (O.taken out.new) result }
     ensures range { result ≤ FAILED }
@@ -37,7 +45,13 @@ pub fn run_words<'a, R: Read, O: Sink, F: Sink>(alloc: Global, words: &'a [&'a s
     }
 }
 
-fn raw_status<R: Read, O: Sink, F: Sink>(alloc: Global, budget: u32, input: &mut R, out: &mut O, faults: &mut F) -> u8
+fn raw_status<R: Read, O: Sink, F: Sink>(
+    alloc: Global,
+    budget: u32,
+    input: &mut R,
+    out: &mut O,
+    faults: &mut F,
+) -> u8
     ensures reported { result ≡ DONE → IfSome (R.remaining input.old) (λ bytes. Reported (O.taken out.old) (O.taken out.new) DONE (raw_rows bytes budget)) }
     ensures part { result ≡ FAILED → IfSome (R.remaining input.old) (λ bytes. AppendsBeginning (O.taken out.old) (O.taken out.new) (report_text (raw_rows bytes budget))) }
     ensures range { result ≡ DONE ⊎ result ≡ FAILED }
