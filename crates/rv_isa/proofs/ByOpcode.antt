@@ -3,6 +3,7 @@ use Rattle.std.proofs.Common.{◌≡◌, ◌≢◌, ℕ, ◌<◌, ◌^◌, Bool,
 use Rattle.std.specs.Option.{option_map}
 use Rattle.std.proofs.lemmas.Bool.{ne_eqb, eqb-false, eqb-true, cases_Bool}
 use Rattle.rv_isa.specs.Bits.{field}
+use Rattle.rv_isa.specs.declared.instruction.Op.{Op}
 use Rattle.rv_isa.specs.declared.instruction.Op.TheVariants as op
 use Rattle.rv_isa.specs.Words.{rows, instruction, meaning32, named, branches, loads, stores, immediates, shifts, arithmetic_shifts, registers, registers_alternate, products, fences, TypeR, TypeI, TypeShift, TypeS, TypeB, TypeU, TypeJ, NoOperands}
 use Rattle.rv_isa.proofs.Fields.{field-low, field_whole}
@@ -91,6 +92,26 @@ at_immediate w o =
       ]
     ]
 
+option_or-None : {A : Type 0} (o : Option A) → option_or o None ≡ o
+option_or-None None = refl
+option_or-None (Some x) = refl
+
+cond_same : {A : Type 0} (b : Bool) (x : A) → cond b x x ≡ x
+cond_same true x = refl
+cond_same false x = refl
+
+-- the shifts have two funct3 of their own
+pub at_left_shift : (w : ℕ) → field w 6 0 ≡ 0x13 → field w 14 12 ≡ 1 → meaning32 w ≡ option_map (λ n. instruction n TypeShift w) (cond (eqb (field w 31 25) 0) (named shifts (field w 14 12)) (cond (eqb (field w 31 25) 32) (named arithmetic_shifts (field w 14 12)) None))
+at_left_shift w o p = at_immediate w o ∙ (rw p refl)
+
+pub at_right_shift : (w : ℕ) → field w 6 0 ≡ 0x13 → field w 14 12 ≡ 5 → meaning32 w ≡ option_map (λ n. instruction n TypeShift w) (cond (eqb (field w 31 25) 0) (named shifts (field w 14 12)) (cond (eqb (field w 31 25) 32) (named arithmetic_shifts (field w 14 12)) None))
+at_right_shift w o p = at_immediate w o ∙ (rw p refl)
+
+pub at_plain_immediate : (w : ℕ) → field w 6 0 ≡ 0x13 → field w 14 12 ≢ 1 → field w 14 12 ≢ 5 → meaning32 w ≡ option_map (λ n. instruction n TypeI w) (named immediates (field w 14 12))
+at_plain_immediate w o p q =
+    at_immediate w o
+    ∙ (rw (ne_eqb (field w 14 12) 1 p, ne_eqb (field w 14 12) 5 q, cond_same {A = Option Op} (eqb (field w 31 25) 32) None, cond_same {A = Option Op} (eqb (field w 31 25) 0) None) (option_or-None _))
+
 pub at_system : (w : ℕ) → w < 2 ^ 32 → field w 6 0 ≡ 0x73 → meaning32 w ≡ cond (eqb w 0x73) (Some (instruction op.Ecall NoOperands w)) (cond (eqb w 0x100073) (Some (instruction op.Ebreak NoOperands w)) None)
 unfolding meaning32 rows
 at_system w h o = rw (o, field_whole w h) (simp and_true)
@@ -108,4 +129,4 @@ at_other w a b c d e f g h i j k =
     let o = field w 6 0 in
     at_none w (ne_eqb o 0x37 a) (ne_eqb o 0x17 b) (ne_eqb o 0x6f c) (ne_eqb o 0x67 d) (ne_eqb o 0x63 e) (ne_eqb o 0x03 f) (ne_eqb o 0x23 g) (ne_eqb o 0x13 h) (ne_eqb o 0x33 i) (ne_eqb o 0x0f j) (ne_eqb o 0x73 k)
 
-pub ruleset by_opcode = (at_lui, at_auipc, at_jal, at_jalr, at_branch, at_load, at_store, at_fence, at_register, at_immediate, at_system, at_other)
+pub ruleset by_opcode = (at_lui, at_auipc, at_jal, at_jalr, at_branch, at_load, at_store, at_fence, at_register, at_left_shift, at_right_shift, at_plain_immediate, at_system, at_other)

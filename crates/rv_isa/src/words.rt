@@ -42,10 +42,9 @@ fn find(word: u32) -> Option<Instr>
         BRANCH => Some(type_b(branch(funct3)?, word)),
         LOAD => Some(type_i(load(funct3)?, word)),
         STORE => Some(type_s(store(funct3)?, word)),
-        OP_IMM => match immediate(funct3) {
-            Some(op) => Some(type_i(op, word)),
-            None => Some(type_shift(shift(funct7, funct3)?, word)),
-        },
+        OP_IMM if funct3 == 0b001 => Some(type_shift(shift(funct7, funct3)?, word)),
+        OP_IMM if funct3 == 0b101 => Some(type_shift(shift(funct7, funct3)?, word)),
+        OP_IMM => Some(type_i(immediate(funct3)?, word)),
         OP => Some(type_r(register(funct7, funct3)?, word)),
         MISC_MEM => Some(no_operands(fence(funct3)?)),
         SYSTEM => system(word),
