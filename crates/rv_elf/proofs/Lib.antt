@@ -1,0 +1,5 @@
+pub mod FirstRow
+pub mod Reading
+pub mod Sharing
+pub mod Placing
+pub mod Opening
