@@ -1,4 +1,4 @@
-use Rattle.std.proofs.Common.{rules, ◌≡◌, ◌≢◌, ◌+◌, ◌*◌, ◌∙◌, sym, ap, arith, ℕ}
+use Rattle.std.proofs.Common.{rules, ◌≡◌, ◌≢◌, ◌+◌, ◌*◌, ◌∙◌, ap, arith}
 use Rattle.rv_isa.specs.Bits.{field}
 use Rattle.rv_machine.specs.Fetch.{or_illegal}
 use Rattle.rv_isa.specs.Words.{meaning32}
