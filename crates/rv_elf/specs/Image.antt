@@ -1,0 +1,145 @@
+-- The image of a file's bytes, or the first refusal of the table that applies.
+-- ELF32 of the System V ABI, chapters "Object Files" and "Program Loading"; RISC-V's machine number is that of its ELF psABI.
+use Rattle.std.specs.Prelude.{◌≡◌, ◌≤◌, ◌<◌, ◌==◌, ◌+◌, ◌*◌, ◌%◌, ℕ, Bool, not, ◌&&◌, ◌||◌, List, [], ◌∷◌, length, map, filter, Result, Ok, Err, nat_lt}
+use Rattle.std.specs.List.{list_any, range_with_len}
+use Rattle.rv_elf.specs.declared.error.ImageError.{ImageError}
+use Rattle.rv_elf.specs.declared.error.ImageError.TheVariants.{ShortHeader, BadMagic, Not32Bit, NotLittleEndian, BadVersion, NotExecutable, NotRiscv, ProgramTable, Dynamic, SegmentSizes, SegmentFile, NoSegment, EntryOdd}
+use Rattle.rv_elf.specs.declared.image.Segment.{Segment}
+use Rattle.rv_elf.specs.declared.image.Image.{Image}
+use Rattle.rv_elf.specs.declared.table.Entry.{Entry}
+use Rattle.rv_elf.specs.Fields.{byte_at, half_at, word_at}
+use Rattle.rv_elf.specs.Rows.{Row, first_row, accepted}
+
+-- ---- the ELF header's fields ("ELF Header")
+
+abbrev pub e_type : List ℕ → ℕ
+e_type file = half_at file 16
+
+abbrev pub e_machine : List ℕ → ℕ
+e_machine file = half_at file 18
+
+abbrev pub e_version : List ℕ → ℕ
+e_version file = word_at file 20
+
+abbrev pub e_entry : List ℕ → ℕ
+e_entry file = word_at file 24
+
+abbrev pub e_phoff : List ℕ → ℕ
+e_phoff file = word_at file 28
+
+abbrev pub e_phentsize : List ℕ → ℕ
+e_phentsize file = half_at file 42
+
+abbrev pub e_phnum : List ℕ → ℕ
+e_phnum file = half_at file 44
+
+-- ---- the program header table ("Program Header")
+
+-- the segment of the entry at a place
+unfoldable pub segment_at : List ℕ → ℕ → Segment
+segment_at file at = record {
+  offset = word_at file (at + 4);
+  vaddr = word_at file (at + 8);
+  paddr = word_at file (at + 12);
+  filesz = word_at file (at + 16);
+  memsz = word_at file (at + 20);
+}
+
+unfoldable pub entry_at : List ℕ → ℕ → Entry
+entry_at file at = record { kind = word_at file at; segment = segment_at file at }
+
+-- the table: e_phnum entries of 32 bytes from e_phoff on
+unfoldable pub entries : List ℕ → List Entry
+entries file = map (λ k. entry_at file (e_phoff file + 32 * k)) (range_with_len 0 (e_phnum file))
+
+-- ---- the conditions of the refusals
+
+-- 0x7f 'E' 'L' 'F'
+abbrev pub has_magic : List ℕ → Bool
+has_magic file = (byte_at file 0 == 0x7f) && ((byte_at file 1 == 0x45) && ((byte_at file 2 == 0x4c) && (byte_at file 3 == 0x46)))
+
+-- the version stands twice, in the identification and in e_version, and both are 1
+abbrev pub has_bad_version : List ℕ → Bool
+has_bad_version file = not (byte_at file 6 == 1) || not (e_version file == 1)
+
+-- more than 64 entries; or, with entries there, an entry size that is not 32 or a table past the file
+abbrev pub has_bad_table : List ℕ → Bool
+has_bad_table file = nat_lt 64 (e_phnum file) || (nat_lt 0 (e_phnum file)
+    && (not (e_phentsize file == 32) || nat_lt (length file) (e_phoff file + 32 * e_phnum file)))
+
+-- PT_DYNAMIC or PT_INTERP
+abbrev pub is_dynamic : Entry → Bool
+is_dynamic e = (e.kind == 2) || (e.kind == 3)
+
+-- PT_LOAD
+abbrev pub is_load : Entry → Bool
+is_load e = e.kind == 1
+
+abbrev pub has_bad_sizes : Entry → Bool
+has_bad_sizes e = is_load e && nat_lt e.segment.memsz e.segment.filesz
+
+-- its bytes go past a file of n bytes
+abbrev pub is_past : ℕ → Entry → Bool
+is_past n e = is_load e && (nat_lt 0 e.segment.filesz && nat_lt n (e.segment.offset + e.segment.filesz))
+
+abbrev pub is_kept : Entry → Bool
+is_kept e = is_load e && nat_lt 0 e.segment.memsz
+
+abbrev pub kept_of : List Entry → List Segment
+kept_of found = map (λ e. e.segment) (filter is_kept found)
+
+-- the PT_LOAD entries with a size in memory, in table order
+unfoldable pub segments : List ℕ → List Segment
+segments file = kept_of (entries file)
+
+-- ---- the table of refusals, in its order
+
+-- of the header
+abbrev pub header_rows : List ℕ → List Row
+header_rows file = (nat_lt (length file) 52, ShortHeader)
+    ∷ (not (has_magic file), BadMagic)
+    ∷ (not (byte_at file 4 == 1), Not32Bit)
+    ∷ (not (byte_at file 5 == 1), NotLittleEndian)
+    ∷ (has_bad_version file, BadVersion)
+    ∷ (not (e_type file == 2), NotExecutable)
+    ∷ (not (e_machine file == 243), NotRiscv)
+    ∷ (has_bad_table file, ProgramTable)
+    ∷ []
+
+-- of the entries that a file of n bytes has, each asked of all of them before the next one is
+abbrev pub entry_rows : ℕ → List Entry → List Row
+entry_rows n found = (list_any is_dynamic found, Dynamic)
+    ∷ (list_any has_bad_sizes found, SegmentSizes)
+    ∷ (list_any (is_past n) found, SegmentFile)
+    ∷ []
+
+-- of the image: no segment, and an odd entry
+abbrev pub image_rows : Image → List Row
+image_rows image = (length image.segments == 0, NoSegment) ∷ (not (image.entry % 2 == 0), EntryOdd) ∷ []
+
+unfoldable pub header_check : List ℕ → Result (Unit {0}) ImageError
+header_check file = first_row (header_rows file) accepted
+
+unfoldable pub entry_check : ℕ → List Entry → Result (Unit {0}) ImageError
+entry_check n found = first_row (entry_rows n found) accepted
+
+unfoldable pub image_check : Image → Result (Unit {0}) ImageError
+image_check image = first_row (image_rows image) accepted
+
+-- the entry and the kept segments, before any refusal is asked
+abbrev pub image_there : List ℕ → Image
+image_there file = record { entry = e_entry file; segments = segments file }
+
+-- what the header's table says, once the header is not refused
+unfoldable pub table_of : List ℕ → Result Image ImageError
+table_of file = first_row (entry_rows (length file) (entries file)) (first_row (image_rows (image_there file)) (Ok (image_there file)))
+
+-- the first refusal that applies, or the image
+unfoldable pub image_of : List ℕ → Result Image ImageError
+image_of file = first_row (header_rows file) (table_of file)
+
+-- the header is there, and the whole of the program header table
+pub record HasTable (file : List ℕ) : Type 0 where
+  pub header : 52 ≤ length file
+  pub few : e_phnum file ≤ 64
+  pub room : 0 < e_phnum file → e_phoff file + 32 * e_phnum file ≤ length file

@@ -1,0 +1,4 @@
+pub mod Fields
+pub mod Rows
+pub mod Image
+pub mod Loading

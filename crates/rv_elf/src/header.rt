@@ -1,0 +1,74 @@
+ghost use Rattle.std.specs.Prelude.{◌≡◌, ◌≤◌, OnOk, length};
+ghost use Rattle.rv_elf.specs.Image.{has_magic, has_bad_version, has_bad_table, header_check, HasTable};
+
+use crate::error::ImageError;
+use crate::fields::{half, word};
+
+const HEADER_SIZE: usize = 52;
+/// Of a program header.
+const ENTRY_SIZE: u16 = 32;
+const MOST_ENTRIES: u16 = 64;
+
+const ELFCLASS32: u8 = 1;
+const ELFDATA2LSB: u8 = 1;
+const EV_CURRENT: u8 = 1;
+const ET_EXEC: u16 = 2;
+const EM_RISCV: u16 = 243;
+
+/// Asks the refusals of the header, and of the place of the program header table.
+#[tactic(auto, unfolding(crate::specs::Image::header_check))]
+pub(crate) fn check_header(file: &[u8]) -> Result<(), ImageError>
+    ensures value { result ≡ header_check file.now }
+    ensures table { OnOk result (HasTable file.now) }
+{
+    if file.len() < HEADER_SIZE {
+        return Err(ImageError::ShortHeader);
+    }
+    if !has_magic(file) {
+        return Err(ImageError::BadMagic);
+    }
+    if file[4] != ELFCLASS32 {
+        return Err(ImageError::Not32Bit);
+    }
+    if file[5] != ELFDATA2LSB {
+        return Err(ImageError::NotLittleEndian);
+    }
+    if has_bad_version(file) {
+        return Err(ImageError::BadVersion);
+    }
+    if half(file, 16) != ET_EXEC {
+        return Err(ImageError::NotExecutable);
+    }
+    if half(file, 18) != EM_RISCV {
+        return Err(ImageError::NotRiscv);
+    }
+    if has_bad_table(file) {
+        return Err(ImageError::ProgramTable);
+    }
+    Ok(())
+}
+
+fn has_magic(file: &[u8]) -> bool
+    requires { 52 ≤ length file.now }
+    ensures { result ≡ has_magic file.now }
+{
+    file[0] == 0x7f && file[1] == b'E' && file[2] == b'L' && file[3] == b'F'
+}
+
+fn has_bad_version(file: &[u8]) -> bool
+    requires { 52 ≤ length file.now }
+    ensures { result ≡ has_bad_version file.now }
+{
+    file[6] != EV_CURRENT || word(file, 20) != u32::from(EV_CURRENT)
+}
+
+fn has_bad_table(file: &[u8]) -> bool
+    requires { 52 ≤ length file.now }
+    ensures { result ≡ has_bad_table file.now }
+{
+    let count = half(file, 44);
+    MOST_ENTRIES < count
+        || 0 < count
+            && (half(file, 42) != ENTRY_SIZE
+                || file.len() < word(file, 28) as usize + 32 * count as usize)
+}

@@ -1,0 +1,114 @@
+ghost use Rattle.std.specs.Prelude.{◌≡◌, ◌≢◌, MatchResult, Ok, Err, ◌%◌, ◌==◌};
+ghost use Rattle.rv_elf.specs.Image.{image_of, table_of, image_check, HasTable};
+ghost use Rattle.rv_elf.specs.declared.error.ImageError.TheVariants.{OutOfMemory};
+
+use crate::error::ImageError;
+use crate::fields::word;
+use crate::header::check_header;
+use crate::table::{check_entries, entries, kept_segments};
+use std::alloc::Global;
+use std::marker::Model;
+
+/// A part of the file that is loaded (System V ABI, "Program Header", PT_LOAD).
+#[derive(Clone, Copy, Debug, PartialEq, Eq)]
+pub struct Segment {
+    /// Where its bytes begin in the file.
+    pub offset: u32,
+    /// The address of its first byte where it runs.
+    pub vaddr: u32,
+    /// The address of its first byte where it is stored.
+    pub paddr: u32,
+    /// How many bytes the file has of it.
+    pub filesz: u32,
+    /// How many bytes it has in memory; those past the file's are zero.
+    pub memsz: u32,
+}
+
+/// Segments in the order of the file's table. Contracts see them as their list.
+#[derive(Debug, Drop)]
+pub struct Segments {
+    items: Vec<Segment>,
+}
+
+impl Model for Segments {
+    ghost use Rattle.std.specs.Prelude.{List};
+    ghost use Rattle.rv_elf.specs.declared.image.Segment.{Segment};
+
+    ghost Value = { List Segment };
+
+    ghost view = { λ s. s.items.items };
+}
+
+impl Segments {
+    /// The segments of the vector.
+    pub fn from_vec(items: Vec<Segment>) -> Segments
+        ensures { result ≡ items.items }
+    {
+        Segments { items }
+    }
+
+    pub fn as_slice(&self) -> &[Segment]
+        ensures { result.now ≡ self.now }
+    {
+        self.items.as_slice()
+    }
+
+    /// The vector that they were made from.
+    pub fn into_vec(self) -> Vec<Segment>
+        ensures { result.items ≡ self }
+    {
+        self.items
+    }
+}
+
+/// What an executable file loads.
+#[derive(Debug, Drop)]
+pub struct Image {
+    /// The address of the first instruction, an even one in each image that is read.
+    pub entry: u32,
+    /// The segments with bytes in memory.
+    pub segments: Segments,
+}
+
+/// Reads a file's bytes as an executable, or says why they are none.
+pub fn read_image(alloc: Global, file: &[u8]) -> Result<Image, ImageError>
+    ensures { MatchResult result (λ image. image_of file.now ≡ Ok image) (λ e. e ≢ OutOfMemory → image_of file.now ≡ Err e) }
+{
+    match check_header(file) {
+        Ok(()) => read_table(alloc, file),
+        Err(error) => Err(error),
+    }
+}
+
+/// The rest of [`read_image`], once the header is accepted.
+fn read_table(alloc: Global, file: &[u8]) -> Result<Image, ImageError>
+    requires { HasTable file.now }
+    ensures { MatchResult result (λ image. table_of file.now ≡ Ok image) (λ e. e ≢ OutOfMemory → table_of file.now ≡ Err e) }
+{
+    let found = entries(alloc, file)?;
+    match check_entries(found.as_slice(), file.len()) {
+        Ok(()) => {}
+        Err(error) => return Err(error),
+    }
+    let image = Image {
+        entry: word(file, 24),
+        segments: Segments::from_vec(kept_segments(alloc, found.as_slice())?),
+    };
+    match check_image(&image) {
+        Ok(()) => Ok(image),
+        Err(error) => Err(error),
+    }
+}
+
+#[tactic(auto, unfolding(crate::specs::Image::image_check))]
+fn check_image(image: &Image) -> Result<(), ImageError>
+    ensures { result ≡ image_check image.now }
+{
+    if image.segments.as_slice().is_empty() {
+        return Err(ImageError::NoSegment);
+    }
+    if image.entry % 2 != 0 {
+        return Err(ImageError::EntryOdd);
+    }
+    Ok(())
+}

@@ -1,0 +1,19 @@
+//! ELF32 executables for RISC-V: which bytes are one, and what memory holds once one is loaded.
+//!
+//! [`read_image`] reads a file's bytes as an [`Image`], its entry and its loadable segments, or names
+//! the first refusal that applies ([`ImageError`]). [`check_map`] says whether an image fits the
+//! regions of a map, and [`load`] places its bytes into a new bus. Each answer is exactly what the
+//! definitions in `specs/` say: they read the fields by the offsets of the System V ABI and keep no
+//! state from one test to the next. Only [`read_image`] takes memory.
+#![tactic(auto)]
+
+mod error;
+mod fields;
+mod header;
+mod image;
+mod loading;
+mod table;
+
+pub use error::ImageError;
+pub use image::{Image, Segment, Segments, read_image};
+pub use loading::{LoadAt, check_map, load};

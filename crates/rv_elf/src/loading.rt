@@ -1,0 +1,108 @@
+ghost use Rattle.std.specs.Prelude.{◌≡◌, ◌+◌, ◌<◌, ◌≤◌, ℕ, IsTrue, OnOk, Ok, length, count_by};
+ghost use Rattle.std.specs.List.{list_all, list_any};
+ghost use Rattle.rv_memory.specs.Regions.{in_one};
+ghost use Rattle.rv_memory.specs.Bus.{opened, placed};
+ghost use Rattle.rv_elf.specs.Rows.{accepted};
+ghost use Rattle.rv_elf.specs.Image.{image_of};
+ghost use Rattle.rv_elf.specs.Loading.{load_address, fits, share, any_share, fills, map_check, opening_memory, file_bytes};
+
+use crate::error::ImageError;
+use crate::image::{Image, Segment};
+use rv_memory::{Bus, Map};
+
+/// Which address of a segment its file bytes go to.
+#[derive(Clone, Copy, Debug, PartialEq, Eq)]
+pub enum LoadAt {
+    Physical,
+    Virtual,
+}
+
+/// Whether an image fits a map: with [`ImageError::SegmentMap`] or [`ImageError::SegmentOverlap`] it
+/// does not. Where it does, no address gets file bytes of two segments.
+#[tactic(auto, unfolding(crate::specs::Loading::map_check))]
+pub fn check_map(image: &Image, map: &Map, at: LoadAt) -> Result<(), ImageError>
+    ensures value { result ≡ map_check image.now.segments map.now at }
+    ensures once { OnOk result ((a : ℕ) → count_by (fills at a) image.now.segments ≤ 1) }
+{
+    let segments = image.segments.as_slice();
+    if !all_fit(segments, map, at) {
+        return Err(ImageError::SegmentMap);
+    }
+    if any_share(segments, at) {
+        return Err(ImageError::SegmentOverlap);
+    }
+    Ok(())
+}
+
+/// Places the file bytes of an image's segments into a new bus, in regions that are not writable
+/// too. Each other byte is zero, and none counts as stored.
+pub fn load(image: &Image, file: &[u8], at: LoadAt, bus: &mut Bus)
+    requires image { image_of file.now ≡ Ok image.now }
+    requires fits { map_check image.now.segments bus.old.regions at ≡ accepted }
+    requires new { bus.old ≡ opened bus.old.regions bus.old.script }
+    ensures { bus.new ≡ record bus.old { memory = opening_memory bus.old.regions image.now.segments file.now at } }
+{
+    for segment in image.segments.as_slice() {
+        place(segment, file, at, bus);
+    }
+}
+
+impl LoadAt {
+    fn address_of(self, segment: &Segment) -> u32
+        ensures { result ≡ load_address self segment.now }
+    {
+        match self {
+            LoadAt::Physical => segment.paddr,
+            LoadAt::Virtual => segment.vaddr,
+        }
+    }
+}
+
+fn all_fit(segments: &[Segment], map: &Map, at: LoadAt) -> bool
+    ensures { result ≡ list_all (fits map.now at) segments.now }
+{
+    segments.iter().all(|segment| {
+        map.in_one(at.address_of(segment), segment.filesz)
+            && map.in_one(segment.vaddr, segment.memsz)
+    })
+}
+
+/// Whether two of the segments get a byte of memory in common.
+fn any_share(segments: &[Segment], at: LoadAt) -> bool
+    ensures { result ≡ any_share at segments.now }
+{
+    for k in 0..segments.len() {
+        if shares_any(&segments[k], &segments[k + 1..], at) {
+            return true;
+        }
+    }
+    false
+}
+
+fn shares_any(segment: &Segment, others: &[Segment], at: LoadAt) -> bool
+    ensures { result ≡ list_any (share at segment.now) others.now }
+{
+    others.iter().any(|other| share(segment, other, at))
+}
+
+fn share(one: &Segment, other: &Segment, at: LoadAt) -> bool
+    ensures { result ≡ share at one.now other.now }
+{
+    let first = u64::from(at.address_of(one));
+    let second = u64::from(at.address_of(other));
+    let first_end = first + u64::from(one.filesz);
+    let second_end = second + u64::from(other.filesz);
+    first.max(second) < first_end.min(second_end)
+}
+
+fn place(segment: &Segment, file: &[u8], at: LoadAt, bus: &mut Bus)
+    requires inside { 0 < segment.now.filesz → segment.now.offset + segment.now.filesz ≤ length file.now }
+    requires fits { IsTrue (in_one bus.old.regions (load_address at segment.now) segment.now.filesz) }
+    ensures { bus.new ≡ placed bus.old (load_address at segment.now) (file_bytes file.now segment.now) }
+{
+    if 0 < segment.filesz {
+        let start = segment.offset as usize;
+        let bytes = &file[start..start + segment.filesz as usize];
+        bus.place(at.address_of(segment), bytes);
+    }
+}

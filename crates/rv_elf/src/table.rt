@@ -1,0 +1,124 @@
+ghost use Rattle.std.specs.Prelude.{◌≡◌, ◌+◌, ◌*◌, ◌<◌, ◌≤◌, IfOk, map, length};
+ghost use Rattle.std.specs.List.{list_any, range_with_len};
+ghost use Rattle.rv_elf.specs.Image.{segment_at, entry_at, entries, entry_check, is_dynamic, has_bad_sizes, is_past, kept_of, HasTable};
+
+use crate::error::ImageError;
+use crate::fields::{half, word};
+use crate::image::Segment;
+use std::alloc::{AllocError, Global};
+
+/// A program header, as far as it is looked at.
+#[derive(Clone, Copy, Debug, PartialEq, Eq)]
+pub(crate) struct Entry {
+    kind: u32,
+    segment: Segment,
+}
+
+const PT_LOAD: u32 = 1;
+const PT_DYNAMIC: u32 = 2;
+const PT_INTERP: u32 = 3;
+
+/// The entries of the program header table.
+#[tactic(auto, unfolding(crate::specs::Image::entries))]
+pub(crate) fn entries(alloc: Global, file: &[u8]) -> Result<Vec<Entry>, AllocError>
+    requires { HasTable file.now }
+    ensures { IfOk result (λ v. v.items ≡ entries file.now) }
+{
+    entries_at(alloc, file, word(file, 28) as usize, half(file, 44) as usize)
+}
+
+/// Asks the refusals of the entries, for a file of `size` bytes.
+#[tactic(auto, unfolding(crate::specs::Image::entry_check))]
+pub(crate) fn check_entries(found: &[Entry], size: usize) -> Result<(), ImageError>
+    ensures { result ≡ entry_check size found.now }
+{
+    if any_dynamic(found) {
+        return Err(ImageError::Dynamic);
+    }
+    if any_bad_sizes(found) {
+        return Err(ImageError::SegmentSizes);
+    }
+    if any_past(found, size) {
+        return Err(ImageError::SegmentFile);
+    }
+    Ok(())
+}
+
+/// The segments of the PT_LOAD entries with bytes in memory, in their order.
+pub(crate) fn kept_segments(alloc: Global, found: &[Entry]) -> Result<Vec<Segment>, AllocError>
+    ensures { IfOk result (λ v. v.items ≡ kept_of found.now) }
+{
+    found
+        .iter()
+        .filter(|e| e.kind == PT_LOAD && 0 < e.segment.memsz)
+        .map(|e| e.segment)
+        .collect(alloc)
+}
+
+fn entries_at(
+    alloc: Global,
+    file: &[u8],
+    offset: usize,
+    count: usize,
+) -> Result<Vec<Entry>, AllocError>
+    requires room { 0 < count → offset + 32 * count ≤ length file.now }
+    requires few { count ≤ 64 }
+    ensures { IfOk result (λ v. v.items ≡ map (λ k. entry_at file.now (offset + 32 * k)) (range_with_len 0 count)) }
+{
+    let mut found = Vec::new(alloc);
+    for k in 0..count {
+        found.push(entry_at(file, offset + 32 * k))?;
+    }
+    Ok(found)
+}
+
+#[tactic(auto, unfolding(crate::specs::Image::entry_at))]
+fn entry_at(file: &[u8], at: usize) -> Entry
+    requires { at + 32 ≤ length file.now }
+    ensures { result ≡ entry_at file.now at }
+{
+    Entry {
+        kind: word(file, at),
+        segment: segment_at(file, at),
+    }
+}
+
+#[tactic(auto, unfolding(crate::specs::Image::segment_at))]
+fn segment_at(file: &[u8], at: usize) -> Segment
+    requires { at + 32 ≤ length file.now }
+    ensures { result ≡ segment_at file.now at }
+{
+    Segment {
+        offset: word(file, at + 4),
+        vaddr: word(file, at + 8),
+        paddr: word(file, at + 12),
+        filesz: word(file, at + 16),
+        memsz: word(file, at + 20),
+    }
+}
+
+fn any_dynamic(found: &[Entry]) -> bool
+    ensures { result ≡ list_any is_dynamic found.now }
+{
+    found
+        .iter()
+        .any(|e| e.kind == PT_DYNAMIC || e.kind == PT_INTERP)
+}
+
+fn any_bad_sizes(found: &[Entry]) -> bool
+    ensures { result ≡ list_any has_bad_sizes found.now }
+{
+    found
+        .iter()
+        .any(|e| e.kind == PT_LOAD && e.segment.memsz < e.segment.filesz)
+}
+
+fn any_past(found: &[Entry], size: usize) -> bool
+    ensures { result ≡ list_any (is_past size) found.now }
+{
+    found.iter().any(|e| {
+        e.kind == PT_LOAD
+            && 0 < e.segment.filesz
+            && size < e.segment.offset as usize + e.segment.filesz as usize
+    })
+}
