@@ -1,5 +1,6 @@
 -- The first row that applies.
-use Rattle.std.proofs.Common.{◌≡◌, Bool, true, false, List, [], ◌∷◌, refl, cond, Result, Ok, Err}
+use Rattle.std.proofs.Common.{◌≡◌, Bool, true, false, ◌||◌, List, [], ◌∷◌, refl, ap, ◌∙◌, cond, rules, Result, Ok, Err}
+use Rattle.std.specs.List.{list_any}
 use Rattle.rv_elf.specs.declared.error.ImageError.{ImageError}
 use Rattle.rv_elf.specs.Rows.{Row, first_row, accepted}
 
@@ -22,3 +23,15 @@ none_refuses (row ∷ rows) next e = passed_at row.0 row.1 (first_row rows accep
 pub refusal_stays : {X : Type 0} (rows : List Row) (next : Result X ImageError) (w : ImageError) → first_row rows accepted ≡ Err w → first_row rows next ≡ Err w
 refusal_stays [] next w e = cc
 refusal_stays (row ∷ rows) next w e = refused_at row.0 row.1 w (first_row rows accepted) (first_row rows next) (refusal_stays rows next w) e
+
+passed_before : {X : Type 0} (b : Bool) (w : ImageError) (more : Result X ImageError) (x : X) → cond b (Err w) more ≡ Ok x → (b ≡ false) × (more ≡ Ok x)
+passed_before true w more x e = search rules
+passed_before false w more x e = (refl, e)
+
+-- where the answer is no refusal, no row refuses, and what follows gives the answer
+pub none_refused : {X : Type 0} (rows : List Row) (next : Result X ImageError) (x : X) → first_row rows next ≡ Ok x → (list_any (λ r. r.0) rows ≡ false) × (next ≡ Ok x)
+none_refused [] next x e = (refl, e)
+none_refused (row ∷ rows) next x e =
+    let p = passed_before row.0 row.1 (first_row rows next) x e in
+    let q = none_refused rows next x p.1 in
+    (ap (λ b. b || list_any (λ r. r.0) rows) p.0 ∙ q.0, q.1)

@@ -1,1 +1,6 @@
 pub mod FirstRow
+pub mod Reading
+pub mod Sharing
+pub mod Placing
+pub mod NewBus
+pub mod Opening

@@ -1,6 +1,6 @@
 -- The image of a file's bytes, or the first refusal of the table that applies.
 -- ELF32 of the System V ABI, chapters "Object Files" and "Program Loading"; RISC-V's machine number is that of its ELF psABI.
-use Rattle.std.specs.Prelude.{◌≡◌, ◌≤◌, ◌<◌, ◌==◌, ◌+◌, ◌*◌, ◌%◌, ℕ, Bool, not, ◌&&◌, ◌||◌, List, [], ◌∷◌, length, map, filter, Result, Ok, Err, nat_lt}
+use Rattle.std.specs.Prelude.{◌≤◌, ◌<◌, ◌==◌, ◌+◌, ◌*◌, ◌%◌, ℕ, Bool, not, ◌&&◌, ◌||◌, List, [], ◌∷◌, length, map, filter, Result, Ok, nat_lt}
 use Rattle.std.specs.List.{list_any, range_with_len}
 use Rattle.rv_elf.specs.declared.error.ImageError.{ImageError}
 use Rattle.rv_elf.specs.declared.error.ImageError.TheVariants.{ShortHeader, BadMagic, Not32Bit, NotLittleEndian, BadVersion, NotExecutable, NotRiscv, ProgramTable, Dynamic, SegmentSizes, SegmentFile, NoSegment, EntryOdd}

@@ -42,11 +42,15 @@ map_check segments regions at = first_row (map_rows segments regions at) accepte
 abbrev pub fills : LoadAt → ℕ → Segment → Bool
 fills at a s = nat_le (load_address at s) a && nat_lt a (load_address at s + s.filesz)
 
+-- the file's byte that a segment has for an address that it fills
+abbrev pub byte_of : List ℕ → LoadAt → Segment → ℕ → ℕ
+byte_of file at s a = slice_index file (s.offset + (a - load_address at s))
+
 -- the byte that an address has at the start: the file's byte of the segment that fills it, else 0.
 -- Where the map is accepted no two fill the same address, so the first that does is the only one
 abbrev pub opening_byte : List Segment → List ℕ → LoadAt → ℕ → ℕ
 opening_byte [] file at a = 0
-opening_byte (s ∷ ss) file at a = if fills at a s then slice_index file (s.offset + (a - load_address at s)) else opening_byte ss file at a
+opening_byte (s ∷ ss) file at a = if fills at a s then byte_of file at s a else opening_byte ss file at a
 
 -- the memory at the start
 unfoldable pub opening_memory : List Region → List Segment → List ℕ → LoadAt → fin.FinMap nat_cmp ℕ

@@ -7,12 +7,17 @@ use crate::fields::{half, word};
 const HEADER_SIZE: usize = 52;
 /// Of a program header.
 const ENTRY_SIZE: u16 = 32;
+
 const MOST_ENTRIES: u16 = 64;
 
 const ELFCLASS32: u8 = 1;
+
 const ELFDATA2LSB: u8 = 1;
+
 const EV_CURRENT: u8 = 1;
+
 const ET_EXEC: u16 = 2;
+
 const EM_RISCV: u16 = 243;
 
 /// Asks the refusals of the header, and of the place of the program header table.

@@ -56,6 +56,13 @@ impl LoadAt {
             LoadAt::Virtual => segment.vaddr,
         }
     }
+
+    /// The address past the last file byte.
+    fn end_of(self, segment: &Segment) -> u64
+        ensures { result ≡ load_address self segment.now + segment.now.filesz }
+    {
+        u64::from(self.address_of(segment)) + u64::from(segment.filesz)
+    }
 }
 
 fn all_fit(segments: &[Segment], map: &Map, at: LoadAt) -> bool
@@ -88,11 +95,8 @@ fn shares_any(segment: &Segment, others: &[Segment], at: LoadAt) -> bool
 fn share(one: &Segment, other: &Segment, at: LoadAt) -> bool
     ensures { result ≡ share at one.now other.now }
 {
-    let first = u64::from(at.address_of(one));
-    let second = u64::from(at.address_of(other));
-    let first_end = first + u64::from(one.filesz);
-    let second_end = second + u64::from(other.filesz);
-    first.max(second) < first_end.min(second_end)
+    let start = at.address_of(one).max(at.address_of(other));
+    u64::from(start) < at.end_of(one).min(at.end_of(other))
 }
 
 fn place(segment: &Segment, file: &[u8], at: LoadAt, bus: &mut Bus)

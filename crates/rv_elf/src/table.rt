@@ -15,7 +15,9 @@ pub(crate) struct Entry {
 }
 
 const PT_LOAD: u32 = 1;
+
 const PT_DYNAMIC: u32 = 2;
+
 const PT_INTERP: u32 = 3;
 
 /// The entries of the program header table.
@@ -24,7 +26,12 @@ pub(crate) fn entries(alloc: Global, file: &[u8]) -> Result<Vec<Entry>, AllocErr
     requires { HasTable file.now }
     ensures { IfOk result (λ v. v.items ≡ entries file.now) }
 {
-    entries_at(alloc, file, word(file, 28) as usize, half(file, 44) as usize)
+    entries_at(
+        alloc,
+        file,
+        word(file, 28) as usize,
+        half(file, 44) as usize,
+    )
 }
 
 /// Asks the refusals of the entries, for a file of `size` bytes.
@@ -108,9 +115,7 @@ fn any_dynamic(found: &[Entry]) -> bool
 fn any_bad_sizes(found: &[Entry]) -> bool
     ensures { result ≡ list_any has_bad_sizes found.now }
 {
-    found
-        .iter()
-        .any(|e| e.kind == PT_LOAD && e.segment.memsz < e.segment.filesz)
+    found.iter().any(|e| e.kind == PT_LOAD && e.segment.memsz < e.segment.filesz)
 }
 
 fn any_past(found: &[Entry], size: usize) -> bool
