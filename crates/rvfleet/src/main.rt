@@ -2,21 +2,31 @@
 #![tactic(auto)]
 
 mod command;
+mod files;
 mod flat;
+mod image;
+mod one;
+mod outcome;
 mod raw;
 mod report;
 mod row;
 mod sink;
+mod store;
 #[cfg(test)]
 mod tests;
 mod words;
 
 pub use command::{Asked, read_words};
+pub use files::FileStore;
 pub use flat::flat_row;
-pub use raw::{RunError, run_raw};
+pub use image::image_row;
+pub use one::{ScriptError, is_bad_path, read_script, run_one};
+pub use outcome::{refused_row, run_row};
+pub use raw::{RunError, read_limited, run_raw};
 pub use report::{WriteError, write_report};
 pub use row::{Bytes, Name, Refusal, Report, Row, RowEnd, Rows, Verdict, Words};
 pub use sink::{Sink, SinkFailed, StreamSink, put_all};
+pub use store::{Kept, ReadError, Store, keep};
 pub use words::run_words;
 
 use std::alloc::Global;
@@ -56,9 +66,10 @@ fn status<F: Sink>(rt: &HostRuntime, texts: &[String], faults: &mut F) -> u8 {
     let Ok(words) = words_of(rt.alloc(), texts) else {
         return failed(faults, RunError::OutOfMemory);
     };
+    let mut store = FileStore::new(rt);
     let mut input = rt.reader();
     let mut out = StreamSink::new(rt.stdout());
-    run_words(rt.alloc(), words.as_slice(), &mut input, &mut out, faults)
+    run_words(rt.alloc(), words.as_slice(), &mut store, &mut input, &mut out, faults)
 }
 
 fn words_of(alloc: Global, texts: &[String]) -> Result<Vec<&str>, std::alloc::AllocError> {
