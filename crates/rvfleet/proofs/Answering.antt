@@ -69,10 +69,16 @@ pub one_done : (path : List ℕ) (budget : ℕ) (digits : Option (List ℕ)) (sc
     → (kept : Kept) × (may_answer path kept × Appends before after (report_text (one_rows kept budget script)))
     → Answers (Some (one path budget digits)) input may_answer before after status
 one_done path budget digits script input may_answer before after status is good read room sent = record {
-  reported = λ _. (sent.0, (sent.1.0, record {
-    appended = rw (same_script digits script read) sent.1.1;
-    verdicts = is ∙ one_status sent.0 budget (script_of digits);
-  }));
+  reported = λ _. (
+    sent.0,
+    (
+      sent.1.0,
+      record {
+        appended = rw (same_script digits script read) sent.1.1;
+        verdicts = is ∙ one_status sent.0 budget (script_of digits);
+      },
+    ),
+  );
   accepted = λ _. rw (good, read, le-ltb most_script (length script) room) refl;
   refused = λ two. absurd (omega arith);
   failed = λ three. absurd (omega arith);

@@ -1,5 +1,5 @@
 -- A flat image in its region.
-use Rattle.std.proofs.Common.{◌≡◌, ◌+◌, ◌≤◌, ℕ, Bool, true, false, List, [], length, refl, sym, eqb, leb, arith, ◌||◌, ◌&&◌}
+use Rattle.std.proofs.Common.{◌≡◌, ◌+◌, ◌≤◌, ℕ, Bool, true, false, List, [], length, refl, eqb, leb, arith, ◌||◌}
 use Rattle.std.proofs.lemmas.Bool.{le-leb}
 use Rattle.std.specs.Bool.{IsTrue}
 use Rattle.rv_memory.specs.Bus.{Contents, opened}

@@ -1,14 +1,13 @@
 -- What the typed getter of a number gives, by the rows.
-use Rattle.std.proofs.Common.{◌≡◌, ◌∙◌, ◌<◌, ◌^◌, ℕ, Bool, true, false, refl, sym, ap, List, [], ◌∷◌, length, Option, Some, None, Result, Ok, Err, nat_lt, option_map, option_and_then, lt-ltb, ltb-true, arith, rules, cond, ◌&&◌}
+use Rattle.std.proofs.Common.{◌≡◌, ◌∙◌, ◌<◌, ◌^◌, ℕ, Bool, true, false, refl, ap, List, [], ◌∷◌, Option, Some, None, Result, Ok, Err, nat_lt, option_and_then, lt-ltb, ltb-true, cond, ◌&&◌}
 use Rattle.std.specs.List.{list_all}
 use Rattle.std.specs.Char.{digit_value}
 use Rattle.std.specs.Str.Parse.{AllDigits, IsNumeral, ParsesUnsigned, digits_value, without_leading_plus}
-use Rattle.std.proofs.lemmas.Bool.{cases_Bool}
 use Rattle.clap.specs.ValueTests.{is_numeral}
-use Rattle.clap.specs.Matches.{ReadsOne, one_text, first_value}
-use Rattle.clap.specs.Walk.{Text, rows_of, one_of, first_of}
+use Rattle.clap.specs.Matches.{ReadsOne, one_text}
+use Rattle.clap.specs.Walk.{Text, rows_of}
 use Rattle.clap.specs.declared.parser.matches.Found.{Found}
-use Rattle.clap.proofs.WalkLemmas.{one_text-rows, first_value-rows, both}
+use Rattle.clap.proofs.WalkLemmas.{one_text-rows, both}
 use Rattle.rvfleet.specs.CommandLine.{number_in, number_of}
 
 digits_from : (ds : List ℕ) → list_all (λ d. nat_lt (digit_value d) 10) ds ≡ true → AllDigits 10 ds

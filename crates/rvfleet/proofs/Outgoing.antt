@@ -86,7 +86,7 @@ pub ended_under_way : (a b c : Option (List ℕ)) (gathered piece grown text : L
     → Appends b c grown → Appends a c (text ++ piece)
 ended_under_way a b c gathered piece grown text before pushed sent =
     let whole : text ++ piece ≡ before.sent ++ grown =
-        ap (λ front. front ++ piece) before.whole ∙ append_assoc before.sent gathered piece ∙ ap (λ more. before.sent ++ more) (sym pushed) in
+    ap (λ front. front ++ piece) before.whole ∙ append_assoc before.sent gathered piece ∙ ap (λ more. before.sent ++ more) (sym pushed) in
     rw whole (Appends-trans a b c before.sent grown before.appended sent)
 
 -- one row more

@@ -1,5 +1,5 @@
 -- The command line's definitions, computed at words that are written out.
-use Rattle.std.proofs.Common.{◌≡◌, refl, true, false, [], ◌∷◌, None, Some, codes}
+use Rattle.std.proofs.Common.{◌≡◌, refl, true, false, [], ◌∷◌, Some, codes}
 use Rattle.clap.specs.Words.{takes}
 use Rattle.clap.proofs.OnLiterals.{clap_on_literals}
 use Rattle.rvfleet.specs.CommandLine.{fleet_app, raw, request_of}

@@ -33,7 +33,7 @@ one_app = with_rule (with_rule (with_rule (new_app (codes "one")) image_rule) bu
 -- a subcommand is required, and none is called help
 abbrev pub top_app : App
 top_app = let app = new_app (codes "rvfleet") in
-  record app { top = record app.top { subcommand_required = true; disable_help_subcommand = true } }
+    record app { top = record app.top { subcommand_required = true; disable_help_subcommand = true } }
 
 -- the whole command
 abbrev pub fleet_app : App
@@ -47,7 +47,7 @@ pub data Request : Type 0 where
 -- a decimal number of 32 bits; a plus may stand before it
 abbrev pub number_of : Text → Option ℕ
 number_of text = let number = digits_value 10 (without_leading_plus text) in
-  if is_numeral (without_leading_plus text) && nat_lt number (2 ^ 32) then Some number else None
+    if is_numeral (without_leading_plus text) && nat_lt number (2 ^ 32) then Some number else None
 
 -- the number that stands for an argument
 abbrev pub number_in : Text → List Row → Option ℕ

@@ -31,4 +31,4 @@ flat_name = codes "raw"
 -- the row of these bytes within a budget of steps
 unfoldable pub flat_row_of : List ℕ → ℕ → Row
 flat_row_of bytes budget =
-  if nat_lt image_room (length bytes) then refused_row flat_name refusal.ImageTooLong else row_of flat_name (run_of budget (flat_state bytes))
+    if nat_lt image_room (length bytes) then refused_row flat_name refusal.ImageTooLong else row_of flat_name (run_of budget (flat_state bytes))

@@ -14,7 +14,9 @@ use std::alloc::{AllocError, Global};
 #[derive(Clone, Copy, Debug, PartialEq, Eq)]
 pub enum Asked<'a> {
     /// The flat image on the input, with a budget of 1 to 1,000,000,000 steps.
-    Raw { budget: u32 },
+    Raw {
+        budget: u32,
+    },
     /// The ELF image at a path, with such a budget, and the console's script as hexadecimal digits.
     One {
         image: &'a str,

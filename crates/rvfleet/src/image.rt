@@ -16,7 +16,12 @@ use std::alloc::{AllocError, Global};
 /// Runs the ELF image that a store answered with, at most `budget` steps, under the default map,
 /// its file bytes at their physical addresses. No image, or one that can't run, is a refused row.
 #[tactic(auto, unfolding(crate::specs::ElfImages::image_row_of))]
-pub fn image_row(alloc: Global, kept: &Kept, budget: u32, script: Vec<u8>) -> Result<Row, AllocError>
+pub fn image_row(
+    alloc: Global,
+    kept: &Kept,
+    budget: u32,
+    script: Vec<u8>,
+) -> Result<Row, AllocError>
     requires { vec_len script ≤ most_script }
     ensures { IfOk result (λ row. row ≡ image_row_of kept.now budget script.items) }
 {
@@ -33,7 +38,12 @@ fn file_row(alloc: Global, file: &[u8], budget: u32, script: Vec<u8>) -> Result<
     ensures { IfOk result (λ row. row ≡ file_row_of file.now budget script.items) }
 {
     match fitting_image(alloc, file) {
-        Ok(image) => run_row(alloc, "one", loaded_machine(alloc, file, &image, script)?, budget),
+        Ok(image) => run_row(
+            alloc,
+            "one",
+            loaded_machine(alloc, file, &image, script)?,
+            budget,
+        ),
         Err(ImageError::OutOfMemory) => Err(AllocError),
         Err(error) => refused_row(alloc, "one", Refusal::Image(error)),
     }
@@ -54,7 +64,12 @@ fn fitting_image(alloc: Global, file: &[u8]) -> Result<Image, ImageError>
     }
 }
 
-fn loaded_machine(alloc: Global, file: &[u8], image: &Image, script: Vec<u8>) -> Result<Machine, AllocError>
+fn loaded_machine(
+    alloc: Global,
+    file: &[u8],
+    image: &Image,
+    script: Vec<u8>,
+) -> Result<Machine, AllocError>
     requires room { vec_len script ≤ most_script }
     requires fits { fitting_image_of file.now ≡ Ok image.now }
     ensures { IfOk result (λ machine. state_of machine ≡ loaded_state file.now image.now script.items) }

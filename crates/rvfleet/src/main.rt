@@ -3,6 +3,8 @@
 
 mod command;
 mod files;
+#[cfg(test)]
+mod firmware;
 mod flat;
 mod image;
 mod one;
@@ -26,14 +28,13 @@ pub use raw::{RunError, read_limited, run_raw};
 pub use report::{WriteError, write_report};
 pub use row::{Bytes, Name, Refusal, Report, Row, RowEnd, Rows, Verdict, Words};
 pub use sink::{Sink, SinkFailed, StreamSink, put_all};
-pub use store::{Kept, ReadError, Store, keep};
-pub use words::run_words;
-
 use std::alloc::Global;
+use std::env;
 use std::env::Env;
 use std::io::{self, ErrorKind};
 use std::process::ExitCode;
-use std::env;
+pub use store::{Kept, ReadError, Store, keep};
+pub use words::run_words;
 use words::{failed, refused};
 
 fn main(rt: HostRuntime) -> ExitCode {
@@ -69,7 +70,14 @@ fn status<F: Sink>(rt: &HostRuntime, texts: &[String], faults: &mut F) -> u8 {
     let mut store = FileStore::new(rt);
     let mut input = rt.reader();
     let mut out = StreamSink::new(rt.stdout());
-    run_words(rt.alloc(), words.as_slice(), &mut store, &mut input, &mut out, faults)
+    run_words(
+        rt.alloc(),
+        words.as_slice(),
+        &mut store,
+        &mut input,
+        &mut out,
+        faults,
+    )
 }
 
 fn words_of(alloc: Global, texts: &[String]) -> Result<Vec<&str>, std::alloc::AllocError> {

@@ -58,7 +58,14 @@ pub fn read_script(alloc: Global, digits: Option<&str>) -> Result<Vec<u8>, Scrip
 
 /// Runs the ELF image at a path of the store, which is read once, and appends its report to the
 /// sink. A path that can't be read is a row of the report.
-pub fn run_one<S: Store, O: Sink>(alloc: Global, store: &mut S, path: &str, budget: u32, script: Vec<u8>, out: &mut O) -> Result<(), RunError>
+pub fn run_one<S: Store, O: Sink>(
+    alloc: Global,
+    store: &mut S,
+    path: &str,
+    budget: u32,
+    script: Vec<u8>,
+    out: &mut O,
+) -> Result<(), RunError>
     requires { vec_len script ≤ most_script }
     ensures appended { OnOk result ((kept : Kept) × (MayAnswer (S.contents store.old) (S.faulted store.old) (S.faulted store.new) path.now kept
         × Appends (O.taken out.old) (O.taken out.new) (report_text (one_rows kept budget script.items)))) }
@@ -83,7 +90,12 @@ pub fn run_one<S: Store, O: Sink>(alloc: Global, store: &mut S, path: &str, budg
     }
 }
 
-fn one_report(alloc: Global, kept: &Kept, budget: u32, script: Vec<u8>) -> Result<Report, AllocError>
+fn one_report(
+    alloc: Global,
+    kept: &Kept,
+    budget: u32,
+    script: Vec<u8>,
+) -> Result<Report, AllocError>
     requires { vec_len script ≤ most_script }
     ensures { IfOk result (λ report. report.rows ≡ one_rows kept.now budget script.items) }
 {

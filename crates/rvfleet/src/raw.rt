@@ -36,7 +36,12 @@ const MOST_READ: usize = 1_048_577;
 const CHUNK: usize = 4_096;
 
 /// Runs the reader's bytes as a flat image, and appends its report to the sink.
-pub fn run_raw<R: Read, O: Sink>(alloc: Global, input: &mut R, out: &mut O, budget: u32) -> Result<(), RunError>
+pub fn run_raw<R: Read, O: Sink>(
+    alloc: Global,
+    input: &mut R,
+    out: &mut O,
+    budget: u32,
+) -> Result<(), RunError>
     ensures appended { OnOk result (IfSome (R.remaining input.old) (λ bytes. Appends (O.taken out.old) (O.taken out.new) (report_text (raw_rows bytes budget)))) }
     ensures unread { IfErr result (λ error. error ≡ RunError.ReadFailed → Keeps (O.taken out.old) (O.taken out.new)) }
     ensures part { OnErr result (IfSome (R.remaining input.old) (λ bytes. AppendsBeginning (O.taken out.old) (O.taken out.new) (report_text (raw_rows bytes budget)))) }
@@ -89,7 +94,12 @@ fn read_more<R: Read>(input: &mut R, bytes: &mut Vec<u8>, most: usize) -> Result
     }
 }
 
-fn write_flat<O: Sink>(alloc: Global, bytes: &[u8], out: &mut O, budget: u32) -> Result<(), RunError>
+fn write_flat<O: Sink>(
+    alloc: Global,
+    bytes: &[u8],
+    out: &mut O,
+    budget: u32,
+) -> Result<(), RunError>
     ensures appended { OnOk result (Appends (O.taken out.old) (O.taken out.new) (report_text (flat_row_of bytes.now budget ∷ []))) }
     ensures part { OnErr result (AppendsBeginning (O.taken out.old) (O.taken out.new) (report_text (flat_row_of bytes.now budget ∷ []))) }
     ensures failed { IfErr result (λ error. error ≡ RunError.WriteFailed → Rose (O.failed out.old) (O.failed out.new)) }

@@ -51,7 +51,12 @@ pub fn write_report<W: Sink>(alloc: Global, report: &Report, out: &mut W) -> Res
 }
 
 // The rows' text: the first part of it goes out, the rest stands in `text`.
-fn gather<W: Sink>(alloc: Global, rows: &[Row], text: &mut String, out: &mut W) -> Result<(), WriteError>
+fn gather<W: Sink>(
+    alloc: Global,
+    rows: &[Row],
+    text: &mut String,
+    out: &mut W,
+) -> Result<(), WriteError>
     requires { string_bytes text.old ≡ [] }
     ensures under_way { OnOk result (IsUnderWay (W.taken out.old) (W.taken out.new) (string_bytes text.new) (rows_text 0 rows.now)) }
     ensures counted { OnOk result (W.failed out.new ≡ W.failed out.old) }
@@ -180,7 +185,11 @@ fn signature_of(row: &Row) -> Option<&[u32]>
 }
 
 #[tactic(auto, unfolding(crate::specs::Report::signature_lines))]
-fn push_signature(alloc: Global, text: &mut String, signature: Option<&[u32]>) -> Result<(), AllocError>
+fn push_signature(
+    alloc: Global,
+    text: &mut String,
+    signature: Option<&[u32]>,
+) -> Result<(), AllocError>
     ensures { OnOk result (string_bytes text.new ≡ string_bytes text.old ++ signature_lines (option_map (λ words. words.now) signature.entry)) }
 {
     match signature {

@@ -58,7 +58,9 @@ pub struct StreamSink<W: Drop> {
 }
 
 impl<W: Write + Drop> StreamSink<W> {
-    pub fn new(stream: W) -> StreamSink<W> {
+    pub fn new(stream: W) -> StreamSink<W>
+        ensures { (result.stream ≡ stream) × (result.failures ≡ 0) }
+    {
         StreamSink {
             stream,
             failures: 0,
@@ -78,7 +80,12 @@ impl<W: Write + Drop> Sink for StreamSink<W> {
 
     ghost failed = { λ sink. sink.failures };
 
-    fn put(&mut self, bytes: &[u8]) -> Result<usize, SinkFailed> {
+    fn put(&mut self, bytes: &[u8]) -> Result<usize, SinkFailed>
+        ensures within { IfOk result (λ count. (1 ≤ count) × (count ≤ length bytes.now)) }
+        ensures written { IfOk result (λ count. Appends (W.contents self.old.stream) (W.contents self.new.stream) (take count bytes.now)) }
+        ensures counted { IfOk result (λ _. self.new.failures ≡ self.old.failures) }
+        ensures failure { IfErr result (λ _. self.new.failures ≡ one_more self.old.failures) }
+    {
         let count = match self.stream.write(bytes) {
             Ok(0) | Err(_) => return Err(self.fail()),
             Ok(count) => count,

@@ -23,7 +23,9 @@ use std::alloc::Global;
 use std::io::Read;
 
 const DONE: u8 = 0;
+
 const BAD_WORDS: u8 = 2;
+
 const FAILED: u8 = 3;
 
 /// Answers words, the first of which is the program's name, with the status of the program: 0
@@ -40,18 +42,32 @@ pub fn run_words<'a, S: Store, R: Read, O: Sink, F: Sink>(
 ) -> u8
     ensures answers { is_taken (map (λ word. word.now) words.entry.now) ≡ true
         → Answers (request_of (map (λ word. word.now) words.entry.now)) (R.remaining input.old)
-            (MayAnswer (S.contents store.old) (S.faulted store.old) (S.faulted store.new)) (O.taken out.old) (O.taken out.new) result }
+        (MayAnswer (S.contents store.old) (S.faulted store.old) (S.faulted store.new)) (O.taken out.old) (O.taken out.new) result }
     ensures range { result ≤ FAILED }
 {
     match read_words(alloc, words) {
         Ok(Some(Asked::Raw { budget })) => raw_status(alloc, budget, input, out, faults),
-        Ok(Some(Asked::One { image, budget, input_hex })) => one_status(alloc, image, budget, input_hex, store, out, faults),
+        Ok(
+            Some(
+                Asked::One {
+                    image,
+                    budget,
+                    input_hex,
+                },
+            ),
+        ) => one_status(alloc, image, budget, input_hex, store, out, faults),
         Ok(None) => refused(faults),
         Err(error) => error_status(alloc, &error, out, faults),
     }
 }
 
-fn raw_status<R: Read, O: Sink, F: Sink>(alloc: Global, budget: u32, input: &mut R, out: &mut O, faults: &mut F) -> u8
+fn raw_status<R: Read, O: Sink, F: Sink>(
+    alloc: Global,
+    budget: u32,
+    input: &mut R,
+    out: &mut O,
+    faults: &mut F,
+) -> u8
     ensures reported { result ≡ DONE → IfSome (R.remaining input.old) (λ bytes. Reported (O.taken out.old) (O.taken out.new) DONE (raw_rows bytes budget)) }
     ensures part { result ≡ FAILED → IfSome (R.remaining input.old) (λ bytes. AppendsBeginning (O.taken out.old) (O.taken out.new) (report_text (raw_rows bytes budget))) }
     ensures range { result ≡ DONE ⊎ result ≡ FAILED }

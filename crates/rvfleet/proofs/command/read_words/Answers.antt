@@ -1,5 +1,5 @@
-use Rattle.std.proofs.Common.{◌≡◌, ◌∙◌, ap, map, true}
-use Rattle.clap.specs.Words.{kind_of, takes}
+use Rattle.std.proofs.Common.{◌∙◌, ap, map}
+use Rattle.clap.specs.Words.{takes}
 use Rattle.rvfleet.specs.CommandLine.{is_taken}
 use Rattle.rvfleet.proofs.command.read_words.Goals as goal
 

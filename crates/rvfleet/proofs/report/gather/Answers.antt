@@ -1,5 +1,4 @@
-use Rattle.std.proofs.Common.{◌≡◌, ◌∙◌, ◌+◌, ◌++◌, ◌<◌, List, ap, sym, refl, arith, add-one, take, drop, suc, get_or}
-use Rattle.rvfleet.specs.declared.row.Row.{Row}
+use Rattle.std.proofs.Common.{◌∙◌, refl, arith, add-one, suc}
 use Rattle.rvfleet.specs.Report.{row_text, rows_text}
 use Rattle.rvfleet.proofs.Outgoing.{beginning_of_longer, failed_under_way, more_under_way, nothing_under_way, rows_more, rows_split, stopped_under_way}
 use Rattle.rvfleet.proofs.report.gather.Goals as goal
@@ -17,14 +16,14 @@ returns-in-Err-send_enough-clause-part g c =
     let rows = c.args.rows.now in
     let place = c.loop-place.place in
     beginning_of_longer _ _ _ _ _
-      (failed_under_way _ _ _ _ (row_text place c.index-rows-place.result) _ _ _ c.loop-place.invariant.under_way c.in-Ok.ensures c.in-Err-send_enough.ensures.part
-        (rw (← c.index-rows-place.is) at (rows_more 0 rows place place c.index-rows-place.result (omega arith) (omega arith))))
-      (rows_split 0 rows (suc place) (suc place) (omega arith))
+    (failed_under_way _ _ _ _ (row_text place c.index-rows-place.result) _ _ _ c.loop-place.invariant.under_way c.in-Ok.ensures c.in-Err-send_enough.ensures.part
+    (rw (← c.index-rows-place.is) at (rows_more 0 rows place place c.index-rows-place.result (omega arith) (omega arith))))
+    (rows_split 0 rows (suc place) (suc place) (omega arith))
 
 pub loop-place-preserved : goal.loop-place-preserved
 loop-place-preserved g c =
     let place = c.loop-place.place in record {
       under_way = rw add-one (more_under_way _ _ _ _ (row_text place c.index-rows-place.result) _ _ _ _ c.loop-place.invariant.under_way c.in-Ok.ensures c.in-Ok-send_enough.ensures.under_way
-        (rw (← c.index-rows-place.is) at (rows_more 0 c.args.rows.now place place c.index-rows-place.result (omega arith) (omega arith))));
+          (rw (← c.index-rows-place.is) at (rows_more 0 c.args.rows.now place place c.index-rows-place.result (omega arith) (omega arith))));
       counted = c.in-Ok-send_enough.ensures.counted ∙ c.loop-place.invariant.counted;
     }

@@ -1,4 +1,4 @@
-use Rattle.std.proofs.Common.{◌≤◌, ◌∙◌, ℕ, length, arith, length-take, length-drop}
+use Rattle.std.proofs.Common.{◌∙◌, ℕ, arith, length-take, length-drop}
 use Rattle.rvfleet.proofs.Outgoing.{first_bytes, next_taken}
 use Rattle.rvfleet.proofs.sink.put_all.Goals as goal
 
