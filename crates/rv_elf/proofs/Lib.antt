@@ -2,4 +2,5 @@ pub mod FirstRow
 pub mod Reading
 pub mod Sharing
 pub mod Placing
+pub mod NewBus
 pub mod Opening

@@ -13,6 +13,8 @@ mod header;
 mod image;
 mod loading;
 mod table;
+#[cfg(test)]
+mod tests;
 
 pub use error::ImageError;
 pub use image::{Image, Segment, Segments, read_image};

@@ -5,15 +5,24 @@ use Rattle.std.specs.Io.KnownBytes.{Appends, Keeps}
 use Rattle.rvfleet.specs.declared.row.Row.{Row}
 use Rattle.rvfleet.specs.declared.row.Verdict.{Verdict}
 use Rattle.rvfleet.specs.declared.row.Verdict.TheVariants as verdict
-use Rattle.rvfleet.specs.CommandLine.{Request, raw, request_of}
+use Rattle.rvfleet.specs.declared.store.Kept.{Kept}
+use Rattle.rvfleet.specs.CommandLine.{Request, one, raw}
+use Rattle.rvfleet.specs.One.{is_bad_one, one_rows, script_of}
 use Rattle.rvfleet.specs.Raw.{raw_rows}
 use Rattle.rvfleet.specs.Report.{report_text}
 use Rattle.rvfleet.specs.Sending.{AppendsBeginning}
 
--- the rows of what is asked for, where the input tells its bytes
-abbrev pub rows_of : Option Request → Option (List ℕ) → Option (List Row)
-rows_of (Some (raw budget)) (Some input) = Some (raw_rows input budget)
-rows_of _ _ = None
+-- nothing is asked for, or an image with a path or digits that are refused
+abbrev pub is_refused : Option Request → Bool
+is_refused (Some (raw budget)) = false
+is_refused (Some (one path budget digits)) = is_bad_one path digits
+is_refused None = true
+
+-- what is owed for the rows of a request: for those of the input, where it tells its bytes; for those of some answer that the store may give for the path
+abbrev pub ForRows : Option Request → Option (List ℕ) → (List ℕ → Kept → Type 0) → (List Row → Type 0) → Type 0
+ForRows (Some (raw budget)) input may_answer owed = IfSome input (λ bytes. owed (raw_rows bytes budget))
+ForRows (Some (one path budget digits)) input may_answer owed = (kept : Kept) × (may_answer path kept × owed (one_rows kept budget (script_of digits)))
+ForRows None input may_answer owed = Unit {0}
 
 abbrev pub is_fail : Verdict → Bool
 is_fail verdict.Unasked = false
@@ -29,8 +38,9 @@ pub record Reported (before after : Option (List ℕ)) (status : ℕ) (rows : Li
   pub appended : Appends before after (report_text rows)
   pub verdicts : status ≡ status_of rows
 
--- the answer to words that the command takes
-pub record Answers (words : List (List ℕ)) (input before after : Option (List ℕ)) (status : ℕ) : Type 0 where
-  pub reported : status ≡ 0 ⊎ status ≡ 1 → IfSome (rows_of (request_of words) input) (Reported before after status)
-  pub refused : status ≡ 2 → Keeps before after × (request_of words ≡ None)
-  pub failed : status ≡ 3 → IfSome (rows_of (request_of words) input) (λ rows. AppendsBeginning before after (report_text rows))
+-- the answer to words that the command takes, and that ask for this
+pub record Answers (request : Option Request) (input : Option (List ℕ)) (may_answer : List ℕ → Kept → Type 0) (before after : Option (List ℕ)) (status : ℕ) : Type 0 where
+  pub reported : status ≡ 0 ⊎ status ≡ 1 → ForRows request input may_answer (Reported before after status)
+  pub accepted : status ≡ 0 ⊎ status ≡ 1 → is_refused request ≡ false
+  pub refused : status ≡ 2 → Keeps before after × (is_refused request ≡ true)
+  pub failed : status ≡ 3 → Keeps before after ⊎ ForRows request input may_answer (λ rows. AppendsBeginning before after (report_text rows))

@@ -3,7 +3,7 @@ use Rattle.std.specs.Prelude.{◌^◌, ℕ, Bool, true, List, Option, Some, None
 use Rattle.std.specs.Str.{bytes_eq}
 use Rattle.std.specs.Str.Parse.{digits_value, without_leading_plus}
 use Rattle.clap.specs.ValueTests.{is_numeral}
-use Rattle.clap.specs.Words.{App, Row, Rule, Text, new_app, new_rule, one_of, subcommand_of, takes, with_rule, with_subcommand}
+use Rattle.clap.specs.Words.{App, Row, Rule, Text, first_of, new_app, new_rule, one_of, subcommand_of, takes, with_rule, with_subcommand}
 use Rattle.clap.specs.declared.builder.value_parser.ValueParser.TheVariants as value_parser
 
 -- --budget N, required: from 1 to 1,000,000,000
@@ -14,9 +14,21 @@ budget_rule = record (new_rule (codes "budget")) {
   parser = Some (value_parser.Signed (pos 1) (pos 1000000000));
 }
 
+-- IMAGE, required
+abbrev pub image_rule : Rule
+image_rule = record (new_rule (codes "image")) { required = true }
+
+-- --input-hex H
+abbrev pub input_rule : Rule
+input_rule = record (new_rule (codes "input-hex")) { long = Some (codes "input-hex") }
+
 -- raw --budget N
 abbrev pub raw_app : App
 raw_app = with_rule (new_app (codes "raw")) budget_rule
+
+-- one IMAGE --budget N [--input-hex H]
+abbrev pub one_app : App
+one_app = with_rule (with_rule (with_rule (new_app (codes "one")) image_rule) budget_rule) input_rule
 
 -- a subcommand is required, and none is called help
 abbrev pub top_app : App
@@ -25,11 +37,12 @@ top_app = let app = new_app (codes "rvfleet") in
 
 -- the whole command
 abbrev pub fleet_app : App
-fleet_app = with_subcommand top_app raw_app.top
+fleet_app = with_subcommand (with_subcommand top_app raw_app.top) one_app.top
 
 -- what words ask for
 pub data Request : Type 0 where
   raw : ℕ → Request
+  one : Text → ℕ → Option Text → Request
 
 -- a decimal number of 32 bits; a plus may stand before it
 abbrev pub number_of : Text → Option ℕ
@@ -43,9 +56,13 @@ number_in id rows = option_and_then number_of (one_of id rows)
 abbrev pub raw_in : List Row → Option Request
 raw_in rows = option_map raw (number_in (codes "budget") rows)
 
+abbrev pub one_in : List Row → Option Request
+one_in rows = option_and_then (λ path. option_map (λ budget. one path budget (first_of (codes "input-hex") rows)) (number_in (codes "budget") rows))
+    (first_of (codes "image") rows)
+
 -- what a subcommand with these values asks for
 abbrev pub request_in : Text → List Row → Option Request
-request_in name rows = if bytes_eq name (codes "raw") then raw_in rows else None
+request_in name rows = if bytes_eq name (codes "raw") then raw_in rows else (if bytes_eq name (codes "one") then one_in rows else None)
 
 -- the subcommand and the values are the matches that `clap` defines for the words
 abbrev pub request_of : List Text → Option Request

@@ -1,17 +1,12 @@
 -- The row of a flat image: bytes without a header, for the default map.
-use Rattle.std.specs.Prelude.{ℕ, true, List, [], ◌∷◌, length, None, codes, nat_lt, if◌then◌else◌}
+use Rattle.std.specs.Prelude.{ℕ, true, List, [], ◌∷◌, length, codes, nat_lt, if◌then◌else◌}
 use Rattle.rv_memory.specs.declared.map.Region.{Region}
 use Rattle.rv_memory.specs.Bus.{Contents, opened, placed}
-use Rattle.rv_machine.specs.declared.ending.Ending.{Ending}
-use Rattle.rv_machine.specs.declared.ending.Ending.TheVariants as machine
-use Rattle.rv_machine.specs.Run.{Ran, run_of}
+use Rattle.rv_machine.specs.Run.{run_of}
 use Rattle.rv_machine.specs.State.{State, at_reset}
-use Rattle.rvfleet.specs.declared.row.Refusal.{Refusal}
 use Rattle.rvfleet.specs.declared.row.Refusal.TheVariants as refusal
 use Rattle.rvfleet.specs.declared.row.Row.{Row}
-use Rattle.rvfleet.specs.declared.row.RowEnd.{RowEnd}
-use Rattle.rvfleet.specs.declared.row.RowEnd.TheVariants as ending
-use Rattle.rvfleet.specs.declared.row.Verdict.TheVariants as verdict
+use Rattle.rvfleet.specs.Outcome.{refused_row, row_of}
 
 -- the default map: one region, which may be written
 abbrev pub default_regions : List Region
@@ -29,33 +24,11 @@ flat_contents bytes = placed (opened default_regions []) 0x8000_0000 bytes
 abbrev pub flat_state : List ℕ → State
 flat_state bytes = at_reset (flat_contents bytes) 0x8000_0000
 
-abbrev pub end_of : Ending → RowEnd
-end_of (machine.Exit code) = ending.Exit code
-end_of (machine.Fault kind pc value) = ending.Fault kind pc value
-end_of machine.Budget = ending.Budget
-
--- a refused row has no steps and no console bytes
-abbrev pub refused_row : Refusal → Row
-refused_row why = record {
-  name = codes "raw";
-  ending = ending.Refused why;
-  steps = 0;
-  console = [];
-  signature = None;
-  verdict = verdict.Unasked;
-}
-
-abbrev pub row_of : Ran → Row
-row_of ran = record {
-  name = codes "raw";
-  ending = end_of ran.ending;
-  steps = ran.steps;
-  console = ran.state.bus.output;
-  signature = None;
-  verdict = verdict.Unasked;
-}
+-- the name of each flat image's row
+abbrev pub flat_name : List ℕ
+flat_name = codes "raw"
 
 -- the row of these bytes within a budget of steps
 unfoldable pub flat_row_of : List ℕ → ℕ → Row
 flat_row_of bytes budget =
-    if nat_lt image_room (length bytes) then refused_row refusal.ImageTooLong else row_of (run_of budget (flat_state bytes))
+    if nat_lt image_room (length bytes) then refused_row flat_name refusal.ImageTooLong else row_of flat_name (run_of budget (flat_state bytes))

@@ -1,7 +1,11 @@
 pub mod Answers
 pub mod CommandLine
+pub mod ElfImages
 pub mod Flat
+pub mod One
+pub mod Outcome
 pub mod Raw
 pub mod Report
 pub mod Requests
 pub mod Sending
+pub mod Stores

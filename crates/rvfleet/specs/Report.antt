@@ -4,6 +4,8 @@ use Rattle.std.specs.Int.{w32, to_be_bytes}
 use Rattle.std.specs.List.{flat_map}
 use Rattle.std.specs.Fmt.{decimal}
 use Rattle.hex.specs.Hex.{encode_lower}
+use Rattle.rv_elf.specs.declared.error.ImageError.{ImageError}
+use Rattle.rv_elf.specs.declared.error.ImageError.TheVariants as image
 use Rattle.rv_machine.specs.declared.ending.FaultKind.{FaultKind}
 use Rattle.rv_machine.specs.declared.ending.FaultKind.TheVariants as fault
 use Rattle.rvfleet.specs.declared.row.Refusal.{Refusal}
@@ -34,8 +36,29 @@ fault_name fault.StoreAccess = codes "store-access"
 fault_name fault.ConsoleFull = codes "console-full"
 fault_name fault.UnknownCall = codes "unknown-call"
 
+-- no row has the last
+abbrev pub image_error_name : ImageError → List ℕ
+image_error_name image.ShortHeader = codes "short-header"
+image_error_name image.BadMagic = codes "bad-magic"
+image_error_name image.Not32Bit = codes "not-32-bit"
+image_error_name image.NotLittleEndian = codes "not-little-endian"
+image_error_name image.BadVersion = codes "bad-version"
+image_error_name image.NotExecutable = codes "not-executable"
+image_error_name image.NotRiscv = codes "not-riscv"
+image_error_name image.ProgramTable = codes "program-table"
+image_error_name image.Dynamic = codes "dynamic"
+image_error_name image.SegmentSizes = codes "segment-sizes"
+image_error_name image.SegmentFile = codes "segment-file"
+image_error_name image.NoSegment = codes "no-segment"
+image_error_name image.EntryOdd = codes "entry-odd"
+image_error_name image.SegmentMap = codes "segment-map"
+image_error_name image.SegmentOverlap = codes "segment-overlap"
+image_error_name image.OutOfMemory = codes "out-of-memory"
+
 abbrev pub refusal_name : Refusal → List ℕ
+refusal_name refusal.ImageUnreadable = codes "image-unreadable"
 refusal_name refusal.ImageTooLong = codes "image-too-long"
+refusal_name (refusal.Image why) = image_error_name why
 
 -- how the run ended
 unfoldable pub end_line : RowEnd → List ℕ

@@ -1,12 +1,12 @@
 //! The row of a flat image.
 
 ghost use Rattle.std.specs.Prelude.{◌≡◌, ◌≤◌, IfOk, length};
-ghost use Rattle.rv_machine.specs.Run.{run_of};
 ghost use Rattle.rv_machine.specs.State.{state_of};
-ghost use Rattle.rvfleet.specs.Flat.{end_of, flat_row_of, flat_state, image_room, refused_row, row_of};
+ghost use Rattle.rvfleet.specs.Flat.{flat_row_of, flat_state, image_room};
 
-use crate::row::{Bytes, Name, Refusal, Row, RowEnd, Verdict};
-use rv_machine::{Ending, Machine};
+use crate::outcome::{refused_row, run_row};
+use crate::row::{Refusal, Row};
+use rv_machine::Machine;
 use rv_memory::{Bus, Map};
 use std::alloc::{AllocError, Global};
 
@@ -23,40 +23,10 @@ pub fn flat_row(alloc: Global, bytes: &[u8], budget: u32) -> Result<Row, AllocEr
     ensures { IfOk result (λ row. row ≡ flat_row_of bytes.now budget) }
 {
     if IMAGE_ROOM < bytes.len() {
-        refused(alloc, Refusal::ImageTooLong)
+        refused_row(alloc, "raw", Refusal::ImageTooLong)
     } else {
-        run(alloc, bytes, budget)
+        run_row(alloc, "raw", flat_machine(alloc, bytes)?, budget)
     }
-}
-
-fn refused(alloc: Global, why: Refusal) -> Result<Row, AllocError>
-    ensures { IfOk result (λ row. row ≡ refused_row why) }
-{
-    Ok(Row {
-        name: Name::new(String::from_str(alloc, "raw")?),
-        ending: RowEnd::Refused(why),
-        steps: 0,
-        console: Bytes::new(Vec::new(alloc)),
-        signature: None,
-        verdict: Verdict::Unasked,
-    })
-}
-
-fn run(alloc: Global, bytes: &[u8], budget: u32) -> Result<Row, AllocError>
-    requires { length bytes.now ≤ image_room }
-    ensures { IfOk result (λ row. row ≡ row_of (run_of budget (flat_state bytes.now))) }
-{
-    let mut machine = flat_machine(alloc, bytes)?;
-    let outcome = machine.run(budget);
-    let console = machine.bus().console().to_vec(alloc)?;
-    Ok(Row {
-        name: Name::new(String::from_str(alloc, "raw")?),
-        ending: row_end(outcome.ending),
-        steps: outcome.steps,
-        console: Bytes::new(console),
-        signature: None,
-        verdict: Verdict::Unasked,
-    })
 }
 
 fn flat_machine(alloc: Global, bytes: &[u8]) -> Result<Machine, AllocError>
@@ -66,14 +36,4 @@ fn flat_machine(alloc: Global, bytes: &[u8]) -> Result<Machine, AllocError>
     let mut bus = Bus::new(alloc, Map::default_map(), Vec::new(alloc))?;
     bus.place(ENTRY, bytes);
     Machine::new(alloc, bus, ENTRY)
-}
-
-fn row_end(ending: Ending) -> RowEnd
-    ensures { result ≡ end_of ending }
-{
-    match ending {
-        Ending::Exit(code) => RowEnd::Exit(code),
-        Ending::Fault(kind, pc, value) => RowEnd::Fault(kind, pc, value),
-        Ending::Budget => RowEnd::Budget,
-    }
 }

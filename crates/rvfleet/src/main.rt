@@ -1,25 +1,30 @@
-//! `rvfleet` runs RV32IMC firmware images and reports how each run ended.
-//!
-//! `rvfleet raw --budget N` runs the flat image on standard input, at most N steps, and prints its
-//! report. The program is [`run_words`] over the process's words, its reader and two sinks: where
-//! it answers 0 to words that the command takes, the report that went out is the one that the
-//! instruction definitions give the input; where it answers 3, a beginning of that report went
-//! out, or nothing. What a stream outside takes of it is not known to any contract.
+//! The program.
 #![tactic(auto)]
 
 mod command;
+mod files;
+#[cfg(test)]
+mod firmware;
 mod flat;
+mod image;
+mod one;
+mod outcome;
 mod raw;
 mod report;
 mod row;
 mod sink;
+mod store;
 #[cfg(test)]
 mod tests;
 mod words;
 
 pub use command::{Asked, read_words};
+pub use files::FileStore;
 pub use flat::flat_row;
-pub use raw::{RunError, run_raw};
+pub use image::image_row;
+pub use one::{ScriptError, is_bad_path, read_script, run_one};
+pub use outcome::{refused_row, run_row};
+pub use raw::{RunError, read_limited, run_raw};
 pub use report::{WriteError, write_report};
 pub use row::{Bytes, Name, Refusal, Report, Row, RowEnd, Rows, Verdict, Words};
 pub use sink::{Sink, SinkFailed, StreamSink, put_all};
@@ -28,6 +33,7 @@ use std::env;
 use std::env::Env;
 use std::io::{self, ErrorKind};
 use std::process::ExitCode;
+pub use store::{Kept, ReadError, Store, keep};
 pub use words::run_words;
 use words::{failed, refused};
 
@@ -61,9 +67,17 @@ fn status<F: Sink>(rt: &HostRuntime, texts: &[String], faults: &mut F) -> u8 {
     let Ok(words) = words_of(rt.alloc(), texts) else {
         return failed(faults, RunError::OutOfMemory);
     };
+    let mut store = FileStore::new(rt);
     let mut input = rt.reader();
     let mut out = StreamSink::new(rt.stdout());
-    run_words(rt.alloc(), words.as_slice(), &mut input, &mut out, faults)
+    run_words(
+        rt.alloc(),
+        words.as_slice(),
+        &mut store,
+        &mut input,
+        &mut out,
+        faults,
+    )
 }
 
 fn words_of(alloc: Global, texts: &[String]) -> Result<Vec<&str>, std::alloc::AllocError> {

@@ -1,8 +1,8 @@
 //! A flat image from a reader.
 
-ghost use Rattle.std.specs.Prelude.{◌≡◌, ◌≢◌, ◌<◌, [], ◌∷◌, IfErr, IfOk, IfSome, OnErr, OnOk, take, vec_len};
+ghost use Rattle.std.specs.Prelude.{◌≡◌, ◌≢◌, ◌≤◌, ◌<◌, [], ◌∷◌, IfErr, IfOk, IfSome, OnErr, OnOk, length, take, vec_len};
 ghost use Rattle.std.specs.Io.KnownBytes.{Appends, Keeps};
-ghost use Rattle.rvfleet.specs.Raw.{GrowsByRead, most_read, raw_rows};
+ghost use Rattle.rvfleet.specs.Raw.{GrowsByRead, raw_rows};
 ghost use Rattle.rvfleet.specs.Flat.{flat_row_of};
 ghost use Rattle.rvfleet.specs.Report.{report_text};
 ghost use Rattle.rvfleet.specs.Sending.{AppendsBeginning, Rose};
@@ -47,7 +47,7 @@ pub fn run_raw<R: Read, O: Sink>(
     ensures part { OnErr result (IfSome (R.remaining input.old) (λ bytes. AppendsBeginning (O.taken out.old) (O.taken out.new) (report_text (raw_rows bytes budget)))) }
     ensures failed { IfErr result (λ error. error ≡ RunError.WriteFailed → Rose (O.failed out.old) (O.failed out.new)) }
 {
-    let bytes = match read_limited(alloc, input) {
+    let bytes = match read_limited(alloc, input, MOST_READ) {
         Ok(bytes) => bytes,
         Err(error) => return Err(error),
     };
@@ -58,14 +58,16 @@ pub fn run_raw<R: Read, O: Sink>(
     Ok(())
 }
 
-// The reader's bytes to its end, or the first of them where there are more.
-fn read_limited<R: Read>(alloc: Global, input: &mut R) -> Result<Vec<u8>, RunError>
-    ensures value { IfOk result (λ bytes. IfSome (R.remaining input.old) (λ known. bytes.items ≡ take most_read known)) }
+/// The reader's bytes to its end, or the first `most` of them where there are more. An error is
+/// ReadFailed or OutOfMemory.
+pub fn read_limited<R: Read>(alloc: Global, input: &mut R, most: usize) -> Result<Vec<u8>, RunError>
+    ensures value { IfOk result (λ bytes. IfSome (R.remaining input.old) (λ known. bytes.items ≡ take most known)) }
+    ensures within { IfOk result (λ bytes. length bytes.items ≤ most) }
     ensures unwritten { IfErr result (λ error. error ≢ RunError.WriteFailed) }
 {
     let mut bytes = Vec::new(alloc);
-    'reading: while bytes.len() < MOST_READ {
-        match read_more(input, &mut bytes) {
+    'reading: while bytes.len() < most {
+        match read_more(input, &mut bytes, most) {
             Ok(0) => return Ok(bytes),
             Ok(_) => {}
             Err(error) => return Err(error),
@@ -75,14 +77,14 @@ fn read_limited<R: Read>(alloc: Global, input: &mut R) -> Result<Vec<u8>, RunErr
 }
 
 // One read, into a buffer of its own: so a growth that is refused is told from a read that fails.
-fn read_more<R: Read>(input: &mut R, bytes: &mut Vec<u8>) -> Result<usize, RunError>
-    requires { vec_len bytes.old < most_read }
-    ensures grows { IfOk result (GrowsByRead (R.remaining input.old) (R.remaining input.new) bytes.old.items bytes.new.items) }
+fn read_more<R: Read>(input: &mut R, bytes: &mut Vec<u8>, most: usize) -> Result<usize, RunError>
+    requires { vec_len bytes.old < most }
+    ensures grows { IfOk result (GrowsByRead most (R.remaining input.old) (R.remaining input.new) bytes.old.items bytes.new.items) }
     ensures unwritten { IfErr result (λ error. error ≢ RunError.WriteFailed) }
 {
     let mut chunk = [0u8; CHUNK];
-    let most = (MOST_READ - bytes.len()).min(CHUNK);
-    let count = match input.read(&mut chunk[..most]) {
+    let room = (most - bytes.len()).min(CHUNK);
+    let count = match input.read(&mut chunk[..room]) {
         Ok(count) => count,
         Err(_) => return Err(RunError::ReadFailed),
     };

@@ -3,11 +3,12 @@
 ghost use Rattle.std.specs.Prelude.{◌≡◌, ◌++◌, ◌+◌, ◌<◌, ◌^◌, ◌-◌, [], OnOk, OnErr, IfErr, map, option_map, string_bytes};
 ghost use Rattle.std.specs.List.{flat_map};
 ghost use Rattle.std.specs.Io.KnownBytes.{Appends};
-ghost use Rattle.rvfleet.specs.Report.{fault_name, refusal_name, verdict_name, word_digits, word_line, end_line, or_dash, console_line, signature_lines, row_text, rows_text, done_line, report_text};
+ghost use Rattle.rvfleet.specs.Report.{fault_name, image_error_name, refusal_name, verdict_name, word_digits, word_line, end_line, or_dash, console_line, signature_lines, row_text, rows_text, done_line, report_text};
 ghost use Rattle.rvfleet.specs.Sending.{AppendsBeginning, IsUnderWay, Rose, one_more};
 
 use crate::row::{Refusal, Report, Row, RowEnd, Verdict};
 use crate::sink::{Sink, put_all};
+use rv_elf::ImageError;
 use rv_machine::FaultKind;
 use std::alloc::{AllocError, Global};
 use thiserror::Error;
@@ -232,7 +233,32 @@ fn refusal_text(refusal: Refusal) -> &'static str
     ensures { result.now ≡ refusal_name refusal }
 {
     match refusal {
+        Refusal::ImageUnreadable => "image-unreadable",
         Refusal::ImageTooLong => "image-too-long",
+        Refusal::Image(error) => image_error_text(error),
+    }
+}
+
+fn image_error_text(error: ImageError) -> &'static str
+    ensures { result.now ≡ image_error_name error }
+{
+    match error {
+        ImageError::ShortHeader => "short-header",
+        ImageError::BadMagic => "bad-magic",
+        ImageError::Not32Bit => "not-32-bit",
+        ImageError::NotLittleEndian => "not-little-endian",
+        ImageError::BadVersion => "bad-version",
+        ImageError::NotExecutable => "not-executable",
+        ImageError::NotRiscv => "not-riscv",
+        ImageError::ProgramTable => "program-table",
+        ImageError::Dynamic => "dynamic",
+        ImageError::SegmentSizes => "segment-sizes",
+        ImageError::SegmentFile => "segment-file",
+        ImageError::NoSegment => "no-segment",
+        ImageError::EntryOdd => "entry-odd",
+        ImageError::SegmentMap => "segment-map",
+        ImageError::SegmentOverlap => "segment-overlap",
+        ImageError::OutOfMemory => "out-of-memory",
     }
 }
 

@@ -2,6 +2,7 @@
 
 ghost use Rattle.std.specs.Prelude.{◌≡◌, string_bytes};
 
+use rv_elf::ImageError;
 use rv_machine::FaultKind;
 use std::marker::Model;
 
@@ -116,8 +117,13 @@ impl Words {
 /// Why a job didn't run.
 #[derive(Clone, Copy, Debug, PartialEq, Eq)]
 pub enum Refusal {
-    /// The image has more bytes than its place in memory.
+    /// The image's file wasn't read.
+    ImageUnreadable,
+    /// A flat image has more bytes than its place in memory, or the image's file more than
+    /// 16,777,216.
     ImageTooLong,
+    /// The file is no image, or the image doesn't fit the map. No row has OutOfMemory here.
+    Image(ImageError),
 }
 
 /// How the run of a job ended.

@@ -1,17 +1,22 @@
 //! The whole program, over a reader and sinks.
 
-ghost use Rattle.std.specs.Prelude.{◌≡◌, ◌⊎◌, ◌≤◌, IfSome, map, true};
+ghost use Rattle.std.specs.Prelude.{◌≡◌, ◌⊎◌, ◌≤◌, IfSome, map, option_map, true, false};
 ghost use Rattle.std.specs.Io.KnownBytes.{Keeps};
 ghost use Rattle.clap.specs.Words.{kind_of};
 ghost use Rattle.rvfleet.specs.Answers.{Answers, Reported};
-ghost use Rattle.rvfleet.specs.CommandLine.{is_taken};
+ghost use Rattle.rvfleet.specs.declared.store.Kept.{Kept};
+ghost use Rattle.rvfleet.specs.CommandLine.{is_taken, one, request_of};
+ghost use Rattle.rvfleet.specs.One.{is_bad_one, one_rows, script_of};
 ghost use Rattle.rvfleet.specs.Raw.{raw_rows};
 ghost use Rattle.rvfleet.specs.Report.{report_text};
 ghost use Rattle.rvfleet.specs.Sending.{AppendsBeginning};
+ghost use Rattle.rvfleet.specs.Stores.{MayAnswer};
 
 use crate::command::{Asked, read_words};
+use crate::one::{ScriptError, is_bad_path, read_script, run_one};
 use crate::raw::{RunError, run_raw};
 use crate::sink::{Sink, put_all};
+use crate::store::Store;
 use clap::Error;
 use clap::error::ErrorKind;
 use std::alloc::Global;
@@ -27,19 +32,30 @@ const FAILED: u8 = 3;
 /// where a report or help went out, 2 for words refused, 3 for want of memory, a failed read or a
 /// failed write. A line on `faults` tells why a status is 2 or 3; where that line fails nothing
 /// changes.
-pub fn run_words<'a, R: Read, O: Sink, F: Sink>(
+pub fn run_words<'a, S: Store, R: Read, O: Sink, F: Sink>(
     alloc: Global,
     words: &'a [&'a str],
+    store: &mut S,
     input: &mut R,
     out: &mut O,
     faults: &mut F,
 ) -> u8
     ensures answers { is_taken (map (λ word. word.now) words.entry.now) ≡ true
-        → Answers (map (λ word. word.now) words.entry.now) (R.remaining input.old) (O.taken out.old) (O.taken out.new) result }
+        → Answers (request_of (map (λ word. word.now) words.entry.now)) (R.remaining input.old)
+        (MayAnswer (S.contents store.old) (S.faulted store.old) (S.faulted store.new)) (O.taken out.old) (O.taken out.new) result }
     ensures range { result ≤ FAILED }
 {
     match read_words(alloc, words) {
         Ok(Some(Asked::Raw { budget })) => raw_status(alloc, budget, input, out, faults),
+        Ok(
+            Some(
+                Asked::One {
+                    image,
+                    budget,
+                    input_hex,
+                },
+            ),
+        ) => one_status(alloc, image, budget, input_hex, store, out, faults),
         Ok(None) => refused(faults),
         Err(error) => error_status(alloc, &error, out, faults),
     }
@@ -57,6 +73,34 @@ fn raw_status<R: Read, O: Sink, F: Sink>(
     ensures range { result ≡ DONE ⊎ result ≡ FAILED }
 {
     match run_raw(alloc, input, out, budget) {
+        Ok(()) => DONE,
+        Err(error) => failed(faults, error),
+    }
+}
+
+// Both the path and the digits are asked before the store is read.
+fn one_status<S: Store, O: Sink, F: Sink>(
+    alloc: Global,
+    image: &str,
+    budget: u32,
+    input_hex: Option<&str>,
+    store: &mut S,
+    out: &mut O,
+    faults: &mut F,
+) -> u8
+    ensures answers { Answers (Some (one image.now budget (option_map (λ text. text.now) input_hex.entry))) None
+        (MayAnswer (S.contents store.old) (S.faulted store.old) (S.faulted store.new)) (O.taken out.old) (O.taken out.new) result }
+    ensures range { result ≤ FAILED }
+{
+    if is_bad_path(image) {
+        return refused(faults);
+    }
+    let script = match read_script(alloc, input_hex) {
+        Ok(script) => script,
+        Err(ScriptError::Refused) => return refused(faults),
+        Err(ScriptError::OutOfMemory) => return failed(faults, RunError::OutOfMemory),
+    };
+    match run_one(alloc, store, image, budget, script, out) {
         Ok(()) => DONE,
         Err(error) => failed(faults, error),
     }

@@ -4,9 +4,9 @@ use Rattle.rvfleet.proofs.raw.read_limited.Given as goal
 
 abbrev pub invariant-reading : goal.invariant-reading
 invariant-reading g l = record {
-  room : length l.bytes.items ≤ 1048577;
+  room : length l.bytes.items ≤ l.most;
   read : Consumes (g.R.Read.remaining l.initial.input) (g.R.Read.remaining l.input) l.bytes.items;
 }
 
 abbrev pub decreases-reading : goal.decreases-reading
-decreases-reading g l = 1048577 - length l.bytes.items
+decreases-reading g l = l.most - length l.bytes.items

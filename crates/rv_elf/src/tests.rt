@@ -1,0 +1,522 @@
+use crate::{ImageError, LoadAt, Segment, Segments, check_map, load, read_image};
+use rv_memory::{Bus, Map, Region, Width};
+use std::alloc::Global;
+use std::process::Abort;
+use std::test::Fail;
+
+/// One segment of three instructions at `0x8000_0000`.
+const ONE_SEGMENT: [u8; 96] = [
+    0x7f, 0x45, 0x4c, 0x46, 0x01, 0x01, 0x01, 0x00, 0x00, 0x00, 0x00, 0x00, 0x00, 0x00, 0x00, 0x00,
+    0x02, 0x00, 0xf3, 0x00, 0x01, 0x00, 0x00, 0x00, 0x00, 0x00, 0x00, 0x80, 0x34, 0x00, 0x00, 0x00,
+    0x00, 0x00, 0x00, 0x00, 0x00, 0x00, 0x00, 0x00, 0x34, 0x00, 0x20, 0x00, 0x01, 0x00, 0x28, 0x00,
+    0x00, 0x00, 0x00, 0x00, 0x01, 0x00, 0x00, 0x00, 0x54, 0x00, 0x00, 0x00, 0x00, 0x00, 0x00, 0x80,
+    0x00, 0x00, 0x00, 0x80, 0x0c, 0x00, 0x00, 0x00, 0x0c, 0x00, 0x00, 0x00, 0x07, 0x00, 0x00, 0x00,
+    0x04, 0x00, 0x00, 0x00, 0x13, 0x05, 0x50, 0x00, 0x93, 0x08, 0xd0, 0x05, 0x73, 0x00, 0x00, 0x00,
+];
+
+/// Two segments: the second has a word, with vaddr `0x8000_0100` and paddr `0x8000_0200`.
+const TWO_SEGMENTS: [u8; 136] = [
+    0x7f, 0x45, 0x4c, 0x46, 0x01, 0x01, 0x01, 0x00, 0x00, 0x00, 0x00, 0x00, 0x00, 0x00, 0x00, 0x00,
+    0x02, 0x00, 0xf3, 0x00, 0x01, 0x00, 0x00, 0x00, 0x00, 0x00, 0x00, 0x80, 0x34, 0x00, 0x00, 0x00,
+    0x00, 0x00, 0x00, 0x00, 0x00, 0x00, 0x00, 0x00, 0x34, 0x00, 0x20, 0x00, 0x02, 0x00, 0x28, 0x00,
+    0x00, 0x00, 0x00, 0x00, 0x01, 0x00, 0x00, 0x00, 0x74, 0x00, 0x00, 0x00, 0x00, 0x00, 0x00, 0x80,
+    0x00, 0x00, 0x00, 0x80, 0x10, 0x00, 0x00, 0x00, 0x10, 0x00, 0x00, 0x00, 0x05, 0x00, 0x00, 0x00,
+    0x04, 0x00, 0x00, 0x00, 0x01, 0x00, 0x00, 0x00, 0x84, 0x00, 0x00, 0x00, 0x00, 0x01, 0x00, 0x80,
+    0x00, 0x02, 0x00, 0x80, 0x04, 0x00, 0x00, 0x00, 0x04, 0x00, 0x00, 0x00, 0x06, 0x00, 0x00, 0x00,
+    0x04, 0x00, 0x00, 0x00, 0x97, 0x02, 0x00, 0x00, 0x03, 0xa5, 0x02, 0x10, 0x93, 0x08, 0xd0, 0x05,
+    0x73, 0x00, 0x00, 0x00, 0x2a, 0x00, 0x00, 0x00,
+];
+
+const HALF_ZERO: &[u8] = &[0, 0];
+
+const HALF_MOST: &[u8] = &[0xff, 0xff];
+
+const WORD_ZERO: &[u8] = &[0, 0, 0, 0];
+
+const WORD_MOST: &[u8] = &[0xff, 0xff, 0xff, 0xff];
+
+const MEMORY: Region = Region {
+    base: 0x8000_0000,
+    size: 0x10_0000,
+    writable: true,
+};
+
+/// A file with the bytes of a field in place of its own.
+fn set(
+    rt: &impl Abort,
+    alloc: Global,
+    file: &[u8],
+    at: usize,
+    field: &[u8],
+) -> Result<Vec<u8>, Fail> {
+    let mut changed = file.to_vec(alloc)?;
+    assert!(rt; at <= file.len() && field.len() <= file.len() - at);
+    changed[at..at + field.len()].copy_from_slice(field);
+    Ok(changed)
+}
+
+fn refusal(alloc: Global, file: &[u8]) -> Option<ImageError> {
+    read_image(alloc, file).err()
+}
+
+#[test]
+fn images(rt: HostRuntime) -> Result<(), Fail> {
+    let alloc = rt.alloc();
+    let one = read_image(alloc, &ONE_SEGMENT)?;
+    assert_eq!(&rt; one.entry, 0x8000_0000);
+    let code = Segment {
+        offset: 84,
+        vaddr: 0x8000_0000,
+        paddr: 0x8000_0000,
+        filesz: 12,
+        memsz: 12,
+    };
+    assert_eq!(&rt; one.segments.as_slice(), [code].as_slice());
+    let two = read_image(alloc, &TWO_SEGMENTS)?;
+    assert_eq!(&rt; two.entry, 0x8000_0000);
+    let code = Segment {
+        offset: 116,
+        filesz: 16,
+        memsz: 16,
+        ..code
+    };
+    let word = Segment {
+        offset: 132,
+        vaddr: 0x8000_0100,
+        paddr: 0x8000_0200,
+        filesz: 4,
+        memsz: 4,
+    };
+    assert_eq!(&rt; two.segments.as_slice(), [code, word].as_slice());
+    let segments = two.segments.into_vec();
+    assert_eq!(&rt; segments.len(), 2);
+    let again = Segments::from_vec(segments);
+    assert_eq!(&rt; again.as_slice(), [code, word].as_slice());
+    Ok(())
+}
+
+#[test]
+fn cut_files(rt: HostRuntime) {
+    let rows = [
+        (0, Some(ImageError::ShortHeader)),
+        (51, Some(ImageError::ShortHeader)),
+        (52, Some(ImageError::ProgramTable)),
+        (83, Some(ImageError::ProgramTable)),
+        (84, Some(ImageError::SegmentFile)),
+        (95, Some(ImageError::SegmentFile)),
+        (96, None),
+    ];
+    for (count, error) in rows {
+        let cut = ONE_SEGMENT.get(..count).unwrap_or(&[]);
+        assert_eq!(&rt; refusal(rt.alloc(), cut), error, "{count} bytes");
+    }
+}
+
+#[test]
+fn fields(rt: HostRuntime) -> Result<(), Fail> {
+    let alloc = rt.alloc();
+    let rows: [(&str, usize, &[u8], Option<ImageError>); 56] = [
+        ("magic 0", 0, &[0], Some(ImageError::BadMagic)),
+        ("magic 0 most", 0, &[0xff], Some(ImageError::BadMagic)),
+        ("magic 1", 1, &[0], Some(ImageError::BadMagic)),
+        ("magic 1 most", 1, &[0xff], Some(ImageError::BadMagic)),
+        ("magic 2", 2, &[0], Some(ImageError::BadMagic)),
+        ("magic 2 most", 2, &[0xff], Some(ImageError::BadMagic)),
+        ("magic 3", 3, &[0], Some(ImageError::BadMagic)),
+        ("magic 3 most", 3, &[0xff], Some(ImageError::BadMagic)),
+        ("class", 4, &[0], Some(ImageError::Not32Bit)),
+        ("class 64", 4, &[2], Some(ImageError::Not32Bit)),
+        ("class most", 4, &[0xff], Some(ImageError::Not32Bit)),
+        ("data", 5, &[0], Some(ImageError::NotLittleEndian)),
+        ("data big", 5, &[2], Some(ImageError::NotLittleEndian)),
+        ("data most", 5, &[0xff], Some(ImageError::NotLittleEndian)),
+        ("version", 6, &[0], Some(ImageError::BadVersion)),
+        ("version most", 6, &[0xff], Some(ImageError::BadVersion)),
+        ("e_version", 20, WORD_ZERO, Some(ImageError::BadVersion)),
+        (
+            "e_version most",
+            20,
+            WORD_MOST,
+            Some(ImageError::BadVersion),
+        ),
+        ("e_type", 16, HALF_ZERO, Some(ImageError::NotExecutable)),
+        (
+            "e_type shared",
+            16,
+            &[3, 0],
+            Some(ImageError::NotExecutable),
+        ),
+        (
+            "e_type most",
+            16,
+            HALF_MOST,
+            Some(ImageError::NotExecutable),
+        ),
+        ("e_machine", 18, HALF_ZERO, Some(ImageError::NotRiscv)),
+        ("e_machine most", 18, HALF_MOST, Some(ImageError::NotRiscv)),
+        ("e_entry", 24, WORD_ZERO, None),
+        ("e_entry most", 24, WORD_MOST, Some(ImageError::EntryOdd)),
+        ("e_phoff", 28, WORD_ZERO, Some(ImageError::NoSegment)),
+        (
+            "e_phoff one on",
+            28,
+            &[0x41, 0, 0, 0],
+            Some(ImageError::ProgramTable),
+        ),
+        (
+            "e_phoff most",
+            28,
+            WORD_MOST,
+            Some(ImageError::ProgramTable),
+        ),
+        ("e_shoff", 32, WORD_ZERO, None),
+        ("e_shoff most", 32, WORD_MOST, None),
+        ("e_flags", 36, WORD_ZERO, None),
+        ("e_flags most", 36, WORD_MOST, None),
+        ("e_ehsize", 40, HALF_ZERO, None),
+        ("e_ehsize most", 40, HALF_MOST, None),
+        ("e_phentsize", 42, HALF_ZERO, Some(ImageError::ProgramTable)),
+        (
+            "e_phentsize most",
+            42,
+            HALF_MOST,
+            Some(ImageError::ProgramTable),
+        ),
+        ("e_phnum", 44, HALF_ZERO, Some(ImageError::NoSegment)),
+        (
+            "e_phnum most",
+            44,
+            HALF_MOST,
+            Some(ImageError::ProgramTable),
+        ),
+        ("sections", 46, &[0, 0, 0, 0, 0, 0], None),
+        (
+            "sections most",
+            46,
+            &[0xff, 0xff, 0xff, 0xff, 0xff, 0xff],
+            None,
+        ),
+        ("type", 52, WORD_ZERO, Some(ImageError::NoSegment)),
+        ("type dynamic", 52, &[2, 0, 0, 0], Some(ImageError::Dynamic)),
+        (
+            "type interpreter",
+            52,
+            &[3, 0, 0, 0],
+            Some(ImageError::Dynamic),
+        ),
+        (
+            "type of the table",
+            52,
+            &[6, 0, 0, 0],
+            Some(ImageError::NoSegment),
+        ),
+        ("type most", 52, WORD_MOST, Some(ImageError::NoSegment)),
+        ("offset", 56, WORD_ZERO, None),
+        (
+            "offset one on",
+            56,
+            &[85, 0, 0, 0],
+            Some(ImageError::SegmentFile),
+        ),
+        ("offset most", 56, WORD_MOST, Some(ImageError::SegmentFile)),
+        ("vaddr most", 60, WORD_MOST, None),
+        ("paddr most", 64, WORD_MOST, None),
+        ("filesz", 68, WORD_ZERO, None),
+        ("filesz most", 68, WORD_MOST, Some(ImageError::SegmentSizes)),
+        ("memsz", 72, WORD_ZERO, Some(ImageError::SegmentSizes)),
+        ("memsz most", 72, WORD_MOST, None),
+        ("flags and alignment", 76, &[0, 0, 0, 0, 0, 0, 0, 0], None),
+        ("flags most", 76, WORD_MOST, None),
+    ];
+    for (label, at, field, error) in rows {
+        let file = set(&rt, alloc, &ONE_SEGMENT, at, field)?;
+        assert_eq!(&rt; refusal(alloc, &file), error, "{label}");
+    }
+    Ok(())
+}
+
+#[test]
+fn first_of_two(rt: HostRuntime) -> Result<(), Fail> {
+    let alloc = rt.alloc();
+    let rows: [(&str, usize, &[u8], usize, &[u8], Option<ImageError>); 8] = [
+        (
+            "class and magic",
+            4,
+            &[0],
+            0,
+            &[0],
+            Some(ImageError::BadMagic),
+        ),
+        (
+            "machine and type",
+            18,
+            HALF_ZERO,
+            16,
+            HALF_ZERO,
+            Some(ImageError::NotExecutable),
+        ),
+        (
+            "sizes of the first, and a dynamic second",
+            72,
+            WORD_ZERO,
+            84,
+            &[2, 0, 0, 0],
+            Some(ImageError::Dynamic),
+        ),
+        (
+            "bytes of the first, and sizes of the second",
+            56,
+            WORD_MOST,
+            104,
+            WORD_ZERO,
+            Some(ImageError::SegmentSizes),
+        ),
+        (
+            "no segment, and an odd entry",
+            44,
+            HALF_ZERO,
+            24,
+            WORD_MOST,
+            Some(ImageError::NoSegment),
+        ),
+        (
+            "no entries, and a wrong size of them",
+            44,
+            HALF_ZERO,
+            42,
+            HALF_ZERO,
+            Some(ImageError::NoSegment),
+        ),
+        (
+            "no bytes, past the file",
+            68,
+            WORD_ZERO,
+            56,
+            WORD_MOST,
+            None,
+        ),
+        (
+            "no second segment",
+            100,
+            &[0, 0, 0, 0, 0, 0, 0, 0],
+            88,
+            WORD_MOST,
+            None,
+        ),
+    ];
+    for (label, at, field, and_at, other, error) in rows {
+        let once = set(&rt, alloc, &TWO_SEGMENTS, at, field)?;
+        let file = set(&rt, alloc, &once, and_at, other)?;
+        assert_eq!(&rt; refusal(alloc, &file), error, "{label}");
+    }
+    Ok(())
+}
+
+#[test]
+fn long_tables(rt: HostRuntime) -> Result<(), Fail> {
+    let alloc = rt.alloc();
+    let rows = [
+        ("64 entries", 64, 2100, None),
+        ("a byte too few", 64, 2099, Some(ImageError::ProgramTable)),
+        ("65 entries", 65, 2132, Some(ImageError::ProgramTable)),
+    ];
+    for (label, count, size, error) in rows {
+        let mut file = set(&rt, alloc, &ONE_SEGMENT, 44, &[count])?;
+        file.resize(size, 0)?;
+        assert_eq!(&rt; refusal(alloc, &file), error, "{label}");
+    }
+    Ok(())
+}
+
+#[test]
+fn maps(rt: HostRuntime) -> Result<(), Fail> {
+    let alloc = rt.alloc();
+    let small = Region { size: 8, ..MEMORY };
+    let one: &[u8] = &ONE_SEGMENT;
+    let two: &[u8] = &TWO_SEGMENTS;
+    let physical = LoadAt::Physical;
+    let virtual_ = LoadAt::Virtual;
+    let no_map = Some(ImageError::SegmentMap);
+    let overlap = Some(ImageError::SegmentOverlap);
+    let rows: [(
+        &str,
+        &[u8],
+        usize,
+        &[u8],
+        Region,
+        LoadAt,
+        Option<ImageError>,
+    ); 18] = [
+        ("as it is", one, 60, &[0], MEMORY, physical, None),
+        ("vaddr", one, 60, WORD_ZERO, MEMORY, physical, no_map),
+        ("vaddr most", one, 60, WORD_MOST, MEMORY, physical, no_map),
+        ("paddr", one, 64, WORD_ZERO, MEMORY, physical, no_map),
+        ("paddr most", one, 64, WORD_MOST, MEMORY, physical, no_map),
+        (
+            "paddr at the other",
+            one,
+            64,
+            WORD_ZERO,
+            MEMORY,
+            virtual_,
+            None,
+        ),
+        (
+            "memsz of the region",
+            one,
+            72,
+            &[0, 0, 0x10, 0],
+            MEMORY,
+            physical,
+            None,
+        ),
+        (
+            "memsz past it",
+            one,
+            72,
+            &[4, 0, 0x10, 0],
+            MEMORY,
+            physical,
+            no_map,
+        ),
+        ("memsz most", one, 72, WORD_MOST, MEMORY, physical, no_map),
+        ("small region", one, 60, &[0], small, physical, no_map),
+        (
+            "small region, fitting",
+            one,
+            68,
+            &[8, 0, 0, 0, 8, 0, 0, 0],
+            small,
+            physical,
+            None,
+        ),
+        ("two", two, 60, &[0], MEMORY, physical, None),
+        (
+            "within the first",
+            two,
+            96,
+            &[8, 0],
+            MEMORY,
+            physical,
+            overlap,
+        ),
+        (
+            "within it at the other",
+            two,
+            96,
+            &[8, 0],
+            MEMORY,
+            virtual_,
+            None,
+        ),
+        (
+            "at its last byte",
+            two,
+            96,
+            &[0x0f, 0],
+            MEMORY,
+            physical,
+            overlap,
+        ),
+        ("behind it", two, 96, &[0x10, 0], MEMORY, physical, None),
+        (
+            "no bytes within it",
+            two,
+            96,
+            &[8, 0, 0, 0x80, 0, 0, 0, 0],
+            MEMORY,
+            physical,
+            None,
+        ),
+        ("a map first", two, 96, &[8, 0], small, physical, no_map),
+    ];
+    for (label, file, at, field, region, load_at, error) in rows {
+        let file = set(&rt, alloc, file, at, field)?;
+        let image = read_image(alloc, &file)?;
+        let map = Map::of(&[region])?;
+        assert_eq!(&rt; check_map(&image, &map, load_at).err(), error, "{label}");
+    }
+    Ok(())
+}
+
+/// A new bus that a file is loaded into.
+fn loaded(alloc: Global, file: &[u8], region: Region, at: LoadAt) -> Result<Bus, Fail> {
+    let image = read_image(alloc, file)?;
+    let map = Map::of(&[region])?;
+    check_map(&image, &map, at)?;
+    let mut bus = Bus::new(alloc, map, Vec::new(alloc))?;
+    load(&image, file, at, &mut bus);
+    Ok(bus)
+}
+
+#[test]
+fn memory(rt: HostRuntime) -> Result<(), Fail> {
+    let alloc = rt.alloc();
+    let read_only = Region {
+        size: 4096,
+        writable: false,
+        ..MEMORY
+    };
+    let from_the_header = set(&rt, alloc, &ONE_SEGMENT, 56, WORD_ZERO)?;
+    let short = set(&rt, alloc, &ONE_SEGMENT, 68, &[8])?;
+    let nothing = set(&rt, alloc, &ONE_SEGMENT, 68, WORD_ZERO)?;
+    let past = set(&rt, alloc, &nothing, 56, WORD_MOST)?;
+    let one: &[u8] = &ONE_SEGMENT;
+    let two: &[u8] = &TWO_SEGMENTS;
+    let physical = LoadAt::Physical;
+    let virtual_ = LoadAt::Virtual;
+    let rows = [
+        ("one", one, MEMORY, physical, 0x8000_0000, 0x0050_0513),
+        ("its end", one, MEMORY, physical, 0x8000_0008, 0x0000_0073),
+        ("behind it", one, MEMORY, physical, 0x8000_000c, 0),
+        ("the last", one, MEMORY, physical, 0x800f_fffc, 0),
+        (
+            "one, virtual",
+            one,
+            MEMORY,
+            virtual_,
+            0x8000_0004,
+            0x05d0_0893,
+        ),
+        (
+            "read-only",
+            one,
+            read_only,
+            physical,
+            0x8000_0004,
+            0x05d0_0893,
+        ),
+        ("two", two, MEMORY, physical, 0x8000_0004, 0x1002_a503),
+        ("second", two, MEMORY, physical, 0x8000_0200, 0x2a),
+        ("second's vaddr", two, MEMORY, physical, 0x8000_0100, 0),
+        (
+            "two, virtual",
+            two,
+            MEMORY,
+            virtual_,
+            0x8000_0004,
+            0x1002_a503,
+        ),
+        ("second, virtual", two, MEMORY, virtual_, 0x8000_0100, 0x2a),
+        ("second's paddr", two, MEMORY, virtual_, 0x8000_0200, 0),
+        (
+            "header",
+            &from_the_header,
+            MEMORY,
+            physical,
+            0x8000_0000,
+            0x464c_457f,
+        ),
+        ("short", &short, MEMORY, physical, 0x8000_0004, 0x05d0_0893),
+        ("behind short", &short, MEMORY, physical, 0x8000_0008, 0),
+        ("nothing", &nothing, MEMORY, physical, 0x8000_0000, 0),
+        ("past the file", &past, MEMORY, physical, 0x8000_0000, 0),
+    ];
+    for (label, file, region, at, addr, word) in rows {
+        let mut bus = loaded(alloc, file, region, at)?;
+        assert_eq!(&rt; bus.load(addr, Width::Word), Ok(word), "{label}");
+        assert_eq!(&rt; bus.fetch_word(addr), Some(word), "{label}");
+        assert!(&rt; bus.console().is_empty());
+    }
+    Ok(())
+}

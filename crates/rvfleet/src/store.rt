@@ -1,0 +1,66 @@
+//! Where images are read from.
+
+ghost use Rattle.std.specs.Prelude.{◌≡◌, ◌≤◌, ◌<◌, ℕ, Option, Some, IfErr, IfOk, IfSome, IsSomeAnd, length};
+ghost use Rattle.rvfleet.specs.Sending.{Rose};
+ghost use Rattle.rvfleet.specs.Stores.{FileContents, MayAnswer, most_bytes};
+
+use crate::row::Bytes;
+use std::alloc::{AllocError, Global};
+
+/// Why a path wasn't read.
+#[derive(Clone, Copy, Debug, PartialEq, Eq)]
+pub enum ReadError {
+    /// There is no such file, or reading it failed.
+    Unreadable,
+    /// The file has more than 16,777,216 bytes.
+    TooLong,
+    /// A growth was refused.
+    OutOfMemory,
+}
+
+/// Something that reads files by their paths, and counts how often a file was unreadable.
+pub trait Store {
+    // What each path holds, where the store tells it. No read changes it.
+    ghost contents: { Self → Option FileContents };
+
+    // How often a file was unreadable. A count at `u64::MAX` stays there.
+    ghost faulted: { Self → ℕ };
+
+    /// The bytes of a file, at most 16,777,216.
+    fn read(&mut self, alloc: Global, path: &str) -> Result<Vec<u8>, ReadError>
+        ensures same { contents self.new ≡ contents self.old }
+        ensures within { IfOk result (λ bytes. length bytes.items ≤ most_bytes) }
+        ensures known { IfOk result (λ bytes. IfSome (contents self.old) (λ files. files path.now ≡ Some bytes.items)) }
+        ensures long { IfErr result (λ error. error ≡ ReadError.TooLong → IfSome (contents self.old) (λ files. IsSomeAnd (files path.now) (λ bytes. most_bytes < length bytes))) }
+        ensures rose { IfErr result (λ error. error ≡ ReadError.Unreadable → Rose (faulted self.old) (faulted self.new)) }
+        ensures grows { faulted self.old ≤ faulted self.new };
+
+    /// How often a file was unreadable.
+    fn faults(&self) -> u64
+        ensures { result ≡ faulted self.now };
+}
+
+/// A store's answer for a path.
+#[derive(Debug, Drop)]
+pub enum Kept {
+    /// The bytes of the file, at most 16,777,216.
+    Content(Bytes),
+    /// There is no such file, or reading it failed.
+    Unreadable,
+    /// The file has more bytes.
+    TooLong,
+}
+
+/// Reads a path once, and keeps the answer.
+pub fn keep<S: Store>(alloc: Global, store: &mut S, path: &str) -> Result<Kept, AllocError>
+    ensures kept { IfOk result (λ kept. MayAnswer (S.contents store.old) (S.faulted store.old) (S.faulted store.new) path.now kept) }
+    ensures same { S.contents store.new ≡ S.contents store.old }
+    ensures grows { S.faulted store.old ≤ S.faulted store.new }
+{
+    match store.read(alloc, path) {
+        Ok(bytes) => Ok(Kept::Content(Bytes::new(bytes))),
+        Err(ReadError::Unreadable) => Ok(Kept::Unreadable),
+        Err(ReadError::TooLong) => Ok(Kept::TooLong),
+        Err(ReadError::OutOfMemory) => Err(AllocError),
+    }
+}
