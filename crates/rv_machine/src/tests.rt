@@ -1009,3 +1009,18 @@ fn endings_repeat(rt: HostRuntime) -> Result<(), Fail> {
     assert_eq!(rt; machine.bus().console().len(), 0);
     Ok(())
 }
+
+// The 65,537th byte ends a run, and the output keeps those before it.
+#[test]
+fn full_console_keeps_its_bytes(rt: HostRuntime) -> Result<(), Fail> {
+    let mut machine = machine(&rt, rt.alloc(), "100002b7 0002a023 ffdff06f")?;
+    let outcome = machine.run(200_000);
+    assert_eq!(rt;
+        outcome.ending,
+        fault(FaultKind::ConsoleFull, 0x8000_0004, 0)
+    );
+    assert_eq!(rt; outcome.steps, 131_073);
+    assert_eq!(rt; machine.bus().console().len(), 0x1_0000);
+    assert!(rt; machine.bus().console().iter().all(|byte| *byte == 0));
+    Ok(())
+}
