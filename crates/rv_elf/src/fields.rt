@@ -3,6 +3,27 @@ ghost use Rattle.rv_elf.specs.Fields.{half_at, word_at};
 
 use byteorder::{ByteOrder, LittleEndian};
 
+// Where the ELF header has its fields (System V ABI, "ELF Header" and "ELF Identification").
+pub(crate) const EI_CLASS: usize = 4;
+
+pub(crate) const EI_DATA: usize = 5;
+
+pub(crate) const EI_VERSION: usize = 6;
+
+pub(crate) const E_TYPE: usize = 16;
+
+pub(crate) const E_MACHINE: usize = 18;
+
+pub(crate) const E_VERSION: usize = 20;
+
+pub(crate) const E_ENTRY: usize = 24;
+
+pub(crate) const E_PHOFF: usize = 28;
+
+pub(crate) const E_PHENTSIZE: usize = 42;
+
+pub(crate) const E_PHNUM: usize = 44;
+
 /// The two-byte number at a place.
 #[tactic(auto, unfolding(crate::specs::Fields::half_at))]
 pub(crate) fn half(file: &[u8], at: usize) -> u16

@@ -2,7 +2,10 @@ ghost use Rattle.std.specs.Prelude.{◌≡◌, ◌≤◌, OnOk, length};
 ghost use Rattle.rv_elf.specs.Image.{has_magic, has_bad_version, has_bad_table, header_check, HasTable};
 
 use crate::error::ImageError;
-use crate::fields::{half, word};
+use crate::fields::{
+    E_MACHINE, E_PHENTSIZE, E_PHNUM, E_PHOFF, E_TYPE, E_VERSION, EI_CLASS, EI_DATA, EI_VERSION,
+    half, word,
+};
 
 const HEADER_SIZE: usize = 52;
 /// Of a program header.
@@ -32,19 +35,19 @@ pub(crate) fn check_header(file: &[u8]) -> Result<(), ImageError>
     if !has_magic(file) {
         return Err(ImageError::BadMagic);
     }
-    if file[4] != ELFCLASS32 {
+    if file[EI_CLASS] != ELFCLASS32 {
         return Err(ImageError::Not32Bit);
     }
-    if file[5] != ELFDATA2LSB {
+    if file[EI_DATA] != ELFDATA2LSB {
         return Err(ImageError::NotLittleEndian);
     }
     if has_bad_version(file) {
         return Err(ImageError::BadVersion);
     }
-    if half(file, 16) != ET_EXEC {
+    if half(file, E_TYPE) != ET_EXEC {
         return Err(ImageError::NotExecutable);
     }
-    if half(file, 18) != EM_RISCV {
+    if half(file, E_MACHINE) != EM_RISCV {
         return Err(ImageError::NotRiscv);
     }
     if has_bad_table(file) {
@@ -64,16 +67,16 @@ fn has_bad_version(file: &[u8]) -> bool
     requires { 52 ≤ length file.now }
     ensures { result ≡ has_bad_version file.now }
 {
-    file[6] != EV_CURRENT || word(file, 20) != u32::from(EV_CURRENT)
+    file[EI_VERSION] != EV_CURRENT || word(file, E_VERSION) != u32::from(EV_CURRENT)
 }
 
 fn has_bad_table(file: &[u8]) -> bool
     requires { 52 ≤ length file.now }
     ensures { result ≡ has_bad_table file.now }
 {
-    let count = half(file, 44);
+    let count = half(file, E_PHNUM);
     MOST_ENTRIES < count
         || 0 < count
-            && (half(file, 42) != ENTRY_SIZE
-                || file.len() < word(file, 28) as usize + 32 * count as usize)
+            && (half(file, E_PHENTSIZE) != ENTRY_SIZE
+                || file.len() < word(file, E_PHOFF) as usize + ENTRY_SIZE as usize * count as usize)
 }

@@ -3,7 +3,7 @@ ghost use Rattle.rv_elf.specs.Image.{image_of, table_of, image_check, HasTable};
 ghost use Rattle.rv_elf.specs.declared.error.ImageError.TheVariants.{OutOfMemory};
 
 use crate::error::ImageError;
-use crate::fields::word;
+use crate::fields::{E_ENTRY, word};
 use crate::header::check_header;
 use crate::table::{check_entries, entries, kept_segments};
 use std::alloc::Global;
@@ -50,7 +50,7 @@ impl Segments {
     pub fn as_slice(&self) -> &[Segment]
         ensures { result.now ≡ self.now }
     {
-        self.items.as_slice()
+        &self.items
     }
 
     /// The vector that they were made from.
@@ -91,7 +91,7 @@ fn read_table(alloc: Global, file: &[u8]) -> Result<Image, ImageError>
         Err(error) => return Err(error),
     }
     let image = Image {
-        entry: word(file, 24),
+        entry: word(file, E_ENTRY),
         segments: Segments::from_vec(kept_segments(alloc, found.as_slice())?),
     };
     match check_image(&image) {

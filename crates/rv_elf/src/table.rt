@@ -3,7 +3,7 @@ ghost use Rattle.std.specs.List.{list_any, range_with_len};
 ghost use Rattle.rv_elf.specs.Image.{segment_at, entry_at, entries, entry_check, is_dynamic, has_bad_sizes, is_past, kept_of, HasTable};
 
 use crate::error::ImageError;
-use crate::fields::{half, word};
+use crate::fields::{E_PHNUM, E_PHOFF, half, word};
 use crate::image::Segment;
 use std::alloc::{AllocError, Global};
 
@@ -29,8 +29,8 @@ pub(crate) fn entries(alloc: Global, file: &[u8]) -> Result<Vec<Entry>, AllocErr
     entries_at(
         alloc,
         file,
-        word(file, 28) as usize,
-        half(file, 44) as usize,
+        word(file, E_PHOFF) as usize,
+        half(file, E_PHNUM) as usize,
     )
 }
 
