@@ -1,8 +1,8 @@
 -- The command line's definitions, computed at words that are written out.
-use Rattle.std.proofs.Common.{◌≡◌, refl, true, false, [], ◌∷◌, Some, codes}
+use Rattle.std.proofs.Common.{◌≡◌, refl, true, false, [], ◌∷◌, None, Some, codes}
 use Rattle.clap.specs.Words.{takes}
 use Rattle.clap.proofs.OnLiterals.{clap_on_literals}
-use Rattle.rvfleet.specs.CommandLine.{fleet_app, raw, request_of}
+use Rattle.rvfleet.specs.CommandLine.{fleet_app, one, raw, request_of}
 
 raw_is_taken : takes fleet_app (codes "rvfleet" ∷ codes "raw" ∷ codes "--budget" ∷ codes "3" ∷ []) ≡ true
 unfolding clap_on_literals
@@ -27,6 +27,18 @@ budget_zero = refl
 budget_above : takes fleet_app (codes "rvfleet" ∷ codes "raw" ∷ codes "--budget=1000000001" ∷ []) ≡ false
 unfolding clap_on_literals
 budget_above = refl
+
+one_asks : request_of (codes "rvfleet" ∷ codes "one" ∷ codes "a.elf" ∷ codes "--budget" ∷ codes "3" ∷ []) ≡ Some (one (codes "a.elf") 3 None)
+unfolding clap_on_literals
+one_asks = refl
+
+one_asks_with_input : request_of (codes "rvfleet" ∷ codes "one" ∷ codes "--input-hex" ∷ codes "4142" ∷ codes "--budget=3" ∷ codes "a" ∷ []) ≡ Some (one (codes "a") 3 (Some (codes "4142")))
+unfolding clap_on_literals
+one_asks_with_input = refl
+
+no_image : takes fleet_app (codes "rvfleet" ∷ codes "one" ∷ codes "--budget" ∷ codes "3" ∷ []) ≡ false
+unfolding clap_on_literals
+no_image = refl
 
 help_is_not_taken : takes fleet_app (codes "rvfleet" ∷ codes "--help" ∷ []) ≡ false
 unfolding clap_on_literals
