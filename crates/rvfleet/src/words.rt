@@ -1,12 +1,10 @@
 //! The whole program, over a reader and sinks.
 
-ghost use Rattle.std.specs.Prelude.{◌≡◌, ◌⊎◌, ◌≤◌, IfSome, map, option_map, true, false};
+ghost use Rattle.std.specs.Prelude.{◌≡◌, ◌⊎◌, ◌≤◌, IfSome, map, option_map, true};
 ghost use Rattle.std.specs.Io.KnownBytes.{Keeps};
 ghost use Rattle.clap.specs.Words.{kind_of};
 ghost use Rattle.rvfleet.specs.Answers.{Answers, Reported};
-ghost use Rattle.rvfleet.specs.declared.store.Kept.{Kept};
 ghost use Rattle.rvfleet.specs.CommandLine.{is_taken, one, request_of};
-ghost use Rattle.rvfleet.specs.One.{is_bad_one, one_rows, script_of};
 ghost use Rattle.rvfleet.specs.Raw.{raw_rows};
 ghost use Rattle.rvfleet.specs.Report.{report_text};
 ghost use Rattle.rvfleet.specs.Sending.{AppendsBeginning};
