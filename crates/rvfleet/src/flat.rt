@@ -1,9 +1,10 @@
 //! The row of a flat image.
 
-ghost use Rattle.std.specs.Prelude.{◌≡◌, ◌≤◌, IfOk, length};
+ghost use Rattle.std.specs.Prelude.{◌≡◌, ◌≤◌, ℕ, IfOk, length};
+ghost use Rattle.rv_memory.specs.Bus.{byte_at};
 ghost use Rattle.rv_machine.specs.Run.{run_of};
 ghost use Rattle.rv_machine.specs.State.{state_of};
-ghost use Rattle.rvfleet.specs.Flat.{end_of, flat_row_of, flat_state, image_room, refused_row, row_of};
+ghost use Rattle.rvfleet.specs.Flat.{end_of, flat_byte, flat_contents, flat_row_of, flat_state, image_room, refused_row, row_of};
 
 use crate::row::{Bytes, Name, Refusal, Row, RowEnd, Verdict};
 use rv_machine::{Ending, Machine};
@@ -63,9 +64,17 @@ fn flat_machine(alloc: Global, bytes: &[u8]) -> Result<Machine, AllocError>
     requires { length bytes.now ≤ image_room }
     ensures { IfOk result (λ machine. state_of machine ≡ flat_state bytes.now) }
 {
+    Machine::new(alloc, flat_bus(alloc, bytes)?, ENTRY)
+}
+
+fn flat_bus(alloc: Global, bytes: &[u8]) -> Result<Bus, AllocError>
+    requires { length bytes.now ≤ image_room }
+    ensures contents { IfOk result (λ bus. bus ≡ flat_contents bytes.now) }
+    ensures memory { IfOk result (λ bus. (address : ℕ) → byte_at bus.memory address ≡ flat_byte bytes.now address) }
+{
     let mut bus = Bus::new(alloc, Map::default_map(), Vec::new(alloc))?;
     bus.place(ENTRY, bytes);
-    Machine::new(alloc, bus, ENTRY)
+    Ok(bus)
 }
 
 fn row_end(ending: Ending) -> RowEnd
