@@ -1,8 +1,9 @@
 //! The row of a flat image.
 
-ghost use Rattle.std.specs.Prelude.{◌≡◌, ◌≤◌, IfOk, length};
+ghost use Rattle.std.specs.Prelude.{◌≡◌, ◌≤◌, ℕ, IfOk, length};
+ghost use Rattle.rv_memory.specs.Bus.{byte_at};
 ghost use Rattle.rv_machine.specs.State.{state_of};
-ghost use Rattle.rvfleet.specs.Flat.{flat_row_of, flat_state, image_room};
+ghost use Rattle.rvfleet.specs.Flat.{flat_byte, flat_contents, flat_row_of, flat_state, image_room};
 
 use crate::outcome::{refused_row, run_row};
 use crate::row::{Refusal, Row};
@@ -33,7 +34,15 @@ fn flat_machine(alloc: Global, bytes: &[u8]) -> Result<Machine, AllocError>
     requires { length bytes.now ≤ image_room }
     ensures { IfOk result (λ machine. state_of machine ≡ flat_state bytes.now) }
 {
+    Machine::new(alloc, flat_bus(alloc, bytes)?, ENTRY)
+}
+
+fn flat_bus(alloc: Global, bytes: &[u8]) -> Result<Bus, AllocError>
+    requires { length bytes.now ≤ image_room }
+    ensures contents { IfOk result (λ bus. bus ≡ flat_contents bytes.now) }
+    ensures memory { IfOk result (λ bus. (address : ℕ) → byte_at bus.memory address ≡ flat_byte bytes.now address) }
+{
     let mut bus = Bus::new(alloc, Map::default_map(), Vec::new(alloc))?;
     bus.place(ENTRY, bytes);
-    Machine::new(alloc, bus, ENTRY)
+    Ok(bus)
 }
