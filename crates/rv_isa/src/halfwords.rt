@@ -41,8 +41,8 @@ pub fn expand(half: u16) -> Option<u32>
     find_word(half)
 }
 
-/// The instruction of a halfword: that of its only row in the RVC listing, or `None` where no row fits, as for `expand`,
-/// or the set of instructions is without C.
+/// The instruction of a halfword: that of its only row in the RVC listing, or `None` where no row fits (as for
+/// `expand`) or the set of instructions is without C.
 #[inline(always)]
 pub fn decode16(half: u16, isa: Isa) -> Option<Instr>
     ensures meaning { (i : Instr) → (result ≡ Some i) ↔ Means16 isa half i }

@@ -20,8 +20,8 @@ impl Isa {
         matches!(self, Isa::Im | Isa::Imc)
     }
 
-    /// Whether a hart of this set runs 16-bit instructions, so that one may stand at any even address; without them each
-    /// stands at a multiple of 4.
+    /// Whether a hart of this set runs 16-bit instructions, so that one may stand at any even address. Without them
+    /// each stands at a multiple of 4.
     #[inline]
     pub fn has_c(self) -> bool
         ensures { result ≡ has self RV32C }

@@ -1,5 +1,4 @@
-//! Encodings beside their meanings. The instructions are written out by hand from the manual's listings; the encodings of
-//! those whose label is plain assembly are what GNU `as` makes of the label.
+//! Encodings beside their meanings, written out by hand from the manual's listings.
 
 use crate::{Instr, Isa, Op, decode16, decode32, expand, is_long, sign_extend};
 use std::process::Abort;

@@ -13,8 +13,8 @@ use crate::opcodes::{AUIPC, BRANCH, JAL, JALR, LOAD, LUI, MISC_MEM, OP, OP_IMM, 
 use crate::sets::Isa;
 
 /// The instruction of a 32-bit word: that of the word's only row in the RV32G listing of the RISC-V Unprivileged ISA
-/// 20191213 (chapter 24; RV32I, RV32M and Zifencei), or `None` where no row of the set of instructions fits it. The rows of
-/// RV32M stand in `Isa::Im` and `Isa::Imc`, all others in every set.
+/// 20191213 (chapter 24; RV32I, RV32M and Zifencei), or `None` where no row of the set of instructions fits it. The
+/// rows of RV32M stand in `Isa::Im` and `Isa::Imc`, all others in every set.
 ///
 /// Words of other extensions, Zicsr, WFI and MRET among them, have no row. FENCE and FENCE.I ignore their other fields.
 #[inline(always)]
@@ -46,8 +46,9 @@ fn find(word: u32, isa: Isa) -> Option<Instr>
         BRANCH => Some(type_b(branch(funct3)?, word)),
         LOAD => Some(type_i(load(funct3)?, word)),
         STORE => Some(type_s(store(funct3)?, word)),
-        OP_IMM if funct3 == 0b001 => Some(type_shift(shift(funct7, funct3)?, word)),
-        OP_IMM if funct3 == 0b101 => Some(type_shift(shift(funct7, funct3)?, word)),
+        OP_IMM if funct3 == 0b001 || funct3 == 0b101 => {
+            Some(type_shift(shift(funct7, funct3)?, word))
+        }
         OP_IMM => Some(type_i(immediate(funct3)?, word)),
         OP => Some(type_r(register(funct7, funct3, isa)?, word)),
         MISC_MEM => Some(no_operands(fence(funct3)?)),

@@ -21,15 +21,15 @@ pub enum Width {
 pub enum BusFault {
     /// The address is no multiple of the width, and misaligned accesses are refused.
     Misaligned,
-    /// The bytes do not lie in one region, or for a store not in a writable one; or some are the console's, which has no
-    /// such access.
+    /// The bytes do not lie in one region, or for a store not in a writable one; or some are the console's, which has
+    /// no such access.
     Access,
     /// The console's output has its 65,536 bytes.
     ConsoleFull,
 }
 
-/// What becomes of a load or store of more than one byte whose address is no multiple of its width. A hart may do either
-/// (RISC-V Unprivileged ISA 20191213, section 2.6).
+/// What becomes of a load or store of more than one byte whose address is no multiple of its width. A hart may do
+/// either (RISC-V Unprivileged ISA 20191213, section 2.6).
 #[derive(Clone, Copy, Debug, PartialEq, Eq)]
 pub enum Misaligned {
     /// It is refused.
@@ -123,7 +123,8 @@ const SCRIPT_LEFT: u32 = 0x1000_0004;
 const CONSOLE_ROOM: usize = 0x1_0000;
 
 impl Bus {
-    /// A bus over the regions of a map: zero memory, nothing stored, and no output. The script has at most 65,536 bytes.
+    /// A bus over the regions of a map: zero memory, nothing stored, and no output. The script has at most 65,536
+    /// bytes.
     pub fn new(
         alloc: Global,
         map: Map,
@@ -168,7 +169,8 @@ impl Bus {
     #[inline]
     pub fn load(&mut self, addr: u32, width: Width) -> Result<u32, BusFault>
         ensures narrow { IfOk result (λ v. v < 2 ^ (8 * size_of width)) }
-        ensures value { MatchResult result (λ v. load_from self.old addr width ≡ Ok (v, self.new)) (λ e. (load_from self.old addr width ≡ Err e) × (self.new ≡ self.old)) }
+        ensures value { MatchResult result (λ v. load_from self.old addr width ≡ Ok (v, self.new))
+            (λ e. (load_from self.old addr width ≡ Err e) × (self.new ≡ self.old)) }
     {
         if self.misaligned.refuses(addr, width) {
             return Err(BusFault::Misaligned);
@@ -182,7 +184,8 @@ impl Bus {
     /// Writes the low bytes of a value, and marks them as stored.
     #[inline]
     pub fn store(&mut self, addr: u32, width: Width, value: u32) -> Result<(), BusFault>
-        ensures { MatchResult result (λ _. store_to self.old addr width value ≡ Ok self.new) (λ e. (store_to self.old addr width value ≡ Err e) × (self.new ≡ self.old)) }
+        ensures { MatchResult result (λ _. store_to self.old addr width value ≡ Ok self.new)
+            (λ e. (store_to self.old addr width value ≡ Err e) × (self.new ≡ self.old)) }
     {
         if self.misaligned.refuses(addr, width) {
             return Err(BusFault::Misaligned);
@@ -220,7 +223,8 @@ impl Bus {
     #[inline]
     pub fn fetch_word(&self, addr: u32) -> Option<u32>
         ensures value { result ≡ fetch_word_from self.now addr }
-        ensures halves { IfSome result (λ w. (fetch_half_from self.now addr ≡ Ok (w % 0x1_0000)) × (fetch_half_from self.now ((addr + 2) % 0x1_0000_0000) ≡ Ok (w / 0x1_0000))) }
+        ensures halves { IfSome result (λ w. (fetch_half_from self.now addr ≡ Ok (w % 0x1_0000))
+            × (fetch_half_from self.now ((addr + 2) % 0x1_0000_0000) ≡ Ok (w / 0x1_0000))) }
     {
         let place = self.map.place(addr, 4)?;
         if has_mark(&self.marks, place.at, self.present) {
@@ -260,7 +264,8 @@ impl Bus {
     #[inline]
     fn load_console(&mut self, addr: u32, width: Width) -> Result<u32, BusFault>
         ensures narrow { IfOk result (λ v. v < 2 ^ (8 * size_of width)) }
-        ensures value { MatchResult result (λ v. console_load self.old addr width ≡ Ok (v, self.new)) (λ e. (console_load self.old addr width ≡ Err e) × (self.new ≡ self.old)) }
+        ensures value { MatchResult result (λ v. console_load self.old addr width ≡ Ok (v, self.new))
+            (λ e. (console_load self.old addr width ≡ Err e) × (self.new ≡ self.old)) }
     {
         let Width::Word = width else {
             return Err(BusFault::Access);
@@ -290,7 +295,8 @@ impl Bus {
     /// A store to an address that no region has.
     #[inline]
     fn store_console(&mut self, addr: u32, width: Width, value: u32) -> Result<(), BusFault>
-        ensures { MatchResult result (λ _. console_store self.old addr width value ≡ Ok self.new) (λ e. (console_store self.old addr width value ≡ Err e) × (self.new ≡ self.old)) }
+        ensures { MatchResult result (λ _. console_store self.old addr width value ≡ Ok self.new)
+            (λ e. (console_store self.old addr width value ≡ Err e) × (self.new ≡ self.old)) }
     {
         let Width::Word = width else {
             return Err(BusFault::Access);
