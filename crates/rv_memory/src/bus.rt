@@ -75,7 +75,7 @@ impl Model for Bus {
 
     ghost coded = { contents_code };
 
-    ghost use Rattle.rv_memory.specs.BusInside.{contents_of, IsBusInside};
+    ghost use Rattle.rv_memory.specs.Inside.Bus.{contents_of, IsBusInside};
 
     ghost view = { contents_of };
 
