@@ -9,7 +9,7 @@ use crate::store::Kept;
 use rv_elf::{Image, ImageError, LoadAt, check_map, load, read_image};
 use rv_fleet::{Refusal, Row, refused_row, run_row};
 use rv_machine::Machine;
-use rv_memory::{Bus, Map};
+use rv_memory::{Bus, Map, Misaligned};
 use std::alloc::{AllocError, Global};
 
 /// Runs the ELF image that a store answered with, at most `budget` steps, under the default map.
@@ -76,7 +76,7 @@ fn loaded_machine(
     requires fits { fitting_image_of file.now at ≡ Ok image.now }
     ensures { IfOk result (λ machine. state_of machine ≡ loaded_state file.now image.now at script.items) }
 {
-    let mut bus = Bus::new(alloc, Map::default_map(), script)?;
+    let mut bus = Bus::new(alloc, Map::default_map(), script, Misaligned::Fault)?;
     load(image, file, at, &mut bus);
     Machine::new(alloc, bus, image.entry)
 }
