@@ -1,12 +1,13 @@
 //! The fetch of an instruction.
 ghost use Rattle.std.specs.Prelude.{◌≡◌, IfOk};
+ghost use Rattle.rv_isa.specs.declared.sets.Isa.TheVariants.{Imc};
 ghost use Rattle.rv_isa.specs.Words.{IsWellFormed, meaning32};
 ghost use Rattle.rv_isa.specs.Halfwords.{meaning16};
 ghost use Rattle.rv_machine.specs.Fetch.{fetch, fault_of_fetch, or_illegal};
 
 use crate::ending::FaultKind;
 use crate::hart::Hart;
-use rv_isa::{Instr, decode16, decode32, is_long};
+use rv_isa::{Instr, Isa, decode16, decode32, is_long};
 use rv_memory::FetchFault;
 
 impl Hart {
@@ -53,10 +54,10 @@ impl Hart {
 /// The instruction of a word.
 #[inline(always)]
 fn long(word: u32) -> Result<(Instr, u32), (FaultKind, u32)>
-    ensures fetched { result ≡ or_illegal (meaning32 word) 4 word }
+    ensures fetched { result ≡ or_illegal (meaning32 Imc word) 4 word }
     ensures well_formed { IfOk result (λ p. IsWellFormed p.0) }
 {
-    match decode32(word) {
+    match decode32(word, Isa::Imc) {
         Some(instruction) => Ok((instruction, 4)),
         None => Err((FaultKind::Illegal, word)),
     }
@@ -65,10 +66,10 @@ fn long(word: u32) -> Result<(Instr, u32), (FaultKind, u32)>
 /// The instruction of a halfword.
 #[inline(always)]
 fn short(half: u16) -> Result<(Instr, u32), (FaultKind, u32)>
-    ensures fetched { result ≡ or_illegal (meaning16 half) 2 half }
+    ensures fetched { result ≡ or_illegal (meaning16 Imc half) 2 half }
     ensures well_formed { IfOk result (λ p. IsWellFormed p.0) }
 {
-    match decode16(half) {
+    match decode16(half, Isa::Imc) {
         Some(instruction) => Ok((instruction, 2)),
         None => Err((FaultKind::Illegal, u32::from(half))),
     }
