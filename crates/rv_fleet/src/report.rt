@@ -255,8 +255,16 @@ fn image_error_text(error: ImageError) -> &'static str
         ImageError::SegmentFile => "segment-file",
         ImageError::NoSegment => "no-segment",
         ImageError::EntryOdd => "entry-odd",
+        ImageError::EntryAlign => "entry-align",
         ImageError::SegmentMap => "segment-map",
         ImageError::SegmentOverlap => "segment-overlap",
+        ImageError::SectionTable => "section-table",
+        ImageError::NoSymbols => "no-symbols",
+        ImageError::SymbolTable => "symbol-table",
+        ImageError::StringTable => "string-table",
+        ImageError::NoBegin => "no-begin",
+        ImageError::NoEnd => "no-end",
+        ImageError::SignatureRange => "signature-range",
         ImageError::OutOfMemory => "out-of-memory",
     }
 }
