@@ -31,7 +31,7 @@ all_at : (p : Segment → Bool) (ss : List Segment) (i : ℕ) (d : Segment) → 
 all_at p ss i d h l = true_from_ne_false _ (λ e. both_ways _ (list_all_at p ss i d l e) h)
 
 -- a new bus holds the opening memory of no segment
-pub opening_memory_none : (c : Contents) (file : List ℕ) (at : LoadAt) → c ≡ opened c.regions c.script → c ≡ record c { memory = opening_memory c.regions [] file at }
+pub opening_memory_none : (c : Contents) (file : List ℕ) (at : LoadAt) → c ≡ opened c.regions c.script c.misaligned → c ≡ record c { memory = opening_memory c.regions [] file at }
 unfolding opened opening_memory
 opening_memory_none c file at e = let m = ap (λ d. d.memory) e in λ i. record c { memory = m i }
 

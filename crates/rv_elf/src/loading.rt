@@ -39,7 +39,7 @@ pub fn check_map(image: &Image, map: &Map, at: LoadAt) -> Result<(), ImageError>
 pub fn load(image: &Image, file: &[u8], at: LoadAt, bus: &mut Bus)
     requires image { image_of file.now ≡ Ok image.now }
     requires fits { map_check image.now.segments bus.old.regions at ≡ accepted }
-    requires new { bus.old ≡ opened bus.old.regions bus.old.script }
+    requires new { bus.old ≡ opened bus.old.regions bus.old.script bus.old.misaligned }
     ensures { bus.new ≡ record bus.old { memory = opening_memory bus.old.regions image.now.segments file.now at } }
 {
     for segment in image.segments.as_slice() {

@@ -1,5 +1,5 @@
 use crate::{ImageError, LoadAt, Segment, Segments, check_map, load, read_image};
-use rv_memory::{Bus, Map, Region, Width};
+use rv_memory::{Bus, Map, Misaligned, Region, Width};
 use std::alloc::Global;
 use std::process::Abort;
 use std::test::Fail;
@@ -444,7 +444,7 @@ fn loaded(alloc: Global, file: &[u8], region: Region, at: LoadAt) -> Result<Bus,
     let image = read_image(alloc, file)?;
     let map = Map::of(&[region])?;
     check_map(&image, &map, at)?;
-    let mut bus = Bus::new(alloc, map, Vec::new(alloc))?;
+    let mut bus = Bus::new(alloc, map, Vec::new(alloc), Misaligned::Fault)?;
     load(&image, file, at, &mut bus);
     Ok(bus)
 }

@@ -5,6 +5,9 @@ use Rattle.std.specs.List.{list_any}
 use Rattle.std.proofs.lemmas.Bool.{and_parts, or_cases, eqb-true, eqb-false, not-true, false≢true}
 use Rattle.rv_isa.specs.Bits.{field}
 use Rattle.rv_isa.specs.declared.instruction.Instr.{Instr}
+use Rattle.rv_isa.specs.declared.sets.Isa.{Isa}
+use Rattle.rv_isa.specs.declared.sets.Isa.TheVariants as set
+use Rattle.rv_isa.specs.Extensions.{has}
 use Rattle.rv_isa.specs.Words.{Fixed, has_fields, Means32}
 use Rattle.rv_isa.specs.Halfwords.{Row16, rows16, fits16, lacks_fields, Means16, meaning16, Expands}
 use Rattle.rv_isa.proofs.Tables.{pairs_pass, at_most_one, first_of-only, first_of-found}
@@ -41,10 +44,12 @@ barred_in h (g ∷ gs) f l t p =
       | inr later ↦ barred_in h gs f parts.1 later p
     ]
 
-apart_sound : (h : ℕ) (r s : Row16) → apart r s ≡ true → fits16 h r ≡ true → fits16 h s ≡ true → ⊥
-apart_sound h r s a p q =
-    let rs = and_parts (has_fields h r.fixed) (lacks_fields h r.barred && r.needs h) p in
-    let ss = and_parts (has_fields h s.fixed) (lacks_fields h s.barred && s.needs h) q in
+apart_sound : (isa : Isa) (h : ℕ) (r s : Row16) → apart r s ≡ true → fits16 isa h r ≡ true → fits16 isa h s ≡ true → ⊥
+apart_sound isa h r s a p q =
+    let rf = and_parts (has isa r.extension) (has_fields h r.fixed && (lacks_fields h r.barred && r.needs h)) p in
+    let sf = and_parts (has isa s.extension) (has_fields h s.fixed && (lacks_fields h s.barred && s.needs h)) q in
+    let rs = and_parts (has_fields h r.fixed) (lacks_fields h r.barred && r.needs h) rf.1 in
+    let ss = and_parts (has_fields h s.fixed) (lacks_fields h s.barred && s.needs h) sf.1 in
     let rl = and_parts (lacks_fields h r.barred) (r.needs h) rs.1 in
     let sl = and_parts (lacks_fields h s.barred) (s.needs h) ss.1 in
     let first = list_any (λ f. list_any (λ g. differ f g) s.fixed) r.fixed in
@@ -58,15 +63,15 @@ apart_sound h r s a p q =
       ]
     ]
 
-pub one_row : (h : ℕ) → count_by (fits16 h) rows16 ≤ 1
-one_row h = at_most_one (fits16 h) apart (apart_sound h) rows16 rows_apart
+pub one_row : (isa : Isa) (h : ℕ) → count_by (fits16 isa h) rows16 ≤ 1
+one_row isa h = at_most_one (fits16 isa h) apart (apart_sound isa h) rows16 rows_apart
 
 -- The first row that fits is the only one.
-pub meaning16_means : (h : ℕ) (i : Instr) → (meaning16 h ≡ Some i) ↔ Means16 h i
+pub meaning16_means : (isa : Isa) (h : ℕ) (i : Instr) → (meaning16 isa h ≡ Some i) ↔ Means16 isa h i
 unfolding meaning16 Means16
-meaning16_means h i = (
-  (λ e. first_of-found (fits16 h) (λ r. r.gives h) rows16 i e),
-  (λ m. first_of-only (fits16 h) (λ r. r.gives h) rows16 m.0 m.1 (one_row h) m.2 m.3 m.4.0 ∙ ap (λ j. Some j) (sym m.4.1)),
+meaning16_means isa h i = (
+  (λ e. first_of-found (fits16 isa h) (λ r. r.gives h) rows16 i e),
+  (λ m. first_of-only (fits16 isa h) (λ r. r.gives h) rows16 m.0 m.1 (one_row isa h) m.2 m.3 m.4.0 ∙ ap (λ j. Some j) (sym m.4.1)),
 )
 
 -- an answer that is not `None`
@@ -74,19 +79,19 @@ found : {A : Type 0} (o : Option A) → o ≢ None → (x : A) × (o ≡ Some x)
 found None n = absurd (n refl)
 found (Some x) n = (x, refl)
 
-pub expands_none : (h : ℕ) (r : Option ℕ) → Expands h r → IsNone r ↔ ((i : Instr) → Means16 h i → ⊥)
+pub expands_none : (h : ℕ) (r : Option ℕ) → Expands h r → IsNone r ↔ ((i : Instr) → Means16 set.Imc h i → ⊥)
 expands_none h None e = (
-  (λ n i m. let s : meaning16 h ≡ Some i = (meaning16_means h i).1 m in (cc)),
+  (λ n i m. let s : meaning16 set.Imc h ≡ Some i = (meaning16_means set.Imc h i).1 m in (cc)),
   (λ n. refl),
 )
 expands_none h (Some w) e = (
   (λ n. cc),
-  (λ n. let x = found (meaning16 h) e.1 in absurd (n x.0 ((meaning16_means h x.0).0 x.1))),
+  (λ n. let x = found (meaning16 set.Imc h) e.1 in absurd (n x.0 ((meaning16_means set.Imc h x.0).0 x.1))),
 )
 
-pub expands_word : (h : ℕ) (r : Option ℕ) → Expands h r → IfSome r (λ w. (i : Instr) → Means32 w i ↔ Means16 h i)
+pub expands_word : (h : ℕ) (r : Option ℕ) → Expands h r → IfSome r (λ w. (i : Instr) → Means32 set.Imc w i ↔ Means16 set.Imc h i)
 expands_word h None e = tt
 expands_word h (Some w) e = λ i. (
-  (λ m. (meaning16_means h i).0 (sym e.0 ∙ (meaning32_means w i).1 m)),
-  (λ m. (meaning32_means w i).0 (e.0 ∙ (meaning16_means h i).1 m)),
+  (λ m. (meaning16_means set.Imc h i).0 (sym e.0 ∙ (meaning32_means set.Imc w i).1 m)),
+  (λ m. (meaning32_means set.Imc w i).0 (e.0 ∙ (meaning16_means set.Imc h i).1 m)),
 )

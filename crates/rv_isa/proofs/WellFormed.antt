@@ -4,6 +4,7 @@ use Rattle.std.specs.List.{list_all}
 use Rattle.std.proofs.lemmas.Int.{ints}
 use Rattle.rv_isa.specs.declared.instruction.Op.{Op}
 use Rattle.rv_isa.specs.declared.instruction.Instr.{Instr}
+use Rattle.rv_isa.specs.declared.sets.Isa.{Isa}
 use Rattle.rv_isa.specs.Words.{Format, TypeR, TypeI, TypeShift, TypeS, TypeB, TypeU, TypeJ, NoOperands, rows, instruction, is_shift, IsWellFormed, Means32, meaning32}
 use Rattle.rv_isa.proofs.Tables.{all_at}
 use Rattle.rv_isa.proofs.Fields.{field_lt}
@@ -31,10 +32,10 @@ formed name TypeU w h = (field_lt w 11 7, omega arith, omega arith, λ s. absurd
 formed name TypeJ w h = (field_lt w 11 7, omega arith, omega arith, λ s. absurd (no_shift (is_shift name) h s))
 formed name NoOperands w h = (omega arith, omega arith, omega arith, λ s. absurd (no_shift (is_shift name) h s))
 
-pub means32_formed : (w : ℕ) (i : Instr) → Means32 w i → IsWellFormed i
+pub means32_formed : (isa : Isa) (w : ℕ) (i : Instr) → Means32 isa w i → IsWellFormed i
 unfolding Means32
-means32_formed w i m = subst IsWellFormed (sym m.4.1) (formed m.1.name m.1.format w (all_at (λ r. not (is_shift r.name) || takes_shift r.format) rows m.0 m.1 shift_rows m.2 m.3))
+means32_formed isa w i m = subst IsWellFormed (sym m.4.1) (formed m.1.name m.1.format w (all_at (λ r. not (is_shift r.name) || takes_shift r.format) rows m.0 m.1 shift_rows m.2 m.3))
 
-pub meaning32_formed : (w : ℕ) (r : Option Instr) → r ≡ meaning32 w → IfSome r IsWellFormed
-meaning32_formed w None e = tt
-meaning32_formed w (Some i) e = means32_formed w i ((meaning32_means w i).0 (sym e))
+pub meaning32_formed : (isa : Isa) (w : ℕ) (r : Option Instr) → r ≡ meaning32 isa w → IfSome r IsWellFormed
+meaning32_formed isa w None e = tt
+meaning32_formed isa w (Some i) e = means32_formed isa w i ((meaning32_means isa w i).0 (sym e))

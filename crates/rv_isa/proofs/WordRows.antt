@@ -6,6 +6,8 @@ use Rattle.std.proofs.lemmas.Bool.{and_parts, or_cases, eqb-true, eqb-false, leb
 use Rattle.rv_isa.specs.Bits.{field}
 use Rattle.rv_isa.proofs.Fields.{field-low}
 use Rattle.rv_isa.specs.declared.instruction.Instr.{Instr}
+use Rattle.rv_isa.specs.declared.sets.Isa.{Isa}
+use Rattle.rv_isa.specs.Extensions.{has}
 use Rattle.rv_isa.specs.Words.{Row, Fixed, rows, has_fields, fits, instruction, Means32, meaning32}
 use Rattle.rv_isa.proofs.Tables.{pairs_pass, at_most_one, first_of-only, first_of-found}
 
@@ -73,13 +75,19 @@ apart_sound w r s a h k =
     fixed_in w r.fixed (λ f. list_any (λ g. clash f g) s.fixed) h a ⊥
     (λ f any p. fixed_in w s.fixed (λ g. clash f g) k any ⊥ (λ g c q. clash_sound w f g c p q))
 
-pub one_row : (w : ℕ) → count_by (fits w) rows ≤ 1
-one_row w = at_most_one (fits w) apart (apart_sound w) rows rows_apart
+fitting_apart : (isa : Isa) (w : ℕ) (r s : Row) → apart r s ≡ true → fits isa w r ≡ true → fits isa w s ≡ true → ⊥
+fitting_apart isa w r s a p q =
+    apart_sound w r s a
+    (and_parts (has isa r.extension) (has_fields w r.fixed) p).1
+    (and_parts (has isa s.extension) (has_fields w s.fixed) q).1
+
+pub one_row : (isa : Isa) (w : ℕ) → count_by (fits isa w) rows ≤ 1
+one_row isa w = at_most_one (fits isa w) apart (fitting_apart isa w) rows rows_apart
 
 -- The first row that fits is the only one.
-pub meaning32_means : (w : ℕ) (i : Instr) → (meaning32 w ≡ Some i) ↔ Means32 w i
+pub meaning32_means : (isa : Isa) (w : ℕ) (i : Instr) → (meaning32 isa w ≡ Some i) ↔ Means32 isa w i
 unfolding meaning32 Means32
-meaning32_means w i = (
-  (λ h. first_of-found (fits w) (λ r. instruction r.name r.format w) rows i h),
-  (λ m. first_of-only (fits w) (λ r. instruction r.name r.format w) rows m.0 m.1 (one_row w) m.2 m.3 m.4.0 ∙ ap (λ j. Some j) (sym m.4.1)),
+meaning32_means isa w i = (
+  (λ h. first_of-found (fits isa w) (λ r. instruction r.name r.format w) rows i h),
+  (λ m. first_of-only (fits isa w) (λ r. instruction r.name r.format w) rows m.0 m.1 (one_row isa w) m.2 m.3 m.4.0 ∙ ap (λ j. Some j) (sym m.4.1)),
 )

@@ -1,4 +1,5 @@
 pub mod Bits
 pub mod Tables
+pub mod Extensions
 pub mod Words
 pub mod Halfwords

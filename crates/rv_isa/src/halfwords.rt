@@ -2,6 +2,8 @@ ghost use Rattle.rv_isa.specs.Bits.{field as bits_of};
 ghost use Rattle.rv_isa.specs.Halfwords.{rows16, fits16, Means16, meaning16, Expands};
 ghost use Rattle.rv_isa.specs.Words.{Means32, IsWellFormed};
 ghost use Rattle.rv_isa.specs.declared.instruction.Instr.{Instr};
+ghost use Rattle.rv_isa.specs.declared.sets.Isa.{Isa as Set};
+ghost use Rattle.rv_isa.specs.declared.sets.Isa.TheVariants as set;
 ghost use Rattle.std.specs.Prelude.{ℕ, ◌≡◌, ◌↔◌, ◌≤◌, IfSome, IsNone, IsTrue, count_by};
 
 use crate::assemble::{
@@ -14,6 +16,7 @@ use crate::half_immediates::{
     word_offset,
 };
 use crate::instruction::Instr;
+use crate::sets::Isa;
 use crate::words::decode32;
 
 /// Whether a halfword begins a 32-bit instruction: its low two bits are 11 (section 1.5 of the RISC-V Unprivileged ISA
@@ -31,27 +34,40 @@ pub fn is_long(half: u16) -> bool
 /// Hints have rows. The halfword 0x0000 has none.
 #[inline(always)]
 pub fn expand(half: u16) -> Option<u32>
-    ensures none { IsNone result ↔ ((i : Instr) → Means16 half i → ⊥) }
-    ensures word { IfSome result (λ w. (i : Instr) → Means32 w i ↔ Means16 half i) }
+    ensures none { IsNone result ↔ ((i : Instr) → Means16 set.Imc half i → ⊥) }
+    ensures word { IfSome result (λ w. (i : Instr) → Means32 set.Imc w i ↔ Means16 set.Imc half i) }
     ensures value { Expands half result }
 {
     find_word(half)
 }
 
-/// The instruction of a halfword: that of its only row in the RVC listing, or `None` where no row fits, as for `expand`.
+/// The instruction of a halfword: that of its only row in the RVC listing, or `None` where no row fits (as for
+/// `expand`) or the set of instructions is without C.
 #[inline(always)]
-pub fn decode16(half: u16) -> Option<Instr>
-    ensures meaning { (i : Instr) → (result ≡ Some i) ↔ Means16 half i }
-    ensures value { result ≡ meaning16 half }
+pub fn decode16(half: u16, isa: Isa) -> Option<Instr>
+    ensures meaning { (i : Instr) → (result ≡ Some i) ↔ Means16 isa half i }
+    ensures value { result ≡ meaning16 isa half }
     ensures well_formed { IfSome result IsWellFormed }
 {
-    decode32(expand(half)?)
+    find(half, isa)
 }
 
-/// A law of the listing, with nothing to run: no halfword has two rows.
+/// A law of the listing, with nothing to run: no halfword has two rows, in any set.
 pub fn no_halfword_has_two_rows()
-    ensures { (half : ℕ) → count_by (fits16 half) rows16 ≤ 1 }
+    ensures { (isa : Set) (half : ℕ) → count_by (fits16 isa half) rows16 ≤ 1 }
 {}
+
+#[inline(always)]
+#[tactic(auto, using(crate::proofs::ByQuadrant::by_set))]
+fn find(half: u16, isa: Isa) -> Option<Instr>
+    ensures value { result ≡ meaning16 isa half }
+    ensures well_formed { IfSome result IsWellFormed }
+{
+    if !isa.has_c() {
+        return None;
+    }
+    decode32(expand(half)?, Isa::Imc)
+}
 
 #[tactic(auto, using(crate::proofs::ByQuadrant::quadrant_3))]
 fn find_word(half: u16) -> Option<u32>

@@ -1,12 +1,15 @@
-//! Encodings beside their meanings. The instructions are written out by hand from the manual's listings; the encodings of
-//! those whose label is plain assembly are what GNU `as` makes of the label.
+//! Encodings beside their meanings, written out by hand from the manual's listings.
 
-use crate::{Instr, Op, decode16, decode32, expand, is_long, sign_extend};
+use crate::{Instr, Isa, Op, decode16, decode32, expand, is_long, sign_extend};
+use std::process::Abort;
+
+const SETS: [Isa; 4] = [Isa::I, Isa::Im, Isa::Ic, Isa::Imc];
 
 /// A label, an encoding, and what it means: name, `[rd, rs1, rs2]`, immediate.
 type Row<E> = (&'static str, E, Op, [u8; 3], i32);
 
-const WORDS: [Row<u32>; 65] = [
+/// The rows that every set of instructions has.
+const WORDS: [Row<u32>; 57] = [
     (
         "lui x10,0x7ffff",
         0x7fff_f537,
@@ -106,6 +109,10 @@ const WORDS: [Row<u32>; 65] = [
     ("fence.i, odd fields", 0xfff0_9f8f, Op::FenceI, [0, 0, 0], 0),
     ("ecall", 0x0000_0073, Op::Ecall, [0, 0, 0], 0),
     ("ebreak", 0x0010_0073, Op::Ebreak, [0, 0, 0], 0),
+];
+
+/// The rows of M.
+const PRODUCTS: [Row<u32>; 8] = [
     ("mul x1,x2,x3", 0x0231_00b3, Op::Mul, [1, 2, 3], 0),
     ("mulh x4,x5,x6", 0x0262_9233, Op::Mulh, [4, 5, 6], 0),
     ("mulhsu x7,x8,x9", 0x0294_23b3, Op::Mulhsu, [7, 8, 9], 0),
@@ -266,38 +273,88 @@ fn instruction(op: Op, [rd, rs1, rs2]: [u8; 3], imm: i32) -> Option<Instr> {
     })
 }
 
-#[test]
-fn each_word_has_its_meaning(rt: HostRuntime) {
-    for (label, word, op, registers, imm) in WORDS {
-        assert_eq!(rt; decode32(word), instruction(op, registers, imm), "{label}");
+fn words_mean(rt: &impl Abort, rows: &[Row<u32>], isa: Isa) {
+    for (label, word, op, registers, imm) in rows {
+        let meaning = instruction(*op, *registers, *imm);
+        assert_eq!(rt; decode32(*word, isa), meaning, "{label} in {isa:?}");
     }
 }
 
-#[test]
-fn no_other_word_has_one(rt: HostRuntime) {
-    for (label, word) in WORDS_WITHOUT_A_ROW {
-        assert_eq!(rt; decode32(word), None, "{label}");
+fn words_mean_nothing(rt: &impl Abort, rows: &[Row<u32>], isa: Isa) {
+    for (label, word, _, _, _) in rows {
+        assert_eq!(rt; decode32(*word, isa), None, "{label} in {isa:?}");
     }
 }
 
-#[test]
-fn each_halfword_has_its_meaning(rt: HostRuntime) {
+fn halfwords_mean(rt: &impl Abort, isa: Isa) {
     for (label, half, op, registers, imm) in HALFWORDS {
+        assert_eq!(rt;
+            decode16(half, isa),
+            instruction(op, registers, imm),
+            "{label} in {isa:?}"
+        );
+    }
+}
+
+fn halfwords_mean_nothing(rt: &impl Abort, isa: Isa) {
+    for (label, half, _, _, _) in HALFWORDS {
+        assert_eq!(rt; decode16(half, isa), None, "{label} in {isa:?}");
+    }
+}
+
+#[test]
+fn each_set_has_the_words_of_its_letters(rt: HostRuntime) {
+    for isa in SETS {
+        words_mean(&rt, &WORDS, isa);
+    }
+    words_mean_nothing(&rt, &PRODUCTS, Isa::I);
+    words_mean(&rt, &PRODUCTS, Isa::Im);
+    words_mean_nothing(&rt, &PRODUCTS, Isa::Ic);
+    words_mean(&rt, &PRODUCTS, Isa::Imc);
+}
+
+#[test]
+fn no_other_word_has_a_meaning(rt: HostRuntime) {
+    for isa in SETS {
+        for (label, word) in WORDS_WITHOUT_A_ROW {
+            assert_eq!(rt; decode32(word, isa), None, "{label} in {isa:?}");
+        }
+    }
+}
+
+#[test]
+fn each_set_has_the_halfwords_of_its_letters(rt: HostRuntime) {
+    halfwords_mean_nothing(&rt, Isa::I);
+    halfwords_mean_nothing(&rt, Isa::Im);
+    halfwords_mean(&rt, Isa::Ic);
+    halfwords_mean(&rt, Isa::Imc);
+}
+
+#[test]
+fn no_other_halfword_has_a_meaning(rt: HostRuntime) {
+    for (label, half) in HALFWORDS_WITHOUT_A_ROW {
+        assert_eq!(rt; expand(half), None, "{label}");
+        for isa in SETS {
+            assert_eq!(rt; decode16(half, isa), None, "{label} in {isa:?}");
+        }
+    }
+}
+
+#[test]
+fn a_halfword_stands_for_a_word(rt: HostRuntime) {
+    for (label, half, _, _, _) in HALFWORDS {
         assert!(rt; !is_long(half), "{label}");
-        assert_eq!(rt; decode16(half), instruction(op, registers, imm), "{label}");
     }
     assert_eq!(rt; expand(0x4515), Some(0x0050_0513));
     assert_eq!(rt; expand(0x9002), Some(0x0010_0073));
+    assert!(rt; is_long(0x0003));
+    assert!(rt; is_long(0xffff));
 }
 
 #[test]
-fn no_other_halfword_has_one(rt: HostRuntime) {
-    for (label, half) in HALFWORDS_WITHOUT_A_ROW {
-        assert_eq!(rt; expand(half), None, "{label}");
-        assert_eq!(rt; decode16(half), None, "{label}");
-    }
-    assert!(rt; is_long(0x0003));
-    assert!(rt; is_long(0xffff));
+fn a_set_has_the_extensions_of_its_letters(rt: HostRuntime) {
+    assert_eq!(rt; SETS.map(Isa::has_m), [false, true, false, true]);
+    assert_eq!(rt; SETS.map(Isa::has_c), [false, false, true, true]);
 }
 
 #[test]

@@ -1,36 +1,40 @@
 ghost use Rattle.rv_isa.specs.Bits.{field as bits_of};
 ghost use Rattle.rv_isa.specs.Words.{rows, fits, Means32, meaning32, IsWellFormed, named};
-ghost use Rattle.rv_isa.specs.Words.{branches, loads, stores, immediates, shifts, arithmetic_shifts, registers, registers_alternate, fences, products};
+ghost use Rattle.rv_isa.specs.Words.{branches, loads, stores, immediates, shifts, arithmetic_shifts, registers, registers_alternate, fences, instruction_fences, products};
+ghost use Rattle.rv_isa.specs.Extensions.{has, RV32M};
 ghost use Rattle.rv_isa.specs.declared.instruction.Instr.{Instr};
-ghost use Rattle.std.specs.Prelude.{ℕ, ◌≡◌, ◌↔◌, ◌≤◌, ◌==◌, if◌then◌else◌, IfSome, count_by};
+ghost use Rattle.rv_isa.specs.declared.sets.Isa.{Isa as Set};
+ghost use Rattle.std.specs.Prelude.{ℕ, ◌≡◌, ◌↔◌, ◌≤◌, ◌==◌, ◌&&◌, ◌++◌, if◌then◌else◌, IfSome, count_by};
 
 use crate::bits::field;
 use crate::formats::{no_operands, type_b, type_i, type_j, type_r, type_s, type_shift, type_u};
 use crate::instruction::{Instr, Op};
 use crate::opcodes::{AUIPC, BRANCH, JAL, JALR, LOAD, LUI, MISC_MEM, OP, OP_IMM, STORE, SYSTEM};
+use crate::sets::Isa;
 
 /// The instruction of a 32-bit word: that of the word's only row in the RV32G listing of the RISC-V Unprivileged ISA
-/// 20191213 (chapter 24; RV32I, RV32M and Zifencei), or `None` where no row fits it.
+/// 20191213 (chapter 24; RV32I, RV32M and Zifencei), or `None` where no row of the set of instructions fits it. The
+/// rows of RV32M stand in `Isa::Im` and `Isa::Imc`, all others in every set.
 ///
 /// Words of other extensions, Zicsr, WFI and MRET among them, have no row. FENCE and FENCE.I ignore their other fields.
 #[inline(always)]
-pub fn decode32(word: u32) -> Option<Instr>
-    ensures meaning { (i : Instr) → (result ≡ Some i) ↔ Means32 word i }
-    ensures value { result ≡ meaning32 word }
+pub fn decode32(word: u32, isa: Isa) -> Option<Instr>
+    ensures meaning { (i : Instr) → (result ≡ Some i) ↔ Means32 isa word i }
+    ensures value { result ≡ meaning32 isa word }
     ensures well_formed { IfSome result IsWellFormed }
 {
-    find(word)
+    find(word, isa)
 }
 
-/// A law of the listing, with nothing to run: no word has two rows.
+/// A law of the listing, with nothing to run: no word has two rows, in any set.
 pub fn no_word_has_two_rows()
-    ensures { (word : ℕ) → count_by (fits word) rows ≤ 1 }
+    ensures { (isa : Set) (word : ℕ) → count_by (fits isa word) rows ≤ 1 }
 {}
 
 #[inline(always)]
 #[tactic(auto, using(crate::proofs::ByOpcode::by_opcode))]
-fn find(word: u32) -> Option<Instr>
-    ensures { result ≡ meaning32 word }
+fn find(word: u32, isa: Isa) -> Option<Instr>
+    ensures { result ≡ meaning32 isa word }
 {
     let funct3 = field(word, 14, 12);
     let funct7 = field(word, 31, 25);
@@ -42,12 +46,13 @@ fn find(word: u32) -> Option<Instr>
         BRANCH => Some(type_b(branch(funct3)?, word)),
         LOAD => Some(type_i(load(funct3)?, word)),
         STORE => Some(type_s(store(funct3)?, word)),
-        OP_IMM if funct3 == 0b001 => Some(type_shift(shift(funct7, funct3)?, word)),
-        OP_IMM if funct3 == 0b101 => Some(type_shift(shift(funct7, funct3)?, word)),
+        OP_IMM if funct3 == 0b001 || funct3 == 0b101 => {
+            Some(type_shift(shift(funct7, funct3)?, word))
+        }
         OP_IMM => Some(type_i(immediate(funct3)?, word)),
-        OP => Some(type_r(register(funct7, funct3)?, word)),
+        OP => Some(type_r(register(funct7, funct3, isa)?, word)),
         MISC_MEM => Some(no_operands(fence(funct3)?)),
-        SYSTEM => system(word),
+        SYSTEM => system(word, isa),
         _ => None,
     }
 }
@@ -123,16 +128,16 @@ fn shift(funct7: u32, funct3: u32) -> Option<Op>
 }
 
 #[inline]
-fn register(funct7: u32, funct3: u32) -> Option<Op>
+fn register(funct7: u32, funct3: u32, isa: Isa) -> Option<Op>
     ensures { result ≡ (if funct7 == 0 then named registers funct3
         else if funct7 == 0x20 then named registers_alternate funct3
-        else if funct7 == 1 then named products funct3
+        else if (funct7 == 1) && has isa RV32M then named products funct3
         else None) }
 {
     match funct7 {
         0x00 => register_plain(funct3),
         0x20 => register_alternate(funct3),
-        0x01 => product(funct3),
+        0x01 if isa.has_m() => product(funct3),
         _ => None,
     }
 }
@@ -184,7 +189,7 @@ fn product(funct3: u32) -> Option<Op>
 
 #[inline]
 fn fence(funct3: u32) -> Option<Op>
-    ensures { result ≡ named fences funct3 }
+    ensures { result ≡ named (fences ++ instruction_fences) funct3 }
 {
     match funct3 {
         0 => Some(Op::Fence),
@@ -195,9 +200,9 @@ fn fence(funct3: u32) -> Option<Op>
 
 #[inline]
 #[tactic(auto, using(crate::proofs::ByOpcode::by_opcode))]
-fn system(word: u32) -> Option<Instr>
+fn system(word: u32, isa: Isa) -> Option<Instr>
     requires { bits_of word 6 0 ≡ 0x73 }
-    ensures { result ≡ meaning32 word }
+    ensures { result ≡ meaning32 isa word }
 {
     match word {
         0x0000_0073 => Some(no_operands(Op::Ecall)),

@@ -1,6 +1,6 @@
 -- What stands in a bus, and what each access gives and leaves.
 -- Memory is little-endian (RISC-V Unprivileged ISA 20191213, sections 1.4 and 2.6); the fences' part is that of its chapter 3, "Zifencei".
-use Rattle.std.specs.Prelude.{ℕ, ◌+◌, ◌*◌, ◌/◌, ◌%◌, Bool, ◌&&◌, ◌||◌, ◌==◌, nat_lt, nat_le, not, if◌then◌else◌, List, [], ◌∷◌, ◌++◌, length, drop, unwrap_or, Option, Some, None, Result, Ok, Err, is_ok, refl}
+use Rattle.std.specs.Prelude.{◌≡◌, ℕ, ◌+◌, ◌*◌, ◌/◌, ◌%◌, Bool, true, false, ◌&&◌, ◌||◌, ◌==◌, nat_lt, not, if◌then◌else◌, List, [], ◌∷◌, ◌++◌, length, drop, unwrap_or, Option, Some, None, Result, Ok, Err, is_ok, refl}
 use Rattle.std.specs.Ordering.{nat_cmp}
 use Rattle.std.specs.FinMap as fin
 use Rattle.std.specs.FinSet as set
@@ -10,6 +10,8 @@ use Rattle.rv_memory.specs.declared.bus.Width.{Width}
 use Rattle.rv_memory.specs.declared.bus.Width.TheVariants.{Byte, Half, Word}
 use Rattle.rv_memory.specs.declared.bus.BusFault.{BusFault}
 use Rattle.rv_memory.specs.declared.bus.BusFault.TheVariants.{Misaligned, Access, ConsoleFull}
+use Rattle.rv_memory.specs.declared.bus.Misaligned.{Misaligned as Choice}
+use Rattle.rv_memory.specs.declared.bus.Misaligned.TheVariants.{Fault, Allow}
 use Rattle.rv_memory.specs.declared.bus.FetchFault.{FetchFault}
 use Rattle.rv_memory.specs.declared.bus.FetchFault.TheVariants.{Unmapped, Stale}
 use Rattle.rv_memory.specs.Regions.{in_one, in_writable, addresses, tabulate}
@@ -25,18 +27,36 @@ pub record Contents : Type 0 where
   pub script : List ℕ
   -- what the console was given so far
   pub output : List ℕ
+  -- what becomes of misaligned accesses, which never changes
+  pub misaligned : Choice
 
 -- a region as nested pairs
 abbrev pub region_code : Coded Region
 region_code = code_by (ℕ × (ℕ × Bool)) (coded× coded_ℕ (coded× coded_ℕ coded_bool)) (λ r. (r.base, (r.size, r.writable))) (λ p. record { base = p.0; size = p.1.0; writable = p.1.1 }) (λ _. refl)
 
+-- a choice as a truth value
+abbrev pub allows : Choice → Bool
+allows Fault = false
+allows Allow = true
+
+abbrev pub choice_of : Bool → Choice
+choice_of false = Fault
+choice_of true = Allow
+
+abbrev pub choice_again : (m : Choice) → choice_of (allows m) ≡ m
+choice_again Fault = refl
+choice_again Allow = refl
+
+abbrev pub choice_code : Coded Choice
+choice_code = code_by Bool coded_bool allows choice_of choice_again
+
 -- contents as nested pairs, so that they may be the value of a struct
 abbrev pub contents_code : Coded Contents
 contents_code =
-    code_by (List Region × (fin.FinMap nat_cmp ℕ × (set.FinSet nat_cmp × (List ℕ × List ℕ))))
-    (coded× (coded_list region_code) (coded× (fin.code coded_ℕ coded_ℕ) (coded× (set.code coded_ℕ) (coded× (coded_list coded_ℕ) (coded_list coded_ℕ)))))
-    (λ c. (c.regions, (c.memory, (c.stored, (c.script, c.output)))))
-    (λ p. record { regions = p.0; memory = p.1.0; stored = p.1.1.0; script = p.1.1.1.0; output = p.1.1.1.1 })
+    code_by (List Region × (fin.FinMap nat_cmp ℕ × (set.FinSet nat_cmp × (List ℕ × (List ℕ × Choice)))))
+    (coded× (coded_list region_code) (coded× (fin.code coded_ℕ coded_ℕ) (coded× (set.code coded_ℕ) (coded× (coded_list coded_ℕ) (coded× (coded_list coded_ℕ) choice_code)))))
+    (λ c. (c.regions, (c.memory, (c.stored, (c.script, (c.output, c.misaligned))))))
+    (λ p. record { regions = p.0; memory = p.1.0; stored = p.1.1.0; script = p.1.1.1.0; output = p.1.1.1.1.0; misaligned = p.1.1.1.1.1 })
     (λ _. refl)
 
 -- the byte at an address of the regions
@@ -63,9 +83,14 @@ value_at m a Byte = byte_at m a
 value_at m a Half = half_at m a
 value_at m a Word = word_at m a
 
--- the address is one of the console's 16
-abbrev pub in_console : ℕ → Bool
-in_console a = nat_le 0x1000_0000 a && nat_lt a 0x1000_0010
+-- the choice refuses an access for its address: Fault does where it is no multiple of the number of bytes, Allow never
+abbrev pub refuses : Choice → ℕ → Width → Bool
+refuses Fault a w = not (a % size_of w == 0)
+refuses Allow a w = false
+
+-- one of the n bytes from the address on is one of the console's 16
+abbrev pub touches_console : ℕ → ℕ → Bool
+touches_console a n = nat_lt 0x1000_0000 (a + n) && nat_lt a 0x1000_0010
 
 -- what a read of the script gives: its next byte, or all ones at its end
 abbrev pub next_of : List ℕ → ℕ
@@ -80,11 +105,11 @@ console_load c a Word =
     if a == 0x1000_0000 then Ok (next_of c.script, record c { script = drop 1 c.script })
     else (if a == 0x1000_0004 then Ok (length c.script, c) else Err Access)
 
--- a load gives an unsigned value: misaligned addresses are refused first, then those that are neither the console's nor in one region
+-- a load gives an unsigned value: misaligned ones are refused first, unless they are allowed, then those that neither touch the console nor lie in one region
 abbrev pub load_from : Contents → ℕ → Width → Result (ℕ × Contents) BusFault
 load_from c a w =
-    if not (a % size_of w == 0) then Err Misaligned
-    else (if in_console a then console_load c a w
+    if refuses c.misaligned a w then Err Misaligned
+    else (if touches_console a (size_of w) then console_load c a w
     else (if in_one c.regions a (size_of w) then Ok (value_at c.memory a w, c) else Err Access))
 
 -- one byte stored, and marked as stored whatever it held before
@@ -106,11 +131,11 @@ console_store c a Word v =
     if not (a == 0x1000_0000) then Err Access
     else (if nat_lt (length c.output) 0x1_0000 then Ok (record c { output = c.output ++ (v % 0x100) ∷ [] }) else Err ConsoleFull)
 
--- a store: misaligned addresses are refused first, then those that are neither the console's nor in one writable region
+-- a store: misaligned ones are refused first, unless they are allowed, then those that neither touch the console nor lie in one writable region
 abbrev pub store_to : Contents → ℕ → Width → ℕ → Result Contents BusFault
 store_to c a w v =
-    if not (a % size_of w == 0) then Err Misaligned
-    else (if in_console a then console_store c a w v
+    if refuses c.misaligned a w then Err Misaligned
+    else (if touches_console a (size_of w) then console_store c a w v
     else (if in_writable c.regions a (size_of w) then Ok (put c a w v) else Err Access))
 
 -- one of the two bytes was stored since the last FENCE.I
@@ -150,5 +175,12 @@ abbrev pub placed : Contents → ℕ → List ℕ → Contents
 placed c a bytes = record c { memory = bytes_put c.memory a bytes }
 
 -- a new bus: zero memory, and nothing stored
-unfoldable pub opened : List Region → List ℕ → Contents
-opened regions script = record { regions = regions; memory = tabulate (addresses regions) (λ _. 0); stored = set.empty; script = script; output = [] }
+unfoldable pub opened : List Region → List ℕ → Choice → Contents
+opened regions script misaligned = record {
+  regions = regions;
+  memory = tabulate (addresses regions) (λ _. 0);
+  stored = set.empty;
+  script = script;
+  output = [];
+  misaligned = misaligned;
+}

@@ -1,7 +1,7 @@
 ghost use Rattle.std.specs.Prelude.{◌≡◌, ◌==◌, ◌+◌, ◌*◌, ◌/◌, ◌%◌, ◌^◌, ◌<◌, ◌≤◌, ◌⊎◌, IsTrue, IfOk, IfSome, MatchResult, Ok, None, length, drop, vec_len};
 ghost use Rattle.rv_memory.specs.Regions.{in_one};
 ghost use Rattle.rv_memory.specs.Maps.{map_error};
-ghost use Rattle.rv_memory.specs.Bus.{size_of, load_from, store_to, fetch_half_from, fetch_word_from, console_load, console_store, next_of, clean_from, synced, placed, opened};
+ghost use Rattle.rv_memory.specs.Bus.{size_of, refuses, load_from, store_to, fetch_half_from, fetch_word_from, console_load, console_store, next_of, clean_from, synced, placed, opened};
 
 use crate::access::{has_mark, mark, read, read_word, write};
 use crate::map::Map;
@@ -19,13 +19,23 @@ pub enum Width {
 /// Why a load or a store is refused; of two reasons the one that stands first here.
 #[derive(Clone, Copy, Debug, PartialEq, Eq)]
 pub enum BusFault {
-    /// The address is no multiple of the width.
+    /// The address is no multiple of the width, and misaligned accesses are refused.
     Misaligned,
-    /// The bytes lie in no region, or for a store in none that is writable; or the console has no
-    /// such access.
+    /// The bytes do not lie in one region, or for a store not in a writable one; or some are the console's, which has
+    /// no such access.
     Access,
     /// The console's output has its 65,536 bytes.
     ConsoleFull,
+}
+
+/// What becomes of a load or store of more than one byte whose address is no multiple of its width. A hart may do
+/// either (RISC-V Unprivileged ISA 20191213, section 2.6).
+#[derive(Clone, Copy, Debug, PartialEq, Eq)]
+pub enum Misaligned {
+    /// It is refused.
+    Fault,
+    /// It reads or writes its bytes where they lie in one region.
+    Allow,
 }
 
 /// Why a fetch of a halfword is refused; of two reasons the one that stands first here.
@@ -42,7 +52,7 @@ pub enum FetchFault {
 /// The console has the addresses `0x1000_0000` to `0x1000_000f`. A word load at the first gives the
 /// next byte of the script, or `0xffff_ffff` at its end, and a word store there appends its low byte
 /// to the output, which takes 65,536 bytes. A word load at `0x1000_0004` gives the number of bytes
-/// that are left of the script. Every other access to the console is refused.
+/// that are left of the script. Every other access that touches one of the 16 bytes is refused.
 #[derive(Drop)]
 pub struct Bus {
     map: Map,
@@ -55,6 +65,7 @@ pub struct Bus {
     script: Vec<u8>,
     // How many bytes of the script were read.
     taken: usize,
+    misaligned: Misaligned,
 }
 
 impl Model for Bus {
@@ -92,6 +103,16 @@ impl Width {
     }
 }
 
+impl Misaligned {
+    /// Whether an access is refused for its address. The choice is asked last: an aligned access needs it not.
+    #[inline]
+    fn refuses(self, addr: u32, width: Width) -> bool
+        ensures { result ≡ refuses self addr width }
+    {
+        !width.divides(addr) && matches!(self, Misaligned::Fault)
+    }
+}
+
 /// Where a word load takes a byte of the script, and a word store appends one to the output.
 const CONSOLE_BYTE: u32 = 0x1000_0000;
 
@@ -102,10 +123,16 @@ const SCRIPT_LEFT: u32 = 0x1000_0004;
 const CONSOLE_ROOM: usize = 0x1_0000;
 
 impl Bus {
-    /// A bus over the regions of a map: zero memory, nothing stored, and no output.
-    pub fn new(alloc: Global, map: Map, script: Vec<u8>) -> Result<Bus, AllocError>
+    /// A bus over the regions of a map: zero memory, nothing stored, and no output. The script has at most 65,536
+    /// bytes.
+    pub fn new(
+        alloc: Global,
+        map: Map,
+        script: Vec<u8>,
+        misaligned: Misaligned,
+    ) -> Result<Bus, AllocError>
         requires { vec_len script ≤ 0x1_0000 }
-        ensures { IfOk result (λ b. b ≡ opened map script.items) }
+        ensures { IfOk result (λ b. b ≡ opened map script.items misaligned) }
     {
         let total = map.total();
         let bytes = vec![in alloc; 0u8; total]?;
@@ -119,6 +146,7 @@ impl Bus {
             console,
             script,
             taken: 0,
+            misaligned,
         })
     }
 
@@ -141,9 +169,10 @@ impl Bus {
     #[inline]
     pub fn load(&mut self, addr: u32, width: Width) -> Result<u32, BusFault>
         ensures narrow { IfOk result (λ v. v < 2 ^ (8 * size_of width)) }
-        ensures value { MatchResult result (λ v. load_from self.old addr width ≡ Ok (v, self.new)) (λ e. (load_from self.old addr width ≡ Err e) × (self.new ≡ self.old)) }
+        ensures value { MatchResult result (λ v. load_from self.old addr width ≡ Ok (v, self.new))
+            (λ e. (load_from self.old addr width ≡ Err e) × (self.new ≡ self.old)) }
     {
-        if !width.divides(addr) {
+        if self.misaligned.refuses(addr, width) {
             return Err(BusFault::Misaligned);
         }
         let Some(place) = self.map.place(addr, width.size()) else {
@@ -155,9 +184,10 @@ impl Bus {
     /// Writes the low bytes of a value, and marks them as stored.
     #[inline]
     pub fn store(&mut self, addr: u32, width: Width, value: u32) -> Result<(), BusFault>
-        ensures { MatchResult result (λ _. store_to self.old addr width value ≡ Ok self.new) (λ e. (store_to self.old addr width value ≡ Err e) × (self.new ≡ self.old)) }
+        ensures { MatchResult result (λ _. store_to self.old addr width value ≡ Ok self.new)
+            (λ e. (store_to self.old addr width value ≡ Err e) × (self.new ≡ self.old)) }
     {
-        if !width.divides(addr) {
+        if self.misaligned.refuses(addr, width) {
             return Err(BusFault::Misaligned);
         }
         let Some(place) = self.map.place(addr, width.size()) else {
@@ -193,7 +223,8 @@ impl Bus {
     #[inline]
     pub fn fetch_word(&self, addr: u32) -> Option<u32>
         ensures value { result ≡ fetch_word_from self.now addr }
-        ensures halves { IfSome result (λ w. (fetch_half_from self.now addr ≡ Ok (w % 0x1_0000)) × (fetch_half_from self.now ((addr + 2) % 0x1_0000_0000) ≡ Ok (w / 0x1_0000))) }
+        ensures halves { IfSome result (λ w. (fetch_half_from self.now addr ≡ Ok (w % 0x1_0000))
+            × (fetch_half_from self.now ((addr + 2) % 0x1_0000_0000) ≡ Ok (w / 0x1_0000))) }
     {
         let place = self.map.place(addr, 4)?;
         if has_mark(&self.marks, place.at, self.present) {
@@ -243,7 +274,8 @@ impl Bus {
     #[inline]
     fn load_console(&mut self, addr: u32, width: Width) -> Result<u32, BusFault>
         ensures narrow { IfOk result (λ v. v < 2 ^ (8 * size_of width)) }
-        ensures value { MatchResult result (λ v. console_load self.old addr width ≡ Ok (v, self.new)) (λ e. (console_load self.old addr width ≡ Err e) × (self.new ≡ self.old)) }
+        ensures value { MatchResult result (λ v. console_load self.old addr width ≡ Ok (v, self.new))
+            (λ e. (console_load self.old addr width ≡ Err e) × (self.new ≡ self.old)) }
     {
         let Width::Word = width else {
             return Err(BusFault::Access);
@@ -273,7 +305,8 @@ impl Bus {
     /// A store to an address that no region has.
     #[inline]
     fn store_console(&mut self, addr: u32, width: Width, value: u32) -> Result<(), BusFault>
-        ensures { MatchResult result (λ _. console_store self.old addr width value ≡ Ok self.new) (λ e. (console_store self.old addr width value ≡ Err e) × (self.new ≡ self.old)) }
+        ensures { MatchResult result (λ _. console_store self.old addr width value ≡ Ok self.new)
+            (λ e. (console_store self.old addr width value ≡ Err e) × (self.new ≡ self.old)) }
     {
         let Width::Word = width else {
             return Err(BusFault::Access);

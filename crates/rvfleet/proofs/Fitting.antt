@@ -7,6 +7,7 @@ use Rattle.rv_elf.specs.declared.loading.LoadAt.TheVariants.{Physical}
 use Rattle.rv_elf.specs.Image.{entries, entry_rows, header_rows, image_of, image_rows, image_there, table_of}
 use Rattle.rv_elf.specs.Loading.{map_check, opening_memory}
 use Rattle.rv_elf.specs.Rows.{Row, accepted, first_row}
+use Rattle.rv_memory.specs.declared.bus.Misaligned.TheVariants.{Fault}
 use Rattle.rv_memory.specs.Bus.{Contents, opened}
 use Rattle.rv_machine.specs.State.{at_reset}
 use Rattle.rvfleet.specs.ElfImages.{fitting_image_of, if_accepted, if_fits, loaded_state}
@@ -54,12 +55,12 @@ entry_even file image is =
     rw (← even.1) (eqb-true _ _ even.0)
 
 -- a new bus over the default map
-pub is_new : (bus : Contents) (script : List ℕ) → bus ≡ opened default_regions script → (bus.regions ≡ default_regions) × (bus ≡ opened bus.regions bus.script)
+pub is_new : (bus : Contents) (script : List ℕ) → bus ≡ opened default_regions script Fault → (bus.regions ≡ default_regions) × (bus ≡ opened bus.regions bus.script bus.misaligned)
 unfolding opened
 is_new bus script is = rw is (refl, refl)
 
 -- what stands in the machine once the image is loaded
-pub loaded_is : (before after : Contents) (file : List ℕ) (image : Image) (script : List ℕ) → before ≡ opened default_regions script
+pub loaded_is : (before after : Contents) (file : List ℕ) (image : Image) (script : List ℕ) → before ≡ opened default_regions script Fault
     → after ≡ record before { memory = opening_memory before.regions image.segments file Physical } → at_reset after image.entry ≡ loaded_state file image script
 unfolding opened
 loaded_is before after file image script is loaded = rw (loaded, is) refl

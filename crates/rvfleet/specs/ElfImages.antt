@@ -5,6 +5,7 @@ use Rattle.rv_elf.specs.declared.image.Image.{Image}
 use Rattle.rv_elf.specs.declared.loading.LoadAt.TheVariants.{Physical}
 use Rattle.rv_elf.specs.Image.{image_of}
 use Rattle.rv_elf.specs.Loading.{map_check, opening_memory}
+use Rattle.rv_memory.specs.declared.bus.Misaligned.TheVariants.{Fault}
 use Rattle.rv_memory.specs.Bus.{Contents, opened}
 use Rattle.rv_machine.specs.Run.{run_of}
 use Rattle.rv_machine.specs.State.{State, at_reset}
@@ -33,10 +34,10 @@ if_fits (Err why) = Err why
 unfoldable pub fitting_image_of : List ℕ → Result Image ImageError
 fitting_image_of file = if_fits (image_of file)
 
--- the image in memory, nothing stored, and the script
+-- the image in memory, nothing stored, and the script; misaligned accesses are refused
 abbrev pub loaded_contents : List ℕ → Image → List ℕ → Contents
 loaded_contents file image script =
-    record (opened default_regions script) { memory = opening_memory default_regions image.segments file Physical }
+    record (opened default_regions script Fault) { memory = opening_memory default_regions image.segments file Physical }
 
 -- the hart at reset, its pc at the image's entry
 abbrev pub loaded_state : List ℕ → Image → List ℕ → State

@@ -8,7 +8,7 @@ ghost use Rattle.rvfleet.specs.Flat.{flat_byte, flat_contents, flat_row_of, flat
 use crate::outcome::{refused_row, run_row};
 use crate::row::{Refusal, Row};
 use rv_machine::Machine;
-use rv_memory::{Bus, Map};
+use rv_memory::{Bus, Map, Misaligned};
 use std::alloc::{AllocError, Global};
 
 /// The bytes of the default map's region, the most of a flat image.
@@ -42,7 +42,12 @@ fn flat_bus(alloc: Global, bytes: &[u8]) -> Result<Bus, AllocError>
     ensures contents { IfOk result (λ bus. bus ≡ flat_contents bytes.now) }
     ensures memory { IfOk result (λ bus. (address : ℕ) → byte_at bus.memory address ≡ flat_byte bytes.now address) }
 {
-    let mut bus = Bus::new(alloc, Map::default_map(), Vec::new(alloc))?;
+    let mut bus = Bus::new(
+        alloc,
+        Map::default_map(),
+        Vec::new(alloc),
+        Misaligned::Fault,
+    )?;
     bus.place(ENTRY, bytes);
     Ok(bus)
 }

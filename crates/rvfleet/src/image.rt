@@ -10,7 +10,7 @@ use crate::row::{Refusal, Row};
 use crate::store::Kept;
 use rv_elf::{Image, ImageError, LoadAt, check_map, load, read_image};
 use rv_machine::Machine;
-use rv_memory::{Bus, Map};
+use rv_memory::{Bus, Map, Misaligned};
 use std::alloc::{AllocError, Global};
 
 /// Runs the ELF image that a store answered with, at most `budget` steps, under the default map,
@@ -74,7 +74,7 @@ fn loaded_machine(
     requires fits { fitting_image_of file.now ≡ Ok image.now }
     ensures { IfOk result (λ machine. state_of machine ≡ loaded_state file.now image.now script.items) }
 {
-    let mut bus = Bus::new(alloc, Map::default_map(), script)?;
+    let mut bus = Bus::new(alloc, Map::default_map(), script, Misaligned::Fault)?;
     load(image, file, LoadAt::Physical, &mut bus);
     Machine::new(alloc, bus, image.entry)
 }

@@ -2,7 +2,7 @@
 use super::{BASE, bytes_of, cells_of, check, ending_of, machine, machine_in, region};
 use crate::{Ending, Machine};
 use rv_isa::{Instr, Op};
-use rv_memory::{Bus, Map, Region};
+use rv_memory::{Bus, Map, Misaligned, Region};
 use std::alloc::Global;
 use std::process::Abort;
 use std::test::Fail;
@@ -198,7 +198,7 @@ fn last_halfword_is_kept(rt: HostRuntime) -> Result<(), Fail> {
         let fence = cells[0];
         let image = format!(in rt.alloc(); "0055 00039a63 00100393 00601023 {fence} fedff06f X")?;
         let low = bytes_of(rt.alloc(), image.as_str())?;
-        let mut bus = Bus::new(rt.alloc(), map, Vec::new(rt.alloc()))?;
+        let mut bus = Bus::new(rt.alloc(), map, Vec::new(rt.alloc()), Misaligned::Fault)?;
         assert!(rt; low.len() <= 32 && bus.map().in_one(0, low.len() as u32));
         bus.place(0, low.as_slice());
         assert!(rt; bus.map().in_one(0xffff_fffe, 2));

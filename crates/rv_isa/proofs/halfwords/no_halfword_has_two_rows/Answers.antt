@@ -2,4 +2,4 @@ use Rattle.rv_isa.proofs.HalfwordRows.{one_row}
 use Rattle.rv_isa.proofs.halfwords.no_halfword_has_two_rows.Goals as goal
 
 pub returns : goal.returns
-returns c half = one_row half
+returns c isa half = one_row isa half

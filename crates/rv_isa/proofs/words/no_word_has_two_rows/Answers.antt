@@ -2,4 +2,4 @@ use Rattle.rv_isa.proofs.WordRows.{one_row}
 use Rattle.rv_isa.proofs.words.no_word_has_two_rows.Goals as goal
 
 pub returns : goal.returns
-returns c word = one_row word
+returns c isa word = one_row isa word

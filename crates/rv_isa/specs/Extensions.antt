@@ -1,0 +1,32 @@
+-- Which extensions a set of instructions has. A set is named by its letters (RISC-V Unprivileged ISA 20191213, chapter 27): I is the base, which all have, M multiplication and division, C 16-bit instructions.
+use Rattle.std.specs.Prelude.{Bool, true, false}
+use Rattle.rv_isa.specs.declared.sets.Isa.{Isa}
+use Rattle.rv_isa.specs.declared.sets.Isa.TheVariants as set
+
+-- the part of the manual that a row belongs to: the base (chapter 2), or an extension (chapters 3, 7 and 16)
+pub data Extension : Type 0 where
+  RV32I : Extension
+  Zifencei : Extension
+  RV32M : Extension
+  RV32C : Extension
+
+-- the sets with an M in their name
+abbrev pub has_m : Isa → Bool
+has_m set.I = false
+has_m set.Im = true
+has_m set.Ic = false
+has_m set.Imc = true
+
+-- the sets with a C in their name
+abbrev pub has_c : Isa → Bool
+has_c set.I = false
+has_c set.Im = false
+has_c set.Ic = true
+has_c set.Imc = true
+
+-- the extensions that a set has: each has FENCE.I too
+abbrev pub has : Isa → Extension → Bool
+has isa RV32I = true
+has isa Zifencei = true
+has isa RV32M = has_m isa
+has isa RV32C = has_c isa
