@@ -9,6 +9,7 @@ use crate::outcome::{refused_row, run_row};
 use crate::row::{Refusal, Row};
 use crate::store::Kept;
 use rv_elf::{Image, ImageError, LoadAt, check_map, load, read_image};
+use rv_isa::Isa;
 use rv_machine::Machine;
 use rv_memory::{Bus, Map, Misaligned};
 use std::alloc::{AllocError, Global};
@@ -54,7 +55,7 @@ fn file_row(alloc: Global, file: &[u8], budget: u32, script: Vec<u8>) -> Result<
 fn fitting_image(alloc: Global, file: &[u8]) -> Result<Image, ImageError>
     ensures { MatchResult result (λ image. fitting_image_of file.now ≡ Ok image) (λ error. error ≢ OutOfMemory → fitting_image_of file.now ≡ Err error) }
 {
-    let image = match read_image(alloc, file) {
+    let image = match read_image(alloc, file, Isa::Imc) {
         Ok(image) => image,
         Err(error) => return Err(error),
     };
