@@ -8,6 +8,7 @@ ghost use Rattle.rvfleet.specs.ElfImages.{file_row_of, fitting_image_of, image_r
 use crate::store::Kept;
 use rv_elf::{Image, ImageError, LoadAt, check_map, load, read_image};
 use rv_fleet::{Refusal, Row, refused_row, run_row};
+use rv_isa::Isa;
 use rv_machine::Machine;
 use rv_memory::{Bus, Map, Misaligned};
 use std::alloc::{AllocError, Global};
@@ -60,7 +61,7 @@ fn file_row(
 fn fitting_image(alloc: Global, file: &[u8], at: LoadAt) -> Result<Image, ImageError>
     ensures { MatchResult result (λ image. fitting_image_of file.now at ≡ Ok image) (λ error. error ≢ OutOfMemory → fitting_image_of file.now at ≡ Err error) }
 {
-    let image = read_image(alloc, file)?;
+    let image = read_image(alloc, file, Isa::Imc)?;
     check_map(&image, &Map::default_map(), at)?;
     Ok(image)
 }
