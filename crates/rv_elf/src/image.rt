@@ -40,8 +40,8 @@ impl Model for Segments {
 }
 
 impl Segments {
-    /// The segments of the vector.
-    pub fn from_vec(items: Vec<Segment>) -> Segments
+    /// The segments of the vector. Takes no memory.
+    pub fn new(items: Vec<Segment>) -> Segments
         ensures { result ≡ items.items }
     {
         Segments { items }
@@ -72,7 +72,8 @@ pub struct Image {
 
 /// Reads a file's bytes as an executable, or says why they are none.
 pub fn read_image(alloc: Global, file: &[u8]) -> Result<Image, ImageError>
-    ensures { MatchResult result (λ image. image_of file.now ≡ Ok image) (λ e. e ≢ OutOfMemory → image_of file.now ≡ Err e) }
+    ensures { MatchResult result (λ image. image_of file.now ≡ Ok image)
+        (λ e. e ≢ OutOfMemory → image_of file.now ≡ Err e) }
 {
     match check_header(file) {
         Ok(()) => read_table(alloc, file),
@@ -83,7 +84,8 @@ pub fn read_image(alloc: Global, file: &[u8]) -> Result<Image, ImageError>
 /// The rest of [`read_image`], once the header is accepted.
 fn read_table(alloc: Global, file: &[u8]) -> Result<Image, ImageError>
     requires { HasTable file.now }
-    ensures { MatchResult result (λ image. table_of file.now ≡ Ok image) (λ e. e ≢ OutOfMemory → table_of file.now ≡ Err e) }
+    ensures { MatchResult result (λ image. table_of file.now ≡ Ok image)
+        (λ e. e ≢ OutOfMemory → table_of file.now ≡ Err e) }
 {
     let found = entries(alloc, file)?;
     match check_entries(found.as_slice(), file.len()) {
@@ -92,7 +94,7 @@ fn read_table(alloc: Global, file: &[u8]) -> Result<Image, ImageError>
     }
     let image = Image {
         entry: word(file, E_ENTRY),
-        segments: Segments::from_vec(kept_segments(alloc, found.as_slice())?),
+        segments: Segments::new(kept_segments(alloc, found.as_slice())?),
     };
     match check_image(&image) {
         Ok(()) => Ok(image),

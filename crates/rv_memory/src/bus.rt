@@ -55,9 +55,9 @@ pub enum FetchFault {
 /// that are left of the script. Every other access that touches one of the 16 bytes is refused.
 #[derive(Drop)]
 pub struct Bus {
-    map: Map,
+    pub(crate) map: Map,
     // The bytes of the regions, one region after another, and their marks.
-    bytes: Vec<u8>,
+    pub(crate) bytes: Vec<u8>,
     marks: Vec<u8>,
     // A byte is stored where its mark is this generation; the older ones are below it.
     present: u8,
@@ -75,7 +75,7 @@ impl Model for Bus {
 
     ghost coded = { contents_code };
 
-    ghost use Rattle.rv_memory.specs.BusInside.{contents_of, IsBusInside};
+    ghost use Rattle.rv_memory.specs.Inside.Bus.{contents_of, IsBusInside};
 
     ghost view = { contents_of };
 

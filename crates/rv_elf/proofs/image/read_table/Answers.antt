@@ -14,11 +14,11 @@ returns-in-Err c = λ _. entries_refused c.args.file.now c.as_slice.result.now c
 pub returns-in-Ok-check_image : goal.returns-in-Ok-check_image
 unfolding segments
 returns-in-Ok-check_image c =
-    let there = same _ _ _ _ c.word.ensures (c.from_vec.ensures ∙ c.in_ok-kept_segments.ensures ∙ ap kept_of (c.as_slice-2.ensures.value ∙ c.in_ok-found.ensures)) in
+    let there = same _ _ _ _ c.word.ensures (c.new.ensures ∙ c.in_ok-kept_segments.ensures ∙ ap kept_of (c.as_slice-2.ensures.value ∙ c.in_ok-found.ensures)) in
     image_passed c.args.file.now c.as_slice.result.now _ (c.as_slice.ensures.value ∙ c.in_ok-found.ensures) there c.in-Ok.ensures c.in-Ok-check_image.ensures
 
 pub returns : goal.returns
 unfolding segments
 returns c = λ _.
-    let there = same _ _ _ _ c.word.ensures (c.from_vec.ensures ∙ c.in_ok-kept_segments.ensures ∙ ap kept_of (c.as_slice-2.ensures.value ∙ c.in_ok-found.ensures)) in
+    let there = same _ _ _ _ c.word.ensures (c.new.ensures ∙ c.in_ok-kept_segments.ensures ∙ ap kept_of (c.as_slice-2.ensures.value ∙ c.in_ok-found.ensures)) in
     image_refused c.args.file.now c.as_slice.result.now _ c.in-Err-check_image.error (c.as_slice.ensures.value ∙ c.in_ok-found.ensures) there c.in-Ok.ensures c.in-Err-check_image.ensures

@@ -1,0 +1,2 @@
+pub mod FlatImages
+pub mod Outgoing

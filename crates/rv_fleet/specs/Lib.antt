@@ -1,0 +1,4 @@
+pub mod Flat
+pub mod Outcome
+pub mod Report
+pub mod Sending

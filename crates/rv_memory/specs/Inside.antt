@@ -1,0 +1,6 @@
+-- What the code keeps in place of regions and contents. The contracts of public functions cite nothing of it.
+pub mod Places
+pub mod Map
+pub mod MapBack
+pub mod View
+pub mod Bus
