@@ -1,5 +1,6 @@
 -- The row of a flat image: bytes without a header, for the default map.
 use Rattle.std.specs.Prelude.{ℕ, ◌-◌, true, List, [], ◌∷◌, length, get_or, leb, codes, nat_lt, if◌then◌else◌}
+use Rattle.rv_isa.specs.declared.sets.Isa.TheVariants.{Imc}
 use Rattle.rv_memory.specs.declared.map.Region.{Region}
 use Rattle.rv_memory.specs.declared.bus.Misaligned.TheVariants.{Fault}
 use Rattle.rv_memory.specs.Bus.{Contents, opened, placed}
@@ -25,9 +26,9 @@ flat_contents bytes = placed (opened default_regions [] Fault) 0x8000_0000 bytes
 abbrev pub flat_byte : List ℕ → ℕ → ℕ
 flat_byte bytes address = if leb 0x8000_0000 address then get_or bytes (address - 0x8000_0000) 0 else 0
 
--- the hart at reset, its pc at the image's first byte
+-- the hart of RV32IMC at reset, its pc at the image's first byte
 abbrev pub flat_state : List ℕ → State
-flat_state bytes = at_reset (flat_contents bytes) 0x8000_0000
+flat_state bytes = at_reset (flat_contents bytes) 0x8000_0000 Imc
 
 -- the name of each flat image's row
 abbrev pub flat_name : List ℕ

@@ -35,6 +35,7 @@ fault_name fault.StoreMisaligned = codes "store-misaligned"
 fault_name fault.StoreAccess = codes "store-access"
 fault_name fault.ConsoleFull = codes "console-full"
 fault_name fault.UnknownCall = codes "unknown-call"
+fault_name fault.FetchMisaligned = codes "fetch-misaligned"
 
 -- no row has the last
 abbrev pub image_error_name : ImageError → List ℕ

@@ -7,6 +7,7 @@ ghost use Rattle.rv_fleet.specs.Flat.{flat_byte, flat_contents, flat_row_of, fla
 
 use crate::outcome::{refused_row, run_row};
 use crate::row::{Refusal, Row};
+use rv_isa::Isa;
 use rv_machine::Machine;
 use rv_memory::{Bus, Map, Misaligned};
 use std::alloc::{AllocError, Global};
@@ -34,7 +35,7 @@ fn flat_machine(alloc: Global, bytes: &[u8]) -> Result<Machine, AllocError>
     requires { length bytes.now ≤ image_room }
     ensures { IfOk result (λ machine. state_of machine ≡ flat_state bytes.now) }
 {
-    Machine::new(alloc, flat_bus(alloc, bytes)?, ENTRY)
+    Machine::new(alloc, flat_bus(alloc, bytes)?, ENTRY, Isa::Imc)
 }
 
 fn flat_bus(alloc: Global, bytes: &[u8]) -> Result<Bus, AllocError>

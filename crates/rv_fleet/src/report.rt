@@ -232,6 +232,7 @@ fn fault_text(kind: FaultKind) -> &'static str
         FaultKind::StoreAccess => "store-access",
         FaultKind::ConsoleFull => "console-full",
         FaultKind::UnknownCall => "unknown-call",
+        FaultKind::FetchMisaligned => "fetch-misaligned",
     }
 }
 

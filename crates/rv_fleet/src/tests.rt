@@ -84,7 +84,7 @@ const ADD_AND_EXIT: [u8; 12] = [
     0x13, 0x05, 0x50, 0x00, 0x93, 0x08, 0xd0, 0x05, 0x73, 0x00, 0x00, 0x00,
 ];
 
-const FAULTS: [FaultKind; 10] = [
+const FAULTS: [FaultKind; 11] = [
     FaultKind::FetchAccess,
     FaultKind::StaleCode,
     FaultKind::Illegal,
@@ -95,6 +95,7 @@ const FAULTS: [FaultKind; 10] = [
     FaultKind::StoreAccess,
     FaultKind::ConsoleFull,
     FaultKind::UnknownCall,
+    FaultKind::FetchMisaligned,
 ];
 
 const ENDINGS: &str = "\
@@ -112,6 +113,7 @@ fault store-misaligned pc=80000004 value=00000abc
 fault store-access pc=80000004 value=00000abc
 fault console-full pc=80000004 value=00000abc
 fault unknown-call pc=80000004 value=00000abc
+fault fetch-misaligned pc=80000004 value=00000abc
 ";
 
 #[test]
@@ -140,7 +142,7 @@ fn writes_each_ending(rt: HostRuntime) -> Result<(), Fail> {
         write!(expected, "job {number} a.b_c-d\nend {ending}\n")?;
         expected.push_str("steps 12\nconsole -\nsignature -\nverdict none\n")?;
     }
-    expected.push_str("done 14\n")?;
+    expected.push_str("done 15\n")?;
     assert_eq!(rt; out.text()?, expected.as_str());
     Ok(())
 }

@@ -13,6 +13,7 @@ mod execute;
 mod fetch;
 mod hart;
 mod machine;
+mod stop;
 mod table;
 #[cfg(test)]
 mod tests;

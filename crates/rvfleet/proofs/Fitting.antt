@@ -9,6 +9,7 @@ use Rattle.rv_elf.specs.Loading.{map_check, opening_memory}
 use Rattle.rv_elf.specs.Rows.{accepted}
 use Rattle.rv_memory.specs.declared.bus.Misaligned.TheVariants.{Fault}
 use Rattle.rv_memory.specs.Bus.{Contents, opened}
+use Rattle.rv_isa.specs.declared.sets.Isa.TheVariants.{Imc}
 use Rattle.rv_machine.specs.State.{at_reset}
 use Rattle.rvfleet.specs.ElfImages.{fitting_image_of, if_accepted, if_fits, loaded_state}
 use Rattle.rv_fleet.specs.Flat.{default_regions}
@@ -36,6 +37,6 @@ is_new bus script is = rw is (refl, refl)
 
 -- what stands in the machine once the image is loaded
 pub loaded_is : (before after : Contents) (file : List ℕ) (image : Image) (at : LoadAt) (script : List ℕ) → before ≡ opened default_regions script Fault
-    → after ≡ record before { memory = opening_memory before.regions image.segments file at } → at_reset after image.entry ≡ loaded_state file image at script
+    → after ≡ record before { memory = opening_memory before.regions image.segments file at } → at_reset after image.entry Imc ≡ loaded_state file image at script
 unfolding opened
 loaded_is before after file image at script is loaded = rw (loaded, is) refl

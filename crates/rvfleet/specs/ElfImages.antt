@@ -9,6 +9,7 @@ use Rattle.rv_elf.specs.Loading.{map_check, opening_memory}
 use Rattle.rv_memory.specs.declared.bus.Misaligned.TheVariants.{Fault}
 use Rattle.rv_memory.specs.Bus.{Contents, opened}
 use Rattle.rv_machine.specs.Run.{run_of}
+use Rattle.rv_isa.specs.declared.sets.Isa.TheVariants.{Imc}
 use Rattle.rv_machine.specs.State.{State, at_reset}
 use Rattle.rv_fleet.specs.declared.row.Refusal.TheVariants as refusal
 use Rattle.rv_fleet.specs.declared.row.Row.{Row}
@@ -42,7 +43,7 @@ loaded_contents file image at script =
 
 -- the hart at reset, its pc at the image's entry
 abbrev pub loaded_state : List ℕ → Image → LoadAt → List ℕ → State
-loaded_state file image at script = at_reset (loaded_contents file image at script) image.entry
+loaded_state file image at script = at_reset (loaded_contents file image at script) image.entry Imc
 
 -- the name of the row of an image that is run alone
 abbrev pub one_name : List ℕ

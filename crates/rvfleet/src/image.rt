@@ -80,5 +80,5 @@ fn loaded_machine(
 {
     let mut bus = Bus::new(alloc, Map::default_map(), script, Misaligned::Fault)?;
     load(image, file, at, &mut bus);
-    Machine::new(alloc, bus, image.entry)
+    Machine::new(alloc, bus, image.entry, Isa::Imc)
 }

@@ -1,7 +1,7 @@
 //! What is kept, and that nobody can tell but by `kept`.
-use super::{BASE, bytes_of, cells_of, check, ending_of, machine, machine_in, region};
+use super::{BASE, bytes_of, cells_of, check, ending_of, machine, machine_in, machine_on, region};
 use crate::{Ending, Machine};
-use rv_isa::{Instr, Op};
+use rv_isa::{Instr, Isa, Op};
 use rv_memory::{Bus, Map, Misaligned, Region};
 use std::alloc::Global;
 use std::process::Abort;
@@ -68,6 +68,35 @@ sw t1,16(t0) | 0062a823 | stale-code 80000012 80000012 | 15 | exit 5 | 21
 sw t1,20(t0) | 0062aa23 | stale-code 80000014 80000014 | 16 | exit 10 | 21
 ";
 
+// The same stores at other addresses, which a bus allows that allows misaligned accesses.
+const MISALIGNED_OVER_FOUR: &str = "\
+sh t1,13(t0) | 006296a3 | exit 10 | 20 | exit 10 | 20
+sh t1,15(t0) | 006297a3 | stale-code 80000010 80000010 | 14 | exit 5 | 21
+sh t1,17(t0) | 006298a3 | stale-code 80000010 80000010 | 14 | exit 5 | 20
+sh t1,19(t0) | 006299a3 | stale-code 80000010 80000012 | 14 | illegal 80000014 0 | 15
+sh t1,21(t0) | 00629aa3 | stale-code 80000014 80000014 | 15 | illegal 80000016 0 | 16
+sw t1,11(t0) | 0062a5a3 | exit 10 | 20 | exit 10 | 20
+sw t1,13(t0) | 0062a6a3 | stale-code 80000010 80000010 | 14 | exit 5 | 21
+sw t1,14(t0) | 0062a723 | stale-code 80000010 80000010 | 14 | exit 5 | 21
+sw t1,15(t0) | 0062a7a3 | stale-code 80000010 80000010 | 14 | illegal 80000012 0 | 15
+sw t1,17(t0) | 0062a8a3 | stale-code 80000010 80000010 | 14 | illegal 80000014 0 | 15
+sw t1,18(t0) | 0062a923 | stale-code 80000010 80000012 | 14 | exit 0 | 20
+sw t1,19(t0) | 0062a9a3 | stale-code 80000010 80000012 | 14 | illegal 80000016 0 | 16
+";
+
+const MISALIGNED_OVER_TWO: &str = "\
+sh t1,15(t0) | 006297a3 | exit 10 | 21 | exit 10 | 21
+sh t1,17(t0) | 006298a3 | stale-code 80000012 80000012 | 15 | exit 5 | 21
+sh t1,19(t0) | 006299a3 | stale-code 80000012 80000012 | 15 | illegal 80000014 0 | 16
+sh t1,21(t0) | 00629aa3 | stale-code 80000014 80000014 | 16 | illegal 80000016 0 | 17
+sw t1,13(t0) | 0062a6a3 | exit 10 | 21 | exit 10 | 21
+sw t1,14(t0) | 0062a723 | exit 10 | 21 | exit 10 | 21
+sw t1,15(t0) | 0062a7a3 | stale-code 80000012 80000012 | 15 | exit 5 | 21
+sw t1,17(t0) | 0062a8a3 | stale-code 80000012 80000012 | 15 | illegal 80000014 0 | 16
+sw t1,18(t0) | 0062a923 | stale-code 80000012 80000012 | 15 | exit 5 | 21
+sw t1,19(t0) | 0062a9a3 | stale-code 80000012 80000012 | 15 | illegal 80000016 0 | 17
+";
+
 #[test]
 fn stores_drop_what_they_touch(rt: HostRuntime) -> Result<(), Fail> {
     let alloc = rt.alloc();
@@ -80,7 +109,32 @@ fn stores_drop_what_they_touch(rt: HostRuntime) -> Result<(), Fail> {
         "fe7ff06f",
     )?;
     check_stores(&rt, alloc, OVER_TWO, "0001 0001 0515", "fe9ff06f")?;
-    check_stores(&rt, alloc, OVER_TWO_ODD, "0001 0001 0001 0515", "fe9ff06f")
+    check_stores(&rt, alloc, OVER_TWO_ODD, "0001 0001 0001 0515", "fe9ff06f")?;
+    check_stores(
+        &rt,
+        alloc,
+        MISALIGNED_OVER_FOUR,
+        "0001 0001 00550513",
+        "fe7ff06f",
+    )?;
+    check_stores(
+        &rt,
+        alloc,
+        MISALIGNED_OVER_TWO,
+        "0001 0001 0001 0515",
+        "fe9ff06f",
+    )
+}
+
+/// A machine over the default map that allows misaligned accesses, with an image at its base.
+fn allowing(rt: &impl Abort, alloc: Global, image: &str) -> Result<Machine, Fail> {
+    let bus = Bus::new(
+        alloc,
+        Map::default_map(),
+        Vec::new(alloc),
+        Misaligned::Allow,
+    )?;
+    machine_on(rt, alloc, bus, BASE, Isa::Imc, image)
 }
 
 /// Runs the stores of a table over an instruction, which stands last in some code, with the jump back to it.
@@ -102,7 +156,7 @@ fn check_stores(
             let image = format!(in alloc;
                 "00000297 00010337 00130313 {code} 0001 0001 0001 00039a63 00100393 {store} {fence} {back} X"
             )?;
-            let outcome = machine(rt, alloc, image.as_str())?.run(100);
+            let outcome = allowing(rt, alloc, image.as_str())?.run(100);
             assert_eq!(rt; outcome.ending, ending_of(ending)?, "{line}");
             assert_eq!(rt; outcome.steps, steps.parse::<u32>()?, "{line}");
         }
@@ -203,7 +257,7 @@ fn last_halfword_is_kept(rt: HostRuntime) -> Result<(), Fail> {
         bus.place(0, low.as_slice());
         assert!(rt; bus.map().in_one(0xffff_fffe, 2));
         bus.place(0xffff_fffe, b"\x13\x05");
-        let mut machine = Machine::new(rt.alloc(), bus, 0xffff_fffe)?;
+        let mut machine = Machine::new(rt.alloc(), bus, 0xffff_fffe, Isa::Imc)?;
         assert_eq!(rt; machine.step(), None);
         let adds_five = Some((instr(Op::Addi, 10, 10, 0, 5), 4));
         assert_eq!(rt; machine.kept(0xffff_fffe), adds_five);

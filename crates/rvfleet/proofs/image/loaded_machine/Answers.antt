@@ -14,8 +14,8 @@ load-requires-clause-fits c =
 pub load-requires-clause-new : goal.load-requires-clause-new
 load-requires-clause-new c = (is_new _ _ (rw c.default_map.ensures at c.in_ok-bus.ensures)).1
 
-pub new-requires-2 : goal.new-requires-2
-new-requires-2 c = entry_even Imc _ _ (fitting_parts _ _ _ c.requires.fits).0
+pub new-requires-2-clause-even : goal.new-requires-2-clause-even
+new-requires-2-clause-even c = entry_even Imc _ _ (fitting_parts _ _ _ c.requires.fits).0
 
 pub returns : goal.returns
 returns c = rw (loaded_is _ _ c.args.file.now c.args.image.now _ _ (rw c.default_map.ensures at c.in_ok-bus.ensures) c.load.ensures) at c.new-2.ensures
