@@ -1,5 +1,5 @@
 ghost use Rattle.std.specs.Prelude.{◌≡◌, ◌+◌, ◌-◌, ◌%◌, ◌<◌, ◌≤◌, Ok, Err, MatchResult, Option, Some, false, length, option_map, drop};
-ghost use Rattle.rv_elf.specs.Image.{image_of};
+ghost use Rattle.rv_elf.specs.Image.{IsImageOf};
 ghost use Rattle.rv_elf.specs.Sections.{symbol_at, symbol_named, begins_with, is_named, bytes_of, is_past, HasSections};
 ghost use Rattle.rv_elf.specs.Symbols.{symbol_of, signature_check, is_bad_range};
 
@@ -32,7 +32,7 @@ const MOST_BYTES: u32 = 0x4_0000;
 /// [`ImageError::SymbolTable`], [`ImageError::StringTable`], and [`ImageError::NoBegin`] for any name
 /// that no defined symbol has.
 pub fn find_symbol(image: &Image, file: &[u8], name: &[u8]) -> Result<u32, ImageError>
-    requires image { image_of file.now ≡ Ok image.now }
+    requires image { IsImageOf file.now image.now }
     requires named { 0 < length name.now }
     ensures { result ≡ symbol_of file.now name.now }
 {

@@ -3,6 +3,7 @@ use crate::{
     ImageError, LoadAt, Segment, Segments, check_map, check_signature, find_symbol, load,
     read_image,
 };
+use rv_isa::Isa;
 use rv_memory::{Bus, Map, Misaligned, Region, Width};
 use std::alloc::Global;
 use std::process::Abort;
@@ -60,13 +61,13 @@ fn set(
 }
 
 fn refusal(alloc: Global, file: &[u8]) -> Option<ImageError> {
-    read_image(alloc, file).err()
+    read_image(alloc, file, Isa::Imc).err()
 }
 
 #[test]
 fn images(rt: HostRuntime) -> Result<(), Fail> {
     let alloc = rt.alloc();
-    let one = read_image(alloc, &ONE_SEGMENT)?;
+    let one = read_image(alloc, &ONE_SEGMENT, Isa::Imc)?;
     assert_eq!(&rt; one.entry, 0x8000_0000);
     let code = Segment {
         offset: 84,
@@ -76,7 +77,7 @@ fn images(rt: HostRuntime) -> Result<(), Fail> {
         memsz: 12,
     };
     assert_eq!(&rt; one.segments.as_slice(), [code].as_slice());
-    let two = read_image(alloc, &TWO_SEGMENTS)?;
+    let two = read_image(alloc, &TWO_SEGMENTS, Isa::Imc)?;
     assert_eq!(&rt; two.entry, 0x8000_0000);
     let code = Segment {
         offset: 116,
@@ -334,7 +335,13 @@ fn long_tables(rt: HostRuntime) -> Result<(), Fail> {
     for _ in 1..64 {
         file.extend_from_slice(&ONE_SEGMENT[52..84])?;
     }
-    assert_eq!(&rt; read_image(alloc, &file)?.segments.as_slice().len(), 64);
+    assert_eq!(&rt;
+        read_image(alloc, &file, Isa::Imc)?
+            .segments
+            .as_slice()
+            .len(),
+        64
+    );
     Ok(())
 }
 
@@ -442,7 +449,7 @@ fn maps(rt: HostRuntime) -> Result<(), Fail> {
     ];
     for (label, file, at, field, region, load_at, error) in rows {
         let file = set(&rt, alloc, file, at, field)?;
-        let image = read_image(alloc, &file)?;
+        let image = read_image(alloc, &file, Isa::Imc)?;
         let map = Map::of(&[region])?;
         assert_eq!(&rt; check_map(&image, &map, load_at).err(), error, "{label}");
     }
@@ -451,7 +458,7 @@ fn maps(rt: HostRuntime) -> Result<(), Fail> {
 
 /// A new bus that a file is loaded into.
 fn loaded(alloc: Global, file: &[u8], region: Region, at: LoadAt) -> Result<Bus, Fail> {
-    let image = read_image(alloc, file)?;
+    let image = read_image(alloc, file, Isa::Imc)?;
     let map = Map::of(&[region])?;
     check_map(&image, &map, at)?;
     let mut bus = Bus::new(alloc, map, Vec::new(alloc), Misaligned::Fault)?;
@@ -557,7 +564,7 @@ fn file_of(rt: &impl Abort, alloc: Global, groups: &str, changes: &str) -> Resul
 
 /// What asking a file for a symbol answers: eight digits of its value, or the refusal's name.
 fn symbol_in(alloc: Global, file: &[u8], name: &str) -> Result<String, Fail> {
-    let image = read_image(alloc, file)?;
+    let image = read_image(alloc, file, Isa::Imc)?;
     if name.is_empty() {
         return Ok(String::from_str(alloc, "no name")?);
     }
@@ -693,6 +700,34 @@ fn signature_ranges(rt: HostRuntime) -> Result<(), Fail> {
     assert_eq!(&rt;
         check_signature(4, 0, &map),
         Err(ImageError::SignatureRange)
+    );
+    Ok(())
+}
+
+/// A row is the entry's bytes, a set, and the refusal.
+#[test]
+fn entries_of_each_set(rt: HostRuntime) -> Result<(), Fail> {
+    let alloc = rt.alloc();
+    let rows = [
+        (0, Isa::I, None),
+        (1, Isa::I, Some(ImageError::EntryOdd)),
+        (2, Isa::I, Some(ImageError::EntryAlign)),
+        (2, Isa::Im, Some(ImageError::EntryAlign)),
+        (2, Isa::Ic, None),
+        (2, Isa::Imc, None),
+        (3, Isa::Im, Some(ImageError::EntryOdd)),
+        (3, Isa::Imc, Some(ImageError::EntryOdd)),
+        (4, Isa::Im, None),
+    ];
+    for (low, isa, error) in rows {
+        let file = set(&rt, alloc, &ONE_SEGMENT, 24, &[low])?;
+        assert_eq!(&rt; read_image(alloc, &file, isa).err(), error, "{low} {isa:?}");
+    }
+    let none = set(&rt, alloc, &ONE_SEGMENT, 24, &[2])?;
+    let none = set(&rt, alloc, &none, 44, HALF_ZERO)?;
+    assert_eq!(&rt;
+        read_image(alloc, &none, Isa::I).err(),
+        Some(ImageError::NoSegment)
     );
     Ok(())
 }

@@ -67,10 +67,12 @@ fn gather<W: Sink>(
     out: &mut W,
 ) -> Result<(), WriteError>
     requires { string_bytes text.old ≡ [] }
-    ensures under_way { OnOk result (IsUnderWay (W.taken out.old) (W.taken out.new) (string_bytes text.new) (rows_text 0 rows.now)) }
+    ensures under_way { OnOk result
+        (IsUnderWay (W.taken out.old) (W.taken out.new) (string_bytes text.new) (rows_text 0 rows.now)) }
     ensures counted { OnOk result (W.failed out.new ≡ W.failed out.old) }
     ensures part { OnErr result (AppendsBeginning (W.taken out.old) (W.taken out.new) (rows_text 0 rows.now)) }
-    ensures failed { IfErr result (λ error. error ≡ WriteError.Failed → W.failed out.new ≡ one_more (W.failed out.old)) }
+    ensures failed { IfErr result
+        (λ error. error ≡ WriteError.Failed → W.failed out.new ≡ one_more (W.failed out.old)) }
 {
     for (place, row) in rows.iter().enumerate() {
         push_row(alloc, text, place, row)?;
@@ -81,10 +83,12 @@ fn gather<W: Sink>(
 
 // Sends the gathered text where it is enough for a put.
 fn send_enough<W: Sink>(text: &mut String, out: &mut W) -> Result<(), WriteError>
-    ensures under_way { OnOk result (IsUnderWay (W.taken out.old) (W.taken out.new) (string_bytes text.new) (string_bytes text.old)) }
+    ensures under_way { OnOk result
+        (IsUnderWay (W.taken out.old) (W.taken out.new) (string_bytes text.new) (string_bytes text.old)) }
     ensures counted { OnOk result (W.failed out.new ≡ W.failed out.old) }
     ensures part { OnErr result (AppendsBeginning (W.taken out.old) (W.taken out.new) (string_bytes text.old)) }
-    ensures failed { IfErr result (λ error. (error ≡ WriteError.Failed) × (W.failed out.new ≡ one_more (W.failed out.old))) }
+    ensures failed { IfErr result
+        (λ error. (error ≡ WriteError.Failed) × (W.failed out.new ≡ one_more (W.failed out.old))) }
 {
     if text.len() < ENOUGH {
         return Ok(());
@@ -98,7 +102,8 @@ fn send<W: Sink>(text: &mut String, out: &mut W) -> Result<(), WriteError>
     ensures anew { OnOk result (string_bytes text.new ≡ []) }
     ensures counted { OnOk result (W.failed out.new ≡ W.failed out.old) }
     ensures part { OnErr result (AppendsBeginning (W.taken out.old) (W.taken out.new) (string_bytes text.old)) }
-    ensures failed { IfErr result (λ error. (error ≡ WriteError.Failed) × (W.failed out.new ≡ one_more (W.failed out.old))) }
+    ensures failed { IfErr result
+        (λ error. (error ≡ WriteError.Failed) × (W.failed out.new ≡ one_more (W.failed out.old))) }
 {
     put_all(out, text.as_bytes())?;
     text.clear();
@@ -189,7 +194,9 @@ fn push_signature(
     text: &mut String,
     signature: Option<&[u32]>,
 ) -> Result<(), AllocError>
-    ensures { OnOk result (string_bytes text.new ≡ string_bytes text.old ++ signature_lines (option_map (λ words. words.now) signature.entry)) }
+    ensures { OnOk result
+        (string_bytes text.new ≡ string_bytes text.old ++ signature_lines
+        (option_map (λ words. words.now) signature.entry)) }
 {
     match signature {
         Some(words) => {

@@ -1,5 +1,6 @@
 -- The row of an ELF image in the default map, its file bytes at their physical or at their virtual addresses.
 use Rattle.std.specs.Prelude.{ℕ, List, codes, Result, Ok, Err}
+use Rattle.rv_isa.specs.declared.sets.Isa.TheVariants.{Imc}
 use Rattle.rv_elf.specs.declared.error.ImageError.{ImageError}
 use Rattle.rv_elf.specs.declared.image.Image.{Image}
 use Rattle.rv_elf.specs.declared.loading.LoadAt.{LoadAt}
@@ -31,9 +32,9 @@ abbrev pub if_fits : Result Image ImageError → LoadAt → Result Image ImageEr
 if_fits (Ok image) at = if_accepted (map_check image.segments default_regions at) image
 if_fits (Err why) at = Err why
 
--- the image of a file's bytes where the default map takes it, else the first refusal
+-- the image of a file's bytes, for RV32IMC, where the default map takes it, else the first refusal
 unfoldable pub fitting_image_of : List ℕ → LoadAt → Result Image ImageError
-fitting_image_of file at = if_fits (image_of file) at
+fitting_image_of file at = if_fits (image_of Imc file) at
 
 -- the image in memory, nothing stored, and the script; misaligned accesses are refused
 abbrev pub loaded_contents : List ℕ → Image → LoadAt → List ℕ → Contents

@@ -30,7 +30,8 @@ pub enum Asked<'a> {
 /// command takes name no request. An error is `clap`'s own; help is one, of the kind DisplayHelp.
 pub fn read_words<'a, T: AsStr>(alloc: Global, words: &'a [T]) -> Result<Option<Asked<'a>>, Error>
     ensures value { IfOk result (λ asked. option_map request asked ≡ request_of (map T.text words.entry.now)) }
-    ensures taken { IfErr result (λ error. is_taken (map T.text words.entry.now) ≡ true → kind_of error ≡ ErrorKind.OutOfMemory) }
+    ensures taken { IfErr result
+        (λ error. is_taken (map T.text words.entry.now) ≡ true → kind_of error ≡ ErrorKind.OutOfMemory) }
     ensures kinds { IfErr result (HasKind (fault_of fleet_app (map T.text words.entry.now))) }
 {
     let command = fleet_command(alloc)?;

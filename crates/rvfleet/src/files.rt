@@ -62,7 +62,8 @@ impl<'a, R: Files> Store for FileStore<'a, R> {
 pub fn read_whole<R: Read>(alloc: Global, file: &mut R) -> Result<Vec<u8>, ReadError>
     ensures whole { IfOk result (λ bytes. IfSome (R.remaining file.old) (λ known. bytes.items ≡ known)) }
     ensures within { IfOk result (λ bytes. length bytes.items ≤ most_bytes) }
-    ensures long { IfErr result (λ error. error ≡ ReadError.TooLong → IfSome (R.remaining file.old) (λ known. most_bytes < length known)) }
+    ensures long { IfErr result
+        (λ error. error ≡ ReadError.TooLong → IfSome (R.remaining file.old) (λ known. most_bytes < length known)) }
 {
     match read_at_most(alloc, file, MOST_BYTES + 1) {
         Ok(bytes) if bytes.len() <= MOST_BYTES => Ok(bytes),

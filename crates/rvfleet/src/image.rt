@@ -59,9 +59,10 @@ fn file_row(
 // The image of a file that the default map takes.
 #[tactic(auto, unfolding(crate::specs::ElfImages::fitting_image_of))]
 fn fitting_image(alloc: Global, file: &[u8], at: LoadAt) -> Result<Image, ImageError>
-    ensures { MatchResult result (λ image. fitting_image_of file.now at ≡ Ok image) (λ error. error ≢ OutOfMemory → fitting_image_of file.now at ≡ Err error) }
+    ensures { MatchResult result (λ image. fitting_image_of file.now at ≡ Ok image)
+        (λ error. error ≢ OutOfMemory → fitting_image_of file.now at ≡ Err error) }
 {
-    let image = read_image(alloc, file)?;
+    let image = read_image(alloc, file, Isa::Imc)?;
     check_map(&image, &Map::default_map(), at)?;
     Ok(image)
 }

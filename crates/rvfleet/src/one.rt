@@ -43,7 +43,9 @@ pub fn is_bad_path(path: &str) -> bool
 pub fn read_script(alloc: Global, digits: Option<&str>) -> Result<Vec<u8>, ScriptError>
     ensures value { IfOk result (λ script. bytes_of (option_map (λ text. text.now) digits.entry) ≡ Ok script.items) }
     ensures room { IfOk result (λ script. vec_len script ≤ most_script) }
-    ensures refused { IfErr result (λ error. error ≡ ScriptError.Refused → is_bad_script (bytes_of (option_map (λ text. text.now) digits.entry)) ≡ true) }
+    ensures refused { IfErr result
+        (λ error. error ≡ ScriptError.Refused
+        → is_bad_script (bytes_of (option_map (λ text. text.now) digits.entry)) ≡ true) }
 {
     let Some(digits) = digits else {
         return Ok(Vec::new(alloc));
@@ -66,10 +68,13 @@ pub fn run_one<S: Store, O: Sink>(
     out: &mut O,
 ) -> Result<(), RunError>
     requires { vec_len script ≤ most_script }
-    ensures appended { OnOk result ((kept : Kept) × (MayAnswer (S.contents store.old) (S.faulted store.old) (S.faulted store.new) path.now kept
+    ensures appended { OnOk result
+        ((kept : Kept) × (MayAnswer (S.contents store.old) (S.faulted store.old) (S.faulted store.new) path.now kept
         × Appends (O.taken out.old) (O.taken out.new) (report_text (one_rows kept budget script.items)))) }
     ensures counted { OnOk result (O.failed out.new ≡ O.failed out.old) }
-    ensures part { OnErr result (Keeps (O.taken out.old) (O.taken out.new) ⊎ ((kept : Kept) × (MayAnswer (S.contents store.old) (S.faulted store.old) (S.faulted store.new) path.now kept
+    ensures part { OnErr result
+        (Keeps (O.taken out.old) (O.taken out.new)
+        ⊎ ((kept : Kept) × (MayAnswer (S.contents store.old) (S.faulted store.old) (S.faulted store.new) path.now kept
         × AppendsBeginning (O.taken out.old) (O.taken out.new) (report_text (one_rows kept budget script.items))))) }
     ensures failed { IfErr result (λ error. error ≡ RunError.WriteFailed → Rose (O.failed out.old) (O.failed out.new)) }
     ensures was_read { IfErr result (λ error. error ≢ RunError.ReadFailed) }

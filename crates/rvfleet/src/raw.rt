@@ -25,11 +25,15 @@ pub fn run_raw<R: Read, O: Sink>(
     out: &mut O,
     budget: u32,
 ) -> Result<(), RunError>
-    ensures appended { OnOk result (IfSome (R.remaining input.old) (λ bytes. Appends (O.taken out.old) (O.taken out.new) (report_text (raw_rows bytes budget)))) }
+    ensures appended { OnOk result
+        (IfSome (R.remaining input.old)
+        (λ bytes. Appends (O.taken out.old) (O.taken out.new) (report_text (raw_rows bytes budget)))) }
     ensures left { OnOk result (TookFirst most_read (R.remaining input.old) (R.remaining input.new)) }
     ensures counted { OnOk result (O.failed out.new ≡ O.failed out.old) }
     ensures unread { IfErr result (λ error. error ≡ RunError.ReadFailed → Keeps (O.taken out.old) (O.taken out.new)) }
-    ensures part { OnErr result (IfSome (R.remaining input.old) (λ bytes. AppendsBeginning (O.taken out.old) (O.taken out.new) (report_text (raw_rows bytes budget)))) }
+    ensures part { OnErr result
+        (IfSome (R.remaining input.old)
+        (λ bytes. AppendsBeginning (O.taken out.old) (O.taken out.new) (report_text (raw_rows bytes budget)))) }
     ensures failed { IfErr result (λ error. error ≡ RunError.WriteFailed → Rose (O.failed out.old) (O.failed out.new)) }
 {
     let bytes = read_at_most(alloc, input, MOST_READ)?;

@@ -30,7 +30,9 @@ pub trait Store {
         ensures same { contents self.new ≡ contents self.old }
         ensures within { IfOk result (λ bytes. length bytes.items ≤ most_bytes) }
         ensures known { IfOk result (λ bytes. IfSome (contents self.old) (λ files. files path.now ≡ Some bytes.items)) }
-        ensures long { IfErr result (λ error. error ≡ ReadError.TooLong → IfSome (contents self.old) (λ files. IsSomeAnd (files path.now) (λ bytes. most_bytes < length bytes))) }
+        ensures long { IfErr result
+            (λ error. error ≡ ReadError.TooLong
+            → IfSome (contents self.old) (λ files. IsSomeAnd (files path.now) (λ bytes. most_bytes < length bytes))) }
         ensures unfaulted { IfOk result (λ _. faulted self.new ≡ faulted self.old) }
         ensures faults { IfErr result (λ error. faulted self.new ≡ faults_after error (faulted self.old)) };
 
@@ -52,7 +54,8 @@ pub enum Kept {
 
 /// Reads a path once, and keeps the answer.
 pub fn keep<S: Store>(alloc: Global, store: &mut S, path: &str) -> Result<Kept, AllocError>
-    ensures kept { IfOk result (λ kept. MayAnswer (S.contents store.old) (S.faulted store.old) (S.faulted store.new) path.now kept) }
+    ensures kept { IfOk result
+        (λ kept. MayAnswer (S.contents store.old) (S.faulted store.old) (S.faulted store.new) path.now kept) }
     ensures same { S.contents store.new ≡ S.contents store.old }
     ensures unfaulted { OnErr result (S.faulted store.new ≡ S.faulted store.old) }
 {

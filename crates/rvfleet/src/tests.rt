@@ -761,20 +761,18 @@ Options:
   -h, --help           Print help
 ";
 
+// Whether words are answered by this help.
+fn is_helped(alloc: Global, line: &str, text: &str) -> Result<bool, Fail> {
+    ask_raw(alloc, line, &[])?.is(0, text, "")
+}
+
 #[test]
 fn shows_help(rt: HostRuntime) -> Result<(), Fail> {
     let alloc = rt.alloc();
-    let texts = [
-        ("--help", HELP),
-        ("-h", HELP),
-        ("raw --help", RAW_HELP),
-        ("one --help", ONE_HELP),
-    ];
-    for (line, text) in texts {
-        let answer = ask_raw(alloc, line, &[])?;
-        assert_eq!(rt; answer.out.text()?, text, "{line}");
-        assert_eq!(rt; (answer.status, answer.faults.puts), (0, 0), "{line}");
-    }
+    assert!(rt; is_helped(alloc, "--help", HELP)?);
+    assert!(rt; is_helped(alloc, "-h", HELP)?);
+    assert!(rt; is_helped(alloc, "raw --help", RAW_HELP)?);
+    assert!(rt; is_helped(alloc, "one --help", ONE_HELP)?);
     Ok(())
 }
 
@@ -806,19 +804,22 @@ fn ask_slow(alloc: Global, bytes: &[u8], fails: bool) -> Result<Answer, AllocErr
 #[test]
 fn reads_in_parts(rt: HostRuntime) -> Result<(), Fail> {
     let alloc = rt.alloc();
-    let code = image(alloc, "00500513 X")?;
-    let (start, _) = code.split_at_checked(4).ok_or("four bytes")?;
-    assert!(rt; ask_slow(alloc, code.as_slice(), false)?.is(0, RAW_TEXT, "")?);
+    assert!(rt; ask_slow(alloc, &ADD_AND_EXIT, false)?.is(0, RAW_TEXT, "")?);
+    let start: &[u8] = &[0x13, 0x05, 0x50, 0x00];
     assert!(rt; ask_slow(alloc, start, true)?.is(3, "", "rvfleet: read failed\n")?);
+    Ok(())
+}
 
+#[test]
+fn writes_nothing_where_a_read_fails(rt: HostRuntime) {
+    let alloc = rt.alloc();
     let mut out = MemorySink::new(alloc);
     let mut input = SlowReader {
-        bytes: start,
+        bytes: &[0x13],
         fails: true,
     };
     let failed = run_raw(alloc, &mut input, &mut out, 3);
     assert_eq!(rt; (failed, out.puts), (Err(RunError::ReadFailed), 0));
-    Ok(())
 }
 
 #[test]
@@ -837,12 +838,25 @@ fn reads_no_further_than_it_needs(rt: HostRuntime) -> Result<(), Fail> {
     Ok(())
 }
 
-// The program's answer to the first flat image, into a sink.
-fn ask_into(alloc: Global, out: MemorySink) -> Result<Answer, Fail> {
-    let code = image(alloc, "00500513 X")?;
+// Sets x10 to 5 and x17 to 93, then ECALL.
+const ADD_AND_EXIT: [u8; 12] = [
+    0x13, 0x05, 0x50, 0x00, 0x93, 0x08, 0xd0, 0x05, 0x73, 0x00, 0x00, 0x00,
+];
+
+// The program's answer to that flat image, into a sink.
+fn ask_into(alloc: Global, out: MemorySink) -> Result<Answer, AllocError> {
     let mut store = MemoryStore::of("", &[]);
-    let mut input = code.as_slice();
-    Ok(ask(alloc, RAW_WORDS, &mut store, &mut input, out)?)
+    let mut input: &[u8] = &ADD_AND_EXIT;
+    ask(alloc, RAW_WORDS, &mut store, &mut input, out)
+}
+
+// Whether a put that fails leaves the text of the puts before it, ten bytes each.
+fn stops_at(alloc: Global, fails_at: u64) -> Result<bool, Fail> {
+    let cut = ask_into(alloc, MemorySink::failing(alloc, 10, fails_at))?;
+    let taken = (fails_at as usize).saturating_sub(1).saturating_mul(10);
+    let text = RAW_TEXT.get(..taken).ok_or("71 bytes")?;
+    let is_counted = (cut.out.puts, cut.out.failures()) == (fails_at, 1);
+    Ok(is_counted && cut.is(3, text, "rvfleet: write failed\n")?)
 }
 
 #[test]
@@ -852,12 +866,7 @@ fn writes_in_parts(rt: HostRuntime) -> Result<(), Fail> {
     assert!(rt; slow.is(0, RAW_TEXT, "")?);
     // The report has 71 bytes, so ten bytes a put make eight puts.
     for fails_at in 1..9 {
-        let cut = ask_into(alloc, MemorySink::failing(alloc, 10, fails_at))?;
-        let text = RAW_TEXT
-            .get(..(fails_at as usize - 1) * 10)
-            .ok_or("71 bytes")?;
-        assert!(rt; cut.is(3, text, "rvfleet: write failed\n")?, "{fails_at}");
-        assert_eq!(rt; (cut.out.puts, cut.out.failures()), (fails_at, 1));
+        assert!(rt; stops_at(alloc, fails_at)?, "{fails_at}");
     }
     Ok(())
 }
@@ -874,25 +883,27 @@ fn ends_alike_where_its_line_fails(rt: HostRuntime) {
     assert_eq!(rt; (status, faults.failures()), (2, 1));
 }
 
+// What putting ten bytes into a stream over this writer comes to: whether all were taken, the
+// failures, and the calls of the writer, which writes four bytes at most.
+fn put_ten(writer: CountingWriter) -> (bool, u64, u64, u64) {
+    let mut stream = StreamSink::new(writer);
+    let taken = put_all(&mut stream, b"ten bytes!").is_ok();
+    let failures = stream.failures();
+    let writer = stream.into_inner();
+    (taken, failures, writer.writes, writer.flushes)
+}
+
+// A put is one write and one flush; one that fails is not tried again, and counts as one failure.
 #[test]
 fn puts_into_streams(rt: HostRuntime) {
-    // A put is one write and one flush, and four bytes are written at most.
-    let mut stream = StreamSink::new(CountingWriter::new(0, false));
-    assert_eq!(rt; put_all(&mut stream, b"ten bytes!"), Ok(()));
-    assert_eq!(rt; stream.failures(), 0);
-    let writer = stream.into_inner();
-    assert_eq!(rt; (writer.writes, writer.flushes), (3, 3));
-
-    // A failed write is no retry, and a failure.
-    let mut stream = StreamSink::new(CountingWriter::new(1, false));
-    assert_eq!(rt; put_all(&mut stream, b"text"), Err(SinkFailed));
-    assert_eq!(rt; stream.failures(), 1);
-    let writer = stream.into_inner();
-    assert_eq!(rt; (writer.writes, writer.flushes), (1, 0));
-
-    let mut stream = StreamSink::new(CountingWriter::new(0, true));
-    assert_eq!(rt; put_all(&mut stream, b"text"), Err(SinkFailed));
-    assert_eq!(rt; stream.failures(), 1);
+    let all = put_ten(CountingWriter::new(0, false));
+    assert_eq!(rt; all, (true, 0, 3, 3));
+    let first_fails = put_ten(CountingWriter::new(1, false));
+    assert_eq!(rt; first_fails, (false, 1, 1, 0));
+    let second_fails = put_ten(CountingWriter::new(2, false));
+    assert_eq!(rt; second_fails, (false, 1, 2, 1));
+    let flush_fails = put_ten(CountingWriter::new(0, true));
+    assert_eq!(rt; flush_fails, (false, 1, 1, 1));
 }
 
 #[test]

@@ -44,10 +44,13 @@ pub fn run_words<'a, T: AsStr, S: Store, R: Read, O: Sink, F: Sink>(
 ) -> u8
     ensures answers { is_taken (map T.text words.entry.now) ≡ true
         → Answers (request_of (map T.text words.entry.now)) (R.remaining input.old)
-        (MayAnswer (S.contents store.old) (S.faulted store.old) (S.faulted store.new)) (O.taken out.old) (O.taken out.new) result }
+        (MayAnswer (S.contents store.old) (S.faulted store.old) (S.faulted store.new)) (O.taken out.old)
+        (O.taken out.new) result }
     ensures counted { result ≡ DONE → O.failed out.new ≡ O.failed out.old }
-    ensures helped { result ≡ DONE → is_some (request_of (map T.text words.entry.now)) ≡ true ⊎ AsksHelp (map T.text words.entry.now) }
-    ensures unread { reads_store (request_of (map T.text words.entry.now)) ≡ false → S.faulted store.new ≡ S.faulted store.old }
+    ensures helped { result ≡ DONE → is_some (request_of (map T.text words.entry.now)) ≡ true
+        ⊎ AsksHelp (map T.text words.entry.now) }
+    ensures unread { reads_store (request_of (map T.text words.entry.now)) ≡ false
+        → S.faulted store.new ≡ S.faulted store.old }
     ensures range { result ≡ DONE ⊎ result ≡ BAD_WORDS ⊎ result ≡ FAILED }
 {
     match read_words(alloc, words) {
@@ -73,9 +76,13 @@ fn raw_status<R: Read, O: Sink, F: Sink>(
     out: &mut O,
     faults: &mut F,
 ) -> u8
-    ensures reported { result ≡ DONE → IfSome (R.remaining input.old) (λ bytes. Reported (O.taken out.old) (O.taken out.new) DONE (raw_rows bytes budget)) }
+    ensures reported { result ≡ DONE
+        → IfSome (R.remaining input.old)
+        (λ bytes. Reported (O.taken out.old) (O.taken out.new) DONE (raw_rows bytes budget)) }
     ensures counted { result ≡ DONE → O.failed out.new ≡ O.failed out.old }
-    ensures part { result ≡ FAILED → IfSome (R.remaining input.old) (λ bytes. AppendsBeginning (O.taken out.old) (O.taken out.new) (report_text (raw_rows bytes budget))) }
+    ensures part { result ≡ FAILED
+        → IfSome (R.remaining input.old)
+        (λ bytes. AppendsBeginning (O.taken out.old) (O.taken out.new) (report_text (raw_rows bytes budget))) }
     ensures range { result ≡ DONE ⊎ result ≡ FAILED }
 {
     match run_raw(alloc, input, out, budget) {
@@ -95,7 +102,8 @@ fn one_status<S: Store, O: Sink, F: Sink>(
     faults: &mut F,
 ) -> u8
     ensures answers { Answers (Some (one image.now budget (option_map (λ text. text.now) input_hex.entry))) None
-        (MayAnswer (S.contents store.old) (S.faulted store.old) (S.faulted store.new)) (O.taken out.old) (O.taken out.new) result }
+        (MayAnswer (S.contents store.old) (S.faulted store.old) (S.faulted store.new)) (O.taken out.old)
+        (O.taken out.new) result }
     ensures counted { result ≡ DONE → O.failed out.new ≡ O.failed out.old }
     ensures range { result ≡ DONE ⊎ result ≡ BAD_WORDS ⊎ result ≡ FAILED }
 {
@@ -115,8 +123,10 @@ fn one_status<S: Store, O: Sink, F: Sink>(
 
 // Help is an error of `clap`, and goes to `out`.
 fn error_status<O: Sink, F: Sink>(alloc: Global, error: &Error, out: &mut O, faults: &mut F) -> u8
-    ensures memory { kind_of error.now ≡ ErrorKind.OutOfMemory → (result ≡ FAILED) × Keeps (O.taken out.old) (O.taken out.new) }
-    ensures helped { result ≡ DONE → kind_of error.now ≡ ErrorKind.DisplayHelp ⊎ kind_of error.now ≡ ErrorKind.DisplayVersion }
+    ensures memory { kind_of error.now ≡ ErrorKind.OutOfMemory → (result ≡ FAILED)
+        × Keeps (O.taken out.old) (O.taken out.new) }
+    ensures helped { result ≡ DONE → kind_of error.now ≡ ErrorKind.DisplayHelp
+        ⊎ kind_of error.now ≡ ErrorKind.DisplayVersion }
     ensures counted { result ≡ DONE → O.failed out.new ≡ O.failed out.old }
     ensures range { result ≡ DONE ⊎ result ≡ BAD_WORDS ⊎ result ≡ FAILED }
 {
