@@ -4,3 +4,5 @@ pub mod Sharing
 pub mod Placing
 pub mod NewBus
 pub mod Opening
+pub mod Finding
+pub mod Naming

@@ -1,5 +1,5 @@
 -- How the memory of a new bus becomes that of an image, segment by segment.
-use Rattle.std.proofs.Common.{◌≡◌, ◌∙◌, ◌<◌, ◌≤◌, ◌+◌, ℕ, Bool, true, false, not, ◌||◌, List, [], sym, ap, subst, length, get_or, take, IsTrue, Ok}
+use Rattle.std.proofs.Common.{◌≡◌, ◌∙◌, ◌<◌, ◌≤◌, ◌+◌, ℕ, Bool, true, false, not, ◌||◌, List, [], sym, ap, subst, length, get_or, take, IsTrue}
 use Rattle.std.specs.List.{list_all}
 use Rattle.std.proofs.lemmas.Bool.{or_parts, and_parts, not-false, both_ways, true_from_ne_false}
 use Rattle.std.proofs.lemmas.List.Folds.{list_all_at}
@@ -10,7 +10,7 @@ use Rattle.rv_elf.specs.declared.image.Image.{Image}
 use Rattle.rv_elf.specs.declared.image.Segment.{Segment}
 use Rattle.rv_elf.specs.declared.loading.LoadAt.{LoadAt}
 use Rattle.rv_elf.specs.Rows.{accepted}
-use Rattle.rv_elf.specs.Image.{image_of}
+use Rattle.rv_elf.specs.Image.{IsImageOf}
 use Rattle.rv_elf.specs.Loading.{load_address, fits, any_share, map_rows, map_check, file_bytes, opening_memory}
 use Rattle.rv_elf.proofs.FirstRow.{none_refused}
 use Rattle.rv_elf.proofs.Reading.{in_file, in_file_bounds, segments_in_file}
@@ -35,9 +35,9 @@ pub opening_memory_none : (c : Contents) (file : List ℕ) (at : LoadAt) → c �
 unfolding opened opening_memory
 opening_memory_none c file at e = let m = ap (λ d. d.memory) e in λ i. record c { memory = m i }
 
-module _ (file : List ℕ) (image : Image) (ss : List Segment) (same : ss ≡ image.segments) (is : image_of file ≡ Ok image) (k : ℕ) (l : k < length ss) where
+module _ (file : List ℕ) (image : Image) (ss : List Segment) (same : ss ≡ image.segments) (is : IsImageOf file image) (k : ℕ) (l : k < length ss) where
   within_file : in_file (length file) (get_or ss k no_segment) ≡ true
-  within_file = all_at (in_file (length file)) ss k no_segment (ap (list_all (in_file (length file))) same ∙ segments_in_file file image is) l
+  within_file = all_at (in_file (length file)) ss k no_segment (ap (list_all (in_file (length file))) same ∙ segments_in_file is.isa file image is.is) l
 
   -- a segment's bytes are in the file
   pub bytes_there : 0 < (get_or ss k no_segment).filesz → (get_or ss k no_segment).offset + (get_or ss k no_segment).filesz ≤ length file

@@ -1,9 +1,11 @@
 -- The image of a file's bytes, or the first refusal of the table that applies.
 -- ELF32 of the System V ABI, chapters "Object Files" and "Program Loading"; RISC-V's machine number is that of its ELF psABI.
-use Rattle.std.specs.Prelude.{◌≤◌, ◌<◌, ◌==◌, ◌+◌, ◌*◌, ◌%◌, ℕ, Bool, not, ◌&&◌, ◌||◌, List, [], ◌∷◌, length, map, filter, Result, Ok, nat_lt}
+use Rattle.std.specs.Prelude.{◌≡◌, ◌≤◌, ◌<◌, ◌==◌, ◌+◌, ◌*◌, ◌%◌, ℕ, Bool, not, ◌&&◌, ◌||◌, List, [], ◌∷◌, length, map, filter, Result, Ok, nat_lt}
 use Rattle.std.specs.List.{list_any, range_with_len}
+use Rattle.rv_isa.specs.declared.sets.Isa.{Isa}
+use Rattle.rv_isa.specs.Extensions.{has, RV32C}
 use Rattle.rv_elf.specs.declared.error.ImageError.{ImageError}
-use Rattle.rv_elf.specs.declared.error.ImageError.TheVariants.{ShortHeader, BadMagic, Not32Bit, NotLittleEndian, BadVersion, NotExecutable, NotRiscv, ProgramTable, Dynamic, SegmentSizes, SegmentFile, NoSegment, EntryOdd}
+use Rattle.rv_elf.specs.declared.error.ImageError.TheVariants.{ShortHeader, BadMagic, Not32Bit, NotLittleEndian, BadVersion, NotExecutable, NotRiscv, ProgramTable, Dynamic, SegmentSizes, SegmentFile, NoSegment, EntryOdd, EntryAlign}
 use Rattle.rv_elf.specs.declared.image.Segment.{Segment}
 use Rattle.rv_elf.specs.declared.image.Image.{Image}
 use Rattle.rv_elf.specs.declared.table.Entry.{Entry}
@@ -113,9 +115,12 @@ entry_rows n found = (list_any is_dynamic found, Dynamic)
     ∷ (list_any (is_past n) found, SegmentFile)
     ∷ []
 
--- of the image: no segment, and an odd entry
-abbrev pub image_rows : Image → List Row
-image_rows image = (length image.segments == 0, NoSegment) ∷ (not (image.entry % 2 == 0), EntryOdd) ∷ []
+-- of the image for a set of instructions: no segment, an odd entry, and without C one that is no multiple of 4
+abbrev pub image_rows : Isa → Image → List Row
+image_rows isa image = (length image.segments == 0, NoSegment)
+    ∷ (not (image.entry % 2 == 0), EntryOdd)
+    ∷ (not (has isa RV32C) && not (image.entry % 4 == 0), EntryAlign)
+    ∷ []
 
 unfoldable pub header_check : List ℕ → Result (Unit {0}) ImageError
 header_check file = first_row (header_rows file) accepted
@@ -123,20 +128,25 @@ header_check file = first_row (header_rows file) accepted
 unfoldable pub entry_check : ℕ → List Entry → Result (Unit {0}) ImageError
 entry_check n found = first_row (entry_rows n found) accepted
 
-unfoldable pub image_check : Image → Result (Unit {0}) ImageError
-image_check image = first_row (image_rows image) accepted
+unfoldable pub image_check : Isa → Image → Result (Unit {0}) ImageError
+image_check isa image = first_row (image_rows isa image) accepted
 
 -- the entry and the kept segments, before any refusal is asked
 abbrev pub image_there : List ℕ → Image
 image_there file = record { entry = e_entry file; segments = segments file }
 
 -- what the header's table says, once the header is not refused
-unfoldable pub table_of : List ℕ → Result Image ImageError
-table_of file = first_row (entry_rows (length file) (entries file)) (first_row (image_rows (image_there file)) (Ok (image_there file)))
+unfoldable pub table_of : Isa → List ℕ → Result Image ImageError
+table_of isa file = first_row (entry_rows (length file) (entries file)) (first_row (image_rows isa (image_there file)) (Ok (image_there file)))
 
 -- the first refusal that applies, or the image
-unfoldable pub image_of : List ℕ → Result Image ImageError
-image_of file = first_row (header_rows file) (table_of file)
+unfoldable pub image_of : Isa → List ℕ → Result Image ImageError
+image_of isa file = first_row (header_rows file) (table_of isa file)
+
+-- the image is that of the bytes, for some set of instructions
+pub record IsImageOf (file : List ℕ) (image : Image) : Type 0 where
+  pub isa : Isa
+  pub is : image_of isa file ≡ Ok image
 
 -- the header is there, and the whole of the program header table
 pub record HasTable (file : List ℕ) : Type 0 where

@@ -2,3 +2,5 @@ pub mod Fields
 pub mod Rows
 pub mod Image
 pub mod Loading
+pub mod Sections
+pub mod Symbols

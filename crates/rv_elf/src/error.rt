@@ -34,11 +34,31 @@ pub enum ImageError {
     NoSegment,
     /// The entry is odd.
     EntryOdd,
+    /// Without the extension for compressed instructions, the entry is no multiple of 4.
+    EntryAlign,
     /// A segment's file bytes at its load address, or its memory at its virtual address, do not lie
     /// in one region.
     SegmentMap,
     /// The file bytes of two segments, at their load addresses, share a byte of memory.
     SegmentOverlap,
+    /// `e_shnum` is 0, `e_shentsize` is not 40, or the section header table goes past the file.
+    SectionTable,
+    /// No section is SHT_SYMTAB.
+    NoSymbols,
+    /// The first symbol table's entries have not 16 bytes, its size is no multiple of 16, or it goes
+    /// past the file.
+    SymbolTable,
+    /// The symbol table's link is no index of a section, or of one that is not SHT_STRTAB or goes past
+    /// the file.
+    StringTable,
+    /// No defined symbol has the name; of a signature, the name of its first address.
+    NoBegin,
+    /// No defined symbol has the name of a signature's end. No call of this crate answers it: who asks
+    /// for two symbols says so of the second.
+    NoEnd,
+    /// A signature's begin is above its end, one of them is no multiple of 4, or its bytes lie not in
+    /// one region or are more than 65,536 words.
+    SignatureRange,
     /// A growth was refused. Only [`read_image`](crate::read_image) answers it.
     OutOfMemory,
 }

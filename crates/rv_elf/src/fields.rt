@@ -20,9 +20,15 @@ pub(crate) const E_ENTRY: usize = 24;
 
 pub(crate) const E_PHOFF: usize = 28;
 
+pub(crate) const E_SHOFF: usize = 32;
+
 pub(crate) const E_PHENTSIZE: usize = 42;
 
 pub(crate) const E_PHNUM: usize = 44;
+
+pub(crate) const E_SHENTSIZE: usize = 46;
+
+pub(crate) const E_SHNUM: usize = 48;
 
 /// The two-byte number at a place.
 #[tactic(auto, unfolding(crate::specs::Fields::half_at))]

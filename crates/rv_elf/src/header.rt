@@ -8,6 +8,7 @@ use crate::fields::{
 };
 
 const HEADER_SIZE: usize = 52;
+
 /// Of a program header.
 const ENTRY_SIZE: u16 = 32;
 

@@ -1,11 +1,13 @@
-ghost use Rattle.std.specs.Prelude.{◌≡◌, ◌≢◌, MatchResult, Ok, Err, ◌%◌, ◌==◌};
-ghost use Rattle.rv_elf.specs.Image.{image_of, table_of, image_check, HasTable};
+ghost use Rattle.std.specs.Prelude.{◌≡◌, ◌≢◌, IfOk, MatchResult, Ok, Err, false, ◌%◌, ◌==◌};
+ghost use Rattle.rv_isa.specs.Extensions.{has, RV32C};
+ghost use Rattle.rv_elf.specs.Image.{image_of, table_of, image_check, HasTable, IsImageOf};
 ghost use Rattle.rv_elf.specs.declared.error.ImageError.TheVariants.{OutOfMemory};
 
 use crate::error::ImageError;
 use crate::fields::{E_ENTRY, word};
 use crate::header::check_header;
 use crate::table::{check_entries, entries, kept_segments};
+use rv_isa::Isa;
 use std::alloc::Global;
 use std::marker::Model;
 
@@ -40,8 +42,8 @@ impl Model for Segments {
 }
 
 impl Segments {
-    /// The segments of the vector.
-    pub fn from_vec(items: Vec<Segment>) -> Segments
+    /// The segments of the vector. Takes no memory.
+    pub fn new(items: Vec<Segment>) -> Segments
         ensures { result ≡ items.items }
     {
         Segments { items }
@@ -64,26 +66,35 @@ impl Segments {
 /// What an executable file loads.
 #[derive(Debug, Drop)]
 pub struct Image {
-    /// The address of the first instruction, an even one in each image that is read.
+    /// The address of the first instruction: even in each image that is read, and a multiple of 4 where
+    /// the set has no 16-bit instructions.
     pub entry: u32,
     /// The segments with bytes in memory.
     pub segments: Segments,
 }
 
-/// Reads a file's bytes as an executable, or says why they are none.
-pub fn read_image(alloc: Global, file: &[u8]) -> Result<Image, ImageError>
-    ensures { MatchResult result (λ image. image_of file.now ≡ Ok image) (λ e. e ≢ OutOfMemory → image_of file.now ≡ Err e) }
+/// Reads a file's bytes as an executable for a hart with a set of instructions, or says why they are
+/// none.
+pub fn read_image(alloc: Global, file: &[u8], isa: Isa) -> Result<Image, ImageError>
+    ensures value { MatchResult result (λ image. image_of isa file.now ≡ Ok image)
+        (λ e. e ≢ OutOfMemory → image_of isa file.now ≡ Err e) }
+    ensures of_bytes { IfOk result (IsImageOf file.now) }
+
+    // An instruction may stand there.
+    ensures even { IfOk result (λ image. image.entry % 2 ≡ 0) }
+    ensures aligned { IfOk result (λ image. has isa RV32C ≡ false → image.entry % 4 ≡ 0) }
 {
     match check_header(file) {
-        Ok(()) => read_table(alloc, file),
+        Ok(()) => read_table(alloc, file, isa),
         Err(error) => Err(error),
     }
 }
 
 /// The rest of [`read_image`], once the header is accepted.
-fn read_table(alloc: Global, file: &[u8]) -> Result<Image, ImageError>
+fn read_table(alloc: Global, file: &[u8], isa: Isa) -> Result<Image, ImageError>
     requires { HasTable file.now }
-    ensures { MatchResult result (λ image. table_of file.now ≡ Ok image) (λ e. e ≢ OutOfMemory → table_of file.now ≡ Err e) }
+    ensures { MatchResult result (λ image. table_of isa file.now ≡ Ok image)
+        (λ e. e ≢ OutOfMemory → table_of isa file.now ≡ Err e) }
 {
     let found = entries(alloc, file)?;
     match check_entries(found.as_slice(), file.len()) {
@@ -92,23 +103,26 @@ fn read_table(alloc: Global, file: &[u8]) -> Result<Image, ImageError>
     }
     let image = Image {
         entry: word(file, E_ENTRY),
-        segments: Segments::from_vec(kept_segments(alloc, found.as_slice())?),
+        segments: Segments::new(kept_segments(alloc, found.as_slice())?),
     };
-    match check_image(&image) {
+    match check_image(&image, isa) {
         Ok(()) => Ok(image),
         Err(error) => Err(error),
     }
 }
 
 #[tactic(auto, unfolding(crate::specs::Image::image_check))]
-fn check_image(image: &Image) -> Result<(), ImageError>
-    ensures { result ≡ image_check image.now }
+fn check_image(image: &Image, isa: Isa) -> Result<(), ImageError>
+    ensures { result ≡ image_check isa image.now }
 {
     if image.segments.as_slice().is_empty() {
         return Err(ImageError::NoSegment);
     }
     if image.entry % 2 != 0 {
         return Err(ImageError::EntryOdd);
+    }
+    if !isa.has_c() && image.entry % 4 != 0 {
+        return Err(ImageError::EntryAlign);
     }
     Ok(())
 }

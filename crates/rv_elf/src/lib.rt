@@ -9,9 +9,13 @@
 
 mod error;
 mod fields;
+#[cfg(test)]
+mod files;
 mod header;
 mod image;
 mod loading;
+mod sections;
+mod symbols;
 mod table;
 #[cfg(test)]
 mod tests;
@@ -19,3 +23,4 @@ mod tests;
 pub use error::ImageError;
 pub use image::{Image, Segment, Segments, read_image};
 pub use loading::{LoadAt, check_map, load};
+pub use symbols::{check_signature, find_symbol};

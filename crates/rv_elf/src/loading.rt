@@ -1,10 +1,11 @@
-ghost use Rattle.std.specs.Prelude.{◌≡◌, ◌+◌, ◌<◌, ◌≤◌, ℕ, IsTrue, OnOk, Ok, length, count_by};
+ghost use Rattle.std.specs.Prelude.{◌≡◌, ◌+◌, ◌<◌, ◌≤◌, ℕ, IsTrue, OnOk, length, count_by};
 ghost use Rattle.std.specs.List.{list_all, list_any};
 ghost use Rattle.rv_memory.specs.Regions.{in_one};
 ghost use Rattle.rv_memory.specs.Bus.{opened, placed};
 ghost use Rattle.rv_elf.specs.Rows.{accepted};
-ghost use Rattle.rv_elf.specs.Image.{image_of};
-ghost use Rattle.rv_elf.specs.Loading.{load_address, fits, share, any_share, fills, map_check, opening_memory, file_bytes};
+ghost use Rattle.rv_elf.specs.Image.{IsImageOf};
+ghost use Rattle.rv_elf.specs.Loading.{load_address, fits, share, any_share, fills, map_check, opening_memory};
+ghost use Rattle.rv_elf.specs.Loading.{file_bytes};
 
 use crate::error::ImageError;
 use crate::image::{Image, Segment};
@@ -37,7 +38,7 @@ pub fn check_map(image: &Image, map: &Map, at: LoadAt) -> Result<(), ImageError>
 /// Places the file bytes of an image's segments into a new bus, in regions that are not writable
 /// too. Each other byte is zero, and none counts as stored.
 pub fn load(image: &Image, file: &[u8], at: LoadAt, bus: &mut Bus)
-    requires image { image_of file.now ≡ Ok image.now }
+    requires image { IsImageOf file.now image.now }
     requires fits { map_check image.now.segments bus.old.regions at ≡ accepted }
     requires new { bus.old ≡ opened bus.old.regions bus.old.script bus.old.misaligned }
     ensures { bus.new ≡ record bus.old { memory = opening_memory bus.old.regions image.now.segments file.now at } }

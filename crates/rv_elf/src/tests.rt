@@ -1,4 +1,9 @@
-use crate::{ImageError, LoadAt, Segment, Segments, check_map, load, read_image};
+use crate::files::{CHECKSUM, SIGNATURE, UPPER, UPPER_STRIPPED};
+use crate::{
+    ImageError, LoadAt, Segment, Segments, check_map, check_signature, find_symbol, load,
+    read_image,
+};
+use rv_isa::Isa;
 use rv_memory::{Bus, Map, Misaligned, Region, Width};
 use std::alloc::Global;
 use std::process::Abort;
@@ -56,13 +61,13 @@ fn set(
 }
 
 fn refusal(alloc: Global, file: &[u8]) -> Option<ImageError> {
-    read_image(alloc, file).err()
+    read_image(alloc, file, Isa::Imc).err()
 }
 
 #[test]
 fn images(rt: HostRuntime) -> Result<(), Fail> {
     let alloc = rt.alloc();
-    let one = read_image(alloc, &ONE_SEGMENT)?;
+    let one = read_image(alloc, &ONE_SEGMENT, Isa::Imc)?;
     assert_eq!(&rt; one.entry, 0x8000_0000);
     let code = Segment {
         offset: 84,
@@ -72,7 +77,7 @@ fn images(rt: HostRuntime) -> Result<(), Fail> {
         memsz: 12,
     };
     assert_eq!(&rt; one.segments.as_slice(), [code].as_slice());
-    let two = read_image(alloc, &TWO_SEGMENTS)?;
+    let two = read_image(alloc, &TWO_SEGMENTS, Isa::Imc)?;
     assert_eq!(&rt; two.entry, 0x8000_0000);
     let code = Segment {
         offset: 116,
@@ -90,7 +95,7 @@ fn images(rt: HostRuntime) -> Result<(), Fail> {
     assert_eq!(&rt; two.segments.as_slice(), [code, word].as_slice());
     let segments = two.segments.into_vec();
     assert_eq!(&rt; segments.len(), 2);
-    let again = Segments::from_vec(segments);
+    let again = Segments::new(segments);
     assert_eq!(&rt; again.as_slice(), [code, word].as_slice());
     Ok(())
 }
@@ -325,6 +330,18 @@ fn long_tables(rt: HostRuntime) -> Result<(), Fail> {
         file.resize(size, 0)?;
         assert_eq!(&rt; refusal(alloc, &file), error, "{label}");
     }
+    let mut file = set(&rt, alloc, &ONE_SEGMENT, 44, &[64])?;
+    file.truncate(84);
+    for _ in 1..64 {
+        file.extend_from_slice(&ONE_SEGMENT[52..84])?;
+    }
+    assert_eq!(&rt;
+        read_image(alloc, &file, Isa::Imc)?
+            .segments
+            .as_slice()
+            .len(),
+        64
+    );
     Ok(())
 }
 
@@ -432,7 +449,7 @@ fn maps(rt: HostRuntime) -> Result<(), Fail> {
     ];
     for (label, file, at, field, region, load_at, error) in rows {
         let file = set(&rt, alloc, file, at, field)?;
-        let image = read_image(alloc, &file)?;
+        let image = read_image(alloc, &file, Isa::Imc)?;
         let map = Map::of(&[region])?;
         assert_eq!(&rt; check_map(&image, &map, load_at).err(), error, "{label}");
     }
@@ -441,7 +458,7 @@ fn maps(rt: HostRuntime) -> Result<(), Fail> {
 
 /// A new bus that a file is loaded into.
 fn loaded(alloc: Global, file: &[u8], region: Region, at: LoadAt) -> Result<Bus, Fail> {
-    let image = read_image(alloc, file)?;
+    let image = read_image(alloc, file, Isa::Imc)?;
     let map = Map::of(&[region])?;
     check_map(&image, &map, at)?;
     let mut bus = Bus::new(alloc, map, Vec::new(alloc), Misaligned::Fault)?;
@@ -518,5 +535,199 @@ fn memory(rt: HostRuntime) -> Result<(), Fail> {
         assert_eq!(&rt; bus.fetch_word(addr), Some(word), "{label}");
         assert!(&rt; bus.console().is_empty());
     }
+    Ok(())
+}
+
+/// The bytes of groups of hexadecimal digits, at most four bytes each.
+fn bytes_of(rt: &impl Abort, alloc: Global, groups: &str) -> Result<Vec<u8>, Fail> {
+    let mut bytes = Vec::new(alloc);
+    for group in groups.split(' ') {
+        assert!(rt; group.len() <= 8);
+        let value = u32::from_str_radix(group, 16)?;
+        bytes.extend_from_slice(&value.to_be_bytes()[4 - group.len() / 2..])?;
+    }
+    Ok(bytes)
+}
+
+/// A file with other bytes: each change is `AT=BYTES`, in hexadecimal digits.
+fn file_of(rt: &impl Abort, alloc: Global, groups: &str, changes: &str) -> Result<Vec<u8>, Fail> {
+    let mut file = bytes_of(rt, alloc, groups)?;
+    for change in changes.split(' ') {
+        if let Some((at, bytes)) = change.split_once('=') {
+            let at = usize::from_str_radix(at, 16)?;
+            let bytes = bytes_of(rt, alloc, bytes)?;
+            file = set(rt, alloc, &file, at, &bytes)?;
+        }
+    }
+    Ok(file)
+}
+
+/// What asking a file for a symbol answers: eight digits of its value, or the refusal's name.
+fn symbol_in(alloc: Global, file: &[u8], name: &str) -> Result<String, Fail> {
+    let image = read_image(alloc, file, Isa::Imc)?;
+    if name.is_empty() {
+        return Ok(String::from_str(alloc, "no name")?);
+    }
+    Ok(match find_symbol(&image, file, name.as_bytes()) {
+        Ok(value) => format!(in alloc; "{value:08x}")?,
+        Err(error) => format!(in alloc; "{error:?}")?,
+    })
+}
+
+/// Rows of changes to the file, a name, and the answer.
+fn expect_symbols(rt: &impl Abort, alloc: Global, groups: &str, rows: &str) -> Result<(), Fail> {
+    for row in rows.lines() {
+        let mut cells = row.split('|');
+        let changes = cells.next().unwrap_or("").trim();
+        let name = cells.next().unwrap_or("").trim();
+        let answer = cells.next().unwrap_or("").trim();
+        let file = file_of(rt, alloc, groups, changes)?;
+        let found = symbol_in(alloc, &file, name)?;
+        assert_eq!(rt; found.as_str(), answer, "{row}");
+    }
+    Ok(())
+}
+
+// The section headers of the file are at d4, fc and 124; its symbols at 84, 94 and a4.
+const SIGNATURE_ROWS: &str = "\
+| begin_signature | 80000028
+| end_signature | 80000030
+| signature | NoBegin
+| begin_signatur | NoBegin
+| begin_signature2 | NoBegin
+| egin_signature | NoBegin
+94=02000000 | egin_signature | 80000028
+94=ffffffff | begin_signature | NoBegin
+a2=0000 | begin_signature | NoBegin
+a2=0000 | end_signature | 80000030
+a4=01 | begin_signature | 80000028
+a4=01 | end_signature | NoBegin
+138=1e | end_signature | NoBegin
+20=00000000 | begin_signature | NoSymbols
+20=ffffffff | begin_signature | SectionTable
+20=d5 | begin_signature | SectionTable
+2e=27 | begin_signature | SectionTable
+30=0000 | begin_signature | SectionTable
+30=ffff | begin_signature | SectionTable
+30=01 | begin_signature | NoSymbols
+100=00 | begin_signature | NoSymbols
+100=00 20=ffffffff | begin_signature | SectionTable
+120=00 | begin_signature | SymbolTable
+110=31 | begin_signature | SymbolTable
+10c=ffffffff | begin_signature | SymbolTable
+10c=1d01 | begin_signature | SymbolTable
+120=00 114=ffffffff | begin_signature | SymbolTable
+110=00 | begin_signature | NoBegin
+110=20 | end_signature | NoBegin
+114=ffffffff | begin_signature | StringTable
+114=03 | begin_signature | StringTable
+128=00 | begin_signature | StringTable
+134=2e01 | begin_signature | StringTable
+138=00 | begin_signature | NoBegin";
+
+#[test]
+fn symbols(rt: HostRuntime) -> Result<(), Fail> {
+    expect_symbols(&rt, rt.alloc(), SIGNATURE, SIGNATURE_ROWS)
+}
+
+/// The example firmware's symbols, as `riscv64-unknown-elf-nm` prints them.
+#[test]
+fn symbols_of_the_examples(rt: HostRuntime) -> Result<(), Fail> {
+    let checksum = "\
+| start | 80000000
+| main | 80000050
+| table | 80080000
+| data_image | 80000114
+| data_begin | 80080000
+| bss_end | 80080400
+| stack_top | 80100000
+| stack | NoBegin";
+    let upper = "\
+| start | 80000000
+| main | 80000050
+| changed | 80080004
+| prompt | 80080000
+| data_image | 800000c8
+| data_end | 80080004
+| table | NoBegin";
+    expect_symbols(&rt, rt.alloc(), CHECKSUM, checksum)?;
+    expect_symbols(&rt, rt.alloc(), UPPER, upper)?;
+    expect_symbols(&rt, rt.alloc(), UPPER_STRIPPED, "| start | NoSymbols")
+}
+
+/// Whether there is a signature from one address up to another.
+fn is_signature(map: &Map, begin: u32, end: u32) -> bool {
+    check_signature(begin, end, map).is_ok()
+}
+
+#[test]
+fn signature_ranges(rt: HostRuntime) -> Result<(), Fail> {
+    let low = Region {
+        base: 0x2000_0000,
+        size: 8,
+        writable: true,
+    };
+    let high = Region {
+        base: 0x2000_0008,
+        ..low
+    };
+    let map = Map::of(&[MEMORY, low, high])?;
+    let rows = [
+        (0x8000_0000, 0x8004_0000, true),
+        (0x8000_0000, 0x8004_0004, false),
+        (0x8000_0004, 0x8004_0008, false),
+        (0, 0, true),
+        (0x8000_0004, 0x8000_0000, false),
+        (0x8000_0001, 0x8000_0004, false),
+        (0x8000_0002, 0x8000_0004, false),
+        (0x8000_0000, 0x8000_0001, false),
+        (0x8000_0000, 0x8000_0002, false),
+        (0x8000_0001, 0x8000_0001, false),
+        (0x8000_0002, 0x8000_0002, false),
+        (0x800f_fffc, 0x8010_0000, true),
+        (0x800f_fffc, 0x8010_0004, false),
+        (0x7fff_fffc, 0x8000_0004, false),
+        (0x2000_0008, 0x2000_0010, true),
+        (0x2000_0004, 0x2000_000c, false),
+    ];
+    for (begin, end, good) in rows {
+        assert_eq!(&rt;
+            is_signature(&map, begin, end),
+            good,
+            "{begin:x} to {end:x}"
+        );
+    }
+    assert_eq!(&rt;
+        check_signature(4, 0, &map),
+        Err(ImageError::SignatureRange)
+    );
+    Ok(())
+}
+
+/// A row is the entry's bytes, a set, and the refusal.
+#[test]
+fn entries_of_each_set(rt: HostRuntime) -> Result<(), Fail> {
+    let alloc = rt.alloc();
+    let rows = [
+        (0, Isa::I, None),
+        (1, Isa::I, Some(ImageError::EntryOdd)),
+        (2, Isa::I, Some(ImageError::EntryAlign)),
+        (2, Isa::Im, Some(ImageError::EntryAlign)),
+        (2, Isa::Ic, None),
+        (2, Isa::Imc, None),
+        (3, Isa::Im, Some(ImageError::EntryOdd)),
+        (3, Isa::Imc, Some(ImageError::EntryOdd)),
+        (4, Isa::Im, None),
+    ];
+    for (low, isa, error) in rows {
+        let file = set(&rt, alloc, &ONE_SEGMENT, 24, &[low])?;
+        assert_eq!(&rt; read_image(alloc, &file, isa).err(), error, "{low} {isa:?}");
+    }
+    let none = set(&rt, alloc, &ONE_SEGMENT, 24, &[2])?;
+    let none = set(&rt, alloc, &none, 44, HALF_ZERO)?;
+    assert_eq!(&rt;
+        read_image(alloc, &none, Isa::I).err(),
+        Some(ImageError::NoSegment)
+    );
     Ok(())
 }

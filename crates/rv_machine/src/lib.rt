@@ -1,8 +1,10 @@
 //! One hart over a bus: fetch, effect, and runs within a budget of steps.
 //!
-//! Callers see a machine as its state: the pc, the 32 registers and what stands in the bus. `step` is one
-//! fetch and one effect of the instruction definitions, and `run` is as many steps as the budget allows.
-//! A step that ends a run leaves the state as it was. Nothing here takes memory once a machine is made.
+//! Callers see a machine as its state (the pc, the 32 registers and what stands in the bus) and the
+//! instructions that it keeps. `step` is one fetch and one effect of the instruction definitions, and `run` is
+//! as many steps as the budget allows: what is kept shows in `kept` and in the time that a run takes, and in no
+//! other answer. A step that ends a run leaves the state as it was. Nothing here takes memory once a machine
+//! is made.
 #![tactic(auto)]
 
 mod alu;
@@ -11,6 +13,8 @@ mod execute;
 mod fetch;
 mod hart;
 mod machine;
+mod stop;
+mod table;
 #[cfg(test)]
 mod tests;
 

@@ -1,6 +1,6 @@
 -- What stands in a bus, and what each access gives and leaves.
 -- Memory is little-endian (RISC-V Unprivileged ISA 20191213, sections 1.4 and 2.6); the fences' part is that of its chapter 3, "Zifencei".
-use Rattle.std.specs.Prelude.{◌≡◌, ℕ, ◌+◌, ◌*◌, ◌/◌, ◌%◌, Bool, true, false, ◌&&◌, ◌||◌, ◌==◌, nat_lt, not, if◌then◌else◌, List, [], ◌∷◌, ◌++◌, length, drop, unwrap_or, Option, Some, None, Result, Ok, Err, refl}
+use Rattle.std.specs.Prelude.{◌≡◌, ℕ, ◌+◌, ◌*◌, ◌/◌, ◌%◌, Bool, true, false, ◌&&◌, ◌||◌, ◌==◌, nat_lt, not, if◌then◌else◌, List, [], ◌∷◌, ◌++◌, length, drop, unwrap_or, Option, Some, None, Result, Ok, Err, is_ok, refl}
 use Rattle.std.specs.Ordering.{nat_cmp}
 use Rattle.std.specs.FinMap as fin
 use Rattle.std.specs.FinSet as set
@@ -152,6 +152,14 @@ fetch_half_from c a =
 abbrev pub fetch_word_from : Contents → ℕ → Option ℕ
 fetch_word_from c a =
     if in_one c.regions a 4 && not (is_stale c a || is_stale c (a + 2)) then Some (word_at c.memory a) else None
+
+-- a fetch of the halfword would give one
+abbrev pub is_clean_half : Contents → ℕ → Bool
+is_clean_half c a = is_ok (fetch_half_from c a)
+
+-- a fetch of each halfword of n bytes (2 or 4) would give one, each by itself
+unfoldable pub clean_from : Contents → ℕ → ℕ → Bool
+clean_from c a n = is_clean_half c a && (not (n == 4) || is_clean_half c ((a + 2) % 0x1_0000_0000))
 
 -- FENCE.I: nothing counts as stored
 abbrev pub synced : Contents → Contents

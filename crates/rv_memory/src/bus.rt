@@ -1,7 +1,7 @@
-ghost use Rattle.std.specs.Prelude.{◌≡◌, ◌==◌, ◌+◌, ◌*◌, ◌/◌, ◌%◌, ◌^◌, ◌<◌, ◌≤◌, IsTrue, IfOk, IfSome, MatchResult, Ok, None, length, drop, vec_len};
+ghost use Rattle.std.specs.Prelude.{◌≡◌, ◌==◌, ◌+◌, ◌*◌, ◌/◌, ◌%◌, ◌^◌, ◌<◌, ◌≤◌, ◌⊎◌, IsTrue, IfOk, IfSome, MatchResult, Ok, None, length, drop, vec_len};
 ghost use Rattle.rv_memory.specs.Regions.{in_one};
 ghost use Rattle.rv_memory.specs.Maps.{map_error};
-ghost use Rattle.rv_memory.specs.Bus.{size_of, refuses, load_from, store_to, fetch_half_from, fetch_word_from, console_load, console_store, next_of, synced, placed, opened};
+ghost use Rattle.rv_memory.specs.Bus.{size_of, refuses, load_from, store_to, fetch_half_from, fetch_word_from, console_load, console_store, next_of, clean_from, synced, placed, opened};
 
 use crate::access::{has_mark, mark, read, read_word, write};
 use crate::map::Map;
@@ -55,9 +55,9 @@ pub enum FetchFault {
 /// that are left of the script. Every other access that touches one of the 16 bytes is refused.
 #[derive(Drop)]
 pub struct Bus {
-    map: Map,
+    pub(crate) map: Map,
     // The bytes of the regions, one region after another, and their marks.
-    bytes: Vec<u8>,
+    pub(crate) bytes: Vec<u8>,
     marks: Vec<u8>,
     // A byte is stored where its mark is this generation; the older ones are below it.
     present: u8,
@@ -231,6 +231,16 @@ impl Bus {
             return None;
         }
         Some(read_word(&self.bytes, place.at))
+    }
+
+    /// Whether [`Bus::fetch_half`] would give each halfword of the `len` bytes, 2 or 4, from an address on, which may
+    /// be odd: each lies in one region, and has no stored byte.
+    #[tactic(auto, unfolding(crate::specs::Bus::clean_from))]
+    pub fn clean(&self, addr: u32, len: u32) -> bool
+        requires { (len ≡ 2) ⊎ (len ≡ 4) }
+        ensures { result ≡ clean_from self.now addr len }
+    {
+        self.fetch_half(addr).is_ok() && (len != 4 || self.fetch_half(addr.wrapping_add(2)).is_ok())
     }
 
     /// What FENCE.I does to memory: nothing counts as stored.

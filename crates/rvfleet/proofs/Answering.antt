@@ -4,16 +4,18 @@ use Rattle.std.specs.Io.KnownBytes.{Appends, Keeps}
 use Rattle.std.proofs.lemmas.Bool.{le-ltb}
 use Rattle.rv_elf.specs.declared.error.ImageError.{ImageError}
 use Rattle.rv_elf.specs.declared.image.Image.{Image}
+use Rattle.rv_elf.specs.declared.loading.LoadAt.{LoadAt}
+use Rattle.rv_elf.specs.declared.loading.LoadAt.TheVariants.{Physical}
 use Rattle.rvfleet.specs.declared.store.Kept.{Kept}
 use Rattle.rvfleet.specs.declared.store.Kept.TheVariants as kept
 use Rattle.rvfleet.specs.Answers.{Answers, ForRows, Reported, is_refused, status_of}
 use Rattle.rvfleet.specs.CommandLine.{Request, one}
 use Rattle.rvfleet.specs.ElfImages.{file_row_of, fitting_image_of, image_row_of, most_script, row_if_fits}
-use Rattle.rvfleet.specs.Flat.{flat_row_of, image_room}
+use Rattle.rv_fleet.specs.Flat.{flat_row_of, image_room}
 use Rattle.rvfleet.specs.One.{bytes_of, is_bad_one, is_bad_path, is_bad_script, one_rows, script_of, script_or_none}
 use Rattle.rvfleet.specs.Raw.{raw_rows}
-use Rattle.rvfleet.specs.Report.{report_text}
-use Rattle.rvfleet.specs.Sending.{AppendsBeginning}
+use Rattle.rv_fleet.specs.Report.{report_text}
+use Rattle.rv_fleet.specs.Sending.{AppendsBeginning}
 
 -- a flat row has no verdict that is fail
 flat_status : (bytes : List ℕ) (budget : ℕ) → 0 ≡ status_of (flat_row_of bytes budget ∷ [])
@@ -29,14 +31,14 @@ pub flat_reported : (input before after : Option (List ℕ)) (budget : ℕ) → 
 flat_reported None before after budget sent = tt
 flat_reported (Some bytes) before after budget sent = record { appended = sent; verdicts = flat_status _ budget }
 
-file_status : (fits : Result Image ImageError) (file : List ℕ) (budget : ℕ) (script : List ℕ) → 0 ≡ status_of (row_if_fits fits file budget script ∷ [])
-file_status (Ok image) file budget script = refl
-file_status (Err why) file budget script = refl
+file_status : (fits : Result Image ImageError) (file : List ℕ) (at : LoadAt) (budget : ℕ) (script : List ℕ) → 0 ≡ status_of (row_if_fits fits file at budget script ∷ [])
+file_status (Ok image) file at budget script = refl
+file_status (Err why) file at budget script = refl
 
 -- nor has an image's
 one_status : (kept : Kept) (budget : ℕ) (script : List ℕ) → 0 ≡ status_of (one_rows kept budget script)
 unfolding image_row_of file_row_of
-one_status (kept.Content file) budget script = file_status (fitting_image_of file) file budget script
+one_status (kept.Content file) budget script = file_status (fitting_image_of file Physical) file Physical budget script
 one_status kept.Unreadable budget script = refl
 one_status kept.TooLong budget script = refl
 

@@ -1,58 +1,34 @@
 -- An image that the default map takes, in a new bus.
 use Rattle.std.proofs.Common.{◌≡◌, ◌∙◌, ◌%◌, ◌==◌, ℕ, Bool, true, false, not, cond, List, [], ◌∷◌, length, Result, Ok, Err, refl, sym, ap, eqb-true}
+use Rattle.rv_isa.specs.declared.sets.Isa.TheVariants.{Imc}
 use Rattle.rv_elf.specs.declared.error.ImageError.{ImageError}
-use Rattle.rv_elf.specs.declared.error.ImageError.TheVariants.{EntryOdd, NoSegment}
 use Rattle.rv_elf.specs.declared.image.Image.{Image}
-use Rattle.rv_elf.specs.declared.loading.LoadAt.TheVariants.{Physical}
-use Rattle.rv_elf.specs.Image.{entries, entry_rows, header_rows, image_of, image_rows, image_there, table_of}
+use Rattle.rv_elf.specs.declared.loading.LoadAt.{LoadAt}
+use Rattle.rv_elf.specs.Image.{image_of}
 use Rattle.rv_elf.specs.Loading.{map_check, opening_memory}
-use Rattle.rv_elf.specs.Rows.{Row, accepted, first_row}
+use Rattle.rv_elf.specs.Rows.{accepted}
 use Rattle.rv_memory.specs.declared.bus.Misaligned.TheVariants.{Fault}
 use Rattle.rv_memory.specs.Bus.{Contents, opened}
+use Rattle.rv_isa.specs.declared.sets.Isa.TheVariants.{Imc}
 use Rattle.rv_machine.specs.State.{at_reset}
 use Rattle.rvfleet.specs.ElfImages.{fitting_image_of, if_accepted, if_fits, loaded_state}
-use Rattle.rvfleet.specs.Flat.{default_regions}
+use Rattle.rv_fleet.specs.Flat.{default_regions}
 
 accepted_parts : (check : Result (Unit {0}) ImageError) (there image : Image) → if_accepted check there ≡ Ok image → (there ≡ image) × (check ≡ accepted)
 accepted_parts (Ok unit) there image is = (cc, refl)
 accepted_parts (Err why) there image is = cc
 
-fits_parts : (read : Result Image ImageError) (image : Image) → if_fits read ≡ Ok image → (read ≡ Ok image) × (map_check image.segments default_regions Physical ≡ accepted)
-fits_parts (Ok there) image is =
-    let parts = accepted_parts (map_check there.segments default_regions Physical) there image is in
+fits_parts : (read : Result Image ImageError) (at : LoadAt) (image : Image) → if_fits read at ≡ Ok image → (read ≡ Ok image) × (map_check image.segments default_regions at ≡ accepted)
+fits_parts (Ok there) at image is =
+    let parts = accepted_parts (map_check there.segments default_regions at) there image is in
     (ap Ok parts.0, rw (← parts.0) parts.1)
-fits_parts (Err why) image is = cc
+fits_parts (Err why) at image is = cc
 
 -- an image that fits is the file's, and the map takes it
-pub fitting_parts : (file : List ℕ) (image : Image) → fitting_image_of file ≡ Ok image
-    → (image_of file ≡ Ok image) × (map_check image.segments default_regions Physical ≡ accepted)
+pub fitting_parts : (file : List ℕ) (at : LoadAt) (image : Image) → fitting_image_of file at ≡ Ok image
+    → (image_of Imc file ≡ Ok image) × (map_check image.segments default_regions at ≡ accepted)
 unfolding fitting_image_of
-fitting_parts file image is = fits_parts (image_of file) image is
-
-passed_at : {X : Type 0} (condition : Bool) (why : ImageError) (rest next : Result X ImageError) (x : X)
-    → (rest ≡ Ok x → next ≡ Ok x) → cond condition (Err why) rest ≡ Ok x → next ≡ Ok x
-passed_at true why rest next x more is = cc
-passed_at false why rest next x more is = more is
-
--- what no row refuses is what follows
-passed : {X : Type 0} (rows : List Row) (next : Result X ImageError) (x : X) → first_row rows next ≡ Ok x → next ≡ Ok x
-passed [] next x is = is
-passed (row ∷ rows) next x is = passed_at row.0 row.1 (first_row rows next) next x (passed rows next x) is
-
-even_at : (none even : Bool) (there image : Image) → cond none (Err NoSegment) (cond (not even) (Err EntryOdd) (Ok there)) ≡ Ok image
-    → (even ≡ true) × (there ≡ image)
-even_at true even there image is = cc
-even_at false true there image is = (refl, cc)
-even_at false false there image is = cc
-
--- the entry of an image that is read is even
-pub entry_even : (file : List ℕ) (image : Image) → image_of file ≡ Ok image → image.entry % 2 ≡ 0
-unfolding image_of table_of
-entry_even file image is =
-    let there = image_there file in
-    let entered = passed (entry_rows (length file) (entries file)) (first_row (image_rows there) (Ok there)) image (passed (header_rows file) (table_of file) image is) in
-    let even = even_at (length there.segments == 0) (there.entry % 2 == 0) there image entered in
-    rw (← even.1) (eqb-true _ _ even.0)
+fitting_parts file at image is = fits_parts (image_of Imc file) at image is
 
 -- a new bus over the default map
 pub is_new : (bus : Contents) (script : List ℕ) → bus ≡ opened default_regions script Fault → (bus.regions ≡ default_regions) × (bus ≡ opened bus.regions bus.script bus.misaligned)
@@ -60,7 +36,7 @@ unfolding opened
 is_new bus script is = rw is (refl, refl)
 
 -- what stands in the machine once the image is loaded
-pub loaded_is : (before after : Contents) (file : List ℕ) (image : Image) (script : List ℕ) → before ≡ opened default_regions script Fault
-    → after ≡ record before { memory = opening_memory before.regions image.segments file Physical } → at_reset after image.entry ≡ loaded_state file image script
+pub loaded_is : (before after : Contents) (file : List ℕ) (image : Image) (at : LoadAt) (script : List ℕ) → before ≡ opened default_regions script Fault
+    → after ≡ record before { memory = opening_memory before.regions image.segments file at } → at_reset after image.entry Imc ≡ loaded_state file image at script
 unfolding opened
-loaded_is before after file image script is loaded = rw (loaded, is) refl
+loaded_is before after file image at script is loaded = rw (loaded, is) refl

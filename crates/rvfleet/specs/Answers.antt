@@ -2,21 +2,27 @@
 use Rattle.std.specs.Prelude.{◌≡◌, ◌⊎◌, ℕ, Bool, true, false, List, Option, Some, None, IfSome, if◌then◌else◌}
 use Rattle.std.specs.List.{list_any}
 use Rattle.std.specs.Io.KnownBytes.{Appends, Keeps}
-use Rattle.rvfleet.specs.declared.row.Row.{Row}
-use Rattle.rvfleet.specs.declared.row.Verdict.{Verdict}
-use Rattle.rvfleet.specs.declared.row.Verdict.TheVariants as verdict
+use Rattle.rv_fleet.specs.declared.row.Row.{Row}
+use Rattle.rv_fleet.specs.declared.row.Verdict.{Verdict}
+use Rattle.rv_fleet.specs.declared.row.Verdict.TheVariants as verdict
 use Rattle.rvfleet.specs.declared.store.Kept.{Kept}
 use Rattle.rvfleet.specs.CommandLine.{Request, one, raw}
 use Rattle.rvfleet.specs.One.{is_bad_one, one_rows, script_of}
 use Rattle.rvfleet.specs.Raw.{raw_rows}
-use Rattle.rvfleet.specs.Report.{report_text}
-use Rattle.rvfleet.specs.Sending.{AppendsBeginning}
+use Rattle.rv_fleet.specs.Report.{report_text}
+use Rattle.rv_fleet.specs.Sending.{AppendsBeginning}
 
 -- nothing is asked for, or an image with a path or digits that are refused
 abbrev pub is_refused : Option Request → Bool
 is_refused (Some (raw budget)) = false
 is_refused (Some (one path budget digits)) = is_bad_one path digits
 is_refused None = true
+
+-- the words ask for a file
+abbrev pub reads_store : Option Request → Bool
+reads_store (Some (raw budget)) = false
+reads_store (Some (one path budget digits)) = true
+reads_store None = false
 
 -- what is owed for the rows of a request: for those of the input, where it tells its bytes; for those of some answer that the store may give for the path
 abbrev pub ForRows : Option Request → Option (List ℕ) → (List ℕ → Kept → Type 0) → (List Row → Type 0) → Type 0

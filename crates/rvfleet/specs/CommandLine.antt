@@ -1,32 +1,34 @@
 -- The command line: the rules that `clap` reads words by, and what words ask for.
-use Rattle.std.specs.Prelude.{◌^◌, ℕ, Bool, true, List, Option, Some, None, pos, codes, option_map, option_and_then, if◌then◌else◌, ◌&&◌, nat_lt}
+use Rattle.std.specs.Prelude.{◌^◌, ℕ, Bool, true, List, Option, Some, None, pos, codes, option_map, option_and_then, if◌then◌else◌, ◌&&◌, ◌⊎◌, nat_lt}
 use Rattle.std.specs.Str.{bytes_eq}
 use Rattle.std.specs.Str.Parse.{digits_value, without_leading_plus}
 use Rattle.clap.specs.ValueTests.{is_numeral}
-use Rattle.clap.specs.Words.{App, Row, Rule, Text, first_of, new_app, new_rule, one_of, subcommand_of, takes, with_rule, with_subcommand}
+use Rattle.clap.specs.Words.{App, IsAmong, Row, Rule, Text, fault_of, first_of, new_app, new_rule, one_of, subcommand_of, takes, with_rule, with_subcommand}
+use Rattle.clap.specs.declared.error.kind.ErrorKind.TheVariants as kind
 use Rattle.clap.specs.declared.builder.value_parser.ValueParser.TheVariants as value_parser
 
--- --budget N, required: from 1 to 1,000,000,000
+-- --budget <N>, required: from 1 to 1,000,000,000
 abbrev pub budget_rule : Rule
 budget_rule = record (new_rule (codes "budget")) {
   long = Some (codes "budget");
   required = true;
+  value_names = 1;
   parser = Some (value_parser.Signed (pos 1) (pos 1000000000));
 }
 
--- IMAGE, required
+-- <IMAGE>, required
 abbrev pub image_rule : Rule
-image_rule = record (new_rule (codes "image")) { required = true }
+image_rule = record (new_rule (codes "image")) { required = true; value_names = 1 }
 
--- --input-hex H
+-- --input-hex <H>
 abbrev pub input_rule : Rule
-input_rule = record (new_rule (codes "input-hex")) { long = Some (codes "input-hex") }
+input_rule = record (new_rule (codes "input-hex")) { long = Some (codes "input-hex"); value_names = 1 }
 
--- raw --budget N
+-- raw --budget <N>
 abbrev pub raw_app : App
 raw_app = with_rule (new_app (codes "raw")) budget_rule
 
--- one IMAGE --budget N [--input-hex H]
+-- one <IMAGE> --budget <N> [--input-hex <H>]
 abbrev pub one_app : App
 one_app = with_rule (with_rule (with_rule (new_app (codes "one")) image_rule) budget_rule) input_rule
 
@@ -71,3 +73,7 @@ request_of words = option_and_then (λ found. request_in found.0 found.1) (subco
 -- the command takes the words
 unfoldable pub is_taken : List Text → Bool
 is_taken words = takes fleet_app words
+
+-- the words ask for help (or for a version, which this command doesn't have)
+abbrev pub AsksHelp : List Text → Type 0
+AsksHelp words = IsAmong kind.DisplayHelp (fault_of fleet_app words) ⊎ IsAmong kind.DisplayVersion (fault_of fleet_app words)

@@ -1,11 +1,9 @@
 pub mod Answers
 pub mod CommandLine
 pub mod ElfImages
-pub mod Flat
+pub mod Failures
+pub mod Input
 pub mod One
-pub mod Outcome
 pub mod Raw
-pub mod Report
 pub mod Requests
-pub mod Sending
 pub mod Stores

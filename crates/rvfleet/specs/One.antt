@@ -2,7 +2,8 @@
 use Rattle.std.specs.Prelude.{◌==◌, ◌||◌, ℕ, Bool, true, List, [], ◌∷◌, length, nat_lt, Option, Some, None, Result, Ok, Err}
 use Rattle.hex.specs.Hex.{decode_of}
 use Rattle.hex.specs.declared.error.FromHexError.{FromHexError}
-use Rattle.rvfleet.specs.declared.row.Row.{Row}
+use Rattle.rv_elf.specs.declared.loading.LoadAt.TheVariants.{Physical}
+use Rattle.rv_fleet.specs.declared.row.Row.{Row}
 use Rattle.rvfleet.specs.declared.store.Kept.{Kept}
 use Rattle.rvfleet.specs.ElfImages.{image_row_of, most_script}
 
@@ -36,6 +37,6 @@ script_of digits = script_or_none (bytes_of digits)
 abbrev pub is_bad_one : List ℕ → Option (List ℕ) → Bool
 is_bad_one path digits = is_bad_path path || is_bad_script (bytes_of digits)
 
--- the one row
+-- the one row, of an image at its physical addresses
 abbrev pub one_rows : Kept → ℕ → List ℕ → List Row
-one_rows kept budget script = image_row_of kept budget script ∷ []
+one_rows kept budget script = image_row_of kept Physical budget script ∷ []

@@ -1,7 +1,7 @@
 //! The command line.
 
 ghost use Rattle.std.specs.Prelude.{◌≡◌, IfOk, IfErr, true, false, map, option_map};
-ghost use Rattle.clap.specs.Words.{app_of, first_of, found_of, kind_of, rows_of, rule_of};
+ghost use Rattle.clap.specs.Words.{HasKind, app_of, fault_of, first_of, found_of, kind_of, rows_of, rule_of};
 ghost use Rattle.clap.specs.declared.builder.command.Command.TheViews.{out-Command};
 ghost use Rattle.rvfleet.specs.CommandLine.{budget_rule, image_rule, input_rule, raw_app, one_app, top_app, fleet_app, number_in, raw_in, one_in, request_in, request_of, is_taken};
 ghost use Rattle.rvfleet.specs.Requests.{request};
@@ -9,6 +9,7 @@ ghost use Rattle.rvfleet.specs.Requests.{request};
 use clap::error::ErrorKind;
 use clap::{Arg, ArgMatches, Command, Error, value_parser};
 use std::alloc::{AllocError, Global};
+use std::convert::AsStr;
 
 /// What words ask for.
 #[derive(Clone, Copy, Debug, PartialEq, Eq)]
@@ -27,9 +28,11 @@ pub enum Asked<'a> {
 
 /// Reads words, the first of which is the program's name. `None` stands where words that the
 /// command takes name no request. An error is `clap`'s own; help is one, of the kind DisplayHelp.
-pub fn read_words<'a>(alloc: Global, words: &'a [&'a str]) -> Result<Option<Asked<'a>>, Error>
-    ensures value { IfOk result (λ asked. option_map request asked ≡ request_of (map (λ word. word.now) words.entry.now)) }
-    ensures taken { IfErr result (λ error. is_taken (map (λ word. word.now) words.entry.now) ≡ true → kind_of error ≡ ErrorKind.OutOfMemory) }
+pub fn read_words<'a, T: AsStr>(alloc: Global, words: &'a [T]) -> Result<Option<Asked<'a>>, Error>
+    ensures value { IfOk result (λ asked. option_map request asked ≡ request_of (map T.text words.entry.now)) }
+    ensures taken { IfErr result
+        (λ error. is_taken (map T.text words.entry.now) ≡ true → kind_of error ≡ ErrorKind.OutOfMemory) }
+    ensures kinds { IfErr result (HasKind (fault_of fleet_app (map T.text words.entry.now))) }
 {
     let command = fleet_command(alloc)?;
     let matches = match command.try_get_matches_from(words) {
@@ -82,6 +85,7 @@ fn image_argument<'a>(alloc: Global) -> Arg<'a>
     ensures { (rule_of result ≡ image_rule) × (result.global ≡ false) }
 {
     Arg::new(alloc, "image")
+        .value_name("IMAGE")
         .required(true)
         .help("Path of the image")
 }
@@ -97,6 +101,7 @@ fn budget_option<'a>(alloc: Global) -> Arg<'a>
 {
     Arg::new(alloc, "budget")
         .long("budget")
+        .value_name("N")
         .required(true)
         .value_parser(value_parser!(u32).range(1..=1_000_000_000))
 }
@@ -110,7 +115,9 @@ fn input_argument<'a>(alloc: Global) -> Arg<'a>
 fn input_option<'a>(alloc: Global) -> Arg<'a>
     ensures { (rule_of result ≡ input_rule) × (result.global ≡ false) }
 {
-    Arg::new(alloc, "input-hex").long("input-hex")
+    Arg::new(alloc, "input-hex")
+        .long("input-hex")
+        .value_name("H")
 }
 
 fn subcommand_asked<'a>(name: &str, values: &ArgMatches<'a>) -> Option<Asked<'a>>

@@ -5,17 +5,16 @@ ghost use Rattle.std.specs.Io.KnownBytes.{Appends, Keeps};
 ghost use Rattle.rvfleet.specs.declared.store.Kept.{Kept};
 ghost use Rattle.rvfleet.specs.ElfImages.{most_script};
 ghost use Rattle.rvfleet.specs.One.{bytes_of, is_bad_path, is_bad_script, one_rows};
-ghost use Rattle.rvfleet.specs.Report.{report_text};
-ghost use Rattle.rvfleet.specs.Sending.{AppendsBeginning, Rose};
+ghost use Rattle.rv_fleet.specs.Report.{report_text};
+ghost use Rattle.rv_fleet.specs.Sending.{AppendsBeginning, Rose};
 ghost use Rattle.rvfleet.specs.Stores.{MayAnswer};
 
+use crate::error::RunError;
 use crate::image::image_row;
-use crate::raw::RunError;
-use crate::report::{WriteError, write_report};
-use crate::row::{Report, Rows};
-use crate::sink::Sink;
 use crate::store::{Kept, Store, keep};
 use hex::FromHexError;
+use rv_elf::LoadAt;
+use rv_fleet::{Report, Rows, Sink, write_report};
 use std::alloc::{AllocError, Global};
 
 /// Why digits are no script.
@@ -44,7 +43,9 @@ pub fn is_bad_path(path: &str) -> bool
 pub fn read_script(alloc: Global, digits: Option<&str>) -> Result<Vec<u8>, ScriptError>
     ensures value { IfOk result (λ script. bytes_of (option_map (λ text. text.now) digits.entry) ≡ Ok script.items) }
     ensures room { IfOk result (λ script. vec_len script ≤ most_script) }
-    ensures refused { IfErr result (λ error. error ≡ ScriptError.Refused → is_bad_script (bytes_of (option_map (λ text. text.now) digits.entry)) ≡ true) }
+    ensures refused { IfErr result
+        (λ error. error ≡ ScriptError.Refused
+        → is_bad_script (bytes_of (option_map (λ text. text.now) digits.entry)) ≡ true) }
 {
     let Some(digits) = digits else {
         return Ok(Vec::new(alloc));
@@ -67,27 +68,22 @@ pub fn run_one<S: Store, O: Sink>(
     out: &mut O,
 ) -> Result<(), RunError>
     requires { vec_len script ≤ most_script }
-    ensures appended { OnOk result ((kept : Kept) × (MayAnswer (S.contents store.old) (S.faulted store.old) (S.faulted store.new) path.now kept
+    ensures appended { OnOk result
+        ((kept : Kept) × (MayAnswer (S.contents store.old) (S.faulted store.old) (S.faulted store.new) path.now kept
         × Appends (O.taken out.old) (O.taken out.new) (report_text (one_rows kept budget script.items)))) }
-    ensures part { OnErr result (Keeps (O.taken out.old) (O.taken out.new) ⊎ ((kept : Kept) × (MayAnswer (S.contents store.old) (S.faulted store.old) (S.faulted store.new) path.now kept
+    ensures counted { OnOk result (O.failed out.new ≡ O.failed out.old) }
+    ensures part { OnErr result
+        (Keeps (O.taken out.old) (O.taken out.new)
+        ⊎ ((kept : Kept) × (MayAnswer (S.contents store.old) (S.faulted store.old) (S.faulted store.new) path.now kept
         × AppendsBeginning (O.taken out.old) (O.taken out.new) (report_text (one_rows kept budget script.items))))) }
     ensures failed { IfErr result (λ error. error ≡ RunError.WriteFailed → Rose (O.failed out.old) (O.failed out.new)) }
     ensures was_read { IfErr result (λ error. error ≢ RunError.ReadFailed) }
     ensures same { S.contents store.new ≡ S.contents store.old }
 {
-    let kept = match keep(alloc, store, path) {
-        Ok(kept) => kept,
-        Err(_) => return Err(RunError::OutOfMemory),
-    };
-    let report = match one_report(alloc, &kept, budget, script) {
-        Ok(report) => report,
-        Err(_) => return Err(RunError::OutOfMemory),
-    };
-    match write_report(alloc, &report, out) {
-        Ok(()) => Ok(()),
-        Err(WriteError::OutOfMemory) => Err(RunError::OutOfMemory),
-        Err(WriteError::Failed) => Err(RunError::WriteFailed),
-    }
+    let kept = keep(alloc, store, path)?;
+    let report = one_report(alloc, &kept, budget, script)?;
+    write_report(alloc, &report, out)?;
+    Ok(())
 }
 
 fn one_report(
@@ -100,7 +96,7 @@ fn one_report(
     ensures { IfOk result (λ report. report.rows ≡ one_rows kept.now budget script.items) }
 {
     let mut rows = Vec::new(alloc);
-    rows.push(image_row(alloc, kept, budget, script)?)?;
+    rows.push(image_row(alloc, kept, LoadAt::Physical, budget, script)?)?;
     Ok(Report {
         rows: Rows::new(rows),
     })

@@ -1,10 +1,9 @@
 //! Where images are read from.
 
-ghost use Rattle.std.specs.Prelude.{◌≡◌, ◌≤◌, ◌<◌, ℕ, Option, Some, IfErr, IfOk, IfSome, IsSomeAnd, length};
-ghost use Rattle.rvfleet.specs.Sending.{Rose};
-ghost use Rattle.rvfleet.specs.Stores.{FileContents, MayAnswer, most_bytes};
+ghost use Rattle.std.specs.Prelude.{◌≡◌, ◌≤◌, ◌<◌, ℕ, Option, Some, IfErr, IfOk, IfSome, IsSomeAnd, OnErr, length};
+ghost use Rattle.rvfleet.specs.Stores.{FileContents, MayAnswer, faults_after, most_bytes};
 
-use crate::row::Bytes;
+use rv_fleet::Bytes;
 use std::alloc::{AllocError, Global};
 
 /// Why a path wasn't read.
@@ -31,9 +30,11 @@ pub trait Store {
         ensures same { contents self.new ≡ contents self.old }
         ensures within { IfOk result (λ bytes. length bytes.items ≤ most_bytes) }
         ensures known { IfOk result (λ bytes. IfSome (contents self.old) (λ files. files path.now ≡ Some bytes.items)) }
-        ensures long { IfErr result (λ error. error ≡ ReadError.TooLong → IfSome (contents self.old) (λ files. IsSomeAnd (files path.now) (λ bytes. most_bytes < length bytes))) }
-        ensures rose { IfErr result (λ error. error ≡ ReadError.Unreadable → Rose (faulted self.old) (faulted self.new)) }
-        ensures grows { faulted self.old ≤ faulted self.new };
+        ensures long { IfErr result
+            (λ error. error ≡ ReadError.TooLong
+            → IfSome (contents self.old) (λ files. IsSomeAnd (files path.now) (λ bytes. most_bytes < length bytes))) }
+        ensures unfaulted { IfOk result (λ _. faulted self.new ≡ faulted self.old) }
+        ensures faults { IfErr result (λ error. faulted self.new ≡ faults_after error (faulted self.old)) };
 
     /// How often a file was unreadable.
     fn faults(&self) -> u64
@@ -53,9 +54,10 @@ pub enum Kept {
 
 /// Reads a path once, and keeps the answer.
 pub fn keep<S: Store>(alloc: Global, store: &mut S, path: &str) -> Result<Kept, AllocError>
-    ensures kept { IfOk result (λ kept. MayAnswer (S.contents store.old) (S.faulted store.old) (S.faulted store.new) path.now kept) }
+    ensures kept { IfOk result
+        (λ kept. MayAnswer (S.contents store.old) (S.faulted store.old) (S.faulted store.new) path.now kept) }
     ensures same { S.contents store.new ≡ S.contents store.old }
-    ensures grows { S.faulted store.old ≤ S.faulted store.new }
+    ensures unfaulted { OnErr result (S.faulted store.new ≡ S.faulted store.old) }
 {
     match store.read(alloc, path) {
         Ok(bytes) => Ok(Kept::Content(Bytes::new(bytes))),

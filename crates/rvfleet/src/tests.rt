@@ -1,23 +1,22 @@
-//! Reports, words and runs, over readers, sinks and stores in memory.
+//! The program over readers, sinks and stores in memory, and over files.
 
 ghost use Rattle.std.specs.Prelude.{Some, None, if◌then◌else◌};
 ghost use Rattle.std.specs.Str.{bytes_eq};
 
-use crate::command::{Asked, read_words};
 use crate::files::FileStore;
-use crate::firmware::{CHECKSUM, UPPER};
-use crate::flat::flat_row;
 use crate::image::image_row;
+use crate::images::{CHECKSUM, ONE_SEGMENT, TWO_SEGMENTS, UPPER};
+use crate::input::read_at_most;
 use crate::one::{ScriptError, read_script, run_one};
-use crate::raw::{RunError, run_raw};
-use crate::report::{WriteError, write_report};
-use crate::row::{Bytes, Name, Refusal, Report, Row, RowEnd, Rows, Verdict, Words};
-use crate::sink::{Sink, SinkFailed, StreamSink, put_all};
+use crate::raw::run_raw;
 use crate::store::{Kept, ReadError, Store, keep};
+use crate::streams::StreamSink;
 use crate::words::run_words;
-use rv_elf::ImageError;
-use rv_machine::FaultKind;
+use crate::{RunError, status};
+use rv_elf::LoadAt;
+use rv_fleet::{Bytes, RowEnd, Sink, SinkFailed, put_all};
 use std::alloc::{AllocError, Global};
+use std::fs;
 use std::io::{self, Read, Write};
 use std::test::Fail;
 
@@ -79,7 +78,7 @@ impl Sink for MemorySink {
     }
 }
 
-// A reader that gives one byte a read, and fails where an end is named.
+// A reader that gives one byte a read, and fails at its end where it is told to.
 #[derive(Drop)]
 struct SlowReader<'a> {
     bytes: &'a [u8],
@@ -88,33 +87,57 @@ struct SlowReader<'a> {
 
 impl<'a> Read for SlowReader<'a> {
     fn read(&mut self, buffer: &mut [u8]) -> io::Result<usize> {
-        if buffer.is_empty() {
-            return Ok(0);
-        }
-        if self.bytes.is_empty() {
+        let Some((first, rest)) = self.bytes.split_first() else {
             return if self.fails {
                 Err(io::ErrorKind::Other.into())
             } else {
                 Ok(0)
             };
-        }
-        buffer[0] = self.bytes[0];
-        self.bytes = &self.bytes[1..];
+        };
+        let Some(room) = buffer.first_mut() else {
+            return Ok(0);
+        };
+        *room = *first;
+        self.bytes = rest;
         Ok(1)
     }
 }
 
-// A writer whose flush fails.
+// A writer that counts its calls, and fails at one write or at each flush.
 #[derive(Drop)]
-struct Stuck;
+struct CountingWriter {
+    writes: u64,
+    flushes: u64,
+    fails_at: u64,
+    flush_fails: bool,
+}
 
-impl Write for Stuck {
+impl CountingWriter {
+    fn new(fails_at: u64, flush_fails: bool) -> CountingWriter {
+        CountingWriter {
+            writes: 0,
+            flushes: 0,
+            fails_at,
+            flush_fails,
+        }
+    }
+}
+
+impl Write for CountingWriter {
     fn write(&mut self, bytes: &[u8]) -> io::Result<usize> {
-        Ok(bytes.len())
+        self.writes = self.writes.saturating_add(1);
+        if self.writes == self.fails_at {
+            return Err(io::ErrorKind::Other.into());
+        }
+        Ok(bytes.len().min(4))
     }
 
     fn flush(&mut self) -> io::Result<()> {
-        Err(io::ErrorKind::Other.into())
+        self.flushes = self.flushes.saturating_add(1);
+        if self.flush_fails {
+            return Err(io::ErrorKind::Other.into());
+        }
+        Ok(())
     }
 }
 
@@ -176,28 +199,44 @@ struct Answer {
     faults: MemorySink,
 }
 
-fn ask<R: Read>(alloc: Global, words: &[&str], input: &mut R, out: MemorySink) -> Answer {
-    let mut store = MemoryStore::of("", &[]);
-    let mut out = out;
-    let mut faults = MemorySink::new(alloc);
-    let status = run_words(alloc, words, &mut store, input, &mut out, &mut faults);
-    Answer {
-        status,
-        out,
-        faults,
+impl Answer {
+    fn is(&self, status: u8, out: &str, faults: &str) -> Result<bool, Fail> {
+        Ok(self.status == status && self.out.text()? == out && self.faults.text()? == faults)
     }
 }
 
-fn ask_store(alloc: Global, words: &[&str], store: &mut MemoryStore<'_>) -> Answer {
-    let mut input: &[u8] = &[];
-    let mut out = MemorySink::new(alloc);
+// The words of a command line, without the program's name.
+fn ask<R: Read>(
+    alloc: Global,
+    line: &str,
+    store: &mut MemoryStore<'_>,
+    input: &mut R,
+    out: MemorySink,
+) -> Result<Answer, AllocError> {
+    let mut words = Vec::new(alloc);
+    words.push("rvfleet")?;
+    for word in line.split(' ') {
+        words.push(word)?;
+    }
+    let mut out = out;
     let mut faults = MemorySink::new(alloc);
-    let status = run_words(alloc, words, store, &mut input, &mut out, &mut faults);
-    Answer {
+    let status = run_words(alloc, words.as_slice(), store, input, &mut out, &mut faults);
+    Ok(Answer {
         status,
         out,
         faults,
-    }
+    })
+}
+
+fn ask_raw(alloc: Global, line: &str, input: &[u8]) -> Result<Answer, AllocError> {
+    let mut store = MemoryStore::of("", &[]);
+    let mut input = input;
+    ask(alloc, line, &mut store, &mut input, MemorySink::new(alloc))
+}
+
+fn ask_store(alloc: Global, line: &str, store: &mut MemoryStore<'_>) -> Result<Answer, AllocError> {
+    let mut input: &[u8] = &[];
+    ask(alloc, line, store, &mut input, MemorySink::new(alloc))
 }
 
 // Ends a run by the exit call, with the code in x10.
@@ -209,22 +248,26 @@ fn image(alloc: Global, text: &str) -> Result<Vec<u8>, Fail> {
     let mut bytes = Vec::new(alloc);
     for number in text.split(' ') {
         if number == "X" {
-            for word in X.split(' ') {
-                push_number(alloc, &mut bytes, word, 1)?;
-            }
-        } else if let Some((number, count)) = number.split_once('*') {
-            push_number(alloc, &mut bytes, number, count.parse::<u32>()?)?;
-        } else if !number.is_empty() {
-            push_number(alloc, &mut bytes, number, 1)?;
+            push_numbers(alloc, &mut bytes, X)?;
+        } else {
+            push_number(alloc, &mut bytes, number)?;
         }
     }
     Ok(bytes)
 }
 
-fn push_number(alloc: Global, bytes: &mut Vec<u8>, number: &str, count: u32) -> Result<(), Fail> {
+fn push_numbers(alloc: Global, bytes: &mut Vec<u8>, text: &str) -> Result<(), Fail> {
+    for number in text.split(' ') {
+        push_number(alloc, bytes, number)?;
+    }
+    Ok(())
+}
+
+fn push_number(alloc: Global, bytes: &mut Vec<u8>, number: &str) -> Result<(), Fail> {
+    let (number, count) = number.split_once('*').unwrap_or((number, "1"));
     let mut digits = hex::decode(alloc, number)?;
     digits.reverse();
-    for _ in 0..count {
+    for _ in 0..count.parse::<u32>()? {
         bytes.extend_from_slice(digits.as_slice())?;
     }
     Ok(())
@@ -235,20 +278,64 @@ const FLAT_RUNS: &str = "\
 exit | 00500513 X | 3 | exit 5 | 2 | -
 budget | 00500513 X | 2 | budget | 2 | -
 no bytes | | 1 | fault illegal pc=80000000 value=00000000 | 0 | -
-another call | 04000893 00000073 | 10 | fault unknown-call pc=80000004 value=00000040 | 1 | -
 branch | 00000463 00000000 00500513 X | 10 | exit 5 | 3 | -
 the sum wraps | 80000537 00a50533 X | 10 | exit 0 | 3 | -
 jump before the region | ffdff06f | 10 | fault fetch-access pc=7ffffffc value=7ffffffc | 1 | -
-illegal halfword | 12340000 | 10 | fault illegal pc=80000000 value=00000000 | 0 | -
 a word across the end | 7ffff06f 00*1048570 0013 | 10 | fault fetch-access pc=800ffffe value=80100000 | 1 | -
+another call | 04000893 00000073 | 10 | fault unknown-call pc=80000004 value=00000040 | 1 | -
+misaligned load | 00000297 0022a503 | 10 | fault load-misaligned pc=80000004 value=80000002 | 1 | -
+load into x0 | 00002003 | 10 | fault load-access pc=80000000 value=00000000 | 0 | -
+slli with funct7 0100000 | 40051513 | 10 | fault illegal pc=80000000 value=40051513 | 0 | -
+sltiu with -1 | fff03513 X | 10 | exit 1 | 2 | -
+srai | 80000537 40155513 X | 10 | exit 3221225472 | 3 | -
+fences with odd fields | 0ff0000f fff09f8f 00500513 X | 10 | exit 5 | 4 | -
+lb | 00000297 fff00313 10628023 10028503 X | 10 | exit 4294967295 | 5 | -
+lbu | 00000297 fff00313 10628023 1002c503 X | 10 | exit 255 | 5 | -
+lh | 00000297 fff00313 10628023 10029503 X | 10 | exit 255 | 5 | -
+lw | 00000297 fff00313 10628023 1002a503 X | 10 | exit 255 | 5 | -
+bits 4 to 0 all set | 0001001f | 10 | fault illegal pc=80000000 value=0001001f | 0 | -
+jalr reads before it links | 00000297 009282e7 00028513 X | 10 | exit 2147483656 | 4 | -
+div of the smallest by -1 | 800005b7 fff00613 02c5c533 X | 10 | exit 2147483648 | 4 | -
+rem of the smallest by -1 | 800005b7 fff00613 02c5e533 X | 10 | exit 0 | 4 | -
+div by 0 | 800005b7 00000613 02c5c533 X | 10 | exit 4294967295 | 4 | -
+rem by 0 | 800005b7 00000613 02c5e533 X | 10 | exit 2147483648 | 4 | -
+divu by 0 | 800005b7 00000613 02c5d533 X | 10 | exit 4294967295 | 4 | -
+remu by 0 | 800005b7 00000613 02c5f533 X | 10 | exit 2147483648 | 4 | -
+mul | fff00593 02b58533 X | 10 | exit 1 | 3 | -
+mulh | fff00593 02b59533 X | 10 | exit 0 | 3 | -
+mulhsu | fff00593 02b5a533 X | 10 | exit 4294967295 | 3 | -
+mulhu | fff00593 02b5b533 X | 10 | exit 4294967294 | 3 | -
+c.li | 4515 X | 10 | exit 5 | 2 | -
+c.lui | 757d X | 10 | exit 4294963200 | 2 | -
+c.addi16sp of -64 | 7139 850a X | 10 | exit 4294967232 | 3 | -
+c.addi16sp of 32 | 6105 850a X | 10 | exit 32 | 3 | -
+c.addi16sp of 0 | 6101 | 10 | fault illegal pc=80000000 value=00006101 | 0 | -
+c.addi4spn of 40 | 1028 X | 10 | exit 40 | 2 | -
+c.addi4spn of 0 | 0008 | 10 | fault illegal pc=80000000 value=00000008 | 0 | -
+c.srli with bit 12 | 9101 | 10 | fault illegal pc=80000000 value=00009101 | 0 | -
+c.fld | 2000 | 10 | fault illegal pc=80000000 value=00002000 | 0 | -
+c.slli with bit 12 | 1082 | 10 | fault illegal pc=80000000 value=00001082 | 0 | -
+c.lwsp into x0 | 4002 | 10 | fault illegal pc=80000000 value=00004002 | 0 | -
+the halfword 0 behind a hint | 0005 | 10 | fault illegal pc=80000002 value=00000000 | 1 | -
+c.jr of x0 | 8002 | 10 | fault illegal pc=80000000 value=00008002 | 0 | -
+c.ebreak | 9002 | 10 | fault breakpoint pc=80000000 value=00000000 | 0 | -
+c.j to itself | a001 | 1000 | budget | 1000 | -
+c.jalr links two ahead | 00000097 00c08093 9082 0000 8506 X | 10 | exit 2147483658 | 5 | -
 the largest image | 0001*524287 0013 | 600000 | fault fetch-access pc=800ffffe value=80100000 | 524287 | -
 one byte more | 0001*524287 0013 00 | 600000 | refused image-too-long | 0 | -
+a store over code, and fence.i | 00000297 07000313 00500513 00039a63 00100393 00629523 0000100f fedff06f X | 100 | exit 7 | 11 | -
+a store over code | 00000297 07000313 00500513 00039a63 00100393 00629523 00000013 fedff06f X | 100 | fault stale-code pc=80000008 value=8000000a | 8 | -
+a store of what was there | 00000297 05000313 00500513 00039a63 00100393 00629523 00000013 fedff06f X | 100 | fault stale-code pc=80000008 value=8000000a | 8 | -
+a byte of the console | 100002b7 00028503 | 10 | fault load-access pc=80000004 value=10000000 | 1 | -
+a full console | 100002b7 0002a023 ffdff06f | 200000 | fault console-full pc=80000004 value=00000000 | 131073 | 0*131072
+the console but for a byte | 100002b7 0002a023 ffdff06f | 131070 | budget | 131070 | 0*131070
+one byte of the console | 100002b7 04100513 00a2a023 | 10 | fault illegal pc=8000000c value=00000000 | 3 | 41
 ";
 
 #[derive(Drop)]
 struct Run<'a> {
     label: &'a str,
-    numbers: &'a str,
+    image: &'a str,
     budget: &'a str,
     ending: &'a str,
     steps: &'a str,
@@ -260,7 +347,7 @@ fn run_of(line: &str) -> Option<Run<'_>> {
     let mut cells = line.split('|');
     Some(Run {
         label: cells.next()?.trim(),
-        numbers: cells.next()?.trim(),
+        image: cells.next()?.trim(),
         budget: cells.next()?.trim(),
         ending: cells.next()?.trim(),
         steps: cells.next()?.trim(),
@@ -269,81 +356,58 @@ fn run_of(line: &str) -> Option<Run<'_>> {
     })
 }
 
-fn report_of(alloc: Global, name: &str, run: &Run<'_>) -> Result<String, AllocError> {
-    let (ending, steps, console) = (run.ending, run.steps, run.console);
-    let mut text = String::new(alloc);
-    write!(
-        text,
-        "job 1 {name}\nend {ending}\nsteps {steps}\nconsole {console}\n"
-    )?;
-    text.push_str("signature -\nverdict none\ndone 1\n")?;
+fn report_of(alloc: Global, name: &str, run: &Run<'_>) -> Result<String, Fail> {
+    let (ending, steps) = (run.ending, run.steps);
+    let mut text = format!(in alloc; "job 1 {name}\nend {ending}\nsteps {steps}\nconsole ")?;
+    push_repeated(&mut text, run.console)?;
+    text.push_str("\nsignature -\nverdict none\ndone 1\n")?;
     Ok(text)
+}
+
+// `0*3` stands for 000.
+fn push_repeated(text: &mut String, cell: &str) -> Result<(), Fail> {
+    let (part, count) = cell.split_once('*').unwrap_or((cell, "1"));
+    for _ in 0..count.parse::<u32>()? {
+        text.push_str(part)?;
+    }
+    Ok(())
+}
+
+// Whether the program answers a flat image as a line of the table says.
+fn runs_flat(alloc: Global, line: &str) -> Result<bool, Fail> {
+    let run = run_of(line).ok_or("six cells")?;
+    let bytes = image(alloc, run.image)?;
+    let words = format!(in alloc; "raw --budget {}", run.budget)?;
+    let answer = ask_raw(alloc, words.as_str(), bytes.as_slice())?;
+    answer.is(0, report_of(alloc, "raw", &run)?.as_str(), "")
 }
 
 #[test]
 fn runs_flat_images(rt: HostRuntime) -> Result<(), Fail> {
     let alloc = rt.alloc();
-    assert_eq!(rt; FLAT_RUNS.lines().count(), 11);
     for line in FLAT_RUNS.lines() {
-        let run = run_of(line).ok_or("six cells")?;
-        let label = run.label;
-        let bytes = image(alloc, run.numbers)?;
-        let mut input = bytes.as_slice();
-        let words = ["rvfleet", "raw", "--budget", run.budget];
-        let answer = ask(alloc, &words, &mut input, MemorySink::new(alloc));
-        assert_eq!(rt;
-            answer.out.text()?,
-            report_of(alloc, "raw", &run)?.as_str(),
-            "{label}"
-        );
-        assert_eq!(rt; answer.status, 0, "{label}");
-        assert_eq!(rt; answer.faults.text()?, "", "{label}");
+        assert!(rt; runs_flat(alloc, line)?, "{line}");
     }
     Ok(())
 }
 
-// One segment of three instructions at 0x8000_0000.
-const ONE_SEGMENT: [u8; 96] = [
-    0x7f, 0x45, 0x4c, 0x46, 0x01, 0x01, 0x01, 0x00, 0x00, 0x00, 0x00, 0x00, 0x00, 0x00, 0x00, 0x00,
-    0x02, 0x00, 0xf3, 0x00, 0x01, 0x00, 0x00, 0x00, 0x00, 0x00, 0x00, 0x80, 0x34, 0x00, 0x00, 0x00,
-    0x00, 0x00, 0x00, 0x00, 0x00, 0x00, 0x00, 0x00, 0x34, 0x00, 0x20, 0x00, 0x01, 0x00, 0x28, 0x00,
-    0x00, 0x00, 0x00, 0x00, 0x01, 0x00, 0x00, 0x00, 0x54, 0x00, 0x00, 0x00, 0x00, 0x00, 0x00, 0x80,
-    0x00, 0x00, 0x00, 0x80, 0x0c, 0x00, 0x00, 0x00, 0x0c, 0x00, 0x00, 0x00, 0x07, 0x00, 0x00, 0x00,
-    0x04, 0x00, 0x00, 0x00, 0x13, 0x05, 0x50, 0x00, 0x93, 0x08, 0xd0, 0x05, 0x73, 0x00, 0x00, 0x00,
-];
-
-// Two segments: code that loads the word at 0x8000_0100, and a word, 42, with this virtual address
-// and the physical address 0x8000_0200.
-const TWO_SEGMENTS: [u8; 136] = [
-    0x7f, 0x45, 0x4c, 0x46, 0x01, 0x01, 0x01, 0x00, 0x00, 0x00, 0x00, 0x00, 0x00, 0x00, 0x00, 0x00,
-    0x02, 0x00, 0xf3, 0x00, 0x01, 0x00, 0x00, 0x00, 0x00, 0x00, 0x00, 0x80, 0x34, 0x00, 0x00, 0x00,
-    0x00, 0x00, 0x00, 0x00, 0x00, 0x00, 0x00, 0x00, 0x34, 0x00, 0x20, 0x00, 0x02, 0x00, 0x28, 0x00,
-    0x00, 0x00, 0x00, 0x00, 0x01, 0x00, 0x00, 0x00, 0x74, 0x00, 0x00, 0x00, 0x00, 0x00, 0x00, 0x80,
-    0x00, 0x00, 0x00, 0x80, 0x10, 0x00, 0x00, 0x00, 0x10, 0x00, 0x00, 0x00, 0x05, 0x00, 0x00, 0x00,
-    0x04, 0x00, 0x00, 0x00, 0x01, 0x00, 0x00, 0x00, 0x84, 0x00, 0x00, 0x00, 0x00, 0x01, 0x00, 0x80,
-    0x00, 0x02, 0x00, 0x80, 0x04, 0x00, 0x00, 0x00, 0x04, 0x00, 0x00, 0x00, 0x06, 0x00, 0x00, 0x00,
-    0x04, 0x00, 0x00, 0x00, 0x97, 0x02, 0x00, 0x00, 0x03, 0xa5, 0x02, 0x10, 0x93, 0x08, 0xd0, 0x05,
-    0x73, 0x00, 0x00, 0x00, 0x2a, 0x00, 0x00, 0x00,
-];
-
-// The bytes of a file: `one` or `two` for those above, then changes: `24=90000000` puts the number
-// at byte 24, little-endian, and `51` keeps the first 51 bytes. With `code` numbers follow, which
-// are the file bytes of the one segment.
+// The bytes of a file: `one` or `two` segments, then changes: `24=90000000` puts the number at byte
+// 24, little-endian, and `51` keeps the first 51 bytes. With `code` numbers follow, which are the
+// file bytes of the one segment.
 fn file(alloc: Global, text: &str) -> Result<Vec<u8>, Fail> {
     let (name, rest) = text.split_once(' ').unwrap_or((text, ""));
     match name {
-        "one" => changed(alloc, &ONE_SEGMENT, rest),
-        "two" => changed(alloc, &TWO_SEGMENTS, rest),
+        "one" => changed(alloc, ONE_SEGMENT, rest),
+        "two" => changed(alloc, TWO_SEGMENTS, rest),
         _ => program(alloc, rest),
     }
 }
 
-fn changed(alloc: Global, file: &[u8], changes: &str) -> Result<Vec<u8>, Fail> {
-    let mut bytes = file.to_vec(alloc)?;
+fn changed(alloc: Global, digits: &str, changes: &str) -> Result<Vec<u8>, Fail> {
+    let mut bytes = hex::decode(alloc, digits)?;
     for change in changes.split(' ') {
         if let Some((at, number)) = change.split_once('=') {
-            let mut field = Vec::new(alloc);
-            push_number(alloc, &mut field, number, 1)?;
+            let field = image(alloc, number)?;
             set(&mut bytes, at.parse::<usize>()?, field.as_slice());
         } else if !change.is_empty() {
             bytes.truncate(change.parse::<usize>()?);
@@ -368,7 +432,7 @@ const MEMORY_SIZE: usize = 72;
 fn program(alloc: Global, numbers: &str) -> Result<Vec<u8>, Fail> {
     let code = image(alloc, numbers)?;
     let size = u32::try_from(code.len())?;
-    let mut bytes = changed(alloc, &ONE_SEGMENT, "84")?;
+    let mut bytes = changed(alloc, ONE_SEGMENT, "84")?;
     set(&mut bytes, FILE_SIZE, size.to_le_bytes().as_slice());
     set(&mut bytes, MEMORY_SIZE, size.to_le_bytes().as_slice());
     bytes.extend_from_slice(code.as_slice())?;
@@ -409,42 +473,79 @@ bytes left | code 100002b7 0042a503 X | 100 | exit 2 | 3 | - | 4142
 upper case digits | code 100002b7 0002a503 X | 100 | exit 175 | 3 | - | aF
 ";
 
-fn words_of<'a>(run: &Run<'a>) -> [&'a str; 7] {
-    [
-        "rvfleet",
-        "one",
-        "image",
-        "--budget",
-        run.budget,
-        "--input-hex",
-        run.input,
-    ]
+// Whether the program answers an ELF image as a line of the table says, and reads its path once.
+fn runs_elf(alloc: Global, line: &str) -> Result<bool, Fail> {
+    let run = run_of(line).ok_or("six cells")?;
+    let bytes = file(alloc, run.image)?;
+    let mut store = MemoryStore::of("image", bytes.as_slice());
+    let mut words = format!(in alloc; "one image --budget {}", run.budget)?;
+    if !run.input.is_empty() {
+        write!(words, " --input-hex {}", run.input)?;
+    }
+    let answer = ask_store(alloc, words.as_str(), &mut store)?;
+    let is_read_once = (store.reads, store.faults()) == (1, 0);
+    Ok(is_read_once && answer.is(0, report_of(alloc, "one", &run)?.as_str(), "")?)
 }
 
 #[test]
 fn runs_elf_images(rt: HostRuntime) -> Result<(), Fail> {
     let alloc = rt.alloc();
-    assert_eq!(rt; ONE_RUNS.lines().count(), 30);
     for line in ONE_RUNS.lines() {
-        let run = run_of(line).ok_or("six cells")?;
-        let label = run.label;
-        let bytes = file(alloc, run.numbers)?;
-        let mut store = MemoryStore::of("image", bytes.as_slice());
-        let words = words_of(&run);
-        let count = if run.input.is_empty() { 5 } else { 7 };
-        let answer = ask_store(alloc, &words[..count], &mut store);
-        assert_eq!(rt;
-            answer.out.text()?,
-            report_of(alloc, "one", &run)?.as_str(),
-            "{label}"
-        );
-        assert_eq!(rt; (answer.status, answer.faults.puts), (0, 0), "{label}");
-        assert_eq!(rt; (store.reads, store.faults()), (1, 0), "{label}");
+        assert!(rt; runs_elf(alloc, line)?, "{line}");
     }
     Ok(())
 }
 
-const ONE_WORDS: [&str; 5] = ["rvfleet", "one", "image", "--budget", "10"];
+// The ending and the steps of an image that is loaded at its virtual addresses.
+fn run_at_virtual(alloc: Global, text: &str) -> Result<(RowEnd, u32), Fail> {
+    let kept = Kept::Content(Bytes::new(file(alloc, text)?));
+    let row = image_row(alloc, &kept, LoadAt::Virtual, 10, Vec::new(alloc))?;
+    Ok((row.ending, row.steps))
+}
+
+#[test]
+fn loads_at_virtual_addresses(rt: HostRuntime) -> Result<(), Fail> {
+    let alloc = rt.alloc();
+    for text in ["two", "two 96=80000008"] {
+        let ran = run_at_virtual(alloc, text)?;
+        assert_eq!(rt; ran, (RowEnd::Exit(42), 3), "{text}");
+    }
+    Ok(())
+}
+
+// What the programs print is worked out from their source.
+const FIRMWARE_RUNS: [(&str, &str, &str, &str); 2] = [
+    (
+        UPPER,
+        "48692c207276333221",
+        "end exit 3\n",
+        "console 232048492c2052563332210a\n",
+    ),
+    (
+        CHECKSUM,
+        "313233343536373839",
+        "end exit 0\n",
+        "console 63626634333932360a\n",
+    ),
+];
+
+fn firmware_text(alloc: Global, digits: &str, input: &str) -> Result<Answer, Fail> {
+    let bytes = hex::decode(alloc, digits)?;
+    let mut store = MemoryStore::of("image", bytes.as_slice());
+    let words = format!(in alloc; "one image --budget 100000 --input-hex {input}")?;
+    Ok(ask_store(alloc, words.as_str(), &mut store)?)
+}
+
+#[test]
+fn runs_example_firmware(rt: HostRuntime) -> Result<(), Fail> {
+    let alloc = rt.alloc();
+    for (digits, input, ending, console) in FIRMWARE_RUNS {
+        let answer = firmware_text(alloc, digits, input)?;
+        let text = answer.out.text()?;
+        assert!(rt; text.contains(ending) && text.contains(console), "{input}");
+    }
+    Ok(())
+}
 
 fn refused_text(alloc: Global, why: &str) -> Result<String, AllocError> {
     format!(in alloc;
@@ -452,426 +553,174 @@ fn refused_text(alloc: Global, why: &str) -> Result<String, AllocError> {
     )
 }
 
+const ONE_WORDS: &str = "one image --budget 10";
+
+// Whether the store's one answer is told as a refusal, and counted so often.
+fn refuses(
+    alloc: Global,
+    store: &mut MemoryStore<'_>,
+    why: &str,
+    faults: u64,
+) -> Result<bool, Fail> {
+    let answer = ask_store(alloc, ONE_WORDS, store)?;
+    let is_counted = (store.reads, store.faults()) == (1, faults);
+    Ok(is_counted && answer.is(0, refused_text(alloc, why)?.as_str(), "")?)
+}
+
 #[test]
 fn answers_for_paths(rt: HostRuntime) -> Result<(), Fail> {
     let alloc = rt.alloc();
-    let mut other = MemoryStore::of("other", &ONE_SEGMENT);
-    let missing = ask_store(alloc, &ONE_WORDS, &mut other);
-    assert_eq!(rt;
-        missing.out.text()?,
-        refused_text(alloc, "image-unreadable")?.as_str()
-    );
-    assert_eq!(rt; (missing.status, other.reads, other.faults()), (0, 1, 1));
-
+    let mut other = MemoryStore::of("other", &[]);
+    assert!(rt; refuses(alloc, &mut other, "image-unreadable", 1)?);
     let long = vec![in alloc; 0u8; 16_777_217]?;
-    let mut store = MemoryStore::of("image", long.as_slice());
-    let too_long = ask_store(alloc, &ONE_WORDS, &mut store);
-    assert_eq!(rt;
-        too_long.out.text()?,
-        refused_text(alloc, "image-too-long")?.as_str()
-    );
-    assert_eq!(rt; (too_long.status, store.reads, store.faults()), (0, 1, 0));
+    let mut too_long = MemoryStore::of("image", long.as_slice());
+    assert!(rt; refuses(alloc, &mut too_long, "image-too-long", 0)?);
 
-    let mut store = MemoryStore::of("image", &ONE_SEGMENT);
-    store.has_memory = false;
-    let failed = ask_store(alloc, &ONE_WORDS, &mut store);
-    assert_eq!(rt; (failed.status, failed.out.puts), (3, 0));
-    assert_eq!(rt; failed.faults.text()?, "rvfleet: out of memory\n");
-
-    // A file that the system doesn't have.
-    let mut files = FileStore::new(&rt);
-    assert_eq!(rt;
-        files.read(alloc, "no such folder/image").err(),
-        Some(ReadError::Unreadable)
-    );
-    assert_eq!(rt; files.faults(), 1);
+    let mut poor = MemoryStore::of("image", &[]);
+    poor.has_memory = false;
+    let failed = ask_store(alloc, ONE_WORDS, &mut poor)?;
+    assert!(rt; failed.is(3, "", "rvfleet: out of memory\n")?);
     Ok(())
 }
 
-fn repeated(alloc: Global, letter: char, count: usize) -> Result<String, AllocError> {
+// The files of a test, in the folder that it runs in.
+const IMAGE_FILE: &str = "image.elf";
+
+const LONG_FILE: &str = "long.bin";
+
+const EMPTY_FILE: &str = "empty.bin";
+
+const MOST_BYTES: usize = 16_777_216;
+
+// What a store over files answers for a path: the number of bytes, or the error; and its faults.
+fn file_answer(rt: &HostRuntime, path: &str) -> (Result<usize, ReadError>, u64) {
+    let mut store = FileStore::new(rt);
+    let answer = match store.read(rt.alloc(), path) {
+        Ok(bytes) => Ok(bytes.len()),
+        Err(error) => Err(error),
+    };
+    (answer, store.faults())
+}
+
+// The report of the image at a path of the file system.
+fn file_report(rt: &HostRuntime, path: &str) -> Result<Answer, AllocError> {
+    let alloc = rt.alloc();
+    let mut store = FileStore::new(rt);
+    let mut input: &[u8] = &[];
+    let mut out = MemorySink::new(alloc);
+    let mut faults = MemorySink::new(alloc);
+    let words = ["rvfleet", "one", path, "--budget", "10"];
+    let status = run_words(alloc, &words, &mut store, &mut input, &mut out, &mut faults);
+    Ok(Answer {
+        status,
+        out,
+        faults,
+    })
+}
+
+#[test]
+fn reads_files(rt: HostRuntime) -> Result<(), Fail> {
+    let alloc = rt.alloc();
+    fs::write(&rt, IMAGE_FILE, file(alloc, "one")?)?;
+    fs::write(&rt, EMPTY_FILE, Vec::new(alloc))?;
+    let ran = file_report(&rt, IMAGE_FILE)?;
+    assert!(rt;
+        ran.status == 0
+            && ran
+                .out
+                .text()?
+                .starts_with("job 1 one\nend exit 5\nsteps 2\n")
+    );
+    assert_eq!(rt; file_answer(&rt, EMPTY_FILE), (Ok(0), 0));
+    fs::remove_file(&rt, IMAGE_FILE)?;
+    fs::remove_file(&rt, EMPTY_FILE)?;
+    assert_eq!(rt;
+        file_answer(&rt, IMAGE_FILE),
+        (Err(ReadError::Unreadable), 1)
+    );
+    assert_eq!(rt;
+        file_answer(&rt, "no folder/image"),
+        (Err(ReadError::Unreadable), 1)
+    );
+
+    fs::write(&rt, LONG_FILE, vec![in alloc; 0u8; MOST_BYTES]?)?;
+    assert_eq!(rt; file_answer(&rt, LONG_FILE), (Ok(MOST_BYTES), 0));
+    fs::write(&rt, LONG_FILE, vec![in alloc; 0u8; MOST_BYTES + 1]?)?;
+    assert_eq!(rt; file_answer(&rt, LONG_FILE), (Err(ReadError::TooLong), 0));
+    fs::remove_file(&rt, LONG_FILE)?;
+    Ok(())
+}
+
+// Words that are refused, a line each; the first has none.
+const BAD_WORDS: &str = "\
+
+walk
+help
+raw
+raw --budget
+raw --budget 0
+raw --budget 1000000001
+raw --budget x
+raw --budget -1
+raw --budget 3 more
+raw --budget 3 --budget 4
+raw --budget 3 --workers 1
+run a
+one --budget 10
+one image
+one  --budget 10
+one image --budget 10 --input-hex 4
+one image --budget 10 --input-hex 4g
+one image --budget 10 more
+";
+
+// Whether words are refused, and before the store is read.
+fn is_refused(alloc: Global, line: &str) -> Result<bool, Fail> {
+    let mut store = MemoryStore::of("image", &[]);
+    let answer = ask_store(alloc, line, &mut store)?;
+    Ok(store.reads == 0 && answer.is(2, "", "rvfleet: bad words\n")?)
+}
+
+#[test]
+fn refuses_bad_words(rt: HostRuntime) -> Result<(), Fail> {
+    let alloc = rt.alloc();
+    for line in BAD_WORDS.lines() {
+        assert!(rt; is_refused(alloc, line)?, "{line}");
+    }
+    // The words of this test's own process.
+    assert_eq!(rt; status(&rt), 2);
+    Ok(())
+}
+
+fn repeated(alloc: Global, part: &str, count: usize) -> Result<String, AllocError> {
     let mut text = String::new(alloc);
     for _ in 0..count {
-        text.push(letter)?;
+        text.push_str(part)?;
     }
     Ok(text)
 }
 
-// Whether words are refused before the store is read.
-fn is_refused(alloc: Global, words: &[&str]) -> Result<bool, Fail> {
-    let mut store = MemoryStore::of("image", &ONE_SEGMENT);
-    let answer = ask_store(alloc, words, &mut store);
-    let is_said = answer.faults.text()? == "rvfleet: bad words\n";
-    Ok(is_said && (answer.status, answer.out.puts, store.reads) == (2, 0, 0))
+// The words of a run of an image at a path and with a script of so many bytes.
+fn long_words(alloc: Global, path: &str, script: usize) -> Result<String, AllocError> {
+    let digits = repeated(alloc, "4f", script)?;
+    format!(in alloc; "one {path} --budget 10 --input-hex {digits}")
 }
 
 #[test]
-fn answers_words_of_one(rt: HostRuntime) -> Result<(), Fail> {
+fn takes_the_longest_words(rt: HostRuntime) -> Result<(), Fail> {
     let alloc = rt.alloc();
-    let refused: [&[&str]; 6] = [
-        &["rvfleet", "one", "--budget", "10"],
-        &["rvfleet", "one", "image"],
-        &["rvfleet", "one", "", "--budget", "10"],
-        &[
-            "rvfleet",
-            "one",
-            "image",
-            "--budget",
-            "10",
-            "--input-hex",
-            "4",
-        ],
-        &[
-            "rvfleet",
-            "one",
-            "image",
-            "--budget",
-            "10",
-            "--input-hex",
-            "4g",
-        ],
-        &["rvfleet", "one", "image", "--budget", "10", "more"],
-    ];
-    for words in refused {
-        assert!(rt; is_refused(alloc, words)?, "{words:?}");
-    }
-    let path = repeated(alloc, 'a', 4097)?;
-    let words = ["rvfleet", "one", path.as_str(), "--budget", "10"];
-    assert!(rt; is_refused(alloc, &words)?);
-    let script = repeated(alloc, '4', 131_074)?;
-    let words = [
-        "rvfleet",
-        "one",
-        "image",
-        "--budget",
-        "10",
-        "--input-hex",
-        script.as_str(),
-    ];
-    assert!(rt; is_refused(alloc, &words)?);
+    let path = repeated(alloc, "a", 4096)?;
+    let bytes = file(alloc, "code 100002b7 0042a503 X")?;
+    let mut store = MemoryStore::of(path.as_str(), bytes.as_slice());
+    let words = long_words(alloc, path.as_str(), 65_536)?;
+    let answer = ask_store(alloc, words.as_str(), &mut store)?;
+    assert!(rt; answer.status == 0 && answer.out.text()?.contains("end exit 65536\n"));
 
-    let path = repeated(alloc, 'a', 4096)?;
-    let script = repeated(alloc, '4', 131_072)?;
-    let words = [
-        "rvfleet",
-        "one",
-        path.as_str(),
-        "--budget",
-        "10",
-        "--input-hex",
-        script.as_str(),
-    ];
-    let mut store = MemoryStore::of(path.as_str(), &ONE_SEGMENT);
-    let answer = ask_store(alloc, &words, &mut store);
-    assert_eq!(rt; (answer.status, store.reads), (0, 1));
-    assert!(rt; answer.out.text()?.contains("end exit 5\n"));
-    Ok(())
-}
-
-// What the programs print is worked out from their source.
-#[test]
-fn runs_example_firmware(rt: HostRuntime) -> Result<(), Fail> {
-    let alloc = rt.alloc();
-    let runs = [
-        (
-            UPPER,
-            "48692c207276333221",
-            "end exit 3\n",
-            "console 232048492c2052563332210a\n",
-        ),
-        (
-            CHECKSUM,
-            "313233343536373839",
-            "end exit 0\n",
-            "console 63626634333932360a\n",
-        ),
-    ];
-    for (digits, input, ending, console) in runs {
-        let bytes = hex::decode(alloc, digits)?;
-        let mut store = MemoryStore::of("image", bytes.as_slice());
-        let words = [
-            "rvfleet",
-            "one",
-            "image",
-            "--budget",
-            "100000",
-            "--input-hex",
-            input,
-        ];
-        let answer = ask_store(alloc, &words, &mut store);
-        assert!(rt; answer.out.text()?.contains(ending), "{input}");
-        assert!(rt; answer.out.text()?.contains(console), "{input}");
-    }
-    Ok(())
-}
-
-#[test]
-fn keeps_what_a_store_answers(rt: HostRuntime) -> Result<(), Fail> {
-    let alloc = rt.alloc();
-    let mut store = MemoryStore::of("image", &ONE_SEGMENT);
-    let kept = keep(alloc, &mut store, "image")?;
-    let row = image_row(alloc, &kept, 10, Vec::new(alloc))?;
-    assert_eq!(rt;
-        (row.name.as_str(), row.ending, row.steps),
-        ("one", RowEnd::Exit(5), 2)
-    );
-    assert!(rt; matches!(keep(alloc, &mut store, "other")?, Kept::Unreadable));
-    let cut = Kept::Content(Bytes::new(ONE_SEGMENT[..95].to_vec(alloc)?));
-    let refusal = Refusal::Image(ImageError::SegmentFile);
-    assert_eq!(rt;
-        image_row(alloc, &cut, 10, Vec::new(alloc))?.ending,
-        RowEnd::Refused(refusal)
-    );
-
-    assert_eq!(rt;
-        read_script(alloc, Some("4fE0"))?.as_slice(),
-        [0x4f, 0xe0].as_slice()
-    );
-    assert!(rt; read_script(alloc, None)?.is_empty());
-    assert_eq!(rt;
-        read_script(alloc, Some("4")).err(),
-        Some(ScriptError::Refused)
-    );
-    let mut out = MemorySink::failing(alloc, 10, 2);
-    let failed = run_one(alloc, &mut store, "image", 10, Vec::new(alloc), &mut out);
-    assert_eq!(rt;
-        (failed, out.text()?),
-        (Err(RunError::WriteFailed), "job 1 one\n")
-    );
-    Ok(())
-}
-
-fn row_of(alloc: Global, ending: RowEnd, steps: u32) -> Result<Row, AllocError> {
-    Ok(Row {
-        name: Name::new(String::from_str(alloc, "a.b_c-d")?),
-        ending,
-        steps,
-        console: Bytes::new(Vec::new(alloc)),
-        signature: None,
-        verdict: Verdict::Unasked,
-    })
-}
-
-const FAULTS: [FaultKind; 10] = [
-    FaultKind::FetchAccess,
-    FaultKind::StaleCode,
-    FaultKind::Illegal,
-    FaultKind::Breakpoint,
-    FaultKind::LoadMisaligned,
-    FaultKind::LoadAccess,
-    FaultKind::StoreMisaligned,
-    FaultKind::StoreAccess,
-    FaultKind::ConsoleFull,
-    FaultKind::UnknownCall,
-];
-
-const ENDINGS: &str = "\
-exit 0
-exit 4294967295
-budget
-refused image-too-long
-fault fetch-access pc=80000004 value=00000abc
-fault stale-code pc=80000004 value=00000abc
-fault illegal pc=80000004 value=00000abc
-fault breakpoint pc=80000004 value=00000abc
-fault load-misaligned pc=80000004 value=00000abc
-fault load-access pc=80000004 value=00000abc
-fault store-misaligned pc=80000004 value=00000abc
-fault store-access pc=80000004 value=00000abc
-fault console-full pc=80000004 value=00000abc
-fault unknown-call pc=80000004 value=00000abc
-";
-
-#[test]
-fn writes_each_ending(rt: HostRuntime) -> Result<(), Fail> {
-    let alloc = rt.alloc();
-    let mut endings = Vec::new(alloc);
-    endings.push(RowEnd::Exit(0))?;
-    endings.push(RowEnd::Exit(u32::MAX))?;
-    endings.push(RowEnd::Budget)?;
-    endings.push(RowEnd::Refused(Refusal::ImageTooLong))?;
-    for kind in FAULTS {
-        endings.push(RowEnd::Fault(kind, 0x8000_0004, 0xabc))?;
-    }
-    let mut rows = Vec::new(alloc);
-    for ending in &endings {
-        rows.push(row_of(alloc, *ending, 12)?)?;
-    }
-    let report = Report {
-        rows: Rows::new(rows),
-    };
-    let mut out = MemorySink::new(alloc);
-    assert_eq!(rt; write_report(alloc, &report, &mut out), Ok(()));
-    let mut expected = String::new(alloc);
-    for (place, ending) in ENDINGS.lines().enumerate() {
-        let number = place.saturating_add(1);
-        write!(expected, "job {number} a.b_c-d\nend {ending}\n")?;
-        expected.push_str("steps 12\nconsole -\nsignature -\nverdict none\n")?;
-    }
-    expected.push_str("done 14\n")?;
-    assert_eq!(rt; out.text()?, expected.as_str());
-    Ok(())
-}
-
-// Three rows with all that a row may have.
-fn full_report(alloc: Global) -> Result<Report, AllocError> {
-    let mut first = row_of(alloc, RowEnd::Exit(5), 2)?;
-    first.console = Bytes::new([0x41, 0x00, 0xff].to_vec(alloc)?);
-    first.signature = Some(Words::new(Vec::new(alloc)));
-    first.verdict = Verdict::Pass;
-    let mut second = row_of(alloc, RowEnd::Budget, u32::MAX)?;
-    second.signature = Some(Words::new([0x8000_0000, 0x1f].to_vec(alloc)?));
-    second.verdict = Verdict::Fail;
-    let mut rows = Vec::new(alloc);
-    rows.push(first)?;
-    rows.push(second)?;
-    rows.push(row_of(alloc, RowEnd::Exit(1), 0)?)?;
-    Ok(Report {
-        rows: Rows::new(rows),
-    })
-}
-
-const FULL_TEXT: &str = "\
-job 1 a.b_c-d
-end exit 5
-steps 2
-console 4100ff
-signature 0
-verdict pass
-job 2 a.b_c-d
-end budget
-steps 4294967295
-console -
-signature 2
-80000000
-0000001f
-verdict fail
-job 3 a.b_c-d
-end exit 1
-steps 0
-console -
-signature -
-verdict none
-done 3
-";
-
-#[test]
-fn writes_reports(rt: HostRuntime) -> Result<(), Fail> {
-    let alloc = rt.alloc();
-    let none = Report {
-        rows: Rows::new(Vec::new(alloc)),
-    };
-    let mut out = MemorySink::new(alloc);
-    assert_eq!(rt; write_report(alloc, &none, &mut out), Ok(()));
-    assert_eq!(rt; out.text()?, "done 0\n");
-
-    let report = full_report(alloc)?;
-    let mut out = MemorySink::slow(alloc, 1);
-    assert_eq!(rt; write_report(alloc, &report, &mut out), Ok(()));
-    assert_eq!(rt; out.text()?, FULL_TEXT);
-
-    let mut out = MemorySink::failing(alloc, 30, 3);
-    assert_eq!(rt;
-        write_report(alloc, &report, &mut out),
-        Err(WriteError::Failed)
-    );
-    assert_eq!(rt; Some(out.text()?), FULL_TEXT.get(..60));
-    assert_eq!(rt; (out.puts, out.failures()), (3, 1));
-
-    // Rows of about 70 bytes go out together, some 32,768 bytes a put.
-    let mut rows = Vec::new(alloc);
-    for _ in 0..4096 {
-        rows.push(row_of(alloc, RowEnd::Exit(5), 2)?)?;
-    }
-    let report = Report {
-        rows: Rows::new(rows),
-    };
-    let mut out = MemorySink::new(alloc);
-    assert_eq!(rt; write_report(alloc, &report, &mut out), Ok(()));
-    assert_eq!(rt; out.text()?.lines().count(), 4096 * 6 + 1);
-    assert!(rt; out.puts < 16, "{} puts", out.puts);
-    Ok(())
-}
-
-#[test]
-fn keeps_what_rows_are_made_from(rt: HostRuntime) -> Result<(), Fail> {
-    let alloc = rt.alloc();
-    let name = Name::new(String::from_str(alloc, "raw")?);
-    assert_eq!(rt; name.as_str(), "raw");
-    assert_eq!(rt; name.into_string().as_str(), "raw");
-    let bytes = Bytes::new([1, 2, 3].to_vec(alloc)?);
-    assert_eq!(rt; bytes.as_slice(), [1, 2, 3].as_slice());
-    assert_eq!(rt; bytes.into_vec().as_slice(), [1, 2, 3].as_slice());
-    let words = Words::new([1, 2].to_vec(alloc)?);
-    assert_eq!(rt; words.as_slice(), [1, 2].as_slice());
-    assert_eq!(rt; words.into_vec().as_slice(), [1, 2].as_slice());
-    let rows = full_report(alloc)?.rows;
-    assert_eq!(rt; rows.as_slice().len(), 3);
-    assert_eq!(rt; rows.into_vec().len(), 3);
-    let code = image(alloc, "00500513 X")?;
-    let row = flat_row(alloc, code.as_slice(), 3)?;
-    assert_eq!(rt;
-        (row.name.as_str(), row.ending, row.steps),
-        ("raw", RowEnd::Exit(5), 2)
-    );
-    assert_eq!(rt;
-        (row.verdict, row.signature.is_none()),
-        (Verdict::Unasked, true)
-    );
-    assert!(rt; row.console.as_slice().is_empty());
-    Ok(())
-}
-
-#[test]
-fn answers_words(rt: HostRuntime) -> Result<(), Fail> {
-    let alloc = rt.alloc();
-    let refused: [&[&str]; 13] = [
-        &["rvfleet"],
-        &["rvfleet", "walk"],
-        &["rvfleet", "help"],
-        &["rvfleet", "raw"],
-        &["rvfleet", "raw", "--budget"],
-        &["rvfleet", "raw", "--budget", "0"],
-        &["rvfleet", "raw", "--budget", "1000000001"],
-        &["rvfleet", "raw", "--budget", "x"],
-        &["rvfleet", "raw", "--budget", "-1"],
-        &["rvfleet", "raw", "--budget", "3", "more"],
-        &["rvfleet", "raw", "--budget", "3", "--budget", "4"],
-        &["rvfleet", "raw", "--budget", "3", "--workers", "1"],
-        &["rvfleet", "run", "a"],
-    ];
-    for words in refused {
-        let mut input: &[u8] = &[];
-        let answer = ask(alloc, words, &mut input, MemorySink::new(alloc));
-        assert_eq!(rt; answer.status, 2, "{words:?}");
-        assert_eq!(rt; answer.faults.text()?, "rvfleet: bad words\n", "{words:?}");
-        assert_eq!(rt; answer.out.puts, 0, "{words:?}");
-    }
-
-    let greatest = ["rvfleet", "raw", "--budget", "1000000000"];
-    assert_eq!(rt;
-        read_words(alloc, &greatest).ok(),
-        Some(Some(Asked::Raw {
-            budget: 1_000_000_000
-        }))
-    );
-    let mut input: &[u8] = &[];
-    let taken = ask(alloc, &greatest, &mut input, MemorySink::new(alloc));
-    assert_eq!(rt; taken.status, 0);
-    assert!(rt;
-        taken
-            .out
-            .text()?
-            .contains("end fault illegal pc=80000000 value=00000000\n")
-    );
-
-    let helped = ask(
-        alloc,
-        &["rvfleet", "--help"],
-        &mut input,
-        MemorySink::new(alloc),
-    );
-    assert_eq!(rt; helped.out.text()?, HELP);
-    assert_eq!(rt; (helped.status, helped.faults.puts), (0, 0));
+    let words = long_words(alloc, "image", 65_537)?;
+    assert!(rt; is_refused(alloc, words.as_str())?);
+    let path = repeated(alloc, "a", 4097)?;
+    let words = long_words(alloc, path.as_str(), 0)?;
+    assert!(rt; is_refused(alloc, words.as_str())?);
     Ok(())
 }
 
@@ -888,7 +737,46 @@ Options:
   -h, --help  Print help
 ";
 
-const RAW_WORDS: [&str; 4] = ["rvfleet", "raw", "--budget", "3"];
+const RAW_HELP: &str = "\
+Runs the flat image on standard input, placed at 0x80000000
+
+Usage: rvfleet raw --budget <N>
+
+Options:
+      --budget <N>  Steps at most, from 1 to 1000000000
+  -h, --help        Print help
+";
+
+const ONE_HELP: &str = "\
+Runs one ELF image, placed at its physical addresses
+
+Usage: rvfleet one [OPTIONS] --budget <N> <IMAGE>
+
+Arguments:
+  <IMAGE>  Path of the image
+
+Options:
+      --budget <N>     Steps at most, from 1 to 1000000000
+      --input-hex <H>  The console's input, as hexadecimal digits
+  -h, --help           Print help
+";
+
+// Whether words are answered by this help.
+fn is_helped(alloc: Global, line: &str, text: &str) -> Result<bool, Fail> {
+    ask_raw(alloc, line, &[])?.is(0, text, "")
+}
+
+#[test]
+fn shows_help(rt: HostRuntime) -> Result<(), Fail> {
+    let alloc = rt.alloc();
+    assert!(rt; is_helped(alloc, "--help", HELP)?);
+    assert!(rt; is_helped(alloc, "-h", HELP)?);
+    assert!(rt; is_helped(alloc, "raw --help", RAW_HELP)?);
+    assert!(rt; is_helped(alloc, "one --help", ONE_HELP)?);
+    Ok(())
+}
+
+const RAW_WORDS: &str = "raw --budget 3";
 
 const RAW_TEXT: &str = "\
 job 1 raw
@@ -900,80 +788,143 @@ verdict none
 done 1
 ";
 
+// The program's answer to a flat image that a slow reader gives.
+fn ask_slow(alloc: Global, bytes: &[u8], fails: bool) -> Result<Answer, AllocError> {
+    let mut store = MemoryStore::of("", &[]);
+    let mut input = SlowReader { bytes, fails };
+    ask(
+        alloc,
+        RAW_WORDS,
+        &mut store,
+        &mut input,
+        MemorySink::new(alloc),
+    )
+}
+
 #[test]
 fn reads_in_parts(rt: HostRuntime) -> Result<(), Fail> {
     let alloc = rt.alloc();
-    let code = image(alloc, "00500513 X")?;
-    let mut input = SlowReader {
-        bytes: code.as_slice(),
-        fails: false,
-    };
-    let slow = ask(alloc, &RAW_WORDS, &mut input, MemorySink::new(alloc));
-    assert_eq!(rt; slow.out.text()?, RAW_TEXT);
+    assert!(rt; ask_slow(alloc, &ADD_AND_EXIT, false)?.is(0, RAW_TEXT, "")?);
+    let start: &[u8] = &[0x13, 0x05, 0x50, 0x00];
+    assert!(rt; ask_slow(alloc, start, true)?.is(3, "", "rvfleet: read failed\n")?);
+    Ok(())
+}
 
-    let (start, _) = code.split_at_checked(4).ok_or("four bytes")?;
+#[test]
+fn writes_nothing_where_a_read_fails(rt: HostRuntime) {
+    let alloc = rt.alloc();
+    let mut out = MemorySink::new(alloc);
     let mut input = SlowReader {
-        bytes: start,
+        bytes: &[0x13],
         fails: true,
     };
-    let cut = ask(alloc, &RAW_WORDS, &mut input, MemorySink::new(alloc));
-    assert_eq!(rt; (cut.status, cut.out.puts), (3, 0));
-    assert_eq!(rt; cut.faults.text()?, "rvfleet: read failed\n");
+    let failed = run_raw(alloc, &mut input, &mut out, 3);
+    assert_eq!(rt; (failed, out.puts), (Err(RunError::ReadFailed), 0));
+}
+
+#[test]
+fn reads_no_further_than_it_needs(rt: HostRuntime) -> Result<(), Fail> {
+    let alloc = rt.alloc();
+    let long = vec![in alloc; 1u8; 1_048_580]?;
+    let mut input = long.as_slice();
     let mut out = MemorySink::new(alloc);
-    assert_eq!(rt;
-        run_raw(alloc, &mut input, &mut out, 3),
-        Err(RunError::ReadFailed)
-    );
-    assert_eq!(rt; out.puts, 0);
+    assert_eq!(rt; run_raw(alloc, &mut input, &mut out, 3), Ok(()));
+    assert_eq!(rt; input.len(), 3);
+    let mut input = long.as_slice();
+    let all = read_at_most(alloc, &mut input, 2_000_000)
+        .ok()
+        .ok_or("all bytes")?;
+    assert_eq!(rt; (all.len(), input.len()), (1_048_580, 0));
     Ok(())
+}
+
+// Sets x10 to 5 and x17 to 93, then ECALL.
+const ADD_AND_EXIT: [u8; 12] = [
+    0x13, 0x05, 0x50, 0x00, 0x93, 0x08, 0xd0, 0x05, 0x73, 0x00, 0x00, 0x00,
+];
+
+// The program's answer to that flat image, into a sink.
+fn ask_into(alloc: Global, out: MemorySink) -> Result<Answer, AllocError> {
+    let mut store = MemoryStore::of("", &[]);
+    let mut input: &[u8] = &ADD_AND_EXIT;
+    ask(alloc, RAW_WORDS, &mut store, &mut input, out)
+}
+
+// Whether a put that fails leaves the text of the puts before it, ten bytes each.
+fn stops_at(alloc: Global, fails_at: u64) -> Result<bool, Fail> {
+    let cut = ask_into(alloc, MemorySink::failing(alloc, 10, fails_at))?;
+    let taken = (fails_at as usize).saturating_sub(1).saturating_mul(10);
+    let text = RAW_TEXT.get(..taken).ok_or("71 bytes")?;
+    let is_counted = (cut.out.puts, cut.out.failures()) == (fails_at, 1);
+    Ok(is_counted && cut.is(3, text, "rvfleet: write failed\n")?)
 }
 
 #[test]
 fn writes_in_parts(rt: HostRuntime) -> Result<(), Fail> {
     let alloc = rt.alloc();
-    let code = image(alloc, "00500513 X")?;
-    let mut input = code.as_slice();
-    let slow = ask(alloc, &RAW_WORDS, &mut input, MemorySink::slow(alloc, 1));
-    assert_eq!(rt; slow.out.text()?, RAW_TEXT);
-
+    let slow = ask_into(alloc, MemorySink::slow(alloc, 1))?;
+    assert!(rt; slow.is(0, RAW_TEXT, "")?);
     // The report has 71 bytes, so ten bytes a put make eight puts.
     for fails_at in 1..9 {
-        let mut input = code.as_slice();
-        let cut = ask(
-            alloc,
-            &RAW_WORDS,
-            &mut input,
-            MemorySink::failing(alloc, 10, fails_at),
-        );
-        assert_eq!(rt;
-            Some(cut.out.text()?),
-            RAW_TEXT.get(..(fails_at as usize - 1) * 10)
-        );
-        assert_eq!(rt;
-            (cut.status, cut.out.puts, cut.out.failures()),
-            (3, fails_at, 1)
-        );
-        assert_eq!(rt; cut.faults.text()?, "rvfleet: write failed\n");
+        assert!(rt; stops_at(alloc, fails_at)?, "{fails_at}");
     }
-    let mut input = code.as_slice();
-    let mut out = MemorySink::failing(alloc, 10, 1);
-    assert_eq!(rt;
-        run_raw(alloc, &mut input, &mut out, 3),
-        Err(RunError::WriteFailed)
-    );
+    Ok(())
+}
 
-    // A line on the other sink that fails changes no status.
+#[test]
+fn ends_alike_where_its_line_fails(rt: HostRuntime) {
+    let alloc = rt.alloc();
     let mut store = MemoryStore::of("", &[]);
+    let mut input: &[u8] = &[];
+    let mut out = MemorySink::new(alloc);
     let mut faults = MemorySink::failing(alloc, 10, 1);
     let words = ["rvfleet", "raw"];
-    assert_eq!(rt;
-        run_words(alloc, &words, &mut store, &mut input, &mut out, &mut faults),
-        2
-    );
-    assert_eq!(rt; faults.failures(), 1);
+    let status = run_words(alloc, &words, &mut store, &mut input, &mut out, &mut faults);
+    assert_eq!(rt; (status, faults.failures()), (2, 1));
+}
 
-    let mut stream = StreamSink::new(Stuck);
-    assert_eq!(rt; put_all(&mut stream, b"text"), Err(SinkFailed));
-    assert_eq!(rt; stream.failures(), 1);
+// What putting ten bytes into a stream over this writer comes to: whether all were taken, the
+// failures, and the calls of the writer, which writes four bytes at most.
+fn put_ten(writer: CountingWriter) -> (bool, u64, u64, u64) {
+    let mut stream = StreamSink::new(writer);
+    let taken = put_all(&mut stream, b"ten bytes!").is_ok();
+    let failures = stream.failures();
+    let writer = stream.into_inner();
+    (taken, failures, writer.writes, writer.flushes)
+}
+
+// A put is one write and one flush; one that fails is not tried again, and counts as one failure.
+#[test]
+fn puts_into_streams(rt: HostRuntime) {
+    let all = put_ten(CountingWriter::new(0, false));
+    assert_eq!(rt; all, (true, 0, 3, 3));
+    let first_fails = put_ten(CountingWriter::new(1, false));
+    assert_eq!(rt; first_fails, (false, 1, 1, 0));
+    let second_fails = put_ten(CountingWriter::new(2, false));
+    assert_eq!(rt; second_fails, (false, 1, 2, 1));
+    let flush_fails = put_ten(CountingWriter::new(0, true));
+    assert_eq!(rt; flush_fails, (false, 1, 1, 1));
+}
+
+#[test]
+fn keeps_what_a_store_answers(rt: HostRuntime) -> Result<(), Fail> {
+    let alloc = rt.alloc();
+    let bytes = file(alloc, "one")?;
+    let mut store = MemoryStore::of("image", bytes.as_slice());
+    assert!(rt; matches!(keep(alloc, &mut store, "image")?, Kept::Content(_)));
+    assert!(rt; matches!(keep(alloc, &mut store, "other")?, Kept::Unreadable));
+    let mut out = MemorySink::failing(alloc, 10, 2);
+    let failed = run_one(alloc, &mut store, "image", 10, Vec::new(alloc), &mut out);
+    assert_eq!(rt; failed, Err(RunError::WriteFailed));
+    assert_eq!(rt; out.text()?, "job 1 one\n");
+
+    let script = read_script(alloc, Some("4fE0")).ok().ok_or("a script")?;
+    assert_eq!(rt; script.as_slice(), [0x4f, 0xe0].as_slice());
+    let none = read_script(alloc, None).ok().ok_or("a script")?;
+    assert!(rt; none.is_empty());
+    assert_eq!(rt;
+        read_script(alloc, Some("4")).err(),
+        Some(ScriptError::Refused)
+    );
     Ok(())
 }

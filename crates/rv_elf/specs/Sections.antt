@@ -1,0 +1,105 @@
+-- The section header table, the symbol table and its string table (System V ABI, "Sections", "String Table", "Symbol Table").
+use Rattle.std.specs.Prelude.{◌≤◌, ◌==◌, ◌+◌, ◌*◌, ◌/◌, ◌%◌, ℕ, Bool, not, ◌&&◌, ◌||◌, List, [], ◌∷◌, length, map, take, drop, nat_lt, Option, Some, None, if◌then◌else◌, option_map, false}
+use Rattle.std.specs.List.{find, range_with_len}
+use Rattle.std.specs.Option.{option_map_or}
+use Rattle.std.specs.Str.{bytes_eq}
+use Rattle.rv_elf.specs.declared.sections.Section.{Section}
+use Rattle.rv_elf.specs.declared.symbols.Symbol.{Symbol}
+use Rattle.rv_elf.specs.Fields.{half_at, word_at}
+
+-- ---- the ELF header's fields of the table
+
+abbrev pub e_shoff : List ℕ → ℕ
+e_shoff file = word_at file 32
+
+abbrev pub e_shentsize : List ℕ → ℕ
+e_shentsize file = half_at file 46
+
+abbrev pub e_shnum : List ℕ → ℕ
+e_shnum file = half_at file 48
+
+-- ---- the section header table
+
+-- the section header at a place
+unfoldable pub section_at : List ℕ → ℕ → Section
+section_at file at = record {
+  kind = word_at file (at + 4);
+  offset = word_at file (at + 16);
+  size = word_at file (at + 20);
+  link = word_at file (at + 24);
+  entsize = word_at file (at + 36);
+}
+
+-- that of an index
+abbrev pub section : List ℕ → ℕ → Section
+section file index = section_at file (e_shoff file + 40 * index)
+
+-- the table: e_shnum entries of 40 bytes from e_shoff on
+abbrev pub sections : List ℕ → List Section
+sections file = map (section file) (range_with_len 0 (e_shnum file))
+
+-- there is none, its entries have another size, or it goes past the file
+abbrev pub has_bad_sections : List ℕ → Bool
+has_bad_sections file = (e_shnum file == 0) || (not (e_shentsize file == 40) || nat_lt (length file) (e_shoff file + 40 * e_shnum file))
+
+-- the section goes past a file of n bytes
+abbrev pub is_past : ℕ → Section → Bool
+is_past n s = nat_lt n (s.offset + s.size)
+
+-- the bytes of a section
+abbrev pub bytes_of : List ℕ → Section → List ℕ
+bytes_of file s = take s.size (drop s.offset file)
+
+-- ---- the symbol table
+
+-- SHT_SYMTAB
+abbrev pub is_symbols : Section → Bool
+is_symbols s = s.kind == 2
+
+-- the first symbol table
+unfoldable pub symbol_table : List ℕ → Option Section
+symbol_table file = find is_symbols (sections file)
+
+-- its entries have another size, its size is no whole number of them, or it goes past a file of n bytes
+abbrev pub is_bad_symbols : ℕ → Section → Bool
+is_bad_symbols n s = not (s.entsize == 16) || (not (s.size % 16 == 0) || is_past n s)
+
+-- the symbol at a place of a table's bytes
+unfoldable pub symbol_at : List ℕ → ℕ → Symbol
+symbol_at table at = record { name = word_at table at; value = word_at table (at + 4); section = half_at table (at + 14) }
+
+-- the symbols of a table's bytes, 16 bytes each
+abbrev pub symbols_of : List ℕ → List Symbol
+symbols_of table = map (λ k. symbol_at table (16 * k)) (range_with_len 0 (length table / 16))
+
+-- ---- its string table
+
+-- the section that a symbol table's link names, if there are so many
+abbrev pub string_table : List ℕ → Section → Option Section
+string_table file symbols = if nat_lt symbols.link (e_shnum file) then Some (section file symbols.link) else None
+
+-- not SHT_STRTAB, or past a file of n bytes
+abbrev pub is_bad_strings : ℕ → Section → Bool
+is_bad_strings n s = not (s.kind == 3) || is_past n s
+
+-- the text that bytes begin with: those up to the first zero byte, if there is one
+abbrev pub text_of : List ℕ → Option (List ℕ)
+text_of [] = None
+text_of (b ∷ bs) = if b == 0 then Some [] else option_map (λ text. b ∷ text) (text_of bs)
+
+-- the bytes begin with the text and a zero byte
+unfoldable pub begins_with : List ℕ → List ℕ → Bool
+begins_with bytes text = option_map_or (bytes_eq text) (text_of bytes) false
+
+-- the symbol is defined, and its name in the string table is the text
+abbrev pub is_named : List ℕ → List ℕ → Symbol → Bool
+is_named strings text s = not (s.section == 0) && begins_with (drop s.name strings) text
+
+-- the first such symbol of a table
+unfoldable pub symbol_named : List ℕ → List ℕ → List ℕ → Option Symbol
+symbol_named table strings text = find (is_named strings text) (symbols_of table)
+
+-- the section header table is there, in the file
+pub record HasSections (file : List ℕ) : Type 0 where
+  pub header : 52 ≤ length file
+  pub room : e_shoff file + 40 * e_shnum file ≤ length file

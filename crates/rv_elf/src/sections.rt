@@ -1,0 +1,119 @@
+ghost use Rattle.std.specs.Prelude.{◌≡◌, ◌+◌, ◌*◌, ◌<◌, ◌≤◌, IfSome, IfOk, IsTrue, false, length, MatchOption};
+ghost use Rattle.std.specs.List.{find, slice_get};
+ghost use Rattle.rv_elf.specs.Fields.{half_at, word_at};
+ghost use Rattle.rv_elf.specs.Sections.{section_at, section, has_bad_sections, symbol_table, string_table, is_past, is_bad_symbols, is_bad_strings, bytes_of, is_symbols, e_shnum, HasSections};
+
+use crate::fields::{E_SHENTSIZE, E_SHNUM, E_SHOFF, half, word};
+
+/// A section header, as far as it is looked at (System V ABI, "Sections").
+#[derive(Clone, Copy, Debug, PartialEq, Eq)]
+pub(crate) struct Section {
+    pub(crate) kind: u32,
+    pub(crate) offset: u32,
+    pub(crate) size: u32,
+    pub(crate) link: u32,
+    pub(crate) entsize: u32,
+}
+
+/// Of a section header.
+const HEADER_SIZE: u16 = 40;
+
+/// Of an entry of a symbol table.
+const SYMBOL_SIZE: u32 = 16;
+
+const SHT_SYMTAB: u32 = 2;
+
+const SHT_STRTAB: u32 = 3;
+
+impl Section {
+    /// Whether a symbol table can't be read: its entries have another size, or it goes past a file of
+    /// `size` bytes.
+    pub(crate) fn is_bad_symbols(&self, size: usize) -> bool
+        ensures { result ≡ is_bad_symbols size self.now }
+    {
+        self.entsize != SYMBOL_SIZE || self.size % SYMBOL_SIZE != 0 || self.is_past(size)
+    }
+
+    /// Whether it is no string table within a file of `size` bytes.
+    pub(crate) fn is_bad_strings(&self, size: usize) -> bool
+        ensures { result ≡ is_bad_strings size self.now }
+    {
+        self.kind != SHT_STRTAB || self.is_past(size)
+    }
+
+    /// The bytes of the section.
+    pub(crate) fn bytes_in<'a>(&self, file: &'a [u8]) -> &'a [u8]
+        requires { is_past (length file.now) self.now ≡ false }
+        ensures { result.now ≡ bytes_of file.now self.now }
+    {
+        &file[self.offset as usize..self.offset as usize + self.size as usize]
+    }
+
+    fn is_past(&self, size: usize) -> bool
+        ensures { result ≡ is_past size self.now }
+    {
+        size < self.offset as usize + self.size as usize
+    }
+}
+
+/// Whether there is no section header table, or none that can be read.
+pub(crate) fn has_bad_sections(file: &[u8]) -> bool
+    requires { 52 ≤ length file.now }
+    ensures { result ≡ has_bad_sections file.now }
+{
+    let count = half(file, E_SHNUM);
+    count == 0
+        || half(file, E_SHENTSIZE) != HEADER_SIZE
+        || file.len() < word(file, E_SHOFF) as usize + HEADER_SIZE as usize * count as usize
+}
+
+/// The first symbol table of the file.
+pub(crate) fn symbol_table(file: &[u8]) -> Option<Section>
+    requires { HasSections file.now }
+    ensures { result ≡ symbol_table file.now }
+{
+    for index in 0..u32::from(half(file, E_SHNUM)) {
+        let section = header_of(file, index);
+        if section.kind == SHT_SYMTAB {
+            return Some(section);
+        }
+    }
+    None
+}
+
+/// The section that a symbol table's link names, where there is one of that index.
+pub(crate) fn string_table(file: &[u8], symbols: &Section) -> Option<Section>
+    requires { HasSections file.now }
+    ensures { result ≡ string_table file.now symbols.now }
+{
+    if symbols.link >= u32::from(half(file, E_SHNUM)) {
+        return None;
+    }
+    Some(header_of(file, symbols.link))
+}
+
+/// The section header of an index.
+fn header_of(file: &[u8], index: u32) -> Section
+    requires table { HasSections file.now }
+    requires within { index < e_shnum file.now }
+    ensures { result ≡ section file.now index }
+{
+    section_at(
+        file,
+        word(file, E_SHOFF) as usize + HEADER_SIZE as usize * index as usize,
+    )
+}
+
+#[tactic(auto, unfolding(crate::specs::Sections::section_at))]
+fn section_at(file: &[u8], at: usize) -> Section
+    requires { at + 40 ≤ length file.now }
+    ensures { result ≡ section_at file.now at }
+{
+    Section {
+        kind: word(file, at + 4),
+        offset: word(file, at + 16),
+        size: word(file, at + 20),
+        link: word(file, at + 24),
+        entsize: word(file, at + 36),
+    }
+}

@@ -1,0 +1,136 @@
+ghost use Rattle.std.specs.Prelude.{◌≡◌, ◌+◌, ◌-◌, ◌%◌, ◌<◌, ◌≤◌, Ok, Err, MatchResult, Option, Some, false, length, option_map, drop};
+ghost use Rattle.rv_elf.specs.Image.{IsImageOf};
+ghost use Rattle.rv_elf.specs.Sections.{symbol_at, symbol_named, begins_with, is_named, bytes_of, is_past, HasSections};
+ghost use Rattle.rv_elf.specs.Symbols.{symbol_of, signature_check, is_bad_range};
+
+use crate::error::ImageError;
+use crate::fields::{half, word};
+use crate::image::Image;
+use crate::sections::{has_bad_sections, string_table, symbol_table};
+use rv_memory::Map;
+
+/// An entry of a symbol table, as far as it is looked at (System V ABI, "Symbol Table").
+#[derive(Clone, Copy, Debug, PartialEq, Eq)]
+pub(crate) struct Symbol {
+    /// Where its name begins in the string table.
+    name: u32,
+    value: u32,
+    /// The index of its section, 0 (SHN_UNDEF) where it is not defined.
+    section: u16,
+}
+
+/// The bytes of an entry.
+const SYMBOL_SIZE: usize = 16;
+
+const SHN_UNDEF: u16 = 0;
+
+/// The most bytes of a signature, 65,536 words.
+const MOST_BYTES: u32 = 0x4_0000;
+
+/// The value of the first defined symbol of a name in the file's first symbol table, or the refusal
+/// of the file's sections that applies first: [`ImageError::SectionTable`], [`ImageError::NoSymbols`],
+/// [`ImageError::SymbolTable`], [`ImageError::StringTable`], and [`ImageError::NoBegin`] for any name
+/// that no defined symbol has.
+pub fn find_symbol(image: &Image, file: &[u8], name: &[u8]) -> Result<u32, ImageError>
+    requires image { IsImageOf file.now image.now }
+    requires named { 0 < length name.now }
+    ensures { result ≡ symbol_of file.now name.now }
+{
+    let _ = image;
+    if has_bad_sections(file) {
+        return Err(ImageError::SectionTable);
+    }
+    let Some(symbols) = symbol_table(file) else {
+        return Err(ImageError::NoSymbols);
+    };
+    if symbols.is_bad_symbols(file.len()) {
+        return Err(ImageError::SymbolTable);
+    }
+    let Some(strings) = string_table(file, &symbols) else {
+        return Err(ImageError::StringTable);
+    };
+    if strings.is_bad_strings(file.len()) {
+        return Err(ImageError::StringTable);
+    }
+    match value_named(symbols.bytes_in(file), strings.bytes_in(file), name) {
+        Some(value) => Ok(value),
+        None => Err(ImageError::NoBegin),
+    }
+}
+
+/// Whether the words from `begin` up to `end` can be a signature; with
+/// [`ImageError::SignatureRange`] they can't.
+#[tactic(auto, unfolding(crate::specs::Symbols::signature_check))]
+pub fn check_signature(begin: u32, end: u32, map: &Map) -> Result<(), ImageError>
+    ensures { result ≡ signature_check begin end map.now }
+{
+    if is_bad_range(begin, end, map) {
+        return Err(ImageError::SignatureRange);
+    }
+    Ok(())
+}
+
+fn is_bad_range(begin: u32, end: u32, map: &Map) -> bool
+    ensures { result ≡ is_bad_range begin end map.now }
+{
+    end < begin
+        || begin % 4 != 0
+        || end % 4 != 0
+        || begin < end && (!map.in_one(begin, end - begin) || MOST_BYTES < end - begin)
+}
+
+/// The value of the first defined symbol of a name, over the bytes of a symbol table and its strings.
+fn value_named(table: &[u8], strings: &[u8], name: &[u8]) -> Option<u32>
+    ensures { result ≡ option_map (λ s. s.value) (symbol_named table.now strings.now name.now) }
+{
+    for k in 0..table.len() / SYMBOL_SIZE {
+        let symbol = symbol_at(table, SYMBOL_SIZE * k);
+        if symbol.is_named(strings, name) {
+            return Some(symbol.value);
+        }
+    }
+    None
+}
+
+#[tactic(auto, unfolding(crate::specs::Sections::symbol_at))]
+fn symbol_at(table: &[u8], at: usize) -> Symbol
+    requires { at + 16 ≤ length table.now }
+    ensures { result ≡ symbol_at table.now at }
+{
+    Symbol {
+        name: word(table, at),
+        value: word(table, at + 4),
+        section: half(table, at + 14),
+    }
+}
+
+impl Symbol {
+    fn is_named(&self, strings: &[u8], name: &[u8]) -> bool
+        ensures { result ≡ is_named strings.now name.now self.now }
+    {
+        self.section != SHN_UNDEF && begins_with(tail(strings, self.name as usize), name)
+    }
+}
+
+/// The bytes from a place on, none where it is past the end.
+fn tail(bytes: &[u8], at: usize) -> &[u8]
+    ensures { result.now ≡ drop at bytes.now }
+{
+    &bytes[at.min(bytes.len())..]
+}
+
+/// Whether bytes begin with a text and a zero byte, where the text has none: compared byte by byte up
+/// to the first that differs.
+fn begins_with(bytes: &[u8], text: &[u8]) -> bool
+    ensures { result ≡ begins_with bytes.now text.now }
+{
+    if bytes.len() <= text.len() {
+        return false;
+    }
+    for (k, byte) in text.iter().enumerate() {
+        if bytes[k] == 0 || *byte != bytes[k] {
+            return false;
+        }
+    }
+    bytes[text.len()] == 0
+}

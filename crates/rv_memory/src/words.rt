@@ -1,0 +1,40 @@
+ghost use Rattle.std.specs.Prelude.{◌≡◌, ◌-◌, ◌%◌, ◌<◌, ◌≤◌, IfOk, IsTrue};
+ghost use Rattle.rv_memory.specs.Regions.{in_one};
+ghost use Rattle.rv_memory.specs.Bus.{word_at};
+ghost use Rattle.rv_memory.specs.Words.{words_of};
+
+use crate::access::read_word;
+use crate::bus::Bus;
+use std::alloc::{AllocError, Global};
+
+/// The bytes of a word.
+const WORD: u32 = 4;
+
+impl Bus {
+    /// The words of memory from `begin` up to `end`, as it stands.
+    pub fn words(&self, alloc: Global, begin: u32, end: u32) -> Result<Vec<u32>, AllocError>
+        requires begin { begin % 4 ≡ 0 }
+        requires end { end % 4 ≡ 0 }
+        requires order { begin ≤ end }
+        requires within { IsTrue (in_one self.now.regions begin (end - begin)) }
+        ensures { IfOk result (λ v. v.items ≡ words_of self.now.memory begin end) }
+    {
+        let count = (end - begin) / WORD;
+        let mut words = Vec::with_capacity(alloc, count as usize)?;
+        for k in 0..count {
+            words.push(self.word(begin + WORD * k))?;
+        }
+        Ok(words)
+    }
+
+    /// The word at an address whose four bytes lie in one region.
+    fn word(&self, addr: u32) -> u32
+        requires { IsTrue (in_one self.now.regions addr 4) }
+        ensures { result ≡ word_at self.now.memory addr }
+    {
+        let Some(place) = self.map.place(addr, WORD) else {
+            unreachable!();
+        };
+        read_word(&self.bytes, place.at)
+    }
+}
