@@ -1,20 +1,33 @@
-//! Rows and reports: what a fleet's jobs came to, and the text that says so.
+//! Rows and reports: what a fleet's jobs came to, and the text that says so. And the shared draw by which workers take the
+//! jobs in pieces.
 //!
 //! [`flat_row`] runs a flat image, and [`run_row`] a machine that holds one: their answers are rows, exactly those that
 //! the definitions of `specs/` make of the run. [`write_report`] appends a report's text to a [`Sink`], in few large
 //! puts; where it fails a beginning of the text went out, and nothing after it.
+//!
+//! The pieces of a list are drawn by a shared counter: each worker holds a [`Pass`], and [`Claims::take`] gives it the
+//! number of the next piece. No number is drawn twice, whatever the workers do at the same time, and passes that hold
+//! every place that was given and have ended hold each piece exactly once.
 #![tactic(auto)]
 
+mod claims;
+#[cfg(test)]
+mod claims_tests;
 mod flat;
 mod outcome;
+mod pass;
 mod report;
 mod row;
+mod rule;
 mod sink;
 #[cfg(test)]
 mod tests;
+mod view;
 
+pub use claims::Claims;
 pub use flat::flat_row;
 pub use outcome::{refused_row, run_row};
+pub use pass::{Pass, SplitError};
 pub use report::{WriteError, write_report};
 pub use row::{Bytes, Name, Refusal, Report, Row, RowEnd, Rows, Verdict, Words};
 pub use sink::{Sink, SinkFailed, put_all};
