@@ -10,7 +10,15 @@ use Rattle.std.specs.Ordering.{nat_cmp}
 use Rattle.std.specs.declared.alloc.Global.{Global}
 use Rattle.std.proofs.Common.{String}
 use Rattle.std.proofs.lemmas.Map.Text.{btree_map_updates_text}
-use Rattle.rv_jobs.specs.JobList.{place_in}
+use Rattle.std.proofs.Common.{◌⊎◌, inl, inr, get_or, length-append}
+use Rattle.std.specs.BTreeMap.{Updates}
+use Rattle.std.proofs.lemmas.Bool.{cases_lt}
+use Rattle.std.proofs.lemmas.List.{map-append, length-map}
+use Rattle.std.proofs.Math.ListN.{get_or-append}
+use Rattle.std.proofs.Math.Seq.{get_or-append_seam}
+use Rattle.rv_jobs.specs.declared.job.Job.{Job}
+use Rattle.rv_jobs.specs.Jobs.{IsJob, AreJobs}
+use Rattle.rv_jobs.specs.JobList.{place_in, names_of}
 
 below_at : (b : Bool) (o : Option ℕ) (n m : ℕ) → n + 1 ≡ m → IfSome o (λ k. k < n) → IfSome (cond b (Some 0) (option_map (λ k. k + 1) o)) (λ k. k < m)
 below_at true o n m e h = omega arith
@@ -43,7 +51,7 @@ none_head false (Some k) e = cc
 
 last_at : (hit found : Bool) (o p : Option ℕ) (n m : ℕ) → n + 1 ≡ m → (hit ≡ true → found ≡ false) → p ≡ cond hit (Some n) o
     → cond found (Some 0) (option_map (λ k. k + 1) p) ≡ cond hit (Some m) (cond found (Some 0) (option_map (λ k. k + 1) o))
-last_at true true o p n m e apart is = absurd (both_ways true (sym (apart refl) ∙ refl) refl)
+last_at true true o p n m e apart is = absurd (both_ways true (apart refl) refl)
 last_at true false o p n m e apart is = ap (option_map (λ k. k + 1)) is ∙ ap Some e
 last_at false found o p n m e apart is = ap (λ x. cond found (Some 0) (option_map (λ k. k + 1) x)) is
 
@@ -55,3 +63,42 @@ place_last (x ∷ xs) t q e =
     let parts = none_head (bytes_eq t x) (place_in xs t) e in
     let apart : bytes_eq t q ≡ true → bytes_eq q x ≡ false = λ h. subst (λ z. bytes_eq z x ≡ false) (same t q h) parts.0 in
     last_at (bytes_eq t q) (bytes_eq q x) (place_in xs q) (place_in (xs ++ t ∷ []) q) (length xs) (length (x ∷ xs)) (omega arith) apart (place_last xs t q parts.1)
+
+within_length : (o : Option ℕ) (n m : ℕ) → n ≡ m → IfSome o (λ k. k < n) → IfSome o (λ k. k < m)
+within_length None n m e h = tt
+within_length (Some k) n m e h = omega arith
+
+-- the place of a job's name is that of a job
+pub within_names : (js : List Job) (t : List ℕ) (o : Option ℕ) → o ≡ place_in (names_of js) t → IfSome o (λ k. k < length js)
+within_names js t o e = subst (λ p. IfSome p (λ k. k < length js)) (sym e) (within_length (place_in (names_of js) t) (length (names_of js)) (length js) (length-map js (λ (j : Job). j.name)) (place_below (names_of js) t))
+
+-- no names, and no places
+pub none_placed : (m : BTreeMap (String Global) ℕ) (js : List Job) → m.entries ≡ [] → js ≡ [] → (t : List ℕ) → get_by_text m t ≡ place_in (names_of js) t
+unfolding place_in
+none_placed m js e f t = rw (e, f) refl
+
+pub no_jobs_are : (js : List Job) → js ≡ [] → AreJobs js
+no_jobs_are js e = rw e record { few = omega arith; each = λ k d l. absurd (omega arith) }
+
+pub jobs_more : (js new : List Job) (job : Job) → AreJobs js → IsJob (length js) job → length js < 4096 → new ≡ js ++ job ∷ [] → AreJobs new
+jobs_more js new job are good room pushed = record {
+  few = rw pushed (omega (arith, length-append js (job ∷ [])));
+  each = λ k d l. elim (cases_lt k (length js)) [
+    | inl below ↦ rw (pushed, get_or-append js (job ∷ []) d k below) (are.each k d below)
+    | inr past ↦
+        let inside : k < length (js ++ job ∷ []) = subst (λ x. k < length x) pushed l in
+        let is : k ≡ length js = omega (arith, length-append js (job ∷ []), inside) in
+        rw pushed (subst (λ i. IsJob i (get_or (js ++ job ∷ []) i d)) (sym is) (rw (get_or-append_seam js job [] d) good))
+  ];
+}
+
+-- one name more, at the place behind the others
+pub names_more : (m n : BTreeMap (String Global) ℕ) (js new : List Job) (job : Job) (key : String Global) (at : ℕ) → Updates string_cmp m n key (Some at) → string_bytes key ≡ job.name → at ≡ length js
+    → ((t : List ℕ) → get_by_text m t ≡ place_in (names_of js) t) → place_in (names_of js) job.name ≡ None → new ≡ js ++ job ∷ [] → (t : List ℕ) → get_by_text n t ≡ place_in (names_of new) t
+names_more m n js new job key at updates named is before fresh pushed t =
+    let there : at ≡ length (names_of js) = is ∙ sym (length-map js (λ (j : Job). j.name)) in
+    btree_map_updates_text (string_bytes key) m n (Some at) updates t
+    ∙ ap (λ b. cond (bytes_eq b t) (Some at) (get_by_text m t)) named
+    ∙ ap (λ i. cond (bytes_eq job.name t) (Some i) (get_by_text m t)) there
+    ∙ ap (λ o. cond (bytes_eq job.name t) (Some (length (names_of js))) o) (before t)
+    ∙ sym (ap (λ x. place_in x t) (ap names_of pushed ∙ map-append (λ (j : Job). j.name) js (job ∷ [])) ∙ place_last (names_of js) job.name t fresh)

@@ -14,7 +14,11 @@ use Rattle.rv_jobs.specs.declared.error.JobError.{JobError}
 use Rattle.rv_jobs.specs.declared.job.Job.{Job}
 use Rattle.rv_jobs.specs.Keys.{count_of}
 use Rattle.rv_jobs.specs.Reading.{◌>>=◌, with_front}
-use Rattle.rv_jobs.specs.JobList.{document_of, has_no_jobs, has_too_many, element_in, jobs_from, names_of, region_of, regions_from}
+use Rattle.rv_jobs.specs.JobList.{document_of, has_no_jobs, has_too_many, element_in, jobs_from, names_of, region_of, regions_from, is_within, is_symbol, symbol_in, symbols_of}
+use Rattle.std.proofs.Common.{leb}
+use Rattle.std.proofs.lemmas.Bool.{leb-true, and_parts}
+use Rattle.rv_jobs.specs.declared.error.What.TheVariants.{Signature}
+use Rattle.rv_jobs.specs.declared.job.Symbols.{Symbols}
 use Rattle.rv_jobs.proofs.Entries.{count_items, is_array}
 
 too_many_array : (vs : List Value) → nat_lt 4096 (length vs) ≡ has_too_many (Some (array (items_view vs)))
@@ -112,3 +116,21 @@ refused_document bytes h = go (is_utf8 bytes) refl
     go : (b : Bool) → is_utf8 bytes ≡ b → cond b (parse_document bytes) None ≡ None
     go true e = h (IsUtf8-from_is_utf8 bytes e)
     go false e = refl
+
+-- ---- the symbols of a signature
+
+pub symbols_other : (vs : List Value) → (length vs ≡ 2 → ⊥) → symbols_of (items_view vs) ≡ Err Signature
+unfolding symbols_of
+symbols_other vs h = rw (count_items vs, ne_eqb (length vs) 2 h) refl
+
+pub symbols_two : (vs : List Value) (b e : List ℕ) → length vs ≡ 2 → symbol_in 0 (items_view vs) ≡ Ok b → symbol_in 1 (items_view vs) ≡ Ok e
+    → symbols_of (items_view vs) ≡ Ok (Some (record { begin = b; end = e }))
+unfolding symbols_of
+symbols_two vs b e two first second = rw (count_items vs, two, first, second) refl
+
+-- a symbol's name has bytes
+pub symbol_some : (t : List ℕ) → is_symbol t ≡ true → 0 < length t
+unfolding is_symbol
+symbol_some t e =
+    let low = leb-true 1 (length t) (and_parts (leb 1 (length t)) _ (and_parts (is_within 1 255 (length t)) _ e).0).0 in
+    omega arith

@@ -3,3 +3,7 @@ pub mod Keys
 pub mod Jobs
 pub mod JobList
 pub mod GrowingInside
+pub mod Stores
+pub mod Plans
+pub mod AskedInside
+pub mod PlanInside

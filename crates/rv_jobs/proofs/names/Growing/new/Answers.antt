@@ -1,0 +1,8 @@
+use Rattle.rv_jobs.proofs.PlaceLemmas.{none_placed, no_jobs_are}
+use Rattle.rv_jobs.proofs.names.Growing.new.Goals as goal
+
+pub invariant_of-result : goal.invariant_of-result
+invariant_of-result c = record {
+  jobs = no_jobs_are c.new.result.items c.new.ensures.items;
+  places = none_placed c.new-2.result c.new.result.items c.new-2.ensures.empty c.new.ensures.items;
+}
