@@ -72,10 +72,10 @@ within_length (Some k) n m e h = omega arith
 pub within_names : (js : List Job) (t : List ℕ) (o : Option ℕ) → o ≡ place_in (names_of js) t → IfSome o (λ k. k < length js)
 within_names js t o e = subst (λ p. IfSome p (λ k. k < length js)) (sym e) (within_length (place_in (names_of js) t) (length (names_of js)) (length js) (length-map js (λ (j : Job). j.name)) (place_below (names_of js) t))
 
--- no names, and no places
-pub none_placed : (m : BTreeMap (String Global) ℕ) (js : List Job) → m.entries ≡ [] → js ≡ [] → (t : List ℕ) → get_by_text m t ≡ place_in (names_of js) t
+-- no texts, and no places
+pub none_placed : (m : BTreeMap (String Global) ℕ) (xs : List (List ℕ)) → m.entries ≡ [] → xs ≡ [] → (t : List ℕ) → get_by_text m t ≡ place_in xs t
 unfolding place_in
-none_placed m js e f t = rw (e, f) refl
+none_placed m xs e f t = rw (e, f) refl
 
 pub no_jobs_are : (js : List Job) → js ≡ [] → AreJobs js
 no_jobs_are js e = rw e record { few = omega arith; each = λ k d l. absurd (omega arith) }
@@ -92,13 +92,18 @@ jobs_more js new job are good room pushed = record {
   ];
 }
 
--- one name more, at the place behind the others
+-- one text more, at the place behind the others
+pub texts_more : (m n : BTreeMap (String Global) ℕ) (xs new : List (List ℕ)) (x : List ℕ) (key : String Global) (at : ℕ) → Updates string_cmp m n key (Some at) → string_bytes key ≡ x → at ≡ length xs
+    → ((t : List ℕ) → get_by_text m t ≡ place_in xs t) → place_in xs x ≡ None → new ≡ xs ++ x ∷ [] → (t : List ℕ) → get_by_text n t ≡ place_in new t
+texts_more m n xs new x key at updates is_key is before fresh pushed t =
+    btree_map_updates_text (string_bytes key) m n (Some at) updates t
+    ∙ ap (λ b. cond (bytes_eq b t) (Some at) (get_by_text m t)) is_key
+    ∙ ap (λ i. cond (bytes_eq x t) (Some i) (get_by_text m t)) is
+    ∙ ap (λ o. cond (bytes_eq x t) (Some (length xs)) o) (before t)
+    ∙ sym (ap (λ y. place_in y t) pushed ∙ place_last xs x t fresh)
+
 pub names_more : (m n : BTreeMap (String Global) ℕ) (js new : List Job) (job : Job) (key : String Global) (at : ℕ) → Updates string_cmp m n key (Some at) → string_bytes key ≡ job.name → at ≡ length js
     → ((t : List ℕ) → get_by_text m t ≡ place_in (names_of js) t) → place_in (names_of js) job.name ≡ None → new ≡ js ++ job ∷ [] → (t : List ℕ) → get_by_text n t ≡ place_in (names_of new) t
-names_more m n js new job key at updates named is before fresh pushed t =
-    let there : at ≡ length (names_of js) = is ∙ sym (length-map js (λ (j : Job). j.name)) in
-    btree_map_updates_text (string_bytes key) m n (Some at) updates t
-    ∙ ap (λ b. cond (bytes_eq b t) (Some at) (get_by_text m t)) named
-    ∙ ap (λ i. cond (bytes_eq job.name t) (Some i) (get_by_text m t)) there
-    ∙ ap (λ o. cond (bytes_eq job.name t) (Some (length (names_of js))) o) (before t)
-    ∙ sym (ap (λ x. place_in x t) (ap names_of pushed ∙ map-append (λ (j : Job). j.name) js (job ∷ [])) ∙ place_last (names_of js) job.name t fresh)
+names_more m n js new job key at updates is_key is before fresh pushed =
+    texts_more m n (names_of js) (names_of new) job.name key at updates is_key (is ∙ sym (length-map js (λ (j : Job). j.name))) before fresh
+    (ap names_of pushed ∙ map-append (λ (j : Job). j.name) js (job ∷ []))

@@ -7,3 +7,4 @@ pub mod Stores
 pub mod Plans
 pub mod AskedInside
 pub mod PlanInside
+pub mod Faults

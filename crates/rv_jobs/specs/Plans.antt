@@ -1,12 +1,12 @@
 -- A plan: the jobs of a list, and one answer for each path that they name.
-use Rattle.std.specs.Prelude.{◌≡◌, ◌+◌, ◌-◌, ◌^◌, ℕ, List, [], ◌∷◌, ◌++◌, Option, Some, None, map, min, is_some, option_map, if◌then◌else◌, count_by}
+use Rattle.std.specs.Prelude.{◌≡◌, ℕ, zero, suc, option_and_then, List, [], ◌∷◌, ◌++◌, Option, Some, None, map, is_some, option_map, if◌then◌else◌, count_by}
 use Rattle.std.specs.List.{All, find, fold}
 use Rattle.std.specs.Str.{bytes_eq}
 use Rattle.rv_jobs.specs.declared.job.Job.{Job}
 use Rattle.rv_jobs.specs.declared.store.Kept.{Kept}
 use Rattle.rv_jobs.specs.declared.asked.Answer.{Answer}
 use Rattle.rv_jobs.specs.JobList.{place_in}
-use Rattle.rv_jobs.specs.Stores.{FileContents, IsKeptOf, is_unreadable}
+use Rattle.rv_jobs.specs.Stores.{FileContents, IsKeptOf, is_unreadable, one_more}
 
 -- the paths of answers, in order
 abbrev pub paths_of : List Answer → List (List ℕ)
@@ -40,9 +40,14 @@ AreKept known answers = All (λ (a : Answer). IsKeptOf known a.path a.kept) answ
 abbrev pub unreadables : List Answer → ℕ
 unreadables answers = count_by (λ (a : Answer). is_unreadable a.kept) answers
 
--- a count and so many more, which stays at its most
-abbrev pub more : ℕ → ℕ → ℕ
-more n k = min (n + k) (2 ^ 64 - 1)
+-- a count, and one more so many times
+unfoldable pub more : ℕ → ℕ → ℕ
+more n zero = n
+more n (suc k) = one_more (more n k)
+
+-- what is kept of the path of a job's reference
+abbrev pub reference_kept : List Answer → Job → Option Kept
+reference_kept answers job = option_and_then (kept_of answers) job.expect_signature
 
 -- what callers see of a plan
 pub record Planned : Type 0 where

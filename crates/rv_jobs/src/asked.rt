@@ -58,10 +58,10 @@ impl Asked {
         ensures { option_map (λ k. k.now) result ≡ kept_of self.now path.now }
     {
         match self.places.get(path) {
-            Some(place) => match self.answers.get(*place) {
-                Some(answer) => Some(&answer.kept),
-                None => unreachable!(),
-            },
+            Some(place) => {
+                let answer = &self.answers[*place];
+                Some(&answer.kept)
+            }
             None => None,
         }
     }

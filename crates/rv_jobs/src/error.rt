@@ -1,4 +1,5 @@
 ghost use Rattle.std.specs.Prelude.{◌≡◌};
+ghost use Rattle.rv_jobs.specs.Faults.{what_name};
 ghost use Rattle.rv_jobs.specs.declared.error.What.TheVariants.{OutOfMemory};
 
 use std::alloc::{AllocError, AllocFailed};
@@ -8,7 +9,7 @@ use std::alloc::{AllocError, AllocFailed};
 #[derive(Clone, Copy, Debug, PartialEq, Eq)]
 pub enum What {
     /// The bytes are no TOML document.
-    NotToml,
+    NotToml = 1,
     /// `job` is absent, or an empty array.
     NoJobs,
     /// There are more than 4,096 jobs.
@@ -53,6 +54,34 @@ pub enum What {
 pub struct JobError {
     pub job: u32,
     pub what: What,
+}
+
+impl What {
+    /// The word for it in the program's messages.
+    pub fn name(self) -> &'static str
+        ensures { result.now ≡ what_name self }
+    {
+        match self {
+            What::NotToml => "not-toml",
+            What::NoJobs => "no-jobs",
+            What::TooMany => "too-many",
+            What::UnknownKey => "unknown-key",
+            What::WrongType => "wrong-type",
+            What::Name => "name",
+            What::Duplicate => "duplicate",
+            What::Image => "image",
+            What::Budget => "budget",
+            What::Input => "input",
+            What::Region => "region",
+            What::Load => "load",
+            What::Signature => "signature",
+            What::Expect => "expect",
+            What::SameAs => "same-as",
+            What::OutOfMemory => "out-of-memory",
+            What::Isa => "isa",
+            What::Misaligned => "misaligned",
+        }
+    }
 }
 
 impl From<AllocError> for What {

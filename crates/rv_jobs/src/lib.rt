@@ -17,13 +17,14 @@ mod plan;
 mod regions;
 mod store;
 mod table;
+#[cfg(test)]
+mod tests;
 mod text;
 
 pub use asked::Answer;
 pub use error::{JobError, What};
 pub use job::{Job, JobList, Symbols};
 pub use list::read_jobs;
-
 pub use plan::{Plan, gather};
 pub use store::{Kept, ReadError, Store};
 pub use text::{Bytes, Text};

@@ -1,7 +1,7 @@
 ghost use Rattle.rv_jobs.specs.declared.job.Job.{Job as AJob};
-ghost use Rattle.std.specs.Prelude.{◌≡◌, ◌<◌, ◌≤◌, ℕ, IsSome, IfOk, Some, None, length, slice_index_or, option_map, MatchOption};
+ghost use Rattle.std.specs.Prelude.{◌≡◌, ◌<◌, ◌≤◌, ℕ, is_some, IfOk, Some, None, length, slice_index_or, option_map};
 ghost use Rattle.rv_jobs.specs.Jobs.{IsJob};
-ghost use Rattle.rv_jobs.specs.Plans.{paths_of, with_path, with_job, paths_used, kept_of, AreKept, unreadables, more};
+ghost use Rattle.rv_jobs.specs.Plans.{paths_of, with_path, with_job, paths_used, kept_of, reference_kept, AreKept, unreadables, more};
 
 use crate::asked::Asked;
 use crate::job::{Job, JobList};
@@ -124,8 +124,9 @@ impl Plan {
     /// What is kept of the path of a job's reference, where it has one.
     pub fn reference(&self, i: usize) -> Option<&Kept>
         requires { i < length self.now.jobs }
-        ensures { (d : AJob) → MatchOption (slice_index_or self.now.jobs i d).expect_signature (result ≡ None)
-            (λ path. (option_map (λ k. k.now) result ≡ kept_of self.now.answers path) × IsSome result) }
+        ensures value { (d : AJob) → option_map (λ k. k.now) result
+            ≡ reference_kept self.now.answers (slice_index_or self.now.jobs i d) }
+        ensures asked { (d : AJob) → is_some result ≡ is_some (slice_index_or self.now.jobs i d).expect_signature }
     {
         match &self.jobs.as_slice()[i].expect_signature {
             Some(path) => self.asked.kept(path.as_str()),
