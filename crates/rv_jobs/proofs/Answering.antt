@@ -1,6 +1,6 @@
 -- Answers by their paths, and the paths of jobs in order of first use.
-use Rattle.std.proofs.Common.{◌≡◌, ◌∙◌, ◌+◌, ◌<◌, ◌≤◌, ◌++◌, Bool, true, false, ℕ, zero, suc, List, [], ◌∷◌, Option, Some, None, IfOk, Result, Ok, Err, refl, ap, sym, map, length, option_map, cond, arith, subst, get_or, is_some, take, IfSome}
-use Rattle.std.specs.List.{find, fold, All}
+use Rattle.std.proofs.Common.{◌≡◌, ◌∙◌, ◌+◌, ◌<◌, ◌++◌, Bool, true, false, ℕ, zero, suc, List, [], ◌∷◌, Option, Some, None, IfOk, Result, Ok, Err, refl, ap, sym, length, option_map, cond, arith, subst, get_or, is_some, take, IfSome}
+use Rattle.std.specs.List.{find, fold}
 use Rattle.std.specs.Str.{bytes_eq}
 use Rattle.std.proofs.lemmas.List.{map-append, length-map}
 use Rattle.std.proofs.lemmas.List.Sums.{sum_by-append, fold_more}
@@ -12,7 +12,7 @@ use Rattle.rv_jobs.specs.declared.asked.Answer.{Answer}
 use Rattle.rv_jobs.specs.JobList.{place_in}
 use Rattle.rv_jobs.specs.Stores.{FileContents, IsKeptOf, is_unreadable, one_more, faults_with}
 use Rattle.rv_jobs.specs.Plans.{paths_of, with_path, with_reference, with_job, paths_used, kept_of, AreKept, unreadables, more}
-use Rattle.rv_jobs.proofs.PlaceLemmas.{place_below, place_last, bytes_eq-flip}
+use Rattle.rv_jobs.proofs.PlaceLemmas.{place_below, place_last}
 use Rattle.std.proofs.lemmas.Slice.Eq.{bytes_eq-Decides}
 
 -- ---- what is kept of a path

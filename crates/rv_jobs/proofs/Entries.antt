@@ -1,9 +1,8 @@
 -- The entries of a table and the items of an array, one by one.
-use Rattle.std.proofs.Common.{◌≡◌, ◌∙◌, ◌+◌, ◌==◌, Bool, ℕ, List, [], ◌∷◌, Option, Some, refl, ap, sym, map, not, ◌||◌, length, String, Global, string_bytes, arith}
+use Rattle.std.proofs.Common.{◌≡◌, ◌∙◌, ◌+◌, Bool, ℕ, List, [], ◌∷◌, Some, refl, ap, not, ◌||◌, length, String, Global, string_bytes, arith}
 use Rattle.std.specs.List.{list_any}
 use Rattle.std.specs.Map.{keys_of}
-use Rattle.std.specs.Option.{option_map_or}
-use Rattle.toml.specs.Data.{Data, Items, item, array, as_array, string, integer, float, boolean, datetime, table}
+use Rattle.toml.specs.Data.{Data, Items, array, as_array, string, integer, float, boolean, datetime, table}
 use Rattle.toml.specs.declared.value.Value.{Value}
 use Rattle.toml.specs.View.{view, members_view, items_view}
 use Rattle.rv_jobs.specs.Keys.{has_other_key, any_item, count_of}

@@ -1,24 +1,21 @@
 -- The elements of a list, one by one.
-use Rattle.std.proofs.Common.{◌≡◌, ◌∙◌, ◌+◌, ◌<◌, ◌≤◌, ◌==◌, Bool, true, false, ℕ, List, [], ◌∷◌, ◌++◌, refl, ap, sym, map, length, nat_lt, Option, Some, Result, Ok, Err, None, append_assoc, append-nil, arith, drop, get_or, drop_of_length-le, ne_eqb, ltb-false, cond}
+use Rattle.std.proofs.Common.{◌≡◌, ◌∙◌, ◌+◌, ◌<◌, ◌≤◌, ◌==◌, Bool, true, false, ℕ, List, [], ◌∷◌, ◌++◌, refl, ap, sym, length, nat_lt, Some, Result, Ok, Err, None, append_assoc, append-nil, arith, drop, get_or, drop_of_length-le, ne_eqb, ltb-false, cond}
 use Rattle.std.proofs.lemmas.List.{map-append}
 use Rattle.std.proofs.lemmas.Str.{is_utf8-from_IsUtf8, IsUtf8-from_is_utf8}
 use Rattle.std.specs.Str.{IsUtf8, is_utf8}
 use Rattle.toml.specs.Parse.{parse_document}
-use Rattle.toml.specs.Data.{Data, Items, no_items, item, array, as_array, Members}
+use Rattle.toml.specs.Data.{Data, Items, item, array, as_array, Members}
 use Rattle.toml.specs.declared.value.Value.{Value}
 use Rattle.toml.specs.View.{view, items_view}
 use Rattle.toml.proofs.Views.{items_view-drop}
 use Rattle.rv_memory.specs.declared.map.Region.{Region}
 use Rattle.rv_jobs.specs.declared.error.What.{What}
-use Rattle.rv_jobs.specs.declared.error.JobError.{JobError}
 use Rattle.rv_jobs.specs.declared.job.Job.{Job}
-use Rattle.rv_jobs.specs.Keys.{count_of}
 use Rattle.rv_jobs.specs.Reading.{◌>>=◌, with_front}
 use Rattle.rv_jobs.specs.JobList.{document_of, has_no_jobs, has_too_many, element_in, jobs_from, names_of, region_of, regions_from, is_within, is_symbol, symbol_in, symbols_of}
 use Rattle.std.proofs.Common.{leb}
 use Rattle.std.proofs.lemmas.Bool.{leb-true, and_parts}
 use Rattle.rv_jobs.specs.declared.error.What.TheVariants.{Signature}
-use Rattle.rv_jobs.specs.declared.job.Symbols.{Symbols}
 use Rattle.rv_jobs.proofs.Entries.{count_items, is_array}
 
 too_many_array : (vs : List Value) → nat_lt 4096 (length vs) ≡ has_too_many (Some (array (items_view vs)))

@@ -1,11 +1,10 @@
 -- What is known of the jobs of every list.
-use Rattle.std.specs.Prelude.{ℕ, ◌<◌, ◌≤◌, List, [], ◌∷◌, length, slice_index_or, IfSome, Some, None, true, codes}
+use Rattle.std.specs.Prelude.{ℕ, ◌<◌, ◌≤◌, List, [], ◌∷◌, length, slice_index_or, IfSome, None, true, codes}
 use Rattle.rv_isa.specs.declared.sets.Isa.TheVariants.{Imc}
 use Rattle.rv_memory.specs.declared.map.Region.{Region}
 use Rattle.rv_memory.specs.declared.bus.Misaligned.TheVariants.{Fault}
 use Rattle.rv_elf.specs.declared.loading.LoadAt.TheVariants.{Physical}
 use Rattle.rv_jobs.specs.declared.job.Job.{Job}
-use Rattle.rv_jobs.specs.declared.job.Symbols.{Symbols}
 
 -- the most jobs of a list, bytes of a path, and bytes of a script
 abbrev pub most_jobs : ℕ

@@ -1,9 +1,9 @@
 -- The keys of a job list, and the TOML kinds of their values.
-use Rattle.std.specs.Prelude.{◌+◌, ℕ, ℤ, Bool, true, false, not, ◌&&◌, ◌||◌, List, [], ◌∷◌, Option, Some, None, codes, option_and_then, is_some}
+use Rattle.std.specs.Prelude.{◌+◌, ℕ, ℤ, Bool, true, false, not, ◌&&◌, ◌||◌, List, [], ◌∷◌, Option, codes, option_and_then, is_some}
 use Rattle.std.specs.List.{list_any}
 use Rattle.std.specs.Option.{option_map_or}
 use Rattle.std.specs.Str.{bytes_eq}
-use Rattle.toml.specs.Data.{Data, Items, no_items, item, Members, no_members, member, string, integer, float, boolean, datetime, table, array, get_member, as_str, as_integer, as_bool, as_array}
+use Rattle.toml.specs.Data.{Data, Items, no_items, item, Members, no_members, member, table, array, get_member, as_str, as_integer, as_bool, as_array}
 
 -- ---- the keys
 

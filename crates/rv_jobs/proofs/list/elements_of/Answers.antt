@@ -1,4 +1,4 @@
-use Rattle.std.proofs.Common.{◌≡◌, ◌≤◌, ◌∙◌, sym, Some, false, length}
+use Rattle.std.proofs.Common.{◌≡◌, sym, Some, false}
 use Rattle.toml.specs.View.{view}
 use Rattle.rv_jobs.specs.JobList.{has_too_many}
 use Rattle.rv_jobs.proofs.Steps.{few_items}

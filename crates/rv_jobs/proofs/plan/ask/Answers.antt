@@ -1,6 +1,5 @@
-use Rattle.std.proofs.Common.{◌∙◌, sym, ap}
+use Rattle.std.proofs.Common.{◌∙◌, sym}
 use Rattle.rv_jobs.specs.Plans.{paths_of}
-use Rattle.rv_jobs.specs.Stores.{faults_with}
 use Rattle.rv_jobs.proofs.Answering.{with_path-old, asked_paths, asked_kept, asked_faults}
 use Rattle.rv_jobs.proofs.plan.ask.Goals as goal
 

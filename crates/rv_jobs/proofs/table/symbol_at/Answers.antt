@@ -1,4 +1,4 @@
-use Rattle.std.proofs.Common.{◌∙◌, ◌<◌, sym, subst, length}
+use Rattle.std.proofs.Common.{◌∙◌, sym}
 use Rattle.rv_jobs.proofs.Steps.{symbol_some}
 use Rattle.rv_jobs.proofs.table.symbol_at.Goals as goal
 

@@ -1,4 +1,4 @@
-use Rattle.std.proofs.Common.{◌≡◌, ◌∙◌, ◌<◌, sym, subst, ap, length, get_or, List}
+use Rattle.std.proofs.Common.{◌∙◌, ◌<◌, sym, subst, ap, length, get_or, List}
 use Rattle.rv_jobs.specs.declared.job.Job.{Job}
 use Rattle.rv_jobs.specs.Plans.{Planned}
 use Rattle.rv_jobs.proofs.Answering.{never_none}

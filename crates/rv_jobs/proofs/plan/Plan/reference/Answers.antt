@@ -1,4 +1,4 @@
-use Rattle.std.proofs.Common.{◌≡◌, ◌∙◌, ◌<◌, sym, subst, ap, length, is_some, get_or, List}
+use Rattle.std.proofs.Common.{◌∙◌, ◌<◌, sym, subst, ap, length, is_some, get_or, List}
 use Rattle.std.proofs.lemmas.List.{get_or_default}
 use Rattle.rv_jobs.specs.declared.job.Job.{Job}
 use Rattle.rv_jobs.specs.Plans.{Planned, kept_of}
