@@ -1,0 +1,4 @@
+pub mod Entries
+pub mod PlaceLemmas
+pub mod Steps
+pub mod Answering

@@ -1,0 +1,49 @@
+-- What is known of the jobs of every list.
+use Rattle.std.specs.Prelude.{ℕ, ◌<◌, ◌≤◌, List, [], ◌∷◌, length, slice_index_or, IfSome, None, true, codes}
+use Rattle.rv_isa.specs.declared.sets.Isa.TheVariants.{Imc}
+use Rattle.rv_memory.specs.declared.map.Region.{Region}
+use Rattle.rv_memory.specs.declared.bus.Misaligned.TheVariants.{Fault}
+use Rattle.rv_elf.specs.declared.loading.LoadAt.TheVariants.{Physical}
+use Rattle.rv_jobs.specs.declared.job.Job.{Job}
+
+-- the most jobs of a list, bytes of a path, and bytes of a script
+abbrev pub most_jobs : ℕ
+most_jobs = 4096
+
+abbrev pub most_path : ℕ
+most_path = 4096
+
+abbrev pub most_script : ℕ
+most_script = 0x1_0000
+
+-- the regions of a job without any of its own
+abbrev pub default_regions : List Region
+default_regions = record { base = 0x8000_0000; size = 0x10_0000; writable = true } ∷ []
+
+-- the job at a place of a list: its script fits a bus, its symbols have names, and it names an earlier job if any
+pub record IsJob (at : ℕ) (job : Job) : Type 0 where
+  pub script : length job.script ≤ most_script
+  pub named : IfSome job.signature (λ s. (0 < length s.begin) × (0 < length s.end))
+  pub earlier : IfSome job.same_as (λ k. k < at)
+
+-- the jobs of a list
+pub record AreJobs (jobs : List Job) : Type 0 where
+  pub few : length jobs ≤ most_jobs
+  pub each : (k : ℕ) (d : Job) → k < length jobs → IsJob k (slice_index_or jobs k d)
+
+-- the job of a path that is run alone
+abbrev pub single_job : List ℕ → ℕ → List ℕ → Job
+single_job image budget script = record {
+  name = codes "one";
+  image = image;
+  budget = budget;
+  script = script;
+  load = Physical;
+  regions = default_regions;
+  signature = None;
+  expect_exit = None;
+  expect_signature = None;
+  same_as = None;
+  isa = Imc;
+  misaligned = Fault;
+}

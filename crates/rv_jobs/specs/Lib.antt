@@ -1,0 +1,10 @@
+pub mod Reading
+pub mod Keys
+pub mod Jobs
+pub mod JobList
+pub mod GrowingInside
+pub mod Stores
+pub mod Plans
+pub mod AskedInside
+pub mod PlanInside
+pub mod Faults

@@ -1,0 +1,30 @@
+//! Job lists: which jobs a TOML text stands for, and what a store answers for their paths.
+//!
+//! [`read_jobs`] reads bytes as a [`JobList`], or names the job and its fault ([`JobError`], [`What`]).
+//! Callers see a list of [`Job`]s, each with one field for each key of the format. [`gather`] reads the
+//! paths of a list from a [`Store`], each different one once, and gives a [`Plan`]: the jobs, and one
+//! answer ([`Kept`]) for each path.
+#![tactic(auto)]
+
+mod asked;
+mod error;
+mod job;
+mod keys;
+mod kinds;
+mod list;
+mod names;
+mod plan;
+mod regions;
+mod store;
+mod table;
+#[cfg(test)]
+mod tests;
+mod text;
+
+pub use asked::Answer;
+pub use error::{JobError, What};
+pub use job::{Job, JobList, Symbols};
+pub use list::read_jobs;
+pub use plan::{Plan, gather};
+pub use store::{Kept, ReadError, Store};
+pub use text::{Bytes, Text};

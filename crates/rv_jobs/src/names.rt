@@ -1,0 +1,71 @@
+ghost use Rattle.std.specs.Prelude.{◌≡◌, ◌<◌, ◌++◌, ◌∷◌, [], IfSome, IfOk, None, length, map};
+ghost use Rattle.rv_jobs.specs.Jobs.{IsJob};
+ghost use Rattle.rv_jobs.specs.JobList.{place_in, names_of};
+
+use crate::job::{Job, JobList};
+use std::alloc::{AllocError, Global};
+use std::collections::BTreeMap;
+use std::marker::Model;
+
+/// The jobs that are read so far, with the place of each name.
+#[derive(Drop)]
+pub(crate) struct Growing {
+    jobs: Vec<Job>,
+    places: BTreeMap<String, usize>,
+}
+
+impl Model for Growing {
+    ghost use Rattle.std.specs.Prelude.{List};
+    ghost use Rattle.rv_jobs.specs.declared.job.Job.{Job};
+
+    ghost Value = { List Job };
+
+    ghost use Rattle.rv_jobs.specs.GrowingInside.{IsGrowingInside};
+
+    ghost view = { λ g. g.jobs.items };
+
+    ghost invariant = { IsGrowingInside };
+}
+
+impl Growing {
+    pub(crate) fn new(alloc: Global) -> Growing
+        ensures { result ≡ [] }
+    {
+        Growing {
+            jobs: Vec::new(alloc),
+            places: BTreeMap::new(alloc),
+        }
+    }
+
+    /// The place of the job of a name.
+    pub(crate) fn place_of(&self, name: &str) -> Option<usize>
+        ensures value { result ≡ place_in (names_of self.now) name.now }
+        ensures within { IfSome result (λ k. k < length self.now) }
+    {
+        let _ = &self.jobs;
+        self.places.get(name).copied()
+    }
+
+    /// The jobs and one more.
+    pub(crate) fn with(self, alloc: Global, job: Job) -> Result<Growing, AllocError>
+        requires fresh { place_in (names_of self) job.name ≡ None }
+        requires good { IsJob (length self) job }
+        requires room { length self < 4096 }
+        ensures { IfOk result (λ g. g ≡ self ++ job ∷ []) }
+    {
+        let Growing {
+            mut jobs,
+            mut places,
+        } = self;
+        let name = String::from_str(alloc, job.name.as_str())?;
+        places.insert(name, jobs.len())?;
+        jobs.push(job)?;
+        Ok(Growing { jobs, places })
+    }
+
+    pub(crate) fn into_list(self) -> JobList
+        ensures { result ≡ self }
+    {
+        JobList::new(self.jobs)
+    }
+}

@@ -1,0 +1,384 @@
+ghost use Rattle.std.specs.Prelude.{◌≡◌, ◌≤◌, ◌<◌, IfOk, IfSome, None, length, is_some, codes};
+ghost use Rattle.std.specs.List.{list_all};
+ghost use Rattle.hex.specs.Hex.{decode_of};
+ghost use Rattle.std.specs.Prelude.{option_map, option_and_then};
+ghost use Rattle.toml.specs.Data.{as_str, get_item};
+ghost use Rattle.toml.specs.View.{view, table_view, items_view};
+ghost use Rattle.rv_jobs.specs.Reading.{Gives};
+ghost use Rattle.rv_jobs.specs.Jobs.{IsJob, most_script};
+ghost use Rattle.rv_jobs.specs.JobList.{is_within, is_name, is_name_byte, is_path, name_in, image_in, budget_in, limited, from_hex, script_in, load_of, load_in, is_symbol, symbol_in, symbols_of, signature_in, exit_of, exit_in, reference_of, reference_in, place_in, names_of, same_of, same_in, isa_of, isa_in, misaligned_of, misaligned_in, job_in, element_in};
+ghost use Rattle.std.specs.Prelude.{◌==◌, not, ◌≢◌, MatchResult, Ok, Err, slice_index_or};
+ghost use Rattle.rv_jobs.specs.declared.error.What.TheVariants.{OutOfMemory};
+
+use crate::error::What;
+use crate::job::{Job, Symbols};
+use crate::keys::{array_of, number_of, text_of};
+use crate::kinds::{has_unknown_key, has_wrong_kind};
+use crate::names::Growing;
+use crate::regions::regions_of;
+use crate::text::{Bytes, Text};
+use hex::FromHexError;
+use rv_elf::LoadAt;
+use rv_isa::Isa;
+use rv_memory::Misaligned;
+use std::alloc::Global;
+use toml::{Table, Value};
+
+/// The job of an element of a list, behind the jobs that are read so far.
+#[tactic(auto, unfolding(crate::specs::JobList::element_in))]
+pub(crate) fn element_of(alloc: Global, earlier: &Growing, value: &Value) -> Result<Job, What>
+    ensures value { Gives result (element_in (names_of earlier.now) (view value.now)) }
+    ensures good { IfOk result (IsJob (length earlier.now)) }
+    ensures fresh { IfOk result (λ job. place_in (names_of earlier.now) job.name ≡ None) }
+{
+    match value.as_table() {
+        Some(table) => job_of(alloc, earlier, table),
+        None => Err(What::WrongType),
+    }
+}
+
+#[tactic(auto, unfolding(crate::specs::JobList::job_in))]
+fn job_of(alloc: Global, earlier: &Growing, table: &Table) -> Result<Job, What>
+    ensures value { Gives result (job_in (names_of earlier.now) (table_view table.now)) }
+    ensures good { IfOk result (IsJob (length earlier.now)) }
+    ensures fresh { IfOk result (λ job. place_in (names_of earlier.now) job.name ≡ None) }
+{
+    if has_unknown_key(table) {
+        return Err(What::UnknownKey);
+    }
+    if has_wrong_kind(table) {
+        return Err(What::WrongType);
+    }
+    let name = name_of(alloc, table)?;
+    if earlier.place_of(name.as_str()).is_some() {
+        return Err(What::Duplicate);
+    }
+    let image = image_of(alloc, table)?;
+    let budget = budget_of(table)?;
+    let script = script_of(alloc, table)?;
+    let regions = regions_of(alloc, table)?;
+    let load = load_of(table)?;
+    let signature = signature_of(alloc, table)?;
+    let expect_exit = exit_of(table)?;
+    let expect_signature = reference_of(alloc, signature.is_some(), table)?;
+    let same_as = same_of(earlier, table)?;
+    let isa = isa_of(table)?;
+    let misaligned = misaligned_of(table)?;
+    Ok(Job {
+        name,
+        image,
+        budget,
+        script,
+        load,
+        regions,
+        signature,
+        expect_exit,
+        expect_signature,
+        same_as,
+        isa,
+        misaligned,
+    })
+}
+
+#[tactic(auto, unfolding(crate::specs::JobList::name_in))]
+fn name_of(alloc: Global, table: &Table) -> Result<Text, What>
+    ensures { Gives result (name_in (table_view table.now)) }
+{
+    match text_of(table, "name") {
+        Some(text) => {
+            if is_name(text) {
+                Ok(Text::copy(alloc, text)?)
+            } else {
+                Err(What::Name)
+            }
+        }
+        None => Err(What::Name),
+    }
+}
+
+#[tactic(auto, unfolding(crate::specs::JobList::is_name))]
+fn is_name(text: &str) -> bool
+    ensures { result ≡ is_name text.now }
+{
+    is_within(1, 64, text.len()) && has_name_bytes(text)
+}
+
+fn has_name_bytes(text: &str) -> bool
+    ensures { result ≡ list_all is_name_byte text.now }
+{
+    text.as_bytes().iter().all(|byte| is_name_byte(*byte))
+}
+
+#[tactic(auto, unfolding(crate::specs::JobList::is_name_byte))]
+fn is_name_byte(byte: u8) -> bool
+    ensures { result ≡ is_name_byte byte }
+{
+    (97 <= byte && byte <= 122)
+        || (65 <= byte && byte <= 90)
+        || (48 <= byte && byte <= 57)
+        || byte == 46
+        || byte == 95
+        || byte == 45
+}
+
+fn is_within(low: usize, high: usize, n: usize) -> bool
+    ensures { result ≡ is_within low high n }
+{
+    low <= n && n <= high
+}
+
+fn is_path(text: &str) -> bool
+    ensures { result ≡ is_path text.now }
+{
+    is_within(1, 4096, text.len())
+}
+
+#[tactic(auto, unfolding(crate::specs::JobList::image_in))]
+fn image_of(alloc: Global, table: &Table) -> Result<Text, What>
+    ensures { Gives result (image_in (table_view table.now)) }
+{
+    match text_of(table, "image") {
+        Some(text) => {
+            if is_path(text) {
+                Ok(Text::copy(alloc, text)?)
+            } else {
+                Err(What::Image)
+            }
+        }
+        None => Err(What::Image),
+    }
+}
+
+#[tactic(auto, unfolding(crate::specs::JobList::budget_in))]
+fn budget_of(table: &Table) -> Result<u32, What>
+    ensures { result ≡ budget_in (table_view table.now) }
+{
+    match number_of(table, "budget") {
+        Some(n) => {
+            if 1 <= n && n <= 1_000_000_000 {
+                Ok(n as u32)
+            } else {
+                Err(What::Budget)
+            }
+        }
+        None => Err(What::Budget),
+    }
+}
+
+#[tactic(auto, unfolding(crate::specs::JobList::script_in))]
+fn script_of(alloc: Global, table: &Table) -> Result<Bytes, What>
+    ensures value { Gives result (script_in (table_view table.now)) }
+    ensures short { IfOk result (λ s. length s ≤ most_script) }
+{
+    match (text_of(table, "input"), text_of(table, "input_hex")) {
+        (None, None) => Ok(Bytes::new(Vec::new(alloc))),
+        (Some(text), None) => limited_copy(alloc, text.as_bytes()),
+        (None, Some(digits)) => limited_hex(alloc, digits),
+        (Some(_), Some(_)) => Err(What::Input),
+    }
+}
+
+fn limited_copy(alloc: Global, bytes: &[u8]) -> Result<Bytes, What>
+    ensures value { Gives result (limited bytes.now) }
+    ensures short { IfOk result (λ s. length s ≤ most_script) }
+{
+    if bytes.len() <= 0x1_0000 {
+        Ok(Bytes::new(bytes.to_vec(alloc)?))
+    } else {
+        Err(What::Input)
+    }
+}
+
+fn limited_hex(alloc: Global, digits: &str) -> Result<Bytes, What>
+    ensures value { Gives result (from_hex (decode_of digits.now)) }
+    ensures short { IfOk result (λ s. length s ≤ most_script) }
+{
+    match hex::decode(alloc, digits) {
+        Ok(bytes) => {
+            if bytes.len() <= 0x1_0000 {
+                Ok(Bytes::new(bytes))
+            } else {
+                Err(What::Input)
+            }
+        }
+        Err(FromHexError::OutOfMemory) => Err(What::OutOfMemory),
+        Err(_) => Err(What::Input),
+    }
+}
+
+#[tactic(auto, unfolding(crate::specs::JobList::load_in))]
+fn load_of(table: &Table) -> Result<LoadAt, What>
+    ensures { result ≡ load_in (table_view table.now) }
+{
+    match text_of(table, "load") {
+        Some(text) => load_named(text),
+        None => Ok(LoadAt::Physical),
+    }
+}
+
+fn load_named(text: &str) -> Result<LoadAt, What>
+    ensures { result ≡ load_of text.now }
+{
+    if text == "physical" {
+        Ok(LoadAt::Physical)
+    } else if text == "virtual" {
+        Ok(LoadAt::Virtual)
+    } else {
+        Err(What::Load)
+    }
+}
+
+#[tactic(auto, unfolding(crate::specs::JobList::signature_in))]
+fn signature_of(alloc: Global, table: &Table) -> Result<Option<Symbols>, What>
+    ensures value { Gives result (signature_in (table_view table.now)) }
+    ensures named { IfOk result (λ o. IfSome o (λ s. (0 < length s.begin) × (0 < length s.end))) }
+{
+    match array_of(table, "signature") {
+        Some(names) => symbols_of(alloc, names.as_slice()),
+        None => Ok(None),
+    }
+}
+
+#[tactic(auto, unfolding(crate::specs::JobList::symbols_of))]
+fn symbols_of(alloc: Global, names: &[Value]) -> Result<Option<Symbols>, What>
+    ensures value { Gives result (symbols_of (items_view names.now)) }
+    ensures named { IfOk result (λ o. IfSome o (λ s. (0 < length s.begin) × (0 < length s.end))) }
+{
+    if names.len() != 2 {
+        return Err(What::Signature);
+    }
+    let begin = symbol_at(alloc, names, 0)?;
+    let end = symbol_at(alloc, names, 1)?;
+    Ok(Some(Symbols { begin, end }))
+}
+
+fn symbol_at(alloc: Global, names: &[Value], at: usize) -> Result<Text, What>
+    requires { at < length names.now }
+    ensures value { Gives result (symbol_in at (items_view names.now)) }
+    ensures named { IfOk result (λ t. 0 < length t) }
+{
+    match text_at(names, at) {
+        Some(text) => {
+            if is_symbol(text) {
+                Ok(Text::copy(alloc, text)?)
+            } else {
+                Err(What::Signature)
+            }
+        }
+        None => Err(What::Signature),
+    }
+}
+
+fn text_at<'a>(values: &'a [Value], at: usize) -> Option<&'a str>
+    requires { at < length values.now }
+    ensures { option_map (λ t. t.now) result ≡ option_and_then as_str (get_item at (items_view values.now)) }
+{
+    values[at].as_str()
+}
+
+#[tactic(auto, unfolding(crate::specs::JobList::is_symbol))]
+fn is_symbol(text: &str) -> bool
+    ensures { result ≡ is_symbol text.now }
+{
+    is_within(1, 255, text.len()) && has_no_zero(text)
+}
+
+fn has_no_zero(text: &str) -> bool
+    ensures { result ≡ list_all (λ b. not (b == 0)) text.now }
+{
+    text.as_bytes().iter().all(|byte| *byte != 0)
+}
+
+#[tactic(auto, unfolding(crate::specs::JobList::exit_in))]
+fn exit_of(table: &Table) -> Result<Option<u32>, What>
+    ensures { result ≡ exit_in (table_view table.now) }
+{
+    match number_of(table, "expect_exit") {
+        Some(n) => {
+            if 0 <= n && n <= 0xffff_ffff {
+                Ok(Some(n as u32))
+            } else {
+                Err(What::Expect)
+            }
+        }
+        None => Ok(None),
+    }
+}
+
+#[tactic(auto, unfolding(crate::specs::JobList::reference_in))]
+fn reference_of(alloc: Global, asked: bool, table: &Table) -> Result<Option<Text>, What>
+    ensures { Gives result (reference_in asked (table_view table.now)) }
+{
+    match text_of(table, "expect_signature") {
+        Some(path) => {
+            if asked && is_path(path) {
+                Ok(Some(Text::copy(alloc, path)?))
+            } else {
+                Err(What::Expect)
+            }
+        }
+        None => Ok(None),
+    }
+}
+
+#[tactic(auto, unfolding(crate::specs::JobList::same_in))]
+fn same_of(earlier: &Growing, table: &Table) -> Result<Option<usize>, What>
+    ensures value { result ≡ same_in (names_of earlier.now) (table_view table.now) }
+    ensures earlier { IfOk result (λ o. IfSome o (λ k. k < length earlier.now)) }
+{
+    match text_of(table, "same_as") {
+        Some(name) => match earlier.place_of(name) {
+            Some(place) => Ok(Some(place)),
+            None => Err(What::SameAs),
+        },
+        None => Ok(None),
+    }
+}
+
+#[tactic(auto, unfolding(crate::specs::JobList::isa_in))]
+fn isa_of(table: &Table) -> Result<Isa, What>
+    ensures { result ≡ isa_in (table_view table.now) }
+{
+    match text_of(table, "isa") {
+        Some(text) => isa_named(text),
+        None => Ok(Isa::Imc),
+    }
+}
+
+fn isa_named(text: &str) -> Result<Isa, What>
+    ensures { result ≡ isa_of text.now }
+{
+    if text == "rv32i" {
+        Ok(Isa::I)
+    } else if text == "rv32im" {
+        Ok(Isa::Im)
+    } else if text == "rv32ic" {
+        Ok(Isa::Ic)
+    } else if text == "rv32imc" {
+        Ok(Isa::Imc)
+    } else {
+        Err(What::Isa)
+    }
+}
+
+#[tactic(auto, unfolding(crate::specs::JobList::misaligned_in))]
+fn misaligned_of(table: &Table) -> Result<Misaligned, What>
+    ensures { result ≡ misaligned_in (table_view table.now) }
+{
+    match text_of(table, "misaligned") {
+        Some(text) => misaligned_named(text),
+        None => Ok(Misaligned::Fault),
+    }
+}
+
+fn misaligned_named(text: &str) -> Result<Misaligned, What>
+    ensures { result ≡ misaligned_of text.now }
+{
+    if text == "fault" {
+        Ok(Misaligned::Fault)
+    } else if text == "allow" {
+        Ok(Misaligned::Allow)
+    } else {
+        Err(What::Misaligned)
+    }
+}

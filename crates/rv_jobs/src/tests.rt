@@ -1,0 +1,401 @@
+//! Lists, and what a store answers for their paths.
+
+ghost use Rattle.std.specs.Prelude.{None};
+
+use crate::{JobList, Kept, Plan, ReadError, Store, What, gather, read_jobs};
+use rv_elf::LoadAt;
+use rv_isa::Isa;
+use rv_memory::{Map, Misaligned, Region};
+use std::alloc::Global;
+use std::process::Abort;
+use std::test::Fail;
+
+/// What is wrong with a list: `job N: NAME`, or `good`.
+fn fault_of(alloc: Global, list: &str) -> Result<String, Fail> {
+    Ok(match read_jobs(alloc, list.as_bytes()) {
+        Ok(_) => String::from_str(alloc, "good")?,
+        Err(error) => {
+            let job = error.job;
+            let name = error.what.name();
+            format!(in alloc; "job {job}: {name}")?
+        }
+    })
+}
+
+/// Rows of a list of one line, and what is wrong with it.
+const LISTS: &str = "\
+| job 0: no-jobs
+x = 1 | job 0: no-jobs
+job = 5 | job 0: wrong-type
+job = {} | job 0: wrong-type
+job = [5] | job 1: wrong-type
+job = [] | job 0: no-jobs
+job = [ | job 0: not-toml
+jo = [{}] | job 0: no-jobs
+job = [{}] | job 1: name
+job = [{ name = 'a', image = 'b', budget = 3 }] | good
+job = [{ name = 'a', image = 'b', budget = 3 }, { name = 'a', image = 'b', budget = 3 }] | job 2: duplicate
+job = [{ name = 'a', image = 'b', budget = 3 }, { name = 'a', image = '', budget = 3 }] | job 2: duplicate
+job = [{ name = 'a', image = 'b', budget = 3 }, 5, {}] | job 2: wrong-type
+job = [{ name = 'a', image = 'b' }, { x = 1 }] | job 1: budget
+job = [{ name = 'a', image = 'b', budget = 3 }, { name = 'b', image = 'b', budget = 3, same_as = 'a' }] | good
+job = [{ name = 'a', image = 'b', budget = 3, same_as = 'b' }, { name = 'b', image = 'b', budget = 3 }] | job 1: same-as";
+
+/// Rows of the keys of a job behind a good name, image and budget, and what is wrong with it.
+const KEYS: &str = "\
+load = 'physical' | good
+load = 'virtual' | good
+load = 'x' | job 1: load
+load = 1 | job 1: wrong-type
+x = 1 | job 1: unknown-key
+x = 1, load = 1 | job 1: unknown-key
+load = 1, isa = 'x' | job 1: wrong-type
+input = 'ab' | good
+input_hex = '4aF0' | good
+input_hex = '4' | job 1: input
+input_hex = '4g' | job 1: input
+input = '', input_hex = '' | job 1: input
+input_hex = '4', region = [] | job 1: input
+region = [] | job 1: region
+region = 5 | job 1: wrong-type
+region = [5] | job 1: wrong-type
+region = [{ base = 4, size = 4 }] | good
+region = [{ base = 4, size = 4, write = false }] | good
+region = [{ base = 4, size = 4, write = 0 }] | job 1: wrong-type
+region = [{ base = '4', size = 4 }] | job 1: wrong-type
+region = [{ base = 4, size = 4, x = 1 }] | job 1: unknown-key
+region = [{ base = 4 }] | job 1: region
+region = [{ size = 4 }] | job 1: region
+region = [{ base = -4, size = 4 }] | job 1: region
+region = [{ base = 4294967292, size = 4 }] | good
+region = [{ base = 4294967296, size = 4 }] | job 1: region
+region = [{ base = 4, size = 0 }] | job 1: region
+region = [{ base = 0, size = 4294967296 }] | job 1: region
+region = [{ base = 4, size = 4 }, { base = 4, size = 4 }] | job 1: region
+region = [{ base = 4, size = 4 }, { base = 8, size = 4 }] | good
+region = [], load = 'x' | job 1: region
+signature = ['a', 'b'] | good
+signature = ['a'] | job 1: signature
+signature = ['a', 'b', 'c'] | job 1: signature
+signature = ['a', 1] | job 1: wrong-type
+signature = 'a' | job 1: wrong-type
+signature = ['a', ''] | job 1: signature
+signature = ['', 'a'] | job 1: signature
+load = 'x', signature = [] | job 1: load
+expect_exit = 0 | good
+expect_exit = 4294967295 | good
+expect_exit = 4294967296 | job 1: expect
+expect_exit = -1 | job 1: expect
+expect_exit = 'a' | job 1: wrong-type
+expect_signature = 'r' | job 1: expect
+expect_signature = 'r', signature = ['a', 'b'] | good
+expect_signature = '', signature = ['a', 'b'] | job 1: expect
+expect_signature = 'r', signature = ['a'] | job 1: signature
+expect_exit = -1, same_as = 'q' | job 1: expect
+same_as = 'q' | job 1: same-as
+same_as = 'a' | job 1: same-as
+same_as = 'q', isa = 'x' | job 1: same-as
+isa = 'rv32i' | good
+isa = 'rv32im' | good
+isa = 'rv32ic' | good
+isa = 'rv32imc' | good
+isa = 'rv64i' | job 1: isa
+isa = 32 | job 1: wrong-type
+isa = 'x', misaligned = 'x' | job 1: isa
+misaligned = 'fault' | good
+misaligned = 'allow' | good
+misaligned = 'yes' | job 1: misaligned
+misaligned = true | job 1: wrong-type";
+
+/// Rows of the keys of a job.
+const JOBS: &str = "\
+image = 'b', budget = 3 | job 1: name
+name = '', image = 'b', budget = 3 | job 1: name
+name = 'a b', image = 'b', budget = 3 | job 1: name
+name = 'aZ0._-', image = 'b', budget = 3 | good
+name = 5, image = 'b', budget = 3 | job 1: wrong-type
+name = 'a', budget = 3 | job 1: image
+name = 'a', image = '', budget = 3 | job 1: image
+name = 'a', image = 'b' | job 1: budget
+name = 'a', image = 'b', x = 1 | job 1: unknown-key
+name = 'a', image = 'b', budget = 0 | job 1: budget
+name = 'a', image = 'b', budget = -1 | job 1: budget
+name = 'a', image = 'b', budget = 1 | good
+name = 'a', image = 'b', budget = 1000000000 | good
+name = 'a', image = 'b', budget = 1000000001 | job 1: budget
+name = 'a', image = 'b', budget = '3' | job 1: wrong-type";
+
+fn expect_faults(
+    rt: &impl Abort,
+    alloc: Global,
+    rows: &str,
+    before: &str,
+    after: &str,
+) -> Result<(), Fail> {
+    for row in rows.lines() {
+        let (text, fault) = row.split_once('|').unwrap_or(("", ""));
+        let list = format!(in alloc; "{before}{text}{after}")?;
+        let found = fault_of(alloc, list.as_str())?;
+        assert_eq!(rt; found.as_str(), fault.trim(), "{row}");
+    }
+    Ok(())
+}
+
+#[test]
+fn faults(rt: HostRuntime) -> Result<(), Fail> {
+    let alloc = rt.alloc();
+    expect_faults(&rt, alloc, LISTS, "", "")?;
+    expect_faults(&rt, alloc, JOBS, "job = [{ ", " }]")?;
+    expect_faults(
+        &rt,
+        alloc,
+        KEYS,
+        "job = [{ name = 'a', image = 'b', budget = 3, ",
+        " }]",
+    )?;
+    let not_text: &[u8] = &[0xff];
+    assert_eq!(&rt;
+        read_jobs(alloc, not_text).err().map(|e| (e.job, e.what)),
+        Some((0, What::NotToml))
+    );
+    assert_eq!(&rt; (What::NotToml as u8, What::Misaligned as u8), (1, 18));
+    Ok(())
+}
+
+/// A text so many times.
+fn repeated(alloc: Global, text: &str, count: usize) -> Result<String, Fail> {
+    let mut all = String::new(alloc);
+    for _ in 0..count {
+        all.push_str(text)?;
+    }
+    Ok(all)
+}
+
+/// A row is a text before and after the repeated byte, its last good count, and the fault of one more.
+#[test]
+fn limits(rt: HostRuntime) -> Result<(), Fail> {
+    let alloc = rt.alloc();
+    let good = "job = [{ name = 'a', image = 'b', budget = 3, ";
+    let rows = [
+        (
+            "job = [{ image = 'b', budget = 3, name = '",
+            "' }]",
+            64,
+            "job 1: name",
+        ),
+        (
+            "job = [{ name = 'a', budget = 3, image = '",
+            "' }]",
+            4096,
+            "job 1: image",
+        ),
+    ];
+    for (before, after, most, fault) in rows {
+        let text = repeated(alloc, "q", most)?;
+        let list = format!(in alloc; "{before}{text}{after}")?;
+        assert_eq!(&rt; fault_of(alloc, list.as_str())?.as_str(), "good");
+        let list = format!(in alloc; "{before}{text}q{after}")?;
+        assert_eq!(&rt; fault_of(alloc, list.as_str())?.as_str(), fault);
+    }
+    let rows = [
+        ("input = '", "' }]", 65_536, "job 1: input"),
+        ("signature = ['b', '", "'] }]", 255, "job 1: signature"),
+        (
+            "signature = ['b', 'c'], expect_signature = '",
+            "' }]",
+            4096,
+            "job 1: expect",
+        ),
+    ];
+    for (before, after, most, fault) in rows {
+        let text = repeated(alloc, "q", most)?;
+        let list = format!(in alloc; "{good}{before}{text}{after}")?;
+        assert_eq!(&rt; fault_of(alloc, list.as_str())?.as_str(), "good");
+        let list = format!(in alloc; "{good}{before}{text}q{after}")?;
+        assert_eq!(&rt; fault_of(alloc, list.as_str())?.as_str(), fault);
+    }
+    let zero = "signature = ['b', \"c\\u0000\"] }]";
+    let list = format!(in alloc; "{good}{zero}")?;
+    assert_eq!(&rt;
+        fault_of(alloc, list.as_str())?.as_str(),
+        "job 1: signature"
+    );
+    Ok(())
+}
+
+#[test]
+fn long_lists(rt: HostRuntime) -> Result<(), Fail> {
+    let alloc = rt.alloc();
+    let many = repeated(alloc, "[[job]]\n", 4097)?;
+    assert_eq!(&rt; fault_of(alloc, many.as_str())?.as_str(), "job 0: too-many");
+    let other = format!(in alloc; "x = 1\n{many}")?;
+    assert_eq!(&rt;
+        fault_of(alloc, other.as_str())?.as_str(),
+        "job 0: too-many"
+    );
+    let mut list = String::new(alloc);
+    for k in 0..4096 {
+        let job = format!(in alloc; "[[job]]\nname = 'n{k}'\nimage = 'b'\nbudget = 3\n")?;
+        list.push_str(job.as_str())?;
+    }
+    let jobs = read_jobs(alloc, list.as_bytes());
+    assert!(&rt; jobs.is_ok());
+    let Ok(jobs) = jobs else { return Ok(()) };
+    assert_eq!(&rt; jobs.as_slice().len(), 4096);
+    Ok(())
+}
+
+/// The jobs of a list that is good.
+fn jobs_of(rt: &impl Abort, alloc: Global, list: &str) -> JobList {
+    read_jobs(alloc, list.as_bytes()).expect(rt, "a good list")
+}
+
+const EACH_KEY: &str = "job = [
+{ name = 'first', image = 'a.elf', budget = 7 },
+{ name = 'second', image = 'b.elf', budget = 8, input_hex = '00fF', load = 'virtual', \
+region = [{ base = 16, size = 8 }, { base = 32, size = 4, write = false }], signature = ['s', 'e'], \
+expect_exit = 9, expect_signature = 'r', same_as = 'first', isa = 'rv32im', misaligned = 'allow' }]";
+
+#[test]
+fn each_key(rt: HostRuntime) -> Result<(), Fail> {
+    let list = jobs_of(&rt, rt.alloc(), EACH_KEY);
+    let jobs = list.as_slice();
+    assert_eq!(&rt; jobs.len(), 2);
+    let first = &jobs[0];
+    assert_eq!(&rt;
+        (first.name.as_str(), first.image.as_str(), first.budget),
+        ("first", "a.elf", 7)
+    );
+    assert!(&rt; first.script.as_slice().is_empty() && first.load == LoadAt::Physical);
+    assert!(&rt; first.regions.in_one(0x8000_0000, 0x10_0000) && first.signature.is_none());
+    assert!(&rt;
+        first.expect_exit.is_none() && first.expect_signature.is_none() && first.same_as.is_none()
+    );
+    assert!(&rt; first.isa == Isa::Imc && first.misaligned == Misaligned::Fault);
+    let second = &jobs[1];
+    assert_eq!(&rt;
+        (second.name.as_str(), second.image.as_str(), second.budget),
+        ("second", "b.elf", 8)
+    );
+    assert_eq!(&rt; second.script.as_slice(), [0, 0xff].as_slice());
+    assert!(&rt; second.load == LoadAt::Virtual);
+    assert!(&rt; second.regions.in_one(16, 8) && second.regions.in_one(32, 4));
+    assert!(&rt; !second.regions.in_one(0x8000_0000, 4));
+    let names = second.signature.as_ref();
+    assert_eq!(&rt; names.map(|s| s.begin.as_str()), Some("s"));
+    assert_eq!(&rt; names.map(|s| s.end.as_str()), Some("e"));
+    assert_eq!(&rt; (second.expect_exit, second.same_as), (Some(9), Some(0)));
+    assert_eq!(&rt;
+        second.expect_signature.as_ref().map(|t| t.as_str()),
+        Some("r")
+    );
+    assert!(&rt; second.isa == Isa::Im && second.misaligned == Misaligned::Allow);
+    Ok(())
+}
+
+#[test]
+fn single_job(rt: HostRuntime) -> Result<(), Fail> {
+    let alloc = rt.alloc();
+    let mut script = Vec::new(alloc);
+    script.resize(0x1_0000, 7)?;
+    let list = JobList::single(alloc, "a.elf", 1_000_000_000, script)?;
+    assert_eq!(&rt; list.as_slice().len(), 1);
+    let job = &list.as_slice()[0];
+    assert_eq!(&rt;
+        (job.name.as_str(), job.image.as_str(), job.budget),
+        ("one", "a.elf", 1_000_000_000)
+    );
+    assert_eq!(&rt; job.script.as_slice().len(), 0x1_0000);
+    assert!(&rt; job.isa == Isa::Imc && job.load == LoadAt::Physical);
+    Ok(())
+}
+
+/// A store with the files `a`, `b` and `r`, of which each holds its own name, and a long one `l`; it
+/// lists the paths that it was read at.
+#[derive(Drop)]
+struct ListingStore {
+    log: String,
+    faults: u64,
+}
+
+impl Store for ListingStore {
+    ghost contents = { λ _. None };
+
+    ghost faulted = { λ s. s.faults };
+
+    fn read(&mut self, alloc: Global, path: &str) -> Result<Vec<u8>, ReadError> {
+        if self.log.push_str(path).is_err() {
+            return Err(ReadError::OutOfMemory);
+        }
+        if path == "l" {
+            return Err(ReadError::TooLong);
+        }
+        if path == "a" || path == "b" || path == "r" {
+            let bytes = path.as_bytes();
+            if bytes.len() <= 1 {
+                return bytes.to_vec(alloc).map_err(|_| ReadError::OutOfMemory);
+            }
+        }
+        self.faults = self.faults.saturating_add(1);
+        Err(ReadError::Unreadable)
+    }
+
+    fn faults(&self) -> u64 {
+        self.faults
+    }
+}
+
+/// What a plan keeps of a path, as a word.
+fn word_of(kept: Option<&Kept>) -> &'static str {
+    match kept {
+        Some(Kept::Content(bytes)) => match bytes.as_slice() {
+            b"a" => "a",
+            b"b" => "b",
+            b"r" => "r",
+            _ => "other",
+        },
+        Some(Kept::Unreadable) => "unreadable",
+        Some(Kept::TooLong) => "long",
+        None => "none",
+    }
+}
+
+fn image_of(rt: &impl Abort, plan: &Plan, i: usize) -> &'static str {
+    assert!(rt; i < plan.jobs());
+    word_of(Some(plan.image(i)))
+}
+
+fn reference_of(rt: &impl Abort, plan: &Plan, i: usize) -> &'static str {
+    assert!(rt; i < plan.jobs());
+    word_of(plan.reference(i))
+}
+
+const PATHS: &str = "job = [
+{ name = 'n0', image = 'b', budget = 1, signature = ['s', 's'], expect_signature = 'r' },
+{ name = 'n1', image = 'a', budget = 1, signature = ['s', 's'], expect_signature = 'b' },
+{ name = 'n2', image = 'b', budget = 1 },
+{ name = 'n3', image = 'l', budget = 1, signature = ['s', 's'], expect_signature = 'x' },
+{ name = 'n4', image = 'r', budget = 1, signature = ['s', 's'], expect_signature = 'l' },
+{ name = 'n5', image = 'x', budget = 1 }]";
+
+#[test]
+fn paths(rt: HostRuntime) -> Result<(), Fail> {
+    let alloc = rt.alloc();
+    let list = jobs_of(&rt, alloc, PATHS);
+    let mut store = ListingStore {
+        log: String::new(alloc),
+        faults: 5,
+    };
+    let plan = gather(alloc, list, &mut store)?;
+    assert_eq!(&rt; store.log.as_str(), "bralx");
+    assert_eq!(&rt; (store.faults(), plan.jobs()), (6, 6));
+    let images = ["b", "a", "b", "long", "r", "unreadable"];
+    let references = ["r", "b", "none", "unreadable", "long", "none"];
+    for i in 0..6 {
+        assert_eq!(&rt; image_of(&rt, &plan, i), images[i], "image {i}");
+        assert_eq!(&rt; reference_of(&rt, &plan, i), references[i], "reference {i}");
+    }
+    assert!(&rt; 4 < plan.jobs());
+    assert_eq!(&rt; plan.job(4).name.as_str(), "n4");
+    Ok(())
+}
