@@ -3,7 +3,8 @@ ghost use Rattle.std.specs.List.{list_any};
 ghost use Rattle.std.specs.BTreeMap.{keys};
 ghost use Rattle.toml.specs.Data.{get_member};
 ghost use Rattle.toml.specs.View.{view, table_view, array_view};
-ghost use Rattle.rv_jobs.specs.Keys.{text_at, number_at, truth_at, array_at, is_among, text_keys, number_keys, array_keys, is_job_key, is_region_key, is_list_key, has_other_key};
+ghost use Rattle.rv_jobs.specs.Keys.{text_at, number_at, truth_at, array_at, is_among, text_keys, number_keys};
+ghost use Rattle.rv_jobs.specs.Keys.{array_keys, is_job_key, is_region_key, is_list_key, has_other_key};
 
 use toml::value::Array;
 use toml::{Table, Value};

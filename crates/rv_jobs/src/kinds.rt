@@ -1,8 +1,11 @@
 ghost use Rattle.std.specs.Prelude.{◌≡◌, not, true, false};
 ghost use Rattle.std.specs.List.{list_any};
 ghost use Rattle.std.specs.Option.{option_map_or};
-ghost use Rattle.toml.specs.View.{view, table_view, array_view};
-ghost use Rattle.rv_jobs.specs.Keys.{absent_or, is_text, is_number, is_truth, texts_are_texts, numbers_are_numbers, is_region_of_kinds, is_wrong_region, is_regions, is_texts, has_wrong_kind, is_unknown_region, has_unknown_key, any_item, array_at};
+ghost use Rattle.toml.specs.View.{view, table_view};
+ghost use Rattle.rv_jobs.specs.Keys.{absent_or, is_text, is_number, is_truth, texts_are_texts};
+ghost use Rattle.rv_jobs.specs.Keys.{numbers_are_numbers, is_region_of_kinds, is_wrong_region, is_regions};
+ghost use Rattle.rv_jobs.specs.Keys.{is_texts, has_wrong_kind, is_unknown_region, has_unknown_key, any_item};
+ghost use Rattle.rv_jobs.specs.Keys.{array_at};
 ghost use Rattle.std.specs.Prelude.{codes};
 
 use crate::keys::{array_of, has_stray_key, has_stray_region_key, value_of};

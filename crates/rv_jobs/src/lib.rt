@@ -15,6 +15,7 @@ mod list;
 mod names;
 mod plan;
 mod regions;
+mod signature;
 mod store;
 mod table;
 #[cfg(test)]

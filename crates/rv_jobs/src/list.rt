@@ -1,4 +1,4 @@
-ghost use Rattle.std.specs.Prelude.{◌≡◌, ◌≢◌, ◌≤◌, ◌∷◌, [], MatchResult, IfOk, Some, Ok, Err, length, vec_len, option_map};
+ghost use Rattle.std.specs.Prelude.{◌≡◌, ◌≤◌, [], MatchResult, IfOk, Some, Ok, Err, length, vec_len, option_map};
 ghost use Rattle.toml.specs.View.{view, table_view, array_view, items_view};
 ghost use Rattle.rv_jobs.specs.declared.error.What.TheVariants.{OutOfMemory};
 ghost use Rattle.rv_jobs.specs.Jobs.{most_jobs};
@@ -51,7 +51,8 @@ fn jobs_of_table(alloc: Global, table: &Table) -> Result<JobList, JobError>
 /// The elements of `job`, where the whole list has no fault.
 #[tactic(auto, unfolding(crate::specs::JobList::elements_in))]
 fn elements_of(table: &Table) -> Result<&Array, What>
-    ensures value { MatchResult result (λ a. elements_in (table_view table.now) ≡ Ok (array_view a.now)) (λ e. elements_in (table_view table.now) ≡ Err e) }
+    ensures value { MatchResult result (λ a. elements_in (table_view table.now) ≡ Ok (array_view a.now))
+        (λ e. elements_in (table_view table.now) ≡ Err e) }
     ensures few { IfOk result (λ a. vec_len a.now ≤ most_jobs) }
 {
     let value = value_of(table, "job");

@@ -1,4 +1,4 @@
-ghost use Rattle.std.specs.Prelude.{◌≡◌, ◌<◌, ◌++◌, ◌∷◌, [], IfSome, IfOk, None, length, map};
+ghost use Rattle.std.specs.Prelude.{◌≡◌, ◌<◌, ◌++◌, ◌∷◌, [], IfSome, IfOk, None, length};
 ghost use Rattle.rv_jobs.specs.Jobs.{IsJob};
 ghost use Rattle.rv_jobs.specs.JobList.{place_in, names_of};
 

@@ -1,7 +1,9 @@
 ghost use Rattle.rv_jobs.specs.declared.job.Job.{Job as AJob};
-ghost use Rattle.std.specs.Prelude.{◌≡◌, ◌<◌, ◌≤◌, ℕ, is_some, IfOk, Some, None, length, slice_index_or, option_map};
+ghost use Rattle.std.specs.Prelude.{◌≡◌, ◌<◌, ◌≤◌, ℕ, is_some, IfOk, Some, None, length, slice_index_or};
+ghost use Rattle.std.specs.Prelude.{option_map};
 ghost use Rattle.rv_jobs.specs.Jobs.{IsJob};
-ghost use Rattle.rv_jobs.specs.Plans.{paths_of, with_path, with_job, paths_used, kept_of, reference_kept, AreKept, unreadables, more};
+ghost use Rattle.rv_jobs.specs.Plans.{paths_of, with_path, with_job, paths_used, kept_of, reference_kept, AreKept};
+ghost use Rattle.rv_jobs.specs.Plans.{unreadables, more};
 
 use crate::asked::Asked;
 use crate::job::{Job, JobList};

@@ -1,6 +1,5 @@
 ghost use Rattle.std.specs.Prelude.{◌≡◌, ◌≢◌, MatchResult, Ok, Err};
 ghost use Rattle.rv_jobs.specs.declared.error.What.TheVariants.{OutOfMemory};
-ghost use Rattle.std.specs.Prelude.{codes};
 ghost use Rattle.toml.specs.View.{view, table_view, items_view};
 ghost use Rattle.rv_jobs.specs.Reading.{Gives};
 ghost use Rattle.rv_jobs.specs.JobList.{word_in, region_in, region_of, regions_from, map_of, regions_in};
@@ -34,7 +33,8 @@ fn map_of(alloc: Global, elements: &[Value]) -> Result<Map, What>
 }
 
 fn each_region(alloc: Global, elements: &[Value]) -> Result<Vec<Region>, What>
-    ensures { MatchResult result (λ v. regions_from (items_view elements.now) ≡ Ok v.items) (λ e. e ≢ OutOfMemory → regions_from (items_view elements.now) ≡ Err e) }
+    ensures { MatchResult result (λ v. regions_from (items_view elements.now) ≡ Ok v.items)
+        (λ e. e ≢ OutOfMemory → regions_from (items_view elements.now) ≡ Err e) }
 {
     let mut regions = Vec::new(alloc);
     for element in elements {

@@ -1,21 +1,23 @@
-ghost use Rattle.std.specs.Prelude.{◌≡◌, ◌≤◌, ◌<◌, IfOk, IfSome, None, length, is_some, codes};
+ghost use Rattle.std.specs.Prelude.{◌≡◌, ◌≤◌, ◌<◌, IfOk, IfSome, None, length};
 ghost use Rattle.std.specs.List.{list_all};
 ghost use Rattle.hex.specs.Hex.{decode_of};
-ghost use Rattle.std.specs.Prelude.{option_map, option_and_then};
-ghost use Rattle.toml.specs.Data.{as_str, get_item};
-ghost use Rattle.toml.specs.View.{view, table_view, items_view};
+ghost use Rattle.toml.specs.View.{view, table_view};
 ghost use Rattle.rv_jobs.specs.Reading.{Gives};
 ghost use Rattle.rv_jobs.specs.Jobs.{IsJob, most_script};
-ghost use Rattle.rv_jobs.specs.JobList.{is_within, is_name, is_name_byte, is_path, name_in, image_in, budget_in, limited, from_hex, script_in, load_of, load_in, is_symbol, symbol_in, symbols_of, signature_in, exit_of, exit_in, reference_of, reference_in, place_in, names_of, same_of, same_in, isa_of, isa_in, misaligned_of, misaligned_in, job_in, element_in};
-ghost use Rattle.std.specs.Prelude.{◌==◌, not, ◌≢◌, MatchResult, Ok, Err, slice_index_or};
+ghost use Rattle.rv_jobs.specs.JobList.{is_within, is_name, is_name_byte, is_path, name_in, image_in, budget_in};
+ghost use Rattle.rv_jobs.specs.JobList.{limited, from_hex, script_in, load_of, load_in, exit_of, exit_in};
+ghost use Rattle.rv_jobs.specs.JobList.{reference_of, reference_in, place_in, names_of, same_of, same_in, isa_of};
+ghost use Rattle.rv_jobs.specs.JobList.{isa_in, misaligned_of, misaligned_in, job_in, element_in};
+ghost use Rattle.std.specs.Prelude.{◌==◌, Ok, Err};
 ghost use Rattle.rv_jobs.specs.declared.error.What.TheVariants.{OutOfMemory};
 
 use crate::error::What;
-use crate::job::{Job, Symbols};
-use crate::keys::{array_of, number_of, text_of};
+use crate::job::Job;
+use crate::keys::{number_of, text_of};
 use crate::kinds::{has_unknown_key, has_wrong_kind};
 use crate::names::Growing;
 use crate::regions::regions_of;
+use crate::signature::signature_of;
 use crate::text::{Bytes, Text};
 use hex::FromHexError;
 use rv_elf::LoadAt;
@@ -121,7 +123,7 @@ fn is_name_byte(byte: u8) -> bool
         || byte == 45
 }
 
-fn is_within(low: usize, high: usize, n: usize) -> bool
+pub(crate) fn is_within(low: usize, high: usize, n: usize) -> bool
     ensures { result ≡ is_within low high n }
 {
     low <= n && n <= high
@@ -226,67 +228,6 @@ fn load_named(text: &str) -> Result<LoadAt, What>
     } else {
         Err(What::Load)
     }
-}
-
-#[tactic(auto, unfolding(crate::specs::JobList::signature_in))]
-fn signature_of(alloc: Global, table: &Table) -> Result<Option<Symbols>, What>
-    ensures value { Gives result (signature_in (table_view table.now)) }
-    ensures named { IfOk result (λ o. IfSome o (λ s. (0 < length s.begin) × (0 < length s.end))) }
-{
-    match array_of(table, "signature") {
-        Some(names) => symbols_of(alloc, names.as_slice()),
-        None => Ok(None),
-    }
-}
-
-#[tactic(auto, unfolding(crate::specs::JobList::symbols_of))]
-fn symbols_of(alloc: Global, names: &[Value]) -> Result<Option<Symbols>, What>
-    ensures value { Gives result (symbols_of (items_view names.now)) }
-    ensures named { IfOk result (λ o. IfSome o (λ s. (0 < length s.begin) × (0 < length s.end))) }
-{
-    if names.len() != 2 {
-        return Err(What::Signature);
-    }
-    let begin = symbol_at(alloc, names, 0)?;
-    let end = symbol_at(alloc, names, 1)?;
-    Ok(Some(Symbols { begin, end }))
-}
-
-fn symbol_at(alloc: Global, names: &[Value], at: usize) -> Result<Text, What>
-    requires { at < length names.now }
-    ensures value { Gives result (symbol_in at (items_view names.now)) }
-    ensures named { IfOk result (λ t. 0 < length t) }
-{
-    match text_at(names, at) {
-        Some(text) => {
-            if is_symbol(text) {
-                Ok(Text::copy(alloc, text)?)
-            } else {
-                Err(What::Signature)
-            }
-        }
-        None => Err(What::Signature),
-    }
-}
-
-fn text_at<'a>(values: &'a [Value], at: usize) -> Option<&'a str>
-    requires { at < length values.now }
-    ensures { option_map (λ t. t.now) result ≡ option_and_then as_str (get_item at (items_view values.now)) }
-{
-    values[at].as_str()
-}
-
-#[tactic(auto, unfolding(crate::specs::JobList::is_symbol))]
-fn is_symbol(text: &str) -> bool
-    ensures { result ≡ is_symbol text.now }
-{
-    is_within(1, 255, text.len()) && has_no_zero(text)
-}
-
-fn has_no_zero(text: &str) -> bool
-    ensures { result ≡ list_all (λ b. not (b == 0)) text.now }
-{
-    text.as_bytes().iter().all(|byte| *byte != 0)
 }
 
 #[tactic(auto, unfolding(crate::specs::JobList::exit_in))]

@@ -1,5 +1,5 @@
 use Rattle.rv_jobs.proofs.Steps.{symbols_other, symbols_two}
-use Rattle.rv_jobs.proofs.table.symbols_of.Goals as goal
+use Rattle.rv_jobs.proofs.signature.symbols_of.Goals as goal
 
 pub returns-then-names-ne2-clause-value : goal.returns-then-names-ne2-clause-value
 returns-then-names-ne2-clause-value c = λ _. symbols_other c.args.names.now c.if-names-ne2.true

@@ -3,7 +3,7 @@ use Rattle.std.specs.Prelude.{option_and_then}
 use Rattle.toml.specs.Data.{as_str}
 use Rattle.toml.specs.View.{view}
 use Rattle.toml.proofs.Views.{get_item_within}
-use Rattle.rv_jobs.proofs.table.text_at.Goals as goal
+use Rattle.rv_jobs.proofs.signature.text_at.Goals as goal
 
 pub returns : goal.returns
 returns c =
