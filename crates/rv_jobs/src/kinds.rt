@@ -31,7 +31,8 @@ pub(crate) fn has_wrong_kind(table: &Table) -> bool
 }
 
 fn has_unknown_region(table: &Table) -> bool
-    ensures { result ≡ option_map_or (any_item is_unknown_region) (array_at (codes "region") (table_view table.now)) false }
+    ensures { result ≡ option_map_or (any_item is_unknown_region)
+        (array_at (codes "region") (table_view table.now)) false }
 {
     match array_of(table, "region") {
         Some(regions) => any_unknown_region(regions.as_slice()),
