@@ -9,8 +9,6 @@
 
 mod error;
 mod fields;
-#[cfg(test)]
-mod files;
 mod header;
 mod image;
 mod loading;

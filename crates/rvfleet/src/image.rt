@@ -58,7 +58,7 @@ fn file_row(
 
 // The image of a file that the default map takes.
 #[tactic(auto, unfolding(crate::specs::ElfImages::fitting_image_of))]
-fn fitting_image(alloc: Global, file: &[u8], at: LoadAt) -> Result<Image, ImageError>
+pub(crate) fn fitting_image(alloc: Global, file: &[u8], at: LoadAt) -> Result<Image, ImageError>
     ensures { MatchResult result (λ image. fitting_image_of file.now at ≡ Ok image)
         (λ error. error ≢ OutOfMemory → fitting_image_of file.now at ≡ Err error) }
 {
@@ -67,7 +67,7 @@ fn fitting_image(alloc: Global, file: &[u8], at: LoadAt) -> Result<Image, ImageE
     Ok(image)
 }
 
-fn loaded_machine(
+pub(crate) fn loaded_machine(
     alloc: Global,
     file: &[u8],
     image: &Image,

@@ -7,8 +7,6 @@ mod command;
 mod error;
 mod files;
 mod image;
-#[cfg(test)]
-mod images;
 mod input;
 mod one;
 mod raw;

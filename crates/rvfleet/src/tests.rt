@@ -4,8 +4,7 @@ ghost use Rattle.std.specs.Prelude.{Some, None, if◌then◌else◌};
 ghost use Rattle.std.specs.Str.{bytes_eq};
 
 use crate::files::FileStore;
-use crate::image::image_row;
-use crate::images::{CHECKSUM, ONE_SEGMENT, TWO_SEGMENTS, UPPER};
+use crate::image::{fitting_image, image_row, loaded_machine};
 use crate::input::read_at_most;
 use crate::one::{ScriptError, read_script, run_one};
 use crate::raw::run_raw;
@@ -15,6 +14,7 @@ use crate::words::run_words;
 use crate::{RunError, status};
 use rv_elf::LoadAt;
 use rv_fleet::{Bytes, RowEnd, Sink, SinkFailed, put_all};
+use samples::{CHECKSUM, ONE_SEGMENT, SIGNATURE, TWO_SEGMENTS, UPPER, file_bytes, numbers};
 use std::alloc::{AllocError, Global};
 use std::fs;
 use std::io::{self, Read, Write};
@@ -239,40 +239,6 @@ fn ask_store(alloc: Global, line: &str, store: &mut MemoryStore<'_>) -> Result<A
     ask(alloc, line, store, &mut input, MemorySink::new(alloc))
 }
 
-// Ends a run by the exit call, with the code in x10.
-const X: &str = "05d00893 00000073";
-
-// The bytes of an image that is written as hexadecimal numbers, each stored little-endian; `X`
-// stands for the two words above, and `0001*3` for three times 0001.
-fn image(alloc: Global, text: &str) -> Result<Vec<u8>, Fail> {
-    let mut bytes = Vec::new(alloc);
-    for number in text.split(' ') {
-        if number == "X" {
-            push_numbers(alloc, &mut bytes, X)?;
-        } else {
-            push_number(alloc, &mut bytes, number)?;
-        }
-    }
-    Ok(bytes)
-}
-
-fn push_numbers(alloc: Global, bytes: &mut Vec<u8>, text: &str) -> Result<(), Fail> {
-    for number in text.split(' ') {
-        push_number(alloc, bytes, number)?;
-    }
-    Ok(())
-}
-
-fn push_number(alloc: Global, bytes: &mut Vec<u8>, number: &str) -> Result<(), Fail> {
-    let (number, count) = number.split_once('*').unwrap_or((number, "1"));
-    let mut digits = hex::decode(alloc, number)?;
-    digits.reverse();
-    for _ in 0..count.parse::<u32>()? {
-        bytes.extend_from_slice(digits.as_slice())?;
-    }
-    Ok(())
-}
-
 // label | numbers | budget | ending | steps | console
 const FLAT_RUNS: &str = "\
 exit | 00500513 X | 3 | exit 5 | 2 | -
@@ -376,7 +342,7 @@ fn push_repeated(text: &mut String, cell: &str) -> Result<(), Fail> {
 // Whether the program answers a flat image as a line of the table says.
 fn runs_flat(alloc: Global, line: &str) -> Result<bool, Fail> {
     let run = run_of(line).ok_or("six cells")?;
-    let bytes = image(alloc, run.image)?;
+    let bytes = numbers(alloc, run.image)?;
     let words = format!(in alloc; "raw --budget {}", run.budget)?;
     let answer = ask_raw(alloc, words.as_str(), bytes.as_slice())?;
     answer.is(0, report_of(alloc, "raw", &run)?.as_str(), "")
@@ -397,17 +363,17 @@ fn runs_flat_images(rt: HostRuntime) -> Result<(), Fail> {
 fn file(alloc: Global, text: &str) -> Result<Vec<u8>, Fail> {
     let (name, rest) = text.split_once(' ').unwrap_or((text, ""));
     match name {
-        "one" => changed(alloc, ONE_SEGMENT, rest),
-        "two" => changed(alloc, TWO_SEGMENTS, rest),
+        "one" => changed(alloc, &ONE_SEGMENT, rest),
+        "two" => changed(alloc, &TWO_SEGMENTS, rest),
         _ => program(alloc, rest),
     }
 }
 
-fn changed(alloc: Global, digits: &str, changes: &str) -> Result<Vec<u8>, Fail> {
-    let mut bytes = hex::decode(alloc, digits)?;
+fn changed(alloc: Global, file: &[u8], changes: &str) -> Result<Vec<u8>, Fail> {
+    let mut bytes = file.to_vec(alloc)?;
     for change in changes.split(' ') {
         if let Some((at, number)) = change.split_once('=') {
-            let field = image(alloc, number)?;
+            let field = numbers(alloc, number)?;
             set(&mut bytes, at.parse::<usize>()?, field.as_slice());
         } else if !change.is_empty() {
             bytes.truncate(change.parse::<usize>()?);
@@ -429,10 +395,10 @@ const FILE_SIZE: usize = 68;
 
 const MEMORY_SIZE: usize = 72;
 
-fn program(alloc: Global, numbers: &str) -> Result<Vec<u8>, Fail> {
-    let code = image(alloc, numbers)?;
+fn program(alloc: Global, text: &str) -> Result<Vec<u8>, Fail> {
+    let code = numbers(alloc, text)?;
     let size = u32::try_from(code.len())?;
-    let mut bytes = changed(alloc, ONE_SEGMENT, "84")?;
+    let mut bytes = changed(alloc, &ONE_SEGMENT, "84")?;
     set(&mut bytes, FILE_SIZE, size.to_le_bytes().as_slice());
     set(&mut bytes, MEMORY_SIZE, size.to_le_bytes().as_slice());
     bytes.extend_from_slice(code.as_slice())?;
@@ -513,6 +479,30 @@ fn loads_at_virtual_addresses(rt: HostRuntime) -> Result<(), Fail> {
     Ok(())
 }
 
+// The words from 0x8000_0028 up to 0x8000_0030 once the image that stores them has run.
+fn signature_after_run(alloc: Global) -> Result<Vec<u32>, Fail> {
+    let file = file_bytes(alloc, SIGNATURE)?;
+    let image = fitting_image(alloc, file.as_slice(), LoadAt::Physical)
+        .ok()
+        .ok_or("an image")?;
+    let script = Vec::new(alloc);
+    let at = LoadAt::Physical;
+    let mut machine = loaded_machine(alloc, file.as_slice(), &image, at, script)?;
+    machine.run(100);
+    let bus = machine.bus();
+    if !bus.map().in_one(0x8000_0028, 8) {
+        return Err("two words".into());
+    }
+    Ok(bus.words(alloc, 0x8000_0028, 0x8000_0030)?)
+}
+
+#[test]
+fn copies_a_signature(rt: HostRuntime) -> Result<(), Fail> {
+    let words = signature_after_run(rt.alloc())?;
+    assert_eq!(rt; words.as_slice(), [0x8000_0000, 0xffff_ffff].as_slice());
+    Ok(())
+}
+
 // What the programs print is worked out from their source.
 const FIRMWARE_RUNS: [(&str, &str, &str, &str); 2] = [
     (
@@ -530,7 +520,7 @@ const FIRMWARE_RUNS: [(&str, &str, &str, &str); 2] = [
 ];
 
 fn firmware_text(alloc: Global, digits: &str, input: &str) -> Result<Answer, Fail> {
-    let bytes = hex::decode(alloc, digits)?;
+    let bytes = file_bytes(alloc, digits)?;
     let mut store = MemoryStore::of("image", bytes.as_slice());
     let words = format!(in alloc; "one image --budget 100000 --input-hex {input}")?;
     Ok(ask_store(alloc, words.as_str(), &mut store)?)

@@ -1,8 +1,9 @@
 //! What is kept, and that nobody can tell but by `kept`.
-use super::{BASE, bytes_of, cells_of, check, ending_of, machine, machine_in, machine_on, region};
+use super::{BASE, cells_of, check, ending_of, machine, machine_in, machine_on, region};
 use crate::{Ending, Machine};
 use rv_isa::{Instr, Isa, Op};
 use rv_memory::{Bus, Map, Misaligned, Region};
+use samples::numbers;
 use std::alloc::Global;
 use std::process::Abort;
 use std::test::Fail;
@@ -10,8 +11,8 @@ use std::test::Fail;
 // Two instructions of one place, once and in turn; an instruction of four bytes that becomes two of two
 // bytes, with FENCE.I and without it.
 const PLACES: &str = "\
-0000206f *2047 00500513 X | 1000 | exit 5 | 3
-0000206f *2047 00150513 00300313 00650463 ff5fd06f X | 1000 | exit 3 | 15
+0000206f 00000000*2047 00500513 X | 1000 | exit 5 | 3
+0000206f 00000000*2047 00150513 00300313 00650463 ff5fd06f X | 1000 | exit 3 | 15
 00000297 00004337 51d30313 00500513 00039a63 00100393 00629623 0000100f fedff06f X | 100 | exit 7 | 13
 00000297 00004337 51d30313 00500513 00039a63 00100393 00629623 00000013 fedff06f X | 100 | stale-code 8000000c 8000000c | 9
 ";
@@ -251,7 +252,7 @@ fn last_halfword_is_kept(rt: HostRuntime) -> Result<(), Fail> {
         assert_eq!(rt; cells.len(), 3);
         let fence = cells[0];
         let image = format!(in rt.alloc(); "0055 00039a63 00100393 00601023 {fence} fedff06f X")?;
-        let low = bytes_of(rt.alloc(), image.as_str())?;
+        let low = numbers(rt.alloc(), image.as_str())?;
         let mut bus = Bus::new(rt.alloc(), map, Vec::new(rt.alloc()), Misaligned::Fault)?;
         assert!(rt; low.len() <= 32 && bus.map().in_one(0, low.len() as u32));
         bus.place(0, low.as_slice());

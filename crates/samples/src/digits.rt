@@ -1,0 +1,74 @@
+//! Bytes that are written as hexadecimal digits.
+
+use hex::FromHexError;
+use std::alloc::{AllocError, Global};
+use thiserror::Error;
+
+/// Why a text stands for no bytes.
+#[derive(Clone, Copy, Debug, Error, PartialEq, Eq)]
+pub enum BadSample {
+    /// There are no digits, or an odd number of them.
+    #[error("bad digits")]
+    Digits,
+    /// Behind a star there is no number.
+    #[error("bad count")]
+    Count,
+    /// A growth was refused.
+    #[error("out of memory")]
+    OutOfMemory,
+}
+
+impl From<AllocError> for BadSample {
+    fn from(_: AllocError) -> BadSample {
+        BadSample::OutOfMemory
+    }
+}
+
+impl From<FromHexError> for BadSample {
+    fn from(error: FromHexError) -> BadSample {
+        match error {
+            FromHexError::OutOfMemory => BadSample::OutOfMemory,
+            _ => BadSample::Digits,
+        }
+    }
+}
+
+// Ends a run by the exit call, with the code in x10: 93 into x17, and ECALL.
+const EXIT: [u8; 8] = [0x93, 0x08, 0xd0, 0x05, 0x73, 0x00, 0x00, 0x00];
+
+/// The bytes of numbers that spaces part, each little-endian, as words of eight digits and halfwords of
+/// four. `0001*3` is three times 0001, and `X` the two instructions of the exit call.
+pub fn numbers(alloc: Global, text: &str) -> Result<Vec<u8>, BadSample> {
+    let mut bytes = Vec::new(alloc);
+    for number in text.split(' ') {
+        if number == "X" {
+            bytes.extend_from_slice(&EXIT)?;
+        } else {
+            push_number(alloc, &mut bytes, number)?;
+        }
+    }
+    Ok(bytes)
+}
+
+fn push_number(alloc: Global, bytes: &mut Vec<u8>, number: &str) -> Result<(), BadSample> {
+    let (number, count) = number.split_once('*').unwrap_or((number, "1"));
+    let Ok(count) = count.parse::<u32>() else {
+        return Err(BadSample::Count);
+    };
+    let mut digits = hex::decode(alloc, number)?;
+    digits.reverse();
+    for _ in 0..count {
+        bytes.extend_from_slice(digits.as_slice())?;
+    }
+    Ok(())
+}
+
+/// The bytes of a file that is written in groups of digits, in their order.
+pub fn file_bytes(alloc: Global, text: &str) -> Result<Vec<u8>, BadSample> {
+    let mut bytes = Vec::new(alloc);
+    for group in text.split(' ') {
+        let digits = hex::decode(alloc, group)?;
+        bytes.extend_from_slice(digits.as_slice())?;
+    }
+    Ok(bytes)
+}

@@ -1,0 +1,8 @@
+//! Images and numbers for the tests of several crates. The program runs none of it.
+#![tactic(auto)]
+
+mod digits;
+mod images;
+
+pub use digits::{BadSample, file_bytes, numbers};
+pub use images::{CHECKSUM, ONE_SEGMENT, SIGNATURE, TWO_SEGMENTS, UPPER, UPPER_STRIPPED};
