@@ -41,6 +41,12 @@ job = [{ name = 'a', image = 'b' }, { x = 1 }] | job 1: budget
 job = [{ name = 'a', image = 'b', budget = 3 }, { name = 'b', image = 'b', budget = 3, same_as = 'a' }] | good
 job = [{ name = 'a', image = 'b', budget = 3, same_as = 'b' }, { name = 'b', image = 'b', budget = 3 }] | job 1: same-as";
 
+/// Rows of a list behind a key beside `job`, and what is wrong with it.
+const STRAY: &str = "\
+job = [{ name = 'a', image = 'b', budget = 3 }] | job 0: unknown-key
+job = 5 | job 0: unknown-key
+job = [] | job 0: no-jobs";
+
 /// Rows of the keys of a job behind a good name, image and budget, and what is wrong with it.
 const KEYS: &str = "\
 load = 'physical' | good
@@ -67,12 +73,19 @@ region = [{ base = 4, size = 4, x = 1 }] | job 1: unknown-key
 region = [{ base = 4 }] | job 1: region
 region = [{ size = 4 }] | job 1: region
 region = [{ base = -4, size = 4 }] | job 1: region
+region = [{ base = -1, size = 4 }] | job 1: region
+region = [{ base = 0, size = 4 }] | good
+region = [{ base = 0, size = 16777216 }] | good
+region = [{ base = 0, size = 16777212 }, { base = 2147483648, size = 8 }] | job 1: region
+region = [{ base = 0, size = 16777220 }] | job 1: region
 region = [{ base = 4294967292, size = 4 }] | good
 region = [{ base = 4294967296, size = 4 }] | job 1: region
 region = [{ base = 4, size = 0 }] | job 1: region
 region = [{ base = 0, size = 4294967296 }] | job 1: region
 region = [{ base = 4, size = 4 }, { base = 4, size = 4 }] | job 1: region
 region = [{ base = 4, size = 4 }, { base = 8, size = 4 }] | good
+region = [{ base = 4, size = 4 }, { base = 8, size = 4 }, { base = 12, size = 4 }, { base = 16, size = 4 }] | good
+region = [{ base = 4, size = 4 }, { base = 8, size = 4 }, { base = 12, size = 4 }, { base = 16, size = 4 }, { base = 20, size = 4 }] | job 1: region
 region = [], load = 'x' | job 1: region
 signature = ['a', 'b'] | good
 signature = ['a'] | job 1: signature
@@ -110,6 +123,8 @@ misaligned = true | job 1: wrong-type";
 /// Rows of the keys of a job.
 const JOBS: &str = "\
 image = 'b', budget = 3 | job 1: name
+image = 'b' | job 1: name
+image = 'b', x = 1 | job 1: unknown-key
 name = '', image = 'b', budget = 3 | job 1: name
 name = 'a b', image = 'b', budget = 3 | job 1: name
 name = 'aZ0._-', image = 'b', budget = 3 | good
@@ -145,6 +160,7 @@ fn expect_faults(
 fn faults(rt: HostRuntime) -> Result<(), Fail> {
     let alloc = rt.alloc();
     expect_faults(&rt, alloc, LISTS, "", "")?;
+    expect_faults(&rt, alloc, STRAY, "x = 1\n", "")?;
     expect_faults(&rt, alloc, JOBS, "job = [{ ", " }]")?;
     expect_faults(
         &rt,
@@ -200,6 +216,7 @@ fn limits(rt: HostRuntime) -> Result<(), Fail> {
     let rows = [
         ("input = '", "' }]", 65_536, "job 1: input"),
         ("signature = ['b', '", "'] }]", 255, "job 1: signature"),
+        ("signature = ['", "', 'b'] }]", 255, "job 1: signature"),
         (
             "signature = ['b', 'c'], expect_signature = '",
             "' }]",

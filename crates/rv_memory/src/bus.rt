@@ -270,7 +270,7 @@ impl Bus {
         self.map
     }
 
-    /// A load from an address that no region has.
+    /// A load whose bytes don't lie in one region.
     #[inline]
     fn load_console(&mut self, addr: u32, width: Width) -> Result<u32, BusFault>
         ensures narrow { IfOk result (λ v. v < 2 ^ (8 * size_of width)) }
@@ -302,7 +302,7 @@ impl Bus {
         u32::from(byte)
     }
 
-    /// A store to an address that no region has.
+    /// A store whose bytes don't lie in one region.
     #[inline]
     fn store_console(&mut self, addr: u32, width: Width, value: u32) -> Result<(), BusFault>
         ensures { MatchResult result (λ _. console_store self.old addr width value ≡ Ok self.new)

@@ -422,6 +422,7 @@ version 0 | one 20=00000000 | 10 | refused bad-version | 0 | -
 type 3 | one 16=00f30003 | 10 | refused not-executable | 0 | -
 machine 62 | one 16=003e0002 | 10 | refused not-riscv | 0 | -
 odd entry | one 24=80000001 | 10 | refused entry-odd | 0 | -
+a compressed entry | one 24=80000002 | 10 | exit 0 | 2 | -
 entry in no region | one 24=90000000 | 10 | fault fetch-access pc=90000000 value=90000000 | 0 | -
 the largest memory | one 72=00100000 | 10 | exit 5 | 2 | -
 memory past the region | one 72=00100004 | 10 | refused segment-map | 0 | -

@@ -138,6 +138,31 @@ fn allowing(rt: &impl Abort, alloc: Global, image: &str) -> Result<Machine, Fail
     machine_on(rt, alloc, bus, BASE, Isa::Imc, image)
 }
 
+// Misaligned accesses that are allowed: a load within a word, one of the console, one across the region's
+// end, and a store over two words of code, with FENCE.I and without it.
+const MISALIGNED: &str = "\
+00000297 0022a503 X | 10 | exit 2768437248 | 3
+100002b7 0012a503 | 10 | load-access 80000004 10000001 | 1
+801002b7 ffe2a503 | 10 | load-access 80000004 800ffffe | 1
+00000297 0002a723 00000013 00000013 X | 10 | stale-code 8000000c 8000000e | 3
+00000297 0002a723 0000100f 00000013 X | 10 | illegal 80000010 00000000 | 4
+00000297 0002a723 0080006f 00000013 X | 10 | stale-code 80000010 80000010 | 3
+";
+
+#[test]
+fn misaligned_accesses_run(rt: HostRuntime) -> Result<(), Fail> {
+    let alloc = rt.alloc();
+    for line in MISALIGNED.lines() {
+        let cells = cells_of(alloc, line)?;
+        assert_eq!(rt; cells.len(), 4, "{line}");
+        let budget = cells[1].parse::<u32>()?;
+        let outcome = allowing(&rt, alloc, cells[0])?.run(budget);
+        assert_eq!(rt; outcome.ending, ending_of(cells[2])?, "{line}");
+        assert_eq!(rt; outcome.steps, cells[3].parse::<u32>()?, "{line}");
+    }
+    Ok(())
+}
+
 /// Runs the stores of a table over an instruction, which stands last in some code, with the jump back to it.
 fn check_stores(
     rt: &impl Abort,
