@@ -84,10 +84,8 @@ pub fn read_image(alloc: Global, file: &[u8], isa: Isa) -> Result<Image, ImageEr
     ensures even { IfOk result (λ image. image.entry % 2 ≡ 0) }
     ensures aligned { IfOk result (λ image. has isa RV32C ≡ false → image.entry % 4 ≡ 0) }
 {
-    match check_header(file) {
-        Ok(()) => read_table(alloc, file, isa),
-        Err(error) => Err(error),
-    }
+    check_header(file)?;
+    read_table(alloc, file, isa)
 }
 
 /// The rest of [`read_image`], once the header is accepted.
@@ -97,18 +95,13 @@ fn read_table(alloc: Global, file: &[u8], isa: Isa) -> Result<Image, ImageError>
         (λ e. e ≢ OutOfMemory → table_of isa file.now ≡ Err e) }
 {
     let found = entries(alloc, file)?;
-    match check_entries(found.as_slice(), file.len()) {
-        Ok(()) => {}
-        Err(error) => return Err(error),
-    }
+    check_entries(found.as_slice(), file.len())?;
     let image = Image {
         entry: word(file, E_ENTRY),
         segments: Segments::new(kept_segments(alloc, found.as_slice())?),
     };
-    match check_image(&image, isa) {
-        Ok(()) => Ok(image),
-        Err(error) => Err(error),
-    }
+    check_image(&image, isa)?;
+    Ok(image)
 }
 
 #[tactic(auto, unfolding(crate::specs::Image::image_check))]

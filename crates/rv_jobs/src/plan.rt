@@ -40,10 +40,7 @@ pub fn gather<S: Store>(alloc: Global, jobs: JobList, store: &mut S) -> Result<P
 {
     let mut asked = Asked::new(alloc);
     for job in jobs.as_slice() {
-        asked = match ask_of_job(alloc, store, asked, job) {
-            Ok(asked) => asked,
-            Err(error) => return Err(error),
-        };
+        asked = ask_of_job(alloc, store, asked, job)?;
     }
     Ok(Plan { jobs, asked })
 }
@@ -61,10 +58,7 @@ fn ask_of_job<S: Store>(
     ensures faults { (n : ℕ) → S.faulted store.old ≡ more n (unreadables asked)
         → IfOk result (λ a. S.faulted store.new ≡ more n (unreadables a)) }
 {
-    let asked = match ask(alloc, store, asked, job.image.as_str()) {
-        Ok(asked) => asked,
-        Err(error) => return Err(error),
-    };
+    let asked = ask(alloc, store, asked, job.image.as_str())?;
     match &job.expect_signature {
         Some(path) => ask(alloc, store, asked, path.as_str()),
         None => Ok(asked),
@@ -87,10 +81,7 @@ fn ask<S: Store>(
     if asked.has(path) {
         return Ok(asked);
     }
-    let kept = match keep(alloc, store, path) {
-        Ok(kept) => kept,
-        Err(error) => return Err(error),
-    };
+    let kept = keep(alloc, store, path)?;
     asked.with(alloc, path, kept)
 }
 

@@ -35,10 +35,7 @@ pub fn read_words<'a, T: AsStr>(alloc: Global, words: &'a [T]) -> Result<Option<
     ensures kinds { IfErr result (HasKind (fault_of fleet_app (map T.text words.entry.now))) }
 {
     let command = fleet_command(alloc)?;
-    let matches = match command.try_get_matches_from(words) {
-        Ok(matches) => matches,
-        Err(error) => return Err(error),
-    };
+    let matches = command.try_get_matches_from(words)?;
     match matches.subcommand() {
         Some((name, values)) => Ok(subcommand_asked(name, values)),
         None => Ok(None),

@@ -1,17 +1,20 @@
+use Rattle.std.proofs.lemmas.Result.{err_from_is_err_and}
 use Rattle.rv_elf.proofs.Reading.{header_passed, header_refused, read_is, read_even, read_aligned}
 use Rattle.rv_elf.proofs.image.read_image.Goals as goal
 
-pub returns-in-Ok-clause-value : goal.returns-in-Ok-clause-value
-returns-in-Ok-clause-value c = rw (header_passed c.args.isa c.args.file.now c.in-Ok.ensures.value) c.read_table.ensures
+pub returns-clause-value : goal.returns-clause-value
+returns-clause-value c = rw (header_passed c.args.isa c.args.file.now c.in_ok-check_header.ensures.value) c.read_table.ensures
 
-pub returns-in-Ok-clause-of_bytes : goal.returns-in-Ok-clause-of_bytes
-returns-in-Ok-clause-of_bytes c = read_is c.args.isa c.args.file.now c.read_table.result (header_passed c.args.isa c.args.file.now c.in-Ok.ensures.value) c.read_table.ensures
+pub returns-clause-of_bytes : goal.returns-clause-of_bytes
+returns-clause-of_bytes c = read_is c.args.isa c.args.file.now c.read_table.result (header_passed c.args.isa c.args.file.now c.in_ok-check_header.ensures.value) c.read_table.ensures
 
-pub returns-in-Ok-clause-even : goal.returns-in-Ok-clause-even
-returns-in-Ok-clause-even c = read_even c.args.isa c.args.file.now c.read_table.result (header_passed c.args.isa c.args.file.now c.in-Ok.ensures.value) c.read_table.ensures
+pub returns-clause-even : goal.returns-clause-even
+returns-clause-even c = read_even c.args.isa c.args.file.now c.read_table.result (header_passed c.args.isa c.args.file.now c.in_ok-check_header.ensures.value) c.read_table.ensures
 
-pub returns-in-Ok-clause-aligned : goal.returns-in-Ok-clause-aligned
-returns-in-Ok-clause-aligned c = read_aligned c.args.isa c.args.file.now c.read_table.result (header_passed c.args.isa c.args.file.now c.in-Ok.ensures.value) c.read_table.ensures
+pub returns-clause-aligned : goal.returns-clause-aligned
+returns-clause-aligned c = read_aligned c.args.isa c.args.file.now c.read_table.result (header_passed c.args.isa c.args.file.now c.in_ok-check_header.ensures.value) c.read_table.ensures
 
-pub returns-in-Err-clause-value : goal.returns-in-Err-clause-value
-returns-in-Err-clause-value c = λ _. header_refused c.args.isa c.args.file.now c.in-Err.error c.in-Err.ensures.value
+pub returns-in_err-check_header-clause-value : goal.returns-in_err-check_header-clause-value
+returns-in_err-check_header-clause-value c =
+    let error = err_from_is_err_and c.from_residual.result c.from_residual.ensures.1 in
+    rw (error.1, error.2) (λ _. header_refused c.args.isa c.args.file.now _ c.in_err-check_header.ensures.value)

@@ -16,11 +16,11 @@ loop-job-preserved g c =
     let inv = c.loop-job.invariant in
     let kept : AreKept (g.S.Store.contents c.loop-job.store) c.loop-job.asked = rw inv.same inv.kept in
     record {
-      same = c.in-Ok.ensures.same ∙ inv.same;
-      paths = paths_more c.args.jobs c.as_slice-job-items.result.now c.loop-job.job-index c.job-item.result (paths_of c.loop-job.asked) (paths_of c.in-Ok.asked) c.as_slice-job-items.ensures.value
-          c.loop-job-test.true c.job-item.is inv.paths c.in-Ok.ensures.paths;
-      kept = rw inv.same at (c.in-Ok.ensures.kept kept);
-      faults = c.in-Ok.ensures.faults (g.S.Store.faulted c.args.store.now) inv.faults;
+      same = c.in_ok-asked.ensures.same ∙ inv.same;
+      paths = paths_more c.args.jobs c.as_slice-job-items.result.now c.loop-job.job-index c.job-item.result (paths_of c.loop-job.asked) (paths_of c.in_ok-asked.asked) c.as_slice-job-items.ensures.value
+          c.loop-job-test.true c.job-item.is inv.paths c.in_ok-asked.ensures.paths;
+      kept = rw inv.same at (c.in_ok-asked.ensures.kept kept);
+      faults = c.in_ok-asked.ensures.faults (g.S.Store.faulted c.args.store.now) inv.faults;
     }
 
 pub invariant_of-result : goal.invariant_of-result

@@ -1,9 +1,11 @@
-use Rattle.std.proofs.Common.{◌∙◌, ap, map, refl}
+use Rattle.std.proofs.Common.{◌∙◌, ap, map}
+use Rattle.std.proofs.lemmas.Result.{err_from_is_err_and}
 use Rattle.clap.specs.Words.{takes}
 use Rattle.rvfleet.specs.CommandLine.{is_taken}
 use Rattle.rvfleet.proofs.command.read_words.Goals as goal
 
-pub returns-in-Err-clause-taken : goal.returns-in-Err-clause-taken
+pub returns-in_err-matches-clause-taken : goal.returns-in_err-matches-clause-taken
 unfolding is_taken
-returns-in-Err-clause-taken g c =
-    λ taken. c.in-Err.ensures.passes (ap (λ app. takes app (map g.T.AsStr.text c.args.words.now)) c.in_ok-command.ensures ∙ taken)
+returns-in_err-matches-clause-taken g c =
+    let error = err_from_is_err_and c.from_residual-in_err-matches.result c.from_residual-in_err-matches.ensures.1 in
+    rw (error.1, error.2) (λ taken. c.in_err-matches.ensures.passes (ap (λ app. takes app (map g.T.AsStr.text c.args.words.now)) c.in_ok-command.ensures ∙ taken))
