@@ -1,5 +1,5 @@
 -- The row of a flat image: bytes without a header, for the default map.
-use Rattle.std.specs.Prelude.{ℕ, ◌-◌, true, List, [], ◌∷◌, length, get_or, leb, codes, nat_lt, if◌then◌else◌}
+use Rattle.std.specs.Prelude.{ℕ, ◌-◌, true, List, [], ◌∷◌, length, get_or, leb, codes, None, nat_lt, if◌then◌else◌}
 use Rattle.rv_isa.specs.declared.sets.Isa.TheVariants.{Imc}
 use Rattle.rv_memory.specs.declared.map.Region.{Region}
 use Rattle.rv_memory.specs.declared.bus.Misaligned.TheVariants.{Fault}
@@ -7,8 +7,11 @@ use Rattle.rv_memory.specs.Bus.{Contents, opened, placed}
 use Rattle.rv_machine.specs.Run.{run_of}
 use Rattle.rv_machine.specs.State.{State, at_reset}
 use Rattle.rv_fleet.specs.declared.row.Refusal.TheVariants as refusal
+use Rattle.rv_fleet.specs.declared.outcome.Outcome.{Outcome}
 use Rattle.rv_fleet.specs.declared.row.Row.{Row}
-use Rattle.rv_fleet.specs.Outcome.{refused_row, row_of}
+use Rattle.rv_fleet.specs.declared.row.Verdict.TheVariants as verdict
+use Rattle.rv_fleet.specs.Outcome.{outcome_of_run, refused_outcome}
+use Rattle.rv_fleet.specs.Rows.{row_with}
 
 -- the default map: one region, which may be written
 abbrev pub default_regions : List Region
@@ -34,7 +37,11 @@ flat_state bytes = at_reset (flat_contents bytes) 0x8000_0000 Imc
 abbrev pub flat_name : List ℕ
 flat_name = codes "raw"
 
--- the row of these bytes within a budget of steps
+-- the outcome of these bytes within a budget of steps
+abbrev pub flat_outcome_of : List ℕ → ℕ → Outcome
+flat_outcome_of bytes budget =
+    if nat_lt image_room (length bytes) then refused_outcome refusal.ImageTooLong else outcome_of_run (run_of budget (flat_state bytes)) None
+
+-- and their row
 unfoldable pub flat_row_of : List ℕ → ℕ → Row
-flat_row_of bytes budget =
-    if nat_lt image_room (length bytes) then refused_row flat_name refusal.ImageTooLong else row_of flat_name (run_of budget (flat_state bytes))
+flat_row_of bytes budget = row_with flat_name (flat_outcome_of bytes budget) verdict.Unasked

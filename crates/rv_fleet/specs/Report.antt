@@ -67,6 +67,8 @@ image_error_name image.OutOfMemory = codes "out-of-memory"
 abbrev pub refusal_name : Refusal → List ℕ
 refusal_name refusal.ImageUnreadable = codes "image-unreadable"
 refusal_name refusal.ImageTooLong = codes "image-too-long"
+refusal_name refusal.ReferenceUnreadable = codes "reference-unreadable"
+refusal_name refusal.ReferenceTooLong = codes "reference-too-long"
 refusal_name (refusal.Image why) = image_error_name why
 
 -- how the run ended

@@ -3,10 +3,11 @@
 ghost use Rattle.std.specs.Prelude.{◌≡◌, ◌≤◌, ℕ, IfOk, length};
 ghost use Rattle.rv_memory.specs.Bus.{byte_at};
 ghost use Rattle.rv_machine.specs.State.{state_of};
-ghost use Rattle.rv_fleet.specs.Flat.{flat_byte, flat_contents, flat_row_of, flat_state, image_room};
+ghost use Rattle.rv_fleet.specs.Flat.{flat_byte, flat_contents, flat_outcome_of, flat_row_of, flat_state, image_room};
 
-use crate::outcome::{refused_row, run_row};
-use crate::row::{Refusal, Row};
+use crate::outcome::{Outcome, refused, run};
+use crate::row::{Refusal, Row, Verdict};
+use crate::rows::row_with;
 use rv_isa::Isa;
 use rv_machine::Machine;
 use rv_memory::{Bus, Map, Misaligned};
@@ -24,11 +25,17 @@ const ENTRY: u32 = 0x8000_0000;
 pub fn flat_row(alloc: Global, bytes: &[u8], budget: u32) -> Result<Row, AllocError>
     ensures { IfOk result (λ row. row ≡ flat_row_of bytes.now budget) }
 {
+    let there = flat_outcome(alloc, bytes, budget)?;
+    row_with(alloc, "raw", there, Verdict::Unasked)
+}
+
+fn flat_outcome(alloc: Global, bytes: &[u8], budget: u32) -> Result<Outcome, AllocError>
+    ensures { IfOk result (λ there. there ≡ flat_outcome_of bytes.now budget) }
+{
     if IMAGE_ROOM < bytes.len() {
-        refused_row(alloc, "raw", Refusal::ImageTooLong)
-    } else {
-        run_row(alloc, "raw", flat_machine(alloc, bytes)?, budget)
+        return Ok(refused(alloc, Refusal::ImageTooLong));
     }
+    run(alloc, flat_machine(alloc, bytes)?, budget, None)
 }
 
 fn flat_machine(alloc: Global, bytes: &[u8]) -> Result<Machine, AllocError>

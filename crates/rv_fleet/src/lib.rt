@@ -18,16 +18,19 @@ mod outcome;
 mod pass;
 mod report;
 mod row;
+mod rows;
 mod rule;
 mod sink;
 #[cfg(test)]
 mod tests;
+mod verdict;
 mod view;
 
 pub use claims::Claims;
 pub use flat::flat_row;
-pub use outcome::{refused_row, run_row};
+pub use outcome::{Loadable, Outcome, SignatureRange, outcome_of};
 pub use pass::{Pass, SplitError};
 pub use report::{WriteError, write_report};
-pub use row::{Bytes, Name, Refusal, Report, Row, RowEnd, Rows, Verdict, Words};
+pub use row::{Refusal, Report, Row, RowEnd, Rows, Verdict, Words};
+pub use rows::{row_at, run_one};
 pub use sink::{Sink, SinkFailed, put_all};

@@ -208,7 +208,7 @@ fn push_signature(
     }
 }
 
-fn push_word_lines(alloc: Global, text: &mut String, words: &[u32]) -> Result<(), AllocError>
+pub(crate) fn push_word_lines(alloc: Global, text: &mut String, words: &[u32]) -> Result<(), AllocError>
     ensures { OnOk result (string_bytes text.new ≡ string_bytes text.old ++ flat_map word_line words.now) }
 {
     for word in words {
@@ -242,6 +242,8 @@ fn refusal_text(refusal: Refusal) -> &'static str
     match refusal {
         Refusal::ImageUnreadable => "image-unreadable",
         Refusal::ImageTooLong => "image-too-long",
+        Refusal::ReferenceUnreadable => "reference-unreadable",
+        Refusal::ReferenceTooLong => "reference-too-long",
         Refusal::Image(error) => image_error_text(error),
     }
 }

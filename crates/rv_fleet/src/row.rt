@@ -1,82 +1,11 @@
 //! Rows: what a report says of one job.
 
-ghost use Rattle.std.specs.Prelude.{◌≡◌, string_bytes};
+ghost use Rattle.std.specs.Prelude.{◌≡◌};
 
 use rv_elf::ImageError;
+use rv_jobs::{Bytes, Text};
 use rv_machine::FaultKind;
 use std::marker::Model;
-
-/// The name of a job. Contracts see the bytes of its text.
-#[derive(Debug, Drop)]
-pub struct Name {
-    text: String,
-}
-
-impl Model for Name {
-    ghost use Rattle.std.specs.Prelude.{ℕ, List, string_bytes};
-
-    ghost Value = { List ℕ };
-
-    ghost view = { λ name. string_bytes name.text };
-}
-
-impl Name {
-    /// Takes no memory.
-    pub fn new(text: String) -> Name
-        ensures { result ≡ string_bytes text }
-    {
-        Name { text }
-    }
-
-    pub fn as_str(&self) -> &str
-        ensures { result.now ≡ self.now }
-    {
-        self.text.as_str()
-    }
-
-    /// Takes no memory.
-    pub fn into_string(self) -> String
-        ensures { string_bytes result ≡ self }
-    {
-        self.text
-    }
-}
-
-/// Bytes. Contracts see their list.
-#[derive(Debug, Drop)]
-pub struct Bytes {
-    items: Vec<u8>,
-}
-
-impl Model for Bytes {
-    ghost use Rattle.std.specs.Prelude.{ℕ, List};
-
-    ghost Value = { List ℕ };
-
-    ghost view = { λ bytes. bytes.items.items };
-}
-
-impl Bytes {
-    /// Takes no memory.
-    pub fn new(items: Vec<u8>) -> Bytes
-        ensures { result ≡ items.items }
-    {
-        Bytes { items }
-    }
-
-    pub fn as_slice(&self) -> &[u8]
-        ensures { result.now ≡ self.now }
-    {
-        self.items.as_slice()
-    }
-
-    /// Takes no memory.
-    pub fn into_vec(self) -> Vec<u8>
-        ensures { result.items ≡ self }
-    {
-        self.items
-    }
-}
 
 /// Words of 32 bits. Contracts see their list.
 #[derive(Debug, Drop)]
@@ -122,7 +51,12 @@ pub enum Refusal {
     /// A flat image has more bytes than its place in memory, or the image's file more than
     /// 16,777,216.
     ImageTooLong,
-    /// The file is no image, or the image doesn't fit the map. No row has OutOfMemory here.
+    /// The file of the reference wasn't read.
+    ReferenceUnreadable,
+    /// The file of the reference has more than 16,777,216 bytes.
+    ReferenceTooLong,
+    /// The file is no image, the image doesn't fit the map, or there is no signature as it is asked for. No row has
+    /// OutOfMemory here.
     Image(ImageError),
 }
 
@@ -153,7 +87,7 @@ pub enum Verdict {
 /// One job's part of a report. A refused row has 0 steps, no console bytes and no signature.
 #[derive(Debug, Drop)]
 pub struct Row {
-    pub name: Name,
+    pub name: Text,
     pub ending: RowEnd,
     /// Completed instructions; the one that ended the run isn't counted.
     pub steps: u32,
