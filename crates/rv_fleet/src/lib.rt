@@ -14,6 +14,8 @@ mod claims;
 #[cfg(test)]
 mod claims_tests;
 mod flat;
+mod fleet;
+mod gate;
 mod outcome;
 mod pass;
 mod report;
@@ -28,6 +30,8 @@ mod view;
 
 pub use claims::Claims;
 pub use flat::flat_row;
+pub use fleet::{FleetError, run_fleet};
+pub use gate::{FreeGate, Gate};
 pub use outcome::{Loadable, Outcome, SignatureRange, outcome_of};
 pub use pass::{Pass, SplitError};
 pub use report::{WriteError, write_report};

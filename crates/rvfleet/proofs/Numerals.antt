@@ -8,7 +8,7 @@ use Rattle.clap.specs.Matches.{ReadsOne, one_text}
 use Rattle.clap.specs.Walk.{Text, rows_of}
 use Rattle.clap.specs.declared.parser.matches.Found.{Found}
 use Rattle.clap.proofs.WalkLemmas.{one_text-rows, both}
-use Rattle.rvfleet.specs.CommandLine.{number_in, number_of}
+use Rattle.rvfleet.specs.CommandLine.{read_number_in, number_of}
 
 digits_from : (ds : List ℕ) → list_all (λ d. nat_lt (digit_value d) 10) ds ≡ true → AllDigits 10 ds
 digits_from [] e = tt
@@ -48,7 +48,7 @@ parsed {E} t None G read only = go (is_numeral (without_leading_plus t) && nat_l
 
 pub number_reads : {E : Type 0} (G : List ℕ → Result ℕ E → Type 0) (f : Found) (id : Text) (r : Option ℕ)
     → (one_text f id ≡ None → r ≡ None) → ((t : List ℕ) → one_text f id ≡ Some t → ReadsOne G t r)
-    → ((t : List ℕ) (x : Result ℕ E) → G t x → ParsesUnsigned 32 10 t x) → r ≡ number_in id (rows_of f)
+    → ((t : List ℕ) (x : Result ℕ E) → G t x → ParsesUnsigned 32 10 t x) → r ≡ read_number_in id (rows_of f)
 number_reads {E} G f id r none some only = go (one_text f id) refl ∙ ap (option_and_then number_of) (one_text-rows f id)
   where
     go : (o : Option Text) → one_text f id ≡ o → r ≡ option_and_then number_of (one_text f id)

@@ -1,9 +1,8 @@
 pub mod Answers
 pub mod CommandLine
-pub mod ElfImages
 pub mod Failures
 pub mod Input
 pub mod One
+pub mod Plans
 pub mod Raw
 pub mod Requests
-pub mod Stores

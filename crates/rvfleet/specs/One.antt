@@ -1,15 +1,9 @@
--- The words of a run of one image: which are refused, and which rows are owed.
+-- The words of a run of one image: which are refused, and which job they stand for.
 use Rattle.std.specs.Prelude.{◌==◌, ◌||◌, ℕ, Bool, true, List, [], ◌∷◌, length, nat_lt, Option, Some, None, Result, Ok, Err}
 use Rattle.hex.specs.Hex.{decode_of}
 use Rattle.hex.specs.declared.error.FromHexError.{FromHexError}
-use Rattle.rv_elf.specs.declared.loading.LoadAt.TheVariants.{Physical}
-use Rattle.rv_fleet.specs.declared.row.Row.{Row}
-use Rattle.rvfleet.specs.declared.store.Kept.{Kept}
-use Rattle.rvfleet.specs.ElfImages.{image_row_of, most_script}
-
--- the most bytes of a path
-abbrev pub most_path : ℕ
-most_path = 4096
+use Rattle.rv_jobs.specs.declared.job.Job.{Job}
+use Rattle.rv_jobs.specs.Jobs.{most_path, most_script, single_job}
 
 -- a path is refused that is empty or too long
 abbrev pub is_bad_path : List ℕ → Bool
@@ -37,6 +31,6 @@ script_of digits = script_or_none (bytes_of digits)
 abbrev pub is_bad_one : List ℕ → Option (List ℕ) → Bool
 is_bad_one path digits = is_bad_path path || is_bad_script (bytes_of digits)
 
--- the one row, of an image at its physical addresses
-abbrev pub one_rows : Kept → ℕ → List ℕ → List Row
-one_rows kept budget script = image_row_of kept Physical budget script ∷ []
+-- the one job
+abbrev pub one_jobs : List ℕ → ℕ → List ℕ → List Job
+one_jobs path budget script = single_job path budget script ∷ []

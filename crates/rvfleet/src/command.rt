@@ -1,10 +1,10 @@
 //! The command line.
 
-ghost use Rattle.std.specs.Prelude.{◌≡◌, IfOk, IfErr, true, false, map, option_map};
+ghost use Rattle.std.specs.Prelude.{◌≡◌, ◌≤◌, [], IfOk, IfErr, IfSome, true, false, map, option_map};
 ghost use Rattle.clap.specs.Words.{HasKind, app_of, fault_of, first_of, found_of, kind_of, rows_of, rule_of};
 ghost use Rattle.clap.specs.declared.builder.command.Command.TheViews.{out-Command};
-ghost use Rattle.rvfleet.specs.CommandLine.{budget_rule, image_rule, input_rule, raw_app, one_app, top_app, fleet_app, number_in, raw_in, one_in, request_in, request_of, is_taken};
-ghost use Rattle.rvfleet.specs.Requests.{request};
+ghost use Rattle.rvfleet.specs.CommandLine.{budget_rule, image_rule, input_rule, jobs_rule, workers_rule, group_rule, raw_app, one_app, run_app, top_app, fleet_app, budget_in, number_in, read_number_in, raw_in, one_in, run_in, request_in, request_of, is_taken};
+ghost use Rattle.rvfleet.specs.Requests.{AreWithin, request};
 
 use clap::error::ErrorKind;
 use clap::{Arg, ArgMatches, Command, Error, value_parser};
@@ -24,12 +24,19 @@ pub enum Asked<'a> {
         budget: u32,
         input_hex: Option<&'a str>,
     },
+    /// The job list at a path, with 1 to 64 workers and 1 to 4,096 jobs a piece.
+    Run {
+        jobs: &'a str,
+        workers: u32,
+        group: u32,
+    },
 }
 
 /// Reads words, the first of which is the program's name. `None` stands where words that the
 /// command takes name no request. An error is `clap`'s own; help is one, of the kind DisplayHelp.
 pub fn read_words<'a, T: AsStr>(alloc: Global, words: &'a [T]) -> Result<Option<Asked<'a>>, Error>
     ensures value { IfOk result (λ asked. option_map request asked ≡ request_of (map T.text words.entry.now)) }
+    ensures within { IfOk result (λ asked. IfSome asked AreWithin) }
     ensures taken { IfErr result
         (λ error. is_taken (map T.text words.entry.now) ≡ true → kind_of error ≡ ErrorKind.OutOfMemory) }
     ensures kinds { IfErr result (HasKind (fault_of fleet_app (map T.text words.entry.now))) }
@@ -47,7 +54,8 @@ fn fleet_command<'a>(alloc: Global) -> Result<Command<'a>, AllocError>
 {
     top_command(alloc)?
         .subcommand(raw_command(alloc)?)?
-        .subcommand(one_command(alloc)?)
+        .subcommand(one_command(alloc)?)?
+        .subcommand(run_command(alloc)?)
 }
 
 fn top_command<'a>(alloc: Global) -> Result<Command<'a>, AllocError>
@@ -76,6 +84,16 @@ fn one_command<'a>(alloc: Global) -> Result<Command<'a>, AllocError>
         .arg(image_argument(alloc))?
         .arg(budget_argument(alloc))?
         .arg(input_argument(alloc))
+}
+
+fn run_command<'a>(alloc: Global) -> Result<Command<'a>, AllocError>
+    ensures { IfOk result (λ command. (app_of command ≡ run_app) × ((out-Command command).has_globals ≡ false)) }
+{
+    Command::new(alloc, "run")
+        .about("Runs the jobs of a list, and reports one row a job")
+        .arg(jobs_argument(alloc))?
+        .arg(workers_argument(alloc))?
+        .arg(group_argument(alloc))
 }
 
 fn image_argument<'a>(alloc: Global) -> Arg<'a>
@@ -117,30 +135,78 @@ fn input_option<'a>(alloc: Global) -> Arg<'a>
         .value_name("H")
 }
 
+fn jobs_argument<'a>(alloc: Global) -> Arg<'a>
+    ensures { (rule_of result ≡ jobs_rule) × (result.global ≡ false) }
+{
+    Arg::new(alloc, "jobs")
+        .value_name("JOBS")
+        .required(true)
+        .help("Path of the job list")
+}
+
+fn workers_argument<'a>(alloc: Global) -> Arg<'a>
+    ensures { (rule_of result ≡ workers_rule) × (result.global ≡ false) }
+{
+    workers_option(alloc)
+        .default_value("1")
+        .help("Threads, from 1 to 64")
+}
+
+fn workers_option<'a>(alloc: Global) -> Arg<'a>
+    ensures { (rule_of result ≡ record workers_rule { defaults = [] }) × (result.global ≡ false) }
+{
+    Arg::new(alloc, "workers")
+        .long("workers")
+        .value_name("N")
+        .value_parser(value_parser!(u32).range(1..=64))
+}
+
+fn group_argument<'a>(alloc: Global) -> Arg<'a>
+    ensures { (rule_of result ≡ group_rule) × (result.global ≡ false) }
+{
+    group_option(alloc)
+        .default_value("1")
+        .help("Jobs that a thread takes at once, from 1 to 4096")
+}
+
+fn group_option<'a>(alloc: Global) -> Arg<'a>
+    ensures { (rule_of result ≡ record group_rule { defaults = [] }) × (result.global ≡ false) }
+{
+    Arg::new(alloc, "group")
+        .long("group")
+        .value_name("N")
+        .value_parser(value_parser!(u32).range(1..=4_096))
+}
+
 fn subcommand_asked<'a>(name: &str, values: &ArgMatches<'a>) -> Option<Asked<'a>>
-    ensures { option_map request result ≡ request_in name.now (rows_of (found_of values.now)) }
+    ensures value { option_map request result ≡ request_in name.now (rows_of (found_of values.now)) }
+    ensures within { IfSome result AreWithin }
 {
     if name == "raw" {
         raw_asked(values)
     } else if name == "one" {
         one_asked(values)
+    } else if name == "run" {
+        run_asked(values)
     } else {
         None
     }
 }
 
 fn raw_asked<'a>(values: &ArgMatches<'a>) -> Option<Asked<'a>>
-    ensures { option_map request result ≡ raw_in (rows_of (found_of values.now)) }
+    ensures value { option_map request result ≡ raw_in (rows_of (found_of values.now)) }
+    ensures within { IfSome result AreWithin }
 {
-    let budget = number(values, "budget")?;
+    let budget = budget(values)?;
     Some(Asked::Raw { budget })
 }
 
 fn one_asked<'a>(values: &ArgMatches<'a>) -> Option<Asked<'a>>
-    ensures { option_map request result ≡ one_in (rows_of (found_of values.now)) }
+    ensures value { option_map request result ≡ one_in (rows_of (found_of values.now)) }
+    ensures within { IfSome result AreWithin }
 {
     let image = text(values, "image")?;
-    let budget = number(values, "budget")?;
+    let budget = budget(values)?;
     let input_hex = text(values, "input-hex");
     Some(Asked::One {
         image,
@@ -149,8 +215,42 @@ fn one_asked<'a>(values: &ArgMatches<'a>) -> Option<Asked<'a>>
     })
 }
 
-fn number(values: &ArgMatches<'_>, id: &str) -> Option<u32>
-    ensures { result ≡ number_in id.now (rows_of (found_of values.now)) }
+fn run_asked<'a>(values: &ArgMatches<'a>) -> Option<Asked<'a>>
+    ensures value { option_map request result ≡ run_in (rows_of (found_of values.now)) }
+    ensures within { IfSome result AreWithin }
+{
+    let jobs = text(values, "jobs")?;
+    let workers = number(values, "workers", 1, 64)?;
+    let group = number(values, "group", 1, 4_096)?;
+    Some(Asked::Run {
+        jobs,
+        workers,
+        group,
+    })
+}
+
+fn budget(values: &ArgMatches<'_>) -> Option<u32>
+    ensures value { result ≡ budget_in (rows_of (found_of values.now)) }
+    ensures within { IfSome result (λ number. (1 ≤ number) × (number ≤ 1000000000)) }
+{
+    number(values, "budget", 1, 1_000_000_000)
+}
+
+// `clap` has tested the range already; here it is the caller's to know.
+fn number(values: &ArgMatches<'_>, id: &str, low: u32, high: u32) -> Option<u32>
+    ensures value { result ≡ number_in id.now low high (rows_of (found_of values.now)) }
+    ensures within { IfSome result (λ number. (low ≤ number) × (number ≤ high)) }
+{
+    let number = read_number(values, id)?;
+    if low <= number && number <= high {
+        Some(number)
+    } else {
+        None
+    }
+}
+
+fn read_number(values: &ArgMatches<'_>, id: &str) -> Option<u32>
+    ensures { result ≡ read_number_in id.now (rows_of (found_of values.now)) }
 {
     values.get_one::<u32>(id)
 }

@@ -6,52 +6,51 @@ ghost use Rattle.std.specs.Prelude.{◌≡◌, ◌⊎◌};
 mod command;
 mod error;
 mod files;
-mod image;
 mod input;
+mod list;
 mod one;
 mod raw;
-mod store;
+mod send;
 mod streams;
 #[cfg(test)]
 mod tests;
 mod words;
 
 pub use command::{Asked, read_words};
-pub use error::RunError;
+pub use error::{Failure, ListError, RunError};
 pub use files::{FileStore, read_whole};
-pub use image::image_row;
 pub use input::{InputError, read_at_most};
-pub use one::{ScriptError, is_bad_path, read_script, run_one};
+pub use list::{read_list, run_jobs};
+pub use one::{ScriptError, is_bad_path, read_script, run_image};
 pub use raw::run_raw;
-use rv_fleet::Sink;
+use rv_fleet::{FreeGate, Sink};
+pub use send::{DONE, SOME_FAIL, send};
 use std::env;
 use std::env::Env;
 use std::io::{self, ErrorKind};
 use std::process::ExitCode;
-pub use store::{Kept, ReadError, Store, keep};
 pub use streams::StreamSink;
 pub use words::run_words;
 use words::{BAD_WORDS, FAILED, failed, refused};
 
-fn main(rt: HostRuntime) -> ExitCode {
-    ExitCode::from(status(&rt))
-}
-
 // The answer to the process's own words, over its own streams and files.
-fn status(rt: &HostRuntime) -> u8 {
+fn main(rt: HostRuntime) -> ExitCode {
     let mut faults = StreamSink::new(rt.stderr());
-    let texts = match texts(rt) {
+    let texts = match texts(&rt) {
         Ok(texts) => texts,
-        Err(error) => return unread_status(&error, &mut faults),
+        Err(error) => return ExitCode::from(unread_status(&error, &mut faults)),
     };
-    run_words(
+    let status = run_words(
+        &rt,
         rt.alloc(),
         texts.as_slice(),
-        &mut FileStore::new(rt),
+        &mut FileStore::new(&rt),
         &mut rt.reader(),
         &mut StreamSink::new(rt.stdout()),
         &mut faults,
-    )
+        &FreeGate,
+    );
+    ExitCode::from(status)
 }
 
 // The process's own words.
@@ -68,7 +67,7 @@ fn unread_status<F: Sink>(error: &io::Error, faults: &mut F) -> u8
     ensures { result ≡ BAD_WORDS ⊎ result ≡ FAILED }
 {
     match error.kind() {
-        ErrorKind::OutOfMemory => failed(faults, RunError::OutOfMemory),
+        ErrorKind::OutOfMemory => failed(faults, Failure::OutOfMemory),
         _ => refused(faults),
     }
 }

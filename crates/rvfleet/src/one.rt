@@ -1,21 +1,19 @@
 //! One ELF image of a store.
 
-ghost use Rattle.std.specs.Prelude.{◌≡◌, ◌≢◌, ◌≤◌, ◌⊎◌, Ok, IfErr, IfOk, OnErr, OnOk, option_map, true, vec_len};
-ghost use Rattle.std.specs.Io.KnownBytes.{Appends, Keeps};
-ghost use Rattle.rvfleet.specs.declared.store.Kept.{Kept};
-ghost use Rattle.rvfleet.specs.ElfImages.{most_script};
-ghost use Rattle.rvfleet.specs.One.{bytes_of, is_bad_path, is_bad_script, one_rows};
-ghost use Rattle.rv_fleet.specs.Report.{report_text};
-ghost use Rattle.rv_fleet.specs.Sending.{AppendsBeginning, Rose};
-ghost use Rattle.rvfleet.specs.Stores.{MayAnswer};
+ghost use Rattle.std.specs.Prelude.{◌≡◌, ◌≢◌, ◌<◌, ◌≤◌, ◌⊎◌, Ok, IfErr, IfOk, OnErr, OnOk, length, option_map, true, vec_len};
+ghost use Rattle.std.specs.Io.KnownBytes.{Keeps};
+ghost use Rattle.rv_fleet.specs.Sending.{Rose};
+ghost use Rattle.rv_jobs.specs.Jobs.{most_path, most_script};
+ghost use Rattle.rvfleet.specs.Answers.{Began, Reported};
+ghost use Rattle.rvfleet.specs.One.{bytes_of, is_bad_path, is_bad_script, one_jobs};
+ghost use Rattle.rvfleet.specs.Plans.{ForJobs, stored};
 
-use crate::error::RunError;
-use crate::image::image_row;
-use crate::store::{Kept, Store, keep};
+use crate::error::Failure;
+use crate::send::send;
 use hex::FromHexError;
-use rv_elf::LoadAt;
-use rv_fleet::{Report, Rows, Sink, write_report};
-use std::alloc::{AllocError, Global};
+use rv_fleet::{Sink, run_one};
+use rv_jobs::{JobList, Store, gather};
+use std::alloc::Global;
 
 /// Why digits are no script.
 #[derive(Clone, Copy, Debug, PartialEq, Eq)]
@@ -57,47 +55,34 @@ pub fn read_script(alloc: Global, digits: Option<&str>) -> Result<Vec<u8>, Scrip
     }
 }
 
-/// Runs the ELF image at a path of the store, which is read once, and appends its report to the
-/// sink. A path that can't be read is a row of the report.
-pub fn run_one<S: Store, O: Sink>(
+/// Runs the ELF image at a path of the store, which is read once, and appends its report to the sink. A path that
+/// can't be read is a row of the report. The answer is the status of the report's verdicts.
+pub fn run_image<S: Store, O: Sink>(
     alloc: Global,
     store: &mut S,
     path: &str,
     budget: u32,
     script: Vec<u8>,
     out: &mut O,
-) -> Result<(), RunError>
-    requires { vec_len script ≤ most_script }
-    ensures appended { OnOk result
-        ((kept : Kept) × (MayAnswer (S.contents store.old) (S.faulted store.old) (S.faulted store.new) path.now kept
-        × Appends (O.taken out.old) (O.taken out.new) (report_text (one_rows kept budget script.items)))) }
+) -> Result<u8, Failure>
+    requires named { 0 < length path.now }
+    requires path { length path.now ≤ most_path }
+    requires budget { (1 ≤ budget) × (budget ≤ 1000000000) }
+    requires room { vec_len script ≤ most_script }
+    ensures reported { IfOk result
+        (λ status. ForJobs (stored (S.contents store.old) (S.faulted store.old) (S.faulted store.new))
+        (one_jobs path.now budget script.items) (Reported (O.taken out.old) (O.taken out.new) status)) }
+    ensures range { IfOk result (λ status. status ≤ 1) }
     ensures counted { OnOk result (O.failed out.new ≡ O.failed out.old) }
     ensures part { OnErr result
         (Keeps (O.taken out.old) (O.taken out.new)
-        ⊎ ((kept : Kept) × (MayAnswer (S.contents store.old) (S.faulted store.old) (S.faulted store.new) path.now kept
-        × AppendsBeginning (O.taken out.old) (O.taken out.new) (report_text (one_rows kept budget script.items))))) }
-    ensures failed { IfErr result (λ error. error ≡ RunError.WriteFailed → Rose (O.failed out.old) (O.failed out.new)) }
-    ensures was_read { IfErr result (λ error. error ≢ RunError.ReadFailed) }
+        ⊎ ForJobs (stored (S.contents store.old) (S.faulted store.old) (S.faulted store.new))
+        (one_jobs path.now budget script.items) (Began (O.taken out.old) (O.taken out.new))) }
+    ensures failed { IfErr result (λ error. error ≡ Failure.WriteFailed → Rose (O.failed out.old) (O.failed out.new)) }
     ensures same { S.contents store.new ≡ S.contents store.old }
 {
-    let kept = keep(alloc, store, path)?;
-    let report = one_report(alloc, &kept, budget, script)?;
-    write_report(alloc, &report, out)?;
-    Ok(())
-}
-
-fn one_report(
-    alloc: Global,
-    kept: &Kept,
-    budget: u32,
-    script: Vec<u8>,
-) -> Result<Report, AllocError>
-    requires { vec_len script ≤ most_script }
-    ensures { IfOk result (λ report. report.rows ≡ one_rows kept.now budget script.items) }
-{
-    let mut rows = Vec::new(alloc);
-    rows.push(image_row(alloc, kept, LoadAt::Physical, budget, script)?)?;
-    Ok(Report {
-        rows: Rows::new(rows),
-    })
+    let jobs = JobList::single(alloc, path, budget, script)?;
+    let plan = gather(alloc, jobs, store)?;
+    let report = run_one(alloc, &plan)?;
+    send(alloc, &report, out)
 }

@@ -1,7 +1,7 @@
 use Rattle.std.specs.Str.Parse.{ExplainsUnsignedError, HasUnsignedDigitsIfOk, ParsesUnsigned}
 use Rattle.clap.specs.Words.{found_of}
 use Rattle.rvfleet.proofs.Numerals.{number_reads}
-use Rattle.rvfleet.proofs.command.number.Goals as goal
+use Rattle.rvfleet.proofs.command.read_number.Goals as goal
 
 pub returns : goal.returns
 returns c = number_reads (λ text read. ParsesUnsigned 32 10 text read × ExplainsUnsignedError 10 text read × HasUnsignedDigitsIfOk text read)
