@@ -8,10 +8,14 @@ mod error;
 mod files;
 mod input;
 mod list;
+#[cfg(test)]
+mod list_tests;
 mod one;
 mod raw;
 mod send;
 mod streams;
+#[cfg(test)]
+mod testing;
 #[cfg(test)]
 mod tests;
 mod words;

@@ -1,107 +1,22 @@
 //! The program over readers, sinks and stores in memory, and over files.
 
-ghost use Rattle.std.specs.Prelude.{Some, None, if◌then◌else◌};
-ghost use Rattle.std.specs.Str.{bytes_eq};
-
+use crate::RunError;
 use crate::files::FileStore;
-use crate::image::{fitting_image, image_row, loaded_machine};
 use crate::input::read_at_most;
-use crate::one::{ScriptError, read_script, run_one};
+use crate::one::{ScriptError, read_script};
 use crate::raw::run_raw;
-use crate::store::{Kept, ReadError, Store, keep};
 use crate::streams::StreamSink;
 use crate::words::run_words;
-use crate::{RunError, status};
-use rv_elf::LoadAt;
-use rv_fleet::{Bytes, RowEnd, Sink, SinkFailed, put_all};
-use samples::{CHECKSUM, ONE_SEGMENT, SIGNATURE, TWO_SEGMENTS, UPPER, file_bytes, numbers};
+use crate::testing::{Answer, MemorySink, MemoryStore, SlowReader, ask, ask_raw, ask_store, file};
+use rv_fleet::{FreeGate, Sink, put_all};
+use rv_jobs::{ReadError, Store};
+use samples::{CHECKSUM, UPPER, file_bytes, numbers};
 use std::alloc::{AllocError, Global};
 use std::fs;
-use std::io::{self, Read, Write};
+use std::io::{self, Write};
+use std::sync::Wait;
 use std::test::Fail;
-
-// A sink over memory, which takes so many bytes a put, and may fail at one put.
-#[derive(Drop)]
-struct MemorySink {
-    bytes: Vec<u8>,
-    most: usize,
-    puts: u64,
-    fails_at: u64,
-    failures: u64,
-}
-
-impl MemorySink {
-    fn new(alloc: Global) -> MemorySink {
-        MemorySink {
-            bytes: Vec::new(alloc),
-            most: usize::MAX,
-            puts: 0,
-            fails_at: 0,
-            failures: 0,
-        }
-    }
-
-    fn slow(alloc: Global, most: usize) -> MemorySink {
-        let mut sink = MemorySink::new(alloc);
-        sink.most = most;
-        sink
-    }
-
-    fn failing(alloc: Global, most: usize, fails_at: u64) -> MemorySink {
-        let mut sink = MemorySink::slow(alloc, most);
-        sink.fails_at = fails_at;
-        sink
-    }
-
-    fn text(&self) -> Result<&str, Fail> {
-        Ok(std::str::from_utf8(self.bytes.as_slice())?)
-    }
-}
-
-impl Sink for MemorySink {
-    ghost taken = { λ sink. Some sink.bytes.items };
-
-    ghost failed = { λ sink. sink.failures };
-
-    fn put(&mut self, bytes: &[u8]) -> Result<usize, SinkFailed> {
-        self.puts = self.puts.saturating_add(1);
-        let count = bytes.len().min(self.most.max(1));
-        if self.puts != self.fails_at && self.bytes.extend_from_slice(&bytes[..count]).is_ok() {
-            return Ok(count);
-        }
-        self.failures = self.failures.saturating_add(1);
-        Err(SinkFailed)
-    }
-
-    fn failures(&self) -> u64 {
-        self.failures
-    }
-}
-
-// A reader that gives one byte a read, and fails at its end where it is told to.
-#[derive(Drop)]
-struct SlowReader<'a> {
-    bytes: &'a [u8],
-    fails: bool,
-}
-
-impl<'a> Read for SlowReader<'a> {
-    fn read(&mut self, buffer: &mut [u8]) -> io::Result<usize> {
-        let Some((first, rest)) = self.bytes.split_first() else {
-            return if self.fails {
-                Err(io::ErrorKind::Other.into())
-            } else {
-                Ok(0)
-            };
-        };
-        let Some(room) = buffer.first_mut() else {
-            return Ok(0);
-        };
-        *room = *first;
-        self.bytes = rest;
-        Ok(1)
-    }
-}
+use std::thread::Threads;
 
 // A writer that counts its calls, and fails at one write or at each flush.
 #[derive(Drop)]
@@ -139,104 +54,6 @@ impl Write for CountingWriter {
         }
         Ok(())
     }
-}
-
-// A store over memory with one file, which may refuse a growth.
-#[derive(Drop)]
-struct MemoryStore<'a> {
-    path: &'a str,
-    bytes: &'a [u8],
-    has_memory: bool,
-    reads: u64,
-    faults: u64,
-}
-
-impl<'a> MemoryStore<'a> {
-    fn of(path: &'a str, bytes: &'a [u8]) -> MemoryStore<'a> {
-        MemoryStore {
-            path,
-            bytes,
-            has_memory: true,
-            reads: 0,
-            faults: 0,
-        }
-    }
-}
-
-impl<'a> Store for MemoryStore<'a> {
-    ghost contents = { λ store. Some (λ path. if bytes_eq path store.path.now then Some store.bytes.now else None) };
-
-    ghost faulted = { λ store. store.faults };
-
-    fn read(&mut self, alloc: Global, path: &str) -> Result<Vec<u8>, ReadError> {
-        self.reads = self.reads.saturating_add(1);
-        if !self.has_memory {
-            return Err(ReadError::OutOfMemory);
-        }
-        if path != self.path {
-            self.faults = self.faults.saturating_add(1);
-            return Err(ReadError::Unreadable);
-        }
-        if 16_777_216 < self.bytes.len() {
-            return Err(ReadError::TooLong);
-        }
-        match self.bytes.to_vec(alloc) {
-            Ok(bytes) => Ok(bytes),
-            Err(_) => Err(ReadError::OutOfMemory),
-        }
-    }
-
-    fn faults(&self) -> u64 {
-        self.faults
-    }
-}
-
-// What the program answered.
-#[derive(Drop)]
-struct Answer {
-    status: u8,
-    out: MemorySink,
-    faults: MemorySink,
-}
-
-impl Answer {
-    fn is(&self, status: u8, out: &str, faults: &str) -> Result<bool, Fail> {
-        Ok(self.status == status && self.out.text()? == out && self.faults.text()? == faults)
-    }
-}
-
-// The words of a command line, without the program's name.
-fn ask<R: Read>(
-    alloc: Global,
-    line: &str,
-    store: &mut MemoryStore<'_>,
-    input: &mut R,
-    out: MemorySink,
-) -> Result<Answer, AllocError> {
-    let mut words = Vec::new(alloc);
-    words.push("rvfleet")?;
-    for word in line.split(' ') {
-        words.push(word)?;
-    }
-    let mut out = out;
-    let mut faults = MemorySink::new(alloc);
-    let status = run_words(alloc, words.as_slice(), store, input, &mut out, &mut faults);
-    Ok(Answer {
-        status,
-        out,
-        faults,
-    })
-}
-
-fn ask_raw(alloc: Global, line: &str, input: &[u8]) -> Result<Answer, AllocError> {
-    let mut store = MemoryStore::of("", &[]);
-    let mut input = input;
-    ask(alloc, line, &mut store, &mut input, MemorySink::new(alloc))
-}
-
-fn ask_store(alloc: Global, line: &str, store: &mut MemoryStore<'_>) -> Result<Answer, AllocError> {
-    let mut input: &[u8] = &[];
-    ask(alloc, line, store, &mut input, MemorySink::new(alloc))
 }
 
 // label | numbers | budget | ending | steps | console
@@ -340,11 +157,13 @@ fn push_repeated(text: &mut String, cell: &str) -> Result<(), Fail> {
 }
 
 // Whether the program answers a flat image as a line of the table says.
-fn runs_flat(alloc: Global, line: &str) -> Result<bool, Fail> {
+fn runs_flat(
+    rt: &(impl Threads + Wait),
+    alloc: Global, line: &str) -> Result<bool, Fail> {
     let run = run_of(line).ok_or("six cells")?;
     let bytes = numbers(alloc, run.image)?;
     let words = format!(in alloc; "raw --budget {}", run.budget)?;
-    let answer = ask_raw(alloc, words.as_str(), bytes.as_slice())?;
+    let answer = ask_raw(rt, alloc, words.as_str(), bytes.as_slice())?;
     answer.is(0, report_of(alloc, "raw", &run)?.as_str(), "")
 }
 
@@ -352,57 +171,9 @@ fn runs_flat(alloc: Global, line: &str) -> Result<bool, Fail> {
 fn runs_flat_images(rt: HostRuntime) -> Result<(), Fail> {
     let alloc = rt.alloc();
     for line in FLAT_RUNS.lines() {
-        assert!(rt; runs_flat(alloc, line)?, "{line}");
+        assert!(rt; runs_flat(&rt, alloc, line)?, "{line}");
     }
     Ok(())
-}
-
-// The bytes of a file: `one` or `two` segments, then changes: `24=90000000` puts the number at byte
-// 24, little-endian, and `51` keeps the first 51 bytes. With `code` numbers follow, which are the
-// file bytes of the one segment.
-fn file(alloc: Global, text: &str) -> Result<Vec<u8>, Fail> {
-    let (name, rest) = text.split_once(' ').unwrap_or((text, ""));
-    match name {
-        "one" => changed(alloc, &ONE_SEGMENT, rest),
-        "two" => changed(alloc, &TWO_SEGMENTS, rest),
-        _ => program(alloc, rest),
-    }
-}
-
-fn changed(alloc: Global, file: &[u8], changes: &str) -> Result<Vec<u8>, Fail> {
-    let mut bytes = file.to_vec(alloc)?;
-    for change in changes.split(' ') {
-        if let Some((at, number)) = change.split_once('=') {
-            let field = numbers(alloc, number)?;
-            set(&mut bytes, at.parse::<usize>()?, field.as_slice());
-        } else if !change.is_empty() {
-            bytes.truncate(change.parse::<usize>()?);
-        }
-    }
-    Ok(bytes)
-}
-
-fn set(bytes: &mut Vec<u8>, at: usize, field: &[u8]) {
-    for (place, byte) in field.iter().enumerate() {
-        if let Some(changed) = bytes.get_mut(at.saturating_add(place)) {
-            *changed = *byte;
-        }
-    }
-}
-
-// The first segment's sizes in the file and in memory stand at these bytes.
-const FILE_SIZE: usize = 68;
-
-const MEMORY_SIZE: usize = 72;
-
-fn program(alloc: Global, text: &str) -> Result<Vec<u8>, Fail> {
-    let code = numbers(alloc, text)?;
-    let size = u32::try_from(code.len())?;
-    let mut bytes = changed(alloc, &ONE_SEGMENT, "84")?;
-    set(&mut bytes, FILE_SIZE, size.to_le_bytes().as_slice());
-    set(&mut bytes, MEMORY_SIZE, size.to_le_bytes().as_slice());
-    bytes.extend_from_slice(code.as_slice())?;
-    Ok(bytes)
 }
 
 // label | file | budget | ending | steps | console | input
@@ -441,15 +212,17 @@ upper case digits | code 100002b7 0002a503 X | 100 | exit 175 | 3 | - | aF
 ";
 
 // Whether the program answers an ELF image as a line of the table says, and reads its path once.
-fn runs_elf(alloc: Global, line: &str) -> Result<bool, Fail> {
+fn runs_elf(
+    rt: &(impl Threads + Wait),
+    alloc: Global, line: &str) -> Result<bool, Fail> {
     let run = run_of(line).ok_or("six cells")?;
     let bytes = file(alloc, run.image)?;
-    let mut store = MemoryStore::of("image", bytes.as_slice());
+    let mut store = MemoryStore::of(alloc, "image", bytes.as_slice())?;
     let mut words = format!(in alloc; "one image --budget {}", run.budget)?;
     if !run.input.is_empty() {
         write!(words, " --input-hex {}", run.input)?;
     }
-    let answer = ask_store(alloc, words.as_str(), &mut store)?;
+    let answer = ask_store(rt, alloc, words.as_str(), &mut store)?;
     let is_read_once = (store.reads, store.faults()) == (1, 0);
     Ok(is_read_once && answer.is(0, report_of(alloc, "one", &run)?.as_str(), "")?)
 }
@@ -458,49 +231,8 @@ fn runs_elf(alloc: Global, line: &str) -> Result<bool, Fail> {
 fn runs_elf_images(rt: HostRuntime) -> Result<(), Fail> {
     let alloc = rt.alloc();
     for line in ONE_RUNS.lines() {
-        assert!(rt; runs_elf(alloc, line)?, "{line}");
+        assert!(rt; runs_elf(&rt, alloc, line)?, "{line}");
     }
-    Ok(())
-}
-
-// The ending and the steps of an image that is loaded at its virtual addresses.
-fn run_at_virtual(alloc: Global, text: &str) -> Result<(RowEnd, u32), Fail> {
-    let kept = Kept::Content(Bytes::new(file(alloc, text)?));
-    let row = image_row(alloc, &kept, LoadAt::Virtual, 10, Vec::new(alloc))?;
-    Ok((row.ending, row.steps))
-}
-
-#[test]
-fn loads_at_virtual_addresses(rt: HostRuntime) -> Result<(), Fail> {
-    let alloc = rt.alloc();
-    for text in ["two", "two 96=80000008"] {
-        let ran = run_at_virtual(alloc, text)?;
-        assert_eq!(rt; ran, (RowEnd::Exit(42), 3), "{text}");
-    }
-    Ok(())
-}
-
-// The words from 0x8000_0028 up to 0x8000_0030 once the image that stores them has run.
-fn signature_after_run(alloc: Global) -> Result<Vec<u32>, Fail> {
-    let file = file_bytes(alloc, SIGNATURE)?;
-    let image = fitting_image(alloc, file.as_slice(), LoadAt::Physical)
-        .ok()
-        .ok_or("an image")?;
-    let script = Vec::new(alloc);
-    let at = LoadAt::Physical;
-    let mut machine = loaded_machine(alloc, file.as_slice(), &image, at, script)?;
-    machine.run(100);
-    let bus = machine.bus();
-    if !bus.map().in_one(0x8000_0028, 8) {
-        return Err("two words".into());
-    }
-    Ok(bus.words(alloc, 0x8000_0028, 0x8000_0030)?)
-}
-
-#[test]
-fn copies_a_signature(rt: HostRuntime) -> Result<(), Fail> {
-    let words = signature_after_run(rt.alloc())?;
-    assert_eq!(rt; words.as_slice(), [0x8000_0000, 0xffff_ffff].as_slice());
     Ok(())
 }
 
@@ -520,18 +252,20 @@ const FIRMWARE_RUNS: [(&str, &str, &str, &str); 2] = [
     ),
 ];
 
-fn firmware_text(alloc: Global, digits: &str, input: &str) -> Result<Answer, Fail> {
+fn firmware_text(
+    rt: &(impl Threads + Wait),
+    alloc: Global, digits: &str, input: &str) -> Result<Answer, Fail> {
     let bytes = file_bytes(alloc, digits)?;
-    let mut store = MemoryStore::of("image", bytes.as_slice());
+    let mut store = MemoryStore::of(alloc, "image", bytes.as_slice())?;
     let words = format!(in alloc; "one image --budget 100000 --input-hex {input}")?;
-    Ok(ask_store(alloc, words.as_str(), &mut store)?)
+    Ok(ask_store(rt, alloc, words.as_str(), &mut store)?)
 }
 
 #[test]
 fn runs_example_firmware(rt: HostRuntime) -> Result<(), Fail> {
     let alloc = rt.alloc();
     for (digits, input, ending, console) in FIRMWARE_RUNS {
-        let answer = firmware_text(alloc, digits, input)?;
+        let answer = firmware_text(&rt, alloc, digits, input)?;
         let text = answer.out.text()?;
         assert!(rt; text.contains(ending) && text.contains(console), "{input}");
     }
@@ -548,12 +282,13 @@ const ONE_WORDS: &str = "one image --budget 10";
 
 // Whether the store's one answer is told as a refusal, and counted so often.
 fn refuses(
+    rt: &(impl Threads + Wait),
     alloc: Global,
-    store: &mut MemoryStore<'_>,
+    store: &mut MemoryStore,
     why: &str,
     faults: u64,
 ) -> Result<bool, Fail> {
-    let answer = ask_store(alloc, ONE_WORDS, store)?;
+    let answer = ask_store(rt, alloc, ONE_WORDS, store)?;
     let is_counted = (store.reads, store.faults()) == (1, faults);
     Ok(is_counted && answer.is(0, refused_text(alloc, why)?.as_str(), "")?)
 }
@@ -561,15 +296,15 @@ fn refuses(
 #[test]
 fn answers_for_paths(rt: HostRuntime) -> Result<(), Fail> {
     let alloc = rt.alloc();
-    let mut other = MemoryStore::of("other", &[]);
-    assert!(rt; refuses(alloc, &mut other, "image-unreadable", 1)?);
+    let mut other = MemoryStore::new(alloc);
+    assert!(rt; refuses(&rt, alloc, &mut other, "image-unreadable", 1)?);
     let long = vec![in alloc; 0u8; 16_777_217]?;
-    let mut too_long = MemoryStore::of("image", long.as_slice());
-    assert!(rt; refuses(alloc, &mut too_long, "image-too-long", 0)?);
+    let mut too_long = MemoryStore::of(alloc, "image", long.as_slice())?;
+    assert!(rt; refuses(&rt, alloc, &mut too_long, "image-too-long", 0)?);
 
-    let mut poor = MemoryStore::of("image", &[]);
-    poor.has_memory = false;
-    let failed = ask_store(alloc, ONE_WORDS, &mut poor)?;
+    let mut poor = MemoryStore::new(alloc);
+    poor.wants_at = 1;
+    let failed = ask_store(&rt, alloc, ONE_WORDS, &mut poor)?;
     assert!(rt; failed.is(3, "", "rvfleet: out of memory\n")?);
     Ok(())
 }
@@ -593,35 +328,14 @@ fn file_answer(rt: &HostRuntime, path: &str) -> (Result<usize, ReadError>, u64) 
     (answer, store.faults())
 }
 
-// The report of the image at a path of the file system.
-fn file_report(rt: &HostRuntime, path: &str) -> Result<Answer, AllocError> {
-    let alloc = rt.alloc();
-    let mut store = FileStore::new(rt);
-    let mut input: &[u8] = &[];
-    let mut out = MemorySink::new(alloc);
-    let mut faults = MemorySink::new(alloc);
-    let words = ["rvfleet", "one", path, "--budget", "10"];
-    let status = run_words(alloc, &words, &mut store, &mut input, &mut out, &mut faults);
-    Ok(Answer {
-        status,
-        out,
-        faults,
-    })
-}
-
 #[test]
 fn reads_files(rt: HostRuntime) -> Result<(), Fail> {
     let alloc = rt.alloc();
     fs::write(&rt, IMAGE_FILE, file(alloc, "one")?)?;
     fs::write(&rt, EMPTY_FILE, Vec::new(alloc))?;
-    let ran = file_report(&rt, IMAGE_FILE)?;
-    assert!(rt;
-        ran.status == 0
-            && ran
-                .out
-                .text()?
-                .starts_with("job 1 one\nend exit 5\nsteps 2\n")
-    );
+    let ran = ask_store(&rt, alloc, "one image.elf --budget 10", &mut FileStore::new(&rt))?;
+    let text = ran.out.text()?;
+    assert!(rt; ran.status == 0 && text.starts_with("job 1 one\nend exit 5\nsteps 2\n"));
     assert_eq!(rt; file_answer(&rt, EMPTY_FILE), (Ok(0), 0));
     fs::remove_file(&rt, IMAGE_FILE)?;
     fs::remove_file(&rt, EMPTY_FILE)?;
@@ -656,19 +370,30 @@ raw --budget -1
 raw --budget 3 more
 raw --budget 3 --budget 4
 raw --budget 3 --workers 1
-run a
 one --budget 10
 one image
 one  --budget 10
 one image --budget 10 --input-hex 4
 one image --budget 10 --input-hex 4g
 one image --budget 10 more
+run
+run 
+run jobs more
+run jobs --budget 3
+run jobs --workers 0
+run jobs --workers 65
+run jobs --workers x
+run jobs --group 0
+run jobs --group 4097
+run jobs --group x
 ";
 
 // Whether words are refused, and before the store is read.
-fn is_refused(alloc: Global, line: &str) -> Result<bool, Fail> {
-    let mut store = MemoryStore::of("image", &[]);
-    let answer = ask_store(alloc, line, &mut store)?;
+fn is_refused(
+    rt: &(impl Threads + Wait),
+    alloc: Global, line: &str) -> Result<bool, Fail> {
+    let mut store = MemoryStore::new(alloc);
+    let answer = ask_store(rt, alloc, line, &mut store)?;
     Ok(store.reads == 0 && answer.is(2, "", "rvfleet: bad words\n")?)
 }
 
@@ -676,10 +401,8 @@ fn is_refused(alloc: Global, line: &str) -> Result<bool, Fail> {
 fn refuses_bad_words(rt: HostRuntime) -> Result<(), Fail> {
     let alloc = rt.alloc();
     for line in BAD_WORDS.lines() {
-        assert!(rt; is_refused(alloc, line)?, "{line}");
+        assert!(rt; is_refused(&rt, alloc, line)?, "{line}");
     }
-    // The words of this test's own process.
-    assert_eq!(rt; status(&rt), 2);
     Ok(())
 }
 
@@ -702,16 +425,16 @@ fn takes_the_longest_words(rt: HostRuntime) -> Result<(), Fail> {
     let alloc = rt.alloc();
     let path = repeated(alloc, "a", 4096)?;
     let bytes = file(alloc, "code 100002b7 0042a503 X")?;
-    let mut store = MemoryStore::of(path.as_str(), bytes.as_slice());
+    let mut store = MemoryStore::of(alloc, path.as_str(), bytes.as_slice())?;
     let words = long_words(alloc, path.as_str(), 65_536)?;
-    let answer = ask_store(alloc, words.as_str(), &mut store)?;
+    let answer = ask_store(&rt, alloc, words.as_str(), &mut store)?;
     assert!(rt; answer.status == 0 && answer.out.text()?.contains("end exit 65536\n"));
 
     let words = long_words(alloc, "image", 65_537)?;
-    assert!(rt; is_refused(alloc, words.as_str())?);
+    assert!(rt; is_refused(&rt, alloc, words.as_str())?);
     let path = repeated(alloc, "a", 4097)?;
     let words = long_words(alloc, path.as_str(), 0)?;
-    assert!(rt; is_refused(alloc, words.as_str())?);
+    assert!(rt; is_refused(&rt, alloc, words.as_str())?);
     Ok(())
 }
 
@@ -723,6 +446,7 @@ Usage: rvfleet <COMMAND>
 Commands:
   raw  Runs the flat image on standard input, placed at 0x80000000
   one  Runs one ELF image, placed at its physical addresses
+  run  Runs the jobs of a list, and reports one row a job
 
 Options:
   -h, --help  Print help
@@ -752,18 +476,35 @@ Options:
   -h, --help           Print help
 ";
 
+const RUN_HELP: &str = "\
+Runs the jobs of a list, and reports one row a job
+
+Usage: rvfleet run [OPTIONS] <JOBS>
+
+Arguments:
+  <JOBS>  Path of the job list
+
+Options:
+      --workers <N>  Threads, from 1 to 64 [default: 1]
+      --group <N>    Jobs that a thread takes at once, from 1 to 4096 [default: 1]
+  -h, --help         Print help
+";
+
 // Whether words are answered by this help.
-fn is_helped(alloc: Global, line: &str, text: &str) -> Result<bool, Fail> {
-    ask_raw(alloc, line, &[])?.is(0, text, "")
+fn is_helped(
+    rt: &(impl Threads + Wait),
+    alloc: Global, line: &str, text: &str) -> Result<bool, Fail> {
+    ask_raw(rt, alloc, line, &[])?.is(0, text, "")
 }
 
 #[test]
 fn shows_help(rt: HostRuntime) -> Result<(), Fail> {
     let alloc = rt.alloc();
-    assert!(rt; is_helped(alloc, "--help", HELP)?);
-    assert!(rt; is_helped(alloc, "-h", HELP)?);
-    assert!(rt; is_helped(alloc, "raw --help", RAW_HELP)?);
-    assert!(rt; is_helped(alloc, "one --help", ONE_HELP)?);
+    assert!(rt; is_helped(&rt, alloc, "--help", HELP)?);
+    assert!(rt; is_helped(&rt, alloc, "-h", HELP)?);
+    assert!(rt; is_helped(&rt, alloc, "raw --help", RAW_HELP)?);
+    assert!(rt; is_helped(&rt, alloc, "one --help", ONE_HELP)?);
+    assert!(rt; is_helped(&rt, alloc, "run --help", RUN_HELP)?);
     Ok(())
 }
 
@@ -780,10 +521,13 @@ done 1
 ";
 
 // The program's answer to a flat image that a slow reader gives.
-fn ask_slow(alloc: Global, bytes: &[u8], fails: bool) -> Result<Answer, AllocError> {
-    let mut store = MemoryStore::of("", &[]);
+fn ask_slow(
+    rt: &(impl Threads + Wait),
+    alloc: Global, bytes: &[u8], fails: bool) -> Result<Answer, AllocError> {
+    let mut store = MemoryStore::new(alloc);
     let mut input = SlowReader { bytes, fails };
     ask(
+        rt,
         alloc,
         RAW_WORDS,
         &mut store,
@@ -795,9 +539,9 @@ fn ask_slow(alloc: Global, bytes: &[u8], fails: bool) -> Result<Answer, AllocErr
 #[test]
 fn reads_in_parts(rt: HostRuntime) -> Result<(), Fail> {
     let alloc = rt.alloc();
-    assert!(rt; ask_slow(alloc, &ADD_AND_EXIT, false)?.is(0, RAW_TEXT, "")?);
+    assert!(rt; ask_slow(&rt, alloc, &ADD_AND_EXIT, false)?.is(0, RAW_TEXT, "")?);
     let start: &[u8] = &[0x13, 0x05, 0x50, 0x00];
-    assert!(rt; ask_slow(alloc, start, true)?.is(3, "", "rvfleet: read failed\n")?);
+    assert!(rt; ask_slow(&rt, alloc, start, true)?.is(3, "", "rvfleet: read failed\n")?);
     Ok(())
 }
 
@@ -835,15 +579,19 @@ const ADD_AND_EXIT: [u8; 12] = [
 ];
 
 // The program's answer to that flat image, into a sink.
-fn ask_into(alloc: Global, out: MemorySink) -> Result<Answer, AllocError> {
-    let mut store = MemoryStore::of("", &[]);
+fn ask_into(
+    rt: &(impl Threads + Wait),
+    alloc: Global, out: MemorySink) -> Result<Answer, AllocError> {
+    let mut store = MemoryStore::new(alloc);
     let mut input: &[u8] = &ADD_AND_EXIT;
-    ask(alloc, RAW_WORDS, &mut store, &mut input, out)
+    ask(rt, alloc, RAW_WORDS, &mut store, &mut input, out)
 }
 
 // Whether a put that fails leaves the text of the puts before it, ten bytes each.
-fn stops_at(alloc: Global, fails_at: u64) -> Result<bool, Fail> {
-    let cut = ask_into(alloc, MemorySink::failing(alloc, 10, fails_at))?;
+fn stops_at(
+    rt: &(impl Threads + Wait),
+    alloc: Global, fails_at: u64) -> Result<bool, Fail> {
+    let cut = ask_into(rt, alloc, MemorySink::failing(alloc, 10, fails_at))?;
     let taken = (fails_at as usize).saturating_sub(1).saturating_mul(10);
     let text = RAW_TEXT.get(..taken).ok_or("71 bytes")?;
     let is_counted = (cut.out.puts, cut.out.failures()) == (fails_at, 1);
@@ -853,11 +601,11 @@ fn stops_at(alloc: Global, fails_at: u64) -> Result<bool, Fail> {
 #[test]
 fn writes_in_parts(rt: HostRuntime) -> Result<(), Fail> {
     let alloc = rt.alloc();
-    let slow = ask_into(alloc, MemorySink::slow(alloc, 1))?;
+    let slow = ask_into(&rt, alloc, MemorySink::slow(alloc, 1))?;
     assert!(rt; slow.is(0, RAW_TEXT, "")?);
     // The report has 71 bytes, so ten bytes a put make eight puts.
     for fails_at in 1..9 {
-        assert!(rt; stops_at(alloc, fails_at)?, "{fails_at}");
+        assert!(rt; stops_at(&rt, alloc, fails_at)?, "{fails_at}");
     }
     Ok(())
 }
@@ -865,12 +613,21 @@ fn writes_in_parts(rt: HostRuntime) -> Result<(), Fail> {
 #[test]
 fn ends_alike_where_its_line_fails(rt: HostRuntime) {
     let alloc = rt.alloc();
-    let mut store = MemoryStore::of("", &[]);
+    let mut store = MemoryStore::new(alloc);
     let mut input: &[u8] = &[];
     let mut out = MemorySink::new(alloc);
     let mut faults = MemorySink::failing(alloc, 10, 1);
     let words = ["rvfleet", "raw"];
-    let status = run_words(alloc, &words, &mut store, &mut input, &mut out, &mut faults);
+    let status = run_words(
+        &rt,
+        alloc,
+        &words,
+        &mut store,
+        &mut input,
+        &mut out,
+        &mut faults,
+        &FreeGate,
+    );
     assert_eq!(rt; (status, faults.failures()), (2, 1));
 }
 
@@ -898,17 +655,8 @@ fn puts_into_streams(rt: HostRuntime) {
 }
 
 #[test]
-fn keeps_what_a_store_answers(rt: HostRuntime) -> Result<(), Fail> {
+fn reads_scripts(rt: HostRuntime) -> Result<(), Fail> {
     let alloc = rt.alloc();
-    let bytes = file(alloc, "one")?;
-    let mut store = MemoryStore::of("image", bytes.as_slice());
-    assert!(rt; matches!(keep(alloc, &mut store, "image")?, Kept::Content(_)));
-    assert!(rt; matches!(keep(alloc, &mut store, "other")?, Kept::Unreadable));
-    let mut out = MemorySink::failing(alloc, 10, 2);
-    let failed = run_one(alloc, &mut store, "image", 10, Vec::new(alloc), &mut out);
-    assert_eq!(rt; failed, Err(RunError::WriteFailed));
-    assert_eq!(rt; out.text()?, "job 1 one\n");
-
     let script = read_script(alloc, Some("4fE0")).ok().ok_or("a script")?;
     assert_eq!(rt; script.as_slice(), [0x4f, 0xe0].as_slice());
     let none = read_script(alloc, None).ok().ok_or("a script")?;
