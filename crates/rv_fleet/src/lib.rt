@@ -19,6 +19,8 @@ mod claims_tests;
 mod collect;
 mod flat;
 mod fleet;
+#[cfg(test)]
+mod fleet_tests;
 mod gate;
 mod outcome;
 mod pass;
