@@ -9,7 +9,7 @@ use std::thread;
 use std::thread::Threads;
 
 /// Two passes of one.
-fn halves(rt: &impl Abort, claims: &Claims, pass: Pass) -> (Pass, Pass)
+pub(crate) fn halves(rt: &impl Abort, claims: &Claims, pass: Pass) -> (Pass, Pass)
     requires { pass.draw ≡ claims.now }
     ensures first { result.0.draw ≡ claims.now }
     ensures second { result.1.draw ≡ claims.now }

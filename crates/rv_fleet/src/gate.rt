@@ -1,6 +1,6 @@
-//! What a worker passes before it makes the rows of a piece.
+//! What a worker passes before it makes a piece.
 
-/// Something that the workers of a fleet pass, each piece once, before they make its first row.
+/// Entered once for each piece that is run, by the worker that has the piece and before its first row.
 pub trait Gate: Sync {
     fn enter(&self, piece: u64);
 }

@@ -8,16 +8,23 @@
 //! The pieces of a list are drawn by a shared counter: each worker holds a [`Pass`], and [`Claims::take`] gives it the
 //! number of the next piece. No number is drawn twice, whatever the workers do at the same time, and passes that hold
 //! every place that was given and have ended hold each piece exactly once.
+//!
+//! [`run_fleet`] runs a plan in threads: each calls [`work`] with a pass of its own, which makes the pieces that the pass
+//! draws. Its report is that of [`run_one`], for every number of workers and of jobs in a piece.
 #![tactic(auto)]
 
 mod claims;
 #[cfg(test)]
 mod claims_tests;
+mod collect;
 mod flat;
 mod fleet;
+#[cfg(test)]
+mod fleet_tests;
 mod gate;
 mod outcome;
 mod pass;
+mod piece;
 mod report;
 mod row;
 mod rows;
@@ -27,6 +34,8 @@ mod sink;
 mod tests;
 mod verdict;
 mod view;
+mod worked;
+mod worker;
 
 pub use claims::Claims;
 pub use flat::flat_row;
@@ -34,7 +43,9 @@ pub use fleet::{FleetError, run_fleet};
 pub use gate::{FreeGate, Gate};
 pub use outcome::{Loadable, Outcome, SignatureRange, outcome_of};
 pub use pass::{Pass, SplitError};
+pub use piece::Piece;
 pub use report::{WriteError, write_report};
 pub use row::{Refusal, Report, Row, RowEnd, Rows, Verdict, Words};
 pub use rows::{row_at, run_one};
 pub use sink::{Sink, SinkFailed, put_all};
+pub use worker::work;

@@ -208,7 +208,11 @@ fn push_signature(
     }
 }
 
-pub(crate) fn push_word_lines(alloc: Global, text: &mut String, words: &[u32]) -> Result<(), AllocError>
+pub(crate) fn push_word_lines(
+    alloc: Global,
+    text: &mut String,
+    words: &[u32],
+) -> Result<(), AllocError>
     ensures { OnOk result (string_bytes text.new ≡ string_bytes text.old ++ flat_map word_line words.now) }
 {
     for word in words {

@@ -4,8 +4,9 @@ ghost use Rattle.std.specs.Prelude.{Some};
 
 use crate::flat::flat_row;
 use crate::report::{WriteError, write_report};
-use crate::row::{Bytes, Name, Refusal, Report, Row, RowEnd, Rows, Verdict, Words};
+use crate::row::{Refusal, Report, Row, RowEnd, Rows, Verdict, Words};
 use crate::sink::{Sink, SinkFailed};
+use rv_jobs::{Bytes, Text};
 use rv_machine::FaultKind;
 use std::alloc::{AllocError, Global};
 use std::test::Fail;
@@ -70,7 +71,7 @@ impl Sink for MemorySink {
 
 fn row_of(alloc: Global, ending: RowEnd, steps: u32) -> Result<Row, AllocError> {
     Ok(Row {
-        name: Name::new(String::from_str(alloc, "a.b_c-d")?),
+        name: Text::new(String::from_str(alloc, "a.b_c-d")?),
         ending,
         steps,
         console: Bytes::new(Vec::new(alloc)),
@@ -230,7 +231,7 @@ fn writes_reports(rt: HostRuntime) -> Result<(), Fail> {
 #[test]
 fn keeps_what_rows_are_made_from(rt: HostRuntime) -> Result<(), Fail> {
     let alloc = rt.alloc();
-    let name = Name::new(String::from_str(alloc, "raw")?);
+    let name = Text::new(String::from_str(alloc, "raw")?);
     assert_eq!(rt; name.as_str(), "raw");
     assert_eq!(rt; name.into_string().as_str(), "raw");
     let bytes = Bytes::new([1, 2, 3].to_vec(alloc)?);

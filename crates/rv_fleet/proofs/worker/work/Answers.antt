@@ -1,0 +1,35 @@
+use Rattle.std.proofs.Common.{rules, ◌≡◌, ℕ, ◌∙◌, sym, ap, subst, refl, arith}
+use Rattle.rv_fleet.specs.Passes.{Draw, Held}
+use Rattle.rv_fleet.specs.Pieces.{piece_at}
+use Rattle.rv_fleet.specs.Drawn.{Grew}
+use Rattle.rv_fleet.proofs.Grows.{took_some, made_one, made_all, falls, grew_more}
+use Rattle.rv_fleet.proofs.worker.work.Goals as goal
+
+pub loop-number-smaller : goal.loop-number-smaller
+loop-number-smaller g c =
+    let t = took_some _ _ _ _ c.in-Some.number (c.take.ensures.none, c.take.ensures.drawn) c.in-Some.is in
+    falls _ _ c.in-Some.number _ t.0 t.1 t.2
+
+pub loop-number-preserved : goal.loop-number-preserved
+loop-number-preserved g c =
+    let was = c.loop-number.invariant in
+    let t = took_some _ _ _ _ c.in-Some.number (c.take.ensures.none, c.take.ensures.drawn) c.in-Some.is in
+    let m = made_one (piece_at c.args.plan.now c.args.group) c.args.pass.now _ _ _ _ _ _ _ was.1 t.0 t.2 (ap (λ (d : Draw). d.pieces) c.requires.pass) was.2 c.in_ok-push.ensures.items c.in_ok-make_piece.ensures in
+    (ap (λ (h : Held). h.draw) t.0 ∙ was.0, m.0, m.1)
+
+pub returns-in_err-push-clause-pass : goal.returns-in_err-push-clause-pass
+returns-in_err-push-clause-pass g c =
+    let t = took_some _ _ _ _ c.in-Some.number (c.take.ensures.none, c.take.ensures.drawn) c.in-Some.is in
+    subst (Grew c.args.pass.now) (sym t.0) (grew_more _ _ _ c.loop-number.invariant.1)
+
+pub returns-clause-pass : goal.returns-clause-pass
+returns-clause-pass g c =
+    (made_all (piece_at c.args.plan.now c.args.group) c.args.pass.now _ _ _ _ _ c.loop-number.invariant.1 (c.take.ensures.none, c.take.ensures.drawn) c.in_default.is (ap (λ (d : Draw). d.pieces) c.requires.pass) c.loop-number.invariant.2).0
+
+pub returns-clause-ended : goal.returns-clause-ended
+returns-clause-ended g c =
+    (made_all (piece_at c.args.plan.now c.args.group) c.args.pass.now _ _ _ _ _ c.loop-number.invariant.1 (c.take.ensures.none, c.take.ensures.drawn) c.in_default.is (ap (λ (d : Draw). d.pieces) c.requires.pass) c.loop-number.invariant.2).1
+
+pub returns-clause-made : goal.returns-clause-made
+returns-clause-made g c =
+    (made_all (piece_at c.args.plan.now c.args.group) c.args.pass.now _ _ _ _ _ c.loop-number.invariant.1 (c.take.ensures.none, c.take.ensures.drawn) c.in_default.is (ap (λ (d : Draw). d.pieces) c.requires.pass) c.loop-number.invariant.2).2

@@ -1,0 +1,270 @@
+//! Fleets of small jobs, behind gates that show which pieces were under way at the same time.
+
+ghost use Rattle.std.specs.Prelude.{◌≡◌, ◌<◌, ◌≤◌, IfOk, None};
+ghost use Rattle.rv_fleet.specs.Pieces.{pieces_of};
+
+use crate::claims_tests::halves;
+use crate::piece::piece_count;
+use crate::{
+    Claims, FreeGate, Gate, Pass, Piece, Refusal, Report, Row, RowEnd, run_fleet, run_one, work,
+};
+use rv_elf::ImageError;
+use rv_jobs::{Plan, ReadError, Store, gather, read_jobs};
+use samples::ONE_SEGMENT;
+use std::alloc::{AllocError, Global};
+use std::sync::Wait;
+use std::sync::atomic::{AtomicBool, AtomicU64, Ordering};
+use std::test::Fail;
+use std::thread;
+use std::thread::Threads;
+
+/// The same image at each path.
+#[derive(Drop)]
+struct OneImage<'a> {
+    bytes: &'a [u8],
+}
+
+impl<'a> Store for OneImage<'a> {
+    ghost contents = { λ _. None };
+
+    ghost faulted = { λ _. 0 };
+
+    fn read(&mut self, alloc: Global, _path: &str) -> Result<Vec<u8>, ReadError> {
+        if 0x100_0000 < self.bytes.len() {
+            return Err(ReadError::TooLong);
+        }
+        self.bytes.to_vec(alloc).map_err(|_| ReadError::OutOfMemory)
+    }
+
+    fn faults(&self) -> u64 {
+        0
+    }
+}
+
+/// So many jobs of an image, named j0, j1 and so on, of 3 steps each.
+fn plan_of(alloc: Global, jobs: usize, image: &[u8]) -> Result<Plan, Fail> {
+    let mut text = String::new(alloc);
+    for k in 0..jobs {
+        write!(
+            text,
+            "[[job]]\nname = 'j{k}'\nimage = 'image'\nbudget = 3\n"
+        )?;
+    }
+    let list = read_jobs(alloc, text.as_bytes())?;
+    Ok(gather(alloc, list, &mut OneImage { bytes: image })?)
+}
+
+const TURNS: u64 = 100_000_000;
+
+/// Counts the entries of four pieces. The first `held` pieces wait until the first `awaited` have entered, and `late` is
+/// set where one waits in vain.
+#[derive(Drop)]
+struct HoldingGate {
+    held: u64,
+    awaited: usize,
+    entries: [AtomicU64; 4],
+    late: AtomicBool,
+}
+
+impl HoldingGate {
+    fn new(held: u64, awaited: usize) -> HoldingGate {
+        HoldingGate {
+            held,
+            awaited,
+            entries: [
+                AtomicU64::new(0),
+                AtomicU64::new(0),
+                AtomicU64::new(0),
+                AtomicU64::new(0),
+            ],
+            late: AtomicBool::new(false),
+        }
+    }
+
+    fn have_entered(&self) -> bool {
+        for entries in self.entries.iter().take(self.awaited) {
+            if entries.load(Ordering::SeqCst) == 0 {
+                return false;
+            }
+        }
+        true
+    }
+
+    /// Whether the first pieces entered once each, and none waited in vain.
+    fn was_passed(&self, pieces: usize) -> bool {
+        for entries in self.entries.iter().take(pieces) {
+            if entries.load(Ordering::SeqCst) != 1 {
+                return false;
+            }
+        }
+        !self.late.load(Ordering::SeqCst)
+    }
+}
+
+impl Gate for HoldingGate {
+    fn enter(&self, piece: u64) {
+        if let Some(entries) = self.entries.get(piece as usize) {
+            entries.fetch_add(1, Ordering::SeqCst);
+        }
+        if self.held <= piece {
+            return;
+        }
+        for _ in 0..TURNS {
+            if self.have_entered() {
+                return;
+            }
+            thread::yield_now();
+        }
+        self.late.store(true, Ordering::SeqCst);
+    }
+}
+
+fn same_row(one: &Row, other: &Row) -> bool {
+    (one.name.as_str(), one.ending, one.steps, one.verdict)
+        == (
+            other.name.as_str(),
+            other.ending,
+            other.steps,
+            other.verdict,
+        )
+        && one.console.as_slice() == other.console.as_slice()
+        && one.signature.is_none()
+        && other.signature.is_none()
+}
+
+fn same_rows(some: &[Row], others: &[Row]) -> bool {
+    for (one, other) in some.iter().zip(others) {
+        if !same_row(one, other) {
+            return false;
+        }
+    }
+    some.len() == others.len()
+}
+
+/// Whether a fleet has the report of one worker, and its pieces passed the gate.
+fn passes<R: Threads + Wait>(
+    rt: &R,
+    alloc: Global,
+    jobs: usize,
+    workers: u32,
+    gate: &HoldingGate,
+) -> Result<bool, Fail>
+    requires { (0 < workers) × (workers ≤ 64) }
+{
+    let plan = plan_of(alloc, jobs, &ONE_SEGMENT)?;
+    let report = run_fleet(rt, alloc, &plan, workers, 1, gate)?;
+    let alone = run_fleet(rt, alloc, &plan, 1, 1, &FreeGate)?;
+    Ok(gate.was_passed(jobs) && same_rows(report.rows.as_slice(), alone.rows.as_slice()))
+}
+
+#[test]
+fn pieces_run_at_the_same_time(rt: HostRuntime) -> Result<(), Fail> {
+    let alloc = rt.alloc();
+    // The first piece waits for the second.
+    assert!(rt; passes(&rt, alloc, 2, 2, &HoldingGate::new(1, 2))?);
+    // It waits for all others, which the other worker draws one after the other.
+    assert!(rt; passes(&rt, alloc, 4, 2, &HoldingGate::new(1, 4))?);
+    // Each piece waits for all.
+    assert!(rt; passes(&rt, alloc, 2, 2, &HoldingGate::new(2, 2))?);
+    assert!(rt; passes(&rt, alloc, 4, 4, &HoldingGate::new(4, 4))?);
+    Ok(())
+}
+
+fn all_are_short(report: &Report) -> bool {
+    for row in report.rows.as_slice() {
+        if (row.ending, row.steps)
+            != (RowEnd::Refused(Refusal::Image(ImageError::ShortHeader)), 0)
+        {
+            return false;
+        }
+    }
+    report.rows.as_slice().len() == 4096
+}
+
+// Pieces of one job, more than workers; and one piece, for fewer than are asked.
+#[test]
+fn most_jobs_of_a_cut_image(rt: HostRuntime) -> Result<(), Fail> {
+    let alloc = rt.alloc();
+    let plan = plan_of(alloc, 4096, &ONE_SEGMENT[..51])?;
+    let report = run_fleet(&rt, alloc, &plan, 64, 1, &FreeGate)?;
+    assert!(rt; all_are_short(&report));
+    let report = run_fleet(&rt, alloc, &plan, 64, 4096, &FreeGate)?;
+    assert!(rt; all_are_short(&report));
+    Ok(())
+}
+
+/// The pieces of one job each that a pass draws, and the pass.
+fn work_alone(
+    alloc: Global,
+    claims: &Claims,
+    mut pass: Pass,
+    plan: &Plan,
+    gate: &HoldingGate,
+) -> Result<(Pass, Vec<Piece>), AllocError>
+    requires pieces { claims.now.pieces ≡ pieces_of plan.now 1 }
+    requires pass { pass.draw ≡ claims.now }
+    ensures { IfOk result (λ worked. worked.0.draw ≡ claims.now) }
+{
+    let pieces = work(alloc, claims, &mut pass, plan, 1, gate)?;
+    Ok((pass, pieces))
+}
+
+/// The pieces that two passes draw in two threads, and the passes in one.
+fn work_in_two<R: Threads>(
+    rt: &R,
+    alloc: Global,
+    claims: &Claims,
+    passes: (Pass, Pass),
+    plan: &Plan,
+    gate: &HoldingGate,
+) -> Result<(Pass, Vec<Piece>), AllocError>
+    requires pieces { claims.now.pieces ≡ pieces_of plan.now 1 }
+    requires passes { (passes.0.draw ≡ claims.now) × (passes.1.draw ≡ claims.now) }
+    ensures { IfOk result (λ worked. worked.0.draw ≡ claims.now) }
+{
+    let (first, second) = passes;
+    let (first, second) = thread::join(
+        rt,
+        move || -> Result<(Pass, Vec<Piece>), AllocError>
+            requires { (claims.now.pieces ≡ pieces_of plan.now 1) × (first.draw ≡ claims.now) }
+            ensures { IfOk result (λ worked. worked.0.draw ≡ claims.entry.now) }
+        { work_alone(alloc, claims, first, plan, gate) },
+        move || -> Result<(Pass, Vec<Piece>), AllocError>
+            requires { (claims.now.pieces ≡ pieces_of plan.now 1) × (second.draw ≡ claims.now) }
+            ensures { IfOk result (λ worked. worked.0.draw ≡ claims.entry.now) }
+        { work_alone(alloc, claims, second, plan, gate) },
+    );
+    let (first, mut pieces) = first?;
+    let (second, mut others) = second?;
+    pieces.append(&mut others)?;
+    Ok((claims.join(first, second), pieces))
+}
+
+fn has_piece(pieces: &[Piece], number: u64, rows: &[Row]) -> bool {
+    for piece in pieces {
+        if piece.number == number && same_rows(piece.rows.as_slice(), rows) {
+            return true;
+        }
+    }
+    false
+}
+
+#[test]
+fn two_passes_make_each_piece_once(rt: HostRuntime) -> Result<(), Fail> {
+    let alloc = rt.alloc();
+    let plan = plan_of(alloc, 4, &ONE_SEGMENT)?;
+    let report = run_one(alloc, &plan)?;
+    let gate = HoldingGate::new(1, 2);
+    let (claims, first) = Claims::new(alloc, piece_count(&plan, 1))?;
+    let passes = halves(&rt, &claims, first);
+    let (all, pieces) = work_in_two(&rt, alloc, &claims, passes, &plan, &gate)?;
+    assert!(rt; all.ended());
+    assert!(rt; claims.finish(all));
+    assert!(rt; gate.was_passed(4));
+    assert_eq!(rt; pieces.len(), 4);
+    for (number, rows) in report.rows.as_slice().chunks(1).enumerate() {
+        assert!(rt; has_piece(&pieces, number as u64, rows));
+        assert_eq!(rt; (rows[0].ending, rows[0].steps), (RowEnd::Exit(5), 2));
+    }
+    Ok(())
+}

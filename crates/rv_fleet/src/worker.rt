@@ -1,0 +1,57 @@
+//! What a worker does: it draws pieces and makes them.
+
+ghost use Rattle.std.specs.Prelude.{◌≡◌, ◌<◌, ◌≤◌, [], true, map, IfOk};
+ghost use Rattle.rv_fleet.specs.Drawn.{Grew, new_pieces};
+ghost use Rattle.rv_fleet.specs.Passes.{has_ended};
+ghost use Rattle.rv_fleet.specs.Pieces.{pieces_of, piece_at};
+ghost use Rattle.rv_fleet.specs.Promised.{HasWorked};
+
+use crate::claims::Claims;
+use crate::gate::Gate;
+use crate::pass::Pass;
+use crate::piece::{Piece, make_piece};
+use crate::worked::Worked;
+use rv_jobs::Plan;
+use std::alloc::{AllocError, Global};
+
+/// Takes pieces until there is none, and makes each before the next is taken: the pieces in the order drawn. `group` is
+/// the number of jobs in a piece, the last piece aside. After a refusal the pass holds what it drew.
+pub fn work<G: Gate>(
+    alloc: Global,
+    claims: &Claims,
+    pass: &mut Pass,
+    plan: &Plan,
+    group: u32,
+    gate: &G,
+) -> Result<Vec<Piece>, AllocError>
+    requires group { (0 < group) × (group ≤ 4096) }
+    requires pieces { claims.now.pieces ≡ pieces_of plan.now group }
+    requires pass { pass.old.draw ≡ claims.now }
+    ensures pass { Grew pass.old pass.new }
+    ensures ended { IfOk result (λ _. has_ended pass.new ≡ true) }
+    ensures made { IfOk result (λ made. made.items ≡ map (piece_at plan.now group) (new_pieces pass.old pass.new)) }
+{
+    let mut pieces = Vec::new(alloc);
+    while let Some(number) = claims.take(pass) {
+        pieces.push(make_piece(alloc, plan, group, gate, number)?)?;
+    }
+    Ok(pieces)
+}
+
+/// What one thread does with a pass of its own.
+pub(crate) fn work_with<G: Gate>(
+    alloc: Global,
+    claims: &Claims,
+    mut pass: Pass,
+    plan: &Plan,
+    group: u32,
+    gate: &G,
+) -> Worked
+    requires group { (0 < group) × (group ≤ 4096) }
+    requires pieces { claims.now.pieces ≡ pieces_of plan.now group }
+    requires pass { (pass.draw ≡ claims.now) × (pass.draws ≡ []) }
+    ensures { HasWorked plan.now group claims.now result }
+{
+    let pieces = work(alloc, claims, &mut pass, plan, group, gate);
+    Worked { pass, pieces }
+}
