@@ -14,6 +14,7 @@ mod claims;
 #[cfg(test)]
 mod claims_tests;
 mod flat;
+mod law;
 mod outcome;
 mod pass;
 mod report;
@@ -28,6 +29,7 @@ mod view;
 
 pub use claims::Claims;
 pub use flat::flat_row;
+pub use law::narrower_sets_only_refuse;
 pub use outcome::{Loadable, Outcome, SignatureRange, outcome_of};
 pub use pass::{Pass, SplitError};
 pub use report::{WriteError, write_report};
