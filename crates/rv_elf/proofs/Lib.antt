@@ -6,3 +6,4 @@ pub mod NewBus
 pub mod Opening
 pub mod Finding
 pub mod Naming
+pub mod Narrower

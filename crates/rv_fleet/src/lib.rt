@@ -22,6 +22,7 @@ mod fleet;
 #[cfg(test)]
 mod fleet_tests;
 mod gate;
+mod law;
 mod outcome;
 mod pass;
 mod piece;
@@ -41,6 +42,7 @@ pub use claims::Claims;
 pub use flat::flat_row;
 pub use fleet::{FleetError, run_fleet};
 pub use gate::{FreeGate, Gate};
+pub use law::narrower_sets_only_refuse;
 pub use outcome::{Loadable, Outcome, SignatureRange, outcome_of};
 pub use pass::{Pass, SplitError};
 pub use piece::Piece;

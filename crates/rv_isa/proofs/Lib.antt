@@ -5,3 +5,4 @@ pub mod ByOpcode
 pub mod HalfwordRows
 pub mod ByQuadrant
 pub mod WellFormed
+pub mod Narrower
