@@ -1,6 +1,7 @@
 //! Job lists through the whole program, over files in memory.
 
 use crate::testing::{MemoryStore, ask_store, file};
+use rv_jobs::Store;
 use std::alloc::{AllocError, Global};
 use std::sync::Wait;
 use std::test::Fail;
@@ -110,5 +111,332 @@ fn runs_jobs(rt: HostRuntime) -> Result<(), Fail> {
     for line in JOB_RUNS.lines() {
         assert!(rt; runs_job(&rt, alloc, line)?, "{line}");
     }
+    Ok(())
+}
+
+// list, `;` for the end of a line | what is told of it
+const REFUSED_LISTS: &str = "\
+x = 1 | job 0: no-jobs
+ | job 0: no-jobs
+job = [] | job 0: no-jobs
+job = 5 | job 0: wrong-type
+job = [5] | job 1: wrong-type
+job = [ | job 0: not-toml
+x = 1;[[job]];name = 'a';image = 'b';budget = 3 | job 0: unknown-key
+[[job]];name = 'a';image = 'b';budget = 3;[[job]];name = 'a';image = 'b';budget = 3 | job 2: duplicate
+[[job]];name = 'a';image = 'b';budget = 0 | job 1: budget
+[[job]];name = 'a';image = 'b';budget = 1000000001 | job 1: budget
+[[job]];name = 'a';image = 'b';budget = '3' | job 1: wrong-type
+[[job]];name = 'a';image = 'b';budget = 3;input_hex = '4' | job 1: input
+[[job]];name = 'a';image = 'b';budget = 3;input = '';input_hex = '' | job 1: input
+[[job]];name = 'a';image = 'b';budget = 3;region = [] | job 1: region
+[[job]];name = 'a';image = 'b';budget = 3;region = [{base = 0, size = 0}] | job 1: region
+[[job]];name = 'a';image = 'b';budget = 3;region = [{base = 0, size = 4, x = 1}] | job 1: unknown-key
+[[job]];name = 'a';image = 'b';budget = 3;signature = ['a'] | job 1: signature
+[[job]];name = 'a';image = 'b';budget = 3;signature = ['a', 1] | job 1: wrong-type
+[[job]];name = 'a';image = 'b';budget = 3;load = 'x' | job 1: load
+[[job]];image = 'b' | job 1: name
+[[job]];image = 'b';x = 1 | job 1: unknown-key
+[[job]];name = 'a';image = '';budget = 3 | job 1: image
+[[job]];name = 'a';image = 'b';budget = 3;expect_exit = -1 | job 1: expect
+[[job]];name = 'a';image = 'b';budget = 3;expect_exit = 4294967296 | job 1: expect
+[[job]];name = 'a';image = 'b';budget = 3;expect_signature = 'r' | job 1: expect
+[[job]];name = 'a';image = 'b';budget = 3;signature = ['a', 'b'];expect_signature = '' | job 1: expect
+[[job]];name = 'a';image = 'b';budget = 3;same_as = 'a' | job 1: same-as
+[[job]];name = 'a';image = 'b';budget = 3;same_as = 'c';[[job]];name = 'c';image = 'b';budget = 3 | job 1: same-as
+[[job]];name = 'a';image = 'b';budget = 3;[[job]];name = 'c';image = 'b';budget = 3;same_as = 'd' | job 2: same-as
+[[job]];name = 'a';image = 'b';budget = 3;isa = 'rv64i' | job 1: isa
+[[job]];name = 'a';image = 'b';budget = 3;isa = 32 | job 1: wrong-type
+[[job]];name = 'a';image = 'b';budget = 3;misaligned = 'yes' | job 1: misaligned
+[[job]];name = 'a';image = 'b';budget = 3;misaligned = true | job 1: wrong-type
+";
+
+// Whether the program refuses a list by this fault, and reads no file of its jobs.
+fn refuses_list(
+    rt: &(impl Threads + Wait),
+    alloc: Global,
+    list: &[u8],
+    fault: &str,
+) -> Result<bool, Fail> {
+    let mut store = MemoryStore::of(alloc, "jobs", list)?;
+    let answer = ask_store(rt, alloc, "run jobs", &mut store)?;
+    let line = format!(in alloc; "rvfleet: {fault}\n")?;
+    Ok(store.reads == 1 && answer.is(2, "", line.as_str())?)
+}
+
+fn refuses_line(rt: &(impl Threads + Wait), alloc: Global, line: &str) -> Result<bool, Fail> {
+    let (list, fault) = line.split_once('|').ok_or("two cells")?;
+    let list = list.trim().replace(alloc, ";", "\n")?;
+    refuses_list(rt, alloc, list.as_bytes(), fault.trim())
+}
+
+#[test]
+fn refuses_lists(rt: HostRuntime) -> Result<(), Fail> {
+    let alloc = rt.alloc();
+    for line in REFUSED_LISTS.lines() {
+        assert!(rt; refuses_line(&rt, alloc, line)?, "{line}");
+    }
+    assert!(rt; refuses_list(&rt, alloc, &[0x6a, 0xff], "job 0: not-toml")?);
+    Ok(())
+}
+
+// So many jobs of one image and budget 10, behind a first line.
+fn long_list(alloc: Global, first: &str, count: u32) -> Result<String, AllocError> {
+    let mut list = String::from_str(alloc, first)?;
+    for number in 0..count {
+        write!(list, "[[job]]\nname = '{number}'\nimage = 'image'\nbudget = 10\n")?;
+    }
+    Ok(list)
+}
+
+#[test]
+fn counts_jobs(rt: HostRuntime) -> Result<(), Fail> {
+    let alloc = rt.alloc();
+    let long = long_list(alloc, "", 4097)?;
+    assert!(rt; refuses_list(&rt, alloc, long.as_bytes(), "job 0: too-many")?);
+    let stray = long_list(alloc, "x = 1\n", 4097)?;
+    assert!(rt; refuses_list(&rt, alloc, stray.as_bytes(), "job 0: too-many")?);
+    Ok(())
+}
+
+// The answers to a list of 4,096 jobs of an image that is cut, each a row of 7 lines.
+fn refuses_each(rt: &(impl Threads + Wait), alloc: Global, words: &str) -> Result<bool, Fail> {
+    let list = long_list(alloc, "", 4096)?;
+    let mut store = MemoryStore::of(alloc, "jobs", list.as_bytes())?;
+    store.add(alloc, "image", file(alloc, "one 51")?)?;
+    let answer = ask_store(rt, alloc, words, &mut store)?;
+    let text = answer.out.text()?;
+    let refused = text.lines().filter(|line| *line == "end refused short-header");
+    let is_whole = refused.count() == 4096 && text.ends_with("verdict none\ndone 4096\n");
+    Ok(answer.status == 0 && is_whole && store.log.as_str() == "jobs image ")
+}
+
+#[test]
+fn runs_the_longest_list(rt: HostRuntime) -> Result<(), Fail> {
+    let alloc = rt.alloc();
+    assert!(rt; refuses_each(&rt, alloc, "run jobs --workers 64 --group 1")?);
+    assert!(rt; refuses_each(&rt, alloc, "run jobs --workers 64 --group 4096")?);
+    Ok(())
+}
+
+// The list is read through the store too.
+#[test]
+fn reads_the_list(rt: HostRuntime) -> Result<(), Fail> {
+    let alloc = rt.alloc();
+    let mut none = MemoryStore::new(alloc);
+    let answer = ask_store(&rt, alloc, "run jobs", &mut none)?;
+    assert!(rt; answer.is(3, "", "rvfleet: list unreadable\n")? && none.faults() == 1);
+    let long = vec![in alloc; 32u8; 16_777_217]?;
+    let mut long = MemoryStore::of(alloc, "jobs", long.as_slice())?;
+    let answer = ask_store(&rt, alloc, "run jobs", &mut long)?;
+    assert!(rt; answer.is(3, "", "rvfleet: list too long\n")? && long.faults() == 0);
+    Ok(())
+}
+
+// A list with one job of each kind of ending.
+const LIST: &str = "\
+[[job]]
+name = \"pass\"
+image = \"a.elf\"
+budget = 3
+expect_exit = 5
+
+[[job]]
+name = \"fault\"
+image = \"f.elf\"
+budget = 10
+
+[[job]]
+name = \"budget\"
+image = \"a.elf\"
+budget = 2
+
+[[job]]
+name = \"short\"
+image = \"cut.elf\"
+budget = 10
+
+[[job]]
+name = \"sign\"
+image = \"s.elf\"
+budget = 100
+signature = [\"begin_signature\", \"end_signature\"]
+";
+
+const LIST_REPORT: &str = "\
+job 1 pass
+end exit 5
+steps 2
+console -
+signature -
+verdict pass
+job 2 fault
+end fault breakpoint pc=80000000 value=00000000
+steps 0
+console -
+signature -
+verdict none
+job 3 budget
+end budget
+steps 2
+console -
+signature -
+verdict none
+job 4 short
+end refused short-header
+steps 0
+console -
+signature -
+verdict none
+job 5 sign
+end exit 0
+steps 9
+console -
+signature 2
+80000000
+ffffffff
+verdict none
+done 5
+";
+
+// The files that the list names, and some references.
+fn list_store(alloc: Global, list: &str) -> Result<MemoryStore, Fail> {
+    let mut store = MemoryStore::of(alloc, "jobs", list.as_bytes())?;
+    store.add(alloc, "a.elf", file(alloc, "one")?)?;
+    store.add(alloc, "f.elf", file(alloc, "code 9002")?)?;
+    store.add(alloc, "cut.elf", file(alloc, "one 51")?)?;
+    store.add(alloc, "s.elf", file(alloc, "sign")?)?;
+    Ok(store)
+}
+
+// Whether the list's report is this where words ask for it, and each path is read once, in order of first use.
+fn reports(rt: &(impl Threads + Wait), alloc: Global, words: &str) -> Result<bool, Fail> {
+    let mut store = list_store(alloc, LIST)?;
+    let answer = ask_store(rt, alloc, words, &mut store)?;
+    let is_read_once = store.log.as_str() == "jobs a.elf f.elf cut.elf s.elf ";
+    Ok(is_read_once && answer.is(0, LIST_REPORT, "")?)
+}
+
+#[test]
+fn reports_alike_for_all_workers(rt: HostRuntime) -> Result<(), Fail> {
+    let alloc = rt.alloc();
+    assert!(rt; reports(&rt, alloc, "run jobs")?);
+    assert!(rt; reports(&rt, alloc, "run jobs --workers 4 --group 2")?);
+    assert!(rt; reports(&rt, alloc, "run jobs --workers 1 --group 5")?);
+    assert!(rt; reports(&rt, alloc, "run --group 1 jobs --workers 64")?);
+    Ok(())
+}
+
+#[test]
+fn reports_without_expectations(rt: HostRuntime) -> Result<(), Fail> {
+    let alloc = rt.alloc();
+    let list = LIST.replace(alloc, "expect_exit = 5\n", "")?;
+    let text = LIST_REPORT.replace(alloc, "verdict pass", "verdict none")?;
+    let mut store = list_store(alloc, list.as_str())?;
+    let answer = ask_store(&rt, alloc, "run jobs", &mut store)?;
+    assert!(rt; answer.is(0, text.as_str(), "")?);
+    Ok(())
+}
+
+// label | jobs | verdicts | status; in `jobs` a semicolon stands between two, and `S` for the signature's two names
+const VERDICTS: &str = "\
+reference | image = 's.elf', budget = 100, S, expect_signature = 'lines' | pass | 0
+reference without its last line feed | image = 's.elf', budget = 100, S, expect_signature = 'cut lines' | fail | 1
+another word | image = 's.elf', budget = 5, S, expect_signature = 'lines' | fail | 1
+no reference | image = 's.elf', budget = 100, S, expect_signature = 'none', expect_exit = 0 | fail | 1
+no lines | image = 's.elf', budget = 100, signature = ['end_signature', 'end_signature'], expect_signature = 'empty' | pass | 0
+refused, and an empty reference | image = 'cut.elf', budget = 100, S, expect_signature = 'empty' | fail | 1
+two refused alike | image = 'cut.elf', budget = 3; image = 'cut.elf', budget = 3, same_as = '0' | none fail | 1
+steps and budgets | image = 'a.elf', budget = 3; image = 'a.elf', budget = 4, same_as = '0'; image = 'a.elf', budget = 2, same_as = '0' | none pass fail | 1
+both at their budgets | image = 'a.elf', budget = 1; image = 'a.elf', budget = 2, same_as = '0' | none pass | 0
+another exit code | image = 'a.elf', budget = 3; image = 'six', budget = 3, same_as = '0' | none fail | 1
+one kind of fault, another pc | image = 'f.elf', budget = 3; image = 'late break', budget = 3, same_as = '0' | none pass | 0
+another kind of fault | image = 'f.elf', budget = 3; image = 'illegal', budget = 3, same_as = '0' | none fail | 1
+consoles | image = 'put A', budget = 9; image = 'put B', budget = 9, same_as = '0' | none fail | 1
+equal consoles | image = 'put A', budget = 9; image = 'put A', budget = 8, same_as = '0' | none pass | 0
+as a job whose reference is missing | image = 's.elf', budget = 100, S, expect_signature = 'none'; image = 's.elf', budget = 100, S, same_as = '0' | fail fail | 1
+without a signature, and an empty one | image = 's.elf', budget = 100; image = 's.elf', budget = 100, signature = ['end_signature', 'end_signature'], same_as = '0' | none fail | 1
+the outcome, and not the verdict | image = 'a.elf', budget = 3, expect_exit = 6; image = 'a.elf', budget = 3, same_as = '0' | fail pass | 1
+exit code | image = 'a.elf', budget = 3, expect_exit = 5 | pass | 0
+no exit | image = 'a.elf', budget = 2, expect_exit = 5 | fail | 1
+the greatest exit code | image = 'greatest', budget = 3, expect_exit = 4294967295 | pass | 0
+all three | image = 's.elf', budget = 100, S; image = 's.elf', budget = 100, S, expect_exit = 0, expect_signature = 'lines', same_as = '0' | none pass | 0
+all three but the exit | image = 's.elf', budget = 100, S; image = 's.elf', budget = 100, S, expect_exit = 1, expect_signature = 'lines', same_as = '0' | none fail | 1
+all three but the reference | image = 's.elf', budget = 100, S; image = 's.elf', budget = 100, S, expect_exit = 0, expect_signature = 'cut lines', same_as = '0' | none fail | 1
+all three but the other job | image = 's.elf', budget = 5, S; image = 's.elf', budget = 100, S, expect_exit = 0, expect_signature = 'lines', same_as = '0' | none fail | 1
+";
+
+fn verdict_list(alloc: Global, jobs: &str) -> Result<String, AllocError> {
+    let jobs = jobs.replace(alloc, " S,", " signature = ['begin_signature', 'end_signature'],")?;
+    let jobs = jobs.replace(alloc, " S;", " signature = ['begin_signature', 'end_signature'];")?;
+    let mut list = String::from_str(alloc, "job = [")?;
+    for (name, job) in jobs.as_str().split(';').enumerate() {
+        write!(list, "{{name = '{name}', {job}}}, ")?;
+    }
+    list.push_str("]")?;
+    Ok(list)
+}
+
+fn verdict_store(alloc: Global, list: &str) -> Result<MemoryStore, Fail> {
+    let mut store = list_store(alloc, list)?;
+    store.add(alloc, "lines", b"80000000\nffffffff\n".to_vec(alloc)?)?;
+    store.add(alloc, "cut lines", b"80000000\nffffffff".to_vec(alloc)?)?;
+    store.add(alloc, "empty", Vec::new(alloc))?;
+    store.add(alloc, "six", file(alloc, "code 00600513 X")?)?;
+    store.add(alloc, "greatest", file(alloc, "code fff00513 X")?)?;
+    store.add(alloc, "late break", file(alloc, "code 0001 9002")?)?;
+    store.add(alloc, "illegal", file(alloc, "code 0000")?)?;
+    store.add(alloc, "put A", file(alloc, "code 100002b7 04100513 00a2a023 00000513 X")?)?;
+    store.add(alloc, "put B", file(alloc, "code 100002b7 04200513 00a2a023 00000513 X")?)?;
+    Ok(store)
+}
+
+// The verdicts of a report, with a space between two.
+fn verdicts_of(alloc: Global, report: &str) -> Result<String, AllocError> {
+    let mut verdicts = String::new(alloc);
+    for line in report.lines() {
+        if let Some(verdict) = line.strip_prefix("verdict") {
+            verdicts.push_str(verdict)?;
+        }
+    }
+    Ok(verdicts)
+}
+
+// Whether the verdicts on jobs are as a line of the table says.
+fn judges(rt: &(impl Threads + Wait), alloc: Global, line: &str) -> Result<bool, Fail> {
+    let mut cells = line.split('|');
+    let _label = cells.next();
+    let jobs = cells.next().ok_or("jobs")?;
+    let verdicts = cells.next().ok_or("verdicts")?;
+    let status = cells.next().ok_or("a status")?.trim().parse::<u8>()?;
+    let list = verdict_list(alloc, jobs)?;
+    let mut store = verdict_store(alloc, list.as_str())?;
+    let answer = ask_store(rt, alloc, "run jobs --workers 2", &mut store)?;
+    let found = verdicts_of(alloc, answer.out.text()?)?;
+    Ok(answer.status == status && found.as_str().trim() == verdicts.trim())
+}
+
+#[test]
+fn judges_outcomes(rt: HostRuntime) -> Result<(), Fail> {
+    let alloc = rt.alloc();
+    for line in VERDICTS.lines() {
+        assert!(rt; judges(&rt, alloc, line)?, "{line}");
+    }
+    Ok(())
+}
+
+// The refusal of a job whose reference was not read comes before its image is looked at.
+#[test]
+fn refuses_references(rt: HostRuntime) -> Result<(), Fail> {
+    let alloc = rt.alloc();
+    let jobs = "image = 's.elf', budget = 9, S, expect_signature = 'none'; image = 'cut.elf', budget = 9, S, expect_signature = 'long'";
+    let list = verdict_list(alloc, jobs)?;
+    let mut store = list_store(alloc, list.as_str())?;
+    store.add(alloc, "long", vec![in alloc; 48u8; 16_777_217]?)?;
+    let answer = ask_store(&rt, alloc, "run jobs", &mut store)?;
+    let text = answer.out.text()?;
+    assert!(rt; text.contains("end refused reference-unreadable\nsteps 0\nconsole -\nsignature -\nverdict fail\n"));
+    assert!(rt; text.contains("end refused reference-too-long\nsteps 0\nconsole -\nsignature -\nverdict fail\n"));
+    assert_eq!(rt; (answer.status, store.log.as_str()), (1, "jobs s.elf none cut.elf long "));
     Ok(())
 }
