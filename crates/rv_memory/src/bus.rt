@@ -150,6 +150,43 @@ impl Bus {
         })
     }
 
+    /// What [`Bus::new`] makes of the map of a bus, in the memory of that bus. It takes no memory.
+    pub fn renewed(self, script: Vec<u8>, misaligned: Misaligned) -> Bus
+        requires { vec_len script ≤ 0x1_0000 }
+        ensures { result ≡ opened self.regions script.items misaligned }
+    {
+        let mut bus = self.cleared(script, misaligned);
+        bus.sync_code();
+        bus
+    }
+
+    // The same but for the marks of stored bytes.
+    fn cleared(self, script: Vec<u8>, misaligned: Misaligned) -> Bus
+        requires { vec_len script ≤ 0x1_0000 }
+        ensures { result ≡ record (opened self.regions script.items misaligned) { stored = self.stored } }
+    {
+        let Bus {
+            map,
+            mut bytes,
+            marks,
+            present,
+            mut console,
+            ..
+        } = self;
+        bytes.fill(0);
+        console.clear();
+        Bus {
+            map,
+            bytes,
+            marks,
+            present,
+            console,
+            script,
+            taken: 0,
+            misaligned,
+        }
+    }
+
     /// Places bytes from an address on, as an image's are: in a region that is not writable too, and
     /// none of them counts as stored.
     pub fn place(&mut self, addr: u32, bytes: &[u8])
