@@ -1,8 +1,9 @@
 //! Stores, readers and sinks in memory, for tests of the program.
 
-ghost use Rattle.std.specs.Prelude.{◌≡◌, Some, option_map, string_bytes};
+ghost use Rattle.std.specs.Prelude.{◌≡◌, ◌≢◌, ◌<◌, ◌≤◌, Some, IfErr, IfOk, length, option_map, string_bytes};
 ghost use Rattle.std.specs.List.{find};
 ghost use Rattle.std.specs.Str.{bytes_eq};
+ghost use Rattle.rv_jobs.specs.Stores.{most_bytes, one_more};
 
 use crate::words::run_words;
 use rv_fleet::{FreeGate, Sink, SinkFailed};
@@ -156,6 +157,15 @@ impl MemoryStore {
         Some(file.bytes.as_slice())
     }
 
+    fn fault(&mut self) -> ReadError
+        ensures same { self.new.files ≡ self.old.files }
+        ensures counted { self.new.faults ≡ one_more self.old.faults }
+        ensures value { result ≡ ReadError.Unreadable }
+    {
+        self.faults = self.faults.saturating_add(1);
+        ReadError::Unreadable
+    }
+
     fn note(&mut self, path: &str) -> Result<(), AllocError>
         ensures same { self.new.files ≡ self.old.files }
         ensures counted { self.new.faults ≡ self.old.faults }
@@ -163,6 +173,21 @@ impl MemoryStore {
         self.reads = self.reads.saturating_add(1);
         self.log.push_str(path)?;
         self.log.push_str(" ")
+    }
+}
+
+// A file's bytes as a store gives them.
+fn copied(alloc: Global, bytes: &[u8]) -> Result<Vec<u8>, ReadError>
+    ensures value { IfOk result (λ copy. (copy.items ≡ bytes.now) × (length bytes.now ≤ most_bytes)) }
+    ensures long { IfErr result (λ error. error ≡ ReadError.TooLong → most_bytes < length bytes.now) }
+    ensures found { IfErr result (λ error. error ≢ ReadError.Unreadable) }
+{
+    if 16_777_216 < bytes.len() {
+        return Err(ReadError::TooLong);
+    }
+    match bytes.to_vec(alloc) {
+        Ok(copy) => Ok(copy),
+        Err(_) => Err(ReadError::OutOfMemory),
     }
 }
 
@@ -176,17 +201,13 @@ impl Store for MemoryStore {
         if self.note(path).is_err() || self.reads == self.wants_at {
             return Err(ReadError::OutOfMemory);
         }
-        if self.reads != self.fails_at && let Some(bytes) = self.bytes(path) {
-            if 16_777_216 < bytes.len() {
-                return Err(ReadError::TooLong);
-            }
-            return match bytes.to_vec(alloc) {
-                Ok(bytes) => Ok(bytes),
-                Err(_) => Err(ReadError::OutOfMemory),
-            };
+        if self.reads == self.fails_at {
+            return Err(self.fault());
         }
-        self.faults = self.faults.saturating_add(1);
-        Err(ReadError::Unreadable)
+        match self.bytes(path) {
+            Some(bytes) => copied(alloc, bytes),
+            None => Err(self.fault()),
+        }
     }
 
     fn faults(&self) -> u64 {
