@@ -1,5 +1,5 @@
 //! What is kept, and that nobody can tell but by `kept`.
-use super::{BASE, cells_of, check, ending_of, machine, machine_in, machine_on, region};
+use super::{BASE, allowing, cells_of, check, ending_of, machine, machine_in, region};
 use crate::{Ending, Machine};
 use rv_isa::{Instr, Isa, Op};
 use rv_memory::{Bus, Map, Misaligned, Region};
@@ -125,42 +125,6 @@ fn stores_drop_what_they_touch(rt: HostRuntime) -> Result<(), Fail> {
         "0001 0001 0001 0515",
         "fe9ff06f",
     )
-}
-
-/// A machine over the default map that allows misaligned accesses, with an image at its base.
-fn allowing(rt: &impl Abort, alloc: Global, image: &str) -> Result<Machine, Fail> {
-    let bus = Bus::new(
-        alloc,
-        Map::default_map(),
-        Vec::new(alloc),
-        Misaligned::Allow,
-    )?;
-    machine_on(rt, alloc, bus, BASE, Isa::Imc, image)
-}
-
-// Misaligned accesses that are allowed: a load within a word, one of the console, one across the region's
-// end, and a store over two words of code, with FENCE.I and without it.
-const MISALIGNED: &str = "\
-00000297 0022a503 X | 10 | exit 2768437248 | 3
-100002b7 0012a503 | 10 | load-access 80000004 10000001 | 1
-801002b7 ffe2a503 | 10 | load-access 80000004 800ffffe | 1
-00000297 0002a723 00000013 00000013 X | 10 | stale-code 8000000c 8000000e | 3
-00000297 0002a723 0000100f 00000013 X | 10 | illegal 80000010 00000000 | 4
-00000297 0002a723 0080006f 00000013 X | 10 | stale-code 80000010 80000010 | 3
-";
-
-#[test]
-fn misaligned_accesses_run(rt: HostRuntime) -> Result<(), Fail> {
-    let alloc = rt.alloc();
-    for line in MISALIGNED.lines() {
-        let cells = cells_of(alloc, line)?;
-        assert_eq!(rt; cells.len(), 4, "{line}");
-        let budget = cells[1].parse::<u32>()?;
-        let outcome = allowing(&rt, alloc, cells[0])?.run(budget);
-        assert_eq!(rt; outcome.ending, ending_of(cells[2])?, "{line}");
-        assert_eq!(rt; outcome.steps, cells[3].parse::<u32>()?, "{line}");
-    }
-    Ok(())
 }
 
 /// Runs the stores of a table over an instruction, which stands last in some code, with the jump back to it.

@@ -1,0 +1,88 @@
+//! Runs of accesses that are misaligned, where they are allowed and where they are not.
+use super::{allowing, cells_of, ending_of, machine};
+use crate::Ending;
+use std::test::Fail;
+
+// A load within a word; loads and stores of the console and across the region's end; a store over two words
+// of code, with FENCE.I, without it, and up to a jump to the second word: image | ending and steps where it
+// is allowed | ending where it is not, after one step.
+const MISALIGNED: &str = "\
+00000297 0022a503 X | exit 2768437248 | 3 | load-misaligned 80000004 80000002
+100002b7 0012a503 | load-access 80000004 10000001 | 1 | load-misaligned 80000004 10000001
+801002b7 ffe2a503 | load-access 80000004 800ffffe | 1 | load-misaligned 80000004 800ffffe
+100002b7 0002a0a3 | store-access 80000004 10000001 | 1 | store-misaligned 80000004 10000001
+801002b7 fe02af23 | store-access 80000004 800ffffe | 1 | store-misaligned 80000004 800ffffe
+00000297 0002a723 00000013 00000013 X | stale-code 8000000c 8000000e | 3 | store-misaligned 80000004 8000000e
+00000297 0002a723 0000100f 00000013 X | illegal 80000010 00000000 | 4 | store-misaligned 80000004 8000000e
+00000297 0002a723 0080006f 00000013 X | stale-code 80000010 80000010 | 3 | store-misaligned 80000004 8000000e
+";
+
+#[test]
+fn misaligned_accesses_run(rt: HostRuntime) -> Result<(), Fail> {
+    let alloc = rt.alloc();
+    assert_eq!(rt; MISALIGNED.lines().count(), 8);
+    for line in MISALIGNED.lines() {
+        let cells = cells_of(alloc, line)?;
+        assert_eq!(rt; cells.len(), 4, "{line}");
+        let allowed = allowing(&rt, alloc, cells[0])?.run(10);
+        assert_eq!(rt; allowed.ending, ending_of(cells[1])?, "{line}");
+        assert_eq!(rt; allowed.steps, cells[2].parse::<u32>()?, "{line}");
+        let refused = machine(&rt, alloc, cells[0])?.run(10);
+        assert_eq!(rt; refused.ending, ending_of(cells[3])?, "{line}");
+        assert_eq!(rt; refused.steps, 1, "{line}");
+    }
+    Ok(())
+}
+
+// Halfwords and words at each further byte of the first of two words, 7f92a341 and 05c6d788, which x5 points to;
+// x11 holds the first: instructions | encodings | exit code | ending where it is not allowed, `-` where it is aligned.
+const OFFSETS: &str = "\
+lh a0,1(t0) | 00129503 | ffff92a3 | load-misaligned 80000014 80000005
+lh a0,2(t0) | 00229503 | 00007f92 | -
+lh a0,3(t0) | 00329503 | ffff887f | load-misaligned 80000014 80000007
+lhu a0,1(t0) | 0012d503 | 000092a3 | load-misaligned 80000014 80000005
+lhu a0,2(t0) | 0022d503 | 00007f92 | -
+lhu a0,3(t0) | 0032d503 | 0000887f | load-misaligned 80000014 80000007
+lw a0,1(t0) | 0012a503 | 887f92a3 | load-misaligned 80000014 80000005
+lw a0,2(t0) | 0022a503 | d7887f92 | load-misaligned 80000014 80000006
+lw a0,3(t0) | 0032a503 | c6d7887f | load-misaligned 80000014 80000007
+sh a1,1(t0); lw a0,0(t0) | 00b290a3 0002a503 | 7fa34141 | store-misaligned 80000014 80000005
+sh a1,2(t0); lw a0,0(t0) | 00b29123 0002a503 | a341a341 | -
+sh a1,3(t0); lw a0,0(t0) | 00b291a3 0002a503 | 4192a341 | store-misaligned 80000014 80000007
+sh a1,3(t0); lw a0,4(t0) | 00b291a3 0042a503 | 05c6d7a3 | store-misaligned 80000014 80000007
+sw a1,1(t0); lw a0,0(t0) | 00b2a0a3 0002a503 | 92a34141 | store-misaligned 80000014 80000005
+sw a1,1(t0); lw a0,4(t0) | 00b2a0a3 0042a503 | 05c6d77f | store-misaligned 80000014 80000005
+sw a1,2(t0); lw a0,0(t0) | 00b2a123 0002a503 | a341a341 | store-misaligned 80000014 80000006
+sw a1,2(t0); lw a0,4(t0) | 00b2a123 0042a503 | 05c67f92 | store-misaligned 80000014 80000006
+sw a1,3(t0); lw a0,0(t0) | 00b2a1a3 0002a503 | 4192a341 | store-misaligned 80000014 80000007
+sw a1,3(t0); lw a0,4(t0) | 00b2a1a3 0042a503 | 057f92a3 | store-misaligned 80000014 80000007
+";
+
+#[test]
+fn accesses_at_each_offset_of_a_word(rt: HostRuntime) -> Result<(), Fail> {
+    let alloc = rt.alloc();
+    assert_eq!(rt; OFFSETS.lines().count(), 19);
+    for line in OFFSETS.lines() {
+        let cells = cells_of(alloc, line)?;
+        assert_eq!(rt; cells.len(), 4, "{line}");
+        let code = cells[1];
+        let image = format!(in alloc; "00c002ef 7f92a341 05c6d788 0002a583 0042a603 {code} X")?;
+        let value = Ending::Exit(u32::from_str_radix(cells[2], 16)?);
+        let refused = if cells[3] == "-" {
+            value
+        } else {
+            ending_of(cells[3])?
+        };
+        assert_eq!(rt;
+            allowing(&rt, alloc, image.as_str())?.run(100).ending,
+            value,
+            "{line}"
+        );
+        assert_eq!(rt;
+            machine(&rt, alloc, image.as_str())?.run(100).ending,
+            refused,
+            "{line}"
+        );
+    }
+    Ok(())
+}
