@@ -1,10 +1,9 @@
 -- An image that a job's map takes, in a new bus.
-use Rattle.std.proofs.Common.{◌≡◌, ◌∙◌, ◌%◌, ◌==◌, ◌&&◌, ℕ, Bool, true, false, not, subst, List, Option, Some, None, IfSome, Result, Ok, Err, refl, sym, ap}
+use Rattle.std.proofs.Common.{◌≡◌, ◌%◌, ◌==◌, ◌&&◌, ℕ, Bool, true, false, not, subst, List, Option, Some, None, IfSome, Result, Ok, Err, refl, sym, ap}
 use Rattle.rv_isa.specs.declared.sets.Isa.{Isa}
 use Rattle.rv_isa.specs.Extensions.{RV32C, has}
-use Rattle.rv_elf.specs.declared.error.ImageError.{ImageError}
 use Rattle.rv_elf.specs.declared.image.Image.{Image}
-use Rattle.rv_elf.specs.Image.{IsImageOf, image_of}
+use Rattle.rv_elf.specs.Image.{image_of}
 use Rattle.rv_elf.specs.Loading.{map_check, opening_memory}
 use Rattle.rv_elf.specs.Rows.{accepted}
 use Rattle.rv_elf.specs.Symbols.{signature_check, symbol_of}

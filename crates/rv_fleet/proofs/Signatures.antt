@@ -1,5 +1,5 @@
 -- A range that is no bad one is words in one region.
-use Rattle.std.proofs.Common.{◌≡◌, ◌∙◌, ◌-◌, ◌%◌, ◌<◌, ◌≤◌, ◌==◌, ◌||◌, ◌&&◌, ℕ, Bool, true, false, not, cond, List, Result, Ok, Err, refl, sym, ap, arith, eqb-true, nat_lt, eqb, ltb}
+use Rattle.std.proofs.Common.{◌≡◌, ◌-◌, ◌%◌, ◌≤◌, ◌==◌, ◌||◌, ◌&&◌, ℕ, Bool, true, false, not, cond, List, Err, refl, arith, eqb-true, nat_lt, ltb}
 use Rattle.std.proofs.lemmas.Bool.{ltb-false}
 use Rattle.rv_memory.specs.declared.map.Region.{Region}
 use Rattle.rv_memory.specs.Regions.{in_one}

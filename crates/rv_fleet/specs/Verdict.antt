@@ -74,7 +74,7 @@ same_signature None None = true
 same_signature (Some words) (Some others) = bytes_eq words others
 same_signature _ _ = false
 
--- two outcomes are the same but for steps, addresses and values; a refused one is the same as none
+-- two outcomes are the same but for steps, addresses and values; a refused one is the same as no other, nor as itself
 abbrev pub are_same : Outcome → Outcome → Bool
 are_same there other = are_alike there.ending other.ending && (bytes_eq there.console other.console && same_signature there.signature other.signature)
 

@@ -1,7 +1,8 @@
-//! Rows and reports: what a fleet's jobs came to, and the text that says so. And the shared draw by which workers take the
-//! jobs in pieces.
+//! Rows and reports: what a fleet's jobs came to, and the text that says so. And the shared draw by which workers take
+//! the jobs in pieces.
 //!
-//! [`flat_row`] runs a flat image, and [`run_row`] a machine that holds one: their answers are rows, exactly those that
+//! [`outcome_of`] is what a job comes to over what is kept of its files, [`row_at`] the row of a plan's job, with its
+//! verdict, and [`run_one`] all rows, in list order; [`flat_row`] is the row of a flat image. Each answers exactly what
 //! the definitions of `specs/` make of the run. [`write_report`] appends a report's text to a [`Sink`], in few large
 //! puts; where it fails a beginning of the text went out, and nothing after it.
 //!

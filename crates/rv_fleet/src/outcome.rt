@@ -55,7 +55,8 @@ pub fn outcome_of(
 ) -> Result<Outcome, AllocError>
     requires script { length job.now.script ≤ most_script }
     requires named { IfSome job.now.signature (λ names. (0 < length names.begin) × (0 < length names.end)) }
-    ensures { IfOk result (λ there. there ≡ outcome_of job.now image.now (option_map (λ kept. kept.now) reference.entry)) }
+    ensures { IfOk result
+        (λ there. there ≡ outcome_of job.now image.now (option_map (λ kept. kept.now) reference.entry)) }
 {
     match file(image, reference) {
         Ok(file) => file_outcome(alloc, job, file),

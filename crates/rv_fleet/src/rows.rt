@@ -26,7 +26,8 @@ pub fn row_at(alloc: Global, plan: &Plan, i: usize) -> Result<Row, AllocError>
 // The outcome of the job at a place.
 fn outcome_at(alloc: Global, plan: &Plan, i: usize) -> Result<Outcome, AllocError>
     requires { i < length plan.now.jobs }
-    ensures { IfOk result (λ there. (d : AJob) → there ≡ outcome_in plan.now.answers (slice_index_or plan.now.jobs i d)) }
+    ensures { IfOk result
+        (λ there. (d : AJob) → there ≡ outcome_in plan.now.answers (slice_index_or plan.now.jobs i d)) }
 {
     outcome_of(alloc, plan.job(i), plan.image(i), plan.reference(i))
 }
@@ -45,7 +46,8 @@ fn other_outcome(alloc: Global, plan: &Plan, job: &Job) -> Result<Option<Outcome
 // The bytes of a job's reference, where it was read.
 fn reference_bytes(plan: &Plan, i: usize) -> Option<&[u8]>
     requires { i < length plan.now.jobs }
-    ensures { (d : AJob) → option_map (λ bytes. bytes.now) result ≡ reference_in plan.now.answers (slice_index_or plan.now.jobs i d) }
+    ensures { (d : AJob) → option_map (λ bytes. bytes.now) result
+        ≡ reference_in plan.now.answers (slice_index_or plan.now.jobs i d) }
 {
     match plan.reference(i) {
         Some(Kept::Content(bytes)) => Some(bytes.as_slice()),

@@ -72,7 +72,9 @@ fn holds_reference(
     reference: Option<&[u8]>,
     there: &Outcome,
 ) -> Result<bool, AllocError>
-    ensures { IfOk result (λ holds. holds ≡ holds_reference expected.now (option_map (λ bytes. bytes.now) reference.entry) there.now) }
+    ensures { IfOk result
+        (λ holds. holds
+        ≡ holds_reference expected.now (option_map (λ bytes. bytes.now) reference.entry) there.now) }
 {
     let Some(_) = expected else {
         return Ok(true);
