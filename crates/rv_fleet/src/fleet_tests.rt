@@ -157,16 +157,28 @@ fn passes<R: Threads + Wait>(
     Ok(gate.was_passed(jobs) && same_rows(report.rows.as_slice(), alone.rows.as_slice()))
 }
 
+/// Jobs and workers, and the pieces that are held and awaited. The first piece waits for the second; for all others,
+/// which the other worker draws one after the other; and each piece waits for all.
+const FLEETS: [(usize, u32, u64, usize); 4] = [
+    (2, 2, 1, 2),
+    (4, 2, 1, 4),
+    (2, 2, 2, 2),
+    (4, 4, 4, 4),
+];
+
+fn all_pass<R: Threads + Wait>(rt: &R, alloc: Global) -> Result<bool, Fail> {
+    for (jobs, workers, held, awaited) in FLEETS {
+        let gate = HoldingGate::new(held, awaited);
+        if !passes(rt, alloc, jobs, workers.clamp(1, 64), &gate)? {
+            return Ok(false);
+        }
+    }
+    Ok(true)
+}
+
 #[test]
 fn pieces_run_at_the_same_time(rt: HostRuntime) -> Result<(), Fail> {
-    let alloc = rt.alloc();
-    // The first piece waits for the second.
-    assert!(rt; passes(&rt, alloc, 2, 2, &HoldingGate::new(1, 2))?);
-    // It waits for all others, which the other worker draws one after the other.
-    assert!(rt; passes(&rt, alloc, 4, 2, &HoldingGate::new(1, 4))?);
-    // Each piece waits for all.
-    assert!(rt; passes(&rt, alloc, 2, 2, &HoldingGate::new(2, 2))?);
-    assert!(rt; passes(&rt, alloc, 4, 4, &HoldingGate::new(4, 4))?);
+    assert!(rt; all_pass(&rt, rt.alloc())?);
     Ok(())
 }
 
@@ -181,15 +193,21 @@ fn all_are_short(report: &Report) -> bool {
     report.rows.as_slice().len() == 4096
 }
 
-// Pieces of one job, more than workers; and one piece, for fewer than are asked.
+/// Pieces of one job, more than workers; and one piece, for fewer workers than are asked.
+fn refuses_all<R: Threads + Wait>(rt: &R, alloc: Global) -> Result<bool, Fail> {
+    let plan = plan_of(alloc, 4096, &ONE_SEGMENT[..51])?;
+    for group in [1u32, 4096] {
+        let report = run_fleet(rt, alloc, &plan, 64, group.clamp(1, 4096), &FreeGate)?;
+        if !all_are_short(&report) {
+            return Ok(false);
+        }
+    }
+    Ok(true)
+}
+
 #[test]
 fn most_jobs_of_a_cut_image(rt: HostRuntime) -> Result<(), Fail> {
-    let alloc = rt.alloc();
-    let plan = plan_of(alloc, 4096, &ONE_SEGMENT[..51])?;
-    let report = run_fleet(&rt, alloc, &plan, 64, 1, &FreeGate)?;
-    assert!(rt; all_are_short(&report));
-    let report = run_fleet(&rt, alloc, &plan, 64, 4096, &FreeGate)?;
-    assert!(rt; all_are_short(&report));
+    assert!(rt; refuses_all(&rt, rt.alloc())?);
     Ok(())
 }
 

@@ -2,6 +2,7 @@
 
 /// Entered once for each piece that is run, by the worker that has the piece and before its first row.
 pub trait Gate: Sync {
+    /// `piece` is its number, counted from 0.
     fn enter(&self, piece: u64);
 }
 
