@@ -11,6 +11,7 @@ use crate::gate::Gate;
 use crate::pass::Pass;
 use crate::piece::{Piece, make_piece, piece_count};
 use crate::row::{Row, Rows};
+use crate::spare::Spare;
 use crate::worked::Worked;
 use rv_jobs::Plan;
 use std::alloc::{AllocError, Global};
@@ -123,6 +124,6 @@ fn rows_at_place<G: Gate>(
 {
     match place {
         Some(rows) => Ok(rows),
-        None => Ok(make_piece(alloc, plan, group, gate, number)?.rows),
+        None => Ok(make_piece(alloc, plan, group, gate, number, &mut Spare::new())?.rows),
     }
 }

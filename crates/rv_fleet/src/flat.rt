@@ -8,6 +8,7 @@ ghost use Rattle.rv_fleet.specs.Flat.{flat_byte, flat_contents, flat_outcome_of,
 use crate::outcome::{Outcome, refused, run};
 use crate::row::{Refusal, Row, Verdict};
 use crate::rows::row_with;
+use crate::spare::Spare;
 use rv_isa::Isa;
 use rv_machine::Machine;
 use rv_memory::{Bus, Map, Misaligned};
@@ -35,7 +36,7 @@ fn flat_outcome(alloc: Global, bytes: &[u8], budget: u32) -> Result<Outcome, All
     if IMAGE_ROOM < bytes.len() {
         return Ok(refused(alloc, Refusal::ImageTooLong));
     }
-    run(alloc, flat_machine(alloc, bytes)?, budget, None)
+    run(alloc, flat_machine(alloc, bytes)?, budget, None, &mut Spare::new())
 }
 
 fn flat_machine(alloc: Global, bytes: &[u8]) -> Result<Machine, AllocError>

@@ -1,8 +1,8 @@
 //! Rows and reports: what a fleet's jobs came to, and the text that says so. And the shared draw by which workers take
 //! the jobs in pieces.
 //!
-//! [`outcome_of`] is what a job comes to over what is kept of its files, [`row_at`] the row of a plan's job, with its
-//! verdict, and [`run_one`] all rows, in list order; [`flat_row`] is the row of a flat image. Each answers exactly what
+//! [`row_at`] is the row of a plan's job: what the job comes to over what is kept of its files, and the
+//! verdict on it. [`run_one`] is all rows, in list order; [`flat_row`] is the row of a flat image. Each answers exactly what
 //! the definitions of `specs/` make of the run. [`write_report`] appends a report's text to a [`Sink`], in few large
 //! puts; where it fails a beginning of the text went out, and nothing after it.
 //!
@@ -32,6 +32,7 @@ mod row;
 mod rows;
 mod rule;
 mod sink;
+mod spare;
 #[cfg(test)]
 mod tests;
 mod verdict;
@@ -44,7 +45,7 @@ pub use flat::flat_row;
 pub use fleet::{FleetError, run_fleet};
 pub use gate::{FreeGate, Gate};
 pub use law::narrower_sets_only_refuse;
-pub use outcome::{Loadable, Outcome, SignatureRange, outcome_of};
+pub use outcome::{Loadable, Outcome, SignatureRange};
 pub use pass::{Pass, SplitError};
 pub use piece::Piece;
 pub use report::{WriteError, write_report};

@@ -12,6 +12,7 @@ ghost use Rattle.rv_machine.specs.State.{state_of};
 ghost use Rattle.rv_fleet.specs.Outcome.{end_of, end_of_signature, file_of, file_outcome_of, loadable_of, loaded_state, outcome_of, outcome_of_run, range_of, refused_outcome, signature_in};
 
 use crate::row::{Refusal, RowEnd, Words};
+use crate::spare::Spare;
 use rv_elf::{Image, ImageError, check_map, check_signature, find_symbol, load, read_image};
 use rv_jobs::{Bytes, Job, Kept, Symbols};
 use rv_machine::{Ending, Machine};
@@ -47,11 +48,12 @@ pub struct Loadable {
 
 /// The outcome of a job over what is kept of the paths of its image and of its reference.
 #[tactic(auto, unfolding(crate::specs::Outcome::outcome_of))]
-pub fn outcome_of(
+pub(crate) fn outcome_of(
     alloc: Global,
     job: &Job,
     image: &Kept,
     reference: Option<&Kept>,
+    spare: &mut Spare,
 ) -> Result<Outcome, AllocError>
     requires script { length job.now.script ≤ most_script }
     requires named { IfSome job.now.signature (λ names. (0 < length names.begin) × (0 < length names.end)) }
@@ -59,7 +61,7 @@ pub fn outcome_of(
         (λ there. there ≡ outcome_of job.now image.now (option_map (λ kept. kept.now) reference.entry)) }
 {
     match file(image, reference) {
-        Ok(file) => file_outcome(alloc, job, file),
+        Ok(file) => file_outcome(alloc, job, file, spare),
         Err(why) => Ok(refused(alloc, why)),
     }
 }
@@ -95,15 +97,20 @@ pub(crate) fn refused(alloc: Global, why: Refusal) -> Outcome
 }
 
 #[tactic(auto, unfolding(crate::specs::Outcome::file_outcome_of))]
-fn file_outcome(alloc: Global, job: &Job, file: &[u8]) -> Result<Outcome, AllocError>
+fn file_outcome(
+    alloc: Global,
+    job: &Job,
+    file: &[u8],
+    spare: &mut Spare,
+) -> Result<Outcome, AllocError>
     requires script { length job.now.script ≤ most_script }
     requires named { IfSome job.now.signature (λ names. (0 < length names.begin) × (0 < length names.end)) }
     ensures { IfOk result (λ there. there ≡ file_outcome_of job.now file.now) }
 {
     match loadable_of(alloc, job, file) {
         Ok(there) => {
-            let machine = loaded_machine(alloc, job, file, &there)?;
-            run(alloc, machine, job.budget, there.range)
+            let machine = loaded_machine(alloc, job, file, &there, spare)?;
+            run(alloc, machine, job.budget, there.range, spare)
         }
         Err(ImageError::OutOfMemory) => Err(AllocError),
         Err(error) => Ok(refused(alloc, Refusal::Image(error))),
@@ -161,13 +168,14 @@ fn loaded_machine(
     job: &Job,
     file: &[u8],
     there: &Loadable,
+    spare: &mut Spare,
 ) -> Result<Machine, AllocError>
     requires script { length job.now.script ≤ most_script }
     requires loadable { loadable_of job.now file.now ≡ Ok there.now }
     ensures { IfOk result (λ machine. state_of machine ≡ loaded_state job.now file.now there.now.image) }
 {
     let script = copied(alloc, job.script.as_slice())?;
-    let mut bus = Bus::new(alloc, job.regions, script, job.misaligned)?;
+    let mut bus = spare.new_bus(alloc, job.regions, script, job.misaligned)?;
     load(&there.image, file, job.load, &mut bus);
     Machine::new(alloc, bus, there.image.entry, job.isa)
 }
@@ -184,15 +192,17 @@ pub(crate) fn run(
     machine: Machine,
     budget: u32,
     range: Option<SignatureRange>,
+    spare: &mut Spare,
 ) -> Result<Outcome, AllocError>
     requires { IfSome range (λ there. signature_check there.begin there.end (state_of machine).bus.regions ≡ accepted) }
     ensures { IfOk result (λ there. there ≡ outcome_of_run (run_of budget (state_of machine)) range) }
 {
     let mut machine = machine;
     let ran = machine.run(budget);
-    let bus = machine.bus();
+    let bus = machine.into_bus();
     let console = bus.console().to_vec(alloc)?;
-    let signature = signature_in(alloc, bus, range)?;
+    let signature = signature_in(alloc, &bus, range)?;
+    spare.keep(bus);
     Ok(Outcome {
         ending: row_end(ran.ending),
         steps: ran.steps,

@@ -5,7 +5,8 @@ ghost use Rattle.rv_fleet.specs.Pieces.{pieces_of, piece_at};
 
 use crate::gate::Gate;
 use crate::row::Rows;
-use crate::rows::row_at;
+use crate::rows::next_row;
+use crate::spare::Spare;
 use rv_jobs::Plan;
 use std::alloc::{AllocError, Global};
 
@@ -33,6 +34,7 @@ pub(crate) fn make_piece<G: Gate>(
     group: u32,
     gate: &G,
     number: u64,
+    spare: &mut Spare,
 ) -> Result<Piece, AllocError>
     requires group { 0 < group }
     requires number { number < pieces_of plan.now group }
@@ -45,7 +47,7 @@ pub(crate) fn make_piece<G: Gate>(
     let end = start + group.min(jobs - start);
     let mut rows = Vec::with_capacity(alloc, end - start)?;
     for i in start..end {
-        rows.push(row_at(alloc, plan, i)?)?;
+        rows.push(next_row(alloc, plan, i, spare)?)?;
     }
     Ok(Piece {
         number,

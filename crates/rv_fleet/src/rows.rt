@@ -6,39 +6,63 @@ ghost use Rattle.rv_fleet.specs.Rows.{bytes_in, other_in, outcome_in, reference_
 
 use crate::outcome::{Outcome, outcome_of};
 use crate::row::{Report, Row, Rows, Verdict};
+use crate::spare::Spare;
 use crate::verdict::verdict;
 use rv_jobs::{Job, Kept, Plan, Text};
 use std::alloc::{AllocError, Global};
 
 /// The row of the job at a place, counted from 0.
-#[tactic(auto, unfolding(crate::specs::Rows::row_of))]
 pub fn row_at(alloc: Global, plan: &Plan, i: usize) -> Result<Row, AllocError>
     requires { i < length plan.now.jobs }
     ensures { IfOk result (λ row. (d : AJob) → row ≡ row_of plan.now (slice_index_or plan.now.jobs i d)) }
 {
+    next_row(alloc, plan, i, &mut Spare::new())
+}
+
+/// The same, in the memory of the last run.
+#[tactic(auto, unfolding(crate::specs::Rows::row_of))]
+pub(crate) fn next_row(
+    alloc: Global,
+    plan: &Plan,
+    i: usize,
+    spare: &mut Spare,
+) -> Result<Row, AllocError>
+    requires { i < length plan.now.jobs }
+    ensures { IfOk result (λ row. (d : AJob) → row ≡ row_of plan.now (slice_index_or plan.now.jobs i d)) }
+{
     let job = plan.job(i);
-    let there = outcome_at(alloc, plan, i)?;
-    let other = other_outcome(alloc, plan, job)?;
+    let there = outcome_at(alloc, plan, i, spare)?;
+    let other = other_outcome(alloc, plan, job, spare)?;
     let verdict = verdict(alloc, job, &there, reference_bytes(plan, i), other.as_ref())?;
     row_with(alloc, job.name.as_str(), there, verdict)
 }
 
 // The outcome of the job at a place.
-fn outcome_at(alloc: Global, plan: &Plan, i: usize) -> Result<Outcome, AllocError>
+fn outcome_at(
+    alloc: Global,
+    plan: &Plan,
+    i: usize,
+    spare: &mut Spare,
+) -> Result<Outcome, AllocError>
     requires { i < length plan.now.jobs }
     ensures { IfOk result
         (λ there. (d : AJob) → there ≡ outcome_in plan.now.answers (slice_index_or plan.now.jobs i d)) }
 {
-    outcome_of(alloc, plan.job(i), plan.image(i), plan.reference(i))
+    outcome_of(alloc, plan.job(i), plan.image(i), plan.reference(i), spare)
 }
 
 // The outcome of the job that a job names.
-fn other_outcome(alloc: Global, plan: &Plan, job: &Job) -> Result<Option<Outcome>, AllocError>
+fn other_outcome(
+    alloc: Global,
+    plan: &Plan,
+    job: &Job,
+    spare: &mut Spare,
+) -> Result<Option<Outcome>, AllocError>
     requires { IfSome job.now.same_as (λ place. place < length plan.now.jobs) }
     ensures { IfOk result (λ other. other ≡ other_in plan.now job.now) }
 {
     match job.same_as {
-        Some(place) => Ok(Some(outcome_at(alloc, plan, place)?)),
+        Some(place) => Ok(Some(outcome_at(alloc, plan, place, spare)?)),
         None => Ok(None),
     }
 }
@@ -80,8 +104,9 @@ pub fn run_one(alloc: Global, plan: &Plan) -> Result<Report, AllocError>
     ensures { IfOk result (λ report. report.rows ≡ rows_of plan.now) }
 {
     let mut rows = Vec::new(alloc);
+    let mut spare = Spare::new();
     for i in 0..plan.jobs() {
-        rows.push(row_at(alloc, plan, i)?)?;
+        rows.push(next_row(alloc, plan, i, &mut spare)?)?;
     }
     Ok(Report {
         rows: Rows::new(rows),

@@ -10,6 +10,7 @@ use crate::claims::Claims;
 use crate::gate::Gate;
 use crate::pass::Pass;
 use crate::piece::{Piece, make_piece};
+use crate::spare::Spare;
 use crate::worked::Worked;
 use rv_jobs::Plan;
 use std::alloc::{AllocError, Global};
@@ -32,8 +33,9 @@ pub fn work<G: Gate>(
     ensures made { IfOk result (λ made. made.items ≡ map (piece_at plan.now group) (new_pieces pass.old pass.new)) }
 {
     let mut pieces = Vec::new(alloc);
+    let mut spare = Spare::new();
     while let Some(number) = claims.take(pass) {
-        pieces.push(make_piece(alloc, plan, group, gate, number)?)?;
+        pieces.push(make_piece(alloc, plan, group, gate, number, &mut spare)?)?;
     }
     Ok(pieces)
 }

@@ -1,4 +1,4 @@
-ghost use Rattle.std.specs.Prelude.{◌≡◌, ◌==◌, ◌+◌, ◌*◌, ◌/◌, ◌%◌, ◌^◌, ◌<◌, ◌≤◌, ◌⊎◌, IsTrue, IfOk, IfSome, MatchResult, Ok, None, length, drop, vec_len};
+ghost use Rattle.std.specs.Prelude.{◌≡◌, ◌==◌, ◌+◌, ◌*◌, ◌/◌, ◌%◌, ◌^◌, ◌<◌, ◌≤◌, ◌⊎◌, ℕ, IsTrue, IfOk, IfSome, MatchResult, Ok, None, length, drop, slice_index, vec_len};
 ghost use Rattle.rv_memory.specs.Regions.{in_one};
 ghost use Rattle.rv_memory.specs.Maps.{map_error};
 ghost use Rattle.rv_memory.specs.Bus.{size_of, refuses, load_from, store_to, fetch_half_from, fetch_word_from, console_load, console_store, next_of, clean_from, synced, placed, opened};
@@ -150,23 +150,23 @@ impl Bus {
         })
     }
 
-    /// What [`Bus::new`] makes of the map of a bus, in the memory of that bus. It takes no memory.
-    pub fn renewed(self, script: Vec<u8>, misaligned: Misaligned) -> Bus
+    /// The same as [`Bus::new`], in the memory of another bus where that has as many bytes; else that memory is given
+    /// back first.
+    pub fn renewed(
+        self,
+        alloc: Global,
+        map: Map,
+        script: Vec<u8>,
+        misaligned: Misaligned,
+    ) -> Result<Bus, AllocError>
         requires { vec_len script ≤ 0x1_0000 }
-        ensures { result ≡ opened self.regions script.items misaligned }
+        ensures { IfOk result (λ bus. bus ≡ opened map script.items misaligned) }
     {
-        let mut bus = self.cleared(script, misaligned);
-        bus.sync_code();
-        bus
-    }
-
-    // The same but for the marks of stored bytes.
-    fn cleared(self, script: Vec<u8>, misaligned: Misaligned) -> Bus
-        requires { vec_len script ≤ 0x1_0000 }
-        ensures { result ≡ record (opened self.regions script.items misaligned) { stored = self.stored } }
-    {
+        if self.bytes.len() != map.total() {
+            drop(self);
+            return Bus::new(alloc, map, script, misaligned);
+        }
         let Bus {
-            map,
             mut bytes,
             marks,
             present,
@@ -175,7 +175,8 @@ impl Bus {
         } = self;
         bytes.fill(0);
         console.clear();
-        Bus {
+        let (marks, present) = unmarked(marks, present);
+        Ok(Bus {
             map,
             bytes,
             marks,
@@ -184,7 +185,7 @@ impl Bus {
             script,
             taken: 0,
             misaligned,
-        }
+        })
     }
 
     /// Places bytes from an address on, as an image's are: in a region that is not writable too, and
@@ -357,4 +358,17 @@ impl Bus {
         self.console.push_reserved((value % 0x100) as u8);
         Ok(())
     }
+}
+
+// Marks and the next generation, in which none of them is.
+fn unmarked(mut marks: Vec<u8>, present: u8) -> (Vec<u8>, u8)
+    requires { (k : ℕ) → slice_index marks.items k ≤ present }
+    ensures length { length result.0.items ≡ length marks.items }
+    ensures older { (k : ℕ) → slice_index result.0.items k < result.1 }
+{
+    if present < u8::MAX {
+        return (marks, present + 1);
+    }
+    marks.fill(0);
+    (marks, 1)
 }

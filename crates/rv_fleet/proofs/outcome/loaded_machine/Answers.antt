@@ -12,12 +12,12 @@ load-requires-clause-fits c = rw (new_bus _ _ _ _ c.in_ok-bus.ensures).0 (loadab
 pub load-requires-clause-new : goal.load-requires-clause-new
 load-requires-clause-new c = (new_bus _ _ _ _ c.in_ok-bus.ensures).1
 
-pub new-requires-2-clause-even : goal.new-requires-2-clause-even
-new-requires-2-clause-even c = entry_even _ _ _ (loadable_parts _ _ _ c.requires.loadable).image
+pub new-requires-clause-even : goal.new-requires-clause-even
+new-requires-clause-even c = entry_even _ _ _ (loadable_parts _ _ _ c.requires.loadable).image
 
-pub new-requires-2-clause-aligned : goal.new-requires-2-clause-aligned
-new-requires-2-clause-aligned c = aligned _ _ (entry_aligned _ _ _ (loadable_parts _ _ _ c.requires.loadable).image)
+pub new-requires-clause-aligned : goal.new-requires-clause-aligned
+new-requires-clause-aligned c = aligned _ _ (entry_aligned _ _ _ (loadable_parts _ _ _ c.requires.loadable).image)
 
 pub returns : goal.returns
 returns c =
-    rw (loaded_is c.in_ok-bus.bus _ c.args.job.now c.args.file.now c.args.there.now.image _ c.in_ok-bus.ensures (c.in_ok-script.ensures ∙ c.as_slice.ensures) c.load.ensures) at c.new-2.ensures
+    rw (loaded_is c.in_ok-bus.bus _ c.args.job.now c.args.file.now c.args.there.now.image _ c.in_ok-bus.ensures (c.in_ok-script.ensures ∙ c.as_slice.ensures) c.load.ensures) at c.new.ensures

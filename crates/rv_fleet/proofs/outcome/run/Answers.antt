@@ -12,4 +12,4 @@ pub signature_in-requires : goal.signature_in-requires
 signature_in-requires c =
     let P : List Region → Type 0 = λ regions. IfSome c.args.range (λ there. signature_check there.begin there.end regions ≡ accepted) in
     let kept = ap (λ (ran : Ran). ran.state.bus.regions) (sym c.run-ran.ensures) ∙ run_keeps c.args.budget (state_of c.args.machine) in
-    subst P (sym (ap (λ (bus : Contents). bus.regions) c.bus-bus.ensures ∙ kept)) c.requires
+    subst P (sym (ap (λ (bus : Contents). bus.regions) c.into_bus-bus.ensures ∙ kept)) c.requires

@@ -15,7 +15,7 @@ unfolding rows_of
 loop-i-preserved g c =
     let any = single_job [] 0 [] in
     let inside : c.args.number * c.args.group < length c.args.plan.now.jobs = chunk_inside _ _ _ c.requires.group c.requires.number in
-    part_more (row_of c.args.plan.now) c.args.plan.now.jobs _ c.loop-i.i _ _ _ any (omega arith) (omega (arith, inside, c.min.ensures, c.jobs-jobs.ensures.value)) c.loop-i.invariant c.in_ok-push.ensures.items (c.in_ok-row_at.ensures any)
+    part_more (row_of c.args.plan.now) c.args.plan.now.jobs _ c.loop-i.i _ _ _ any (omega arith) (omega (arith, inside, c.min.ensures, c.jobs-jobs.ensures.value)) c.loop-i.invariant c.in_ok-push.ensures.items (c.in_ok-next_row.ensures any)
 
 pub returns : goal.returns
 returns g c =

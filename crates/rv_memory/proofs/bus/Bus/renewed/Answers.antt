@@ -1,15 +1,21 @@
-use Rattle.std.proofs.Common.{◌≡◌, ◌∙◌, ℕ, List, ap, refl}
-use Rattle.std.specs.Ordering.{nat_cmp}
-use Rattle.std.specs.FinSet as set
-use Rattle.rv_memory.specs.declared.map.Region.{Region}
-use Rattle.rv_memory.specs.declared.bus.Misaligned.{Misaligned}
-use Rattle.rv_memory.specs.Bus.{opened, synced}
+use Rattle.std.proofs.Common.{rules, arith}
+use Rattle.rv_memory.proofs.Opening.{renewed_is}
 use Rattle.rv_memory.proofs.bus.Bus.renewed.Goals as goal
 
-nothing_stored : (rs : List Region) (script : List ℕ) (misaligned : Misaligned) (stored : set.FinSet nat_cmp)
-    → synced (record (opened rs script misaligned) { stored = stored }) ≡ opened rs script misaligned
-unfolding opened
-nothing_stored rs script misaligned stored = refl
+pub invariant_of-result : goal.invariant_of-result
+invariant_of-result c = record {
+  map = search rules;
+  bytes = search rules;
+  marks = search rules;
+  older = λ k. let below = c.unmarked-marks.ensures.older k in omega arith;
+  present = let below = c.unmarked-marks.ensures.older 0 in omega arith;
+  taken = search rules;
+  short = search rules;
+  room = search rules;
+  full = search rules;
+}
 
 pub returns : goal.returns
-returns c = c.sync_code.ensures ∙ ap synced c.cleared-bus.ensures ∙ nothing_stored c.args.self.regions c.args.script.items c.args.misaligned c.args.self.stored
+returns c =
+    renewed_is c.args.map _ c.unmarked-marks.result.1 c.fill.new.self.items c.unmarked-marks.result.0.items c.args.script.items c.clear.new.self.items c.args.misaligned
+    (c.fill.ensures.items (λ y e. e)) c.unmarked-marks.ensures.older c.clear.ensures.items
