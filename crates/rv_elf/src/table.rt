@@ -55,11 +55,13 @@ pub(crate) fn check_entries(found: &[Entry], size: usize) -> Result<(), ImageErr
 pub(crate) fn kept_segments(alloc: Global, found: &[Entry]) -> Result<Vec<Segment>, AllocError>
     ensures { IfOk result (λ v. v.items ≡ kept_of found.now) }
 {
-    found
-        .iter()
-        .filter(|e| e.kind == PT_LOAD && 0 < e.segment.memsz)
-        .map(|e| e.segment)
-        .collect(alloc)
+    let mut kept = Vec::new(alloc);
+    for entry in found {
+        if entry.kind == PT_LOAD && 0 < entry.segment.memsz {
+            kept.push(entry.segment)?;
+        }
+    }
+    Ok(kept)
 }
 
 fn entries_at(
