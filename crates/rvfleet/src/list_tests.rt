@@ -96,7 +96,7 @@ fn report_of_one(alloc: Global, run: &JobRun<'_>) -> Result<String, AllocError> 
 }
 
 // Whether the program answers a list of one job as a line of the table says.
-fn runs_job(rt: &(impl Threads + Wait), alloc: Global, line: &str) -> Result<bool, Fail> {
+pub(crate) fn runs_job(rt: &(impl Threads + Wait), alloc: Global, line: &str) -> Result<bool, Fail> {
     let run = job_run_of(line).ok_or("six cells")?;
     let list = list_of_one(alloc, &run)?;
     let mut store = MemoryStore::of(alloc, "jobs", list.as_bytes())?;
@@ -152,7 +152,7 @@ x = 1;[[job]];name = 'a';image = 'b';budget = 3 | job 0: unknown-key
 ";
 
 // Whether the program refuses a list by this fault, and reads no file of its jobs.
-fn refuses_list(
+pub(crate) fn refuses_list(
     rt: &(impl Threads + Wait),
     alloc: Global,
     list: &[u8],
@@ -234,7 +234,7 @@ fn reads_the_list(rt: HostRuntime) -> Result<(), Fail> {
 }
 
 // A list with one job of each kind of ending.
-const LIST: &str = "\
+pub(crate) const LIST: &str = "\
 [[job]]
 name = \"pass\"
 image = \"a.elf\"
@@ -263,7 +263,7 @@ budget = 100
 signature = [\"begin_signature\", \"end_signature\"]
 ";
 
-const LIST_REPORT: &str = "\
+pub(crate) const LIST_REPORT: &str = "\
 job 1 pass
 end exit 5
 steps 2
@@ -300,7 +300,7 @@ done 5
 ";
 
 // The files that the list names, and some references.
-fn list_store(alloc: Global, list: &str) -> Result<MemoryStore, Fail> {
+pub(crate) fn list_store(alloc: Global, list: &str) -> Result<MemoryStore, Fail> {
     let mut store = MemoryStore::of(alloc, "jobs", list.as_bytes())?;
     store.add(alloc, "a.elf", file(alloc, "one")?)?;
     store.add(alloc, "f.elf", file(alloc, "code 9002")?)?;

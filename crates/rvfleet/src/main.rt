@@ -5,7 +5,11 @@ ghost use Rattle.std.specs.Prelude.{◌≡◌, ◌⊎◌};
 
 mod command;
 mod error;
+#[cfg(test)]
+mod failing_tests;
 mod files;
+#[cfg(test)]
+mod hostile_tests;
 mod input;
 mod list;
 #[cfg(test)]

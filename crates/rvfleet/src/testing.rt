@@ -22,7 +22,7 @@ pub(crate) struct MemorySink {
     most: usize,
     pub(crate) puts: u64,
     fails_at: u64,
-    failures: u64,
+    pub(crate) failures: u64,
 }
 
 impl MemorySink {

@@ -212,7 +212,7 @@ upper case digits | code 100002b7 0002a503 X | 100 | exit 175 | 3 | - | aF
 ";
 
 // Whether the program answers an ELF image as a line of the table says, and reads its path once.
-fn runs_elf(
+pub(crate) fn runs_elf(
     rt: &(impl Threads + Wait),
     alloc: Global, line: &str) -> Result<bool, Fail> {
     let run = run_of(line).ok_or("six cells")?;
@@ -508,7 +508,7 @@ fn shows_help(rt: HostRuntime) -> Result<(), Fail> {
     Ok(())
 }
 
-const RAW_WORDS: &str = "raw --budget 3";
+pub(crate) const RAW_WORDS: &str = "raw --budget 3";
 
 const RAW_TEXT: &str = "\
 job 1 raw
@@ -574,7 +574,7 @@ fn reads_no_further_than_it_needs(rt: HostRuntime) -> Result<(), Fail> {
 }
 
 // Sets x10 to 5 and x17 to 93, then ECALL.
-const ADD_AND_EXIT: [u8; 12] = [
+pub(crate) const ADD_AND_EXIT: [u8; 12] = [
     0x13, 0x05, 0x50, 0x00, 0x93, 0x08, 0xd0, 0x05, 0x73, 0x00, 0x00, 0x00,
 ];
 
