@@ -1,11 +1,10 @@
-/* Preloaded into a process, refuses a growth of its memory: the one with the number REFUSED_GROWTH, counted from 1 over
-   all threads, and where REFUSED is "from" all later ones too. Where the process comes to that growth, the file
-   GROWTH_MET is made. A growth is a call of malloc, calloc, realloc, memalign, aligned_alloc or posix_memalign. */
+/* Preloaded into a process, refuses one growth of its memory: the one with the number REFUSED_GROWTH, counted from 1
+   over all threads. Where the process comes to that growth, the file GROWTH_MET is made. A growth is a call of malloc,
+   calloc, realloc, memalign, aligned_alloc or posix_memalign. */
 #include <errno.h>
 #include <fcntl.h>
 #include <stdatomic.h>
 #include <stdlib.h>
-#include <string.h>
 #include <unistd.h>
 
 /* The C library's own names of the four that give memory. */
@@ -16,29 +15,21 @@ void *__libc_memalign(size_t alignment, size_t size);
 
 static atomic_ulong growths;
 static unsigned long refused;
-static int later_too;
 static const char *met;
 
 /* Runs before main: what the loader took is not counted. */
 __attribute__((constructor)) static void begin(void) {
     const char *number = getenv("REFUSED_GROWTH");
-    const char *how = getenv("REFUSED");
     met = getenv("GROWTH_MET");
-    if (number && how && met) {
-        later_too = strcmp(how, "from") == 0;
-        growths = 0;
-        refused = strtoul(number, NULL, 10);
-    }
+    growths = 0;
+    refused = number && met ? strtoul(number, NULL, 10) : 0;
 }
 
 static int is_refused(void) {
-    unsigned long number = atomic_fetch_add(&growths, 1) + 1;
-    if (refused == 0 || number < refused || (number > refused && !later_too)) {
+    if (atomic_fetch_add(&growths, 1) + 1 != refused) {
         return 0;
     }
-    if (number == refused) {
-        close(open(met, O_WRONLY | O_CREAT, 0666));
-    }
+    close(open(met, O_WRONLY | O_CREAT, 0666));
     errno = ENOMEM;
     return 1;
 }
