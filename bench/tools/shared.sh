@@ -1,5 +1,6 @@
 # What the benchmarks of fleets, job lists and hostile input share. Sourced at the repository's root by bash.
 
+# shellcheck disable=SC2034  # for the scripts that source this one
 program=./crates/rvfleet/out/rvfleet
 work=$(mktemp -d)
 trap 'rm -rf "$work"' EXIT
@@ -22,12 +23,14 @@ prepare() {
     give_up "it needs gcc or clang"
 }
 
-# Times COUNT runs of a program, one after another, under a name; each must end with STATUS.
+# Times COUNT runs of a program, one after another, under a name; each must end with STATUS. What they print goes to
+# NAME.report.
 #   measure NAME COUNT STATUS PROGRAM [WORD...]
 measure() {
     local name=$1
     shift
-    "$work/timed" "$work/$name.times" "$@" || give_up "$name: a run failed"
+    "$work/timed" "$work/$name.times" "$@" >"$work/$name.report" 2>&1 ||
+        give_up "$name: $(tail -n 1 "$work/$name.report")"
 }
 
 # The least figure of a column over the rounds of a name: 1 the clock's seconds, 2 the processor's.
@@ -40,7 +43,7 @@ peak() {
     cut -d ' ' -f 3 "$work/$1.times" | sort -g | tail -n 1
 }
 
-# Bytes as the text of an ELF file's fields: numbers of two or of four bytes, little-endian.
+# Numbers as the bytes of an ELF file's fields, two or four each, the low one first.
 halves() {
     local number
     for number in "$@"; do
@@ -68,6 +71,12 @@ elf_header() {
 #   segment OFFSET ADDRESS SIZE
 segment() {
     words 1 "$1" "$2" "$2" "$3" "$3" 7 4
+}
+
+# A section header, of a section at a place of the file.
+#   section KIND OFFSET SIZE LINK ENTSIZE
+section() {
+    words 0 "$1" 0 0 "$2" "$3" "$4" 0 0 "$5"
 }
 
 # The ELF file of a flat image, whose first byte is the entry.
