@@ -58,7 +58,8 @@ words() {
     done
 }
 
-# The ELF header of an executable for RISC-V: its entry, and of its program and section headers the place and the number.
+# The ELF header of an executable for RISC-V: its entry, then of its program headers and of its section headers the
+# place and the number.
 #   elf_header ENTRY PROGRAMS SEGMENTS SECTIONS COUNT
 elf_header() {
     printf '\x7fELF\x01\x01\x01\x00\x00\x00\x00\x00\x00\x00\x00\x00'
