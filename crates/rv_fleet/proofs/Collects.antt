@@ -1,5 +1,5 @@
 -- From what workers made to the rows in order.
-use Rattle.std.proofs.Common.{◌≡◌, ℕ, suc, ◌+◌, ◌*◌, ◌<◌, Bool, true, nat_lt, List, [], ◌∷◌, map, length, take, All, IfOk, IfSome, None, Ok, Vec, Global, refl, sym, ap, ◌∙◌, subst, arith}
+use Rattle.std.proofs.Common.{◌≡◌, ℕ, suc, ◌+◌, ◌*◌, ◌<◌, Bool, true, nat_lt, List, ◌∷◌, map, length, take, All, IfOk, IfSome, None, Ok, Vec, Global, refl, sym, ap, ◌∙◌, subst, arith}
 use Rattle.std.specs.Prelude.{Option, slice_index_or}
 use Rattle.std.specs.Int.{div_ceil}
 use Rattle.std.specs.List.{filter}
@@ -11,7 +11,6 @@ use Rattle.rv_fleet.specs.declared.piece.Piece.{Piece}
 use Rattle.rv_fleet.specs.declared.row.Row.{Row}
 use Rattle.rv_fleet.specs.declared.worked.Worked.{Worked}
 use Rattle.rv_fleet.specs.Collected.{IsPiece, ArePieces}
-use Rattle.rv_fleet.specs.Drawn.{pieces_among}
 use Rattle.rv_fleet.specs.Draws.{numbers}
 use Rattle.rv_fleet.specs.Passes.{Draw}
 use Rattle.rv_fleet.specs.Pieces.{pieces_of, piece_at}

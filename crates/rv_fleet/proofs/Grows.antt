@@ -1,6 +1,5 @@
 -- What a pass draws in a row of calls.
-use Rattle.std.proofs.Common.{◌≡◌, ℕ, zero, suc, ◌+◌, ◌-◌, ◌<◌, ◌≤◌, ◌⊎◌, inl, inr, ⊎_elim, max, Bool, true, false, cond, nat_lt, List, [], ◌∷◌, ◌++◌, map, length, drop, Some, None, refl, sym, ap, ◌∙◌, subst, arith, true≢false, lt-ltb, le-ltb, append_assoc, append-nil}
-use Rattle.std.proofs.lemmas.Bool.{ltb-true, ltb-false}
+use Rattle.std.proofs.Common.{◌≡◌, ℕ, suc, ◌-◌, ◌<◌, ◌≤◌, ◌⊎◌, inl, inr, ⊎_elim, max, Bool, true, false, cond, nat_lt, List, [], ◌∷◌, ◌++◌, map, length, drop, Some, None, refl, sym, ap, ◌∙◌, subst, arith, lt-ltb, le-ltb, append_assoc, append-nil}
 use Rattle.std.proofs.lemmas.List.Elements.{filter-append}
 use Rattle.std.proofs.Math.Seq.{drop-append_seam}
 use Rattle.std.specs.Prelude.{Option}
@@ -9,9 +8,8 @@ use mathlib.Core.List.{map-append}
 use mathlib.Core.Logic.{dite}
 use native.Mathlib.Decide.{dec_lt}
 use Rattle.rv_fleet.specs.declared.view.Entry.{Entry}
-use Rattle.rv_fleet.specs.Draws.{IsIn, numbers, entry, first_of, past, is_past}
+use Rattle.rv_fleet.specs.Draws.{numbers, entry, first_of}
 use Rattle.rv_fleet.specs.Passes.{Draw, Held, has_ended, with_draw, AllBelow, piece_of}
-use Rattle.rv_fleet.proofs.Sums.{total-append, past_yes}
 use Rattle.rv_fleet.proofs.Passes.{ends_now}
 use Rattle.rv_fleet.specs.Drawn.{Grew, new_pieces}
 

@@ -36,7 +36,13 @@ fn flat_outcome(alloc: Global, bytes: &[u8], budget: u32) -> Result<Outcome, All
     if IMAGE_ROOM < bytes.len() {
         return Ok(refused(alloc, Refusal::ImageTooLong));
     }
-    run(alloc, flat_machine(alloc, bytes)?, budget, None, &mut Spare::new())
+    run(
+        alloc,
+        flat_machine(alloc, bytes)?,
+        budget,
+        None,
+        &mut Spare::new(),
+    )
 }
 
 fn flat_machine(alloc: Global, bytes: &[u8]) -> Result<Machine, AllocError>

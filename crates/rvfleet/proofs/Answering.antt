@@ -1,17 +1,17 @@
 -- Answers to words that the command takes.
-use Rattle.std.proofs.Common.{◌≡◌, ◌⊎◌, ◌∙◌, ◌≤◌, ◌||◌, ℕ, Bool, true, false, List, [], ◌∷◌, Option, Some, None, IfSome, Result, Ok, Err, refl, sym, ap, inl, inr, arith, length, nat_lt}
+use Rattle.std.proofs.Common.{◌≡◌, ◌⊎◌, ◌≤◌, ℕ, true, false, List, [], ◌∷◌, Option, Some, None, IfSome, Ok, refl, ap, inl, inr, arith, length}
 use Rattle.std.specs.Io.KnownBytes.{Appends, Keeps}
 use Rattle.std.proofs.lemmas.Bool.{le-ltb}
 use Rattle.rv_fleet.specs.declared.row.Row.{Row}
-use Rattle.rv_fleet.specs.Flat.{flat_row_of, image_room}
+use Rattle.rv_fleet.specs.Flat.{flat_row_of}
 use Rattle.rv_fleet.specs.Report.{report_text}
 use Rattle.rv_jobs.specs.declared.job.Job.{Job}
 use Rattle.rv_jobs.specs.Jobs.{most_script}
 use Rattle.rv_jobs.specs.Stores.{FileContents}
 use Rattle.rvfleet.specs.Answers.{Answers, Began, ForRows, HasFault, Reported, is_refused, status_of}
 use Rattle.rvfleet.specs.CommandLine.{Request, one, run}
-use Rattle.rvfleet.specs.One.{bytes_of, is_bad_one, is_bad_path, is_bad_script, one_jobs, script_of, script_or_none}
-use Rattle.rvfleet.specs.Plans.{ForJobs, MayFault, MayList, Stored, stored}
+use Rattle.rvfleet.specs.One.{bytes_of, is_bad_path, one_jobs, script_of, script_or_none}
+use Rattle.rvfleet.specs.Plans.{ForJobs, MayList, Stored, stored}
 use Rattle.rvfleet.specs.Raw.{raw_rows}
 
 -- ---- the four answers

@@ -31,7 +31,11 @@ fn report_without(alloc: Global, jobs: &str) -> Result<String, Fail> {
 // The row of the same job, with its image unreadable.
 fn push_unreadable(report: &mut String, row: &str) -> Result<(), Fail> {
     let (head, rest) = row.split_once('\n').ok_or("a line")?;
-    let verdict = if rest.contains("pass") { "fail" } else { "none" };
+    let verdict = if rest.contains("pass") {
+        "fail"
+    } else {
+        "none"
+    };
     report.push_str(head)?;
     report.push_str("\nend refused image-unreadable\nsteps 0\nconsole -\nsignature -\nverdict ")?;
     report.push_str(verdict)?;
@@ -60,7 +64,10 @@ fn misses_a_read(
 fn goes_on_without_a_file(rt: HostRuntime) -> Result<(), Fail> {
     let alloc = rt.alloc();
     for (fails_at, jobs, status) in FAILED_READS {
-        assert!(rt; misses_a_read(&rt, alloc, fails_at, jobs, status)?, "{fails_at}");
+        assert!(rt;
+            misses_a_read(&rt, alloc, fails_at, jobs, status)?,
+            "{fails_at}"
+        );
     }
     Ok(())
 }
@@ -91,7 +98,10 @@ fn ends_without_memory_for_a_file(rt: HostRuntime) -> Result<(), Fail> {
     for wants_at in 1..6 {
         let mut store = list_store(alloc, LIST)?;
         store.wants_at = wants_at;
-        assert!(rt; ends_at_read(&rt, alloc, &mut store, "rvfleet: out of memory\n")?, "{wants_at}");
+        assert!(rt;
+            ends_at_read(&rt, alloc, &mut store, "rvfleet: out of memory\n")?,
+            "{wants_at}"
+        );
     }
     Ok(())
 }
@@ -114,8 +124,15 @@ fn stops_at(
     words: &str,
     fails_at: usize,
 ) -> Result<bool, Fail> {
-    let cut = ask_into(rt, alloc, words, MemorySink::failing(alloc, 1, fails_at as u64))?;
-    let taken = LIST_REPORT.get(..fails_at.saturating_sub(1)).ok_or("as many bytes")?;
+    let cut = ask_into(
+        rt,
+        alloc,
+        words,
+        MemorySink::failing(alloc, 1, fails_at as u64),
+    )?;
+    let taken = LIST_REPORT
+        .get(..fails_at.saturating_sub(1))
+        .ok_or("as many bytes")?;
     Ok(cut.out.failures == 1 && cut.is(3, taken, "rvfleet: write failed\n")?)
 }
 
@@ -152,7 +169,14 @@ fn fails_behind(rt: &(impl Threads + Wait), alloc: Global, count: usize) -> Resu
     let bytes = ADD_AND_EXIT.get(..count).ok_or("12 bytes")?;
     let mut store = MemoryStore::new(alloc);
     let mut input = SlowReader { bytes, fails: true };
-    let answer = ask(rt, alloc, RAW_WORDS, &mut store, &mut input, MemorySink::new(alloc))?;
+    let answer = ask(
+        rt,
+        alloc,
+        RAW_WORDS,
+        &mut store,
+        &mut input,
+        MemorySink::new(alloc),
+    )?;
     answer.is(3, "", "rvfleet: read failed\n")
 }
 

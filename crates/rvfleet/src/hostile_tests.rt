@@ -121,7 +121,10 @@ fn cut_ending(left: usize, is_signed: bool) -> &'static str {
 fn cut_list(alloc: Global, keys: &str) -> Result<String, AllocError> {
     let mut list = String::new(alloc);
     for left in 0..IMAGE_SIZE + 1 {
-        write!(list, "[[job]]\nname = '{left}'\nimage = '{left}'\nbudget = 100\n{keys}\n")?;
+        write!(
+            list,
+            "[[job]]\nname = '{left}'\nimage = '{left}'\nbudget = 100\n{keys}\n"
+        )?;
     }
     Ok(list)
 }
@@ -160,7 +163,13 @@ fn refuses_cuts(rt: &(impl Threads + Wait), alloc: Global, keys: &str) -> Result
 #[test]
 fn refuses_cut_images(rt: HostRuntime) -> Result<(), Fail> {
     let alloc = rt.alloc();
-    assert!(rt; refuses_cuts(&rt, alloc, "signature = ['begin_signature', 'end_signature']")?);
+    assert!(rt;
+        refuses_cuts(
+            &rt,
+            alloc,
+            "signature = ['begin_signature', 'end_signature']"
+        )?
+    );
     assert!(rt; refuses_cuts(&rt, alloc, "")?);
     Ok(())
 }
@@ -186,7 +195,13 @@ fn reads_cut_list(rt: &(impl Threads + Wait), alloc: Global, left: usize) -> Res
     }
     let mut store = MemoryStore::of(alloc, "jobs", list)?;
     let answer = ask_store(rt, alloc, "run jobs", &mut store)?;
-    Ok(answer.status == 0 && answer.out.text()?.contains("end refused image-unreadable\n"))
+    Ok(
+        answer.status == 0
+            && answer
+                .out
+                .text()?
+                .contains("end refused image-unreadable\n"),
+    )
 }
 
 #[test]

@@ -78,7 +78,11 @@ fn job_run_of(line: &str) -> Option<JobRun<'_>> {
 fn list_of_one(alloc: Global, run: &JobRun<'_>) -> Result<String, AllocError> {
     let path = if run.file == "none" { "none" } else { "image" };
     let keys = run.keys;
-    let budget = if keys.starts_with("budget") { "" } else { "budget = 100, " };
+    let budget = if keys.starts_with("budget") {
+        ""
+    } else {
+        "budget = 100, "
+    };
     format!(in alloc; "job = [{{name = 'a.b-c_9', image = '{path}', {budget}{keys}}}]")
 }
 
@@ -96,7 +100,11 @@ fn report_of_one(alloc: Global, run: &JobRun<'_>) -> Result<String, AllocError> 
 }
 
 // Whether the program answers a list of one job as a line of the table says.
-pub(crate) fn runs_job(rt: &(impl Threads + Wait), alloc: Global, line: &str) -> Result<bool, Fail> {
+pub(crate) fn runs_job(
+    rt: &(impl Threads + Wait),
+    alloc: Global,
+    line: &str,
+) -> Result<bool, Fail> {
     let run = job_run_of(line).ok_or("six cells")?;
     let list = list_of_one(alloc, &run)?;
     let mut store = MemoryStore::of(alloc, "jobs", list.as_bytes())?;
@@ -184,7 +192,10 @@ fn refuses_lists(rt: HostRuntime) -> Result<(), Fail> {
 fn long_list(alloc: Global, first: &str, count: u32) -> Result<String, AllocError> {
     let mut list = String::from_str(alloc, first)?;
     for number in 0..count {
-        write!(list, "[[job]]\nname = '{number}'\nimage = 'image'\nbudget = 10\n")?;
+        write!(
+            list,
+            "[[job]]\nname = '{number}'\nimage = 'image'\nbudget = 10\n"
+        )?;
     }
     Ok(list)
 }
@@ -206,7 +217,9 @@ fn refuses_each(rt: &(impl Threads + Wait), alloc: Global, words: &str) -> Resul
     store.add(alloc, "image", file(alloc, "one 51")?)?;
     let answer = ask_store(rt, alloc, words, &mut store)?;
     let text = answer.out.text()?;
-    let refused = text.lines().filter(|line| *line == "end refused short-header");
+    let refused = text
+        .lines()
+        .filter(|line| *line == "end refused short-header");
     let is_whole = refused.count() == 4096 && text.ends_with("verdict none\ndone 4096\n");
     Ok(answer.status == 0 && is_whole && store.log.as_str() == "jobs image ")
 }
@@ -367,8 +380,16 @@ all three but the other job | image = 's.elf', budget = 5, S; image = 's.elf', b
 ";
 
 fn verdict_list(alloc: Global, jobs: &str) -> Result<String, AllocError> {
-    let jobs = jobs.replace(alloc, " S,", " signature = ['begin_signature', 'end_signature'],")?;
-    let jobs = jobs.replace(alloc, " S;", " signature = ['begin_signature', 'end_signature'];")?;
+    let jobs = jobs.replace(
+        alloc,
+        " S,",
+        " signature = ['begin_signature', 'end_signature'],",
+    )?;
+    let jobs = jobs.replace(
+        alloc,
+        " S;",
+        " signature = ['begin_signature', 'end_signature'];",
+    )?;
     let mut list = String::from_str(alloc, "job = [")?;
     for (name, job) in jobs.as_str().split(';').enumerate() {
         write!(list, "{{name = '{name}', {job}}}, ")?;
@@ -386,8 +407,16 @@ fn verdict_store(alloc: Global, list: &str) -> Result<MemoryStore, Fail> {
     store.add(alloc, "greatest", file(alloc, "code fff00513 X")?)?;
     store.add(alloc, "late break", file(alloc, "code 0001 9002")?)?;
     store.add(alloc, "illegal", file(alloc, "code 0000")?)?;
-    store.add(alloc, "put A", file(alloc, "code 100002b7 04100513 00a2a023 00000513 X")?)?;
-    store.add(alloc, "put B", file(alloc, "code 100002b7 04200513 00a2a023 00000513 X")?)?;
+    store.add(
+        alloc,
+        "put A",
+        file(alloc, "code 100002b7 04100513 00a2a023 00000513 X")?,
+    )?;
+    store.add(
+        alloc,
+        "put B",
+        file(alloc, "code 100002b7 04200513 00a2a023 00000513 X")?,
+    )?;
     Ok(store)
 }
 
@@ -429,14 +458,26 @@ fn judges_outcomes(rt: HostRuntime) -> Result<(), Fail> {
 #[test]
 fn refuses_references(rt: HostRuntime) -> Result<(), Fail> {
     let alloc = rt.alloc();
-    let jobs = "image = 's.elf', budget = 9, S, expect_signature = 'none'; image = 'cut.elf', budget = 9, S, expect_signature = 'long'";
+    let jobs =
+        "image = 's.elf', budget = 9, S, expect_signature = 'none'; image = 'cut.elf', budget = 9, S, expect_signature = 'long'";
     let list = verdict_list(alloc, jobs)?;
     let mut store = list_store(alloc, list.as_str())?;
     store.add(alloc, "long", vec![in alloc; 48u8; 16_777_217]?)?;
     let answer = ask_store(&rt, alloc, "run jobs", &mut store)?;
     let text = answer.out.text()?;
-    assert!(rt; text.contains("end refused reference-unreadable\nsteps 0\nconsole -\nsignature -\nverdict fail\n"));
-    assert!(rt; text.contains("end refused reference-too-long\nsteps 0\nconsole -\nsignature -\nverdict fail\n"));
-    assert_eq!(rt; (answer.status, store.log.as_str()), (1, "jobs s.elf none cut.elf long "));
+    assert!(rt;
+        text.contains(
+            "end refused reference-unreadable\nsteps 0\nconsole -\nsignature -\nverdict fail\n"
+        )
+    );
+    assert!(rt;
+        text.contains(
+            "end refused reference-too-long\nsteps 0\nconsole -\nsignature -\nverdict fail\n"
+        )
+    );
+    assert_eq!(rt;
+        (answer.status, store.log.as_str()),
+        (1, "jobs s.elf none cut.elf long ")
+    );
     Ok(())
 }

@@ -271,7 +271,14 @@ pub(crate) fn ask_raw(
 ) -> Result<Answer, AllocError> {
     let mut store = MemoryStore::new(alloc);
     let mut input = input;
-    ask(rt, alloc, line, &mut store, &mut input, MemorySink::new(alloc))
+    ask(
+        rt,
+        alloc,
+        line,
+        &mut store,
+        &mut input,
+        MemorySink::new(alloc),
+    )
 }
 
 pub(crate) fn ask_store<S: Store>(

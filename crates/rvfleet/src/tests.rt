@@ -6,8 +6,8 @@ use crate::input::read_at_most;
 use crate::one::{ScriptError, read_script};
 use crate::raw::run_raw;
 use crate::streams::StreamSink;
-use crate::words::run_words;
 use crate::testing::{Answer, MemorySink, MemoryStore, SlowReader, ask, ask_raw, ask_store, file};
+use crate::words::run_words;
 use rv_fleet::{FreeGate, Sink, put_all};
 use rv_jobs::{ReadError, Store};
 use samples::{CHECKSUM, UPPER, file_bytes, numbers};
@@ -157,9 +157,7 @@ fn push_repeated(text: &mut String, cell: &str) -> Result<(), Fail> {
 }
 
 // Whether the program answers a flat image as a line of the table says.
-fn runs_flat(
-    rt: &(impl Threads + Wait),
-    alloc: Global, line: &str) -> Result<bool, Fail> {
+fn runs_flat(rt: &(impl Threads + Wait), alloc: Global, line: &str) -> Result<bool, Fail> {
     let run = run_of(line).ok_or("six cells")?;
     let bytes = numbers(alloc, run.image)?;
     let words = format!(in alloc; "raw --budget {}", run.budget)?;
@@ -214,7 +212,9 @@ upper case digits | code 100002b7 0002a503 X | 100 | exit 175 | 3 | - | aF
 // Whether the program answers an ELF image as a line of the table says, and reads its path once.
 pub(crate) fn runs_elf(
     rt: &(impl Threads + Wait),
-    alloc: Global, line: &str) -> Result<bool, Fail> {
+    alloc: Global,
+    line: &str,
+) -> Result<bool, Fail> {
     let run = run_of(line).ok_or("six cells")?;
     let bytes = file(alloc, run.image)?;
     let mut store = MemoryStore::of(alloc, "image", bytes.as_slice())?;
@@ -254,7 +254,10 @@ const FIRMWARE_RUNS: [(&str, &str, &str, &str); 2] = [
 
 fn firmware_text(
     rt: &(impl Threads + Wait),
-    alloc: Global, digits: &str, input: &str) -> Result<Answer, Fail> {
+    alloc: Global,
+    digits: &str,
+    input: &str,
+) -> Result<Answer, Fail> {
     let bytes = file_bytes(alloc, digits)?;
     let mut store = MemoryStore::of(alloc, "image", bytes.as_slice())?;
     let words = format!(in alloc; "one image --budget 100000 --input-hex {input}")?;
@@ -333,7 +336,12 @@ fn reads_files(rt: HostRuntime) -> Result<(), Fail> {
     let alloc = rt.alloc();
     fs::write(&rt, IMAGE_FILE, file(alloc, "one")?)?;
     fs::write(&rt, EMPTY_FILE, Vec::new(alloc))?;
-    let ran = ask_store(&rt, alloc, "one image.elf --budget 10", &mut FileStore::new(&rt))?;
+    let ran = ask_store(
+        &rt,
+        alloc,
+        "one image.elf --budget 10",
+        &mut FileStore::new(&rt),
+    )?;
     let text = ran.out.text()?;
     assert!(rt; ran.status == 0 && text.starts_with("job 1 one\nend exit 5\nsteps 2\n"));
     assert_eq!(rt; file_answer(&rt, EMPTY_FILE), (Ok(0), 0));
@@ -389,9 +397,7 @@ run jobs --group x
 ";
 
 // Whether words are refused, and before the store is read.
-fn is_refused(
-    rt: &(impl Threads + Wait),
-    alloc: Global, line: &str) -> Result<bool, Fail> {
+fn is_refused(rt: &(impl Threads + Wait), alloc: Global, line: &str) -> Result<bool, Fail> {
     let mut store = MemoryStore::new(alloc);
     let answer = ask_store(rt, alloc, line, &mut store)?;
     Ok(store.reads == 0 && answer.is(2, "", "rvfleet: bad words\n")?)
@@ -493,7 +499,10 @@ Options:
 // Whether words are answered by this help.
 fn is_helped(
     rt: &(impl Threads + Wait),
-    alloc: Global, line: &str, text: &str) -> Result<bool, Fail> {
+    alloc: Global,
+    line: &str,
+    text: &str,
+) -> Result<bool, Fail> {
     ask_raw(rt, alloc, line, &[])?.is(0, text, "")
 }
 
@@ -523,7 +532,10 @@ done 1
 // The program's answer to a flat image that a slow reader gives.
 fn ask_slow(
     rt: &(impl Threads + Wait),
-    alloc: Global, bytes: &[u8], fails: bool) -> Result<Answer, AllocError> {
+    alloc: Global,
+    bytes: &[u8],
+    fails: bool,
+) -> Result<Answer, AllocError> {
     let mut store = MemoryStore::new(alloc);
     let mut input = SlowReader { bytes, fails };
     ask(
@@ -581,16 +593,16 @@ pub(crate) const ADD_AND_EXIT: [u8; 12] = [
 // The program's answer to that flat image, into a sink.
 fn ask_into(
     rt: &(impl Threads + Wait),
-    alloc: Global, out: MemorySink) -> Result<Answer, AllocError> {
+    alloc: Global,
+    out: MemorySink,
+) -> Result<Answer, AllocError> {
     let mut store = MemoryStore::new(alloc);
     let mut input: &[u8] = &ADD_AND_EXIT;
     ask(rt, alloc, RAW_WORDS, &mut store, &mut input, out)
 }
 
 // Whether a put that fails leaves the text of the puts before it, ten bytes each.
-fn stops_at(
-    rt: &(impl Threads + Wait),
-    alloc: Global, fails_at: u64) -> Result<bool, Fail> {
+fn stops_at(rt: &(impl Threads + Wait), alloc: Global, fails_at: u64) -> Result<bool, Fail> {
     let cut = ask_into(rt, alloc, MemorySink::failing(alloc, 10, fails_at))?;
     let taken = (fails_at as usize).saturating_sub(1).saturating_mul(10);
     let text = RAW_TEXT.get(..taken).ok_or("71 bytes")?;

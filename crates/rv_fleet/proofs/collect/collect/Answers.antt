@@ -1,4 +1,3 @@
-use Rattle.std.proofs.Common.{◌≡◌}
 use Rattle.std.proofs.lemmas.List.Elements.{All-rest}
 use Rattle.rv_fleet.specs.Promised.{HasWorked}
 use Rattle.rv_fleet.proofs.Collects.{All-first, pieces_worked}

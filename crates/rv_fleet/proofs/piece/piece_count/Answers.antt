@@ -1,4 +1,4 @@
-use Rattle.std.proofs.Common.{◌≡◌, ◌∙◌, arith, length}
+use Rattle.std.proofs.Common.{arith}
 use Rattle.rv_fleet.proofs.Chunks.{chunks_few}
 use Rattle.rv_fleet.proofs.piece.piece_count.Goals as goal
 

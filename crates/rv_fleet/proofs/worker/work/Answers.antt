@@ -1,4 +1,4 @@
-use Rattle.std.proofs.Common.{rules, ◌≡◌, ℕ, ◌∙◌, sym, ap, subst, refl, arith}
+use Rattle.std.proofs.Common.{◌∙◌, sym, ap, subst}
 use Rattle.rv_fleet.specs.Passes.{Draw, Held}
 use Rattle.rv_fleet.specs.Pieces.{piece_at}
 use Rattle.rv_fleet.specs.Drawn.{Grew}

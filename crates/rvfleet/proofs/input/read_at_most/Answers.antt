@@ -1,6 +1,5 @@
-use Rattle.std.proofs.Common.{arith, ◌∙◌}
-use Rattle.std.proofs.KnownBytes.{Consumes-trans}
-use Rattle.rvfleet.proofs.Incoming.{all_read, consumed, full_read}
+use Rattle.std.proofs.Common.{arith}
+use Rattle.rvfleet.proofs.Incoming.{all_read, full_read}
 use Rattle.rvfleet.proofs.input.read_at_most.Goals as goal
 
 pub returns-then-branch-eq0-clause-value : goal.returns-then-branch-eq0-clause-value

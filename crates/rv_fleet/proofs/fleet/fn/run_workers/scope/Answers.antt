@@ -1,4 +1,4 @@
-use Rattle.std.proofs.Common.{◌≡◌, ap}
+use Rattle.std.proofs.Common.{ap}
 use Rattle.std.proofs.lemmas.List.Elements.{All-push, All-rest, All-same}
 use Rattle.rv_fleet.specs.declared.worked.Works.{Works}
 use Rattle.rv_fleet.specs.Promised.{IsFresh}
