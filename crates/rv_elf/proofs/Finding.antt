@@ -1,6 +1,6 @@
 -- A search through the entries of a table, and a text at the front of bytes.
-use Rattle.std.proofs.Common.{◌≡◌, ◌∙◌, ◌<◌, ◌≤◌, ◌+◌, ◌-◌, ◌==◌, ℕ, suc, Bool, true, false, not, ◌&&◌, cond, List, [], ◌∷◌, Option, Some, None, refl, ap, sym, arith, map, length, drop, get_or, option_map, add-one, drop_of_length-le, le_refl}
-use Rattle.std.proofs.Math.Seq.{drop-cons}
+use Rattle.std.proofs.Common.{◌≡◌, ◌∙◌, ◌<◌, ◌≤◌, ◌+◌, ◌-◌, ◌==◌, ℕ, suc, Bool, true, false, not, ◌&&◌, ◌||◌, cond, List, [], ◌∷◌, Option, Some, None, refl, ap, sym, arith, map, length, get_or, option_map, nat_eq, eqb-true, ne_eqb, ◌≢◌}
+use Rattle.std.specs.List.{starts_with, list_any}
 use Rattle.std.specs.List.{find, range_with_len}
 use Rattle.std.specs.Option.{option_map_or}
 use Rattle.std.specs.Str.{bytes_eq}
@@ -62,15 +62,45 @@ begins_short [] text l = refl
 begins_short (b ∷ bs) [] l = absurd (omega arith)
 begins_short (b ∷ bs) (c ∷ cs) l = and_false_at (b == 0) (c == b) (begins bs cs) (begins_short bs cs (omega arith))
 
--- the test at a place of both
-pub begins_at : (bs text : List ℕ) (k : ℕ) → k < length bs → k < length text
-    → begins (drop k bs) (drop k text) ≡ not (get_or bs k 0 == 0) && ((get_or text k 0 == get_or bs k 0) && begins (drop (k + 1) bs) (drop (k + 1) text))
-begins_at bs text k l m = rw (drop-cons bs k 0, drop-cons text k 0) (rw add-one refl)
+all_three : (zero same ends starts any : Bool) → not zero && (same && (ends && (starts && not any))) ≡ ends && ((same && starts) && not ((same && zero) || any))
+all_three true true true true any = refl
+all_three true true true false any = refl
+all_three true true false starts any = refl
+all_three true false true starts any = refl
+all_three true false false starts any = refl
+all_three false true ends starts any = refl
+all_three false false true starts any = refl
+all_three false false false starts any = refl
 
--- and at the text's end
-begins_none : (b : ℕ) (bs text : List ℕ) → text ≡ [] → begins (b ∷ bs) text ≡ (b == 0)
-begins_none b bs text e = ap (begins (b ∷ bs)) e
+and_true : (b : Bool) → b ≡ b && true
+and_true true = refl
+and_true false = refl
 
-pub begins_end : (bs text : List ℕ) → length text < length bs → begins (drop (length text) bs) (drop (length text) text) ≡ (get_or bs (length text) 0 == 0)
-begins_end bs text l =
-    rw (drop-cons bs (length text) 0) (begins_none _ _ _ (drop_of_length-le text (le_refl (length text))))
+-- of two bytes that are the same, one is zero where the other is
+zero_alike : (same zero other starts any : Bool) → (same ≡ true → zero ≡ other) → (same && starts) && not ((same && zero) || any) ≡ (same && starts) && not (other || any)
+zero_alike true zero other starts any h = ap (λ x. starts && not (x || any)) (h refl)
+zero_alike false zero other starts any h = refl
+
+-- there is a zero byte behind as many bytes as the text has, these are the text, and it has no zero byte
+pub begins_in_parts : (bs text : List ℕ) → length text < length bs
+    → begins bs text ≡ (get_or bs (length text) 0 == 0) && (starts_with nat_eq bs text && not (list_any (λ c. c == 0) text))
+begins_in_parts [] text l = absurd (omega arith)
+begins_in_parts (b ∷ bs) [] l = and_true (b == 0)
+begins_in_parts (b ∷ bs) (c ∷ cs) l =
+    let ends = get_or bs (length cs) 0 == 0 in
+    let starts = starts_with nat_eq bs cs in
+    let any = list_any (λ y. y == 0) cs in
+    ap (λ r. not (b == 0) && ((c == b) && r)) (begins_in_parts bs cs (omega arith))
+    ∙ all_three (b == 0) (c == b) ends starts any
+    ∙ ap (λ r. ends && r) (zero_alike (c == b) (b == 0) (c == 0) starts any (λ e. ap (λ x. x == 0) (sym (eqb-true c b e))))
+
+module _ (bs text : List ℕ) (long : length text < length bs) where
+  parts : begins_with bs text ≡ (get_or bs (length text) 0 == 0) && (starts_with nat_eq bs text && not (list_any (λ c. c == 0) text))
+  parts = begins_by_bytes bs text ∙ begins_in_parts bs text long
+
+  -- where another byte stands behind the text, there is none
+  pub begins_without_end : get_or bs (length text) 0 ≢ 0 → begins_with bs text ≡ false
+  begins_without_end n = parts ∙ ap (λ e. e && (starts_with nat_eq bs text && not (list_any (λ c. c == 0) text))) (ne_eqb _ 0 n)
+
+  pub begins_with_end : get_or bs (length text) 0 ≡ 0 → begins_with bs text ≡ (starts_with nat_eq bs text && not (list_any (λ c. c == 0) text))
+  begins_with_end e = parts ∙ ap (λ x. (x == 0) && (starts_with nat_eq bs text && not (list_any (λ c. c == 0) text))) e

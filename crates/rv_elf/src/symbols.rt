@@ -119,18 +119,13 @@ fn tail(bytes: &[u8], at: usize) -> &[u8]
     &bytes[at.min(bytes.len())..]
 }
 
-/// Whether bytes begin with a text and a zero byte, where the text has none: compared byte by byte up
-/// to the first that differs.
+/// Whether bytes begin with a text and a zero byte, where the text has none. The text itself is looked
+/// through last, since few bytes come so far.
 fn begins_with(bytes: &[u8], text: &[u8]) -> bool
     ensures { result ≡ begins_with bytes.now text.now }
 {
-    if bytes.len() <= text.len() {
+    if bytes.len() <= text.len() || bytes[text.len()] != 0 {
         return false;
     }
-    for (k, byte) in text.iter().enumerate() {
-        if bytes[k] == 0 || *byte != bytes[k] {
-            return false;
-        }
-    }
-    bytes[text.len()] == 0
+    bytes.starts_with(text) && !text.contains(&0)
 }
