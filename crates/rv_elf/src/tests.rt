@@ -5,17 +5,9 @@ use crate::{
 use rv_isa::Isa;
 use rv_memory::{Bus, Map, Misaligned, Region, Width};
 use samples::{CHECKSUM, ONE_SEGMENT, SIGNATURE, TWO_SEGMENTS, UPPER, UPPER_STRIPPED, file_bytes};
-use std::alloc::Global;
+use std::alloc::{AllocError, Global};
 use std::process::Abort;
 use std::test::Fail;
-
-const HALF_ZERO: &[u8] = &[0, 0];
-
-const HALF_MOST: &[u8] = &[0xff, 0xff];
-
-const WORD_ZERO: &[u8] = &[0, 0, 0, 0];
-
-const WORD_MOST: &[u8] = &[0xff, 0xff, 0xff, 0xff];
 
 const MEMORY: Region = Region {
     base: 0x8000_0000,
@@ -35,6 +27,38 @@ fn set(
     assert!(rt; at <= file.len() && field.len() <= file.len() - at);
     changed[at..at + field.len()].copy_from_slice(field);
     Ok(changed)
+}
+
+/// A file with other bytes: each change is `AT=BYTES`, in hexadecimal digits.
+fn changed(rt: &impl Abort, alloc: Global, file: &[u8], changes: &str) -> Result<Vec<u8>, Fail> {
+    let mut changed = file.to_vec(alloc)?;
+    for change in changes.split(' ') {
+        if !change.is_empty() {
+            let (at, bytes) = change.split_once('=').ok_or("a change")?;
+            let at = usize::from_str_radix(at, 16)?;
+            let bytes = file_bytes(alloc, bytes)?;
+            changed = set(rt, alloc, &changed, at, &bytes)?;
+        }
+    }
+    Ok(changed)
+}
+
+/// The file of `one` segment or of `two`, with the changes that follow.
+fn file_of(rt: &impl Abort, alloc: Global, text: &str) -> Result<Vec<u8>, Fail> {
+    let (name, changes) = text.split_once(' ').unwrap_or((text, ""));
+    match name {
+        "one" => changed(rt, alloc, &ONE_SEGMENT, changes),
+        "two" => changed(rt, alloc, &TWO_SEGMENTS, changes),
+        _ => Err("one or two".into()),
+    }
+}
+
+/// The name of a refusal, or `good` where there is none.
+fn name_of(alloc: Global, refusal: Option<ImageError>) -> Result<String, AllocError> {
+    match refusal {
+        Some(error) => format!(in alloc; "{error:?}"),
+        None => String::from_str(alloc, "good"),
+    }
 }
 
 fn refusal(alloc: Global, file: &[u8]) -> Option<ImageError> {
@@ -94,202 +118,99 @@ fn cut_files(rt: HostRuntime) {
     }
 }
 
+// label | file | what is wrong with it
+const FIELDS: &str = "\
+magic 0 | one 0=00 | BadMagic
+magic 0 most | one 0=ff | BadMagic
+magic 1 | one 1=00 | BadMagic
+magic 1 most | one 1=ff | BadMagic
+magic 2 | one 2=00 | BadMagic
+magic 2 most | one 2=ff | BadMagic
+magic 3 | one 3=00 | BadMagic
+magic 3 most | one 3=ff | BadMagic
+class | one 4=00 | Not32Bit
+class 64 | one 4=02 | Not32Bit
+class most | one 4=ff | Not32Bit
+data | one 5=00 | NotLittleEndian
+data big | one 5=02 | NotLittleEndian
+data most | one 5=ff | NotLittleEndian
+version | one 6=00 | BadVersion
+version most | one 6=ff | BadVersion
+e_version | one 14=00000000 | BadVersion
+e_version most | one 14=ffffffff | BadVersion
+e_type | one 10=0000 | NotExecutable
+e_type shared | one 10=0300 | NotExecutable
+e_type most | one 10=ffff | NotExecutable
+e_machine | one 12=0000 | NotRiscv
+e_machine most | one 12=ffff | NotRiscv
+e_entry | one 18=00000000 | good
+e_entry most | one 18=ffffffff | EntryOdd
+e_phoff | one 1c=00000000 | NoSegment
+e_phoff one on | one 1c=41000000 | ProgramTable
+e_phoff most | one 1c=ffffffff | ProgramTable
+e_shoff | one 20=00000000 | good
+e_shoff most | one 20=ffffffff | good
+e_flags | one 24=00000000 | good
+e_flags most | one 24=ffffffff | good
+e_ehsize | one 28=0000 | good
+e_ehsize most | one 28=ffff | good
+e_phentsize | one 2a=0000 | ProgramTable
+e_phentsize most | one 2a=ffff | ProgramTable
+e_phnum | one 2c=0000 | NoSegment
+e_phnum most | one 2c=ffff | ProgramTable
+sections | one 2e=000000000000 | good
+sections most | one 2e=ffffffffffff | good
+type | one 34=00000000 | NoSegment
+type dynamic | one 34=02000000 | Dynamic
+type interpreter | one 34=03000000 | Dynamic
+type of the table | one 34=06000000 | NoSegment
+type most | one 34=ffffffff | NoSegment
+offset | one 38=00000000 | good
+offset one on | one 38=55000000 | SegmentFile
+offset most | one 38=ffffffff | SegmentFile
+vaddr most | one 3c=ffffffff | good
+paddr most | one 40=ffffffff | good
+filesz | one 44=00000000 | good
+filesz most | one 44=ffffffff | SegmentSizes
+memsz | one 48=00000000 | SegmentSizes
+memsz most | one 48=ffffffff | good
+flags and alignment | one 4c=0000000000000000 | good
+flags most | one 4c=ffffffff | good
+";
+
+/// Whether reading the file of a row answers as it says.
+fn reads_file(rt: &impl Abort, alloc: Global, row: &str) -> Result<bool, Fail> {
+    let mut cells = row.split('|');
+    let _label = cells.next();
+    let file = file_of(rt, alloc, cells.next().unwrap_or("").trim())?;
+    let name = name_of(alloc, refusal(alloc, &file))?;
+    Ok(name.as_str() == cells.next().unwrap_or("").trim())
+}
+
 #[test]
 fn fields(rt: HostRuntime) -> Result<(), Fail> {
-    let alloc = rt.alloc();
-    let rows: [(&str, usize, &[u8], Option<ImageError>); 56] = [
-        ("magic 0", 0, &[0], Some(ImageError::BadMagic)),
-        ("magic 0 most", 0, &[0xff], Some(ImageError::BadMagic)),
-        ("magic 1", 1, &[0], Some(ImageError::BadMagic)),
-        ("magic 1 most", 1, &[0xff], Some(ImageError::BadMagic)),
-        ("magic 2", 2, &[0], Some(ImageError::BadMagic)),
-        ("magic 2 most", 2, &[0xff], Some(ImageError::BadMagic)),
-        ("magic 3", 3, &[0], Some(ImageError::BadMagic)),
-        ("magic 3 most", 3, &[0xff], Some(ImageError::BadMagic)),
-        ("class", 4, &[0], Some(ImageError::Not32Bit)),
-        ("class 64", 4, &[2], Some(ImageError::Not32Bit)),
-        ("class most", 4, &[0xff], Some(ImageError::Not32Bit)),
-        ("data", 5, &[0], Some(ImageError::NotLittleEndian)),
-        ("data big", 5, &[2], Some(ImageError::NotLittleEndian)),
-        ("data most", 5, &[0xff], Some(ImageError::NotLittleEndian)),
-        ("version", 6, &[0], Some(ImageError::BadVersion)),
-        ("version most", 6, &[0xff], Some(ImageError::BadVersion)),
-        ("e_version", 20, WORD_ZERO, Some(ImageError::BadVersion)),
-        (
-            "e_version most",
-            20,
-            WORD_MOST,
-            Some(ImageError::BadVersion),
-        ),
-        ("e_type", 16, HALF_ZERO, Some(ImageError::NotExecutable)),
-        (
-            "e_type shared",
-            16,
-            &[3, 0],
-            Some(ImageError::NotExecutable),
-        ),
-        (
-            "e_type most",
-            16,
-            HALF_MOST,
-            Some(ImageError::NotExecutable),
-        ),
-        ("e_machine", 18, HALF_ZERO, Some(ImageError::NotRiscv)),
-        ("e_machine most", 18, HALF_MOST, Some(ImageError::NotRiscv)),
-        ("e_entry", 24, WORD_ZERO, None),
-        ("e_entry most", 24, WORD_MOST, Some(ImageError::EntryOdd)),
-        ("e_phoff", 28, WORD_ZERO, Some(ImageError::NoSegment)),
-        (
-            "e_phoff one on",
-            28,
-            &[0x41, 0, 0, 0],
-            Some(ImageError::ProgramTable),
-        ),
-        (
-            "e_phoff most",
-            28,
-            WORD_MOST,
-            Some(ImageError::ProgramTable),
-        ),
-        ("e_shoff", 32, WORD_ZERO, None),
-        ("e_shoff most", 32, WORD_MOST, None),
-        ("e_flags", 36, WORD_ZERO, None),
-        ("e_flags most", 36, WORD_MOST, None),
-        ("e_ehsize", 40, HALF_ZERO, None),
-        ("e_ehsize most", 40, HALF_MOST, None),
-        ("e_phentsize", 42, HALF_ZERO, Some(ImageError::ProgramTable)),
-        (
-            "e_phentsize most",
-            42,
-            HALF_MOST,
-            Some(ImageError::ProgramTable),
-        ),
-        ("e_phnum", 44, HALF_ZERO, Some(ImageError::NoSegment)),
-        (
-            "e_phnum most",
-            44,
-            HALF_MOST,
-            Some(ImageError::ProgramTable),
-        ),
-        ("sections", 46, &[0, 0, 0, 0, 0, 0], None),
-        (
-            "sections most",
-            46,
-            &[0xff, 0xff, 0xff, 0xff, 0xff, 0xff],
-            None,
-        ),
-        ("type", 52, WORD_ZERO, Some(ImageError::NoSegment)),
-        ("type dynamic", 52, &[2, 0, 0, 0], Some(ImageError::Dynamic)),
-        (
-            "type interpreter",
-            52,
-            &[3, 0, 0, 0],
-            Some(ImageError::Dynamic),
-        ),
-        (
-            "type of the table",
-            52,
-            &[6, 0, 0, 0],
-            Some(ImageError::NoSegment),
-        ),
-        ("type most", 52, WORD_MOST, Some(ImageError::NoSegment)),
-        ("offset", 56, WORD_ZERO, None),
-        (
-            "offset one on",
-            56,
-            &[85, 0, 0, 0],
-            Some(ImageError::SegmentFile),
-        ),
-        ("offset most", 56, WORD_MOST, Some(ImageError::SegmentFile)),
-        ("vaddr most", 60, WORD_MOST, None),
-        ("paddr most", 64, WORD_MOST, None),
-        ("filesz", 68, WORD_ZERO, None),
-        ("filesz most", 68, WORD_MOST, Some(ImageError::SegmentSizes)),
-        ("memsz", 72, WORD_ZERO, Some(ImageError::SegmentSizes)),
-        ("memsz most", 72, WORD_MOST, None),
-        ("flags and alignment", 76, &[0, 0, 0, 0, 0, 0, 0, 0], None),
-        ("flags most", 76, WORD_MOST, None),
-    ];
-    for (label, at, field, error) in rows {
-        let file = set(&rt, alloc, &ONE_SEGMENT, at, field)?;
-        assert_eq!(&rt; refusal(alloc, &file), error, "{label}");
+    for row in FIELDS.lines() {
+        assert!(&rt; reads_file(&rt, rt.alloc(), row)?, "{row}");
     }
     Ok(())
 }
 
+// label | file with two faults | what is wrong with it
+const FIRST_OF_TWO: &str = "\
+class and magic | two 4=00 0=00 | BadMagic
+machine and type | two 12=0000 10=0000 | NotExecutable
+sizes of the first, and a dynamic second | two 48=00000000 54=02000000 | Dynamic
+bytes of the first, and sizes of the second | two 38=ffffffff 68=00000000 | SegmentSizes
+no segment, and an odd entry | two 2c=0000 18=ffffffff | NoSegment
+no entries, and a wrong size of them | two 2c=0000 2a=0000 | NoSegment
+no bytes, past the file | two 44=00000000 38=ffffffff | good
+no second segment | two 64=0000000000000000 58=ffffffff | good
+";
+
 #[test]
 fn first_of_two(rt: HostRuntime) -> Result<(), Fail> {
-    let alloc = rt.alloc();
-    let rows: [(&str, usize, &[u8], usize, &[u8], Option<ImageError>); 8] = [
-        (
-            "class and magic",
-            4,
-            &[0],
-            0,
-            &[0],
-            Some(ImageError::BadMagic),
-        ),
-        (
-            "machine and type",
-            18,
-            HALF_ZERO,
-            16,
-            HALF_ZERO,
-            Some(ImageError::NotExecutable),
-        ),
-        (
-            "sizes of the first, and a dynamic second",
-            72,
-            WORD_ZERO,
-            84,
-            &[2, 0, 0, 0],
-            Some(ImageError::Dynamic),
-        ),
-        (
-            "bytes of the first, and sizes of the second",
-            56,
-            WORD_MOST,
-            104,
-            WORD_ZERO,
-            Some(ImageError::SegmentSizes),
-        ),
-        (
-            "no segment, and an odd entry",
-            44,
-            HALF_ZERO,
-            24,
-            WORD_MOST,
-            Some(ImageError::NoSegment),
-        ),
-        (
-            "no entries, and a wrong size of them",
-            44,
-            HALF_ZERO,
-            42,
-            HALF_ZERO,
-            Some(ImageError::NoSegment),
-        ),
-        (
-            "no bytes, past the file",
-            68,
-            WORD_ZERO,
-            56,
-            WORD_MOST,
-            None,
-        ),
-        (
-            "no second segment",
-            100,
-            &[0, 0, 0, 0, 0, 0, 0, 0],
-            88,
-            WORD_MOST,
-            None,
-        ),
-    ];
-    for (label, at, field, and_at, other, error) in rows {
-        let once = set(&rt, alloc, &TWO_SEGMENTS, at, field)?;
-        let file = set(&rt, alloc, &once, and_at, other)?;
-        assert_eq!(&rt; refusal(alloc, &file), error, "{label}");
+    for row in FIRST_OF_TWO.lines() {
+        assert!(&rt; reads_file(&rt, rt.alloc(), row)?, "{row}");
     }
     Ok(())
 }
@@ -322,113 +243,83 @@ fn long_tables(rt: HostRuntime) -> Result<(), Fail> {
     Ok(())
 }
 
+/// A row of a file that is loaded: into which region, and at which of its addresses.
+#[derive(Drop)]
+struct Loading<'a> {
+    file: &'a str,
+    region: Region,
+    at: LoadAt,
+    answer: &'a str,
+}
+
+fn region_of(name: &str) -> Option<Region> {
+    match name {
+        "memory" => Some(MEMORY),
+        "small" => Some(Region { size: 8, ..MEMORY }),
+        "read-only" => Some(Region {
+            size: 4096,
+            writable: false,
+            ..MEMORY
+        }),
+        _ => None,
+    }
+}
+
+fn load_at_of(name: &str) -> Option<LoadAt> {
+    match name {
+        "physical" => Some(LoadAt::Physical),
+        "virtual" => Some(LoadAt::Virtual),
+        _ => None,
+    }
+}
+
+fn loading_of(row: &str) -> Option<Loading<'_>> {
+    let mut cells = row.split('|');
+    let _label = cells.next()?;
+    Some(Loading {
+        file: cells.next()?.trim(),
+        region: region_of(cells.next()?.trim())?,
+        at: load_at_of(cells.next()?.trim())?,
+        answer: cells.next()?.trim(),
+    })
+}
+
+// label | file | region | addresses | what is wrong with it
+const MAPS: &str = "\
+as it is | one 3c=00 | memory | physical | good
+vaddr | one 3c=00000000 | memory | physical | SegmentMap
+vaddr most | one 3c=ffffffff | memory | physical | SegmentMap
+paddr | one 40=00000000 | memory | physical | SegmentMap
+paddr most | one 40=ffffffff | memory | physical | SegmentMap
+paddr at the other | one 40=00000000 | memory | virtual | good
+memsz of the region | one 48=00001000 | memory | physical | good
+memsz past it | one 48=04001000 | memory | physical | SegmentMap
+memsz most | one 48=ffffffff | memory | physical | SegmentMap
+small region | one 3c=00 | small | physical | SegmentMap
+small region, fitting | one 44=0800000008000000 | small | physical | good
+two | two 3c=00 | memory | physical | good
+within the first | two 60=0800 | memory | physical | SegmentOverlap
+within it at the other | two 60=0800 | memory | virtual | good
+at its last byte | two 60=0f00 | memory | physical | SegmentOverlap
+behind it | two 60=1000 | memory | physical | good
+no bytes within it | two 60=0800008000000000 | memory | physical | good
+a map first | two 60=0800 | small | physical | SegmentMap
+";
+
+/// Whether checking the file of a row against its map answers as it says.
+fn checks_map(rt: &impl Abort, alloc: Global, row: &str) -> Result<bool, Fail> {
+    let row = loading_of(row).ok_or("five cells")?;
+    let file = file_of(rt, alloc, row.file)?;
+    let image = read_image(alloc, &file, Isa::Imc)?;
+    let map = Map::of(&[row.region])?;
+    let name = name_of(alloc, check_map(&image, &map, row.at).err())?;
+    Ok(name.as_str() == row.answer)
+}
+
 #[test]
 fn maps(rt: HostRuntime) -> Result<(), Fail> {
-    let alloc = rt.alloc();
-    let small = Region { size: 8, ..MEMORY };
-    let one: &[u8] = &ONE_SEGMENT;
-    let two: &[u8] = &TWO_SEGMENTS;
-    let physical = LoadAt::Physical;
-    let virtual_ = LoadAt::Virtual;
-    let no_map = Some(ImageError::SegmentMap);
-    let overlap = Some(ImageError::SegmentOverlap);
-    let rows: [(
-        &str,
-        &[u8],
-        usize,
-        &[u8],
-        Region,
-        LoadAt,
-        Option<ImageError>,
-    ); 18] = [
-        ("as it is", one, 60, &[0], MEMORY, physical, None),
-        ("vaddr", one, 60, WORD_ZERO, MEMORY, physical, no_map),
-        ("vaddr most", one, 60, WORD_MOST, MEMORY, physical, no_map),
-        ("paddr", one, 64, WORD_ZERO, MEMORY, physical, no_map),
-        ("paddr most", one, 64, WORD_MOST, MEMORY, physical, no_map),
-        (
-            "paddr at the other",
-            one,
-            64,
-            WORD_ZERO,
-            MEMORY,
-            virtual_,
-            None,
-        ),
-        (
-            "memsz of the region",
-            one,
-            72,
-            &[0, 0, 0x10, 0],
-            MEMORY,
-            physical,
-            None,
-        ),
-        (
-            "memsz past it",
-            one,
-            72,
-            &[4, 0, 0x10, 0],
-            MEMORY,
-            physical,
-            no_map,
-        ),
-        ("memsz most", one, 72, WORD_MOST, MEMORY, physical, no_map),
-        ("small region", one, 60, &[0], small, physical, no_map),
-        (
-            "small region, fitting",
-            one,
-            68,
-            &[8, 0, 0, 0, 8, 0, 0, 0],
-            small,
-            physical,
-            None,
-        ),
-        ("two", two, 60, &[0], MEMORY, physical, None),
-        (
-            "within the first",
-            two,
-            96,
-            &[8, 0],
-            MEMORY,
-            physical,
-            overlap,
-        ),
-        (
-            "within it at the other",
-            two,
-            96,
-            &[8, 0],
-            MEMORY,
-            virtual_,
-            None,
-        ),
-        (
-            "at its last byte",
-            two,
-            96,
-            &[0x0f, 0],
-            MEMORY,
-            physical,
-            overlap,
-        ),
-        ("behind it", two, 96, &[0x10, 0], MEMORY, physical, None),
-        (
-            "no bytes within it",
-            two,
-            96,
-            &[8, 0, 0, 0x80, 0, 0, 0, 0],
-            MEMORY,
-            physical,
-            None,
-        ),
-        ("a map first", two, 96, &[8, 0], small, physical, no_map),
-    ];
-    for (label, file, at, field, region, load_at, error) in rows {
-        let file = set(&rt, alloc, file, at, field)?;
-        let image = read_image(alloc, &file, Isa::Imc)?;
-        let map = Map::of(&[region])?;
-        assert_eq!(&rt; check_map(&image, &map, load_at).err(), error, "{label}");
+    for row in MAPS.lines() {
+        assert!(&rt; checks_map(&rt, rt.alloc(), row)?, "{row}");
     }
     Ok(())
 }
@@ -443,89 +334,45 @@ fn loaded(alloc: Global, file: &[u8], region: Region, at: LoadAt) -> Result<Bus,
     Ok(bus)
 }
 
-#[test]
-fn memory(rt: HostRuntime) -> Result<(), Fail> {
-    let alloc = rt.alloc();
-    let read_only = Region {
-        size: 4096,
-        writable: false,
-        ..MEMORY
-    };
-    let from_the_header = set(&rt, alloc, &ONE_SEGMENT, 56, WORD_ZERO)?;
-    let short = set(&rt, alloc, &ONE_SEGMENT, 68, &[8])?;
-    let nothing = set(&rt, alloc, &ONE_SEGMENT, 68, WORD_ZERO)?;
-    let past = set(&rt, alloc, &nothing, 56, WORD_MOST)?;
-    let one: &[u8] = &ONE_SEGMENT;
-    let two: &[u8] = &TWO_SEGMENTS;
-    let physical = LoadAt::Physical;
-    let virtual_ = LoadAt::Virtual;
-    let rows = [
-        ("one", one, MEMORY, physical, 0x8000_0000, 0x0050_0513),
-        ("its end", one, MEMORY, physical, 0x8000_0008, 0x0000_0073),
-        ("behind it", one, MEMORY, physical, 0x8000_000c, 0),
-        ("the last", one, MEMORY, physical, 0x800f_fffc, 0),
-        (
-            "one, virtual",
-            one,
-            MEMORY,
-            virtual_,
-            0x8000_0004,
-            0x05d0_0893,
-        ),
-        (
-            "read-only",
-            one,
-            read_only,
-            physical,
-            0x8000_0004,
-            0x05d0_0893,
-        ),
-        ("two", two, MEMORY, physical, 0x8000_0004, 0x1002_a503),
-        ("second", two, MEMORY, physical, 0x8000_0200, 0x2a),
-        ("second's vaddr", two, MEMORY, physical, 0x8000_0100, 0),
-        (
-            "two, virtual",
-            two,
-            MEMORY,
-            virtual_,
-            0x8000_0004,
-            0x1002_a503,
-        ),
-        ("second, virtual", two, MEMORY, virtual_, 0x8000_0100, 0x2a),
-        ("second's paddr", two, MEMORY, virtual_, 0x8000_0200, 0),
-        (
-            "header",
-            &from_the_header,
-            MEMORY,
-            physical,
-            0x8000_0000,
-            0x464c_457f,
-        ),
-        ("short", &short, MEMORY, physical, 0x8000_0004, 0x05d0_0893),
-        ("behind short", &short, MEMORY, physical, 0x8000_0008, 0),
-        ("nothing", &nothing, MEMORY, physical, 0x8000_0000, 0),
-        ("past the file", &past, MEMORY, physical, 0x8000_0000, 0),
-    ];
-    for (label, file, region, at, addr, word) in rows {
-        let mut bus = loaded(alloc, file, region, at)?;
-        assert_eq!(&rt; bus.load(addr, Width::Word), Ok(word), "{label}");
-        assert_eq!(&rt; bus.fetch_word(addr), Some(word), "{label}");
-        assert!(&rt; bus.console().is_empty());
-    }
-    Ok(())
+// label | file | region | addresses | address=word
+const WORDS: &str = "\
+one | one | memory | physical | 80000000=00500513
+its end | one | memory | physical | 80000008=00000073
+behind it | one | memory | physical | 8000000c=00000000
+the last | one | memory | physical | 800ffffc=00000000
+one, virtual | one | memory | virtual | 80000004=05d00893
+read-only | one | read-only | physical | 80000004=05d00893
+two | two | memory | physical | 80000004=1002a503
+second | two | memory | physical | 80000200=0000002a
+second's vaddr | two | memory | physical | 80000100=00000000
+two, virtual | two | memory | virtual | 80000004=1002a503
+second, virtual | two | memory | virtual | 80000100=0000002a
+second's paddr | two | memory | virtual | 80000200=00000000
+header | one 38=00000000 | memory | physical | 80000000=464c457f
+short | one 44=08 | memory | physical | 80000004=05d00893
+behind short | one 44=08 | memory | physical | 80000008=00000000
+nothing | one 44=00000000 | memory | physical | 80000000=00000000
+past the file | one 44=00000000 38=ffffffff | memory | physical | 80000000=00000000
+";
+
+/// Whether the word of a row is loaded and fetched, and the console is empty.
+fn has_word(rt: &impl Abort, alloc: Global, row: &str) -> Result<bool, Fail> {
+    let row = loading_of(row).ok_or("five cells")?;
+    let (addr, word) = row.answer.split_once('=').ok_or("an address and a word")?;
+    let addr = u32::from_str_radix(addr, 16)?;
+    let word = u32::from_str_radix(word, 16)?;
+    let file = file_of(rt, alloc, row.file)?;
+    let mut bus = loaded(alloc, &file, row.region, row.at)?;
+    let is_loaded = bus.load(addr, Width::Word) == Ok(word);
+    Ok(is_loaded && bus.fetch_word(addr) == Some(word) && bus.console().is_empty())
 }
 
-/// A file with other bytes: each change is `AT=BYTES`, in hexadecimal digits.
-fn file_of(rt: &impl Abort, alloc: Global, groups: &str, changes: &str) -> Result<Vec<u8>, Fail> {
-    let mut file = file_bytes(alloc, groups)?;
-    for change in changes.split(' ') {
-        if let Some((at, bytes)) = change.split_once('=') {
-            let at = usize::from_str_radix(at, 16)?;
-            let bytes = file_bytes(alloc, bytes)?;
-            file = set(rt, alloc, &file, at, &bytes)?;
-        }
+#[test]
+fn memory(rt: HostRuntime) -> Result<(), Fail> {
+    for row in WORDS.lines() {
+        assert!(&rt; has_word(&rt, rt.alloc(), row)?, "{row}");
     }
-    Ok(file)
+    Ok(())
 }
 
 /// What asking a file for a symbol answers: eight digits of its value, or the refusal's name.
@@ -542,12 +389,13 @@ fn symbol_in(alloc: Global, file: &[u8], name: &str) -> Result<String, Fail> {
 
 /// Rows of changes to the file, a name, and the answer.
 fn expect_symbols(rt: &impl Abort, alloc: Global, groups: &str, rows: &str) -> Result<(), Fail> {
+    let file = file_bytes(alloc, groups)?;
     for row in rows.lines() {
         let mut cells = row.split('|');
         let changes = cells.next().unwrap_or("").trim();
         let name = cells.next().unwrap_or("").trim();
         let answer = cells.next().unwrap_or("").trim();
-        let file = file_of(rt, alloc, groups, changes)?;
+        let file = changed(rt, alloc, &file, changes)?;
         let found = symbol_in(alloc, &file, name)?;
         assert_eq!(rt; found.as_str(), answer, "{row}");
     }
@@ -626,6 +474,26 @@ fn is_signature(map: &Map, begin: u32, end: u32) -> bool {
     check_signature(begin, end, map).is_ok()
 }
 
+// begin, end, and whether there is a signature between them
+const SIGNATURE_RANGES: [(u32, u32, bool); 16] = [
+    (0x8000_0000, 0x8004_0000, true),
+    (0x8000_0000, 0x8004_0004, false),
+    (0x8000_0004, 0x8004_0008, false),
+    (0, 0, true),
+    (0x8000_0004, 0x8000_0000, false),
+    (0x8000_0001, 0x8000_0004, false),
+    (0x8000_0002, 0x8000_0004, false),
+    (0x8000_0000, 0x8000_0001, false),
+    (0x8000_0000, 0x8000_0002, false),
+    (0x8000_0001, 0x8000_0001, false),
+    (0x8000_0002, 0x8000_0002, false),
+    (0x800f_fffc, 0x8010_0000, true),
+    (0x800f_fffc, 0x8010_0004, false),
+    (0x7fff_fffc, 0x8000_0004, false),
+    (0x2000_0008, 0x2000_0010, true),
+    (0x2000_0004, 0x2000_000c, false),
+];
+
 #[test]
 fn signature_ranges(rt: HostRuntime) -> Result<(), Fail> {
     let low = Region {
@@ -638,25 +506,7 @@ fn signature_ranges(rt: HostRuntime) -> Result<(), Fail> {
         ..low
     };
     let map = Map::of(&[MEMORY, low, high])?;
-    let rows = [
-        (0x8000_0000, 0x8004_0000, true),
-        (0x8000_0000, 0x8004_0004, false),
-        (0x8000_0004, 0x8004_0008, false),
-        (0, 0, true),
-        (0x8000_0004, 0x8000_0000, false),
-        (0x8000_0001, 0x8000_0004, false),
-        (0x8000_0002, 0x8000_0004, false),
-        (0x8000_0000, 0x8000_0001, false),
-        (0x8000_0000, 0x8000_0002, false),
-        (0x8000_0001, 0x8000_0001, false),
-        (0x8000_0002, 0x8000_0002, false),
-        (0x800f_fffc, 0x8010_0000, true),
-        (0x800f_fffc, 0x8010_0004, false),
-        (0x7fff_fffc, 0x8000_0004, false),
-        (0x2000_0008, 0x2000_0010, true),
-        (0x2000_0004, 0x2000_000c, false),
-    ];
-    for (begin, end, good) in rows {
+    for (begin, end, good) in SIGNATURE_RANGES {
         assert_eq!(&rt;
             is_signature(&map, begin, end),
             good,
@@ -670,27 +520,28 @@ fn signature_ranges(rt: HostRuntime) -> Result<(), Fail> {
     Ok(())
 }
 
-/// A row is the entry's bytes, a set, and the refusal.
+// the entry's lowest byte, a set, and the refusal
+const ENTRIES: [(u8, Isa, Option<ImageError>); 9] = [
+    (0, Isa::I, None),
+    (1, Isa::I, Some(ImageError::EntryOdd)),
+    (2, Isa::I, Some(ImageError::EntryAlign)),
+    (2, Isa::Im, Some(ImageError::EntryAlign)),
+    (2, Isa::Ic, None),
+    (2, Isa::Imc, None),
+    (3, Isa::Im, Some(ImageError::EntryOdd)),
+    (3, Isa::Imc, Some(ImageError::EntryOdd)),
+    (4, Isa::Im, None),
+];
+
 #[test]
 fn entries_of_each_set(rt: HostRuntime) -> Result<(), Fail> {
     let alloc = rt.alloc();
-    let rows = [
-        (0, Isa::I, None),
-        (1, Isa::I, Some(ImageError::EntryOdd)),
-        (2, Isa::I, Some(ImageError::EntryAlign)),
-        (2, Isa::Im, Some(ImageError::EntryAlign)),
-        (2, Isa::Ic, None),
-        (2, Isa::Imc, None),
-        (3, Isa::Im, Some(ImageError::EntryOdd)),
-        (3, Isa::Imc, Some(ImageError::EntryOdd)),
-        (4, Isa::Im, None),
-    ];
-    for (low, isa, error) in rows {
+    for (low, isa, error) in ENTRIES {
         let file = set(&rt, alloc, &ONE_SEGMENT, 24, &[low])?;
         assert_eq!(&rt; read_image(alloc, &file, isa).err(), error, "{low} {isa:?}");
     }
     let none = set(&rt, alloc, &ONE_SEGMENT, 24, &[2])?;
-    let none = set(&rt, alloc, &none, 44, HALF_ZERO)?;
+    let none = set(&rt, alloc, &none, 44, &[0, 0])?;
     assert_eq!(&rt;
         read_image(alloc, &none, Isa::I).err(),
         Some(ImageError::NoSegment)
