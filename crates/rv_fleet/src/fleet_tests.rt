@@ -6,7 +6,8 @@ ghost use Rattle.rv_fleet.specs.Pieces.{pieces_of};
 use crate::claims_tests::halves;
 use crate::piece::piece_count;
 use crate::{
-    Claims, FreeGate, Gate, Pass, Piece, Refusal, Report, Row, RowEnd, run_fleet, run_one, work,
+    Claims, FreeGate, Gate, Pass, Piece, Refusal, Report, Row, RowEnd, row_at, run_fleet, run_one,
+    work,
 };
 use rv_elf::ImageError;
 use rv_jobs::{Plan, ReadError, Store, gather, read_jobs};
@@ -283,6 +284,25 @@ fn two_passes_make_each_piece_once(rt: HostRuntime) -> Result<(), Fail> {
     for (number, rows) in report.rows.as_slice().chunks(1).enumerate() {
         assert!(rt; has_piece(&pieces, number as u64, rows));
         assert_eq!(rt; (rows[0].ending, rows[0].steps), (RowEnd::Exit(5), 2));
+    }
+    Ok(())
+}
+
+#[test]
+fn rows_at_their_places(rt: HostRuntime) -> Result<(), Fail> {
+    let alloc = rt.alloc();
+    let plan = plan_of(alloc, 3, &ONE_SEGMENT)?;
+    let all = run_one(alloc, &plan)?;
+    assert_eq!(&rt; (plan.jobs(), all.rows.as_slice().len()), (3, 3));
+    for (i, row) in all.rows.as_slice().iter().enumerate() {
+        assert!(&rt; i < plan.jobs());
+        let alone = row_at(alloc, &plan, i)?;
+        assert!(&rt; same_row(&alone, row), "row {i}");
+        assert_eq!(&rt;
+            (alone.ending, alone.steps),
+            (RowEnd::Exit(5), 2),
+            "row {i}"
+        );
     }
     Ok(())
 }

@@ -94,6 +94,8 @@ signature = ['a', 1] | job 1: wrong-type
 signature = 'a' | job 1: wrong-type
 signature = ['a', ''] | job 1: signature
 signature = ['', 'a'] | job 1: signature
+signature = ['a', \"b\\u0000\"] | job 1: signature
+signature = [\"\\u0000b\", 'a'] | job 1: signature
 load = 'x', signature = [] | job 1: load
 expect_exit = 0 | good
 expect_exit = 4294967295 | good
@@ -187,56 +189,74 @@ fn repeated(alloc: Global, text: &str, count: usize) -> Result<String, Fail> {
     Ok(all)
 }
 
-/// A row is a text before and after the repeated byte, its last good count, and the fault of one more.
+/// What stands before a repeated text, the text, its last good count, and what stands behind it; and the fault of one
+/// more.
+type Limit = (
+    &'static str,
+    &'static str,
+    usize,
+    &'static str,
+    &'static str,
+);
+
+const LIMITS: [Limit; 7] = [
+    ("image = 'b', name = '", "q", 64, "'", "name"),
+    ("name = 'a', image = '", "q", 4096, "'", "image"),
+    (
+        "name = 'a', image = 'b', input = '",
+        "q",
+        65_536,
+        "'",
+        "input",
+    ),
+    (
+        "name = 'a', image = 'b', input_hex = '",
+        "0f",
+        65_536,
+        "'",
+        "input",
+    ),
+    (
+        "name = 'a', image = 'b', signature = ['b', '",
+        "q",
+        255,
+        "']",
+        "signature",
+    ),
+    (
+        "name = 'a', image = 'b', signature = ['",
+        "q",
+        255,
+        "', 'b']",
+        "signature",
+    ),
+    (
+        "name = 'a', image = 'b', signature = ['b', 'c'], expect_signature = '",
+        "q",
+        4096,
+        "'",
+        "expect",
+    ),
+];
+
+/// The fault of a list of one job, of whose table these are the three parts behind the budget.
+fn fault_of_job(alloc: Global, before: &str, text: &str, after: &str) -> Result<String, Fail> {
+    let list = format!(in alloc; "job = [{{ budget = 3, {before}{text}{after} }}]")?;
+    fault_of(alloc, list.as_str())
+}
+
 #[test]
 fn limits(rt: HostRuntime) -> Result<(), Fail> {
     let alloc = rt.alloc();
-    let good = "job = [{ name = 'a', image = 'b', budget = 3, ";
-    let rows = [
-        (
-            "job = [{ image = 'b', budget = 3, name = '",
-            "' }]",
-            64,
-            "job 1: name",
-        ),
-        (
-            "job = [{ name = 'a', budget = 3, image = '",
-            "' }]",
-            4096,
-            "job 1: image",
-        ),
-    ];
-    for (before, after, most, fault) in rows {
-        let text = repeated(alloc, "q", most)?;
-        let list = format!(in alloc; "{before}{text}{after}")?;
-        assert_eq!(&rt; fault_of(alloc, list.as_str())?.as_str(), "good");
-        let list = format!(in alloc; "{before}{text}q{after}")?;
-        assert_eq!(&rt; fault_of(alloc, list.as_str())?.as_str(), fault);
+    for (before, part, most, after, fault) in LIMITS {
+        let mut text = repeated(alloc, part, most)?;
+        let found = fault_of_job(alloc, before, text.as_str(), after)?;
+        assert_eq!(&rt; found.as_str(), "good", "{before}");
+        text.push_str(part)?;
+        let found = fault_of_job(alloc, before, text.as_str(), after)?;
+        let fault = format!(in alloc; "job 1: {fault}")?;
+        assert_eq!(&rt; found, fault, "{before}");
     }
-    let rows = [
-        ("input = '", "' }]", 65_536, "job 1: input"),
-        ("signature = ['b', '", "'] }]", 255, "job 1: signature"),
-        ("signature = ['", "', 'b'] }]", 255, "job 1: signature"),
-        (
-            "signature = ['b', 'c'], expect_signature = '",
-            "' }]",
-            4096,
-            "job 1: expect",
-        ),
-    ];
-    for (before, after, most, fault) in rows {
-        let text = repeated(alloc, "q", most)?;
-        let list = format!(in alloc; "{good}{before}{text}{after}")?;
-        assert_eq!(&rt; fault_of(alloc, list.as_str())?.as_str(), "good");
-        let list = format!(in alloc; "{good}{before}{text}q{after}")?;
-        assert_eq!(&rt; fault_of(alloc, list.as_str())?.as_str(), fault);
-    }
-    let zero = "signature = ['b', \"c\\u0000\"] }]";
-    let list = format!(in alloc; "{good}{zero}")?;
-    assert_eq!(&rt;
-        fault_of(alloc, list.as_str())?.as_str(),
-        "job 1: signature"
-    );
     Ok(())
 }
 

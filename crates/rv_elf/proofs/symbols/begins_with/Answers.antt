@@ -6,8 +6,8 @@ use Rattle.rv_elf.proofs.symbols.begins_with.Goals.{then-bytes-text-via-then-byt
 
 pub returns-then-bytes-text : goal.returns-then-bytes-text
 returns-then-bytes-text c = elim c.then-bytes-text.branch [
-    | then-bytes-text-via-then-bytes-text w ↦ sym (begins_by_bytes c.args.bytes.now c.args.text.now ∙ begins_short c.args.bytes.now c.args.text.now w.if-bytes-text.true)
-    | then-bytes-text-via-else-bytes-text+then-bytes-text-ne0 w ↦ sym (begins_without_end c.args.bytes.now c.args.text.now w.if-bytes-text.false w.if-bytes-text-ne0.true)
+  | then-bytes-text-via-then-bytes-text w ↦ sym (begins_by_bytes c.args.bytes.now c.args.text.now ∙ begins_short c.args.bytes.now c.args.text.now w.if-bytes-text.true)
+  | then-bytes-text-via-else-bytes-text+then-bytes-text-ne0 w ↦ sym (begins_without_end c.args.bytes.now c.args.text.now w.if-bytes-text.false w.if-bytes-text-ne0.true)
 ]
 
 pub returns-then-starts_with : goal.returns-then-starts_with
