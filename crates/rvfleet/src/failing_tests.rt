@@ -43,9 +43,13 @@ fn push_unreadable(report: &mut String, row: &str) -> Result<(), Fail> {
     Ok(())
 }
 
+// The list by one worker, and by some that share it.
+const RUNS: [&str; 2] = ["run jobs --workers 1", "run jobs --workers 4 --group 2"];
+
 // number of the read that finds no file, the jobs whose image that is, and the status
 const FAILED_READS: [(u64, &str, u8); 4] = [(2, "13", 1), (3, "2", 0), (4, "4", 0), (5, "5", 0)];
 
+// Whether each run goes on where one read finds no file.
 fn misses_a_read(
     rt: &(impl Threads + Wait),
     alloc: Global,
@@ -53,11 +57,16 @@ fn misses_a_read(
     jobs: &str,
     status: u8,
 ) -> Result<bool, Fail> {
-    let mut store = list_store(alloc, LIST)?;
-    store.fails_at = fails_at;
-    let answer = ask_store(rt, alloc, "run jobs --workers 2", &mut store)?;
     let report = report_without(alloc, jobs)?;
-    Ok(store.faults() == 1 && answer.is(status, report.as_str(), "")?)
+    for words in RUNS {
+        let mut store = list_store(alloc, LIST)?;
+        store.fails_at = fails_at;
+        let answer = ask_store(rt, alloc, words, &mut store)?;
+        if store.faults() != 1 || !answer.is(status, report.as_str(), "")? {
+            return Ok(false);
+        }
+    }
+    Ok(true)
 }
 
 #[test]
@@ -76,32 +85,50 @@ fn goes_on_without_a_file(rt: HostRuntime) -> Result<(), Fail> {
 fn ends_at_read(
     rt: &(impl Threads + Wait),
     alloc: Global,
+    words: &str,
     store: &mut MemoryStore,
     line: &str,
 ) -> Result<bool, Fail> {
-    let answer = ask_store(rt, alloc, "run jobs --workers 4 --group 2", store)?;
+    let answer = ask_store(rt, alloc, words, store)?;
     answer.is(3, "", line)
 }
 
 #[test]
 fn ends_without_the_list(rt: HostRuntime) -> Result<(), Fail> {
     let alloc = rt.alloc();
-    let mut store = list_store(alloc, LIST)?;
-    store.fails_at = 1;
-    assert!(rt; ends_at_read(&rt, alloc, &mut store, "rvfleet: list unreadable\n")?);
+    for words in RUNS {
+        let mut store = list_store(alloc, LIST)?;
+        store.fails_at = 1;
+        assert!(rt;
+            ends_at_read(&rt, alloc, words, &mut store, "rvfleet: list unreadable\n")?,
+            "{words}"
+        );
+    }
     Ok(())
+}
+
+// Whether the program ends where so many reads, less one, had memory.
+fn ends_without_memory(
+    rt: &(impl Threads + Wait),
+    alloc: Global,
+    words: &str,
+    wants_at: u64,
+) -> Result<bool, Fail> {
+    let mut store = list_store(alloc, LIST)?;
+    store.wants_at = wants_at;
+    ends_at_read(rt, alloc, words, &mut store, "rvfleet: out of memory\n")
 }
 
 #[test]
 fn ends_without_memory_for_a_file(rt: HostRuntime) -> Result<(), Fail> {
     let alloc = rt.alloc();
     for wants_at in 1..6 {
-        let mut store = list_store(alloc, LIST)?;
-        store.wants_at = wants_at;
-        assert!(rt;
-            ends_at_read(&rt, alloc, &mut store, "rvfleet: out of memory\n")?,
-            "{wants_at}"
-        );
+        for words in RUNS {
+            assert!(rt;
+                ends_without_memory(&rt, alloc, words, wants_at)?,
+                "{words}, {wants_at}"
+            );
+        }
     }
     Ok(())
 }
@@ -149,15 +176,24 @@ fn stops_at_each(rt: &(impl Threads + Wait), alloc: Global, words: &str) -> Resu
 #[test]
 fn stops_at_each_put(rt: HostRuntime) -> Result<(), Fail> {
     let alloc = rt.alloc();
-    assert!(rt; stops_at_each(&rt, alloc, "run jobs")?);
+    assert!(rt; stops_at_each(&rt, alloc, "run jobs --workers 1")?);
     Ok(())
 }
 
-// All rows are one large put.
+#[test]
+fn stops_at_each_put_of_workers(rt: HostRuntime) -> Result<(), Fail> {
+    let alloc = rt.alloc();
+    assert!(rt; stops_at_each(&rt, alloc, "run jobs --workers 4 --group 2")?);
+    Ok(())
+}
+
+// All rows are one large put, so the first is each that may fail.
 #[test]
 fn stops_at_the_first_put(rt: HostRuntime) -> Result<(), Fail> {
     let alloc = rt.alloc();
-    for words in ["run jobs", "run jobs --workers 4 --group 2"] {
+    for words in RUNS {
+        let whole = ask_into(&rt, alloc, words, MemorySink::new(alloc))?;
+        assert!(rt; whole.is(0, LIST_REPORT, "")? && whole.out.puts == 1);
         let none = ask_into(&rt, alloc, words, MemorySink::failing(alloc, 1_000_000, 1))?;
         assert!(rt; none.is(3, "", "rvfleet: write failed\n")?);
     }

@@ -79,19 +79,19 @@ fn reads_fields_at_their_ends(rt: HostRuntime) -> Result<(), Fail> {
 
 // label | file | keys | ending | steps | signature
 const SIGNATURE_FIELDS: &str = "\
-section header offset at 0 | sign 32=00000000 | signature = ['begin_signature', 'end_signature'] | refused no-symbols | 0 | -
-section header offset at its greatest | sign 32=ffffffff | signature = ['begin_signature', 'end_signature'] | refused section-table | 0 | -
-section count at 0 | sign 48=0000 | signature = ['begin_signature', 'end_signature'] | refused section-table | 0 | -
-section count at its greatest | sign 48=ffff | signature = ['begin_signature', 'end_signature'] | refused section-table | 0 | -
-no symbol table | sign 256=00000000 | signature = ['begin_signature', 'end_signature'] | refused no-symbols | 0 | -
-symbol size 0 | sign 288=00000000 | signature = ['begin_signature', 'end_signature'] | refused symbol-table | 0 | -
-part of a symbol | sign 272=00000031 | signature = ['begin_signature', 'end_signature'] | refused symbol-table | 0 | -
-symbols past the file | sign 268=ffffffff | signature = ['begin_signature', 'end_signature'] | refused symbol-table | 0 | -
-no symbols in the table | sign 272=00000000 | signature = ['begin_signature', 'end_signature'] | refused no-begin | 0 | -
-link past the sections | sign 276=ffffffff | signature = ['begin_signature', 'end_signature'] | refused string-table | 0 | -
-no string table | sign 296=00000000 | signature = ['begin_signature', 'end_signature'] | refused string-table | 0 | -
-empty string table | sign 312=00000000 | signature = ['begin_signature', 'end_signature'] | refused no-begin | 0 | -
-begin between two words | sign 152=80000029 | signature = ['begin_signature', 'end_signature'] | refused signature-range | 0 | -
+section header offset at 0 | sign 32=00000000 | budget = 100, signature = ['begin_signature', 'end_signature'] | refused no-symbols | 0 | -
+section header offset at its greatest | sign 32=ffffffff | budget = 100, signature = ['begin_signature', 'end_signature'] | refused section-table | 0 | -
+section count at 0 | sign 48=0000 | budget = 100, signature = ['begin_signature', 'end_signature'] | refused section-table | 0 | -
+section count at its greatest | sign 48=ffff | budget = 100, signature = ['begin_signature', 'end_signature'] | refused section-table | 0 | -
+no symbol table | sign 256=00000000 | budget = 100, signature = ['begin_signature', 'end_signature'] | refused no-symbols | 0 | -
+symbol size 0 | sign 288=00000000 | budget = 100, signature = ['begin_signature', 'end_signature'] | refused symbol-table | 0 | -
+part of a symbol | sign 272=00000031 | budget = 100, signature = ['begin_signature', 'end_signature'] | refused symbol-table | 0 | -
+symbols past the file | sign 268=ffffffff | budget = 100, signature = ['begin_signature', 'end_signature'] | refused symbol-table | 0 | -
+no symbols in the table | sign 272=00000000 | budget = 100, signature = ['begin_signature', 'end_signature'] | refused no-begin | 0 | -
+link past the sections | sign 276=ffffffff | budget = 100, signature = ['begin_signature', 'end_signature'] | refused string-table | 0 | -
+no string table | sign 296=00000000 | budget = 100, signature = ['begin_signature', 'end_signature'] | refused string-table | 0 | -
+empty string table | sign 312=00000000 | budget = 100, signature = ['begin_signature', 'end_signature'] | refused no-begin | 0 | -
+begin between two words | sign 152=80000029 | budget = 100, signature = ['begin_signature', 'end_signature'] | refused signature-range | 0 | -
 ";
 
 #[test]
@@ -106,14 +106,14 @@ fn reads_fields_of_signatures(rt: HostRuntime) -> Result<(), Fail> {
 // The bytes of the image with a signature.
 const IMAGE_SIZE: usize = 332;
 
-// How an image ends of which so many bytes are left, with its signature or without.
+// How an image ends of which so many bytes are left, with its signature or without, and its steps.
 fn cut_ending(left: usize, is_signed: bool) -> &'static str {
     match left {
-        0..52 => "end refused short-header",
-        52..84 => "end refused program-table",
-        84..132 => "end refused segment-file",
-        132..332 if is_signed => "end refused section-table",
-        _ => "end exit 0",
+        0..52 => "end refused short-header\nsteps 0\n",
+        52..84 => "end refused program-table\nsteps 0\n",
+        84..132 => "end refused segment-file\nsteps 0\n",
+        132..332 if is_signed => "end refused section-table\nsteps 0\n",
+        _ => "end exit 0\nsteps 9\n",
     }
 }
 
@@ -141,12 +141,14 @@ fn cut_store(alloc: Global, keys: &str) -> Result<MemoryStore, Fail> {
     Ok(store)
 }
 
-// Whether each cut ends as it should.
+// Whether each cut ends as it should, after as many steps.
 fn ends_as_cut(report: &str, is_signed: bool) -> bool {
-    let endings = report.lines().filter(|line| line.starts_with("end "));
     let mut left = 0usize;
-    for ending in endings {
-        if ending != cut_ending(left, is_signed) {
+    for row in report.split("job ") {
+        let Some((_, ending)) = row.split_once('\n') else {
+            continue;
+        };
+        if !ending.starts_with(cut_ending(left, is_signed)) {
             return false;
         }
         left = left.saturating_add(1);

@@ -17,16 +17,16 @@ read only | code 00000297 0002a023 | region = [{base = 0x80000000, size = 4096, 
 written | code 00000297 0002a023 | region = [{base = 0x80000000, size = 4096}] | fault illegal pc=80000008 value=00000000 | 2 | -
 small region | one | region = [{base = 0x80000000, size = 8}] | refused segment-map | 0 | -
 four regions | one | region = [{base = 0, size = 4}, {base = 8, size = 4}, {base = 16, size = 4}, {base = 0x80000000, size = 12}] | exit 5 | 2 | -
-script as text | code 100002b7 0042a503 X | input = 'AB' | exit 2 | 3 | -
-script as digits | code 100002b7 0002a503 X | input_hex = 'aF' | exit 175 | 3 | -
-signature | sign | signature = ['begin_signature', 'end_signature'] | exit 0 | 9 | 2 80000000 ffffffff
-empty signature | sign | signature = ['end_signature', 'end_signature'] | exit 0 | 9 | 0
+script as text | code 100002b7 0042a503 X | budget = 100, input = 'AB' | exit 2 | 3 | -
+script as digits | code 100002b7 0002a503 X | budget = 100, input_hex = 'aF' | exit 175 | 3 | -
+signature | sign | budget = 100, signature = ['begin_signature', 'end_signature'] | exit 0 | 9 | 2 80000000 ffffffff
+empty signature | sign | budget = 100, signature = ['end_signature', 'end_signature'] | exit 0 | 9 | 0
 signature of the last state | sign | budget = 5, signature = ['begin_signature', 'end_signature'] | budget | 5 | 2 80000000 00000000
 signature before the stores | sign | budget = 4, signature = ['begin_signature', 'end_signature'] | budget | 4 | 2 00000000 00000000
-names exchanged | sign | signature = ['end_signature', 'begin_signature'] | refused signature-range | 0 | -
-no sections | one | signature = ['begin_signature', 'end_signature'] | refused section-table | 0 | -
-first name missing | sign | signature = ['begin', 'end'] | refused no-begin | 0 | -
-second name missing | sign | signature = ['begin_signature', 'end'] | refused no-end | 0 | -
+names exchanged | sign | budget = 100, signature = ['end_signature', 'begin_signature'] | refused signature-range | 0 | -
+no sections | one | budget = 100, signature = ['begin_signature', 'end_signature'] | refused section-table | 0 | -
+first name missing | sign | budget = 100, signature = ['begin', 'end'] | refused no-begin | 0 | -
+second name missing | sign | budget = 100, signature = ['begin_signature', 'end'] | refused no-end | 0 | -
 no file | none | | refused image-unreadable | 0 | -
 c.addi16sp without C | code 6105 850a X | isa = 'rv32i' | fault illegal pc=80000000 value=00006105 | 0 | -
 c.addi16sp | code 6105 850a X | isa = 'rv32ic' | exit 32 | 3 | -
@@ -51,6 +51,7 @@ store over code ahead, refused | code 00000297 0002a723 00000013 00000013 X | mi
 store and fence.i | code 00000297 0002a723 0000100f 00000013 X | misaligned = 'allow' | fault illegal pc=80000010 value=00000000 | 4 | -
 store and fence.i, refused | code 00000297 0002a723 0000100f 00000013 X | misaligned = 'fault' | fault store-misaligned pc=80000004 value=8000000e | 1 | -
 jump to the second stored word | code 00000297 0002a723 0080006f 00000013 X | misaligned = 'allow' | fault stale-code pc=80000010 value=80000010 | 3 | -
+jump to the second stored word, refused | code 00000297 0002a723 0080006f 00000013 X | misaligned = 'fault' | fault store-misaligned pc=80000004 value=8000000e | 1 | -
 ";
 
 #[derive(Drop)]
@@ -74,14 +75,14 @@ fn job_run_of(line: &str) -> Option<JobRun<'_>> {
     })
 }
 
-// A list of one job with these keys beside its name, its image and, unless they give one, a budget of 100.
+// A list of one job with these keys beside its name, its image and, unless they give one, a budget of 10.
 fn list_of_one(alloc: Global, run: &JobRun<'_>) -> Result<String, AllocError> {
     let path = if run.file == "none" { "none" } else { "image" };
     let keys = run.keys;
     let budget = if keys.starts_with("budget") {
         ""
     } else {
-        "budget = 100, "
+        "budget = 10, "
     };
     format!(in alloc; "job = [{{name = 'a.b-c_9', image = '{path}', {budget}{keys}}}]")
 }
@@ -479,5 +480,29 @@ fn refuses_references(rt: HostRuntime) -> Result<(), Fail> {
         (answer.status, store.log.as_str()),
         (1, "jobs s.elf none cut.elf long ")
     );
+    Ok(())
+}
+
+const NO_REFERENCE: &str =
+    "image = 's.elf', budget = 100, S, expect_signature = 'none', expect_exit = 0";
+
+const NO_REFERENCE_REPORT: &str = "\
+job 1 0
+end refused reference-unreadable
+steps 0
+console -
+signature -
+verdict fail
+done 1
+";
+
+// The exit code that the job expects is the one that the image would have, if it was run.
+#[test]
+fn fails_without_a_reference(rt: HostRuntime) -> Result<(), Fail> {
+    let alloc = rt.alloc();
+    let list = verdict_list(alloc, NO_REFERENCE)?;
+    let mut store = list_store(alloc, list.as_str())?;
+    let answer = ask_store(&rt, alloc, "run jobs", &mut store)?;
+    assert!(rt; answer.is(1, NO_REFERENCE_REPORT, "")?);
     Ok(())
 }

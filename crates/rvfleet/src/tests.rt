@@ -444,6 +444,21 @@ fn takes_the_longest_words(rt: HostRuntime) -> Result<(), Fail> {
     Ok(())
 }
 
+#[test]
+fn takes_the_longest_path_of_a_list(rt: HostRuntime) -> Result<(), Fail> {
+    let alloc = rt.alloc();
+    let path = repeated(alloc, "a", 4096)?;
+    let words = format!(in alloc; "run {path}")?;
+    let mut store = MemoryStore::new(alloc);
+    let answer = ask_store(&rt, alloc, words.as_str(), &mut store)?;
+    assert!(rt; answer.is(3, "", "rvfleet: list unreadable\n")? && store.reads == 1);
+
+    let path = repeated(alloc, "a", 4097)?;
+    let words = format!(in alloc; "run {path}")?;
+    assert!(rt; is_refused(&rt, alloc, words.as_str())?);
+    Ok(())
+}
+
 const HELP: &str = "\
 Runs RV32IMC firmware images and reports how each run ended
 
@@ -622,25 +637,32 @@ fn writes_in_parts(rt: HostRuntime) -> Result<(), Fail> {
     Ok(())
 }
 
-#[test]
-fn ends_alike_where_its_line_fails(rt: HostRuntime) {
-    let alloc = rt.alloc();
+// The status, and the failures of the line's sink, where its first put fails and no path has a file.
+fn status_without_line(rt: &(impl Threads + Wait), alloc: Global, words: &[&str]) -> (u8, u64) {
     let mut store = MemoryStore::new(alloc);
     let mut input: &[u8] = &[];
     let mut out = MemorySink::new(alloc);
     let mut faults = MemorySink::failing(alloc, 10, 1);
-    let words = ["rvfleet", "raw"];
     let status = run_words(
-        &rt,
+        rt,
         alloc,
-        &words,
+        words,
         &mut store,
         &mut input,
         &mut out,
         &mut faults,
         &FreeGate,
     );
-    assert_eq!(rt; (status, faults.failures()), (2, 1));
+    (status, faults.failures())
+}
+
+#[test]
+fn ends_alike_where_its_line_fails(rt: HostRuntime) {
+    let alloc = rt.alloc();
+    let bad_words = status_without_line(&rt, alloc, &["rvfleet", "raw"]);
+    assert_eq!(rt; bad_words, (2, 1));
+    let no_list = status_without_line(&rt, alloc, &["rvfleet", "run", "jobs"]);
+    assert_eq!(rt; no_list, (3, 1));
 }
 
 // What putting ten bytes into a stream over this writer comes to: whether all were taken, the
