@@ -37,6 +37,13 @@ reads_store (Some (one path budget digits)) = true
 reads_store (Some (run path workers group)) = true
 reads_store None = false
 
+-- the words ask for the input
+abbrev pub reads_input : Option Request → Bool
+reads_input (Some (raw budget)) = true
+reads_input (Some (one path budget digits)) = false
+reads_input (Some (run path workers group)) = false
+reads_input None = false
+
 -- what is owed for the rows of a request: for those of the input, where it tells its bytes, or for those of jobs
 abbrev pub ForRows : Option Request → Option (List ℕ) → Stored → (List Row → Type 0) → Type 0
 ForRows (Some (raw budget)) input store owed = IfSome input (λ bytes. owed (raw_rows bytes budget))

@@ -5,7 +5,7 @@ ghost use Rattle.std.specs.Io.KnownBytes.{Keeps};
 ghost use Rattle.clap.specs.Words.{kind_of};
 ghost use Rattle.rv_fleet.specs.Report.{report_text};
 ghost use Rattle.rv_fleet.specs.Sending.{AppendsBeginning};
-ghost use Rattle.rvfleet.specs.Answers.{Answers, Began, Reported, reads_store};
+ghost use Rattle.rvfleet.specs.Answers.{Answers, Began, Reported, reads_input, reads_store};
 ghost use Rattle.rvfleet.specs.CommandLine.{AsksHelp, is_taken, one, request_of, run};
 ghost use Rattle.rvfleet.specs.Plans.{stored};
 ghost use Rattle.rvfleet.specs.Raw.{raw_rows};
@@ -56,6 +56,8 @@ pub fn run_words<'a, R: Threads + Wait, T: AsStr, S: Store, I: Read, O: Sink, F:
         → is_some (request_of (map T.text words.entry.now)) ≡ true ⊎ AsksHelp (map T.text words.entry.now) }
     ensures unread { reads_store (request_of (map T.text words.entry.now)) ≡ false
         → S.faulted store.new ≡ S.faulted store.old }
+    ensures untaken { reads_input (request_of (map T.text words.entry.now)) ≡ false
+        → I.remaining input.new ≡ I.remaining input.old }
     ensures range { result ≤ 3 }
 {
     match read_words(alloc, words) {
@@ -81,6 +83,7 @@ fn asked_status<R: Threads + Wait, S: Store, I: Read, O: Sink, F: Sink, G: Gate>
         (O.taken out.new) result }
     ensures counted { result ≡ 0 ⊎ result ≡ 1 → O.failed out.new ≡ O.failed out.old }
     ensures unread { reads_store (Some (request asked.entry)) ≡ false → S.faulted store.new ≡ S.faulted store.old }
+    ensures untaken { reads_input (Some (request asked.entry)) ≡ false → I.remaining input.new ≡ I.remaining input.old }
     ensures range { result ≤ 3 }
 {
     match asked {
