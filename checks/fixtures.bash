@@ -99,6 +99,23 @@ budget = 100
 signature = ["begin_signature", "end_signature"]
 END
 
+# A list whose one number is written with `_`.
+cat >"$work/underscored.toml" <<'END'
+[[job]]
+name = "underscored"
+image = "a.elf"
+budget = 1_0
+END
+
+# A job that expects another exit code than it has.
+cat >"$work/failing.toml" <<'END'
+[[job]]
+name = "failing"
+image = "a.elf"
+budget = 3
+expect_exit = 6
+END
+
 # A job's lines of a report: its number and name, its end, its steps, its verdict, and its signature where it has one.
 row() {
     printf 'job %s\nend %s\nsteps %s\nconsole -\nsignature %s\nverdict %s\n' "$1" "$2" "$3" "${5:--}" "$4"
@@ -112,6 +129,8 @@ report() {
 
 report '1 raw' 'exit 5' 2 none >"$work/raw.text"
 report '1 one' 'exit 5' 2 none >"$work/one.text"
+report '1 underscored' 'exit 5' 2 none >"$work/underscored.text"
+report '1 failing' 'exit 5' 2 fail >"$work/failing.text"
 {
     row '1 pass' 'exit 5' 2 pass
     row '2 fault' 'fault breakpoint pc=80000000 value=00000000' 0 none

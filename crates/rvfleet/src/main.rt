@@ -11,6 +11,8 @@ mod files;
 #[cfg(test)]
 mod hostile_tests;
 mod input;
+#[cfg(test)]
+mod limit_tests;
 mod list;
 #[cfg(test)]
 mod list_tests;

@@ -412,7 +412,7 @@ fn refuses_bad_words(rt: HostRuntime) -> Result<(), Fail> {
     Ok(())
 }
 
-fn repeated(alloc: Global, part: &str, count: usize) -> Result<String, AllocError> {
+pub(crate) fn repeated(alloc: Global, part: &str, count: usize) -> Result<String, AllocError> {
     let mut text = String::new(alloc);
     for _ in 0..count {
         text.push_str(part)?;
