@@ -9,7 +9,10 @@ use Rattle.rv_fleet.specs.Report.{report_text}
 use Rattle.rv_fleet.specs.Sending.{AppendsBeginning}
 use Rattle.rv_jobs.specs.declared.error.JobError.{JobError}
 use Rattle.rv_jobs.specs.declared.job.Job.{Job}
+use Rattle.rv_jobs.specs.Stores.{FileContents}
 use Rattle.rvfleet.specs.CommandLine.{Request, one, raw, run}
+use Rattle.rvfleet.specs.declared.error.Failure.{Failure}
+use Rattle.rvfleet.specs.Lines.{bad_words_line, failure_line, fault_line}
 use Rattle.rvfleet.specs.One.{is_bad_one, is_bad_path, one_jobs, script_of}
 use Rattle.rvfleet.specs.Plans.{ForJobs, MayFault, MayList, Stored}
 use Rattle.rvfleet.specs.Raw.{raw_rows}
@@ -23,10 +26,16 @@ is_refused (Some (one path budget digits)) = is_bad_one path digits
 is_refused (Some (run path workers group)) = is_bad_path path
 is_refused None = true
 
+-- the fault of a list that the store may hold for the request
+abbrev pub IsFaultOf : Option Request → Option FileContents → JobError → Type 0
+IsFaultOf (Some (raw budget)) known error = ⊥
+IsFaultOf (Some (one path budget digits)) known error = ⊥
+IsFaultOf (Some (run path workers group)) known error = MayFault known path error
+IsFaultOf None known error = ⊥
+
 -- a list that the store may hold for the request has a fault
 abbrev pub HasFault : Option Request → Stored → Type 0
-HasFault (Some (run path workers group)) store = (error : JobError) × MayFault store.known path error
-HasFault _ store = ⊥
+HasFault request store = (error : JobError) × IsFaultOf request store.known error
 
 -- ---- which rows are owed
 
@@ -80,3 +89,20 @@ pub record Answers (request : Option Request) (input : Option (List ℕ)) (store
   pub accepted : status ≡ 0 ⊎ status ≡ 1 → is_refused request ≡ false
   pub refused : status ≡ 2 → Keeps before after × (is_refused request ≡ true ⊎ HasFault request store)
   pub failed : status ≡ 3 → Keeps before after ⊎ ForRows request input store (Began before after)
+
+-- ---- what standard error says
+
+-- the line of why a request is refused, or a beginning of it: bad words, or the fault of its list
+abbrev pub TellsRefusal : Option Request → Option FileContents → Option (List ℕ) → Option (List ℕ) → Type 0
+TellsRefusal request known before after = ((is_refused request ≡ true) × AppendsBeginning before after bad_words_line)
+    ⊎ ((error : JobError) × (IsFaultOf request known error × AppendsBeginning before after (fault_line error)))
+
+-- the line of a failure, or a beginning of it
+abbrev pub TellsFailure : Option (List ℕ) → Option (List ℕ) → Type 0
+TellsFailure before after = (failure : Failure) × AppendsBeginning before after (failure_line failure)
+
+-- why the status is 2 or 3; beside 0 and 1 nothing is said
+pub record Tells (request : Option Request) (known : Option FileContents) (before after : Option (List ℕ)) (status : ℕ) : Type 0 where
+  pub quiet : status ≡ 0 ⊎ status ≡ 1 → Keeps before after
+  pub refused : status ≡ 2 → TellsRefusal request known before after
+  pub failed : status ≡ 3 → TellsFailure before after

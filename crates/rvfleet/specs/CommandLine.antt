@@ -1,9 +1,9 @@
 -- The command line: the rules that `clap` reads words by, and what words ask for.
-use Rattle.std.specs.Prelude.{◌^◌, ℕ, Bool, true, List, [], ◌∷◌, Option, Some, None, pos, codes, option_map, option_and_then, if◌then◌else◌, ◌&&◌, ◌⊎◌, nat_le, nat_lt}
+use Rattle.std.specs.Prelude.{◌^◌, ℕ, Bool, true, List, [], ◌∷◌, Option, Some, None, pos, codes, option_map, option_and_then, if◌then◌else◌, ◌&&◌, nat_le, nat_lt}
 use Rattle.std.specs.Str.{bytes_eq}
 use Rattle.std.specs.Str.Parse.{digits_value, without_leading_plus}
 use Rattle.clap.specs.ValueTests.{is_numeral}
-use Rattle.clap.specs.Words.{App, IsAmong, Row, Rule, Text, fault_of, first_of, new_app, new_rule, one_of, subcommand_of, takes, with_rule, with_subcommand}
+use Rattle.clap.specs.Words.{App, IsAmong, Kinds, Row, Rule, Text, fault_of, first_of, new_app, new_rule, one_of, subcommand_of, takes, with_rule, with_subcommand}
 use Rattle.clap.specs.declared.error.kind.ErrorKind.TheVariants as kind
 use Rattle.clap.specs.declared.builder.value_parser.ValueParser.TheVariants as value_parser
 
@@ -120,6 +120,15 @@ request_of words = option_and_then (λ found. request_in found.0 found.1) (subco
 unfoldable pub is_taken : List Text → Bool
 is_taken words = takes fleet_app words
 
--- the words ask for help (or for a version, which this command doesn't have)
+-- what words ask for in which these faults are found: none, or nothing is asked for
+abbrev pub request_beside : Kinds → Option Request → Option Request
+request_beside [] request = request
+request_beside (fault ∷ more) request = None
+
+-- what words ask for in which the command finds no fault
+unfoldable pub asked_of : List Text → Option Request
+asked_of words = request_beside (fault_of fleet_app words) (request_of words)
+
+-- the words ask for help
 abbrev pub AsksHelp : List Text → Type 0
-AsksHelp words = IsAmong kind.DisplayHelp (fault_of fleet_app words) ⊎ IsAmong kind.DisplayVersion (fault_of fleet_app words)
+AsksHelp words = IsAmong kind.DisplayHelp (fault_of fleet_app words)

@@ -1,7 +1,7 @@
 //! The command line.
 
 ghost use Rattle.std.specs.Prelude.{◌≡◌, ◌≤◌, [], IfOk, IfErr, IfSome, true, false, map, option_map};
-ghost use Rattle.clap.specs.Words.{HasKind, app_of, fault_of, first_of, found_of, kind_of, rows_of, rule_of};
+ghost use Rattle.clap.specs.Words.{FailsBy, app_of, fault_of, first_of, found_of, kind_of, rows_of, rule_of};
 ghost use Rattle.clap.specs.declared.builder.command.Command.TheViews.{out-Command};
 ghost use Rattle.rvfleet.specs.CommandLine.{budget_rule, image_rule, input_rule, jobs_rule, workers_rule, group_rule, raw_app, one_app, run_app, top_app, fleet_app, budget_in, number_in, read_number_in, raw_in, one_in, run_in, request_in, request_of, is_taken};
 ghost use Rattle.rvfleet.specs.Requests.{AreWithin, request};
@@ -39,7 +39,7 @@ pub fn read_words<'a, T: AsStr>(alloc: Global, words: &'a [T]) -> Result<Option<
     ensures within { IfOk result (λ asked. IfSome asked AreWithin) }
     ensures taken { IfErr result
         (λ error. is_taken (map T.text words.entry.now) ≡ true → kind_of error ≡ ErrorKind.OutOfMemory) }
-    ensures kinds { IfErr result (HasKind (fault_of fleet_app (map T.text words.entry.now))) }
+    ensures kinds { FailsBy (fault_of fleet_app (map T.text words.entry.now)) result }
 {
     let command = fleet_command(alloc)?;
     let matches = command.try_get_matches_from(words)?;

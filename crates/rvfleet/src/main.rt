@@ -2,6 +2,8 @@
 #![tactic(auto)]
 
 ghost use Rattle.std.specs.Prelude.{◌≡◌, ◌⊎◌};
+ghost use Rattle.rv_fleet.specs.Sending.{AppendsBeginning};
+ghost use Rattle.rvfleet.specs.Lines.{bad_words_line, failure_line};
 
 mod command;
 mod error;
@@ -20,6 +22,7 @@ mod one;
 mod raw;
 mod send;
 mod streams;
+mod tell;
 #[cfg(test)]
 mod testing;
 #[cfg(test)]
@@ -40,15 +43,15 @@ use std::env::Env;
 use std::io::{self, ErrorKind};
 use std::process::ExitCode;
 pub use streams::StreamSink;
+use tell::{BAD_WORDS, FAILED, failed, refused};
 pub use words::run_words;
-use words::{BAD_WORDS, FAILED, failed, refused};
 
 // The answer to the process's own words, over its own streams and files.
 fn main(rt: HostRuntime) -> ExitCode {
-    let mut faults = StreamSink::new(rt.stderr());
+    let mut errors = StreamSink::new(rt.stderr());
     let texts = match texts(&rt) {
         Ok(texts) => texts,
-        Err(error) => return ExitCode::from(unread_status(&error, &mut faults)),
+        Err(error) => return ExitCode::from(unread_status(&error, &mut errors)),
     };
     let status = run_words(
         &rt,
@@ -57,7 +60,7 @@ fn main(rt: HostRuntime) -> ExitCode {
         &mut FileStore::new(&rt),
         &mut rt.reader(),
         &mut StreamSink::new(rt.stdout()),
-        &mut faults,
+        &mut errors,
         &FreeGate,
     );
     ExitCode::from(status)
@@ -73,11 +76,15 @@ fn texts(rt: &(impl Env + AllocGlobal)) -> io::Result<Vec<String>> {
 }
 
 // Words that aren't UTF-8 are bad words.
-fn unread_status<F: Sink>(error: &io::Error, faults: &mut F) -> u8
-    ensures { result ≡ BAD_WORDS ⊎ result ≡ FAILED }
+fn unread_status<E: Sink>(error: &io::Error, errors: &mut E) -> u8
+    ensures status { result ≡ BAD_WORDS ⊎ result ≡ FAILED }
+    ensures refused { result ≡ BAD_WORDS
+        → AppendsBeginning (E.taken errors.old) (E.taken errors.new) bad_words_line }
+    ensures failed { result ≡ FAILED
+        → AppendsBeginning (E.taken errors.old) (E.taken errors.new) (failure_line Failure.OutOfMemory) }
 {
     match error.kind() {
-        ErrorKind::OutOfMemory => failed(faults, Failure::OutOfMemory),
-        _ => refused(faults),
+        ErrorKind::OutOfMemory => failed(errors, Failure::OutOfMemory),
+        _ => refused(errors),
     }
 }

@@ -220,12 +220,12 @@ impl Store for MemoryStore {
 pub(crate) struct Answer {
     pub(crate) status: u8,
     pub(crate) out: MemorySink,
-    pub(crate) faults: MemorySink,
+    pub(crate) errors: MemorySink,
 }
 
 impl Answer {
-    pub(crate) fn is(&self, status: u8, out: &str, faults: &str) -> Result<bool, Fail> {
-        Ok(self.status == status && self.out.text()? == out && self.faults.text()? == faults)
+    pub(crate) fn is(&self, status: u8, out: &str, errors: &str) -> Result<bool, Fail> {
+        Ok(self.status == status && self.out.text()? == out && self.errors.text()? == errors)
     }
 }
 
@@ -244,7 +244,7 @@ pub(crate) fn ask<S: Store, I: Read>(
         words.push(word)?;
     }
     let mut out = out;
-    let mut faults = MemorySink::new(alloc);
+    let mut errors = MemorySink::new(alloc);
     let words = words.as_slice();
     let status = run_words(
         rt,
@@ -253,13 +253,13 @@ pub(crate) fn ask<S: Store, I: Read>(
         store,
         input,
         &mut out,
-        &mut faults,
+        &mut errors,
         &FreeGate,
     );
     Ok(Answer {
         status,
         out,
-        faults,
+        errors,
     })
 }
 
@@ -320,7 +320,7 @@ fn changed(alloc: Global, file: &[u8], changes: &str) -> Result<Vec<u8>, Fail> {
     Ok(bytes)
 }
 
-fn set(bytes: &mut Vec<u8>, at: usize, field: &[u8]) {
+pub(crate) fn set(bytes: &mut Vec<u8>, at: usize, field: &[u8]) {
     for (place, byte) in field.iter().enumerate() {
         if let Some(changed) = bytes.get_mut(at.saturating_add(place)) {
             *changed = *byte;

@@ -6,7 +6,9 @@ use crate::input::read_at_most;
 use crate::one::{ScriptError, read_script};
 use crate::raw::run_raw;
 use crate::streams::StreamSink;
-use crate::testing::{Answer, MemorySink, MemoryStore, SlowReader, ask, ask_raw, ask_store, file};
+use crate::testing::{
+    Answer, MemorySink, MemoryStore, SlowReader, ask, ask_raw, ask_store, file, set,
+};
 use crate::words::run_words;
 use rv_fleet::{FreeGate, Sink, put_all};
 use rv_jobs::{ReadError, Store};
@@ -60,6 +62,8 @@ impl Write for CountingWriter {
 const FLAT_RUNS: &str = "\
 exit | 00500513 X | 3 | exit 5 | 2 | -
 budget | 00500513 X | 2 | budget | 2 | -
+a plus before the budget | 00500513 00500513 00500513 X | +3 | budget | 3 | -
+zeros before the budget | 00500513 00500513 00500513 X | 003 | budget | 3 | -
 no bytes | | 1 | fault illegal pc=80000000 value=00000000 | 0 | -
 branch | 00000463 00000000 00500513 X | 10 | exit 5 | 3 | -
 the sum wraps | 80000537 00a50533 X | 10 | exit 0 | 3 | -
@@ -364,11 +368,47 @@ fn reads_files(rt: HostRuntime) -> Result<(), Fail> {
     Ok(())
 }
 
+// name | length | first bytes
+const WHOLE_FILES: [(&str, usize, [u8; 3]); 4] = [
+    ("marked.bin", 5, [0xef, 0xbb, 0xbf]),
+    ("page.bin", 4_097, [1, 2, 3]),
+    ("pages.bin", 8_193, [1, 2, 3]),
+    (" spaced ", 3, [1, 2, 3]),
+];
+
+// Whether a store over files reads a file of so many bytes as it is.
+fn is_read_whole(
+    rt: &HostRuntime,
+    path: &str,
+    length: usize,
+    first: [u8; 3],
+) -> Result<bool, Fail> {
+    let alloc = rt.alloc();
+    let mut bytes = vec![in alloc; 0x5a; length]?;
+    set(&mut bytes, 0, &first);
+    fs::write(rt, path, bytes.as_slice())?;
+    let mut store = FileStore::new(rt);
+    let answer = store.read(alloc, path);
+    fs::remove_file(rt, path)?;
+    Ok(answer.is_ok_and(|read| read.as_slice() == bytes.as_slice()))
+}
+
+#[test]
+fn reads_whole_files(rt: HostRuntime) -> Result<(), Fail> {
+    for (path, length, first) in WHOLE_FILES {
+        assert!(rt; is_read_whole(&rt, path, length, first)?, "{path}");
+    }
+    Ok(())
+}
+
 // Words that are refused, a line each; the first has none.
 const BAD_WORDS: &str = "\
 
 walk
 help
+--version
+-V
+raw --version
 raw
 raw --budget
 raw --budget 0
@@ -642,7 +682,7 @@ fn status_without_line(rt: &(impl Threads + Wait), alloc: Global, words: &[&str]
     let mut store = MemoryStore::new(alloc);
     let mut input: &[u8] = &[];
     let mut out = MemorySink::new(alloc);
-    let mut faults = MemorySink::failing(alloc, 10, 1);
+    let mut errors = MemorySink::failing(alloc, 10, 1);
     let status = run_words(
         rt,
         alloc,
@@ -650,10 +690,10 @@ fn status_without_line(rt: &(impl Threads + Wait), alloc: Global, words: &[&str]
         &mut store,
         &mut input,
         &mut out,
-        &mut faults,
+        &mut errors,
         &FreeGate,
     );
-    (status, faults.failures())
+    (status, errors.failures())
 }
 
 #[test]

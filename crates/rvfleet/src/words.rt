@@ -5,8 +5,9 @@ ghost use Rattle.std.specs.Io.KnownBytes.{Keeps};
 ghost use Rattle.clap.specs.Words.{kind_of};
 ghost use Rattle.rv_fleet.specs.Report.{report_text};
 ghost use Rattle.rv_fleet.specs.Sending.{AppendsBeginning};
-ghost use Rattle.rvfleet.specs.Answers.{Answers, Began, Reported, reads_input, reads_store};
-ghost use Rattle.rvfleet.specs.CommandLine.{AsksHelp, is_taken, one, request_of, run};
+ghost use Rattle.rvfleet.specs.Answers.{Answers, Began, Reported, Tells, TellsFailure, reads_input, reads_store};
+ghost use Rattle.rvfleet.specs.CommandLine.{AsksHelp, asked_of, is_taken, one, request_of, run};
+ghost use Rattle.rvfleet.specs.Lines.{bad_words_line};
 ghost use Rattle.rvfleet.specs.Plans.{stored};
 ghost use Rattle.rvfleet.specs.Raw.{raw_rows};
 ghost use Rattle.rvfleet.specs.Requests.{AreWithin, request};
@@ -17,34 +18,29 @@ use crate::list::{read_list, run_jobs};
 use crate::one::{ScriptError, is_bad_path, read_script, run_image};
 use crate::raw::run_raw;
 use crate::send::DONE;
+use crate::tell::{BAD_WORDS, FAILED, failed, refused, refused_list};
 use clap::Error;
 use clap::error::ErrorKind;
 use rv_fleet::{Gate, Sink, put_all};
-use rv_jobs::{JobError, Store};
+use rv_jobs::Store;
 use std::alloc::Global;
 use std::convert::AsStr;
 use std::io::Read;
 use std::sync::Wait;
 use std::thread::Threads;
 
-/// The status where words are refused.
-pub const BAD_WORDS: u8 = 2;
-
-/// The status where memory was wanting, or a read or a write failed.
-pub const FAILED: u8 = 3;
-
 /// Answers words, the first of which is the program's name, with the status of the program: 0 where a report or help
 /// went out, 1 where a report with a failed verdict did, 2 for words or a job list refused, 3 for want of memory or of
-/// a thread, a failed read or a failed write. A line on `faults` tells why a status is 2 or 3; where that line fails
+/// a thread, a failed read or a failed write. A line on `errors` tells why a status is 2 or 3; where that line fails
 /// nothing changes.
-pub fn run_words<'a, R: Threads + Wait, T: AsStr, S: Store, I: Read, O: Sink, F: Sink, G: Gate>(
+pub fn run_words<'a, R: Threads + Wait, T: AsStr, S: Store, I: Read, O: Sink, E: Sink, G: Gate>(
     rt: &R,
     alloc: Global,
     words: &'a [T],
     store: &mut S,
     input: &mut I,
     out: &mut O,
-    faults: &mut F,
+    errors: &mut E,
     gate: &G,
 ) -> u8
     ensures answers { is_taken (map T.text words.entry.now) ≡ true
@@ -52,8 +48,10 @@ pub fn run_words<'a, R: Threads + Wait, T: AsStr, S: Store, I: Read, O: Sink, F:
         (stored (S.contents store.old) (S.faulted store.old) (S.faulted store.new)) (O.taken out.old)
         (O.taken out.new) result }
     ensures counted { result ≡ 0 ⊎ result ≡ 1 → O.failed out.new ≡ O.failed out.old }
+    ensures told { Tells (asked_of (map T.text words.entry.now)) (S.contents store.old) (E.taken errors.old)
+        (E.taken errors.new) result }
     ensures helped { result ≡ 0 ⊎ result ≡ 1
-        → is_some (request_of (map T.text words.entry.now)) ≡ true ⊎ AsksHelp (map T.text words.entry.now) }
+        → is_some (asked_of (map T.text words.entry.now)) ≡ true ⊎ AsksHelp (map T.text words.entry.now) }
     ensures unread { reads_store (request_of (map T.text words.entry.now)) ≡ false
         → S.faulted store.new ≡ S.faulted store.old }
     ensures untaken { reads_input (request_of (map T.text words.entry.now)) ≡ false
@@ -61,52 +59,54 @@ pub fn run_words<'a, R: Threads + Wait, T: AsStr, S: Store, I: Read, O: Sink, F:
     ensures range { result ≤ 3 }
 {
     match read_words(alloc, words) {
-        Ok(Some(asked)) => asked_status(rt, alloc, asked, store, input, out, faults, gate),
-        Ok(None) => refused(faults),
-        Err(error) => error_status(alloc, &error, out, faults),
+        Ok(Some(asked)) => asked_status(rt, alloc, asked, store, input, out, errors, gate),
+        Ok(None) => refused(errors),
+        Err(error) => error_status(alloc, &error, out, errors),
     }
 }
 
-fn asked_status<R: Threads + Wait, S: Store, I: Read, O: Sink, F: Sink, G: Gate>(
+fn asked_status<R: Threads + Wait, S: Store, I: Read, O: Sink, E: Sink, G: Gate>(
     rt: &R,
     alloc: Global,
     asked: Asked<'_>,
     store: &mut S,
     input: &mut I,
     out: &mut O,
-    faults: &mut F,
+    errors: &mut E,
     gate: &G,
 ) -> u8
     requires { AreWithin asked }
     ensures answers { Answers (Some (request asked.entry)) (I.remaining input.old)
         (stored (S.contents store.old) (S.faulted store.old) (S.faulted store.new)) (O.taken out.old)
         (O.taken out.new) result }
+    ensures told { Tells (Some (request asked.entry)) (S.contents store.old) (E.taken errors.old)
+        (E.taken errors.new) result }
     ensures counted { result ≡ 0 ⊎ result ≡ 1 → O.failed out.new ≡ O.failed out.old }
     ensures unread { reads_store (Some (request asked.entry)) ≡ false → S.faulted store.new ≡ S.faulted store.old }
     ensures untaken { reads_input (Some (request asked.entry)) ≡ false → I.remaining input.new ≡ I.remaining input.old }
     ensures range { result ≤ 3 }
 {
     match asked {
-        Asked::Raw { budget } => raw_status(alloc, budget, input, out, faults),
+        Asked::Raw { budget } => raw_status(alloc, budget, input, out, errors),
         Asked::One {
             image,
             budget,
             input_hex,
-        } => one_status(alloc, image, budget, input_hex, store, out, faults),
+        } => one_status(alloc, image, budget, input_hex, store, out, errors),
         Asked::Run {
             jobs,
             workers,
             group,
-        } => run_status(rt, alloc, jobs, workers, group, store, out, faults, gate),
+        } => run_status(rt, alloc, jobs, workers, group, store, out, errors, gate),
     }
 }
 
-fn raw_status<I: Read, O: Sink, F: Sink>(
+fn raw_status<I: Read, O: Sink, E: Sink>(
     alloc: Global,
     budget: u32,
     input: &mut I,
     out: &mut O,
-    faults: &mut F,
+    errors: &mut E,
 ) -> u8
     ensures reported { result ≡ DONE
         → IfSome (I.remaining input.old)
@@ -115,47 +115,51 @@ fn raw_status<I: Read, O: Sink, F: Sink>(
     ensures part { result ≡ FAILED
         → IfSome (I.remaining input.old)
         (λ bytes. Began (O.taken out.old) (O.taken out.new) (raw_rows bytes budget)) }
+    ensures quiet { result ≡ DONE → Keeps (E.taken errors.old) (E.taken errors.new) }
+    ensures told { result ≡ FAILED → TellsFailure (E.taken errors.old) (E.taken errors.new) }
     ensures range { result ≡ DONE ⊎ result ≡ FAILED }
 {
     match run_raw(alloc, input, out, budget) {
         Ok(()) => DONE,
-        Err(error) => failed(faults, Failure::from(error)),
+        Err(error) => failed(errors, Failure::from(error)),
     }
 }
 
 // Both the path and the digits are asked before the store is read.
-fn one_status<S: Store, O: Sink, F: Sink>(
+fn one_status<S: Store, O: Sink, E: Sink>(
     alloc: Global,
     image: &str,
     budget: u32,
     input_hex: Option<&str>,
     store: &mut S,
     out: &mut O,
-    faults: &mut F,
+    errors: &mut E,
 ) -> u8
     requires { (1 ≤ budget) × (budget ≤ 1000000000) }
     ensures answers { Answers (Some (one image.now budget (option_map (λ text. text.now) input_hex.entry))) None
         (stored (S.contents store.old) (S.faulted store.old) (S.faulted store.new)) (O.taken out.old)
         (O.taken out.new) result }
+    ensures told { Tells (Some (one image.now budget (option_map (λ text. text.now) input_hex.entry)))
+        (S.contents store.old) (E.taken errors.old) (E.taken errors.new) result }
     ensures counted { result ≡ 0 ⊎ result ≡ 1 → O.failed out.new ≡ O.failed out.old }
     ensures range { result ≤ 3 }
 {
     if is_bad_path(image) {
-        return refused(faults);
+        return refused(errors);
     }
     let script = match read_script(alloc, input_hex) {
         Ok(script) => script,
-        Err(ScriptError::Refused) => return refused(faults),
-        Err(ScriptError::OutOfMemory) => return failed(faults, Failure::OutOfMemory),
+        Err(ScriptError::Refused) => return refused(errors),
+        Err(ScriptError::OutOfMemory) => return failed(errors, Failure::OutOfMemory),
     };
     match run_image(alloc, store, image, budget, script, out) {
         Ok(status) => status,
-        Err(failure) => failed(faults, failure),
+        Err(failure) => failed(errors, failure),
     }
 }
 
 // The list is read, and refused if it has a fault, before the files of its jobs are.
-fn run_status<R: Threads + Wait, S: Store, O: Sink, F: Sink, G: Gate>(
+fn run_status<R: Threads + Wait, S: Store, O: Sink, E: Sink, G: Gate>(
     rt: &R,
     alloc: Global,
     path: &str,
@@ -163,7 +167,7 @@ fn run_status<R: Threads + Wait, S: Store, O: Sink, F: Sink, G: Gate>(
     group: u32,
     store: &mut S,
     out: &mut O,
-    faults: &mut F,
+    errors: &mut E,
     gate: &G,
 ) -> u8
     requires workers { (1 ≤ workers) × (workers ≤ 64) }
@@ -171,84 +175,55 @@ fn run_status<R: Threads + Wait, S: Store, O: Sink, F: Sink, G: Gate>(
     ensures answers { Answers (Some (run path.now workers group)) None
         (stored (S.contents store.old) (S.faulted store.old) (S.faulted store.new)) (O.taken out.old)
         (O.taken out.new) result }
+    ensures told { Tells (Some (run path.now workers group)) (S.contents store.old) (E.taken errors.old)
+        (E.taken errors.new) result }
     ensures counted { result ≡ 0 ⊎ result ≡ 1 → O.failed out.new ≡ O.failed out.old }
     ensures range { result ≤ 3 }
 {
     if is_bad_path(path) {
-        return refused(faults);
+        return refused(errors);
     }
     let jobs = match read_list(alloc, store, path) {
         Ok(jobs) => jobs,
-        Err(ListError::Refused(error)) => return refused_list(alloc, faults, error),
-        Err(ListError::Failed(failure)) => return failed(faults, failure),
+        Err(ListError::Refused(error)) => return refused_list(alloc, errors, error),
+        Err(ListError::Failed(failure)) => return failed(errors, failure),
     };
     match run_jobs(rt, alloc, jobs, workers, group, store, out, gate) {
         Ok(status) => status,
-        Err(failure) => failed(faults, failure),
+        Err(failure) => failed(errors, failure),
     }
 }
 
-// Help is an error of `clap`, and goes to `out`.
-fn error_status<O: Sink, F: Sink>(alloc: Global, error: &Error, out: &mut O, faults: &mut F) -> u8
+// Help is an error of `clap`, and goes to `out`; any other but want of memory refuses the words.
+fn error_status<O: Sink, E: Sink>(alloc: Global, error: &Error, out: &mut O, errors: &mut E) -> u8
     ensures memory { kind_of error.now ≡ ErrorKind.OutOfMemory → (result ≡ FAILED)
         × Keeps (O.taken out.old) (O.taken out.new) }
-    ensures helped { result ≡ DONE → kind_of error.now ≡ ErrorKind.DisplayHelp
-        ⊎ kind_of error.now ≡ ErrorKind.DisplayVersion }
+    ensures helped { result ≡ DONE → kind_of error.now ≡ ErrorKind.DisplayHelp }
     ensures counted { result ≡ DONE → O.failed out.new ≡ O.failed out.old }
+    ensures quiet { result ≡ DONE → Keeps (E.taken errors.old) (E.taken errors.new) }
+    ensures refused { result ≡ BAD_WORDS
+        → AppendsBeginning (E.taken errors.old) (E.taken errors.new) bad_words_line }
+    ensures told { result ≡ FAILED → TellsFailure (E.taken errors.old) (E.taken errors.new) }
     ensures range { result ≡ DONE ⊎ result ≡ BAD_WORDS ⊎ result ≡ FAILED }
 {
-    if error.kind() == ErrorKind::OutOfMemory {
-        return failed(faults, Failure::OutOfMemory);
+    match error.kind() {
+        ErrorKind::OutOfMemory => failed(errors, Failure::OutOfMemory),
+        ErrorKind::DisplayHelp => help_status(alloc, error, out, errors),
+        _ => refused(errors),
     }
-    if error.use_stderr() {
-        return refused(faults);
-    }
-    let Ok(help) = error.to_string(alloc) else {
-        return failed(faults, Failure::OutOfMemory);
+}
+
+fn help_status<O: Sink, E: Sink>(alloc: Global, help: &Error, out: &mut O, errors: &mut E) -> u8
+    ensures counted { result ≡ DONE → O.failed out.new ≡ O.failed out.old }
+    ensures quiet { result ≡ DONE → Keeps (E.taken errors.old) (E.taken errors.new) }
+    ensures told { result ≡ FAILED → TellsFailure (E.taken errors.old) (E.taken errors.new) }
+    ensures range { result ≡ DONE ⊎ result ≡ FAILED }
+{
+    let Ok(help) = help.to_string(alloc) else {
+        return failed(errors, Failure::OutOfMemory);
     };
     match put_all(out, help.as_bytes()) {
         Ok(()) => DONE,
-        Err(_) => failed(faults, Failure::WriteFailed),
+        Err(_) => failed(errors, Failure::WriteFailed),
     }
-}
-
-/// Says that words are refused, and gives the status.
-pub fn refused<F: Sink>(faults: &mut F) -> u8
-    ensures { result ≡ BAD_WORDS }
-{
-    say(faults, "rvfleet: bad words\n");
-    BAD_WORDS
-}
-
-/// Says what is wrong with a job list, and gives the status.
-fn refused_list<F: Sink>(alloc: Global, faults: &mut F, error: JobError) -> u8
-    ensures { result ≡ BAD_WORDS ⊎ result ≡ FAILED }
-{
-    let JobError { job, what } = error;
-    let Ok(line) = format!(in alloc; "rvfleet: job {job}: {}\n", what.name()) else {
-        return failed(faults, Failure::OutOfMemory);
-    };
-    say(faults, line.as_str());
-    BAD_WORDS
-}
-
-/// Says why the program failed, and gives the status.
-pub fn failed<F: Sink>(faults: &mut F, failure: Failure) -> u8
-    ensures { result ≡ FAILED }
-{
-    let line = match failure {
-        Failure::OutOfMemory => "rvfleet: out of memory\n",
-        Failure::NoWorker => "rvfleet: no worker\n",
-        Failure::ListUnreadable => "rvfleet: list unreadable\n",
-        Failure::ListTooLong => "rvfleet: list too long\n",
-        Failure::ReadFailed => "rvfleet: read failed\n",
-        Failure::WriteFailed => "rvfleet: write failed\n",
-    };
-    say(faults, line);
-    FAILED
-}
-
-// A failed put of the line changes no status.
-fn say<F: Sink>(faults: &mut F, line: &str) {
-    let _ = put_all(faults, line.as_bytes());
 }
