@@ -10,6 +10,7 @@ use crate::claims::Claims;
 use crate::gate::Gate;
 use crate::pass::Pass;
 use crate::piece::{Piece, make_piece, piece_count};
+use crate::recent::Recent;
 use crate::row::{Row, Rows};
 use crate::spare::Spare;
 use crate::worked::Worked;
@@ -124,6 +125,10 @@ fn rows_at_place<G: Gate>(
 {
     match place {
         Some(rows) => Ok(rows),
-        None => Ok(make_piece(alloc, plan, group, gate, number, &mut Spare::new())?.rows),
+        None => {
+            let mut spare = Spare::new();
+            let mut recent = Recent::new(alloc);
+            Ok(make_piece(alloc, plan, group, gate, number, &mut spare, &mut recent)?.rows)
+        }
     }
 }

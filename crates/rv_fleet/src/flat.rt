@@ -5,10 +5,10 @@ ghost use Rattle.rv_memory.specs.Bus.{byte_at};
 ghost use Rattle.rv_machine.specs.State.{state_of};
 ghost use Rattle.rv_fleet.specs.Flat.{flat_byte, flat_contents, flat_outcome_of, flat_row_of, flat_state, image_room};
 
-use crate::outcome::{Outcome, refused, run};
+use crate::attempt::run;
+use crate::outcome::{Outcome, refused};
 use crate::row::{Refusal, Row, Verdict};
 use crate::rows::row_with;
-use crate::spare::Spare;
 use rv_isa::Isa;
 use rv_machine::Machine;
 use rv_memory::{Bus, Map, Misaligned};
@@ -36,13 +36,7 @@ fn flat_outcome(alloc: Global, bytes: &[u8], budget: u32) -> Result<Outcome, All
     if IMAGE_ROOM < bytes.len() {
         return Ok(refused(alloc, Refusal::ImageTooLong));
     }
-    run(
-        alloc,
-        flat_machine(alloc, bytes)?,
-        budget,
-        None,
-        &mut Spare::new(),
-    )
+    run(flat_machine(alloc, bytes)?, budget, None).outcome(alloc)
 }
 
 fn flat_machine(alloc: Global, bytes: &[u8]) -> Result<Machine, AllocError>

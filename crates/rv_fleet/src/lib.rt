@@ -14,6 +14,7 @@
 //! draws. Its report is that of [`run_one`], for every number of workers and of jobs in a piece.
 #![tactic(auto)]
 
+mod attempt;
 mod claims;
 #[cfg(test)]
 mod claims_tests;
@@ -27,10 +28,12 @@ mod law;
 mod outcome;
 mod pass;
 mod piece;
+mod recent;
 mod report;
 mod row;
 mod rows;
 mod rule;
+mod signature_lines;
 mod sink;
 mod spare;
 #[cfg(test)]

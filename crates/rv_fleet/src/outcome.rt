@@ -1,22 +1,15 @@
-//! The outcome of a job: the first refusal that applies, or what its run came to.
+//! Outcomes: what jobs came to, apart from their rows or still in the bus of a run.
 
-ghost use Rattle.std.specs.Prelude.{◌≡◌, ◌≢◌, ◌<◌, ◌≤◌, IfOk, IfSome, MatchResult, Ok, Err, length, option_map};
-ghost use Rattle.rv_elf.specs.declared.error.ImageError.TheVariants.{OutOfMemory};
-ghost use Rattle.rv_elf.specs.Image.{IsImageOf};
-ghost use Rattle.rv_elf.specs.Symbols.{signature_check, symbol_of};
+ghost use Rattle.std.specs.Prelude.{◌≡◌, IfOk, IfSome, option_map};
 ghost use Rattle.rv_elf.specs.Rows.{accepted};
-ghost use Rattle.rv_jobs.specs.declared.job.Job.{Job as AJob};
-ghost use Rattle.rv_jobs.specs.Jobs.{IsJob, most_script};
-ghost use Rattle.rv_machine.specs.Run.{run_of};
-ghost use Rattle.rv_machine.specs.State.{state_of};
-ghost use Rattle.rv_fleet.specs.Outcome.{end_of, end_of_signature, file_of, file_outcome_of, loadable_of, loaded_state, outcome_of, outcome_of_run, range_of, refused_outcome, signature_in};
+ghost use Rattle.rv_elf.specs.Symbols.{signature_check};
+ghost use Rattle.rv_fleet.specs.Attempt.{HasSignature, IsReadable, outcome_in_bus, outcome_of_attempt};
+ghost use Rattle.rv_fleet.specs.Outcome.{refused_outcome, signature_in};
 
 use crate::row::{Refusal, RowEnd, Words};
-use crate::spare::Spare;
-use rv_elf::{Image, ImageError, check_map, check_signature, find_symbol, load, read_image};
-use rv_jobs::{Bytes, Job, Kept, Symbols};
-use rv_machine::{Ending, Machine};
-use rv_memory::{Bus, Map};
+use rv_elf::Image;
+use rv_jobs::Bytes;
+use rv_memory::Bus;
 use std::alloc::{AllocError, Global};
 
 /// What a job came to, but for its verdict.
@@ -46,45 +39,96 @@ pub struct Loadable {
     pub range: Option<SignatureRange>,
 }
 
-/// The outcome of a job over what is kept of the paths of its image and of its reference.
-#[tactic(auto, unfolding(crate::specs::Outcome::outcome_of))]
-pub(crate) fn outcome_of(
-    alloc: Global,
-    job: &Job,
-    image: &Kept,
-    reference: Option<&Kept>,
-    spare: &mut Spare,
-) -> Result<Outcome, AllocError>
-    requires script { length job.now.script ≤ most_script }
-    requires named { IfSome job.now.signature (λ names. (0 < length names.begin) × (0 < length names.end)) }
-    ensures { IfOk result
-        (λ there. there ≡ outcome_of job.now image.now (option_map (λ kept. kept.now) reference.entry)) }
-{
-    match file(image, reference) {
-        Ok(file) => file_outcome(alloc, job, file, spare),
-        Err(why) => Ok(refused(alloc, why)),
+/// A run that has ended. What it wrote to the console and the words of its signature stand in its bus.
+#[derive(Drop)]
+pub(crate) struct EndedRun {
+    pub ending: RowEnd,
+    pub steps: u32,
+    pub bus: Bus,
+    pub range: Option<SignatureRange>,
+}
+
+/// What a job came to, of which nothing is copied yet.
+#[derive(Drop)]
+pub(crate) enum Attempt {
+    Refused(Refusal),
+    Ran(EndedRun),
+}
+
+impl Attempt {
+    /// A copy of the outcome.
+    pub(crate) fn outcome(&self, alloc: Global) -> Result<Outcome, AllocError>
+        requires { IsReadable self.now }
+        ensures { IfOk result (λ there. there ≡ outcome_of_attempt self.now) }
+    {
+        match self {
+            Attempt::Refused(why) => Ok(refused(alloc, *why)),
+            Attempt::Ran(run) => run.outcome(alloc),
+        }
+    }
+
+    /// How many bytes the console and the signature of a copy have.
+    pub(crate) fn size(&self) -> usize {
+        match self {
+            Attempt::Refused(_) => 0,
+            Attempt::Ran(run) => run.size(),
+        }
     }
 }
 
-// The image's bytes, if the reference is there too.
-#[tactic(auto, unfolding(crate::specs::Outcome::file_of))]
-fn file<'a>(image: &'a Kept, reference: Option<&Kept>) -> Result<&'a [u8], Refusal>
-    ensures { MatchResult result
-        (λ file. file_of image.now (option_map (λ kept. kept.now) reference.entry) ≡ Ok file.now)
-        (λ why. file_of image.now (option_map (λ kept. kept.now) reference.entry) ≡ Err why) }
-{
-    let file = match image {
-        Kept::Content(bytes) => bytes.as_slice(),
-        Kept::Unreadable => return Err(Refusal::ImageUnreadable),
-        Kept::TooLong => return Err(Refusal::ImageTooLong),
-    };
-    match reference {
-        Some(Kept::Unreadable) => Err(Refusal::ReferenceUnreadable),
-        Some(Kept::TooLong) => Err(Refusal::ReferenceTooLong),
-        Some(Kept::Content(_)) | None => Ok(file),
+impl EndedRun {
+    /// A copy of the outcome.
+    pub(crate) fn outcome(&self, alloc: Global) -> Result<Outcome, AllocError>
+        requires { HasSignature self.now }
+        ensures { IfOk result (λ there. there ≡ outcome_in_bus self.now) }
+    {
+        let console = self.bus.console().to_vec(alloc)?;
+        let signature = signature_in(alloc, &self.bus, self.range)?;
+        Ok(Outcome {
+            ending: self.ending,
+            steps: self.steps,
+            console: Bytes::new(console),
+            signature,
+        })
+    }
+
+    fn size(&self) -> usize {
+        let words = match self.range {
+            Some(range) => range.end.saturating_sub(range.begin) as usize,
+            None => 0,
+        };
+        words.saturating_add(self.bus.console().len())
     }
 }
 
+impl Outcome {
+    /// How many bytes the console and the signature have.
+    pub(crate) fn size(&self) -> usize {
+        let words = match &self.signature {
+            Some(words) => words.as_slice().len().saturating_mul(4),
+            None => 0,
+        };
+        words.saturating_add(self.console.as_slice().len())
+    }
+
+    pub(crate) fn copy(&self, alloc: Global) -> Result<Outcome, AllocError>
+        ensures { IfOk result (λ copy. copy ≡ self.now) }
+    {
+        let console = self.console.as_slice().to_vec(alloc)?;
+        let signature = match &self.signature {
+            Some(words) => Some(Words::new(words.as_slice().to_vec(alloc)?)),
+            None => None,
+        };
+        Ok(Outcome {
+            ending: self.ending,
+            steps: self.steps,
+            console: Bytes::new(console),
+            signature,
+        })
+    }
+}
+
+/// The outcome of a job that didn't run.
 pub(crate) fn refused(alloc: Global, why: Refusal) -> Outcome
     ensures { result ≡ refused_outcome why }
 {
@@ -94,121 +138,6 @@ pub(crate) fn refused(alloc: Global, why: Refusal) -> Outcome
         console: Bytes::new(Vec::new(alloc)),
         signature: None,
     }
-}
-
-#[tactic(auto, unfolding(crate::specs::Outcome::file_outcome_of))]
-fn file_outcome(
-    alloc: Global,
-    job: &Job,
-    file: &[u8],
-    spare: &mut Spare,
-) -> Result<Outcome, AllocError>
-    requires script { length job.now.script ≤ most_script }
-    requires named { IfSome job.now.signature (λ names. (0 < length names.begin) × (0 < length names.end)) }
-    ensures { IfOk result (λ there. there ≡ file_outcome_of job.now file.now) }
-{
-    match loadable_of(alloc, job, file) {
-        Ok(there) => {
-            let machine = loaded_machine(alloc, job, file, &there, spare)?;
-            run(alloc, machine, job.budget, there.range, spare)
-        }
-        Err(ImageError::OutOfMemory) => Err(AllocError),
-        Err(error) => Ok(refused(alloc, Refusal::Image(error))),
-    }
-}
-
-// The image and the signature's range, or the first refusal.
-#[tactic(auto, unfolding(crate::specs::Outcome::loadable_of))]
-fn loadable_of(alloc: Global, job: &Job, file: &[u8]) -> Result<Loadable, ImageError>
-    requires { IfSome job.now.signature (λ names. (0 < length names.begin) × (0 < length names.end)) }
-    ensures { MatchResult result (λ there. loadable_of job.now file.now ≡ Ok there)
-        (λ error. error ≢ OutOfMemory → loadable_of job.now file.now ≡ Err error) }
-{
-    let image = read_image(alloc, file, job.isa)?;
-    check_map(&image, &job.regions, job.load)?;
-    let range = match &job.signature {
-        Some(names) => Some(signature_range(&image, file, &job.regions, names)?),
-        None => None,
-    };
-    Ok(Loadable { image, range })
-}
-
-#[tactic(auto, unfolding(crate::specs::Outcome::range_of))]
-fn signature_range(
-    image: &Image,
-    file: &[u8],
-    regions: &Map,
-    names: &Symbols,
-) -> Result<SignatureRange, ImageError>
-    requires image { IsImageOf file.now image.now }
-    requires begins { 0 < length names.now.begin }
-    requires ends { 0 < length names.now.end }
-    ensures { result ≡ range_of file.now regions.now names.now }
-{
-    let begin = find_symbol(image, file, names.begin.as_str().as_bytes())?;
-    let end = end_symbol(image, file, names.end.as_str().as_bytes())?;
-    check_signature(begin, end, regions)?;
-    Ok(SignatureRange { begin, end })
-}
-
-fn end_symbol(image: &Image, file: &[u8], name: &[u8]) -> Result<u32, ImageError>
-    requires image { IsImageOf file.now image.now }
-    requires named { 0 < length name.now }
-    ensures { result ≡ end_of_signature (symbol_of file.now name.now) }
-{
-    match find_symbol(image, file, name) {
-        Err(ImageError::NoBegin) => Err(ImageError::NoEnd),
-        answer => answer,
-    }
-}
-
-// The machine at reset, with the image in its memory.
-fn loaded_machine(
-    alloc: Global,
-    job: &Job,
-    file: &[u8],
-    there: &Loadable,
-    spare: &mut Spare,
-) -> Result<Machine, AllocError>
-    requires script { length job.now.script ≤ most_script }
-    requires loadable { loadable_of job.now file.now ≡ Ok there.now }
-    ensures { IfOk result (λ machine. state_of machine ≡ loaded_state job.now file.now there.now.image) }
-{
-    let script = copied(alloc, job.script.as_slice())?;
-    let mut bus = spare.new_bus(alloc, job.regions, script, job.misaligned)?;
-    load(&there.image, file, job.load, &mut bus);
-    Machine::new(alloc, bus, there.image.entry, job.isa)
-}
-
-fn copied(alloc: Global, bytes: &[u8]) -> Result<Vec<u8>, AllocError>
-    ensures { IfOk result (λ copy. copy.items ≡ bytes.now) }
-{
-    bytes.to_vec(alloc)
-}
-
-// What a run within a budget comes to.
-pub(crate) fn run(
-    alloc: Global,
-    machine: Machine,
-    budget: u32,
-    range: Option<SignatureRange>,
-    spare: &mut Spare,
-) -> Result<Outcome, AllocError>
-    requires { IfSome range (λ there. signature_check there.begin there.end (state_of machine).bus.regions ≡ accepted) }
-    ensures { IfOk result (λ there. there ≡ outcome_of_run (run_of budget (state_of machine)) range) }
-{
-    let mut machine = machine;
-    let ran = machine.run(budget);
-    let bus = machine.into_bus();
-    let console = bus.console().to_vec(alloc)?;
-    let signature = signature_in(alloc, &bus, range)?;
-    spare.keep(bus);
-    Ok(Outcome {
-        ending: row_end(ran.ending),
-        steps: ran.steps,
-        console: Bytes::new(console),
-        signature,
-    })
 }
 
 // The words of a signature in memory.
@@ -231,14 +160,4 @@ fn words_between(alloc: Global, bus: &Bus, range: SignatureRange) -> Result<Word
     ensures { IfOk result (λ words. words ≡ signature_in bus.now range) }
 {
     Ok(Words::new(bus.words(alloc, range.begin, range.end)?))
-}
-
-fn row_end(ending: Ending) -> RowEnd
-    ensures { result ≡ end_of ending }
-{
-    match ending {
-        Ending::Exit(code) => RowEnd::Exit(code),
-        Ending::Fault(kind, pc, value) => RowEnd::Fault(kind, pc, value),
-        Ending::Budget => RowEnd::Budget,
-    }
 }

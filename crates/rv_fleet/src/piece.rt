@@ -1,9 +1,11 @@
 //! Pieces: the jobs of a plan in groups, in list order.
 
-ghost use Rattle.std.specs.Prelude.{◌≡◌, ◌<◌, ◌≤◌, IfOk};
+ghost use Rattle.std.specs.Prelude.{◌≡◌, ◌<◌, ◌≤◌, IfOk, OnOk};
 ghost use Rattle.rv_fleet.specs.Pieces.{pieces_of, piece_at};
+ghost use Rattle.rv_fleet.specs.Recent.{AreOutcomes};
 
 use crate::gate::Gate;
+use crate::recent::Recent;
 use crate::row::Rows;
 use crate::rows::next_row;
 use crate::spare::Spare;
@@ -35,10 +37,13 @@ pub(crate) fn make_piece<G: Gate>(
     gate: &G,
     number: u64,
     spare: &mut Spare,
+    recent: &mut Recent,
 ) -> Result<Piece, AllocError>
     requires group { 0 < group }
     requires number { number < pieces_of plan.now group }
-    ensures { IfOk result (λ piece. piece ≡ piece_at plan.now group number) }
+    requires recent { AreOutcomes plan.now recent.old }
+    ensures piece { IfOk result (λ piece. piece ≡ piece_at plan.now group number) }
+    ensures recent { OnOk result (AreOutcomes plan.now recent.new) }
 {
     gate.enter(number);
     let jobs = plan.jobs();
@@ -47,7 +52,7 @@ pub(crate) fn make_piece<G: Gate>(
     let end = start + group.min(jobs - start);
     let mut rows = Vec::with_capacity(alloc, end - start)?;
     for i in start..end {
-        rows.push(next_row(alloc, plan, i, spare)?)?;
+        rows.push(next_row(alloc, plan, i, spare, recent)?)?;
     }
     Ok(Piece {
         number,

@@ -1,13 +1,13 @@
 //! The text of a report, sent in few large puts.
 
 ghost use Rattle.std.specs.Prelude.{◌≡◌, ◌++◌, ◌+◌, ◌<◌, ◌^◌, ◌-◌, [], OnOk, OnErr, IfErr, map, option_map, string_bytes};
-ghost use Rattle.std.specs.List.{flat_map};
 ghost use Rattle.std.specs.Io.KnownBytes.{Appends};
-ghost use Rattle.rv_fleet.specs.Report.{fault_name, image_error_name, refusal_name, verdict_name, word_digits, word_line, end_line, or_dash, console_line, signature_lines, row_text, rows_text, done_line, report_text};
+ghost use Rattle.rv_fleet.specs.Report.{fault_name, image_error_name, refusal_name, verdict_name, end_line, or_dash, console_line, signature_lines, row_text, rows_text, done_line, report_text};
 ghost use Rattle.rv_fleet.specs.Sending.{AppendsBeginning, IsUnderWay, Rose, one_more};
 ghost use Rattle.rv_fleet.specs.declared.report.WriteError.TheVariants.{Failed, OutOfMemory};
 
 use crate::row::{Refusal, Report, Row, RowEnd, Verdict};
+use crate::signature_lines::{push_word, push_word_lines};
 use crate::sink::{Sink, SinkFailed, put_all};
 use rv_elf::ImageError;
 use rv_machine::FaultKind;
@@ -156,14 +156,6 @@ fn push_end(alloc: Global, text: &mut String, ending: RowEnd) -> Result<(), Allo
     }
 }
 
-#[tactic(auto, unfolding(crate::specs::Report::word_digits))]
-fn push_word(alloc: Global, text: &mut String, word: u32) -> Result<(), AllocError>
-    ensures { OnOk result (string_bytes text.new ≡ string_bytes text.old ++ word_digits word) }
-{
-    let digits = hex::encode(alloc, word.to_be_bytes().as_slice())?;
-    text.push_str(digits.as_str())
-}
-
 #[tactic(auto, unfolding(crate::specs::Report::console_line))]
 fn push_console(alloc: Global, text: &mut String, console: &[u8]) -> Result<(), AllocError>
     ensures { OnOk result (string_bytes text.new ≡ string_bytes text.old ++ console_line console.now) }
@@ -206,20 +198,6 @@ fn push_signature(
         }
         None => text.push_str("signature -\n"),
     }
-}
-
-pub(crate) fn push_word_lines(
-    alloc: Global,
-    text: &mut String,
-    words: &[u32],
-) -> Result<(), AllocError>
-    ensures { OnOk result (string_bytes text.new ≡ string_bytes text.old ++ flat_map word_line words.now) }
-{
-    for word in words {
-        push_word(alloc, text, *word)?;
-        text.push_str("\n")?;
-    }
-    Ok(())
 }
 
 fn fault_text(kind: FaultKind) -> &'static str

@@ -3,6 +3,7 @@
 ghost use Rattle.std.specs.Prelude.{◌≡◌, ◌≤◌, IfOk, vec_len};
 ghost use Rattle.rv_memory.specs.Bus.{opened};
 
+use crate::outcome::Attempt;
 use rv_memory::{Bus, Map, Misaligned};
 use std::alloc::{AllocError, Global};
 
@@ -35,7 +36,10 @@ impl Spare {
         }
     }
 
-    pub(crate) fn keep(&mut self, bus: Bus) {
-        self.bus = Some(bus);
+    /// Keeps the bus of a run whose outcome is no longer asked.
+    pub(crate) fn keep(&mut self, attempt: Attempt) {
+        if let Attempt::Ran(run) = attempt {
+            self.bus = Some(run.bus);
+        }
     }
 }

@@ -7,8 +7,8 @@ use crate::outcome::Outcome;
 use crate::report::{WriteError, write_report};
 use crate::row::{Refusal, Report, Row, RowEnd, Rows, Verdict, Words};
 use crate::sink::{Sink, SinkFailed};
-use crate::verdict::verdict;
-use rv_jobs::{Bytes, Job, JobList, Text};
+use crate::verdict::are_same;
+use rv_jobs::{Bytes, Text};
 use rv_machine::FaultKind;
 use std::alloc::{AllocError, Global};
 use std::test::Fail;
@@ -259,16 +259,10 @@ fn keeps_what_rows_are_made_from(rt: HostRuntime) -> Result<(), Fail> {
 }
 
 // Whether runs that end by these kinds of faults, at different places and after different steps, are the same.
-fn are_same_faults(
-    alloc: Global,
-    job: &Job,
-    kind: FaultKind,
-    other: FaultKind,
-) -> Result<bool, AllocError> {
+fn are_same_faults(alloc: Global, kind: FaultKind, other: FaultKind) -> bool {
     let there = fault_outcome(alloc, RowEnd::Fault(kind, 0x8000_0000, 0), 0);
     let named = fault_outcome(alloc, RowEnd::Fault(other, 0x8000_0004, 0xabc), 1);
-    let verdict = verdict(alloc, job, &there, None, Some(&named))?;
-    Ok(verdict == Verdict::Pass)
+    are_same(&there, &named)
 }
 
 fn fault_outcome(alloc: Global, ending: RowEnd, steps: u32) -> Outcome {
@@ -283,15 +277,10 @@ fn fault_outcome(alloc: Global, ending: RowEnd, steps: u32) -> Outcome {
 #[test]
 fn tells_each_kind_of_fault_from_the_others(rt: HostRuntime) -> Result<(), Fail> {
     let alloc = rt.alloc();
-    let list = JobList::single(alloc, "a", 1, Vec::new(alloc))?;
-    for job in list.into_vec() {
-        let mut job = job;
-        job.same_as = Some(0);
-        for (place, kind) in FAULTS.iter().enumerate() {
-            for (at, other) in FAULTS.iter().enumerate() {
-                let are_same = are_same_faults(alloc, &job, *kind, *other)?;
-                assert_eq!(rt; are_same, place == at, "{place} and {at}");
-            }
+    for (place, kind) in FAULTS.iter().enumerate() {
+        for (at, other) in FAULTS.iter().enumerate() {
+            let are_same = are_same_faults(alloc, *kind, *other);
+            assert_eq!(rt; are_same, place == at, "{place} and {at}");
         }
     }
     Ok(())

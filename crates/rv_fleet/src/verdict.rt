@@ -1,41 +1,36 @@
 //! The verdict on a job's outcome.
 
-ghost use Rattle.std.specs.Prelude.{◌≡◌, IfOk, option_map, string_bytes};
+ghost use Rattle.std.specs.Prelude.{◌≡◌, Option, bytes_eq, option_map};
+ghost use Rattle.rv_fleet.specs.declared.outcome.Outcome.{Outcome as AnOutcome};
+ghost use Rattle.rv_fleet.specs.Attempt.{HasSignature, IsReadable, outcome_in_bus, outcome_of_attempt};
 ghost use Rattle.rv_fleet.specs.Verdict.{are_alike, are_same, exits_with, fault_number, holds_exit, holds_reference, holds_same, is_asked, is_run, lines_of, same_signature, verdict_of};
 
-use crate::outcome::Outcome;
-use crate::report::push_word_lines;
+use crate::outcome::{Attempt, EndedRun, Outcome};
 use crate::row::{RowEnd, Verdict, Words};
+use crate::signature_lines::are_word_lines;
 use rv_jobs::{Job, Text};
 use rv_machine::FaultKind;
-use std::alloc::{AllocError, Global};
 
-/// Whether an outcome is what the job expects, over the bytes of its reference, where that was read,
-/// and the outcome of the job that it names.
+/// Whether an outcome is what the job expects, over the bytes of its reference, where that was read, and whether it is
+/// the same as the outcome of the job that it names, if it names one.
 #[tactic(auto, unfolding(crate::specs::Verdict::verdict_of))]
-pub(crate) fn verdict(
-    alloc: Global,
-    job: &Job,
-    there: &Outcome,
-    reference: Option<&[u8]>,
-    other: Option<&Outcome>,
-) -> Result<Verdict, AllocError>
-    ensures { IfOk result (λ verdict. verdict ≡ verdict_of job.now there.now
-        (option_map (λ bytes. bytes.now) reference.entry) (option_map (λ other. other.now) other.entry)) }
+pub(crate) fn verdict(job: &Job, there: &Outcome, reference: Option<&[u8]>, same: bool) -> Verdict
+    ensures { (other : Option AnOutcome) → same ≡ holds_same job.now.same_as other there.now
+        → result ≡ verdict_of job.now there.now (option_map (λ bytes. bytes.now) reference.entry) other }
 {
     if !is_asked(job) {
-        return Ok(Verdict::Unasked);
+        return Verdict::Unasked;
     }
     if !holds_exit(job.expect_exit, there.ending) {
-        return Ok(Verdict::Fail);
+        return Verdict::Fail;
     }
-    if !holds_reference(alloc, &job.expect_signature, reference, there)? {
-        return Ok(Verdict::Fail);
+    if !holds_reference(&job.expect_signature, reference, there) {
+        return Verdict::Fail;
     }
-    if !holds_same(job.same_as, other, there) {
-        return Ok(Verdict::Fail);
+    if !same {
+        return Verdict::Fail;
     }
-    Ok(Verdict::Pass)
+    Verdict::Pass
 }
 
 // Whether a job expects something of its row.
@@ -66,27 +61,17 @@ fn exits_with(code: u32, ending: RowEnd) -> bool
 }
 
 // Whether the job ran, and the reference is its signature's lines.
-fn holds_reference(
-    alloc: Global,
-    expected: &Option<Text>,
-    reference: Option<&[u8]>,
-    there: &Outcome,
-) -> Result<bool, AllocError>
-    ensures { IfOk result
-        (λ holds. holds
-        ≡ holds_reference expected.now (option_map (λ bytes. bytes.now) reference.entry) there.now) }
+fn holds_reference(expected: &Option<Text>, reference: Option<&[u8]>, there: &Outcome) -> bool
+    ensures { result
+        ≡ holds_reference expected.now (option_map (λ bytes. bytes.now) reference.entry) there.now }
 {
     let Some(_) = expected else {
-        return Ok(true);
+        return true;
     };
     let Some(bytes) = reference else {
-        return Ok(false);
+        return false;
     };
-    if !is_run(there.ending) {
-        return Ok(false);
-    }
-    let lines = lines_of(alloc, &there.signature)?;
-    Ok(bytes == lines.as_bytes())
+    is_run(there.ending) && are_lines_of(bytes, &there.signature)
 }
 
 fn is_run(ending: RowEnd) -> bool
@@ -95,30 +80,18 @@ fn is_run(ending: RowEnd) -> bool
     !matches!(ending, RowEnd::Refused(_))
 }
 
-// Each word of a signature as a line.
-fn lines_of(alloc: Global, signature: &Option<Words>) -> Result<String, AllocError>
-    ensures { IfOk result (λ text. string_bytes text ≡ lines_of signature.now) }
+// Whether these bytes are the lines of a signature's words.
+fn are_lines_of(bytes: &[u8], signature: &Option<Words>) -> bool
+    ensures { result ≡ bytes_eq bytes.now (lines_of signature.now) }
 {
-    let mut text = String::new(alloc);
-    if let Some(words) = signature {
-        push_word_lines(alloc, &mut text, words.as_slice())?;
-    }
-    Ok(text)
-}
-
-fn holds_same(expected: Option<usize>, other: Option<&Outcome>, there: &Outcome) -> bool
-    ensures { result ≡ holds_same expected (option_map (λ other. other.now) other.entry) there.now }
-{
-    let Some(_) = expected else {
-        return true;
-    };
-    match other {
-        Some(other) => are_same(there, other),
-        None => false,
+    match signature {
+        Some(words) => are_word_lines(bytes, words.as_slice()),
+        None => bytes.is_empty(),
     }
 }
 
-fn are_same(there: &Outcome, other: &Outcome) -> bool
+/// Whether two outcomes are the same, but for steps, addresses and values.
+pub(crate) fn are_same(there: &Outcome, other: &Outcome) -> bool
     ensures { result ≡ are_same there.now other.now }
 {
     if !are_alike(there.ending, other.ending) {
@@ -128,6 +101,44 @@ fn are_same(there: &Outcome, other: &Outcome) -> bool
         return false;
     }
     same_signature(&there.signature, &other.signature)
+}
+
+/// The same, where nothing of the other is copied.
+pub(crate) fn is_same(there: &Outcome, other: &Attempt) -> bool
+    requires { IsReadable other.now }
+    ensures { result ≡ are_same there.now (outcome_of_attempt other.now) }
+{
+    match other {
+        Attempt::Refused(why) => are_alike(there.ending, RowEnd::Refused(*why)),
+        Attempt::Ran(run) => is_same_run(there, run),
+    }
+}
+
+fn is_same_run(there: &Outcome, run: &EndedRun) -> bool
+    requires { HasSignature run.now }
+    ensures { result ≡ are_same there.now (outcome_in_bus run.now) }
+{
+    if !are_alike(there.ending, run.ending) {
+        return false;
+    }
+    if there.console.as_slice() != run.bus.console() {
+        return false;
+    }
+    has_signature(run, &there.signature)
+}
+
+// Whether the words of a run's signature are these.
+fn has_signature(run: &EndedRun, signature: &Option<Words>) -> bool
+    requires { HasSignature run.now }
+    ensures { result ≡ same_signature signature.now (outcome_in_bus run.now).signature }
+{
+    match (signature, run.range) {
+        (Some(words), Some(range)) => {
+            run.bus.has_words(range.begin, range.end, words.as_slice())
+        }
+        (None, None) => true,
+        _ => false,
+    }
 }
 
 // Whether two runs ended alike: by the same code, by the same kind of fault, or both by their budgets.

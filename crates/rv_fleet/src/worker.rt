@@ -10,6 +10,7 @@ use crate::claims::Claims;
 use crate::gate::Gate;
 use crate::pass::Pass;
 use crate::piece::{Piece, make_piece};
+use crate::recent::Recent;
 use crate::spare::Spare;
 use crate::worked::Worked;
 use rv_jobs::Plan;
@@ -34,8 +35,10 @@ pub fn work<G: Gate>(
 {
     let mut pieces = Vec::new(alloc);
     let mut spare = Spare::new();
+    let mut recent = Recent::new(alloc);
     while let Some(number) = claims.take(pass) {
-        pieces.push(make_piece(alloc, plan, group, gate, number, &mut spare)?)?;
+        let piece = make_piece(alloc, plan, group, gate, number, &mut spare, &mut recent)?;
+        pieces.push(piece)?;
     }
     Ok(pieces)
 }

@@ -1,4 +1,4 @@
-ghost use Rattle.std.specs.Prelude.{◌≡◌, ◌-◌, ◌%◌, ◌<◌, ◌≤◌, IfOk, IsTrue};
+ghost use Rattle.std.specs.Prelude.{◌≡◌, ◌↔◌, ◌-◌, ◌%◌, ◌<◌, ◌≤◌, IfOk, IsTrue};
 ghost use Rattle.rv_memory.specs.Regions.{in_one};
 ghost use Rattle.rv_memory.specs.Bus.{word_at};
 ghost use Rattle.rv_memory.specs.Words.{words_of};
@@ -25,6 +25,26 @@ impl Bus {
             words.push(self.word(begin + WORD * k))?;
         }
         Ok(words)
+    }
+
+    /// Whether these are the words of memory from `begin` up to `end`, as it stands. It takes no memory.
+    pub fn has_words(&self, begin: u32, end: u32, words: &[u32]) -> bool
+        requires begin { begin % 4 ≡ 0 }
+        requires end { end % 4 ≡ 0 }
+        requires order { begin ≤ end }
+        requires within { IsTrue (in_one self.now.regions begin (end - begin)) }
+        ensures { IsTrue result ↔ (words.now ≡ words_of self.now.memory begin end) }
+    {
+        let count = (end - begin) / WORD;
+        if words.len() != count as usize {
+            return false;
+        }
+        for at in 0..count {
+            if words[at as usize] != self.word(begin + WORD * at) {
+                return false;
+            }
+        }
+        true
     }
 
     /// The word at an address whose four bytes lie in one region.

@@ -1,6 +1,10 @@
 use Rattle.std.proofs.Common.{◌≡◌, ◌-◌, drop, take}
+use Rattle.rv_fleet.specs.Recent.{AreOutcomes}
 use Rattle.rv_fleet.specs.Rows.{rows_of}
 use Rattle.rv_fleet.proofs.piece.make_piece.Given as goal
 
 abbrev pub invariant-loop-i : goal.invariant-loop-i
-invariant-loop-i g l = l.rows.items ≡ take (l.i - l.start) (drop l.start (rows_of l.plan))
+invariant-loop-i g l = record {
+  rows : l.rows.items ≡ take (l.i - l.start) (drop l.start (rows_of l.plan));
+  recent : AreOutcomes l.plan l.recent;
+}

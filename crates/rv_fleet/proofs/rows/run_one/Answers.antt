@@ -8,5 +8,8 @@ pub loop-i-preserved : goal.loop-i-preserved
 loop-i-preserved c =
     let any = single_job [] 0 [] in
     let more = map_more (row_of c.args.plan.now) c.args.plan.now.jobs c.loop-i.i any (omega (arith, c.jobs-i-end.ensures.value)) in
-    c.in_ok-push.ensures.items ∙ ap (λ rows. rows ++ c.in_ok-next_row.field-0 ∷ []) c.loop-i.invariant
-    ∙ ap (λ row. map (row_of c.args.plan.now) (take c.loop-i.i c.args.plan.now.jobs) ++ row ∷ []) (c.in_ok-next_row.ensures any) ∙ sym more
+    record {
+      rows = c.in_ok-push.ensures.items ∙ ap (λ rows. rows ++ c.in_ok-next_row.field-0 ∷ []) c.loop-i.invariant.rows
+          ∙ ap (λ row. map (row_of c.args.plan.now) (take c.loop-i.i c.args.plan.now.jobs) ++ row ∷ []) (c.in_ok-next_row.ensures.row any) ∙ sym more;
+      recent = c.in_ok-next_row.ensures.recent;
+    }

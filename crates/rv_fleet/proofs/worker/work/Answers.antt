@@ -14,8 +14,8 @@ pub loop-number-preserved : goal.loop-number-preserved
 loop-number-preserved g c =
     let was = c.loop-number.invariant in
     let t = took_some _ _ _ _ c.in-Some.number (c.take.ensures.none, c.take.ensures.drawn) c.in-Some.is in
-    let m = made_one (piece_at c.args.plan.now c.args.group) c.args.pass.now _ _ _ _ _ _ _ was.1 t.0 t.2 (ap (λ (d : Draw). d.pieces) c.requires.pass) was.2 c.in_ok-push.ensures.items c.in_ok-make_piece.ensures in
-    (ap (λ (h : Held). h.draw) t.0 ∙ was.0, m.0, m.1)
+    let m = made_one (piece_at c.args.plan.now c.args.group) c.args.pass.now _ _ _ _ _ _ _ was.1 t.0 t.2 (ap (λ (d : Draw). d.pieces) c.requires.pass) was.2 c.in_ok-push.ensures.items c.in_ok-piece.ensures.piece in
+    (ap (λ (h : Held). h.draw) t.0 ∙ was.0, m.0, m.1, c.in_ok-piece.ensures.recent)
 
 pub returns-in_err-push-clause-pass : goal.returns-in_err-push-clause-pass
 returns-in_err-push-clause-pass g c =

@@ -1,12 +1,14 @@
 use Rattle.std.proofs.Common.{◌≡◌, ◌-◌, map}
 use Rattle.rv_fleet.specs.Drawn.{Grew, new_pieces}
 use Rattle.rv_fleet.specs.Pieces.{piece_at}
+use Rattle.rv_fleet.specs.Recent.{AreOutcomes}
 use Rattle.rv_fleet.proofs.Grows.{above}
 use Rattle.rv_fleet.proofs.worker.work.Given as goal
 
 abbrev pub invariant-loop-number : goal.invariant-loop-number
 invariant-loop-number g l =
     (l.pass.draw ≡ l.claims) × Grew l.initial.pass l.pass × (l.pieces.items ≡ map (piece_at l.plan l.group) (new_pieces l.initial.pass l.pass))
+    × AreOutcomes l.plan l.recent
 
 abbrev pub decreases-loop-number : goal.decreases-loop-number
 decreases-loop-number g l = l.claims.pieces - above l.pass.draws

@@ -1,7 +1,7 @@
 use Rattle.std.proofs.Common.{◌∙◌}
 use Rattle.rv_elf.proofs.Reading.{entry_aligned, entry_even}
 use Rattle.rv_fleet.proofs.Loadables.{aligned, loadable_parts, loaded_is, new_bus}
-use Rattle.rv_fleet.proofs.outcome.loaded_machine.Goals as goal
+use Rattle.rv_fleet.proofs.attempt.loaded_machine.Goals as goal
 
 pub load-requires-clause-image : goal.load-requires-clause-image
 load-requires-clause-image c = record { isa = c.args.job.now.isa; is = (loadable_parts _ _ _ c.requires.loadable).image }
