@@ -57,6 +57,28 @@ fn a_dropped_pass_is_lacking_at_the_end(rt: HostRuntime) -> Result<(), Fail> {
     Ok(())
 }
 
+// A pass that has ended is split as any other: the new one has a place of its own and no draws, and ends by its own draw.
+#[test]
+fn an_ended_pass_is_split(rt: HostRuntime) -> Result<(), Fail> {
+    for keep_both in [true, false] {
+        let (claims, mut first) = Claims::new(rt.alloc(), 1)?;
+        assert_eq!(rt; claims.take(&mut first), Some(0));
+        assert_eq!(rt; claims.take(&mut first), None);
+        let (first, mut second) = halves(&rt, &claims, first);
+        assert!(rt; first.ended() && !second.ended());
+        assert_eq!(rt; claims.take(&mut second), None);
+        assert!(rt; second.ended());
+        let (first, second) = claims.meet(first, second);
+        let last = if keep_both {
+            claims.join(first, second)
+        } else {
+            first
+        };
+        assert_eq!(rt; claims.finish(last), keep_both);
+    }
+    Ok(())
+}
+
 // 64 places are given, and a further split gives its pass back.
 #[test]
 fn places_run_out(rt: HostRuntime) -> Result<(), Fail> {

@@ -288,6 +288,53 @@ fn two_passes_make_each_piece_once(rt: HostRuntime) -> Result<(), Fail> {
     Ok(())
 }
 
+/// Notes the numbers with which it was entered, in order.
+#[derive(Drop)]
+struct NotingGate {
+    entered: AtomicU64,
+    numbers: [AtomicU64; 3],
+}
+
+impl Gate for NotingGate {
+    fn enter(&self, piece: u64) {
+        let place = self.entered.fetch_add(1, Ordering::SeqCst);
+        if let Some(number) = self.numbers.get(place as usize) {
+            number.store(piece, Ordering::SeqCst);
+        }
+    }
+}
+
+// Two jobs a piece, and one in the last. The gate has each piece's number once, when its rows are made.
+#[test]
+fn gate_has_the_number_of_the_piece(rt: HostRuntime) -> Result<(), Fail> {
+    let alloc = rt.alloc();
+    let plan = plan_of(alloc, 5, &ONE_SEGMENT)?;
+    let gate = NotingGate {
+        entered: AtomicU64::new(0),
+        numbers: [AtomicU64::new(9), AtomicU64::new(9), AtomicU64::new(9)],
+    };
+    let (claims, mut pass) = Claims::new(alloc, piece_count(&plan, 2))?;
+    let pieces = work(alloc, &claims, &mut pass, &plan, 2, &gate)?;
+    assert_eq!(rt; (gate.entered.load(Ordering::SeqCst), pieces.len()), (3, 3));
+    for (place, piece) in pieces.iter().enumerate() {
+        let number = gate
+            .numbers
+            .get(place)
+            .map_or(9, |number| number.load(Ordering::SeqCst));
+        assert_eq!(rt; (number, piece.number), (place as u64, place as u64));
+        let first = piece
+            .rows
+            .as_slice()
+            .first()
+            .map_or("", |row| row.name.as_str());
+        assert_eq!(rt;
+            first,
+            ["j0", "j2", "j4"].get(place).copied().unwrap_or("none")
+        );
+    }
+    Ok(())
+}
+
 #[test]
 fn rows_at_their_places(rt: HostRuntime) -> Result<(), Fail> {
     let alloc = rt.alloc();

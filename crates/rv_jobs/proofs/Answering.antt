@@ -1,17 +1,21 @@
 -- Answers by their paths, and the paths of jobs in order of first use.
-use Rattle.std.proofs.Common.{◌≡◌, ◌∙◌, ◌+◌, ◌<◌, ◌++◌, Bool, true, false, ℕ, zero, suc, List, [], ◌∷◌, Option, Some, None, IfOk, Result, Ok, Err, refl, ap, sym, length, option_map, cond, arith, subst, get_or, is_some, take, IfSome}
+use Rattle.std.proofs.Common.{◌≡◌, ◌∙◌, ◌+◌, ◌<◌, ◌++◌, Bool, true, false, ℕ, zero, suc, List, [], ◌∷◌, Option, Some, None, IfOk, Result, Ok, Err, refl, ap, sym, length, option_map, cond, arith, subst, get_or, is_some, take, IfSome, inl, inr, option_and_then}
 use Rattle.std.specs.List.{find, fold}
 use Rattle.std.specs.Str.{bytes_eq}
-use Rattle.std.proofs.lemmas.List.{map-append, length-map}
+use Rattle.std.proofs.lemmas.List.{map-append, length-map, get_or_default, get_or_push}
+use Rattle.std.proofs.lemmas.Bool.{cases_lt}
+use Rattle.std.proofs.Math.ListN.{get_or-append}
 use Rattle.std.proofs.lemmas.List.Sums.{sum_by-append, fold_more}
 use Rattle.std.proofs.Math.Seq.{take-length}
 use Rattle.std.proofs.lemmas.List.Elements.{All-push}
 use Rattle.rv_jobs.specs.declared.job.Job.{Job}
 use Rattle.rv_jobs.specs.declared.store.Kept.{Kept}
 use Rattle.rv_jobs.specs.declared.asked.Answer.{Answer}
+use Rattle.rv_jobs.specs.declared.plan.Places.{Places}
 use Rattle.rv_jobs.specs.JobList.{place_in}
 use Rattle.rv_jobs.specs.Stores.{FileContents, IsKeptOf, is_unreadable, one_more, faults_with}
-use Rattle.rv_jobs.specs.Plans.{paths_of, with_path, with_reference, with_job, paths_used, kept_of, AreKept, unreadables, more}
+use Rattle.rv_jobs.specs.Plans.{paths_of, with_path, with_reference, with_job, paths_used, kept_of, reference_kept, AreKept, unreadables, more}
+use Rattle.rv_jobs.specs.Placed.{ArePlaced}
 use Rattle.rv_jobs.proofs.PlaceLemmas.{place_below, place_last}
 use Rattle.std.proofs.lemmas.Slice.Eq.{bytes_eq-Decides}
 
@@ -91,6 +95,19 @@ module _ (xs : List (List ℕ)) (p : List ℕ) where
   pub has_still : (q : List ℕ) → is_some (place_in xs q) ≡ true → is_some (place_in (with_path xs p) q) ≡ true
   has_still q h = placed_still q (is_some (place_in xs p)) refl h
 
+  found_still : (q : List ℕ) (k : ℕ) (b : Bool) → bytes_eq p q ≡ b → place_in xs p ≡ None → place_in xs q ≡ Some k → cond b (Some (length xs)) (place_in xs q) ≡ Some k
+  found_still q k true e none h = let z : None ≡ Some k = sym none ∙ ap (place_in xs) ((bytes_eq-Decides p q).0 e) ∙ h in cc
+  found_still q k false e none h = h
+
+  found_in : (q : List ℕ) (k : ℕ) (b : Bool) → is_some (place_in xs p) ≡ b → place_in xs q ≡ Some k → place_in (with_path xs p) q ≡ Some k
+  found_in q k true e h = ap (λ ys. place_in ys q) (sym (with_path-old xs p e)) ∙ h
+  found_in q k false e h =
+      ap (λ ys. place_in ys q) (sym (with_path-new xs p e)) ∙ place_last xs p q (no_place xs p e) ∙ found_still q k (bytes_eq p q) refl (no_place xs p e) h
+
+  -- a path keeps its place
+  pub keeps_place : (q : List ℕ) (k : ℕ) → place_in xs q ≡ Some k → place_in (with_path xs p) q ≡ Some k
+  keeps_place q k h = found_in q k (is_some (place_in xs p)) refl h
+
 reference_still : (xs : List (List ℕ)) (o : Option (List ℕ)) (q : List ℕ) → is_some (place_in xs q) ≡ true → is_some (place_in (with_reference xs o) q) ≡ true
 reference_still xs None q h = h
 reference_still xs (Some p) q h = has_still xs p q h
@@ -142,36 +159,114 @@ unfolding more
 counted_at true n u before after e f = f ∙ ap one_more e ∙ ap (more n) (let s : suc u ≡ u + 1 = omega arith in s)
 counted_at false n u before after e f = f ∙ e ∙ ap (more n) (let s : u ≡ u + 0 = omega arith in s)
 
-module _ {E : Type 0} (old : List Answer) (p : List ℕ) (kept : Kept) where
-  pub asked_paths : (r : Result (List Answer) E) → IfOk r (λ a. a ≡ one_answer old p kept) → is_some (place_in (paths_of old) p) ≡ false → IfOk r (λ a. paths_of a ≡ with_path (paths_of old) p)
-  asked_paths (Ok a) e new = ap paths_of e ∙ map-append (λ (x : Answer). x.path) old (record { path = p; kept = kept } ∷ []) ∙ with_path-new (paths_of old) p new
-  asked_paths (Err w) e new = tt
+pub asked_faults : (old now : List Answer) (p : List ℕ) (kept : Kept) (n before after : ℕ) → now ≡ one_answer old p kept → before ≡ more n (unreadables old) → after ≡ faults_with kept before → after ≡ more n (unreadables now)
+asked_faults old now p kept n before after e b f =
+    let more_one : unreadables (one_answer old p kept) ≡ unreadables old + cond (is_unreadable kept) 1 0 =
+    sum_by-append (λ (x : Answer). cond (is_unreadable x.kept) 1 0) old (record { path = p; kept = kept } ∷ []) ∙ ap (λ k. unreadables old + k) (let z : 0 + cond (is_unreadable kept) 1 0 ≡ cond (is_unreadable kept) 1 0 = omega arith in z) in
+    counted_at (is_unreadable kept) n (unreadables old) before after b f ∙ ap (more n) (sym more_one ∙ sym (ap unreadables e))
 
-  pub asked_kept : (r : Result (List Answer) E) (known : Option FileContents) → IfOk r (λ a. a ≡ one_answer old p kept) → IsKeptOf known p kept → AreKept known old → IfOk r (AreKept known)
-  asked_kept (Ok a) known e is before = subst (AreKept known) (sym e) (All-push (λ (x : Answer). IsKeptOf known x.path x.kept) old (record { path = p; kept = kept }) before is)
-  asked_kept (Err w) known e is before = tt
+never_some : (o : Option ℕ) → ((k : ℕ) → o ≡ Some k → ⊥) → o ≡ None
+never_some None h = refl
+never_some (Some k) h = absurd (h k refl)
 
-  pub asked_faults : (r : Result (List Answer) E) (n before after : ℕ) → IfOk r (λ a. a ≡ one_answer old p kept) → before ≡ more n (unreadables old) → after ≡ faults_with kept before → IfOk r (λ a. after ≡ more n (unreadables a))
-  asked_faults (Ok a) n before after e b f =
-      let more_one : unreadables (one_answer old p kept) ≡ unreadables old + cond (is_unreadable kept) 1 0 =
-      sum_by-append (λ (x : Answer). cond (is_unreadable x.kept) 1 0) old (record { path = p; kept = kept } ∷ []) ∙ ap (λ k. unreadables old + k) (let z : 0 + cond (is_unreadable kept) 1 0 ≡ cond (is_unreadable kept) 1 0 = omega arith in z) in
-      counted_at (is_unreadable kept) n (unreadables old) before after b f ∙ ap (more n) (sym more_one ∙ sym (ap unreadables e))
-  asked_faults (Err w) n before after e b f = tt
+-- where the search that puts a path in found no place, it has none
+pub not_placed : (xs : List (List ℕ)) (p : List ℕ) (found old : Option ℕ) → old ≡ place_in xs p → found ≡ old → ((k : ℕ) → found ≡ Some k → ⊥) → place_in xs p ≡ None
+not_placed xs p found old is e never = sym is ∙ sym e ∙ never_some found never
+
+-- a path that is new has the place behind the others
+pub new_place : (xs ys : List (List ℕ)) (p : List ℕ) (at : ℕ) → place_in xs p ≡ None → ys ≡ xs ++ p ∷ [] → at ≡ length xs → place_in ys p ≡ Some at
+new_place xs ys p at none pushed is =
+    let itself : bytes_eq p p ≡ true = (bytes_eq-Decides p p).1 refl in
+    ap (λ zs. place_in zs p) pushed ∙ place_last xs p p none ∙ ap (λ b. cond b (Some (length xs)) (place_in xs p)) itself ∙ ap (λ k. Some k) (sym is)
+
+-- ---- the places of a job's answers
+
+with_reference-place : (xs : List (List ℕ)) (o : Option (List ℕ)) (q : List ℕ) (k : ℕ) → place_in xs q ≡ Some k → place_in (with_reference xs o) q ≡ Some k
+with_reference-place xs None q k h = h
+with_reference-place xs (Some p) q k h = keeps_place xs p q k h
+
+with_job-place : (xs : List (List ℕ)) (j : Job) (q : List ℕ) (k : ℕ) → place_in xs q ≡ Some k → place_in (with_job xs j) q ≡ Some k
+with_job-place xs j q k h = with_reference-place (with_path xs j.image) j.expect_signature q k (keeps_place xs j.image q k h)
+
+reference_later : (xs ys : List (List ℕ)) → ((q : List ℕ) (k : ℕ) → place_in xs q ≡ Some k → place_in ys q ≡ Some k) → (o : Option (List ℕ)) (r : Option ℕ)
+    → option_map (place_in xs) o ≡ option_map (λ k. Some k) r → option_map (place_in ys) o ≡ option_map (λ k. Some k) r
+reference_later xs ys still None None e = refl
+reference_later xs ys still None (Some k) e = cc
+reference_later xs ys still (Some q) None e = cc
+reference_later xs ys still (Some q) (Some k) e = let h : place_in xs q ≡ Some k = cc in ap (λ o. Some o) (still q k h)
+
+-- the answers of one job more leave the places of a job as they are
+pub placed_later : (xs : List (List ℕ)) (other job : Job) (at : Places) → ArePlaced xs job at → ArePlaced (with_job xs other) job at
+placed_later xs other job at h = record {
+  image = with_job-place xs other job.image at.image h.image;
+  reference = reference_later xs (with_job xs other) (with_job-place xs other) job.expect_signature at.reference h.reference;
+}
+
+pub placed_both : (xs ys : List (List ℕ)) (job : Job) (image place : ℕ) (p q : List ℕ) → p ≡ job.image → place_in xs p ≡ Some image → job.expect_signature ≡ Some q → ys ≡ with_path xs q → place_in ys q ≡ Some place
+    → ArePlaced ys job (record { image = image; reference = Some place })
+placed_both xs ys job image place p q is found has grown there = record {
+  image = ap (λ zs. place_in zs job.image) grown ∙ keeps_place xs q job.image image (ap (place_in xs) (sym is) ∙ found);
+  reference = ap (option_map (place_in ys)) has ∙ ap (λ o. Some o) there;
+}
+
+-- a job more
+pub placed_more : (all js : List Job) (ps new : List Places) (x : Places) (xs ys : List (List ℕ)) (n : ℕ) (j : Job) → all ≡ js → n < length all → j ≡ get_or all n j → length ps ≡ n → new ≡ ps ++ x ∷ [] → ys ≡ with_job xs j → ArePlaced ys j x
+    → ((i : ℕ) (d : Job) (e : Places) → i < n → ArePlaced xs (get_or js i d) (get_or ps i e))
+    → (i : ℕ) (d : Job) (e : Places) → i < n + 1 → ArePlaced ys (get_or js i d) (get_or new i e)
+placed_more all js ps new x xs ys n j same low is many pushed grown mine before i d e h = elim (cases_lt i n) [
+  | inl below ↦
+      let inside : i < length ps = omega arith in
+      rw (pushed, get_or-append ps (x ∷ []) e i inside) (subst (λ zs. ArePlaced zs (get_or js i d) (get_or ps i e)) (sym grown) (placed_later xs j (get_or js i d) (get_or ps i e) (before i d e below)))
+  | inr past ↦
+      let at : n ≡ i = omega arith in
+      let last : x ≡ get_or new i e = sym (ap (λ l. get_or l i e) pushed ∙ get_or_push ps x e i (many ∙ at)) in
+      let inside : i < length js = subst (λ l. i < length l) same (omega arith) in
+      let job : j ≡ get_or js i d = is ∙ ap (λ k. get_or all k j) at ∙ ap (λ l. get_or l i j) same ∙ get_or_default js i j d inside in
+      subst (λ z. ArePlaced ys (get_or js i d) z) last (subst (λ z. ArePlaced ys z x) job mine)
+]
 
 -- ---- the answers of a plan
 
-pub plan_kept : (js : List Job) (ans : List Answer) (i : ℕ) (d : Job) → paths_of ans ≡ paths_used js → i < length js → is_some (kept_of ans (get_or js i d).image) ≡ true
-plan_kept js ans i d e l = kept_some ans (get_or js i d).image (ap (λ xs. is_some (place_in xs (get_or js i d).image)) e ∙ image_used js i d l)
+pub job_there : (js : List Job) (i : ℕ) → i < length js → Job
+job_there [] i l = absurd (omega arith)
+job_there (j ∷ js) zero l = j
+job_there (j ∷ js) (suc i) l = job_there js i (omega arith)
 
-pub plan_reference : (js : List Job) (ans : List Answer) (i : ℕ) (d : Job) (q : List ℕ) → paths_of ans ≡ paths_used js → i < length js → (get_or js i d).expect_signature ≡ Some q → is_some (kept_of ans q) ≡ true
-plan_reference js ans i d q e l is = kept_some ans q (ap (λ xs. is_some (place_in xs q)) e ∙ reference_used js i d q l is)
+pub image_kept : (js : List Job) (ans : List Answer) (i : ℕ) (d e : Job) (at : Places) (a : Answer) → i < length js → ArePlaced (paths_of ans) (get_or js i e) at → a ≡ get_or ans at.image a → kept_of ans (get_or js i d).image ≡ Some a.kept
+image_kept js ans i d e at a l placed is =
+    ap (λ (j : Job). kept_of ans j.image) (get_or_default js i d e l) ∙ kept_at ans (get_or js i e).image at.image a placed.image ∙ ap (λ (x : Answer). Some x.kept) (sym is)
 
-no_answer : {X : Type 0} (o : Option X) → is_some o ≡ true → None ≡ o → ⊥
-no_answer None s e = cc
-no_answer (Some x) s e = cc
+-- the place of a reference, where the job has one
+reference_at : (paths : List (List ℕ)) (o : Option (List ℕ)) (r : Option ℕ) (k : ℕ) → option_map (place_in paths) o ≡ option_map (λ k. Some k) r → r ≡ Some k → (q : List ℕ) × (o ≡ Some q) × (place_in paths q ≡ Some k)
+reference_at paths None None k e is = cc
+reference_at paths None (Some j) k e is = cc
+reference_at paths (Some q) None k e is = cc
+reference_at paths (Some q) (Some j) k e is = let h : place_in paths q ≡ Some j = cc in (q, refl, h ∙ is)
 
-pub never_none : (js : List Job) (ans : List Answer) (i : ℕ) (d : Job) (p : List ℕ) → paths_of ans ≡ paths_used js → i < length js → p ≡ (get_or js i d).image → None ≡ kept_of ans p → ⊥
-never_none js ans i d p e l is none = no_answer (kept_of ans (get_or js i d).image) (plan_kept js ans i d e l) (none ∙ ap (kept_of ans) is)
+no_reference : (paths : List (List ℕ)) (o : Option (List ℕ)) (r : Option ℕ) → option_map (place_in paths) o ≡ option_map (λ k. Some k) r → r ≡ None → o ≡ None
+no_reference paths None r e is = refl
+no_reference paths (Some q) None e is = cc
+no_reference paths (Some q) (Some j) e is = cc
+
+module _ (js : List Job) (ans : List Answer) (i : ℕ) (d e : Job) (at : Places) (l : i < length js) (placed : ArePlaced (paths_of ans) (get_or js i e) at) where
+  pub image_below : at.image < length ans
+  image_below = below_answers ans (get_or js i e).image at.image (sym placed.image)
+
+  pub reference_below : (k : ℕ) → at.reference ≡ Some k → k < length ans
+  reference_below k is = let t = reference_at (paths_of ans) (get_or js i e).expect_signature at.reference k placed.reference is in below_answers ans t.0 k (sym t.2)
+
+  pub reference_asked : (k : ℕ) → at.reference ≡ Some k → true ≡ is_some (get_or js i d).expect_signature
+  reference_asked k is =
+      let t = reference_at (paths_of ans) (get_or js i e).expect_signature at.reference k placed.reference is in
+      sym (ap (λ (j : Job). is_some j.expect_signature) (get_or_default js i d e l) ∙ ap is_some t.1)
+
+  pub reference_found : (k : ℕ) (a : Answer) → at.reference ≡ Some k → a ≡ get_or ans k a → Some a.kept ≡ reference_kept ans (get_or js i d)
+  reference_found k a is there =
+      let t = reference_at (paths_of ans) (get_or js i e).expect_signature at.reference k placed.reference is in
+      sym (ap (reference_kept ans) (get_or_default js i d e l) ∙ ap (option_and_then (kept_of ans)) t.1 ∙ kept_at ans t.0 k a t.2 ∙ ap (λ (x : Answer). Some x.kept) (sym there))
+
+  pub reference_none : at.reference ≡ None → (get_or js i d).expect_signature ≡ None
+  reference_none is = ap (λ (j : Job). j.expect_signature) (get_or_default js i d e l) ∙ no_reference (paths_of ans) (get_or js i e).expect_signature at.reference placed.reference is
 
 -- ---- the loop over jobs
 

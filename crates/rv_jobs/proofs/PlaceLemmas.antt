@@ -3,7 +3,10 @@ use Rattle.std.proofs.Common.{◌≡◌, ◌∙◌, ◌+◌, ◌<◌, ◌++◌, 
 use Rattle.std.specs.Str.{bytes_eq}
 use Rattle.std.proofs.lemmas.Slice.Eq.{bytes_eq-Decides}
 use Rattle.std.proofs.lemmas.Bool.{both_ways, false_from_ne_true}
-use Rattle.std.specs.BTreeMap.{BTreeMap, get_by_text}
+use Rattle.std.specs.BTreeMap.{BTreeMap, get_by, get_by_text}
+use Rattle.std.specs.Cmp.Lexicographic.{slice_cmp}
+use Rattle.std.specs.Ordering.{nat_cmp}
+use denote.Ref.{Bor}
 use Rattle.std.specs.String.{string_cmp, string_bytes}
 use Rattle.std.specs.declared.alloc.Global.{Global}
 use Rattle.std.proofs.Common.{String}
@@ -90,18 +93,38 @@ jobs_more js new job are good room pushed = record {
   ];
 }
 
+-- what finds each text's place finds it still, after that of a new text was put in
+pub places_more : (before after : List ℕ → Option ℕ) (xs new : List (List ℕ)) (x : List ℕ) (at : ℕ) → ((t : List ℕ) → after t ≡ cond (bytes_eq x t) (Some at) (before t)) → at ≡ length xs
+    → ((t : List ℕ) → before t ≡ place_in xs t) → place_in xs x ≡ None → new ≡ xs ++ x ∷ [] → (t : List ℕ) → after t ≡ place_in new t
+places_more before after xs new x at put is placed fresh pushed t =
+    put t
+    ∙ ap (λ i. cond (bytes_eq x t) (Some i) (before t)) is
+    ∙ ap (λ o. cond (bytes_eq x t) (Some (length xs)) o) (placed t)
+    ∙ sym (ap (λ y. place_in y t) pushed ∙ place_last xs x t fresh)
+
+-- and after a text that had a place was given another one, and its own again
+pub places_back : (before between after : List ℕ → Option ℕ) (x : List ℕ) (at place : ℕ) → ((t : List ℕ) → between t ≡ cond (bytes_eq x t) (Some at) (before t))
+    → ((t : List ℕ) → after t ≡ cond (bytes_eq x t) (Some place) (between t)) → before x ≡ Some place → (t : List ℕ) → after t ≡ before t
+places_back before between after x at place put again had t =
+    again t ∙ ap (λ o. cond (bytes_eq x t) (Some place) o) (put t) ∙ own (bytes_eq x t) refl
+  where
+    own : (b : Bool) → bytes_eq x t ≡ b → cond b (Some place) (cond b (Some at) (before t)) ≡ before t
+    own true e = sym had ∙ ap before (same x t e)
+    own false e = refl
+
 -- one text more, at the place behind the others
 pub texts_more : (m n : BTreeMap (String Global) ℕ) (xs new : List (List ℕ)) (x : List ℕ) (key : String Global) (at : ℕ) → Updates string_cmp m n key (Some at) → string_bytes key ≡ x → at ≡ length xs
     → ((t : List ℕ) → get_by_text m t ≡ place_in xs t) → place_in xs x ≡ None → new ≡ xs ++ x ∷ [] → (t : List ℕ) → get_by_text n t ≡ place_in new t
-texts_more m n xs new x key at updates is_key is before fresh pushed t =
-    btree_map_updates_text (string_bytes key) m n (Some at) updates t
-    ∙ ap (λ b. cond (bytes_eq b t) (Some at) (get_by_text m t)) is_key
-    ∙ ap (λ i. cond (bytes_eq x t) (Some i) (get_by_text m t)) is
-    ∙ ap (λ o. cond (bytes_eq x t) (Some (length xs)) o) (before t)
-    ∙ sym (ap (λ y. place_in y t) pushed ∙ place_last xs x t fresh)
+texts_more m n xs new x key at updates is_key =
+    places_more (get_by_text m) (get_by_text n) xs new x at
+    (λ t. btree_map_updates_text (string_bytes key) m n (Some at) updates t ∙ ap (λ b. cond (bytes_eq b t) (Some at) (get_by_text m t)) is_key)
 
 pub names_more : (m n : BTreeMap (String Global) ℕ) (js new : List Job) (job : Job) (key : String Global) (at : ℕ) → Updates string_cmp m n key (Some at) → string_bytes key ≡ job.name → at ≡ length js
     → ((t : List ℕ) → get_by_text m t ≡ place_in (names_of js) t) → place_in (names_of js) job.name ≡ None → new ≡ js ++ job ∷ [] → (t : List ℕ) → get_by_text n t ≡ place_in (names_of new) t
 names_more m n js new job key at updates is_key is before fresh pushed =
     texts_more m n (names_of js) (names_of new) job.name key at updates is_key (is ∙ sym (length-map js (λ (j : Job). j.name))) before fresh
     (ap names_of pushed ∙ map-append (λ (j : Job). j.name) js (job ∷ []))
+
+pub no_places : (m : BTreeMap (Bor (List ℕ)) ℕ) (xs : List (List ℕ)) → m.entries ≡ [] → xs ≡ [] → (t : List ℕ) → get_by (λ k. slice_cmp nat_cmp t k.now) m ≡ place_in xs t
+unfolding place_in
+no_places m xs e f t = rw (e, f) refl

@@ -5,6 +5,7 @@ pub mod JobList
 pub mod GrowingInside
 pub mod Stores
 pub mod Plans
+pub mod Placed
 pub mod AskedInside
 pub mod PlanInside
 pub mod Faults

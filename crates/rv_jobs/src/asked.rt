@@ -1,8 +1,8 @@
-ghost use Rattle.std.specs.Prelude.{◌≡◌, ◌++◌, ◌∷◌, [], IfOk, None, is_some, option_map};
+ghost use Rattle.std.specs.Prelude.{◌≡◌, ℕ, [], IfOk, Some};
 ghost use Rattle.rv_jobs.specs.JobList.{place_in};
-ghost use Rattle.rv_jobs.specs.Plans.{paths_of, kept_of};
+ghost use Rattle.rv_jobs.specs.Plans.{paths_of, with_path, AreKept, unreadables, more};
 
-use crate::store::Kept;
+use crate::store::{Kept, Store, keep};
 use crate::text::Text;
 use std::alloc::{AllocError, Global};
 use std::collections::BTreeMap;
@@ -15,14 +15,14 @@ pub struct Answer {
     pub kept: Kept,
 }
 
-/// The answers so far, with the place of each path.
+/// The answers so far, with the place of each path. The paths are those that the jobs hold.
 #[derive(Drop)]
-pub(crate) struct Asked {
+pub(crate) struct Asked<'a> {
     answers: Vec<Answer>,
-    places: BTreeMap<String, usize>,
+    places: BTreeMap<&'a str, usize>,
 }
 
-impl Model for Asked {
+impl<'a> Model for Asked<'a> {
     ghost use Rattle.std.specs.Prelude.{List};
     ghost use Rattle.rv_jobs.specs.declared.asked.Answer.{Answer};
 
@@ -35,8 +35,8 @@ impl Model for Asked {
     ghost invariant = { IsAskedInside };
 }
 
-impl Asked {
-    pub(crate) fn new(alloc: Global) -> Asked
+impl<'a> Asked<'a> {
+    pub(crate) fn new(alloc: Global) -> Asked<'a>
         ensures { result ≡ [] }
     {
         Asked {
@@ -45,40 +45,41 @@ impl Asked {
         }
     }
 
-    /// Whether a path has an answer.
-    pub(crate) fn has(&self, path: &str) -> bool
-        ensures { result ≡ is_some (place_in (paths_of self.now) path.now) }
-    {
-        let _ = &self.answers;
-        self.places.get(path).is_some()
-    }
-
-    /// What is kept of a path.
-    pub(crate) fn kept(&self, path: &str) -> Option<&Kept>
-        ensures { option_map (λ k. k.now) result ≡ kept_of self.now path.now }
-    {
-        match self.places.get(path) {
-            Some(place) => {
-                let answer = &self.answers[*place];
-                Some(&answer.kept)
-            }
-            None => None,
-        }
-    }
-
-    /// The answers and that of a path which has none.
-    pub(crate) fn with(self, alloc: Global, path: &str, kept: Kept) -> Result<Asked, AllocError>
-        requires { place_in (paths_of self) path.now ≡ None }
-        ensures { IfOk result (λ a. a ≡ self ++ record { path = path.now; kept = kept } ∷ []) }
+    /// The answers with that of a path, which is read unless it has one, and the place of its answer.
+    ///
+    /// A path that is new is searched for once: the search that would find it puts it in.
+    pub(crate) fn ask<S: Store>(
+        self,
+        alloc: Global,
+        store: &mut S,
+        path: &'a str,
+    ) -> Result<(Asked<'a>, usize), AllocError>
+        ensures same { S.contents store.new ≡ S.contents store.old }
+        ensures paths { IfOk result (λ a. paths_of a.0 ≡ with_path (paths_of self.entry) path.now) }
+        ensures place { IfOk result (λ a. place_in (paths_of a.0) path.now ≡ Some a.1) }
+        ensures kept { AreKept (S.contents store.old) self.entry
+            → IfOk result (λ a. AreKept (S.contents store.old) a.0) }
+        ensures faults { (n : ℕ) → S.faulted store.old ≡ more n (unreadables self.entry)
+            → IfOk result (λ a. S.faulted store.new ≡ more n (unreadables a.0)) }
     {
         let Asked {
             mut answers,
             mut places,
         } = self;
-        let key = String::from_str(alloc, path)?;
-        places.insert(key, answers.len())?;
+        let next = answers.len();
+        if let Some(place) = places.insert(path, next)? {
+            places.insert(path, place)?;
+            return Ok((Asked { answers, places }, place));
+        }
+        let kept = keep(alloc, store, path)?;
         let path = Text::copy(alloc, path)?;
         answers.push(Answer { path, kept })?;
-        Ok(Asked { answers, places })
+        Ok((Asked { answers, places }, next))
+    }
+
+    pub(crate) fn into_answers(self) -> Vec<Answer>
+        ensures { result.items ≡ self.entry }
+    {
+        self.answers
     }
 }

@@ -1,21 +1,32 @@
+//! A plan: jobs, and what is kept of the paths that they name.
+
 ghost use Rattle.rv_jobs.specs.declared.job.Job.{Job as AJob};
 ghost use Rattle.std.specs.Prelude.{◌≡◌, ◌<◌, ◌≤◌, ℕ, is_some, IfOk, Some, None, length, slice_index_or};
 ghost use Rattle.std.specs.Prelude.{option_map};
 ghost use Rattle.rv_jobs.specs.Jobs.{IsJob};
-ghost use Rattle.rv_jobs.specs.Plans.{paths_of, with_path, with_job, paths_used, kept_of, reference_kept, AreKept};
+ghost use Rattle.rv_jobs.specs.Plans.{paths_of, with_job, paths_used, kept_of, reference_kept, AreKept};
 ghost use Rattle.rv_jobs.specs.Plans.{unreadables, more};
+ghost use Rattle.rv_jobs.specs.Placed.{ArePlaced};
 
-use crate::asked::Asked;
+use crate::asked::{Answer, Asked};
 use crate::job::{Job, JobList};
-use crate::store::{Kept, Store, keep};
+use crate::store::{Kept, Store};
 use std::alloc::{AllocError, Global};
 use std::marker::Model;
+
+/// The places of the answers of a job's paths.
+#[derive(Clone, Copy)]
+pub(crate) struct Places {
+    pub(crate) image: usize,
+    pub(crate) reference: Option<usize>,
+}
 
 /// Jobs, and one answer for each different path that they name, which all jobs that name it share.
 #[derive(Drop)]
 pub struct Plan {
     jobs: JobList,
-    asked: Asked,
+    answers: Vec<Answer>,
+    places: Vec<Places>,
 }
 
 impl Model for Plan {
@@ -39,50 +50,47 @@ pub fn gather<S: Store>(alloc: Global, jobs: JobList, store: &mut S) -> Result<P
     ensures faults { IfOk result (λ p. S.faulted store.new ≡ more (S.faulted store.old) (unreadables p.answers)) }
 {
     let mut asked = Asked::new(alloc);
+    let mut places = Vec::new(alloc);
     for job in jobs.as_slice() {
-        asked = ask_of_job(alloc, store, asked, job)?;
+        let (more, those) = ask_of_job(alloc, store, asked, job)?;
+        asked = more;
+        places.push(those)?;
     }
-    Ok(Plan { jobs, asked })
+    let answers = asked.into_answers();
+    Ok(Plan {
+        jobs,
+        answers,
+        places,
+    })
 }
 
-/// Asks for the paths of a job that have no answer yet.
-fn ask_of_job<S: Store>(
+/// The answers with those of a job's paths, and the places of these.
+fn ask_of_job<'a, S: Store>(
     alloc: Global,
     store: &mut S,
-    asked: Asked,
-    job: &Job,
-) -> Result<Asked, AllocError>
+    asked: Asked<'a>,
+    job: &'a Job,
+) -> Result<(Asked<'a>, Places), AllocError>
     ensures same { S.contents store.new ≡ S.contents store.old }
-    ensures paths { IfOk result (λ a. paths_of a ≡ with_job (paths_of asked) job.now) }
-    ensures kept { AreKept (S.contents store.old) asked → IfOk result (AreKept (S.contents store.old)) }
-    ensures faults { (n : ℕ) → S.faulted store.old ≡ more n (unreadables asked)
-        → IfOk result (λ a. S.faulted store.new ≡ more n (unreadables a)) }
+    ensures paths { IfOk result (λ a. paths_of a.0 ≡ with_job (paths_of asked.entry) job.now) }
+    ensures places { IfOk result (λ a. ArePlaced (paths_of a.0) job.now a.1) }
+    ensures kept { AreKept (S.contents store.old) asked.entry
+        → IfOk result (λ a. AreKept (S.contents store.old) a.0) }
+    ensures faults { (n : ℕ) → S.faulted store.old ≡ more n (unreadables asked.entry)
+        → IfOk result (λ a. S.faulted store.new ≡ more n (unreadables a.0)) }
 {
-    let asked = ask(alloc, store, asked, job.image.as_str())?;
+    let (asked, image) = asked.ask(alloc, store, job.image.as_str())?;
     match &job.expect_signature {
-        Some(path) => ask(alloc, store, asked, path.as_str()),
-        None => Ok(asked),
+        Some(path) => {
+            let (asked, place) = asked.ask(alloc, store, path.as_str())?;
+            let reference = Some(place);
+            Ok((asked, Places { image, reference }))
+        }
+        None => {
+            let reference = None;
+            Ok((asked, Places { image, reference }))
+        }
     }
-}
-
-/// Asks for a path unless it has an answer.
-fn ask<S: Store>(
-    alloc: Global,
-    store: &mut S,
-    asked: Asked,
-    path: &str,
-) -> Result<Asked, AllocError>
-    ensures same { S.contents store.new ≡ S.contents store.old }
-    ensures paths { IfOk result (λ a. paths_of a ≡ with_path (paths_of asked) path.now) }
-    ensures kept { AreKept (S.contents store.old) asked → IfOk result (AreKept (S.contents store.old)) }
-    ensures faults { (n : ℕ) → S.faulted store.old ≡ more n (unreadables asked)
-        → IfOk result (λ a. S.faulted store.new ≡ more n (unreadables a)) }
-{
-    if asked.has(path) {
-        return Ok(asked);
-    }
-    let kept = keep(alloc, store, path)?;
-    asked.with(alloc, path, kept)
 }
 
 impl Plan {
@@ -108,10 +116,7 @@ impl Plan {
         requires { i < length self.now.jobs }
         ensures { (d : AJob) → kept_of self.now.answers (slice_index_or self.now.jobs i d).image ≡ Some result.now }
     {
-        match self.asked.kept(self.jobs.as_slice()[i].image.as_str()) {
-            Some(kept) => kept,
-            None => unreachable!(),
-        }
+        &self.answers[self.places[i].image].kept
     }
 
     /// What is kept of the path of a job's reference, where it has one.
@@ -121,8 +126,8 @@ impl Plan {
             ≡ reference_kept self.now.answers (slice_index_or self.now.jobs i d) }
         ensures asked { (d : AJob) → is_some result ≡ is_some (slice_index_or self.now.jobs i d).expect_signature }
     {
-        match &self.jobs.as_slice()[i].expect_signature {
-            Some(path) => self.asked.kept(path.as_str()),
+        match self.places[i].reference {
+            Some(place) => Some(&self.answers[place].kept),
             None => None,
         }
     }

@@ -436,3 +436,85 @@ fn paths(rt: HostRuntime) -> Result<(), Fail> {
     assert_eq!(&rt; plan.job(4).name.as_str(), "n4");
     Ok(())
 }
+
+/// Files, each full of its own name, and their lengths.
+const LONG_FILES: [(&str, usize); 3] = [("a", 65_537), ("b", 1_000_000), ("c", 16_777_216)];
+
+/// A store with the long files; it lists the paths that it was read at.
+#[derive(Drop)]
+struct LongStore {
+    log: String,
+}
+
+impl Store for LongStore {
+    ghost contents = { λ _. None };
+
+    ghost faulted = { λ _. 0 };
+
+    fn read(&mut self, alloc: Global, path: &str) -> Result<Vec<u8>, ReadError> {
+        if self.log.push_str(path).is_err() {
+            return Err(ReadError::OutOfMemory);
+        }
+        let mut bytes = Vec::new(alloc);
+        for (name, length) in LONG_FILES {
+            if path == name && bytes.resize(length, name.as_bytes()[0]).is_err() {
+                return Err(ReadError::OutOfMemory);
+            }
+        }
+        if 0x100_0000 < bytes.len() {
+            return Err(ReadError::TooLong);
+        }
+        Ok(bytes)
+    }
+
+    fn faults(&self) -> u64 {
+        0
+    }
+}
+
+const LONG_PATHS: &str = "job = [
+{ name = 'n0', image = 'a', budget = 1, signature = ['s', 's'], expect_signature = 'c' },
+{ name = 'n1', image = 'c', budget = 1, signature = ['s', 's'], expect_signature = 'a' },
+{ name = 'n2', image = 'a', budget = 1, signature = ['s', 's'], expect_signature = 'b' },
+{ name = 'n3', image = 'b', budget = 1, signature = ['s', 's'], expect_signature = 'b' },
+{ name = 'n4', image = 'c', budget = 1 }]";
+
+/// How many bytes are kept, and the last of them.
+fn end_of(kept: Option<&Kept>) -> (usize, u8) {
+    let Some(Kept::Content(bytes)) = kept else {
+        return (0, 0);
+    };
+    let bytes = bytes.as_slice();
+    (bytes.len(), bytes.last().copied().unwrap_or(0))
+}
+
+/// The same of the file of this name.
+fn end_of_file(name: &str) -> (usize, u8) {
+    for (file, length) in LONG_FILES {
+        if file == name {
+            return (length, file.as_bytes()[0]);
+        }
+    }
+    (0, 0)
+}
+
+#[test]
+fn long_files_are_read_once(rt: HostRuntime) -> Result<(), Fail> {
+    let alloc = rt.alloc();
+    let list = jobs_of(&rt, alloc, LONG_PATHS);
+    let mut store = LongStore {
+        log: String::new(alloc),
+    };
+    let plan = gather(alloc, list, &mut store)?;
+    assert_eq!(&rt; store.log.as_str(), "acb");
+    let images = ["a", "c", "a", "b", "c"];
+    let references = ["c", "a", "b", "b", ""];
+    for i in 0..5 {
+        assert!(&rt; i < plan.jobs());
+        let image = end_of(Some(plan.image(i)));
+        let reference = end_of(plan.reference(i));
+        assert_eq!(&rt; image, end_of_file(images[i]), "image {i}");
+        assert_eq!(&rt; reference, end_of_file(references[i]), "reference {i}");
+    }
+    Ok(())
+}
