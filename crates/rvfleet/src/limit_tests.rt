@@ -114,6 +114,6 @@ fn runs_8192_files(rt: HostRuntime) -> Result<(), Fail> {
     let text = answer.out.text()?;
     let passes = text.lines().filter(|line| *line == "verdict pass").count();
     assert_eq!(rt; (answer.status, passes, store.reads), (1, 4_095, 8_193));
-    assert!(rt; text.ends_with("verdict fail\ndone 4096\n") && answer.faults.text()?.is_empty());
+    assert!(rt; text.ends_with("verdict fail\ndone 4096\n") && answer.errors.text()?.is_empty());
     Ok(())
 }
