@@ -8,14 +8,14 @@ use Rattle.std.proofs.lemmas.List.{length-map}
 use Rattle.std.proofs.lemmas.List.Elements.{All-head, All-map, All-weaker, All-same, filter_passes}
 use Rattle.rv_jobs.specs.Plans.{Planned}
 use Rattle.rv_fleet.specs.declared.piece.Piece.{Piece}
-use Rattle.rv_fleet.specs.declared.row.Row.{Row}
+use Rattle.rv_rows.specs.declared.row.Row.{Row}
 use Rattle.rv_fleet.specs.declared.worked.Worked.{Worked}
 use Rattle.rv_fleet.specs.Collected.{IsPiece, ArePieces}
-use Rattle.rv_fleet.specs.Draws.{numbers}
-use Rattle.rv_fleet.specs.Passes.{Draw}
+use Rattle.rv_claims.specs.Draws.{numbers}
+use Rattle.rv_claims.specs.Passes.{Draw}
 use Rattle.rv_fleet.specs.Pieces.{pieces_of, piece_at}
 use Rattle.rv_fleet.specs.Promised.{HasWorked}
-use Rattle.rv_fleet.specs.Rows.{row_of, rows_of}
+use Rattle.rv_rows.specs.Rows.{row_of, rows_of}
 use Rattle.rv_fleet.proofs.Chunks.{chunks_all}
 
 -- the first of a list's elements

@@ -2,7 +2,7 @@
 use Rattle.std.specs.Prelude.{◌≡◌, ℕ, ◌<◌, List, length, All, Option, None, IfSome, slice_index_or}
 use Rattle.rv_jobs.specs.Plans.{Planned}
 use Rattle.rv_fleet.specs.declared.piece.Piece.{Piece}
-use Rattle.rv_fleet.specs.declared.row.Row.{Row}
+use Rattle.rv_rows.specs.declared.row.Row.{Row}
 use Rattle.rv_fleet.specs.Pieces.{pieces_of, rows_in, piece_at}
 
 -- a piece of the plan, with the rows of its number

@@ -4,8 +4,8 @@ use Rattle.std.specs.Int.{div_ceil}
 use Rattle.std.specs.Fork.{slice_chunk}
 use Rattle.rv_jobs.specs.Plans.{Planned}
 use Rattle.rv_fleet.specs.declared.piece.Piece.{Piece}
-use Rattle.rv_fleet.specs.declared.row.Row.{Row}
-use Rattle.rv_fleet.specs.Rows.{rows_of}
+use Rattle.rv_rows.specs.declared.row.Row.{Row}
+use Rattle.rv_rows.specs.Rows.{rows_of}
 
 -- how many pieces there are: the jobs divided by the group, rounded up
 abbrev pub pieces_of : Planned → ℕ → ℕ

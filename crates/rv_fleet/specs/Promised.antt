@@ -2,8 +2,8 @@
 use Rattle.std.specs.Prelude.{◌≡◌, ℕ, List, [], map, All, IfOk}
 use Rattle.rv_jobs.specs.Plans.{Planned}
 use Rattle.rv_fleet.specs.declared.worked.Worked.{Worked}
-use Rattle.rv_fleet.specs.Drawn.{pieces_among}
-use Rattle.rv_fleet.specs.Passes.{Draw, Held}
+use Rattle.rv_claims.specs.Drawn.{pieces_among}
+use Rattle.rv_claims.specs.Passes.{Draw, Held}
 use Rattle.rv_fleet.specs.Pieces.{piece_at}
 
 -- a pass of this shared draw, with no draws

@@ -4,17 +4,14 @@ ghost use Rattle.std.specs.Prelude.{◌≡◌, ◌<◌, ◌≤◌, length, IfOk,
 ghost use Rattle.rv_fleet.specs.Collected.{ArePieces, IsPiece, IsFilled};
 ghost use Rattle.rv_fleet.specs.Pieces.{pieces_of, rows_in};
 ghost use Rattle.rv_fleet.specs.Promised.{HaveWorked};
-ghost use Rattle.rv_fleet.specs.Rows.{rows_of};
+ghost use Rattle.rv_rows.specs.Rows.{rows_of};
 
-use crate::claims::Claims;
 use crate::gate::Gate;
-use crate::pass::Pass;
 use crate::piece::{Piece, make_piece, piece_count};
-use crate::recent::Recent;
-use crate::row::{Row, Rows};
-use crate::spare::Spare;
 use crate::worked::Worked;
+use rv_claims::{Claims, Pass};
 use rv_jobs::Plan;
+use rv_rows::{Recent, Row, Rows, Spare};
 use std::alloc::{AllocError, Global};
 
 /// What all workers made, at the places of the pieces and each once; and all their passes in one, if there are any.

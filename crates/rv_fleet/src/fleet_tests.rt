@@ -3,21 +3,33 @@
 ghost use Rattle.std.specs.Prelude.{◌≡◌, ◌<◌, ◌≤◌, IfOk, None};
 ghost use Rattle.rv_fleet.specs.Pieces.{pieces_of};
 
-use crate::claims_tests::halves;
 use crate::piece::piece_count;
 use crate::{
-    Claims, FreeGate, Gate, Pass, Piece, Refusal, Report, Row, RowEnd, row_at, run_fleet, run_one,
-    work,
+    Claims, FreeGate, Gate, Pass, Piece, Refusal, Report, Row, RowEnd, SplitError, row_at,
+    run_fleet, run_one, work,
 };
 use rv_elf::ImageError;
 use rv_jobs::{Plan, ReadError, Store, gather, read_jobs};
 use samples::ONE_SEGMENT;
 use std::alloc::{AllocError, Global};
+use std::process::Abort;
 use std::sync::Wait;
 use std::sync::atomic::{AtomicBool, AtomicU64, Ordering};
 use std::test::Fail;
 use std::thread;
 use std::thread::Threads;
+
+/// Two passes of one.
+fn halves(rt: &impl Abort, claims: &Claims, pass: Pass) -> (Pass, Pass)
+    requires { pass.draw ≡ claims.now }
+    ensures first { result.0.draw ≡ claims.now }
+    ensures second { result.1.draw ≡ claims.now }
+{
+    match claims.split(pass) {
+        Ok(passes) => passes,
+        Err(SplitError::Full(_)) => panic!(rt; "no place is free"),
+    }
+}
 
 /// The same image at each path.
 #[derive(Drop)]

@@ -2,14 +2,11 @@
 
 ghost use Rattle.std.specs.Prelude.{◌≡◌, ◌<◌, ◌≤◌, IfOk, OnOk};
 ghost use Rattle.rv_fleet.specs.Pieces.{pieces_of, piece_at};
-ghost use Rattle.rv_fleet.specs.Recent.{AreOutcomes};
+ghost use Rattle.rv_rows.specs.Recent.{AreOutcomes};
 
 use crate::gate::Gate;
-use crate::recent::Recent;
-use crate::row::Rows;
-use crate::rows::next_row;
-use crate::spare::Spare;
 use rv_jobs::Plan;
+use rv_rows::{Recent, Rows, Spare, next_row};
 use std::alloc::{AllocError, Global};
 
 /// The rows of the jobs at the places from `number * group` on: a group of them, or as many as there are.

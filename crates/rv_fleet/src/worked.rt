@@ -1,8 +1,7 @@
 //! What a worker gives back, and what it promises of it.
 
-use crate::claims::Claims;
-use crate::pass::Pass;
 use crate::piece::Piece;
+use rv_claims::{Claims, Pass};
 use rv_jobs::Plan;
 use std::alloc::AllocError;
 use std::thread::Promise;

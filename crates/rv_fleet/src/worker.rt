@@ -1,19 +1,17 @@
 //! What a worker does: it draws pieces and makes them.
 
 ghost use Rattle.std.specs.Prelude.{◌≡◌, ◌<◌, ◌≤◌, [], true, map, IfOk};
-ghost use Rattle.rv_fleet.specs.Drawn.{Grew, new_pieces};
-ghost use Rattle.rv_fleet.specs.Passes.{has_ended};
+ghost use Rattle.rv_claims.specs.Drawn.{Grew, new_pieces};
+ghost use Rattle.rv_claims.specs.Passes.{has_ended};
 ghost use Rattle.rv_fleet.specs.Pieces.{pieces_of, piece_at};
 ghost use Rattle.rv_fleet.specs.Promised.{HasWorked};
 
-use crate::claims::Claims;
 use crate::gate::Gate;
-use crate::pass::Pass;
 use crate::piece::{Piece, make_piece};
-use crate::recent::Recent;
-use crate::spare::Spare;
 use crate::worked::Worked;
+use rv_claims::{Claims, Pass};
 use rv_jobs::Plan;
+use rv_rows::{Recent, Spare};
 use std::alloc::{AllocError, Global};
 
 /// Takes pieces until there is none, and makes each before the next is taken: the pieces in the order drawn. `group` is

@@ -1,50 +1,17 @@
-//! The program.
+//! The program `rvfleet`: hands the process's own words, files and streams to the library, and ends with its status.
 #![tactic(auto)]
 
 ghost use Rattle.std.specs.Prelude.{◌≡◌, ◌⊎◌};
-ghost use Rattle.rv_fleet.specs.Sending.{AppendsBeginning};
-ghost use Rattle.rvfleet.specs.Lines.{bad_words_line, failure_line};
+ghost use Rattle.rv_rows.specs.Sending.{AppendsBeginning};
+ghost use Rattle.rv_program.specs.Lines.{bad_words_line, failure_line};
 
-mod command;
-mod error;
-#[cfg(test)]
-mod failing_tests;
-mod files;
-#[cfg(test)]
-mod hostile_tests;
-mod input;
-#[cfg(test)]
-mod limit_tests;
-mod list;
-#[cfg(test)]
-mod list_tests;
-mod one;
-mod raw;
-mod send;
-mod streams;
-mod tell;
-#[cfg(test)]
-mod testing;
-#[cfg(test)]
-mod tests;
-mod words;
-
-pub use command::{Asked, read_words};
-pub use error::{Failure, ListError, RunError};
-pub use files::{FileStore, read_whole};
-pub use input::{InputError, read_at_most};
-pub use list::{read_list, run_jobs};
-pub use one::{ScriptError, is_bad_path, read_script, run_image};
-pub use raw::run_raw;
+use rv_files::{FileStore, StreamSink};
 use rv_fleet::{FreeGate, Sink};
-pub use send::{DONE, SOME_FAIL, send};
+use rv_program::{BAD_WORDS, FAILED, Failure, failed, refused, run_words};
 use std::env;
 use std::env::Env;
 use std::io::{self, ErrorKind};
 use std::process::ExitCode;
-pub use streams::StreamSink;
-use tell::{BAD_WORDS, FAILED, failed, refused};
-pub use words::run_words;
 
 // The answer to the process's own words, over its own streams and files.
 fn main(rt: HostRuntime) -> ExitCode {

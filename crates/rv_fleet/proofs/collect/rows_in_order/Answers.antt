@@ -1,6 +1,6 @@
 use Rattle.std.proofs.Common.{◌≡◌, ◌∙◌, arith}
 use Rattle.rv_fleet.specs.Pieces.{rows_in}
-use Rattle.rv_fleet.specs.Rows.{rows_of}
+use Rattle.rv_rows.specs.Rows.{rows_of}
 use Rattle.rv_fleet.proofs.Chunks.{chunk_more}
 use Rattle.rv_fleet.proofs.Collects.{place_here, places_left, pieces_all}
 use Rattle.rv_fleet.proofs.collect.rows_in_order.Goals as goal

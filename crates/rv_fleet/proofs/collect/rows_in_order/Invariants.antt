@@ -2,7 +2,7 @@ use Rattle.std.proofs.Common.{◌≡◌, ℕ, ◌+◌, ◌*◌, take, IfSome, No
 use Rattle.std.specs.Prelude.{slice_index_or}
 use Rattle.std.specs.Vec.Iter.{into_iter_items, into_iter_len}
 use Rattle.rv_fleet.specs.Pieces.{pieces_of, rows_in}
-use Rattle.rv_fleet.specs.Rows.{rows_of}
+use Rattle.rv_rows.specs.Rows.{rows_of}
 use Rattle.rv_fleet.proofs.collect.rows_in_order.Given as goal
 
 abbrev pub invariant-loop-place : goal.invariant-loop-place

@@ -1,8 +1,8 @@
 use Rattle.std.proofs.Common.{◌≡◌, ◌∙◌, ◌+◌, ◌-◌, ◌*◌, ◌<◌, [], List, ap, arith, length, min}
 use Rattle.rv_jobs.specs.Jobs.{single_job}
 use Rattle.rv_fleet.specs.declared.piece.Piece.{Piece}
-use Rattle.rv_fleet.specs.declared.row.Row.{Row}
-use Rattle.rv_fleet.specs.Rows.{row_of, rows_of}
+use Rattle.rv_rows.specs.declared.row.Row.{Row}
+use Rattle.rv_rows.specs.Rows.{row_of, rows_of}
 use Rattle.rv_fleet.proofs.Chunks.{chunk_inside, chunk_made, part_more}
 use Rattle.rv_fleet.proofs.Collects.{rows_count}
 use Rattle.rv_fleet.proofs.piece.make_piece.Goals as goal

@@ -1,6 +1,6 @@
 use Rattle.std.proofs.Common.{◌≡◌, ◌-◌, drop, take}
-use Rattle.rv_fleet.specs.Recent.{AreOutcomes}
-use Rattle.rv_fleet.specs.Rows.{rows_of}
+use Rattle.rv_rows.specs.Recent.{AreOutcomes}
+use Rattle.rv_rows.specs.Rows.{rows_of}
 use Rattle.rv_fleet.proofs.piece.make_piece.Given as goal
 
 abbrev pub invariant-loop-i : goal.invariant-loop-i

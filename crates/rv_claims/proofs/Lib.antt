@@ -1,0 +1,4 @@
+pub mod Sums
+pub mod Keeps
+pub mod Passes
+pub mod Grows

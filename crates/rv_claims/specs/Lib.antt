@@ -1,0 +1,4 @@
+pub mod Draws
+pub mod Passes
+pub mod Split
+pub mod Drawn

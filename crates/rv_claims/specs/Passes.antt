@@ -1,0 +1,71 @@
+-- What contracts see of a shared draw and of a pass.
+use Rattle.std.specs.Prelude.{◌≡◌, ℕ, ◌<◌, Bool, nat_lt, cond, List, [], ◌∷◌, ◌++◌, length, replicate, Option, Some, None}
+use Rattle.std.specs.Int.{bit_at}
+use Rattle.atomic_table.specs.Seated.{TableId}
+use Rattle.rv_claims.specs.declared.view.Entry.{Entry}
+use Rattle.rv_claims.specs.Draws.{IsIn, past, entry, first_of, Sitting, IsHistory, Within, Same}
+
+-- which shared draw it is, and the number of its pieces
+pub record Draw : Type 0 where
+  pub table : TableId
+  pub pieces : ℕ
+
+-- what a pass holds: its places and its draws in order
+pub record Held : Type 0 where
+  pub draw : Draw
+  pub places : List ℕ
+  pub draws : List Entry
+
+-- a pass of these parts
+abbrev pub held : Draw → List ℕ → List Entry → Held
+held d places draws = record { draw = d; places = places; draws = draws }
+
+-- a pass has ended where it holds a number at or above the pieces
+abbrev pub has_ended : Held → Bool
+has_ended p = nat_lt 0 (past p.draw.pieces p.draws)
+
+-- the pass with one more draw, by its first place
+abbrev pub with_draw : Held → ℕ → Held
+with_draw p n = held p.draw p.places (p.draws ++ entry (first_of p.places) n ∷ [])
+
+-- each number that was drawn is below n
+abbrev pub AllBelow : ℕ → List Entry → Type 0
+AllBelow n draws = (e : Entry) → IsIn e draws → e.number < n
+
+-- the number where it is that of a piece
+abbrev pub piece_of : ℕ → ℕ → Option ℕ
+piece_of pieces n = cond (nat_lt n pieces) (Some n) None
+
+-- the draws of both stand in one history
+abbrev pub InOneHistory : List Entry → List Entry → Type 0
+InOneHistory xs ys = (history : List Entry) × IsHistory history × Within xs history × Within ys history
+
+-- no number stands in both lists
+abbrev pub NoneInBoth : List ℕ → List ℕ → Type 0
+NoneInBoth xs ys = (n : ℕ) → IsIn n xs → IsIn n ys → ⊥
+
+-- the draws are a whole history
+abbrev pub AreAll : List Entry → Type 0
+AreAll draws = (history : List Entry) × IsHistory history × Same draws history
+
+-- how the fields of a pass stand for its view: a bit for each of its places, and whether it holds a number past the last piece
+pub record IsPass (m : Sitting) (bits : ℕ) (ended : Bool) : Type 0 where
+  pub no_slot : m.1 ≡ []
+  pub sits : 0 < length m.0.places
+  pub low : (p : ℕ) → IsIn p m.0.places → p < 64
+  pub set : (p : ℕ) → IsIn p m.0.places → bit_at bits p ≡ 1
+  pub clear : (p : ℕ) → bit_at bits p ≡ 1 → IsIn p m.0.places
+  pub own : (e : Entry) → IsIn e m.0.draws → IsIn e.place m.0.places
+  pub stopped : ended ≡ nat_lt 0 (past m.0.pieces m.0.draws)
+
+-- what a seat of a pass shows
+abbrev pub seen : TableId → Sitting → Held
+seen table m = held (record { table = table; pieces = m.0.pieces }) m.0.places m.0.draws
+
+-- the words at the start: no draw, and place 0 taken
+abbrev pub opening_row : List ℕ
+opening_row = 0 ∷ 1 ∷ replicate 63 0
+
+-- a pass with one place, which is not among these bits, and no draws
+abbrev pub IsNew : Draw → ℕ → Held → Type 0
+IsNew d taken p = (place : ℕ) × (place < 64) × (bit_at taken place ≡ 0) × (p ≡ held d (place ∷ []) [])

@@ -1,0 +1,66 @@
+//! The bytes of a reader, up to a limit.
+
+ghost use Rattle.std.specs.Prelude.{◌≡◌, ◌≤◌, ◌<◌, IfOk, IfSome, length, take, vec_len};
+ghost use Rattle.std.specs.Io.KnownBytes.{Consumes};
+ghost use Rattle.rv_files.specs.Input.{GrowsByRead};
+
+use std::alloc::{AllocError, Global};
+use std::io::Read;
+
+/// Why a reader's bytes weren't read.
+#[derive(Clone, Copy, Debug, PartialEq, Eq)]
+pub enum InputError {
+    /// A growth was refused.
+    OutOfMemory,
+    /// A read failed, an interrupted one included.
+    Failed,
+}
+
+impl From<AllocError> for InputError {
+    ghost use Rattle.rv_files.specs.declared.input.InputError.TheVariants.{OutOfMemory};
+
+    ghost from_gives = { λ _ error. error ≡ OutOfMemory };
+
+    fn from(_: AllocError) -> InputError {
+        InputError::OutOfMemory
+    }
+}
+
+// A read asks for as many bytes at most.
+const CHUNK: usize = 4_096;
+
+/// The reader's bytes to its end, or the first `most` of them where there are more; what is behind
+/// them is left in the reader.
+pub fn read_at_most<R: Read>(
+    alloc: Global,
+    input: &mut R,
+    most: usize,
+) -> Result<Vec<u8>, InputError>
+    ensures value { IfOk result (λ bytes. IfSome (R.remaining input.old) (λ known. bytes.items ≡ take most known)) }
+    ensures taken { IfOk result (λ bytes. Consumes (R.remaining input.old) (R.remaining input.new) bytes.items) }
+    ensures within { IfOk result (λ bytes. length bytes.items ≤ most) }
+{
+    let mut bytes = Vec::new(alloc);
+    'reading: while bytes.len() < most {
+        if read_more(input, &mut bytes, most)? == 0 {
+            return Ok(bytes);
+        }
+    }
+    Ok(bytes)
+}
+
+// One read, into a buffer of its own: so a growth that is refused is told from a read that fails.
+fn read_more<R: Read>(input: &mut R, bytes: &mut Vec<u8>, most: usize) -> Result<usize, InputError>
+    requires { vec_len bytes.old < most }
+    ensures { IfOk result
+        (GrowsByRead most (R.remaining input.old) (R.remaining input.new) bytes.old.items bytes.new.items) }
+{
+    let mut chunk = [0u8; CHUNK];
+    let room = (most - bytes.len()).min(CHUNK);
+    let count = match input.read(&mut chunk[..room]) {
+        Ok(count) => count,
+        Err(_) => return Err(InputError::Failed),
+    };
+    bytes.extend_from_slice(&chunk[..count])?;
+    Ok(count)
+}

@@ -1,0 +1,14 @@
+//! The system's files as a store, and the process's streams as sinks.
+//!
+//! What the world outside holds is not known, so contracts speak of any reader and any writer: [`read_at_most`] and
+//! [`read_whole`] give what a reader has, and a [`StreamSink`] puts what its writer takes. [`FileStore`] opens a file and
+//! reads it by these.
+#![tactic(auto)]
+
+mod files;
+mod input;
+mod streams;
+
+pub use files::{FileStore, read_whole};
+pub use input::{InputError, read_at_most};
+pub use streams::StreamSink;

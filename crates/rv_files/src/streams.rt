@@ -1,0 +1,71 @@
+//! The process's streams as sinks.
+
+ghost use Rattle.std.specs.Prelude.{◌≡◌, ◌≤◌, None, IfOk, IfErr, OnErr, length, take};
+ghost use Rattle.std.specs.Io.KnownBytes.{Appends};
+ghost use Rattle.rv_rows.specs.Sending.{AppendsBeginning, one_more};
+
+use rv_rows::{Sink, SinkFailed};
+use std::io::Write;
+
+/// A stream of the process as a sink: each put is one write and one flush, so nothing is held
+/// back. What the world outside took isn't known, so the sink tells no bytes; of a put that fails,
+/// by its write or by its flush, the stream has a beginning of the bytes, which may be none.
+#[derive(Drop)]
+pub struct StreamSink<W: Drop> {
+    stream: W,
+    failures: u64,
+}
+
+impl<W: Write + Drop> StreamSink<W> {
+    pub fn new(stream: W) -> StreamSink<W>
+        ensures { (result.stream ≡ stream) × (result.failures ≡ 0) }
+    {
+        StreamSink {
+            stream,
+            failures: 0,
+        }
+    }
+
+    pub fn into_inner(self) -> W
+        ensures { result ≡ self.stream }
+    {
+        self.stream
+    }
+
+    fn fail(&mut self) -> SinkFailed
+        ensures counted { self.new.failures ≡ one_more self.old.failures }
+        ensures same { self.new.stream ≡ self.old.stream }
+    {
+        self.failures = self.failures.saturating_add(1);
+        SinkFailed
+    }
+}
+
+impl<W: Write + Drop> Sink for StreamSink<W> {
+    ghost taken = { λ _. None };
+
+    ghost failed = { λ sink. sink.failures };
+
+    fn put(&mut self, bytes: &[u8]) -> Result<usize, SinkFailed>
+        ensures within { IfOk result (λ count. (1 ≤ count) × (count ≤ length bytes.now)) }
+        ensures written { IfOk result
+            (λ count. Appends (W.contents self.old.stream) (W.contents self.new.stream) (take count bytes.now)) }
+        ensures part { OnErr result
+            (AppendsBeginning (W.contents self.old.stream) (W.contents self.new.stream) bytes.now) }
+        ensures counted { IfOk result (λ _. self.new.failures ≡ self.old.failures) }
+        ensures failure { IfErr result (λ _. self.new.failures ≡ one_more self.old.failures) }
+    {
+        let count = match self.stream.write(bytes) {
+            Ok(0) | Err(_) => return Err(self.fail()),
+            Ok(count) => count,
+        };
+        match self.stream.flush() {
+            Ok(()) => Ok(count),
+            Err(_) => Err(self.fail()),
+        }
+    }
+
+    fn failures(&self) -> u64 {
+        self.failures
+    }
+}

@@ -1,5 +1,0 @@
-use Rattle.rv_fleet.proofs.Loadables.{range_there}
-use Rattle.rv_fleet.proofs.attempt.file_attempt.Goals as goal
-
-pub run-requires : goal.run-requires
-run-requires c = range_there _ _ c.in-Ok.there _ c.in-Ok.ensures c.in_ok-machine-in-Ok.ensures

@@ -1,5 +1,0 @@
-use Rattle.std.proofs.Common.{◌≡◌}
-use Rattle.rv_fleet.proofs.claims_tests.take_all.Given as goal
-
-abbrev pub invariant-loop : goal.invariant-loop
-invariant-loop l = l.pass.draw ≡ l.claims

@@ -1,5 +1,0 @@
-use Rattle.rv_fleet.proofs.Narrower.{rows_wider}
-use Rattle.rv_fleet.proofs.law.narrower_sets_only_refuse.Goals as goal
-
-pub returns : goal.returns
-returns c plan place row jobs is stays = rows_wider plan place row jobs is stays

@@ -1,8 +1,0 @@
--- What a refused split gives back.
-use Rattle.rv_fleet.specs.Passes.{Held}
-use Rattle.rv_fleet.specs.declared.pass.SplitError.{SplitError}
-use Rattle.rv_fleet.specs.declared.pass.SplitError.TheVariants.{Full}
-
--- the pass that comes back
-abbrev pub in_full : SplitError → Held
-in_full (Full p) = p

@@ -1,0 +1,4 @@
+pub mod Answering
+pub mod Numerals
+pub mod Telling
+mod WrittenWords

@@ -1,0 +1,108 @@
+-- What the program owes to words.
+use Rattle.std.specs.Prelude.{◌≡◌, ◌⊎◌, ℕ, Bool, true, false, List, Option, Some, None, IfSome, if◌then◌else◌}
+use Rattle.std.specs.List.{list_any}
+use Rattle.std.specs.Io.KnownBytes.{Appends, Keeps}
+use Rattle.rv_rows.specs.declared.row.Row.{Row}
+use Rattle.rv_rows.specs.declared.row.Verdict.{Verdict}
+use Rattle.rv_rows.specs.declared.row.Verdict.TheVariants as verdict
+use Rattle.rv_rows.specs.Report.{report_text}
+use Rattle.rv_rows.specs.Sending.{AppendsBeginning}
+use Rattle.rv_jobs.specs.declared.error.JobError.{JobError}
+use Rattle.rv_jobs.specs.declared.job.Job.{Job}
+use Rattle.rv_jobs.specs.Stores.{FileContents}
+use Rattle.rv_program.specs.CommandLine.{Request, one, raw, run}
+use Rattle.rv_program.specs.declared.error.Failure.{Failure}
+use Rattle.rv_program.specs.Lines.{bad_words_line, failure_line, fault_line}
+use Rattle.rv_program.specs.One.{is_bad_one, is_bad_path, one_jobs, script_of}
+use Rattle.rv_program.specs.Plans.{ForJobs, MayFault, MayList, Stored}
+use Rattle.rv_program.specs.Raw.{raw_rows}
+
+-- ---- which words are refused
+
+-- nothing is asked for, or a path or digits are refused
+abbrev pub is_refused : Option Request → Bool
+is_refused (Some (raw budget)) = false
+is_refused (Some (one path budget digits)) = is_bad_one path digits
+is_refused (Some (run path workers group)) = is_bad_path path
+is_refused None = true
+
+-- the fault of a list that the store may hold for the request
+abbrev pub IsFaultOf : Option Request → Option FileContents → JobError → Type 0
+IsFaultOf (Some (raw budget)) known error = ⊥
+IsFaultOf (Some (one path budget digits)) known error = ⊥
+IsFaultOf (Some (run path workers group)) known error = MayFault known path error
+IsFaultOf None known error = ⊥
+
+-- a list that the store may hold for the request has a fault
+abbrev pub HasFault : Option Request → Stored → Type 0
+HasFault request store = (error : JobError) × IsFaultOf request store.known error
+
+-- ---- which rows are owed
+
+-- the words ask for a file
+abbrev pub reads_store : Option Request → Bool
+reads_store (Some (raw budget)) = false
+reads_store (Some (one path budget digits)) = true
+reads_store (Some (run path workers group)) = true
+reads_store None = false
+
+-- the words ask for the input
+abbrev pub reads_input : Option Request → Bool
+reads_input (Some (raw budget)) = true
+reads_input (Some (one path budget digits)) = false
+reads_input (Some (run path workers group)) = false
+reads_input None = false
+
+-- what is owed for the rows of a request: for those of the input, where it tells its bytes, or for those of jobs
+abbrev pub ForRows : Option Request → Option (List ℕ) → Stored → (List Row → Type 0) → Type 0
+ForRows (Some (raw budget)) input store owed = IfSome input (λ bytes. owed (raw_rows bytes budget))
+ForRows (Some (one path budget digits)) input store owed = ForJobs store (one_jobs path budget (script_of digits)) owed
+ForRows (Some (run path workers group)) input store owed = (jobs : List Job) × (MayList store.known path jobs × ForJobs store jobs owed)
+ForRows None input store owed = Unit {0}
+
+abbrev pub is_fail : Verdict → Bool
+is_fail verdict.Unasked = false
+is_fail verdict.Pass = false
+is_fail verdict.Fail = true
+
+abbrev pub has_fail : List Row → Bool
+has_fail rows = list_any (λ row. is_fail row.verdict) rows
+
+-- 1 where some verdict is fail, else 0
+abbrev pub status_of : List Row → ℕ
+status_of rows = if has_fail rows then 1 else 0
+
+-- the report went out, and the status is its own
+pub record Reported (before after : Option (List ℕ)) (status : ℕ) (rows : List Row) : Type 0 where
+  pub appended : Appends before after (report_text rows)
+  pub verdicts : status ≡ status_of rows
+
+-- a beginning of the report went out
+abbrev pub Began : Option (List ℕ) → Option (List ℕ) → List Row → Type 0
+Began before after rows = AppendsBeginning before after (report_text rows)
+
+-- ---- the answer
+
+-- the answer to words that the command takes, and that ask for this
+pub record Answers (request : Option Request) (input : Option (List ℕ)) (store : Stored) (before after : Option (List ℕ)) (status : ℕ) : Type 0 where
+  pub reported : status ≡ 0 ⊎ status ≡ 1 → ForRows request input store (Reported before after status)
+  pub accepted : status ≡ 0 ⊎ status ≡ 1 → is_refused request ≡ false
+  pub refused : status ≡ 2 → Keeps before after × (is_refused request ≡ true ⊎ HasFault request store)
+  pub failed : status ≡ 3 → Keeps before after ⊎ ForRows request input store (Began before after)
+
+-- ---- what standard error says
+
+-- the line of why a request is refused, or a beginning of it: bad words, or the fault of its list
+abbrev pub TellsRefusal : Option Request → Option FileContents → Option (List ℕ) → Option (List ℕ) → Type 0
+TellsRefusal request known before after = ((is_refused request ≡ true) × AppendsBeginning before after bad_words_line)
+    ⊎ ((error : JobError) × (IsFaultOf request known error × AppendsBeginning before after (fault_line error)))
+
+-- the line of a failure, or a beginning of it
+abbrev pub TellsFailure : Option (List ℕ) → Option (List ℕ) → Type 0
+TellsFailure before after = (failure : Failure) × AppendsBeginning before after (failure_line failure)
+
+-- why the status is 2 or 3; beside 0 and 1 nothing is said
+pub record Tells (request : Option Request) (known : Option FileContents) (before after : Option (List ℕ)) (status : ℕ) : Type 0 where
+  pub quiet : status ≡ 0 ⊎ status ≡ 1 → Keeps before after
+  pub refused : status ≡ 2 → TellsRefusal request known before after
+  pub failed : status ≡ 3 → TellsFailure before after

@@ -1,0 +1,47 @@
+-- What the program says of an error of a layer below.
+use Rattle.std.specs.Prelude.{◌≡◌}
+use Rattle.rv_jobs.specs.declared.error.JobError.{JobError}
+use Rattle.rv_program.specs.declared.error.ListError.{ListError}
+use Rattle.rv_program.specs.declared.error.ListError.TheVariants.{Failed, Refused}
+use Rattle.rv_jobs.specs.declared.error.What.TheVariants as what
+use Rattle.rv_fleet.specs.declared.fleet.FleetError.{FleetError}
+use Rattle.rv_fleet.specs.declared.fleet.FleetError.TheVariants as fleet
+use Rattle.rv_rows.specs.declared.report.WriteError.{WriteError}
+use Rattle.rv_rows.specs.declared.report.WriteError.TheVariants as write
+use Rattle.rv_files.specs.declared.input.InputError.{InputError}
+use Rattle.rv_files.specs.declared.input.InputError.TheVariants as input
+use Rattle.rv_program.specs.declared.error.Failure.{Failure}
+use Rattle.rv_program.specs.declared.error.Failure.TheVariants as failure
+use Rattle.rv_program.specs.declared.error.RunError.{RunError}
+use Rattle.rv_program.specs.declared.error.RunError.TheVariants as run
+
+-- a failed read of the input
+abbrev pub read_failure : InputError → RunError
+read_failure input.OutOfMemory = run.OutOfMemory
+read_failure input.Failed = run.ReadFailed
+
+-- a report that didn't go out
+abbrev pub write_failure : WriteError → RunError
+write_failure write.OutOfMemory = run.OutOfMemory
+write_failure write.Failed = run.WriteFailed
+
+-- no report of a flat image, or not all of it
+abbrev pub run_failure : RunError → Failure
+run_failure run.OutOfMemory = failure.OutOfMemory
+run_failure run.ReadFailed = failure.ReadFailed
+run_failure run.WriteFailed = failure.WriteFailed
+
+-- no report of a plan
+abbrev pub fleet_failure : FleetError → Failure
+fleet_failure fleet.OutOfMemory = failure.OutOfMemory
+fleet_failure fleet.NoWorker = failure.NoWorker
+
+-- not all of the report of a plan
+abbrev pub send_failure : WriteError → Failure
+send_failure write.OutOfMemory = failure.OutOfMemory
+send_failure write.Failed = failure.WriteFailed
+
+-- a list that is refused for this; want of memory is a failure of the program
+abbrev pub IsListError : JobError → ListError → Type 0
+IsListError error (Refused why) = (why ≡ error) × (error.what ≡ what.OutOfMemory → ⊥)
+IsListError error (Failed why) = (why ≡ failure.OutOfMemory) × (error.what ≡ what.OutOfMemory)

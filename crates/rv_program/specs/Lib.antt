@@ -1,0 +1,8 @@
+pub mod Answers
+pub mod CommandLine
+pub mod Failures
+pub mod Lines
+pub mod One
+pub mod Plans
+pub mod Raw
+pub mod Requests

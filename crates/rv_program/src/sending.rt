@@ -1,0 +1,47 @@
+//! A report and its status.
+
+ghost use Rattle.std.specs.Prelude.{◌≡◌, ◌≤◌, IfErr, IfOk, OnErr, OnOk};
+ghost use Rattle.rv_rows.specs.Sending.{Rose};
+ghost use Rattle.rv_program.specs.Answers.{Began, Reported, has_fail, is_fail, status_of};
+
+use crate::error::Failure;
+use rv_fleet::{Report, Row, Sink, Verdict, write_report};
+use std::alloc::Global;
+
+/// The status where no verdict is fail.
+pub const DONE: u8 = 0;
+
+/// The status where some verdict is fail.
+pub const SOME_FAIL: u8 = 1;
+
+/// Appends a report to the sink, and gives the status of its verdicts.
+pub fn send<O: Sink>(alloc: Global, report: &Report, out: &mut O) -> Result<u8, Failure>
+    ensures reported { IfOk result
+        (λ status. Reported (O.taken out.old) (O.taken out.new) status report.now.rows) }
+    ensures range { IfOk result (λ status. status ≤ 1) }
+    ensures counted { OnOk result (O.failed out.new ≡ O.failed out.old) }
+    ensures part { OnErr result (Began (O.taken out.old) (O.taken out.new) report.now.rows) }
+    ensures failed { IfErr result (λ error. error ≡ Failure.WriteFailed → Rose (O.failed out.old) (O.failed out.new)) }
+{
+    write_report(alloc, report, out)?;
+    Ok(status_of(report.rows.as_slice()))
+}
+
+fn status_of(rows: &[Row]) -> u8
+    ensures value { result ≡ status_of rows.now }
+    ensures range { result ≤ 1 }
+{
+    if has_fail(rows) { SOME_FAIL } else { DONE }
+}
+
+fn has_fail(rows: &[Row]) -> bool
+    ensures { result ≡ has_fail rows.now }
+{
+    rows.iter().any(|row| is_failed(row))
+}
+
+fn is_failed(row: &Row) -> bool
+    ensures { result ≡ is_fail row.now.verdict }
+{
+    matches!(row.verdict, Verdict::Fail)
+}

@@ -1,0 +1,65 @@
+//! The lines of standard error, each with the status that it tells of.
+
+ghost use Rattle.std.specs.Prelude.{◌≡◌, ◌⊎◌};
+ghost use Rattle.rv_rows.specs.Sending.{AppendsBeginning};
+ghost use Rattle.rv_program.specs.Lines.{bad_words_line, failure_line, fault_line};
+
+use crate::error::Failure;
+use rv_fleet::{Sink, put_all};
+use rv_jobs::JobError;
+use std::alloc::Global;
+
+/// The status where words are refused.
+pub const BAD_WORDS: u8 = 2;
+
+/// The status where memory was wanting, or a read or a write failed.
+pub const FAILED: u8 = 3;
+
+/// Says that words are refused, and gives the status.
+pub fn refused<E: Sink>(errors: &mut E) -> u8
+    ensures status { result ≡ BAD_WORDS }
+    ensures told { AppendsBeginning (E.taken errors.old) (E.taken errors.new) bad_words_line }
+{
+    say(errors, "rvfleet: bad words\n");
+    BAD_WORDS
+}
+
+/// Says what is wrong with a job list, and gives the status.
+pub fn refused_list<E: Sink>(alloc: Global, errors: &mut E, error: JobError) -> u8
+    ensures status { result ≡ BAD_WORDS ⊎ result ≡ FAILED }
+    ensures told { result ≡ BAD_WORDS
+        → AppendsBeginning (E.taken errors.old) (E.taken errors.new) (fault_line error) }
+    ensures failed { result ≡ FAILED
+        → AppendsBeginning (E.taken errors.old) (E.taken errors.new) (failure_line Failure.OutOfMemory) }
+{
+    let JobError { job, what } = error;
+    let Ok(line) = format!(in alloc; "rvfleet: job {job}: {}\n", what.name()) else {
+        return failed(errors, Failure::OutOfMemory);
+    };
+    say(errors, line.as_str());
+    BAD_WORDS
+}
+
+/// Says why the program failed, and gives the status.
+pub fn failed<E: Sink>(errors: &mut E, failure: Failure) -> u8
+    ensures status { result ≡ FAILED }
+    ensures told { AppendsBeginning (E.taken errors.old) (E.taken errors.new) (failure_line failure) }
+{
+    let line = match failure {
+        Failure::OutOfMemory => "rvfleet: out of memory\n",
+        Failure::NoWorker => "rvfleet: no worker\n",
+        Failure::ListUnreadable => "rvfleet: list unreadable\n",
+        Failure::ListTooLong => "rvfleet: list too long\n",
+        Failure::ReadFailed => "rvfleet: read failed\n",
+        Failure::WriteFailed => "rvfleet: write failed\n",
+    };
+    say(errors, line);
+    FAILED
+}
+
+// A failed put of the line changes no status.
+fn say<E: Sink>(errors: &mut E, line: &str)
+    ensures { AppendsBeginning (E.taken errors.old) (E.taken errors.new) line.now }
+{
+    let _ = put_all(errors, line.as_bytes());
+}

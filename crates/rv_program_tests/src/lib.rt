@@ -1,0 +1,16 @@
+//! Tests of the program over stores, readers and sinks in memory, and over files. The crate has nothing else, so that no
+//! code of the program is proved twice.
+#![tactic(auto)]
+
+#[cfg(test)]
+mod failing_tests;
+#[cfg(test)]
+mod hostile_tests;
+#[cfg(test)]
+mod limit_tests;
+#[cfg(test)]
+mod list_tests;
+#[cfg(test)]
+mod testing;
+#[cfg(test)]
+mod tests;

@@ -1,0 +1,29 @@
+-- What a job came to, of which nothing is copied yet: what its run wrote and its signature stand in the bus.
+use Rattle.std.specs.Prelude.{◌≡◌, ⊤, IfSome, option_map}
+use Rattle.rv_elf.specs.Rows.{accepted}
+use Rattle.rv_elf.specs.Symbols.{signature_check}
+use Rattle.rv_rows.specs.declared.outcome.Attempt.{Attempt}
+use Rattle.rv_rows.specs.declared.outcome.Attempt.TheVariants.{Refused, Ran}
+use Rattle.rv_rows.specs.declared.outcome.EndedRun.{EndedRun}
+use Rattle.rv_rows.specs.declared.outcome.Outcome.{Outcome}
+use Rattle.rv_rows.specs.Outcome.{refused_outcome, signature_in}
+
+-- the signature's range, where one is asked for, was checked against the map
+abbrev pub HasSignature : EndedRun → Type 0
+HasSignature run = IfSome run.range (λ range. signature_check range.begin range.end run.bus.regions ≡ accepted)
+
+abbrev pub outcome_in_bus : EndedRun → Outcome
+outcome_in_bus run = record {
+  ending = run.ending;
+  steps = run.steps;
+  console = run.bus.output;
+  signature = option_map (signature_in run.bus) run.range;
+}
+
+abbrev pub IsReadable : Attempt → Type 0
+IsReadable (Refused why) = ⊤
+IsReadable (Ran run) = HasSignature run
+
+abbrev pub outcome_of_attempt : Attempt → Outcome
+outcome_of_attempt (Refused why) = refused_outcome why
+outcome_of_attempt (Ran run) = outcome_in_bus run

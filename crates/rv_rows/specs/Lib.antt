@@ -1,0 +1,9 @@
+pub mod Flat
+pub mod Outcome
+pub mod Attempt
+pub mod Report
+pub mod Rows
+pub mod Recent
+pub mod Narrower
+pub mod Sending
+pub mod Verdict

@@ -1,0 +1,29 @@
+-- Plans that differ in one job's set of instructions, and the endings that a wider set does not change.
+use Rattle.std.specs.Prelude.{ℕ, zero, suc, Bool, true, false, not, List, [], ◌∷◌}
+use Rattle.rv_isa.specs.declared.sets.Isa.TheVariants.{Imc}
+use Rattle.rv_jobs.specs.declared.job.Job.{Job}
+use Rattle.rv_jobs.specs.Plans.{Planned}
+use Rattle.rv_machine.specs.Sets.{is_of_set}
+use Rattle.rv_rows.specs.declared.row.RowEnd.{RowEnd}
+use Rattle.rv_rows.specs.declared.row.RowEnd.TheVariants.{Exit, Fault, Budget, Refused}
+
+-- the same job, its set RV32IMC
+abbrev pub widened : Job → Job
+widened job = record job { isa = Imc }
+
+-- the jobs, of which the one at a place is made RV32IMC
+abbrev pub widened_at : ℕ → List Job → List Job
+widened_at place [] = []
+widened_at zero (job ∷ jobs) = widened job ∷ jobs
+widened_at (suc place) (job ∷ jobs) = job ∷ widened_at place jobs
+
+-- the plan of these jobs, with the same kept answers
+abbrev pub widened_plan : ℕ → Planned → Planned
+widened_plan place plan = record plan { jobs = widened_at place plan.jobs }
+
+-- the image was not refused, and the run ended in no fault of what the set lacks: `illegal` or `fetch-misaligned`
+abbrev pub is_of_any_set : RowEnd → Bool
+is_of_any_set (Exit code) = true
+is_of_any_set (Fault kind pc value) = not (is_of_set kind)
+is_of_any_set Budget = true
+is_of_any_set (Refused why) = false

@@ -1,0 +1,136 @@
+-- The outcome of a job: the first refusal that applies, or what its run came to.
+use Rattle.std.specs.Prelude.{ℕ, List, [], Option, Some, None, Result, Ok, Err, option_map}
+use Rattle.rv_elf.specs.declared.error.ImageError.{ImageError}
+use Rattle.rv_elf.specs.declared.error.ImageError.TheVariants as image
+use Rattle.rv_elf.specs.declared.image.Image.{Image}
+use Rattle.rv_elf.specs.Image.{image_of}
+use Rattle.rv_elf.specs.Loading.{map_check, opening_memory}
+use Rattle.rv_elf.specs.Symbols.{signature_check, symbol_of}
+use Rattle.rv_jobs.specs.declared.job.Job.{Job}
+use Rattle.rv_jobs.specs.declared.job.Symbols.{Symbols}
+use Rattle.rv_jobs.specs.declared.store.Kept.{Kept}
+use Rattle.rv_jobs.specs.declared.store.Kept.TheVariants as kept
+use Rattle.rv_memory.specs.declared.map.Region.{Region}
+use Rattle.rv_memory.specs.Bus.{Contents, opened}
+use Rattle.rv_memory.specs.Words.{words_of}
+use Rattle.rv_machine.specs.declared.ending.Ending.{Ending}
+use Rattle.rv_machine.specs.declared.ending.Ending.TheVariants as machine
+use Rattle.rv_machine.specs.Run.{Ran, run_of}
+use Rattle.rv_machine.specs.State.{State, at_reset}
+use Rattle.rv_rows.specs.declared.outcome.Outcome.{Outcome}
+use Rattle.rv_rows.specs.declared.outcome.Loadable.{Loadable}
+use Rattle.rv_rows.specs.declared.outcome.SignatureRange.{SignatureRange}
+use Rattle.rv_rows.specs.declared.row.Refusal.{Refusal}
+use Rattle.rv_rows.specs.declared.row.Refusal.TheVariants as refusal
+use Rattle.rv_rows.specs.declared.row.RowEnd.{RowEnd}
+use Rattle.rv_rows.specs.declared.row.RowEnd.TheVariants as ending
+
+-- the second step, if the first was not refused
+infixl 10 ◌>>=◌
+abbrev pub ◌>>=◌ : {E A B : Type 0} → Result A E → (A → Result B E) → Result B E
+(Ok x) >>= f = f x
+(Err why) >>= f = Err why
+
+-- ---- the files of a job
+
+-- the bytes that are kept of a path, or the refusal of a path that was unreadable or too long
+abbrev pub content_of : Kept → Refusal → Refusal → Result (List ℕ) Refusal
+content_of (kept.Content bytes) unreadable long = Ok bytes
+content_of kept.Unreadable unreadable long = Err unreadable
+content_of kept.TooLong unreadable long = Err long
+
+-- the reference, where one is asked for
+abbrev pub reference_of : Option Kept → Result (Option (List ℕ)) Refusal
+reference_of None = Ok None
+reference_of (Some kept) = do
+  bytes ← content_of kept refusal.ReferenceUnreadable refusal.ReferenceTooLong
+  Ok (Some bytes)
+
+-- the image's bytes, if the reference is there too
+unfoldable pub file_of : Kept → Option Kept → Result (List ℕ) Refusal
+file_of image reference = do
+  file ← content_of image refusal.ImageUnreadable refusal.ImageTooLong
+  bytes ← reference_of reference
+  Ok file
+
+-- ---- the image and the signature's range
+
+-- a second name that is missing is no end
+abbrev pub end_error : ImageError → ImageError
+end_error image.NoBegin = image.NoEnd
+end_error why = why
+
+abbrev pub end_of_signature : Result ℕ ImageError → Result ℕ ImageError
+end_of_signature (Ok address) = Ok address
+end_of_signature (Err why) = Err (end_error why)
+
+-- the addresses of the two symbols, between which there may be a signature
+unfoldable pub range_of : List ℕ → List Region → Symbols → Result SignatureRange ImageError
+range_of file regions names = do
+  begin ← symbol_of file names.begin
+  end ← end_of_signature (symbol_of file names.end)
+  unit ← signature_check begin end regions
+  Ok (record { begin = begin; end = end })
+
+abbrev pub range_if_asked : List ℕ → List Region → Option Symbols → Result (Option SignatureRange) ImageError
+range_if_asked file regions None = Ok None
+range_if_asked file regions (Some names) = do
+  range ← range_of file regions names
+  Ok (Some range)
+
+-- the image of a file, where the job's map takes it, and the range of the signature, where one is asked for
+unfoldable pub loadable_of : Job → List ℕ → Result Loadable ImageError
+loadable_of job file = do
+  image ← image_of job.isa file
+  unit ← map_check image.segments job.regions job.load
+  range ← range_if_asked file job.regions job.signature
+  Ok (record { image = image; range = range })
+
+-- ---- the run
+
+-- the image in memory, nothing stored, and the script
+abbrev pub loaded_contents : Job → List ℕ → Image → Contents
+loaded_contents job file image =
+    record (opened job.regions job.script job.misaligned) { memory = opening_memory job.regions image.segments file job.load }
+
+-- the hart at reset, its pc at the image's entry
+abbrev pub loaded_state : Job → List ℕ → Image → State
+loaded_state job file image = at_reset (loaded_contents job file image) image.entry job.isa
+
+abbrev pub end_of : Ending → RowEnd
+end_of (machine.Exit code) = ending.Exit code
+end_of (machine.Fault kind pc value) = ending.Fault kind pc value
+end_of machine.Budget = ending.Budget
+
+-- the words of a signature in memory
+abbrev pub signature_in : Contents → SignatureRange → List ℕ
+signature_in bus range = words_of bus.memory range.begin range.end
+
+-- what a run came to, with the signature of its last state
+abbrev pub outcome_of_run : Ran → Option SignatureRange → Outcome
+outcome_of_run ran range = record {
+  ending = end_of ran.ending;
+  steps = ran.steps;
+  console = ran.state.bus.output;
+  signature = option_map (signature_in ran.state.bus) range;
+}
+
+-- a refusal has no steps, no console bytes and no signature
+abbrev pub refused_outcome : Refusal → Outcome
+refused_outcome why = record { ending = ending.Refused why; steps = 0; console = []; signature = None }
+
+-- what comes of an image that is loaded, or of its refusal
+abbrev pub outcome_if_loadable : Job → List ℕ → Result Loadable ImageError → Outcome
+outcome_if_loadable job file (Ok there) = outcome_of_run (run_of job.budget (loaded_state job file there.image)) there.range
+outcome_if_loadable job file (Err why) = refused_outcome (refusal.Image why)
+
+unfoldable pub file_outcome_of : Job → List ℕ → Outcome
+file_outcome_of job file = outcome_if_loadable job file (loadable_of job file)
+
+abbrev pub outcome_if_there : Job → Result (List ℕ) Refusal → Outcome
+outcome_if_there job (Ok file) = file_outcome_of job file
+outcome_if_there job (Err why) = refused_outcome why
+
+-- the outcome of a job over what is kept of the paths of its image and of its reference
+unfoldable pub outcome_of : Job → Kept → Option Kept → Outcome
+outcome_of job image reference = outcome_if_there job (file_of image reference)

@@ -1,0 +1,119 @@
+-- The text of a report: six parts a row, each of whole lines, and a last line.
+use Rattle.std.specs.Prelude.{◌==◌, if◌then◌else◌, ◌+◌, ℕ, List, [], ◌∷◌, ◌++◌, length, Option, Some, None, codes}
+use Rattle.std.specs.Int.{w32, to_be_bytes}
+use Rattle.std.specs.List.{flat_map}
+use Rattle.std.specs.Fmt.{decimal}
+use Rattle.hex.specs.Hex.{encode_lower}
+use Rattle.rv_elf.specs.declared.error.ImageError.{ImageError}
+use Rattle.rv_elf.specs.declared.error.ImageError.TheVariants as image
+use Rattle.rv_machine.specs.declared.ending.FaultKind.{FaultKind}
+use Rattle.rv_machine.specs.declared.ending.FaultKind.TheVariants as fault
+use Rattle.rv_rows.specs.declared.row.Refusal.{Refusal}
+use Rattle.rv_rows.specs.declared.row.Refusal.TheVariants as refusal
+use Rattle.rv_rows.specs.declared.row.Row.{Row}
+use Rattle.rv_rows.specs.declared.row.RowEnd.{RowEnd}
+use Rattle.rv_rows.specs.declared.row.RowEnd.TheVariants as ending
+use Rattle.rv_rows.specs.declared.row.Verdict.{Verdict}
+use Rattle.rv_rows.specs.declared.row.Verdict.TheVariants as verdict
+
+-- a line ends with a line feed
+abbrev pub line : List ℕ → List ℕ
+line text = text ++ 10 ∷ []
+
+-- a word as eight lower-case hexadecimal digits, the high ones first
+unfoldable pub word_digits : ℕ → List ℕ
+word_digits word = encode_lower (to_be_bytes w32 word)
+
+abbrev pub fault_name : FaultKind → List ℕ
+fault_name fault.FetchAccess = codes "fetch-access"
+fault_name fault.StaleCode = codes "stale-code"
+fault_name fault.Illegal = codes "illegal"
+fault_name fault.Breakpoint = codes "breakpoint"
+fault_name fault.LoadMisaligned = codes "load-misaligned"
+fault_name fault.LoadAccess = codes "load-access"
+fault_name fault.StoreMisaligned = codes "store-misaligned"
+fault_name fault.StoreAccess = codes "store-access"
+fault_name fault.ConsoleFull = codes "console-full"
+fault_name fault.UnknownCall = codes "unknown-call"
+fault_name fault.FetchMisaligned = codes "fetch-misaligned"
+
+-- no row has the last
+abbrev pub image_error_name : ImageError → List ℕ
+image_error_name image.ShortHeader = codes "short-header"
+image_error_name image.BadMagic = codes "bad-magic"
+image_error_name image.Not32Bit = codes "not-32-bit"
+image_error_name image.NotLittleEndian = codes "not-little-endian"
+image_error_name image.BadVersion = codes "bad-version"
+image_error_name image.NotExecutable = codes "not-executable"
+image_error_name image.NotRiscv = codes "not-riscv"
+image_error_name image.ProgramTable = codes "program-table"
+image_error_name image.Dynamic = codes "dynamic"
+image_error_name image.SegmentSizes = codes "segment-sizes"
+image_error_name image.SegmentFile = codes "segment-file"
+image_error_name image.NoSegment = codes "no-segment"
+image_error_name image.EntryOdd = codes "entry-odd"
+image_error_name image.EntryAlign = codes "entry-align"
+image_error_name image.SegmentMap = codes "segment-map"
+image_error_name image.SegmentOverlap = codes "segment-overlap"
+image_error_name image.SectionTable = codes "section-table"
+image_error_name image.NoSymbols = codes "no-symbols"
+image_error_name image.SymbolTable = codes "symbol-table"
+image_error_name image.StringTable = codes "string-table"
+image_error_name image.NoBegin = codes "no-begin"
+image_error_name image.NoEnd = codes "no-end"
+image_error_name image.SignatureRange = codes "signature-range"
+image_error_name image.OutOfMemory = codes "out-of-memory"
+
+abbrev pub refusal_name : Refusal → List ℕ
+refusal_name refusal.ImageUnreadable = codes "image-unreadable"
+refusal_name refusal.ImageTooLong = codes "image-too-long"
+refusal_name refusal.ReferenceUnreadable = codes "reference-unreadable"
+refusal_name refusal.ReferenceTooLong = codes "reference-too-long"
+refusal_name (refusal.Image why) = image_error_name why
+
+-- how the run ended
+unfoldable pub end_line : RowEnd → List ℕ
+end_line (ending.Exit code) = line (codes "end exit " ++ decimal code)
+end_line (ending.Fault kind pc value) =
+    line (codes "end fault " ++ fault_name kind ++ codes " pc=" ++ word_digits pc ++ codes " value=" ++ word_digits value)
+end_line ending.Budget = line (codes "end budget")
+end_line (ending.Refused why) = line (codes "end refused " ++ refusal_name why)
+
+-- a dash stands for no text
+abbrev pub or_dash : List ℕ → List ℕ
+or_dash text = if length text == 0 then codes "-" else text
+
+-- the console's bytes as lower-case hexadecimal digits
+unfoldable pub console_line : List ℕ → List ℕ
+console_line bytes = line (codes "console " ++ or_dash (encode_lower bytes))
+
+abbrev pub word_line : ℕ → List ℕ
+word_line word = line (word_digits word)
+
+-- the count of the signature's words, and a line for each; or a dash where none was asked for
+unfoldable pub signature_lines : Option (List ℕ) → List ℕ
+signature_lines None = line (codes "signature -")
+signature_lines (Some words) = line (codes "signature " ++ decimal (length words)) ++ flat_map word_line words
+
+abbrev pub verdict_name : Verdict → List ℕ
+verdict_name verdict.Unasked = codes "none"
+verdict_name verdict.Pass = codes "pass"
+verdict_name verdict.Fail = codes "fail"
+
+-- the row at a place; places count from 0, and the printed number from 1
+unfoldable pub row_text : ℕ → Row → List ℕ
+row_text place row = line (codes "job " ++ decimal (place + 1) ++ codes " " ++ row.name) ++ end_line row.ending
+    ++ line (codes "steps " ++ decimal row.steps) ++ console_line row.console ++ signature_lines row.signature
+    ++ line (codes "verdict " ++ verdict_name row.verdict)
+
+-- rows from a place on
+unfoldable pub rows_text : ℕ → List Row → List ℕ
+rows_text place [] = []
+rows_text place (row ∷ rows) = row_text place row ++ rows_text (place + 1) rows
+
+unfoldable pub done_line : ℕ → List ℕ
+done_line count = line (codes "done " ++ decimal count)
+
+-- the rows in order, and how many they are
+unfoldable pub report_text : List Row → List ℕ
+report_text rows = rows_text 0 rows ++ done_line (length rows)

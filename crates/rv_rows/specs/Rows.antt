@@ -1,0 +1,52 @@
+-- The rows of a plan: one a job, in list order.
+use Rattle.std.specs.Prelude.{ℕ, List, Option, Some, None, map, option_and_then, option_map, slice_get, unwrap_or}
+use Rattle.rv_jobs.specs.declared.asked.Answer.{Answer}
+use Rattle.rv_jobs.specs.declared.job.Job.{Job}
+use Rattle.rv_jobs.specs.declared.store.Kept.{Kept}
+use Rattle.rv_jobs.specs.declared.store.Kept.TheVariants as kept
+use Rattle.rv_jobs.specs.Plans.{Planned, kept_of}
+use Rattle.rv_rows.specs.declared.outcome.Outcome.{Outcome}
+use Rattle.rv_rows.specs.declared.row.Row.{Row}
+use Rattle.rv_rows.specs.declared.row.Verdict.{Verdict}
+use Rattle.rv_rows.specs.Outcome.{outcome_of}
+use Rattle.rv_rows.specs.Verdict.{verdict_of}
+
+-- what is kept of a path; each path of a plan's jobs has an answer
+abbrev pub kept_for : List Answer → List ℕ → Kept
+kept_for answers path = unwrap_or (kept_of answers path) kept.Unreadable
+
+-- the outcome of a job over a plan's answers
+abbrev pub outcome_in : List Answer → Job → Outcome
+outcome_in answers job = outcome_of job (kept_for answers job.image) (option_map (kept_for answers) job.expect_signature)
+
+-- the bytes of a reference, if it was read
+abbrev pub bytes_in : Option Kept → Option (List ℕ)
+bytes_in (Some (kept.Content bytes)) = Some bytes
+bytes_in _ = None
+
+abbrev pub reference_in : List Answer → Job → Option (List ℕ)
+reference_in answers job = bytes_in (option_map (kept_for answers) job.expect_signature)
+
+-- the outcome (and not the verdict) of the job that a job names
+abbrev pub other_in : Planned → Job → Option Outcome
+other_in plan job = option_map (outcome_in plan.answers) (option_and_then (slice_get plan.jobs) job.same_as)
+
+abbrev pub row_with : List ℕ → Outcome → Verdict → Row
+row_with name there verdict = record {
+  name = name;
+  ending = there.ending;
+  steps = there.steps;
+  console = there.console;
+  signature = there.signature;
+  verdict = verdict;
+}
+
+-- the row of a job of a plan
+unfoldable pub row_of : Planned → Job → Row
+row_of plan job =
+    let there = outcome_in plan.answers job in
+    row_with job.name there (verdict_of job there (reference_in plan.answers job) (other_in plan job))
+
+-- one row a job, in list order
+unfoldable pub rows_of : Planned → List Row
+rows_of plan = map (row_of plan) plan.jobs

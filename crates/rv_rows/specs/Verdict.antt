@@ -1,0 +1,92 @@
+-- The verdict on a job's outcome.
+use Rattle.std.specs.Prelude.{◌==◌, ◌&&◌, ◌||◌, ℕ, Bool, true, false, not, List, [], Option, Some, None, is_some, if◌then◌else◌}
+use Rattle.std.specs.List.{flat_map}
+use Rattle.std.specs.Str.{bytes_eq}
+use Rattle.rv_jobs.specs.declared.job.Job.{Job}
+use Rattle.rv_machine.specs.declared.ending.FaultKind.{FaultKind}
+use Rattle.rv_machine.specs.declared.ending.FaultKind.TheVariants as fault
+use Rattle.rv_rows.specs.declared.outcome.Outcome.{Outcome}
+use Rattle.rv_rows.specs.declared.row.RowEnd.{RowEnd}
+use Rattle.rv_rows.specs.declared.row.RowEnd.TheVariants as ending
+use Rattle.rv_rows.specs.declared.row.Verdict.{Verdict}
+use Rattle.rv_rows.specs.declared.row.Verdict.TheVariants as verdict
+use Rattle.rv_rows.specs.Report.{word_line}
+
+-- a job expects something of its row
+abbrev pub is_asked : Job → Bool
+is_asked job = is_some job.expect_exit || (is_some job.expect_signature || is_some job.same_as)
+
+-- ---- the exit code
+
+-- the run ended by the exit call with the code
+abbrev pub exits_with : ℕ → RowEnd → Bool
+exits_with code (ending.Exit n) = n == code
+exits_with code (ending.Fault kind pc value) = false
+exits_with code ending.Budget = false
+exits_with code (ending.Refused why) = false
+
+abbrev pub holds_exit : Option ℕ → RowEnd → Bool
+holds_exit None end = true
+holds_exit (Some code) end = exits_with code end
+
+-- ---- the reference
+
+abbrev pub is_run : RowEnd → Bool
+is_run (ending.Refused why) = false
+is_run _ = true
+
+-- each word of a signature as a line
+abbrev pub lines_of : Option (List ℕ) → List ℕ
+lines_of None = []
+lines_of (Some words) = flat_map word_line words
+
+-- the job ran, and the bytes of the reference, which was read, are its signature's lines
+abbrev pub holds_reference : Option (List ℕ) → Option (List ℕ) → Outcome → Bool
+holds_reference None bytes there = true
+holds_reference (Some path) None there = false
+holds_reference (Some path) (Some bytes) there = is_run there.ending && bytes_eq bytes (lines_of there.signature)
+
+-- ---- another job
+
+-- faults are of one kind where their numbers are equal
+abbrev pub fault_number : FaultKind → ℕ
+fault_number fault.FetchAccess = 1
+fault_number fault.StaleCode = 2
+fault_number fault.Illegal = 3
+fault_number fault.Breakpoint = 4
+fault_number fault.LoadMisaligned = 5
+fault_number fault.LoadAccess = 6
+fault_number fault.StoreMisaligned = 7
+fault_number fault.StoreAccess = 8
+fault_number fault.ConsoleFull = 9
+fault_number fault.UnknownCall = 10
+fault_number fault.FetchMisaligned = 11
+
+-- two runs ended alike: by the same code, by the same kind of fault, or both by their budgets
+abbrev pub are_alike : RowEnd → RowEnd → Bool
+are_alike (ending.Exit m) (ending.Exit n) = m == n
+are_alike (ending.Fault k pc value) (ending.Fault l at met) = fault_number k == fault_number l
+are_alike ending.Budget ending.Budget = true
+are_alike _ _ = false
+
+abbrev pub same_signature : Option (List ℕ) → Option (List ℕ) → Bool
+same_signature None None = true
+same_signature (Some words) (Some others) = bytes_eq words others
+same_signature _ _ = false
+
+-- two outcomes are the same but for steps, addresses and values; a refused one is the same as no other, nor as itself
+abbrev pub are_same : Outcome → Outcome → Bool
+are_same there other = are_alike there.ending other.ending && (bytes_eq there.console other.console && same_signature there.signature other.signature)
+
+abbrev pub holds_same : Option ℕ → Option Outcome → Outcome → Bool
+holds_same None other there = true
+holds_same (Some place) None there = false
+holds_same (Some place) (Some other) there = are_same there other
+
+-- ---- all of them
+
+-- the verdict over the outcome, the reference's bytes, and the outcome of the job that it names
+unfoldable pub verdict_of : Job → Outcome → Option (List ℕ) → Option Outcome → Verdict
+verdict_of job there reference other =
+    if not (is_asked job) then verdict.Unasked
+    else (if holds_exit job.expect_exit there.ending && (holds_reference job.expect_signature reference there && holds_same job.same_as other there) then verdict.Pass else verdict.Fail)

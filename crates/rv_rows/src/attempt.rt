@@ -1,0 +1,178 @@
+//! The making of an outcome: the first refusal that applies, or the run of a job.
+
+ghost use Rattle.std.specs.Prelude.{◌≡◌, ◌≢◌, ◌<◌, ◌≤◌, IfOk, IfSome, MatchResult, Ok, Err, length, option_map};
+ghost use Rattle.rv_elf.specs.declared.error.ImageError.TheVariants.{OutOfMemory};
+ghost use Rattle.rv_elf.specs.Image.{IsImageOf};
+ghost use Rattle.rv_elf.specs.Symbols.{signature_check, symbol_of};
+ghost use Rattle.rv_elf.specs.Rows.{accepted};
+ghost use Rattle.rv_jobs.specs.Jobs.{most_script};
+ghost use Rattle.rv_machine.specs.Run.{run_of};
+ghost use Rattle.rv_machine.specs.State.{state_of};
+ghost use Rattle.rv_rows.specs.Attempt.{HasSignature, IsReadable, outcome_in_bus, outcome_of_attempt};
+ghost use Rattle.rv_rows.specs.Outcome.{end_of, end_of_signature, file_of, file_outcome_of, loadable_of, loaded_state, outcome_of, outcome_of_run, range_of};
+
+use crate::outcome::{Attempt, EndedRun, Loadable, SignatureRange};
+use crate::row::{Refusal, RowEnd};
+use crate::spare::Spare;
+use rv_elf::{Image, ImageError, check_map, check_signature, find_symbol, load, read_image};
+use rv_jobs::{Job, Kept, Symbols};
+use rv_machine::{Ending, Machine};
+use rv_memory::Map;
+use std::alloc::{AllocError, Global};
+
+/// What a job comes to over what is kept of the paths of its image and of its reference.
+#[tactic(auto, unfolding(crate::specs::Outcome::outcome_of))]
+pub(crate) fn attempt_of(
+    alloc: Global,
+    job: &Job,
+    image: &Kept,
+    reference: Option<&Kept>,
+    spare: &mut Spare,
+) -> Result<Attempt, AllocError>
+    requires script { length job.now.script ≤ most_script }
+    requires named { IfSome job.now.signature (λ names. (0 < length names.begin) × (0 < length names.end)) }
+    ensures outcome { IfOk result (λ attempt. outcome_of_attempt attempt
+        ≡ outcome_of job.now image.now (option_map (λ kept. kept.now) reference.entry)) }
+    ensures readable { IfOk result IsReadable }
+{
+    match file(image, reference) {
+        Ok(file) => file_attempt(alloc, job, file, spare),
+        Err(why) => Ok(Attempt::Refused(why)),
+    }
+}
+
+// The image's bytes, if the reference is there too.
+#[tactic(auto, unfolding(crate::specs::Outcome::file_of))]
+fn file<'a>(image: &'a Kept, reference: Option<&Kept>) -> Result<&'a [u8], Refusal>
+    ensures { MatchResult result
+        (λ file. file_of image.now (option_map (λ kept. kept.now) reference.entry) ≡ Ok file.now)
+        (λ why. file_of image.now (option_map (λ kept. kept.now) reference.entry) ≡ Err why) }
+{
+    let file = match image {
+        Kept::Content(bytes) => bytes.as_slice(),
+        Kept::Unreadable => return Err(Refusal::ImageUnreadable),
+        Kept::TooLong => return Err(Refusal::ImageTooLong),
+    };
+    match reference {
+        Some(Kept::Unreadable) => Err(Refusal::ReferenceUnreadable),
+        Some(Kept::TooLong) => Err(Refusal::ReferenceTooLong),
+        Some(Kept::Content(_)) | None => Ok(file),
+    }
+}
+
+#[tactic(auto, unfolding(crate::specs::Outcome::file_outcome_of))]
+fn file_attempt(
+    alloc: Global,
+    job: &Job,
+    file: &[u8],
+    spare: &mut Spare,
+) -> Result<Attempt, AllocError>
+    requires script { length job.now.script ≤ most_script }
+    requires named { IfSome job.now.signature (λ names. (0 < length names.begin) × (0 < length names.end)) }
+    ensures outcome { IfOk result (λ attempt. outcome_of_attempt attempt ≡ file_outcome_of job.now file.now) }
+    ensures readable { IfOk result IsReadable }
+{
+    match loadable_of(alloc, job, file) {
+        Ok(there) => {
+            let machine = loaded_machine(alloc, job, file, &there, spare)?;
+            Ok(Attempt::Ran(run(machine, job.budget, there.range)))
+        }
+        Err(ImageError::OutOfMemory) => Err(AllocError),
+        Err(error) => Ok(Attempt::Refused(Refusal::Image(error))),
+    }
+}
+
+// The image and the signature's range, or the first refusal.
+#[tactic(auto, unfolding(crate::specs::Outcome::loadable_of))]
+fn loadable_of(alloc: Global, job: &Job, file: &[u8]) -> Result<Loadable, ImageError>
+    requires { IfSome job.now.signature (λ names. (0 < length names.begin) × (0 < length names.end)) }
+    ensures { MatchResult result (λ there. loadable_of job.now file.now ≡ Ok there)
+        (λ error. error ≢ OutOfMemory → loadable_of job.now file.now ≡ Err error) }
+{
+    let image = read_image(alloc, file, job.isa)?;
+    check_map(&image, &job.regions, job.load)?;
+    let range = match &job.signature {
+        Some(names) => Some(signature_range(&image, file, &job.regions, names)?),
+        None => None,
+    };
+    Ok(Loadable { image, range })
+}
+
+#[tactic(auto, unfolding(crate::specs::Outcome::range_of))]
+fn signature_range(
+    image: &Image,
+    file: &[u8],
+    regions: &Map,
+    names: &Symbols,
+) -> Result<SignatureRange, ImageError>
+    requires image { IsImageOf file.now image.now }
+    requires begins { 0 < length names.now.begin }
+    requires ends { 0 < length names.now.end }
+    ensures { result ≡ range_of file.now regions.now names.now }
+{
+    let begin = find_symbol(image, file, names.begin.as_str().as_bytes())?;
+    let end = end_symbol(image, file, names.end.as_str().as_bytes())?;
+    check_signature(begin, end, regions)?;
+    Ok(SignatureRange { begin, end })
+}
+
+fn end_symbol(image: &Image, file: &[u8], name: &[u8]) -> Result<u32, ImageError>
+    requires image { IsImageOf file.now image.now }
+    requires named { 0 < length name.now }
+    ensures { result ≡ end_of_signature (symbol_of file.now name.now) }
+{
+    match find_symbol(image, file, name) {
+        Err(ImageError::NoBegin) => Err(ImageError::NoEnd),
+        answer => answer,
+    }
+}
+
+// The machine at reset, with the image in its memory.
+fn loaded_machine(
+    alloc: Global,
+    job: &Job,
+    file: &[u8],
+    there: &Loadable,
+    spare: &mut Spare,
+) -> Result<Machine, AllocError>
+    requires script { length job.now.script ≤ most_script }
+    requires loadable { loadable_of job.now file.now ≡ Ok there.now }
+    ensures { IfOk result (λ machine. state_of machine ≡ loaded_state job.now file.now there.now.image) }
+{
+    let script = copied(alloc, job.script.as_slice())?;
+    let mut bus = spare.new_bus(alloc, job.regions, script, job.misaligned)?;
+    load(&there.image, file, job.load, &mut bus);
+    Machine::new(alloc, bus, there.image.entry, job.isa)
+}
+
+fn copied(alloc: Global, bytes: &[u8]) -> Result<Vec<u8>, AllocError>
+    ensures { IfOk result (λ copy. copy.items ≡ bytes.now) }
+{
+    bytes.to_vec(alloc)
+}
+
+// What a run within a budget comes to.
+pub(crate) fn run(machine: Machine, budget: u32, range: Option<SignatureRange>) -> EndedRun
+    requires { IfSome range (λ there. signature_check there.begin there.end (state_of machine).bus.regions ≡ accepted) }
+    ensures outcome { outcome_in_bus result ≡ outcome_of_run (run_of budget (state_of machine)) range }
+    ensures readable { HasSignature result }
+{
+    let mut machine = machine;
+    let ran = machine.run(budget);
+    EndedRun {
+        ending: row_end(ran.ending),
+        steps: ran.steps,
+        bus: machine.into_bus(),
+        range,
+    }
+}
+
+fn row_end(ending: Ending) -> RowEnd
+    ensures { result ≡ end_of ending }
+{
+    match ending {
+        Ending::Exit(code) => RowEnd::Exit(code),
+        Ending::Fault(kind, pc, value) => RowEnd::Fault(kind, pc, value),
+        Ending::Budget => RowEnd::Budget,
+    }
+}

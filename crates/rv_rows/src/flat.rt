@@ -1,0 +1,62 @@
+//! The row of a flat image.
+
+ghost use Rattle.std.specs.Prelude.{◌≡◌, ◌≤◌, ℕ, IfOk, length};
+ghost use Rattle.rv_memory.specs.Bus.{byte_at};
+ghost use Rattle.rv_machine.specs.State.{state_of};
+ghost use Rattle.rv_rows.specs.Flat.{flat_byte, flat_contents, flat_outcome_of, flat_row_of, flat_state, image_room};
+
+use crate::attempt::run;
+use crate::outcome::{Outcome, refused};
+use crate::row::{Refusal, Row, Verdict};
+use crate::rows::row_with;
+use rv_isa::Isa;
+use rv_machine::Machine;
+use rv_memory::{Bus, Map, Misaligned};
+use std::alloc::{AllocError, Global};
+
+/// The bytes of the default map's region, the most of a flat image.
+const IMAGE_ROOM: usize = 0x10_0000;
+
+/// Where a flat image stands, which is its entry.
+const ENTRY: u32 = 0x8000_0000;
+
+/// Runs a flat image under the default map with an empty script, at most `budget` steps: its first
+/// byte stands at 0x8000_0000, which is the entry. More than 1,048,576 bytes are refused.
+#[tactic(auto, unfolding(crate::specs::Flat::flat_row_of))]
+pub fn flat_row(alloc: Global, bytes: &[u8], budget: u32) -> Result<Row, AllocError>
+    ensures { IfOk result (λ row. row ≡ flat_row_of bytes.now budget) }
+{
+    let there = flat_outcome(alloc, bytes, budget)?;
+    row_with(alloc, "raw", there, Verdict::Unasked)
+}
+
+fn flat_outcome(alloc: Global, bytes: &[u8], budget: u32) -> Result<Outcome, AllocError>
+    ensures { IfOk result (λ there. there ≡ flat_outcome_of bytes.now budget) }
+{
+    if IMAGE_ROOM < bytes.len() {
+        return Ok(refused(alloc, Refusal::ImageTooLong));
+    }
+    run(flat_machine(alloc, bytes)?, budget, None).outcome(alloc)
+}
+
+fn flat_machine(alloc: Global, bytes: &[u8]) -> Result<Machine, AllocError>
+    requires { length bytes.now ≤ image_room }
+    ensures { IfOk result (λ machine. state_of machine ≡ flat_state bytes.now) }
+{
+    Machine::new(alloc, flat_bus(alloc, bytes)?, ENTRY, Isa::Imc)
+}
+
+fn flat_bus(alloc: Global, bytes: &[u8]) -> Result<Bus, AllocError>
+    requires { length bytes.now ≤ image_room }
+    ensures contents { IfOk result (λ bus. bus ≡ flat_contents bytes.now) }
+    ensures memory { IfOk result (λ bus. (address : ℕ) → byte_at bus.memory address ≡ flat_byte bytes.now address) }
+{
+    let mut bus = Bus::new(
+        alloc,
+        Map::default_map(),
+        Vec::new(alloc),
+        Misaligned::Fault,
+    )?;
+    bus.place(ENTRY, bytes);
+    Ok(bus)
+}

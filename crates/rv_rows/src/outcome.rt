@@ -1,0 +1,163 @@
+//! Outcomes: what jobs came to, apart from their rows or still in the bus of a run.
+
+ghost use Rattle.std.specs.Prelude.{◌≡◌, IfOk, IfSome, option_map};
+ghost use Rattle.rv_elf.specs.Rows.{accepted};
+ghost use Rattle.rv_elf.specs.Symbols.{signature_check};
+ghost use Rattle.rv_rows.specs.Attempt.{HasSignature, IsReadable, outcome_in_bus, outcome_of_attempt};
+ghost use Rattle.rv_rows.specs.Outcome.{refused_outcome, signature_in};
+
+use crate::row::{Refusal, RowEnd, Words};
+use rv_elf::Image;
+use rv_jobs::Bytes;
+use rv_memory::Bus;
+use std::alloc::{AllocError, Global};
+
+/// What a job came to, but for its verdict.
+#[derive(Debug, Drop)]
+pub struct Outcome {
+    pub ending: RowEnd,
+    /// Completed instructions; the one that ended the run isn't counted.
+    pub steps: u32,
+    /// What the run wrote to the console.
+    pub console: Bytes,
+    /// The words between the two symbols of the signature, where one is asked for.
+    pub signature: Option<Words>,
+}
+
+/// The addresses between which a signature stands.
+#[derive(Clone, Copy, Debug, PartialEq, Eq)]
+pub struct SignatureRange {
+    pub begin: u32,
+    /// The address behind the last word.
+    pub end: u32,
+}
+
+/// An image that the job's map takes, and the range of its signature, where one is asked for.
+#[derive(Debug, Drop)]
+pub struct Loadable {
+    pub image: Image,
+    pub range: Option<SignatureRange>,
+}
+
+/// A run that has ended. What it wrote to the console and the words of its signature stand in its bus.
+#[derive(Drop)]
+pub(crate) struct EndedRun {
+    pub ending: RowEnd,
+    pub steps: u32,
+    pub bus: Bus,
+    pub range: Option<SignatureRange>,
+}
+
+/// What a job came to, of which nothing is copied yet.
+#[derive(Drop)]
+pub(crate) enum Attempt {
+    Refused(Refusal),
+    Ran(EndedRun),
+}
+
+impl Attempt {
+    /// A copy of the outcome.
+    pub(crate) fn outcome(&self, alloc: Global) -> Result<Outcome, AllocError>
+        requires { IsReadable self.now }
+        ensures { IfOk result (λ there. there ≡ outcome_of_attempt self.now) }
+    {
+        match self {
+            Attempt::Refused(why) => Ok(refused(alloc, *why)),
+            Attempt::Ran(run) => run.outcome(alloc),
+        }
+    }
+
+    /// How many bytes the console and the signature of a copy have.
+    pub(crate) fn size(&self) -> usize {
+        match self {
+            Attempt::Refused(_) => 0,
+            Attempt::Ran(run) => run.size(),
+        }
+    }
+}
+
+impl EndedRun {
+    /// A copy of the outcome.
+    pub(crate) fn outcome(&self, alloc: Global) -> Result<Outcome, AllocError>
+        requires { HasSignature self.now }
+        ensures { IfOk result (λ there. there ≡ outcome_in_bus self.now) }
+    {
+        let console = self.bus.console().to_vec(alloc)?;
+        let signature = signature_in(alloc, &self.bus, self.range)?;
+        Ok(Outcome {
+            ending: self.ending,
+            steps: self.steps,
+            console: Bytes::new(console),
+            signature,
+        })
+    }
+
+    fn size(&self) -> usize {
+        let words = match self.range {
+            Some(range) => range.end.saturating_sub(range.begin) as usize,
+            None => 0,
+        };
+        words.saturating_add(self.bus.console().len())
+    }
+}
+
+impl Outcome {
+    /// How many bytes the console and the signature have.
+    pub(crate) fn size(&self) -> usize {
+        let words = match &self.signature {
+            Some(words) => words.as_slice().len().saturating_mul(4),
+            None => 0,
+        };
+        words.saturating_add(self.console.as_slice().len())
+    }
+
+    pub(crate) fn copy(&self, alloc: Global) -> Result<Outcome, AllocError>
+        ensures { IfOk result (λ copy. copy ≡ self.now) }
+    {
+        let console = self.console.as_slice().to_vec(alloc)?;
+        let signature = match &self.signature {
+            Some(words) => Some(Words::new(words.as_slice().to_vec(alloc)?)),
+            None => None,
+        };
+        Ok(Outcome {
+            ending: self.ending,
+            steps: self.steps,
+            console: Bytes::new(console),
+            signature,
+        })
+    }
+}
+
+/// The outcome of a job that didn't run.
+pub(crate) fn refused(alloc: Global, why: Refusal) -> Outcome
+    ensures { result ≡ refused_outcome why }
+{
+    Outcome {
+        ending: RowEnd::Refused(why),
+        steps: 0,
+        console: Bytes::new(Vec::new(alloc)),
+        signature: None,
+    }
+}
+
+// The words of a signature in memory.
+fn signature_in(
+    alloc: Global,
+    bus: &Bus,
+    range: Option<SignatureRange>,
+) -> Result<Option<Words>, AllocError>
+    requires { IfSome range (λ there. signature_check there.begin there.end bus.now.regions ≡ accepted) }
+    ensures { IfOk result (λ words. words ≡ option_map (signature_in bus.now) range) }
+{
+    match range {
+        Some(range) => Ok(Some(words_between(alloc, bus, range)?)),
+        None => Ok(None),
+    }
+}
+
+fn words_between(alloc: Global, bus: &Bus, range: SignatureRange) -> Result<Words, AllocError>
+    requires { signature_check range.begin range.end bus.now.regions ≡ accepted }
+    ensures { IfOk result (λ words. words ≡ signature_in bus.now range) }
+{
+    Ok(Words::new(bus.words(alloc, range.begin, range.end)?))
+}

@@ -1,0 +1,272 @@
+//! The text of a report, sent in few large puts.
+
+ghost use Rattle.std.specs.Prelude.{◌≡◌, ◌++◌, ◌+◌, ◌<◌, ◌^◌, ◌-◌, [], OnOk, OnErr, IfErr, map, option_map, string_bytes};
+ghost use Rattle.std.specs.Io.KnownBytes.{Appends};
+ghost use Rattle.rv_rows.specs.Report.{fault_name, image_error_name, refusal_name, verdict_name, end_line, or_dash, console_line, signature_lines, row_text, rows_text, done_line, report_text};
+ghost use Rattle.rv_rows.specs.Sending.{AppendsBeginning, IsUnderWay, Rose, one_more};
+ghost use Rattle.rv_rows.specs.declared.report.WriteError.TheVariants.{Failed, OutOfMemory};
+
+use crate::row::{Refusal, Report, Row, RowEnd, Verdict};
+use crate::signature_lines::{push_word, push_word_lines};
+use crate::sink::{Sink, SinkFailed, put_all};
+use rv_elf::ImageError;
+use rv_machine::FaultKind;
+use std::alloc::{AllocError, Global};
+use thiserror::Error;
+
+/// Why a report didn't go out, or not all of it.
+#[derive(Clone, Copy, Debug, Error, PartialEq, Eq)]
+pub enum WriteError {
+    /// A growth was refused.
+    #[error("out of memory")]
+    OutOfMemory,
+    /// A put of the sink failed.
+    #[error("write failed")]
+    Failed,
+}
+
+impl From<AllocError> for WriteError {
+    ghost from_gives = { λ _ error. error ≡ OutOfMemory };
+
+    fn from(_: AllocError) -> WriteError {
+        WriteError::OutOfMemory
+    }
+}
+
+impl From<SinkFailed> for WriteError {
+    ghost from_gives = { λ _ error. error ≡ Failed };
+
+    fn from(_: SinkFailed) -> WriteError {
+        WriteError::Failed
+    }
+}
+
+// Gathered text is put once it has this many bytes.
+const ENOUGH: usize = 32_768;
+
+/// Appends the report's text to the sink, or a beginning of it.
+pub fn write_report<W: Sink>(alloc: Global, report: &Report, out: &mut W) -> Result<(), WriteError>
+    ensures appended { OnOk result (Appends (W.taken out.old) (W.taken out.new) (report_text report.now.rows)) }
+    ensures counted { OnOk result (W.failed out.new ≡ W.failed out.old) }
+    ensures part { OnErr result (AppendsBeginning (W.taken out.old) (W.taken out.new) (report_text report.now.rows)) }
+    ensures failed { IfErr result (λ error. error ≡ WriteError.Failed → Rose (W.failed out.old) (W.failed out.new)) }
+{
+    let rows = report.rows.as_slice();
+    let mut text = String::new(alloc);
+    gather(alloc, rows, &mut text, out)?;
+    push_done(&mut text, rows.len())?;
+    send(&mut text, out)?;
+    Ok(())
+}
+
+// The rows' text: the first part of it goes out, the rest stands in `text`.
+fn gather<W: Sink>(
+    alloc: Global,
+    rows: &[Row],
+    text: &mut String,
+    out: &mut W,
+) -> Result<(), WriteError>
+    requires { string_bytes text.old ≡ [] }
+    ensures under_way { OnOk result
+        (IsUnderWay (W.taken out.old) (W.taken out.new) (string_bytes text.new) (rows_text 0 rows.now)) }
+    ensures counted { OnOk result (W.failed out.new ≡ W.failed out.old) }
+    ensures part { OnErr result (AppendsBeginning (W.taken out.old) (W.taken out.new) (rows_text 0 rows.now)) }
+    ensures failed { IfErr result
+        (λ error. error ≡ WriteError.Failed → W.failed out.new ≡ one_more (W.failed out.old)) }
+{
+    for (place, row) in rows.iter().enumerate() {
+        push_row(alloc, text, place, row)?;
+        send_enough(text, out)?;
+    }
+    Ok(())
+}
+
+// Sends the gathered text where it is enough for a put.
+fn send_enough<W: Sink>(text: &mut String, out: &mut W) -> Result<(), WriteError>
+    ensures under_way { OnOk result
+        (IsUnderWay (W.taken out.old) (W.taken out.new) (string_bytes text.new) (string_bytes text.old)) }
+    ensures counted { OnOk result (W.failed out.new ≡ W.failed out.old) }
+    ensures part { OnErr result (AppendsBeginning (W.taken out.old) (W.taken out.new) (string_bytes text.old)) }
+    ensures failed { IfErr result
+        (λ error. (error ≡ WriteError.Failed) × (W.failed out.new ≡ one_more (W.failed out.old))) }
+{
+    if text.len() < ENOUGH {
+        return Ok(());
+    }
+    send(text, out)
+}
+
+// Puts the gathered text, and begins anew.
+fn send<W: Sink>(text: &mut String, out: &mut W) -> Result<(), WriteError>
+    ensures appended { OnOk result (Appends (W.taken out.old) (W.taken out.new) (string_bytes text.old)) }
+    ensures anew { OnOk result (string_bytes text.new ≡ []) }
+    ensures counted { OnOk result (W.failed out.new ≡ W.failed out.old) }
+    ensures part { OnErr result (AppendsBeginning (W.taken out.old) (W.taken out.new) (string_bytes text.old)) }
+    ensures failed { IfErr result
+        (λ error. (error ≡ WriteError.Failed) × (W.failed out.new ≡ one_more (W.failed out.old))) }
+{
+    put_all(out, text.as_bytes())?;
+    text.clear();
+    Ok(())
+}
+
+#[tactic(auto, unfolding(crate::specs::Report::done_line))]
+fn push_done(text: &mut String, count: usize) -> Result<(), AllocError>
+    ensures { OnOk result (string_bytes text.new ≡ string_bytes text.old ++ done_line count) }
+{
+    write!(text, "done {count}\n")
+}
+
+#[tactic(auto, unfolding(crate::specs::Report::row_text))]
+fn push_row(alloc: Global, text: &mut String, place: usize, row: &Row) -> Result<(), AllocError>
+    requires { place < 2 ^ 64 - 1 }
+    ensures { OnOk result (string_bytes text.new ≡ string_bytes text.old ++ row_text place row.now) }
+{
+    let number = place + 1;
+    let name = row.name.as_str();
+    let steps = row.steps;
+    let verdict = verdict_text(row.verdict);
+    write!(text, "job {number} {name}\n")?;
+    push_end(alloc, text, row.ending)?;
+    write!(text, "steps {steps}\n")?;
+    push_console(alloc, text, row.console.as_slice())?;
+    push_signature(alloc, text, signature_of(row))?;
+    write!(text, "verdict {verdict}\n")
+}
+
+#[tactic(auto, unfolding(crate::specs::Report::end_line))]
+fn push_end(alloc: Global, text: &mut String, ending: RowEnd) -> Result<(), AllocError>
+    ensures { OnOk result (string_bytes text.new ≡ string_bytes text.old ++ end_line ending) }
+{
+    match ending {
+        RowEnd::Exit(code) => write!(text, "end exit {code}\n"),
+        RowEnd::Fault(kind, pc, value) => {
+            let name = fault_text(kind);
+            write!(text, "end fault {name} pc=")?;
+            push_word(alloc, text, pc)?;
+            text.push_str(" value=")?;
+            push_word(alloc, text, value)?;
+            text.push_str("\n")
+        }
+        RowEnd::Budget => text.push_str("end budget\n"),
+        RowEnd::Refused(refusal) => {
+            let name = refusal_text(refusal);
+            write!(text, "end refused {name}\n")
+        }
+    }
+}
+
+#[tactic(auto, unfolding(crate::specs::Report::console_line))]
+fn push_console(alloc: Global, text: &mut String, console: &[u8]) -> Result<(), AllocError>
+    ensures { OnOk result (string_bytes text.new ≡ string_bytes text.old ++ console_line console.now) }
+{
+    let digits = hex::encode(alloc, console)?;
+    let shown = dash_if_empty(digits.as_str());
+    write!(text, "console {shown}\n")
+}
+
+fn dash_if_empty(text: &str) -> &str
+    ensures { result.now ≡ or_dash text.now }
+{
+    if text.is_empty() { "-" } else { text }
+}
+
+fn signature_of(row: &Row) -> Option<&[u32]>
+    ensures { option_map (λ words. words.now) result ≡ row.now.signature }
+{
+    match &row.signature {
+        Some(words) => Some(words.as_slice()),
+        None => None,
+    }
+}
+
+#[tactic(auto, unfolding(crate::specs::Report::signature_lines))]
+fn push_signature(
+    alloc: Global,
+    text: &mut String,
+    signature: Option<&[u32]>,
+) -> Result<(), AllocError>
+    ensures { OnOk result
+        (string_bytes text.new ≡ string_bytes text.old ++ signature_lines
+        (option_map (λ words. words.now) signature.entry)) }
+{
+    match signature {
+        Some(words) => {
+            let count = words.len();
+            write!(text, "signature {count}\n")?;
+            push_word_lines(alloc, text, words)
+        }
+        None => text.push_str("signature -\n"),
+    }
+}
+
+fn fault_text(kind: FaultKind) -> &'static str
+    ensures { result.now ≡ fault_name kind }
+{
+    match kind {
+        FaultKind::FetchAccess => "fetch-access",
+        FaultKind::StaleCode => "stale-code",
+        FaultKind::Illegal => "illegal",
+        FaultKind::Breakpoint => "breakpoint",
+        FaultKind::LoadMisaligned => "load-misaligned",
+        FaultKind::LoadAccess => "load-access",
+        FaultKind::StoreMisaligned => "store-misaligned",
+        FaultKind::StoreAccess => "store-access",
+        FaultKind::ConsoleFull => "console-full",
+        FaultKind::UnknownCall => "unknown-call",
+        FaultKind::FetchMisaligned => "fetch-misaligned",
+    }
+}
+
+fn refusal_text(refusal: Refusal) -> &'static str
+    ensures { result.now ≡ refusal_name refusal }
+{
+    match refusal {
+        Refusal::ImageUnreadable => "image-unreadable",
+        Refusal::ImageTooLong => "image-too-long",
+        Refusal::ReferenceUnreadable => "reference-unreadable",
+        Refusal::ReferenceTooLong => "reference-too-long",
+        Refusal::Image(error) => image_error_text(error),
+    }
+}
+
+fn image_error_text(error: ImageError) -> &'static str
+    ensures { result.now ≡ image_error_name error }
+{
+    match error {
+        ImageError::ShortHeader => "short-header",
+        ImageError::BadMagic => "bad-magic",
+        ImageError::Not32Bit => "not-32-bit",
+        ImageError::NotLittleEndian => "not-little-endian",
+        ImageError::BadVersion => "bad-version",
+        ImageError::NotExecutable => "not-executable",
+        ImageError::NotRiscv => "not-riscv",
+        ImageError::ProgramTable => "program-table",
+        ImageError::Dynamic => "dynamic",
+        ImageError::SegmentSizes => "segment-sizes",
+        ImageError::SegmentFile => "segment-file",
+        ImageError::NoSegment => "no-segment",
+        ImageError::EntryOdd => "entry-odd",
+        ImageError::EntryAlign => "entry-align",
+        ImageError::SegmentMap => "segment-map",
+        ImageError::SegmentOverlap => "segment-overlap",
+        ImageError::SectionTable => "section-table",
+        ImageError::NoSymbols => "no-symbols",
+        ImageError::SymbolTable => "symbol-table",
+        ImageError::StringTable => "string-table",
+        ImageError::NoBegin => "no-begin",
+        ImageError::NoEnd => "no-end",
+        ImageError::SignatureRange => "signature-range",
+        ImageError::OutOfMemory => "out-of-memory",
+    }
+}
+
+fn verdict_text(verdict: Verdict) -> &'static str
+    ensures { result.now ≡ verdict_name verdict }
+{
+    match verdict {
+        Verdict::Unasked => "none",
+        Verdict::Pass => "pass",
+        Verdict::Fail => "fail",
+    }
+}

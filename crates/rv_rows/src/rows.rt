@@ -1,0 +1,204 @@
+//! The rows of a plan: one a job, in list order.
+
+ghost use Rattle.std.specs.Prelude.{◌≡◌, ◌<◌, ◌≤◌, IfOk, IfSome, OnOk, Some, length, map, option_map, option_and_then, slice_index_or};
+ghost use Rattle.rv_jobs.specs.declared.job.Job.{Job as AJob};
+ghost use Rattle.rv_rows.specs.Attempt.{IsReadable, outcome_of_attempt};
+ghost use Rattle.rv_rows.specs.Recent.{AreOutcomes, outcome_at};
+ghost use Rattle.rv_rows.specs.Rows.{bytes_in, other_in, outcome_in, reference_in, row_of, row_with, rows_of};
+ghost use Rattle.rv_rows.specs.Verdict.{are_same, holds_same};
+
+use crate::attempt::attempt_of;
+use crate::outcome::{Attempt, Outcome};
+use crate::recent::{MOST, Recent};
+use crate::row::{Report, Row, Rows, Verdict};
+use crate::spare::Spare;
+use crate::verdict::{are_same, is_same, verdict};
+use rv_jobs::{Job, Kept, Plan, Text};
+use std::alloc::{AllocError, Global};
+
+/// The row of the job at a place, counted from 0.
+pub fn row_at(alloc: Global, plan: &Plan, i: usize) -> Result<Row, AllocError>
+    requires { i < length plan.now.jobs }
+    ensures { IfOk result (λ row. (d : AJob) → row ≡ row_of plan.now (slice_index_or plan.now.jobs i d)) }
+{
+    next_row(alloc, plan, i, &mut Spare::new(), &mut Recent::new(alloc))
+}
+
+/// The same, in the memory of the last run and with the outcomes that are kept of the last jobs.
+#[tactic(auto, unfolding(crate::specs::Rows::row_of))]
+pub fn next_row(
+    alloc: Global,
+    plan: &Plan,
+    i: usize,
+    spare: &mut Spare,
+    recent: &mut Recent,
+) -> Result<Row, AllocError>
+    requires place { i < length plan.now.jobs }
+    requires recent { AreOutcomes plan.now recent.old }
+    ensures row { IfOk result (λ row. (d : AJob) → row ≡ row_of plan.now (slice_index_or plan.now.jobs i d)) }
+    ensures recent { OnOk result (AreOutcomes plan.now recent.new) }
+{
+    let job = plan.job(i);
+    let there = outcome_at(alloc, plan, i, spare)?;
+    let same = holds_same(alloc, plan, job, &there, spare, recent)?;
+    let verdict = verdict(job, &there, reference_bytes(plan, i), same);
+    keep_if_named(alloc, plan, i, &there, recent)?;
+    row_with(alloc, job.name.as_str(), there, verdict)
+}
+
+// The outcome of the job at a place.
+fn outcome_at(
+    alloc: Global,
+    plan: &Plan,
+    i: usize,
+    spare: &mut Spare,
+) -> Result<Outcome, AllocError>
+    requires { i < length plan.now.jobs }
+    ensures { IfOk result
+        (λ there. (d : AJob) → there ≡ outcome_in plan.now.answers (slice_index_or plan.now.jobs i d)) }
+{
+    let attempt = attempt_at(alloc, plan, i, spare)?;
+    let there = attempt.outcome(alloc)?;
+    spare.keep(attempt);
+    Ok(there)
+}
+
+fn attempt_at(
+    alloc: Global,
+    plan: &Plan,
+    i: usize,
+    spare: &mut Spare,
+) -> Result<Attempt, AllocError>
+    requires { i < length plan.now.jobs }
+    ensures outcome { IfOk result (λ attempt. (d : AJob) → outcome_of_attempt attempt
+        ≡ outcome_in plan.now.answers (slice_index_or plan.now.jobs i d)) }
+    ensures readable { IfOk result IsReadable }
+{
+    attempt_of(alloc, plan.job(i), plan.image(i), plan.reference(i), spare)
+}
+
+// Whether an outcome is the same as that of the job that a job names, if it names one.
+fn holds_same(
+    alloc: Global,
+    plan: &Plan,
+    job: &Job,
+    there: &Outcome,
+    spare: &mut Spare,
+    recent: &mut Recent,
+) -> Result<bool, AllocError>
+    requires place { IfSome job.now.same_as (λ place. place < length plan.now.jobs) }
+    requires recent { AreOutcomes plan.now recent.old }
+    ensures same { IfOk result (λ same. same ≡ holds_same job.now.same_as (other_in plan.now job.now) there.now) }
+    ensures recent { OnOk result (AreOutcomes plan.now recent.new) }
+{
+    match job.same_as {
+        Some(place) => is_same_as(alloc, plan, place, there, spare, recent),
+        None => Ok(true),
+    }
+}
+
+// Whether an outcome is the same as that of the job at a place, which is run again unless its outcome is kept.
+fn is_same_as(
+    alloc: Global,
+    plan: &Plan,
+    place: usize,
+    there: &Outcome,
+    spare: &mut Spare,
+    recent: &mut Recent,
+) -> Result<bool, AllocError>
+    requires place { place < length plan.now.jobs }
+    requires recent { AreOutcomes plan.now recent.old }
+    ensures same { IfOk result (λ same. (d : AJob) → same
+        ≡ are_same there.now (outcome_in plan.now.answers (slice_index_or plan.now.jobs place d))) }
+    ensures recent { OnOk result (AreOutcomes plan.now recent.new) }
+{
+    if let Some(other) = recent.find(place) {
+        return Ok(are_same(there, other));
+    }
+    let other = attempt_at(alloc, plan, place, spare)?;
+    let same = is_same(there, &other);
+    if recent.takes(other.size()) {
+        recent.keep(place, other.outcome(alloc)?)?;
+    }
+    spare.keep(other);
+    Ok(same)
+}
+
+// Keeps a copy of a row's outcome where it is small enough, and one of the next jobs names it.
+fn keep_if_named(
+    alloc: Global,
+    plan: &Plan,
+    i: usize,
+    there: &Outcome,
+    recent: &mut Recent,
+) -> Result<(), AllocError>
+    requires place { i < length plan.now.jobs }
+    requires outcome { outcome_at plan.now i ≡ Some there.now }
+    requires recent { AreOutcomes plan.now recent.old }
+    ensures { OnOk result (AreOutcomes plan.now recent.new) }
+{
+    if !is_named_soon(plan, i) || !recent.takes(there.size()) {
+        return Ok(());
+    }
+    recent.keep(i, there.copy(alloc)?)
+}
+
+// Whether one of the next jobs names the job at a place.
+fn is_named_soon(plan: &Plan, i: usize) -> bool
+    requires { i < length plan.now.jobs }
+{
+    let end = plan.jobs().min(i + 1 + MOST);
+    for j in i + 1..end {
+        if plan.job(j).same_as == Some(i) {
+            return true;
+        }
+    }
+    false
+}
+
+// The bytes of a job's reference, where it was read.
+fn reference_bytes(plan: &Plan, i: usize) -> Option<&[u8]>
+    requires { i < length plan.now.jobs }
+    ensures { (d : AJob) → option_map (λ bytes. bytes.now) result
+        ≡ reference_in plan.now.answers (slice_index_or plan.now.jobs i d) }
+{
+    match plan.reference(i) {
+        Some(Kept::Content(bytes)) => Some(bytes.as_slice()),
+        Some(_) | None => None,
+    }
+}
+
+/// A row of an outcome and a verdict.
+pub(crate) fn row_with(
+    alloc: Global,
+    name: &str,
+    there: Outcome,
+    verdict: Verdict,
+) -> Result<Row, AllocError>
+    ensures { IfOk result (λ row. row ≡ row_with name.now there verdict) }
+{
+    Ok(Row {
+        name: Text::new(String::from_str(alloc, name)?),
+        ending: there.ending,
+        steps: there.steps,
+        console: there.console,
+        signature: there.signature,
+        verdict,
+    })
+}
+
+/// All rows, in list order.
+#[tactic(auto, unfolding(crate::specs::Rows::rows_of))]
+pub fn run_one(alloc: Global, plan: &Plan) -> Result<Report, AllocError>
+    ensures { IfOk result (λ report. report.rows ≡ rows_of plan.now) }
+{
+    let mut rows = Vec::new(alloc);
+    let mut spare = Spare::new();
+    let mut recent = Recent::new(alloc);
+    for i in 0..plan.jobs() {
+        rows.push(next_row(alloc, plan, i, &mut spare, &mut recent)?)?;
+    }
+    Ok(Report {
+        rows: Rows::new(rows),
+    })
+}

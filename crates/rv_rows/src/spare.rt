@@ -1,0 +1,45 @@
+//! The memory of a run, kept for the next.
+
+ghost use Rattle.std.specs.Prelude.{◌≡◌, ◌≤◌, IfOk, vec_len};
+ghost use Rattle.rv_memory.specs.Bus.{opened};
+
+use crate::outcome::Attempt;
+use rv_memory::{Bus, Map, Misaligned};
+use std::alloc::{AllocError, Global};
+
+/// The bus of the last run, if there was one. A worker makes the bus of its next run in the memory of the last where the
+/// maps have as many bytes: to take memory afresh for each run costs more than a small run does.
+#[derive(Drop)]
+pub struct Spare {
+    bus: Option<Bus>,
+}
+
+impl Spare {
+    pub fn new() -> Spare {
+        Spare { bus: None }
+    }
+
+    /// A new bus.
+    pub(crate) fn new_bus(
+        &mut self,
+        alloc: Global,
+        map: Map,
+        script: Vec<u8>,
+        misaligned: Misaligned,
+    ) -> Result<Bus, AllocError>
+        requires { vec_len script ≤ 0x1_0000 }
+        ensures { IfOk result (λ bus. bus ≡ opened map script.items misaligned) }
+    {
+        match self.bus.take() {
+            Some(last) => last.renewed(alloc, map, script, misaligned),
+            None => Bus::new(alloc, map, script, misaligned),
+        }
+    }
+
+    /// Keeps the bus of a run whose outcome is no longer asked.
+    pub(crate) fn keep(&mut self, attempt: Attempt) {
+        if let Attempt::Ran(run) = attempt {
+            self.bus = Some(run.bus);
+        }
+    }
+}

@@ -1,0 +1,184 @@
+//! The verdict on a job's outcome.
+
+ghost use Rattle.std.specs.Prelude.{◌≡◌, Option, bytes_eq, option_map};
+ghost use Rattle.rv_rows.specs.declared.outcome.Outcome.{Outcome as AnOutcome};
+ghost use Rattle.rv_rows.specs.Attempt.{HasSignature, IsReadable, outcome_in_bus, outcome_of_attempt};
+ghost use Rattle.rv_rows.specs.Verdict.{are_alike, are_same, exits_with, fault_number, holds_exit, holds_reference, holds_same, is_asked, is_run, lines_of, same_signature, verdict_of};
+
+use crate::outcome::{Attempt, EndedRun, Outcome};
+use crate::row::{RowEnd, Verdict, Words};
+use crate::signature_lines::are_word_lines;
+use rv_jobs::{Job, Text};
+use rv_machine::FaultKind;
+
+/// Whether an outcome is what the job expects, over the bytes of its reference, where that was read, and whether it is
+/// the same as the outcome of the job that it names, if it names one.
+#[tactic(auto, unfolding(crate::specs::Verdict::verdict_of))]
+pub(crate) fn verdict(job: &Job, there: &Outcome, reference: Option<&[u8]>, same: bool) -> Verdict
+    ensures { (other : Option AnOutcome) → same ≡ holds_same job.now.same_as other there.now
+        → result ≡ verdict_of job.now there.now (option_map (λ bytes. bytes.now) reference.entry) other }
+{
+    if !is_asked(job) {
+        return Verdict::Unasked;
+    }
+    if !holds_exit(job.expect_exit, there.ending) {
+        return Verdict::Fail;
+    }
+    if !holds_reference(&job.expect_signature, reference, there) {
+        return Verdict::Fail;
+    }
+    if !same {
+        return Verdict::Fail;
+    }
+    Verdict::Pass
+}
+
+// Whether a job expects something of its row.
+fn is_asked(job: &Job) -> bool
+    ensures { result ≡ is_asked job.now }
+{
+    job.expect_exit.is_some() || job.expect_signature.is_some() || job.same_as.is_some()
+}
+
+fn holds_exit(expected: Option<u32>, ending: RowEnd) -> bool
+    ensures { result ≡ holds_exit expected ending }
+{
+    match expected {
+        Some(code) => exits_with(code, ending),
+        None => true,
+    }
+}
+
+fn exits_with(code: u32, ending: RowEnd) -> bool
+    ensures { result ≡ exits_with code ending }
+{
+    match ending {
+        RowEnd::Exit(exit) => exit == code,
+        RowEnd::Fault(..) => false,
+        RowEnd::Budget => false,
+        RowEnd::Refused(_) => false,
+    }
+}
+
+// Whether the job ran, and the reference is its signature's lines.
+fn holds_reference(expected: &Option<Text>, reference: Option<&[u8]>, there: &Outcome) -> bool
+    ensures { result
+        ≡ holds_reference expected.now (option_map (λ bytes. bytes.now) reference.entry) there.now }
+{
+    let Some(_) = expected else {
+        return true;
+    };
+    let Some(bytes) = reference else {
+        return false;
+    };
+    is_run(there.ending) && are_lines_of(bytes, &there.signature)
+}
+
+fn is_run(ending: RowEnd) -> bool
+    ensures { result ≡ is_run ending }
+{
+    !matches!(ending, RowEnd::Refused(_))
+}
+
+// Whether these bytes are the lines of a signature's words.
+fn are_lines_of(bytes: &[u8], signature: &Option<Words>) -> bool
+    ensures { result ≡ bytes_eq bytes.now (lines_of signature.now) }
+{
+    match signature {
+        Some(words) => are_word_lines(bytes, words.as_slice()),
+        None => bytes.is_empty(),
+    }
+}
+
+/// Whether two outcomes are the same, but for steps, addresses and values.
+pub(crate) fn are_same(there: &Outcome, other: &Outcome) -> bool
+    ensures { result ≡ are_same there.now other.now }
+{
+    if !are_alike(there.ending, other.ending) {
+        return false;
+    }
+    if there.console.as_slice() != other.console.as_slice() {
+        return false;
+    }
+    same_signature(&there.signature, &other.signature)
+}
+
+/// The same, where nothing of the other is copied.
+pub(crate) fn is_same(there: &Outcome, other: &Attempt) -> bool
+    requires { IsReadable other.now }
+    ensures { result ≡ are_same there.now (outcome_of_attempt other.now) }
+{
+    match other {
+        Attempt::Refused(why) => are_alike(there.ending, RowEnd::Refused(*why)),
+        Attempt::Ran(run) => is_same_run(there, run),
+    }
+}
+
+fn is_same_run(there: &Outcome, run: &EndedRun) -> bool
+    requires { HasSignature run.now }
+    ensures { result ≡ are_same there.now (outcome_in_bus run.now) }
+{
+    if !are_alike(there.ending, run.ending) {
+        return false;
+    }
+    if there.console.as_slice() != run.bus.console() {
+        return false;
+    }
+    has_signature(run, &there.signature)
+}
+
+// Whether the words of a run's signature are these.
+fn has_signature(run: &EndedRun, signature: &Option<Words>) -> bool
+    requires { HasSignature run.now }
+    ensures { result ≡ same_signature signature.now (outcome_in_bus run.now).signature }
+{
+    match (signature, run.range) {
+        (Some(words), Some(range)) => {
+            run.bus.has_words(range.begin, range.end, words.as_slice())
+        }
+        (None, None) => true,
+        _ => false,
+    }
+}
+
+// Whether two runs ended alike: by the same code, by the same kind of fault, or both by their budgets.
+fn are_alike(ending: RowEnd, other: RowEnd) -> bool
+    ensures { result ≡ are_alike ending other }
+{
+    match (ending, other) {
+        (RowEnd::Exit(code), RowEnd::Exit(exit)) => code == exit,
+        (RowEnd::Fault(kind, ..), RowEnd::Fault(fault, ..)) => {
+            fault_number(kind) == fault_number(fault)
+        }
+        (RowEnd::Budget, RowEnd::Budget) => true,
+        _ => false,
+    }
+}
+
+fn fault_number(kind: FaultKind) -> u8
+    ensures { result ≡ fault_number kind }
+{
+    match kind {
+        FaultKind::FetchAccess => 1,
+        FaultKind::StaleCode => 2,
+        FaultKind::Illegal => 3,
+        FaultKind::Breakpoint => 4,
+        FaultKind::LoadMisaligned => 5,
+        FaultKind::LoadAccess => 6,
+        FaultKind::StoreMisaligned => 7,
+        FaultKind::StoreAccess => 8,
+        FaultKind::ConsoleFull => 9,
+        FaultKind::UnknownCall => 10,
+        FaultKind::FetchMisaligned => 11,
+    }
+}
+
+fn same_signature(signature: &Option<Words>, other: &Option<Words>) -> bool
+    ensures { result ≡ same_signature signature.now other.now }
+{
+    match (signature, other) {
+        (Some(words), Some(others)) => words.as_slice() == others.as_slice(),
+        (None, None) => true,
+        _ => false,
+    }
+}

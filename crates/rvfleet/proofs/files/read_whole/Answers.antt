@@ -1,9 +1,0 @@
-use Rattle.std.proofs.Common.{arith}
-use Rattle.rvfleet.proofs.Incoming.{longer, whole}
-use Rattle.rvfleet.proofs.files.read_whole.Goals as goal
-
-pub returns-in-Ok-clause-whole : goal.returns-in-Ok-clause-whole
-returns-in-Ok-clause-whole g c = whole 16777216 _ _ c.in-Ok.ensures.value (omega arith)
-
-pub returns-in-Ok-2-clause-long : goal.returns-in-Ok-2-clause-long
-returns-in-Ok-2-clause-long g c = λ _. longer 16777216 _ c.in-Ok.bytes.items c.in-Ok.ensures.value (omega (arith, c.len.ensures))

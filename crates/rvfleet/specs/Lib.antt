@@ -1,9 +1,0 @@
-pub mod Answers
-pub mod CommandLine
-pub mod Failures
-pub mod Input
-pub mod Lines
-pub mod One
-pub mod Plans
-pub mod Raw
-pub mod Requests
