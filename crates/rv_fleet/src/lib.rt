@@ -19,7 +19,8 @@ pub use gate::{FreeGate, Gate};
 pub use piece::Piece;
 pub use rv_claims::{Claims, Pass, SplitError};
 pub use rv_rows::{
-    Loadable, Outcome, Refusal, Report, Row, RowEnd, Rows, SignatureRange, Sink, SinkFailed, Verdict, Words, WriteError,
-    flat_row, narrower_sets_only_refuse, put_all, row_at, run_one, write_report,
+    Loadable, Outcome, Refusal, Report, Row, RowEnd, Rows, SignatureRange, Sink, SinkFailed,
+    Verdict, Words, WriteError, flat_row, narrower_sets_only_refuse, put_all, row_at, run_one,
+    write_report,
 };
 pub use worker::work;

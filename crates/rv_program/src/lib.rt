@@ -20,5 +20,5 @@ pub use list::{read_list, run_jobs};
 pub use one::{ScriptError, is_bad_path, read_script, run_image};
 pub use raw::run_raw;
 pub use sending::{DONE, SOME_FAIL, send};
-pub use tell::{BAD_WORDS, FAILED, failed, refused};
+pub use tell::{BAD_WORDS, FAILED, failed, refused, unread_status};
 pub use words::run_words;

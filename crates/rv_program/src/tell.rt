@@ -8,6 +8,7 @@ use crate::error::Failure;
 use rv_fleet::{Sink, put_all};
 use rv_jobs::JobError;
 use std::alloc::Global;
+use std::io::{self, ErrorKind};
 
 /// The status where words are refused.
 pub const BAD_WORDS: u8 = 2;
@@ -55,6 +56,20 @@ pub fn failed<E: Sink>(errors: &mut E, failure: Failure) -> u8
     };
     say(errors, line);
     FAILED
+}
+
+/// The same of words that the process doesn't give: words that aren't UTF-8 are bad words.
+pub fn unread_status<E: Sink>(error: &io::Error, errors: &mut E) -> u8
+    ensures status { result ≡ BAD_WORDS ⊎ result ≡ FAILED }
+    ensures refused { result ≡ BAD_WORDS
+        → AppendsBeginning (E.taken errors.old) (E.taken errors.new) bad_words_line }
+    ensures failed { result ≡ FAILED
+        → AppendsBeginning (E.taken errors.old) (E.taken errors.new) (failure_line Failure.OutOfMemory) }
+{
+    match error.kind() {
+        ErrorKind::OutOfMemory => failed(errors, Failure::OutOfMemory),
+        _ => refused(errors),
+    }
 }
 
 // A failed put of the line changes no status.

@@ -39,8 +39,10 @@ const LONGEST_SIGNATURE: &str = "sign 152=80040000 168=80080000";
 
 // A list of one job that compares the longest signature with a file.
 fn comparing_list(alloc: Global, reference: &str) -> Result<String, AllocError> {
-    format!(in alloc; "[[job]]\nname = 'a'\nimage = 'long.elf'\nbudget = 100
-signature = ['begin_signature', 'end_signature']\nexpect_signature = '{reference}'\n")
+    format!(in alloc;
+        "[[job]]\nname = 'a'\nimage = 'long.elf'\nbudget = 100
+signature = ['begin_signature', 'end_signature']\nexpect_signature = '{reference}'\n"
+    )
 }
 
 // Whether the longest signature equals the right reference of this name.

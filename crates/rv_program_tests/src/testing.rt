@@ -5,9 +5,9 @@ ghost use Rattle.std.specs.List.{find};
 ghost use Rattle.std.specs.Str.{bytes_eq};
 ghost use Rattle.rv_jobs.specs.Stores.{most_bytes, one_more};
 
-use rv_program::run_words;
 use rv_fleet::{FreeGate, Sink, SinkFailed};
 use rv_jobs::{ReadError, Store};
+use rv_program::run_words;
 use samples::{ONE_SEGMENT, SIGNATURE, TWO_SEGMENTS, file_bytes, numbers};
 use std::alloc::{AllocError, Global};
 use std::io::{self, Read};

@@ -1,17 +1,12 @@
 //! The program over readers, sinks and stores in memory, and over files.
 
-use crate::RunError;
-use rv_files::FileStore;
-use rv_files::read_at_most;
-use rv_program::{ScriptError, read_script};
-use rv_program::run_raw;
-use rv_files::StreamSink;
 use crate::testing::{
     Answer, MemorySink, MemoryStore, SlowReader, ask, ask_raw, ask_store, file, set,
 };
-use rv_program::run_words;
+use rv_files::{FileStore, StreamSink, read_at_most};
 use rv_fleet::{FreeGate, Sink, put_all};
 use rv_jobs::{ReadError, Store};
+use rv_program::{RunError, ScriptError, read_script, run_raw, run_words};
 use samples::{CHECKSUM, UPPER, file_bytes, numbers};
 use std::alloc::{AllocError, Global};
 use std::fs;

@@ -1,17 +1,12 @@
 //! The program `rvfleet`: hands the process's own words, files and streams to the library, and ends with its status.
 #![tactic(auto)]
 
-ghost use Rattle.std.specs.Prelude.{◌≡◌, ◌⊎◌};
-ghost use Rattle.rv_rows.specs.Sending.{AppendsBeginning};
-ghost use Rattle.rv_program.specs.Lines.{bad_words_line, failure_line};
-
 use rv_files::{FileStore, StreamSink};
-use rv_fleet::{FreeGate, Sink};
-use rv_program::{BAD_WORDS, FAILED, Failure, failed, refused, run_words};
-use std::env;
+use rv_fleet::FreeGate;
+use rv_program::{run_words, unread_status};
 use std::env::Env;
-use std::io::{self, ErrorKind};
 use std::process::ExitCode;
+use std::{env, io};
 
 // The answer to the process's own words, over its own streams and files.
 fn main(rt: HostRuntime) -> ExitCode {
@@ -40,18 +35,4 @@ fn texts(rt: &(impl Env + AllocGlobal)) -> io::Result<Vec<String>> {
         texts.push(text)?;
     }
     Ok(texts)
-}
-
-// Words that aren't UTF-8 are bad words.
-fn unread_status<E: Sink>(error: &io::Error, errors: &mut E) -> u8
-    ensures status { result ≡ BAD_WORDS ⊎ result ≡ FAILED }
-    ensures refused { result ≡ BAD_WORDS
-        → AppendsBeginning (E.taken errors.old) (E.taken errors.new) bad_words_line }
-    ensures failed { result ≡ FAILED
-        → AppendsBeginning (E.taken errors.old) (E.taken errors.new) (failure_line Failure.OutOfMemory) }
-{
-    match error.kind() {
-        ErrorKind::OutOfMemory => failed(errors, Failure::OutOfMemory),
-        _ => refused(errors),
-    }
 }
