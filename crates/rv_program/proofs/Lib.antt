@@ -1,4 +1,7 @@
 pub mod Answering
+pub mod Asking
+pub mod Matching
 pub mod Numerals
 pub mod Telling
+pub mod Walking
 mod WrittenWords

@@ -20,13 +20,10 @@ digits_back : (ds : List ℕ) → AllDigits 10 ds → list_all (λ d. nat_lt (di
 digits_back [] h = refl
 digits_back (d ∷ ds) h = rw (lt-ltb (digit_value d) 10 h.0) (digits_back ds h.1)
 
-test_of : List ℕ → Bool
-test_of ds = is_numeral ds && nat_lt (digits_value 10 ds) (2 ^ 32)
-
-test_holds : (ds : List ℕ) → IsNumeral 10 ds → digits_value 10 ds < 2 ^ 32 → (is_numeral ds && nat_lt (digits_value 10 ds) (2 ^ 32)) ≡ true
+pub test_holds : (ds : List ℕ) → IsNumeral 10 ds → digits_value 10 ds < 2 ^ 32 → (is_numeral ds && nat_lt (digits_value 10 ds) (2 ^ 32)) ≡ true
 test_holds ds h lt = rw (lt-ltb _ _ h.0, digits_back ds h.1, lt-ltb _ _ lt) refl
 
-test_gives : (ds : List ℕ) → (is_numeral ds && nat_lt (digits_value 10 ds) (2 ^ 32)) ≡ true → IsNumeral 10 ds × (digits_value 10 ds < 2 ^ 32)
+pub test_gives : (ds : List ℕ) → (is_numeral ds && nat_lt (digits_value 10 ds) (2 ^ 32)) ≡ true → IsNumeral 10 ds × (digits_value 10 ds < 2 ^ 32)
 test_gives ds e =
     let a = both _ _ e in
     let n = both _ _ a.0 in

@@ -1,6 +1,6 @@
 //! The command line.
 
-ghost use Rattle.std.specs.Prelude.{◌≡◌, ◌≤◌, [], IfOk, IfErr, IfSome, true, false, map, option_map};
+ghost use Rattle.std.specs.Prelude.{◌≡◌, ◌≤◌, [], IfOk, IfErr, IfSome, is_some, true, false, map, option_map};
 ghost use Rattle.clap.specs.Words.{FailsBy, app_of, fault_of, first_of, found_of, kind_of, rows_of, rule_of};
 ghost use Rattle.clap.specs.declared.builder.command.Command.TheViews.{out-Command};
 ghost use Rattle.rv_program.specs.CommandLine.{budget_rule, image_rule, input_rule, jobs_rule, workers_rule, group_rule, raw_app, one_app, run_app, top_app, fleet_app, budget_in, number_in, read_number_in, raw_in, one_in, run_in, request_in, request_of, is_taken};
@@ -32,11 +32,13 @@ pub enum Asked<'a> {
     },
 }
 
-/// Reads words, the first of which is the program's name. `None` stands where words that the
-/// command takes name no request. An error is `clap`'s own; help is one, of the kind DisplayHelp.
+/// Reads words, the first of which is the program's name. `None` stands where words name no request; those that the
+/// command takes name one. An error is `clap`'s own; help is one, of the kind DisplayHelp.
 pub fn read_words<'a, T: AsStr>(alloc: Global, words: &'a [T]) -> Result<Option<Asked<'a>>, Error>
     ensures value { IfOk result (λ asked. option_map request asked ≡ request_of (map T.text words.entry.now)) }
     ensures within { IfOk result (λ asked. IfSome asked AreWithin) }
+    ensures asked { is_taken (map T.text words.entry.now) ≡ true
+        → IfOk result (λ asked. is_some asked ≡ true) }
     ensures taken { IfErr result
         (λ error. is_taken (map T.text words.entry.now) ≡ true → kind_of error ≡ ErrorKind.OutOfMemory) }
     ensures kinds { FailsBy (fault_of fleet_app (map T.text words.entry.now)) result }

@@ -43,6 +43,8 @@ pub fn run_words<'a, R: Threads + Wait, T: AsStr, S: Store, I: Read, O: Sink, E:
     errors: &mut E,
     gate: &G,
 ) -> u8
+    ensures asked { is_taken (map T.text words.entry.now) ≡ true
+        → is_some (request_of (map T.text words.entry.now)) ≡ true }
     ensures answers { is_taken (map T.text words.entry.now) ≡ true
         → Answers (request_of (map T.text words.entry.now)) (I.remaining input.old)
         (stored (S.contents store.old) (S.faulted store.old) (S.faulted store.new)) (O.taken out.old)

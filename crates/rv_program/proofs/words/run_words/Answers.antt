@@ -1,5 +1,6 @@
 use Rattle.std.proofs.Common.{◌≡◌, ◌∙◌, None, Some, ap, inl, is_some, map, option_map, subst, sym}
 use Rattle.clap.specs.Words.{kind_of}
+use Rattle.rv_program.proofs.Asking.{taken_asks}
 use Rattle.rv_program.proofs.Telling.{asked_without_fault, bad_words, error_told}
 use Rattle.rv_program.specs.Answers.{Tells, is_refused}
 use Rattle.rv_program.specs.CommandLine.{asked_of}
@@ -31,3 +32,6 @@ pub returns-in-Err-clause-told : goal.returns-in-Err-clause-told
 returns-in-Err-clause-told g c = error_told (map g.T.AsStr.text c.args.words.now) _ _ _ _ (kind_of c.in-Err.error)
     (λ out. (c.error_status.ensures.memory out).0) c.in-Err.ensures.kinds c.error_status.ensures.quiet c.error_status.ensures.refused
     c.error_status.ensures.told c.error_status.ensures.range
+
+pub returns-in-Err-clause-asked : goal.returns-in-Err-clause-asked
+returns-in-Err-clause-asked g c = taken_asks (map g.T.AsStr.text c.args.words.now)
