@@ -29,6 +29,8 @@ mod outcome;
 mod pass;
 mod piece;
 mod recent;
+#[cfg(test)]
+mod recent_tests;
 mod report;
 mod row;
 mod rows;
