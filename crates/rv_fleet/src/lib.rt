@@ -10,6 +10,8 @@ mod fleet;
 #[cfg(test)]
 mod fleet_tests;
 mod gate;
+#[cfg(test)]
+mod naming_tests;
 mod piece;
 mod worked;
 mod worker;

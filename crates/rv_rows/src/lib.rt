@@ -12,6 +12,8 @@ mod flat;
 mod law;
 mod outcome;
 mod recent;
+#[cfg(test)]
+mod recent_tests;
 mod report;
 mod row;
 mod rows;

@@ -60,30 +60,30 @@ impl Recent {
         None
     }
 
-    /// Whether an outcome whose console and signature have so many bytes is small enough to be kept.
-    pub(crate) fn takes(&self, size: usize) -> bool {
-        size <= ROOM
+    /// Whether an outcome whose console and signature have so many bytes is small enough to be kept. If so, there is room
+    /// for it then: the oldest are dropped.
+    pub(crate) fn make_room(&mut self, size: usize) -> bool
+        ensures { (plan : Planned) → AreOutcomes plan self.old → AreOutcomes plan self.new }
+    {
+        if ROOM < size {
+            return false;
+        }
+        while !self.items.is_empty() && self.is_full(size) {
+            self.items.remove(0);
+        }
+        true
     }
 
-    /// Keeps one more, in place of the oldest where there are too many.
+    /// Keeps one more, for which room was made.
     pub(crate) fn keep(&mut self, place: usize, outcome: Outcome) -> Result<(), AllocError>
         ensures { (plan : Planned) → AreOutcomes plan self.old → outcome_at plan place ≡ Some outcome
             → OnOk result (AreOutcomes plan self.new) }
     {
-        self.make_room(outcome.size());
         self.items.push(RecentOutcome { place, outcome })?;
         Ok(())
     }
 
-    // Drops the oldest until there is room for one more of this size.
-    fn make_room(&mut self, size: usize)
-        ensures { (plan : Planned) → AreOutcomes plan self.old → AreOutcomes plan self.new }
-    {
-        while !self.items.is_empty() && self.is_full(size) {
-            self.items.remove(0);
-        }
-    }
-
+    // Whether one more of this size is too much.
     fn is_full(&self, size: usize) -> bool {
         let mut total = size;
         for kept in &self.items {

@@ -117,7 +117,7 @@ fn is_same_as(
     }
     let other = attempt_at(alloc, plan, place, spare)?;
     let same = is_same(there, &other);
-    if recent.takes(other.size()) {
+    if recent.make_room(other.size()) {
         recent.keep(place, other.outcome(alloc)?)?;
     }
     spare.keep(other);
@@ -137,10 +137,10 @@ fn keep_if_named(
     requires recent { AreOutcomes plan.now recent.old }
     ensures { OnOk result (AreOutcomes plan.now recent.new) }
 {
-    if !is_named_soon(plan, i) || !recent.takes(there.size()) {
-        return Ok(());
+    if is_named_soon(plan, i) && recent.make_room(there.size()) {
+        recent.keep(i, there.copy(alloc)?)?;
     }
-    recent.keep(i, there.copy(alloc)?)
+    Ok(())
 }
 
 // Whether one of the next jobs names the job at a place.
