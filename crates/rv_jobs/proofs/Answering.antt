@@ -1,5 +1,5 @@
 -- Answers by their paths, and the paths of jobs in order of first use.
-use Rattle.std.proofs.Common.{◌≡◌, ◌∙◌, ◌+◌, ◌<◌, ◌++◌, Bool, true, false, ℕ, zero, suc, List, [], ◌∷◌, Option, Some, None, IfOk, Result, Ok, Err, refl, ap, sym, length, option_map, cond, arith, subst, get_or, is_some, take, IfSome, inl, inr, option_and_then}
+use Rattle.std.proofs.Common.{◌≡◌, ◌∙◌, ◌+◌, ◌<◌, ◌++◌, Bool, true, false, ℕ, zero, suc, List, [], ◌∷◌, Option, Some, None, IfOk, Result, Ok, Err, refl, ap, sym, length, option_map, cond, arith, subst, get_or, is_some, take, IfSome, inl, inr, option_and_then, map, length-append}
 use Rattle.std.specs.List.{find, fold}
 use Rattle.std.specs.Str.{bytes_eq}
 use Rattle.std.proofs.lemmas.List.{map-append, length-map, get_or_default, get_or_push}
@@ -14,7 +14,7 @@ use Rattle.rv_jobs.specs.declared.asked.Answer.{Answer}
 use Rattle.rv_jobs.specs.declared.plan.Places.{Places}
 use Rattle.rv_jobs.specs.JobList.{place_in}
 use Rattle.rv_jobs.specs.Stores.{FileContents, IsKeptOf, is_unreadable, one_more, faults_with}
-use Rattle.rv_jobs.specs.Plans.{paths_of, with_path, with_reference, with_job, paths_used, kept_of, reference_kept, AreKept, unreadables, more}
+use Rattle.rv_jobs.specs.Plans.{paths_of, answers_with, with_path, with_reference, with_job, paths_used, kept_of, reference_kept, AreKept, unreadables, more}
 use Rattle.rv_jobs.specs.Placed.{ArePlaced}
 use Rattle.rv_jobs.proofs.PlaceLemmas.{place_below, place_last}
 use Rattle.std.proofs.lemmas.Slice.Eq.{bytes_eq-Decides}
@@ -55,6 +55,38 @@ pub kept_some : (ans : List Answer) (p : List ℕ) → is_some (place_in (paths_
 unfolding place_in
 kept_some [] p e = cc
 kept_some (a ∷ ans) p e = some_at (bytes_eq p a.path) (place_in (paths_of ans) p) a (find (λ (x : Answer). bytes_eq p x.path) ans) (kept_some ans p) e
+
+-- ---- paths beside what is kept of them
+
+pub paths-with : (ps : List (List ℕ)) (ks : List Kept) → length ps ≡ length ks → paths_of (answers_with ps ks) ≡ ps
+paths-with [] ks e = refl
+paths-with (p ∷ ps) [] e = absurd (omega arith)
+paths-with (p ∷ ps) (k ∷ ks) e = ap (λ l. p ∷ l) (paths-with ps ks (omega arith))
+
+pub kept-with : (ps : List (List ℕ)) (ks : List Kept) → length ps ≡ length ks → ks ≡ map (λ (a : Answer). a.kept) (answers_with ps ks)
+kept-with [] [] e = refl
+kept-with [] (k ∷ ks) e = absurd (omega arith)
+kept-with (p ∷ ps) [] e = absurd (omega arith)
+kept-with (p ∷ ps) (k ∷ ks) e = ap (λ l. k ∷ l) (kept-with ps ks (omega arith))
+
+with-push : (ps : List (List ℕ)) (ks : List Kept) (p : List ℕ) (k : Kept) → length ps ≡ length ks → answers_with (ps ++ p ∷ []) (ks ++ k ∷ []) ≡ answers_with ps ks ++ record { path = p; kept = k } ∷ []
+with-push [] [] p k e = refl
+with-push [] (x ∷ xs) p k e = absurd (omega arith)
+with-push (q ∷ qs) [] p k e = absurd (omega arith)
+with-push (q ∷ qs) (x ∷ xs) p k e = ap (λ l. record { path = q; kept = x } ∷ l) (with-push qs xs p k (omega arith))
+
+with-parts : (all : List Answer) → answers_with (paths_of all) (map (λ (a : Answer). a.kept) all) ≡ all
+with-parts [] = refl
+with-parts (a ∷ rest) = ap (λ l. a ∷ l) (with-parts rest)
+
+pub parts_whole : (all : List Answer) (ps : List (List ℕ)) (ks : List Kept) → paths_of all ≡ ps → ks ≡ map (λ (a : Answer). a.kept) all → answers_with ps ks ≡ all
+parts_whole all ps ks e f = (λ i. answers_with (sym e i) (f i)) ∙ with-parts all
+
+with-at : (ps : List (List ℕ)) (ks : List Kept) (i : ℕ) (d : Answer) (k : Kept) → length ps ≡ length ks → i < length ks → (get_or (answers_with ps ks) i d).kept ≡ get_or ks i k
+with-at ps [] i d k e l = absurd (omega arith)
+with-at [] (x ∷ xs) i d k e l = absurd (omega arith)
+with-at (p ∷ ps) (x ∷ xs) zero d k e l = refl
+with-at (p ∷ ps) (x ∷ xs) (suc i) d k e l = with-at ps xs i d k (omega arith) (omega arith)
 
 -- ---- the paths of jobs
 
@@ -159,12 +191,6 @@ unfolding more
 counted_at true n u before after e f = f ∙ ap one_more e ∙ ap (more n) (let s : suc u ≡ u + 1 = omega arith in s)
 counted_at false n u before after e f = f ∙ e ∙ ap (more n) (let s : u ≡ u + 0 = omega arith in s)
 
-pub asked_faults : (old now : List Answer) (p : List ℕ) (kept : Kept) (n before after : ℕ) → now ≡ one_answer old p kept → before ≡ more n (unreadables old) → after ≡ faults_with kept before → after ≡ more n (unreadables now)
-asked_faults old now p kept n before after e b f =
-    let more_one : unreadables (one_answer old p kept) ≡ unreadables old + cond (is_unreadable kept) 1 0 =
-    sum_by-append (λ (x : Answer). cond (is_unreadable x.kept) 1 0) old (record { path = p; kept = kept } ∷ []) ∙ ap (λ k. unreadables old + k) (let z : 0 + cond (is_unreadable kept) 1 0 ≡ cond (is_unreadable kept) 1 0 = omega arith in z) in
-    counted_at (is_unreadable kept) n (unreadables old) before after b f ∙ ap (more n) (sym more_one ∙ sym (ap unreadables e))
-
 never_some : (o : Option ℕ) → ((k : ℕ) → o ≡ Some k → ⊥) → o ≡ None
 never_some None h = refl
 never_some (Some k) h = absurd (h k refl)
@@ -178,6 +204,31 @@ pub new_place : (xs ys : List (List ℕ)) (p : List ℕ) (at : ℕ) → place_in
 new_place xs ys p at none pushed is =
     let itself : bytes_eq p p ≡ true = (bytes_eq-Decides p p).1 refl in
     ap (λ zs. place_in zs p) pushed ∙ place_last xs p p none ∙ ap (λ b. cond b (Some (length xs)) (place_in xs p)) itself ∙ ap (λ k. Some k) (sym is)
+
+-- the paths and what is kept of them, with one of each more
+module _ (ps qs : List (List ℕ)) (ks ms : List Kept) (p : List ℕ) (kept : Kept) (even : length ps ≡ length ks) (pathed : qs ≡ ps ++ p ∷ []) (pushed : ms ≡ ks ++ kept ∷ []) (old : List Answer) (view : answers_with ps ks ≡ old) where
+  pub still_even : length qs ≡ length ms
+  still_even = omega (arith, ap length pathed, ap (length {A = Kept}) pushed, length-append ps (p ∷ []), length-append {A = Kept} ks (kept ∷ []))
+
+  grown : answers_with qs ms ≡ one_answer old p kept
+  grown = (λ i. answers_with (pathed i) (pushed i)) ∙ with-push ps ks p kept even ∙ ap (λ (l : List Answer). one_answer l p kept) view
+
+  pub asked_paths : place_in ps p ≡ None → paths_of (answers_with qs ms) ≡ with_path (paths_of old) p
+  asked_paths none =
+      let same_paths : paths_of old ≡ ps = ap paths_of (sym view) ∙ paths-with ps ks even in
+      ap paths_of grown ∙ map-append (λ (x : Answer). x.path) old (record { path = p; kept = kept } ∷ []) ∙ with_path-new (paths_of old) p (ap is_some (ap (λ l. place_in l p) same_paths ∙ none))
+
+  pub asked_place : (at : ℕ) → place_in ps p ≡ None → at ≡ length ks → place_in (paths_of (answers_with qs ms)) p ≡ Some at
+  asked_place at none is = new_place ps (paths_of (answers_with qs ms)) p at none (paths-with qs ms still_even ∙ pathed) (is ∙ sym even)
+
+  pub asked_kept : (known : Option FileContents) → IsKeptOf known p kept → AreKept known old → AreKept known (answers_with qs ms)
+  asked_kept known is before = subst (AreKept known) (sym grown) (All-push (λ (x : Answer). IsKeptOf known x.path x.kept) old (record { path = p; kept = kept }) before is)
+
+  pub asked_faults : (n before after : ℕ) → before ≡ more n (unreadables old) → after ≡ faults_with kept before → after ≡ more n (unreadables (answers_with qs ms))
+  asked_faults n before after b f =
+      let more_one : unreadables (one_answer old p kept) ≡ unreadables old + cond (is_unreadable kept) 1 0 =
+      sum_by-append (λ (x : Answer). cond (is_unreadable x.kept) 1 0) old (record { path = p; kept = kept } ∷ []) ∙ ap (λ k. unreadables old + k) (let z : 0 + cond (is_unreadable kept) 1 0 ≡ cond (is_unreadable kept) 1 0 = omega arith in z) in
+      counted_at (is_unreadable kept) n (unreadables old) before after b f ∙ ap (more n) (sym more_one ∙ sym (ap unreadables grown))
 
 -- ---- the places of a job's answers
 
@@ -232,9 +283,13 @@ job_there [] i l = absurd (omega arith)
 job_there (j ∷ js) zero l = j
 job_there (j ∷ js) (suc i) l = job_there js i (omega arith)
 
-pub image_kept : (js : List Job) (ans : List Answer) (i : ℕ) (d e : Job) (at : Places) (a : Answer) → i < length js → ArePlaced (paths_of ans) (get_or js i e) at → a ≡ get_or ans at.image a → kept_of ans (get_or js i d).image ≡ Some a.kept
-image_kept js ans i d e at a l placed is =
-    ap (λ (j : Job). kept_of ans j.image) (get_or_default js i d e l) ∙ kept_at ans (get_or js i e).image at.image a placed.image ∙ ap (λ (x : Answer). Some x.kept) (sym is)
+place_within : (xs : List (List ℕ)) (q : List ℕ) (k n : ℕ) → length xs ≡ n → place_in xs q ≡ Some k → k < n
+place_within xs q k n e is = below_length (place_in xs q) k (length xs) n e (sym is) (place_below xs q)
+
+kept_there : (ps : List (List ℕ)) (ks : List Kept) (q : List ℕ) (k : ℕ) (x : Kept) → length ps ≡ length ks → place_in ps q ≡ Some k → x ≡ get_or ks k x → kept_of (answers_with ps ks) q ≡ Some x
+kept_there ps ks q k x even found is =
+    let d : Answer = record { path = q; kept = x } in
+    kept_at (answers_with ps ks) q k d (ap (λ l. place_in l q) (paths-with ps ks even) ∙ found) ∙ ap (λ (y : Kept). Some y) (with-at ps ks k d x even (place_within ps q k (length ks) even found) ∙ sym is)
 
 -- the place of a reference, where the job has one
 reference_at : (paths : List (List ℕ)) (o : Option (List ℕ)) (r : Option ℕ) (k : ℕ) → option_map (place_in paths) o ≡ option_map (λ k. Some k) r → r ≡ Some k → (q : List ℕ) × (o ≡ Some q) × (place_in paths q ≡ Some k)
@@ -248,25 +303,30 @@ no_reference paths None r e is = refl
 no_reference paths (Some q) None e is = cc
 no_reference paths (Some q) (Some j) e is = cc
 
-module _ (js : List Job) (ans : List Answer) (i : ℕ) (d e : Job) (at : Places) (l : i < length js) (placed : ArePlaced (paths_of ans) (get_or js i e) at) where
-  pub image_below : at.image < length ans
-  image_below = below_answers ans (get_or js i e).image at.image (sym placed.image)
+module _ (js : List Job) (ks : List Kept) (even : length (paths_used js) ≡ length ks) (i : ℕ) (d e : Job) (at : Places) (l : i < length js) (placed : ArePlaced (paths_used js) (get_or js i e) at) where
+  pub image_below : at.image < length ks
+  image_below = place_within (paths_used js) (get_or js i e).image at.image (length ks) even placed.image
 
-  pub reference_below : (k : ℕ) → at.reference ≡ Some k → k < length ans
-  reference_below k is = let t = reference_at (paths_of ans) (get_or js i e).expect_signature at.reference k placed.reference is in below_answers ans t.0 k (sym t.2)
+  pub image_found : (x : Kept) → x ≡ get_or ks at.image x → kept_of (answers_with (paths_used js) ks) (get_or js i d).image ≡ Some x
+  image_found x is = ap (λ (j : Job). kept_of (answers_with (paths_used js) ks) j.image) (get_or_default js i d e l) ∙ kept_there (paths_used js) ks (get_or js i e).image at.image x even placed.image is
+
+  pub reference_below : (k : ℕ) → at.reference ≡ Some k → k < length ks
+  reference_below k is =
+      let t = reference_at (paths_used js) (get_or js i e).expect_signature at.reference k placed.reference is in
+      place_within (paths_used js) t.0 k (length ks) even t.2
 
   pub reference_asked : (k : ℕ) → at.reference ≡ Some k → true ≡ is_some (get_or js i d).expect_signature
   reference_asked k is =
-      let t = reference_at (paths_of ans) (get_or js i e).expect_signature at.reference k placed.reference is in
+      let t = reference_at (paths_used js) (get_or js i e).expect_signature at.reference k placed.reference is in
       sym (ap (λ (j : Job). is_some j.expect_signature) (get_or_default js i d e l) ∙ ap is_some t.1)
 
-  pub reference_found : (k : ℕ) (a : Answer) → at.reference ≡ Some k → a ≡ get_or ans k a → Some a.kept ≡ reference_kept ans (get_or js i d)
-  reference_found k a is there =
-      let t = reference_at (paths_of ans) (get_or js i e).expect_signature at.reference k placed.reference is in
-      sym (ap (reference_kept ans) (get_or_default js i d e l) ∙ ap (option_and_then (kept_of ans)) t.1 ∙ kept_at ans t.0 k a t.2 ∙ ap (λ (x : Answer). Some x.kept) (sym there))
+  pub reference_found : (k : ℕ) (x : Kept) → at.reference ≡ Some k → x ≡ get_or ks k x → Some x ≡ reference_kept (answers_with (paths_used js) ks) (get_or js i d)
+  reference_found k x is there =
+      let t = reference_at (paths_used js) (get_or js i e).expect_signature at.reference k placed.reference is in
+      sym (ap (reference_kept (answers_with (paths_used js) ks)) (get_or_default js i d e l) ∙ ap (option_and_then (kept_of (answers_with (paths_used js) ks))) t.1 ∙ kept_there (paths_used js) ks t.0 k x even t.2 there)
 
   pub reference_none : at.reference ≡ None → (get_or js i d).expect_signature ≡ None
-  reference_none is = ap (λ (j : Job). j.expect_signature) (get_or_default js i d e l) ∙ no_reference (paths_of ans) (get_or js i e).expect_signature at.reference placed.reference is
+  reference_none is = ap (λ (j : Job). j.expect_signature) (get_or_default js i d e l) ∙ no_reference (paths_used js) (get_or js i e).expect_signature at.reference placed.reference is
 
 -- ---- the loop over jobs
 

@@ -12,6 +12,12 @@ use Rattle.rv_jobs.specs.Stores.{FileContents, IsKeptOf, is_unreadable, one_more
 abbrev pub paths_of : List Answer → List (List ℕ)
 paths_of answers = map (λ (a : Answer). a.path) answers
 
+-- the answers of these paths, of which this is kept
+abbrev pub answers_with : List (List ℕ) → List Kept → List Answer
+answers_with [] kept = []
+answers_with (p ∷ ps) [] = []
+answers_with (p ∷ ps) (k ∷ ks) = record { path = p; kept = k } ∷ answers_with ps ks
+
 -- the paths, and one more unless it is among them
 unfoldable pub with_path : List (List ℕ) → List ℕ → List (List ℕ)
 with_path paths p = if is_some (place_in paths p) then paths else paths ++ p ∷ []

@@ -1,4 +1,4 @@
-ghost use Rattle.std.specs.Prelude.{◌≡◌, ℕ, [], IfOk, Some};
+ghost use Rattle.std.specs.Prelude.{◌≡◌, ℕ, [], IfOk, Some, map};
 ghost use Rattle.rv_jobs.specs.JobList.{place_in};
 ghost use Rattle.rv_jobs.specs.Plans.{paths_of, with_path, AreKept, unreadables, more};
 
@@ -8,7 +8,7 @@ use std::alloc::{AllocError, Global};
 use std::collections::BTreeMap;
 use std::marker::Model;
 
-/// What is kept of a path.
+/// What is kept of a path. No value of it is made: contracts see the answers of a plan so.
 #[derive(Drop)]
 pub struct Answer {
     pub path: Text,
@@ -18,7 +18,8 @@ pub struct Answer {
 /// The answers so far, with the place of each path. The paths are those that the jobs hold.
 #[derive(Drop)]
 pub(crate) struct Asked<'a> {
-    answers: Vec<Answer>,
+    answers: Vec<Kept>,
+    paths: Vec<&'a str>,
     places: BTreeMap<&'a str, usize>,
 }
 
@@ -28,9 +29,9 @@ impl<'a> Model for Asked<'a> {
 
     ghost Value = { List Answer };
 
-    ghost use Rattle.rv_jobs.specs.AskedInside.{IsAskedInside};
+    ghost use Rattle.rv_jobs.specs.AskedInside.{asked_of, IsAskedInside};
 
-    ghost view = { λ a. a.answers.items };
+    ghost view = { asked_of };
 
     ghost invariant = { IsAskedInside };
 }
@@ -41,6 +42,7 @@ impl<'a> Asked<'a> {
     {
         Asked {
             answers: Vec::new(alloc),
+            paths: Vec::new(alloc),
             places: BTreeMap::new(alloc),
         }
     }
@@ -64,21 +66,33 @@ impl<'a> Asked<'a> {
     {
         let Asked {
             mut answers,
+            mut paths,
             mut places,
         } = self;
         let next = answers.len();
         if let Some(place) = places.insert(path, next)? {
             places.insert(path, place)?;
-            return Ok((Asked { answers, places }, place));
+            let asked = Asked {
+                answers,
+                paths,
+                places,
+            };
+            return Ok((asked, place));
         }
         let kept = keep(alloc, store, path)?;
-        let path = Text::copy(alloc, path)?;
-        answers.push(Answer { path, kept })?;
-        Ok((Asked { answers, places }, next))
+        answers.push(kept)?;
+        paths.push(path)?;
+        let asked = Asked {
+            answers,
+            paths,
+            places,
+        };
+        Ok((asked, next))
     }
 
-    pub(crate) fn into_answers(self) -> Vec<Answer>
-        ensures { result.items ≡ self.entry }
+    /// What is kept of each path, in order.
+    pub(crate) fn into_kept(self) -> Vec<Kept>
+        ensures { result.items ≡ map (λ a. a.kept) self.entry }
     {
         self.answers
     }

@@ -8,7 +8,7 @@ ghost use Rattle.rv_jobs.specs.Plans.{paths_of, with_job, paths_used, kept_of, r
 ghost use Rattle.rv_jobs.specs.Plans.{unreadables, more};
 ghost use Rattle.rv_jobs.specs.Placed.{ArePlaced};
 
-use crate::asked::{Answer, Asked};
+use crate::asked::Asked;
 use crate::job::{Job, JobList};
 use crate::store::{Kept, Store};
 use std::alloc::{AllocError, Global};
@@ -25,7 +25,9 @@ pub(crate) struct Places {
 #[derive(Drop)]
 pub struct Plan {
     jobs: JobList,
-    answers: Vec<Answer>,
+    // What is kept of each path that the jobs use, in order of first use.
+    answers: Vec<Kept>,
+    // The places of each job's answers.
     places: Vec<Places>,
 }
 
@@ -56,7 +58,7 @@ pub fn gather<S: Store>(alloc: Global, jobs: JobList, store: &mut S) -> Result<P
         asked = more;
         places.push(those)?;
     }
-    let answers = asked.into_answers();
+    let answers = asked.into_kept();
     Ok(Plan {
         jobs,
         answers,
@@ -116,7 +118,7 @@ impl Plan {
         requires { i < length self.now.jobs }
         ensures { (d : AJob) → kept_of self.now.answers (slice_index_or self.now.jobs i d).image ≡ Some result.now }
     {
-        &self.answers[self.places[i].image].kept
+        &self.answers[self.places[i].image]
     }
 
     /// What is kept of the path of a job's reference, where it has one.
@@ -127,7 +129,7 @@ impl Plan {
         ensures asked { (d : AJob) → is_some result ≡ is_some (slice_index_or self.now.jobs i d).expect_signature }
     {
         match self.places[i].reference {
-            Some(place) => Some(&self.answers[place].kept),
+            Some(place) => Some(&self.answers[place]),
             None => None,
         }
     }

@@ -1,7 +1,11 @@
-use Rattle.std.proofs.Common.{◌≡◌, ◌∙◌, ap, arith, length, length-append}
+use Rattle.std.proofs.Common.{◌≡◌, ◌∙◌, ap, arith, length, length-append, sym, subst, get_or, List}
+use Rattle.std.proofs.lemmas.List.{length-map}
+use Rattle.rv_jobs.specs.declared.asked.Answer.{Answer}
+use Rattle.rv_jobs.specs.declared.store.Kept.{Kept}
 use Rattle.rv_jobs.specs.declared.plan.Places.{Places}
-use Rattle.rv_jobs.specs.Plans.{paths_of, AreKept}
-use Rattle.rv_jobs.proofs.Answering.{start_kept, start_faults, paths_whole, paths_more, placed_more}
+use Rattle.rv_jobs.specs.Plans.{paths_of, paths_used, AreKept, unreadables, more}
+use Rattle.rv_jobs.specs.Placed.{ArePlaced}
+use Rattle.rv_jobs.proofs.Answering.{start_kept, start_faults, paths_whole, paths_more, placed_more, parts_whole}
 use Rattle.rv_jobs.proofs.plan.gather.Goals as goal
 
 pub loop-job-init : goal.loop-job-init
@@ -33,14 +37,31 @@ pub invariant_of-result : goal.invariant_of-result
 invariant_of-result g c =
     let all : c.loop-job.job-index ≡ length c.as_slice-job-items.result.now = omega arith in
     let whole : c.loop-job.job-index ≡ length c.args.jobs = all ∙ ap length c.as_slice-job-items.ensures.value in
+    let used = c.loop-job.invariant.paths ∙ paths_whole c.args.jobs c.loop-job.job-index whole in
     record {
       jobs = c.as_slice-job-items.ensures.jobs;
-      paths = ap paths_of c.into_answers-answers.ensures ∙ c.loop-job.invariant.paths ∙ paths_whole c.args.jobs c.loop-job.job-index whole;
+      even = sym (ap length used) ∙ length-map c.loop-job.asked (λ (a : Answer). a.path) ∙ sym (ap (length {A = Kept}) c.into_kept-answers.ensures ∙ length-map c.loop-job.asked (λ (a : Answer). a.kept));
       many = c.loop-job.invariant.many ∙ whole;
-      placed = λ i d e l. rw c.into_answers-answers.ensures (c.loop-job.invariant.placed i d e (omega arith));
+      placed = λ i d e l. subst (λ xs. ArePlaced xs (get_or c.args.jobs i d) (get_or c.loop-job.places.items i e)) used (c.loop-job.invariant.placed i d e (omega arith));
     }
 
+-- the answers of the plan are those that were asked for
 pub returns-clause-paths : goal.returns-clause-paths
 returns-clause-paths g c =
     let all : c.loop-job.job-index ≡ length c.as_slice-job-items.result.now = omega arith in
-    ap paths_of c.into_answers-answers.ensures ∙ c.loop-job.invariant.paths ∙ paths_whole c.args.jobs c.loop-job.job-index (all ∙ ap length c.as_slice-job-items.ensures.value)
+    let used = c.loop-job.invariant.paths ∙ paths_whole c.args.jobs c.loop-job.job-index (all ∙ ap length c.as_slice-job-items.ensures.value) in
+    ap paths_of (parts_whole c.loop-job.asked (paths_used c.args.jobs) c.into_kept-answers.result.items used c.into_kept-answers.ensures) ∙ used
+
+pub returns-clause-kept : goal.returns-clause-kept
+returns-clause-kept g c =
+    let all : c.loop-job.job-index ≡ length c.as_slice-job-items.result.now = omega arith in
+    let used = c.loop-job.invariant.paths ∙ paths_whole c.args.jobs c.loop-job.job-index (all ∙ ap length c.as_slice-job-items.ensures.value) in
+    let same = parts_whole c.loop-job.asked (paths_used c.args.jobs) c.into_kept-answers.result.items used c.into_kept-answers.ensures in
+    subst (AreKept (g.S.Store.contents c.args.store.now)) (sym same) c.loop-job.invariant.kept
+
+pub returns-clause-faults : goal.returns-clause-faults
+returns-clause-faults g c =
+    let all : c.loop-job.job-index ≡ length c.as_slice-job-items.result.now = omega arith in
+    let used = c.loop-job.invariant.paths ∙ paths_whole c.args.jobs c.loop-job.job-index (all ∙ ap length c.as_slice-job-items.ensures.value) in
+    let same = parts_whole c.loop-job.asked (paths_used c.args.jobs) c.into_kept-answers.result.items used c.into_kept-answers.ensures in
+    c.loop-job.invariant.faults ∙ ap (λ (a : List Answer). more (g.S.Store.faulted c.args.store.now) (unreadables a)) (sym same)

@@ -1,7 +1,13 @@
-use Rattle.std.proofs.Common.{ap}
-use Rattle.rv_jobs.specs.Plans.{paths_of}
+use Rattle.std.proofs.Common.{◌∙◌, ◌≡◌, ap, map, length, sym, List, ℕ}
+use denote.Ref.{Bor}
+use Rattle.rv_jobs.specs.declared.store.Kept.{Kept}
 use Rattle.rv_jobs.proofs.PlaceLemmas.{no_places}
 use Rattle.rv_jobs.proofs.asked.Asked.new.Goals as goal
 
 pub invariant_of-result : goal.invariant_of-result
-invariant_of-result c = record { places = no_places c.new-2.result (paths_of c.new.result.items) c.new-2.ensures.empty (ap paths_of c.new.ensures.items) }
+invariant_of-result c =
+    let none = ap (map (λ (q : Bor (List ℕ)). q.now)) c.new-2.ensures.items in
+    record {
+      even = ap length none ∙ sym (ap (length {A = Kept}) c.new.ensures.items);
+      places = no_places c.new-3.result (map (λ (q : Bor (List ℕ)). q.now) c.new-2.result.items) c.new-3.ensures.empty none;
+    }
