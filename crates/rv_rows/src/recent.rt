@@ -60,8 +60,8 @@ impl Recent {
         None
     }
 
-    /// Whether an outcome whose console and signature have so many bytes is small enough to be kept. If so, there is room
-    /// for it then: the oldest are dropped.
+    /// Whether an outcome whose console and signature have so many bytes is small enough to be kept. If so, there is
+    /// room for it then: the oldest are dropped.
     pub(crate) fn make_room(&mut self, size: usize) -> bool
         ensures { (plan : Planned) → AreOutcomes plan self.old → AreOutcomes plan self.new }
     {

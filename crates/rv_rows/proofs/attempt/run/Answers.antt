@@ -10,6 +10,8 @@ use Rattle.rv_rows.proofs.attempt.run.Goals as goal
 
 pub returns-clause-readable : goal.returns-clause-readable
 returns-clause-readable c =
-    let P : List Region → Type 0 = λ regions. IfSome c.args.range (λ there. signature_check there.begin there.end regions ≡ accepted) in
-    let kept = ap (λ (ran : Ran). ran.state.bus.regions) (sym c.run-ran.ensures) ∙ run_keeps c.args.budget (state_of c.args.machine) in
+    let P : List Region → Type 0 =
+    λ regions. IfSome c.args.range (λ there. signature_check there.begin there.end regions ≡ accepted) in
+    let same = run_keeps c.args.budget (state_of c.args.machine) in
+    let kept = ap (λ (ran : Ran). ran.state.bus.regions) (sym c.run-ran.ensures) ∙ same in
     subst P (sym (ap (λ (bus : Contents). bus.regions) c.into_bus.ensures ∙ kept)) c.requires

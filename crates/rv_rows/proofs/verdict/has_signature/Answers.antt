@@ -12,7 +12,9 @@ tested xs ys same says = search (rules, bytes_eq-Decides)
 
 pub has_words-requires : goal.has_words-requires
 has_words-requires c =
-    let P : Option SignatureRange → Type 0 = λ range. IfSome range (λ there. signature_check there.begin there.end c.args.run.now.bus.regions ≡ accepted) in
+    let regions = c.args.run.now.bus.regions in
+    let P : Option SignatureRange → Type 0 =
+    λ range. IfSome range (λ there. signature_check there.begin there.end regions ≡ accepted) in
     let parts : IsWords _ _ _ = checked _ _ _ (subst P c.in-Some-Some.is-1 c.requires) in
     record { begin = parts.begins; end = parts.ends; order = parts.order; within = parts.within }
 
