@@ -182,7 +182,8 @@ fn has_each(closed: &Closed<(), Global>, bits: u64) -> bool
     requires { (slots_len closed.now.words ≡ 65) × IsFull closed.now.words }
     ensures held { result ≡ true → (p : ℕ) → p < 64
         → get_elem? (slots_items closed.now.words) (p + 1) ≡ some 1 → bit_at bits p ≡ 1 }
-    ensures full { ((p : ℕ) → p < 64 → bit_at bits p ≡ 1) → result ≡ true }
+    ensures full { ((p : ℕ) → p < 64
+        → get_elem? (slots_items closed.now.words) (p + 1) ≡ some 1 → bit_at bits p ≡ 1) → result ≡ true }
 {
     for place in 0..PLACES {
         if closed.word(place + 1) == 1 && bits >> place & 1 == 0 {

@@ -1,8 +1,8 @@
 -- Answers by their paths, and the paths of jobs in order of first use.
-use Rattle.std.proofs.Common.{◌≡◌, ◌∙◌, ◌+◌, ◌<◌, ◌++◌, Bool, true, false, ℕ, zero, suc, List, [], ◌∷◌, Option, Some, None, IfOk, Result, Ok, Err, refl, ap, sym, length, option_map, cond, arith, subst, get_or, is_some, take, IfSome, inl, inr, option_and_then, map, length-append}
+use Rattle.std.proofs.Common.{◌≡◌, ◌∙◌, ◌+◌, ◌<◌, ◌++◌, Bool, true, false, ℕ, zero, suc, List, [], ◌∷◌, Option, Some, None, refl, ap, sym, length, option_map, cond, arith, subst, get_or, is_some, take, IfSome, inl, inr, option_and_then, map, length-append}
 use Rattle.std.specs.List.{find, fold}
 use Rattle.std.specs.Str.{bytes_eq}
-use Rattle.std.proofs.lemmas.List.{map-append, length-map, get_or_default, get_or_push}
+use Rattle.std.proofs.lemmas.List.{map-append, get_or_default, get_or_push}
 use Rattle.std.proofs.lemmas.Bool.{cases_lt}
 use Rattle.std.proofs.Math.ListN.{get_or-append}
 use Rattle.std.proofs.lemmas.List.Sums.{sum_by-append, fold_more}
@@ -32,29 +32,6 @@ pub kept_at : (ans : List Answer) (p : List ℕ) (k : ℕ) (d : Answer) → plac
 unfolding place_in
 kept_at [] p k d e = cc
 kept_at (a ∷ ans) p k d e = found_at (bytes_eq p a.path) (place_in (paths_of ans) p) a ans (find (λ (x : Answer). bytes_eq p x.path) ans) k d (λ j h. kept_at ans p j d h) e
-
-none_at : (b : Bool) (o : Option ℕ) (a : Answer) (f : Option Answer) → (o ≡ None → option_map (λ (x : Answer). x.kept) f ≡ None)
-    → cond b (Some 0) (option_map (λ j. j + 1) o) ≡ None → option_map (λ (x : Answer). x.kept) (cond b (Some a) f) ≡ None
-none_at true o a f ih e = cc
-none_at false None a f ih e = ih refl
-none_at false (Some j) a f ih e = cc
-
-pub kept_none : (ans : List Answer) (p : List ℕ) → place_in (paths_of ans) p ≡ None → kept_of ans p ≡ None
-unfolding place_in
-kept_none [] p e = refl
-kept_none (a ∷ ans) p e = none_at (bytes_eq p a.path) (place_in (paths_of ans) p) a (find (λ (x : Answer). bytes_eq p x.path) ans) (kept_none ans p) e
-
-some_at : (b : Bool) (o : Option ℕ) (a : Answer) (f : Option Answer) → (is_some o ≡ true → is_some (option_map (λ (x : Answer). x.kept) f) ≡ true)
-    → is_some (cond b (Some 0) (option_map (λ j. j + 1) o)) ≡ true → is_some (option_map (λ (x : Answer). x.kept) (cond b (Some a) f)) ≡ true
-some_at true o a f ih e = refl
-some_at false None a f ih e = cc
-some_at false (Some j) a f ih e = ih refl
-
--- a path that is placed has an answer
-pub kept_some : (ans : List Answer) (p : List ℕ) → is_some (place_in (paths_of ans) p) ≡ true → is_some (kept_of ans p) ≡ true
-unfolding place_in
-kept_some [] p e = cc
-kept_some (a ∷ ans) p e = some_at (bytes_eq p a.path) (place_in (paths_of ans) p) a (find (λ (x : Answer). bytes_eq p x.path) ans) (kept_some ans p) e
 
 -- ---- paths beside what is kept of them
 
@@ -105,28 +82,7 @@ pub with_path-new : (xs : List (List ℕ)) (p : List ℕ) → is_some (place_in 
 unfolding with_path
 with_path-new xs p e = sym (ap (λ b. cond b xs (xs ++ p ∷ [])) e)
 
-some_cond : (b : Bool) (n : ℕ) (o : Option ℕ) → is_some o ≡ true → is_some (cond b (Some n) o) ≡ true
-some_cond true n o e = refl
-some_cond false n o e = e
-
 module _ (xs : List (List ℕ)) (p : List ℕ) where
-  placed_itself : (b : Bool) → is_some (place_in xs p) ≡ b → is_some (place_in (with_path xs p) p) ≡ true
-  placed_itself true e = ap (λ ys. is_some (place_in ys p)) (sym (with_path-old xs p e)) ∙ e
-  placed_itself false e =
-      let itself : bytes_eq p p ≡ true = (bytes_eq-Decides p p).1 refl in
-      ap (λ ys. is_some (place_in ys p)) (sym (with_path-new xs p e)) ∙ ap is_some (place_last xs p p (no_place xs p e) ∙ ap (λ b. cond b (Some (length xs)) (place_in xs p)) itself)
-
-  pub has_itself : is_some (place_in (with_path xs p) p) ≡ true
-  has_itself = placed_itself (is_some (place_in xs p)) refl
-
-  placed_still : (q : List ℕ) (b : Bool) → is_some (place_in xs p) ≡ b → is_some (place_in xs q) ≡ true → is_some (place_in (with_path xs p) q) ≡ true
-  placed_still q true e h = ap (λ ys. is_some (place_in ys q)) (sym (with_path-old xs p e)) ∙ h
-  placed_still q false e h =
-      ap (λ ys. is_some (place_in ys q)) (sym (with_path-new xs p e)) ∙ ap is_some (place_last xs p q (no_place xs p e)) ∙ some_cond (bytes_eq p q) (length xs) (place_in xs q) h
-
-  pub has_still : (q : List ℕ) → is_some (place_in xs q) ≡ true → is_some (place_in (with_path xs p) q) ≡ true
-  has_still q h = placed_still q (is_some (place_in xs p)) refl h
-
   found_still : (q : List ℕ) (k : ℕ) (b : Bool) → bytes_eq p q ≡ b → place_in xs p ≡ None → place_in xs q ≡ Some k → cond b (Some (length xs)) (place_in xs q) ≡ Some k
   found_still q k true e none h = let z : None ≡ Some k = sym none ∙ ap (place_in xs) ((bytes_eq-Decides p q).0 e) ∙ h in cc
   found_still q k false e none h = h
@@ -140,47 +96,11 @@ module _ (xs : List (List ℕ)) (p : List ℕ) where
   pub keeps_place : (q : List ℕ) (k : ℕ) → place_in xs q ≡ Some k → place_in (with_path xs p) q ≡ Some k
   keeps_place q k h = found_in q k (is_some (place_in xs p)) refl h
 
-reference_still : (xs : List (List ℕ)) (o : Option (List ℕ)) (q : List ℕ) → is_some (place_in xs q) ≡ true → is_some (place_in (with_reference xs o) q) ≡ true
-reference_still xs None q h = h
-reference_still xs (Some p) q h = has_still xs p q h
-
-job_still : (xs : List (List ℕ)) (j : Job) (q : List ℕ) → is_some (place_in xs q) ≡ true → is_some (place_in (with_job xs j) q) ≡ true
-job_still xs j q h = reference_still (with_path xs j.image) j.expect_signature q (has_still xs j.image q h)
-
-jobs_still : (xs : List (List ℕ)) (js : List Job) (q : List ℕ) → is_some (place_in xs q) ≡ true → is_some (place_in (fold with_job xs js) q) ≡ true
-jobs_still xs [] q h = h
-jobs_still xs (j ∷ js) q h = jobs_still (with_job xs j) js q (job_still xs j q h)
-
-image_from : (xs : List (List ℕ)) (js : List Job) (i : ℕ) (d : Job) → i < length js → is_some (place_in (fold with_job xs js) (get_or js i d).image) ≡ true
-image_from xs [] i d l = absurd (omega arith)
-image_from xs (j ∷ js) zero d l = jobs_still (with_job xs j) js j.image (reference_still (with_path xs j.image) j.expect_signature j.image (has_itself xs j.image))
-image_from xs (j ∷ js) (suc i) d l = image_from (with_job xs j) js i d (omega arith)
-
-reference_itself : (xs : List (List ℕ)) (o : Option (List ℕ)) (q : List ℕ) → o ≡ Some q → is_some (place_in (with_reference xs o) q) ≡ true
-reference_itself xs o q e = subst (λ x. is_some (place_in (with_reference xs x) q) ≡ true) (sym e) (has_itself xs q)
-
-reference_from : (xs : List (List ℕ)) (js : List Job) (i : ℕ) (d : Job) (q : List ℕ) → i < length js → (get_or js i d).expect_signature ≡ Some q → is_some (place_in (fold with_job xs js) q) ≡ true
-reference_from xs [] i d q l e = absurd (omega arith)
-reference_from xs (j ∷ js) zero d q l e = jobs_still (with_job xs j) js q (reference_itself (with_path xs j.image) j.expect_signature q e)
-reference_from xs (j ∷ js) (suc i) d q l e = reference_from (with_job xs j) js i d q (omega arith) e
-
--- the path of each job's image is among those used, and that of its reference
-pub image_used : (js : List Job) (i : ℕ) (d : Job) → i < length js → is_some (place_in (paths_used js) (get_or js i d).image) ≡ true
-unfolding paths_used
-image_used js i d l = image_from [] js i d l
-
-pub reference_used : (js : List Job) (i : ℕ) (d : Job) (q : List ℕ) → i < length js → (get_or js i d).expect_signature ≡ Some q → is_some (place_in (paths_used js) q) ≡ true
-unfolding paths_used
-reference_used js i d q l e = reference_from [] js i d q l e
-
 -- ---- a path more
 
 below_length : (o : Option ℕ) (k n m : ℕ) → n ≡ m → Some k ≡ o → IfSome o (λ j. j < n) → k < m
 below_length None k n m e is h = cc
 below_length (Some j) k n m e is h = let z : k ≡ j = cc in omega arith
-
-pub below_answers : (ans : List Answer) (p : List ℕ) (k : ℕ) → Some k ≡ place_in (paths_of ans) p → k < length ans
-below_answers ans p k e = below_length (place_in (paths_of ans) p) k (length (paths_of ans)) (length ans) (length-map ans (λ (a : Answer). a.path)) e (place_below (paths_of ans) p)
 
 -- the answers with one more
 abbrev pub one_answer : List Answer → List ℕ → Kept → List Answer
@@ -346,7 +266,3 @@ pub paths_more : (js all : List Job) (i : ℕ) (j : Job) (ps qs : List (List ℕ
 paths_more js all i j ps qs same l is before after =
     let inside : i < length js = subst (λ (x : List Job). i < length x) same l in
     after ∙ ap (λ x. with_job x j) before ∙ ap (with_job (fold with_job [] (take i js))) (is ∙ ap (λ x. get_or x i j) same) ∙ sym (fold_more with_job [] js i j inside)
-
-pub map_some : {X Y : Type 0} (f : X → Y) (o : Option X) → is_some (option_map f o) ≡ is_some o
-map_some f None = refl
-map_some f (Some x) = refl

@@ -15,4 +15,4 @@ returns-clause-pieces c is_whole over x low =
 
 pub returns-clause-full : goal.returns-clause-full
 returns-clause-full c all =
-    c.has_each-all.ensures.full (λ p low. c.pass.invariant.set p (subst (λ (h : Held). IsIn p h.places) (sym c.pass.view_is) (all p low)))
+    c.has_each-all.ensures.full (λ p low _. c.pass.invariant.set p (subst (λ (h : Held). IsIn p h.places) (sym c.pass.view_is) (all p low)))

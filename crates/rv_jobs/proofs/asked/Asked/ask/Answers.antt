@@ -1,4 +1,4 @@
-use Rattle.std.proofs.Common.{◌≡◌, ◌∙◌, ◌∷◌, ◌++◌, [], ℕ, sym, ap, Some, List, is_some, length, map}
+use Rattle.std.proofs.Common.{◌∙◌, ◌∷◌, [], ℕ, sym, ap, List, is_some, map}
 use Rattle.std.proofs.lemmas.List.{map-append}
 use Rattle.std.proofs.lemmas.Map.Text.{btree_map_updates_str}
 use Rattle.std.specs.BTreeMap.{get_by}

@@ -1,4 +1,4 @@
-use Rattle.std.proofs.Common.{◌∙◌, ◌≡◌, ap, map, length, sym, List, ℕ}
+use Rattle.std.proofs.Common.{◌∙◌, ap, map, length, sym, List, ℕ}
 use denote.Ref.{Bor}
 use Rattle.rv_jobs.specs.declared.store.Kept.{Kept}
 use Rattle.rv_jobs.proofs.PlaceLemmas.{no_places}

@@ -1,7 +1,7 @@
 use Rattle.std.proofs.Common.{◌≡◌, ◌<◌, sym, subst, length, get_or, Some}
 use Rattle.rv_jobs.specs.declared.plan.Places.{Places}
 use Rattle.rv_jobs.specs.Placed.{ArePlaced}
-use Rattle.rv_jobs.specs.Plans.{Planned, paths_used, answers_with, kept_of}
+use Rattle.rv_jobs.specs.Plans.{Planned, paths_used, kept_of}
 use Rattle.rv_jobs.proofs.Answering.{job_there, image_below, image_found}
 use Rattle.rv_jobs.proofs.plan.Plan.image.Goals as goal
 

@@ -1,5 +1,4 @@
-use Rattle.std.proofs.Common.{◌≡◌, ◌∙◌, ◌<◌, sym, subst, ap, length, get_or, Some, None, true, false, is_some, option_and_then}
-use Rattle.rv_jobs.specs.declared.job.Job.{Job}
+use Rattle.std.proofs.Common.{◌≡◌, ◌<◌, sym, subst, ap, length, get_or, Some, None, true, false, is_some, option_and_then}
 use Rattle.rv_jobs.specs.declared.plan.Places.{Places}
 use Rattle.rv_jobs.specs.Placed.{ArePlaced}
 use Rattle.rv_jobs.specs.Plans.{Planned, paths_used, answers_with, kept_of, reference_kept}
