@@ -78,8 +78,8 @@ fn unread_status<E: Sink>(error: &io::Error, errors: &mut E) -> u8
     ensures status { result ≡ BAD_WORDS ⊎ result ≡ FAILED }
     ensures refused { result ≡ BAD_WORDS
         → AppendsBeginning (E.taken errors.old) (E.taken errors.new) bad_words_line }
-    ensures failed { result ≡ FAILED
-        → AppendsBeginning (E.taken errors.old) (E.taken errors.new) (failure_line Failure.OutOfMemory) }
+    ensures failed { result ≡ FAILED → AppendsBeginning (E.taken errors.old) (E.taken errors.new)
+        (failure_line Failure.OutOfMemory) }
 {
     match error.kind() {
         ErrorKind::OutOfMemory => failed(errors, Failure::OutOfMemory),
