@@ -1,5 +1,5 @@
 -- What goes into a stream.
-use Rattle.std.proofs.Common.{◌≡◌, ◌∙◌, ℕ, List, ◌++◌, Option, Some, None, sym, take, drop, take-append-drop}
+use Rattle.std.proofs.Common.{◌∙◌, ℕ, List, Option, Some, None, sym, take, drop, take-append-drop}
 use Rattle.std.specs.Io.KnownBytes.{Appends, Keeps}
 use Rattle.rv_rows.specs.Sending.{AppendsBeginning}
 
@@ -10,7 +10,8 @@ appended_and_kept (Some x) (Some y) None bytes appended kept = absurd kept
 appended_and_kept (Some x) (Some y) (Some z) bytes appended kept = kept ∙ appended
 
 -- the first bytes were written, and no flush followed
-pub unflushed : (a b c : Option (List ℕ)) (bytes : List ℕ) (count : ℕ) → Appends a b (take count bytes) → Keeps b c → AppendsBeginning a c bytes
+pub unflushed : (a b c : Option (List ℕ)) (bytes : List ℕ) (count : ℕ) → Appends a b (take count bytes) → Keeps b c
+    → AppendsBeginning a c bytes
 unflushed a b c bytes count appended kept = record {
   part = take count bytes;
   rest = drop count bytes;

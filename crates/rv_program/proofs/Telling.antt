@@ -1,5 +1,5 @@
 -- What standard error says.
-use Rattle.std.proofs.Common.{◌≡◌, ◌⊎◌, ℕ, true, List, [], ◌∷◌, Option, None, refl, ap, inl, inr, arith}
+use Rattle.std.proofs.Common.{◌≡◌, ◌∙◌, ◌⊎◌, ℕ, true, List, [], ◌∷◌, Option, None, refl, sym, ap, option_map, inl, inr, arith}
 use Rattle.std.specs.Io.KnownBytes.{Keeps}
 use Rattle.clap.specs.Words.{IsAmong, Kinds, Text, fault_of}
 use Rattle.clap.specs.declared.error.kind.ErrorKind.{ErrorKind}
@@ -9,13 +9,22 @@ use Rattle.rv_jobs.specs.Stores.{FileContents}
 use Rattle.rv_program.specs.Answers.{Tells, TellsFailure, is_refused}
 use Rattle.rv_program.specs.CommandLine.{Request, asked_of, fleet_app, request_beside, request_of}
 use Rattle.rv_program.specs.Lines.{bad_words_line}
+use Rattle.rv_program.specs.Requests.{request}
+use Rattle.rv_program.specs.declared.command.Asked.{Asked}
 
 -- words in which no fault is found ask for what they say
-pub asked_without_fault : (words : List Text) → fault_of fleet_app words ≡ [] → asked_of words ≡ request_of words
+asked_without_fault : (words : List Text) → fault_of fleet_app words ≡ [] → asked_of words ≡ request_of words
 unfolding asked_of
 asked_without_fault words none = ap (λ kinds. request_beside kinds (request_of words)) none
 
-nothing_beside : (kind : ErrorKind) (kinds : Kinds) (request : Option Request) → IsAmong kind kinds → request_beside kinds request ≡ None
+-- and so what was read of them is asked for
+pub asked_as_read : (words : List Text) (read asked : Option Asked) → fault_of fleet_app words ≡ []
+    → option_map request read ≡ request_of words → read ≡ asked → asked_of words ≡ option_map request asked
+asked_as_read words read asked none reads same =
+    asked_without_fault words none ∙ (sym reads ∙ ap (option_map request) same)
+
+nothing_beside : (kind : ErrorKind) (kinds : Kinds) (request : Option Request) → IsAmong kind kinds
+    → request_beside kinds request ≡ None
 nothing_beside kind [] request among = absurd among
 nothing_beside kind (fault ∷ more) request among = refl
 
@@ -26,7 +35,8 @@ nothing_asked words kind among = nothing_beside kind (fault_of fleet_app words) 
 
 -- what asks for nothing that the program does is refused as bad words
 pub bad_words : (request : Option Request) (known : Option FileContents) (before after : Option (List ℕ)) (status : ℕ)
-    → status ≡ 2 → is_refused request ≡ true → AppendsBeginning before after bad_words_line → Tells request known before after status
+    → status ≡ 2 → is_refused request ≡ true → AppendsBeginning before after bad_words_line
+    → Tells request known before after status
 bad_words request known before after status two bad line = record {
   quiet = λ low. elim low [ inl nought ↦ absurd (omega arith) | inr one ↦ absurd (omega arith) ];
   refused = λ _. inl (bad, line);
@@ -34,10 +44,12 @@ bad_words request known before after status two bad line = record {
 }
 
 -- an error of the command line is told
-pub error_told : (words : List Text) (known : Option FileContents) (before after : Option (List ℕ)) (status : ℕ) (kind : ErrorKind)
+pub error_told : (words : List Text) (known : Option FileContents) (before after : Option (List ℕ)) (status : ℕ)
+    (kind : ErrorKind)
     → (kind ≡ OutOfMemory → status ≡ 3) → (kind ≡ OutOfMemory) ⊎ IsAmong kind (fault_of fleet_app words)
     → (status ≡ 0 → Keeps before after) → (status ≡ 2 → AppendsBeginning before after bad_words_line)
-    → (status ≡ 3 → TellsFailure before after) → status ≡ 0 ⊎ status ≡ 2 ⊎ status ≡ 3 → Tells (asked_of words) known before after status
+    → (status ≡ 3 → TellsFailure before after) → status ≡ 0 ⊎ status ≡ 2 ⊎ status ≡ 3
+    → Tells (asked_of words) known before after status
 error_told words known before after status kind memory why quiet refused failed range = record {
   quiet = λ low. elim low [
     | inl nought ↦ quiet nought

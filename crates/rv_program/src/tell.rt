@@ -30,8 +30,8 @@ pub fn refused_list<E: Sink>(alloc: Global, errors: &mut E, error: JobError) -> 
     ensures status { result ≡ BAD_WORDS ⊎ result ≡ FAILED }
     ensures told { result ≡ BAD_WORDS
         → AppendsBeginning (E.taken errors.old) (E.taken errors.new) (fault_line error) }
-    ensures failed { result ≡ FAILED
-        → AppendsBeginning (E.taken errors.old) (E.taken errors.new) (failure_line Failure.OutOfMemory) }
+    ensures failed { result ≡ FAILED → AppendsBeginning (E.taken errors.old) (E.taken errors.new)
+        (failure_line Failure.OutOfMemory) }
 {
     let JobError { job, what } = error;
     let Ok(line) = format!(in alloc; "rvfleet: job {job}: {}\n", what.name()) else {
@@ -44,7 +44,8 @@ pub fn refused_list<E: Sink>(alloc: Global, errors: &mut E, error: JobError) -> 
 /// Says why the program failed, and gives the status.
 pub fn failed<E: Sink>(errors: &mut E, failure: Failure) -> u8
     ensures status { result ≡ FAILED }
-    ensures told { AppendsBeginning (E.taken errors.old) (E.taken errors.new) (failure_line failure) }
+    ensures told { AppendsBeginning (E.taken errors.old) (E.taken errors.new)
+        (failure_line failure) }
 {
     let line = match failure {
         Failure::OutOfMemory => "rvfleet: out of memory\n",

@@ -50,10 +50,11 @@ pub fn run_words<'a, R: Threads + Wait, T: AsStr, S: Store, I: Read, O: Sink, E:
         (stored (S.contents store.old) (S.faulted store.old) (S.faulted store.new)) (O.taken out.old)
         (O.taken out.new) result }
     ensures counted { result ≡ 0 ⊎ result ≡ 1 → O.failed out.new ≡ O.failed out.old }
-    ensures told { Tells (asked_of (map T.text words.entry.now)) (S.contents store.old) (E.taken errors.old)
-        (E.taken errors.new) result }
+    ensures told { Tells (asked_of (map T.text words.entry.now)) (S.contents store.old)
+        (E.taken errors.old) (E.taken errors.new) result }
     ensures helped { result ≡ 0 ⊎ result ≡ 1
-        → is_some (asked_of (map T.text words.entry.now)) ≡ true ⊎ AsksHelp (map T.text words.entry.now) }
+        → is_some (asked_of (map T.text words.entry.now)) ≡ true
+        ⊎ AsksHelp (map T.text words.entry.now) }
     ensures unread { reads_store (request_of (map T.text words.entry.now)) ≡ false
         → S.faulted store.new ≡ S.faulted store.old }
     ensures untaken { reads_input (request_of (map T.text words.entry.now)) ≡ false
@@ -141,7 +142,8 @@ fn one_status<S: Store, O: Sink, E: Sink>(
     ensures answers { Answers (Some (one image.now budget (option_map (λ text. text.now) input_hex.entry))) None
         (stored (S.contents store.old) (S.faulted store.old) (S.faulted store.new)) (O.taken out.old)
         (O.taken out.new) result }
-    ensures told { Tells (Some (one image.now budget (option_map (λ text. text.now) input_hex.entry)))
+    ensures told { Tells
+        (Some (one image.now budget (option_map (λ text. text.now) input_hex.entry)))
         (S.contents store.old) (E.taken errors.old) (E.taken errors.new) result }
     ensures counted { result ≡ 0 ⊎ result ≡ 1 → O.failed out.new ≡ O.failed out.old }
     ensures range { result ≤ 3 }
@@ -177,8 +179,8 @@ fn run_status<R: Threads + Wait, S: Store, O: Sink, E: Sink, G: Gate>(
     ensures answers { Answers (Some (run path.now workers group)) None
         (stored (S.contents store.old) (S.faulted store.old) (S.faulted store.new)) (O.taken out.old)
         (O.taken out.new) result }
-    ensures told { Tells (Some (run path.now workers group)) (S.contents store.old) (E.taken errors.old)
-        (E.taken errors.new) result }
+    ensures told { Tells (Some (run path.now workers group)) (S.contents store.old)
+        (E.taken errors.old) (E.taken errors.new) result }
     ensures counted { result ≡ 0 ⊎ result ≡ 1 → O.failed out.new ≡ O.failed out.old }
     ensures range { result ≤ 3 }
 {
