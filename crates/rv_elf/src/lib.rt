@@ -15,8 +15,6 @@ mod loading;
 mod sections;
 mod symbols;
 mod table;
-#[cfg(test)]
-mod tests;
 
 pub use error::ImageError;
 pub use image::{Image, Segment, Segments, read_image};

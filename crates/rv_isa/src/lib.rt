@@ -16,8 +16,6 @@ mod halfwords;
 mod instruction;
 mod opcodes;
 mod sets;
-#[cfg(test)]
-mod tests;
 mod words;
 
 pub use bits::sign_extend;

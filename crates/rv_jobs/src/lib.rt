@@ -18,8 +18,6 @@ mod regions;
 mod signature;
 mod store;
 mod table;
-#[cfg(test)]
-mod tests;
 mod text;
 
 pub use asked::Answer;

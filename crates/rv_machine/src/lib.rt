@@ -15,8 +15,6 @@ mod hart;
 mod machine;
 mod stop;
 mod table;
-#[cfg(test)]
-mod tests;
 
 pub use ending::{Ending, FaultKind, Outcome};
 pub use machine::Machine;

@@ -1,7 +1,7 @@
 //! What is kept, and that nobody can tell but by `kept`.
 use super::{BASE, allowing, cells_of, check, ending_of, machine, machine_in, region};
-use crate::{Ending, Machine};
 use rv_isa::{Instr, Isa, Op};
+use rv_machine::{Ending, Machine};
 use rv_memory::{Bus, Map, Misaligned, Region};
 use samples::numbers;
 use std::alloc::Global;

@@ -1,7 +1,7 @@
 //! Runs of harts of narrower sets.
 use super::{BASE, cells_of, ending_of, machine_on};
-use crate::Machine;
 use rv_isa::Isa;
+use rv_machine::Machine;
 use rv_memory::{Bus, Map, Misaligned};
 use std::alloc::Global;
 use std::process::Abort;

@@ -1,6 +1,6 @@
 //! Runs of accesses that are misaligned, where they are allowed and where they are not.
 use super::{allowing, cells_of, ending_of, machine};
-use crate::Ending;
+use rv_machine::Ending;
 use std::test::Fail;
 
 // A load within a word; loads and stores of the console and across the region's end; a store over two words

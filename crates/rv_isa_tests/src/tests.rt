@@ -1,6 +1,6 @@
 //! Encodings beside their meanings, written out by hand from the manual's listings.
 
-use crate::{Instr, Isa, Op, decode16, decode32, expand, is_long, sign_extend};
+use rv_isa::{Instr, Isa, Op, decode16, decode32, expand, is_long, sign_extend};
 use std::process::Abort;
 
 const SETS: [Isa; 4] = [Isa::I, Isa::Im, Isa::Ic, Isa::Imc];

@@ -1,4 +1,4 @@
-use crate::{
+use rv_elf::{
     ImageError, LoadAt, Segment, Segments, check_map, check_signature, find_symbol, load,
     read_image,
 };

@@ -2,7 +2,7 @@
 
 ghost use Rattle.std.specs.Prelude.{None};
 
-use crate::{JobList, Kept, Plan, ReadError, Store, What, gather, read_jobs};
+use rv_jobs::{JobList, Kept, Plan, ReadError, Store, What, gather, read_jobs};
 use rv_elf::LoadAt;
 use rv_isa::Isa;
 use rv_memory::{Map, Misaligned, Region};
