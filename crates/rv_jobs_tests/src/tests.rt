@@ -2,9 +2,9 @@
 
 ghost use Rattle.std.specs.Prelude.{None};
 
-use rv_jobs::{JobList, Kept, Plan, ReadError, Store, What, gather, read_jobs};
 use rv_elf::LoadAt;
 use rv_isa::Isa;
+use rv_jobs::{JobList, Kept, Plan, ReadError, Store, What, gather, read_jobs};
 use rv_memory::{Map, Misaligned, Region};
 use std::alloc::Global;
 use std::process::Abort;
