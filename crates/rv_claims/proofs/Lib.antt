@@ -2,3 +2,4 @@ pub mod Sums
 pub mod Keeps
 pub mod Passes
 pub mod Grows
+pub mod Public

@@ -7,3 +7,4 @@ pub mod Opening
 pub mod Finding
 pub mod Naming
 pub mod Narrower
+pub mod Public

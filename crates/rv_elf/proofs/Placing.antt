@@ -6,10 +6,7 @@ use Rattle.std.proofs.lemmas.List.{get_or-take, get_or-drop, length-take-le, len
 use Rattle.rv_memory.specs.declared.map.Region.{Region}
 use Rattle.rv_memory.specs.Regions.{covers, in_one, addresses, tabulate}
 use Rattle.rv_memory.specs.Bus.{bytes_put}
-use Rattle.rv_memory.specs.Inside.Places.{covered}
-use Rattle.rv_memory.proofs.Apart.{covers_bounds}
-use Rattle.rv_memory.proofs.Offsets.{among_addresses}
-use Rattle.rv_memory.proofs.Tables.{among, tabulate-insert, tabulate-same}
+use Rattle.rv_memory.proofs.Public.{among, among_addresses, covered, covers_bounds, tabulate-insert, tabulate-same}
 use Rattle.rv_elf.specs.declared.image.Segment.{Segment}
 use Rattle.rv_elf.specs.declared.loading.LoadAt.{LoadAt}
 use Rattle.rv_elf.specs.Loading.{load_address, any_share, fills, byte_of, file_bytes, opening_byte, opening_memory}

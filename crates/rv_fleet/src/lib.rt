@@ -15,6 +15,8 @@ mod naming_tests;
 mod piece;
 mod worked;
 mod worker;
+#[cfg(test)]
+mod worker_tests;
 
 pub use fleet::{FleetError, run_fleet};
 pub use gate::{FreeGate, Gate};

@@ -6,3 +6,4 @@ pub mod HalfwordRows
 pub mod ByQuadrant
 pub mod WellFormed
 pub mod Narrower
+pub mod Public

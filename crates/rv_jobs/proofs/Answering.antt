@@ -10,7 +10,7 @@ use Rattle.std.proofs.Math.Seq.{take-length}
 use Rattle.std.proofs.lemmas.List.Elements.{All-push}
 use Rattle.rv_jobs.specs.declared.job.Job.{Job}
 use Rattle.rv_jobs.specs.declared.store.Kept.{Kept}
-use Rattle.rv_jobs.specs.declared.asked.Answer.{Answer}
+use Rattle.rv_jobs.specs.declared.answers.Answer.{Answer}
 use Rattle.rv_jobs.specs.declared.plan.Places.{Places}
 use Rattle.rv_jobs.specs.JobList.{place_in}
 use Rattle.rv_jobs.specs.Stores.{FileContents, IsKeptOf, is_unreadable, one_more, faults_with}

@@ -2,10 +2,10 @@ pub mod Reading
 pub mod Keys
 pub mod Jobs
 pub mod JobList
-pub mod GrowingInside
+pub mod EarlierJobsInside
 pub mod Stores
 pub mod Plans
 pub mod Placed
-pub mod AskedInside
+pub mod AnswersInside
 pub mod PlanInside
 pub mod Faults

@@ -1,3 +1,5 @@
+//! Why a list is refused.
+
 ghost use Rattle.std.specs.Prelude.{◌≡◌};
 ghost use Rattle.rv_jobs.specs.Faults.{what_name};
 ghost use Rattle.rv_jobs.specs.declared.error.What.TheVariants.{OutOfMemory};

@@ -1,3 +1,5 @@
+//! Jobs, and lists of them.
+
 ghost use Rattle.std.specs.Prelude.{◌≡◌, ◌≤◌, ◌<◌, ◌∷◌, [], IfOk, length, vec_len};
 ghost use Rattle.rv_jobs.specs.Jobs.{AreJobs, single_job};
 

@@ -1,3 +1,5 @@
+//! The values of a table's keys, and the keys that no table of a list has.
+
 ghost use Rattle.std.specs.Prelude.{◌≡◌, not, true, Some, string_bytes, option_map};
 ghost use Rattle.std.specs.List.{list_any};
 ghost use Rattle.std.specs.BTreeMap.{keys};

@@ -1,3 +1,5 @@
+//! Whether the keys and the kinds of their values are a job's.
+
 ghost use Rattle.std.specs.Prelude.{◌≡◌, not, true, false};
 ghost use Rattle.std.specs.List.{list_any};
 ghost use Rattle.std.specs.Option.{option_map_or};

@@ -6,21 +6,22 @@
 //! answer ([`Kept`]) for each path.
 #![tactic(auto)]
 
-mod asked;
+mod answers;
+mod earlier_jobs;
 mod error;
 mod job;
+mod job_keys;
 mod keys;
 mod kinds;
 mod list;
-mod names;
 mod plan;
 mod regions;
 mod signature;
 mod store;
-mod table;
 mod text;
+mod texts;
 
-pub use asked::Answer;
+pub use answers::Answer;
 pub use error::{JobError, What};
 pub use job::{Job, JobList, Symbols};
 pub use list::read_jobs;

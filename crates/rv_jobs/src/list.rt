@@ -1,3 +1,5 @@
+//! Job lists: from bytes to jobs, or the first fault.
+
 ghost use Rattle.std.specs.Prelude.{◌≡◌, ◌≤◌, [], MatchResult, IfOk, Some, Ok, Err, length, vec_len, option_map};
 ghost use Rattle.toml.specs.View.{view, table_view, array_view, items_view};
 ghost use Rattle.rv_jobs.specs.declared.error.What.TheVariants.{OutOfMemory};
@@ -8,8 +10,8 @@ ghost use Rattle.rv_jobs.specs.JobList.{has_no_jobs, has_too_many, elements_in, 
 use crate::error::{JobError, What};
 use crate::job::JobList;
 use crate::keys::{has_stray_list_key, value_of};
-use crate::names::Growing;
-use crate::table::element_of;
+use crate::earlier_jobs::EarlierJobs;
+use crate::job_keys::element_of;
 use std::alloc::Global;
 use toml::value::Array;
 use toml::{Table, Value};
@@ -102,7 +104,7 @@ fn jobs_of(alloc: Global, elements: &[Value]) -> Result<JobList, JobError>
     requires { length elements.now ≤ most_jobs }
     ensures { GivesJobs result (jobs_from 1 [] (items_view elements.now)) }
 {
-    let mut jobs = Growing::new(alloc);
+    let mut jobs = EarlierJobs::new(alloc);
     for (at, element) in elements.iter().enumerate() {
         let number = at as u32 + 1;
         let job = match element_of(alloc, &jobs, element) {

@@ -8,7 +8,7 @@ ghost use Rattle.rv_jobs.specs.Plans.{paths_of, with_job, paths_used, kept_of, r
 ghost use Rattle.rv_jobs.specs.Plans.{unreadables, more};
 ghost use Rattle.rv_jobs.specs.Placed.{ArePlaced};
 
-use crate::asked::Asked;
+use crate::answers::Answers;
 use crate::job::{Job, JobList};
 use crate::store::{Kept, Store};
 use std::alloc::{AllocError, Global};
@@ -51,7 +51,7 @@ pub fn gather<S: Store>(alloc: Global, jobs: JobList, store: &mut S) -> Result<P
     ensures kept { IfOk result (λ p. AreKept (S.contents store.old) p.answers) }
     ensures faults { IfOk result (λ p. S.faulted store.new ≡ more (S.faulted store.old) (unreadables p.answers)) }
 {
-    let mut asked = Asked::new(alloc);
+    let mut asked = Answers::new(alloc);
     let mut places = Vec::new(alloc);
     for job in jobs.as_slice() {
         let (more, those) = ask_of_job(alloc, store, asked, job)?;
@@ -70,9 +70,9 @@ pub fn gather<S: Store>(alloc: Global, jobs: JobList, store: &mut S) -> Result<P
 fn ask_of_job<'a, S: Store>(
     alloc: Global,
     store: &mut S,
-    asked: Asked<'a>,
+    asked: Answers<'a>,
     job: &'a Job,
-) -> Result<(Asked<'a>, Places), AllocError>
+) -> Result<(Answers<'a>, Places), AllocError>
     ensures same { S.contents store.new ≡ S.contents store.old }
     ensures paths { IfOk result (λ a. paths_of a.0 ≡ with_job (paths_of asked.entry) job.now) }
     ensures places { IfOk result (λ a. ArePlaced (paths_of a.0) job.now a.1) }

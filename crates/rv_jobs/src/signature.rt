@@ -1,3 +1,5 @@
+//! The two symbols of a job's signature.
+
 ghost use Rattle.std.specs.Prelude.{◌≡◌, ◌<◌, ◌==◌, IfOk, IfSome, length, not, option_map, option_and_then};
 ghost use Rattle.std.specs.List.{list_all};
 ghost use Rattle.toml.specs.Data.{as_str, get_item};
@@ -8,7 +10,7 @@ ghost use Rattle.rv_jobs.specs.JobList.{is_symbol, symbol_in, symbols_of, signat
 use crate::error::What;
 use crate::job::Symbols;
 use crate::keys::array_of;
-use crate::table::is_within;
+use crate::texts::is_within;
 use crate::text::Text;
 use std::alloc::Global;
 use toml::{Table, Value};

@@ -1,3 +1,5 @@
+//! Where files are read from, and what is kept of one.
+
 ghost use Rattle.std.specs.Prelude.{◌≡◌, ◌≤◌, ◌<◌, ℕ, Option, Some, MatchResult, IfErr, IfOk, IfSome, IsSomeAnd};
 ghost use Rattle.std.specs.Prelude.{length};
 ghost use Rattle.rv_jobs.specs.Stores.{FileContents, IsKeptOf, faults_after, faults_with, most_bytes};

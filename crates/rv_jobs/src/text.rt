@@ -1,3 +1,5 @@
+//! Texts and bytes that contracts see as lists.
+
 ghost use Rattle.std.specs.Prelude.{◌≡◌, IfOk, string_bytes};
 
 use std::alloc::{AllocError, Global};

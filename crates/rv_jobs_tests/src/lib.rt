@@ -2,4 +2,6 @@
 #![tactic(auto)]
 
 #[cfg(test)]
-mod tests;
+mod fault_tests;
+#[cfg(test)]
+mod plan_tests;

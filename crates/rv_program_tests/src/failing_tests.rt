@@ -1,8 +1,8 @@
 //! Reads and writes that fail, each in turn, through the whole program.
 
-use crate::list_tests::{LIST, LIST_REPORT, list_store};
+use crate::report_tests::{LIST, LIST_REPORT, list_store};
+use crate::stream_tests::{ADD_AND_EXIT, RAW_WORDS};
 use crate::testing::{Answer, MemorySink, MemoryStore, SlowReader, ask, ask_store};
-use crate::tests::{ADD_AND_EXIT, RAW_WORDS};
 use rv_jobs::Store;
 use std::alloc::Global;
 use std::sync::Wait;

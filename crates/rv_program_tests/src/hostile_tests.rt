@@ -1,8 +1,9 @@
 //! Files and lists that are cut, and fields at their ends, through the whole program.
 
+use crate::image_tests::runs_elf;
 use crate::list_tests::{refuses_list, runs_job};
-use crate::testing::{MemoryStore, ask_store, file};
-use crate::tests::runs_elf;
+use crate::sample_files::file;
+use crate::testing::{MemoryStore, ask_store};
 use std::alloc::{AllocError, Global};
 use std::sync::Wait;
 use std::test::Fail;

@@ -5,12 +5,22 @@
 #[cfg(test)]
 mod failing_tests;
 #[cfg(test)]
+mod file_tests;
+#[cfg(test)]
 mod hostile_tests;
+#[cfg(test)]
+mod image_tests;
 #[cfg(test)]
 mod limit_tests;
 #[cfg(test)]
 mod list_tests;
 #[cfg(test)]
+mod report_tests;
+#[cfg(test)]
+mod sample_files;
+#[cfg(test)]
+mod stream_tests;
+#[cfg(test)]
 mod testing;
 #[cfg(test)]
-mod tests;
+mod word_tests;

@@ -1,8 +1,10 @@
 //! What is as long as it may be, through the whole program: nothing of it is told as want of memory.
 
-use crate::list_tests::{list_store, refuses_list};
-use crate::testing::{MemoryStore, ask_store, file};
-use crate::tests::repeated;
+use crate::list_tests::refuses_list;
+use crate::report_tests::list_store;
+use crate::sample_files::file;
+use crate::testing::{MemoryStore, ask_store};
+use crate::word_tests::repeated;
 use std::alloc::{AllocError, Global};
 use std::sync::Wait;
 use std::test::Fail;

@@ -6,7 +6,7 @@ use Rattle.std.proofs.lemmas.Option.{slice_get-map, slice_get_within, get_or_fro
 use Rattle.rv_isa.specs.declared.sets.Isa.TheVariants.{Imc}
 use Rattle.rv_elf.specs.declared.error.ImageError.{ImageError}
 use Rattle.rv_elf.specs.Image.{image_of}
-use Rattle.rv_elf.proofs.Narrower.{image_wider}
+use Rattle.rv_elf.proofs.Public.{image_wider}
 use Rattle.rv_jobs.specs.declared.job.Job.{Job}
 use Rattle.rv_jobs.specs.declared.store.Kept.{Kept}
 use Rattle.rv_jobs.specs.Jobs.{AreJobs}
@@ -16,7 +16,7 @@ use Rattle.rv_machine.specs.declared.ending.Ending.TheVariants as machine
 use Rattle.rv_machine.specs.Run.{Ran, run_of}
 use Rattle.rv_machine.specs.State.{State}
 use Rattle.rv_machine.specs.Sets.{is_of_any_set as ends_in_any_set}
-use Rattle.rv_machine.proofs.Narrower.{run_wider}
+use Rattle.rv_machine.proofs.Public.{run_wider}
 use Rattle.rv_rows.specs.declared.outcome.Loadable.{Loadable}
 use Rattle.rv_rows.specs.declared.row.Refusal.{Refusal}
 use Rattle.rv_rows.specs.declared.row.Row.{Row}

@@ -1,7 +1,7 @@
 use Rattle.std.proofs.Common.{◌∙◌, ap, sym}
 use Rattle.rv_memory.specs.declared.bus.Misaligned.TheVariants.{Fault}
 use Rattle.rv_elf.specs.Loading.{map_check}
-use Rattle.rv_elf.proofs.NewBus.{regions_of_new, is_new}
+use Rattle.rv_elf.proofs.Public.{is_new, regions_of_new}
 use Rattle.rv_elf_tests.proofs.tests.loaded.Goals as goal
 
 pub load-requires-clause-fits : goal.load-requires-clause-fits

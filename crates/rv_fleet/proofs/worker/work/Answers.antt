@@ -2,7 +2,7 @@ use Rattle.std.proofs.Common.{◌∙◌, sym, ap, subst}
 use Rattle.rv_claims.specs.Passes.{Draw, Held}
 use Rattle.rv_fleet.specs.Pieces.{piece_at}
 use Rattle.rv_claims.specs.Drawn.{Grew}
-use Rattle.rv_claims.proofs.Grows.{took_some, made_one, made_all, falls, grew_more}
+use Rattle.rv_claims.proofs.Public.{took_some, made_one, made_all, falls, grew_more}
 use Rattle.rv_fleet.proofs.worker.work.Goals as goal
 
 pub loop-number-smaller : goal.loop-number-smaller

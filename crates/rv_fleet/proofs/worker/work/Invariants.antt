@@ -2,7 +2,7 @@ use Rattle.std.proofs.Common.{◌≡◌, ◌-◌, map}
 use Rattle.rv_claims.specs.Drawn.{Grew, new_pieces}
 use Rattle.rv_fleet.specs.Pieces.{piece_at}
 use Rattle.rv_rows.specs.Recent.{AreOutcomes}
-use Rattle.rv_claims.proofs.Grows.{above}
+use Rattle.rv_claims.proofs.Public.{above}
 use Rattle.rv_fleet.proofs.worker.work.Given as goal
 
 abbrev pub invariant-loop-number : goal.invariant-loop-number

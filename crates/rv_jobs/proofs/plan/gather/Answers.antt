@@ -1,6 +1,6 @@
 use Rattle.std.proofs.Common.{◌≡◌, ◌∙◌, ap, arith, length, length-append, sym, subst, get_or, List}
 use Rattle.std.proofs.lemmas.List.{length-map}
-use Rattle.rv_jobs.specs.declared.asked.Answer.{Answer}
+use Rattle.rv_jobs.specs.declared.answers.Answer.{Answer}
 use Rattle.rv_jobs.specs.declared.store.Kept.{Kept}
 use Rattle.rv_jobs.specs.declared.plan.Places.{Places}
 use Rattle.rv_jobs.specs.Plans.{paths_of, paths_used, AreKept, unreadables, more}

@@ -1,5 +1,5 @@
 use Rattle.std.proofs.Common.{◌∙◌}
-use Rattle.rv_elf.proofs.Reading.{entry_aligned, entry_even}
+use Rattle.rv_elf.proofs.Public.{entry_aligned, entry_even}
 use Rattle.rv_rows.proofs.Loadables.{aligned, loadable_parts, loaded_is, new_bus}
 use Rattle.rv_rows.proofs.attempt.loaded_machine.Goals as goal
 

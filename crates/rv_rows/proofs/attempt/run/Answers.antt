@@ -5,7 +5,7 @@ use Rattle.rv_memory.specs.declared.map.Region.{Region}
 use Rattle.rv_memory.specs.Bus.{Contents}
 use Rattle.rv_machine.specs.Run.{Ran}
 use Rattle.rv_machine.specs.State.{state_of}
-use Rattle.rv_machine.proofs.Regions.{run_keeps}
+use Rattle.rv_machine.proofs.Public.{run_keeps}
 use Rattle.rv_rows.proofs.attempt.run.Goals as goal
 
 pub returns-clause-readable : goal.returns-clause-readable

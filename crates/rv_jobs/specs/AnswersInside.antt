@@ -3,8 +3,8 @@ use Rattle.std.specs.Prelude.{◌≡◌, ℕ, List, map, length}
 use Rattle.std.specs.BTreeMap.{get_by}
 use Rattle.std.specs.Cmp.Lexicographic.{slice_cmp}
 use Rattle.std.specs.Ordering.{nat_cmp}
-use Rattle.rv_jobs.specs.declared.asked.Answer.{Answer}
-use Rattle.rv_jobs.specs.declared.asked.Asked.TheInside.{Inside}
+use Rattle.rv_jobs.specs.declared.answers.Answer.{Answer}
+use Rattle.rv_jobs.specs.declared.answers.Answers.TheInside.{Inside}
 use Rattle.rv_jobs.specs.JobList.{place_in}
 use Rattle.rv_jobs.specs.Plans.{answers_with}
 
@@ -12,9 +12,9 @@ use Rattle.rv_jobs.specs.Plans.{answers_with}
 abbrev pub paths_in : Inside → List (List ℕ)
 paths_in a = map (λ p. p.now) a.paths.items
 
-abbrev pub asked_of : Inside → List Answer
-asked_of a = answers_with (paths_in a) a.answers.items
+abbrev pub answers_of : Inside → List Answer
+answers_of a = answers_with (paths_in a) a.answers.items
 
-pub record IsAskedInside (a : Inside) : Type 0 where
+pub record IsAnswersInside (a : Inside) : Type 0 where
   pub even : length (paths_in a) ≡ length a.answers.items
   pub places : (t : List ℕ) → get_by (λ k. slice_cmp nat_cmp t k.now) a.places ≡ place_in (paths_in a) t

@@ -1,10 +1,11 @@
+//! A job of a list: its keys in the order of their faults, a function each.
+
 ghost use Rattle.std.specs.Prelude.{◌≡◌, ◌≤◌, ◌<◌, IfOk, IfSome, None, length};
-ghost use Rattle.std.specs.List.{list_all};
 ghost use Rattle.hex.specs.Hex.{decode_of};
 ghost use Rattle.toml.specs.View.{view, table_view};
 ghost use Rattle.rv_jobs.specs.Reading.{Gives};
 ghost use Rattle.rv_jobs.specs.Jobs.{IsJob, most_script};
-ghost use Rattle.rv_jobs.specs.JobList.{is_within, is_name, is_name_byte, is_path, name_in, image_in, budget_in};
+ghost use Rattle.rv_jobs.specs.JobList.{name_in, image_in, budget_in};
 ghost use Rattle.rv_jobs.specs.JobList.{limited, from_hex, script_in, load_of, load_in, exit_of, exit_in};
 ghost use Rattle.rv_jobs.specs.JobList.{reference_of, reference_in, place_in, names_of, same_of, same_in, isa_of};
 ghost use Rattle.rv_jobs.specs.JobList.{isa_in, misaligned_of, misaligned_in, job_in, element_in};
@@ -15,10 +16,11 @@ use crate::error::What;
 use crate::job::Job;
 use crate::keys::{number_of, text_of};
 use crate::kinds::{has_unknown_key, has_wrong_kind};
-use crate::names::Growing;
+use crate::earlier_jobs::EarlierJobs;
 use crate::regions::regions_of;
 use crate::signature::signature_of;
 use crate::text::{Bytes, Text};
+use crate::texts::{is_name, is_path};
 use hex::FromHexError;
 use rv_elf::LoadAt;
 use rv_isa::Isa;
@@ -28,7 +30,7 @@ use toml::{Table, Value};
 
 /// The job of an element of a list, behind the jobs that are read so far.
 #[tactic(auto, unfolding(crate::specs::JobList::element_in))]
-pub(crate) fn element_of(alloc: Global, earlier: &Growing, value: &Value) -> Result<Job, What>
+pub(crate) fn element_of(alloc: Global, earlier: &EarlierJobs, value: &Value) -> Result<Job, What>
     ensures value { Gives result (element_in (names_of earlier.now) (view value.now)) }
     ensures good { IfOk result (IsJob (length earlier.now)) }
     ensures fresh { IfOk result (λ job. place_in (names_of earlier.now) job.name ≡ None) }
@@ -40,7 +42,7 @@ pub(crate) fn element_of(alloc: Global, earlier: &Growing, value: &Value) -> Res
 }
 
 #[tactic(auto, unfolding(crate::specs::JobList::job_in))]
-fn job_of(alloc: Global, earlier: &Growing, table: &Table) -> Result<Job, What>
+fn job_of(alloc: Global, earlier: &EarlierJobs, table: &Table) -> Result<Job, What>
     ensures value { Gives result (job_in (names_of earlier.now) (table_view table.now)) }
     ensures good { IfOk result (IsJob (length earlier.now)) }
     ensures fresh { IfOk result (λ job. place_in (names_of earlier.now) job.name ≡ None) }
@@ -96,43 +98,6 @@ fn name_of(alloc: Global, table: &Table) -> Result<Text, What>
         }
         None => Err(What::Name),
     }
-}
-
-#[tactic(auto, unfolding(crate::specs::JobList::is_name))]
-fn is_name(text: &str) -> bool
-    ensures { result ≡ is_name text.now }
-{
-    is_within(1, 64, text.len()) && has_name_bytes(text)
-}
-
-fn has_name_bytes(text: &str) -> bool
-    ensures { result ≡ list_all is_name_byte text.now }
-{
-    text.as_bytes().iter().all(|byte| is_name_byte(*byte))
-}
-
-#[tactic(auto, unfolding(crate::specs::JobList::is_name_byte))]
-fn is_name_byte(byte: u8) -> bool
-    ensures { result ≡ is_name_byte byte }
-{
-    (97 <= byte && byte <= 122)
-        || (65 <= byte && byte <= 90)
-        || (48 <= byte && byte <= 57)
-        || byte == 46
-        || byte == 95
-        || byte == 45
-}
-
-pub(crate) fn is_within(low: usize, high: usize, n: usize) -> bool
-    ensures { result ≡ is_within low high n }
-{
-    low <= n && n <= high
-}
-
-fn is_path(text: &str) -> bool
-    ensures { result ≡ is_path text.now }
-{
-    is_within(1, 4096, text.len())
 }
 
 #[tactic(auto, unfolding(crate::specs::JobList::image_in))]
@@ -263,7 +228,7 @@ fn reference_of(alloc: Global, asked: bool, table: &Table) -> Result<Option<Text
 }
 
 #[tactic(auto, unfolding(crate::specs::JobList::same_in))]
-fn same_of(earlier: &Growing, table: &Table) -> Result<Option<usize>, What>
+fn same_of(earlier: &EarlierJobs, table: &Table) -> Result<Option<usize>, What>
     ensures value { result ≡ same_in (names_of earlier.now) (table_view table.now) }
     ensures earlier { IfOk result (λ o. IfSome o (λ k. k < length earlier.now)) }
 {

@@ -3,7 +3,7 @@ use Rattle.rv_jobs.specs.declared.job.Job.{Job}
 use Rattle.rv_jobs.specs.Jobs.{IsJob}
 use Rattle.rv_jobs.specs.JobList.{place_in, names_of}
 use Rattle.rv_jobs.proofs.PlaceLemmas.{jobs_more, names_more}
-use Rattle.rv_jobs.proofs.names.Growing.with.Goals as goal
+use Rattle.rv_jobs.proofs.earlier_jobs.EarlierJobs.with.Goals as goal
 
 pub invariant_of-result : goal.invariant_of-result
 invariant_of-result c =

@@ -1,7 +1,7 @@
 use Rattle.std.proofs.Common.{ap}
 use Rattle.rv_jobs.specs.JobList.{names_of}
 use Rattle.rv_jobs.proofs.PlaceLemmas.{none_placed, no_jobs_are}
-use Rattle.rv_jobs.proofs.names.Growing.new.Goals as goal
+use Rattle.rv_jobs.proofs.earlier_jobs.EarlierJobs.new.Goals as goal
 
 pub invariant_of-result : goal.invariant_of-result
 invariant_of-result c = record {

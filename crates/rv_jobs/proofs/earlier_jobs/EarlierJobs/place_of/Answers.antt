@@ -1,6 +1,6 @@
 use Rattle.std.proofs.Common.{◌∙◌}
 use Rattle.rv_jobs.proofs.PlaceLemmas.{within_names}
-use Rattle.rv_jobs.proofs.names.Growing.place_of.Goals as goal
+use Rattle.rv_jobs.proofs.earlier_jobs.EarlierJobs.place_of.Goals as goal
 
 pub returns-clause-within : goal.returns-clause-within
 returns-clause-within c =

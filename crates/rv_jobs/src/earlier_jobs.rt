@@ -1,3 +1,5 @@
+//! The jobs of a list that are read so far, with the place of each name.
+
 ghost use Rattle.std.specs.Prelude.{◌≡◌, ◌<◌, ◌++◌, ◌∷◌, [], IfSome, IfOk, None, length};
 ghost use Rattle.rv_jobs.specs.Jobs.{IsJob};
 ghost use Rattle.rv_jobs.specs.JobList.{place_in, names_of};
@@ -9,29 +11,29 @@ use std::marker::Model;
 
 /// The jobs that are read so far, with the place of each name.
 #[derive(Drop)]
-pub(crate) struct Growing {
+pub(crate) struct EarlierJobs {
     jobs: Vec<Job>,
     places: BTreeMap<String, usize>,
 }
 
-impl Model for Growing {
+impl Model for EarlierJobs {
     ghost use Rattle.std.specs.Prelude.{List};
     ghost use Rattle.rv_jobs.specs.declared.job.Job.{Job};
 
     ghost Value = { List Job };
 
-    ghost use Rattle.rv_jobs.specs.GrowingInside.{IsGrowingInside};
+    ghost use Rattle.rv_jobs.specs.EarlierJobsInside.{IsEarlierJobsInside};
 
     ghost view = { λ g. g.jobs.items };
 
-    ghost invariant = { IsGrowingInside };
+    ghost invariant = { IsEarlierJobsInside };
 }
 
-impl Growing {
-    pub(crate) fn new(alloc: Global) -> Growing
+impl EarlierJobs {
+    pub(crate) fn new(alloc: Global) -> EarlierJobs
         ensures { result ≡ [] }
     {
-        Growing {
+        EarlierJobs {
             jobs: Vec::new(alloc),
             places: BTreeMap::new(alloc),
         }
@@ -47,20 +49,20 @@ impl Growing {
     }
 
     /// The jobs and one more.
-    pub(crate) fn with(self, alloc: Global, job: Job) -> Result<Growing, AllocError>
+    pub(crate) fn with(self, alloc: Global, job: Job) -> Result<EarlierJobs, AllocError>
         requires fresh { place_in (names_of self) job.name ≡ None }
         requires good { IsJob (length self) job }
         requires room { length self < 4096 }
         ensures { IfOk result (λ g. g ≡ self ++ job ∷ []) }
     {
-        let Growing {
+        let EarlierJobs {
             mut jobs,
             mut places,
         } = self;
         let name = String::from_str(alloc, job.name.as_str())?;
         places.insert(name, jobs.len())?;
         jobs.push(job)?;
-        Ok(Growing { jobs, places })
+        Ok(EarlierJobs { jobs, places })
     }
 
     pub(crate) fn into_list(self) -> JobList

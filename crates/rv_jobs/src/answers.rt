@@ -1,3 +1,5 @@
+//! What is kept of the different paths that jobs name, while a plan is gathered.
+
 ghost use Rattle.std.specs.Prelude.{◌≡◌, ℕ, [], IfOk, Some, map};
 ghost use Rattle.rv_jobs.specs.JobList.{place_in};
 ghost use Rattle.rv_jobs.specs.Plans.{paths_of, with_path, AreKept, unreadables, more};
@@ -17,30 +19,30 @@ pub struct Answer {
 
 /// The answers so far, with the place of each path. The paths are those that the jobs hold.
 #[derive(Drop)]
-pub(crate) struct Asked<'a> {
+pub(crate) struct Answers<'a> {
     answers: Vec<Kept>,
     paths: Vec<&'a str>,
     places: BTreeMap<&'a str, usize>,
 }
 
-impl<'a> Model for Asked<'a> {
+impl<'a> Model for Answers<'a> {
     ghost use Rattle.std.specs.Prelude.{List};
-    ghost use Rattle.rv_jobs.specs.declared.asked.Answer.{Answer};
+    ghost use Rattle.rv_jobs.specs.declared.answers.Answer.{Answer};
 
     ghost Value = { List Answer };
 
-    ghost use Rattle.rv_jobs.specs.AskedInside.{asked_of, IsAskedInside};
+    ghost use Rattle.rv_jobs.specs.AnswersInside.{answers_of, IsAnswersInside};
 
-    ghost view = { asked_of };
+    ghost view = { answers_of };
 
-    ghost invariant = { IsAskedInside };
+    ghost invariant = { IsAnswersInside };
 }
 
-impl<'a> Asked<'a> {
-    pub(crate) fn new(alloc: Global) -> Asked<'a>
+impl<'a> Answers<'a> {
+    pub(crate) fn new(alloc: Global) -> Answers<'a>
         ensures { result ≡ [] }
     {
-        Asked {
+        Answers {
             answers: Vec::new(alloc),
             paths: Vec::new(alloc),
             places: BTreeMap::new(alloc),
@@ -55,7 +57,7 @@ impl<'a> Asked<'a> {
         alloc: Global,
         store: &mut S,
         path: &'a str,
-    ) -> Result<(Asked<'a>, usize), AllocError>
+    ) -> Result<(Answers<'a>, usize), AllocError>
         ensures same { S.contents store.new ≡ S.contents store.old }
         ensures paths { IfOk result (λ a. paths_of a.0 ≡ with_path (paths_of self.entry) path.now) }
         ensures place { IfOk result (λ a. place_in (paths_of a.0) path.now ≡ Some a.1) }
@@ -64,7 +66,7 @@ impl<'a> Asked<'a> {
         ensures faults { (n : ℕ) → S.faulted store.old ≡ more n (unreadables self.entry)
             → IfOk result (λ a. S.faulted store.new ≡ more n (unreadables a.0)) }
     {
-        let Asked {
+        let Answers {
             mut answers,
             mut paths,
             mut places,
@@ -72,7 +74,7 @@ impl<'a> Asked<'a> {
         let next = answers.len();
         if let Some(place) = places.insert(path, next)? {
             places.insert(path, place)?;
-            let asked = Asked {
+            let asked = Answers {
                 answers,
                 paths,
                 places,
@@ -82,7 +84,7 @@ impl<'a> Asked<'a> {
         let kept = keep(alloc, store, path)?;
         answers.push(kept)?;
         paths.push(path)?;
-        let asked = Asked {
+        let asked = Answers {
             answers,
             paths,
             places,

@@ -5,13 +5,13 @@ use Rattle.std.specs.BTreeMap.{get_by}
 use Rattle.std.specs.Cmp.Lexicographic.{slice_cmp}
 use Rattle.std.specs.Ordering.{nat_cmp}
 use denote.Ref.{Bor}
-use Rattle.rv_jobs.specs.declared.asked.Answer.{Answer}
+use Rattle.rv_jobs.specs.declared.answers.Answer.{Answer}
 use Rattle.rv_jobs.specs.JobList.{place_in}
 use Rattle.rv_jobs.specs.Plans.{paths_of, with_path, answers_with}
-use Rattle.rv_jobs.specs.AskedInside.{paths_in}
+use Rattle.rv_jobs.specs.AnswersInside.{paths_in}
 use Rattle.rv_jobs.proofs.PlaceLemmas.{places_more, places_back}
 use Rattle.rv_jobs.proofs.Answering.{with_path-old, not_placed, paths-with, still_even, asked_paths, asked_place, asked_kept, asked_faults}
-use Rattle.rv_jobs.proofs.asked.Asked.ask.Goals as goal
+use Rattle.rv_jobs.proofs.answers.Answers.ask.Goals as goal
 
 pub invariant_of-asked : goal.invariant_of-asked
 invariant_of-asked g c =

@@ -1,0 +1,3 @@
+-- The lemmas that proofs of other crates may cite.
+pub use Rattle.rv_machine.proofs.Narrower.{run_wider}
+pub use Rattle.rv_machine.proofs.Regions.{run_keeps}
