@@ -9,9 +9,9 @@ use mathlib.Core.Logic.{dite}
 use native.Mathlib.Decide.{dec_lt}
 use Rattle.rv_claims.specs.declared.view.Entry.{Entry}
 use Rattle.rv_claims.specs.Draws.{numbers, entry, first_of}
-use Rattle.rv_claims.specs.Passes.{Draw, Held, has_ended, with_draw, AllBelow, piece_of}
+use Rattle.rv_claims.specs.Passes.{SharedDraw, Held, has_ended, with_draw, AllBelow, piece_of}
 use Rattle.rv_claims.proofs.Passes.{ends_now}
-use Rattle.rv_claims.specs.Drawn.{Grew, new_pieces}
+use Rattle.rv_claims.specs.NewPieces.{Grew, new_pieces}
 
 -- one more than the greatest number
 abbrev pub above : List Entry → ℕ
@@ -100,7 +100,7 @@ made_one f s p q k pieces had now x g is low same was pushed made =
 pub made_all : {A : Type 0} (f : ℕ → A) (s p q : Held) (r : Option ℕ) (pieces : ℕ) (had : List A) → Grew s p → Takes p q r pieces → r ≡ None → s.draw.pieces ≡ pieces → had ≡ map f (new_pieces s p)
     → Grew s q × (has_ended q ≡ true) × (had ≡ map f (new_pieces s q))
 made_all f s p q r pieces had g t nothing same was =
-    let at : p.draw.pieces ≡ pieces = ap (λ (d : Draw). d.pieces) g.0 ∙ same in
+    let at : p.draw.pieces ≡ pieces = ap (λ (d : SharedDraw). d.pieces) g.0 ∙ same in
     let o = took_none p q r pieces t nothing at in
     ⊎_elim
     (λ (e : q ≡ p). (subst (Grew s) (sym e) g, o.0, was ∙ ap (λ (z : Held). map f (new_pieces s z)) (sym e)))

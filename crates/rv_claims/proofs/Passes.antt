@@ -14,7 +14,7 @@ use Rattle.atomic_table.specs.Seated.{TableId}
 use Rattle.atomic_table.specs.Table.{Step, step, opening, Final, Seen}
 use Rattle.rv_claims.specs.declared.view.Entry.{Entry}
 use Rattle.rv_claims.specs.Draws.{times, one_at, both, IsIn, IsHistory, Within, is_past, past, entry, numbers, first_of, view, Sitting, Drew, Sat, opened, Runs}
-use Rattle.rv_claims.specs.Passes.{held, with_draw, piece_of, IsPass, seen, opening_row, AreAll}
+use Rattle.rv_claims.specs.Passes.{pass_of, with_draw, piece_of, IsPass, seen, opening_row, AreAll}
 use Rattle.rv_claims.proofs.Keeps.{opens, whole, each_once}
 use Rattle.rv_claims.proofs.Sums.{in_append, in_one, in_left, in_right, in_none, total-append, term_le, one_at-same, past_yes, past_no}
 
@@ -52,7 +52,7 @@ pub ends_now : (pieces : ℕ) (ds : List Entry) (e : Entry) → pieces ≤ e.num
 ends_now pieces ds e high = sym (lt-ltb 0 (past pieces (ds ++ e ∷ [])) (omega (arith, total-append (is_past pieces) ds (e ∷ []), past_yes pieces e high)))
 
 pub seen_drew : (t t' : TableId) (m m' : Sitting) (n : ℕ) → t' ≡ t → Drew any_step m n m' → seen t' m' ≡ with_draw (seen t m) n
-seen_drew t t' m m' n same d = let v = d.0 in λ i. held (record { table = same i; pieces = (v i).pieces }) (v i).places (v i).draws
+seen_drew t t' m m' n same d = let v = d.0 in λ i. pass_of (record { table = same i; pieces = (v i).pieces }) (v i).places (v i).draws
 
 pub is_piece : (pieces n : ℕ) → n < pieces → Some n ≡ piece_of pieces n
 is_piece pieces n h = ap (λ (b : Bool). piece b n) (sym (lt-ltb n pieces h))

@@ -1,4 +1,4 @@
 pub mod Draws
 pub mod Passes
 pub mod Split
-pub mod Drawn
+pub mod NewPieces

@@ -6,19 +6,19 @@ use Rattle.rv_claims.specs.declared.view.Entry.{Entry}
 use Rattle.rv_claims.specs.Draws.{IsIn, past, entry, first_of, Sitting, IsHistory, Within, Same}
 
 -- which shared draw it is, and the number of its pieces
-pub record Draw : Type 0 where
+pub record SharedDraw : Type 0 where
   pub table : TableId
   pub pieces : ℕ
 
 -- what a pass holds: its places and its draws in order
 pub record Held : Type 0 where
-  pub draw : Draw
+  pub draw : SharedDraw
   pub places : List ℕ
   pub draws : List Entry
 
 -- a pass of these parts
-abbrev pub held : Draw → List ℕ → List Entry → Held
-held d places draws = record { draw = d; places = places; draws = draws }
+abbrev pub pass_of : SharedDraw → List ℕ → List Entry → Held
+pass_of d places draws = record { draw = d; places = places; draws = draws }
 
 -- a pass has ended where it holds a number at or above the pieces
 abbrev pub has_ended : Held → Bool
@@ -26,7 +26,7 @@ has_ended p = nat_lt 0 (past p.draw.pieces p.draws)
 
 -- the pass with one more draw, by its first place
 abbrev pub with_draw : Held → ℕ → Held
-with_draw p n = held p.draw p.places (p.draws ++ entry (first_of p.places) n ∷ [])
+with_draw p n = pass_of p.draw p.places (p.draws ++ entry (first_of p.places) n ∷ [])
 
 -- each number that was drawn is below n
 abbrev pub AllBelow : ℕ → List Entry → Type 0
@@ -60,12 +60,12 @@ pub record IsPass (m : Sitting) (bits : ℕ) (ended : Bool) : Type 0 where
 
 -- what a seat of a pass shows
 abbrev pub seen : TableId → Sitting → Held
-seen table m = held (record { table = table; pieces = m.0.pieces }) m.0.places m.0.draws
+seen table m = pass_of (record { table = table; pieces = m.0.pieces }) m.0.places m.0.draws
 
 -- the words at the start: no draw, and place 0 taken
 abbrev pub opening_row : List ℕ
 opening_row = 0 ∷ 1 ∷ replicate 63 0
 
 -- a pass with one place, which is not among these bits, and no draws
-abbrev pub IsNew : Draw → ℕ → Held → Type 0
-IsNew d taken p = (place : ℕ) × (place < 64) × (bit_at taken place ≡ 0) × (p ≡ held d (place ∷ []) [])
+abbrev pub IsNew : SharedDraw → ℕ → Held → Type 0
+IsNew d taken p = (place : ℕ) × (place < 64) × (bit_at taken place ≡ 0) × (p ≡ pass_of d (place ∷ []) [])

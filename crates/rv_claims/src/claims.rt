@@ -5,7 +5,7 @@ ghost use Rattle.std.specs.Int.{bit_at};
 ghost use mathlib.Core.Option.{some};
 ghost use lib.ListN.{get_elem?};
 ghost use Rattle.rv_claims.specs.Draws.{numbers, times, IsIn, view};
-ghost use Rattle.rv_claims.specs.Passes.{held, has_ended, with_draw, AllBelow, piece_of, InOneHistory, NoneInBoth, AreAll, opening_row, IsNew};
+ghost use Rattle.rv_claims.specs.Passes.{pass_of, has_ended, with_draw, AllBelow, piece_of, InOneHistory, NoneInBoth, AreAll, opening_row, IsNew};
 ghost use Rattle.rv_claims.specs.Split.{in_full};
 
 use crate::pass::{Pass, SplitError};
@@ -28,9 +28,9 @@ pub struct Claims {
 
 impl Model for Claims {
     ghost use Rattle.std.specs.Prelude.{◌≡◌, ◌≤◌};
-    ghost use Rattle.rv_claims.specs.Passes.{Draw};
+    ghost use Rattle.rv_claims.specs.Passes.{SharedDraw};
 
-    ghost Value = { Draw };
+    ghost Value = { SharedDraw };
 
     ghost view = { λ c. record { table = c.table.shared.table_id; pieces = c.pieces } };
 
@@ -44,7 +44,7 @@ impl Claims {
     /// A shared draw of at most 4,096 pieces, and its first pass, which has place 0.
     pub fn new(alloc: Global, pieces: u64) -> Result<(Claims, Pass), AllocError>
         requires { pieces ≤ 4096 }
-        ensures { IfOk result (λ t. (t.0.pieces ≡ pieces) × (t.1 ≡ held t.0 (0 ∷ []) [])) }
+        ensures { IfOk result (λ t. (t.0.pieces ≡ pieces) × (t.1 ≡ pass_of t.0 (0 ∷ []) [])) }
     {
         let words = opening_words();
         let (table, seat) = Table::of_words(alloc, &words, &pieces)?;
@@ -81,7 +81,7 @@ impl Claims {
     pub fn split(&self, mut pass: Pass) -> Result<(Pass, Pass), SplitError>
         requires { pass.draw ≡ self.now }
         ensures ok { IfOk result (λ t. (t.0 ≡ pass)
-            × ((p : ℕ) × (p < 64) × ¬ (IsIn p pass.places) × (t.1 ≡ held self.now (p ∷ []) []))) }
+            × ((p : ℕ) × (p < 64) × ¬ (IsIn p pass.places) × (t.1 ≡ pass_of self.now (p ∷ []) []))) }
         ensures full { IfErr result (λ e. in_full e ≡ pass) }
     {
         let seat = self.table.shared.split_seat::<Fresh>(&mut pass.seat);
@@ -96,7 +96,7 @@ impl Claims {
     pub fn join(&self, mut first: Pass, second: Pass) -> Pass
         requires first { first.draw ≡ self.now }
         requires second { second.draw ≡ self.now }
-        ensures { result ≡ held self.now (first.places ++ second.places) (first.draws ++ second.draws) }
+        ensures { result ≡ pass_of self.now (first.places ++ second.places) (first.draws ++ second.draws) }
     {
         let Pass { seat, bits, ended } = second;
         self.table.shared.join_seat::<Both>(&mut first.seat, seat);

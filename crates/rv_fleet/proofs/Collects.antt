@@ -12,7 +12,7 @@ use Rattle.rv_rows.specs.declared.row.Row.{Row}
 use Rattle.rv_fleet.specs.declared.worked.Worked.{Worked}
 use Rattle.rv_fleet.specs.Collected.{IsPiece, ArePieces}
 use Rattle.rv_claims.specs.Draws.{numbers}
-use Rattle.rv_claims.specs.Passes.{Draw}
+use Rattle.rv_claims.specs.Passes.{SharedDraw}
 use Rattle.rv_fleet.specs.Pieces.{pieces_of, piece_at}
 use Rattle.rv_fleet.specs.Promised.{HasWorked}
 use Rattle.rv_rows.specs.Rows.{row_of, rows_of}
@@ -23,7 +23,7 @@ pub All-first : {X : Type 0} (P : X → Type 0) (x : X) (xs all : List X) → al
 All-first P x xs all is each = All-head P x xs (All-same P _ _ (sym is) each)
 
 -- what a worker made is pieces with the rows of their numbers
-pub pieces_worked : (plan : Planned) (group : ℕ) (draw : Draw) (worked : Worked) (made : Vec Piece Global) → HasWorked plan group draw worked → worked.pieces ≡ Ok made → draw.pieces ≡ pieces_of plan group → ArePieces plan group made.items
+pub pieces_worked : (plan : Planned) (group : ℕ) (draw : SharedDraw) (worked : Worked) (made : Vec Piece Global) → HasWorked plan group draw worked → worked.pieces ≡ Ok made → draw.pieces ≡ pieces_of plan group → ArePieces plan group made.items
 pieces_worked plan group draw worked made has is total =
     let low : ℕ → Bool = λ n. nat_lt n draw.pieces in
     let drawn : List ℕ = numbers worked.pass.draws in

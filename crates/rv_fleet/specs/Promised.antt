@@ -2,21 +2,21 @@
 use Rattle.std.specs.Prelude.{◌≡◌, ℕ, List, [], map, All, IfOk}
 use Rattle.rv_jobs.specs.Plans.{Planned}
 use Rattle.rv_fleet.specs.declared.worked.Worked.{Worked}
-use Rattle.rv_claims.specs.Drawn.{pieces_among}
-use Rattle.rv_claims.specs.Passes.{Draw, Held}
+use Rattle.rv_claims.specs.NewPieces.{pieces_among}
+use Rattle.rv_claims.specs.Passes.{SharedDraw, Held}
 use Rattle.rv_fleet.specs.Pieces.{piece_at}
 
 -- a pass of this shared draw, with no draws
-abbrev pub IsFresh : Draw → Held → Type 0
+abbrev pub IsFresh : SharedDraw → Held → Type 0
 IsFresh draw pass = (pass.draw ≡ draw) × (pass.draws ≡ [])
 
-abbrev pub AreFresh : Draw → List Held → Type 0
+abbrev pub AreFresh : SharedDraw → List Held → Type 0
 AreFresh draw passes = All (IsFresh draw) passes
 
 -- the worker's promise: its result is the pieces that its pass drew, each under its number and with the rows of its jobs
-abbrev pub HasWorked : Planned → ℕ → Draw → Worked → Type 0
+abbrev pub HasWorked : Planned → ℕ → SharedDraw → Worked → Type 0
 HasWorked plan group draw worked = (worked.pass.draw ≡ draw)
     × IfOk worked.pieces (λ made. made.items ≡ map (piece_at plan group) (pieces_among draw.pieces worked.pass.draws))
 
-abbrev pub HaveWorked : Planned → ℕ → Draw → List Worked → Type 0
+abbrev pub HaveWorked : Planned → ℕ → SharedDraw → List Worked → Type 0
 HaveWorked plan group draw all = All (HasWorked plan group draw) all

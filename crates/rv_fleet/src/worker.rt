@@ -1,7 +1,7 @@
 //! What a worker does: it draws pieces and makes them.
 
 ghost use Rattle.std.specs.Prelude.{◌≡◌, ◌<◌, ◌≤◌, [], true, map, IfOk};
-ghost use Rattle.rv_claims.specs.Drawn.{Grew, new_pieces};
+ghost use Rattle.rv_claims.specs.NewPieces.{Grew, new_pieces};
 ghost use Rattle.rv_claims.specs.Passes.{has_ended};
 ghost use Rattle.rv_fleet.specs.Pieces.{pieces_of, piece_at};
 ghost use Rattle.rv_fleet.specs.Promised.{HasWorked};

@@ -19,7 +19,7 @@ use Rattle.clap.proofs.ValueTestLemmas.{accepts-Accepts}
 use Rattle.clap.proofs.WalkLemmas.{both}
 use Rattle.rv_program.proofs.Matching.{AreGood, EachOf, IsRead, IsThere, found_of_each, help_good, level_read, there_if_given, there_if_had, value_good, value_there}
 use Rattle.rv_program.proofs.Numerals.{test_gives, test_holds}
-use Rattle.rv_program.specs.declared.command.Asked.{Asked}
+use Rattle.rv_program.specs.declared.command.Request.{Request as Value}
 use Rattle.rv_program.specs.Requests.{request}
 use Rattle.rv_program.specs.CommandLine.{budget_rule, fleet_app, is_taken, number_in, number_of, number_within, one_in, raw_in, request_in, request_of, run_in}
 
@@ -181,7 +181,7 @@ taken_asks words taken =
     (is_some (entered (built fleet_app) stop)) refl parts.1)
 
 -- where a request is read, something is asked
-pub some_asked : (asked : Option Asked) (words : List Text) → option_map request asked ≡ request_of words
+pub some_asked : (asked : Option Value) (words : List Text) → option_map request asked ≡ request_of words
     → is_taken words ≡ true → is_some asked ≡ true
 some_asked (Some asked) words reads taken = refl
 some_asked None words reads taken = ap is_some reads ∙ taken_asks words taken

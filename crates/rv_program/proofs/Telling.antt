@@ -10,7 +10,7 @@ use Rattle.rv_program.specs.Answers.{Tells, TellsFailure, is_refused}
 use Rattle.rv_program.specs.CommandLine.{Request, asked_of, fleet_app, request_beside, request_of}
 use Rattle.rv_program.specs.Lines.{bad_words_line}
 use Rattle.rv_program.specs.Requests.{request}
-use Rattle.rv_program.specs.declared.command.Asked.{Asked}
+use Rattle.rv_program.specs.declared.command.Request.{Request as Value}
 
 -- words in which no fault is found ask for what they say
 asked_without_fault : (words : List Text) → fault_of fleet_app words ≡ [] → asked_of words ≡ request_of words
@@ -18,7 +18,7 @@ unfolding asked_of
 asked_without_fault words none = ap (λ kinds. request_beside kinds (request_of words)) none
 
 -- and so what was read of them is asked for
-pub asked_as_read : (words : List Text) (read asked : Option Asked) → fault_of fleet_app words ≡ []
+pub asked_as_read : (words : List Text) (read asked : Option Value) → fault_of fleet_app words ≡ []
     → option_map request read ≡ request_of words → read ≡ asked → asked_of words ≡ option_map request asked
 asked_as_read words read asked none reads same =
     asked_without_fault words none ∙ (sym reads ∙ ap (option_map request) same)

@@ -13,7 +13,7 @@ use std::convert::AsStr;
 
 /// What words ask for.
 #[derive(Clone, Copy, Debug, PartialEq, Eq)]
-pub enum Asked<'a> {
+pub enum Request<'a> {
     /// The flat image on the input, with a budget of 1 to 1,000,000,000 steps.
     Raw {
         budget: u32,
@@ -34,7 +34,7 @@ pub enum Asked<'a> {
 
 /// Reads words, the first of which is the program's name. `None` stands where words name no request; those that the
 /// command takes name one. An error is `clap`'s own; help is one, of the kind DisplayHelp.
-pub fn read_words<'a, T: AsStr>(alloc: Global, words: &'a [T]) -> Result<Option<Asked<'a>>, Error>
+pub fn read_words<'a, T: AsStr>(alloc: Global, words: &'a [T]) -> Result<Option<Request<'a>>, Error>
     ensures value { IfOk result (λ asked. option_map request asked ≡ request_of (map T.text words.entry.now)) }
     ensures within { IfOk result (λ asked. IfSome asked AreWithin) }
     ensures asked { is_taken (map T.text words.entry.now) ≡ true
@@ -180,7 +180,7 @@ fn group_option<'a>(alloc: Global) -> Arg<'a>
         .value_parser(value_parser!(u32).range(1..=4_096))
 }
 
-fn subcommand_asked<'a>(name: &str, values: &ArgMatches<'a>) -> Option<Asked<'a>>
+fn subcommand_asked<'a>(name: &str, values: &ArgMatches<'a>) -> Option<Request<'a>>
     ensures value { option_map request result ≡ request_in name.now (rows_of (found_of values.now)) }
     ensures within { IfSome result AreWithin }
 {
@@ -195,36 +195,36 @@ fn subcommand_asked<'a>(name: &str, values: &ArgMatches<'a>) -> Option<Asked<'a>
     }
 }
 
-fn raw_asked<'a>(values: &ArgMatches<'a>) -> Option<Asked<'a>>
+fn raw_asked<'a>(values: &ArgMatches<'a>) -> Option<Request<'a>>
     ensures value { option_map request result ≡ raw_in (rows_of (found_of values.now)) }
     ensures within { IfSome result AreWithin }
 {
     let budget = budget(values)?;
-    Some(Asked::Raw { budget })
+    Some(Request::Raw { budget })
 }
 
-fn one_asked<'a>(values: &ArgMatches<'a>) -> Option<Asked<'a>>
+fn one_asked<'a>(values: &ArgMatches<'a>) -> Option<Request<'a>>
     ensures value { option_map request result ≡ one_in (rows_of (found_of values.now)) }
     ensures within { IfSome result AreWithin }
 {
     let image = text(values, "image")?;
     let budget = budget(values)?;
     let input_hex = text(values, "input-hex");
-    Some(Asked::One {
+    Some(Request::One {
         image,
         budget,
         input_hex,
     })
 }
 
-fn run_asked<'a>(values: &ArgMatches<'a>) -> Option<Asked<'a>>
+fn run_asked<'a>(values: &ArgMatches<'a>) -> Option<Request<'a>>
     ensures value { option_map request result ≡ run_in (rows_of (found_of values.now)) }
     ensures within { IfSome result AreWithin }
 {
     let jobs = text(values, "jobs")?;
     let workers = number(values, "workers", 1, 64)?;
     let group = number(values, "group", 1, 4_096)?;
-    Some(Asked::Run {
+    Some(Request::Run {
         jobs,
         workers,
         group,

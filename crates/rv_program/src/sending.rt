@@ -5,14 +5,9 @@ ghost use Rattle.rv_rows.specs.Sending.{Rose};
 ghost use Rattle.rv_program.specs.Answers.{Began, Reported, has_fail, is_fail, status_of};
 
 use crate::error::Failure;
+use crate::status::{DONE, SOME_FAIL};
 use rv_fleet::{Report, Row, Sink, Verdict, write_report};
 use std::alloc::Global;
-
-/// The status where no verdict is fail.
-pub const DONE: u8 = 0;
-
-/// The status where some verdict is fail.
-pub const SOME_FAIL: u8 = 1;
 
 /// Appends a report to the sink, and gives the status of its verdicts.
 pub fn send<O: Sink>(alloc: Global, report: &Report, out: &mut O) -> Result<u8, Failure>

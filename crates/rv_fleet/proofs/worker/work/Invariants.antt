@@ -1,5 +1,5 @@
 use Rattle.std.proofs.Common.{◌≡◌, ◌-◌, map}
-use Rattle.rv_claims.specs.Drawn.{Grew, new_pieces}
+use Rattle.rv_claims.specs.NewPieces.{Grew, new_pieces}
 use Rattle.rv_fleet.specs.Pieces.{piece_at}
 use Rattle.rv_rows.specs.Recent.{AreOutcomes}
 use Rattle.rv_claims.proofs.Public.{above}

@@ -1,6 +1,6 @@
 use Rattle.std.proofs.Common.{ℕ, ◌<◌, sym, ap, subst}
 use Rattle.rv_claims.specs.Draws.{IsIn}
-use Rattle.rv_claims.specs.Passes.{Held, Draw, AreAll}
+use Rattle.rv_claims.specs.Passes.{Held, SharedDraw, AreAll}
 use Rattle.rv_claims.proofs.Passes.{ends_whole, ends_pieces}
 use Rattle.rv_claims.proofs.claims.Claims.finish.Goals as goal
 
@@ -10,7 +10,7 @@ returns-clause-all c is_whole =
 
 pub returns-clause-pieces : goal.returns-clause-pieces
 returns-clause-pieces c is_whole over x low =
-    let pieces = ap (λ (d : Draw). d.pieces) (sym c.requires) in
+    let pieces = ap (λ (d : SharedDraw). d.pieces) (sym c.requires) in
     ends_pieces _ _ (returns-clause-all c is_whole) over x (subst (λ (n : ℕ). x < n) pieces low)
 
 pub returns-clause-full : goal.returns-clause-full

@@ -12,13 +12,12 @@ ghost use Rattle.rv_program.specs.Plans.{stored};
 ghost use Rattle.rv_program.specs.Raw.{raw_rows};
 ghost use Rattle.rv_program.specs.Requests.{AreWithin, request};
 
-use crate::command::{Asked, read_words};
+use crate::command::{Request, read_words};
 use crate::error::{Failure, ListError};
 use crate::list::{read_list, run_jobs};
 use crate::one::{ScriptError, is_bad_path, read_script, run_image};
 use crate::raw::run_raw;
-use crate::sending::DONE;
-use crate::tell::{BAD_WORDS, FAILED, failed, refused, refused_list};
+use crate::status::{BAD_WORDS, DONE, FAILED, failed, refused, refused_list};
 use clap::Error;
 use clap::error::ErrorKind;
 use rv_fleet::{Gate, Sink, put_all};
@@ -71,7 +70,7 @@ pub fn run_words<'a, R: Threads + Wait, T: AsStr, S: Store, I: Read, O: Sink, E:
 fn asked_status<R: Threads + Wait, S: Store, I: Read, O: Sink, E: Sink, G: Gate>(
     rt: &R,
     alloc: Global,
-    asked: Asked<'_>,
+    asked: Request<'_>,
     store: &mut S,
     input: &mut I,
     out: &mut O,
@@ -90,13 +89,13 @@ fn asked_status<R: Threads + Wait, S: Store, I: Read, O: Sink, E: Sink, G: Gate>
     ensures range { result ≤ 3 }
 {
     match asked {
-        Asked::Raw { budget } => raw_status(alloc, budget, input, out, errors),
-        Asked::One {
+        Request::Raw { budget } => raw_status(alloc, budget, input, out, errors),
+        Request::One {
             image,
             budget,
             input_hex,
         } => one_status(alloc, image, budget, input_hex, store, out, errors),
-        Asked::Run {
+        Request::Run {
             jobs,
             workers,
             group,

@@ -1,4 +1,4 @@
-//! The lines of standard error, each with the status that it tells of.
+//! The statuses of the program, and the lines of standard error, each with the status that it tells of.
 
 ghost use Rattle.std.specs.Prelude.{◌≡◌, ◌⊎◌};
 ghost use Rattle.rv_rows.specs.Sending.{AppendsBeginning};
@@ -9,6 +9,12 @@ use rv_fleet::{Sink, put_all};
 use rv_jobs::JobError;
 use std::alloc::Global;
 use std::io::{self, ErrorKind};
+
+/// The status where a report with no failed verdict went out, or help.
+pub const DONE: u8 = 0;
+
+/// The status where a report with a failed verdict went out.
+pub const SOME_FAIL: u8 = 1;
 
 /// The status where words are refused.
 pub const BAD_WORDS: u8 = 2;

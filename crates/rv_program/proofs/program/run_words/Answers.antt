@@ -3,7 +3,7 @@ use Rattle.clap.specs.Words.{kind_of}
 use Rattle.rv_program.proofs.Asking.{taken_asks}
 use Rattle.rv_program.proofs.Telling.{asked_as_read, bad_words, error_told}
 use Rattle.rv_program.specs.Answers.{is_refused}
-use Rattle.rv_program.proofs.words.run_words.Goals as goal
+use Rattle.rv_program.proofs.program.run_words.Goals as goal
 
 pub returns-in-Ok-Some-clause-told : goal.returns-in-Ok-Some-clause-told
 returns-in-Ok-Some-clause-told g c =
