@@ -8,7 +8,7 @@ invariant_of-result c = record {
   bytes = search rules;
   marks = search rules;
   older = λ k. let below = c.unmarked-marks.ensures.older k in omega arith;
-  present = let below = c.unmarked-marks.ensures.older 0 in omega arith;
+  generation = let below = c.unmarked-marks.ensures.older 0 in omega arith;
   taken = search rules;
   short = search rules;
   room = search rules;
