@@ -1,3 +1,4 @@
+//! The instruction of a 32-bit word, by opcode, then by the fields that the opcode leaves open.
 ghost use Rattle.rv_isa.specs.Bits.{field as bits_of};
 ghost use Rattle.rv_isa.specs.Words.{rows, fits, Means32, meaning32, IsWellFormed, named};
 ghost use Rattle.rv_isa.specs.Words.{branches, loads, stores, immediates, shifts, arithmetic_shifts, registers, registers_alternate, fences, instruction_fences, products};
