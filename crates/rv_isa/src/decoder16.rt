@@ -1,4 +1,4 @@
-//! The instruction of a halfword, by way of a 32-bit word with the same meaning; and which halfwords begin a longer one.
+//! The instruction of a halfword, by way of a 32-bit word that means the same; and which halfwords begin a word.
 ghost use Rattle.rv_isa.specs.Bits.{field as bits_of};
 ghost use Rattle.rv_isa.specs.Halfwords.{rows16, fits16, Means16, meaning16, Expands};
 ghost use Rattle.rv_isa.specs.Words.{Means32, IsWellFormed};

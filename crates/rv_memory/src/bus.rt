@@ -1,8 +1,10 @@
 //! A bus, and what a hart does with it: loads, stores, fetches and FENCE.I; and the placing of an image's bytes.
-ghost use Rattle.std.specs.Prelude.{◌≡◌, ◌+◌, ◌*◌, ◌/◌, ◌%◌, ◌^◌, ◌<◌, ◌⊎◌, IsTrue, IfOk, IfSome, MatchResult, Ok, None, length};
+ghost use Rattle.std.specs.Prelude.{◌≡◌, ◌+◌, ◌*◌, ◌/◌, ◌%◌, ◌^◌, ◌<◌, ◌⊎◌, IsTrue, IfOk, IfSome, MatchResult, Ok};
+ghost use Rattle.std.specs.Prelude.{None, length};
 ghost use Rattle.rv_memory.specs.Regions.{in_one};
 ghost use Rattle.rv_memory.specs.Maps.{map_error};
-ghost use Rattle.rv_memory.specs.Bus.{size_of, load_from, store_to, fetch_half_from, fetch_word_from, clean_from, synced, placed};
+ghost use Rattle.rv_memory.specs.Bus.{size_of, load_from, store_to, fetch_half_from, fetch_word_from, clean_from};
+ghost use Rattle.rv_memory.specs.Bus.{synced, placed};
 
 use crate::access::{read, read_word, write};
 use crate::map::Map;
@@ -50,10 +52,10 @@ pub enum FetchFault {
 
 /// The memory of a map with its marks of stored bytes, and the console.
 ///
-/// The console has the addresses `0x1000_0000` to `0x1000_000f`. A word load at the first gives the
-/// next byte of the script, or `0xffff_ffff` at its end, and a word store there appends its low byte
-/// to the output, which takes 65,536 bytes. A word load at `0x1000_0004` gives the number of bytes
-/// that are left of the script. Every other access that touches one of the 16 bytes is refused.
+/// The console has the addresses `0x1000_0000` to `0x1000_000f`. A word load at the first gives the next byte of the
+/// script, or `0xffff_ffff` at its end, and a word store there appends its low byte to the output, which takes 65,536
+/// bytes. A word load at `0x1000_0004` gives the number of bytes that are left of the script. Every other access that
+/// touches one of the 16 bytes is refused.
 #[derive(Drop)]
 pub struct Bus {
     pub(crate) map: Map,
@@ -84,8 +86,7 @@ impl Model for Bus {
 }
 
 impl Bus {
-    /// Places bytes from an address on, as an image's are: in a region that is not writable too, and
-    /// none of them counts as stored.
+    /// Places bytes from an address on, as an image's are: in read-only regions too, and none counts as stored.
     pub fn place(&mut self, addr: u32, bytes: &[u8])
         requires { IsTrue (in_one self.old.regions addr (length bytes.now)) }
         ensures { self.new ≡ placed self.old addr bytes.now }
@@ -167,8 +168,7 @@ impl Bus {
         Some(read_word(&self.bytes, place.at))
     }
 
-    /// Whether [`Bus::fetch_half`] would give each halfword of the `len` bytes, 2 or 4, from an address on, which may
-    /// be odd: each lies in one region, and has no stored byte.
+    /// Whether [`Bus::fetch_half`] would give each halfword of the 2 or 4 bytes from an address on, which may be odd.
     #[tactic(auto, unfolding(crate::specs::Bus::clean_from))]
     pub fn clean(&self, addr: u32, len: u32) -> bool
         requires { (len ≡ 2) ⊎ (len ≡ 4) }

@@ -25,7 +25,8 @@ impl Bus {
     #[inline]
     pub(crate) fn load_console(&mut self, addr: u32, width: Width) -> Result<u32, BusFault>
         ensures narrow { IfOk result (λ v. v < 2 ^ (8 * size_of width)) }
-        ensures value { MatchResult result (λ v. console_load self.old addr width ≡ Ok (v, self.new))
+        ensures value { MatchResult result
+            (λ v. console_load self.old addr width ≡ Ok (v, self.new))
             (λ e. (console_load self.old addr width ≡ Err e) × (self.new ≡ self.old)) }
     {
         let Width::Word = width else {

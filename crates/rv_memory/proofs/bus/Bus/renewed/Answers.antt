@@ -17,5 +17,6 @@ invariant_of-result c = record {
 
 pub returns : goal.returns
 returns c =
-    renewed_is c.args.map _ c.unmarked-marks.result.1 c.fill.new.self.items c.unmarked-marks.result.0.items c.args.script.items c.clear.new.self.items c.args.misaligned
+    renewed_is c.args.map _ c.unmarked-marks.result.1 c.fill.new.self.items c.unmarked-marks.result.0.items
+    c.args.script.items c.clear.new.self.items c.args.misaligned
     (c.fill.ensures.items (λ y e. e)) c.unmarked-marks.ensures.older c.clear.ensures.items
