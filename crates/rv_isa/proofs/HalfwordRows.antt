@@ -1,5 +1,6 @@
 -- The 16-bit rows: no halfword has two.
-use Rattle.std.proofs.Common.{◌≡◌, ◌≤◌, ℕ, Bool, true, ◌&&◌, ◌||◌, not, eqb, List, [], ◌∷◌, Option, Some, None, ◌↔◌, ◌≢◌, IsNone, IfSome, refl, sym, ◌∙◌, ap, inl, inr}
+use Rattle.std.proofs.Common.{◌≡◌, ◌≤◌, ℕ, Bool, true, ◌&&◌, ◌||◌, not, eqb, List, [], ◌∷◌, Option, Some, None, ◌↔◌}
+use Rattle.std.proofs.Common.{◌≢◌, IsNone, IfSome, refl, sym, ◌∙◌, ap, inl, inr}
 use Rattle.std.specs.Prelude.{count_by}
 use Rattle.std.specs.List.{list_any}
 use Rattle.std.proofs.lemmas.Bool.{and_parts, or_cases, eqb-true, eqb-false, not-true, false≢true}
@@ -21,14 +22,16 @@ same f g = eqb f.high g.high && (eqb f.low g.low && eqb f.value g.value)
 abbrev apart : Row16 → Row16 → Bool
 apart r s =
     list_any (λ f. list_any (λ g. differ f g) s.fixed) r.fixed
-    || (list_any (λ f. list_any (λ g. same f g) s.barred) r.fixed || list_any (λ f. list_any (λ g. same f g) r.barred) s.fixed)
+    || (list_any (λ f. list_any (λ g. same f g) s.barred) r.fixed
+    || list_any (λ f. list_any (λ g. same f g) r.barred) s.fixed)
 
 rows_apart : pairs_pass apart rows16 ≡ true
 unfolding rows16
 rows_apart = refl
 
 -- a field that is barred is not there
-barred_in : (h : ℕ) (fs : List Fixed) (f : Fixed) → lacks_fields h fs ≡ true → list_any (λ g. same f g) fs ≡ true → field h f.high f.low ≡ f.value → ⊥
+barred_in : (h : ℕ) (fs : List Fixed) (f : Fixed) → lacks_fields h fs ≡ true → list_any (λ g. same f g) fs ≡ true
+    → field h f.high f.low ≡ f.value → ⊥
 barred_in h [] f l t p = false≢true t
 barred_in h (g ∷ gs) f l t p =
     let parts = and_parts (not (eqb (field h g.high g.low) g.value)) (lacks_fields h gs) l in
@@ -56,10 +59,16 @@ apart_sound isa h r s a p q =
     let second = list_any (λ f. list_any (λ g. same f g) s.barred) r.fixed in
     let third = list_any (λ f. list_any (λ g. same f g) r.barred) s.fixed in
     elim (or_cases first (second || third) a) [
-      | inl t ↦ fixed_in h r.fixed (λ f. list_any (λ g. differ f g) s.fixed) rs.0 t ⊥ (λ f any x. fixed_in h s.fixed (λ g. differ f g) ss.0 any ⊥ (λ g c y. differ_sound h f g c x y))
+      | inl t ↦
+          fixed_in h r.fixed (λ f. list_any (λ g. differ f g) s.fixed) rs.0 t ⊥
+          (λ f any x. fixed_in h s.fixed (λ g. differ f g) ss.0 any ⊥ (λ g c y. differ_sound h f g c x y))
       | inr more ↦ elim (or_cases second third more) [
-        | inl t ↦ fixed_in h r.fixed (λ f. list_any (λ g. same f g) s.barred) rs.0 t ⊥ (λ f any x. barred_in h s.barred f sl.0 any x)
-        | inr t ↦ fixed_in h s.fixed (λ f. list_any (λ g. same f g) r.barred) ss.0 t ⊥ (λ f any x. barred_in h r.barred f rl.0 any x)
+        | inl t ↦
+            fixed_in h r.fixed (λ f. list_any (λ g. same f g) s.barred) rs.0 t ⊥
+            (λ f any x. barred_in h s.barred f sl.0 any x)
+        | inr t ↦
+            fixed_in h s.fixed (λ f. list_any (λ g. same f g) r.barred) ss.0 t ⊥
+            (λ f any x. barred_in h r.barred f rl.0 any x)
       ]
     ]
 
@@ -71,7 +80,8 @@ pub meaning16_means : (isa : Isa) (h : ℕ) (i : Instr) → (meaning16 isa h ≡
 unfolding meaning16 Means16
 meaning16_means isa h i = (
   (λ e. first_of-found (fits16 isa h) (λ r. r.gives h) rows16 i e),
-  (λ m. first_of-only (fits16 isa h) (λ r. r.gives h) rows16 m.0 m.1 (one_row isa h) m.2 m.3 m.4.0 ∙ ap (λ j. Some j) (sym m.4.1)),
+  (λ m. first_of-only (fits16 isa h) (λ r. r.gives h) rows16 m.0 m.1 (one_row isa h) m.2 m.3 m.4.0
+      ∙ ap (λ j. Some j) (sym m.4.1)),
 )
 
 -- an answer that is not `None`
@@ -89,7 +99,8 @@ expands_none h (Some w) e = (
   (λ n. let x = found (meaning16 set.Imc h) e.1 in absurd (n x.0 ((meaning16_means set.Imc h x.0).0 x.1))),
 )
 
-pub expands_word : (h : ℕ) (r : Option ℕ) → Expands h r → IfSome r (λ w. (i : Instr) → Means32 set.Imc w i ↔ Means16 set.Imc h i)
+pub expands_word : (h : ℕ) (r : Option ℕ) → Expands h r
+    → IfSome r (λ w. (i : Instr) → Means32 set.Imc w i ↔ Means16 set.Imc h i)
 expands_word h None e = tt
 expands_word h (Some w) e = λ i. (
   (λ m. (meaning16_means set.Imc h i).0 (sym e.0 ∙ (meaning32_means set.Imc w i).1 m)),

@@ -1,5 +1,6 @@
 -- The 32-bit rows: no word has two.
-use Rattle.std.proofs.Common.{◌≡◌, ◌≤◌, ℕ, Bool, true, ◌&&◌, ◌||◌, not, eqb, leb, List, [], ◌∷◌, Some, ◌↔◌, refl, sym, ◌∙◌, ap, subst, inl, inr}
+use Rattle.std.proofs.Common.{◌≡◌, ◌≤◌, ℕ, Bool, true, ◌&&◌, ◌||◌, not, eqb, leb, List, [], ◌∷◌, Some, ◌↔◌, refl, sym}
+use Rattle.std.proofs.Common.{◌∙◌, ap, subst, inl, inr}
 use Rattle.std.specs.Prelude.{count_by}
 use Rattle.std.specs.List.{list_any}
 use Rattle.std.proofs.lemmas.Bool.{and_parts, or_cases, eqb-true, eqb-false, leb-true, not-true, false≢true}
@@ -31,18 +32,22 @@ rows_apart : pairs_pass apart rows ≡ true
 unfolding rows field refutes
 rows_apart = refl
 
-refutes_sound : (w : ℕ) (f g : Fixed) → refutes f g ≡ true → field w f.high f.low ≡ f.value → field w g.high g.low ≡ g.value → ⊥
+refutes_sound : (w : ℕ) (f g : Fixed) → refutes f g ≡ true → field w f.high f.low ≡ f.value
+    → field w g.high g.low ≡ g.value → ⊥
 unfolding refutes
 refutes_sound w f g r p q =
-    let a = and_parts (eqb f.low 0) (leb g.low g.high && (leb g.high f.high && not (eqb (field f.value g.high g.low) g.value))) r in
+    let a = and_parts (eqb f.low 0)
+    (leb g.low g.high && (leb g.high f.high && not (eqb (field f.value g.high g.low) g.value))) r in
     let b = and_parts (leb g.low g.high) (leb g.high f.high && not (eqb (field f.value g.high g.low) g.value)) a.1 in
     let d = and_parts (leb g.high f.high) (not (eqb (field f.value g.high g.low) g.value)) b.1 in
     let from_low : field w f.high 0 ≡ f.value = subst (λ l. field w f.high l ≡ f.value) (eqb-true f.low 0 a.0) p in
     let inner : field f.value g.high g.low ≡ field w g.high g.low =
-    ap (λ v. field v g.high g.low) (sym from_low) ∙ field-low w f.high g.high g.low (leb-true g.low g.high b.0) (leb-true g.high f.high d.0) in
+    ap (λ v. field v g.high g.low) (sym from_low)
+    ∙ field-low w f.high g.high g.low (leb-true g.low g.high b.0) (leb-true g.high f.high d.0) in
     eqb-false (field f.value g.high g.low) g.value (not-true (eqb (field f.value g.high g.low) g.value) d.1) (inner ∙ q)
 
-pub differ_sound : (w : ℕ) (f g : Fixed) → differ f g ≡ true → field w f.high f.low ≡ f.value → field w g.high g.low ≡ g.value → ⊥
+pub differ_sound : (w : ℕ) (f g : Fixed) → differ f g ≡ true → field w f.high f.low ≡ f.value
+    → field w g.high g.low ≡ g.value → ⊥
 differ_sound w f g r p q =
     let a = and_parts (eqb f.high g.high) (eqb f.low g.low && not (eqb f.value g.value)) r in
     let b = and_parts (eqb f.low g.low) (not (eqb f.value g.value)) a.1 in
@@ -50,7 +55,8 @@ differ_sound w f g r p q =
     let l : f.low ≡ g.low = eqb-true f.low g.low b.0 in
     eqb-false f.value g.value (not-true (eqb f.value g.value) b.1) (cc)
 
-clash_sound : (w : ℕ) (f g : Fixed) → clash f g ≡ true → field w f.high f.low ≡ f.value → field w g.high g.low ≡ g.value → ⊥
+clash_sound : (w : ℕ) (f g : Fixed) → clash f g ≡ true → field w f.high f.low ≡ f.value → field w g.high g.low ≡ g.value
+    → ⊥
 clash_sound w f g c p q =
     elim (or_cases (differ f g) (refutes f g || refutes g f) c) [
       | inl d ↦ differ_sound w f g d p q
@@ -61,7 +67,8 @@ clash_sound w f g c p q =
     ]
 
 -- of the fields that a word has, one passes the test
-pub fixed_in : (w : ℕ) (fs : List Fixed) (test : Fixed → Bool) → has_fields w fs ≡ true → list_any test fs ≡ true → (P : Type 0) → ((f : Fixed) → test f ≡ true → field w f.high f.low ≡ f.value → P) → P
+pub fixed_in : (w : ℕ) (fs : List Fixed) (test : Fixed → Bool) → has_fields w fs ≡ true → list_any test fs ≡ true
+    → (P : Type 0) → ((f : Fixed) → test f ≡ true → field w f.high f.low ≡ f.value → P) → P
 fixed_in w [] test h t P k = absurd (false≢true t)
 fixed_in w (f ∷ fs) test h t P k =
     let parts = and_parts (eqb (field w f.high f.low) f.value) (has_fields w fs) h in
@@ -89,5 +96,6 @@ pub meaning32_means : (isa : Isa) (w : ℕ) (i : Instr) → (meaning32 isa w ≡
 unfolding meaning32 Means32
 meaning32_means isa w i = (
   (λ h. first_of-found (fits isa w) (λ r. instruction r.name r.format w) rows i h),
-  (λ m. first_of-only (fits isa w) (λ r. instruction r.name r.format w) rows m.0 m.1 (one_row isa w) m.2 m.3 m.4.0 ∙ ap (λ j. Some j) (sym m.4.1)),
+  (λ m. first_of-only (fits isa w) (λ r. instruction r.name r.format w) rows m.0 m.1 (one_row isa w) m.2 m.3 m.4.0
+      ∙ ap (λ j. Some j) (sym m.4.1)),
 )

@@ -1,4 +1,5 @@
--- Numbers as bits and as two's complement: the notation in which the RISC-V Unprivileged ISA 20191213 writes encodings and arithmetic (chapter 2).
+-- Numbers as bits and as two's complement: the notation in which the RISC-V Unprivileged ISA 20191213 writes encodings
+-- and arithmetic (chapter 2).
 use Rattle.std.specs.Prelude.{ℕ, ◌+◌, ◌-◌, ◌/◌, ◌%◌, ◌^◌, ℤ, pos, negsuc, ◌-ℤ◌, if◌then◌else◌, nat_lt}
 
 -- the bits of n from high down to low, as a number

@@ -1,4 +1,5 @@
--- Which extensions a set of instructions has. A set is named by its letters (RISC-V Unprivileged ISA 20191213, chapter 27): I is the base, which all have, M multiplication and division, C 16-bit instructions.
+-- Which extensions a set of instructions has. A set is named by its letters (RISC-V Unprivileged ISA 20191213, chapter
+-- 27): I is the base, which all have, M multiplication and division, C 16-bit instructions.
 use Rattle.std.specs.Prelude.{Bool, true, false}
 use Rattle.rv_isa.specs.declared.sets.Isa.{Isa}
 use Rattle.rv_isa.specs.declared.sets.Isa.TheVariants as set

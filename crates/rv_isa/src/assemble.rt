@@ -148,7 +148,8 @@ pub fn beq(rs1: u32, rs2: u32, offset: u32) -> u32
     requires rs2 { rs2 < 32 }
     requires offset { offset < 8192 }
     requires even { offset % 2 ≡ 0 }
-    ensures { meaning32 set.Imc result ≡ Some (operands op.Beq 0 rs1 rs2 (sign_extended 13 offset)) }
+    ensures { meaning32 set.Imc result
+        ≡ Some (operands op.Beq 0 rs1 rs2 (sign_extended 13 offset)) }
 {
     b_word(offset, rs2, rs1, 0, BRANCH)
 }
@@ -159,7 +160,8 @@ pub fn bne(rs1: u32, rs2: u32, offset: u32) -> u32
     requires rs2 { rs2 < 32 }
     requires offset { offset < 8192 }
     requires even { offset % 2 ≡ 0 }
-    ensures { meaning32 set.Imc result ≡ Some (operands op.Bne 0 rs1 rs2 (sign_extended 13 offset)) }
+    ensures { meaning32 set.Imc result
+        ≡ Some (operands op.Bne 0 rs1 rs2 (sign_extended 13 offset)) }
 {
     b_word(offset, rs2, rs1, 1, BRANCH)
 }
@@ -178,7 +180,8 @@ pub fn jal(rd: u32, offset: u32) -> u32
 pub fn lui(rd: u32, upper: u32) -> u32
     requires rd { rd < 32 }
     requires upper { upper < 2 ^ 20 }
-    ensures { meaning32 set.Imc result ≡ Some (operands op.Lui rd 0 0 (sign_extended 32 (4096 * upper))) }
+    ensures { meaning32 set.Imc result
+        ≡ Some (operands op.Lui rd 0 0 (sign_extended 32 (4096 * upper))) }
 {
     u_word(upper, rd, LUI)
 }

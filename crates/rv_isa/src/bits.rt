@@ -1,3 +1,4 @@
+//! Bit fields: taking one out of a word, joining two, and reading one as two's complement.
 ghost use Rattle.rv_isa.specs.Bits.{field as bits_of, sign_extended};
 ghost use Rattle.std.specs.Prelude.{ℕ, ◌≡◌, ◌+◌, ◌*◌, ◌-◌, ◌<◌, ◌≤◌, ◌^◌};
 

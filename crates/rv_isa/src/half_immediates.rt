@@ -8,8 +8,8 @@ use crate::bits::{field, join};
 
 /// C.ADDI, C.LI and C.ANDI, and in units of 4096 C.LUI.
 #[inline]
-pub fn small(half: u32) -> u32
-    ensures value { result ≡ row.small half }
+pub fn imm_ci(half: u32) -> u32
+    ensures value { result ≡ row.immediate_ci half }
     ensures below { result < 64 }
 {
     join(field(half, 12, 12), field(half, 6, 2), 5)
@@ -17,8 +17,8 @@ pub fn small(half: u32) -> u32
 
 /// C.ADDI4SPN.
 #[inline]
-pub fn stack_address(half: u32) -> u32
-    ensures value { result ≡ row.stack_address half }
+pub fn imm_ciw(half: u32) -> u32
+    ensures value { result ≡ row.immediate_ciw half }
     ensures below { result < 1024 }
 {
     let upper = join(field(half, 10, 7), field(half, 12, 11), 2);
@@ -28,8 +28,8 @@ pub fn stack_address(half: u32) -> u32
 
 /// C.LW and C.SW.
 #[inline]
-pub fn word_offset(half: u32) -> u32
-    ensures value { result ≡ row.word_offset half }
+pub fn imm_cl(half: u32) -> u32
+    ensures value { result ≡ row.immediate_cl half }
     ensures below { result < 128 }
 {
     let upper = join(field(half, 5, 5), field(half, 12, 10), 3);
@@ -38,8 +38,8 @@ pub fn word_offset(half: u32) -> u32
 
 /// C.ADDI16SP.
 #[inline]
-pub fn stack_step(half: u32) -> u32
-    ensures value { result ≡ row.stack_step half }
+pub fn imm_addi16sp(half: u32) -> u32
+    ensures value { result ≡ row.immediate_addi16sp half }
     ensures below { result < 1024 }
 {
     let upper = join(field(half, 12, 12), field(half, 4, 3), 2);
@@ -49,7 +49,7 @@ pub fn stack_step(half: u32) -> u32
 
 /// C.J and C.JAL.
 #[inline]
-pub fn jump_offset(half: u32) -> u32
+pub fn imm_cj(half: u32) -> u32
     ensures value { result ≡ row.jump_offset half }
     ensures below { result < 4096 }
     ensures even { result % 2 ≡ 0 }
@@ -63,7 +63,7 @@ pub fn jump_offset(half: u32) -> u32
 
 /// C.BEQZ and C.BNEZ.
 #[inline]
-pub fn branch_offset(half: u32) -> u32
+pub fn imm_cb(half: u32) -> u32
     ensures value { result ≡ row.branch_offset half }
     ensures below { result < 512 }
     ensures even { result % 2 ≡ 0 }
@@ -75,8 +75,8 @@ pub fn branch_offset(half: u32) -> u32
 
 /// C.LWSP.
 #[inline]
-pub fn stack_load(half: u32) -> u32
-    ensures value { result ≡ row.stack_load half }
+pub fn imm_lwsp(half: u32) -> u32
+    ensures value { result ≡ row.immediate_lwsp half }
     ensures below { result < 256 }
 {
     let upper = join(field(half, 3, 2), field(half, 12, 12), 1);
@@ -85,8 +85,8 @@ pub fn stack_load(half: u32) -> u32
 
 /// C.SWSP.
 #[inline]
-pub fn stack_store(half: u32) -> u32
-    ensures value { result ≡ row.stack_store half }
+pub fn imm_css(half: u32) -> u32
+    ensures value { result ≡ row.immediate_css half }
     ensures below { result < 256 }
 {
     join(field(half, 8, 7), field(half, 12, 9), 4) << 2

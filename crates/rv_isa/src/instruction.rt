@@ -1,3 +1,5 @@
+//! An instruction, whatever its length was: its name and its operands.
+
 /// The name of an instruction of RV32IM with Zifencei, in the order of the listing of the RISC-V Unprivileged ISA
 /// 20191213 (chapter 24). The 16-bit instructions of the C extension have the names of what they stand for.
 #[derive(Clone, Copy, Debug, PartialEq, Eq)]

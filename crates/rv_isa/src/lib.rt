@@ -9,17 +9,17 @@
 
 mod assemble;
 mod bits;
+mod decoder16;
+mod decoder32;
 mod encode;
 mod formats;
 mod half_immediates;
-mod halfwords;
 mod instruction;
 mod opcodes;
 mod sets;
-mod words;
 
 pub use bits::sign_extend;
-pub use halfwords::{decode16, expand, is_long, no_halfword_has_two_rows};
+pub use decoder16::{decode16, expand, is_long, no_halfword_has_two_rows};
+pub use decoder32::{decode32, no_word_has_two_rows};
 pub use instruction::{Instr, Op};
 pub use sets::Isa;
-pub use words::{decode32, no_word_has_two_rows};

@@ -1,3 +1,4 @@
+//! The sets of instructions that a hart may have.
 ghost use Rattle.rv_isa.specs.Extensions.{has, RV32M, RV32C};
 ghost use Rattle.std.specs.Prelude.{◌≡◌};
 

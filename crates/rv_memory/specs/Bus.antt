@@ -1,6 +1,9 @@
 -- What stands in a bus, and what each access gives and leaves.
--- Memory is little-endian (RISC-V Unprivileged ISA 20191213, sections 1.4 and 2.6); the fences' part is that of its chapter 3, "Zifencei".
-use Rattle.std.specs.Prelude.{◌≡◌, ℕ, ◌+◌, ◌*◌, ◌/◌, ◌%◌, Bool, true, false, ◌&&◌, ◌||◌, ◌==◌, nat_lt, not, if◌then◌else◌, List, [], ◌∷◌, ◌++◌, length, drop, unwrap_or, Option, Some, None, Result, Ok, Err, is_ok, refl}
+-- Memory is little-endian (RISC-V Unprivileged ISA 20191213, sections 1.4 and 2.6); the fences' part is that of its
+-- chapter 3, "Zifencei".
+use Rattle.std.specs.Prelude.{◌≡◌, ℕ, ◌+◌, ◌*◌, ◌/◌, ◌%◌, Bool, true, false, ◌&&◌, ◌||◌, ◌==◌, nat_lt, not}
+use Rattle.std.specs.Prelude.{if◌then◌else◌, List, [], ◌∷◌, ◌++◌, length, drop, unwrap_or, Option, Some, None, Result}
+use Rattle.std.specs.Prelude.{Ok, Err, is_ok, refl}
 use Rattle.std.specs.Ordering.{nat_cmp}
 use Rattle.std.specs.FinMap as fin
 use Rattle.std.specs.FinSet as set
@@ -32,7 +35,9 @@ pub record Contents : Type 0 where
 
 -- a region as nested pairs
 abbrev pub region_code : Coded Region
-region_code = code_by (ℕ × (ℕ × Bool)) (coded× coded_ℕ (coded× coded_ℕ coded_bool)) (λ r. (r.base, (r.size, r.writable))) (λ p. record { base = p.0; size = p.1.0; writable = p.1.1 }) (λ _. refl)
+region_code =
+    code_by (ℕ × (ℕ × Bool)) (coded× coded_ℕ (coded× coded_ℕ coded_bool)) (λ r. (r.base, (r.size, r.writable)))
+    (λ p. record { base = p.0; size = p.1.0; writable = p.1.1 }) (λ _. refl)
 
 -- a choice as a truth value
 abbrev pub allows : Choice → Bool
@@ -54,9 +59,18 @@ choice_code = code_by Bool coded_bool allows choice_of choice_again
 abbrev pub contents_code : Coded Contents
 contents_code =
     code_by (List Region × (fin.FinMap nat_cmp ℕ × (set.FinSet nat_cmp × (List ℕ × (List ℕ × Choice)))))
-    (coded× (coded_list region_code) (coded× (fin.code coded_ℕ coded_ℕ) (coded× (set.code coded_ℕ) (coded× (coded_list coded_ℕ) (coded× (coded_list coded_ℕ) choice_code)))))
+    (coded× (coded_list region_code)
+    (coded× (fin.code coded_ℕ coded_ℕ)
+    (coded× (set.code coded_ℕ) (coded× (coded_list coded_ℕ) (coded× (coded_list coded_ℕ) choice_code)))))
     (λ c. (c.regions, (c.memory, (c.stored, (c.script, (c.output, c.misaligned))))))
-    (λ p. record { regions = p.0; memory = p.1.0; stored = p.1.1.0; script = p.1.1.1.0; output = p.1.1.1.1.0; misaligned = p.1.1.1.1.1 })
+    (λ p. record {
+      regions = p.0;
+      memory = p.1.0;
+      stored = p.1.1.0;
+      script = p.1.1.1.0;
+      output = p.1.1.1.1.0;
+      misaligned = p.1.1.1.1.1;
+    })
     (λ _. refl)
 
 -- the byte at an address of the regions
@@ -97,7 +111,8 @@ abbrev pub next_of : List ℕ → ℕ
 next_of [] = 0xffff_ffff
 next_of (b ∷ bs) = b
 
--- a load from the console: a word at its first address takes a byte of the script, the word after it counts what is left
+-- a load from the console: a word at its first address takes a byte of the script, the word after it counts what is
+-- left
 abbrev pub console_load : Contents → ℕ → Width → Result (ℕ × Contents) BusFault
 console_load c a Byte = Err Access
 console_load c a Half = Err Access
@@ -105,7 +120,8 @@ console_load c a Word =
     if a == 0x1000_0000 then Ok (next_of c.script, record c { script = drop 1 c.script })
     else (if a == 0x1000_0004 then Ok (length c.script, c) else Err Access)
 
--- a load gives an unsigned value: misaligned ones are refused first, unless they are allowed, then those that neither touch the console nor lie in one region
+-- a load gives an unsigned value: misaligned ones are refused first, unless they are allowed, then those that neither
+-- touch the console nor lie in one region
 abbrev pub load_from : Contents → ℕ → Width → Result (ℕ × Contents) BusFault
 load_from c a w =
     if refuses c.misaligned a w then Err Misaligned
@@ -121,7 +137,8 @@ abbrev pub put : Contents → ℕ → Width → ℕ → Contents
 put c a Byte v = put_byte c a (v % 0x100)
 put c a Half v = put_byte (put_byte c a (v % 0x100)) (a + 1) (v / 0x100 % 0x100)
 put c a Word v =
-    put_byte (put_byte (put_byte (put_byte c a (v % 0x100)) (a + 1) (v / 0x100 % 0x100)) (a + 2) (v / 0x1_0000 % 0x100)) (a + 3) (v / 0x100_0000 % 0x100)
+    put_byte (put_byte (put_byte (put_byte c a (v % 0x100)) (a + 1) (v / 0x100 % 0x100)) (a + 2) (v / 0x1_0000 % 0x100))
+    (a + 3) (v / 0x100_0000 % 0x100)
 
 -- a store to the console: a word at its first address appends its low byte, up to 65,536 bytes in all
 abbrev pub console_store : Contents → ℕ → Width → ℕ → Result Contents BusFault
@@ -129,9 +146,11 @@ console_store c a Byte v = Err Access
 console_store c a Half v = Err Access
 console_store c a Word v =
     if not (a == 0x1000_0000) then Err Access
-    else (if nat_lt (length c.output) 0x1_0000 then Ok (record c { output = c.output ++ (v % 0x100) ∷ [] }) else Err ConsoleFull)
+    else (if nat_lt (length c.output) 0x1_0000 then Ok (record c { output = c.output ++ (v % 0x100) ∷ [] })
+    else Err ConsoleFull)
 
--- a store: misaligned ones are refused first, unless they are allowed, then those that neither touch the console nor lie in one writable region
+-- a store: misaligned ones are refused first, unless they are allowed, then those that neither touch the console nor
+-- lie in one writable region
 abbrev pub store_to : Contents → ℕ → Width → ℕ → Result Contents BusFault
 store_to c a w v =
     if refuses c.misaligned a w then Err Misaligned

@@ -1,11 +1,14 @@
-ghost use Rattle.std.specs.Prelude.{◌≡◌, ◌==◌, ◌+◌, ◌*◌, ◌/◌, ◌%◌, ◌^◌, ◌<◌, ◌≤◌, ◌⊎◌, ℕ, IsTrue, IfOk, IfSome, MatchResult, Ok, None, length, drop, slice_index, vec_len};
+//! A bus, and what a hart does with it: loads, stores, fetches and FENCE.I; and the placing of an image's bytes.
+ghost use Rattle.std.specs.Prelude.{◌≡◌, ◌+◌, ◌*◌, ◌/◌, ◌%◌, ◌^◌, ◌<◌, ◌⊎◌, IsTrue, IfOk, IfSome, MatchResult, Ok};
+ghost use Rattle.std.specs.Prelude.{None, length};
 ghost use Rattle.rv_memory.specs.Regions.{in_one};
 ghost use Rattle.rv_memory.specs.Maps.{map_error};
-ghost use Rattle.rv_memory.specs.Bus.{size_of, refuses, load_from, store_to, fetch_half_from, fetch_word_from, console_load, console_store, next_of, clean_from, synced, placed, opened};
+ghost use Rattle.rv_memory.specs.Bus.{size_of, load_from, store_to, fetch_half_from, fetch_word_from, clean_from};
+ghost use Rattle.rv_memory.specs.Bus.{synced, placed};
 
-use crate::access::{has_mark, mark, read, read_word, write};
+use crate::access::{read, read_word, write};
 use crate::map::Map;
-use std::alloc::{AllocError, Global};
+use crate::marks::{has_mark, mark};
 use std::marker::Model;
 
 /// How many bytes an access has: one, two or four.
@@ -49,23 +52,23 @@ pub enum FetchFault {
 
 /// The memory of a map with its marks of stored bytes, and the console.
 ///
-/// The console has the addresses `0x1000_0000` to `0x1000_000f`. A word load at the first gives the
-/// next byte of the script, or `0xffff_ffff` at its end, and a word store there appends its low byte
-/// to the output, which takes 65,536 bytes. A word load at `0x1000_0004` gives the number of bytes
-/// that are left of the script. Every other access that touches one of the 16 bytes is refused.
+/// The console has the addresses `0x1000_0000` to `0x1000_000f`. A word load at the first gives the next byte of the
+/// script, or `0xffff_ffff` at its end, and a word store there appends its low byte to the output, which takes 65,536
+/// bytes. A word load at `0x1000_0004` gives the number of bytes that are left of the script. Every other access that
+/// touches one of the 16 bytes is refused.
 #[derive(Drop)]
 pub struct Bus {
     pub(crate) map: Map,
     // The bytes of the regions, one region after another, and their marks.
     pub(crate) bytes: Vec<u8>,
-    marks: Vec<u8>,
+    pub(crate) marks: Vec<u8>,
     // A byte is stored where its mark is this generation; the older ones are below it.
-    present: u8,
-    console: Vec<u8>,
-    script: Vec<u8>,
+    pub(crate) generation: u8,
+    pub(crate) console: Vec<u8>,
+    pub(crate) script: Vec<u8>,
     // How many bytes of the script were read.
-    taken: usize,
-    misaligned: Misaligned,
+    pub(crate) taken: usize,
+    pub(crate) misaligned: Misaligned,
 }
 
 impl Model for Bus {
@@ -82,114 +85,8 @@ impl Model for Bus {
     ghost invariant = { IsBusInside };
 }
 
-impl Width {
-    #[inline]
-    fn size(self) -> u32
-        ensures { result ≡ size_of self }
-    {
-        match self {
-            Width::Byte => 1,
-            Width::Half => 2,
-            Width::Word => 4,
-        }
-    }
-
-    /// Whether an address is a multiple of the number of bytes.
-    #[inline]
-    fn divides(self, addr: u32) -> bool
-        ensures { result ≡ (addr % size_of self == 0) }
-    {
-        addr % self.size() == 0
-    }
-}
-
-impl Misaligned {
-    /// Whether an access is refused for its address. The choice is asked last: an aligned access needs it not.
-    #[inline]
-    fn refuses(self, addr: u32, width: Width) -> bool
-        ensures { result ≡ refuses self addr width }
-    {
-        !width.divides(addr) && matches!(self, Misaligned::Fault)
-    }
-}
-
-/// Where a word load takes a byte of the script, and a word store appends one to the output.
-const CONSOLE_BYTE: u32 = 0x1000_0000;
-
-/// Where a word load counts what is left of the script.
-const SCRIPT_LEFT: u32 = 0x1000_0004;
-
-/// The most bytes that the console's output has.
-const CONSOLE_ROOM: usize = 0x1_0000;
-
 impl Bus {
-    /// A bus over the regions of a map: zero memory, nothing stored, and no output. The script has at most 65,536
-    /// bytes.
-    pub fn new(
-        alloc: Global,
-        map: Map,
-        script: Vec<u8>,
-        misaligned: Misaligned,
-    ) -> Result<Bus, AllocError>
-        requires { vec_len script ≤ 0x1_0000 }
-        ensures { IfOk result (λ b. b ≡ opened map script.items misaligned) }
-    {
-        let total = map.total();
-        let bytes = vec![in alloc; 0u8; total]?;
-        let marks = vec![in alloc; 0u8; total]?;
-        let console = Vec::with_capacity(alloc, CONSOLE_ROOM)?;
-        Ok(Bus {
-            map,
-            bytes,
-            marks,
-            present: 1,
-            console,
-            script,
-            taken: 0,
-            misaligned,
-        })
-    }
-
-    /// The same as [`Bus::new`], in the memory of another bus where that has as many bytes; else that memory is given
-    /// back first.
-    pub fn renewed(
-        self,
-        alloc: Global,
-        map: Map,
-        script: Vec<u8>,
-        misaligned: Misaligned,
-    ) -> Result<Bus, AllocError>
-        requires { vec_len script ≤ 0x1_0000 }
-        ensures { IfOk result (λ bus. bus ≡ opened map script.items misaligned) }
-    {
-        if self.bytes.len() != map.total() {
-            drop(self);
-            return Bus::new(alloc, map, script, misaligned);
-        }
-        let Bus {
-            mut bytes,
-            marks,
-            present,
-            mut console,
-            ..
-        } = self;
-        bytes.fill(0);
-        console.clear();
-        let (marks, present) = unmarked(marks, present);
-        Ok(Bus {
-            map,
-            bytes,
-            marks,
-            present,
-            console,
-            script,
-            taken: 0,
-            misaligned,
-        })
-    }
-
-    /// Places bytes from an address on, as an image's are: in a region that is not writable too, and
-    /// none of them counts as stored.
+    /// Places bytes from an address on, as an image's are: in read-only regions too, and none counts as stored.
     pub fn place(&mut self, addr: u32, bytes: &[u8])
         requires { IsTrue (in_one self.old.regions addr (length bytes.now)) }
         ensures { self.new ≡ placed self.old addr bytes.now }
@@ -235,7 +132,7 @@ impl Bus {
             return Err(BusFault::Access);
         }
         write(&mut self.bytes, place.at, width, value);
-        mark(&mut self.marks, place.at, width, self.present);
+        mark(&mut self.marks, place.at, width, self.generation);
         Ok(())
     }
 
@@ -247,10 +144,10 @@ impl Bus {
         let Some(place) = self.map.place(addr, 2) else {
             return Err(FetchFault::Unmapped);
         };
-        if self.marks[place.at] == self.present {
+        if self.marks[place.at] == self.generation {
             return Err(FetchFault::Stale);
         }
-        if self.marks[place.at + 1] == self.present {
+        if self.marks[place.at + 1] == self.generation {
             return Err(FetchFault::Stale);
         }
         Ok(u16::from(self.bytes[place.at]) + 0x100 * u16::from(self.bytes[place.at + 1]))
@@ -265,14 +162,13 @@ impl Bus {
             × (fetch_half_from self.now ((addr + 2) % 0x1_0000_0000) ≡ Ok (w / 0x1_0000))) }
     {
         let place = self.map.place(addr, 4)?;
-        if has_mark(&self.marks, place.at, self.present) {
+        if has_mark(&self.marks, place.at, self.generation) {
             return None;
         }
         Some(read_word(&self.bytes, place.at))
     }
 
-    /// Whether [`Bus::fetch_half`] would give each halfword of the `len` bytes, 2 or 4, from an address on, which may
-    /// be odd: each lies in one region, and has no stored byte.
+    /// Whether [`Bus::fetch_half`] would give each halfword of the 2 or 4 bytes from an address on, which may be odd.
     #[tactic(auto, unfolding(crate::specs::Bus::clean_from))]
     pub fn clean(&self, addr: u32, len: u32) -> bool
         requires { (len ≡ 2) ⊎ (len ≡ 4) }
@@ -285,19 +181,12 @@ impl Bus {
     pub fn sync_code(&mut self)
         ensures { self.new ≡ synced self.old }
     {
-        if self.present < u8::MAX {
-            self.present += 1;
+        if self.generation < u8::MAX {
+            self.generation += 1;
         } else {
             self.marks.fill(0);
-            self.present = 1;
+            self.generation = 1;
         }
-    }
-
-    /// The output so far.
-    pub fn console(&self) -> &[u8]
-        ensures { result.now ≡ self.now.output }
-    {
-        &self.console
     }
 
     /// The map that the bus was made with.
@@ -307,68 +196,4 @@ impl Bus {
     {
         self.map
     }
-
-    /// A load whose bytes don't lie in one region.
-    #[inline]
-    fn load_console(&mut self, addr: u32, width: Width) -> Result<u32, BusFault>
-        ensures narrow { IfOk result (λ v. v < 2 ^ (8 * size_of width)) }
-        ensures value { MatchResult result (λ v. console_load self.old addr width ≡ Ok (v, self.new))
-            (λ e. (console_load self.old addr width ≡ Err e) × (self.new ≡ self.old)) }
-    {
-        let Width::Word = width else {
-            return Err(BusFault::Access);
-        };
-        if addr == CONSOLE_BYTE {
-            return Ok(self.take_script());
-        }
-        if addr == SCRIPT_LEFT {
-            return Ok((self.script.len() - self.taken) as u32);
-        }
-        Err(BusFault::Access)
-    }
-
-    #[inline]
-    fn take_script(&mut self) -> u32
-        ensures value { result ≡ next_of self.old.script }
-        ensures rest { self.new ≡ record self.old { script = drop 1 self.old.script } }
-    {
-        if self.taken == self.script.len() {
-            return u32::MAX;
-        }
-        let byte = self.script[self.taken];
-        self.taken += 1;
-        u32::from(byte)
-    }
-
-    /// A store whose bytes don't lie in one region.
-    #[inline]
-    fn store_console(&mut self, addr: u32, width: Width, value: u32) -> Result<(), BusFault>
-        ensures { MatchResult result (λ _. console_store self.old addr width value ≡ Ok self.new)
-            (λ e. (console_store self.old addr width value ≡ Err e) × (self.new ≡ self.old)) }
-    {
-        let Width::Word = width else {
-            return Err(BusFault::Access);
-        };
-        if addr != CONSOLE_BYTE {
-            return Err(BusFault::Access);
-        }
-        if self.console.len() >= CONSOLE_ROOM {
-            return Err(BusFault::ConsoleFull);
-        }
-        self.console.push_reserved((value % 0x100) as u8);
-        Ok(())
-    }
-}
-
-// Marks and the next generation, in which none of them is.
-fn unmarked(mut marks: Vec<u8>, present: u8) -> (Vec<u8>, u8)
-    requires { (k : ℕ) → slice_index marks.items k ≤ present }
-    ensures length { length result.0.items ≡ length marks.items }
-    ensures older { (k : ℕ) → slice_index result.0.items k < result.1 }
-{
-    if present < u8::MAX {
-        return (marks, present + 1);
-    }
-    marks.fill(0);
-    (marks, 1)
 }

@@ -4,4 +4,11 @@ use Rattle.rv_isa.proofs.ByOpcode.{at_immediate}
 use Rattle.rv_isa.proofs.assemble.andi.Goals as goal
 
 pub returns : goal.returns
-returns c = rw (at_immediate set.Imc c.i_word.result c.i_word.ensures.opcode, c.i_word.ensures.funct3, c.i_word.ensures.rd, c.i_word.ensures.rs1, c.i_word.ensures.imm) refl
+returns c =
+    rw (
+      at_immediate set.Imc c.i_word.result c.i_word.ensures.opcode,
+      c.i_word.ensures.funct3,
+      c.i_word.ensures.rd,
+      c.i_word.ensures.rs1,
+      c.i_word.ensures.imm,
+    ) refl

@@ -4,4 +4,11 @@ use Rattle.rv_isa.proofs.ByOpcode.{at_branch}
 use Rattle.rv_isa.proofs.assemble.beq.Goals as goal
 
 pub returns : goal.returns
-returns c = rw (at_branch set.Imc c.b_word.result c.b_word.ensures.opcode, c.b_word.ensures.funct3, c.b_word.ensures.rs1, c.b_word.ensures.rs2, c.b_word.ensures.imm) refl
+returns c =
+    rw (
+      at_branch set.Imc c.b_word.result c.b_word.ensures.opcode,
+      c.b_word.ensures.funct3,
+      c.b_word.ensures.rs1,
+      c.b_word.ensures.rs2,
+      c.b_word.ensures.imm,
+    ) refl

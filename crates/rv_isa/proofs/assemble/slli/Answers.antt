@@ -4,4 +4,12 @@ use Rattle.rv_isa.proofs.ByOpcode.{at_immediate}
 use Rattle.rv_isa.proofs.assemble.slli.Goals as goal
 
 pub returns : goal.returns
-returns c = rw (at_immediate set.Imc c.r_word.result c.r_word.ensures.opcode, c.r_word.ensures.funct3, c.r_word.ensures.funct7, c.r_word.ensures.rd, c.r_word.ensures.rs1, c.r_word.ensures.rs2) refl
+returns c =
+    rw (
+      at_immediate set.Imc c.r_word.result c.r_word.ensures.opcode,
+      c.r_word.ensures.funct3,
+      c.r_word.ensures.funct7,
+      c.r_word.ensures.rd,
+      c.r_word.ensures.rs1,
+      c.r_word.ensures.rs2,
+    ) refl

@@ -29,4 +29,13 @@ returns-clause-imm c =
     ∙ ap (λ x. field x 0 0) r.rd
     ∙ low.below 0 0 (omega arith) (omega arith)
     ∙ field_self c.field-4.result 0 (omega arith) in
-    rw (b12, f10, f4, b11, c.field.ensures.value, c.field-2.ensures.value, c.field-3.ensures.value, c.field-4.ensures.value) (ap (sign_extended 13) (parts_b c.args.offset c.requires.offset c.requires.even))
+    rw (
+      b12,
+      f10,
+      f4,
+      b11,
+      c.field.ensures.value,
+      c.field-2.ensures.value,
+      c.field-3.ensures.value,
+      c.field-4.ensures.value,
+    ) (ap (sign_extended 13) (parts_b c.args.offset c.requires.offset c.requires.even))

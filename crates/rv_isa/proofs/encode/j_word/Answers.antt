@@ -35,4 +35,13 @@ returns-clause-imm c =
     ∙ ap (λ x. field x 7 0) r
     ∙ outer.below 7 0 (omega arith) (omega arith)
     ∙ field_self c.field-4.result 7 (omega arith) in
-    rw (b20, f10, b11, f19, c.field.ensures.value, c.field-2.ensures.value, c.field-3.ensures.value, c.field-4.ensures.value) (ap (sign_extended 21) (parts_j c.args.offset c.requires.offset c.requires.even))
+    rw (
+      b20,
+      f10,
+      b11,
+      f19,
+      c.field.ensures.value,
+      c.field-2.ensures.value,
+      c.field-3.ensures.value,
+      c.field-4.ensures.value,
+    ) (ap (sign_extended 21) (parts_j c.args.offset c.requires.offset c.requires.even))

@@ -8,4 +8,6 @@ pub returns : goal.returns
 returns c =
     let s = c.self.inside in
     let value = c.read_word.ensures.value ∙ ap (λ b. read_at b c.in-Some.place.at Word) c.deref.ensures.value in
-    rw (← c.self.view_is) (value ∙ sym (value_at-memory_of s.map s.bytes.items c.args.addr c.in-Some.place.at Word c.in-Some.place.writable c.in-Some.ensures))
+    rw (← c.self.view_is)
+    (value ∙ sym (value_at-memory_of s.map s.bytes.items c.args.addr c.in-Some.place.at Word
+    c.in-Some.place.writable c.in-Some.ensures))

@@ -1,5 +1,5 @@
 use Rattle.rv_isa.proofs.HalfwordRows.{expands_none, expands_word}
-use Rattle.rv_isa.proofs.halfwords.expand.Goals as goal
+use Rattle.rv_isa.proofs.decoder16.expand.Goals as goal
 
 pub returns-clause-none : goal.returns-clause-none
 returns-clause-none c = expands_none c.args.half c.find_word.result c.find_word.ensures

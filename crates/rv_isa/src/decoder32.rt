@@ -1,6 +1,8 @@
+//! The instruction of a 32-bit word, by opcode, then by the fields that the opcode leaves open.
 ghost use Rattle.rv_isa.specs.Bits.{field as bits_of};
 ghost use Rattle.rv_isa.specs.Words.{rows, fits, Means32, meaning32, IsWellFormed, named};
-ghost use Rattle.rv_isa.specs.Words.{branches, loads, stores, immediates, shifts, arithmetic_shifts, registers, registers_alternate, fences, instruction_fences, products};
+ghost use Rattle.rv_isa.specs.Words.{branches, loads, stores, immediates, shifts, arithmetic_shifts};
+ghost use Rattle.rv_isa.specs.Words.{registers, registers_alternate, fences, instruction_fences, products};
 ghost use Rattle.rv_isa.specs.Extensions.{has, RV32M};
 ghost use Rattle.rv_isa.specs.declared.instruction.Instr.{Instr};
 ghost use Rattle.rv_isa.specs.declared.sets.Isa.{Isa as Set};

@@ -1,6 +1,6 @@
 use Rattle.rv_isa.proofs.WordRows.{meaning32_means}
 use Rattle.rv_isa.proofs.WellFormed.{meaning32_formed}
-use Rattle.rv_isa.proofs.words.decode32.Goals as goal
+use Rattle.rv_isa.proofs.decoder32.decode32.Goals as goal
 
 pub returns-clause-meaning : goal.returns-clause-meaning
 returns-clause-meaning c i = rw c.find.ensures (meaning32_means c.args.isa c.args.word i)

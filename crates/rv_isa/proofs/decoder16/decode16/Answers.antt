@@ -1,5 +1,5 @@
 use Rattle.rv_isa.proofs.HalfwordRows.{meaning16_means}
-use Rattle.rv_isa.proofs.halfwords.decode16.Goals as goal
+use Rattle.rv_isa.proofs.decoder16.decode16.Goals as goal
 
 pub returns-clause-meaning : goal.returns-clause-meaning
 returns-clause-meaning c i = rw c.find.ensures.value (meaning16_means c.args.isa c.args.half i)

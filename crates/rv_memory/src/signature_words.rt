@@ -1,3 +1,4 @@
+//! The words of a range of memory, which a signature is made of.
 ghost use Rattle.std.specs.Prelude.{◌≡◌, ◌↔◌, ◌-◌, ◌%◌, ◌<◌, ◌≤◌, IfOk, IsTrue};
 ghost use Rattle.rv_memory.specs.Regions.{in_one};
 ghost use Rattle.rv_memory.specs.Bus.{word_at};
@@ -7,7 +8,7 @@ use crate::access::read_word;
 use crate::bus::Bus;
 use std::alloc::{AllocError, Global};
 
-/// The bytes of a word.
+// The bytes of a word.
 const WORD: u32 = 4;
 
 impl Bus {
@@ -47,7 +48,7 @@ impl Bus {
         true
     }
 
-    /// The word at an address whose four bytes lie in one region.
+    // The word at an address whose four bytes lie in one region.
     fn word(&self, addr: u32) -> u32
         requires { IsTrue (in_one self.now.regions addr 4) }
         ensures { result ≡ word_at self.now.memory addr }

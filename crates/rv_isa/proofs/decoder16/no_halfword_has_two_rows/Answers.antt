@@ -1,5 +1,5 @@
 use Rattle.rv_isa.proofs.HalfwordRows.{one_row}
-use Rattle.rv_isa.proofs.halfwords.no_halfword_has_two_rows.Goals as goal
+use Rattle.rv_isa.proofs.decoder16.no_halfword_has_two_rows.Goals as goal
 
 pub returns : goal.returns
 returns c isa half = one_row isa half

@@ -1,3 +1,4 @@
+//! The instruction of a halfword, by way of a 32-bit word that means the same; and which halfwords begin a word.
 ghost use Rattle.rv_isa.specs.Bits.{field as bits_of};
 ghost use Rattle.rv_isa.specs.Halfwords.{rows16, fits16, Means16, meaning16, Expands};
 ghost use Rattle.rv_isa.specs.Words.{Means32, IsWellFormed};
@@ -10,14 +11,13 @@ use crate::assemble::{
     EBREAK, add, addi, and, andi, beq, bne, jal, jalr, lui, lw, or, slli, srai, srli, sub, sw, xor,
 };
 use crate::bits::field;
+use crate::decoder32::decode32;
 use crate::encode::widen;
 use crate::half_immediates::{
-    branch_offset, jump_offset, small, stack_address, stack_load, stack_step, stack_store,
-    word_offset,
+    imm_addi16sp, imm_cb, imm_ci, imm_ciw, imm_cj, imm_cl, imm_css, imm_lwsp,
 };
 use crate::instruction::Instr;
 use crate::sets::Isa;
-use crate::words::decode32;
 
 /// Whether a halfword begins a 32-bit instruction: its low two bits are 11 (section 1.5 of the RISC-V Unprivileged ISA
 /// 20191213). Every other halfword is a whole instruction, or illegal.
@@ -90,9 +90,9 @@ fn quadrant0(half: u32) -> Option<u32>
     let low = 8 + field(half, 4, 2);
     let high = 8 + field(half, 9, 7);
     match field(half, 15, 13) {
-        0 if stack_address(half) != 0 => Some(addi(low, 2, stack_address(half))),
-        2 => Some(lw(low, high, word_offset(half))),
-        6 => Some(sw(high, low, word_offset(half))),
+        0 if imm_ciw(half) != 0 => Some(addi(low, 2, imm_ciw(half))),
+        2 => Some(lw(low, high, imm_cl(half))),
+        6 => Some(sw(high, low, imm_cl(half))),
         _ => None,
     }
 }
@@ -105,18 +105,18 @@ fn quadrant1(half: u32) -> Option<u32>
     let rd = field(half, 11, 7);
     let high = 8 + field(half, 9, 7);
     match field(half, 15, 13) {
-        0 => Some(addi(rd, rd, widen(small(half), 6, 12))),
-        1 => Some(jal(1, widen(jump_offset(half), 12, 21))),
-        2 => Some(addi(rd, 0, widen(small(half), 6, 12))),
+        0 => Some(addi(rd, rd, widen(imm_ci(half), 6, 12))),
+        1 => Some(jal(1, widen(imm_cj(half), 12, 21))),
+        2 => Some(addi(rd, 0, widen(imm_ci(half), 6, 12))),
         3 => upper(half),
         4 => arithmetic(half),
-        5 => Some(jal(0, widen(jump_offset(half), 12, 21))),
-        6 => Some(beq(high, 0, widen(branch_offset(half), 9, 13))),
-        _ => Some(bne(high, 0, widen(branch_offset(half), 9, 13))),
+        5 => Some(jal(0, widen(imm_cj(half), 12, 21))),
+        6 => Some(beq(high, 0, widen(imm_cb(half), 9, 13))),
+        _ => Some(bne(high, 0, widen(imm_cb(half), 9, 13))),
     }
 }
 
-/// C.ADDI16SP and C.LUI. The two take their immediates from the same bits, so both are 0 together.
+// C.ADDI16SP and C.LUI. The two take their immediates from the same bits, so both are 0 together.
 #[tactic(auto, using(crate::proofs::ByQuadrant::by_quadrant))]
 fn upper(half: u32) -> Option<u32>
     requires quadrant { bits_of half 1 0 ≡ 1 }
@@ -124,11 +124,11 @@ fn upper(half: u32) -> Option<u32>
     ensures { Expands half result }
 {
     let rd = field(half, 11, 7);
-    let imm = small(half);
+    let imm = imm_ci(half);
     if imm == 0 {
         None
     } else if rd == 2 {
-        Some(addi(2, 2, widen(stack_step(half), 10, 12)))
+        Some(addi(2, 2, widen(imm_addi16sp(half), 10, 12)))
     } else {
         Some(lui(rd, widen(imm, 6, 20)))
     }
@@ -145,7 +145,7 @@ fn arithmetic(half: u32) -> Option<u32>
     match (field(half, 11, 10), field(half, 12, 12)) {
         (0, 0) => Some(srli(high, high, field(half, 6, 2))),
         (1, 0) => Some(srai(high, high, field(half, 6, 2))),
-        (2, _) => Some(andi(high, high, widen(small(half), 6, 12))),
+        (2, _) => Some(andi(high, high, widen(imm_ci(half), 6, 12))),
         (3, 0) => Some(match field(half, 6, 5) {
             0 => sub(high, high, low),
             1 => xor(high, high, low),
@@ -164,14 +164,14 @@ fn quadrant2(half: u32) -> Option<u32>
     let rd = field(half, 11, 7);
     match field(half, 15, 13) {
         0 if field(half, 12, 12) == 0 => Some(slli(rd, rd, field(half, 6, 2))),
-        2 if rd != 0 => Some(lw(rd, 2, stack_load(half))),
+        2 if rd != 0 => Some(lw(rd, 2, imm_lwsp(half))),
         4 => registers(half),
-        6 => Some(sw(2, field(half, 6, 2), stack_store(half))),
+        6 => Some(sw(2, field(half, 6, 2), imm_css(half))),
         _ => None,
     }
 }
 
-/// C.JR, C.MV, C.EBREAK, C.JALR and C.ADD.
+// C.JR, C.MV, C.EBREAK, C.JALR and C.ADD.
 #[tactic(auto, using(crate::proofs::ByQuadrant::by_quadrant))]
 fn registers(half: u32) -> Option<u32>
     requires quadrant { bits_of half 1 0 ≡ 2 }

@@ -1,0 +1,81 @@
+//! The console of a bus: its addresses, and the loads and stores of its words.
+ghost use Rattle.std.specs.Prelude.{◌≡◌, ◌*◌, ◌^◌, ◌<◌, IfOk, MatchResult, Ok, drop};
+ghost use Rattle.rv_memory.specs.Bus.{size_of, console_load, console_store, next_of};
+
+use crate::bus::{Bus, BusFault, Width};
+
+// Where a word load takes a byte of the script, and a word store appends one to the output.
+const CONSOLE_BYTE: u32 = 0x1000_0000;
+
+// Where a word load counts what is left of the script.
+const SCRIPT_LEFT: u32 = 0x1000_0004;
+
+/// The most bytes that the console's output has.
+pub(crate) const CONSOLE_ROOM: usize = 0x1_0000;
+
+impl Bus {
+    /// The output so far.
+    pub fn console(&self) -> &[u8]
+        ensures { result.now ≡ self.now.output }
+    {
+        &self.console
+    }
+
+    /// A load whose bytes don't lie in one region.
+    #[inline]
+    pub(crate) fn load_console(&mut self, addr: u32, width: Width) -> Result<u32, BusFault>
+        ensures narrow { IfOk result (λ v. v < 2 ^ (8 * size_of width)) }
+        ensures value { MatchResult result
+            (λ v. console_load self.old addr width ≡ Ok (v, self.new))
+            (λ e. (console_load self.old addr width ≡ Err e) × (self.new ≡ self.old)) }
+    {
+        let Width::Word = width else {
+            return Err(BusFault::Access);
+        };
+        if addr == CONSOLE_BYTE {
+            return Ok(self.take_script());
+        }
+        if addr == SCRIPT_LEFT {
+            return Ok((self.script.len() - self.taken) as u32);
+        }
+        Err(BusFault::Access)
+    }
+
+    // The next byte of the script, or all ones at its end.
+    #[inline]
+    fn take_script(&mut self) -> u32
+        ensures value { result ≡ next_of self.old.script }
+        ensures rest { self.new ≡ record self.old { script = drop 1 self.old.script } }
+    {
+        if self.taken == self.script.len() {
+            return u32::MAX;
+        }
+        let byte = self.script[self.taken];
+        self.taken += 1;
+        u32::from(byte)
+    }
+
+    /// A store whose bytes don't lie in one region.
+    #[inline]
+    pub(crate) fn store_console(
+        &mut self,
+        addr: u32,
+        width: Width,
+        value: u32,
+    ) -> Result<(), BusFault>
+        ensures { MatchResult result (λ _. console_store self.old addr width value ≡ Ok self.new)
+            (λ e. (console_store self.old addr width value ≡ Err e) × (self.new ≡ self.old)) }
+    {
+        let Width::Word = width else {
+            return Err(BusFault::Access);
+        };
+        if addr != CONSOLE_BYTE {
+            return Err(BusFault::Access);
+        }
+        if self.console.len() >= CONSOLE_ROOM {
+            return Err(BusFault::ConsoleFull);
+        }
+        self.console.push_reserved((value % 0x100) as u8);
+        Ok(())
+    }
+}

@@ -1,0 +1,76 @@
+//! Buses as they begin: in new memory, or in that of a bus which is done with.
+ghost use Rattle.std.specs.Prelude.{◌≡◌, ◌≤◌, IfOk, vec_len};
+ghost use Rattle.rv_memory.specs.Bus.{opened};
+
+use crate::bus::{Bus, Misaligned};
+use crate::console::CONSOLE_ROOM;
+use crate::map::Map;
+use crate::marks::unmarked;
+use std::alloc::{AllocError, Global};
+
+impl Bus {
+    /// A bus over the regions of a map: zero memory, nothing stored, and no output. The script has at most 65,536
+    /// bytes.
+    pub fn new(
+        alloc: Global,
+        map: Map,
+        script: Vec<u8>,
+        misaligned: Misaligned,
+    ) -> Result<Bus, AllocError>
+        requires { vec_len script ≤ 0x1_0000 }
+        ensures { IfOk result (λ b. b ≡ opened map script.items misaligned) }
+    {
+        let total = map.total();
+        let bytes = vec![in alloc; 0u8; total]?;
+        let marks = vec![in alloc; 0u8; total]?;
+        let console = Vec::with_capacity(alloc, CONSOLE_ROOM)?;
+        Ok(Bus {
+            map,
+            bytes,
+            marks,
+            generation: 1,
+            console,
+            script,
+            taken: 0,
+            misaligned,
+        })
+    }
+
+    /// The same as [`Bus::new`], in the memory of another bus where that has as many bytes; else that memory is given
+    /// back first.
+    pub fn renewed(
+        self,
+        alloc: Global,
+        map: Map,
+        script: Vec<u8>,
+        misaligned: Misaligned,
+    ) -> Result<Bus, AllocError>
+        requires { vec_len script ≤ 0x1_0000 }
+        ensures { IfOk result (λ bus. bus ≡ opened map script.items misaligned) }
+    {
+        if self.bytes.len() != map.total() {
+            drop(self);
+            return Bus::new(alloc, map, script, misaligned);
+        }
+        let Bus {
+            mut bytes,
+            marks,
+            generation,
+            mut console,
+            ..
+        } = self;
+        bytes.fill(0);
+        console.clear();
+        let (marks, generation) = unmarked(marks, generation);
+        Ok(Bus {
+            map,
+            bytes,
+            marks,
+            generation,
+            console,
+            script,
+            taken: 0,
+            misaligned,
+        })
+    }
+}

@@ -1,0 +1,158 @@
+//! Accesses whose address is no multiple of their width, where they are allowed and where not.
+use super::{RAM, ROM, accesses, allowing, answer_to, bus, place, region};
+use rv_memory::{Bus, FetchFault};
+use std::alloc::Global;
+use std::test::Fail;
+
+// label | access | the answer where misaligned accesses are allowed | and where they are not
+const MISALIGNED_LOADS: &str = "\
+half at 1 | load half 20000009 | 00003322 | Misaligned
+half at 2 | load half 2000000a | 00004433 | 00004433
+half at 3 | load half 2000000b | 00008544 | Misaligned
+word at 1 | load word 20000009 | 85443322 | Misaligned
+word at 2 | load word 2000000a | 96854433 | Misaligned
+word at 3 | load word 2000000b | a7968544 | Misaligned
+half past the end | load half 2000000f | Access | Misaligned
+word past the end | load word 2000000d | Access | Misaligned
+nothing there | load word 80000002 | Access | Misaligned
+";
+
+// Whether two buses answer as a row says: one that allows misaligned accesses, and one that does not.
+fn both_answer(
+    alloc: Global,
+    allowing: &mut Bus,
+    refusing: &mut Bus,
+    row: &str,
+) -> Result<bool, Fail> {
+    let mut cells = row.split('|');
+    let _label = cells.next();
+    let access = cells.next().unwrap_or("").trim();
+    let allowed = answer_to(alloc, allowing, access)?;
+    let is_allowed = allowed.as_str() == cells.next().unwrap_or("").trim();
+    let refused = answer_to(alloc, refusing, access)?;
+    Ok(is_allowed && refused.as_str() == cells.next().unwrap_or("").trim())
+}
+
+#[test]
+fn misaligned_loads(rt: HostRuntime) -> Result<(), Fail> {
+    let bytes = b"\x11\x22\x33\x44\x85\x96\xa7\xb8";
+    let mut allowed = allowing(rt.alloc(), &[ROM, RAM])?;
+    place(&rt, &mut allowed, 0x2000_0008, bytes);
+    let mut refused = bus(rt.alloc(), &[ROM, RAM], b"")?;
+    place(&rt, &mut refused, 0x2000_0008, bytes);
+    for row in MISALIGNED_LOADS.lines() {
+        assert!(&rt;
+            both_answer(rt.alloc(), &mut allowed, &mut refused, row)?,
+            "{row}"
+        );
+    }
+    Ok(())
+}
+
+// a store into a new bus | the word there | the next word | `x` for each of their halfwords that is stale
+const MISALIGNED_STORES: &str = "\
+store half 20000009 55667788 | 00778800 | 00000000 | xx--
+store half 2000000a 55667788 | 77880000 | 00000000 | -x--
+store half 2000000b 55667788 | 88000000 | 00000077 | -xx-
+store word 20000009 55667788 | 66778800 | 00000055 | xxx-
+store word 2000000a 55667788 | 77880000 | 00005566 | -xx-
+store word 2000000b 55667788 | 88000000 | 00556677 | -xxx
+";
+
+// Whether the store of a row leaves the words that it says, and marks the halfwords.
+fn marks(alloc: Global, row: &str) -> Result<bool, Fail> {
+    let mut bus = allowing(alloc, &[RAM])?;
+    let mut cells = row.split('|');
+    let store = answer_to(alloc, &mut bus, cells.next().unwrap_or("").trim())?;
+    let first = answer_to(alloc, &mut bus, "load word 20000008")?;
+    let is_first = first.as_str() == cells.next().unwrap_or("").trim();
+    let second = answer_to(alloc, &mut bus, "load word 2000000c")?;
+    let is_second = second.as_str() == cells.next().unwrap_or("").trim();
+    let mut stale = String::new(alloc);
+    for addr in [0x2000_0008, 0x2000_000a, 0x2000_000c, 0x2000_000e] {
+        let is_stale = bus.fetch_half(addr) == Err(FetchFault::Stale);
+        stale.push_str(if is_stale { "x" } else { "-" })?;
+    }
+    let is_marked = stale.as_str() == cells.next().unwrap_or("").trim();
+    Ok(store.as_str() == "done" && is_first && is_second && is_marked)
+}
+
+// A misaligned store marks each of its bytes, and no other.
+#[test]
+fn misaligned_stores(rt: HostRuntime) -> Result<(), Fail> {
+    for row in MISALIGNED_STORES.lines() {
+        assert!(&rt; marks(rt.alloc(), row)?, "{row}");
+    }
+    Ok(())
+}
+
+// At the border of two regions: label | access | answer
+const BORDERS: &str = "\
+half over the border | load half 20000007 | Access
+word over the border | load word 20000006 | Access
+half before the border | load half 20000005 | 00000000
+half over the border | store half 20000007 00000000 | Access
+word over the border | store word 20000005 00000000 | Access
+not writable | store half 20000001 00000000 | Access
+half behind the border | store half 20000009 00000000 | done
+";
+
+// In a region up to the last address: label | access | answer
+const LAST_ADDRESSES: &str = "\
+word at 3 bytes | store word fffffffd 00001234 | Access
+word at 2 bytes | store word fffffffe 00001234 | Access
+word at the last byte | store word ffffffff 00001234 | Access
+half at the last byte | store half ffffffff 00001234 | Access
+half at 3 bytes | store half fffffffd 00001234 | done
+word at 3 bytes | load word fffffffd | Access
+word at 2 bytes | load word fffffffe | Access
+word at the last byte | load word ffffffff | Access
+half at the last byte | load half ffffffff | Access
+half at 3 bytes | load half fffffffd | 00001234
+";
+
+// Under `Allow` an access still lies in one region, which for a store is a writable one.
+#[test]
+fn misaligned_accesses_at_borders(rt: HostRuntime) -> Result<(), Fail> {
+    let mut two = allowing(rt.alloc(), &[ROM, RAM])?;
+    accesses(&rt, rt.alloc(), &mut two, BORDERS)?;
+    let mut last = allowing(rt.alloc(), &[region(0xffff_fff8, 8)])?;
+    accesses(&rt, rt.alloc(), &mut last, LAST_ADDRESSES)
+}
+
+// Between two regions: label | access | answer
+const AT_THE_CONSOLE: &str = "\
+half over its start | load half 0fffffff | Access
+half over its start | store half 0fffffff 00000000 | Access
+word over its start | load word 0fffffff | Access
+word over its start | store word 0fffffff 00000000 | Access
+half within it | load half 10000001 | Access
+half within it | store half 10000001 00000000 | Access
+word within it | load word 10000001 | Access
+word within it | store word 10000001 00000000 | Access
+half over its end | load half 1000000f | Access
+half over its end | store half 1000000f 00000000 | Access
+word over its end | load word 1000000f | Access
+word over its end | store word 1000000f 00000000 | Access
+word up to its second byte | store word 0ffffffe 00001234 | Access
+word behind its fifth byte | store word 10000005 00001234 | Access
+half up to it | store half 0ffffffe 00001234 | done
+half behind it | store half 10000011 00001234 | done
+its first word | store word 10000000 00001234 | done
+word up to its second byte | load word 0ffffffe | Access
+word behind its fifth byte | load word 10000005 | Access
+half up to it | load half 0ffffffe | 00001234
+half behind it | load half 10000011 | 00001234
+its first word | load word 10000000 | ffffffff
+its second word | load word 10000004 | 00000000
+";
+
+// Between two regions, the console's bytes are reached by its own word accesses alone.
+#[test]
+fn misaligned_accesses_at_the_console(rt: HostRuntime) -> Result<(), Fail> {
+    let sides = [region(0x0fff_fff0, 0x10), region(0x1000_0010, 0x10)];
+    let mut bus = allowing(rt.alloc(), &sides)?;
+    accesses(&rt, rt.alloc(), &mut bus, AT_THE_CONSOLE)?;
+    assert_eq!(&rt; bus.console(), b"\x34".as_slice());
+    Ok(())
+}
