@@ -24,13 +24,6 @@ sections_there file h e =
     let size = or_parts (not (e_shentsize file == 40)) (ltb (length file) (e_shoff file + 40 * e_shnum file)) count.1 in
     record { header = h; room = ltb-false (length file) (e_shoff file + 40 * e_shnum file) size.1 }
 
--- sections that are not refused lie in the file
-pub symbols_within : (n : ℕ) (s : Section) → is_bad_symbols n s ≡ false → is_past n s ≡ false
-symbols_within n s e = (or_parts _ (is_past n s) (or_parts (not (s.entsize == 16)) _ e).1).1
-
-pub strings_within : (n : ℕ) (s : Section) → is_bad_strings n s ≡ false → is_past n s ≡ false
-strings_within n s e = (or_parts (not (s.kind == 3)) (is_past n s) e).1
-
 passed : (b : Bool) (w : ImageError) (rest : Result ℕ ImageError) → b ≡ false → cond b (Err w) rest ≡ rest
 passed b w rest e = ap (λ x. cond x (Err w) rest) e
 

@@ -8,7 +8,7 @@ use Rattle.rv_elf.specs.declared.error.ImageError.{ImageError}
 use Rattle.rv_elf.specs.declared.error.ImageError.TheVariants.{OutOfMemory}
 use Rattle.rv_elf.specs.declared.image.Image.{Image}
 use Rattle.rv_elf.specs.declared.image.Segment.{Segment}
-use Rattle.rv_elf.specs.declared.table.Entry.{Entry}
+use Rattle.rv_elf.specs.declared.program_headers.ProgramHeader.{ProgramHeader}
 use Rattle.rv_elf.specs.Rows.{first_row, accepted}
 use Rattle.rv_elf.specs.Image.{header_rows, entry_rows, image_rows, header_check, entry_check, image_check, entries, segments, kept_of, is_load, is_kept, is_past, is_dynamic, has_bad_sizes, image_there, table_of, image_of, IsImageOf}
 use Rattle.rv_elf.proofs.FirstRow.{none_refuses, refusal_stays, none_refused}
@@ -23,22 +23,22 @@ pub header_refused : (isa : Isa) (file : List ℕ) (w : ImageError) → Err w �
 unfolding image_of header_check
 header_refused isa file w e = refusal_stays (header_rows file) (table_of isa file) w (sym e)
 
-pub entries_refused : (isa : Isa) (file : List ℕ) (found : List Entry) (w : ImageError) → found ≡ entries file → Err w ≡ entry_check (length file) found → table_of isa file ≡ Err w
+pub entries_refused : (isa : Isa) (file : List ℕ) (found : List ProgramHeader) (w : ImageError) → found ≡ entries file → Err w ≡ entry_check (length file) found → table_of isa file ≡ Err w
 unfolding table_of entry_check
 entries_refused isa file found w is e = refusal_stays (entry_rows (length file) (entries file)) _ w (sym (rw is at e))
 
-entries_passed : (isa : Isa) (file : List ℕ) (found : List Entry) → found ≡ entries file → accepted ≡ entry_check (length file) found
+entries_passed : (isa : Isa) (file : List ℕ) (found : List ProgramHeader) → found ≡ entries file → accepted ≡ entry_check (length file) found
     → table_of isa file ≡ first_row (image_rows isa (image_there file)) (Ok (image_there file))
 unfolding table_of entry_check
 entries_passed isa file found is e = none_refuses (entry_rows (length file) (entries file)) _ (sym (rw is at e))
 
-pub image_refused : (isa : Isa) (file : List ℕ) (found : List Entry) (image : Image) (w : ImageError) → found ≡ entries file → image ≡ image_there file
+pub image_refused : (isa : Isa) (file : List ℕ) (found : List ProgramHeader) (image : Image) (w : ImageError) → found ≡ entries file → image ≡ image_there file
     → accepted ≡ entry_check (length file) found → Err w ≡ image_check isa image → table_of isa file ≡ Err w
 unfolding image_check
 image_refused isa file found image w is there p e =
     entries_passed isa file found is p ∙ refusal_stays (image_rows isa (image_there file)) _ w (sym (rw there at e))
 
-pub image_passed : (isa : Isa) (file : List ℕ) (found : List Entry) (image : Image) → found ≡ entries file → image ≡ image_there file
+pub image_passed : (isa : Isa) (file : List ℕ) (found : List ProgramHeader) (image : Image) → found ≡ entries file → image ≡ image_there file
     → accepted ≡ entry_check (length file) found → accepted ≡ image_check isa image → table_of isa file ≡ Ok image
 unfolding image_check
 image_passed isa file found image is there p e =
@@ -50,7 +50,7 @@ image_passed isa file found image is there p e =
 abbrev pub in_file : ℕ → Segment → Bool
 in_file n s = not (ltb 0 s.filesz && ltb n (s.offset + s.filesz))
 
-kept_in_file : (n : ℕ) (found : List Entry) → list_any (is_past n) found ≡ false → list_all (in_file n) (kept_of found) ≡ true
+kept_in_file : (n : ℕ) (found : List ProgramHeader) → list_any (is_past n) found ≡ false → list_all (in_file n) (kept_of found) ≡ true
 kept_in_file n [] e = refl
 kept_in_file n (x ∷ xs) e =
     let p = or_parts (is_past n x) _ e in

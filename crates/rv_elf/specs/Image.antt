@@ -8,7 +8,7 @@ use Rattle.rv_elf.specs.declared.error.ImageError.{ImageError}
 use Rattle.rv_elf.specs.declared.error.ImageError.TheVariants.{ShortHeader, BadMagic, Not32Bit, NotLittleEndian, BadVersion, NotExecutable, NotRiscv, ProgramTable, Dynamic, SegmentSizes, SegmentFile, NoSegment, EntryOdd, EntryAlign}
 use Rattle.rv_elf.specs.declared.image.Segment.{Segment}
 use Rattle.rv_elf.specs.declared.image.Image.{Image}
-use Rattle.rv_elf.specs.declared.table.Entry.{Entry}
+use Rattle.rv_elf.specs.declared.program_headers.ProgramHeader.{ProgramHeader}
 use Rattle.rv_elf.specs.Fields.{byte_at, half_at, word_at}
 use Rattle.rv_elf.specs.Rows.{Row, first_row, accepted}
 
@@ -47,11 +47,11 @@ segment_at file at = record {
   memsz = word_at file (at + 20);
 }
 
-unfoldable pub entry_at : List ℕ → ℕ → Entry
-entry_at file at = record { kind = word_at file at; segment = segment_at file at }
+unfoldable pub entry_at : List ℕ → ℕ → ProgramHeader
+entry_at file at = record { p_type = word_at file at; segment = segment_at file at }
 
 -- the table: e_phnum entries of 32 bytes from e_phoff on
-unfoldable pub entries : List ℕ → List Entry
+unfoldable pub entries : List ℕ → List ProgramHeader
 entries file = map (λ k. entry_at file (e_phoff file + 32 * k)) (range_with_len 0 (e_phnum file))
 
 -- ---- the conditions of the refusals
@@ -70,24 +70,24 @@ has_bad_table file = nat_lt 64 (e_phnum file) || (nat_lt 0 (e_phnum file)
     && (not (e_phentsize file == 32) || nat_lt (length file) (e_phoff file + 32 * e_phnum file)))
 
 -- PT_DYNAMIC or PT_INTERP
-abbrev pub is_dynamic : Entry → Bool
-is_dynamic e = (e.kind == 2) || (e.kind == 3)
+abbrev pub is_dynamic : ProgramHeader → Bool
+is_dynamic e = (e.p_type == 2) || (e.p_type == 3)
 
 -- PT_LOAD
-abbrev pub is_load : Entry → Bool
-is_load e = e.kind == 1
+abbrev pub is_load : ProgramHeader → Bool
+is_load e = e.p_type == 1
 
-abbrev pub has_bad_sizes : Entry → Bool
+abbrev pub has_bad_sizes : ProgramHeader → Bool
 has_bad_sizes e = is_load e && nat_lt e.segment.memsz e.segment.filesz
 
 -- its bytes go past a file of n bytes
-abbrev pub is_past : ℕ → Entry → Bool
+abbrev pub is_past : ℕ → ProgramHeader → Bool
 is_past n e = is_load e && (nat_lt 0 e.segment.filesz && nat_lt n (e.segment.offset + e.segment.filesz))
 
-abbrev pub is_kept : Entry → Bool
+abbrev pub is_kept : ProgramHeader → Bool
 is_kept e = is_load e && nat_lt 0 e.segment.memsz
 
-abbrev pub kept_of : List Entry → List Segment
+abbrev pub kept_of : List ProgramHeader → List Segment
 kept_of found = map (λ e. e.segment) (filter is_kept found)
 
 -- the PT_LOAD entries with a size in memory, in table order
@@ -109,7 +109,7 @@ header_rows file = (nat_lt (length file) 52, ShortHeader)
     ∷ []
 
 -- of the entries that a file of n bytes has, each asked of all of them before the next one is
-abbrev pub entry_rows : ℕ → List Entry → List Row
+abbrev pub entry_rows : ℕ → List ProgramHeader → List Row
 entry_rows n found = (list_any is_dynamic found, Dynamic)
     ∷ (list_any has_bad_sizes found, SegmentSizes)
     ∷ (list_any (is_past n) found, SegmentFile)
@@ -125,7 +125,7 @@ image_rows isa image = (length image.segments == 0, NoSegment)
 unfoldable pub header_check : List ℕ → Result (Unit {0}) ImageError
 header_check file = first_row (header_rows file) accepted
 
-unfoldable pub entry_check : ℕ → List Entry → Result (Unit {0}) ImageError
+unfoldable pub entry_check : ℕ → List ProgramHeader → Result (Unit {0}) ImageError
 entry_check n found = first_row (entry_rows n found) accepted
 
 unfoldable pub image_check : Isa → Image → Result (Unit {0}) ImageError

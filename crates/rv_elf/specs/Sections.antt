@@ -23,7 +23,7 @@ e_shnum file = half_at file 48
 -- the section header at a place
 unfoldable pub section_at : List ℕ → ℕ → Section
 section_at file at = record {
-  kind = word_at file (at + 4);
+  sh_type = word_at file (at + 4);
   offset = word_at file (at + 16);
   size = word_at file (at + 20);
   link = word_at file (at + 24);
@@ -54,7 +54,7 @@ bytes_of file s = take s.size (drop s.offset file)
 
 -- SHT_SYMTAB
 abbrev pub is_symbols : Section → Bool
-is_symbols s = s.kind == 2
+is_symbols s = s.sh_type == 2
 
 -- the first symbol table
 unfoldable pub symbol_table : List ℕ → Option Section
@@ -80,7 +80,7 @@ string_table file symbols = if nat_lt symbols.link (e_shnum file) then Some (sec
 
 -- not SHT_STRTAB, or past a file of n bytes
 abbrev pub is_bad_strings : ℕ → Section → Bool
-is_bad_strings n s = not (s.kind == 3) || is_past n s
+is_bad_strings n s = not (s.sh_type == 3) || is_past n s
 
 -- the text that bytes begin with: those up to the first zero byte, if there is one
 abbrev pub text_of : List ℕ → Option (List ℕ)

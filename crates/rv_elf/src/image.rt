@@ -6,7 +6,7 @@ ghost use Rattle.rv_elf.specs.declared.error.ImageError.TheVariants.{OutOfMemory
 use crate::error::ImageError;
 use crate::fields::{E_ENTRY, word};
 use crate::header::check_header;
-use crate::table::{check_entries, entries, kept_segments};
+use crate::program_headers::{check_entries, entries, kept_segments};
 use rv_isa::Isa;
 use std::alloc::Global;
 use std::marker::Model;

@@ -4,7 +4,7 @@ ghost use Rattle.rv_elf.specs.Sections.{symbol_at, symbol_named, begins_with, is
 ghost use Rattle.rv_elf.specs.Symbols.{symbol_of, signature_check, is_bad_range};
 
 use crate::error::ImageError;
-use crate::fields::{half, word};
+use crate::fields::{ST_NAME, ST_SHNDX, ST_VALUE, half, word};
 use crate::image::Image;
 use crate::sections::{has_bad_sections, string_table, symbol_table};
 use rv_memory::Map;
@@ -98,9 +98,9 @@ fn symbol_at(table: &[u8], at: usize) -> Symbol
     ensures { result ≡ symbol_at table.now at }
 {
     Symbol {
-        name: word(table, at),
-        value: word(table, at + 4),
-        section: half(table, at + 14),
+        name: word(table, at + ST_NAME),
+        value: word(table, at + ST_VALUE),
+        section: half(table, at + ST_SHNDX),
     }
 }
 
