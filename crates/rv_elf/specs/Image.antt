@@ -1,11 +1,15 @@
 -- The image of a file's bytes, or the first refusal of the table that applies.
--- ELF32 of the System V ABI, chapters "Object Files" and "Program Loading"; RISC-V's machine number is that of its ELF psABI.
-use Rattle.std.specs.Prelude.{◌≡◌, ◌≤◌, ◌<◌, ◌==◌, ◌+◌, ◌*◌, ◌%◌, ℕ, Bool, not, ◌&&◌, ◌||◌, List, [], ◌∷◌, length, map, filter, Result, Ok, nat_lt}
+-- ELF32 of the System V ABI, chapters "Object Files" and "Program Loading"; RISC-V's machine number is that of its ELF
+-- psABI.
+use Rattle.std.specs.Prelude.{◌≡◌, ◌≤◌, ◌<◌, ◌==◌, ◌+◌, ◌*◌, ◌%◌, ℕ, Bool, not, ◌&&◌, ◌||◌, List, [], ◌∷◌, length, map,
+    filter, Result, Ok, nat_lt}
 use Rattle.std.specs.List.{list_any, range_with_len}
 use Rattle.rv_isa.specs.declared.sets.Isa.{Isa}
 use Rattle.rv_isa.specs.Extensions.{has, RV32C}
 use Rattle.rv_elf.specs.declared.error.ImageError.{ImageError}
-use Rattle.rv_elf.specs.declared.error.ImageError.TheVariants.{ShortHeader, BadMagic, Not32Bit, NotLittleEndian, BadVersion, NotExecutable, NotRiscv, ProgramTable, Dynamic, SegmentSizes, SegmentFile, NoSegment, EntryOdd, EntryAlign}
+use Rattle.rv_elf.specs.declared.error.ImageError.TheVariants.{ShortHeader, BadMagic, Not32Bit, NotLittleEndian,
+    BadVersion, NotExecutable, NotRiscv, ProgramTable, Dynamic, SegmentSizes, SegmentFile, NoSegment, EntryOdd,
+    EntryAlign}
 use Rattle.rv_elf.specs.declared.image.Segment.{Segment}
 use Rattle.rv_elf.specs.declared.image.Image.{Image}
 use Rattle.rv_elf.specs.declared.program_headers.ProgramHeader.{ProgramHeader}
@@ -35,20 +39,38 @@ e_phentsize file = half_at file 42
 abbrev pub e_phnum : List ℕ → ℕ
 e_phnum file = half_at file 44
 
--- ---- the program header table ("Program Header")
+-- ---- the program header table ("Program Header"), and the fields of the entry at a place
+
+abbrev pub p_type : List ℕ → ℕ → ℕ
+p_type file at = word_at file at
+
+abbrev pub p_offset : List ℕ → ℕ → ℕ
+p_offset file at = word_at file (at + 4)
+
+abbrev pub p_vaddr : List ℕ → ℕ → ℕ
+p_vaddr file at = word_at file (at + 8)
+
+abbrev pub p_paddr : List ℕ → ℕ → ℕ
+p_paddr file at = word_at file (at + 12)
+
+abbrev pub p_filesz : List ℕ → ℕ → ℕ
+p_filesz file at = word_at file (at + 16)
+
+abbrev pub p_memsz : List ℕ → ℕ → ℕ
+p_memsz file at = word_at file (at + 20)
 
 -- the segment of the entry at a place
 unfoldable pub segment_at : List ℕ → ℕ → Segment
 segment_at file at = record {
-  offset = word_at file (at + 4);
-  vaddr = word_at file (at + 8);
-  paddr = word_at file (at + 12);
-  filesz = word_at file (at + 16);
-  memsz = word_at file (at + 20);
+  offset = p_offset file at;
+  vaddr = p_vaddr file at;
+  paddr = p_paddr file at;
+  filesz = p_filesz file at;
+  memsz = p_memsz file at;
 }
 
 unfoldable pub entry_at : List ℕ → ℕ → ProgramHeader
-entry_at file at = record { p_type = word_at file at; segment = segment_at file at }
+entry_at file at = record { p_type = p_type file at; segment = segment_at file at }
 
 -- the table: e_phnum entries of 32 bytes from e_phoff on
 unfoldable pub entries : List ℕ → List ProgramHeader
@@ -58,7 +80,8 @@ entries file = map (λ k. entry_at file (e_phoff file + 32 * k)) (range_with_len
 
 -- 0x7f 'E' 'L' 'F'
 abbrev pub has_magic : List ℕ → Bool
-has_magic file = (byte_at file 0 == 0x7f) && ((byte_at file 1 == 0x45) && ((byte_at file 2 == 0x4c) && (byte_at file 3 == 0x46)))
+has_magic file = (byte_at file 0 == 0x7f) && ((byte_at file 1 == 0x45)
+    && ((byte_at file 2 == 0x4c) && (byte_at file 3 == 0x46)))
 
 -- the version stands twice, in the identification and in e_version, and both are 1
 abbrev pub has_bad_version : List ℕ → Bool
@@ -137,7 +160,8 @@ image_there file = record { entry = e_entry file; segments = segments file }
 
 -- what the header's table says, once the header is not refused
 unfoldable pub table_of : Isa → List ℕ → Result Image ImageError
-table_of isa file = first_row (entry_rows (length file) (entries file)) (first_row (image_rows isa (image_there file)) (Ok (image_there file)))
+table_of isa file = first_row (entry_rows (length file) (entries file))
+    (first_row (image_rows isa (image_there file)) (Ok (image_there file)))
 
 -- the first refusal that applies, or the image
 unfoldable pub image_of : Isa → List ℕ → Result Image ImageError
