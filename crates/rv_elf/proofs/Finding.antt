@@ -1,7 +1,7 @@
 -- A search through the entries of a table, and a text at the front of bytes.
-use Rattle.std.proofs.Common.{◌≡◌, ◌∙◌, ◌<◌, ◌≤◌, ◌+◌, ◌-◌, ◌==◌, ℕ, suc, Bool, true, false, not, ◌&&◌, ◌||◌, cond,
-    List, [], ◌∷◌, Option, Some, None, refl, ap, sym, arith, map, length, get_or, option_map, nat_eq, eqb-true, ne_eqb,
-    ◌≢◌}
+use Rattle.std.proofs.Common.{◌≡◌, ◌∙◌, ◌<◌, ◌≤◌, ◌+◌, ◌-◌, ◌==◌, ℕ, suc, Bool, true, false, not, ◌&&◌, ◌||◌, cond}
+use Rattle.std.proofs.Common.{List, [], ◌∷◌, Option, Some, None, refl, ap, sym, arith, map, length, get_or, option_map}
+use Rattle.std.proofs.Common.{nat_eq, eqb-true, ne_eqb, ◌≢◌}
 use Rattle.std.specs.List.{starts_with, list_any}
 use Rattle.std.specs.List.{find, range_with_len}
 use Rattle.std.specs.Option.{option_map_or}
@@ -12,7 +12,7 @@ module _ {X : Type 0} (p : X → Bool) (f : ℕ → X) where
   -- among the places from k up to n, the first that passes is k, or one from k + 1 on
   pub found_from : (k n : ℕ) → k < n
       → find p (map f (range_with_len k (n - k))) ≡ cond (p (f k)) (Some (f k))
-          (find p (map f (range_with_len (k + 1) (n - (k + 1)))))
+      (find p (map f (range_with_len (k + 1) (n - (k + 1)))))
   found_from k n l = let e : n - k ≡ suc (n - (k + 1)) = omega arith in ap (λ m. find p (map f (range_with_len k m))) e
 
   -- where k does not pass, from k + 1 on
@@ -46,7 +46,7 @@ text_ends b false (Some t) = refl
 
 text_goes_on : (b c : ℕ) (cs : List ℕ) (zero : Bool) (o : Option (List ℕ))
     → option_map_or (bytes_eq (c ∷ cs)) (cond zero (Some []) (option_map (λ t. b ∷ t) o)) false ≡ not zero
-        && ((c == b) && option_map_or (bytes_eq cs) o false)
+    && ((c == b) && option_map_or (bytes_eq cs) o false)
 text_goes_on b c cs true o = refl
 text_goes_on b c cs false None = and_false (c == b)
 text_goes_on b c cs false (Some t) = refl
@@ -93,7 +93,7 @@ zero_alike false zero other starts any h = refl
 -- there is a zero byte behind as many bytes as the text has, these are the text, and it has no zero byte
 pub begins_in_parts : (bs text : List ℕ) → length text < length bs
     → begins bs text ≡ (get_or bs (length text) 0 == 0)
-        && (starts_with nat_eq bs text && not (list_any (λ c. c == 0) text))
+    && (starts_with nat_eq bs text && not (list_any (λ c. c == 0) text))
 begins_in_parts [] text l = absurd (omega arith)
 begins_in_parts (b ∷ bs) [] l = and_true (b == 0)
 begins_in_parts (b ∷ bs) (c ∷ cs) l =
@@ -103,7 +103,7 @@ begins_in_parts (b ∷ bs) (c ∷ cs) l =
     ap (λ r. not (b == 0) && ((c == b) && r)) (begins_in_parts bs cs (omega arith))
     ∙ all_three (b == 0) (c == b) ends starts any
     ∙ ap (λ r. ends && r)
-        (zero_alike (c == b) (b == 0) (c == 0) starts any (λ e. ap (λ x. x == 0) (sym (eqb-true c b e))))
+    (zero_alike (c == b) (b == 0) (c == 0) starts any (λ e. ap (λ x. x == 0) (sym (eqb-true c b e))))
 
 module _ (bs text : List ℕ) (long : length text < length bs) where
   parts : begins_with bs text ≡ (get_or bs (length text) 0 == 0)

@@ -1,18 +1,18 @@
 -- What each test of a name makes of it.
-use Rattle.std.proofs.Common.{◌≡◌, ◌∙◌, ◌≤◌, ◌+◌, ◌*◌, ◌==◌, ℕ, Bool, true, false, not, ◌||◌, cond, ltb, List, Option,
-    Some, None, refl, sym, ap, length, option_map, Result, Ok, Err, unwrap_or, is_none}
+use Rattle.std.proofs.Common.{◌≡◌, ◌∙◌, ◌≤◌, ◌+◌, ◌*◌, ◌==◌, ℕ, Bool, true, false, not, ◌||◌, cond, ltb, List, Option}
+use Rattle.std.proofs.Common.{Some, None, refl, sym, ap, length, option_map, Result, Ok, Err, unwrap_or, is_none}
 use Rattle.std.specs.Option.{option_map_or}
 use Rattle.std.specs.Prelude.{option_and_then}
 use Rattle.std.proofs.lemmas.Bool.{or_parts, ltb-false}
 use Rattle.rv_elf.specs.declared.error.ImageError.{ImageError}
-use Rattle.rv_elf.specs.declared.error.ImageError.TheVariants.{SectionTable, NoSymbols, SymbolTable, StringTable,
-    NoBegin}
+use Rattle.rv_elf.specs.declared.error.ImageError.TheVariants.{SectionTable, NoSymbols, SymbolTable, StringTable}
+use Rattle.rv_elf.specs.declared.error.ImageError.TheVariants.{NoBegin}
 use Rattle.rv_elf.specs.declared.image.Image.{Image}
 use Rattle.rv_elf.specs.declared.sections.Section.{Section}
 use Rattle.rv_elf.specs.declared.symbols.Symbol.{Symbol}
 use Rattle.rv_elf.specs.Image.{header_rows, table_of, image_of, IsImageOf}
-use Rattle.rv_elf.specs.Sections.{e_shnum, e_shoff, e_shentsize, has_bad_sections, symbol_table, string_table,
-    is_bad_symbols, is_bad_strings, bytes_of, symbol_named, HasSections}
+use Rattle.rv_elf.specs.Sections.{e_shnum, e_shoff, e_shentsize, has_bad_sections, symbol_table, string_table}
+use Rattle.rv_elf.specs.Sections.{is_bad_symbols, is_bad_strings, bytes_of, symbol_named, HasSections}
 use Rattle.rv_elf.specs.Symbols.{has_bad_strings, symbol_in, symbol_there, symbol_of}
 use Rattle.rv_elf.proofs.FirstRow.{none_refused}
 
@@ -25,7 +25,7 @@ header_there file image e = ltb-false (length file) 52
 pub sections_there : (file : List ℕ) → 52 ≤ length file → has_bad_sections file ≡ false → HasSections file
 sections_there file h e =
     let count = or_parts (e_shnum file == 0)
-        (not (e_shentsize file == 40) || ltb (length file) (e_shoff file + 40 * e_shnum file)) e in
+    (not (e_shentsize file == 40) || ltb (length file) (e_shoff file + 40 * e_shnum file)) e in
     let size = or_parts (not (e_shentsize file == 40)) (ltb (length file) (e_shoff file + 40 * e_shnum file)) count.1 in
     record { header = h; room = ltb-false (length file) (e_shoff file + 40 * e_shnum file) size.1 }
 
@@ -59,8 +59,8 @@ module _ (file name : List ℕ) where
         unfolding symbol_of
         bad_string_table e =
             passed _ _ _ sections ∙ passed _ _ _ (ap is_none is)
-                ∙ passed _ _ _ (at_table (is_bad_symbols (length file)) false good)
-                ∙ refused _ _ _ (at_table (has_bad_strings file) true e)
+            ∙ passed _ _ _ (at_table (is_bad_symbols (length file)) false good)
+            ∙ refused _ _ _ (at_table (has_bad_strings file) true e)
 
         pub no_string_table : string_table file t ≡ None → symbol_of file name ≡ Err StringTable
         no_string_table e = bad_string_table (ap (λ o. option_map_or (is_bad_strings (length file)) o true) e)
@@ -80,15 +80,15 @@ module _ (file name : List ℕ) where
             unfolding symbol_of
             looked_up o e =
                 passed _ _ _ sections ∙ passed _ _ _ (ap is_none is)
-                    ∙ passed _ _ _ (at_table (is_bad_symbols (length file)) false good)
+                ∙ passed _ _ _ (at_table (is_bad_symbols (length file)) false good)
                 ∙ passed _ _ _
-                    (at_table (has_bad_strings file) false
-                    (ap (λ x. option_map_or (is_bad_strings (length file)) x true) strings ∙ fine))
+                (at_table (has_bad_strings file) false
+                (ap (λ x. option_map_or (is_bad_strings (length file)) x true) strings ∙ fine))
                 ∙ ap (λ x. cond (is_none x) (Err NoBegin) (Ok (unwrap_or (option_map (λ y. y.value) x) 0))) (there ∙ e)
 
             by_value : (o : Option Symbol) (v : Option ℕ) → option_map (λ y. y.value) o ≡ v
                 → cond (is_none o) (Err NoBegin) (Ok (unwrap_or (option_map (λ y. y.value) o) 0)) ≡ cond (is_none v)
-                    (Err NoBegin) (Ok (unwrap_or v 0))
+                (Err NoBegin) (Ok (unwrap_or v 0))
             by_value None v e = ap (λ x. cond (is_none x) (Err NoBegin) (Ok (unwrap_or x 0))) e
             by_value (Some y) v e = ap (λ x. cond (is_none x) (Err NoBegin) (Ok (unwrap_or x 0))) e
 

@@ -1,6 +1,6 @@
 -- How the memory of a new bus becomes that of an image, segment by segment.
-use Rattle.std.proofs.Common.{◌≡◌, ◌∙◌, ◌<◌, ◌≤◌, ◌+◌, ℕ, Bool, true, false, not, ◌||◌, List, [], sym, ap, subst,
-    length, get_or, take, IsTrue}
+use Rattle.std.proofs.Common.{◌≡◌, ◌∙◌, ◌<◌, ◌≤◌, ◌+◌, ℕ, Bool, true, false, not, ◌||◌, List, [], sym, ap, subst}
+use Rattle.std.proofs.Common.{length, get_or, take, IsTrue}
 use Rattle.std.specs.List.{list_all}
 use Rattle.std.proofs.lemmas.Bool.{or_parts, and_parts, not-false, both_ways, true_from_ne_false}
 use Rattle.std.proofs.lemmas.List.Folds.{list_all_at}
@@ -27,7 +27,7 @@ map_accepted : (ss : List Segment) (rs : List Region) (at : LoadAt) → map_chec
 unfolding map_check
 map_accepted ss rs at e =
     let p = or_parts (not (list_all (fits rs at) ss)) (any_share at ss || false)
-        (none_refused (map_rows ss rs at) accepted tt e).0 in
+    (none_refused (map_rows ss rs at) accepted tt e).0 in
     (not-false _ p.0, (or_parts (any_share at ss) false p.1).0)
 
 all_at : (p : Segment → Bool) (ss : List Segment) (i : ℕ) (d : Segment) → list_all p ss ≡ true → i < length ss
@@ -72,8 +72,8 @@ module _ (file : List ℕ) (image : Image) (ss : List Segment) (same : ss ≡ im
     one_more new e =
         let s = get_or ss k no_segment in
         let more = opening_memory_more c.regions file at ss k no_segment
-            (ap (any_share at) same ∙ (map_accepted image.segments c.regions at accepts).1) l fits_first within_file in
+        (ap (any_share at) same ∙ (map_accepted image.segments c.regions at accepts).1) l fits_first within_file in
         let m = ap (λ x. bytes_put (opening_memory c.regions (take k x) file at) (load_address at s)
-            (file_bytes file s)) (sym same) ∙ sym more
-            ∙ ap (λ x. opening_memory c.regions (take (k + 1) x) file at) same in
+        (file_bytes file s)) (sym same) ∙ sym more
+        ∙ ap (λ x. opening_memory c.regions (take (k + 1) x) file at) same in
         e ∙ ap (λ x. placed x (load_address at s) (file_bytes file s)) before ∙ (λ i. record c { memory = m i })

@@ -1,9 +1,9 @@
 -- How the parts of reading make the image, and where its segments stand in the file.
-use Rattle.std.proofs.Common.{◌≡◌, ◌∙◌, ◌≤◌, ◌<◌, ◌+◌, ℕ, map, Bool, true, false, not, ◌&&◌, ◌||◌, cond, ltb, List, [],
-    ◌∷◌, refl, sym, ap, length, Ok, Err, ◌%◌, ◌==◌, eqb-true, MatchResult, IfOk, Result}
+use Rattle.std.proofs.Common.{◌≡◌, ◌∙◌, ◌≤◌, ◌<◌, ◌+◌, ℕ, map, Bool, true, false, not, ◌&&◌, ◌||◌, cond, ltb, List, []}
+use Rattle.std.proofs.Common.{◌∷◌, refl, sym, ap, length, Ok, Err, ◌%◌, ◌==◌, eqb-true, MatchResult, IfOk, Result}
 use Rattle.std.specs.List.{list_any, list_all, filter}
-use Rattle.std.proofs.lemmas.Bool.{or_parts, and_parts, and_from, not_from_false, not-true, not-false, ltb-false,
-    lt-ltb}
+use Rattle.std.proofs.lemmas.Bool.{or_parts, and_parts, and_from, not_from_false, not-true, not-false, ltb-false}
+use Rattle.std.proofs.lemmas.Bool.{lt-ltb}
 use Rattle.rv_isa.specs.declared.sets.Isa.{Isa}
 use Rattle.rv_isa.specs.Extensions.{has, RV32C}
 use Rattle.rv_elf.specs.declared.error.ImageError.{ImageError}
@@ -12,9 +12,9 @@ use Rattle.rv_elf.specs.declared.image.Image.{Image}
 use Rattle.rv_elf.specs.declared.image.Segment.{Segment}
 use Rattle.rv_elf.specs.declared.program_headers.ProgramHeader.{ProgramHeader}
 use Rattle.rv_elf.specs.Rows.{first_row, accepted}
-use Rattle.rv_elf.specs.Image.{header_rows, entry_rows, image_rows, header_check, entry_check, image_check, entries,
-    segments, kept_of, is_load, is_kept, is_past, is_dynamic, has_bad_sizes, image_there, table_of, image_of,
-    IsImageOf}
+use Rattle.rv_elf.specs.Image.{header_rows, entry_rows, image_rows, header_check, entry_check, image_check, entries}
+use Rattle.rv_elf.specs.Image.{segments, kept_of, is_load, is_kept, is_past, is_dynamic, has_bad_sizes, image_there}
+use Rattle.rv_elf.specs.Image.{table_of, image_of, IsImageOf}
 use Rattle.rv_elf.proofs.FirstRow.{none_refuses, refusal_stays, none_refused}
 
 -- ---- the parts of reading
@@ -52,7 +52,7 @@ pub image_passed : (isa : Isa) (file : List ℕ) (found : List ProgramHeader) (i
 unfolding image_check
 image_passed isa file found image is there p e =
     entries_passed isa file found is p ∙ none_refuses (image_rows isa (image_there file)) _ (sym (rw there at e))
-        ∙ ap (λ i. Ok i) (sym there)
+    ∙ ap (λ i. Ok i) (sym there)
 
 -- ---- where the bytes of a segment stand
 
@@ -67,7 +67,7 @@ kept_in_file n (x ∷ xs) e =
     let p = or_parts (is_past n x) _ e in
     let rest = kept_in_file n xs p.1 in
     elim (is_kept x) as (λ b. is_kept x ≡ b
-        → list_all (in_file n) (map (λ y. y.segment) (cond b (x ∷ filter is_kept xs) (filter is_kept xs))) ≡ true) [
+    → list_all (in_file n) (map (λ y. y.segment) (cond b (x ∷ filter is_kept xs) (filter is_kept xs))) ≡ true) [
       | true ↦ λ k. and_from (in_file n x.segment) _
           (not_from_false _
           (sym (ap (λ b. b && (ltb 0 x.segment.filesz && ltb n (x.segment.offset + x.segment.filesz)))
@@ -84,10 +84,10 @@ segments_in_file isa file image e =
     let found = entries file in
     let t = (none_refused (header_rows file) (table_of isa file) image e).1 in
     let r = none_refused (entry_rows n found)
-        (first_row (image_rows isa (image_there file)) (Ok (image_there file))) image t in
+    (first_row (image_rows isa (image_there file)) (Ok (image_there file))) image t in
     let i = (none_refused (image_rows isa (image_there file)) (Ok (image_there file)) image r.1).1 in
     let dynamic = or_parts (list_any is_dynamic found)
-        (list_any has_bad_sizes found || (list_any (is_past n) found || false)) r.0 in
+    (list_any has_bad_sizes found || (list_any (is_past n) found || false)) r.0 in
     let sizes = or_parts (list_any has_bad_sizes found) (list_any (is_past n) found || false) dynamic.1 in
     let past = or_parts (list_any (is_past n) found) false sizes.1 in
     let same : image_there file ≡ image = cc in
@@ -106,7 +106,7 @@ unfolding image_of table_of
 entered isa file image e =
     let t = (none_refused (header_rows file) (table_of isa file) image e).1 in
     let r = none_refused (entry_rows (length file) (entries file))
-        (first_row (image_rows isa (image_there file)) (Ok (image_there file))) image t in
+    (first_row (image_rows isa (image_there file)) (Ok (image_there file))) image t in
     let i = none_refused (image_rows isa (image_there file)) (Ok (image_there file)) image r.1 in
     let same : image_there file ≡ image = cc in
     ap (λ j. list_any (λ r. r.0) (image_rows isa j)) (sym same) ∙ i.0

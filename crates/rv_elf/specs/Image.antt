@@ -1,15 +1,16 @@
 -- The image of a file's bytes, or the first refusal of the table that applies.
 -- ELF32 of the System V ABI, chapters "Object Files" and "Program Loading"; RISC-V's machine number is that of its ELF
 -- psABI.
-use Rattle.std.specs.Prelude.{◌≡◌, ◌≤◌, ◌<◌, ◌==◌, ◌+◌, ◌*◌, ◌%◌, ℕ, Bool, not, ◌&&◌, ◌||◌, List, [], ◌∷◌, length, map,
-    filter, Result, Ok, nat_lt}
+use Rattle.std.specs.Prelude.{◌≡◌, ◌≤◌, ◌<◌, ◌==◌, ◌+◌, ◌*◌, ◌%◌, ℕ, Bool, not, ◌&&◌, ◌||◌, List, [], ◌∷◌, length, map}
+use Rattle.std.specs.Prelude.{filter, Result, Ok, nat_lt}
 use Rattle.std.specs.List.{list_any, range_with_len}
 use Rattle.rv_isa.specs.declared.sets.Isa.{Isa}
 use Rattle.rv_isa.specs.Extensions.{has, RV32C}
 use Rattle.rv_elf.specs.declared.error.ImageError.{ImageError}
-use Rattle.rv_elf.specs.declared.error.ImageError.TheVariants.{ShortHeader, BadMagic, Not32Bit, NotLittleEndian,
-    BadVersion, NotExecutable, NotRiscv, ProgramTable, Dynamic, SegmentSizes, SegmentFile, NoSegment, EntryOdd,
-    EntryAlign}
+use Rattle.rv_elf.specs.declared.error.ImageError.TheVariants.{ShortHeader, BadMagic, Not32Bit, NotLittleEndian}
+use Rattle.rv_elf.specs.declared.error.ImageError.TheVariants.{BadVersion, NotExecutable, NotRiscv, ProgramTable}
+use Rattle.rv_elf.specs.declared.error.ImageError.TheVariants.{Dynamic, SegmentSizes, SegmentFile, NoSegment, EntryOdd}
+use Rattle.rv_elf.specs.declared.error.ImageError.TheVariants.{EntryAlign}
 use Rattle.rv_elf.specs.declared.image.Segment.{Segment}
 use Rattle.rv_elf.specs.declared.image.Image.{Image}
 use Rattle.rv_elf.specs.declared.program_headers.ProgramHeader.{ProgramHeader}

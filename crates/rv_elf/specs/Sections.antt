@@ -1,7 +1,7 @@
 -- The section header table, the symbol table and its string table (System V ABI, "Sections", "String Table", "Symbol
 -- Table").
-use Rattle.std.specs.Prelude.{◌≤◌, ◌==◌, ◌+◌, ◌*◌, ◌/◌, ◌%◌, ℕ, Bool, not, ◌&&◌, ◌||◌, List, [], ◌∷◌, length, map, take,
-    drop, nat_lt, Option, Some, None, if◌then◌else◌, option_map, false}
+use Rattle.std.specs.Prelude.{◌≤◌, ◌==◌, ◌+◌, ◌*◌, ◌/◌, ◌%◌, ℕ, Bool, not, ◌&&◌, ◌||◌, List, [], ◌∷◌, length, map, take}
+use Rattle.std.specs.Prelude.{drop, nat_lt, Option, Some, None, if◌then◌else◌, option_map, false}
 use Rattle.std.specs.List.{find, range_with_len}
 use Rattle.std.specs.Option.{option_map_or}
 use Rattle.std.specs.Str.{bytes_eq}

@@ -1,17 +1,17 @@
 -- The value of a symbol, and the range of a signature, or the first refusal of the table that applies.
-use Rattle.std.specs.Prelude.{◌==◌, ◌-◌, ◌%◌, ℕ, Bool, true, false, not, ◌&&◌, ◌||◌, List, [], ◌∷◌, length, nat_lt,
-    Option, option_and_then, option_map, unwrap_or, Result, Ok, is_none}
+use Rattle.std.specs.Prelude.{◌==◌, ◌-◌, ◌%◌, ℕ, Bool, true, false, not, ◌&&◌, ◌||◌, List, [], ◌∷◌, length, nat_lt}
+use Rattle.std.specs.Prelude.{Option, option_and_then, option_map, unwrap_or, Result, Ok, is_none}
 use Rattle.std.specs.Option.{option_map_or}
 use Rattle.rv_memory.specs.declared.map.Region.{Region}
 use Rattle.rv_memory.specs.Regions.{in_one}
 use Rattle.rv_elf.specs.declared.error.ImageError.{ImageError}
-use Rattle.rv_elf.specs.declared.error.ImageError.TheVariants.{SectionTable, NoSymbols, SymbolTable, StringTable,
-    NoBegin, SignatureRange}
+use Rattle.rv_elf.specs.declared.error.ImageError.TheVariants.{SectionTable, NoSymbols, SymbolTable, StringTable}
+use Rattle.rv_elf.specs.declared.error.ImageError.TheVariants.{NoBegin, SignatureRange}
 use Rattle.rv_elf.specs.declared.sections.Section.{Section}
 use Rattle.rv_elf.specs.declared.symbols.Symbol.{Symbol}
 use Rattle.rv_elf.specs.Rows.{Row, first_row, accepted}
-use Rattle.rv_elf.specs.Sections.{has_bad_sections, symbol_table, string_table, is_bad_symbols, is_bad_strings,
-    bytes_of, symbol_named}
+use Rattle.rv_elf.specs.Sections.{has_bad_sections, symbol_table, string_table, is_bad_symbols, is_bad_strings}
+use Rattle.rv_elf.specs.Sections.{bytes_of, symbol_named}
 
 -- the string table of a symbol table is missing, is none, or goes past the file
 abbrev pub has_bad_strings : List ℕ → Section → Bool

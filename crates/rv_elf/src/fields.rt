@@ -1,3 +1,4 @@
+//! Where a file has its fields, and the little-endian numbers that stand there.
 ghost use Rattle.std.specs.Prelude.{◌≡◌, ◌+◌, ◌≤◌, length};
 ghost use Rattle.rv_elf.specs.Fields.{half_at, word_at};
 

@@ -1,3 +1,4 @@
+//! The program header table: its entries, their tests, and the segments that are kept.
 ghost use Rattle.std.specs.Prelude.{◌≡◌, ◌+◌, ◌*◌, ◌<◌, ◌≤◌, IfOk, map, length};
 ghost use Rattle.std.specs.List.{list_any, range_with_len};
 ghost use Rattle.rv_elf.specs.Image.{segment_at, entry_at, entries, entry_check, is_dynamic, has_bad_sizes, is_past, kept_of, HasTable};
@@ -77,7 +78,8 @@ fn entries_at(
 ) -> Result<Vec<ProgramHeader>, AllocError>
     requires room { 0 < count → offset + 32 * count ≤ length file.now }
     requires few { count ≤ 64 }
-    ensures { IfOk result (λ v. v.items ≡ map (λ k. entry_at file.now (offset + 32 * k)) (range_with_len 0 count)) }
+    ensures { IfOk result (λ v. v.items
+        ≡ map (λ k. entry_at file.now (offset + 32 * k)) (range_with_len 0 count)) }
 {
     let mut found = Vec::new(alloc);
     for k in 0..count {

@@ -1,3 +1,4 @@
+//! The section header table, and in it the first symbol table and its strings.
 ghost use Rattle.std.specs.Prelude.{◌≡◌, ◌+◌, ◌*◌, ◌<◌, ◌≤◌, IfSome, IfOk, IsTrue, false, length, MatchOption};
 ghost use Rattle.std.specs.List.{find, slice_get};
 ghost use Rattle.rv_elf.specs.Fields.{half_at, word_at};
@@ -94,7 +95,7 @@ pub(crate) fn string_table(file: &[u8], symbols: &Section) -> Option<Section>
     Some(header_of(file, symbols.link))
 }
 
-/// The section header of an index.
+// The section header of an index.
 fn header_of(file: &[u8], index: u32) -> Section
     requires table { HasSections file.now }
     requires within { index < e_shnum file.now }

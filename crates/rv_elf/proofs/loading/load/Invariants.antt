@@ -4,5 +4,7 @@ use Rattle.rv_elf.proofs.loading.load.Given as goal
 
 abbrev pub invariant-loop-segment : goal.invariant-loop-segment
 invariant-loop-segment l =
-    l.bus ≡ record l.fn.bus { memory = opening_memory l.fn.bus.regions
-    (take l.segment-index l.fn.image.segments) l.fn.file l.fn.at }
+    l.bus ≡ record l.fn.bus {
+      memory = opening_memory l.fn.bus.regions
+          (take l.segment-index l.fn.image.segments) l.fn.file l.fn.at;
+    }

@@ -13,4 +13,4 @@ loop-k-preserved c =
     let test = is_named c.args.strings.now c.args.name.now in
     let other = ap test (sym c.symbol_at-symbol.ensures) ∙ sym c.is_named.ensures ∙ c.if-is_named.false in
     found_later test (λ k. symbol_at c.args.table.now (16 * k)) c.loop-k.k
-        (length c.args.table.now / 16) c.loop-k-test.true other ∙ c.loop-k.invariant
+    (length c.args.table.now / 16) c.loop-k-test.true other ∙ c.loop-k.invariant
