@@ -5,12 +5,14 @@ use Rattle.rv_memory.specs.declared.bus.Misaligned.{Misaligned}
 use Rattle.rv_memory.specs.Bus.{Contents, opened}
 
 -- its regions are those of the map that it was made with
-pub regions_of_new : (b : Contents) (rs : List Region) (script : List ℕ) (m : Misaligned) → b ≡ opened rs script m → b.regions ≡ rs
+pub regions_of_new : (b : Contents) (rs : List Region) (script : List ℕ) (m : Misaligned) → b ≡ opened rs script m
+    → b.regions ≡ rs
 unfolding opened
 regions_of_new b rs script m e = ap (λ c. c.regions) e
 
 -- and it is the new bus of its regions, its script and its choice of misaligned accesses
-pub is_new : (b : Contents) (rs : List Region) (script : List ℕ) (m : Misaligned) → b ≡ opened rs script m → b ≡ opened b.regions b.script b.misaligned
+pub is_new : (b : Contents) (rs : List Region) (script : List ℕ) (m : Misaligned) → b ≡ opened rs script m
+    → b ≡ opened b.regions b.script b.misaligned
 unfolding opened
 is_new b rs script m e =
     let r = sym (ap (λ c. c.regions) e) in

@@ -1,5 +1,6 @@
 -- How the memory of a new bus becomes that of an image, segment by segment.
-use Rattle.std.proofs.Common.{◌≡◌, ◌∙◌, ◌<◌, ◌≤◌, ◌+◌, ℕ, Bool, true, false, not, ◌||◌, List, [], sym, ap, subst, length, get_or, take, IsTrue}
+use Rattle.std.proofs.Common.{◌≡◌, ◌∙◌, ◌<◌, ◌≤◌, ◌+◌, ℕ, Bool, true, false, not, ◌||◌, List, [], sym, ap, subst}
+use Rattle.std.proofs.Common.{length, get_or, take, IsTrue}
 use Rattle.std.specs.List.{list_all}
 use Rattle.std.proofs.lemmas.Bool.{or_parts, and_parts, not-false, both_ways, true_from_ne_false}
 use Rattle.std.proofs.lemmas.List.Folds.{list_all_at}
@@ -21,40 +22,58 @@ abbrev pub no_segment : Segment
 no_segment = record { offset = 0; vaddr = 0; paddr = 0; filesz = 0; memsz = 0 }
 
 -- where a map is accepted, each segment fits it and no two share a byte
-map_accepted : (ss : List Segment) (rs : List Region) (at : LoadAt) → map_check ss rs at ≡ accepted → (list_all (fits rs at) ss ≡ true) × (any_share at ss ≡ false)
+map_accepted : (ss : List Segment) (rs : List Region) (at : LoadAt) → map_check ss rs at ≡ accepted
+    → (list_all (fits rs at) ss ≡ true) × (any_share at ss ≡ false)
 unfolding map_check
 map_accepted ss rs at e =
-    let p = or_parts (not (list_all (fits rs at) ss)) (any_share at ss || false) (none_refused (map_rows ss rs at) accepted tt e).0 in
+    let p = or_parts (not (list_all (fits rs at) ss)) (any_share at ss || false)
+    (none_refused (map_rows ss rs at) accepted tt e).0 in
     (not-false _ p.0, (or_parts (any_share at ss) false p.1).0)
 
-all_at : (p : Segment → Bool) (ss : List Segment) (i : ℕ) (d : Segment) → list_all p ss ≡ true → i < length ss → p (get_or ss i d) ≡ true
+all_at : (p : Segment → Bool) (ss : List Segment) (i : ℕ) (d : Segment) → list_all p ss ≡ true → i < length ss
+    → p (get_or ss i d) ≡ true
 all_at p ss i d h l = true_from_ne_false _ (λ e. both_ways _ (list_all_at p ss i d l e) h)
 
 -- a new bus holds the opening memory of no segment
-pub opening_memory_none : (c : Contents) (file : List ℕ) (at : LoadAt) → c ≡ opened c.regions c.script c.misaligned → c ≡ record c { memory = opening_memory c.regions [] file at }
+pub opening_memory_none : (c : Contents) (file : List ℕ) (at : LoadAt) → c ≡ opened c.regions c.script c.misaligned
+    → c ≡ record c { memory = opening_memory c.regions [] file at }
 unfolding opened opening_memory
 opening_memory_none c file at e = let m = ap (λ d. d.memory) e in λ i. record c { memory = m i }
 
-module _ (file : List ℕ) (image : Image) (ss : List Segment) (same : ss ≡ image.segments) (is : IsImageOf file image) (k : ℕ) (l : k < length ss) where
+module _ (file : List ℕ) (image : Image) (ss : List Segment) (same : ss ≡ image.segments) (is : IsImageOf file image)
+    (k : ℕ) (l : k < length ss) where
   within_file : in_file (length file) (get_or ss k no_segment) ≡ true
-  within_file = all_at (in_file (length file)) ss k no_segment (ap (list_all (in_file (length file))) same ∙ segments_in_file is.isa file image is.is) l
+  within_file = all_at (in_file (length file)) ss k no_segment
+      (ap (list_all (in_file (length file))) same ∙ segments_in_file is.isa file image is.is) l
 
   -- a segment's bytes are in the file
-  pub bytes_there : 0 < (get_or ss k no_segment).filesz → (get_or ss k no_segment).offset + (get_or ss k no_segment).filesz ≤ length file
+  pub bytes_there : 0 < (get_or ss k no_segment).filesz
+      → (get_or ss k no_segment).offset + (get_or ss k no_segment).filesz ≤ length file
   bytes_there = in_file_bounds (length file) (get_or ss k no_segment) within_file
 
-  module _ (c : Contents) (at : LoadAt) (accepts : map_check image.segments c.regions at ≡ accepted) (b : Contents) (before : b ≡ record c { memory = opening_memory c.regions (take k image.segments) file at }) where
+  module _ (c : Contents) (at : LoadAt) (accepts : map_check image.segments c.regions at ≡ accepted) (b : Contents)
+      (before : b ≡ record c { memory = opening_memory c.regions (take k image.segments) file at }) where
     fits_first : IsTrue (in_one c.regions (load_address at (get_or ss k no_segment)) (get_or ss k no_segment).filesz)
-    fits_first = (and_parts _ _ (all_at (fits c.regions at) ss k no_segment (ap (list_all (fits c.regions at)) same ∙ (map_accepted image.segments c.regions at accepts).0) l)).0
+    fits_first =
+        (and_parts _ _
+        (all_at (fits c.regions at) ss k no_segment
+        (ap (list_all (fits c.regions at)) same ∙ (map_accepted image.segments c.regions at accepts).0) l)).0
 
     -- which lie in one region of the bus
     pub fits_bus : IsTrue (in_one b.regions (load_address at (get_or ss k no_segment)) (get_or ss k no_segment).filesz)
-    fits_bus = subst (λ rs. IsTrue (in_one rs (load_address at (get_or ss k no_segment)) (get_or ss k no_segment).filesz)) (sym (ap (λ x. x.regions) before)) fits_first
+    fits_bus =
+        subst (λ rs. IsTrue (in_one rs (load_address at (get_or ss k no_segment)) (get_or ss k no_segment).filesz))
+        (sym (ap (λ x. x.regions) before)) fits_first
 
     -- and once they are placed it holds the opening memory of one segment more
-    pub one_more : (new : Contents) → new ≡ placed b (load_address at (get_or ss k no_segment)) (file_bytes file (get_or ss k no_segment)) → new ≡ record c { memory = opening_memory c.regions (take (k + 1) image.segments) file at }
+    pub one_more : (new : Contents) → new ≡ placed b (load_address at (get_or ss k no_segment))
+        (file_bytes file (get_or ss k no_segment))
+        → new ≡ record c { memory = opening_memory c.regions (take (k + 1) image.segments) file at }
     one_more new e =
         let s = get_or ss k no_segment in
-        let more = opening_memory_more c.regions file at ss k no_segment (ap (any_share at) same ∙ (map_accepted image.segments c.regions at accepts).1) l fits_first within_file in
-        let m = ap (λ x. bytes_put (opening_memory c.regions (take k x) file at) (load_address at s) (file_bytes file s)) (sym same) ∙ sym more ∙ ap (λ x. opening_memory c.regions (take (k + 1) x) file at) same in
+        let more = opening_memory_more c.regions file at ss k no_segment
+        (ap (any_share at) same ∙ (map_accepted image.segments c.regions at accepts).1) l fits_first within_file in
+        let m = ap (λ x. bytes_put (opening_memory c.regions (take k x) file at) (load_address at s)
+        (file_bytes file s)) (sym same) ∙ sym more
+        ∙ ap (λ x. opening_memory c.regions (take (k + 1) x) file at) same in
         e ∙ ap (λ x. placed x (load_address at s) (file_bytes file s)) before ∙ (λ i. record c { memory = m i })

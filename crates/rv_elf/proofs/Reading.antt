@@ -1,16 +1,20 @@
 -- How the parts of reading make the image, and where its segments stand in the file.
-use Rattle.std.proofs.Common.{◌≡◌, ◌∙◌, ◌≤◌, ◌<◌, ◌+◌, ℕ, map, Bool, true, false, not, ◌&&◌, ◌||◌, cond, ltb, List, [], ◌∷◌, refl, sym, ap, length, Ok, Err, ◌%◌, ◌==◌, eqb-true, MatchResult, IfOk, Result}
+use Rattle.std.proofs.Common.{◌≡◌, ◌∙◌, ◌≤◌, ◌<◌, ◌+◌, ℕ, map, Bool, true, false, not, ◌&&◌, ◌||◌, cond, ltb, List, []}
+use Rattle.std.proofs.Common.{◌∷◌, refl, sym, ap, length, Ok, Err, ◌%◌, ◌==◌, eqb-true, MatchResult, IfOk, Result}
 use Rattle.std.specs.List.{list_any, list_all, filter}
-use Rattle.std.proofs.lemmas.Bool.{or_parts, and_parts, and_from, not_from_false, not-true, not-false, ltb-false, lt-ltb}
+use Rattle.std.proofs.lemmas.Bool.{or_parts, and_parts, and_from, not_from_false, not-true, not-false, ltb-false}
+use Rattle.std.proofs.lemmas.Bool.{lt-ltb}
 use Rattle.rv_isa.specs.declared.sets.Isa.{Isa}
 use Rattle.rv_isa.specs.Extensions.{has, RV32C}
 use Rattle.rv_elf.specs.declared.error.ImageError.{ImageError}
 use Rattle.rv_elf.specs.declared.error.ImageError.TheVariants.{OutOfMemory}
 use Rattle.rv_elf.specs.declared.image.Image.{Image}
 use Rattle.rv_elf.specs.declared.image.Segment.{Segment}
-use Rattle.rv_elf.specs.declared.table.Entry.{Entry}
+use Rattle.rv_elf.specs.declared.program_headers.ProgramHeader.{ProgramHeader}
 use Rattle.rv_elf.specs.Rows.{first_row, accepted}
-use Rattle.rv_elf.specs.Image.{header_rows, entry_rows, image_rows, header_check, entry_check, image_check, entries, segments, kept_of, is_load, is_kept, is_past, is_dynamic, has_bad_sizes, image_there, table_of, image_of, IsImageOf}
+use Rattle.rv_elf.specs.Image.{header_rows, entry_rows, image_rows, header_check, entry_check, image_check, entries}
+use Rattle.rv_elf.specs.Image.{segments, kept_of, is_load, is_kept, is_past, is_dynamic, has_bad_sizes, image_there}
+use Rattle.rv_elf.specs.Image.{table_of, image_of, IsImageOf}
 use Rattle.rv_elf.proofs.FirstRow.{none_refuses, refusal_stays, none_refused}
 
 -- ---- the parts of reading
@@ -19,30 +23,36 @@ pub header_passed : (isa : Isa) (file : List ℕ) → accepted ≡ header_check 
 unfolding image_of header_check
 header_passed isa file e = none_refuses (header_rows file) (table_of isa file) (sym e)
 
-pub header_refused : (isa : Isa) (file : List ℕ) (w : ImageError) → Err w ≡ header_check file → image_of isa file ≡ Err w
+pub header_refused : (isa : Isa) (file : List ℕ) (w : ImageError) → Err w ≡ header_check file
+    → image_of isa file ≡ Err w
 unfolding image_of header_check
 header_refused isa file w e = refusal_stays (header_rows file) (table_of isa file) w (sym e)
 
-pub entries_refused : (isa : Isa) (file : List ℕ) (found : List Entry) (w : ImageError) → found ≡ entries file → Err w ≡ entry_check (length file) found → table_of isa file ≡ Err w
+pub entries_refused : (isa : Isa) (file : List ℕ) (found : List ProgramHeader) (w : ImageError) → found ≡ entries file
+    → Err w ≡ entry_check (length file) found → table_of isa file ≡ Err w
 unfolding table_of entry_check
 entries_refused isa file found w is e = refusal_stays (entry_rows (length file) (entries file)) _ w (sym (rw is at e))
 
-entries_passed : (isa : Isa) (file : List ℕ) (found : List Entry) → found ≡ entries file → accepted ≡ entry_check (length file) found
+entries_passed : (isa : Isa) (file : List ℕ) (found : List ProgramHeader) → found ≡ entries file
+    → accepted ≡ entry_check (length file) found
     → table_of isa file ≡ first_row (image_rows isa (image_there file)) (Ok (image_there file))
 unfolding table_of entry_check
 entries_passed isa file found is e = none_refuses (entry_rows (length file) (entries file)) _ (sym (rw is at e))
 
-pub image_refused : (isa : Isa) (file : List ℕ) (found : List Entry) (image : Image) (w : ImageError) → found ≡ entries file → image ≡ image_there file
+pub image_refused : (isa : Isa) (file : List ℕ) (found : List ProgramHeader) (image : Image) (w : ImageError)
+    → found ≡ entries file → image ≡ image_there file
     → accepted ≡ entry_check (length file) found → Err w ≡ image_check isa image → table_of isa file ≡ Err w
 unfolding image_check
 image_refused isa file found image w is there p e =
     entries_passed isa file found is p ∙ refusal_stays (image_rows isa (image_there file)) _ w (sym (rw there at e))
 
-pub image_passed : (isa : Isa) (file : List ℕ) (found : List Entry) (image : Image) → found ≡ entries file → image ≡ image_there file
+pub image_passed : (isa : Isa) (file : List ℕ) (found : List ProgramHeader) (image : Image) → found ≡ entries file
+    → image ≡ image_there file
     → accepted ≡ entry_check (length file) found → accepted ≡ image_check isa image → table_of isa file ≡ Ok image
 unfolding image_check
 image_passed isa file found image is there p e =
-    entries_passed isa file found is p ∙ none_refuses (image_rows isa (image_there file)) _ (sym (rw there at e)) ∙ ap (λ i. Ok i) (sym there)
+    entries_passed isa file found is p ∙ none_refuses (image_rows isa (image_there file)) _ (sym (rw there at e))
+    ∙ ap (λ i. Ok i) (sym there)
 
 -- ---- where the bytes of a segment stand
 
@@ -50,26 +60,34 @@ image_passed isa file found image is there p e =
 abbrev pub in_file : ℕ → Segment → Bool
 in_file n s = not (ltb 0 s.filesz && ltb n (s.offset + s.filesz))
 
-kept_in_file : (n : ℕ) (found : List Entry) → list_any (is_past n) found ≡ false → list_all (in_file n) (kept_of found) ≡ true
+kept_in_file : (n : ℕ) (found : List ProgramHeader) → list_any (is_past n) found ≡ false
+    → list_all (in_file n) (kept_of found) ≡ true
 kept_in_file n [] e = refl
 kept_in_file n (x ∷ xs) e =
     let p = or_parts (is_past n x) _ e in
     let rest = kept_in_file n xs p.1 in
-    elim (is_kept x) as (λ b. is_kept x ≡ b → list_all (in_file n) (map (λ y. y.segment) (cond b (x ∷ filter is_kept xs) (filter is_kept xs))) ≡ true) [
-      | true ↦ λ k. and_from (in_file n x.segment) _ (not_from_false _ (sym (ap (λ b. b && (ltb 0 x.segment.filesz && ltb n (x.segment.offset + x.segment.filesz))) (and_parts (is_load x) _ k).0) ∙ p.0)) rest
+    elim (is_kept x) as (λ b. is_kept x ≡ b
+    → list_all (in_file n) (map (λ y. y.segment) (cond b (x ∷ filter is_kept xs) (filter is_kept xs))) ≡ true) [
+      | true ↦ λ k. and_from (in_file n x.segment) _
+          (not_from_false _
+          (sym (ap (λ b. b && (ltb 0 x.segment.filesz && ltb n (x.segment.offset + x.segment.filesz)))
+          (and_parts (is_load x) _ k).0) ∙ p.0)) rest
       | false ↦ λ k. rest
     ] refl
 
 -- so they are where the image is one of n bytes
-pub segments_in_file : (isa : Isa) (file : List ℕ) (image : Image) → image_of isa file ≡ Ok image → list_all (in_file (length file)) image.segments ≡ true
+pub segments_in_file : (isa : Isa) (file : List ℕ) (image : Image) → image_of isa file ≡ Ok image
+    → list_all (in_file (length file)) image.segments ≡ true
 unfolding image_of table_of segments
 segments_in_file isa file image e =
     let n = length file in
     let found = entries file in
     let t = (none_refused (header_rows file) (table_of isa file) image e).1 in
-    let r = none_refused (entry_rows n found) (first_row (image_rows isa (image_there file)) (Ok (image_there file))) image t in
+    let r = none_refused (entry_rows n found)
+    (first_row (image_rows isa (image_there file)) (Ok (image_there file))) image t in
     let i = (none_refused (image_rows isa (image_there file)) (Ok (image_there file)) image r.1).1 in
-    let dynamic = or_parts (list_any is_dynamic found) (list_any has_bad_sizes found || (list_any (is_past n) found || false)) r.0 in
+    let dynamic = or_parts (list_any is_dynamic found)
+    (list_any has_bad_sizes found || (list_any (is_past n) found || false)) r.0 in
     let sizes = or_parts (list_any has_bad_sizes found) (list_any (is_past n) found || false) dynamic.1 in
     let past = or_parts (list_any (is_past n) found) false sizes.1 in
     let same : image_there file ≡ image = cc in
@@ -82,11 +100,13 @@ in_file_bounds n s h l =
     ltb-false n (s.offset + s.filesz) (sym (ap (λ b. b && ltb n (s.offset + s.filesz)) (lt-ltb 0 s.filesz l)) ∙ f)
 
 -- an instruction may stand at the entry of an image
-entered : (isa : Isa) (file : List ℕ) (image : Image) → image_of isa file ≡ Ok image → (list_any (λ r. r.0) (image_rows isa image) ≡ false)
+entered : (isa : Isa) (file : List ℕ) (image : Image) → image_of isa file ≡ Ok image
+    → (list_any (λ r. r.0) (image_rows isa image) ≡ false)
 unfolding image_of table_of
 entered isa file image e =
     let t = (none_refused (header_rows file) (table_of isa file) image e).1 in
-    let r = none_refused (entry_rows (length file) (entries file)) (first_row (image_rows isa (image_there file)) (Ok (image_there file))) image t in
+    let r = none_refused (entry_rows (length file) (entries file))
+    (first_row (image_rows isa (image_there file)) (Ok (image_there file))) image t in
     let i = none_refused (image_rows isa (image_there file)) (Ok (image_there file)) image r.1 in
     let same : image_there file ≡ image = cc in
     ap (λ j. list_any (λ r. r.0) (image_rows isa j)) (sym same) ∙ i.0
@@ -96,7 +116,8 @@ entry_even isa file image e =
     let rows = or_parts (length image.segments == 0) _ (entered isa file image e) in
     eqb-true _ _ (not-false _ (or_parts (not (image.entry % 2 == 0)) _ rows.1).0)
 
-pub entry_aligned : (isa : Isa) (file : List ℕ) (image : Image) → image_of isa file ≡ Ok image → has isa RV32C ≡ false → image.entry % 4 ≡ 0
+pub entry_aligned : (isa : Isa) (file : List ℕ) (image : Image) → image_of isa file ≡ Ok image → has isa RV32C ≡ false
+    → image.entry % 4 ≡ 0
 entry_aligned isa file image e c =
     let rows = or_parts (length image.segments == 0) _ (entered isa file image e) in
     let odd = or_parts (not (image.entry % 2 == 0)) _ rows.1 in
@@ -107,13 +128,16 @@ entry_aligned isa file image e c =
 module _ (isa : Isa) (file : List ℕ) where
   -- an answer of the rest of reading
   abbrev pub IsRead : Result Image ImageError → Type 0
-  IsRead r = MatchResult r (λ image. table_of isa file ≡ Ok image) (λ e. (e ≡ OutOfMemory → ⊥) → table_of isa file ≡ Err e)
+  IsRead r = MatchResult r (λ image. table_of isa file ≡ Ok image)
+      (λ e. (e ≡ OutOfMemory → ⊥) → table_of isa file ≡ Err e)
 
-  pub read_is : (r : Result Image ImageError) → image_of isa file ≡ table_of isa file → IsRead r → IfOk r (IsImageOf file)
+  pub read_is : (r : Result Image ImageError) → image_of isa file ≡ table_of isa file → IsRead r
+      → IfOk r (IsImageOf file)
   read_is (Ok image) e is = record { isa = isa; is = e ∙ is }
   read_is (Err why) e is = tt
 
-  pub read_even : (r : Result Image ImageError) → image_of isa file ≡ table_of isa file → IsRead r → IfOk r (λ image. image.entry % 2 ≡ 0)
+  pub read_even : (r : Result Image ImageError) → image_of isa file ≡ table_of isa file → IsRead r
+      → IfOk r (λ image. image.entry % 2 ≡ 0)
   read_even (Ok image) e is = entry_even isa file image (e ∙ is)
   read_even (Err why) e is = tt
 

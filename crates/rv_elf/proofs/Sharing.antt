@@ -1,5 +1,6 @@
 -- Segments whose file bytes share no byte of memory.
-use Rattle.std.proofs.Common.{◌≡◌, ◌∙◌, ◌≤◌, ◌<◌, ◌+◌, ℕ, zero, suc, min, max, Bool, true, false, cond, leb, List, [], ◌∷◌, refl, ap, arith, length, get_or, take}
+use Rattle.std.proofs.Common.{◌≡◌, ◌∙◌, ◌≤◌, ◌<◌, ◌+◌, ℕ, zero, suc, min, max, Bool, true, false, cond, leb, List, []}
+use Rattle.std.proofs.Common.{◌∷◌, refl, ap, arith, length, get_or, take}
 use Rattle.std.specs.List.{list_any, count_by}
 use Rattle.std.proofs.lemmas.Bool.{or_parts, and_parts, leb-true, ltb-true, lt-ltb, both_ways, false_from_ne_true}
 use Rattle.std.proofs.lemmas.List.Folds.{list_any_at}
@@ -24,15 +25,19 @@ module _ (at : LoadAt) (a : ℕ) where
       let p1 = ltb-true a (load_address at s + s.filesz) p.1 in
       let q0 = leb-true (load_address at t) a q.0 in
       let q1 = ltb-true a (load_address at t + t.filesz) q.1 in
-      both_ways _ e (lt-ltb (max (load_address at s) (load_address at t)) (min (load_address at s + s.filesz) (load_address at t + t.filesz)) (omega arith))
+      both_ways _ e
+      (lt-ltb (max (load_address at s) (load_address at t))
+      (min (load_address at s + s.filesz) (load_address at t + t.filesz)) (omega arith))
 
   -- so behind a segment that fills an address none does that shares no byte with it
-  none_behind : (s : Segment) (ss : List Segment) → list_any (share at s) ss ≡ false → fills at a s ≡ true → count_by (fills at a) ss ≡ 0
+  none_behind : (s : Segment) (ss : List Segment) → list_any (share at s) ss ≡ false → fills at a s ≡ true
+      → count_by (fills at a) ss ≡ 0
   none_behind s [] e f = refl
   none_behind s (t ∷ ss) e f =
       let p = or_parts (share at s t) _ e in
       let nothing = counts_no _ (false_from_ne_true (fills at a t) (λ g. not_both s t p.0 f g)) in
-      let counted : count_by (fills at a) (t ∷ ss) ≡ cond (fills at a t) 1 0 + count_by (fills at a) ss = sum_by-cons (λ x. cond (fills at a x) 1 0) t ss in
+      let counted : count_by (fills at a) (t ∷ ss) ≡ cond (fills at a t) 1 0 + count_by (fills at a) ss =
+      sum_by-cons (λ x. cond (fills at a x) 1 0) t ss in
       let rest = none_behind s ss p.1 f in
       omega arith
 
@@ -41,7 +46,8 @@ module _ (at : LoadAt) (a : ℕ) where
   at_most_one [] e = omega arith
   at_most_one (s ∷ ss) e =
       let p = or_parts (list_any (share at s) ss) _ e in
-      let c : count_by (fills at a) (s ∷ ss) ≡ cond (fills at a s) 1 0 + count_by (fills at a) ss = sum_by-cons (λ x. cond (fills at a x) 1 0) s ss in
+      let c : count_by (fills at a) (s ∷ ss) ≡ cond (fills at a s) 1 0 + count_by (fills at a) ss =
+      sum_by-cons (λ x. cond (fills at a x) 1 0) s ss in
       elim (fills at a s) as (λ b. fills at a s ≡ b → count_by (fills at a) (s ∷ ss) ≤ 1) [
         | true ↦ λ f. (let n = none_behind s ss p.0 f in let one = counts_yes _ f in omega arith)
         | false ↦ λ f. (let rest = at_most_one ss p.1 in let nothing = counts_no _ f in omega arith)
@@ -54,14 +60,17 @@ module _ (at : LoadAt) (a : ℕ) where
   swapped false false u v w _ = refl
 
   -- so the byte of one more segment comes into an address that it fills, and no other changes
-  pub opening_byte_more : (file : List ℕ) (ss : List Segment) (i : ℕ) (d : Segment) → any_share at ss ≡ false → i < length ss
-      → opening_byte (take (i + 1) ss) file at a ≡ cond (fills at a (get_or ss i d)) (byte_of file at (get_or ss i d) a) (opening_byte (take i ss) file at a)
+  pub opening_byte_more : (file : List ℕ) (ss : List Segment) (i : ℕ) (d : Segment) → any_share at ss ≡ false
+      → i < length ss
+      → opening_byte (take (i + 1) ss) file at a ≡ cond (fills at a (get_or ss i d)) (byte_of file at (get_or ss i d) a)
+      (opening_byte (take i ss) file at a)
   opening_byte_more file [] i d e l = absurd (omega arith)
   opening_byte_more file (s ∷ ss) zero d e l = refl
   opening_byte_more file (s ∷ ss) (suc j) d e l =
       let p = or_parts (list_any (share at s) ss) _ e in
       let t = get_or ss j d in
-      let apart : share at s t ≡ false = false_from_ne_true _ (λ g. both_ways _ p.0 (list_any_at (share at s) ss j d (omega arith) g)) in
+      let apart : share at s t ≡ false = false_from_ne_true _
+      (λ g. both_ways _ p.0 (list_any_at (share at s) ss j d (omega arith) g)) in
       let next : suc j + 1 ≡ suc (j + 1) = omega arith in
       ap (λ k. opening_byte (take k (s ∷ ss)) file at a) next
       ∙ ap (λ x. cond (fills at a s) (byte_of file at s a) x) (opening_byte_more file ss j d p.1 (omega arith))

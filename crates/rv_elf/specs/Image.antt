@@ -1,14 +1,19 @@
 -- The image of a file's bytes, or the first refusal of the table that applies.
--- ELF32 of the System V ABI, chapters "Object Files" and "Program Loading"; RISC-V's machine number is that of its ELF psABI.
-use Rattle.std.specs.Prelude.{◌≡◌, ◌≤◌, ◌<◌, ◌==◌, ◌+◌, ◌*◌, ◌%◌, ℕ, Bool, not, ◌&&◌, ◌||◌, List, [], ◌∷◌, length, map, filter, Result, Ok, nat_lt}
+-- ELF32 of the System V ABI, chapters "Object Files" and "Program Loading"; RISC-V's machine number is that of its ELF
+-- psABI.
+use Rattle.std.specs.Prelude.{◌≡◌, ◌≤◌, ◌<◌, ◌==◌, ◌+◌, ◌*◌, ◌%◌, ℕ, Bool, not, ◌&&◌, ◌||◌, List, [], ◌∷◌, length, map}
+use Rattle.std.specs.Prelude.{filter, Result, Ok, nat_lt}
 use Rattle.std.specs.List.{list_any, range_with_len}
 use Rattle.rv_isa.specs.declared.sets.Isa.{Isa}
 use Rattle.rv_isa.specs.Extensions.{has, RV32C}
 use Rattle.rv_elf.specs.declared.error.ImageError.{ImageError}
-use Rattle.rv_elf.specs.declared.error.ImageError.TheVariants.{ShortHeader, BadMagic, Not32Bit, NotLittleEndian, BadVersion, NotExecutable, NotRiscv, ProgramTable, Dynamic, SegmentSizes, SegmentFile, NoSegment, EntryOdd, EntryAlign}
+use Rattle.rv_elf.specs.declared.error.ImageError.TheVariants.{ShortHeader, BadMagic, Not32Bit, NotLittleEndian}
+use Rattle.rv_elf.specs.declared.error.ImageError.TheVariants.{BadVersion, NotExecutable, NotRiscv, ProgramTable}
+use Rattle.rv_elf.specs.declared.error.ImageError.TheVariants.{Dynamic, SegmentSizes, SegmentFile, NoSegment, EntryOdd}
+use Rattle.rv_elf.specs.declared.error.ImageError.TheVariants.{EntryAlign}
 use Rattle.rv_elf.specs.declared.image.Segment.{Segment}
 use Rattle.rv_elf.specs.declared.image.Image.{Image}
-use Rattle.rv_elf.specs.declared.table.Entry.{Entry}
+use Rattle.rv_elf.specs.declared.program_headers.ProgramHeader.{ProgramHeader}
 use Rattle.rv_elf.specs.Fields.{byte_at, half_at, word_at}
 use Rattle.rv_elf.specs.Rows.{Row, first_row, accepted}
 
@@ -35,30 +40,49 @@ e_phentsize file = half_at file 42
 abbrev pub e_phnum : List ℕ → ℕ
 e_phnum file = half_at file 44
 
--- ---- the program header table ("Program Header")
+-- ---- the program header table ("Program Header"), and the fields of the entry at a place
+
+abbrev pub p_type : List ℕ → ℕ → ℕ
+p_type file at = word_at file at
+
+abbrev pub p_offset : List ℕ → ℕ → ℕ
+p_offset file at = word_at file (at + 4)
+
+abbrev pub p_vaddr : List ℕ → ℕ → ℕ
+p_vaddr file at = word_at file (at + 8)
+
+abbrev pub p_paddr : List ℕ → ℕ → ℕ
+p_paddr file at = word_at file (at + 12)
+
+abbrev pub p_filesz : List ℕ → ℕ → ℕ
+p_filesz file at = word_at file (at + 16)
+
+abbrev pub p_memsz : List ℕ → ℕ → ℕ
+p_memsz file at = word_at file (at + 20)
 
 -- the segment of the entry at a place
 unfoldable pub segment_at : List ℕ → ℕ → Segment
 segment_at file at = record {
-  offset = word_at file (at + 4);
-  vaddr = word_at file (at + 8);
-  paddr = word_at file (at + 12);
-  filesz = word_at file (at + 16);
-  memsz = word_at file (at + 20);
+  offset = p_offset file at;
+  vaddr = p_vaddr file at;
+  paddr = p_paddr file at;
+  filesz = p_filesz file at;
+  memsz = p_memsz file at;
 }
 
-unfoldable pub entry_at : List ℕ → ℕ → Entry
-entry_at file at = record { kind = word_at file at; segment = segment_at file at }
+unfoldable pub entry_at : List ℕ → ℕ → ProgramHeader
+entry_at file at = record { p_type = p_type file at; segment = segment_at file at }
 
 -- the table: e_phnum entries of 32 bytes from e_phoff on
-unfoldable pub entries : List ℕ → List Entry
+unfoldable pub entries : List ℕ → List ProgramHeader
 entries file = map (λ k. entry_at file (e_phoff file + 32 * k)) (range_with_len 0 (e_phnum file))
 
 -- ---- the conditions of the refusals
 
 -- 0x7f 'E' 'L' 'F'
 abbrev pub has_magic : List ℕ → Bool
-has_magic file = (byte_at file 0 == 0x7f) && ((byte_at file 1 == 0x45) && ((byte_at file 2 == 0x4c) && (byte_at file 3 == 0x46)))
+has_magic file = (byte_at file 0 == 0x7f) && ((byte_at file 1 == 0x45)
+    && ((byte_at file 2 == 0x4c) && (byte_at file 3 == 0x46)))
 
 -- the version stands twice, in the identification and in e_version, and both are 1
 abbrev pub has_bad_version : List ℕ → Bool
@@ -70,24 +94,24 @@ has_bad_table file = nat_lt 64 (e_phnum file) || (nat_lt 0 (e_phnum file)
     && (not (e_phentsize file == 32) || nat_lt (length file) (e_phoff file + 32 * e_phnum file)))
 
 -- PT_DYNAMIC or PT_INTERP
-abbrev pub is_dynamic : Entry → Bool
-is_dynamic e = (e.kind == 2) || (e.kind == 3)
+abbrev pub is_dynamic : ProgramHeader → Bool
+is_dynamic e = (e.p_type == 2) || (e.p_type == 3)
 
 -- PT_LOAD
-abbrev pub is_load : Entry → Bool
-is_load e = e.kind == 1
+abbrev pub is_load : ProgramHeader → Bool
+is_load e = e.p_type == 1
 
-abbrev pub has_bad_sizes : Entry → Bool
+abbrev pub has_bad_sizes : ProgramHeader → Bool
 has_bad_sizes e = is_load e && nat_lt e.segment.memsz e.segment.filesz
 
 -- its bytes go past a file of n bytes
-abbrev pub is_past : ℕ → Entry → Bool
+abbrev pub is_past : ℕ → ProgramHeader → Bool
 is_past n e = is_load e && (nat_lt 0 e.segment.filesz && nat_lt n (e.segment.offset + e.segment.filesz))
 
-abbrev pub is_kept : Entry → Bool
+abbrev pub is_kept : ProgramHeader → Bool
 is_kept e = is_load e && nat_lt 0 e.segment.memsz
 
-abbrev pub kept_of : List Entry → List Segment
+abbrev pub kept_of : List ProgramHeader → List Segment
 kept_of found = map (λ e. e.segment) (filter is_kept found)
 
 -- the PT_LOAD entries with a size in memory, in table order
@@ -109,7 +133,7 @@ header_rows file = (nat_lt (length file) 52, ShortHeader)
     ∷ []
 
 -- of the entries that a file of n bytes has, each asked of all of them before the next one is
-abbrev pub entry_rows : ℕ → List Entry → List Row
+abbrev pub entry_rows : ℕ → List ProgramHeader → List Row
 entry_rows n found = (list_any is_dynamic found, Dynamic)
     ∷ (list_any has_bad_sizes found, SegmentSizes)
     ∷ (list_any (is_past n) found, SegmentFile)
@@ -125,7 +149,7 @@ image_rows isa image = (length image.segments == 0, NoSegment)
 unfoldable pub header_check : List ℕ → Result (Unit {0}) ImageError
 header_check file = first_row (header_rows file) accepted
 
-unfoldable pub entry_check : ℕ → List Entry → Result (Unit {0}) ImageError
+unfoldable pub entry_check : ℕ → List ProgramHeader → Result (Unit {0}) ImageError
 entry_check n found = first_row (entry_rows n found) accepted
 
 unfoldable pub image_check : Isa → Image → Result (Unit {0}) ImageError
@@ -137,7 +161,8 @@ image_there file = record { entry = e_entry file; segments = segments file }
 
 -- what the header's table says, once the header is not refused
 unfoldable pub table_of : Isa → List ℕ → Result Image ImageError
-table_of isa file = first_row (entry_rows (length file) (entries file)) (first_row (image_rows isa (image_there file)) (Ok (image_there file)))
+table_of isa file = first_row (entry_rows (length file) (entries file))
+    (first_row (image_rows isa (image_there file)) (Ok (image_there file)))
 
 -- the first refusal that applies, or the image
 unfoldable pub image_of : Isa → List ℕ → Result Image ImageError

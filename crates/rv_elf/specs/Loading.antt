@@ -1,5 +1,6 @@
 -- Which images fit a map, and the memory that an image is loaded into (System V ABI, "Program Loading").
-use Rattle.std.specs.Prelude.{ℕ, ◌+◌, ◌-◌, ◌&&◌, ◌||◌, Bool, false, not, nat_lt, nat_le, min, max, if◌then◌else◌, List, [], ◌∷◌, take, drop, slice_index, Result}
+use Rattle.std.specs.Prelude.{ℕ, ◌+◌, ◌-◌, ◌&&◌, ◌||◌, Bool, false, not, nat_lt, nat_le, min, max, if◌then◌else◌, List}
+use Rattle.std.specs.Prelude.{[], ◌∷◌, take, drop, slice_index, Result}
 use Rattle.std.specs.List.{list_any, list_all}
 use Rattle.std.specs.Ordering.{nat_cmp}
 use Rattle.std.specs.FinMap as fin
@@ -17,13 +18,15 @@ abbrev pub load_address : LoadAt → Segment → ℕ
 load_address Physical s = s.paddr
 load_address Virtual s = s.vaddr
 
--- its file bytes at the load address lie in one region, and so does its memory at the virtual address; no bytes always do
+-- its file bytes at the load address lie in one region, and so does its memory at the virtual address; no bytes always
+-- do
 abbrev pub fits : List Region → LoadAt → Segment → Bool
 fits regions at s = in_one regions (load_address at s) s.filesz && in_one regions s.vaddr s.memsz
 
 -- the file bytes of both, placed at their load addresses, share a byte: the later start is before the earlier end
 abbrev pub share : LoadAt → Segment → Segment → Bool
-share at s t = nat_lt (max (load_address at s) (load_address at t)) (min (load_address at s + s.filesz) (load_address at t + t.filesz))
+share at s t = nat_lt (max (load_address at s) (load_address at t))
+    (min (load_address at s + s.filesz) (load_address at t + t.filesz))
 
 -- some segment of the list shares a byte with a later one
 abbrev pub any_share : LoadAt → List Segment → Bool
@@ -32,7 +35,8 @@ any_share at (s ∷ ss) = list_any (share at s) ss || any_share at ss
 
 -- the refusals of a map, in their order
 abbrev pub map_rows : List Segment → List Region → LoadAt → List Row
-map_rows segments regions at = (not (list_all (fits regions at) segments), SegmentMap) ∷ (any_share at segments, SegmentOverlap) ∷ []
+map_rows segments regions at = (not (list_all (fits regions at) segments), SegmentMap)
+    ∷ (any_share at segments, SegmentOverlap) ∷ []
 
 -- the first refusal that applies, if one does
 unfoldable pub map_check : List Segment → List Region → LoadAt → Result (Unit {0}) ImageError

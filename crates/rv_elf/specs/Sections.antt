@@ -1,5 +1,7 @@
--- The section header table, the symbol table and its string table (System V ABI, "Sections", "String Table", "Symbol Table").
-use Rattle.std.specs.Prelude.{◌≤◌, ◌==◌, ◌+◌, ◌*◌, ◌/◌, ◌%◌, ℕ, Bool, not, ◌&&◌, ◌||◌, List, [], ◌∷◌, length, map, take, drop, nat_lt, Option, Some, None, if◌then◌else◌, option_map, false}
+-- The section header table, the symbol table and its string table (System V ABI, "Sections", "String Table", "Symbol
+-- Table").
+use Rattle.std.specs.Prelude.{◌≤◌, ◌==◌, ◌+◌, ◌*◌, ◌/◌, ◌%◌, ℕ, Bool, not, ◌&&◌, ◌||◌, List, [], ◌∷◌, length, map, take}
+use Rattle.std.specs.Prelude.{drop, nat_lt, Option, Some, None, if◌then◌else◌, option_map, false}
 use Rattle.std.specs.List.{find, range_with_len}
 use Rattle.std.specs.Option.{option_map_or}
 use Rattle.std.specs.Str.{bytes_eq}
@@ -18,16 +20,31 @@ e_shentsize file = half_at file 46
 abbrev pub e_shnum : List ℕ → ℕ
 e_shnum file = half_at file 48
 
--- ---- the section header table
+-- ---- the section header table, and the fields of the header at a place
+
+abbrev pub sh_type : List ℕ → ℕ → ℕ
+sh_type file at = word_at file (at + 4)
+
+abbrev pub sh_offset : List ℕ → ℕ → ℕ
+sh_offset file at = word_at file (at + 16)
+
+abbrev pub sh_size : List ℕ → ℕ → ℕ
+sh_size file at = word_at file (at + 20)
+
+abbrev pub sh_link : List ℕ → ℕ → ℕ
+sh_link file at = word_at file (at + 24)
+
+abbrev pub sh_entsize : List ℕ → ℕ → ℕ
+sh_entsize file at = word_at file (at + 36)
 
 -- the section header at a place
 unfoldable pub section_at : List ℕ → ℕ → Section
 section_at file at = record {
-  kind = word_at file (at + 4);
-  offset = word_at file (at + 16);
-  size = word_at file (at + 20);
-  link = word_at file (at + 24);
-  entsize = word_at file (at + 36);
+  sh_type = sh_type file at;
+  offset = sh_offset file at;
+  size = sh_size file at;
+  link = sh_link file at;
+  entsize = sh_entsize file at;
 }
 
 -- that of an index
@@ -40,7 +57,8 @@ sections file = map (section file) (range_with_len 0 (e_shnum file))
 
 -- there is none, its entries have another size, or it goes past the file
 abbrev pub has_bad_sections : List ℕ → Bool
-has_bad_sections file = (e_shnum file == 0) || (not (e_shentsize file == 40) || nat_lt (length file) (e_shoff file + 40 * e_shnum file))
+has_bad_sections file = (e_shnum file == 0)
+    || (not (e_shentsize file == 40) || nat_lt (length file) (e_shoff file + 40 * e_shnum file))
 
 -- the section goes past a file of n bytes
 abbrev pub is_past : ℕ → Section → Bool
@@ -50,11 +68,11 @@ is_past n s = nat_lt n (s.offset + s.size)
 abbrev pub bytes_of : List ℕ → Section → List ℕ
 bytes_of file s = take s.size (drop s.offset file)
 
--- ---- the symbol table
+-- ---- the symbol table, and the fields of the symbol at a place of its bytes
 
 -- SHT_SYMTAB
 abbrev pub is_symbols : Section → Bool
-is_symbols s = s.kind == 2
+is_symbols s = s.sh_type == 2
 
 -- the first symbol table
 unfoldable pub symbol_table : List ℕ → Option Section
@@ -64,9 +82,18 @@ symbol_table file = find is_symbols (sections file)
 abbrev pub is_bad_symbols : ℕ → Section → Bool
 is_bad_symbols n s = not (s.entsize == 16) || (not (s.size % 16 == 0) || is_past n s)
 
+abbrev pub st_name : List ℕ → ℕ → ℕ
+st_name table at = word_at table at
+
+abbrev pub st_value : List ℕ → ℕ → ℕ
+st_value table at = word_at table (at + 4)
+
+abbrev pub st_shndx : List ℕ → ℕ → ℕ
+st_shndx table at = half_at table (at + 14)
+
 -- the symbol at a place of a table's bytes
 unfoldable pub symbol_at : List ℕ → ℕ → Symbol
-symbol_at table at = record { name = word_at table at; value = word_at table (at + 4); section = half_at table (at + 14) }
+symbol_at table at = record { name = st_name table at; value = st_value table at; section = st_shndx table at }
 
 -- the symbols of a table's bytes, 16 bytes each
 abbrev pub symbols_of : List ℕ → List Symbol
@@ -80,7 +107,7 @@ string_table file symbols = if nat_lt symbols.link (e_shnum file) then Some (sec
 
 -- not SHT_STRTAB, or past a file of n bytes
 abbrev pub is_bad_strings : ℕ → Section → Bool
-is_bad_strings n s = not (s.kind == 3) || is_past n s
+is_bad_strings n s = not (s.sh_type == 3) || is_past n s
 
 -- the text that bytes begin with: those up to the first zero byte, if there is one
 abbrev pub text_of : List ℕ → Option (List ℕ)

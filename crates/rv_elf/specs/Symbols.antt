@@ -1,14 +1,17 @@
 -- The value of a symbol, and the range of a signature, or the first refusal of the table that applies.
-use Rattle.std.specs.Prelude.{◌==◌, ◌-◌, ◌%◌, ℕ, Bool, true, false, not, ◌&&◌, ◌||◌, List, [], ◌∷◌, length, nat_lt, Option, option_and_then, option_map, unwrap_or, Result, Ok, is_none}
+use Rattle.std.specs.Prelude.{◌==◌, ◌-◌, ◌%◌, ℕ, Bool, true, false, not, ◌&&◌, ◌||◌, List, [], ◌∷◌, length, nat_lt}
+use Rattle.std.specs.Prelude.{Option, option_and_then, option_map, unwrap_or, Result, Ok, is_none}
 use Rattle.std.specs.Option.{option_map_or}
 use Rattle.rv_memory.specs.declared.map.Region.{Region}
 use Rattle.rv_memory.specs.Regions.{in_one}
 use Rattle.rv_elf.specs.declared.error.ImageError.{ImageError}
-use Rattle.rv_elf.specs.declared.error.ImageError.TheVariants.{SectionTable, NoSymbols, SymbolTable, StringTable, NoBegin, SignatureRange}
+use Rattle.rv_elf.specs.declared.error.ImageError.TheVariants.{SectionTable, NoSymbols, SymbolTable, StringTable}
+use Rattle.rv_elf.specs.declared.error.ImageError.TheVariants.{NoBegin, SignatureRange}
 use Rattle.rv_elf.specs.declared.sections.Section.{Section}
 use Rattle.rv_elf.specs.declared.symbols.Symbol.{Symbol}
 use Rattle.rv_elf.specs.Rows.{Row, first_row, accepted}
-use Rattle.rv_elf.specs.Sections.{has_bad_sections, symbol_table, string_table, is_bad_symbols, is_bad_strings, bytes_of, symbol_named}
+use Rattle.rv_elf.specs.Sections.{has_bad_sections, symbol_table, string_table, is_bad_symbols, is_bad_strings}
+use Rattle.rv_elf.specs.Sections.{bytes_of, symbol_named}
 
 -- the string table of a symbol table is missing, is none, or goes past the file
 abbrev pub has_bad_strings : List ℕ → Section → Bool
@@ -16,7 +19,8 @@ has_bad_strings file symbols = option_map_or (is_bad_strings (length file)) (str
 
 -- the first symbol of that name in a symbol table and its string table
 abbrev pub symbol_in : List ℕ → List ℕ → Section → Option Symbol
-symbol_in file name symbols = option_and_then (λ strings. symbol_named (bytes_of file symbols) (bytes_of file strings) name) (string_table file symbols)
+symbol_in file name symbols = option_and_then (λ strings. symbol_named (bytes_of file symbols)
+    (bytes_of file strings) name) (string_table file symbols)
 
 -- the first symbol of that name in the first symbol table
 abbrev pub symbol_there : List ℕ → List ℕ → Option Symbol
@@ -33,9 +37,11 @@ symbol_rows file name = (has_bad_sections file, SectionTable)
 
 -- the first refusal that applies, or the value of the symbol
 unfoldable pub symbol_of : List ℕ → List ℕ → Result ℕ ImageError
-symbol_of file name = first_row (symbol_rows file name) (Ok (unwrap_or (option_map (λ s. s.value) (symbol_there file name)) 0))
+symbol_of file name = first_row (symbol_rows file name)
+    (Ok (unwrap_or (option_map (λ s. s.value) (symbol_there file name)) 0))
 
--- the begin is above the end, one is no multiple of 4, or there are bytes that lie not in one region or are more than 65,536 words
+-- the begin is above the end, one is no multiple of 4, or there are bytes that lie not in one region or are more than
+-- 65,536 words
 abbrev pub is_bad_range : ℕ → ℕ → List Region → Bool
 is_bad_range begin end regions = nat_lt end begin || (not (begin % 4 == 0) || (not (end % 4 == 0)
     || (nat_lt begin end && (not (in_one regions begin (end - begin)) || nat_lt 0x4_0000 (end - begin)))))

@@ -1,3 +1,4 @@
+//! The refusals, in the order in which they are asked.
 ghost use Rattle.std.specs.Prelude.{◌≡◌};
 ghost use Rattle.rv_elf.specs.declared.error.ImageError.TheVariants.{OutOfMemory};
 

@@ -1,3 +1,4 @@
+//! Where a file has its fields, and the little-endian numbers that stand there.
 ghost use Rattle.std.specs.Prelude.{◌≡◌, ◌+◌, ◌≤◌, length};
 ghost use Rattle.rv_elf.specs.Fields.{half_at, word_at};
 
@@ -29,6 +30,37 @@ pub(crate) const E_PHNUM: usize = 44;
 pub(crate) const E_SHENTSIZE: usize = 46;
 
 pub(crate) const E_SHNUM: usize = 48;
+
+// Where a program header has its fields (System V ABI, "Program Header").
+pub(crate) const P_TYPE: usize = 0;
+
+pub(crate) const P_OFFSET: usize = 4;
+
+pub(crate) const P_VADDR: usize = 8;
+
+pub(crate) const P_PADDR: usize = 12;
+
+pub(crate) const P_FILESZ: usize = 16;
+
+pub(crate) const P_MEMSZ: usize = 20;
+
+// Where a section header has its fields (System V ABI, "Sections").
+pub(crate) const SH_TYPE: usize = 4;
+
+pub(crate) const SH_OFFSET: usize = 16;
+
+pub(crate) const SH_SIZE: usize = 20;
+
+pub(crate) const SH_LINK: usize = 24;
+
+pub(crate) const SH_ENTSIZE: usize = 36;
+
+// Where a symbol has its fields (System V ABI, "Symbol Table").
+pub(crate) const ST_NAME: usize = 0;
+
+pub(crate) const ST_VALUE: usize = 4;
+
+pub(crate) const ST_SHNDX: usize = 14;
 
 /// The two-byte number at a place.
 #[tactic(auto, unfolding(crate::specs::Fields::half_at))]

@@ -1,3 +1,4 @@
+//! The tests of the ELF header, and of the place of the program header table.
 ghost use Rattle.std.specs.Prelude.{◌≡◌, ◌≤◌, OnOk, length};
 ghost use Rattle.rv_elf.specs.Image.{has_magic, has_bad_version, has_bad_table, header_check, HasTable};
 

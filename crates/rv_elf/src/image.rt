@@ -1,3 +1,4 @@
+//! An executable as its entry and its segments, and how it is read from a file.
 ghost use Rattle.std.specs.Prelude.{◌≡◌, ◌≢◌, IfOk, MatchResult, Ok, Err, false, ◌%◌, ◌==◌};
 ghost use Rattle.rv_isa.specs.Extensions.{has, RV32C};
 ghost use Rattle.rv_elf.specs.Image.{image_of, table_of, image_check, HasTable, IsImageOf};
@@ -6,7 +7,7 @@ ghost use Rattle.rv_elf.specs.declared.error.ImageError.TheVariants.{OutOfMemory
 use crate::error::ImageError;
 use crate::fields::{E_ENTRY, word};
 use crate::header::check_header;
-use crate::table::{check_entries, entries, kept_segments};
+use crate::program_headers::{check_entries, entries, kept_segments};
 use rv_isa::Isa;
 use std::alloc::Global;
 use std::marker::Model;
@@ -88,7 +89,7 @@ pub fn read_image(alloc: Global, file: &[u8], isa: Isa) -> Result<Image, ImageEr
     read_table(alloc, file, isa)
 }
 
-/// The rest of [`read_image`], once the header is accepted.
+// The rest of [`read_image`], once the header is accepted.
 fn read_table(alloc: Global, file: &[u8], isa: Isa) -> Result<Image, ImageError>
     requires { HasTable file.now }
     ensures { MatchResult result (λ image. table_of isa file.now ≡ Ok image)

@@ -12,9 +12,9 @@ mod fields;
 mod header;
 mod image;
 mod loading;
+mod program_headers;
 mod sections;
 mod symbols;
-mod table;
 
 pub use error::ImageError;
 pub use image::{Image, Segment, Segments, read_image};

@@ -1,3 +1,4 @@
+//! Whether an image fits a map, and how its bytes come into a bus.
 ghost use Rattle.std.specs.Prelude.{◌≡◌, ◌+◌, ◌<◌, ◌≤◌, ℕ, IsTrue, OnOk, length, count_by};
 ghost use Rattle.std.specs.List.{list_all, list_any};
 ghost use Rattle.rv_memory.specs.Regions.{in_one};
@@ -41,7 +42,9 @@ pub fn load(image: &Image, file: &[u8], at: LoadAt, bus: &mut Bus)
     requires image { IsImageOf file.now image.now }
     requires fits { map_check image.now.segments bus.old.regions at ≡ accepted }
     requires new { bus.old ≡ opened bus.old.regions bus.old.script bus.old.misaligned }
-    ensures { bus.new ≡ record bus.old { memory = opening_memory bus.old.regions image.now.segments file.now at } }
+    ensures { bus.new ≡ record bus.old {
+      memory = opening_memory bus.old.regions image.now.segments file.now at;
+    } }
 {
     for segment in image.segments.as_slice() {
         place(segment, file, at, bus);
@@ -58,7 +61,7 @@ impl LoadAt {
         }
     }
 
-    /// The address past the last file byte.
+    // The address past the last file byte.
     fn end_of(self, segment: &Segment) -> u64
         ensures { result ≡ load_address self segment.now + segment.now.filesz }
     {
@@ -75,7 +78,7 @@ fn all_fit(segments: &[Segment], map: &Map, at: LoadAt) -> bool
     })
 }
 
-/// Whether two of the segments get a byte of memory in common.
+// Whether two of the segments get a byte of memory in common.
 fn any_share(segments: &[Segment], at: LoadAt) -> bool
     ensures { result ≡ any_share at segments.now }
 {
@@ -101,9 +104,12 @@ fn share(one: &Segment, other: &Segment, at: LoadAt) -> bool
 }
 
 fn place(segment: &Segment, file: &[u8], at: LoadAt, bus: &mut Bus)
-    requires inside { 0 < segment.now.filesz → segment.now.offset + segment.now.filesz ≤ length file.now }
-    requires fits { IsTrue (in_one bus.old.regions (load_address at segment.now) segment.now.filesz) }
-    ensures { bus.new ≡ placed bus.old (load_address at segment.now) (file_bytes file.now segment.now) }
+    requires inside { 0 < segment.now.filesz
+        → segment.now.offset + segment.now.filesz ≤ length file.now }
+    requires fits { IsTrue
+        (in_one bus.old.regions (load_address at segment.now) segment.now.filesz) }
+    ensures { bus.new
+        ≡ placed bus.old (load_address at segment.now) (file_bytes file.now segment.now) }
 {
     if 0 < segment.filesz {
         let start = segment.offset as usize;

@@ -1,14 +1,17 @@
+//! The section header table, and in it the first symbol table and its strings.
 ghost use Rattle.std.specs.Prelude.{◌≡◌, ◌+◌, ◌*◌, ◌<◌, ◌≤◌, IfSome, IfOk, IsTrue, false, length, MatchOption};
 ghost use Rattle.std.specs.List.{find, slice_get};
 ghost use Rattle.rv_elf.specs.Fields.{half_at, word_at};
 ghost use Rattle.rv_elf.specs.Sections.{section_at, section, has_bad_sections, symbol_table, string_table, is_past, is_bad_symbols, is_bad_strings, bytes_of, is_symbols, e_shnum, HasSections};
 
-use crate::fields::{E_SHENTSIZE, E_SHNUM, E_SHOFF, half, word};
+use crate::fields::{
+    E_SHENTSIZE, E_SHNUM, E_SHOFF, SH_ENTSIZE, SH_LINK, SH_OFFSET, SH_SIZE, SH_TYPE, half, word,
+};
 
 /// A section header, as far as it is looked at (System V ABI, "Sections").
 #[derive(Clone, Copy, Debug, PartialEq, Eq)]
 pub(crate) struct Section {
-    pub(crate) kind: u32,
+    pub(crate) sh_type: u32,
     pub(crate) offset: u32,
     pub(crate) size: u32,
     pub(crate) link: u32,
@@ -38,7 +41,7 @@ impl Section {
     pub(crate) fn is_bad_strings(&self, size: usize) -> bool
         ensures { result ≡ is_bad_strings size self.now }
     {
-        self.kind != SHT_STRTAB || self.is_past(size)
+        self.sh_type != SHT_STRTAB || self.is_past(size)
     }
 
     /// The bytes of the section.
@@ -74,7 +77,7 @@ pub(crate) fn symbol_table(file: &[u8]) -> Option<Section>
 {
     for index in 0..u32::from(half(file, E_SHNUM)) {
         let section = header_of(file, index);
-        if section.kind == SHT_SYMTAB {
+        if section.sh_type == SHT_SYMTAB {
             return Some(section);
         }
     }
@@ -92,7 +95,7 @@ pub(crate) fn string_table(file: &[u8], symbols: &Section) -> Option<Section>
     Some(header_of(file, symbols.link))
 }
 
-/// The section header of an index.
+// The section header of an index.
 fn header_of(file: &[u8], index: u32) -> Section
     requires table { HasSections file.now }
     requires within { index < e_shnum file.now }
@@ -110,10 +113,10 @@ fn section_at(file: &[u8], at: usize) -> Section
     ensures { result ≡ section_at file.now at }
 {
     Section {
-        kind: word(file, at + 4),
-        offset: word(file, at + 16),
-        size: word(file, at + 20),
-        link: word(file, at + 24),
-        entsize: word(file, at + 36),
+        sh_type: word(file, at + SH_TYPE),
+        offset: word(file, at + SH_OFFSET),
+        size: word(file, at + SH_SIZE),
+        link: word(file, at + SH_LINK),
+        entsize: word(file, at + SH_ENTSIZE),
     }
 }

@@ -1,10 +1,11 @@
+//! The value of a symbol by its name, and the range of a signature.
 ghost use Rattle.std.specs.Prelude.{◌≡◌, ◌+◌, ◌-◌, ◌%◌, ◌<◌, ◌≤◌, Ok, Err, MatchResult, Option, Some, false, length, option_map, drop};
 ghost use Rattle.rv_elf.specs.Image.{IsImageOf};
 ghost use Rattle.rv_elf.specs.Sections.{symbol_at, symbol_named, begins_with, is_named, bytes_of, is_past, HasSections};
 ghost use Rattle.rv_elf.specs.Symbols.{symbol_of, signature_check, is_bad_range};
 
 use crate::error::ImageError;
-use crate::fields::{half, word};
+use crate::fields::{ST_NAME, ST_SHNDX, ST_VALUE, half, word};
 use crate::image::Image;
 use crate::sections::{has_bad_sections, string_table, symbol_table};
 use rv_memory::Map;
@@ -79,7 +80,7 @@ fn is_bad_range(begin: u32, end: u32, map: &Map) -> bool
         || begin < end && (!map.in_one(begin, end - begin) || MOST_BYTES < end - begin)
 }
 
-/// The value of the first defined symbol of a name, over the bytes of a symbol table and its strings.
+// The value of the first defined symbol of a name, over the bytes of a symbol table and its strings.
 fn value_named(table: &[u8], strings: &[u8], name: &[u8]) -> Option<u32>
     ensures { result ≡ option_map (λ s. s.value) (symbol_named table.now strings.now name.now) }
 {
@@ -98,9 +99,9 @@ fn symbol_at(table: &[u8], at: usize) -> Symbol
     ensures { result ≡ symbol_at table.now at }
 {
     Symbol {
-        name: word(table, at),
-        value: word(table, at + 4),
-        section: half(table, at + 14),
+        name: word(table, at + ST_NAME),
+        value: word(table, at + ST_VALUE),
+        section: half(table, at + ST_SHNDX),
     }
 }
 
@@ -112,15 +113,15 @@ impl Symbol {
     }
 }
 
-/// The bytes from a place on, none where it is past the end.
+// The bytes from a place on, none where it is past the end.
 fn tail(bytes: &[u8], at: usize) -> &[u8]
     ensures { result.now ≡ drop at bytes.now }
 {
     &bytes[at.min(bytes.len())..]
 }
 
-/// Whether bytes begin with a text and a zero byte, where the text has none. The text itself is looked
-/// through last, since few bytes come so far.
+// Whether bytes begin with a text and a zero byte, where the text has none. The text itself is looked
+// through last, since few bytes come so far.
 fn begins_with(bytes: &[u8], text: &[u8]) -> bool
     ensures { result ≡ begins_with bytes.now text.now }
 {

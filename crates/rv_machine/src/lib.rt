@@ -12,9 +12,9 @@ mod ending;
 mod execute;
 mod fetch;
 mod hart;
+mod kept;
+mod last_instruction;
 mod machine;
-mod stop;
-mod table;
 
 pub use ending::{Ending, FaultKind, Outcome};
 pub use machine::Machine;

@@ -4,4 +4,5 @@ use Rattle.rv_elf.proofs.Sharing.{at_most_one}
 use Rattle.rv_elf.proofs.loading.check_map.Goals as goal
 
 pub returns-clause-once : goal.returns-clause-once
-returns-clause-once c = λ a. at_most_one c.args.at a c.args.image.now.segments (ap (any_share c.args.at) (sym c.as_slice-segments.ensures) ∙ sym c.any_share.ensures ∙ c.if-any_share.false)
+returns-clause-once c = λ a. at_most_one c.args.at a c.args.image.now.segments
+    (ap (any_share c.args.at) (sym c.as_slice-segments.ensures) ∙ sym c.any_share.ensures ∙ c.if-any_share.false)

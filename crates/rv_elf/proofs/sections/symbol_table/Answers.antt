@@ -9,6 +9,8 @@ loop-index-init c = found_whole is_symbols (section c.args.file.now) (e_shnum c.
 
 pub loop-index-preserved : goal.loop-index-preserved
 loop-index-preserved c =
-    let below : c.loop-index.index < e_shnum c.args.file.now = subst (λ n. c.loop-index.index < n) (c.from-index-end.ensures ∙ c.half.ensures) c.loop-index-test.true in
+    let below : c.loop-index.index < e_shnum c.args.file.now = subst (λ n. c.loop-index.index < n)
+    (c.from-index-end.ensures ∙ c.half.ensures) c.loop-index-test.true in
     let other = ap is_symbols (sym c.header_of-section.ensures) ∙ ne_eqb _ _ c.if-section-eq-SHT_SYMTAB.false in
-    found_later is_symbols (section c.args.file.now) c.loop-index.index (e_shnum c.args.file.now) below other ∙ c.loop-index.invariant
+    found_later is_symbols (section c.args.file.now) c.loop-index.index (e_shnum c.args.file.now) below other
+    ∙ c.loop-index.invariant

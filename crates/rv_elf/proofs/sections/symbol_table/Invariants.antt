@@ -4,4 +4,5 @@ use Rattle.rv_elf.specs.Sections.{section, is_symbols, e_shnum, symbol_table}
 use Rattle.rv_elf.proofs.sections.symbol_table.Given as goal
 
 abbrev pub invariant-loop-index : goal.invariant-loop-index
-invariant-loop-index l = find is_symbols (map (section l.file) (range_with_len l.index (e_shnum l.file - l.index))) ≡ symbol_table l.file
+invariant-loop-index l = find is_symbols (map (section l.file) (range_with_len l.index (e_shnum l.file - l.index)))
+    ≡ symbol_table l.file

@@ -5,10 +5,12 @@ use Rattle.rv_elf.proofs.symbols.value_named.Goals as goal
 
 pub loop-k-init : goal.loop-k-init
 unfolding symbol_named
-loop-k-init c = found_whole (is_named c.args.strings.now c.args.name.now) (λ k. symbol_at c.args.table.now (16 * k)) (length c.args.table.now / 16)
+loop-k-init c = found_whole (is_named c.args.strings.now c.args.name.now) (λ k. symbol_at c.args.table.now (16 * k))
+    (length c.args.table.now / 16)
 
 pub loop-k-preserved : goal.loop-k-preserved
 loop-k-preserved c =
     let test = is_named c.args.strings.now c.args.name.now in
     let other = ap test (sym c.symbol_at-symbol.ensures) ∙ sym c.is_named.ensures ∙ c.if-is_named.false in
-    found_later test (λ k. symbol_at c.args.table.now (16 * k)) c.loop-k.k (length c.args.table.now / 16) c.loop-k-test.true other ∙ c.loop-k.invariant
+    found_later test (λ k. symbol_at c.args.table.now (16 * k)) c.loop-k.k
+    (length c.args.table.now / 16) c.loop-k-test.true other ∙ c.loop-k.invariant

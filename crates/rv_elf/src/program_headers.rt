@@ -1,16 +1,19 @@
+//! The program header table: its entries, their tests, and the segments that are kept.
 ghost use Rattle.std.specs.Prelude.{◌≡◌, ◌+◌, ◌*◌, ◌<◌, ◌≤◌, IfOk, map, length};
 ghost use Rattle.std.specs.List.{list_any, range_with_len};
 ghost use Rattle.rv_elf.specs.Image.{segment_at, entry_at, entries, entry_check, is_dynamic, has_bad_sizes, is_past, kept_of, HasTable};
 
 use crate::error::ImageError;
-use crate::fields::{E_PHNUM, E_PHOFF, half, word};
+use crate::fields::{
+    E_PHNUM, E_PHOFF, P_FILESZ, P_MEMSZ, P_OFFSET, P_PADDR, P_TYPE, P_VADDR, half, word,
+};
 use crate::image::Segment;
 use std::alloc::{AllocError, Global};
 
 /// A program header, as far as it is looked at.
 #[derive(Clone, Copy, Debug, PartialEq, Eq)]
-pub(crate) struct Entry {
-    kind: u32,
+pub(crate) struct ProgramHeader {
+    p_type: u32,
     segment: Segment,
 }
 
@@ -22,7 +25,7 @@ const PT_INTERP: u32 = 3;
 
 /// The entries of the program header table.
 #[tactic(auto, unfolding(crate::specs::Image::entries))]
-pub(crate) fn entries(alloc: Global, file: &[u8]) -> Result<Vec<Entry>, AllocError>
+pub(crate) fn entries(alloc: Global, file: &[u8]) -> Result<Vec<ProgramHeader>, AllocError>
     requires { HasTable file.now }
     ensures { IfOk result (λ v. v.items ≡ entries file.now) }
 {
@@ -36,7 +39,7 @@ pub(crate) fn entries(alloc: Global, file: &[u8]) -> Result<Vec<Entry>, AllocErr
 
 /// Asks the refusals of the entries, for a file of `size` bytes.
 #[tactic(auto, unfolding(crate::specs::Image::entry_check))]
-pub(crate) fn check_entries(found: &[Entry], size: usize) -> Result<(), ImageError>
+pub(crate) fn check_entries(found: &[ProgramHeader], size: usize) -> Result<(), ImageError>
     ensures { result ≡ entry_check size found.now }
 {
     if any_dynamic(found) {
@@ -52,12 +55,15 @@ pub(crate) fn check_entries(found: &[Entry], size: usize) -> Result<(), ImageErr
 }
 
 /// The segments of the PT_LOAD entries with bytes in memory, in their order.
-pub(crate) fn kept_segments(alloc: Global, found: &[Entry]) -> Result<Vec<Segment>, AllocError>
+pub(crate) fn kept_segments(
+    alloc: Global,
+    found: &[ProgramHeader],
+) -> Result<Vec<Segment>, AllocError>
     ensures { IfOk result (λ v. v.items ≡ kept_of found.now) }
 {
     let mut kept = Vec::new(alloc);
     for entry in found {
-        if entry.kind == PT_LOAD && 0 < entry.segment.memsz {
+        if entry.p_type == PT_LOAD && 0 < entry.segment.memsz {
             kept.push(entry.segment)?;
         }
     }
@@ -69,10 +75,11 @@ fn entries_at(
     file: &[u8],
     offset: usize,
     count: usize,
-) -> Result<Vec<Entry>, AllocError>
+) -> Result<Vec<ProgramHeader>, AllocError>
     requires room { 0 < count → offset + 32 * count ≤ length file.now }
     requires few { count ≤ 64 }
-    ensures { IfOk result (λ v. v.items ≡ map (λ k. entry_at file.now (offset + 32 * k)) (range_with_len 0 count)) }
+    ensures { IfOk result (λ v. v.items
+        ≡ map (λ k. entry_at file.now (offset + 32 * k)) (range_with_len 0 count)) }
 {
     let mut found = Vec::new(alloc);
     for k in 0..count {
@@ -82,12 +89,12 @@ fn entries_at(
 }
 
 #[tactic(auto, unfolding(crate::specs::Image::entry_at))]
-fn entry_at(file: &[u8], at: usize) -> Entry
+fn entry_at(file: &[u8], at: usize) -> ProgramHeader
     requires { at + 32 ≤ length file.now }
     ensures { result ≡ entry_at file.now at }
 {
-    Entry {
-        kind: word(file, at),
+    ProgramHeader {
+        p_type: word(file, at + P_TYPE),
         segment: segment_at(file, at),
     }
 }
@@ -98,33 +105,33 @@ fn segment_at(file: &[u8], at: usize) -> Segment
     ensures { result ≡ segment_at file.now at }
 {
     Segment {
-        offset: word(file, at + 4),
-        vaddr: word(file, at + 8),
-        paddr: word(file, at + 12),
-        filesz: word(file, at + 16),
-        memsz: word(file, at + 20),
+        offset: word(file, at + P_OFFSET),
+        vaddr: word(file, at + P_VADDR),
+        paddr: word(file, at + P_PADDR),
+        filesz: word(file, at + P_FILESZ),
+        memsz: word(file, at + P_MEMSZ),
     }
 }
 
-fn any_dynamic(found: &[Entry]) -> bool
+fn any_dynamic(found: &[ProgramHeader]) -> bool
     ensures { result ≡ list_any is_dynamic found.now }
 {
     found
         .iter()
-        .any(|e| e.kind == PT_DYNAMIC || e.kind == PT_INTERP)
+        .any(|e| e.p_type == PT_DYNAMIC || e.p_type == PT_INTERP)
 }
 
-fn any_bad_sizes(found: &[Entry]) -> bool
+fn any_bad_sizes(found: &[ProgramHeader]) -> bool
     ensures { result ≡ list_any has_bad_sizes found.now }
 {
-    found.iter().any(|e| e.kind == PT_LOAD && e.segment.memsz < e.segment.filesz)
+    found.iter().any(|e| e.p_type == PT_LOAD && e.segment.memsz < e.segment.filesz)
 }
 
-fn any_past(found: &[Entry], size: usize) -> bool
+fn any_past(found: &[ProgramHeader], size: usize) -> bool
     ensures { result ≡ list_any (is_past size) found.now }
 {
     found.iter().any(|e| {
-        e.kind == PT_LOAD
+        e.p_type == PT_LOAD
             && 0 < e.segment.filesz
             && size < e.segment.offset as usize + e.segment.filesz as usize
     })
