@@ -81,7 +81,8 @@ impl Claims {
     pub fn split(&self, mut pass: Pass) -> Result<(Pass, Pass), SplitError>
         requires { pass.draw ≡ self.now }
         ensures ok { IfOk result (λ t. (t.0 ≡ pass)
-            × ((p : ℕ) × (p < 64) × ¬ (IsIn p pass.places) × (t.1 ≡ pass_of self.now (p ∷ []) []))) }
+            × ((p : ℕ) × (p < 64) × ¬ (IsIn p pass.places)
+            × (t.1 ≡ pass_of self.now (p ∷ []) []))) }
         ensures full { IfErr result (λ e. in_full e ≡ pass) }
     {
         let seat = self.table.shared.split_seat::<Fresh>(&mut pass.seat);
@@ -96,7 +97,8 @@ impl Claims {
     pub fn join(&self, mut first: Pass, second: Pass) -> Pass
         requires first { first.draw ≡ self.now }
         requires second { second.draw ≡ self.now }
-        ensures { result ≡ pass_of self.now (first.places ++ second.places) (first.draws ++ second.draws) }
+        ensures { result
+            ≡ pass_of self.now (first.places ++ second.places) (first.draws ++ second.draws) }
     {
         let Pass { seat, bits, ended } = second;
         self.table.shared.join_seat::<Both>(&mut first.seat, seat);
@@ -183,7 +185,8 @@ fn has_each(closed: &Closed<(), Global>, bits: u64) -> bool
     ensures held { result ≡ true → (p : ℕ) → p < 64
         → get_elem? (slots_items closed.now.words) (p + 1) ≡ some 1 → bit_at bits p ≡ 1 }
     ensures full { ((p : ℕ) → p < 64
-        → get_elem? (slots_items closed.now.words) (p + 1) ≡ some 1 → bit_at bits p ≡ 1) → result ≡ true }
+        → get_elem? (slots_items closed.now.words) (p + 1) ≡ some 1 → bit_at bits p ≡ 1)
+        → result ≡ true }
 {
     for place in 0..PLACES {
         if closed.word(place + 1) == 1 && bits >> place & 1 == 0 {

@@ -36,8 +36,10 @@ pub fn read_at_most<R: Read>(
     input: &mut R,
     most: usize,
 ) -> Result<Vec<u8>, InputError>
-    ensures value { IfOk result (λ bytes. IfSome (R.remaining input.old) (λ known. bytes.items ≡ take most known)) }
-    ensures taken { IfOk result (λ bytes. Consumes (R.remaining input.old) (R.remaining input.new) bytes.items) }
+    ensures value { IfOk result (λ bytes. IfSome (R.remaining input.old)
+        (λ known. bytes.items ≡ take most known)) }
+    ensures taken { IfOk result
+        (λ bytes. Consumes (R.remaining input.old) (R.remaining input.new) bytes.items) }
     ensures within { IfOk result (λ bytes. length bytes.items ≤ most) }
 {
     let mut bytes = Vec::new(alloc);

@@ -121,7 +121,8 @@ fn run_workers<R: Threads + Wait, G: Gate>(
         |scope| -> Result<Vec<Worked>, FleetError>
             requires { (0 < group) × (group ≤ 4096) × (claims.now.pieces ≡ pieces_of plan.now group)
                 × AreFresh claims.now passes.items }
-            ensures { IfOk result (λ worked. HaveWorked plan.entry.now group claims.entry.now worked.items) }
+            ensures { IfOk result
+                (λ worked. HaveWorked plan.entry.now group claims.entry.now worked.items) }
         {
             let mut handles = Vec::with_capacity(alloc, passes.len())?;
             for pass in passes {
@@ -133,7 +134,8 @@ fn run_workers<R: Threads + Wait, G: Gate>(
                 let Ok(handle) = scope.spawn_with(
                     promise,
                     move || -> Worked
-                        requires { (0 < group) × (group ≤ 4096) × (claims.now.pieces ≡ pieces_of plan.now group)
+                        requires { (0 < group) × (group ≤ 4096)
+                            × (claims.now.pieces ≡ pieces_of plan.now group)
                             × (pass.draw ≡ claims.now) × (pass.draws ≡ []) }
                         ensures { HasWorked plan.entry.now group claims.entry.now result }
                     { work_with(alloc, claims, pass, plan, group, gate) },

@@ -29,7 +29,8 @@ pub fn work<G: Gate>(
     requires pass { pass.old.draw ≡ claims.now }
     ensures pass { Grew pass.old pass.new }
     ensures ended { IfOk result (λ _. has_ended pass.new ≡ true) }
-    ensures made { IfOk result (λ made. made.items ≡ map (piece_at plan.now group) (new_pieces pass.old pass.new)) }
+    ensures made { IfOk result (λ made. made.items
+        ≡ map (piece_at plan.now group) (new_pieces pass.old pass.new)) }
 {
     let mut pieces = Vec::new(alloc);
     let mut spare = Spare::new();

@@ -53,7 +53,8 @@ fn jobs_of_table(alloc: Global, table: &Table) -> Result<JobList, JobError>
 /// The elements of `job`, where the whole list has no fault.
 #[tactic(auto, unfolding(crate::specs::JobList::elements_in))]
 fn elements_of(table: &Table) -> Result<&Array, What>
-    ensures value { MatchResult result (λ a. elements_in (table_view table.now) ≡ Ok (array_view a.now))
+    ensures value { MatchResult result (λ a. elements_in (table_view table.now)
+        ≡ Ok (array_view a.now))
         (λ e. elements_in (table_view table.now) ≡ Err e) }
     ensures few { IfOk result (λ a. vec_len a.now ≤ most_jobs) }
 {

@@ -49,7 +49,8 @@ pub fn gather<S: Store>(alloc: Global, jobs: JobList, store: &mut S) -> Result<P
     ensures jobs { IfOk result (λ p. p.jobs ≡ jobs) }
     ensures paths { IfOk result (λ p. paths_of p.answers ≡ paths_used jobs) }
     ensures kept { IfOk result (λ p. AreKept (S.contents store.old) p.answers) }
-    ensures faults { IfOk result (λ p. S.faulted store.new ≡ more (S.faulted store.old) (unreadables p.answers)) }
+    ensures faults { IfOk result (λ p. S.faulted store.new
+        ≡ more (S.faulted store.old) (unreadables p.answers)) }
 {
     let mut asked = Answers::new(alloc);
     let mut places = Vec::new(alloc);
@@ -116,7 +117,8 @@ impl Plan {
     /// What is kept of the path of a job's image.
     pub fn image(&self, i: usize) -> &Kept
         requires { i < length self.now.jobs }
-        ensures { (d : AJob) → kept_of self.now.answers (slice_index_or self.now.jobs i d).image ≡ Some result.now }
+        ensures { (d : AJob) → kept_of self.now.answers (slice_index_or self.now.jobs i d).image
+            ≡ Some result.now }
     {
         &self.answers[self.places[i].image]
     }
@@ -126,7 +128,8 @@ impl Plan {
         requires { i < length self.now.jobs }
         ensures value { (d : AJob) → option_map (λ k. k.now) result
             ≡ reference_kept self.now.answers (slice_index_or self.now.jobs i d) }
-        ensures asked { (d : AJob) → is_some result ≡ is_some (slice_index_or self.now.jobs i d).expect_signature }
+        ensures asked { (d : AJob) → is_some result
+            ≡ is_some (slice_index_or self.now.jobs i d).expect_signature }
     {
         match self.places[i].reference {
             Some(place) => Some(&self.answers[place]),

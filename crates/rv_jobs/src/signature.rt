@@ -59,7 +59,8 @@ fn symbol_at(alloc: Global, names: &[Value], at: usize) -> Result<Text, What>
 
 fn text_at<'a>(values: &'a [Value], at: usize) -> Option<&'a str>
     requires { at < length values.now }
-    ensures { option_map (λ t. t.now) result ≡ option_and_then as_str (get_item at (items_view values.now)) }
+    ensures { option_map (λ t. t.now) result
+        ≡ option_and_then as_str (get_item at (items_view values.now)) }
 {
     values[at].as_str()
 }

@@ -57,7 +57,8 @@ pub enum Kept {
 pub(crate) fn keep<S: Store>(alloc: Global, store: &mut S, path: &str) -> Result<Kept, AllocError>
     ensures same { S.contents store.new ≡ S.contents store.old }
     ensures kept { IfOk result (IsKeptOf (S.contents store.old) path.now) }
-    ensures counted { IfOk result (λ kept. S.faulted store.new ≡ faults_with kept (S.faulted store.old)) }
+    ensures counted { IfOk result (λ kept. S.faulted store.new
+        ≡ faults_with kept (S.faulted store.old)) }
 {
     match store.read(alloc, path) {
         Ok(bytes) => Ok(Kept::Content(Bytes::new(bytes))),

@@ -30,7 +30,8 @@ pub(crate) fn attempt_of(
     spare: &mut Spare,
 ) -> Result<Attempt, AllocError>
     requires script { length job.now.script ≤ most_script }
-    requires named { IfSome job.now.signature (λ names. (0 < length names.begin) × (0 < length names.end)) }
+    requires named { IfSome job.now.signature (λ names. (0 < length names.begin)
+        × (0 < length names.end)) }
     ensures outcome { IfOk result (λ attempt. outcome_of_attempt attempt
         ≡ outcome_of job.now image.now (option_map (λ kept. kept.now) reference.entry)) }
     ensures readable { IfOk result IsReadable }
@@ -68,8 +69,10 @@ fn file_attempt(
     spare: &mut Spare,
 ) -> Result<Attempt, AllocError>
     requires script { length job.now.script ≤ most_script }
-    requires named { IfSome job.now.signature (λ names. (0 < length names.begin) × (0 < length names.end)) }
-    ensures outcome { IfOk result (λ attempt. outcome_of_attempt attempt ≡ file_outcome_of job.now file.now) }
+    requires named { IfSome job.now.signature (λ names. (0 < length names.begin)
+        × (0 < length names.end)) }
+    ensures outcome { IfOk result (λ attempt. outcome_of_attempt attempt
+        ≡ file_outcome_of job.now file.now) }
     ensures readable { IfOk result IsReadable }
 {
     match loadable_of(alloc, job, file) {
@@ -85,7 +88,8 @@ fn file_attempt(
 // The image and the signature's range, or the first refusal.
 #[tactic(auto, unfolding(crate::specs::Outcome::loadable_of))]
 fn loadable_of(alloc: Global, job: &Job, file: &[u8]) -> Result<Loadable, ImageError>
-    requires { IfSome job.now.signature (λ names. (0 < length names.begin) × (0 < length names.end)) }
+    requires { IfSome job.now.signature (λ names. (0 < length names.begin)
+        × (0 < length names.end)) }
     ensures { MatchResult result (λ there. loadable_of job.now file.now ≡ Ok there)
         (λ error. error ≢ OutOfMemory → loadable_of job.now file.now ≡ Err error) }
 {
@@ -137,7 +141,8 @@ fn loaded_machine(
 ) -> Result<Machine, AllocError>
     requires script { length job.now.script ≤ most_script }
     requires loadable { loadable_of job.now file.now ≡ Ok there.now }
-    ensures { IfOk result (λ machine. state_of machine ≡ loaded_state job.now file.now there.now.image) }
+    ensures { IfOk result (λ machine. state_of machine
+        ≡ loaded_state job.now file.now there.now.image) }
 {
     let script = copied(alloc, job.script.as_slice())?;
     let mut bus = spare.new_bus(alloc, job.regions, script, job.misaligned)?;
@@ -153,8 +158,10 @@ fn copied(alloc: Global, bytes: &[u8]) -> Result<Vec<u8>, AllocError>
 
 // What a run within a budget comes to.
 pub(crate) fn run(machine: Machine, budget: u32, range: Option<SignatureRange>) -> EndedRun
-    requires { IfSome range (λ there. signature_check there.begin there.end (state_of machine).bus.regions ≡ accepted) }
-    ensures outcome { outcome_in_bus result ≡ outcome_of_run (run_of budget (state_of machine)) range }
+    requires { IfSome range
+        (λ there. signature_check there.begin there.end (state_of machine).bus.regions ≡ accepted) }
+    ensures outcome { outcome_in_bus result
+        ≡ outcome_of_run (run_of budget (state_of machine)) range }
     ensures readable { HasSignature result }
 {
     let mut machine = machine;

@@ -49,7 +49,8 @@ fn flat_machine(alloc: Global, bytes: &[u8]) -> Result<Machine, AllocError>
 fn flat_bus(alloc: Global, bytes: &[u8]) -> Result<Bus, AllocError>
     requires { length bytes.now ≤ image_room }
     ensures contents { IfOk result (λ bus. bus ≡ flat_contents bytes.now) }
-    ensures memory { IfOk result (λ bus. (address : ℕ) → byte_at bus.memory address ≡ flat_byte bytes.now address) }
+    ensures memory { IfOk result (λ bus. (address : ℕ) → byte_at bus.memory address
+        ≡ flat_byte bytes.now address) }
 {
     let mut bus = Bus::new(
         alloc,

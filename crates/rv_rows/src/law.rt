@@ -11,6 +11,8 @@ ghost use Rattle.rv_rows.specs.Rows.{rows_of};
 /// the set of one job is made RV32IMC, with the same kept answers. Where the job's row in the first is not refused and
 /// is no fault `illegal` or `fetch-misaligned`, its row in the second is equal.
 pub fn narrower_sets_only_refuse()
-    ensures { (plan : Planned) (place : ℕ) (row : Row) → AreJobs plan.jobs → slice_get (rows_of plan) place ≡ Some row
-        → IsTrue (is_of_any_set row.ending) → slice_get (rows_of (widened_plan place plan)) place ≡ Some row }
+    ensures { (plan : Planned) (place : ℕ) (row : Row) → AreJobs plan.jobs
+        → slice_get (rows_of plan) place ≡ Some row
+        → IsTrue (is_of_any_set row.ending) → slice_get (rows_of (widened_plan place plan)) place
+        ≡ Some row }
 {}

@@ -146,7 +146,8 @@ fn signature_in(
     bus: &Bus,
     range: Option<SignatureRange>,
 ) -> Result<Option<Words>, AllocError>
-    requires { IfSome range (λ there. signature_check there.begin there.end bus.now.regions ≡ accepted) }
+    requires { IfSome range (λ there. signature_check there.begin there.end bus.now.regions
+        ≡ accepted) }
     ensures { IfOk result (λ words. words ≡ option_map (signature_in bus.now) range) }
 {
     match range {

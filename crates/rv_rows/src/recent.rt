@@ -76,7 +76,8 @@ impl Recent {
 
     /// Keeps one more, for which room was made.
     pub(crate) fn keep(&mut self, place: usize, outcome: Outcome) -> Result<(), AllocError>
-        ensures { (plan : Planned) → AreOutcomes plan self.old → outcome_at plan place ≡ Some outcome
+        ensures { (plan : Planned) → AreOutcomes plan self.old → outcome_at plan place
+            ≡ Some outcome
             → OnOk result (AreOutcomes plan self.new) }
     {
         self.items.push(RecentOutcome { place, outcome })?;

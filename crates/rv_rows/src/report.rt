@@ -49,7 +49,8 @@ pub fn write_report<W: Sink>(alloc: Global, report: &Report, out: &mut W) -> Res
     ensures appended { OnOk result (Appends (W.taken out.old) (W.taken out.new) (report_text report.now.rows)) }
     ensures counted { OnOk result (W.failed out.new ≡ W.failed out.old) }
     ensures part { OnErr result (AppendsBeginning (W.taken out.old) (W.taken out.new) (report_text report.now.rows)) }
-    ensures failed { IfErr result (λ error. error ≡ WriteError.Failed → Rose (W.failed out.old) (W.failed out.new)) }
+    ensures failed { IfErr result (λ error. error ≡ WriteError.Failed
+        → Rose (W.failed out.old) (W.failed out.new)) }
 {
     let rows = report.rows.as_slice();
     let mut text = String::new(alloc);
@@ -120,7 +121,8 @@ fn push_done(text: &mut String, count: usize) -> Result<(), AllocError>
 #[tactic(auto, unfolding(crate::specs::Report::row_text))]
 fn push_row(alloc: Global, text: &mut String, place: usize, row: &Row) -> Result<(), AllocError>
     requires { place < 2 ^ 64 - 1 }
-    ensures { OnOk result (string_bytes text.new ≡ string_bytes text.old ++ row_text place row.now) }
+    ensures { OnOk result (string_bytes text.new
+        ≡ string_bytes text.old ++ row_text place row.now) }
 {
     let number = place + 1;
     let name = row.name.as_str();
@@ -158,7 +160,8 @@ fn push_end(alloc: Global, text: &mut String, ending: RowEnd) -> Result<(), Allo
 
 #[tactic(auto, unfolding(crate::specs::Report::console_line))]
 fn push_console(alloc: Global, text: &mut String, console: &[u8]) -> Result<(), AllocError>
-    ensures { OnOk result (string_bytes text.new ≡ string_bytes text.old ++ console_line console.now) }
+    ensures { OnOk result (string_bytes text.new
+        ≡ string_bytes text.old ++ console_line console.now) }
 {
     let digits = hex::encode(alloc, console)?;
     let shown = dash_if_empty(digits.as_str());

@@ -19,7 +19,8 @@ use std::alloc::{AllocError, Global};
 /// The row of the job at a place, counted from 0.
 pub fn row_at(alloc: Global, plan: &Plan, i: usize) -> Result<Row, AllocError>
     requires { i < length plan.now.jobs }
-    ensures { IfOk result (λ row. (d : AJob) → row ≡ row_of plan.now (slice_index_or plan.now.jobs i d)) }
+    ensures { IfOk result (λ row. (d : AJob) → row
+        ≡ row_of plan.now (slice_index_or plan.now.jobs i d)) }
 {
     next_row(alloc, plan, i, &mut Spare::new(), &mut Recent::new(alloc))
 }
@@ -35,7 +36,8 @@ pub fn next_row(
 ) -> Result<Row, AllocError>
     requires place { i < length plan.now.jobs }
     requires recent { AreOutcomes plan.now recent.old }
-    ensures row { IfOk result (λ row. (d : AJob) → row ≡ row_of plan.now (slice_index_or plan.now.jobs i d)) }
+    ensures row { IfOk result (λ row. (d : AJob) → row
+        ≡ row_of plan.now (slice_index_or plan.now.jobs i d)) }
     ensures recent { OnOk result (AreOutcomes plan.now recent.new) }
 {
     let job = plan.job(i);
@@ -55,7 +57,8 @@ fn outcome_at(
 ) -> Result<Outcome, AllocError>
     requires { i < length plan.now.jobs }
     ensures { IfOk result
-        (λ there. (d : AJob) → there ≡ outcome_in plan.now.answers (slice_index_or plan.now.jobs i d)) }
+        (λ there. (d : AJob) → there
+        ≡ outcome_in plan.now.answers (slice_index_or plan.now.jobs i d)) }
 {
     let attempt = attempt_at(alloc, plan, i, spare)?;
     let there = attempt.outcome(alloc)?;
@@ -88,7 +91,8 @@ fn holds_same(
 ) -> Result<bool, AllocError>
     requires place { IfSome job.now.same_as (λ place. place < length plan.now.jobs) }
     requires recent { AreOutcomes plan.now recent.old }
-    ensures same { IfOk result (λ same. same ≡ holds_same job.now.same_as (other_in plan.now job.now) there.now) }
+    ensures same { IfOk result
+        (λ same. same ≡ holds_same job.now.same_as (other_in plan.now job.now) there.now) }
     ensures recent { OnOk result (AreOutcomes plan.now recent.new) }
 {
     match job.same_as {

@@ -25,7 +25,8 @@ pub(crate) fn push_word_lines(
     text: &mut String,
     words: &[u32],
 ) -> Result<(), AllocError>
-    ensures { OnOk result (string_bytes text.new ≡ string_bytes text.old ++ flat_map word_line words.now) }
+    ensures { OnOk result (string_bytes text.new
+        ≡ string_bytes text.old ++ flat_map word_line words.now) }
 {
     for word in words {
         push_word(alloc, text, *word)?;

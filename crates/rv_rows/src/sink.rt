@@ -20,7 +20,8 @@ pub trait Sink {
     fn put(&mut self, bytes: &[u8]) -> Result<usize, SinkFailed>
         requires { 0 < length bytes.now }
         ensures within { IfOk result (λ count. (1 ≤ count) × (count ≤ length bytes.now)) }
-        ensures taken { IfOk result (λ count. Appends (taken self.old) (taken self.new) (take count bytes.now)) }
+        ensures taken { IfOk result
+            (λ count. Appends (taken self.old) (taken self.new) (take count bytes.now)) }
         ensures counted { IfOk result (λ _. failed self.new ≡ failed self.old) }
         ensures kept { IfErr result (λ _. Keeps (taken self.old) (taken self.new)) }
         ensures failure { IfErr result (λ _. failed self.new ≡ one_more (failed self.old)) };

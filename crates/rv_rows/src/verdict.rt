@@ -16,7 +16,8 @@ use rv_machine::FaultKind;
 #[tactic(auto, unfolding(crate::specs::Verdict::verdict_of))]
 pub(crate) fn verdict(job: &Job, there: &Outcome, reference: Option<&[u8]>, same: bool) -> Verdict
     ensures { (other : Option AnOutcome) → same ≡ holds_same job.now.same_as other there.now
-        → result ≡ verdict_of job.now there.now (option_map (λ bytes. bytes.now) reference.entry) other }
+        → result ≡ verdict_of job.now there.now (option_map
+        (λ bytes. bytes.now) reference.entry) other }
 {
     if !is_asked(job) {
         return Verdict::Unasked;
