@@ -127,7 +127,7 @@ fn stores_drop_what_they_touch(rt: HostRuntime) -> Result<(), Fail> {
     )
 }
 
-/// Runs the stores of a table over an instruction, which stands last in some code, with the jump back to it.
+// Runs the stores of a table over an instruction, which stands last in some code, with the jump back to it.
 fn check_stores(
     rt: &impl Abort,
     alloc: Global,

@@ -14,7 +14,7 @@ const SETS: [(&str, Isa); 4] = [
     ("rv32imc", Isa::Imc),
 ];
 
-/// A machine of the set that a cell names.
+// A machine of the set that a cell names.
 fn machine_of(rt: &impl Abort, alloc: Global, cell: &str, image: &str) -> Result<Machine, Fail> {
     for (name, isa) in SETS {
         if name == cell {
