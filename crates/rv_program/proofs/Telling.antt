@@ -1,14 +1,12 @@
 -- What standard error says.
 use Rattle.std.proofs.Common.{◌≡◌, ◌∙◌, ◌⊎◌, ℕ, true, List, [], ◌∷◌, Option, None, refl, sym, ap, option_map, inl, inr, arith}
-use Rattle.std.specs.Io.KnownBytes.{Keeps}
 use Rattle.clap.specs.Words.{IsAmong, Kinds, Text, fault_of}
 use Rattle.clap.specs.declared.error.kind.ErrorKind.{ErrorKind}
 use Rattle.clap.specs.declared.error.kind.ErrorKind.TheVariants.{OutOfMemory}
-use Rattle.rv_rows.specs.Sending.{AppendsBeginning}
 use Rattle.rv_jobs.specs.Stores.{FileContents}
-use Rattle.rv_program.specs.Answers.{Tells, TellsFailure, is_refused}
+use Rattle.rv_program.specs.Answers.{IsQuiet, Tells, TellsFailure, is_refused}
 use Rattle.rv_program.specs.CommandLine.{Request, asked_of, fleet_app, request_beside, request_of}
-use Rattle.rv_program.specs.Lines.{bad_words_line}
+use Rattle.rv_program.specs.Lines.{Told, bad_words_line}
 use Rattle.rv_program.specs.Requests.{request}
 use Rattle.rv_program.specs.declared.command.Request.{Request as Value}
 
@@ -34,23 +32,25 @@ unfolding asked_of
 nothing_asked words kind among = nothing_beside kind (fault_of fleet_app words) (request_of words) among
 
 -- what asks for nothing that the program does is refused as bad words
-pub bad_words : (request : Option Request) (known : Option FileContents) (before after : Option (List ℕ)) (status : ℕ)
-    → status ≡ 2 → is_refused request ≡ true → AppendsBeginning before after bad_words_line
-    → Tells request known before after status
-bad_words request known before after status two bad line = record {
+pub bad_words : (request : Option Request) (known : Option FileContents) (before after : Option (List ℕ))
+    (failures_before failures_after : ℕ) (status : ℕ)
+    → status ≡ 2 → is_refused request ≡ true → Told before after failures_before failures_after bad_words_line
+    → Tells request known before after failures_before failures_after status
+bad_words request known before after failures_before failures_after status two bad line = record {
   quiet = λ low. elim low [ inl nought ↦ absurd (omega arith) | inr one ↦ absurd (omega arith) ];
   refused = λ _. inl (bad, line);
   failed = λ three. absurd (omega arith);
 }
 
 -- an error of the command line is told
-pub error_told : (words : List Text) (known : Option FileContents) (before after : Option (List ℕ)) (status : ℕ)
-    (kind : ErrorKind)
+pub error_told : (words : List Text) (known : Option FileContents) (before after : Option (List ℕ))
+    (failures_before failures_after : ℕ) (status : ℕ) (kind : ErrorKind)
     → (kind ≡ OutOfMemory → status ≡ 3) → (kind ≡ OutOfMemory) ⊎ IsAmong kind (fault_of fleet_app words)
-    → (status ≡ 0 → Keeps before after) → (status ≡ 2 → AppendsBeginning before after bad_words_line)
-    → (status ≡ 3 → TellsFailure before after) → status ≡ 0 ⊎ status ≡ 2 ⊎ status ≡ 3
-    → Tells (asked_of words) known before after status
-error_told words known before after status kind memory why quiet refused failed range = record {
+    → (status ≡ 0 → IsQuiet before after failures_before failures_after)
+    → (status ≡ 2 → Told before after failures_before failures_after bad_words_line)
+    → (status ≡ 3 → TellsFailure before after failures_before failures_after) → status ≡ 0 ⊎ status ≡ 2 ⊎ status ≡ 3
+    → Tells (asked_of words) known before after failures_before failures_after status
+error_told words known before after failures_before failures_after status kind memory why quiet refused failed range = record {
   quiet = λ low. elim low [
     | inl nought ↦ quiet nought
     | inr one ↦ elim range [

@@ -12,7 +12,7 @@ use Rattle.rv_jobs.specs.declared.job.Job.{Job}
 use Rattle.rv_jobs.specs.Stores.{FileContents}
 use Rattle.rv_program.specs.CommandLine.{Request, one, raw, run}
 use Rattle.rv_program.specs.declared.error.Failure.{Failure}
-use Rattle.rv_program.specs.Lines.{bad_words_line, failure_line, fault_line}
+use Rattle.rv_program.specs.Lines.{Told, bad_words_line, failure_line, fault_line}
 use Rattle.rv_program.specs.One.{is_bad_one, is_bad_path, one_jobs, script_of}
 use Rattle.rv_program.specs.Plans.{ForJobs, MayFault, MayList, Stored}
 use Rattle.rv_program.specs.Raw.{raw_rows}
@@ -92,17 +92,24 @@ pub record Answers (request : Option Request) (input : Option (List ℕ)) (store
 
 -- ---- what standard error says
 
--- the line of why a request is refused, or a beginning of it: bad words, or the fault of its list
-abbrev pub TellsRefusal : Option Request → Option FileContents → Option (List ℕ) → Option (List ℕ) → Type 0
-TellsRefusal request known before after = ((is_refused request ≡ true) × AppendsBeginning before after bad_words_line)
-    ⊎ ((error : JobError) × (IsFaultOf request known error × AppendsBeginning before after (fault_line error)))
+-- the line of why a request is refused is told: bad words, or the fault of its list
+abbrev pub TellsRefusal : Option Request → Option FileContents → Option (List ℕ) → Option (List ℕ) → ℕ → ℕ → Type 0
+TellsRefusal request known before after failures_before failures_after =
+    ((is_refused request ≡ true) × Told before after failures_before failures_after bad_words_line)
+    ⊎ ((error : JobError) × (IsFaultOf request known error
+    × Told before after failures_before failures_after (fault_line error)))
 
--- the line of a failure, or a beginning of it
-abbrev pub TellsFailure : Option (List ℕ) → Option (List ℕ) → Type 0
-TellsFailure before after = (failure : Failure) × AppendsBeginning before after (failure_line failure)
+-- the line of a failure is told
+abbrev pub TellsFailure : Option (List ℕ) → Option (List ℕ) → ℕ → ℕ → Type 0
+TellsFailure before after failures_before failures_after =
+    (failure : Failure) × Told before after failures_before failures_after (failure_line failure)
+
+-- nothing is said, and no put failed
+abbrev pub IsQuiet : Option (List ℕ) → Option (List ℕ) → ℕ → ℕ → Type 0
+IsQuiet before after failures_before failures_after = Keeps before after × (failures_after ≡ failures_before)
 
 -- why the status is 2 or 3; beside 0 and 1 nothing is said
-pub record Tells (request : Option Request) (known : Option FileContents) (before after : Option (List ℕ)) (status : ℕ) : Type 0 where
-  pub quiet : status ≡ 0 ⊎ status ≡ 1 → Keeps before after
-  pub refused : status ≡ 2 → TellsRefusal request known before after
-  pub failed : status ≡ 3 → TellsFailure before after
+pub record Tells (request : Option Request) (known : Option FileContents) (before after : Option (List ℕ)) (failures_before failures_after : ℕ) (status : ℕ) : Type 0 where
+  pub quiet : status ≡ 0 ⊎ status ≡ 1 → IsQuiet before after failures_before failures_after
+  pub refused : status ≡ 2 → TellsRefusal request known before after failures_before failures_after
+  pub failed : status ≡ 3 → TellsFailure before after failures_before failures_after

@@ -1,7 +1,9 @@
 -- The lines of standard error.
-use Rattle.std.specs.Prelude.{ℕ, List, ◌++◌, codes}
+use Rattle.std.specs.Prelude.{◌≡◌, ◌⊎◌, ℕ, List, ◌++◌, Option, codes}
 use Rattle.std.specs.Fmt.{decimal}
+use Rattle.std.specs.Io.KnownBytes.{Appends}
 use Rattle.rv_rows.specs.Report.{line}
+use Rattle.rv_rows.specs.Sending.{AppendsBeginning, one_more}
 use Rattle.rv_jobs.specs.Faults.{what_name}
 use Rattle.rv_jobs.specs.declared.error.JobError.{JobError}
 use Rattle.rv_program.specs.declared.error.Failure.{Failure}
@@ -30,3 +32,8 @@ failure_name failure.WriteFailed = codes "write failed"
 -- the line of what failed
 abbrev pub failure_line : Failure → List ℕ
 failure_line failure = program_line (failure_name failure)
+
+-- the whole line went out and no put failed; or one put failed, and a beginning of the line went out
+unfoldable pub Told : Option (List ℕ) → Option (List ℕ) → ℕ → ℕ → List ℕ → Type 0
+Told before after failures_before failures_after line = (Appends before after line × (failures_after ≡ failures_before))
+    ⊎ (AppendsBeginning before after line × (failures_after ≡ one_more failures_before))

@@ -4,10 +4,9 @@ ghost use Rattle.std.specs.Prelude.{◌≡◌, ◌⊎◌, ◌≤◌, IfSome, Som
 ghost use Rattle.std.specs.Io.KnownBytes.{Keeps};
 ghost use Rattle.clap.specs.Words.{kind_of};
 ghost use Rattle.rv_rows.specs.Report.{report_text};
-ghost use Rattle.rv_rows.specs.Sending.{AppendsBeginning};
-ghost use Rattle.rv_program.specs.Answers.{Answers, Began, Reported, Tells, TellsFailure, reads_input, reads_store};
+ghost use Rattle.rv_program.specs.Answers.{Answers, Began, IsQuiet, Reported, Tells, TellsFailure, reads_input, reads_store};
 ghost use Rattle.rv_program.specs.CommandLine.{AsksHelp, asked_of, is_taken, one, request_of, run};
-ghost use Rattle.rv_program.specs.Lines.{bad_words_line};
+ghost use Rattle.rv_program.specs.Lines.{Told, bad_words_line};
 ghost use Rattle.rv_program.specs.Plans.{stored};
 ghost use Rattle.rv_program.specs.Raw.{raw_rows};
 ghost use Rattle.rv_program.specs.Requests.{AreWithin, request};
@@ -50,7 +49,8 @@ pub fn run_words<'a, R: Threads + Wait, T: AsStr, S: Store, I: Read, O: Sink, E:
         (O.taken out.new) result }
     ensures counted { result ≡ 0 ⊎ result ≡ 1 → O.failed out.new ≡ O.failed out.old }
     ensures told { Tells (asked_of (map T.text words.entry.now)) (S.contents store.old)
-        (E.taken errors.old) (E.taken errors.new) result }
+        (E.taken errors.old) (E.taken errors.new)
+        (E.failed errors.old) (E.failed errors.new) result }
     ensures helped { result ≡ 0 ⊎ result ≡ 1
         → is_some (asked_of (map T.text words.entry.now)) ≡ true
         ⊎ AsksHelp (map T.text words.entry.now) }
@@ -81,8 +81,9 @@ fn asked_status<R: Threads + Wait, S: Store, I: Read, O: Sink, E: Sink, G: Gate>
     ensures answers { Answers (Some (request asked.entry)) (I.remaining input.old)
         (stored (S.contents store.old) (S.faulted store.old) (S.faulted store.new)) (O.taken out.old)
         (O.taken out.new) result }
-    ensures told { Tells (Some (request asked.entry)) (S.contents store.old) (E.taken errors.old)
-        (E.taken errors.new) result }
+    ensures told { Tells (Some (request asked.entry)) (S.contents store.old)
+        (E.taken errors.old) (E.taken errors.new)
+        (E.failed errors.old) (E.failed errors.new) result }
     ensures counted { result ≡ 0 ⊎ result ≡ 1 → O.failed out.new ≡ O.failed out.old }
     ensures unread { reads_store (Some (request asked.entry)) ≡ false → S.faulted store.new ≡ S.faulted store.old }
     ensures untaken { reads_input (Some (request asked.entry)) ≡ false → I.remaining input.new ≡ I.remaining input.old }
@@ -117,8 +118,10 @@ fn raw_status<I: Read, O: Sink, E: Sink>(
     ensures part { result ≡ FAILED
         → IfSome (I.remaining input.old)
         (λ bytes. Began (O.taken out.old) (O.taken out.new) (raw_rows bytes budget)) }
-    ensures quiet { result ≡ DONE → Keeps (E.taken errors.old) (E.taken errors.new) }
-    ensures told { result ≡ FAILED → TellsFailure (E.taken errors.old) (E.taken errors.new) }
+    ensures quiet { result ≡ DONE → IsQuiet (E.taken errors.old) (E.taken errors.new)
+        (E.failed errors.old) (E.failed errors.new) }
+    ensures told { result ≡ FAILED → TellsFailure (E.taken errors.old) (E.taken errors.new)
+        (E.failed errors.old) (E.failed errors.new) }
     ensures range { result ≡ DONE ⊎ result ≡ FAILED }
 {
     match run_raw(alloc, input, out, budget) {
@@ -143,7 +146,8 @@ fn one_status<S: Store, O: Sink, E: Sink>(
         (O.taken out.new) result }
     ensures told { Tells
         (Some (one image.now budget (option_map (λ text. text.now) input_hex.entry)))
-        (S.contents store.old) (E.taken errors.old) (E.taken errors.new) result }
+        (S.contents store.old) (E.taken errors.old) (E.taken errors.new)
+        (E.failed errors.old) (E.failed errors.new) result }
     ensures counted { result ≡ 0 ⊎ result ≡ 1 → O.failed out.new ≡ O.failed out.old }
     ensures range { result ≤ 3 }
 {
@@ -179,7 +183,8 @@ fn run_status<R: Threads + Wait, S: Store, O: Sink, E: Sink, G: Gate>(
         (stored (S.contents store.old) (S.faulted store.old) (S.faulted store.new)) (O.taken out.old)
         (O.taken out.new) result }
     ensures told { Tells (Some (run path.now workers group)) (S.contents store.old)
-        (E.taken errors.old) (E.taken errors.new) result }
+        (E.taken errors.old) (E.taken errors.new)
+        (E.failed errors.old) (E.failed errors.new) result }
     ensures counted { result ≡ 0 ⊎ result ≡ 1 → O.failed out.new ≡ O.failed out.old }
     ensures range { result ≤ 3 }
 {
@@ -203,10 +208,13 @@ fn error_status<O: Sink, E: Sink>(alloc: Global, error: &Error, out: &mut O, err
         × Keeps (O.taken out.old) (O.taken out.new) }
     ensures helped { result ≡ DONE → kind_of error.now ≡ ErrorKind.DisplayHelp }
     ensures counted { result ≡ DONE → O.failed out.new ≡ O.failed out.old }
-    ensures quiet { result ≡ DONE → Keeps (E.taken errors.old) (E.taken errors.new) }
+    ensures quiet { result ≡ DONE → IsQuiet (E.taken errors.old) (E.taken errors.new)
+        (E.failed errors.old) (E.failed errors.new) }
     ensures refused { result ≡ BAD_WORDS
-        → AppendsBeginning (E.taken errors.old) (E.taken errors.new) bad_words_line }
-    ensures told { result ≡ FAILED → TellsFailure (E.taken errors.old) (E.taken errors.new) }
+        → Told (E.taken errors.old) (E.taken errors.new)
+        (E.failed errors.old) (E.failed errors.new) bad_words_line }
+    ensures told { result ≡ FAILED → TellsFailure (E.taken errors.old) (E.taken errors.new)
+        (E.failed errors.old) (E.failed errors.new) }
     ensures range { result ≡ DONE ⊎ result ≡ BAD_WORDS ⊎ result ≡ FAILED }
 {
     match error.kind() {
@@ -218,8 +226,10 @@ fn error_status<O: Sink, E: Sink>(alloc: Global, error: &Error, out: &mut O, err
 
 fn help_status<O: Sink, E: Sink>(alloc: Global, help: &Error, out: &mut O, errors: &mut E) -> u8
     ensures counted { result ≡ DONE → O.failed out.new ≡ O.failed out.old }
-    ensures quiet { result ≡ DONE → Keeps (E.taken errors.old) (E.taken errors.new) }
-    ensures told { result ≡ FAILED → TellsFailure (E.taken errors.old) (E.taken errors.new) }
+    ensures quiet { result ≡ DONE → IsQuiet (E.taken errors.old) (E.taken errors.new)
+        (E.failed errors.old) (E.failed errors.new) }
+    ensures told { result ≡ FAILED → TellsFailure (E.taken errors.old) (E.taken errors.new)
+        (E.failed errors.old) (E.failed errors.new) }
     ensures range { result ≡ DONE ⊎ result ≡ FAILED }
 {
     let Ok(help) = help.to_string(alloc) else {

@@ -1,8 +1,7 @@
 //! The statuses of the program, and the lines of standard error, each with the status that it tells of.
 
 ghost use Rattle.std.specs.Prelude.{◌≡◌, ◌⊎◌};
-ghost use Rattle.rv_rows.specs.Sending.{AppendsBeginning};
-ghost use Rattle.rv_program.specs.Lines.{bad_words_line, failure_line, fault_line};
+ghost use Rattle.rv_program.specs.Lines.{Told, bad_words_line, failure_line, fault_line};
 
 use crate::error::Failure;
 use rv_fleet::{Sink, put_all};
@@ -25,7 +24,8 @@ pub const FAILED: u8 = 3;
 /// Says that words are refused, and gives the status.
 pub fn refused<E: Sink>(errors: &mut E) -> u8
     ensures status { result ≡ BAD_WORDS }
-    ensures told { AppendsBeginning (E.taken errors.old) (E.taken errors.new) bad_words_line }
+    ensures told { Told (E.taken errors.old) (E.taken errors.new)
+        (E.failed errors.old) (E.failed errors.new) bad_words_line }
 {
     say(errors, "rvfleet: bad words\n");
     BAD_WORDS
@@ -35,9 +35,10 @@ pub fn refused<E: Sink>(errors: &mut E) -> u8
 pub fn refused_list<E: Sink>(alloc: Global, errors: &mut E, error: JobError) -> u8
     ensures status { result ≡ BAD_WORDS ⊎ result ≡ FAILED }
     ensures told { result ≡ BAD_WORDS
-        → AppendsBeginning (E.taken errors.old) (E.taken errors.new) (fault_line error) }
-    ensures failed { result ≡ FAILED → AppendsBeginning (E.taken errors.old) (E.taken errors.new)
-        (failure_line Failure.OutOfMemory) }
+        → Told (E.taken errors.old) (E.taken errors.new)
+        (E.failed errors.old) (E.failed errors.new) (fault_line error) }
+    ensures failed { result ≡ FAILED → Told (E.taken errors.old) (E.taken errors.new)
+        (E.failed errors.old) (E.failed errors.new) (failure_line Failure.OutOfMemory) }
 {
     let JobError { job, what } = error;
     let Ok(line) = format!(in alloc; "rvfleet: job {job}: {}\n", what.name()) else {
@@ -50,18 +51,10 @@ pub fn refused_list<E: Sink>(alloc: Global, errors: &mut E, error: JobError) -> 
 /// Says why the program failed, and gives the status.
 pub fn failed<E: Sink>(errors: &mut E, failure: Failure) -> u8
     ensures status { result ≡ FAILED }
-    ensures told { AppendsBeginning (E.taken errors.old) (E.taken errors.new)
-        (failure_line failure) }
+    ensures told { Told (E.taken errors.old) (E.taken errors.new)
+        (E.failed errors.old) (E.failed errors.new) (failure_line failure) }
 {
-    let line = match failure {
-        Failure::OutOfMemory => "rvfleet: out of memory\n",
-        Failure::NoWorker => "rvfleet: no worker\n",
-        Failure::ListUnreadable => "rvfleet: list unreadable\n",
-        Failure::ListTooLong => "rvfleet: list too long\n",
-        Failure::ReadFailed => "rvfleet: read failed\n",
-        Failure::WriteFailed => "rvfleet: write failed\n",
-    };
-    say(errors, line);
+    say(errors, line_of(failure));
     FAILED
 }
 
@@ -69,9 +62,11 @@ pub fn failed<E: Sink>(errors: &mut E, failure: Failure) -> u8
 pub fn unread_status<E: Sink>(error: &io::Error, errors: &mut E) -> u8
     ensures status { result ≡ BAD_WORDS ⊎ result ≡ FAILED }
     ensures refused { result ≡ BAD_WORDS
-        → AppendsBeginning (E.taken errors.old) (E.taken errors.new) bad_words_line }
+        → Told (E.taken errors.old) (E.taken errors.new)
+        (E.failed errors.old) (E.failed errors.new) bad_words_line }
     ensures failed { result ≡ FAILED
-        → AppendsBeginning (E.taken errors.old) (E.taken errors.new) (failure_line Failure.OutOfMemory) }
+        → Told (E.taken errors.old) (E.taken errors.new)
+        (E.failed errors.old) (E.failed errors.new) (failure_line Failure.OutOfMemory) }
 {
     match error.kind() {
         ErrorKind::OutOfMemory => failed(errors, Failure::OutOfMemory),
@@ -79,9 +74,23 @@ pub fn unread_status<E: Sink>(error: &io::Error, errors: &mut E) -> u8
     }
 }
 
+fn line_of(failure: Failure) -> &'static str
+    ensures { result.now ≡ failure_line failure }
+{
+    match failure {
+        Failure::OutOfMemory => "rvfleet: out of memory\n",
+        Failure::NoWorker => "rvfleet: no worker\n",
+        Failure::ListUnreadable => "rvfleet: list unreadable\n",
+        Failure::ListTooLong => "rvfleet: list too long\n",
+        Failure::ReadFailed => "rvfleet: read failed\n",
+        Failure::WriteFailed => "rvfleet: write failed\n",
+    }
+}
+
 // A failed put of the line changes no status.
 fn say<E: Sink>(errors: &mut E, line: &str)
-    ensures { AppendsBeginning (E.taken errors.old) (E.taken errors.new) line.now }
+    ensures { Told (E.taken errors.old) (E.taken errors.new)
+        (E.failed errors.old) (E.failed errors.new) line.now }
 {
     let _ = put_all(errors, line.as_bytes());
 }

@@ -212,6 +212,27 @@ fn counts_jobs(rt: HostRuntime) -> Result<(), Fail> {
     Ok(())
 }
 
+// Whether a list is refused by this fault whose last job, behind so many good ones, has a budget of 0.
+fn refuses_last(
+    rt: &(impl Threads + Wait),
+    alloc: Global,
+    before: u32,
+    fault: &str,
+) -> Result<bool, Fail> {
+    let mut list = long_list(alloc, "", before)?;
+    list.push_str("[[job]]\nname = 'last'\nimage = 'image'\nbudget = 0\n")?;
+    refuses_list(rt, alloc, list.as_bytes(), fault)
+}
+
+#[test]
+fn numbers_the_refused_job(rt: HostRuntime) -> Result<(), Fail> {
+    let alloc = rt.alloc();
+    assert!(rt; refuses_last(&rt, alloc, 9, "job 10: budget")?);
+    assert!(rt; refuses_last(&rt, alloc, 99, "job 100: budget")?);
+    assert!(rt; refuses_last(&rt, alloc, 4095, "job 4096: budget")?);
+    Ok(())
+}
+
 // The answers to a list of 4,096 jobs of an image that is cut, each a row of 7 lines.
 fn refuses_each(rt: &(impl Threads + Wait), alloc: Global, words: &str) -> Result<bool, Fail> {
     let list = long_list(alloc, "", 4096)?;

@@ -21,12 +21,12 @@ pub returns-in-Ok-None-clause-told : goal.returns-in-Ok-None-clause-told
 returns-in-Ok-None-clause-told g c =
     let read = c.in-Ok-None in
     let asked = asked_as_read (map g.T.AsStr.text c.args.words.now) _ _ read.ensures.kinds read.ensures.value read.field-0-is in
-    bad_words _ _ _ _ _ c.refused.ensures.status (ap is_refused asked) c.refused.ensures.told
+    bad_words _ _ _ _ _ _ _ c.refused.ensures.status (ap is_refused asked) c.refused.ensures.told
 
 pub returns-in-Err-clause-told : goal.returns-in-Err-clause-told
 returns-in-Err-clause-told g c =
     let answer = c.error_status.ensures in
-    error_told (map g.T.AsStr.text c.args.words.now) _ _ _ _ (kind_of c.in-Err.error)
+    error_told (map g.T.AsStr.text c.args.words.now) _ _ _ _ _ _ (kind_of c.in-Err.error)
     (λ out. (answer.memory out).0) c.in-Err.ensures.kinds answer.quiet answer.refused answer.told answer.range
 
 pub returns-in-Err-clause-asked : goal.returns-in-Err-clause-asked
