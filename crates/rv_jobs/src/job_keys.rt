@@ -12,11 +12,11 @@ ghost use Rattle.rv_jobs.specs.JobList.{isa_in, misaligned_of, misaligned_in, jo
 ghost use Rattle.std.specs.Prelude.{◌==◌, Ok, Err};
 ghost use Rattle.rv_jobs.specs.declared.error.What.TheVariants.{OutOfMemory};
 
+use crate::earlier_jobs::EarlierJobs;
 use crate::error::What;
 use crate::job::Job;
 use crate::keys::{number_of, text_of};
 use crate::kinds::{has_unknown_key, has_wrong_kind};
-use crate::earlier_jobs::EarlierJobs;
 use crate::regions::regions_of;
 use crate::signature::signature_of;
 use crate::text::{Bytes, Text};

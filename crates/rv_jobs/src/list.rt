@@ -7,11 +7,11 @@ ghost use Rattle.rv_jobs.specs.Jobs.{most_jobs};
 ghost use Rattle.rv_jobs.specs.Reading.{GivesJobs};
 ghost use Rattle.rv_jobs.specs.JobList.{has_no_jobs, has_too_many, elements_in, jobs_from, jobs_in, job_list_of};
 
+use crate::earlier_jobs::EarlierJobs;
 use crate::error::{JobError, What};
 use crate::job::JobList;
-use crate::keys::{has_stray_list_key, value_of};
-use crate::earlier_jobs::EarlierJobs;
 use crate::job_keys::element_of;
+use crate::keys::{has_stray_list_key, value_of};
 use std::alloc::Global;
 use toml::value::Array;
 use toml::{Table, Value};

@@ -10,8 +10,8 @@ ghost use Rattle.rv_jobs.specs.JobList.{is_symbol, symbol_in, symbols_of, signat
 use crate::error::What;
 use crate::job::Symbols;
 use crate::keys::array_of;
-use crate::texts::is_within;
 use crate::text::Text;
+use crate::texts::is_within;
 use std::alloc::Global;
 use toml::{Table, Value};
 
