@@ -78,7 +78,7 @@ pub(crate) struct HoldingGate {
 }
 
 impl HoldingGate {
-    fn new(held: u64, awaited: usize) -> HoldingGate {
+    pub(crate) fn new(held: u64, awaited: usize) -> HoldingGate {
         HoldingGate {
             held,
             awaited,
@@ -92,7 +92,7 @@ impl HoldingGate {
         }
     }
 
-    fn have_entered(&self) -> bool {
+    pub(crate) fn have_entered(&self) -> bool {
         for entries in self.entries.iter().take(self.awaited) {
             if entries.load(Ordering::SeqCst) == 0 {
                 return false;
@@ -102,7 +102,7 @@ impl HoldingGate {
     }
 
     /// Whether the first pieces entered once each, and none waited in vain.
-    fn was_passed(&self, pieces: usize) -> bool {
+    pub(crate) fn was_passed(&self, pieces: usize) -> bool {
         for entries in self.entries.iter().take(pieces) {
             if entries.load(Ordering::SeqCst) != 1 {
                 return false;
@@ -153,7 +153,7 @@ pub(crate) fn same_rows(some: &[Row], others: &[Row]) -> bool {
 }
 
 /// Whether a fleet has the report of one worker, and its pieces passed the gate.
-pub(crate) fn passes<R: Threads + Wait>(
+fn passes<R: Threads + Wait>(
     rt: &R,
     alloc: Global,
     jobs: usize,

@@ -3,7 +3,7 @@
 ghost use Rattle.std.specs.Prelude.{◌≡◌, ◌<◌, IfOk};
 ghost use Rattle.rv_fleet.specs.Pieces.{pieces_of};
 
-use crate::fleet_tests::{HoldingGate, halves, passes, plan_of, same_rows};
+use crate::fleet_tests::{HoldingGate, halves, plan_of, same_rows};
 use crate::piece::piece_count;
 use crate::{Claims, Gate, Pass, Piece, Row, RowEnd, run_one, work};
 use rv_jobs::Plan;

@@ -155,7 +155,7 @@ fn expect_faults(
 }
 
 #[test]
-pub(crate) fn faults(rt: HostRuntime) -> Result<(), Fail> {
+fn faults(rt: HostRuntime) -> Result<(), Fail> {
     let alloc = rt.alloc();
     expect_faults(&rt, alloc, LISTS, "", "")?;
     expect_faults(&rt, alloc, STRAY, "x = 1\n", "")?;

@@ -2,7 +2,6 @@
 
 ghost use Rattle.std.specs.Prelude.{None};
 
-use crate::fault_tests::faults;
 use rv_elf::LoadAt;
 use rv_isa::Isa;
 use rv_jobs::{JobList, Kept, Plan, ReadError, Store, What, gather, read_jobs};

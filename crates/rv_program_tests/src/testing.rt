@@ -5,7 +5,6 @@ ghost use Rattle.std.specs.List.{find};
 ghost use Rattle.std.specs.Str.{bytes_eq};
 ghost use Rattle.rv_jobs.specs.Stores.{most_bytes, one_more};
 
-use crate::sample_files::{file, program};
 use rv_fleet::{FreeGate, Sink, SinkFailed};
 use rv_jobs::{ReadError, Store};
 use rv_program::run_words;

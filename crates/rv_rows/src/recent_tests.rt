@@ -5,7 +5,7 @@ use crate::recent::Recent;
 use crate::row::{RowEnd, Words};
 use rv_jobs::Bytes;
 use rv_memory::{Bus, Map, Misaligned};
-use std::alloc::{AllocError, Global};
+use std::alloc::Global;
 use std::test::Fail;
 
 // An outcome whose console has so many bytes, or, behind a `w`, whose signature has so many words.
