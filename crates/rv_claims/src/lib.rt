@@ -6,8 +6,6 @@
 #![tactic(auto)]
 
 mod claims;
-#[cfg(test)]
-mod claims_tests;
 mod pass;
 mod rule;
 mod view;

@@ -7,16 +7,10 @@
 
 mod collect;
 mod fleet;
-#[cfg(test)]
-mod fleet_tests;
 mod gate;
-#[cfg(test)]
-mod naming_tests;
 mod piece;
 mod worked;
 mod worker;
-#[cfg(test)]
-mod worker_tests;
 
 pub use fleet::{FleetError, run_fleet};
 pub use gate::{FreeGate, Gate};

@@ -1,9 +1,9 @@
 //! What the store answers for paths, and the store over files.
 
-use crate::sample_files::{file, set};
 use crate::testing::{MemoryStore, ask_store};
 use rv_files::FileStore;
 use rv_jobs::{ReadError, Store};
+use samples::file;
 use std::alloc::{AllocError, Global};
 use std::fs;
 use std::sync::Wait;
@@ -116,7 +116,9 @@ fn is_read_whole(
 ) -> Result<bool, Fail> {
     let alloc = rt.alloc();
     let mut bytes = vec![in alloc; 0x5a; length]?;
-    set(&mut bytes, 0, &first);
+    for (byte, marked) in bytes.iter_mut().zip(first) {
+        *byte = marked;
+    }
     fs::write(rt, path, bytes.as_slice())?;
     let mut store = FileStore::new(rt);
     let answer = store.read(alloc, path);

@@ -2,8 +2,8 @@
 
 use crate::image_tests::runs_elf;
 use crate::list_tests::{refuses_list, runs_job};
-use crate::sample_files::file;
 use crate::testing::{MemoryStore, ask_store};
+use samples::file;
 use std::alloc::{AllocError, Global};
 use std::sync::Wait;
 use std::test::Fail;

@@ -1,9 +1,8 @@
 //! Flat images, ELF images and the example firmware, through the whole program.
 
-use crate::sample_files::file;
 use crate::testing::{Answer, MemoryStore, ask_raw, ask_store};
 use rv_jobs::Store;
-use samples::{CHECKSUM, UPPER, file_bytes, numbers};
+use samples::{CHECKSUM, UPPER, file, file_bytes, numbers};
 use std::alloc::Global;
 use std::sync::Wait;
 use std::test::Fail;

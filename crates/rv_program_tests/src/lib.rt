@@ -17,7 +17,7 @@ mod list_tests;
 #[cfg(test)]
 mod report_tests;
 #[cfg(test)]
-mod sample_files;
+mod row_tests;
 #[cfg(test)]
 mod stream_tests;
 #[cfg(test)]

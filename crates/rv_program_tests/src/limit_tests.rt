@@ -2,9 +2,9 @@
 
 use crate::list_tests::refuses_list;
 use crate::report_tests::list_store;
-use crate::sample_files::file;
 use crate::testing::{MemoryStore, ask_store};
 use crate::word_tests::repeated;
+use samples::file;
 use std::alloc::{AllocError, Global};
 use std::sync::Wait;
 use std::test::Fail;

@@ -1,8 +1,8 @@
 //! Job lists through the whole program, over files in memory.
 
-use crate::sample_files::file;
 use crate::testing::{MemoryStore, ask_store};
 use rv_jobs::Store;
+use samples::file;
 use std::alloc::{AllocError, Global};
 use std::sync::Wait;
 use std::test::Fail;
@@ -45,6 +45,10 @@ load at two | code 00000297 0022a503 X | misaligned = 'allow' | exit 2768437248 
 load at two, refused | code 00000297 0022a503 X | misaligned = 'fault' | fault load-misaligned pc=80000004 value=80000002 | 1 | -
 console at one | code 100002b7 0012a503 | misaligned = 'allow' | fault load-access pc=80000004 value=10000001 | 1 | -
 console at one, refused | code 100002b7 0012a503 | misaligned = 'fault' | fault load-misaligned pc=80000004 value=10000001 | 1 | -
+a store of the console at one | code 100002b7 0002a0a3 | misaligned = 'allow' | fault store-access pc=80000004 value=10000001 | 1 | -
+a store of the console at one, refused | code 100002b7 0002a0a3 | misaligned = 'fault' | fault store-misaligned pc=80000004 value=10000001 | 1 | -
+a store across the region's end | code 801002b7 fe02af23 | misaligned = 'allow' | fault store-access pc=80000004 value=800ffffe | 1 | -
+a store across the region's end, refused | code 801002b7 fe02af23 | misaligned = 'fault' | fault store-misaligned pc=80000004 value=800ffffe | 1 | -
 across the region's end | code 801002b7 ffe2a503 | misaligned = 'allow' | fault load-access pc=80000004 value=800ffffe | 1 | -
 across the region's end, refused | code 801002b7 ffe2a503 | misaligned = 'fault' | fault load-misaligned pc=80000004 value=800ffffe | 1 | -
 store over code ahead | code 00000297 0002a723 00000013 00000013 X | misaligned = 'allow' | fault stale-code pc=8000000c value=8000000e | 3 | -

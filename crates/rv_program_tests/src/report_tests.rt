@@ -1,7 +1,7 @@
 //! Reports of lists and verdicts on their jobs, for every number of workers.
 
-use crate::sample_files::file;
 use crate::testing::{MemoryStore, ask_store};
+use samples::file;
 use std::alloc::{AllocError, Global};
 use std::sync::Wait;
 use std::test::Fail;

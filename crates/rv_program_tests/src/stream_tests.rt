@@ -1,10 +1,10 @@
 //! Input that comes and output that goes in parts, and streams that fail.
 
-use crate::sample_files::file;
 use crate::testing::{Answer, MemorySink, MemoryStore, SlowReader, ask};
 use rv_files::{StreamSink, read_at_most};
 use rv_fleet::{FreeGate, Sink, put_all};
 use rv_program::{RunError, ScriptError, read_script, run_raw, run_words};
+use samples::file;
 use std::alloc::{AllocError, Global};
 use std::io::{self, Write};
 use std::sync::Wait;

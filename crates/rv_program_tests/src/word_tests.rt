@@ -1,7 +1,7 @@
 //! The words of the command: refused ones, the longest, and help.
 
-use crate::sample_files::file;
 use crate::testing::{MemoryStore, ask_raw, ask_store};
+use samples::file;
 use std::alloc::{AllocError, Global};
 use std::sync::Wait;
 use std::test::Fail;

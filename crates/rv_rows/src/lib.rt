@@ -12,16 +12,12 @@ mod flat;
 mod law;
 mod outcome;
 mod recent;
-#[cfg(test)]
-mod recent_tests;
 mod report;
 mod row;
 mod rows;
 mod signature_lines;
 mod sink;
 mod spare;
-#[cfg(test)]
-mod tests;
 mod verdict;
 
 pub use flat::flat_row;
@@ -33,3 +29,4 @@ pub use row::{Refusal, Report, Row, RowEnd, Rows, Verdict, Words};
 pub use rows::{next_row, row_at, run_one};
 pub use sink::{Sink, SinkFailed, put_all};
 pub use spare::Spare;
+pub use verdict::are_same;

@@ -103,7 +103,7 @@ impl EndedRun {
 
 impl Outcome {
     /// How many bytes the console and the signature have.
-    pub(crate) fn size(&self) -> usize {
+    pub fn size(&self) -> usize {
         let words = match &self.signature {
             Some(words) => words.as_slice().len().saturating_mul(4),
             None => 0,

@@ -48,7 +48,7 @@ impl Recent {
     }
 
     /// The outcome of the job at a place, if it is kept.
-    pub(crate) fn find(&self, place: usize) -> Option<&Outcome>
+    pub fn find(&self, place: usize) -> Option<&Outcome>
         ensures { (plan : Planned) → AreOutcomes plan self.now
             → IfSome result (λ there. outcome_at plan place ≡ Some there.now) }
     {
@@ -62,7 +62,7 @@ impl Recent {
 
     /// Whether an outcome whose console and signature have so many bytes is small enough to be kept. If so, there is
     /// room for it then: the oldest are dropped.
-    pub(crate) fn make_room(&mut self, size: usize) -> bool
+    pub fn make_room(&mut self, size: usize) -> bool
         ensures { (plan : Planned) → AreOutcomes plan self.old → AreOutcomes plan self.new }
     {
         if ROOM < size {
@@ -75,7 +75,7 @@ impl Recent {
     }
 
     /// Keeps one more, for which room was made.
-    pub(crate) fn keep(&mut self, place: usize, outcome: Outcome) -> Result<(), AllocError>
+    pub fn keep(&mut self, place: usize, outcome: Outcome) -> Result<(), AllocError>
         ensures { (plan : Planned) → AreOutcomes plan self.old → outcome_at plan place
             ≡ Some outcome
             → OnOk result (AreOutcomes plan self.new) }

@@ -92,7 +92,7 @@ fn are_lines_of(bytes: &[u8], signature: &Option<Words>) -> bool
 }
 
 /// Whether two outcomes are the same, but for steps, addresses and values.
-pub(crate) fn are_same(there: &Outcome, other: &Outcome) -> bool
+pub fn are_same(there: &Outcome, other: &Outcome) -> bool
     ensures { result ≡ are_same there.now other.now }
 {
     if !are_alike(there.ending, other.ending) {

@@ -10,9 +10,15 @@ pub enum BadSample {
     /// There are no digits, or an odd number of them.
     #[error("bad digits")]
     Digits,
-    /// Behind a star there is no number.
+    /// A number that stands for a place or a count is none.
     #[error("bad count")]
     Count,
+    /// A change reaches past the file.
+    #[error("bad place")]
+    Place,
+    /// No sample has the name.
+    #[error("bad name")]
+    Name,
     /// A growth was refused.
     #[error("out of memory")]
     OutOfMemory,

@@ -2,7 +2,9 @@
 #![tactic(auto)]
 
 mod digits;
+mod files;
 mod images;
 
 pub use digits::{BadSample, file_bytes, numbers};
+pub use files::{changed, file, program};
 pub use images::{CHECKSUM, ONE_SEGMENT, SIGNATURE, TWO_SEGMENTS, UPPER, UPPER_STRIPPED};

@@ -1,10 +1,9 @@
 //! Which files are read as an image, and what is wrong with the others.
-use super::{file_of, name_of, set};
+use super::name_of;
 use rv_elf::{ImageError, Segment, Segments, read_image};
 use rv_isa::Isa;
-use samples::{ONE_SEGMENT, TWO_SEGMENTS};
+use samples::{ONE_SEGMENT, TWO_SEGMENTS, changed, file};
 use std::alloc::Global;
-use std::process::Abort;
 use std::test::Fail;
 
 fn refusal(alloc: Global, file: &[u8]) -> Option<ImageError> {
@@ -66,69 +65,21 @@ fn cut_files(rt: HostRuntime) {
 
 // label | file | what is wrong with it
 const FIELDS: &str = "\
-magic 0 | one 0=00 | BadMagic
-magic 0 most | one 0=ff | BadMagic
-magic 1 | one 1=00 | BadMagic
-magic 1 most | one 1=ff | BadMagic
-magic 2 | one 2=00 | BadMagic
-magic 2 most | one 2=ff | BadMagic
-magic 3 | one 3=00 | BadMagic
-magic 3 most | one 3=ff | BadMagic
-class | one 4=00 | Not32Bit
 class 64 | one 4=02 | Not32Bit
-class most | one 4=ff | Not32Bit
-data | one 5=00 | NotLittleEndian
 data big | one 5=02 | NotLittleEndian
-data most | one 5=ff | NotLittleEndian
-version | one 6=00 | BadVersion
-version most | one 6=ff | BadVersion
-e_version | one 14=00000000 | BadVersion
-e_version most | one 14=ffffffff | BadVersion
-e_type | one 10=0000 | NotExecutable
-e_type shared | one 10=0300 | NotExecutable
-e_type most | one 10=ffff | NotExecutable
-e_machine | one 12=0000 | NotRiscv
-e_machine most | one 12=ffff | NotRiscv
-e_entry | one 18=00000000 | good
-e_entry most | one 18=ffffffff | EntryOdd
-e_phoff | one 1c=00000000 | NoSegment
-e_phoff one on | one 1c=41000000 | ProgramTable
-e_phoff most | one 1c=ffffffff | ProgramTable
-e_shoff | one 20=00000000 | good
-e_shoff most | one 20=ffffffff | good
-e_flags | one 24=00000000 | good
-e_flags most | one 24=ffffffff | good
-e_ehsize | one 28=0000 | good
-e_ehsize most | one 28=ffff | good
-e_phentsize | one 2a=0000 | ProgramTable
-e_phentsize most | one 2a=ffff | ProgramTable
-e_phnum | one 2c=0000 | NoSegment
-e_phnum most | one 2c=ffff | ProgramTable
-sections | one 2e=000000000000 | good
-sections most | one 2e=ffffffffffff | good
-type | one 34=00000000 | NoSegment
-type dynamic | one 34=02000000 | Dynamic
-type interpreter | one 34=03000000 | Dynamic
-type of the table | one 34=06000000 | NoSegment
-type most | one 34=ffffffff | NoSegment
-offset | one 38=00000000 | good
-offset one on | one 38=55000000 | SegmentFile
-offset most | one 38=ffffffff | SegmentFile
-vaddr most | one 3c=ffffffff | good
-paddr most | one 40=ffffffff | good
-filesz | one 44=00000000 | good
-filesz most | one 44=ffffffff | SegmentSizes
-memsz | one 48=00000000 | SegmentSizes
-memsz most | one 48=ffffffff | good
-flags and alignment | one 4c=0000000000000000 | good
-flags most | one 4c=ffffffff | good
+e_type shared | one 16=0003 | NotExecutable
+e_phoff one on | one 28=00000041 | ProgramTable
+sections | one 46=000000000000 | good
+sections most | one 46=ffffffffffff | good
+offset one on | one 56=00000055 | SegmentFile
+flags and alignment | one 76=0000000000000000 | good
 ";
 
 // Whether reading the file of a row answers as it says.
-fn reads_file(rt: &impl Abort, alloc: Global, row: &str) -> Result<bool, Fail> {
+fn reads_file(alloc: Global, row: &str) -> Result<bool, Fail> {
     let mut cells = row.split('|');
     let _label = cells.next();
-    let file = file_of(rt, alloc, cells.next().unwrap_or("").trim())?;
+    let file = file(alloc, cells.next().unwrap_or("").trim())?;
     let name = name_of(alloc, refusal(alloc, &file))?;
     Ok(name.as_str() == cells.next().unwrap_or("").trim())
 }
@@ -136,7 +87,7 @@ fn reads_file(rt: &impl Abort, alloc: Global, row: &str) -> Result<bool, Fail> {
 #[test]
 fn fields(rt: HostRuntime) -> Result<(), Fail> {
     for row in FIELDS.lines() {
-        assert!(&rt; reads_file(&rt, rt.alloc(), row)?, "{row}");
+        assert!(&rt; reads_file(rt.alloc(), row)?, "{row}");
     }
     Ok(())
 }
@@ -144,19 +95,19 @@ fn fields(rt: HostRuntime) -> Result<(), Fail> {
 // label | file with two faults | what is wrong with it
 const FIRST_OF_TWO: &str = "\
 class and magic | two 4=00 0=00 | BadMagic
-machine and type | two 12=0000 10=0000 | NotExecutable
-sizes of the first, and a dynamic second | two 48=00000000 54=02000000 | Dynamic
-bytes of the first, and sizes of the second | two 38=ffffffff 68=00000000 | SegmentSizes
-no segment, and an odd entry | two 2c=0000 18=ffffffff | NoSegment
-no entries, and a wrong size of them | two 2c=0000 2a=0000 | NoSegment
-no bytes, past the file | two 44=00000000 38=ffffffff | good
-no second segment | two 64=0000000000000000 58=ffffffff | good
+machine and type | two 18=0000 16=0000 | NotExecutable
+sizes of the first, and a dynamic second | two 72=00000000 84=00000002 | Dynamic
+bytes of the first, and sizes of the second | two 56=ffffffff 104=00000000 | SegmentSizes
+no segment, and an odd entry | two 44=0000 24=ffffffff | NoSegment
+no entries, and a wrong size of them | two 44=0000 42=0000 | NoSegment
+no bytes, past the file | two 68=00000000 56=ffffffff | good
+no second segment | two 100=0000000000000000 88=ffffffff | good
 ";
 
 #[test]
 fn first_of_two(rt: HostRuntime) -> Result<(), Fail> {
     for row in FIRST_OF_TWO.lines() {
-        assert!(&rt; reads_file(&rt, rt.alloc(), row)?, "{row}");
+        assert!(&rt; reads_file(rt.alloc(), row)?, "{row}");
     }
     Ok(())
 }
@@ -165,17 +116,21 @@ fn first_of_two(rt: HostRuntime) -> Result<(), Fail> {
 fn long_tables(rt: HostRuntime) -> Result<(), Fail> {
     let alloc = rt.alloc();
     let rows = [
-        ("64 entries", 64, 2100, None),
-        ("a byte too few", 64, 2099, Some(ImageError::ProgramTable)),
-        ("65 entries", 65, 2132, Some(ImageError::ProgramTable)),
+        ("64 entries", "44=40", 2100, None),
+        (
+            "a byte too few",
+            "44=40",
+            2099,
+            Some(ImageError::ProgramTable),
+        ),
+        ("65 entries", "44=41", 2132, Some(ImageError::ProgramTable)),
     ];
-    for (label, count, size, error) in rows {
-        let mut file = set(&rt, alloc, &ONE_SEGMENT, 44, &[count])?;
+    for (label, changes, size, error) in rows {
+        let mut file = changed(alloc, &ONE_SEGMENT, changes)?;
         file.resize(size, 0)?;
         assert_eq!(&rt; refusal(alloc, &file), error, "{label}");
     }
-    let mut file = set(&rt, alloc, &ONE_SEGMENT, 44, &[64])?;
-    file.truncate(84);
+    let mut file = changed(alloc, &ONE_SEGMENT, "44=40 84")?;
     for _ in 1..64 {
         file.extend_from_slice(&ONE_SEGMENT[52..84])?;
     }
@@ -189,31 +144,30 @@ fn long_tables(rt: HostRuntime) -> Result<(), Fail> {
     Ok(())
 }
 
-// the entry's lowest byte, a set, and the refusal
-const ENTRIES: [(u8, Isa, Option<ImageError>); 9] = [
-    (0, Isa::I, None),
-    (1, Isa::I, Some(ImageError::EntryOdd)),
-    (2, Isa::I, Some(ImageError::EntryAlign)),
-    (2, Isa::Im, Some(ImageError::EntryAlign)),
-    (2, Isa::Ic, None),
-    (2, Isa::Imc, None),
-    (3, Isa::Im, Some(ImageError::EntryOdd)),
-    (3, Isa::Imc, Some(ImageError::EntryOdd)),
-    (4, Isa::Im, None),
+// a file, a set, and the refusal
+const ENTRIES: [(&str, Isa, Option<ImageError>); 10] = [
+    ("one 24=00", Isa::I, None),
+    ("one 24=01", Isa::I, Some(ImageError::EntryOdd)),
+    ("one 24=02", Isa::I, Some(ImageError::EntryAlign)),
+    ("one 24=02", Isa::Im, Some(ImageError::EntryAlign)),
+    ("one 24=02", Isa::Ic, None),
+    ("one 24=02", Isa::Imc, None),
+    ("one 24=03", Isa::Im, Some(ImageError::EntryOdd)),
+    ("one 24=03", Isa::Imc, Some(ImageError::EntryOdd)),
+    ("one 24=04", Isa::Im, None),
+    ("one 24=02 44=0000", Isa::I, Some(ImageError::NoSegment)),
 ];
 
 #[test]
 fn entries_of_each_set(rt: HostRuntime) -> Result<(), Fail> {
     let alloc = rt.alloc();
-    for (low, isa, error) in ENTRIES {
-        let file = set(&rt, alloc, &ONE_SEGMENT, 24, &[low])?;
-        assert_eq!(&rt; read_image(alloc, &file, isa).err(), error, "{low} {isa:?}");
+    for (text, isa, error) in ENTRIES {
+        let bytes = file(alloc, text)?;
+        assert_eq!(&rt;
+            read_image(alloc, &bytes, isa).err(),
+            error,
+            "{text} {isa:?}"
+        );
     }
-    let none = set(&rt, alloc, &ONE_SEGMENT, 24, &[2])?;
-    let none = set(&rt, alloc, &none, 44, &[0, 0])?;
-    assert_eq!(&rt;
-        read_image(alloc, &none, Isa::I).err(),
-        Some(ImageError::NoSegment)
-    );
     Ok(())
 }

@@ -1,10 +1,10 @@
 //! Which images fit a map, and what memory holds once one is loaded.
-use super::{MEMORY, file_of, name_of};
+use super::{MEMORY, name_of};
 use rv_elf::{LoadAt, check_map, load, read_image};
 use rv_isa::Isa;
 use rv_memory::{Bus, Map, Misaligned, Region, Width};
+use samples::file;
 use std::alloc::Global;
-use std::process::Abort;
 use std::test::Fail;
 
 /// A row of a file that is loaded: into which region, and at which of its addresses.
@@ -50,30 +50,30 @@ fn loading_of(row: &str) -> Option<Loading<'_>> {
 
 // label | file | region | addresses | what is wrong with it
 const MAPS: &str = "\
-as it is | one 3c=00 | memory | physical | good
-vaddr | one 3c=00000000 | memory | physical | SegmentMap
-vaddr most | one 3c=ffffffff | memory | physical | SegmentMap
-paddr | one 40=00000000 | memory | physical | SegmentMap
-paddr most | one 40=ffffffff | memory | physical | SegmentMap
-paddr at the other | one 40=00000000 | memory | virtual | good
-memsz of the region | one 48=00001000 | memory | physical | good
-memsz past it | one 48=04001000 | memory | physical | SegmentMap
-memsz most | one 48=ffffffff | memory | physical | SegmentMap
-small region | one 3c=00 | small | physical | SegmentMap
-small region, fitting | one 44=0800000008000000 | small | physical | good
-two | two 3c=00 | memory | physical | good
-within the first | two 60=0800 | memory | physical | SegmentOverlap
-within it at the other | two 60=0800 | memory | virtual | good
-at its last byte | two 60=0f00 | memory | physical | SegmentOverlap
-behind it | two 60=1000 | memory | physical | good
-no bytes within it | two 60=0800008000000000 | memory | physical | good
-a map first | two 60=0800 | small | physical | SegmentMap
+as it is | one 60=00 | memory | physical | good
+vaddr | one 60=00000000 | memory | physical | SegmentMap
+vaddr most | one 60=ffffffff | memory | physical | SegmentMap
+paddr | one 64=00000000 | memory | physical | SegmentMap
+paddr most | one 64=ffffffff | memory | physical | SegmentMap
+paddr at the other | one 64=00000000 | memory | virtual | good
+memsz of the region | one 72=00100000 | memory | physical | good
+memsz past it | one 72=00100004 | memory | physical | SegmentMap
+memsz most | one 72=ffffffff | memory | physical | SegmentMap
+small region | one 60=00 | small | physical | SegmentMap
+small region, fitting | one 68=0000000800000008 | small | physical | good
+two | two 60=00 | memory | physical | good
+within the first | two 96=0008 | memory | physical | SegmentOverlap
+within it at the other | two 96=0008 | memory | virtual | good
+at its last byte | two 96=000f | memory | physical | SegmentOverlap
+behind it | two 96=0010 | memory | physical | good
+no bytes within it | two 96=0000000080000008 | memory | physical | good
+a map first | two 96=0008 | small | physical | SegmentMap
 ";
 
 // Whether checking the file of a row against its map answers as it says.
-fn checks_map(rt: &impl Abort, alloc: Global, row: &str) -> Result<bool, Fail> {
+fn checks_map(alloc: Global, row: &str) -> Result<bool, Fail> {
     let row = loading_of(row).ok_or("five cells")?;
-    let file = file_of(rt, alloc, row.file)?;
+    let file = file(alloc, row.file)?;
     let image = read_image(alloc, &file, Isa::Imc)?;
     let map = Map::of(&[row.region])?;
     let name = name_of(alloc, check_map(&image, &map, row.at).err())?;
@@ -83,7 +83,7 @@ fn checks_map(rt: &impl Abort, alloc: Global, row: &str) -> Result<bool, Fail> {
 #[test]
 fn maps(rt: HostRuntime) -> Result<(), Fail> {
     for row in MAPS.lines() {
-        assert!(&rt; checks_map(&rt, rt.alloc(), row)?, "{row}");
+        assert!(&rt; checks_map(rt.alloc(), row)?, "{row}");
     }
     Ok(())
 }
@@ -112,20 +112,20 @@ second's vaddr | two | memory | physical | 80000100=00000000
 two, virtual | two | memory | virtual | 80000004=1002a503
 second, virtual | two | memory | virtual | 80000100=0000002a
 second's paddr | two | memory | virtual | 80000200=00000000
-header | one 38=00000000 | memory | physical | 80000000=464c457f
-short | one 44=08 | memory | physical | 80000004=05d00893
-behind short | one 44=08 | memory | physical | 80000008=00000000
-nothing | one 44=00000000 | memory | physical | 80000000=00000000
-past the file | one 44=00000000 38=ffffffff | memory | physical | 80000000=00000000
+header | one 56=00000000 | memory | physical | 80000000=464c457f
+short | one 68=08 | memory | physical | 80000004=05d00893
+behind short | one 68=08 | memory | physical | 80000008=00000000
+nothing | one 68=00000000 | memory | physical | 80000000=00000000
+past the file | one 68=00000000 56=ffffffff | memory | physical | 80000000=00000000
 ";
 
 // Whether the word of a row is loaded and fetched, and the console is empty.
-fn has_word(rt: &impl Abort, alloc: Global, row: &str) -> Result<bool, Fail> {
+fn has_word(alloc: Global, row: &str) -> Result<bool, Fail> {
     let row = loading_of(row).ok_or("five cells")?;
     let (addr, word) = row.answer.split_once('=').ok_or("an address and a word")?;
     let addr = u32::from_str_radix(addr, 16)?;
     let word = u32::from_str_radix(word, 16)?;
-    let file = file_of(rt, alloc, row.file)?;
+    let file = file(alloc, row.file)?;
     let mut bus = loaded(alloc, &file, row.region, row.at)?;
     let is_loaded = bus.load(addr, Width::Word) == Ok(word);
     Ok(is_loaded && bus.fetch_word(addr) == Some(word) && bus.console().is_empty())
@@ -134,7 +134,7 @@ fn has_word(rt: &impl Abort, alloc: Global, row: &str) -> Result<bool, Fail> {
 #[test]
 fn memory(rt: HostRuntime) -> Result<(), Fail> {
     for row in WORDS.lines() {
-        assert!(&rt; has_word(&rt, rt.alloc(), row)?, "{row}");
+        assert!(&rt; has_word(rt.alloc(), row)?, "{row}");
     }
     Ok(())
 }

@@ -1,9 +1,9 @@
 //! The values of symbols, and the ranges of signatures.
-use super::{MEMORY, changed};
+use super::MEMORY;
 use rv_elf::{ImageError, check_signature, find_symbol, read_image};
 use rv_isa::Isa;
 use rv_memory::{Map, Region};
-use samples::{CHECKSUM, SIGNATURE, UPPER, UPPER_STRIPPED, file_bytes};
+use samples::{CHECKSUM, SIGNATURE, UPPER, UPPER_STRIPPED, changed, file_bytes};
 use std::alloc::Global;
 use std::process::Abort;
 use std::test::Fail;
@@ -28,14 +28,14 @@ fn expect_symbols(rt: &impl Abort, alloc: Global, groups: &str, rows: &str) -> R
         let changes = cells.next().unwrap_or("").trim();
         let name = cells.next().unwrap_or("").trim();
         let answer = cells.next().unwrap_or("").trim();
-        let file = changed(rt, alloc, &file, changes)?;
+        let file = changed(alloc, &file, changes)?;
         let found = symbol_in(alloc, &file, name)?;
         assert_eq!(rt; found.as_str(), answer, "{row}");
     }
     Ok(())
 }
 
-// The section headers of the file are at d4, fc and 124; its symbols at 84, 94 and a4.
+// The section headers of the file are at 212, 252 and 292; its symbols at 132, 148 and 164.
 const SIGNATURE_ROWS: &str = "\
 | begin_signature | 80000028
 | end_signature | 80000030
@@ -43,34 +43,34 @@ const SIGNATURE_ROWS: &str = "\
 | begin_signatur | NoBegin
 | begin_signature2 | NoBegin
 | egin_signature | NoBegin
-94=02000000 | egin_signature | 80000028
-94=ffffffff | begin_signature | NoBegin
-a2=0000 | begin_signature | NoBegin
-a2=0000 | end_signature | 80000030
-a4=01 | begin_signature | 80000028
-a4=01 | end_signature | NoBegin
-138=1e | end_signature | NoBegin
-20=00000000 | begin_signature | NoSymbols
-20=ffffffff | begin_signature | SectionTable
-20=d5 | begin_signature | SectionTable
-2e=27 | begin_signature | SectionTable
-30=0000 | begin_signature | SectionTable
-30=ffff | begin_signature | SectionTable
-30=01 | begin_signature | NoSymbols
-100=00 | begin_signature | NoSymbols
-100=00 20=ffffffff | begin_signature | SectionTable
-120=00 | begin_signature | SymbolTable
-110=31 | begin_signature | SymbolTable
-10c=ffffffff | begin_signature | SymbolTable
-10c=1d01 | begin_signature | SymbolTable
-120=00 114=ffffffff | begin_signature | SymbolTable
-110=00 | begin_signature | NoBegin
-110=20 | end_signature | NoBegin
-114=ffffffff | begin_signature | StringTable
-114=03 | begin_signature | StringTable
-128=00 | begin_signature | StringTable
-134=2e01 | begin_signature | StringTable
-138=00 | begin_signature | NoBegin";
+148=00000002 | egin_signature | 80000028
+148=ffffffff | begin_signature | NoBegin
+162=0000 | begin_signature | NoBegin
+162=0000 | end_signature | 80000030
+164=01 | begin_signature | 80000028
+164=01 | end_signature | NoBegin
+312=1e | end_signature | NoBegin
+32=00000000 | begin_signature | NoSymbols
+32=ffffffff | begin_signature | SectionTable
+32=d5 | begin_signature | SectionTable
+46=27 | begin_signature | SectionTable
+48=0000 | begin_signature | SectionTable
+48=ffff | begin_signature | SectionTable
+48=01 | begin_signature | NoSymbols
+256=00 | begin_signature | NoSymbols
+256=00 32=ffffffff | begin_signature | SectionTable
+288=00 | begin_signature | SymbolTable
+272=31 | begin_signature | SymbolTable
+268=ffffffff | begin_signature | SymbolTable
+268=011d | begin_signature | SymbolTable
+288=00 276=ffffffff | begin_signature | SymbolTable
+272=00 | begin_signature | NoBegin
+272=20 | end_signature | NoBegin
+276=ffffffff | begin_signature | StringTable
+276=03 | begin_signature | StringTable
+296=00 | begin_signature | StringTable
+308=012e | begin_signature | StringTable
+312=00 | begin_signature | NoBegin";
 
 #[test]
 fn symbols(rt: HostRuntime) -> Result<(), Fail> {

@@ -3,37 +3,6 @@ use super::{allowing, cells_of, ending_of, machine};
 use rv_machine::Ending;
 use std::test::Fail;
 
-// A load within a word; loads and stores of the console and across the region's end; a store over two words
-// of code, with FENCE.I, without it, and up to a jump to the second word: image | ending and steps where it
-// is allowed | ending where it is not, after one step.
-const MISALIGNED: &str = "\
-00000297 0022a503 X | exit 2768437248 | 3 | load-misaligned 80000004 80000002
-100002b7 0012a503 | load-access 80000004 10000001 | 1 | load-misaligned 80000004 10000001
-801002b7 ffe2a503 | load-access 80000004 800ffffe | 1 | load-misaligned 80000004 800ffffe
-100002b7 0002a0a3 | store-access 80000004 10000001 | 1 | store-misaligned 80000004 10000001
-801002b7 fe02af23 | store-access 80000004 800ffffe | 1 | store-misaligned 80000004 800ffffe
-00000297 0002a723 00000013 00000013 X | stale-code 8000000c 8000000e | 3 | store-misaligned 80000004 8000000e
-00000297 0002a723 0000100f 00000013 X | illegal 80000010 00000000 | 4 | store-misaligned 80000004 8000000e
-00000297 0002a723 0080006f 00000013 X | stale-code 80000010 80000010 | 3 | store-misaligned 80000004 8000000e
-";
-
-#[test]
-fn misaligned_accesses_run(rt: HostRuntime) -> Result<(), Fail> {
-    let alloc = rt.alloc();
-    assert_eq!(rt; MISALIGNED.lines().count(), 8);
-    for line in MISALIGNED.lines() {
-        let cells = cells_of(alloc, line)?;
-        assert_eq!(rt; cells.len(), 4, "{line}");
-        let allowed = allowing(&rt, alloc, cells[0])?.run(10);
-        assert_eq!(rt; allowed.ending, ending_of(cells[1])?, "{line}");
-        assert_eq!(rt; allowed.steps, cells[2].parse::<u32>()?, "{line}");
-        let refused = machine(&rt, alloc, cells[0])?.run(10);
-        assert_eq!(rt; refused.ending, ending_of(cells[3])?, "{line}");
-        assert_eq!(rt; refused.steps, 1, "{line}");
-    }
-    Ok(())
-}
-
 // Halfwords and words at each further byte of the first of two words, 7f92a341 and 05c6d788, which x5 points to;
 // x11 holds the first: instructions | encodings | exit code | ending where it is not allowed, `-` where it is aligned.
 const OFFSETS: &str = "\

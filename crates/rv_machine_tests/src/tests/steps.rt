@@ -1,4 +1,4 @@
-//! Fetches at the edges of regions, steps after an ending, and a full console.
+//! Fetches at the edges of regions, and steps after an ending.
 use super::{BASE, ending_of, machine, machine_in, region};
 use rv_isa::Isa;
 use rv_machine::{Ending, Machine};
@@ -46,15 +46,5 @@ fn endings_repeat(rt: HostRuntime) -> Result<(), Fail> {
     assert_eq!(rt; machine.step(), ending);
     assert_eq!(rt; machine.run(5).steps, 0);
     assert_eq!(rt; machine.bus().console().len(), 0);
-    Ok(())
-}
-
-// The 65,537th byte ends a run, and the output keeps those before it.
-#[test]
-fn full_console_keeps_its_bytes(rt: HostRuntime) -> Result<(), Fail> {
-    let mut machine = machine(&rt, rt.alloc(), "100002b7 0002a023 ffdff06f")?;
-    assert_eq!(rt; machine.run(200_000).steps, 131_073);
-    assert_eq!(rt; machine.bus().console().len(), 0x1_0000);
-    assert!(rt; machine.bus().console().iter().all(|byte| *byte == 0));
     Ok(())
 }

@@ -1,7 +1,7 @@
 //! Draws by one pass and by several, in one thread and in four.
 ghost use Rattle.std.specs.Prelude.{◌≡◌, IfOk};
 
-use crate::{Claims, Pass, SplitError};
+use rv_fleet::{Claims, Pass, SplitError};
 use std::alloc::{AllocError, Global};
 use std::process::Abort;
 use std::test::Fail;

@@ -1,33 +1,17 @@
 //! Fleets of small jobs, behind gates that show which pieces were under way at the same time.
 
-ghost use Rattle.std.specs.Prelude.{◌≡◌, ◌<◌, ◌≤◌, None};
+ghost use Rattle.std.specs.Prelude.{◌<◌, ◌≤◌, None};
 
-use crate::{
-    Claims, FreeGate, Gate, Pass, Refusal, Report, Row, RowEnd, SplitError, row_at, run_fleet,
-    run_one,
-};
 use rv_elf::ImageError;
+use rv_fleet::{FreeGate, Gate, Refusal, Report, Row, RowEnd, row_at, run_fleet, run_one};
 use rv_jobs::{Plan, ReadError, Store, gather, read_jobs};
 use samples::ONE_SEGMENT;
 use std::alloc::Global;
-use std::process::Abort;
 use std::sync::Wait;
 use std::sync::atomic::{AtomicBool, AtomicU64, Ordering};
 use std::test::Fail;
 use std::thread;
 use std::thread::Threads;
-
-/// Two passes of one.
-pub(crate) fn halves(rt: &impl Abort, claims: &Claims, pass: Pass) -> (Pass, Pass)
-    requires { pass.draw ≡ claims.now }
-    ensures first { result.0.draw ≡ claims.now }
-    ensures second { result.1.draw ≡ claims.now }
-{
-    match claims.split(pass) {
-        Ok(passes) => passes,
-        Err(SplitError::Full(_)) => panic!(rt; "no place is free"),
-    }
-}
 
 /// The same image at each path.
 #[derive(Drop)]
@@ -61,8 +45,13 @@ pub(crate) fn plan_of(alloc: Global, jobs: usize, image: &[u8]) -> Result<Plan, 
             "[[job]]\nname = 'j{k}'\nimage = 'image'\nbudget = 3\n"
         )?;
     }
-    let list = read_jobs(alloc, text.as_bytes())?;
-    Ok(gather(alloc, list, &mut OneImage { bytes: image })?)
+    plan_in(alloc, text.as_str(), image)
+}
+
+/// The jobs of a list, which all have one image.
+pub(crate) fn plan_in(alloc: Global, list: &str, image: &[u8]) -> Result<Plan, Fail> {
+    let jobs = read_jobs(alloc, list.as_bytes())?;
+    Ok(gather(alloc, jobs, &mut OneImage { bytes: image })?)
 }
 
 const TURNS: u64 = 100_000_000;

@@ -1,75 +1,16 @@
-//! Reports, over a sink in memory.
+//! What rows and reports are made from, and the text that reports have.
 
-ghost use Rattle.std.specs.Prelude.{Some};
-
-use crate::flat::flat_row;
-use crate::outcome::Outcome;
-use crate::report::{WriteError, write_report};
-use crate::row::{Refusal, Report, Row, RowEnd, Rows, Verdict, Words};
-use crate::sink::{Sink, SinkFailed};
-use crate::verdict::are_same;
+use crate::stream_tests::ADD_AND_EXIT;
+use crate::testing::MemorySink;
+use rv_fleet::{
+    Outcome, Refusal, Report, Row, RowEnd, Rows, Sink, Verdict, Words, WriteError, flat_row,
+    write_report,
+};
 use rv_jobs::{Bytes, Text};
 use rv_machine::FaultKind;
+use rv_rows::are_same;
 use std::alloc::{AllocError, Global};
 use std::test::Fail;
-
-// A sink over memory, which takes so many bytes a put, and may fail at one put.
-#[derive(Drop)]
-struct MemorySink {
-    bytes: Vec<u8>,
-    most: usize,
-    puts: u64,
-    fails_at: u64,
-    failures: u64,
-}
-
-impl MemorySink {
-    fn new(alloc: Global) -> MemorySink {
-        MemorySink {
-            bytes: Vec::new(alloc),
-            most: usize::MAX,
-            puts: 0,
-            fails_at: 0,
-            failures: 0,
-        }
-    }
-
-    fn slow(alloc: Global, most: usize) -> MemorySink {
-        let mut sink = MemorySink::new(alloc);
-        sink.most = most;
-        sink
-    }
-
-    fn failing(alloc: Global, most: usize, fails_at: u64) -> MemorySink {
-        let mut sink = MemorySink::slow(alloc, most);
-        sink.fails_at = fails_at;
-        sink
-    }
-
-    fn text(&self) -> Result<&str, Fail> {
-        Ok(std::str::from_utf8(self.bytes.as_slice())?)
-    }
-}
-
-impl Sink for MemorySink {
-    ghost taken = { λ sink. Some sink.bytes.items };
-
-    ghost failed = { λ sink. sink.failures };
-
-    fn put(&mut self, bytes: &[u8]) -> Result<usize, SinkFailed> {
-        self.puts = self.puts.saturating_add(1);
-        let count = bytes.len().min(self.most.max(1));
-        if self.puts != self.fails_at && self.bytes.extend_from_slice(&bytes[..count]).is_ok() {
-            return Ok(count);
-        }
-        self.failures = self.failures.saturating_add(1);
-        Err(SinkFailed)
-    }
-
-    fn failures(&self) -> u64 {
-        self.failures
-    }
-}
 
 fn row_of(alloc: Global, ending: RowEnd, steps: u32) -> Result<Row, AllocError> {
     Ok(Row {
@@ -81,11 +22,6 @@ fn row_of(alloc: Global, ending: RowEnd, steps: u32) -> Result<Row, AllocError> 
         verdict: Verdict::Unasked,
     })
 }
-
-// Sets x10 to 5 and x17 to 93, then ECALL.
-const ADD_AND_EXIT: [u8; 12] = [
-    0x13, 0x05, 0x50, 0x00, 0x93, 0x08, 0xd0, 0x05, 0x73, 0x00, 0x00, 0x00,
-];
 
 const FAULTS: [FaultKind; 11] = [
     FaultKind::FetchAccess,

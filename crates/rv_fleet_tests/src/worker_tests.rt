@@ -3,9 +3,9 @@
 ghost use Rattle.std.specs.Prelude.{◌≡◌, ◌<◌, IfOk};
 ghost use Rattle.rv_fleet.specs.Pieces.{pieces_of};
 
-use crate::fleet_tests::{HoldingGate, halves, plan_of, same_rows};
-use crate::piece::piece_count;
-use crate::{Claims, Gate, Pass, Piece, Row, RowEnd, run_one, work};
+use crate::claims_tests::halves;
+use crate::fleet_tests::{HoldingGate, plan_of, same_rows};
+use rv_fleet::{Claims, Gate, Pass, Piece, Row, RowEnd, run_one, work};
 use rv_jobs::Plan;
 use samples::ONE_SEGMENT;
 use std::alloc::{AllocError, Global};
@@ -13,6 +13,14 @@ use std::sync::atomic::{AtomicU64, Ordering};
 use std::test::Fail;
 use std::thread;
 use std::thread::Threads;
+
+/// How many pieces a plan has.
+fn piece_count(plan: &Plan, group: u32) -> u64
+    requires { 0 < group }
+    ensures { result ≡ pieces_of plan.now group }
+{
+    plan.jobs().div_ceil(group as usize) as u64
+}
 
 /// The pieces of one job each that a pass draws, and the pass.
 fn work_alone(

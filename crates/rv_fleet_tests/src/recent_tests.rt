@@ -1,11 +1,14 @@
-//! What is kept of the last outcomes.
+//! Which outcomes a worker keeps of its last jobs, by the sizes of their consoles and signatures.
 
-use crate::outcome::{Attempt, EndedRun, Outcome, SignatureRange};
-use crate::recent::Recent;
-use crate::row::{RowEnd, Words};
+ghost use Rattle.std.specs.Prelude.{◌<◌, length};
+
+use crate::fleet_tests::plan_in;
+use rv_fleet::{Outcome, RowEnd, Words};
 use rv_jobs::Bytes;
-use rv_memory::{Bus, Map, Misaligned};
+use rv_rows::{Recent, Spare, next_row};
+use samples::{changed, file};
 use std::alloc::Global;
+use std::process::Abort;
 use std::test::Fail;
 
 // An outcome whose console has so many bytes, or, behind a `w`, whose signature has so many words.
@@ -66,25 +69,38 @@ fn keeps_the_last_few(rt: HostRuntime) -> Result<(), Fail> {
     Ok(())
 }
 
-// The signature of a run that has ended counts before its words are copied.
+// Of the image with a signature, which begins at 80000028, the value of the second symbol stands at this byte.
+const END: usize = 168;
+
+const NAMING: &str = "\
+[[job]]
+name = 'first'
+image = 'image'
+budget = 100
+signature = ['begin_signature', 'end_signature']
+[[job]]
+name = 'second'
+image = 'image'
+budget = 100
+same_as = 'first'
+";
+
+// Whether the outcome of a job that is run for another's sake is kept, whose signature ends there.
+fn keeps_named(rt: &impl Abort, alloc: Global, end: &str) -> Result<bool, Fail> {
+    let change = format!(in alloc; "{END}={end}")?;
+    let image = changed(alloc, &file(alloc, "sign")?, change.as_str())?;
+    let plan = plan_in(alloc, NAMING, &image)?;
+    let mut recent = Recent::new(alloc);
+    assert!(rt; 1 < plan.jobs());
+    next_row(alloc, &plan, 1, &mut Spare::new(), &mut recent)?;
+    Ok(recent.find(0).is_some())
+}
+
+// The signature of a run counts before its words are copied: 16,000 words are kept, and one more is not.
 #[test]
 fn counts_the_signature_of_a_run(rt: HostRuntime) -> Result<(), Fail> {
     let alloc = rt.alloc();
-    let bus = Bus::new(
-        alloc,
-        Map::default_map(),
-        Vec::new(alloc),
-        Misaligned::Fault,
-    )?;
-    let attempt = Attempt::Ran(EndedRun {
-        ending: RowEnd::Budget,
-        steps: 0,
-        bus,
-        range: Some(SignatureRange {
-            begin: 0x8000_0000,
-            end: 0x8000_fa04,
-        }),
-    });
-    assert_eq!(rt; attempt.size(), 64_004);
+    assert!(rt; keeps_named(&rt, alloc, "8000fa28")?);
+    assert!(rt; !keeps_named(&rt, alloc, "8000fa2c")?);
     Ok(())
 }

@@ -2,46 +2,23 @@
 
 ghost use Rattle.std.specs.Prelude.{None};
 
-use crate::{FreeGate, Report, Verdict, run_fleet, run_one};
+use rv_fleet::{FreeGate, Report, Verdict, run_fleet, run_one};
 use rv_jobs::{Plan, ReadError, Store, gather, read_jobs};
-use samples::{BadSample, ONE_SEGMENT, numbers};
+use samples::{BadSample, file};
 use std::alloc::Global;
 use std::sync::Wait;
 use std::test::Fail;
 use std::thread::Threads;
 
-// An exit by code 5, and two that print 65,536 bytes first: all zero, or each less by one than the one before.
-const FIVE: &str = "00500513 X";
-
-const ZEROS: &str = "100002b7 00010337 0002a023 fff30313 fe031ce3 X";
-
-const FALLS: &str = "100002b7 00010337 0062a023 fff30313 fe031ce3 X";
-
-// Where a file's header ends, and where it has the segment's size in the file and in memory.
-const HEADER: usize = 84;
-
-const SIZES: [usize; 2] = [68, 72];
-
+// The file of each image: an exit by code 5, its header cut, and two that print 65,536 bytes first, all zero, or each less
+// by one than the one before.
 fn image_of(alloc: Global, path: &str) -> Result<Vec<u8>, BadSample> {
-    let code = if path == "zeros" {
-        ZEROS
-    } else if path == "falls" {
-        FALLS
-    } else {
-        FIVE
-    };
-    let code = numbers(alloc, code)?;
-    let mut bytes = ONE_SEGMENT[..HEADER].to_vec(alloc)?;
-    for place in SIZES {
-        if let Some(size) = bytes.get_mut(place) {
-            *size = code.len().min(255) as u8;
-        }
+    match path {
+        "cut" => file(alloc, "one 83"),
+        "zeros" => file(alloc, "code 100002b7 00010337 0002a023 fff30313 fe031ce3 X"),
+        "falls" => file(alloc, "code 100002b7 00010337 0062a023 fff30313 fe031ce3 X"),
+        _ => file(alloc, "one"),
     }
-    bytes.extend_from_slice(&code)?;
-    if path == "cut" {
-        bytes.truncate(HEADER - 1);
-    }
-    Ok(bytes)
 }
 
 /// The images by their names.

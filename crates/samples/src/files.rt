@@ -1,0 +1,71 @@
+//! Image files by a line of words: a sample, with other bytes where a word says so.
+
+use crate::digits::{BadSample, file_bytes, numbers};
+use crate::images::{ONE_SEGMENT, SIGNATURE, TWO_SEGMENTS};
+use std::alloc::Global;
+
+// Where the one segment's bytes begin, and where its sizes in the file and in memory stand.
+const CODE: usize = 84;
+
+const FILE_SIZE: usize = 68;
+
+const MEMORY_SIZE: usize = 72;
+
+/// The bytes of a file: `one` or `two` segments, or `sign` for the image with a signature, then changes:
+/// `24=90000000` puts the number at byte 24, little-endian, and `51` keeps the first 51 bytes. With `code` numbers
+/// follow, which are the file bytes of the one segment.
+pub fn file(alloc: Global, text: &str) -> Result<Vec<u8>, BadSample> {
+    let (name, rest) = text.split_once(' ').unwrap_or((text, ""));
+    match name {
+        "one" => changed(alloc, &ONE_SEGMENT, rest),
+        "two" => changed(alloc, &TWO_SEGMENTS, rest),
+        "sign" => changed(alloc, &file_bytes(alloc, SIGNATURE)?, rest),
+        "code" => program(alloc, rest),
+        _ => Err(BadSample::Name),
+    }
+}
+
+/// The file of one segment with these numbers as its bytes.
+pub fn program(alloc: Global, text: &str) -> Result<Vec<u8>, BadSample> {
+    let code = numbers(alloc, text)?;
+    let Ok(size) = u32::try_from(code.len()) else {
+        return Err(BadSample::Count);
+    };
+    let mut bytes = ONE_SEGMENT[..CODE].to_vec(alloc)?;
+    set(&mut bytes, FILE_SIZE, &size.to_le_bytes())?;
+    set(&mut bytes, MEMORY_SIZE, &size.to_le_bytes())?;
+    bytes.extend_from_slice(&code)?;
+    Ok(bytes)
+}
+
+/// A file with changes, as [`file`] tells them.
+pub fn changed(alloc: Global, file: &[u8], changes: &str) -> Result<Vec<u8>, BadSample> {
+    let mut bytes = file.to_vec(alloc)?;
+    for change in changes.split(' ') {
+        if let Some((at, number)) = change.split_once('=') {
+            let field = numbers(alloc, number)?;
+            set(&mut bytes, count(at)?, &field)?;
+        } else if !change.is_empty() {
+            bytes.truncate(count(change)?);
+        }
+    }
+    Ok(bytes)
+}
+
+fn count(text: &str) -> Result<usize, BadSample> {
+    match text.parse::<usize>() {
+        Ok(count) => Ok(count),
+        Err(_) => Err(BadSample::Count),
+    }
+}
+
+// Puts a field in place of the bytes from one on.
+fn set(bytes: &mut Vec<u8>, at: usize, field: &[u8]) -> Result<(), BadSample> {
+    for (place, byte) in field.iter().enumerate() {
+        match bytes.get_mut(at.saturating_add(place)) {
+            Some(changed) => *changed = *byte,
+            None => return Err(BadSample::Place),
+        }
+    }
+    Ok(())
+}
