@@ -9,8 +9,8 @@ use crate::fields::{E_ENTRY, word};
 use crate::header::check_header;
 use crate::program_headers::{check_entries, entries, kept_segments};
 use rv_isa::Isa;
+use rv_sequence::Sequence;
 use std::alloc::Global;
-use std::marker::Model;
 
 /// A part of the file that is loaded (System V ABI, "Program Header", PT_LOAD).
 #[derive(Clone, Copy, Debug, PartialEq, Eq)]
@@ -27,42 +27,8 @@ pub struct Segment {
     pub memsz: u32,
 }
 
-/// Segments in the order of the file's table. Contracts see them as their list.
-#[derive(Debug, Drop)]
-pub struct Segments {
-    items: Vec<Segment>,
-}
-
-impl Model for Segments {
-    ghost use Rattle.std.specs.Prelude.{List};
-    ghost use Rattle.rv_elf.specs.declared.image.Segment.{Segment};
-
-    ghost Value = { List Segment };
-
-    ghost view = { λ s. s.items.items };
-}
-
-impl Segments {
-    /// The segments of the vector. Takes no memory.
-    pub fn new(items: Vec<Segment>) -> Segments
-        ensures { result ≡ items.items }
-    {
-        Segments { items }
-    }
-
-    pub fn as_slice(&self) -> &[Segment]
-        ensures { result.now ≡ self.now }
-    {
-        &self.items
-    }
-
-    /// The vector that they were made from.
-    pub fn into_vec(self) -> Vec<Segment>
-        ensures { result.items ≡ self }
-    {
-        self.items
-    }
-}
+/// Segments in the order of the file's table.
+pub type Segments = Sequence<Segment>;
 
 /// What an executable file loads.
 #[derive(Debug, Drop)]
