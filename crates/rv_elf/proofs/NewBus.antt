@@ -1,7 +1,7 @@
 -- What a caller of `load` has, once it made the bus.
 use Rattle.std.proofs.Common.{◌≡◌, ◌∙◌, ℕ, List, sym, ap}
 use Rattle.rv_memory.specs.declared.map.Region.{Region}
-use Rattle.rv_memory.specs.declared.bus.Misaligned.{Misaligned}
+use Rattle.rv_memory.specs.declared.access.Misaligned.{Misaligned}
 use Rattle.rv_memory.specs.Bus.{Contents, opened}
 
 -- its regions are those of the map that it was made with

@@ -2,8 +2,9 @@
 ghost use Rattle.std.specs.Prelude.{◌≡◌, ◌≤◌, IfOk, vec_len};
 ghost use Rattle.rv_memory.specs.Bus.{opened};
 
-use crate::bus::{Bus, Misaligned};
-use crate::console::CONSOLE_ROOM;
+use crate::access::Misaligned;
+use crate::bus::Bus;
+use crate::limits::CONSOLE_ROOM;
 use crate::map::Map;
 use crate::marks::unmarked;
 use std::alloc::{AllocError, Global};

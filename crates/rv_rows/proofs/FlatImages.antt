@@ -6,7 +6,7 @@ use Rattle.std.specs.Cmp.{nat_cmp_total, unsigned_tied}
 use Rattle.std.specs.FinMap as fin
 use Rattle.std.specs.Ordering.{nat_cmp}
 use Rattle.rv_memory.proofs.Public.{among, get-tabulate}
-use Rattle.rv_memory.specs.declared.bus.Misaligned.TheVariants.{Fault}
+use Rattle.rv_memory.specs.declared.access.Misaligned.TheVariants.{Fault}
 use Rattle.rv_memory.specs.Bus.{Contents, byte_at, bytes_put, opened}
 use Rattle.rv_memory.specs.Regions.{addresses, in_one}
 use Rattle.rv_rows.specs.Flat.{default_regions, flat_byte, flat_contents, image_room}

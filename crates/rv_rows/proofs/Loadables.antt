@@ -10,7 +10,7 @@ use Rattle.rv_elf.specs.Symbols.{signature_check, symbol_of}
 use Rattle.rv_jobs.specs.declared.job.Job.{Job}
 use Rattle.rv_jobs.specs.declared.job.Symbols.{Symbols}
 use Rattle.rv_memory.specs.declared.map.Region.{Region}
-use Rattle.rv_memory.specs.declared.bus.Misaligned.{Misaligned as Choice}
+use Rattle.rv_memory.specs.declared.access.Misaligned.{Misaligned as Choice}
 use Rattle.rv_memory.specs.Bus.{Contents, opened}
 use Rattle.rv_machine.specs.State.{State, at_reset, is_misaligned}
 use Rattle.rv_rows.specs.declared.outcome.Loadable.{Loadable}

@@ -12,7 +12,7 @@ use Rattle.rv_jobs.specs.declared.store.Kept.{Kept}
 use Rattle.rv_jobs.specs.declared.store.Kept.TheVariants as kept
 use Rattle.rv_memory.specs.declared.map.Region.{Region}
 use Rattle.rv_memory.specs.Bus.{Contents, opened}
-use Rattle.rv_memory.specs.Words.{words_of}
+use Rattle.rv_memory.specs.SignatureWords.{words_of}
 use Rattle.rv_machine.specs.declared.ending.Ending.{Ending}
 use Rattle.rv_machine.specs.declared.ending.Ending.TheVariants as machine
 use Rattle.rv_machine.specs.Run.{Ran, run_of}

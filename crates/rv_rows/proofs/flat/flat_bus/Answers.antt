@@ -1,5 +1,5 @@
 use Rattle.std.proofs.Common.{◌≡◌, ◌∙◌, [], ap}
-use Rattle.rv_memory.specs.declared.bus.Misaligned.TheVariants.{Fault}
+use Rattle.rv_memory.specs.declared.access.Misaligned.TheVariants.{Fault}
 use Rattle.rv_memory.specs.Bus.{byte_at, opened, placed}
 use Rattle.rv_rows.specs.Flat.{default_regions}
 use Rattle.rv_rows.proofs.FlatImages.{flat_memory, image_fits}
