@@ -17,8 +17,8 @@ sign_extended bits value =
     if nat_lt value (2 ^ (bits - 1)) then pos value else (pos value -ℤ pos (2 ^ bits))
 
 -- a word, read as a signed number
-abbrev pub signed : ℕ → ℤ
-signed word = sign_extended 32 word
+abbrev pub signed_value : ℕ → ℤ
+signed_value word = sign_extended 32 word
 
 -- a whole number modulo 2 ^ 32 (`negsuc n` is the number -1 - n)
 abbrev pub wrap : ℤ → ℕ

@@ -149,8 +149,8 @@ unfoldable pub clean_from : Contents → ℕ → ℕ → Bool
 clean_from c a n = is_clean_half c a && (not (n == 4) || is_clean_half c ((a + 2) % 0x1_0000_0000))
 
 -- FENCE.I: nothing counts as stored
-abbrev pub synced : Contents → Contents
-synced c = record c { stored = set.empty }
+abbrev pub without_stored : Contents → Contents
+without_stored c = record c { stored = set.empty }
 
 -- the memory with bytes put one after another, from an address on
 abbrev pub bytes_put : fin.FinMap nat_cmp ℕ → ℕ → List ℕ → fin.FinMap nat_cmp ℕ
@@ -158,12 +158,12 @@ bytes_put m a [] = m
 bytes_put m a (b ∷ bs) = bytes_put (fin.insert m a b) (a + 1) bs
 
 -- bytes placed from an address on, as an image's are: none of them counts as stored
-abbrev pub placed : Contents → ℕ → List ℕ → Contents
-placed c a bytes = record c { memory = bytes_put c.memory a bytes }
+abbrev pub with_bytes : Contents → ℕ → List ℕ → Contents
+with_bytes c a bytes = record c { memory = bytes_put c.memory a bytes }
 
 -- a new bus: zero memory, and nothing stored
-unfoldable pub opened : List Region → List ℕ → Choice → Contents
-opened regions script misaligned = record {
+unfoldable pub new_bus : List Region → List ℕ → Choice → Contents
+new_bus regions script misaligned = record {
   regions = regions;
   memory = tabulate (addresses regions) (λ _. 0);
   stored = set.empty;

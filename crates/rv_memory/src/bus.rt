@@ -4,7 +4,7 @@ ghost use Rattle.std.specs.Prelude.{None, length};
 ghost use Rattle.rv_memory.specs.Regions.{in_one};
 ghost use Rattle.rv_memory.specs.Maps.{map_error};
 ghost use Rattle.rv_memory.specs.Bus.{size_of, load_from, store_to, fetch_half_from, fetch_word_from, clean_from};
-ghost use Rattle.rv_memory.specs.Bus.{synced, placed};
+ghost use Rattle.rv_memory.specs.Bus.{without_stored, with_bytes};
 
 use crate::access::{Misaligned, Width, read, read_word, write};
 use crate::faults::{BusFault, FetchFault};
@@ -52,7 +52,7 @@ impl Bus {
     /// Places bytes from an address on, as an image's are: in read-only regions too, and none counts as stored.
     pub fn place(&mut self, addr: u32, bytes: &[u8])
         requires { IsTrue (in_one self.old.regions addr (length bytes.now)) }
-        ensures { self.new ≡ placed self.old addr bytes.now }
+        ensures { self.new ≡ with_bytes self.old addr bytes.now }
     {
         if bytes.is_empty() {
             return;
@@ -142,7 +142,7 @@ impl Bus {
 
     /// What FENCE.I does to memory: nothing counts as stored.
     pub fn sync_code(&mut self)
-        ensures { self.new ≡ synced self.old }
+        ensures { self.new ≡ without_stored self.old }
     {
         if self.generation < u8::MAX {
             self.generation += 1;
