@@ -6,7 +6,7 @@ use Rattle.std.proofs.lemmas.Bool.{or_parts, and_parts, not-false, both_ways, tr
 use Rattle.std.proofs.lemmas.List.Folds.{list_all_at}
 use Rattle.rv_memory.specs.declared.map.Region.{Region}
 use Rattle.rv_memory.specs.Regions.{in_one}
-use Rattle.rv_memory.specs.Bus.{Contents, opened, placed, bytes_put}
+use Rattle.rv_memory.specs.Bus.{Contents, new_bus, with_bytes, bytes_put}
 use Rattle.rv_elf.specs.declared.image.Image.{Image}
 use Rattle.rv_elf.specs.declared.image.Segment.{Segment}
 use Rattle.rv_elf.specs.declared.loading.LoadAt.{LoadAt}
@@ -35,9 +35,9 @@ all_at : (p : Segment → Bool) (ss : List Segment) (i : ℕ) (d : Segment) → 
 all_at p ss i d h l = true_from_ne_false _ (λ e. both_ways _ (list_all_at p ss i d l e) h)
 
 -- a new bus holds the opening memory of no segment
-pub opening_memory_none : (c : Contents) (file : List ℕ) (at : LoadAt) → c ≡ opened c.regions c.script c.misaligned
+pub opening_memory_none : (c : Contents) (file : List ℕ) (at : LoadAt) → c ≡ new_bus c.regions c.script c.misaligned
     → c ≡ record c { memory = opening_memory c.regions [] file at }
-unfolding opened opening_memory
+unfolding new_bus opening_memory
 opening_memory_none c file at e = let m = ap (λ d. d.memory) e in λ i. record c { memory = m i }
 
 module _ (file : List ℕ) (image : Image) (ss : List Segment) (same : ss ≡ image.segments) (is : IsImageOf file image)
@@ -66,7 +66,7 @@ module _ (file : List ℕ) (image : Image) (ss : List Segment) (same : ss ≡ im
         (sym (ap (λ x. x.regions) before)) fits_first
 
     -- and once they are placed it holds the opening memory of one segment more
-    pub one_more : (new : Contents) → new ≡ placed b (load_address at (get_or ss k no_segment))
+    pub one_more : (new : Contents) → new ≡ with_bytes b (load_address at (get_or ss k no_segment))
         (file_bytes file (get_or ss k no_segment))
         → new ≡ record c { memory = opening_memory c.regions (take (k + 1) image.segments) file at }
     one_more new e =
@@ -76,4 +76,4 @@ module _ (file : List ℕ) (image : Image) (ss : List Segment) (same : ss ≡ im
         let m = ap (λ x. bytes_put (opening_memory c.regions (take k x) file at) (load_address at s)
         (file_bytes file s)) (sym same) ∙ sym more
         ∙ ap (λ x. opening_memory c.regions (take (k + 1) x) file at) same in
-        e ∙ ap (λ x. placed x (load_address at s) (file_bytes file s)) before ∙ (λ i. record c { memory = m i })
+        e ∙ ap (λ x. with_bytes x (load_address at s) (file_bytes file s)) before ∙ (λ i. record c { memory = m i })

@@ -9,7 +9,7 @@ use Rattle.std.proofs.lemmas.List.{get_or-take, get_or-drop, length-take-le, len
 use Rattle.rv_memory.specs.declared.map.Region.{Region}
 use Rattle.rv_memory.specs.Regions.{covers, in_one, addresses, tabulate}
 use Rattle.rv_memory.specs.Bus.{bytes_put}
-use Rattle.rv_memory.proofs.Public.{among, among_addresses, covered, covers_bounds, tabulate-insert, tabulate-same}
+use Rattle.rv_memory.proofs.Public.{among, among_addresses, is_covered, covers_bounds, tabulate-insert, tabulate-same}
 use Rattle.rv_elf.specs.declared.image.Segment.{Segment}
 use Rattle.rv_elf.specs.declared.loading.LoadAt.{LoadAt}
 use Rattle.rv_elf.specs.Loading.{load_address, any_share, fills, byte_of, file_bytes, opening_byte, opening_memory}
@@ -65,7 +65,7 @@ tabulate-put keys f g a (b ∷ bs) here each =
     (cond-true _ _ _ (eq-eqb a a refl)) (λ q m e. cond-false _ _ _ e))
 
 -- bytes that lie in one region have addresses of it
-covered_each : (rs : List Region) (a n k : ℕ) → list_any (covers a n) rs ≡ true → k < n → covered rs (a + k) ≡ true
+covered_each : (rs : List Region) (a n k : ℕ) → list_any (covers a n) rs ≡ true → k < n → is_covered rs (a + k) ≡ true
 covered_each [] a n k h l = h
 covered_each (r ∷ rs) a n k h l =
     ⊎_elim (λ g. or_left _ _ (let c = covers_bounds a n r g in and_from _ _ (le-leb r.base (a + k) (omega arith))

@@ -2,7 +2,7 @@
 ghost use Rattle.std.specs.Prelude.{◌≡◌, ◌+◌, ◌<◌, ◌≤◌, ℕ, IsTrue, OnOk, length, count_by};
 ghost use Rattle.std.specs.List.{list_all, list_any};
 ghost use Rattle.rv_memory.specs.Regions.{in_one};
-ghost use Rattle.rv_memory.specs.Bus.{opened, placed};
+ghost use Rattle.rv_memory.specs.Bus.{new_bus, with_bytes};
 ghost use Rattle.rv_elf.specs.Rows.{accepted};
 ghost use Rattle.rv_elf.specs.Image.{IsImageOf};
 ghost use Rattle.rv_elf.specs.Loading.{load_address, fits, share, any_share, fills, map_check, opening_memory};
@@ -41,7 +41,7 @@ pub fn check_map(image: &Image, map: &Map, at: LoadAt) -> Result<(), ImageError>
 pub fn load(image: &Image, file: &[u8], at: LoadAt, bus: &mut Bus)
     requires image { IsImageOf file.now image.now }
     requires fits { map_check image.now.segments bus.old.regions at ≡ accepted }
-    requires new { bus.old ≡ opened bus.old.regions bus.old.script bus.old.misaligned }
+    requires new { bus.old ≡ new_bus bus.old.regions bus.old.script bus.old.misaligned }
     ensures { bus.new ≡ record bus.old {
       memory = opening_memory bus.old.regions image.now.segments file.now at;
     } }
@@ -109,7 +109,7 @@ fn place(segment: &Segment, file: &[u8], at: LoadAt, bus: &mut Bus)
     requires fits { IsTrue
         (in_one bus.old.regions (load_address at segment.now) segment.now.filesz) }
     ensures { bus.new
-        ≡ placed bus.old (load_address at segment.now) (file_bytes file.now segment.now) }
+        ≡ with_bytes bus.old (load_address at segment.now) (file_bytes file.now segment.now) }
 {
     if 0 < segment.filesz {
         let start = segment.offset as usize;

@@ -9,7 +9,7 @@ use Rattle.rv_isa.specs.declared.sets.Isa.{Isa}
 use Rattle.rv_isa.specs.declared.sets.Isa.TheVariants as set
 use Rattle.rv_isa.specs.Words.{operands, meaning32, rows}
 use Rattle.rv_isa.specs.Halfwords.{rows16, meaning16, rd, short, immediate_ci, immediate_ciw, immediate_cl}
-use Rattle.rv_isa.specs.Halfwords.{immediate_addi16sp, upper, jump_offset, branch_offset, immediate_lwsp, immediate_css}
+use Rattle.rv_isa.specs.Halfwords.{immediate_addi16sp, upper, immediate_cj, immediate_cb, immediate_lwsp, immediate_css}
 
 pub c_addi4spn : (h : ℕ) → field h 1 0 ≡ 0 → field h 15 13 ≡ 0 → immediate_ciw h ≢ 0
     → meaning16 set.Imc h ≡ Some (operands op.Addi (short h 4 2) 2 0 (pos (immediate_ciw h)))
@@ -43,7 +43,7 @@ unfolding meaning16 rows16
 c_addi h p q = rw (p, q) refl
 
 pub c_jal : (h : ℕ) → field h 1 0 ≡ 1 → field h 15 13 ≡ 1
-    → meaning16 set.Imc h ≡ Some (operands op.Jal 1 0 0 (sign_extended 12 (jump_offset h)))
+    → meaning16 set.Imc h ≡ Some (operands op.Jal 1 0 0 (sign_extended 12 (immediate_cj h)))
 unfolding meaning16 rows16
 c_jal h p q = rw (p, q) refl
 
@@ -113,17 +113,17 @@ unfolding meaning16 rows16
 arithmetic_else h p q r s = rw (p, q, ne_eqb (field h 11 10) 2 r, ne_eqb (field h 12 12) 0 s) (grind arith)
 
 pub c_j : (h : ℕ) → field h 1 0 ≡ 1 → field h 15 13 ≡ 5
-    → meaning16 set.Imc h ≡ Some (operands op.Jal 0 0 0 (sign_extended 12 (jump_offset h)))
+    → meaning16 set.Imc h ≡ Some (operands op.Jal 0 0 0 (sign_extended 12 (immediate_cj h)))
 unfolding meaning16 rows16
 c_j h p q = rw (p, q) refl
 
 pub c_beqz : (h : ℕ) → field h 1 0 ≡ 1 → field h 15 13 ≡ 6
-    → meaning16 set.Imc h ≡ Some (operands op.Beq 0 (short h 9 7) 0 (sign_extended 9 (branch_offset h)))
+    → meaning16 set.Imc h ≡ Some (operands op.Beq 0 (short h 9 7) 0 (sign_extended 9 (immediate_cb h)))
 unfolding meaning16 rows16
 c_beqz h p q = rw (p, q) refl
 
 pub c_bnez : (h : ℕ) → field h 1 0 ≡ 1 → field h 15 13 ≡ 7
-    → meaning16 set.Imc h ≡ Some (operands op.Bne 0 (short h 9 7) 0 (sign_extended 9 (branch_offset h)))
+    → meaning16 set.Imc h ≡ Some (operands op.Bne 0 (short h 9 7) 0 (sign_extended 9 (immediate_cb h)))
 unfolding meaning16 rows16
 c_bnez h p q = rw (p, q) refl
 

@@ -1,10 +1,12 @@
--- Which extensions a set of instructions has. A set is named by its letters (RISC-V Unprivileged ISA 20191213, chapter
--- 27): I is the base, which all have, M multiplication and division, C 16-bit instructions.
+-- Which extensions a set of instructions has. A set is named by its letters (RISC-V Unprivileged
+-- ISA 20191213, chapter 27): I is the base, which all have, M multiplication and division, C 16-bit
+-- instructions.
 use Rattle.std.specs.Prelude.{Bool, true, false}
 use Rattle.rv_isa.specs.declared.sets.Isa.{Isa}
 use Rattle.rv_isa.specs.declared.sets.Isa.TheVariants as set
 
--- the part of the manual that a row belongs to: the base (chapter 2), or an extension (chapters 3, 7 and 16)
+-- the part of the manual that a row belongs to: the base (chapter 2), or an extension (chapters 3,
+-- 7 and 16)
 pub data Extension : Type 0 where
   RV32I : Extension
   Zifencei : Extension

@@ -1,6 +1,6 @@
 //! The instruction of a 32-bit word, by opcode, then by the fields that the opcode leaves open.
 ghost use Rattle.rv_isa.specs.Bits.{field as bits_of};
-ghost use Rattle.rv_isa.specs.Words.{rows, fits, Means32, meaning32, IsWellFormed, named};
+ghost use Rattle.rv_isa.specs.Words.{rows, fits, Means32, meaning32, IsWellFormed, name_at};
 ghost use Rattle.rv_isa.specs.Words.{branches, loads, stores, immediates, shifts, arithmetic_shifts};
 ghost use Rattle.rv_isa.specs.Words.{registers, registers_alternate, fences, instruction_fences, products};
 ghost use Rattle.rv_isa.specs.Extensions.{has, RV32M};
@@ -61,7 +61,7 @@ fn find(word: u32, isa: Isa) -> Option<Instr>
 
 #[inline]
 fn branch(funct3: u32) -> Option<Op>
-    ensures { result ≡ named branches funct3 }
+    ensures { result ≡ name_at branches funct3 }
 {
     match funct3 {
         0 => Some(Op::Beq),
@@ -76,7 +76,7 @@ fn branch(funct3: u32) -> Option<Op>
 
 #[inline]
 fn load(funct3: u32) -> Option<Op>
-    ensures { result ≡ named loads funct3 }
+    ensures { result ≡ name_at loads funct3 }
 {
     match funct3 {
         0 => Some(Op::Lb),
@@ -90,7 +90,7 @@ fn load(funct3: u32) -> Option<Op>
 
 #[inline]
 fn store(funct3: u32) -> Option<Op>
-    ensures { result ≡ named stores funct3 }
+    ensures { result ≡ name_at stores funct3 }
 {
     match funct3 {
         0 => Some(Op::Sb),
@@ -102,7 +102,7 @@ fn store(funct3: u32) -> Option<Op>
 
 #[inline]
 fn immediate(funct3: u32) -> Option<Op>
-    ensures { result ≡ named immediates funct3 }
+    ensures { result ≡ name_at immediates funct3 }
 {
     match funct3 {
         0 => Some(Op::Addi),
@@ -117,8 +117,8 @@ fn immediate(funct3: u32) -> Option<Op>
 
 #[inline]
 fn shift(funct7: u32, funct3: u32) -> Option<Op>
-    ensures { result ≡ (if funct7 == 0 then named shifts funct3
-        else if funct7 == 0x20 then named arithmetic_shifts funct3
+    ensures { result ≡ (if funct7 == 0 then name_at shifts funct3
+        else if funct7 == 0x20 then name_at arithmetic_shifts funct3
         else None) }
 {
     match (funct7, funct3) {
@@ -131,9 +131,9 @@ fn shift(funct7: u32, funct3: u32) -> Option<Op>
 
 #[inline]
 fn register(funct7: u32, funct3: u32, isa: Isa) -> Option<Op>
-    ensures { result ≡ (if funct7 == 0 then named registers funct3
-        else if funct7 == 0x20 then named registers_alternate funct3
-        else if (funct7 == 1) && has isa RV32M then named products funct3
+    ensures { result ≡ (if funct7 == 0 then name_at registers funct3
+        else if funct7 == 0x20 then name_at registers_alternate funct3
+        else if (funct7 == 1) && has isa RV32M then name_at products funct3
         else None) }
 {
     match funct7 {
@@ -146,7 +146,7 @@ fn register(funct7: u32, funct3: u32, isa: Isa) -> Option<Op>
 
 #[inline]
 fn register_plain(funct3: u32) -> Option<Op>
-    ensures { result ≡ named registers funct3 }
+    ensures { result ≡ name_at registers funct3 }
 {
     match funct3 {
         0 => Some(Op::Add),
@@ -163,7 +163,7 @@ fn register_plain(funct3: u32) -> Option<Op>
 
 #[inline]
 fn register_alternate(funct3: u32) -> Option<Op>
-    ensures { result ≡ named registers_alternate funct3 }
+    ensures { result ≡ name_at registers_alternate funct3 }
 {
     match funct3 {
         0 => Some(Op::Sub),
@@ -174,7 +174,7 @@ fn register_alternate(funct3: u32) -> Option<Op>
 
 #[inline]
 fn product(funct3: u32) -> Option<Op>
-    ensures { result ≡ named products funct3 }
+    ensures { result ≡ name_at products funct3 }
 {
     match funct3 {
         0 => Some(Op::Mul),
@@ -191,7 +191,7 @@ fn product(funct3: u32) -> Option<Op>
 
 #[inline]
 fn fence(funct3: u32) -> Option<Op>
-    ensures { result ≡ named (fences ++ instruction_fences) funct3 }
+    ensures { result ≡ name_at (fences ++ instruction_fences) funct3 }
 {
     match funct3 {
         0 => Some(Op::Fence),

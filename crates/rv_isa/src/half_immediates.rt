@@ -50,7 +50,7 @@ pub fn imm_addi16sp(half: u32) -> u32
 /// C.J and C.JAL.
 #[inline]
 pub fn imm_cj(half: u32) -> u32
-    ensures value { result ≡ row.jump_offset half }
+    ensures value { result ≡ row.immediate_cj half }
     ensures below { result < 4096 }
     ensures even { result % 2 ≡ 0 }
 {
@@ -64,7 +64,7 @@ pub fn imm_cj(half: u32) -> u32
 /// C.BEQZ and C.BNEZ.
 #[inline]
 pub fn imm_cb(half: u32) -> u32
-    ensures value { result ≡ row.branch_offset half }
+    ensures value { result ≡ row.immediate_cb half }
     ensures below { result < 512 }
     ensures even { result % 2 ≡ 0 }
 {

@@ -10,8 +10,8 @@ use Rattle.rv_isa.specs.declared.sets.Isa.{Isa}
 use Rattle.rv_isa.specs.declared.sets.Isa.TheVariants as isa
 use Rattle.rv_memory.specs.declared.map.MapError.{MapError}
 use Rattle.rv_memory.specs.declared.map.Region.{Region}
-use Rattle.rv_memory.specs.declared.bus.Misaligned.{Misaligned as Choice}
-use Rattle.rv_memory.specs.declared.bus.Misaligned.TheVariants.{Fault, Allow}
+use Rattle.rv_memory.specs.declared.access.Misaligned.{Misaligned as Choice}
+use Rattle.rv_memory.specs.declared.access.Misaligned.TheVariants.{Fault, Allow}
 use Rattle.rv_memory.specs.Maps.{map_error}
 use Rattle.rv_elf.specs.declared.loading.LoadAt.{LoadAt}
 use Rattle.rv_elf.specs.declared.loading.LoadAt.TheVariants.{Physical, Virtual}

@@ -2,7 +2,7 @@
 use Rattle.std.specs.Prelude.{ℕ, ◌<◌, ◌≤◌, List, [], ◌∷◌, length, slice_index_or, IfSome, None, true, codes}
 use Rattle.rv_isa.specs.declared.sets.Isa.TheVariants.{Imc}
 use Rattle.rv_memory.specs.declared.map.Region.{Region}
-use Rattle.rv_memory.specs.declared.bus.Misaligned.TheVariants.{Fault}
+use Rattle.rv_memory.specs.declared.access.Misaligned.TheVariants.{Fault}
 use Rattle.rv_elf.specs.declared.loading.LoadAt.TheVariants.{Physical}
 use Rattle.rv_jobs.specs.declared.job.Job.{Job}
 

@@ -14,6 +14,7 @@ mod fetch;
 mod hart;
 mod kept;
 mod last_instruction;
+mod limits;
 mod machine;
 
 pub use ending::{Ending, FaultKind, Outcome};

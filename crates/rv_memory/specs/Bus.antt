@@ -1,22 +1,22 @@
--- What stands in a bus, and what each access gives and leaves.
--- Memory is little-endian (RISC-V Unprivileged ISA 20191213, sections 1.4 and 2.6); the fences' part is that of its
--- chapter 3, "Zifencei".
-use Rattle.std.specs.Prelude.{◌≡◌, ℕ, ◌+◌, ◌*◌, ◌/◌, ◌%◌, Bool, true, false, ◌&&◌, ◌||◌, ◌==◌, nat_lt, not}
-use Rattle.std.specs.Prelude.{if◌then◌else◌, List, [], ◌∷◌, ◌++◌, length, drop, unwrap_or, Option, Some, None, Result}
-use Rattle.std.specs.Prelude.{Ok, Err, is_ok, refl}
+-- What stands in a bus, and what each access gives and leaves. Memory is little-endian (RISC-V
+-- Unprivileged ISA 20191213, sections 1.4 and 2.6); the fences' part is that of its chapter 3,
+-- "Zifencei".
+use Rattle.std.specs.Prelude.{ℕ, ◌+◌, ◌*◌, ◌/◌, ◌%◌, Bool, false, ◌&&◌, ◌||◌, ◌==◌, nat_lt, not}
+use Rattle.std.specs.Prelude.{if◌then◌else◌, List, [], ◌∷◌, ◌++◌, length, drop, unwrap_or, Option}
+use Rattle.std.specs.Prelude.{Some, None, Result, Ok, Err, is_ok}
 use Rattle.std.specs.Ordering.{nat_cmp}
 use Rattle.std.specs.FinMap as fin
 use Rattle.std.specs.FinSet as set
-use Rattle.std.specs.Coded.{Coded, code_by, coded_ℕ, coded_bool, coded_list, coded×}
 use Rattle.rv_memory.specs.declared.map.Region.{Region}
-use Rattle.rv_memory.specs.declared.bus.Width.{Width}
-use Rattle.rv_memory.specs.declared.bus.Width.TheVariants.{Byte, Half, Word}
-use Rattle.rv_memory.specs.declared.bus.BusFault.{BusFault}
-use Rattle.rv_memory.specs.declared.bus.BusFault.TheVariants.{Misaligned, Access, ConsoleFull}
-use Rattle.rv_memory.specs.declared.bus.Misaligned.{Misaligned as Choice}
-use Rattle.rv_memory.specs.declared.bus.Misaligned.TheVariants.{Fault, Allow}
-use Rattle.rv_memory.specs.declared.bus.FetchFault.{FetchFault}
-use Rattle.rv_memory.specs.declared.bus.FetchFault.TheVariants.{Unmapped, Stale}
+use Rattle.rv_memory.specs.declared.access.Width.{Width}
+use Rattle.rv_memory.specs.declared.access.Width.TheVariants.{Byte, Half, Word}
+use Rattle.rv_memory.specs.declared.faults.BusFault.{BusFault}
+use Rattle.rv_memory.specs.declared.faults.BusFault.TheVariants.{Misaligned, Access, ConsoleFull}
+use Rattle.rv_memory.specs.declared.access.Misaligned.{Misaligned as Choice}
+use Rattle.rv_memory.specs.declared.access.Misaligned.TheVariants.{Fault, Allow}
+use Rattle.rv_memory.specs.declared.faults.FetchFault.{FetchFault}
+use Rattle.rv_memory.specs.declared.faults.FetchFault.TheVariants.{Unmapped, Stale}
+use Rattle.rv_memory.specs.declared.limits.TheConstants.{CONSOLE_ROOM}
 use Rattle.rv_memory.specs.Regions.{in_one, in_writable, addresses, tabulate}
 
 -- what callers see of a bus
@@ -33,47 +33,8 @@ pub record Contents : Type 0 where
   -- what becomes of misaligned accesses, which never changes
   pub misaligned : Choice
 
--- a region as nested pairs
-abbrev pub region_code : Coded Region
-region_code =
-    code_by (ℕ × (ℕ × Bool)) (coded× coded_ℕ (coded× coded_ℕ coded_bool)) (λ r. (r.base, (r.size, r.writable)))
-    (λ p. record { base = p.0; size = p.1.0; writable = p.1.1 }) (λ _. refl)
-
--- a choice as a truth value
-abbrev pub allows : Choice → Bool
-allows Fault = false
-allows Allow = true
-
-abbrev pub choice_of : Bool → Choice
-choice_of false = Fault
-choice_of true = Allow
-
-abbrev pub choice_again : (m : Choice) → choice_of (allows m) ≡ m
-choice_again Fault = refl
-choice_again Allow = refl
-
-abbrev pub choice_code : Coded Choice
-choice_code = code_by Bool coded_bool allows choice_of choice_again
-
--- contents as nested pairs, so that they may be the value of a struct
-abbrev pub contents_code : Coded Contents
-contents_code =
-    code_by (List Region × (fin.FinMap nat_cmp ℕ × (set.FinSet nat_cmp × (List ℕ × (List ℕ × Choice)))))
-    (coded× (coded_list region_code)
-    (coded× (fin.code coded_ℕ coded_ℕ)
-    (coded× (set.code coded_ℕ) (coded× (coded_list coded_ℕ) (coded× (coded_list coded_ℕ) choice_code)))))
-    (λ c. (c.regions, (c.memory, (c.stored, (c.script, (c.output, c.misaligned))))))
-    (λ p. record {
-      regions = p.0;
-      memory = p.1.0;
-      stored = p.1.1.0;
-      script = p.1.1.1.0;
-      output = p.1.1.1.1.0;
-      misaligned = p.1.1.1.1.1;
-    })
-    (λ _. refl)
-
--- the byte at an address of the regions
+-- The byte at an address of the regions. Memory has one at each of them, and no access reads
+-- another address: the 0 is never read.
 abbrev pub byte_at : fin.FinMap nat_cmp ℕ → ℕ → ℕ
 byte_at m a = unwrap_or (fin.get m a) 0
 
@@ -83,7 +44,9 @@ half_at m a = byte_at m a + 0x100 * byte_at m (a + 1)
 
 -- the little-endian word of four
 abbrev pub word_at : fin.FinMap nat_cmp ℕ → ℕ → ℕ
-word_at m a = byte_at m a + 0x100 * byte_at m (a + 1) + 0x1_0000 * byte_at m (a + 2) + 0x100_0000 * byte_at m (a + 3)
+word_at m a =
+    byte_at m a + 0x100 * byte_at m (a + 1) + 0x1_0000 * byte_at m (a + 2)
+    + 0x100_0000 * byte_at m (a + 3)
 
 -- the number of bytes of an access
 abbrev pub size_of : Width → ℕ
@@ -97,12 +60,13 @@ value_at m a Byte = byte_at m a
 value_at m a Half = half_at m a
 value_at m a Word = word_at m a
 
--- the choice refuses an access for its address: Fault does where it is no multiple of the number of bytes, Allow never
+-- Whether the choice refuses an access for its address: `Fault` does where that is no multiple of
+-- the number of bytes, `Allow` never.
 abbrev pub refuses : Choice → ℕ → Width → Bool
 refuses Fault a w = not (a % size_of w == 0)
 refuses Allow a w = false
 
--- one of the n bytes from the address on is one of the console's 16
+-- one of the n bytes from the address on is one of the console's 16, 0x1000_0000 to 0x1000_000f
 abbrev pub touches_console : ℕ → ℕ → Bool
 touches_console a n = nat_lt 0x1000_0000 (a + n) && nat_lt a 0x1000_0010
 
@@ -111,8 +75,8 @@ abbrev pub next_of : List ℕ → ℕ
 next_of [] = 0xffff_ffff
 next_of (b ∷ bs) = b
 
--- a load from the console: a word at its first address takes a byte of the script, the word after it counts what is
--- left
+-- A load from the console: a word at its first address takes a byte of the script, and the word
+-- after it counts the bytes that are left. Every other one is refused.
 abbrev pub console_load : Contents → ℕ → Width → Result (ℕ × Contents) BusFault
 console_load c a Byte = Err Access
 console_load c a Half = Err Access
@@ -120,8 +84,8 @@ console_load c a Word =
     if a == 0x1000_0000 then Ok (next_of c.script, record c { script = drop 1 c.script })
     else (if a == 0x1000_0004 then Ok (length c.script, c) else Err Access)
 
--- a load gives an unsigned value: misaligned ones are refused first, unless they are allowed, then those that neither
--- touch the console nor lie in one region
+-- A load gives an unsigned value and what it leaves of the bus. Misaligned ones are refused first,
+-- unless they are allowed; then those that neither touch the console nor lie in one region.
 abbrev pub load_from : Contents → ℕ → Width → Result (ℕ × Contents) BusFault
 load_from c a w =
     if refuses c.misaligned a w then Err Misaligned
@@ -137,20 +101,22 @@ abbrev pub put : Contents → ℕ → Width → ℕ → Contents
 put c a Byte v = put_byte c a (v % 0x100)
 put c a Half v = put_byte (put_byte c a (v % 0x100)) (a + 1) (v / 0x100 % 0x100)
 put c a Word v =
-    put_byte (put_byte (put_byte (put_byte c a (v % 0x100)) (a + 1) (v / 0x100 % 0x100)) (a + 2) (v / 0x1_0000 % 0x100))
-    (a + 3) (v / 0x100_0000 % 0x100)
+    put_byte (put_byte (put_byte (put_byte c a (v % 0x100)) (a + 1) (v / 0x100 % 0x100))
+    (a + 2) (v / 0x1_0000 % 0x100)) (a + 3) (v / 0x100_0000 % 0x100)
 
--- a store to the console: a word at its first address appends its low byte, up to 65,536 bytes in all
+-- A store to the console: a word at its first address appends its low byte, until the output is
+-- full. Every other one is refused.
 abbrev pub console_store : Contents → ℕ → Width → ℕ → Result Contents BusFault
 console_store c a Byte v = Err Access
 console_store c a Half v = Err Access
 console_store c a Word v =
     if not (a == 0x1000_0000) then Err Access
-    else (if nat_lt (length c.output) 0x1_0000 then Ok (record c { output = c.output ++ (v % 0x100) ∷ [] })
+    else (if nat_lt (length c.output) CONSOLE_ROOM
+    then Ok (record c { output = c.output ++ (v % 0x100) ∷ [] })
     else Err ConsoleFull)
 
--- a store: misaligned ones are refused first, unless they are allowed, then those that neither touch the console nor
--- lie in one writable region
+-- A store gives what it leaves of the bus. Misaligned ones are refused first, unless they are
+-- allowed; then those that neither touch the console nor lie in one region that may be written.
 abbrev pub store_to : Contents → ℕ → Width → ℕ → Result Contents BusFault
 store_to c a w v =
     if refuses c.misaligned a w then Err Misaligned
@@ -161,7 +127,7 @@ store_to c a w v =
 abbrev pub is_stale : Contents → ℕ → Bool
 is_stale c a = set.contains c.stored a || set.contains c.stored (a + 1)
 
--- a fetch of the halfword of the two bytes
+-- a fetch of the halfword of the two bytes, which lie in one region and were not stored
 abbrev pub fetch_half_from : Contents → ℕ → Result ℕ FetchFault
 fetch_half_from c a =
     if not (in_one c.regions a 2) then Err Unmapped
@@ -170,19 +136,21 @@ fetch_half_from c a =
 -- a fetch of the word of the four bytes, where they lie in one region and none was stored
 abbrev pub fetch_word_from : Contents → ℕ → Option ℕ
 fetch_word_from c a =
-    if in_one c.regions a 4 && not (is_stale c a || is_stale c (a + 2)) then Some (word_at c.memory a) else None
+    if in_one c.regions a 4 && not (is_stale c a || is_stale c (a + 2))
+    then Some (word_at c.memory a)
+    else None
 
 -- a fetch of the halfword would give one
 abbrev pub is_clean_half : Contents → ℕ → Bool
 is_clean_half c a = is_ok (fetch_half_from c a)
 
--- a fetch of each halfword of n bytes (2 or 4) would give one, each by itself
+-- a fetch of each halfword of the n bytes (2 or 4) from an address on would give one
 unfoldable pub clean_from : Contents → ℕ → ℕ → Bool
 clean_from c a n = is_clean_half c a && (not (n == 4) || is_clean_half c ((a + 2) % 0x1_0000_0000))
 
 -- FENCE.I: nothing counts as stored
-abbrev pub synced : Contents → Contents
-synced c = record c { stored = set.empty }
+abbrev pub without_stored : Contents → Contents
+without_stored c = record c { stored = set.empty }
 
 -- the memory with bytes put one after another, from an address on
 abbrev pub bytes_put : fin.FinMap nat_cmp ℕ → ℕ → List ℕ → fin.FinMap nat_cmp ℕ
@@ -190,12 +158,12 @@ bytes_put m a [] = m
 bytes_put m a (b ∷ bs) = bytes_put (fin.insert m a b) (a + 1) bs
 
 -- bytes placed from an address on, as an image's are: none of them counts as stored
-abbrev pub placed : Contents → ℕ → List ℕ → Contents
-placed c a bytes = record c { memory = bytes_put c.memory a bytes }
+abbrev pub with_bytes : Contents → ℕ → List ℕ → Contents
+with_bytes c a bytes = record c { memory = bytes_put c.memory a bytes }
 
 -- a new bus: zero memory, and nothing stored
-unfoldable pub opened : List Region → List ℕ → Choice → Contents
-opened regions script misaligned = record {
+unfoldable pub new_bus : List Region → List ℕ → Choice → Contents
+new_bus regions script misaligned = record {
   regions = regions;
   memory = tabulate (addresses regions) (λ _. 0);
   stored = set.empty;

@@ -4,51 +4,13 @@ ghost use Rattle.std.specs.Prelude.{None, length};
 ghost use Rattle.rv_memory.specs.Regions.{in_one};
 ghost use Rattle.rv_memory.specs.Maps.{map_error};
 ghost use Rattle.rv_memory.specs.Bus.{size_of, load_from, store_to, fetch_half_from, fetch_word_from, clean_from};
-ghost use Rattle.rv_memory.specs.Bus.{synced, placed};
+ghost use Rattle.rv_memory.specs.Bus.{without_stored, with_bytes};
 
-use crate::access::{read, read_word, write};
+use crate::access::{Misaligned, Width, read, read_word, write};
+use crate::faults::{BusFault, FetchFault};
 use crate::map::Map;
 use crate::marks::{has_mark, mark};
 use std::marker::Model;
-
-/// How many bytes an access has: one, two or four.
-#[derive(Clone, Copy, Debug, PartialEq, Eq)]
-pub enum Width {
-    Byte,
-    Half,
-    Word,
-}
-
-/// Why a load or a store is refused; of two reasons the one that stands first here.
-#[derive(Clone, Copy, Debug, PartialEq, Eq)]
-pub enum BusFault {
-    /// The address is no multiple of the width, and misaligned accesses are refused.
-    Misaligned,
-    /// The bytes do not lie in one region, or for a store not in a writable one; or some are the console's, which has
-    /// no such access.
-    Access,
-    /// The console's output has its 65,536 bytes.
-    ConsoleFull,
-}
-
-/// What becomes of a load or store of more than one byte whose address is no multiple of its width. A hart may do
-/// either (RISC-V Unprivileged ISA 20191213, section 2.6).
-#[derive(Clone, Copy, Debug, PartialEq, Eq)]
-pub enum Misaligned {
-    /// It is refused.
-    Fault,
-    /// It reads or writes its bytes where they lie in one region.
-    Allow,
-}
-
-/// Why a fetch of a halfword is refused; of two reasons the one that stands first here.
-#[derive(Clone, Copy, Debug, PartialEq, Eq)]
-pub enum FetchFault {
-    /// The two bytes lie in no region.
-    Unmapped,
-    /// One of them was stored since the last FENCE.I.
-    Stale,
-}
 
 /// The memory of a map with its marks of stored bytes, and the console.
 ///
@@ -72,7 +34,8 @@ pub struct Bus {
 }
 
 impl Model for Bus {
-    ghost use Rattle.rv_memory.specs.Bus.{Contents, contents_code};
+    ghost use Rattle.rv_memory.specs.Bus.{Contents};
+    ghost use Rattle.rv_memory.specs.Inside.Codes.{contents_code};
 
     ghost Value = { Contents };
 
@@ -89,7 +52,7 @@ impl Bus {
     /// Places bytes from an address on, as an image's are: in read-only regions too, and none counts as stored.
     pub fn place(&mut self, addr: u32, bytes: &[u8])
         requires { IsTrue (in_one self.old.regions addr (length bytes.now)) }
-        ensures { self.new ≡ placed self.old addr bytes.now }
+        ensures { self.new ≡ with_bytes self.old addr bytes.now }
     {
         if bytes.is_empty() {
             return;
@@ -179,7 +142,7 @@ impl Bus {
 
     /// What FENCE.I does to memory: nothing counts as stored.
     pub fn sync_code(&mut self)
-        ensures { self.new ≡ synced self.old }
+        ensures { self.new ≡ without_stored self.old }
     {
         if self.generation < u8::MAX {
             self.generation += 1;

@@ -2,16 +2,16 @@
 ghost use Rattle.std.specs.Prelude.{◌≡◌, ◌*◌, ◌^◌, ◌<◌, IfOk, MatchResult, Ok, drop};
 ghost use Rattle.rv_memory.specs.Bus.{size_of, console_load, console_store, next_of};
 
-use crate::bus::{Bus, BusFault, Width};
+use crate::access::Width;
+use crate::bus::Bus;
+use crate::faults::BusFault;
+use crate::limits::CONSOLE_ROOM;
 
 // Where a word load takes a byte of the script, and a word store appends one to the output.
 const CONSOLE_BYTE: u32 = 0x1000_0000;
 
 // Where a word load counts what is left of the script.
 const SCRIPT_LEFT: u32 = 0x1000_0004;
-
-/// The most bytes that the console's output has.
-pub(crate) const CONSOLE_ROOM: usize = 0x1_0000;
 
 impl Bus {
     /// The output so far.

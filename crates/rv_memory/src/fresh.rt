@@ -1,9 +1,10 @@
 //! Buses as they begin: in new memory, or in that of a bus which is done with.
 ghost use Rattle.std.specs.Prelude.{◌≡◌, ◌≤◌, IfOk, vec_len};
-ghost use Rattle.rv_memory.specs.Bus.{opened};
+ghost use Rattle.rv_memory.specs.Bus.{new_bus};
 
-use crate::bus::{Bus, Misaligned};
-use crate::console::CONSOLE_ROOM;
+use crate::access::Misaligned;
+use crate::bus::Bus;
+use crate::limits::CONSOLE_ROOM;
 use crate::map::Map;
 use crate::marks::unmarked;
 use std::alloc::{AllocError, Global};
@@ -18,7 +19,7 @@ impl Bus {
         misaligned: Misaligned,
     ) -> Result<Bus, AllocError>
         requires { vec_len script ≤ 0x1_0000 }
-        ensures { IfOk result (λ b. b ≡ opened map script.items misaligned) }
+        ensures { IfOk result (λ b. b ≡ new_bus map script.items misaligned) }
     {
         let total = map.total();
         let bytes = vec![in alloc; 0u8; total]?;
@@ -46,7 +47,7 @@ impl Bus {
         misaligned: Misaligned,
     ) -> Result<Bus, AllocError>
         requires { vec_len script ≤ 0x1_0000 }
-        ensures { IfOk result (λ bus. bus ≡ opened map script.items misaligned) }
+        ensures { IfOk result (λ bus. bus ≡ new_bus map script.items misaligned) }
     {
         if self.bytes.len() != map.total() {
             drop(self);

@@ -3,8 +3,7 @@ ghost use Rattle.std.specs.Prelude.{◌≡◌, ◌+◌, ◌<◌, ◌≤◌, ℕ,
 ghost use Rattle.rv_memory.specs.Bus.{size_of};
 ghost use Rattle.rv_memory.specs.Inside.View.{marked_at, any_marked};
 
-use crate::access::read_word;
-use crate::bus::Width;
+use crate::access::{Width, read_word};
 
 /// Marks the bytes at a place as stored in a generation.
 #[inline]

@@ -2,7 +2,7 @@
 ghost use Rattle.std.specs.Prelude.{◌≡◌, ◌↔◌, ◌-◌, ◌%◌, ◌<◌, ◌≤◌, IfOk, IsTrue};
 ghost use Rattle.rv_memory.specs.Regions.{in_one};
 ghost use Rattle.rv_memory.specs.Bus.{word_at};
-ghost use Rattle.rv_memory.specs.Words.{words_of};
+ghost use Rattle.rv_memory.specs.SignatureWords.{words_of};
 
 use crate::access::read_word;
 use crate::bus::Bus;

@@ -6,13 +6,13 @@ use Rattle.std.specs.Cmp.{nat_cmp_total, unsigned_tied}
 use Rattle.std.specs.FinMap as fin
 use Rattle.std.specs.Ordering.{nat_cmp}
 use Rattle.rv_memory.proofs.Public.{among, get-tabulate}
-use Rattle.rv_memory.specs.declared.bus.Misaligned.TheVariants.{Fault}
-use Rattle.rv_memory.specs.Bus.{Contents, byte_at, bytes_put, opened}
+use Rattle.rv_memory.specs.declared.access.Misaligned.TheVariants.{Fault}
+use Rattle.rv_memory.specs.Bus.{Contents, byte_at, bytes_put, new_bus}
 use Rattle.rv_memory.specs.Regions.{addresses, in_one}
 use Rattle.rv_rows.specs.Flat.{default_regions, flat_byte, flat_contents, image_room}
 
-same_regions : (bus : Contents) → bus ≡ opened default_regions [] Fault → bus.regions ≡ default_regions
-unfolding opened
+same_regions : (bus : Contents) → bus ≡ new_bus default_regions [] Fault → bus.regions ≡ default_regions
+unfolding new_bus
 same_regions bus is = rw is refl
 
 fits : (count : ℕ) → count ≤ image_room → IsTrue (in_one default_regions 0x8000_0000 count)
@@ -25,7 +25,7 @@ fits count within =
     go false = refl
 
 -- an image that is no longer than the region fits it
-pub image_fits : (bus : Contents) (bytes : List ℕ) → bus ≡ opened default_regions [] Fault → length bytes ≤ image_room → IsTrue (in_one bus.regions 0x8000_0000 (length bytes))
+pub image_fits : (bus : Contents) (bytes : List ℕ) → bus ≡ new_bus default_regions [] Fault → length bytes ≤ image_room → IsTrue (in_one bus.regions 0x8000_0000 (length bytes))
 image_fits bus bytes is within = rw (same_regions bus is) (fits (length bytes) within)
 
 inserted : (memory : fin.FinMap nat_cmp ℕ) (at byte q : ℕ) → byte_at (fin.insert memory at byte) q ≡ cond (eqb q at) byte (byte_at memory q)
@@ -54,8 +54,8 @@ put_byte_at memory from (byte ∷ bytes) q = put_byte_at (fin.insert memory from
         let next : q - from ≡ suc (q - (from + 1)) = omega arith in
         rw (past, inserted memory from byte q, ne_eqb q from (λ same. absurd (omega arith)), reached, next) refl
 
-zero_byte : (q : ℕ) → byte_at (opened default_regions [] Fault).memory q ≡ 0
-unfolding opened
+zero_byte : (q : ℕ) → byte_at (new_bus default_regions [] Fault).memory q ≡ 0
+unfolding new_bus
 zero_byte q =
     ap (λ found. unwrap_or found 0) (get-tabulate (addresses default_regions) (λ _. 0) q)
     ∙ elim (among q (addresses default_regions)) as (λ there. ◌≡◌ {A = ℕ} (unwrap_or (cond there (Some 0) None) 0) 0) [ true ↦ refl | false ↦ refl ]
@@ -63,5 +63,5 @@ zero_byte q =
 -- the memory of a placed image, byte for byte
 pub flat_memory : (bytes : List ℕ) (address : ℕ) → byte_at (flat_contents bytes).memory address ≡ flat_byte bytes address
 flat_memory bytes address =
-    put_byte_at (opened default_regions [] Fault).memory 0x8000_0000 bytes address
+    put_byte_at (new_bus default_regions [] Fault).memory 0x8000_0000 bytes address
     ∙ ap (λ before. cond (leb 0x8000_0000 address) (get_or bytes (address - 0x8000_0000) before) before) (zero_byte address)

@@ -10,8 +10,8 @@ use Rattle.rv_elf.specs.Symbols.{signature_check, symbol_of}
 use Rattle.rv_jobs.specs.declared.job.Job.{Job}
 use Rattle.rv_jobs.specs.declared.job.Symbols.{Symbols}
 use Rattle.rv_memory.specs.declared.map.Region.{Region}
-use Rattle.rv_memory.specs.declared.bus.Misaligned.{Misaligned as Choice}
-use Rattle.rv_memory.specs.Bus.{Contents, opened}
+use Rattle.rv_memory.specs.declared.access.Misaligned.{Misaligned as Choice}
+use Rattle.rv_memory.specs.Bus.{Contents, new_bus}
 use Rattle.rv_machine.specs.State.{State, at_reset, is_misaligned}
 use Rattle.rv_rows.specs.declared.outcome.Loadable.{Loadable}
 use Rattle.rv_rows.specs.declared.outcome.SignatureRange.{SignatureRange}
@@ -59,16 +59,16 @@ loadable_parts job file there e =
     rw (← is) (record { image = image.1.0; fits = unit.1.0; range = ranged_if_asked file job.regions job.signature range.0 range.1.0 })
 
 -- a new bus
-pub new_bus : (bus : Contents) (regions : List Region) (script : List ℕ) (misaligned : Choice) → bus ≡ opened regions script misaligned
-    → (bus.regions ≡ regions) × (bus ≡ opened bus.regions bus.script bus.misaligned)
-unfolding opened
-new_bus bus regions script misaligned is = rw is (refl, refl)
+pub new_bus_parts : (bus : Contents) (regions : List Region) (script : List ℕ) (misaligned : Choice) → bus ≡ new_bus regions script misaligned
+    → (bus.regions ≡ regions) × (bus ≡ new_bus bus.regions bus.script bus.misaligned)
+unfolding new_bus
+new_bus_parts bus regions script misaligned is = rw is (refl, refl)
 
 -- what stands in the machine once the image is loaded
-pub loaded_is : (before after : Contents) (job : Job) (file : List ℕ) (image : Image) (script : List ℕ) → before ≡ opened job.regions script job.misaligned
+pub loaded_is : (before after : Contents) (job : Job) (file : List ℕ) (image : Image) (script : List ℕ) → before ≡ new_bus job.regions script job.misaligned
     → script ≡ job.script → after ≡ record before { memory = opening_memory before.regions image.segments file job.load }
     → at_reset after image.entry job.isa ≡ loaded_state job file image
-unfolding opened
+unfolding new_bus
 loaded_is before after job file image script is same loaded = rw (loaded, is, same) refl
 
 -- an entry that an instruction of the set may have
@@ -82,7 +82,7 @@ aligned isa entry h = go (has isa RV32C) refl
 -- in a loaded machine the range is checked against its own regions
 pub range_there : (job : Job) (file : List ℕ) (there : Loadable) (state : State) → loadable_of job file ≡ Ok there → state ≡ loaded_state job file there.image
     → IfSome there.range (λ range. signature_check range.begin range.end state.bus.regions ≡ accepted)
-unfolding opened
+unfolding new_bus
 range_there job file there state e is =
     let P : List Region → Type 0 = λ regions. IfSome there.range (λ range. signature_check range.begin range.end regions ≡ accepted) in
     subst P (sym (ap (λ (s : State). s.bus.regions) is)) (loadable_parts job file there e).range

@@ -2,8 +2,8 @@
 use Rattle.std.specs.Prelude.{ℕ, ◌-◌, true, List, [], ◌∷◌, length, get_or, leb, codes, None, nat_lt, if◌then◌else◌}
 use Rattle.rv_isa.specs.declared.sets.Isa.TheVariants.{Imc}
 use Rattle.rv_memory.specs.declared.map.Region.{Region}
-use Rattle.rv_memory.specs.declared.bus.Misaligned.TheVariants.{Fault}
-use Rattle.rv_memory.specs.Bus.{Contents, opened, placed}
+use Rattle.rv_memory.specs.declared.access.Misaligned.TheVariants.{Fault}
+use Rattle.rv_memory.specs.Bus.{Contents, new_bus, with_bytes}
 use Rattle.rv_machine.specs.Run.{run_of}
 use Rattle.rv_machine.specs.State.{State, at_reset}
 use Rattle.rv_rows.specs.declared.row.Refusal.TheVariants as refusal
@@ -23,7 +23,7 @@ image_room = 0x10_0000
 
 -- the bytes placed from 0x8000_0000 on, in zero memory; the script is empty, and misaligned accesses are refused
 abbrev pub flat_contents : List ℕ → Contents
-flat_contents bytes = placed (opened default_regions [] Fault) 0x8000_0000 bytes
+flat_contents bytes = with_bytes (new_bus default_regions [] Fault) 0x8000_0000 bytes
 
 -- byte k of the image stands at 0x8000_0000 + k, and every other byte of memory is 0
 abbrev pub flat_byte : List ℕ → ℕ → ℕ

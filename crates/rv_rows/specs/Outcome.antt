@@ -11,8 +11,8 @@ use Rattle.rv_jobs.specs.declared.job.Symbols.{Symbols}
 use Rattle.rv_jobs.specs.declared.store.Kept.{Kept}
 use Rattle.rv_jobs.specs.declared.store.Kept.TheVariants as kept
 use Rattle.rv_memory.specs.declared.map.Region.{Region}
-use Rattle.rv_memory.specs.Bus.{Contents, opened}
-use Rattle.rv_memory.specs.Words.{words_of}
+use Rattle.rv_memory.specs.Bus.{Contents, new_bus}
+use Rattle.rv_memory.specs.SignatureWords.{words_of}
 use Rattle.rv_machine.specs.declared.ending.Ending.{Ending}
 use Rattle.rv_machine.specs.declared.ending.Ending.TheVariants as machine
 use Rattle.rv_machine.specs.Run.{Ran, run_of}
@@ -91,7 +91,7 @@ loadable_of job file = do
 -- the image in memory, nothing stored, and the script
 abbrev pub loaded_contents : Job → List ℕ → Image → Contents
 loaded_contents job file image =
-    record (opened job.regions job.script job.misaligned) { memory = opening_memory job.regions image.segments file job.load }
+    record (new_bus job.regions job.script job.misaligned) { memory = opening_memory job.regions image.segments file job.load }
 
 -- the hart at reset, its pc at the image's entry
 abbrev pub loaded_state : Job → List ℕ → Image → State

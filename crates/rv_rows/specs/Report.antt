@@ -6,8 +6,7 @@ use Rattle.std.specs.Fmt.{decimal}
 use Rattle.hex.specs.Hex.{encode_lower}
 use Rattle.rv_elf.specs.declared.error.ImageError.{ImageError}
 use Rattle.rv_elf.specs.declared.error.ImageError.TheVariants as image
-use Rattle.rv_machine.specs.declared.ending.FaultKind.{FaultKind}
-use Rattle.rv_machine.specs.declared.ending.FaultKind.TheVariants as fault
+use Rattle.rv_machine.specs.Faults.{fault_name}
 use Rattle.rv_rows.specs.declared.row.Refusal.{Refusal}
 use Rattle.rv_rows.specs.declared.row.Refusal.TheVariants as refusal
 use Rattle.rv_rows.specs.declared.row.Row.{Row}
@@ -23,19 +22,6 @@ line text = text ++ 10 ∷ []
 -- a word as eight lower-case hexadecimal digits, the high ones first
 unfoldable pub word_digits : ℕ → List ℕ
 word_digits word = encode_lower (to_be_bytes w32 word)
-
-abbrev pub fault_name : FaultKind → List ℕ
-fault_name fault.FetchAccess = codes "fetch-access"
-fault_name fault.StaleCode = codes "stale-code"
-fault_name fault.Illegal = codes "illegal"
-fault_name fault.Breakpoint = codes "breakpoint"
-fault_name fault.LoadMisaligned = codes "load-misaligned"
-fault_name fault.LoadAccess = codes "load-access"
-fault_name fault.StoreMisaligned = codes "store-misaligned"
-fault_name fault.StoreAccess = codes "store-access"
-fault_name fault.ConsoleFull = codes "console-full"
-fault_name fault.UnknownCall = codes "unknown-call"
-fault_name fault.FetchMisaligned = codes "fetch-misaligned"
 
 -- no row has the last
 abbrev pub image_error_name : ImageError → List ℕ

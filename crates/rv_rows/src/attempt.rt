@@ -7,7 +7,7 @@ ghost use Rattle.rv_elf.specs.Symbols.{signature_check, symbol_of};
 ghost use Rattle.rv_elf.specs.Rows.{accepted};
 ghost use Rattle.rv_jobs.specs.Jobs.{most_script};
 ghost use Rattle.rv_machine.specs.Run.{run_of};
-ghost use Rattle.rv_machine.specs.State.{state_of};
+ghost use Rattle.rv_machine.specs.Machine.{state_of};
 ghost use Rattle.rv_rows.specs.Attempt.{HasSignature, IsReadable, outcome_in_bus, outcome_of_attempt};
 ghost use Rattle.rv_rows.specs.Outcome.{end_of, end_of_signature, file_of, file_outcome_of, loadable_of, loaded_state, outcome_of, outcome_of_run, range_of};
 

@@ -2,7 +2,7 @@
 
 ghost use Rattle.std.specs.Prelude.{◌≡◌, ◌≤◌, ℕ, IfOk, length};
 ghost use Rattle.rv_memory.specs.Bus.{byte_at};
-ghost use Rattle.rv_machine.specs.State.{state_of};
+ghost use Rattle.rv_machine.specs.Machine.{state_of};
 ghost use Rattle.rv_rows.specs.Flat.{flat_byte, flat_contents, flat_outcome_of, flat_row_of, flat_state, image_room};
 
 use crate::attempt::run;

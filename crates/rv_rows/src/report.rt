@@ -2,7 +2,7 @@
 
 ghost use Rattle.std.specs.Prelude.{◌≡◌, ◌++◌, ◌+◌, ◌<◌, ◌^◌, ◌-◌, [], OnOk, OnErr, IfErr, map, option_map, string_bytes};
 ghost use Rattle.std.specs.Io.KnownBytes.{Appends};
-ghost use Rattle.rv_rows.specs.Report.{fault_name, image_error_name, refusal_name, verdict_name, end_line, or_dash, console_line, signature_lines, row_text, rows_text, done_line, report_text};
+ghost use Rattle.rv_rows.specs.Report.{image_error_name, refusal_name, verdict_name, end_line, or_dash, console_line, signature_lines, row_text, rows_text, done_line, report_text};
 ghost use Rattle.rv_rows.specs.Sending.{AppendsBeginning, IsUnderWay, Rose, one_more};
 ghost use Rattle.rv_rows.specs.declared.report.WriteError.TheVariants.{Failed, OutOfMemory};
 
@@ -10,7 +10,6 @@ use crate::row::{Refusal, Report, Row, RowEnd, Verdict};
 use crate::signature_lines::{push_word, push_word_lines};
 use crate::sink::{Sink, SinkFailed, put_all};
 use rv_elf::ImageError;
-use rv_machine::FaultKind;
 use std::alloc::{AllocError, Global};
 use thiserror::Error;
 
@@ -143,7 +142,7 @@ fn push_end(alloc: Global, text: &mut String, ending: RowEnd) -> Result<(), Allo
     match ending {
         RowEnd::Exit(code) => write!(text, "end exit {code}\n"),
         RowEnd::Fault(kind, pc, value) => {
-            let name = fault_text(kind);
+            let name = kind.name();
             write!(text, "end fault {name} pc=")?;
             push_word(alloc, text, pc)?;
             text.push_str(" value=")?;
@@ -200,24 +199,6 @@ fn push_signature(
             push_word_lines(alloc, text, words)
         }
         None => text.push_str("signature -\n"),
-    }
-}
-
-fn fault_text(kind: FaultKind) -> &'static str
-    ensures { result.now ≡ fault_name kind }
-{
-    match kind {
-        FaultKind::FetchAccess => "fetch-access",
-        FaultKind::StaleCode => "stale-code",
-        FaultKind::Illegal => "illegal",
-        FaultKind::Breakpoint => "breakpoint",
-        FaultKind::LoadMisaligned => "load-misaligned",
-        FaultKind::LoadAccess => "load-access",
-        FaultKind::StoreMisaligned => "store-misaligned",
-        FaultKind::StoreAccess => "store-access",
-        FaultKind::ConsoleFull => "console-full",
-        FaultKind::UnknownCall => "unknown-call",
-        FaultKind::FetchMisaligned => "fetch-misaligned",
     }
 }
 

@@ -1,7 +1,7 @@
 //! The memory of a run, kept for the next.
 
 ghost use Rattle.std.specs.Prelude.{◌≡◌, ◌≤◌, IfOk, vec_len};
-ghost use Rattle.rv_memory.specs.Bus.{opened};
+ghost use Rattle.rv_memory.specs.Bus.{new_bus};
 
 use crate::outcome::Attempt;
 use rv_memory::{Bus, Map, Misaligned};
@@ -28,7 +28,7 @@ impl Spare {
         misaligned: Misaligned,
     ) -> Result<Bus, AllocError>
         requires { vec_len script ≤ 0x1_0000 }
-        ensures { IfOk result (λ bus. bus ≡ opened map script.items misaligned) }
+        ensures { IfOk result (λ bus. bus ≡ new_bus map script.items misaligned) }
     {
         match self.bus.take() {
             Some(last) => last.renewed(alloc, map, script, misaligned),

@@ -1,16 +1,16 @@
 use Rattle.std.proofs.Common.{◌∙◌}
 use Rattle.rv_elf.proofs.Public.{entry_aligned, entry_even}
-use Rattle.rv_rows.proofs.Loadables.{aligned, loadable_parts, loaded_is, new_bus}
+use Rattle.rv_rows.proofs.Loadables.{aligned, loadable_parts, loaded_is, new_bus_parts}
 use Rattle.rv_rows.proofs.attempt.loaded_machine.Goals as goal
 
 pub load-requires-clause-image : goal.load-requires-clause-image
 load-requires-clause-image c = record { isa = c.args.job.now.isa; is = (loadable_parts _ _ _ c.requires.loadable).image }
 
 pub load-requires-clause-fits : goal.load-requires-clause-fits
-load-requires-clause-fits c = rw (new_bus _ _ _ _ c.in_ok-bus.ensures).0 (loadable_parts _ _ _ c.requires.loadable).fits
+load-requires-clause-fits c = rw (new_bus_parts _ _ _ _ c.in_ok-bus.ensures).0 (loadable_parts _ _ _ c.requires.loadable).fits
 
 pub load-requires-clause-new : goal.load-requires-clause-new
-load-requires-clause-new c = (new_bus _ _ _ _ c.in_ok-bus.ensures).1
+load-requires-clause-new c = (new_bus_parts _ _ _ _ c.in_ok-bus.ensures).1
 
 pub new-requires-clause-even : goal.new-requires-clause-even
 new-requires-clause-even c = entry_even _ _ _ (loadable_parts _ _ _ c.requires.loadable).image

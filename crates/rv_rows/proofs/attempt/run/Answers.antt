@@ -4,7 +4,7 @@ use Rattle.rv_elf.specs.Symbols.{signature_check}
 use Rattle.rv_memory.specs.declared.map.Region.{Region}
 use Rattle.rv_memory.specs.Bus.{Contents}
 use Rattle.rv_machine.specs.Run.{Ran}
-use Rattle.rv_machine.specs.State.{state_of}
+use Rattle.rv_machine.specs.Machine.{state_of}
 use Rattle.rv_machine.proofs.Public.{run_keeps}
 use Rattle.rv_rows.proofs.attempt.run.Goals as goal
 

@@ -1,6 +1,6 @@
 use Rattle.std.proofs.Common.{◌≡◌, ◌∙◌, [], ap}
-use Rattle.rv_memory.specs.declared.bus.Misaligned.TheVariants.{Fault}
-use Rattle.rv_memory.specs.Bus.{byte_at, opened, placed}
+use Rattle.rv_memory.specs.declared.access.Misaligned.TheVariants.{Fault}
+use Rattle.rv_memory.specs.Bus.{byte_at, new_bus, with_bytes}
 use Rattle.rv_rows.specs.Flat.{default_regions}
 use Rattle.rv_rows.proofs.FlatImages.{flat_memory, image_fits}
 use Rattle.rv_rows.proofs.flat.flat_bus.Goals as goal
@@ -10,5 +10,5 @@ place-requires c = image_fits _ _ (rw (c.default_map.ensures, c.new.ensures.item
 
 pub returns-clause-memory : goal.returns-clause-memory
 returns-clause-memory c =
-    let new : c.in_ok-bus.bus ≡ opened default_regions [] Fault = rw (c.default_map.ensures, c.new.ensures.items) at c.in_ok-bus.ensures in
-    λ address. ap (λ bus. byte_at bus.memory address) (c.place.ensures ∙ ap (λ bus. placed bus 0x8000_0000 c.args.bytes.now) new) ∙ flat_memory c.args.bytes.now address
+    let new : c.in_ok-bus.bus ≡ new_bus default_regions [] Fault = rw (c.default_map.ensures, c.new.ensures.items) at c.in_ok-bus.ensures in
+    λ address. ap (λ bus. byte_at bus.memory address) (c.place.ensures ∙ ap (λ bus. with_bytes bus 0x8000_0000 c.args.bytes.now) new) ∙ flat_memory c.args.bytes.now address

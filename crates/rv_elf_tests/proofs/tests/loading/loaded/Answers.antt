@@ -1,5 +1,5 @@
 use Rattle.std.proofs.Common.{◌∙◌, ap, sym}
-use Rattle.rv_memory.specs.declared.bus.Misaligned.TheVariants.{Fault}
+use Rattle.rv_memory.specs.declared.access.Misaligned.TheVariants.{Fault}
 use Rattle.rv_elf.specs.Loading.{map_check}
 use Rattle.rv_elf.proofs.Public.{regions_of_new, is_new}
 use Rattle.rv_elf_tests.proofs.tests.loading.loaded.Goals as goal

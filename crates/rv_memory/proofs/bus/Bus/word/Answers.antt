@@ -1,5 +1,5 @@
 use Rattle.std.proofs.Common.{◌∙◌, sym, ap}
-use Rattle.rv_memory.specs.declared.bus.Width.TheVariants.{Word}
+use Rattle.rv_memory.specs.declared.access.Width.TheVariants.{Word}
 use Rattle.rv_memory.specs.Inside.View.{read_at}
 use Rattle.rv_memory.proofs.Views.{value_at-memory_of}
 use Rattle.rv_memory.proofs.bus.Bus.word.Goals as goal

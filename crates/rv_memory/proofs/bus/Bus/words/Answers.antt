@@ -2,7 +2,7 @@ use Rattle.std.proofs.Common.{◌∙◌, ◌+◌, ◌*◌, ◌-◌, sym, ap, ari
 use Rattle.std.proofs.lemmas.List.FromFn.{map-range_with_len_more}
 use Rattle.std.specs.List.{range_with_len}
 use Rattle.rv_memory.specs.Bus.{word_at}
-use Rattle.rv_memory.specs.Words.{words_of}
+use Rattle.rv_memory.specs.SignatureWords.{words_of}
 use Rattle.rv_memory.proofs.Accesses.{in_one-part}
 use Rattle.rv_memory.proofs.bus.Bus.words.Goals as goal
 

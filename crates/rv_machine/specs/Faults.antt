@@ -1,0 +1,18 @@
+-- The words for the faults of a run.
+use Rattle.std.specs.Prelude.{ℕ, List, codes}
+use Rattle.rv_machine.specs.declared.ending.FaultKind.{FaultKind}
+use Rattle.rv_machine.specs.declared.ending.FaultKind.TheVariants as fault
+
+-- the word for a fault in a report
+abbrev pub fault_name : FaultKind → List ℕ
+fault_name fault.FetchAccess = codes "fetch-access"
+fault_name fault.StaleCode = codes "stale-code"
+fault_name fault.Illegal = codes "illegal"
+fault_name fault.Breakpoint = codes "breakpoint"
+fault_name fault.LoadMisaligned = codes "load-misaligned"
+fault_name fault.LoadAccess = codes "load-access"
+fault_name fault.StoreMisaligned = codes "store-misaligned"
+fault_name fault.StoreAccess = codes "store-access"
+fault_name fault.ConsoleFull = codes "console-full"
+fault_name fault.UnknownCall = codes "unknown-call"
+fault_name fault.FetchMisaligned = codes "fetch-misaligned"

@@ -1,0 +1,63 @@
+-- How the prover stores what callers see of a bus: a type that may be the value of a struct is
+-- stored by a type that is known to it, here pairs in pairs, and comes back as it was. No fact
+-- about buses stands here.
+use Rattle.std.specs.Prelude.{◌≡◌, ℕ, Bool, true, false, List, refl}
+use Rattle.std.specs.Ordering.{nat_cmp}
+use Rattle.std.specs.FinMap as fin
+use Rattle.std.specs.FinSet as set
+use Rattle.std.specs.Coded.{Coded, code_by, coded_ℕ, coded_bool, coded_list, coded×}
+use Rattle.rv_memory.specs.declared.map.Region.{Region}
+use Rattle.rv_memory.specs.declared.access.Misaligned.{Misaligned as Choice}
+use Rattle.rv_memory.specs.declared.access.Misaligned.TheVariants.{Fault, Allow}
+use Rattle.rv_memory.specs.Bus.{Contents}
+
+-- a region as its base, its size and whether it may be written
+abbrev pub region_code : Coded Region
+region_code =
+    code_by (ℕ × (ℕ × Bool)) (coded× coded_ℕ (coded× coded_ℕ coded_bool))
+    (λ r. (r.base, (r.size, r.writable)))
+    (λ p. record { base = p.0; size = p.1.0; writable = p.1.1 }) (λ _. refl)
+
+-- a choice as a truth value: whether it allows misaligned accesses
+abbrev pub allows : Choice → Bool
+allows Fault = false
+allows Allow = true
+
+abbrev pub choice_of : Bool → Choice
+choice_of false = Fault
+choice_of true = Allow
+
+abbrev pub choice_again : (m : Choice) → choice_of (allows m) ≡ m
+choice_again Fault = refl
+choice_again Allow = refl
+
+abbrev pub choice_code : Coded Choice
+choice_code = code_by Bool coded_bool allows choice_of choice_again
+
+-- the parts of contents, in their order
+abbrev pub Parts : Type 0
+Parts =
+    List Region
+    × (fin.FinMap nat_cmp ℕ × (set.FinSet nat_cmp × (List ℕ × (List ℕ × Choice))))
+
+abbrev pub parts_code : Coded Parts
+parts_code =
+    coded× (coded_list region_code)
+    (coded× (fin.code coded_ℕ coded_ℕ)
+    (coded× (set.code coded_ℕ)
+    (coded× (coded_list coded_ℕ) (coded× (coded_list coded_ℕ) choice_code))))
+
+-- contents as their parts
+abbrev pub contents_code : Coded Contents
+contents_code =
+    code_by Parts parts_code
+    (λ c. (c.regions, (c.memory, (c.stored, (c.script, (c.output, c.misaligned))))))
+    (λ p. record {
+      regions = p.0;
+      memory = p.1.0;
+      stored = p.1.1.0;
+      script = p.1.1.1.0;
+      output = p.1.1.1.1.0;
+      misaligned = p.1.1.1.1.1;
+    })
+    (λ _. refl)
