@@ -1,9 +1,13 @@
 -- The list of jobs that a document stands for, or the job and its fault: the keys of a job in the order of their faults.
-use Rattle.std.specs.Prelude.{◌+◌, ◌==◌, ℕ, ℤ, pos, negsuc, Bool, true, false, not, ◌&&◌, ◌||◌, List, [], ◌∷◌, ◌++◌, length, Option, Some, None, Result, Ok, Err, codes, option_and_then, option_map, is_some, unwrap_or, if◌then◌else◌, nat_le, nat_lt, map}
+use Rattle.std.specs.Prelude.{◌+◌, ◌==◌, ℕ, ℤ, pos, negsuc, Bool, true, false, not, ◌&&◌, ◌||◌}
+use Rattle.std.specs.Prelude.{List, [], ◌∷◌, ◌++◌, length, Option, Some, None, Result, Ok, Err}
+use Rattle.std.specs.Prelude.{codes, option_and_then, option_map, is_some, unwrap_or, if◌then◌else◌}
+use Rattle.std.specs.Prelude.{nat_le, nat_lt, map}
 use Rattle.std.specs.List.{list_all}
 use Rattle.std.specs.Str.{bytes_eq, is_utf8}
 use Rattle.toml.specs.Parse.{parse_document}
-use Rattle.toml.specs.Data.{Data, Items, no_items, item, Members, table, array, get_member, get_item, as_str}
+use Rattle.toml.specs.Data.{Data, Items, no_items, item, Members, table, array, get_member}
+use Rattle.toml.specs.Data.{get_item, as_str}
 use Rattle.hex.specs.Hex.{decode_of}
 use Rattle.hex.specs.declared.error.FromHexError.{FromHexError}
 use Rattle.rv_isa.specs.declared.sets.Isa.{Isa}
@@ -22,7 +26,8 @@ use Rattle.rv_jobs.specs.declared.job.Job.{Job}
 use Rattle.rv_jobs.specs.declared.job.Symbols.{Symbols}
 use Rattle.rv_jobs.specs.Jobs.{most_jobs, most_path, most_script, default_regions}
 use Rattle.rv_jobs.specs.Reading.{◌>>=◌, unless, passing, or_else, numbered}
-use Rattle.rv_jobs.specs.Keys.{has_other_key, is_list_key, count_of, text_at, number_at, truth_at, array_at, has_wrong_kind, has_unknown_key}
+use Rattle.rv_jobs.specs.Keys.{any_unknown_key, is_list_key, count_of, text_at, number_at, truth_at}
+use Rattle.rv_jobs.specs.Keys.{array_at, has_wrong_kind, has_unknown_key}
 
 -- ---- name, image, budget
 
@@ -253,7 +258,7 @@ unfoldable pub elements_in : Members → Result Items What
 elements_in ms = do
   some ← unless (has_no_jobs (get_member (codes "job") ms)) what.NoJobs
   few ← unless (has_too_many (get_member (codes "job") ms)) what.TooMany
-  known ← unless (has_other_key is_list_key ms) what.UnknownKey
+  known ← unless (any_unknown_key is_list_key ms) what.UnknownKey
   elements (get_member (codes "job") ms)
 
 -- of a document, which no jobs are in without one

@@ -1,5 +1,6 @@
 -- What is known of the jobs of every list.
-use Rattle.std.specs.Prelude.{ℕ, ◌<◌, ◌≤◌, List, [], ◌∷◌, length, slice_index_or, IfSome, None, true, codes}
+use Rattle.std.specs.Prelude.{ℕ, ◌<◌, ◌≤◌, List, [], ◌∷◌, length, slice_index_or, IfSome, None}
+use Rattle.std.specs.Prelude.{true, codes}
 use Rattle.rv_isa.specs.declared.sets.Isa.TheVariants.{Imc}
 use Rattle.rv_memory.specs.declared.map.Region.{Region}
 use Rattle.rv_memory.specs.declared.access.Misaligned.TheVariants.{Fault}

@@ -1,49 +1,23 @@
 -- The keys of a job list, and the TOML kinds of their values.
-use Rattle.std.specs.Prelude.{◌+◌, ℕ, ℤ, Bool, true, false, not, ◌&&◌, ◌||◌, List, [], ◌∷◌, Option, codes, option_and_then, is_some}
-use Rattle.std.specs.List.{list_any}
+use Rattle.std.specs.Prelude.{◌+◌, ℕ, ℤ, Bool, true, false, not, ◌&&◌, ◌||◌, List, [], ◌∷◌}
+use Rattle.std.specs.Prelude.{Option, codes, option_and_then, is_some}
+use Rattle.std.specs.List.{list_all, list_any}
 use Rattle.std.specs.Option.{option_map_or}
 use Rattle.std.specs.Str.{bytes_eq}
-use Rattle.toml.specs.Data.{Data, Items, no_items, item, Members, no_members, member, table, array, get_member, as_str, as_integer, as_bool, as_array}
-
--- ---- the keys
-
--- the key is one of these
-abbrev pub is_among : List (List ℕ) → List ℕ → Bool
-is_among keys k = list_any (bytes_eq k) keys
-
--- whose values are texts
-abbrev pub text_keys : List (List ℕ)
-text_keys = codes "name" ∷ codes "image" ∷ codes "input" ∷ codes "input_hex" ∷ codes "load"
-    ∷ codes "expect_signature" ∷ codes "same_as" ∷ codes "isa" ∷ codes "misaligned" ∷ []
-
--- whose values are whole numbers
-abbrev pub number_keys : List (List ℕ)
-number_keys = codes "budget" ∷ codes "expect_exit" ∷ []
-
--- whose values are arrays
-abbrev pub array_keys : List (List ℕ)
-array_keys = codes "region" ∷ codes "signature" ∷ []
-
-abbrev pub is_job_key : List ℕ → Bool
-is_job_key k = is_among text_keys k || (is_among number_keys k || is_among array_keys k)
-
-abbrev pub is_region_key : List ℕ → Bool
-is_region_key k = is_among (codes "base" ∷ codes "size" ∷ codes "write" ∷ []) k
-
-abbrev pub is_list_key : List ℕ → Bool
-is_list_key k = is_among (codes "job" ∷ []) k
-
--- a key that is none of them
-unfoldable pub has_other_key : (List ℕ → Bool) → Members → Bool
-has_other_key known no_members = false
-has_other_key known (member k d ms) = not (known k) || has_other_key known ms
+use Rattle.toml.specs.Data.{Data, Items, no_items, item, Members, no_members, member, table, array}
+use Rattle.toml.specs.Data.{get_member, as_str, as_integer, as_bool, as_array}
 
 -- ---- values
 
--- some item does
+-- some item is so
 unfoldable pub any_item : (Data → Bool) → Items → Bool
 any_item p no_items = false
 any_item p (item d ds) = p d || any_item p ds
+
+-- every item is so
+unfoldable pub all_items : (Data → Bool) → Items → Bool
+all_items p no_items = true
+all_items p (item d ds) = p d && all_items p ds
 
 abbrev pub count_of : Items → ℕ
 count_of no_items = 0
@@ -62,10 +36,29 @@ truth_at k ms = option_and_then as_bool (get_member k ms)
 abbrev pub array_at : List ℕ → Members → Option Items
 array_at k ms = option_and_then as_array (get_member k ms)
 
--- ---- kinds
+-- ---- keys, each with its kind
 
-abbrev pub is_text : Data → Bool
-is_text d = is_some (as_str d)
+-- a key, and whether a value is of its kind
+pub record Key : Type 0 where
+  pub name : List ℕ
+  pub is_of_kind : Data → Bool
+
+abbrev pub key : List ℕ → (Data → Bool) → Key
+key name is_of_kind = record { name = name; is_of_kind = is_of_kind }
+
+-- the key is absent, or its value is so
+abbrev pub absent_or : (Data → Bool) → List ℕ → Members → Bool
+absent_or p k ms = option_map_or p (get_member k ms) true
+
+-- each of these keys is absent, or its value is of its kind
+abbrev pub are_of_kinds : List Key → Members → Bool
+are_of_kinds keys ms = list_all (λ (k : Key). absent_or k.is_of_kind k.name ms) keys
+
+-- one of these keys has the name
+abbrev pub is_known : List Key → List ℕ → Bool
+is_known keys name = list_any (λ (k : Key). bytes_eq name k.name) keys
+
+-- ---- the keys of a region
 
 abbrev pub is_number : Data → Bool
 is_number d = is_some (as_integer d)
@@ -73,47 +66,78 @@ is_number d = is_some (as_integer d)
 abbrev pub is_truth : Data → Bool
 is_truth d = is_some (as_bool d)
 
--- the key is absent, or its value passes
-abbrev pub absent_or : (Data → Bool) → List ℕ → Members → Bool
-absent_or p k ms = option_map_or p (get_member k ms) true
+abbrev pub region_keys : List Key
+region_keys =
+    key (codes "base") is_number ∷ key (codes "size") is_number ∷ key (codes "write") is_truth ∷ []
 
-unfoldable pub texts_are_texts : Members → Bool
-texts_are_texts ms = absent_or is_text (codes "name") ms && (absent_or is_text (codes "image") ms
-    && (absent_or is_text (codes "input") ms && (absent_or is_text (codes "input_hex") ms
-    && (absent_or is_text (codes "load") ms && (absent_or is_text (codes "expect_signature") ms
-    && (absent_or is_text (codes "same_as") ms && (absent_or is_text (codes "isa") ms
-    && absent_or is_text (codes "misaligned") ms)))))))
+-- ---- the keys of a job
 
-abbrev pub numbers_are_numbers : Members → Bool
-numbers_are_numbers ms = absent_or is_number (codes "budget") ms && absent_or is_number (codes "expect_exit") ms
+abbrev pub is_text : Data → Bool
+is_text d = is_some (as_str d)
 
--- the values of a region's keys
-abbrev pub is_region_of_kinds : Members → Bool
-is_region_of_kinds ms = absent_or is_number (codes "base") ms && (absent_or is_number (codes "size") ms && absent_or is_truth (codes "write") ms)
+-- an array of texts
+abbrev pub is_texts : Data → Bool
+is_texts (array ds) = all_items is_text ds
+is_texts _ = false
 
--- no table, or one with a value of another kind
-abbrev pub is_wrong_region : Data → Bool
-is_wrong_region (table ms) = not (is_region_of_kinds ms)
-is_wrong_region _ = true
+-- a table whose values are of the kinds of a region's keys
+abbrev pub is_region : Data → Bool
+is_region (table ms) = are_of_kinds region_keys ms
+is_region _ = false
 
+-- an array of them
 abbrev pub is_regions : Data → Bool
-is_regions (array ds) = not (any_item is_wrong_region ds)
+is_regions (array ds) = all_items is_region ds
 is_regions _ = false
 
-abbrev pub is_texts : Data → Bool
-is_texts (array ds) = not (any_item (λ d. not (is_text d)) ds)
-is_texts _ = false
+abbrev pub job_keys : List Key
+job_keys =
+    key (codes "name") is_text
+    ∷ key (codes "image") is_text
+    ∷ key (codes "budget") is_number
+    ∷ key (codes "input") is_text
+    ∷ key (codes "input_hex") is_text
+    ∷ key (codes "region") is_regions
+    ∷ key (codes "load") is_text
+    ∷ key (codes "signature") is_texts
+    ∷ key (codes "expect_exit") is_number
+    ∷ key (codes "expect_signature") is_text
+    ∷ key (codes "same_as") is_text
+    ∷ key (codes "isa") is_text
+    ∷ key (codes "misaligned") is_text
+    ∷ []
 
 -- a value of another TOML kind than its key has, in a region or a signature too
 unfoldable pub has_wrong_kind : Members → Bool
-has_wrong_kind ms = not (texts_are_texts ms && (numbers_are_numbers ms
-    && (absent_or is_regions (codes "region") ms && absent_or is_texts (codes "signature") ms)))
+has_wrong_kind ms = not (are_of_kinds job_keys ms)
+
+-- ---- unknown keys
+
+abbrev pub is_job_key : List ℕ → Bool
+is_job_key name = is_known job_keys name
+
+abbrev pub is_region_key : List ℕ → Bool
+is_region_key name = is_known region_keys name
+
+-- the whole list has one key
+abbrev pub is_list_key : List ℕ → Bool
+is_list_key name = bytes_eq name (codes "job")
+
+-- a key that is not known
+unfoldable pub any_unknown_key : (List ℕ → Bool) → Members → Bool
+any_unknown_key known no_members = false
+any_unknown_key known (member k d ms) = not (known k) || any_unknown_key known ms
 
 -- a table with a key that no region has
 abbrev pub is_unknown_region : Data → Bool
-is_unknown_region (table ms) = has_other_key is_region_key ms
+is_unknown_region (table ms) = any_unknown_key is_region_key ms
 is_unknown_region _ = false
+
+-- a region with one
+abbrev pub any_unknown_region : Members → Bool
+any_unknown_region ms =
+    option_map_or (any_item is_unknown_region) (array_at (codes "region") ms) false
 
 -- a key that no job has, or in a region that no region has
 unfoldable pub has_unknown_key : Members → Bool
-has_unknown_key ms = has_other_key is_job_key ms || option_map_or (any_item is_unknown_region) (array_at (codes "region") ms) false
+has_unknown_key ms = any_unknown_key is_job_key ms || any_unknown_region ms

@@ -1,5 +1,6 @@
 pub mod Reading
 pub mod Keys
+pub mod KeysInside
 pub mod Jobs
 pub mod JobList
 pub mod EarlierJobsInside

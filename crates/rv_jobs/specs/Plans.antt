@@ -1,5 +1,6 @@
 -- A plan: the jobs of a list, and one answer for each path that they name.
-use Rattle.std.specs.Prelude.{ℕ, zero, suc, option_and_then, List, [], ◌∷◌, ◌++◌, Option, Some, None, map, is_some, option_map, if◌then◌else◌, count_by}
+use Rattle.std.specs.Prelude.{ℕ, zero, suc, option_and_then, List, [], ◌∷◌, ◌++◌, Option, Some}
+use Rattle.std.specs.Prelude.{None, map, is_some, option_map, if◌then◌else◌, count_by}
 use Rattle.std.specs.List.{All, find, fold}
 use Rattle.std.specs.Str.{bytes_eq}
 use Rattle.rv_jobs.specs.declared.job.Job.{Job}

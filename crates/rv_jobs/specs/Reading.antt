@@ -1,5 +1,6 @@
 -- Readings that may find a fault: one step after another, each only where the earlier ones found none.
-use Rattle.std.specs.Prelude.{◌≡◌, ℕ, Bool, if◌then◌else◌, List, ◌++◌, Option, Some, None, Result, Ok, Err, MatchResult}
+use Rattle.std.specs.Prelude.{◌≡◌, ℕ, Bool, if◌then◌else◌, List, ◌++◌, Option, Some, None, Result}
+use Rattle.std.specs.Prelude.{Ok, Err, MatchResult}
 use Rattle.rv_jobs.specs.declared.error.What.{What}
 use Rattle.rv_jobs.specs.declared.error.What.TheVariants.{OutOfMemory}
 use Rattle.rv_jobs.specs.declared.error.JobError.{JobError}

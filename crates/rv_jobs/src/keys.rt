@@ -1,15 +1,44 @@
-//! The values of a table's keys, and the keys that no table of a list has.
+//! The keys of a list's tables and their values, and which keys no table has.
 
-ghost use Rattle.std.specs.Prelude.{◌≡◌, not, true, Some, string_bytes, option_map};
+ghost use Rattle.std.specs.Prelude.{◌≡◌, not, string_bytes, option_map};
 ghost use Rattle.std.specs.List.{list_any};
 ghost use Rattle.std.specs.BTreeMap.{keys};
+ghost use Rattle.std.specs.Str.{bytes_eq};
 ghost use Rattle.toml.specs.Data.{get_member};
 ghost use Rattle.toml.specs.View.{view, table_view, array_view};
-ghost use Rattle.rv_jobs.specs.Keys.{text_at, number_at, truth_at, array_at, is_among, text_keys, number_keys};
-ghost use Rattle.rv_jobs.specs.Keys.{array_keys, is_job_key, is_region_key, is_list_key, has_other_key};
+ghost use Rattle.rv_jobs.specs.Keys.{text_at, number_at, truth_at, array_at};
+ghost use Rattle.rv_jobs.specs.Keys.{is_job_key, is_region_key, is_list_key, any_unknown_key};
 
 use toml::value::Array;
 use toml::{Table, Value};
+
+/// What the value of a job's key is in TOML.
+#[derive(Clone, Copy)]
+pub(crate) enum Kind {
+    Text,
+    Number,
+    /// An array of texts.
+    Texts,
+    /// An array of tables, each with the keys of a region.
+    Regions,
+}
+
+/// The keys of a job, each with the kind of its value.
+pub(crate) const JOB_KEYS: [(&str, Kind); 13] = [
+    ("name", Kind::Text),
+    ("image", Kind::Text),
+    ("budget", Kind::Number),
+    ("input", Kind::Text),
+    ("input_hex", Kind::Text),
+    ("region", Kind::Regions),
+    ("load", Kind::Text),
+    ("signature", Kind::Texts),
+    ("expect_exit", Kind::Number),
+    ("expect_signature", Kind::Text),
+    ("same_as", Kind::Text),
+    ("isa", Kind::Text),
+    ("misaligned", Kind::Text),
+];
 
 pub(crate) fn value_of<'a>(table: &'a Table, key: &str) -> Option<&'a Value>
     ensures { option_map (λ v. view v.now) result ≡ get_member key.now (table_view table.now) }
@@ -54,108 +83,64 @@ pub(crate) fn array_of<'a>(table: &'a Table, key: &str) -> Option<&'a Array>
 }
 
 /// Whether a job has a key that the format does not have.
-pub(crate) fn has_stray_key(table: &Table) -> bool
-    ensures { result ≡ has_other_key is_job_key (table_view table.now) }
+pub(crate) fn has_unknown_job_key(table: &Table) -> bool
+    ensures { result ≡ any_unknown_key is_job_key (table_view table.now) }
 {
-    any_stray(table)
+    any_unknown_job_key(table)
 }
 
 /// Whether a region has one.
-pub(crate) fn has_stray_region_key(table: &Table) -> bool
-    ensures { result ≡ has_other_key is_region_key (table_view table.now) }
+pub(crate) fn has_unknown_region_key(table: &Table) -> bool
+    ensures { result ≡ any_unknown_key is_region_key (table_view table.now) }
 {
-    any_stray_in_region(table)
+    any_unknown_region_key(table)
 }
 
 /// Whether the whole list has a key beside `job`.
-pub(crate) fn has_stray_list_key(table: &Table) -> bool
-    ensures { result ≡ has_other_key is_list_key (table_view table.now) }
+pub(crate) fn has_unknown_list_key(table: &Table) -> bool
+    ensures { result ≡ any_unknown_key is_list_key (table_view table.now) }
 {
-    any_stray_in_list(table)
+    any_unknown_list_key(table)
 }
 
-fn any_stray(table: &Table) -> bool
+fn any_unknown_job_key(table: &Table) -> bool
     ensures { result ≡ list_any (λ k. not (is_job_key (string_bytes k))) (keys table.now) }
 {
     table.keys().any(|key| !is_job_key(key.as_str()))
 }
 
-fn any_stray_in_region(table: &Table) -> bool
+fn any_unknown_region_key(table: &Table) -> bool
     ensures { result ≡ list_any (λ k. not (is_region_key (string_bytes k))) (keys table.now) }
 {
     table.keys().any(|key| !is_region_key(key.as_str()))
 }
 
-fn any_stray_in_list(table: &Table) -> bool
+fn any_unknown_list_key(table: &Table) -> bool
     ensures { result ≡ list_any (λ k. not (is_list_key (string_bytes k))) (keys table.now) }
 {
     table.keys().any(|key| !(key.as_str() == "job"))
 }
 
-fn is_job_key(key: &str) -> bool
-    ensures { result ≡ is_job_key key.now }
+fn is_job_key(name: &str) -> bool
+    ensures { result ≡ is_job_key name.now }
 {
-    is_text_key(key) || is_number_key(key) || is_array_key(key)
+    is_among(&JOB_KEYS, name)
 }
 
-fn is_text_key(key: &str) -> bool
-    ensures { result ≡ is_among text_keys key.now }
+fn is_among(keys: &[(&str, Kind)], name: &str) -> bool
+    ensures { result ≡ list_any (λ key. bytes_eq name.now key.0.now) keys.now }
 {
-    if key == "name" {
-        true
-    } else if key == "image" {
-        true
-    } else if key == "input" {
-        true
-    } else if key == "input_hex" {
-        true
-    } else if key == "load" {
-        true
-    } else if key == "expect_signature" {
-        true
-    } else if key == "same_as" {
-        true
-    } else if key == "isa" {
-        true
-    } else if key == "misaligned" {
-        true
-    } else {
-        false
-    }
+    keys.iter().any(|key| name == key.0)
 }
 
-fn is_number_key(key: &str) -> bool
-    ensures { result ≡ is_among number_keys key.now }
+fn is_region_key(name: &str) -> bool
+    ensures { result ≡ is_region_key name.now }
 {
-    if key == "budget" {
+    if name == "base" {
         true
-    } else if key == "expect_exit" {
+    } else if name == "size" {
         true
-    } else {
-        false
-    }
-}
-
-fn is_array_key(key: &str) -> bool
-    ensures { result ≡ is_among array_keys key.now }
-{
-    if key == "region" {
-        true
-    } else if key == "signature" {
-        true
-    } else {
-        false
-    }
-}
-
-fn is_region_key(key: &str) -> bool
-    ensures { result ≡ is_region_key key.now }
-{
-    if key == "base" {
-        true
-    } else if key == "size" {
-        true
-    } else if key == "write" {
+    } else if name == "write" {
         true
     } else {
         false

@@ -1,17 +1,19 @@
 //! Job lists: from bytes to jobs, or the first fault.
 
-ghost use Rattle.std.specs.Prelude.{◌≡◌, ◌≤◌, [], MatchResult, IfOk, Some, Ok, Err, length, vec_len, option_map};
+ghost use Rattle.std.specs.Prelude.{◌≡◌, ◌≤◌, [], MatchResult, IfOk, Some, Ok, Err, length};
+ghost use Rattle.std.specs.Prelude.{vec_len, option_map};
 ghost use Rattle.toml.specs.View.{view, table_view, array_view, items_view};
 ghost use Rattle.rv_jobs.specs.declared.error.What.TheVariants.{OutOfMemory};
 ghost use Rattle.rv_jobs.specs.Jobs.{most_jobs};
 ghost use Rattle.rv_jobs.specs.Reading.{GivesJobs};
-ghost use Rattle.rv_jobs.specs.JobList.{has_no_jobs, has_too_many, elements_in, jobs_from, jobs_in, job_list_of};
+ghost use Rattle.rv_jobs.specs.JobList.{has_no_jobs, has_too_many, elements_in, jobs_from, jobs_in};
+ghost use Rattle.rv_jobs.specs.JobList.{job_list_of};
 
 use crate::earlier_jobs::EarlierJobs;
 use crate::error::{JobError, What};
 use crate::job::JobList;
 use crate::job_keys::element_of;
-use crate::keys::{has_stray_list_key, value_of};
+use crate::keys::{has_unknown_list_key, value_of};
 use std::alloc::Global;
 use toml::value::Array;
 use toml::{Table, Value};
@@ -65,7 +67,7 @@ fn elements_of(table: &Table) -> Result<&Array, What>
     if has_too_many(value) {
         return Err(What::TooMany);
     }
-    if has_stray_list_key(table) {
+    if has_unknown_list_key(table) {
         return Err(What::UnknownKey);
     }
     match value {

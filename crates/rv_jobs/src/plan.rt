@@ -1,10 +1,12 @@
 //! A plan: jobs, and what is kept of the paths that they name.
 
 ghost use Rattle.rv_jobs.specs.declared.job.Job.{Job as AJob};
-ghost use Rattle.std.specs.Prelude.{◌≡◌, ◌<◌, ◌≤◌, ℕ, is_some, IfOk, Some, None, length, slice_index_or};
+ghost use Rattle.std.specs.Prelude.{◌≡◌, ◌<◌, ◌≤◌, ℕ, is_some, IfOk, Some, None, length};
+ghost use Rattle.std.specs.Prelude.{slice_index_or};
 ghost use Rattle.std.specs.Prelude.{option_map};
 ghost use Rattle.rv_jobs.specs.Jobs.{IsJob};
-ghost use Rattle.rv_jobs.specs.Plans.{paths_of, with_job, paths_used, kept_of, reference_kept, AreKept};
+ghost use Rattle.rv_jobs.specs.Plans.{paths_of, with_job, paths_used, kept_of, reference_kept};
+ghost use Rattle.rv_jobs.specs.Plans.{AreKept};
 ghost use Rattle.rv_jobs.specs.Plans.{unreadables, more};
 ghost use Rattle.rv_jobs.specs.Placed.{ArePlaced};
 

@@ -4,7 +4,8 @@ ghost use Rattle.std.specs.Prelude.{◌≡◌, ◌≢◌, MatchResult, Ok, Err};
 ghost use Rattle.rv_jobs.specs.declared.error.What.TheVariants.{OutOfMemory};
 ghost use Rattle.toml.specs.View.{view, table_view, items_view};
 ghost use Rattle.rv_jobs.specs.Reading.{Gives};
-ghost use Rattle.rv_jobs.specs.JobList.{word_in, region_in, region_of, regions_from, map_of, regions_in};
+ghost use Rattle.rv_jobs.specs.JobList.{word_in, region_in, region_of, regions_from, map_of};
+ghost use Rattle.rv_jobs.specs.JobList.{regions_in};
 
 use crate::error::What;
 use crate::keys::{array_of, number_of, truth_of};

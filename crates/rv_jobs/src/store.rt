@@ -1,8 +1,10 @@
 //! Where files are read from, and what is kept of one.
 
-ghost use Rattle.std.specs.Prelude.{◌≡◌, ◌≤◌, ◌<◌, ℕ, Option, Some, MatchResult, IfErr, IfOk, IfSome, IsSomeAnd};
+ghost use Rattle.std.specs.Prelude.{◌≡◌, ◌≤◌, ◌<◌, ℕ, Option, Some, MatchResult, IfErr, IfOk};
+ghost use Rattle.std.specs.Prelude.{IfSome, IsSomeAnd};
 ghost use Rattle.std.specs.Prelude.{length};
-ghost use Rattle.rv_jobs.specs.Stores.{FileContents, IsKeptOf, faults_after, faults_with, most_bytes};
+ghost use Rattle.rv_jobs.specs.Stores.{FileContents, IsKeptOf, faults_after, faults_with};
+ghost use Rattle.rv_jobs.specs.Stores.{most_bytes};
 
 use crate::text::Bytes;
 use std::alloc::{AllocError, Global};

@@ -8,5 +8,7 @@ use Rattle.rv_jobs.proofs.kinds.has_unknown_region.Goals as goal
 
 pub returns-in-Some : goal.returns-in-Some
 returns-in-Some c =
-    c.any_unknown_region.ensures ∙ ap (list_any (λ v. is_unknown_region (view v))) c.as_slice.ensures.value ∙ any_value is_unknown_region c.in-Some.regions.now.items
+    c.any_unknown_region.ensures
+    ∙ ap (list_any (λ v. is_unknown_region (view v))) c.as_slice.ensures.value
+    ∙ any_value is_unknown_region c.in-Some.regions.now.items
     ∙ ap (λ o. option_map_or (any_item is_unknown_region) o false) c.in-Some.ensures

@@ -1,7 +1,0 @@
-use Rattle.std.proofs.Common.{◌∙◌}
-use Rattle.rv_jobs.specs.Keys.{is_list_key}
-use Rattle.rv_jobs.proofs.Entries.{other_key_entries}
-use Rattle.rv_jobs.proofs.keys.has_stray_list_key.Goals as goal
-
-pub returns : goal.returns
-returns c = c.any_stray_in_list.ensures ∙ other_key_entries is_list_key c.args.table.now.entries
