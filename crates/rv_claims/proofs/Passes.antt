@@ -1,7 +1,7 @@
 -- What a pass is after each step.
 use Rattle.std.proofs.Common.{◌≡◌, ℕ, zero, suc, ◌+◌, ◌-◌, ◌*◌, ◌%◌, ◌<◌, ◌≤◌, ◌≢◌, Bool, true, false, nat_lt, List, [], ◌∷◌, ◌++◌, length, sym, refl, ap, ◌∙◌, subst, ⊎_elim, arith, cond, true≢false, lt-ltb, le-ltb, length-append, Some, None, replicate, get_or, zero-add, ◌^◌, ◌||◌, bit_or, bit_and}
 use lib.ListN.{get_elem?}
-use mathlib.Core.Option.{none, some, some-injective}
+use mathlib.Core.Option.{some, some-injective}
 use Rattle.std.proofs.lemmas.Nat.Bits.{bit_at-pow_same, bit_at-pow_other, bit_at_or, bit_at_and, bit_at-zero, bit_at-trailing_zeros}
 use Rattle.std.proofs.lemmas.Nat.{and_le_l}
 use Rattle.std.proofs.Math.Pow.{pow-lt}
@@ -11,30 +11,26 @@ use native.Mathlib.Decide.{ℕ_discrete, dec_lt}
 use Rattle.std.specs.Int.{bit_at, trailing_zeros, w64}
 use Rattle.std.specs.Prelude.{Option}
 use Rattle.atomic_table.specs.Seated.{TableId}
-use Rattle.atomic_table.specs.Table.{Step, step, opening, Final, Seen}
+use Rattle.atomic_table.specs.Table.{Step, opening, Final, Seen}
 use Rattle.rv_claims.specs.declared.view.Entry.{Entry}
-use Rattle.rv_claims.specs.Draws.{times, one_at, both, IsIn, IsHistory, Within, is_past, past, entry, numbers, first_of, view, Sitting, Drew, Sat, opened, Runs}
+use Rattle.rv_claims.specs.Draws.{times, both, IsIn, IsHistory, Within, past, entry, numbers, first_of, view, Sitting, Drew, Sat, opened, Runs}
 use Rattle.rv_claims.specs.Passes.{pass_of, with_draw, piece_of, IsPass, seen, opening_row, AreAll}
 use Rattle.rv_claims.proofs.Keeps.{opens, whole, each_once}
-use Rattle.rv_claims.proofs.Sums.{in_append, in_one, in_left, in_right, in_none, total-append, term_le, one_at-same, past_yes, past_no}
+use Rattle.rv_claims.proofs.Sums.{in_append, in_one, in_left, in_right, in_none, total-append, term_le, one_at, one_at-same, one_past, past_yes, past_no}
 
 pub none_past : (n : ℕ) → nat_lt 0 n ≡ false → n ≡ 0
 none_past n e = dite (dec_lt 0 n) (λ y. absurd (true≢false (sym (lt-ltb 0 n y) ∙ e))) (λ no. omega arith)
-
--- a step that is not read
-abbrev pub any_step : Step (Unit {0})
-any_step = step 0 0 0 0 none
 
 pub first_in : (ps : List ℕ) → 0 < length ps → IsIn (first_of ps) ps
 first_in [] h = absurd (omega arith)
 first_in (p ∷ ps) h = (0, refl)
 
 -- the places of a pass that drew are as they were
-pub drew_pass : (m m' : Sitting) (n bits : ℕ) (ended now : Bool) → IsPass m bits ended → Drew any_step m n m' → now ≡ nat_lt 0 (past m.0.pieces (m.0.draws ++ entry (first_of m.0.places) n ∷ [])) → IsPass m' bits now
+pub drew_pass : {st : Step (Unit {0})} (m m' : Sitting) (n bits : ℕ) (ended now : Bool) → IsPass m bits ended → Drew st m n m' → now ≡ nat_lt 0 (past m.0.pieces (m.0.draws ++ entry (first_of m.0.places) n ∷ [])) → IsPass m' bits now
 drew_pass m m' n bits ended now p d stop =
     let e = entry (first_of m.0.places) n in
     let w = view m.0.pieces m.0.places (m.0.draws ++ e ∷ []) m.0.noted in
-    let is : m' ≡ (w, m.1) = λ i. (d.0 i, d.1 i) in
+    let is : m' ≡ (w, m.1) = λ i. (d.drawn i, d.slots i) in
     subst (λ (x : Sitting). IsPass x bits now) (sym is) (record {
       no_slot = p.no_slot;
       sits = p.sits;
@@ -46,13 +42,13 @@ drew_pass m m' n bits ended now p d stop =
     })
 
 pub goes_on : (pieces : ℕ) (ds : List Entry) (e : Entry) → nat_lt 0 (past pieces ds) ≡ false → e.number < pieces → false ≡ nat_lt 0 (past pieces (ds ++ e ∷ []))
-goes_on pieces ds e not_yet low = let z : past pieces (ds ++ e ∷ []) ≡ 0 = omega (arith, total-append (is_past pieces) ds (e ∷ []), past_no pieces e low, none_past (past pieces ds) not_yet) in sym (le-ltb 0 (past pieces (ds ++ e ∷ [])) (omega arith))
+goes_on pieces ds e not_yet low = let z : past pieces (ds ++ e ∷ []) ≡ 0 = omega (arith, total-append (one_past pieces) ds (e ∷ []), past_no pieces e low, none_past (past pieces ds) not_yet) in sym (le-ltb 0 (past pieces (ds ++ e ∷ [])) (omega arith))
 
 pub ends_now : (pieces : ℕ) (ds : List Entry) (e : Entry) → pieces ≤ e.number → true ≡ nat_lt 0 (past pieces (ds ++ e ∷ []))
-ends_now pieces ds e high = sym (lt-ltb 0 (past pieces (ds ++ e ∷ [])) (omega (arith, total-append (is_past pieces) ds (e ∷ []), past_yes pieces e high)))
+ends_now pieces ds e high = sym (lt-ltb 0 (past pieces (ds ++ e ∷ [])) (omega (arith, total-append (one_past pieces) ds (e ∷ []), past_yes pieces e high)))
 
-pub seen_drew : (t t' : TableId) (m m' : Sitting) (n : ℕ) → t' ≡ t → Drew any_step m n m' → seen t' m' ≡ with_draw (seen t m) n
-seen_drew t t' m m' n same d = let v = d.0 in λ i. pass_of (record { table = same i; pieces = (v i).pieces }) (v i).places (v i).draws
+pub seen_drew : {st : Step (Unit {0})} (t t' : TableId) (m m' : Sitting) (n : ℕ) → t' ≡ t → Drew st m n m' → seen t' m' ≡ with_draw (seen t m) n
+seen_drew t t' m m' n same d = let v = d.drawn in λ i. pass_of (record { table = same i; pieces = (v i).pieces }) (v i).places (v i).draws
 
 pub is_piece : (pieces n : ℕ) → n < pieces → Some n ≡ piece_of pieces n
 is_piece pieces n h = ap (λ (b : Bool). piece b n) (sym (lt-ltb n pieces h))
@@ -105,7 +101,7 @@ joined_pass m n m' bits more e f now p q same is stop =
       set = λ x i. ⊎_elim (λ (t : IsIn x ps). omega (arith, bit_at_or bits more x, p.set x t, bit_low more x)) (λ (t : IsIn x qs). omega (arith, bit_at_or bits more x, q.set x t, bit_low bits x)) (in_append ps qs x i);
       clear = λ x b. dite (ℕ_discrete (bit_at bits x) 1) (λ y. in_left ps qs x (p.clear x y)) (λ ne. in_right ps qs x (q.clear x (omega (arith, bit_at_or bits more x, bit_low bits x, bit_low more x))));
       own = λ x i. ⊎_elim (λ (t : IsIn x m.0.draws). in_left ps qs x.place (p.own x t)) (λ (t : IsIn x n.0.draws). in_right ps qs x.place (q.own x t)) (in_append m.0.draws n.0.draws x i);
-      stopped = stop ∙ (ap (λ (b : Bool × Bool). b.0 || b.1) (λ i. (p.stopped i, ends i)) ∙ (sym (some_past (past m.0.pieces m.0.draws) (past m.0.pieces n.0.draws)) ∙ ap (nat_lt 0) (sym (total-append (is_past m.0.pieces) m.0.draws n.0.draws))));
+      stopped = stop ∙ (ap (λ (b : Bool × Bool). b.0 || b.1) (λ i. (p.stopped i, ends i)) ∙ (sym (some_past (past m.0.pieces m.0.draws) (past m.0.pieces n.0.draws)) ∙ ap (nat_lt 0) (sym (total-append (one_past m.0.pieces) m.0.draws n.0.draws))));
     })
   where
     bit_low : (k x : ℕ) → bit_at k x ≤ 1
@@ -130,13 +126,9 @@ small_power : (place : ℕ) → place < 64 → 1 * 2 ^ place % 18446744073709551
 small_power place low = let h : 2 ^ place < 2 ^ 64 = pow-lt low in let k : 2 ^ 64 ≡ 18446744073709551616 = refl in omega arith
 
 -- a seat that sat
-pub sat_there : (m m' : Sitting) (pieces place n : ℕ) → m ≡ (view pieces [] [] [], []) → n ≡ 0 → Sat (step 0 (place + 1) 1 0 none) m n m' → m' ≡ (view pieces (place ∷ []) [] [], [])
-sat_there m m' pieces place n blank free sat = let k : (place + 1) - 1 ≡ place = omega arith in
-    (λ i. (sat.1 free i, sat.0 i)) ∙ (λ i. (view (blank i).0.pieces (k i ∷ (blank i).0.places) (blank i).0.draws (blank i).0.noted, (blank i).1))
-
--- a seat that did not sit
-pub sat_not : (m m' : Sitting) (place n : ℕ) → n ≢ 0 → Sat (step 0 (place + 1) 1 0 none) m n m' → m' ≡ m
-sat_not m m' place n taken sat = λ i. (sat.2 taken i, sat.0 i)
+pub sat_there : {st : Step (Unit {0})} (m m' : Sitting) (pieces place n : ℕ) → st.word ≡ place + 1 → m ≡ (view pieces [] [] [], []) → n ≡ 0 → Sat st m n m' → m' ≡ (view pieces (place ∷ []) [] [], [])
+sat_there {st} m m' pieces place n word blank free sat = let k : st.word - 1 ≡ place = omega arith in
+    (λ i. (sat.free free i, sat.slots i)) ∙ (λ i. (view (blank i).0.pieces (k i ∷ (blank i).0.places) (blank i).0.draws (blank i).0.noted, (blank i).1))
 
 pub seated_pass : (m : Sitting) (pieces place bits : ℕ) → place < 64 → bits ≡ 1 * 2 ^ place % 18446744073709551616 → m ≡ (view pieces (place ∷ []) [] [], []) → IsPass m bits false
 seated_pass m pieces place bits low was e = let is : bits ≡ 2 ^ place = was ∙ small_power place low in subst (λ (t : Sitting × ℕ). IsPass t.0 t.1 false) (λ i. (sym e i, sym is i)) (record {

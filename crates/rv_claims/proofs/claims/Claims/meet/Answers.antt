@@ -18,7 +18,7 @@ unreachable-requires c =
     let first = ap (λ (h : Held). h.places) c.first.view_is in
     let second = ap (λ (h : Held). h.places) c.second.view_is in
     overlap c.first.inside.seat.me c.second.inside.seat.me _ _ _ _ (omega arith) (omega arith) c.first.invariant c.second.invariant c.if-first-second-ne0.true
-    (λ p. subst (λ (l : List ℕ). times p l ≤ 1) (places ∙ (λ i. sym first i ++ sym second i)) (c.load.ensures.2.2 p))
+    (λ p. subst (λ (l : List ℕ). times p l ≤ 1) (places ∙ (λ i. sym first i ++ sym second i)) (c.load.ensures.2.once p))
 
 pub split_seat-note-requires : goal.split_seat-note-requires
 split_seat-note-requires c =
@@ -42,7 +42,7 @@ invariant_of-first c = let me = c.split_seat-note.ensures.2 in
 
 pub invariant_of-second : goal.invariant_of-second
 invariant_of-second c =
-    let me = c.load-2.ensures.2.0 ∙ c.join_seat.ensures.2 in
+    let me = c.load-2.ensures.2.same ∙ c.join_seat.ensures.2 in
     let note = c.split_seat-note.ensures.4 in
     let v = c.second.inside.seat.me.0 in
     noted_pass c.second.inside.seat.me c.load-2.new.seat.me _ _ c.second.invariant (ap (λ (m : Sitting). m.1) me) (ap (λ (m : Sitting). m.0.pieces) me)
@@ -50,15 +50,15 @@ invariant_of-second c =
 
 pub returns-clause-history : goal.returns-clause-history
 returns-clause-history c =
-    let t = c.load-2.ensures.2.1 in
+    let t = c.load-2.ensures.2 in
     let me = c.join_seat.ensures.2 in
     let note = c.split_seat-note.ensures.4 in
     let v = c.second.inside.seat.me.0 in
     let w = c.split_seat-note.result.me.0 in (
-      t.0,
-      t.1,
-      subst (λ (h : Held). Within h.draws t.0) c.first.view_is (λ e i. subst (λ (m : Sitting). Within m.0.noted t.0) me t.3 e (in_right v.noted w.noted e (subst (λ (m : Sitting). IsIn e m.0.noted) (sym note) i))),
-      subst (λ (h : Held). Within h.draws t.0) c.second.view_is (λ e i. subst (λ (m : Sitting). Within m.0.draws t.0) me t.2 e (in_left v.draws w.draws e i)),
+      t.history,
+      t.numbered,
+      subst (λ (h : Held). Within h.draws t.history) c.first.view_is (λ e i. subst (λ (m : Sitting). Within m.0.noted t.history) me t.noted e (in_right v.noted w.noted e (subst (λ (m : Sitting). IsIn e m.0.noted) (sym note) i))),
+      subst (λ (h : Held). Within h.draws t.history) c.second.view_is (λ e i. subst (λ (m : Sitting). Within m.0.draws t.history) me t.draws e (in_left v.draws w.draws e i)),
     )
 
 pub returns-clause-apart : goal.returns-clause-apart

@@ -31,7 +31,7 @@ pub returns-then-number-self-clause-drawn : goal.returns-then-number-self-clause
 returns-then-number-self-clause-drawn c _ = (
   c.fetch_add-number.result,
   seen_drew _ _ _ _ _ c.fetch_add-number.ensures.0 c.fetch_add-number.ensures.2 ∙ ap (λ (h : Held). with_draw h c.fetch_add-number.result) c.pass.view_is,
-  subst (λ (h : Held). AllBelow c.fetch_add-number.result h.draws) c.pass.view_is c.fetch_add-number.ensures.2.2,
+  subst (λ (h : Held). AllBelow c.fetch_add-number.result h.draws) c.pass.view_is c.fetch_add-number.ensures.2.above,
   rw (sym c.self.view_is) (is_piece _ _ c.if-number-self.true),
 )
 
@@ -39,7 +39,7 @@ pub returns-else-number-self-clause-drawn : goal.returns-else-number-self-clause
 returns-else-number-self-clause-drawn c _ = (
   c.fetch_add-number.result,
   seen_drew _ _ _ _ _ c.fetch_add-number.ensures.0 c.fetch_add-number.ensures.2 ∙ ap (λ (h : Held). with_draw h c.fetch_add-number.result) c.pass.view_is,
-  subst (λ (h : Held). AllBelow c.fetch_add-number.result h.draws) c.pass.view_is c.fetch_add-number.ensures.2.2,
+  subst (λ (h : Held). AllBelow c.fetch_add-number.result h.draws) c.pass.view_is c.fetch_add-number.ensures.2.above,
   rw (sym c.self.view_is) (no_piece _ _ c.if-number-self.false),
 )
 
