@@ -1,5 +1,6 @@
 -- Sums over lists that change at one place, and histories.
-use Rattle.std.proofs.Common.{◌≡◌, ℕ, zero, suc, ◌+◌, ◌<◌, ◌≤◌, ◌≢◌, ◌⊎◌, List, [], ◌∷◌, ◌++◌, map, length, set, sym, refl, ap, ◌∙◌, subst, inl, inr, ⊎_elim, arith, cond, eqb, eq-eqb, ne_eqb, max, Bool, ◌&&◌}
+use Rattle.std.proofs.Common.{◌≡◌, ℕ, zero, suc, ◌+◌, ◌<◌, ◌≤◌, ◌≢◌, ◌⊎◌, List, [], ◌∷◌, ◌++◌, map, length, set, sym}
+use Rattle.std.proofs.Common.{refl, ap, ◌∙◌, subst, inl, inr, ⊎_elim, arith, cond, eqb, eq-eqb, ne_eqb, max, Bool, ◌&&◌}
 use Rattle.std.proofs.lemmas.Bool.{le-leb, lt-leb}
 use mathlib.Core.Logic.{dite}
 use native.Mathlib.Decide.{ℕ_discrete, dec_lt}
@@ -22,7 +23,8 @@ one_for e x = cond (is_entry e x) 1 0
 
 module _ {A : Type 0} where
   -- an item of a longer list is the last or stands before
-  pub snoc_at : (l : List A) (a b : A) (j : ℕ) → get_elem? (l ++ a ∷ []) j ≡ some b → (get_elem? l j ≡ some b) ⊎ ((j ≡ length l) × (a ≡ b))
+  pub snoc_at : (l : List A) (a b : A) (j : ℕ) → get_elem? (l ++ a ∷ []) j ≡ some b
+      → (get_elem? l j ≡ some b) ⊎ ((j ≡ length l) × (a ≡ b))
   snoc_at [] a b zero e = inr (refl, some-injective a b e)
   snoc_at [] a b (suc j) e = absurd (some-ne-none b (sym e))
   snoc_at (x ∷ xs) a b zero e = inl e
@@ -57,7 +59,8 @@ module _ {A : Type 0} where
     total-append [] m = omega arith
     total-append (x ∷ xs) m = omega (arith, total-append xs m)
 
-    pub total-set : (l : List A) (j : ℕ) (v w : A) → get_elem? l j ≡ some v → total g (set l j w) + g v ≡ total g l + g w
+    pub total-set : (l : List A) (j : ℕ) (v w : A) → get_elem? l j ≡ some v
+        → total g (set l j w) + g v ≡ total g l + g w
     total-set [] j v w e = absurd (some-ne-none v (sym e))
     total-set (x ∷ xs) zero v w e = omega (arith, ap g (some-injective x v e))
     total-set (x ∷ xs) (suc j) v w e = omega (arith, total-set xs j v w e)
@@ -67,7 +70,8 @@ module _ {A : Type 0} where
     term_le (x ∷ xs) zero v e = omega (arith, ap g (some-injective x v e))
     term_le (x ∷ xs) (suc j) v e = omega (arith, term_le xs j v e)
 
-    pub terms_le : (l : List A) (j k : ℕ) (v u : A) → k ≢ j → get_elem? l j ≡ some v → get_elem? l k ≡ some u → g v + g u ≤ total g l
+    pub terms_le : (l : List A) (j k : ℕ) (v u : A) → k ≢ j → get_elem? l j ≡ some v → get_elem? l k ≡ some u
+        → g v + g u ≤ total g l
     terms_le [] j k v u n e d = absurd (some-ne-none v (sym e))
     terms_le (x ∷ xs) zero zero v u n e d = absurd (n refl)
     terms_le (x ∷ xs) zero (suc k) v u n e d = omega (arith, ap g (some-injective x v e), term_le xs k u d)
@@ -77,17 +81,25 @@ module _ {A : Type 0} where
     -- where something counts, some item does
     pub some_term : (l : List A) → 0 < total g l → (k : ℕ) × (a : A) × (get_elem? l k ≡ some a) × (0 < g a)
     some_term [] h = absurd (omega arith)
-    some_term (x ∷ xs) h = dite (dec_lt 0 (g x)) (λ y. (0, x, refl, y)) (λ n. let r = some_term xs (omega arith) in (suc r.0, r.1, r.2, r.3))
+    some_term (x ∷ xs) h = dite (dec_lt 0 (g x)) (λ y. (0, x, refl, y))
+        (λ n. let r = some_term xs (omega arith) in (suc r.0, r.1, r.2, r.3))
 
     -- where no item but one counts, the sum is that one's
-    pub only_term : (l : List A) (j : ℕ) (v : A) → get_elem? l j ≡ some v → ((k : ℕ) (u : A) → k ≢ j → get_elem? l k ≡ some u → g u ≡ 0) → total g l ≡ g v
+    pub only_term : (l : List A) (j : ℕ) (v : A) → get_elem? l j ≡ some v
+        → ((k : ℕ) (u : A) → k ≢ j → get_elem? l k ≡ some u → g u ≡ 0) → total g l ≡ g v
     only_term [] j v e h = absurd (some-ne-none v (sym e))
-    only_term (x ∷ xs) zero v e h = omega (arith, ap g (some-injective x v e), none_term xs (λ k u d. h (suc k) u (λ i. omega arith) d))
+    only_term (x ∷ xs) zero v e h =
+        omega (arith, ap g (some-injective x v e), none_term xs (λ k u d. h (suc k) u (λ i. omega arith) d))
       where
         none_term : (l : List A) → ((k : ℕ) (u : A) → get_elem? l k ≡ some u → g u ≡ 0) → total g l ≡ 0
         none_term [] h = refl
         none_term (x ∷ xs) h = omega (arith, h 0 x refl, none_term xs (λ k u d. h (suc k) u d))
-    only_term (x ∷ xs) (suc j) v e h = omega (arith, h 0 x (λ i. omega arith) refl, only_term xs j v e (λ k u n d. h (suc k) u (λ i. n (omega arith)) d))
+    only_term (x ∷ xs) (suc j) v e h =
+        omega (
+          arith,
+          h 0 x (λ i. omega arith) refl,
+          only_term xs j v e (λ k u n d. h (suc k) u (λ i. n (omega arith)) d),
+        )
 
   -- an item stands between two parts of its list
   parted_at : (l : List A) (j : ℕ) (x : A) → get_elem? l j ≡ some x → (a : List A) × (b : List A) × (l ≡ a ++ x ∷ b)
@@ -99,7 +111,8 @@ module _ {A : Type 0} where
   total-between : (g : A → ℕ) (a : List A) (x : A) (b : List A) → total g (a ++ x ∷ b) ≡ g x + total g (a ++ b)
   total-between g a x b = omega (arith, total-append g a (x ∷ b), total-append g a b)
 
-  pub total_le : (g h : A → ℕ) (l : List A) → ((k : ℕ) (a : A) → get_elem? l k ≡ some a → g a ≤ h a) → total g l ≤ total h l
+  pub total_le : (g h : A → ℕ) (l : List A) → ((k : ℕ) (a : A) → get_elem? l k ≡ some a → g a ≤ h a)
+      → total g l ≤ total h l
   total_le g h [] f = omega arith
   total_le g h (x ∷ xs) f = omega (arith, f 0 x refl, total_le g h xs (λ k a e. f (suc k) a e))
 
@@ -132,22 +145,33 @@ one_at-other n k ne = ap (λ b. cond b 1 0) (ne_eqb k n ne)
 
 below_one : (x n : ℕ) → x < n → 1 ≤ below (λ p. one_at p x) n
 below_one x zero h = absurd (omega arith)
-below_one x (suc n) h = dite (ℕ_discrete x n) (λ e. let one : one_at n x ≡ 1 = ap (λ b. cond b 1 0) (eq-eqb x n e) in omega arith) (λ ne. let r = below_one x n (omega arith) in omega arith)
+below_one x (suc n) h = dite (ℕ_discrete x n)
+    (λ e. let one : one_at n x ≡ 1 = ap (λ b. cond b 1 0) (eq-eqb x n e) in omega arith)
+    (λ ne. let r = below_one x n (omega arith) in omega arith)
 
 -- places below n are at most as many as the numbers below n, each as often as it stands there
 length_below : (n : ℕ) (xs : List ℕ) → ((p : ℕ) → IsIn p xs → p < n) → length xs ≤ below (λ p. times p xs) n
 length_below n [] h = omega arith
-length_below n (x ∷ xs) h = omega (arith, length_below n xs (λ p i. h p (suc i.0, i.1)), below_one x n (h x (0, refl)), below-add (λ p. one_at p x) (λ p. times p xs) n)
+length_below n (x ∷ xs) h =
+    omega (
+      arith,
+      length_below n xs (λ p i. h p (suc i.0, i.1)),
+      below_one x n (h x (0, refl)),
+      below-add (λ p. one_at p x) (λ p. times p xs) n,
+    )
 
-total-below : (g : ℕ → View → ℕ) (n : ℕ) (vs : List View) → total (λ v. below (λ p. g p v) n) vs ≡ below (λ p. total (g p) vs) n
+total-below : (g : ℕ → View → ℕ) (n : ℕ) (vs : List View)
+    → total (λ v. below (λ p. g p v) n) vs ≡ below (λ p. total (g p) vs) n
 total-below g n [] = sym (below-zero n)
 total-below g n (v ∷ vs) = omega (arith, total-below g n vs, below-add (λ p. g p v) (λ p. total (g p) vs) n)
 
 -- where each place is with one view at most, the views have no more places than there are
-pub places_few : (vs : List View) → ((j : ℕ) (v : View) → get_elem? vs j ≡ some v → (p : ℕ) → IsIn p v.places → p < 64) → ((p : ℕ) → p < 64 → total (λ (v : View). times p v.places) vs ≤ 1) → total (λ (v : View). length v.places) vs ≤ 64
+pub places_few : (vs : List View) → ((j : ℕ) (v : View) → get_elem? vs j ≡ some v → (p : ℕ) → IsIn p v.places → p < 64)
+    → ((p : ℕ) → p < 64 → total (λ (v : View). times p v.places) vs ≤ 1) → total (λ (v : View). length v.places) vs ≤ 64
 places_few vs low once = omega (
   arith,
-  total_le (λ (v : View). length v.places) (λ v. below (λ p. times p v.places) 64) vs (λ k v e. length_below 64 v.places (low k v e)),
+  total_le (λ (v : View). length v.places) (λ v. below (λ p. times p v.places) 64) vs
+      (λ k v e. length_below 64 v.places (low k v e)),
   total-below (λ p v. times p v.places) 64 vs,
   below_le (λ p. total (λ (v : View). times p v.places) vs) 64 64 (omega arith) once,
 )
@@ -159,27 +183,33 @@ pub past_no : (pieces : ℕ) (e : Entry) → e.number < pieces → one_past piec
 past_no pieces e h = ap (λ b. cond b 1 0) (lt-leb pieces e.number h)
 
 pub past_le : (pieces : ℕ) (e : Entry) → one_past pieces e ≤ 1
-past_le pieces e = dite (dec_lt e.number pieces) (λ y. omega (arith, past_no pieces e y)) (λ n. omega (arith, past_yes pieces e (omega arith)))
+past_le pieces e = dite (dec_lt e.number pieces) (λ y. omega (arith, past_no pieces e y))
+    (λ n. omega (arith, past_yes pieces e (omega arith)))
 
-history_from : (pieces k : ℕ) (h : List Entry) → ((j : ℕ) (e : Entry) → get_elem? h j ≡ some e → e.number ≡ k + j) → length h + k ≤ past pieces h + max pieces k
+history_from : (pieces k : ℕ) (h : List Entry) → ((j : ℕ) (e : Entry) → get_elem? h j ≡ some e → e.number ≡ k + j)
+    → length h + k ≤ past pieces h + max pieces k
 history_from pieces k [] is = omega arith
 history_from pieces k (e ∷ es) is =
     let here : e.number ≡ k = is 0 e refl ∙ omega arith in
     let rest = history_from pieces (k + 1) es (λ j x at. is (suc j) x at ∙ omega arith) in
-    dite (dec_lt k pieces) (λ y. omega (arith, past_no pieces e (omega arith))) (λ n. omega (arith, past_yes pieces e (omega arith)))
+    dite (dec_lt k pieces) (λ y. omega (arith, past_no pieces e (omega arith)))
+    (λ n. omega (arith, past_yes pieces e (omega arith)))
 
 -- a history has at most as many draws past the end as it is longer than the pieces
 pub history_past : (pieces : ℕ) (h : List Entry) → IsHistory h → length h ≤ past pieces h + pieces
 history_past pieces h is = let r = history_from pieces 0 h (λ j e at. is j e at ∙ omega arith) in omega arith
 
 pub history-snoc : (h : List Entry) (e : Entry) → IsHistory h → e.number ≡ length h → IsHistory (h ++ e ∷ [])
-history-snoc h e is last j x at = ⊎_elim (λ (t : get_elem? h j ≡ some x). is j x t) (λ (t : (j ≡ length h) × (e ≡ x)). ap (λ (y : Entry). y.number) (sym t.1) ∙ (last ∙ sym t.0)) (snoc_at h e x j at)
+history-snoc h e is last j x at =
+    ⊎_elim (λ (t : get_elem? h j ≡ some x). is j x t)
+    (λ (t : (j ≡ length h) × (e ≡ x)). ap (λ (y : Entry). y.number) (sym t.1) ∙ (last ∙ sym t.0)) (snoc_at h e x j at)
 
 -- ---- how often an entry stands in a list
 
 pub one_for-same : (e : Entry) → one_for e e ≡ 1
 one_for-same e =
-    ap (λ (b : Bool × Bool). cond (b.0 && b.1) 1 0) (λ i. (eq-eqb e.place e.place refl i, eq-eqb e.number e.number refl i))
+    ap (λ (b : Bool × Bool). cond (b.0 && b.1) 1 0)
+    (λ i. (eq-eqb e.place e.place refl i, eq-eqb e.number e.number refl i))
 
 one_for-other_place : (e x : Entry) → x.place ≢ e.place → one_for e x ≡ 0
 one_for-other_place e x ne = ap (λ (b : Bool). cond (b && eqb x.number e.number) 1 0) (ne_eqb x.place e.place ne)
@@ -209,7 +239,8 @@ weighs_same f [] (y ∷ ys) same = let e = same y in let one = one_for-same y in
 weighs_same f (x ∷ xs) ys same =
     let here = counted_in x ys (omega (arith, same x, one_for-same x)) in
     let r = parted_at ys here.0 x here.1 in
-    let rest : Same xs (r.0 ++ r.1) = λ e. omega (arith, same e, ap (count_of e) r.2, total-between (one_for e) r.0 x r.1) in
+    let rest : Same xs (r.0 ++ r.1) = λ e.
+    omega (arith, same e, ap (count_of e) r.2, total-between (one_for e) r.0 x r.1) in
     omega (arith, weighs_same f xs (r.0 ++ r.1) rest, ap (total f) r.2, total-between f r.0 x r.1)
 
 -- the draws of all views

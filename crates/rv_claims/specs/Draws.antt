@@ -1,6 +1,7 @@
--- The running rule of a shared draw: one history of draws, the places that seats hold, and what each seat knows.
-use Rattle.std.specs.Prelude.{◌≡◌, ◌≢◌, ℕ, ◌+◌, ◌-◌, ◌<◌, ◌≤◌, ◌==◌, ◌&&◌, Bool, nat_le, cond, List, []}
-use Rattle.std.specs.Prelude.{◌∷◌, ◌++◌, map, length, slice_index}
+-- The running rule of a shared draw: one history of draws, the places that seats hold, and what
+-- each seat knows.
+use Rattle.std.specs.Prelude.{◌≡◌, ◌≢◌, ℕ, ◌+◌, ◌-◌, ◌<◌, ◌≤◌, ◌==◌, ◌&&◌, Bool, nat_le, cond, List}
+use Rattle.std.specs.Prelude.{[], ◌∷◌, ◌++◌, map, length, slice_index}
 use mathlib.Core.Option.{some}
 use lib.ListN.{get_elem?}
 use Rattle.atomic_table.specs.Table.{State, Me, Step}
@@ -93,23 +94,23 @@ spent = view 0 [] [] []
 
 -- ---- the rule
 
--- what the rule says of one view: its places are places, each of its draws is by one of them, it has
--- no more draws past the end than places, and what it noted stands in the history
+-- what the rule says of one view: its places are places, each of its draws is by one of them, it
+-- has no more draws past the end than places, and what it noted stands in the history
 pub record Fits (pieces : ℕ) (history : List Entry) (v : View) : Type 0 where
   pub places : (p : ℕ) → IsIn p v.places → p < 64
   pub own : (e : Entry) → IsIn e v.draws → IsIn e.place v.places
   pub few : past pieces v.draws ≤ length v.places
   pub noted : Within v.noted history
 
--- the rule over words and views: what the views hold together is one history, and the words count it
+-- the rule over words and views: the views hold one history together, and the words count it
 pub record Runs (pieces : ℕ) (s : State (Unit {0}) View) : Type 0 where
   pub history : List Entry
   pub numbered : IsHistory history
   pub wide : length s.words ≡ 65
   -- word 0 is the length of the history
   pub drawn : slice_index s.words 0 ≡ length history
-  -- an entry stands as often in the draws of all views together as in the history: there once, if it
-  -- was drawn, so that one view holds it, once; and else never
+  -- an entry stands as often in the draws of all views together as in the history: there once, if
+  -- it was drawn, so that one view holds it, once; and else never
   pub held : (e : Entry) → total (λ v. count_of e v.draws) s.views ≡ count_of e history
   -- the word of a place is 1 where one view holds the place, once, and 0 where none does
   pub seated : (p : ℕ) → p < 64
@@ -149,13 +150,14 @@ pub record Drew (st : Step (Unit {0})) (me : Sitting) (n : ℕ) (after : Sitting
   pub slots : slots_of after ≡ slots_of me
   pub above : (e : Entry) → IsIn e (view_of me).draws → e.number < n
 
--- sitting: the place, whose word is the next one, is the seat's where 0 was found
+-- sitting at the word of a place, whose number is one more: the place is the seat's where 0 was
+-- found, and another seat's or its own where not
 pub record Sat (st : Step (Unit {0})) (me : Sitting) (n : ℕ) (after : Sitting) : Type 0 where
   pub slots : slots_of after ≡ slots_of me
   pub free : n ≡ 0 → view_of after ≡ view_seated (view_of me) (st.word - 1)
   pub taken : n ≢ 0 → view_of after ≡ view_of me
 
--- a look: what the seat has drawn and noted stands in one history, and it has each of its places once
+-- a look: what the seat has drawn and noted stands in one history, and it has each place once
 pub record Looked (st : Step (Unit {0})) (me : Sitting) (n : ℕ) (after : Sitting) : Type 0 where
   pub same : after ≡ me
   pub history : List Entry

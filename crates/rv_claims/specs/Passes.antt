@@ -1,10 +1,11 @@
 -- What contracts see of a shared draw and of a pass.
-use Rattle.std.specs.Prelude.{◌≡◌, ℕ, ◌<◌, Bool, nat_lt, cond, List, [], ◌∷◌, ◌++◌, length, replicate}
-use Rattle.std.specs.Prelude.{Option, Some, None}
+use Rattle.std.specs.Prelude.{◌≡◌, ℕ, ◌<◌, Bool, nat_lt, cond, List, [], ◌∷◌, ◌++◌, length}
+use Rattle.std.specs.Prelude.{replicate, Option, Some, None}
 use Rattle.std.specs.Int.{bit_at}
 use Rattle.atomic_table.specs.Seated.{TableId}
 use Rattle.rv_claims.specs.declared.view.Entry.{Entry}
-use Rattle.rv_claims.specs.Draws.{IsIn, past, entry, first_of, Sitting, view_of, slots_of, IsHistory, Within, Same}
+use Rattle.rv_claims.specs.Draws.{IsIn, past, entry, first_of, Sitting, view_of, slots_of}
+use Rattle.rv_claims.specs.Draws.{IsHistory, Within, Same}
 
 -- which shared draw it is, and the number of its pieces
 pub record SharedDraw : Type 0 where
@@ -63,7 +64,8 @@ pub record IsPass (me : Sitting) (bits : ℕ) (ended : Bool) : Type 0 where
 
 -- what a seat of a pass shows
 abbrev pub seen : TableId → Sitting → Held
-seen table me = let v = view_of me in pass_of (record { table = table; pieces = v.pieces }) v.places v.draws
+seen table me = let v = view_of me in
+    pass_of (record { table = table; pieces = v.pieces }) v.places v.draws
 
 -- the words at the start: no draw, and place 0 taken
 abbrev pub opening_row : List ℕ
