@@ -1,5 +1,7 @@
 -- Each step of the shared draw keeps its rule.
-use Rattle.std.proofs.Common.{◌≡◌, ℕ, zero, suc, ◌+◌, ◌-◌, ◌%◌, ◌^◌, ◌<◌, ◌≤◌, ◌≢◌, List, [], ◌∷◌, ◌++◌, length, set, get_or, sym, refl, ap, ◌∙◌, subst, ⊎_elim, arith, length-set, length-append, get_or-set_other, get_or-set_same}
+use Rattle.std.proofs.Common.{◌≡◌, ℕ, zero, suc, ◌+◌, ◌-◌, ◌%◌, ◌^◌, ◌<◌, ◌≤◌, ◌≢◌, List, [], ◌∷◌, ◌++◌, length, set}
+use Rattle.std.proofs.Common.{get_or, sym, refl, ap, ◌∙◌, subst, ⊎_elim, arith, length-set, length-append}
+use Rattle.std.proofs.Common.{get_or-set_other, get_or-set_same}
 use mathlib.Core.Logic.{dite}
 use native.Mathlib.Decide.{ℕ_discrete, dec_lt}
 use mathlib.Core.Option.{Option, none, some, some-injective, some-ne-none}
@@ -9,8 +11,13 @@ use Rattle.atomic_table.specs.Table.{State, step, keeps, stepped, opening, Allow
 use Rattle.atomic_table.proofs.Lists.{at_set, set_again}
 use Rattle.rv_claims.specs.declared.view.Entry.{Entry}
 use Rattle.rv_claims.specs.declared.view.View.{View}
-use Rattle.rv_claims.specs.Draws.{total, one_at, times, IsIn, Within, IsHistory, is_past, past, entry, numbers, Same, view, opened, unseated, note_of, both, spent, Fits, Runs, Sitting, first_of, Drew, Sat, Looked}
-use Rattle.rv_claims.proofs.Sums.{snoc_at, at_lt, in_append, in_left, in_right, in_one, in_none, total-append, total-set, term_le, terms_le, some_term, only_term, total_le, total-map, places_few, past_no, past_le, history_past, history-snoc, weighed_in, one_at-same, one_at-other}
+use Rattle.rv_claims.specs.Draws.{total, times, IsIn, Within, IsHistory, past, entry, count_of, numbers, Same, view}
+use Rattle.rv_claims.specs.Draws.{opened, unseated, note_of, both, spent, Fits, Runs, Sitting, first_of, Drew, Sat}
+use Rattle.rv_claims.specs.Draws.{Looked}
+use Rattle.rv_claims.proofs.Sums.{snoc_at, at_lt, in_append, in_left, in_right, in_one, in_none, total-append}
+use Rattle.rv_claims.proofs.Sums.{total-set, term_le, terms_le, some_term, only_term, total_le, total-map, places_few}
+use Rattle.rv_claims.proofs.Sums.{past_no, past_le, history_past, history-snoc, counted_in, weighs_same, views_weigh}
+use Rattle.rv_claims.proofs.Sums.{one_at, one_past, one_for, one_for-same, one_at-same, one_at-other}
 
 abbrev St : Type 0
 St = State (Unit {0}) View
@@ -19,12 +26,23 @@ abbrev state : List ℕ → List (Option (Unit {0})) → List View → St
 state ws hs vs = record { words = ws; homes = hs; views = vs }
 
 -- a draw that some view holds stands in the history
-pub in_history : (pieces : ℕ) (s : St) (r : Runs pieces s) (i : ℕ) (v : View) → get_elem? s.views i ≡ some v → Within v.draws r.history
-in_history pieces s r i v at e here = weighed_in e r.history (λ f. let a = term_le f v.draws here.0 e here.1 in let b = term_le (λ (u : View). total f u.draws) s.views i v at in let c = r.held f in omega arith)
+pub in_history : (pieces : ℕ) (s : St) (r : Runs pieces s) (i : ℕ) (v : View) → get_elem? s.views i ≡ some v
+    → Within v.draws r.history
+in_history pieces s r i v at e here =
+    counted_in e r.history (omega (
+      arith,
+      one_for-same e,
+      term_le (one_for e) v.draws here.0 e here.1,
+      term_le (λ (u : View). count_of e u.draws) s.views i v at,
+      r.held e,
+    ))
 
 -- its number is below the length
-pub below_length : (pieces : ℕ) (s : St) (r : Runs pieces s) (i : ℕ) (v : View) → get_elem? s.views i ≡ some v → (e : Entry) → IsIn e v.draws → e.number < length r.history
-below_length pieces s r i v at e here = let t = in_history pieces s r i v at e here in let n = r.numbered t.0 e t.1 in let l = at_lt r.history t.0 e t.1 in omega arith
+pub below_length : (pieces : ℕ) (s : St) (r : Runs pieces s) (i : ℕ) (v : View) → get_elem? s.views i ≡ some v
+    → (e : Entry) → IsIn e v.draws → e.number < length r.history
+below_length pieces s r i v at e here =
+    let t = in_history pieces s r i v at e here in
+    let n = r.numbered t.0 e t.1 in let l = at_lt r.history t.0 e t.1 in omega arith
 
 pub once_each : (pieces : ℕ) (s : St) (r : Runs pieces s) (p : ℕ) → p < 64 → total (λ v. times p v.places) s.views ≤ 1
 once_each pieces s r p h = omega (arith, r.seated p h, r.single p h)
@@ -34,33 +52,53 @@ pub bounded : (pieces : ℕ) (s : St) (r : Runs pieces s) → length r.history �
 bounded pieces s r = omega (
   arith,
   history_past pieces r.history r.numbered,
-  r.held (is_past pieces),
+  views_weigh (one_past pieces) s.views r.history r.held,
   total_le (λ (v : View). past pieces v.draws) (λ (v : View). length v.places) s.views (λ k v at. (r.each k v at).few),
   places_few s.views (λ j v at. (r.each j v at).places) (once_each pieces s r),
 )
 
 fits_longer : (pieces : ℕ) (h : List Entry) (e : Entry) (v : View) → Fits pieces h v → Fits pieces (h ++ e ∷ []) v
-fits_longer pieces h e v f = record { places = f.places; own = f.own; few = f.few; noted = λ x i. in_left h (e ∷ []) x (f.noted x i) }
+fits_longer pieces h e v f =
+    record { places = f.places; own = f.own; few = f.few; noted = λ x i. in_left h (e ∷ []) x (f.noted x i) }
 
 -- what all views but one had to meet, and that one now
-each_set : (pieces : ℕ) (h : List Entry) (vs : List View) (j : ℕ) (w : View) → ((i : ℕ) (v : View) → get_elem? vs i ≡ some v → Fits pieces h v) → Fits pieces h w → (i : ℕ) (v : View) → get_elem? (set vs j w) i ≡ some v → Fits pieces h v
-each_set pieces h vs j w all mine i v at = ⊎_elim (λ (t : (i ≡ j) × (w ≡ v)). subst (Fits pieces h) t.1 mine) (λ (t : (i ≢ j) × (get_elem? vs i ≡ some v)). all i v t.1) (at_set vs j i w v at)
+each_set : (pieces : ℕ) (h : List Entry) (vs : List View) (j : ℕ) (w : View)
+    → ((i : ℕ) (v : View) → get_elem? vs i ≡ some v → Fits pieces h v) → Fits pieces h w → (i : ℕ) (v : View)
+    → get_elem? (set vs j w) i ≡ some v → Fits pieces h v
+each_set pieces h vs j w all mine i v at =
+    ⊎_elim (λ (t : (i ≡ j) × (w ≡ v)). subst (Fits pieces h) t.1 mine)
+    (λ (t : (i ≢ j) × (get_elem? vs i ≡ some v)). all i v t.1) (at_set vs j i w v at)
 
-each_snoc : (pieces : ℕ) (h : List Entry) (vs : List View) (w : View) → ((i : ℕ) (v : View) → get_elem? vs i ≡ some v → Fits pieces h v) → Fits pieces h w → (i : ℕ) (v : View) → get_elem? (vs ++ w ∷ []) i ≡ some v → Fits pieces h v
-each_snoc pieces h vs w all mine i v at = ⊎_elim (λ (t : get_elem? vs i ≡ some v). all i v t) (λ (t : (i ≡ length vs) × (w ≡ v)). subst (Fits pieces h) t.1 mine) (snoc_at vs w v i at)
+each_snoc : (pieces : ℕ) (h : List Entry) (vs : List View) (w : View)
+    → ((i : ℕ) (v : View) → get_elem? vs i ≡ some v → Fits pieces h v) → Fits pieces h w → (i : ℕ) (v : View)
+    → get_elem? (vs ++ w ∷ []) i ≡ some v → Fits pieces h v
+each_snoc pieces h vs w all mine i v at =
+    ⊎_elim (λ (t : get_elem? vs i ≡ some v). all i v t)
+    (λ (t : (i ≡ length vs) × (w ≡ v)). subst (Fits pieces h) t.1 mine) (snoc_at vs w v i at)
 
-pub opens : (pieces : ℕ) (ws : List ℕ) → length ws ≡ 65 → get_or ws 0 0 ≡ 0 → get_or ws 1 0 ≡ 1 → ((p : ℕ) → 1 < p → p < 65 → get_or ws p 0 ≡ 0) → Runs pieces (opening ws [] (opened pieces))
+pub opens : (pieces : ℕ) (ws : List ℕ) → length ws ≡ 65 → get_or ws 0 0 ≡ 0 → get_or ws 1 0 ≡ 1
+    → ((p : ℕ) → 1 < p → p < 65 → get_or ws p 0 ≡ 0) → Runs pieces (opening ws [] (opened pieces))
 opens pieces ws wide zeroth first others = record {
   history = [];
   numbered = λ j e at. absurd (some-ne-none e (sym at));
   wide = wide;
   drawn = zeroth;
-  held = λ f. refl;
+  held = λ e. refl;
   seated = λ p h. dite (ℕ_discrete 0 p)
       (λ e. subst (λ (q : ℕ). one_at q 0 + 0 + 0 ≡ get_or ws (q + 1) 0) e (sym first))
       (λ ne. let z = one_at-other p 0 ne in let o = others (p + 1) (omega arith) (omega arith) in omega arith);
-  single = λ p h. dite (ℕ_discrete 0 p) (λ e. subst (λ (q : ℕ). get_or ws (q + 1) 0 ≤ 1) e (omega (arith, first))) (λ ne. let o = others (p + 1) (omega arith) (omega arith) in omega arith);
-  each = λ i v at. ⊎_elim (λ (t : get_elem? [] i ≡ some v). absurd (some-ne-none v (sym t))) (λ (t : (i ≡ 0) × (opened pieces ≡ v)). subst (Fits pieces []) t.1 (record { places = λ p in-it. let e = in_one 0 p in-it in omega arith; own = λ e in-it. absurd (in_none e in-it); few = omega arith; noted = λ e in-it. in-it })) (snoc_at [] (opened pieces) v i at);
+  single = λ p h. dite (ℕ_discrete 0 p) (λ e. subst (λ (q : ℕ). get_or ws (q + 1) 0 ≤ 1) e (omega (arith, first)))
+      (λ ne. let o = others (p + 1) (omega arith) (omega arith) in omega arith);
+  each = λ i v at. ⊎_elim (λ (t : get_elem? [] i ≡ some v). absurd (some-ne-none v (sym t)))
+      (λ (t : (i ≡ 0) × (opened pieces ≡ v)). subst (Fits pieces []) t.1
+      (record {
+        places = λ p in-it. let e = in_one 0 p in-it in
+            omega arith;
+        own = λ e in-it. absurd (in_none e in-it);
+        few = omega arith;
+        noted = λ e in-it. in-it;
+      }))
+      (snoc_at [] (opened pieces) v i at);
 }
 
 -- a draw
@@ -82,18 +120,41 @@ draws pieces slots id m most going sits s r _ at small =
         history = h';
         numbered = history-snoc r.history e r.numbered r.drawn;
         wide = length-set s.words 0 ((n + 1) % 2 ^ 64) ∙ r.wide;
-        drawn = omega (arith, get_or-set_same s.words 0 ((n + 1) % 2 ^ 64) 0 (omega (arith, r.wide)), length-append r.history (e ∷ []), next, r.drawn);
-        held = λ f. omega (arith, total-set (λ (u : View). total f u.draws) s.views id v w at, total-append f v.draws (e ∷ []), total-append f r.history (e ∷ []), r.held f);
-        seated = λ p h. omega (arith, total-set (λ (u : View). times p u.places) s.views id v w at, r.seated p h, get_or-set_other s.words 0 (p + 1) ((n + 1) % 2 ^ 64) 0 (λ z. omega arith));
-        single = λ p h. omega (arith, r.single p h, get_or-set_other s.words 0 (p + 1) ((n + 1) % 2 ^ 64) 0 (λ z. omega arith));
+        drawn = omega (
+          arith,
+          get_or-set_same s.words 0 ((n + 1) % 2 ^ 64) 0 (omega (arith, r.wide)),
+          length-append r.history (e ∷ []),
+          next,
+          r.drawn,
+        );
+        held = λ x. omega (
+          arith,
+          total-set (λ (u : View). count_of x u.draws) s.views id v w at,
+          total-append (one_for x) v.draws (e ∷ []),
+          total-append (one_for x) r.history (e ∷ []),
+          r.held x,
+        );
+        seated = λ p h. omega (
+          arith,
+          total-set (λ (u : View). times p u.places) s.views id v w at,
+          r.seated p h,
+          get_or-set_other s.words 0 (p + 1) ((n + 1) % 2 ^ 64) 0 (λ z. omega arith),
+        );
+        single = λ p h. omega (
+          arith,
+          r.single p h,
+          get_or-set_other s.words 0 (p + 1) ((n + 1) % 2 ^ 64) 0 (λ z. omega arith),
+        );
         each = each_set pieces h' s.views id w (λ i u a. fits_longer pieces r.history e u (r.each i u a)) (record {
           places = fits.places;
-          own = λ x i. ⊎_elim (λ (t : IsIn x v.draws). fits.own x t) (λ (t : IsIn x (e ∷ [])). subst (λ (y : Entry). IsIn y.place v.places) (in_one e x t) (first_in v.places sits)) (in_append v.draws (e ∷ []) x i);
-          few = omega (arith, total-append (is_past pieces) v.draws (e ∷ []), past_le pieces e);
+          own = λ x i. ⊎_elim (λ (t : IsIn x v.draws). fits.own x t)
+              (λ (t : IsIn x (e ∷ [])). subst (λ (y : Entry). IsIn y.place v.places) (in_one e x t)
+              (first_in v.places sits)) (in_append v.draws (e ∷ []) x i);
+          few = omega (arith, total-append (one_past pieces) v.draws (e ∷ []), past_le pieces e);
           noted = λ x i. in_left r.history (e ∷ []) x (fits.noted x i);
         });
       },
-      (refl, refl, λ x i. omega (arith, below_length pieces s r id v at x i, r.drawn)),
+      record { drawn = refl; slots = refl; above = λ x i. omega (arith, below_length pieces s r id v at x i, r.drawn) },
     )
   where
     first_in : (ps : List ℕ) → 0 < length ps → IsIn (first_of ps) ps
@@ -101,23 +162,32 @@ draws pieces slots id m most going sits s r _ at small =
     first_in (p ∷ ps) h = (0, refl)
 
 -- a step that leaves the words and this view as they were
-unmoved : (pieces : ℕ) (s : St) (r : Runs pieces s) (i id : ℕ) (m : Sitting) → get_elem? s.views id ≡ some m.0 → Runs pieces (stepped s i (get_or s.words i 0) id m.1 m.0 keeps)
+unmoved : (pieces : ℕ) (s : St) (r : Runs pieces s) (i id : ℕ) (m : Sitting) → get_elem? s.views id ≡ some m.0
+    → Runs pieces (stepped s i (get_or s.words i 0) id m.1 m.0 keeps)
 unmoved pieces s r i id m at =
-    subst (λ (t : List ℕ × List View). Runs pieces (state t.0 s.homes t.1)) (λ k. (sym (set-get_or s.words i 0) k, sym (set_again s.views id m.0 at) k)) r
+    subst (λ (t : List ℕ × List View). Runs pieces (state t.0 s.homes t.1))
+    (λ k. (sym (set-get_or s.words i 0) k, sym (set_again s.views id m.0 at) k)) r
 
 -- a look
-pub looks : (pieces slots id : ℕ) (m : Sitting) → Allows (Runs pieces) slots id m 0 (λ n. n) (Looked (step slots 0 0 0 none) m)
+pub looks : (pieces slots id : ℕ) (m : Sitting)
+    → Allows (Runs pieces) slots id m 0 (λ n. n) (Looked (step slots 0 0 0 none) m)
 looks pieces slots id m s r _ at small = (
   m.0,
   keeps,
   tt,
   unmoved pieces s r 0 id m at,
-  (
-    refl,
-    (r.history, r.numbered, in_history pieces s r id m.0 at, (r.each id m.0 at).noted),
-    λ p. dite (dec_lt p 64) (λ h. let a = term_le (λ (u : View). times p u.places) s.views id m.0 at in omega (arith, once_each pieces s r p h))
-        (λ n. none_beyond m.0.places p (λ q i. let h = (r.each id m.0 at).places q i in λ e. n (subst (λ (z : ℕ). z < 64) e h))),
-  ),
+  record {
+    same = refl;
+    history = r.history;
+    numbered = r.numbered;
+    draws = in_history pieces s r id m.0 at;
+    noted = (r.each id m.0 at).noted;
+    once = λ p. dite (dec_lt p 64)
+        (λ h. let a = term_le (λ (u : View). times p u.places) s.views id m.0 at in
+        omega (arith, once_each pieces s r p h))
+        (λ n. none_beyond m.0.places p
+        (λ q i. let h = (r.each id m.0 at).places q i in λ e. n (subst (λ (z : ℕ). z < 64) e h)));
+  },
 )
   where
     none_beyond : (ps : List ℕ) (p : ℕ) → ((q : ℕ) → IsIn q ps → q ≢ p) → times p ps ≤ 1
@@ -129,7 +199,8 @@ looks pieces slots id m s r _ at small = (
         none_at (q ∷ qs) p h = omega (arith, one_at-other p q (h q (0, refl)), none_at qs p (λ x i. h x (suc i.0, i.1)))
 
 -- sitting
-pub sits : (pieces slots id : ℕ) (m : Sitting) (p k : ℕ) → p < 64 → k ≡ p + 1 → Allows (Runs pieces) slots id m k (λ _. 1) (Sat (step slots k 1 0 none) m)
+pub sits : (pieces slots id : ℕ) (m : Sitting) (p k : ℕ) → p < 64 → k ≡ p + 1
+    → Allows (Runs pieces) slots id m k (λ _. 1) (Sat (step slots k 1 0 none) m)
 sits pieces slots id m p k low is s r _ at small =
     let v = m.0 in
     let n : ℕ = get_or s.words k 0 in
@@ -147,16 +218,24 @@ sits pieces slots id m p k low is s r _ at small =
         numbered = r.numbered;
         wide = length-set s.words k 1 ∙ r.wide;
         drawn = get_or-set_other s.words k 0 1 0 (λ z. omega arith) ∙ r.drawn;
-        held = λ f. omega (arith, total-set (λ (u : View). total f u.draws) s.views id v w at, r.held f);
+        held = λ x. omega (arith, total-set (λ (u : View). count_of x u.draws) s.views id v w at, r.held x);
         seated = λ q h. dite (ℕ_discrete (k - 1) q)
-            (λ e. let here : get_or (set s.words k 1) (q + 1) 0 ≡ 1 = ap (λ (i : ℕ). get_or (set s.words k 1) i 0) (omega arith) ∙ get_or-set_same s.words k 1 0 (omega (arith, r.wide)) in
+            (λ e. let here : get_or (set s.words k 1) (q + 1) 0 ≡ 1 =
+            ap (λ (i : ℕ). get_or (set s.words k 1) i 0) (omega arith)
+            ∙ get_or-set_same s.words k 1 0 (omega (arith, r.wide)) in
             let before : get_or s.words (q + 1) 0 ≡ 0 = ap (λ (i : ℕ). get_or s.words i 0) (omega arith) ∙ free in
             let one : one_at q (k - 1) ≡ 1 = ap (λ (z : ℕ). one_at q z) e ∙ one_at-same q in
             omega (arith, total-set (λ (u : View). times q u.places) s.views id v w at, r.seated q h))
             (λ ne. let zero-more = one_at-other q (k - 1) ne in
-            omega (arith, total-set (λ (u : View). times q u.places) s.views id v w at, r.seated q h, get_or-set_other s.words k (q + 1) 1 0 (λ z. ne (omega arith))));
+            omega (
+              arith,
+              total-set (λ (u : View). times q u.places) s.views id v w at,
+              r.seated q h,
+              get_or-set_other s.words k (q + 1) 1 0 (λ z. ne (omega arith)),
+            ));
         single = λ q h. dite (ℕ_discrete (q + 1) k)
-            (λ e. let here : get_or (set s.words k 1) (q + 1) 0 ≡ 1 = ap (λ (i : ℕ). get_or (set s.words k 1) i 0) e ∙ get_or-set_same s.words k 1 0 (omega (arith, r.wide)) in omega arith)
+            (λ e. let here : get_or (set s.words k 1) (q + 1) 0 ≡ 1 = ap (λ (i : ℕ). get_or (set s.words k 1) i 0) e
+            ∙ get_or-set_same s.words k 1 0 (omega (arith, r.wide)) in omega arith)
             (λ ne. omega (arith, r.single q h, get_or-set_other s.words k (q + 1) 1 0 ne));
         each = each_set pieces r.history s.views id w r.each (record {
           places = λ q i. place_low q i;
@@ -165,20 +244,33 @@ sits pieces slots id m p k low is s r _ at small =
           noted = fits.noted;
         });
       },
-      (refl, (λ _. refl), λ ne. absurd (ne free)),
+      record { slots = refl; free = λ _. refl; taken = λ ne. absurd (ne free) },
     ))
-    (λ taken. let one : n ≡ 1 = omega (arith, r.single p low) in
-    (v, keeps, tt, subst (λ (x : ℕ). Runs pieces (stepped s k x id m.1 v keeps)) one (unmoved pieces s r k id m at), (refl, (λ z. absurd (taken z)), λ _. refl)))
+    (λ taken. let one : n ≡ 1 = omega (arith, r.single p low) in (
+      v,
+      keeps,
+      tt,
+      subst (λ (x : ℕ). Runs pieces (stepped s k x id m.1 v keeps)) one (unmoved pieces s r k id m at),
+      record { slots = refl; free = λ z. absurd (taken z); taken = λ _. refl },
+    ))
   where
     place_low : (q : ℕ) → IsIn q ((k - 1) ∷ m.0.places) → q < 64
     place_low q (zero, e) = let e' : k - 1 ≡ q = some-injective (k - 1) q e in omega arith
     place_low q (suc j, e) = (r.each id m.0 at).places q (j, e)
 
 unseated_fits : (pieces : ℕ) (h : List Entry) (v : View) → Fits pieces h (unseated v)
-unseated_fits pieces h v = record { places = λ p i. absurd (in_none p i); own = λ e i. absurd (in_none e i); few = omega arith; noted = λ e i. absurd (in_none e i) }
+unseated_fits pieces h v =
+    record {
+      places = λ p i. absurd (in_none p i);
+      own = λ e i. absurd (in_none e i);
+      few = omega arith;
+      noted = λ e i. absurd (in_none e i);
+    }
 
 -- a new seat with no place and no number, with some noted entries that stand in the history
-splits : (pieces id : ℕ) (v : View) (w : View) → w.places ≡ [] → w.draws ≡ [] → ((s : St) (r : Runs pieces s) → get_elem? s.views id ≡ some v → Within w.noted r.history) → Splits (Runs pieces) id v v w
+splits : (pieces id : ℕ) (v : View) (w : View) → w.places ≡ [] → w.draws ≡ []
+    → ((s : St) (r : Runs pieces s) → get_elem? s.views id ≡ some v → Within w.noted r.history)
+    → Splits (Runs pieces) id v v w
 splits pieces id v w no_place no_draw notes s r at =
     let same : set s.views id v ≡ s.views = set_again s.views id v at in
     subst (λ (vs : List View). Runs pieces (state s.words s.homes (vs ++ w ∷ []))) (sym same) (record {
@@ -186,8 +278,18 @@ splits pieces id v w no_place no_draw notes s r at =
       numbered = r.numbered;
       wide = r.wide;
       drawn = r.drawn;
-      held = λ f. omega (arith, total-append (λ (u : View). total f u.draws) s.views (w ∷ []), ap (total f) no_draw, r.held f);
-      seated = λ p h. omega (arith, total-append (λ (u : View). times p u.places) s.views (w ∷ []), ap (times p) no_place, r.seated p h);
+      held = λ x. omega (
+        arith,
+        total-append (λ (u : View). count_of x u.draws) s.views (w ∷ []),
+        ap (count_of x) no_draw,
+        r.held x,
+      );
+      seated = λ p h. omega (
+        arith,
+        total-append (λ (u : View). times p u.places) s.views (w ∷ []),
+        ap (times p) no_place,
+        r.seated p h,
+      );
       single = r.single;
       each = each_snoc pieces r.history s.views w r.each (record {
         places = λ p i. absurd (in_none p (subst (λ (l : List ℕ). IsIn p l) no_place i));
@@ -210,34 +312,45 @@ pub joins : (pieces id : ℕ) (v : View) (other : ℕ) (w : View) → Joins (Run
 joins pieces id v other w s r at apart there =
     let b : View = both v w in
     let vs : List View = set s.views id b in
-    let was : get_elem? s.views other ≡ some w = ⊎_elim (λ (t : (other ≡ id) × (b ≡ w)). absurd (apart t.0)) (λ (t : (other ≢ id) × (get_elem? s.views other ≡ some w)). t.1) (at_set s.views id other b w there) in
+    let was : get_elem? s.views other ≡ some w =
+    ⊎_elim (λ (t : (other ≡ id) × (b ≡ w)). absurd (apart t.0))
+    (λ (t : (other ≢ id) × (get_elem? s.views other ≡ some w)). t.1) (at_set s.views id other b w there) in
     let fv = r.each id v at in
     let fw = r.each other w was in
-    let moved : (g : View → ℕ) → g b ≡ g v + g w → g spent ≡ 0 → total g (set vs other spent) ≡ total g s.views = λ g e z. omega (arith, total-set g s.views id v b at, total-set g vs other w spent there, e, z) in
+    let moved : (g : View → ℕ) → g b ≡ g v + g w → g spent ≡ 0
+    → total g (set vs other spent) ≡ total g s.views = λ g e z.
+    omega (arith, total-set g s.views id v b at, total-set g vs other w spent there, e, z) in
     record {
       history = r.history;
       numbered = r.numbered;
       wide = r.wide;
       drawn = r.drawn;
-      held = λ f. moved (λ (u : View). total f u.draws) (total-append f v.draws w.draws) refl ∙ r.held f;
-      seated = λ p h. moved (λ (u : View). times p u.places) (total-append (one_at p) v.places w.places) refl ∙ r.seated p h;
+      held = λ x. moved (λ (u : View). count_of x u.draws) (total-append (one_for x) v.draws w.draws) refl ∙ r.held x;
+      seated = λ p h. moved (λ (u : View). times p u.places) (total-append (one_at p) v.places w.places) refl
+          ∙ r.seated p h;
       single = r.single;
       each = each_set pieces r.history vs other spent
           (each_set pieces r.history s.views id b r.each (record {
-            places = λ p i. ⊎_elim (λ (t : IsIn p v.places). fv.places p t) (λ (t : IsIn p w.places). fw.places p t) (in_append v.places w.places p i);
-            own = λ e i. ⊎_elim (λ (t : IsIn e v.draws). in_left v.places w.places e.place (fv.own e t)) (λ (t : IsIn e w.draws). in_right v.places w.places e.place (fw.own e t)) (in_append v.draws w.draws e i);
-            few = omega (arith, total-append (is_past pieces) v.draws w.draws, length-append v.places w.places, fv.few, fw.few);
-            noted = λ e i. ⊎_elim (λ (t : IsIn e v.noted). fv.noted e t) (λ (t : IsIn e w.noted). fw.noted e t) (in_append v.noted w.noted e i);
+            places = λ p i. ⊎_elim (λ (t : IsIn p v.places). fv.places p t) (λ (t : IsIn p w.places). fw.places p t)
+                (in_append v.places w.places p i);
+            own = λ e i. ⊎_elim (λ (t : IsIn e v.draws). in_left v.places w.places e.place (fv.own e t))
+                (λ (t : IsIn e w.draws). in_right v.places w.places e.place (fw.own e t))
+                (in_append v.draws w.draws e i);
+            few = omega (
+              arith,
+              total-append (one_past pieces) v.draws w.draws,
+              length-append v.places w.places,
+              fv.few,
+              fw.few,
+            );
+            noted = λ e i. ⊎_elim (λ (t : IsIn e v.noted). fv.noted e t) (λ (t : IsIn e w.noted). fw.noted e t)
+                (in_append v.noted w.noted e i);
           }))
           (unseated_fits pieces r.history v_zero);
     }
   where
     v_zero : View
     v_zero = view 0 [] [] []
-
-no_places : (ps : List ℕ) → ((p : ℕ) → IsIn p ps → ⊥) → ps ≡ []
-no_places [] h = refl
-no_places (p ∷ ps) h = absurd (h p (0, refl))
 
 no_draws : (ds : List Entry) → ((e : Entry) → IsIn e ds → ⊥) → ds ≡ []
 no_draws [] h = refl
@@ -247,22 +360,38 @@ times_in : (p : ℕ) (ps : List ℕ) → IsIn p ps → 1 ≤ times p ps
 times_in p ps i = omega (arith, term_le (one_at p) ps i.0 p i.1, one_at-same p)
 
 -- a view with every place that was given holds the whole history
-pub whole : (pieces : ℕ) (s : St) (r : Runs pieces s) (id : ℕ) (v : View) → get_elem? s.views id ≡ some v → ((p : ℕ) → p < 64 → get_or s.words (p + 1) 0 ≡ 1 → IsIn p v.places) → Same v.draws r.history
-whole pieces s r id v at all f =
-    let empty : (k : ℕ) (u : View) → k ≢ id → get_elem? s.views k ≡ some u → total f u.draws ≡ 0 = λ k u ne there.
+pub whole : (pieces : ℕ) (s : St) (r : Runs pieces s) (id : ℕ) (v : View) → get_elem? s.views id ≡ some v
+    → ((p : ℕ) → p < 64 → get_or s.words (p + 1) 0 ≡ 1 → IsIn p v.places) → Same v.draws r.history
+whole pieces s r id v at all x =
+    let empty : (k : ℕ) (u : View) → k ≢ id → get_elem? s.views k ≡ some u → count_of x u.draws ≡ 0 = λ k u ne there.
     let fu = r.each k u there in
     let none_here : (p : ℕ) → IsIn p u.places → ⊥ = λ p i.
     let low = fu.places p i in
-    let word : get_or s.words (p + 1) 0 ≡ 1 = omega (arith, times_in p u.places i, term_le (λ (x : View). times p x.places) s.views k u there, r.seated p low, r.single p low) in
-    omega (arith, times_in p u.places i, times_in p v.places (all p low word), terms_le (λ (x : View). times p x.places) s.views id k v u ne at there, r.seated p low, r.single p low) in
-    ap (total f) (no_draws u.draws (λ e i. none_here e.place (fu.own e i))) in
-    sym (only_term (λ (u : View). total f u.draws) s.views id v at empty) ∙ r.held f
+    let word : get_or s.words (p + 1) 0 ≡ 1 =
+    omega (
+      arith,
+      times_in p u.places i,
+      term_le (λ (y : View). times p y.places) s.views k u there,
+      r.seated p low,
+      r.single p low,
+    ) in
+    omega (
+      arith,
+      times_in p u.places i,
+      times_in p v.places (all p low word),
+      terms_le (λ (y : View). times p y.places) s.views id k v u ne at there,
+      r.seated p low,
+      r.single p low,
+    ) in
+    ap (count_of x) (no_draws u.draws (λ e i. none_here e.place (fu.own e i))) in
+    sym (only_term (λ (u : View). count_of x u.draws) s.views id v at empty) ∙ r.held x
 
 at_history : (h : List Entry) → IsHistory h → (x : ℕ) → x < length h → total (λ (e : Entry). one_at x e.number) h ≡ 1
 at_history h is x low =
     let t = entry_at h x low in
     let here : one_at x t.0.number ≡ 1 = ap (one_at x) (is x t.0 t.1) ∙ one_at-same x in
-    only_term (λ (e : Entry). one_at x e.number) h x t.0 t.1 (λ k u ne at. one_at-other x u.number (λ e. ne (sym (is k u at) ∙ e))) ∙ here
+    only_term (λ (e : Entry). one_at x e.number) h x t.0 t.1
+    (λ k u ne at. one_at-other x u.number (λ e. ne (sym (is k u at) ∙ e))) ∙ here
   where
     entry_at : (l : List Entry) (i : ℕ) → i < length l → (e : Entry) × (get_elem? l i ≡ some e)
     entry_at [] i h = absurd (omega arith)
@@ -270,11 +399,14 @@ at_history h is x low =
     entry_at (e ∷ es) (suc i) h = entry_at es i (omega arith)
 
 -- draws that are a whole history, with one past the end, have each piece once
-pub each_once : (pieces : ℕ) (ds h : List Entry) → IsHistory h → Same ds h → 0 < past pieces ds → (x : ℕ) → x < pieces → times x (numbers ds) ≡ 1
+pub each_once : (pieces : ℕ) (ds h : List Entry) → IsHistory h → Same ds h → 0 < past pieces ds → (x : ℕ) → x < pieces
+    → times x (numbers ds) ≡ 1
 each_once pieces ds h is same over x low =
-    let t = some_term (is_past pieces) h (omega (arith, same (is_past pieces))) in
+    let t = some_term (one_past pieces) h (omega (arith, weighs_same (one_past pieces) ds h same)) in
     let e : Entry = t.1 in
     let n : e.number ≡ t.0 = is t.0 e t.2 in
     let l = at_lt h t.0 e t.2 in
-    let beyond : pieces ≤ e.number = dite (dec_lt e.number pieces) (λ y. absurd (omega (arith, past_no pieces e y, t.3))) (λ no. omega arith) in
-    total-map (one_at x) (λ (y : Entry). y.number) ds ∙ (same (λ (y : Entry). one_at x y.number) ∙ at_history h is x (omega arith))
+    let beyond : pieces ≤ e.number =
+    dite (dec_lt e.number pieces) (λ y. absurd (omega (arith, past_no pieces e y, t.3))) (λ no. omega arith) in
+    total-map (one_at x) (λ (y : Entry). y.number) ds
+    ∙ (weighs_same (λ (y : Entry). one_at x y.number) ds h same ∙ at_history h is x (omega arith))

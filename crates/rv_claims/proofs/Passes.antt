@@ -1,8 +1,12 @@
 -- What a pass is after each step.
-use Rattle.std.proofs.Common.{◌≡◌, ℕ, zero, suc, ◌+◌, ◌-◌, ◌*◌, ◌%◌, ◌<◌, ◌≤◌, ◌≢◌, Bool, true, false, nat_lt, List, [], ◌∷◌, ◌++◌, length, sym, refl, ap, ◌∙◌, subst, ⊎_elim, arith, cond, true≢false, lt-ltb, le-ltb, length-append, Some, None, replicate, get_or, zero-add, ◌^◌, ◌||◌, bit_or, bit_and}
+use Rattle.std.proofs.Common.{◌≡◌, ℕ, zero, suc, ◌+◌, ◌-◌, ◌*◌, ◌%◌, ◌<◌, ◌≤◌, ◌≢◌, Bool, true, false, nat_lt, List, []}
+use Rattle.std.proofs.Common.{◌∷◌, ◌++◌, length, sym, refl, ap, ◌∙◌, subst, ⊎_elim, arith, cond, true≢false, lt-ltb}
+use Rattle.std.proofs.Common.{le-ltb, length-append, Some, None, replicate, get_or, zero-add, ◌^◌, ◌||◌, bit_or}
+use Rattle.std.proofs.Common.{bit_and}
 use lib.ListN.{get_elem?}
-use mathlib.Core.Option.{none, some, some-injective}
-use Rattle.std.proofs.lemmas.Nat.Bits.{bit_at-pow_same, bit_at-pow_other, bit_at_or, bit_at_and, bit_at-zero, bit_at-trailing_zeros}
+use mathlib.Core.Option.{some, some-injective}
+use Rattle.std.proofs.lemmas.Nat.Bits.{bit_at-pow_same, bit_at-pow_other, bit_at_or, bit_at_and, bit_at-zero}
+use Rattle.std.proofs.lemmas.Nat.Bits.{bit_at-trailing_zeros}
 use Rattle.std.proofs.lemmas.Nat.{and_le_l}
 use Rattle.std.proofs.Math.Pow.{pow-lt}
 use Rattle.std.proofs.lemmas.Bool.{ltb-true}
@@ -11,48 +15,63 @@ use native.Mathlib.Decide.{ℕ_discrete, dec_lt}
 use Rattle.std.specs.Int.{bit_at, trailing_zeros, w64}
 use Rattle.std.specs.Prelude.{Option}
 use Rattle.atomic_table.specs.Seated.{TableId}
-use Rattle.atomic_table.specs.Table.{Step, step, opening, Final, Seen}
+use Rattle.atomic_table.specs.Table.{Step, opening, Final, Seen}
 use Rattle.rv_claims.specs.declared.view.Entry.{Entry}
-use Rattle.rv_claims.specs.Draws.{times, one_at, both, IsIn, IsHistory, Within, is_past, past, entry, numbers, first_of, view, Sitting, Drew, Sat, opened, Runs}
+use Rattle.rv_claims.specs.Draws.{times, both, IsIn, IsHistory, Within, past, entry, numbers, first_of, view, Sitting}
+use Rattle.rv_claims.specs.Draws.{Drew, Sat, opened, Runs}
 use Rattle.rv_claims.specs.Passes.{pass_of, with_draw, piece_of, IsPass, seen, opening_row, AreAll}
 use Rattle.rv_claims.proofs.Keeps.{opens, whole, each_once}
-use Rattle.rv_claims.proofs.Sums.{in_append, in_one, in_left, in_right, in_none, total-append, term_le, one_at-same, past_yes, past_no}
+use Rattle.rv_claims.proofs.Sums.{in_append, in_one, in_left, in_right, in_none, total-append, term_le, one_at}
+use Rattle.rv_claims.proofs.Sums.{one_at-same, one_past, past_yes, past_no}
 
 pub none_past : (n : ℕ) → nat_lt 0 n ≡ false → n ≡ 0
 none_past n e = dite (dec_lt 0 n) (λ y. absurd (true≢false (sym (lt-ltb 0 n y) ∙ e))) (λ no. omega arith)
-
--- a step that is not read
-abbrev pub any_step : Step (Unit {0})
-any_step = step 0 0 0 0 none
 
 pub first_in : (ps : List ℕ) → 0 < length ps → IsIn (first_of ps) ps
 first_in [] h = absurd (omega arith)
 first_in (p ∷ ps) h = (0, refl)
 
 -- the places of a pass that drew are as they were
-pub drew_pass : (m m' : Sitting) (n bits : ℕ) (ended now : Bool) → IsPass m bits ended → Drew any_step m n m' → now ≡ nat_lt 0 (past m.0.pieces (m.0.draws ++ entry (first_of m.0.places) n ∷ [])) → IsPass m' bits now
+pub drew_pass : {st : Step (Unit {0})} (m m' : Sitting) (n bits : ℕ) (ended now : Bool) → IsPass m bits ended
+    → Drew st m n m' → now ≡ nat_lt 0 (past m.0.pieces (m.0.draws ++ entry (first_of m.0.places) n ∷ []))
+    → IsPass m' bits now
 drew_pass m m' n bits ended now p d stop =
     let e = entry (first_of m.0.places) n in
     let w = view m.0.pieces m.0.places (m.0.draws ++ e ∷ []) m.0.noted in
-    let is : m' ≡ (w, m.1) = λ i. (d.0 i, d.1 i) in
+    let is : m' ≡ (w, m.1) = λ i. (d.drawn i, d.slots i) in
     subst (λ (x : Sitting). IsPass x bits now) (sym is) (record {
       no_slot = p.no_slot;
       sits = p.sits;
       low = p.low;
       set = p.set;
       clear = p.clear;
-      own = λ x i. ⊎_elim (λ (t : IsIn x m.0.draws). p.own x t) (λ (t : IsIn x (e ∷ [])). subst (λ (y : Entry). IsIn y.place m.0.places) (in_one e x t) (first_in m.0.places p.sits)) (in_append m.0.draws (e ∷ []) x i);
+      own = λ x i. ⊎_elim (λ (t : IsIn x m.0.draws). p.own x t)
+          (λ (t : IsIn x (e ∷ [])). subst (λ (y : Entry). IsIn y.place m.0.places) (in_one e x t)
+          (first_in m.0.places p.sits)) (in_append m.0.draws (e ∷ []) x i);
       stopped = stop;
     })
 
-pub goes_on : (pieces : ℕ) (ds : List Entry) (e : Entry) → nat_lt 0 (past pieces ds) ≡ false → e.number < pieces → false ≡ nat_lt 0 (past pieces (ds ++ e ∷ []))
-goes_on pieces ds e not_yet low = let z : past pieces (ds ++ e ∷ []) ≡ 0 = omega (arith, total-append (is_past pieces) ds (e ∷ []), past_no pieces e low, none_past (past pieces ds) not_yet) in sym (le-ltb 0 (past pieces (ds ++ e ∷ [])) (omega arith))
+pub goes_on : (pieces : ℕ) (ds : List Entry) (e : Entry) → nat_lt 0 (past pieces ds) ≡ false → e.number < pieces
+    → false ≡ nat_lt 0 (past pieces (ds ++ e ∷ []))
+goes_on pieces ds e not_yet low =
+    let z : past pieces (ds ++ e ∷ []) ≡ 0 =
+    omega (
+      arith,
+      total-append (one_past pieces) ds (e ∷ []),
+      past_no pieces e low,
+      none_past (past pieces ds) not_yet,
+    ) in sym (le-ltb 0 (past pieces (ds ++ e ∷ [])) (omega arith))
 
-pub ends_now : (pieces : ℕ) (ds : List Entry) (e : Entry) → pieces ≤ e.number → true ≡ nat_lt 0 (past pieces (ds ++ e ∷ []))
-ends_now pieces ds e high = sym (lt-ltb 0 (past pieces (ds ++ e ∷ [])) (omega (arith, total-append (is_past pieces) ds (e ∷ []), past_yes pieces e high)))
+pub ends_now : (pieces : ℕ) (ds : List Entry) (e : Entry) → pieces ≤ e.number
+    → true ≡ nat_lt 0 (past pieces (ds ++ e ∷ []))
+ends_now pieces ds e high =
+    sym (lt-ltb 0 (past pieces (ds ++ e ∷ []))
+    (omega (arith, total-append (one_past pieces) ds (e ∷ []), past_yes pieces e high)))
 
-pub seen_drew : (t t' : TableId) (m m' : Sitting) (n : ℕ) → t' ≡ t → Drew any_step m n m' → seen t' m' ≡ with_draw (seen t m) n
-seen_drew t t' m m' n same d = let v = d.0 in λ i. pass_of (record { table = same i; pieces = (v i).pieces }) (v i).places (v i).draws
+pub seen_drew : {st : Step (Unit {0})} (t t' : TableId) (m m' : Sitting) (n : ℕ) → t' ≡ t → Drew st m n m'
+    → seen t' m' ≡ with_draw (seen t m) n
+seen_drew t t' m m' n same d =
+    let v = d.drawn in λ i. pass_of (record { table = same i; pieces = (v i).pieces }) (v i).places (v i).draws
 
 pub is_piece : (pieces n : ℕ) → n < pieces → Some n ≡ piece_of pieces n
 is_piece pieces n h = ap (λ (b : Bool). piece b n) (sym (lt-ltb n pieces h))
@@ -82,19 +101,23 @@ opened_pass pieces m e = subst (λ (x : Sitting). IsPass x 1 false) (sym e) (rec
   sits = omega arith;
   low = λ p i. let z = in_one 0 p i in omega arith;
   set = λ p i. let z = in_one 0 p i in subst (λ (q : ℕ). bit_at 1 q ≡ 1) z (bit_at-pow_same 0);
-  clear = λ p b. dite (ℕ_discrete p 0) (λ z. (0, ap some (sym z))) (λ ne. let z = bit_at-pow_other 0 p ne in absurd (omega arith));
+  clear = λ p b. dite (ℕ_discrete p 0) (λ z. (0, ap some (sym z)))
+      (λ ne. let z = bit_at-pow_other 0 p ne in absurd (omega arith));
   own = λ x i. absurd (in_none x i);
   stopped = sym (le-ltb 0 0 (omega arith));
 })
 
 pub opens_row : (pieces : ℕ) (ws : List ℕ) → ws ≡ opening_row → Runs pieces (opening ws [] (opened pieces))
-opens_row pieces ws e = subst (λ (l : List ℕ). Runs pieces (opening l [] (opened pieces))) (sym e) (opens pieces opening_row refl refl refl opening_free)
+opens_row pieces ws e = subst (λ (l : List ℕ). Runs pieces (opening l [] (opened pieces))) (sym e)
+    (opens pieces opening_row refl refl refl opening_free)
 
 pub some_past : (n m : ℕ) → nat_lt 0 (n + m) ≡ (nat_lt 0 n || nat_lt 0 m)
 some_past zero m = ap (nat_lt 0) (zero-add m)
-some_past (suc n) m = lt-ltb 0 (suc n + m) (omega arith) ∙ sym (ap (λ (b : Bool). b || nat_lt 0 m) (lt-ltb 0 (suc n) (omega arith)))
+some_past (suc n) m = lt-ltb 0 (suc n + m) (omega arith)
+    ∙ sym (ap (λ (b : Bool). b || nat_lt 0 m) (lt-ltb 0 (suc n) (omega arith)))
 
-pub joined_pass : (m n m' : Sitting) (bits more : ℕ) (e f now : Bool) → IsPass m bits e → IsPass n more f → m.0.pieces ≡ n.0.pieces → m' ≡ (both m.0 n.0, m.1) → now ≡ (e || f) → IsPass m' (bit_or bits more) now
+pub joined_pass : (m n m' : Sitting) (bits more : ℕ) (e f now : Bool) → IsPass m bits e → IsPass n more f
+    → m.0.pieces ≡ n.0.pieces → m' ≡ (both m.0 n.0, m.1) → now ≡ (e || f) → IsPass m' (bit_or bits more) now
 joined_pass m n m' bits more e f now p q same is stop =
     let ps = m.0.places in
     let qs = n.0.places in
@@ -102,10 +125,15 @@ joined_pass m n m' bits more e f now p q same is stop =
       no_slot = p.no_slot;
       sits = omega (arith, length-append ps qs, p.sits);
       low = λ x i. ⊎_elim (λ (t : IsIn x ps). p.low x t) (λ (t : IsIn x qs). q.low x t) (in_append ps qs x i);
-      set = λ x i. ⊎_elim (λ (t : IsIn x ps). omega (arith, bit_at_or bits more x, p.set x t, bit_low more x)) (λ (t : IsIn x qs). omega (arith, bit_at_or bits more x, q.set x t, bit_low bits x)) (in_append ps qs x i);
-      clear = λ x b. dite (ℕ_discrete (bit_at bits x) 1) (λ y. in_left ps qs x (p.clear x y)) (λ ne. in_right ps qs x (q.clear x (omega (arith, bit_at_or bits more x, bit_low bits x, bit_low more x))));
-      own = λ x i. ⊎_elim (λ (t : IsIn x m.0.draws). in_left ps qs x.place (p.own x t)) (λ (t : IsIn x n.0.draws). in_right ps qs x.place (q.own x t)) (in_append m.0.draws n.0.draws x i);
-      stopped = stop ∙ (ap (λ (b : Bool × Bool). b.0 || b.1) (λ i. (p.stopped i, ends i)) ∙ (sym (some_past (past m.0.pieces m.0.draws) (past m.0.pieces n.0.draws)) ∙ ap (nat_lt 0) (sym (total-append (is_past m.0.pieces) m.0.draws n.0.draws))));
+      set = λ x i. ⊎_elim (λ (t : IsIn x ps). omega (arith, bit_at_or bits more x, p.set x t, bit_low more x))
+          (λ (t : IsIn x qs). omega (arith, bit_at_or bits more x, q.set x t, bit_low bits x)) (in_append ps qs x i);
+      clear = λ x b. dite (ℕ_discrete (bit_at bits x) 1) (λ y. in_left ps qs x (p.clear x y))
+          (λ ne. in_right ps qs x (q.clear x (omega (arith, bit_at_or bits more x, bit_low bits x, bit_low more x))));
+      own = λ x i. ⊎_elim (λ (t : IsIn x m.0.draws). in_left ps qs x.place (p.own x t))
+          (λ (t : IsIn x n.0.draws). in_right ps qs x.place (q.own x t)) (in_append m.0.draws n.0.draws x i);
+      stopped = stop ∙ (ap (λ (b : Bool × Bool). b.0 || b.1) (λ i. (p.stopped i, ends i))
+          ∙ (sym (some_past (past m.0.pieces m.0.draws) (past m.0.pieces n.0.draws))
+          ∙ ap (nat_lt 0) (sym (total-append (one_past m.0.pieces) m.0.draws n.0.draws))));
     })
   where
     bit_low : (k x : ℕ) → bit_at k x ≤ 1
@@ -115,39 +143,44 @@ joined_pass m n m' bits more e f now p q same is stop =
     ends = q.stopped ∙ ap (λ (k : ℕ). nat_lt 0 (past k n.0.draws)) (sym same)
 
 -- what was noted is no part of the pass
-pub noted_pass : (m m' : Sitting) (bits : ℕ) (ended : Bool) → IsPass m bits ended → m'.1 ≡ m.1 → m'.0.pieces ≡ m.0.pieces → m'.0.places ≡ m.0.places → m'.0.draws ≡ m.0.draws → IsPass m' bits ended
+pub noted_pass : (m m' : Sitting) (bits : ℕ) (ended : Bool) → IsPass m bits ended → m'.1 ≡ m.1
+    → m'.0.pieces ≡ m.0.pieces → m'.0.places ≡ m.0.places → m'.0.draws ≡ m.0.draws → IsPass m' bits ended
 noted_pass m m' bits ended p slots pieces places draws = record {
   no_slot = slots ∙ p.no_slot;
   sits = subst (λ (l : List ℕ). 0 < length l) (sym places) p.sits;
   low = subst (λ (l : List ℕ). (x : ℕ) → IsIn x l → x < 64) (sym places) p.low;
   set = subst (λ (l : List ℕ). (x : ℕ) → IsIn x l → bit_at bits x ≡ 1) (sym places) p.set;
   clear = subst (λ (l : List ℕ). (x : ℕ) → bit_at bits x ≡ 1 → IsIn x l) (sym places) p.clear;
-  own = subst (λ (t : List ℕ × List Entry). (e : Entry) → IsIn e t.1 → IsIn e.place t.0) (λ i. (sym places i, sym draws i)) p.own;
+  own = subst (λ (t : List ℕ × List Entry). (e : Entry) → IsIn e t.1 → IsIn e.place t.0)
+      (λ i. (sym places i, sym draws i)) p.own;
   stopped = p.stopped ∙ (λ i. nat_lt 0 (past (sym pieces i) (sym draws i)));
 }
 
 small_power : (place : ℕ) → place < 64 → 1 * 2 ^ place % 18446744073709551616 ≡ 2 ^ place
-small_power place low = let h : 2 ^ place < 2 ^ 64 = pow-lt low in let k : 2 ^ 64 ≡ 18446744073709551616 = refl in omega arith
+small_power place low = let h : 2 ^ place < 2 ^ 64 = pow-lt low in
+    let k : 2 ^ 64 ≡ 18446744073709551616 = refl in omega arith
 
 -- a seat that sat
-pub sat_there : (m m' : Sitting) (pieces place n : ℕ) → m ≡ (view pieces [] [] [], []) → n ≡ 0 → Sat (step 0 (place + 1) 1 0 none) m n m' → m' ≡ (view pieces (place ∷ []) [] [], [])
-sat_there m m' pieces place n blank free sat = let k : (place + 1) - 1 ≡ place = omega arith in
-    (λ i. (sat.1 free i, sat.0 i)) ∙ (λ i. (view (blank i).0.pieces (k i ∷ (blank i).0.places) (blank i).0.draws (blank i).0.noted, (blank i).1))
+pub sat_there : {st : Step (Unit {0})} (m m' : Sitting) (pieces place n : ℕ) → st.word ≡ place + 1
+    → m ≡ (view pieces [] [] [], []) → n ≡ 0 → Sat st m n m' → m' ≡ (view pieces (place ∷ []) [] [], [])
+sat_there {st} m m' pieces place n word blank free sat = let k : st.word - 1 ≡ place = omega arith in
+    (λ i. (sat.free free i, sat.slots i))
+    ∙ (λ i. (view (blank i).0.pieces (k i ∷ (blank i).0.places) (blank i).0.draws (blank i).0.noted, (blank i).1))
 
--- a seat that did not sit
-pub sat_not : (m m' : Sitting) (place n : ℕ) → n ≢ 0 → Sat (step 0 (place + 1) 1 0 none) m n m' → m' ≡ m
-sat_not m m' place n taken sat = λ i. (sat.2 taken i, sat.0 i)
-
-pub seated_pass : (m : Sitting) (pieces place bits : ℕ) → place < 64 → bits ≡ 1 * 2 ^ place % 18446744073709551616 → m ≡ (view pieces (place ∷ []) [] [], []) → IsPass m bits false
-seated_pass m pieces place bits low was e = let is : bits ≡ 2 ^ place = was ∙ small_power place low in subst (λ (t : Sitting × ℕ). IsPass t.0 t.1 false) (λ i. (sym e i, sym is i)) (record {
-  no_slot = refl;
-  sits = omega arith;
-  low = λ p i. let z = in_one place p i in omega arith;
-  set = λ p i. let z = in_one place p i in subst (λ (q : ℕ). bit_at (2 ^ place) q ≡ 1) z (bit_at-pow_same place);
-  clear = λ p b. dite (ℕ_discrete p place) (λ z. (0, ap some (sym z))) (λ ne. let z = bit_at-pow_other place p ne in absurd (omega arith));
-  own = λ x i. absurd (in_none x i);
-  stopped = sym (le-ltb 0 0 (omega arith));
-})
+pub seated_pass : (m : Sitting) (pieces place bits : ℕ) → place < 64 → bits ≡ 1 * 2 ^ place % 18446744073709551616
+    → m ≡ (view pieces (place ∷ []) [] [], []) → IsPass m bits false
+seated_pass m pieces place bits low was e =
+    let is : bits ≡ 2 ^ place = was ∙ small_power place low in
+    subst (λ (t : Sitting × ℕ). IsPass t.0 t.1 false) (λ i. (sym e i, sym is i)) (record {
+      no_slot = refl;
+      sits = omega arith;
+      low = λ p i. let z = in_one place p i in omega arith;
+      set = λ p i. let z = in_one place p i in subst (λ (q : ℕ). bit_at (2 ^ place) q ≡ 1) z (bit_at-pow_same place);
+      clear = λ p b. dite (ℕ_discrete p place) (λ z. (0, ap some (sym z)))
+          (λ ne. let z = bit_at-pow_other place p ne in absurd (omega arith));
+      own = λ x i. absurd (in_none x i);
+      stopped = sym (le-ltb 0 0 (omega arith));
+    })
 
 -- places in common
 pub meets : (a b : ℕ) → a < 2 ^ 64 → b < 2 ^ 64 → bit_and a b ≢ 0 → (p : ℕ) × (bit_at a p ≡ 1) × (bit_at b p ≡ 1)
@@ -159,10 +192,19 @@ meets a b la lb ne =
     (p, omega (arith, bit_at_and a b p), omega (arith, bit_at_and a b p))
 
 pub in_twice : (xs ys : List ℕ) (p : ℕ) → IsIn p xs → IsIn p ys → 2 ≤ times p (xs ++ ys)
-in_twice xs ys p i j = omega (arith, total-append (one_at p) xs ys, term_le (one_at p) xs i.0 p i.1, term_le (one_at p) ys j.0 p j.1, one_at-same p)
+in_twice xs ys p i j = omega (
+  arith,
+  total-append (one_at p) xs ys,
+  term_le (one_at p) xs i.0 p i.1,
+  term_le (one_at p) ys j.0 p j.1,
+  one_at-same p,
+)
 
-pub overlap : (m n : Sitting) (a b : ℕ) (e f : Bool) → a < 2 ^ 64 → b < 2 ^ 64 → IsPass m a e → IsPass n b f → bit_and a b ≢ 0 → ((p : ℕ) → times p (m.0.places ++ n.0.places) ≤ 1) → ⊥
-overlap m n a b e f la lb p q ne once = let t = meets a b la lb ne in omega (arith, in_twice m.0.places n.0.places t.0 (p.clear t.0 t.1) (q.clear t.0 t.2), once t.0)
+pub overlap : (m n : Sitting) (a b : ℕ) (e f : Bool) → a < 2 ^ 64 → b < 2 ^ 64 → IsPass m a e → IsPass n b f
+    → bit_and a b ≢ 0 → ((p : ℕ) → times p (m.0.places ++ n.0.places) ≤ 1) → ⊥
+overlap m n a b e f la lb p q ne once =
+    let t = meets a b la lb ne in
+    omega (arith, in_twice m.0.places n.0.places t.0 (p.clear t.0 t.1) (q.clear t.0 t.2), once t.0)
 
 number_in : (n : ℕ) (ds : List Entry) → IsIn n (numbers ds) → (e : Entry) × IsIn e ds × (e.number ≡ n)
 number_in n [] i = absurd (in_none n i)
@@ -170,7 +212,9 @@ number_in n (d ∷ ds) (zero, e) = (d, (0, refl), some-injective d.number n e)
 number_in n (d ∷ ds) (suc k, e) = let t = number_in n ds (k, e) in (t.0, (suc t.1.0, t.1.1), t.2)
 
 -- passes with no place in common have no number in common
-pub apart : (m n : Sitting) (a b : ℕ) (e f : Bool) → IsPass m a e → IsPass n b f → bit_and a b ≡ 0 → (history : List Entry) → IsHistory history → Within m.0.draws history → Within n.0.draws history → (k : ℕ) → IsIn k (numbers m.0.draws) → IsIn k (numbers n.0.draws) → ⊥
+pub apart : (m n : Sitting) (a b : ℕ) (e f : Bool) → IsPass m a e → IsPass n b f → bit_and a b ≡ 0
+    → (history : List Entry) → IsHistory history → Within m.0.draws history → Within n.0.draws history → (k : ℕ)
+    → IsIn k (numbers m.0.draws) → IsIn k (numbers n.0.draws) → ⊥
 apart m n a b e f p q no_common history is hm hn k i j =
     let x = number_in k m.0.draws i in
     let y = number_in k n.0.draws j in
@@ -180,9 +224,17 @@ apart m n a b e f p q no_common history is hm hn k i j =
     let at_v = hn v y.1 in
     let k_u : at_u.0 ≡ k = sym (is at_u.0 u at_u.1) ∙ x.2 in
     let k_v : at_v.0 ≡ k = sym (is at_v.0 v at_v.1) ∙ y.2 in
-    let same : u ≡ v = some-injective u v (sym at_u.1 ∙ (ap (λ (z : ℕ). get_elem? history z) (k_u ∙ sym k_v) ∙ at_v.1)) in
+    let same : u ≡ v = some-injective u v
+    (sym at_u.1 ∙ (ap (λ (z : ℕ). get_elem? history z) (k_u ∙ sym k_v) ∙ at_v.1)) in
     let here : IsIn u.place n.0.places = subst (λ (z : Entry). IsIn z.place n.0.places) (sym same) (q.own v y.1) in
-    omega (arith, bit_at_and a b u.place, p.set u.place (p.own u x.1), q.set u.place here, ap (λ (z : ℕ). bit_at z u.place) no_common, bit_at-zero u.place)
+    omega (
+      arith,
+      bit_at_and a b u.place,
+      p.set u.place (p.own u x.1),
+      q.set u.place here,
+      ap (λ (z : ℕ). bit_at z u.place) no_common,
+      bit_at-zero u.place,
+    )
 
 read_one : (l : List ℕ) (i : ℕ) → get_or l i 0 ≡ 1 → get_elem? l i ≡ some 1
 read_one [] i e = absurd (omega arith)
@@ -190,7 +242,8 @@ read_one (x ∷ xs) zero e = ap some e
 read_one (x ∷ xs) (suc i) e = read_one xs i e
 
 -- a pass with every place that was given has all draws
-pub ends_whole : (pieces : ℕ) (ws : List ℕ) (xs : List (Unit {0})) (id : ℕ) (m : Sitting) (bits : ℕ) (ended : Bool) → IsPass m bits ended → Final (Seen (Runs pieces) id m.0) ws xs
+pub ends_whole : (pieces : ℕ) (ws : List ℕ) (xs : List (Unit {0})) (id : ℕ) (m : Sitting) (bits : ℕ) (ended : Bool)
+    → IsPass m bits ended → Final (Seen (Runs pieces) id m.0) ws xs
     → ((p : ℕ) → p < 64 → get_elem? ws (p + 1) ≡ some 1 → bit_at bits p ≡ 1) → AreAll m.0.draws
 ends_whole pieces ws xs id m bits ended pass final all =
     let s = final.0 in
@@ -198,8 +251,11 @@ ends_whole pieces ws xs id m bits ended pass final all =
     let words = final.2 in (
       r.history,
       r.numbered,
-      whole pieces s r id m.0 final.1.1 (λ p low one. pass.clear p (all p low (subst (λ (l : List ℕ). get_elem? l (p + 1) ≡ some 1) words (read_one s.words (p + 1) one)))),
+      whole pieces s r id m.0 final.1.1
+          (λ p low one. pass.clear p
+          (all p low (subst (λ (l : List ℕ). get_elem? l (p + 1) ≡ some 1) words (read_one s.words (p + 1) one)))),
     )
 
-pub ends_pieces : (pieces : ℕ) (ds : List Entry) → AreAll ds → nat_lt 0 (past pieces ds) ≡ true → (x : ℕ) → x < pieces → times x (numbers ds) ≡ 1
+pub ends_pieces : (pieces : ℕ) (ds : List Entry) → AreAll ds → nat_lt 0 (past pieces ds) ≡ true → (x : ℕ) → x < pieces
+    → times x (numbers ds) ≡ 1
 ends_pieces pieces ds all over x low = each_once pieces ds all.0 all.1 all.2 (ltb-true 0 (past pieces ds) over) x low

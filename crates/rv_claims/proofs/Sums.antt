@@ -1,5 +1,7 @@
 -- Sums over lists that change at one place, and histories.
-use Rattle.std.proofs.Common.{◌≡◌, ℕ, zero, suc, ◌+◌, ◌<◌, ◌≤◌, ◌≢◌, ◌⊎◌, List, [], ◌∷◌, ◌++◌, map, length, set, sym, refl, ap, ◌∙◌, subst, inl, inr, ⊎_elim, arith, cond, eqb, eq-eqb, ne_eqb, lt-ltb, le-ltb, max}
+use Rattle.std.proofs.Common.{◌≡◌, ℕ, zero, suc, ◌+◌, ◌<◌, ◌≤◌, ◌≢◌, ◌⊎◌, List, [], ◌∷◌, ◌++◌, map, length, set, sym}
+use Rattle.std.proofs.Common.{refl, ap, ◌∙◌, subst, inl, inr, ⊎_elim, arith, cond, eqb, eq-eqb, ne_eqb, max, Bool, ◌&&◌}
+use Rattle.std.proofs.lemmas.Bool.{le-leb, lt-leb}
 use mathlib.Core.Logic.{dite}
 use native.Mathlib.Decide.{ℕ_discrete, dec_lt}
 use mathlib.Core.Option.{some, some-injective, some-ne-none}
@@ -7,11 +9,22 @@ use lib.ListN.{get_elem?}
 use Rattle.atomic_table.proofs.Lists.{at_longer}
 use Rattle.rv_claims.specs.declared.view.Entry.{Entry}
 use Rattle.rv_claims.specs.declared.view.View.{View}
-use Rattle.rv_claims.specs.Draws.{total, one_at, times, IsIn, IsHistory, is_past, past}
+use Rattle.rv_claims.specs.Draws.{total, times, IsIn, IsHistory, is_past, past, is_entry, count_of, Same}
+
+-- what an item counts for in each of the counts
+abbrev pub one_at : ℕ → ℕ → ℕ
+one_at n k = cond (eqb k n) 1 0
+
+abbrev pub one_past : ℕ → Entry → ℕ
+one_past pieces e = cond (is_past pieces e) 1 0
+
+abbrev pub one_for : Entry → Entry → ℕ
+one_for e x = cond (is_entry e x) 1 0
 
 module _ {A : Type 0} where
   -- an item of a longer list is the last or stands before
-  pub snoc_at : (l : List A) (a b : A) (j : ℕ) → get_elem? (l ++ a ∷ []) j ≡ some b → (get_elem? l j ≡ some b) ⊎ ((j ≡ length l) × (a ≡ b))
+  pub snoc_at : (l : List A) (a b : A) (j : ℕ) → get_elem? (l ++ a ∷ []) j ≡ some b
+      → (get_elem? l j ≡ some b) ⊎ ((j ≡ length l) × (a ≡ b))
   snoc_at [] a b zero e = inr (refl, some-injective a b e)
   snoc_at [] a b (suc j) e = absurd (some-ne-none b (sym e))
   snoc_at (x ∷ xs) a b zero e = inl e
@@ -46,7 +59,8 @@ module _ {A : Type 0} where
     total-append [] m = omega arith
     total-append (x ∷ xs) m = omega (arith, total-append xs m)
 
-    pub total-set : (l : List A) (j : ℕ) (v w : A) → get_elem? l j ≡ some v → total g (set l j w) + g v ≡ total g l + g w
+    pub total-set : (l : List A) (j : ℕ) (v w : A) → get_elem? l j ≡ some v
+        → total g (set l j w) + g v ≡ total g l + g w
     total-set [] j v w e = absurd (some-ne-none v (sym e))
     total-set (x ∷ xs) zero v w e = omega (arith, ap g (some-injective x v e))
     total-set (x ∷ xs) (suc j) v w e = omega (arith, total-set xs j v w e)
@@ -56,7 +70,8 @@ module _ {A : Type 0} where
     term_le (x ∷ xs) zero v e = omega (arith, ap g (some-injective x v e))
     term_le (x ∷ xs) (suc j) v e = omega (arith, term_le xs j v e)
 
-    pub terms_le : (l : List A) (j k : ℕ) (v u : A) → k ≢ j → get_elem? l j ≡ some v → get_elem? l k ≡ some u → g v + g u ≤ total g l
+    pub terms_le : (l : List A) (j k : ℕ) (v u : A) → k ≢ j → get_elem? l j ≡ some v → get_elem? l k ≡ some u
+        → g v + g u ≤ total g l
     terms_le [] j k v u n e d = absurd (some-ne-none v (sym e))
     terms_le (x ∷ xs) zero zero v u n e d = absurd (n refl)
     terms_le (x ∷ xs) zero (suc k) v u n e d = omega (arith, ap g (some-injective x v e), term_le xs k u d)
@@ -66,19 +81,38 @@ module _ {A : Type 0} where
     -- where something counts, some item does
     pub some_term : (l : List A) → 0 < total g l → (k : ℕ) × (a : A) × (get_elem? l k ≡ some a) × (0 < g a)
     some_term [] h = absurd (omega arith)
-    some_term (x ∷ xs) h = dite (dec_lt 0 (g x)) (λ y. (0, x, refl, y)) (λ n. let r = some_term xs (omega arith) in (suc r.0, r.1, r.2, r.3))
+    some_term (x ∷ xs) h = dite (dec_lt 0 (g x)) (λ y. (0, x, refl, y))
+        (λ n. let r = some_term xs (omega arith) in (suc r.0, r.1, r.2, r.3))
 
     -- where no item but one counts, the sum is that one's
-    pub only_term : (l : List A) (j : ℕ) (v : A) → get_elem? l j ≡ some v → ((k : ℕ) (u : A) → k ≢ j → get_elem? l k ≡ some u → g u ≡ 0) → total g l ≡ g v
+    pub only_term : (l : List A) (j : ℕ) (v : A) → get_elem? l j ≡ some v
+        → ((k : ℕ) (u : A) → k ≢ j → get_elem? l k ≡ some u → g u ≡ 0) → total g l ≡ g v
     only_term [] j v e h = absurd (some-ne-none v (sym e))
-    only_term (x ∷ xs) zero v e h = omega (arith, ap g (some-injective x v e), none_term xs (λ k u d. h (suc k) u (λ i. omega arith) d))
+    only_term (x ∷ xs) zero v e h =
+        omega (arith, ap g (some-injective x v e), none_term xs (λ k u d. h (suc k) u (λ i. omega arith) d))
       where
         none_term : (l : List A) → ((k : ℕ) (u : A) → get_elem? l k ≡ some u → g u ≡ 0) → total g l ≡ 0
         none_term [] h = refl
         none_term (x ∷ xs) h = omega (arith, h 0 x refl, none_term xs (λ k u d. h (suc k) u d))
-    only_term (x ∷ xs) (suc j) v e h = omega (arith, h 0 x (λ i. omega arith) refl, only_term xs j v e (λ k u n d. h (suc k) u (λ i. n (omega arith)) d))
+    only_term (x ∷ xs) (suc j) v e h =
+        omega (
+          arith,
+          h 0 x (λ i. omega arith) refl,
+          only_term xs j v e (λ k u n d. h (suc k) u (λ i. n (omega arith)) d),
+        )
 
-  pub total_le : (g h : A → ℕ) (l : List A) → ((k : ℕ) (a : A) → get_elem? l k ≡ some a → g a ≤ h a) → total g l ≤ total h l
+  -- an item stands between two parts of its list
+  parted_at : (l : List A) (j : ℕ) (x : A) → get_elem? l j ≡ some x → (a : List A) × (b : List A) × (l ≡ a ++ x ∷ b)
+  parted_at [] j x e = absurd (some-ne-none x (sym e))
+  parted_at (y ∷ l) zero x e = ([], l, ap (λ z. z ∷ l) (some-injective y x e))
+  parted_at (y ∷ l) (suc j) x e = let r = parted_at l j x e in (y ∷ r.0, r.1, ap (λ m. y ∷ m) r.2)
+
+  -- and counts for the list what it counts for itself
+  total-between : (g : A → ℕ) (a : List A) (x : A) (b : List A) → total g (a ++ x ∷ b) ≡ g x + total g (a ++ b)
+  total-between g a x b = omega (arith, total-append g a (x ∷ b), total-append g a b)
+
+  pub total_le : (g h : A → ℕ) (l : List A) → ((k : ℕ) (a : A) → get_elem? l k ≡ some a → g a ≤ h a)
+      → total g l ≤ total h l
   total_le g h [] f = omega arith
   total_le g h (x ∷ xs) f = omega (arith, f 0 x refl, total_le g h xs (λ k a e. f (suc k) a e))
 
@@ -111,62 +145,116 @@ one_at-other n k ne = ap (λ b. cond b 1 0) (ne_eqb k n ne)
 
 below_one : (x n : ℕ) → x < n → 1 ≤ below (λ p. one_at p x) n
 below_one x zero h = absurd (omega arith)
-below_one x (suc n) h = dite (ℕ_discrete x n) (λ e. let one : one_at n x ≡ 1 = ap (λ b. cond b 1 0) (eq-eqb x n e) in omega arith) (λ ne. let r = below_one x n (omega arith) in omega arith)
+below_one x (suc n) h = dite (ℕ_discrete x n)
+    (λ e. let one : one_at n x ≡ 1 = ap (λ b. cond b 1 0) (eq-eqb x n e) in omega arith)
+    (λ ne. let r = below_one x n (omega arith) in omega arith)
 
 -- places below n are at most as many as the numbers below n, each as often as it stands there
 length_below : (n : ℕ) (xs : List ℕ) → ((p : ℕ) → IsIn p xs → p < n) → length xs ≤ below (λ p. times p xs) n
 length_below n [] h = omega arith
-length_below n (x ∷ xs) h = omega (arith, length_below n xs (λ p i. h p (suc i.0, i.1)), below_one x n (h x (0, refl)), below-add (λ p. one_at p x) (λ p. times p xs) n)
+length_below n (x ∷ xs) h =
+    omega (
+      arith,
+      length_below n xs (λ p i. h p (suc i.0, i.1)),
+      below_one x n (h x (0, refl)),
+      below-add (λ p. one_at p x) (λ p. times p xs) n,
+    )
 
-total-below : (g : ℕ → View → ℕ) (n : ℕ) (vs : List View) → total (λ v. below (λ p. g p v) n) vs ≡ below (λ p. total (g p) vs) n
+total-below : (g : ℕ → View → ℕ) (n : ℕ) (vs : List View)
+    → total (λ v. below (λ p. g p v) n) vs ≡ below (λ p. total (g p) vs) n
 total-below g n [] = sym (below-zero n)
 total-below g n (v ∷ vs) = omega (arith, total-below g n vs, below-add (λ p. g p v) (λ p. total (g p) vs) n)
 
 -- where each place is with one view at most, the views have no more places than there are
-pub places_few : (vs : List View) → ((j : ℕ) (v : View) → get_elem? vs j ≡ some v → (p : ℕ) → IsIn p v.places → p < 64) → ((p : ℕ) → p < 64 → total (λ (v : View). times p v.places) vs ≤ 1) → total (λ (v : View). length v.places) vs ≤ 64
+pub places_few : (vs : List View) → ((j : ℕ) (v : View) → get_elem? vs j ≡ some v → (p : ℕ) → IsIn p v.places → p < 64)
+    → ((p : ℕ) → p < 64 → total (λ (v : View). times p v.places) vs ≤ 1) → total (λ (v : View). length v.places) vs ≤ 64
 places_few vs low once = omega (
   arith,
-  total_le (λ (v : View). length v.places) (λ v. below (λ p. times p v.places) 64) vs (λ k v e. length_below 64 v.places (low k v e)),
+  total_le (λ (v : View). length v.places) (λ v. below (λ p. times p v.places) 64) vs
+      (λ k v e. length_below 64 v.places (low k v e)),
   total-below (λ p v. times p v.places) 64 vs,
   below_le (λ p. total (λ (v : View). times p v.places) vs) 64 64 (omega arith) once,
 )
 
-pub past_yes : (pieces : ℕ) (e : Entry) → pieces ≤ e.number → is_past pieces e ≡ 1
-past_yes pieces e h = ap (λ b. cond b 0 1) (le-ltb e.number pieces h)
+pub past_yes : (pieces : ℕ) (e : Entry) → pieces ≤ e.number → one_past pieces e ≡ 1
+past_yes pieces e h = ap (λ b. cond b 1 0) (le-leb pieces e.number h)
 
-pub past_no : (pieces : ℕ) (e : Entry) → e.number < pieces → is_past pieces e ≡ 0
-past_no pieces e h = ap (λ b. cond b 0 1) (lt-ltb e.number pieces h)
+pub past_no : (pieces : ℕ) (e : Entry) → e.number < pieces → one_past pieces e ≡ 0
+past_no pieces e h = ap (λ b. cond b 1 0) (lt-leb pieces e.number h)
 
-pub past_le : (pieces : ℕ) (e : Entry) → is_past pieces e ≤ 1
-past_le pieces e = dite (dec_lt e.number pieces) (λ y. omega (arith, past_no pieces e y)) (λ n. omega (arith, past_yes pieces e (omega arith)))
+pub past_le : (pieces : ℕ) (e : Entry) → one_past pieces e ≤ 1
+past_le pieces e = dite (dec_lt e.number pieces) (λ y. omega (arith, past_no pieces e y))
+    (λ n. omega (arith, past_yes pieces e (omega arith)))
 
-history_from : (pieces k : ℕ) (h : List Entry) → ((j : ℕ) (e : Entry) → get_elem? h j ≡ some e → e.number ≡ k + j) → length h + k ≤ past pieces h + max pieces k
+history_from : (pieces k : ℕ) (h : List Entry) → ((j : ℕ) (e : Entry) → get_elem? h j ≡ some e → e.number ≡ k + j)
+    → length h + k ≤ past pieces h + max pieces k
 history_from pieces k [] is = omega arith
 history_from pieces k (e ∷ es) is =
     let here : e.number ≡ k = is 0 e refl ∙ omega arith in
     let rest = history_from pieces (k + 1) es (λ j x at. is (suc j) x at ∙ omega arith) in
-    dite (dec_lt k pieces) (λ y. omega (arith, past_no pieces e (omega arith))) (λ n. omega (arith, past_yes pieces e (omega arith)))
+    dite (dec_lt k pieces) (λ y. omega (arith, past_no pieces e (omega arith)))
+    (λ n. omega (arith, past_yes pieces e (omega arith)))
 
 -- a history has at most as many draws past the end as it is longer than the pieces
 pub history_past : (pieces : ℕ) (h : List Entry) → IsHistory h → length h ≤ past pieces h + pieces
 history_past pieces h is = let r = history_from pieces 0 h (λ j e at. is j e at ∙ omega arith) in omega arith
 
 pub history-snoc : (h : List Entry) (e : Entry) → IsHistory h → e.number ≡ length h → IsHistory (h ++ e ∷ [])
-history-snoc h e is last j x at = ⊎_elim (λ (t : get_elem? h j ≡ some x). is j x t) (λ (t : (j ≡ length h) × (e ≡ x)). ap (λ (y : Entry). y.number) (sym t.1) ∙ (last ∙ sym t.0)) (snoc_at h e x j at)
+history-snoc h e is last j x at =
+    ⊎_elim (λ (t : get_elem? h j ≡ some x). is j x t)
+    (λ (t : (j ≡ length h) × (e ≡ x)). ap (λ (y : Entry). y.number) (sym t.1) ∙ (last ∙ sym t.0)) (snoc_at h e x j at)
 
--- 1 for this very entry
-same_entry : Entry → Entry → ℕ
-same_entry e x = cond (eqb x.number e.number) (cond (eqb x.place e.place) 1 0) 0
+-- ---- how often an entry stands in a list
 
--- an entry that weighs no more than a list, however entries are weighed, stands in it
-pub weighed_in : (e : Entry) (l : List Entry) → ((f : Entry → ℕ) → f e ≤ total f l) → IsIn e l
-weighed_in e l h =
-    let g : Entry → ℕ = λ x. cond (eqb x.number e.number) (cond (eqb x.place e.place) 1 0) 0 in
-    let mine : g e ≡ 1 = ap (λ b. cond b (cond (eqb e.place e.place) 1 0) 0) (eq-eqb e.number e.number refl) ∙ ap (λ b. cond b 1 0) (eq-eqb e.place e.place refl) in
-    let t = some_term g l (omega (arith, h g)) in
-    let x : Entry = t.1 in
-    dite (ℕ_discrete x.number e.number)
-    (λ n. dite (ℕ_discrete x.place e.place)
-    (λ p. let same : x ≡ e = λ i. record { place = p i; number = n i } in (t.0, subst (λ (y : Entry). get_elem? l t.0 ≡ some y) same t.2))
-    (λ ne. let z : g x ≡ 0 = ap (λ b. cond b (cond (eqb x.place e.place) 1 0) 0) (eq-eqb x.number e.number n) ∙ ap (λ b. cond b 1 0) (ne_eqb x.place e.place ne) in let p = t.3 in absurd (omega arith)))
-    (λ ne. let z : g x ≡ 0 = ap (λ b. cond b (cond (eqb x.place e.place) 1 0) 0) (ne_eqb x.number e.number ne) in let p = t.3 in absurd (omega arith))
+pub one_for-same : (e : Entry) → one_for e e ≡ 1
+one_for-same e =
+    ap (λ (b : Bool × Bool). cond (b.0 && b.1) 1 0)
+    (λ i. (eq-eqb e.place e.place refl i, eq-eqb e.number e.number refl i))
+
+one_for-other_place : (e x : Entry) → x.place ≢ e.place → one_for e x ≡ 0
+one_for-other_place e x ne = ap (λ (b : Bool). cond (b && eqb x.number e.number) 1 0) (ne_eqb x.place e.place ne)
+
+one_for-other_number : (e x : Entry) → x.place ≡ e.place → x.number ≢ e.number → one_for e x ≡ 0
+one_for-other_number e x p ne =
+    ap (λ (b : Bool × Bool). cond (b.0 && b.1) 1 0) (λ i. (eq-eqb x.place e.place p i, ne_eqb x.number e.number ne i))
+
+-- an entry that counts for this one is this one
+is_same : (e x : Entry) → 0 < one_for e x → x ≡ e
+is_same e x h = dite (ℕ_discrete x.place e.place)
+    (λ p. dite (ℕ_discrete x.number e.number)
+    (λ n i. record { place = p i; number = n i })
+    (λ ne. let z = one_for-other_number e x p ne in absurd (omega arith)))
+    (λ ne. let z = one_for-other_place e x ne in absurd (omega arith))
+
+-- an entry that is counted stands in the list
+pub counted_in : (e : Entry) (l : List Entry) → 0 < count_of e l → IsIn e l
+counted_in e l h =
+    let t = some_term (one_for e) l h in
+    (t.0, subst (λ (y : Entry). get_elem? l t.0 ≡ some y) (is_same e t.1 t.3) t.2)
+
+-- lists with the same entries, as often, weigh the same, however entries are weighed
+pub weighs_same : (f : Entry → ℕ) (xs ys : List Entry) → Same xs ys → total f xs ≡ total f ys
+weighs_same f [] [] same = refl
+weighs_same f [] (y ∷ ys) same = let e = same y in let one = one_for-same y in absurd (omega arith)
+weighs_same f (x ∷ xs) ys same =
+    let here = counted_in x ys (omega (arith, same x, one_for-same x)) in
+    let r = parted_at ys here.0 x here.1 in
+    let rest : Same xs (r.0 ++ r.1) = λ e.
+    omega (arith, same e, ap (count_of e) r.2, total-between (one_for e) r.0 x r.1) in
+    omega (arith, weighs_same f xs (r.0 ++ r.1) rest, ap (total f) r.2, total-between f r.0 x r.1)
+
+-- the draws of all views
+abbrev all_draws : List View → List Entry
+all_draws [] = []
+all_draws (v ∷ vs) = v.draws ++ all_draws vs
+
+total-all_draws : (f : Entry → ℕ) (vs : List View) → total f (all_draws vs) ≡ total (λ (v : View). total f v.draws) vs
+total-all_draws f [] = refl
+total-all_draws f (v ∷ vs) = omega (arith, total-append f v.draws (all_draws vs), total-all_draws f vs)
+
+-- so do views that hold the entries of a history
+pub views_weigh : (f : Entry → ℕ) (vs : List View) (h : List Entry)
+    → ((e : Entry) → total (λ (v : View). count_of e v.draws) vs ≡ count_of e h)
+    → total (λ (v : View). total f v.draws) vs ≡ total f h
+views_weigh f vs h held =
+    sym (total-all_draws f vs) ∙ weighs_same f (all_draws vs) h (λ e. total-all_draws (one_for e) vs ∙ held e)

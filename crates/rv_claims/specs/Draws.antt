@@ -1,23 +1,27 @@
--- The running rule of a shared draw: one history of draws, the places that seats hold, and what each seat knows.
-use Rattle.std.specs.Prelude.{◌≡◌, ◌≢◌, ℕ, ◌+◌, ◌-◌, ◌<◌, ◌≤◌, ◌==◌, nat_lt, cond, List, [], ◌∷◌, ◌++◌, map, length, slice_index}
+-- The running rule of a shared draw: one history of draws, the places that seats hold, and what
+-- each seat knows.
+use Rattle.std.specs.Prelude.{◌≡◌, ◌≢◌, ℕ, ◌+◌, ◌-◌, ◌<◌, ◌≤◌, ◌==◌, ◌&&◌, Bool, nat_le, cond, List}
+use Rattle.std.specs.Prelude.{[], ◌∷◌, ◌++◌, map, length, slice_index}
 use mathlib.Core.Option.{some}
 use lib.ListN.{get_elem?}
 use Rattle.atomic_table.specs.Table.{State, Me, Step}
 use Rattle.rv_claims.specs.declared.view.Entry.{Entry}
 use Rattle.rv_claims.specs.declared.view.View.{View}
 
+-- ---- counts
+
 -- f of each, added up
 abbrev pub total : {A : Type 0} → (A → ℕ) → List A → ℕ
 total f [] = 0
 total f (x ∷ xs) = f x + total f xs
 
--- 1 for the number itself, and else 0
-abbrev pub one_at : ℕ → ℕ → ℕ
-one_at n k = cond (k == n) 1 0
+-- how many items pass the test
+abbrev pub count : {A : Type 0} → (A → Bool) → List A → ℕ
+count test xs = total (λ x. cond (test x) 1 0) xs
 
 -- how often n stands in the list
 abbrev pub times : ℕ → List ℕ → ℕ
-times n xs = total (one_at n) xs
+times n xs = count (λ k. k == n) xs
 
 -- the item stands in the list
 abbrev pub IsIn : {A : Type 0} → A → List A → Type 0
@@ -27,9 +31,23 @@ IsIn x xs = (k : ℕ) × (get_elem? xs k ≡ some x)
 abbrev pub Within : {A : Type 0} → List A → List A → Type 0
 Within {A} xs ys = (x : A) → IsIn x xs → IsIn x ys
 
+-- ---- draws
+
 -- a draw by a place
 abbrev pub entry : ℕ → ℕ → Entry
 entry place number = record { place = place; number = number }
+
+-- the same place and the same number
+abbrev pub is_entry : Entry → Entry → Bool
+is_entry e x = (x.place == e.place) && (x.number == e.number)
+
+-- how often the entry stands in the list
+abbrev pub count_of : Entry → List Entry → ℕ
+count_of e draws = count (is_entry e) draws
+
+-- each entry stands in both lists, as often in one as in the other
+abbrev pub Same : List Entry → List Entry → Type 0
+Same xs ys = (e : Entry) → count_of e xs ≡ count_of e ys
 
 -- a history of draws: the j-th number, counted from 0, is j
 abbrev pub IsHistory : List Entry → Type 0
@@ -39,21 +57,20 @@ IsHistory h = (j : ℕ) (e : Entry) → get_elem? h j ≡ some e → e.number �
 abbrev pub numbers : List Entry → List ℕ
 numbers draws = map (λ (e : Entry). e.number) draws
 
--- 1 for a draw past the last piece
-abbrev pub is_past : ℕ → Entry → ℕ
-is_past pieces e = cond (nat_lt e.number pieces) 0 1
+-- a draw past the last piece
+abbrev pub is_past : ℕ → Entry → Bool
+is_past pieces e = nat_le pieces e.number
 
--- the draws past the last piece
+-- how many draws are past the last piece
 abbrev pub past : ℕ → List Entry → ℕ
-past pieces draws = total (is_past pieces) draws
+past pieces draws = count (is_past pieces) draws
 
--- the lists have the same items, as often
-abbrev pub Same : {A : Type 0} → List A → List A → Type 0
-Same {A} xs ys = (f : A → ℕ) → total f xs ≡ total f ys
+-- ---- what seats hold
 
 -- a view of these parts
 abbrev pub view : ℕ → List ℕ → List Entry → List Entry → View
-view pieces places draws noted = record { pieces = pieces; places = places; draws = draws; noted = noted }
+view pieces places draws noted =
+    record { pieces = pieces; places = places; draws = draws; noted = noted }
 
 -- what the first seat holds: place 0
 abbrev pub opened : ℕ → View
@@ -75,44 +92,76 @@ both v w = view v.pieces (v.places ++ w.places) (v.draws ++ w.draws) (v.noted ++
 abbrev pub spent : View
 spent = view 0 [] [] []
 
--- what the rule says of one view: its places are places, each of its draws is by one of them, it has no more draws past the end than places, and what it noted stands in the history
+-- ---- the rule
+
+-- what the rule says of one view: its places are places, each of its draws is by one of them, it
+-- has no more draws past the end than places, and what it noted stands in the history
 pub record Fits (pieces : ℕ) (history : List Entry) (v : View) : Type 0 where
   pub places : (p : ℕ) → IsIn p v.places → p < 64
   pub own : (e : Entry) → IsIn e v.draws → IsIn e.place v.places
   pub few : past pieces v.draws ≤ length v.places
   pub noted : Within v.noted history
 
--- the rule over words and views. An item that all views hold is counted by a sum over the views, however items are weighed
+-- the rule over words and views: the views hold one history together, and the words count it
 pub record Runs (pieces : ℕ) (s : State (Unit {0}) View) : Type 0 where
   pub history : List Entry
   pub numbered : IsHistory history
   pub wide : length s.words ≡ 65
   -- word 0 is the length of the history
   pub drawn : slice_index s.words 0 ≡ length history
-  -- each entry of the history is held by one view, once, and no other entry is
-  pub held : (f : Entry → ℕ) → total (λ v. total f v.draws) s.views ≡ total f history
+  -- an entry stands as often in the draws of all views together as in the history: there once, if
+  -- it was drawn, so that one view holds it, once; and else never
+  pub held : (e : Entry) → total (λ v. count_of e v.draws) s.views ≡ count_of e history
   -- the word of a place is 1 where one view holds the place, once, and 0 where none does
-  pub seated : (p : ℕ) → p < 64 → total (λ v. times p v.places) s.views ≡ slice_index s.words (p + 1)
+  pub seated : (p : ℕ) → p < 64
+      → total (λ v. times p v.places) s.views ≡ slice_index s.words (p + 1)
   pub single : (p : ℕ) → p < 64 → slice_index s.words (p + 1) ≤ 1
   pub each : (i : ℕ) (v : View) → get_elem? s.views i ≡ some v → Fits pieces history v
 
--- what a seat knows of itself
+-- ---- what a step tells the seat that takes it
+
+-- what a seat knows of itself: its view, and the slots that it has taken
 abbrev pub Sitting : Type 0
 Sitting = Me (Unit {0}) View
 
--- the place that draws: the first
+abbrev pub view_of : Sitting → View
+view_of me = me.0
+
+-- a shared draw has no slots, so there are never any
+abbrev pub slots_of : Sitting → List (ℕ × Unit {0})
+slots_of me = me.1
+
+-- the place that draws: the first. A seat that draws has one
 abbrev pub first_of : List ℕ → ℕ
 first_of [] = 0
 first_of (p ∷ ps) = p
 
--- a draw: the number found is the seat's, by its first place, and is above each number that the seat had
-abbrev pub Drew : Step (Unit {0}) → Sitting → ℕ → Sitting → Type 0
-Drew st m n m' = (m'.0 ≡ view m.0.pieces m.0.places (m.0.draws ++ entry (first_of m.0.places) n ∷ []) m.0.noted) × (m'.1 ≡ m.1) × ((e : Entry) → IsIn e m.0.draws → e.number < n)
+-- the view with one more draw, by its first place
+abbrev pub view_drawn : View → ℕ → View
+view_drawn v n = view v.pieces v.places (v.draws ++ entry (first_of v.places) n ∷ []) v.noted
 
--- sitting: the place is the seat's where 0 was found
-abbrev pub Sat : Step (Unit {0}) → Sitting → ℕ → Sitting → Type 0
-Sat st m n m' = (m'.1 ≡ m.1) × (n ≡ 0 → m'.0 ≡ view m.0.pieces ((st.word - 1) ∷ m.0.places) m.0.draws m.0.noted) × (n ≢ 0 → m'.0 ≡ m.0)
+-- the view with one more place, before those that it has
+abbrev pub view_seated : View → ℕ → View
+view_seated v place = view v.pieces (place ∷ v.places) v.draws v.noted
 
--- a look: what the seat has drawn and noted stands in one history, and it has each of its places once
-abbrev pub Looked : Step (Unit {0}) → Sitting → ℕ → Sitting → Type 0
-Looked st m n m' = (m' ≡ m) × ((history : List Entry) × IsHistory history × Within m.0.draws history × Within m.0.noted history) × ((p : ℕ) → times p m.0.places ≤ 1)
+-- a draw: the number found is the seat's, and is above each number that the seat had
+pub record Drew (st : Step (Unit {0})) (me : Sitting) (n : ℕ) (after : Sitting) : Type 0 where
+  pub drawn : view_of after ≡ view_drawn (view_of me) n
+  pub slots : slots_of after ≡ slots_of me
+  pub above : (e : Entry) → IsIn e (view_of me).draws → e.number < n
+
+-- sitting at the word of a place, whose number is one more: the place is the seat's where 0 was
+-- found, and another seat's or its own where not
+pub record Sat (st : Step (Unit {0})) (me : Sitting) (n : ℕ) (after : Sitting) : Type 0 where
+  pub slots : slots_of after ≡ slots_of me
+  pub free : n ≡ 0 → view_of after ≡ view_seated (view_of me) (st.word - 1)
+  pub taken : n ≢ 0 → view_of after ≡ view_of me
+
+-- a look: what the seat has drawn and noted stands in one history, and it has each place once
+pub record Looked (st : Step (Unit {0})) (me : Sitting) (n : ℕ) (after : Sitting) : Type 0 where
+  pub same : after ≡ me
+  pub history : List Entry
+  pub numbered : IsHistory history
+  pub draws : Within (view_of me).draws history
+  pub noted : Within (view_of me).noted history
+  pub once : (p : ℕ) → times p (view_of me).places ≤ 1

@@ -7,7 +7,8 @@ use Rattle.rv_claims.specs.Passes.{Held}
 
 -- the same pass, with more draws behind those that it had
 abbrev pub Grew : Held → Held → Type 0
-Grew p q = (q.draw ≡ p.draw) × (q.places ≡ p.places) × ((more : List Entry) × (q.draws ≡ p.draws ++ more))
+Grew p q = (q.draw ≡ p.draw) × (q.places ≡ p.places)
+    × ((more : List Entry) × (q.draws ≡ p.draws ++ more))
 
 -- the numbers below that of the pieces, in order
 abbrev pub pieces_among : ℕ → List Entry → List ℕ

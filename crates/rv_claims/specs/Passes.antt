@@ -1,9 +1,11 @@
 -- What contracts see of a shared draw and of a pass.
-use Rattle.std.specs.Prelude.{◌≡◌, ℕ, ◌<◌, Bool, nat_lt, cond, List, [], ◌∷◌, ◌++◌, length, replicate, Option, Some, None}
+use Rattle.std.specs.Prelude.{◌≡◌, ℕ, ◌<◌, Bool, nat_lt, cond, List, [], ◌∷◌, ◌++◌, length}
+use Rattle.std.specs.Prelude.{replicate, Option, Some, None}
 use Rattle.std.specs.Int.{bit_at}
 use Rattle.atomic_table.specs.Seated.{TableId}
 use Rattle.rv_claims.specs.declared.view.Entry.{Entry}
-use Rattle.rv_claims.specs.Draws.{IsIn, past, entry, first_of, Sitting, IsHistory, Within, Same}
+use Rattle.rv_claims.specs.Draws.{IsIn, past, entry, first_of, Sitting, view_of, slots_of}
+use Rattle.rv_claims.specs.Draws.{IsHistory, Within, Same}
 
 -- which shared draw it is, and the number of its pieces
 pub record SharedDraw : Type 0 where
@@ -38,7 +40,8 @@ piece_of pieces n = cond (nat_lt n pieces) (Some n) None
 
 -- the draws of both stand in one history
 abbrev pub InOneHistory : List Entry → List Entry → Type 0
-InOneHistory xs ys = (history : List Entry) × IsHistory history × Within xs history × Within ys history
+InOneHistory xs ys = (history : List Entry) × IsHistory history
+    × Within xs history × Within ys history
 
 -- no number stands in both lists
 abbrev pub NoneInBoth : List ℕ → List ℕ → Type 0
@@ -48,19 +51,21 @@ NoneInBoth xs ys = (n : ℕ) → IsIn n xs → IsIn n ys → ⊥
 abbrev pub AreAll : List Entry → Type 0
 AreAll draws = (history : List Entry) × IsHistory history × Same draws history
 
--- how the fields of a pass stand for its view: a bit for each of its places, and whether it holds a number past the last piece
-pub record IsPass (m : Sitting) (bits : ℕ) (ended : Bool) : Type 0 where
-  pub no_slot : m.1 ≡ []
-  pub sits : 0 < length m.0.places
-  pub low : (p : ℕ) → IsIn p m.0.places → p < 64
-  pub set : (p : ℕ) → IsIn p m.0.places → bit_at bits p ≡ 1
-  pub clear : (p : ℕ) → bit_at bits p ≡ 1 → IsIn p m.0.places
-  pub own : (e : Entry) → IsIn e m.0.draws → IsIn e.place m.0.places
-  pub stopped : ended ≡ nat_lt 0 (past m.0.pieces m.0.draws)
+-- how the fields of a pass stand for its view: a bit for each of its places, and whether it holds a
+-- number past the last piece
+pub record IsPass (me : Sitting) (bits : ℕ) (ended : Bool) : Type 0 where
+  pub no_slot : slots_of me ≡ []
+  pub sits : 0 < length (view_of me).places
+  pub low : (p : ℕ) → IsIn p (view_of me).places → p < 64
+  pub set : (p : ℕ) → IsIn p (view_of me).places → bit_at bits p ≡ 1
+  pub clear : (p : ℕ) → bit_at bits p ≡ 1 → IsIn p (view_of me).places
+  pub own : (e : Entry) → IsIn e (view_of me).draws → IsIn e.place (view_of me).places
+  pub stopped : ended ≡ nat_lt 0 (past (view_of me).pieces (view_of me).draws)
 
 -- what a seat of a pass shows
 abbrev pub seen : TableId → Sitting → Held
-seen table m = pass_of (record { table = table; pieces = m.0.pieces }) m.0.places m.0.draws
+seen table me = let v = view_of me in
+    pass_of (record { table = table; pieces = v.pieces }) v.places v.draws
 
 -- the words at the start: no draw, and place 0 taken
 abbrev pub opening_row : List ℕ
@@ -68,4 +73,5 @@ opening_row = 0 ∷ 1 ∷ replicate 63 0
 
 -- a pass with one place, which is not among these bits, and no draws
 abbrev pub IsNew : SharedDraw → ℕ → Held → Type 0
-IsNew d taken p = (place : ℕ) × (place < 64) × (bit_at taken place ≡ 0) × (p ≡ pass_of d (place ∷ []) [])
+IsNew d taken p = (place : ℕ) × (place < 64) × (bit_at taken place ≡ 0)
+    × (p ≡ pass_of d (place ∷ []) [])

@@ -5,7 +5,8 @@ ghost use Rattle.std.specs.Int.{bit_at};
 ghost use mathlib.Core.Option.{some};
 ghost use lib.ListN.{get_elem?};
 ghost use Rattle.rv_claims.specs.Draws.{numbers, times, IsIn, view};
-ghost use Rattle.rv_claims.specs.Passes.{pass_of, has_ended, with_draw, AllBelow, piece_of, InOneHistory, NoneInBoth, AreAll, opening_row, IsNew};
+ghost use Rattle.rv_claims.specs.Passes.{pass_of, has_ended, with_draw, AllBelow, piece_of, InOneHistory, NoneInBoth};
+ghost use Rattle.rv_claims.specs.Passes.{AreAll, opening_row, IsNew};
 ghost use Rattle.rv_claims.specs.Split.{in_full};
 
 use crate::pass::{Pass, SplitError};
@@ -18,7 +19,8 @@ use std::marker::Model;
 /// A shared draw of the numbers of pieces, from 0 on. Up to 64 passes draw from it at the same time, each by one atomic
 /// addition, and no number is drawn twice.
 ///
-/// Contracts see which shared draw it is, and how many pieces it has. A pass is of the shared draw whose value it names.
+/// Contracts see which shared draw it is, and how many pieces it has. A pass is of the shared draw whose value it
+/// names.
 #[derive(Drop)]
 pub struct Claims {
     // Word 0 counts the draws, and word p + 1 is 1 where place p was given.
@@ -34,7 +36,9 @@ impl Model for Claims {
 
     ghost view = { λ c. record { table = c.table.shared.table_id; pieces = c.pieces } };
 
-    ghost invariant = { λ c. (c.table.shared.key ≡ c.pieces) × (c.table.shared.table_id.words ≡ 65) × (c.table.shared.table_id.slots ≡ 0) × (c.pieces ≤ 4096) };
+    ghost invariant = { λ c. (c.table.shared.key ≡ c.pieces)
+        × (c.table.shared.table_id.words ≡ 65) × (c.table.shared.table_id.slots ≡ 0)
+        × (c.pieces ≤ 4096) };
 }
 
 /// The places that a shared draw has, which are never given back.

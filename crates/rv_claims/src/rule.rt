@@ -1,4 +1,5 @@
-//! The rule that every step at the table of a shared draw keeps, and what each kind of step tells the seat that takes it.
+//! The rule that every step at the table of a shared draw keeps, and what each kind of step tells the seat that takes
+//! it.
 //!
 //! Word 0 of the table counts the draws, and word p + 1 is 1 where place p was given.
 

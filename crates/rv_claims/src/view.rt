@@ -7,7 +7,8 @@ pub struct Entry {
     pub number: u64,
 }
 
-/// What a seat holds: its places, the latest first, and its draws in order; and the draws of others that it was told of.
+/// What a seat holds: its places, the latest first, and its draws in order; and the draws of others that it was told
+/// of.
 pub struct View {
     pub pieces: u64,
     pub places: LinkedList<u64>,

@@ -10,7 +10,8 @@ use Rattle.rv_elf.specs.declared.error.ImageError.TheVariants.{NoBegin}
 use Rattle.rv_elf.specs.declared.image.Image.{Image}
 use Rattle.rv_elf.specs.declared.sections.Section.{Section}
 use Rattle.rv_elf.specs.declared.symbols.Symbol.{Symbol}
-use Rattle.rv_elf.specs.Image.{header_rows, table_of, image_of, IsImageOf}
+use Rattle.rv_elf.specs.Image.{image_of, IsImageOf}
+use Rattle.rv_elf.specs.ImageParts.{header_rows, table_of}
 use Rattle.rv_elf.specs.Sections.{e_shnum, e_shoff, e_shentsize, has_bad_sections, symbol_table, string_table}
 use Rattle.rv_elf.specs.Sections.{is_bad_symbols, is_bad_strings, bytes_of, symbol_named, HasSections}
 use Rattle.rv_elf.specs.Symbols.{has_bad_strings, symbol_in, symbol_there, symbol_of}
@@ -18,7 +19,7 @@ use Rattle.rv_elf.proofs.FirstRow.{none_refused}
 
 -- the bytes of an image have a whole header
 pub header_there : (file : List ℕ) (image : Image) → IsImageOf file image → 52 ≤ length file
-unfolding image_of
+unfolding image_of table_of
 header_there file image e = ltb-false (length file) 52
     (or_parts (ltb (length file) 52) _ (none_refused (header_rows file) (table_of e.isa file) image e.is).0).0
 

@@ -1,13 +1,16 @@
 -- An image that is read for a narrower set of instructions is read for RV32IMC alike.
-use Rattle.std.proofs.Common.{◌≡◌, ◌∙◌, ℕ, false, not, List, [], ◌∷◌, length, refl, Ok, Result, ◌%◌, ◌==◌}
+use Rattle.std.proofs.Common.{◌≡◌, ◌∙◌, ℕ, false, not, ◌&&◌, ◌||◌, List, [], ◌∷◌, ◌++◌, take, refl, ap, Ok, Result}
+use Rattle.std.proofs.Common.{◌%◌, ◌==◌}
 use Rattle.std.specs.List.{list_any}
 use Rattle.std.proofs.lemmas.Bool.{or_parts}
 use Rattle.rv_isa.specs.declared.sets.Isa.{Isa}
 use Rattle.rv_isa.specs.declared.sets.Isa.TheVariants.{Imc}
+use Rattle.rv_isa.specs.Extensions.{has, RV32C}
 use Rattle.rv_elf.specs.declared.error.ImageError.{ImageError}
+use Rattle.rv_elf.specs.declared.error.ImageError.TheVariants.{EntryAlign}
 use Rattle.rv_elf.specs.declared.image.Image.{Image}
 use Rattle.rv_elf.specs.Rows.{Row, first_row}
-use Rattle.rv_elf.specs.Image.{header_rows, entry_rows, image_rows, entries, image_there, table_of, image_of}
+use Rattle.rv_elf.specs.Image.{e_entry, refusals, image_there, image_of}
 use Rattle.rv_elf.proofs.FirstRow.{none_refused}
 
 -- rows of which none applies leave what follows
@@ -17,25 +20,23 @@ passes_all [] next h = refl
 passes_all (row ∷ rows) next h =
     let p = or_parts row.0 (list_any (λ r. r.0) rows) h in rw p.0 (passes_all rows next p.1)
 
--- with 16-bit instructions no entry is refused that is not refused without them
-rows_wider : (isa : Isa) (image : Image) → list_any (λ r. r.0) (image_rows isa image) ≡ false
-    → list_any (λ r. r.0) (image_rows Imc image) ≡ false
-rows_wider isa image h =
-    let some = or_parts (length image.segments == 0) _ h in
-    let odd = or_parts (not (image.entry % 2 == 0)) _ some.1 in
-    rw some.0 (rw odd.0 refl)
+-- a last row that doesn't apply, in place of another one
+wider : (rows : List Row) (was now : Row) → now.0 ≡ false → list_any (λ r. r.0) (rows ++ was ∷ []) ≡ false
+    → list_any (λ r. r.0) (rows ++ now ∷ []) ≡ false
+wider [] was now passes h = ap (λ b. b || false) passes
+wider (row ∷ rows) was now passes h =
+    let p = or_parts row.0 (list_any (λ r. r.0) (rows ++ was ∷ [])) h in rw p.0 (wider rows was now passes p.1)
+
+-- with 16-bit instructions nothing is refused that is not refused without them: the last refusal goes
+refusals_wider : (isa : Isa) (file : List ℕ) → list_any (λ r. r.0) (refusals isa file) ≡ false
+    → list_any (λ r. r.0) (refusals Imc file) ≡ false
+refusals_wider isa file h =
+    let last : Isa → Row = λ set. (not (has set RV32C) && not (e_entry file % 4 == 0), EntryAlign) in
+    wider (take 13 (refusals Imc file)) (last isa) (last Imc) refl h
 
 pub image_wider : (isa : Isa) (file : List ℕ) (image : Image) → image_of isa file ≡ Ok image
     → image_of Imc file ≡ Ok image
-unfolding image_of table_of
+unfolding image_of
 image_wider isa file image e =
-    let there : Image = image_there file in
-    let read : Result Image ImageError = Ok there in
-    let table : List Row = entry_rows (length file) (entries file) in
-    let header = none_refused (header_rows file) (table_of isa file) image e in
-    let found = none_refused table (first_row (image_rows isa there) read) image header.1 in
-    let last = none_refused (image_rows isa there) read image found.1 in
-    passes_all (header_rows file) (table_of Imc file) header.0
-    ∙ passes_all table (first_row (image_rows Imc there) read) found.0
-    ∙ passes_all (image_rows Imc there) read (rows_wider isa there last.0)
-    ∙ last.1
+    let read = none_refused (refusals isa file) (Ok (image_there file)) image e in
+    passes_all (refusals Imc file) (Ok (image_there file)) (refusals_wider isa file read.0) ∙ read.1

@@ -12,47 +12,60 @@ use Rattle.rv_elf.specs.declared.image.Image.{Image}
 use Rattle.rv_elf.specs.declared.image.Segment.{Segment}
 use Rattle.rv_elf.specs.declared.program_headers.ProgramHeader.{ProgramHeader}
 use Rattle.rv_elf.specs.Rows.{first_row, accepted}
-use Rattle.rv_elf.specs.Image.{header_rows, entry_rows, image_rows, header_check, entry_check, image_check, entries}
-use Rattle.rv_elf.specs.Image.{segments, kept_of, is_load, is_kept, is_past, is_dynamic, has_bad_sizes, image_there}
-use Rattle.rv_elf.specs.Image.{table_of, image_of, IsImageOf}
+use Rattle.rv_elf.specs.Image.{entries, segments, kept_of, is_load, is_kept, is_past, is_dynamic, has_bad_sizes}
+use Rattle.rv_elf.specs.Image.{e_entry, image_there, image_of, IsImageOf}
+use Rattle.rv_elf.specs.ImageParts.{header_rows, entry_rows, image_rows, header_check, entry_check, image_check}
+use Rattle.rv_elf.specs.ImageParts.{table_of}
 use Rattle.rv_elf.proofs.FirstRow.{none_refuses, refusal_stays, none_refused}
 
 -- ---- the parts of reading
 
 pub header_passed : (isa : Isa) (file : List ℕ) → accepted ≡ header_check file → image_of isa file ≡ table_of isa file
-unfolding image_of header_check
+unfolding image_of table_of header_check
 header_passed isa file e = none_refuses (header_rows file) (table_of isa file) (sym e)
 
 pub header_refused : (isa : Isa) (file : List ℕ) (w : ImageError) → Err w ≡ header_check file
     → image_of isa file ≡ Err w
-unfolding image_of header_check
+unfolding image_of table_of header_check
 header_refused isa file w e = refusal_stays (header_rows file) (table_of isa file) w (sym e)
 
-pub entries_refused : (isa : Isa) (file : List ℕ) (found : List ProgramHeader) (w : ImageError) → found ≡ entries file
-    → Err w ≡ entry_check (length file) found → table_of isa file ≡ Err w
+pub entries_refused : (isa : Isa) (file : List ℕ) (w : ImageError) → Err w ≡ entry_check file
+    → table_of isa file ≡ Err w
 unfolding table_of entry_check
-entries_refused isa file found w is e = refusal_stays (entry_rows (length file) (entries file)) _ w (sym (rw is at e))
+entries_refused isa file w e = refusal_stays (entry_rows file) _ w (sym e)
 
-entries_passed : (isa : Isa) (file : List ℕ) (found : List ProgramHeader) → found ≡ entries file
-    → accepted ≡ entry_check (length file) found
-    → table_of isa file ≡ first_row (image_rows isa (image_there file)) (Ok (image_there file))
+entries_passed : (isa : Isa) (file : List ℕ) → accepted ≡ entry_check file
+    → table_of isa file ≡ first_row (image_rows isa file) (Ok (image_there file))
 unfolding table_of entry_check
-entries_passed isa file found is e = none_refuses (entry_rows (length file) (entries file)) _ (sym (rw is at e))
+entries_passed isa file e = none_refuses (entry_rows file) _ (sym e)
 
-pub image_refused : (isa : Isa) (file : List ℕ) (found : List ProgramHeader) (image : Image) (w : ImageError)
-    → found ≡ entries file → image ≡ image_there file
-    → accepted ≡ entry_check (length file) found → Err w ≡ image_check isa image → table_of isa file ≡ Err w
+pub image_refused : (isa : Isa) (file : List ℕ) (w : ImageError) → accepted ≡ entry_check file
+    → Err w ≡ image_check isa file → table_of isa file ≡ Err w
 unfolding image_check
-image_refused isa file found image w is there p e =
-    entries_passed isa file found is p ∙ refusal_stays (image_rows isa (image_there file)) _ w (sym (rw there at e))
+image_refused isa file w p e = entries_passed isa file p ∙ refusal_stays (image_rows isa file) _ w (sym e)
 
-pub image_passed : (isa : Isa) (file : List ℕ) (found : List ProgramHeader) (image : Image) → found ≡ entries file
-    → image ≡ image_there file
-    → accepted ≡ entry_check (length file) found → accepted ≡ image_check isa image → table_of isa file ≡ Ok image
+pub image_passed : (isa : Isa) (file : List ℕ) (image : Image) → image ≡ image_there file
+    → accepted ≡ entry_check file → accepted ≡ image_check isa file → table_of isa file ≡ Ok image
 unfolding image_check
-image_passed isa file found image is there p e =
-    entries_passed isa file found is p ∙ none_refuses (image_rows isa (image_there file)) _ (sym (rw there at e))
-    ∙ ap (λ i. Ok i) (sym there)
+image_passed isa file image there p e =
+    entries_passed isa file p ∙ none_refuses (image_rows isa file) _ (sym e) ∙ ap (λ i. Ok i) (sym there)
+
+-- where the bytes are an image, no refusal applies, and it is what is there
+module _ (isa : Isa) (file : List ℕ) (image : Image) (e : image_of isa file ≡ Ok image) where
+  after_header : table_of isa file ≡ Ok image
+  unfolding image_of table_of
+  after_header = (none_refused (header_rows file) (table_of isa file) image e).1
+
+  entries_good : (list_any (λ r. r.0) (entry_rows file) ≡ false)
+      × (first_row (image_rows isa file) (Ok (image_there file)) ≡ Ok image)
+  unfolding table_of
+  entries_good = none_refused (entry_rows file) (first_row (image_rows isa file) (Ok (image_there file))) image after_header
+
+  pub entered : list_any (λ r. r.0) (image_rows isa file) ≡ false
+  entered = (none_refused (image_rows isa file) (Ok (image_there file)) image entries_good.1).0
+
+  pub there_is : image_there file ≡ image
+  there_is = let last = (none_refused (image_rows isa file) (Ok (image_there file)) image entries_good.1).1 in cc
 
 -- ---- where the bytes of a segment stand
 
@@ -78,20 +91,15 @@ kept_in_file n (x ∷ xs) e =
 -- so they are where the image is one of n bytes
 pub segments_in_file : (isa : Isa) (file : List ℕ) (image : Image) → image_of isa file ≡ Ok image
     → list_all (in_file (length file)) image.segments ≡ true
-unfolding image_of table_of segments
+unfolding segments
 segments_in_file isa file image e =
     let n = length file in
     let found = entries file in
-    let t = (none_refused (header_rows file) (table_of isa file) image e).1 in
-    let r = none_refused (entry_rows n found)
-    (first_row (image_rows isa (image_there file)) (Ok (image_there file))) image t in
-    let i = (none_refused (image_rows isa (image_there file)) (Ok (image_there file)) image r.1).1 in
     let dynamic = or_parts (list_any is_dynamic found)
-    (list_any has_bad_sizes found || (list_any (is_past n) found || false)) r.0 in
+    (list_any has_bad_sizes found || (list_any (is_past n) found || false)) (entries_good isa file image e).0 in
     let sizes = or_parts (list_any has_bad_sizes found) (list_any (is_past n) found || false) dynamic.1 in
     let past = or_parts (list_any (is_past n) found) false sizes.1 in
-    let same : image_there file ≡ image = cc in
-    ap (λ j. list_all (in_file n) j.segments) (sym same) ∙ kept_in_file n found past.0
+    ap (λ j. list_all (in_file n) j.segments) (sym (there_is isa file image e)) ∙ kept_in_file n found past.0
 
 -- what that means of one of them
 pub in_file_bounds : (n : ℕ) (s : Segment) → in_file n s ≡ true → 0 < s.filesz → s.offset + s.filesz ≤ n
@@ -100,29 +108,20 @@ in_file_bounds n s h l =
     ltb-false n (s.offset + s.filesz) (sym (ap (λ b. b && ltb n (s.offset + s.filesz)) (lt-ltb 0 s.filesz l)) ∙ f)
 
 -- an instruction may stand at the entry of an image
-entered : (isa : Isa) (file : List ℕ) (image : Image) → image_of isa file ≡ Ok image
-    → (list_any (λ r. r.0) (image_rows isa image) ≡ false)
-unfolding image_of table_of
-entered isa file image e =
-    let t = (none_refused (header_rows file) (table_of isa file) image e).1 in
-    let r = none_refused (entry_rows (length file) (entries file))
-    (first_row (image_rows isa (image_there file)) (Ok (image_there file))) image t in
-    let i = none_refused (image_rows isa (image_there file)) (Ok (image_there file)) image r.1 in
-    let same : image_there file ≡ image = cc in
-    ap (λ j. list_any (λ r. r.0) (image_rows isa j)) (sym same) ∙ i.0
-
 pub entry_even : (isa : Isa) (file : List ℕ) (image : Image) → image_of isa file ≡ Ok image → image.entry % 2 ≡ 0
 entry_even isa file image e =
-    let rows = or_parts (length image.segments == 0) _ (entered isa file image e) in
-    eqb-true _ _ (not-false _ (or_parts (not (image.entry % 2 == 0)) _ rows.1).0)
+    let rows = or_parts (length (segments file) == 0) _ (entered isa file image e) in
+    ap (λ i. i.entry % 2) (sym (there_is isa file image e))
+    ∙ eqb-true _ _ (not-false _ (or_parts (not (e_entry file % 2 == 0)) _ rows.1).0)
 
 pub entry_aligned : (isa : Isa) (file : List ℕ) (image : Image) → image_of isa file ≡ Ok image → has isa RV32C ≡ false
     → image.entry % 4 ≡ 0
 entry_aligned isa file image e c =
-    let rows = or_parts (length image.segments == 0) _ (entered isa file image e) in
-    let odd = or_parts (not (image.entry % 2 == 0)) _ rows.1 in
-    let row = (or_parts (not (has isa RV32C) && not (image.entry % 4 == 0)) false odd.1).0 in
-    eqb-true _ _ (not-false _ (sym (ap (λ b. not b && not (image.entry % 4 == 0)) c) ∙ row))
+    let rows = or_parts (length (segments file) == 0) _ (entered isa file image e) in
+    let odd = or_parts (not (e_entry file % 2 == 0)) _ rows.1 in
+    let row = (or_parts (not (has isa RV32C) && not (e_entry file % 4 == 0)) false odd.1).0 in
+    ap (λ i. i.entry % 4) (sym (there_is isa file image e))
+    ∙ eqb-true _ _ (not-false _ (sym (ap (λ b. not b && not (e_entry file % 4 == 0)) c) ∙ row))
 
 -- what reading answers, once the header is accepted
 module _ (isa : Isa) (file : List ℕ) where

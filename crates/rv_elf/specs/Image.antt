@@ -15,7 +15,7 @@ use Rattle.rv_elf.specs.declared.image.Segment.{Segment}
 use Rattle.rv_elf.specs.declared.image.Image.{Image}
 use Rattle.rv_elf.specs.declared.program_headers.ProgramHeader.{ProgramHeader}
 use Rattle.rv_elf.specs.Fields.{byte_at, half_at, word_at}
-use Rattle.rv_elf.specs.Rows.{Row, first_row, accepted}
+use Rattle.rv_elf.specs.Rows.{Row, first_row}
 
 -- ---- the ELF header's fields ("ELF Header")
 
@@ -118,11 +118,13 @@ kept_of found = map (λ e. e.segment) (filter is_kept found)
 unfoldable pub segments : List ℕ → List Segment
 segments file = kept_of (entries file)
 
--- ---- the table of refusals, in its order
+-- ---- the refusals, and the image
 
--- of the header
-abbrev pub header_rows : List ℕ → List Row
-header_rows file = (nat_lt (length file) 52, ShortHeader)
+-- the refusals in their order, each with its condition: what is asked of the ELF header, of the place of
+-- the program header table, of all its entries (one question of all before the next one), and of what is
+-- read. Without the extension for compressed instructions an entry is a multiple of 4.
+abbrev pub refusals : Isa → List ℕ → List Row
+refusals isa file = (nat_lt (length file) 52, ShortHeader)
     ∷ (not (has_magic file), BadMagic)
     ∷ (not (byte_at file 4 == 1), Not32Bit)
     ∷ (not (byte_at file 5 == 1), NotLittleEndian)
@@ -130,43 +132,21 @@ header_rows file = (nat_lt (length file) 52, ShortHeader)
     ∷ (not (e_type file == 2), NotExecutable)
     ∷ (not (e_machine file == 243), NotRiscv)
     ∷ (has_bad_table file, ProgramTable)
+    ∷ (list_any is_dynamic (entries file), Dynamic)
+    ∷ (list_any has_bad_sizes (entries file), SegmentSizes)
+    ∷ (list_any (is_past (length file)) (entries file), SegmentFile)
+    ∷ (length (segments file) == 0, NoSegment)
+    ∷ (not (e_entry file % 2 == 0), EntryOdd)
+    ∷ (not (has isa RV32C) && not (e_entry file % 4 == 0), EntryAlign)
     ∷ []
-
--- of the entries that a file of n bytes has, each asked of all of them before the next one is
-abbrev pub entry_rows : ℕ → List ProgramHeader → List Row
-entry_rows n found = (list_any is_dynamic found, Dynamic)
-    ∷ (list_any has_bad_sizes found, SegmentSizes)
-    ∷ (list_any (is_past n) found, SegmentFile)
-    ∷ []
-
--- of the image for a set of instructions: no segment, an odd entry, and without C one that is no multiple of 4
-abbrev pub image_rows : Isa → Image → List Row
-image_rows isa image = (length image.segments == 0, NoSegment)
-    ∷ (not (image.entry % 2 == 0), EntryOdd)
-    ∷ (not (has isa RV32C) && not (image.entry % 4 == 0), EntryAlign)
-    ∷ []
-
-unfoldable pub header_check : List ℕ → Result (Unit {0}) ImageError
-header_check file = first_row (header_rows file) accepted
-
-unfoldable pub entry_check : ℕ → List ProgramHeader → Result (Unit {0}) ImageError
-entry_check n found = first_row (entry_rows n found) accepted
-
-unfoldable pub image_check : Isa → Image → Result (Unit {0}) ImageError
-image_check isa image = first_row (image_rows isa image) accepted
 
 -- the entry and the kept segments, before any refusal is asked
 abbrev pub image_there : List ℕ → Image
 image_there file = record { entry = e_entry file; segments = segments file }
 
--- what the header's table says, once the header is not refused
-unfoldable pub table_of : Isa → List ℕ → Result Image ImageError
-table_of isa file = first_row (entry_rows (length file) (entries file))
-    (first_row (image_rows isa (image_there file)) (Ok (image_there file)))
-
--- the first refusal that applies, or the image
+-- the refusal of the first condition in the list that holds; where none does, the image
 unfoldable pub image_of : Isa → List ℕ → Result Image ImageError
-image_of isa file = first_row (header_rows file) (table_of isa file)
+image_of isa file = first_row (refusals isa file) (Ok (image_there file))
 
 -- the image is that of the bytes, for some set of instructions
 pub record IsImageOf (file : List ℕ) (image : Image) : Type 0 where

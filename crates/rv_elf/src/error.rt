@@ -1,6 +1,7 @@
 //! The refusals, in the order in which they are asked.
 ghost use Rattle.std.specs.Prelude.{◌≡◌};
 ghost use Rattle.rv_elf.specs.declared.error.ImageError.TheVariants.{OutOfMemory};
+ghost use Rattle.rv_elf.specs.ErrorNames.{image_error_name};
 
 use std::alloc::{AllocError, AllocFailed};
 
@@ -62,6 +63,40 @@ pub enum ImageError {
     SignatureRange,
     /// A growth was refused. Only [`read_image`](crate::read_image) answers it.
     OutOfMemory,
+}
+
+impl ImageError {
+    /// The word for it in reports and messages.
+    pub fn name(self) -> &'static str
+        ensures { result.now ≡ image_error_name self }
+    {
+        match self {
+            ImageError::ShortHeader => "short-header",
+            ImageError::BadMagic => "bad-magic",
+            ImageError::Not32Bit => "not-32-bit",
+            ImageError::NotLittleEndian => "not-little-endian",
+            ImageError::BadVersion => "bad-version",
+            ImageError::NotExecutable => "not-executable",
+            ImageError::NotRiscv => "not-riscv",
+            ImageError::ProgramTable => "program-table",
+            ImageError::Dynamic => "dynamic",
+            ImageError::SegmentSizes => "segment-sizes",
+            ImageError::SegmentFile => "segment-file",
+            ImageError::NoSegment => "no-segment",
+            ImageError::EntryOdd => "entry-odd",
+            ImageError::EntryAlign => "entry-align",
+            ImageError::SegmentMap => "segment-map",
+            ImageError::SegmentOverlap => "segment-overlap",
+            ImageError::SectionTable => "section-table",
+            ImageError::NoSymbols => "no-symbols",
+            ImageError::SymbolTable => "symbol-table",
+            ImageError::StringTable => "string-table",
+            ImageError::NoBegin => "no-begin",
+            ImageError::NoEnd => "no-end",
+            ImageError::SignatureRange => "signature-range",
+            ImageError::OutOfMemory => "out-of-memory",
+        }
+    }
 }
 
 impl From<AllocError> for ImageError {

@@ -1,6 +1,7 @@
 //! The tests of the ELF header, and of the place of the program header table.
 ghost use Rattle.std.specs.Prelude.{◌≡◌, ◌≤◌, OnOk, length};
-ghost use Rattle.rv_elf.specs.Image.{has_magic, has_bad_version, has_bad_table, header_check, HasTable};
+ghost use Rattle.rv_elf.specs.Image.{has_magic, has_bad_version, has_bad_table, HasTable};
+ghost use Rattle.rv_elf.specs.ImageParts.{header_check};
 
 use crate::error::ImageError;
 use crate::fields::{
@@ -26,7 +27,7 @@ const ET_EXEC: u16 = 2;
 const EM_RISCV: u16 = 243;
 
 /// Asks the refusals of the header, and of the place of the program header table.
-#[tactic(auto, unfolding(crate::specs::Image::header_check))]
+#[tactic(auto, unfolding(crate::specs::ImageParts::header_check))]
 pub(crate) fn check_header(file: &[u8]) -> Result<(), ImageError>
     ensures value { result ≡ header_check file.now }
     ensures table { OnOk result (HasTable file.now) }

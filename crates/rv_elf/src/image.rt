@@ -1,7 +1,8 @@
 //! An executable as its entry and its segments, and how it is read from a file.
-ghost use Rattle.std.specs.Prelude.{◌≡◌, ◌≢◌, IfOk, MatchResult, Ok, Err, false, ◌%◌, ◌==◌};
+ghost use Rattle.std.specs.Prelude.{◌≡◌, ◌≢◌, ◌≤◌, IfOk, MatchResult, Ok, Err, false, length, ◌%◌};
 ghost use Rattle.rv_isa.specs.Extensions.{has, RV32C};
-ghost use Rattle.rv_elf.specs.Image.{image_of, table_of, image_check, HasTable, IsImageOf};
+ghost use Rattle.rv_elf.specs.Image.{image_of, segments, HasTable, IsImageOf};
+ghost use Rattle.rv_elf.specs.ImageParts.{table_of, image_check};
 ghost use Rattle.rv_elf.specs.declared.error.ImageError.TheVariants.{OutOfMemory};
 
 use crate::error::ImageError;
@@ -62,26 +63,30 @@ fn read_table(alloc: Global, file: &[u8], isa: Isa) -> Result<Image, ImageError>
         (λ e. e ≢ OutOfMemory → table_of isa file.now ≡ Err e) }
 {
     let found = entries(alloc, file)?;
-    check_entries(found.as_slice(), file.len())?;
-    let image = Image {
+    check_entries(found.as_slice(), file)?;
+    let kept = kept_segments(alloc, found.as_slice())?;
+    check_image(file, kept.as_slice(), isa)?;
+    Ok(Image {
         entry: word(file, E_ENTRY),
-        segments: Segments::new(kept_segments(alloc, found.as_slice())?),
-    };
-    check_image(&image, isa)?;
-    Ok(image)
+        segments: Segments::new(kept),
+    })
 }
 
-#[tactic(auto, unfolding(crate::specs::Image::image_check))]
-fn check_image(image: &Image, isa: Isa) -> Result<(), ImageError>
-    ensures { result ≡ image_check isa image.now }
+// Asks the refusals of what is read: the segments that are kept, and the entry.
+#[tactic(auto, unfolding(crate::specs::ImageParts::image_check))]
+fn check_image(file: &[u8], kept: &[Segment], isa: Isa) -> Result<(), ImageError>
+    requires header { 52 ≤ length file.now }
+    requires read { kept.now ≡ segments file.now }
+    ensures { result ≡ image_check isa file.now }
 {
-    if image.segments.as_slice().is_empty() {
+    let entry = word(file, E_ENTRY);
+    if kept.is_empty() {
         return Err(ImageError::NoSegment);
     }
-    if image.entry % 2 != 0 {
+    if entry % 2 != 0 {
         return Err(ImageError::EntryOdd);
     }
-    if !isa.has_c() && image.entry % 4 != 0 {
+    if !isa.has_c() && entry % 4 != 0 {
         return Err(ImageError::EntryAlign);
     }
     Ok(())

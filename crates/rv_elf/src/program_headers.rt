@@ -1,7 +1,9 @@
 //! The program header table: its entries, their tests, and the segments that are kept.
 ghost use Rattle.std.specs.Prelude.{◌≡◌, ◌+◌, ◌*◌, ◌<◌, ◌≤◌, IfOk, map, length};
 ghost use Rattle.std.specs.List.{list_any, range_with_len};
-ghost use Rattle.rv_elf.specs.Image.{segment_at, entry_at, entries, entry_check, is_dynamic, has_bad_sizes, is_past, kept_of, HasTable};
+ghost use Rattle.rv_elf.specs.Image.{segment_at, entry_at, entries, is_dynamic, has_bad_sizes, is_past};
+ghost use Rattle.rv_elf.specs.Image.{kept_of, HasTable};
+ghost use Rattle.rv_elf.specs.ImageParts.{entry_check};
 
 use crate::error::ImageError;
 use crate::fields::{
@@ -37,10 +39,11 @@ pub(crate) fn entries(alloc: Global, file: &[u8]) -> Result<Vec<ProgramHeader>, 
     )
 }
 
-/// Asks the refusals of the entries, for a file of `size` bytes.
-#[tactic(auto, unfolding(crate::specs::Image::entry_check))]
-pub(crate) fn check_entries(found: &[ProgramHeader], size: usize) -> Result<(), ImageError>
-    ensures { result ≡ entry_check size found.now }
+/// Asks the refusals of the entries.
+#[tactic(auto, unfolding(crate::specs::ImageParts::entry_check))]
+pub(crate) fn check_entries(found: &[ProgramHeader], file: &[u8]) -> Result<(), ImageError>
+    requires { found.now ≡ entries file.now }
+    ensures { result ≡ entry_check file.now }
 {
     if any_dynamic(found) {
         return Err(ImageError::Dynamic);
@@ -48,7 +51,7 @@ pub(crate) fn check_entries(found: &[ProgramHeader], size: usize) -> Result<(), 
     if any_bad_sizes(found) {
         return Err(ImageError::SegmentSizes);
     }
-    if any_past(found, size) {
+    if any_past(found, file.len()) {
         return Err(ImageError::SegmentFile);
     }
     Ok(())

@@ -57,7 +57,8 @@ fn a_dropped_pass_is_lacking_at_the_end(rt: HostRuntime) -> Result<(), Fail> {
     Ok(())
 }
 
-// A pass that has ended is split as any other: the new one has a place of its own and no draws, and ends by its own draw.
+// A pass that has ended is split as any other: the new one has a place of its own and no draws, and ends by its own
+// draw.
 #[test]
 fn an_ended_pass_is_split(rt: HostRuntime) -> Result<(), Fail> {
     for keep_both in [true, false] {

@@ -6,4 +6,5 @@ use lib.ListN.{get_elem?}
 use Rattle.rv_claims.proofs.claims.has_each.Given as goal
 
 abbrev pub invariant-loop-place : goal.invariant-loop-place
-invariant-loop-place l = (p : ℕ) → p < l.place → get_elem? (slots_items l.closed.words) (p + 1) ≡ some 1 → bit_at l.bits p ≡ 1
+invariant-loop-place l = (p : ℕ) → p < l.place → get_elem? (slots_items l.closed.words) (p + 1) ≡ some 1
+    → bit_at l.bits p ≡ 1

@@ -15,27 +15,23 @@ returns-in_err-check_entries c =
     let error =
     err_from_is_err_and c.from_residual-in_err-check_entries.result
     c.from_residual-in_err-check_entries.ensures.1 in
-    rw (error.1, error.2) (λ _. entries_refused c.args.isa c.args.file.now c.as_slice.result.now _
-    (c.as_slice.ensures.value ∙ c.in_ok-found.ensures) c.in_err-check_entries.ensures)
+    rw (error.1, error.2) (λ _. entries_refused c.args.isa c.args.file.now _ c.in_err-check_entries.ensures)
+
+pub check_image-requires-clause-read : goal.check_image-requires-clause-read
+unfolding segments
+check_image-requires-clause-read c =
+    c.as_slice-3.ensures.value ∙ c.in_ok-kept.ensures ∙ ap kept_of (c.as_slice-2.ensures.value ∙ c.in_ok-found.ensures)
+
+pub returns-in_err-check_image : goal.returns-in_err-check_image
+returns-in_err-check_image c =
+    let error =
+    err_from_is_err_and c.from_residual-in_err-check_image.result c.from_residual-in_err-check_image.ensures.1 in
+    rw (error.1, error.2) (λ _. image_refused c.args.isa c.args.file.now _ c.in_ok-check_entries.ensures
+    c.in_err-check_image.ensures)
 
 pub returns : goal.returns
 unfolding segments
 returns c =
     let there = same _ _ _ _ c.word.ensures
-    (c.new.ensures ∙ c.in_ok-kept_segments.ensures
-    ∙ ap kept_of (c.as_slice-2.ensures.value ∙ c.in_ok-found.ensures)) in
-    image_passed c.args.isa c.args.file.now c.as_slice.result.now _
-    (c.as_slice.ensures.value ∙ c.in_ok-found.ensures) there c.in_ok-check_entries.ensures
-    c.in_ok-check_image.ensures
-
-pub returns-in_err-check_image : goal.returns-in_err-check_image
-unfolding segments
-returns-in_err-check_image c =
-    let error =
-    err_from_is_err_and c.from_residual-in_err-check_image.result c.from_residual-in_err-check_image.ensures.1 in
-    let there = same _ _ _ _ c.word.ensures
-    (c.new.ensures ∙ c.in_ok-kept_segments.ensures
-    ∙ ap kept_of (c.as_slice-2.ensures.value ∙ c.in_ok-found.ensures)) in
-    rw (error.1, error.2) (λ _. image_refused c.args.isa c.args.file.now c.as_slice.result.now _ _
-    (c.as_slice.ensures.value ∙ c.in_ok-found.ensures) there c.in_ok-check_entries.ensures
-    c.in_err-check_image.ensures)
+    (c.new.ensures ∙ c.in_ok-kept.ensures ∙ ap kept_of (c.as_slice-2.ensures.value ∙ c.in_ok-found.ensures)) in
+    image_passed c.args.isa c.args.file.now _ there c.in_ok-check_entries.ensures c.in_ok-check_image.ensures

@@ -17,8 +17,9 @@ unreachable-requires c =
     let places = ap (λ (h : Held). h.places) (c.all.view_is ∙ c.join-all.ensures) in
     let first = ap (λ (h : Held). h.places) c.first.view_is in
     let second = ap (λ (h : Held). h.places) c.second.view_is in
-    overlap c.first.inside.seat.me c.second.inside.seat.me _ _ _ _ (omega arith) (omega arith) c.first.invariant c.second.invariant c.if-first-second-ne0.true
-    (λ p. subst (λ (l : List ℕ). times p l ≤ 1) (places ∙ (λ i. sym first i ++ sym second i)) (c.load.ensures.2.2 p))
+    overlap c.first.inside.seat.me c.second.inside.seat.me _ _ _ _ (omega arith) (omega arith) c.first.invariant
+    c.second.invariant c.if-first-second-ne0.true
+    (λ p. subst (λ (l : List ℕ). times p l ≤ 1) (places ∙ (λ i. sym first i ++ sym second i)) (c.load.ensures.2.once p))
 
 pub split_seat-note-requires : goal.split_seat-note-requires
 split_seat-note-requires c =
@@ -28,8 +29,13 @@ split_seat-note-requires c =
 pub join_seat-requires : goal.join_seat-requires
 join_seat-requires c =
     let one = ap (λ (h : Held). h.draw) c.first.view_is ∙ (c.requires.first ∙ sym c.self.view_is) in
-    let two = ap (λ (h : Held). h.draw) c.second.view_is ∙ (c.requires.second ∙ sym c.self.view_is) in
-    (ap (λ (d : SharedDraw). d.table) two, c.split_seat-note.ensures.3 ∙ ap (λ (d : SharedDraw). d.table) one, ap (λ (m : Sitting). m.1) c.split_seat-note.ensures.4, omega (arith, c.self.invariant.1), joins _ _ _ _ _)
+    let two = ap (λ (h : Held). h.draw) c.second.view_is ∙ (c.requires.second ∙ sym c.self.view_is) in (
+      ap (λ (d : SharedDraw). d.table) two,
+      c.split_seat-note.ensures.3 ∙ ap (λ (d : SharedDraw). d.table) one,
+      ap (λ (m : Sitting). m.1) c.split_seat-note.ensures.4,
+      omega (arith, c.self.invariant.1),
+      joins _ _ _ _ _,
+    )
 
 pub load-requires-2 : goal.load-requires-2
 load-requires-2 c =
@@ -38,27 +44,33 @@ load-requires-2 c =
 
 pub invariant_of-first : goal.invariant_of-first
 invariant_of-first c = let me = c.split_seat-note.ensures.2 in
-    noted_pass c.first.inside.seat.me c.split_seat-note.new.seat.me _ _ c.first.invariant (ap (λ (m : Sitting). m.1) me) (ap (λ (m : Sitting). m.0.pieces) me) (ap (λ (m : Sitting). m.0.places) me) (ap (λ (m : Sitting). m.0.draws) me)
+    noted_pass c.first.inside.seat.me c.split_seat-note.new.seat.me _ _ c.first.invariant (ap (λ (m : Sitting). m.1) me)
+    (ap (λ (m : Sitting). m.0.pieces) me) (ap (λ (m : Sitting). m.0.places) me) (ap (λ (m : Sitting). m.0.draws) me)
 
 pub invariant_of-second : goal.invariant_of-second
 invariant_of-second c =
-    let me = c.load-2.ensures.2.0 ∙ c.join_seat.ensures.2 in
+    let me = c.load-2.ensures.2.same ∙ c.join_seat.ensures.2 in
     let note = c.split_seat-note.ensures.4 in
     let v = c.second.inside.seat.me.0 in
-    noted_pass c.second.inside.seat.me c.load-2.new.seat.me _ _ c.second.invariant (ap (λ (m : Sitting). m.1) me) (ap (λ (m : Sitting). m.0.pieces) me)
-    (ap (λ (m : Sitting). m.0.places) me ∙ (ap (λ (m : Sitting). v.places ++ m.0.places) note ∙ append-nil v.places)) (ap (λ (m : Sitting). m.0.draws) me ∙ (ap (λ (m : Sitting). v.draws ++ m.0.draws) note ∙ append-nil v.draws))
+    noted_pass c.second.inside.seat.me c.load-2.new.seat.me _ _ c.second.invariant (ap (λ (m : Sitting). m.1) me)
+    (ap (λ (m : Sitting). m.0.pieces) me)
+    (ap (λ (m : Sitting). m.0.places) me ∙ (ap (λ (m : Sitting). v.places ++ m.0.places) note ∙ append-nil v.places))
+    (ap (λ (m : Sitting). m.0.draws) me ∙ (ap (λ (m : Sitting). v.draws ++ m.0.draws) note ∙ append-nil v.draws))
 
 pub returns-clause-history : goal.returns-clause-history
 returns-clause-history c =
-    let t = c.load-2.ensures.2.1 in
+    let t = c.load-2.ensures.2 in
     let me = c.join_seat.ensures.2 in
     let note = c.split_seat-note.ensures.4 in
     let v = c.second.inside.seat.me.0 in
     let w = c.split_seat-note.result.me.0 in (
-      t.0,
-      t.1,
-      subst (λ (h : Held). Within h.draws t.0) c.first.view_is (λ e i. subst (λ (m : Sitting). Within m.0.noted t.0) me t.3 e (in_right v.noted w.noted e (subst (λ (m : Sitting). IsIn e m.0.noted) (sym note) i))),
-      subst (λ (h : Held). Within h.draws t.0) c.second.view_is (λ e i. subst (λ (m : Sitting). Within m.0.draws t.0) me t.2 e (in_left v.draws w.draws e i)),
+      t.history,
+      t.numbered,
+      subst (λ (h : Held). Within h.draws t.history) c.first.view_is
+          (λ e i. subst (λ (m : Sitting). Within m.0.noted t.history) me t.noted e
+          (in_right v.noted w.noted e (subst (λ (m : Sitting). IsIn e m.0.noted) (sym note) i))),
+      subst (λ (h : Held). Within h.draws t.history) c.second.view_is
+          (λ e i. subst (λ (m : Sitting). Within m.0.draws t.history) me t.draws e (in_left v.draws w.draws e i)),
     )
 
 pub returns-clause-apart : goal.returns-clause-apart
@@ -66,5 +78,8 @@ returns-clause-apart c =
     let t = returns-clause-history c in
     let first = ap (λ (h : Held). h.draws) c.first.view_is in
     let second = ap (λ (h : Held). h.draws) c.second.view_is in
-    subst (λ (h : Held × Held). NoneInBoth (numbers h.0.draws) (numbers h.1.draws)) (λ i. (c.first.view_is i, c.second.view_is i))
-    (apart c.first.inside.seat.me c.second.inside.seat.me _ _ _ _ c.first.invariant c.second.invariant c.if-first-second-ne0.false t.0 t.1 (subst (λ (ds : List Entry). Within ds t.0) (sym first) t.2) (subst (λ (ds : List Entry). Within ds t.0) (sym second) t.3))
+    subst (λ (h : Held × Held). NoneInBoth (numbers h.0.draws) (numbers h.1.draws))
+    (λ i. (c.first.view_is i, c.second.view_is i))
+    (apart c.first.inside.seat.me c.second.inside.seat.me _ _ _ _ c.first.invariant c.second.invariant
+    c.if-first-second-ne0.false t.0 t.1 (subst (λ (ds : List Entry). Within ds t.0) (sym first) t.2)
+    (subst (λ (ds : List Entry). Within ds t.0) (sym second) t.3))

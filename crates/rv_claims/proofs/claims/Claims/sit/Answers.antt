@@ -6,8 +6,12 @@ use Rattle.rv_claims.proofs.claims.Claims.sit.Goals as goal
 
 pub swap-requires : goal.swap-requires
 swap-requires c =
-    let table = ap (λ (d : SharedDraw). d.table) c.self.view_is in
-    (c.loop-place.invariant.0 ∙ sym table, omega (arith, c.self.invariant.1), sits _ _ _ _ c.loop-place.place _ (omega arith) refl)
+    let table = ap (λ (d : SharedDraw). d.table) c.self.view_is in (
+      c.loop-place.invariant.0 ∙ sym table,
+      omega (arith, c.self.invariant.1),
+      sits _ _ _ _ c.loop-place.place _ (omega arith) refl,
+    )
 
 pub invariant_of-result : goal.invariant_of-result
-invariant_of-result c = seated_pass _ _ _ _ (omega arith) refl (sat_there _ _ _ c.loop-place.place _ c.loop-place.invariant.1 c.if-swap-eq0.true c.swap.ensures.2)
+invariant_of-result c = seated_pass _ _ _ _ (omega arith) refl
+    (sat_there _ _ _ c.loop-place.place _ refl c.loop-place.invariant.1 c.if-swap-eq0.true c.swap.ensures.2)
