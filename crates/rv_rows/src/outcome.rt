@@ -6,7 +6,8 @@ ghost use Rattle.rv_elf.specs.Symbols.{signature_check};
 ghost use Rattle.rv_rows.specs.Attempt.{HasSignature, IsReadable, outcome_in_bus, outcome_of_attempt};
 ghost use Rattle.rv_rows.specs.Outcome.{refused_outcome, signature_in};
 
-use crate::row::{Refusal, RowEnd, Words};
+use crate::row::{Refusal, RowEnd};
+use crate::words::Words;
 use rv_elf::Image;
 use rv_jobs::Bytes;
 use rv_memory::Bus;

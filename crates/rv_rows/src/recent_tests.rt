@@ -2,7 +2,8 @@
 
 use crate::outcome::{Attempt, EndedRun, Outcome, SignatureRange};
 use crate::recent::Recent;
-use crate::row::{RowEnd, Words};
+use crate::row::RowEnd;
+use crate::words::Words;
 use rv_jobs::Bytes;
 use rv_memory::{Bus, Map, Misaligned};
 use std::alloc::Global;

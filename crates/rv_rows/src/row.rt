@@ -1,47 +1,9 @@
-//! Rows: what a report says of one job.
+//! A row: what a report says of one job.
 
-ghost use Rattle.std.specs.Prelude.{◌≡◌};
-
+use crate::words::Words;
 use rv_elf::ImageError;
 use rv_jobs::{Bytes, Text};
 use rv_machine::FaultKind;
-use std::marker::Model;
-
-/// Words of 32 bits. Contracts see their list.
-#[derive(Debug, Drop)]
-pub struct Words {
-    items: Vec<u32>,
-}
-
-impl Model for Words {
-    ghost use Rattle.std.specs.Prelude.{ℕ, List};
-
-    ghost Value = { List ℕ };
-
-    ghost view = { λ words. words.items.items };
-}
-
-impl Words {
-    /// Takes no memory.
-    pub fn new(items: Vec<u32>) -> Words
-        ensures { result ≡ items.items }
-    {
-        Words { items }
-    }
-
-    pub fn as_slice(&self) -> &[u32]
-        ensures { result.now ≡ self.now }
-    {
-        self.items.as_slice()
-    }
-
-    /// Takes no memory.
-    pub fn into_vec(self) -> Vec<u32>
-        ensures { result.items ≡ self }
-    {
-        self.items
-    }
-}
 
 /// Why a job didn't run.
 #[derive(Clone, Copy, Debug, PartialEq, Eq)]
@@ -96,47 +58,4 @@ pub struct Row {
     /// The words between the two symbols of the signature, where one is asked for.
     pub signature: Option<Words>,
     pub verdict: Verdict,
-}
-
-/// Rows in the order of their jobs. Contracts see their list.
-#[derive(Debug, Drop)]
-pub struct Rows {
-    items: Vec<Row>,
-}
-
-impl Model for Rows {
-    ghost use Rattle.std.specs.Prelude.{List};
-    ghost use Rattle.rv_rows.specs.declared.row.Row.{Row};
-
-    ghost Value = { List Row };
-
-    ghost view = { λ rows. rows.items.items };
-}
-
-impl Rows {
-    /// Takes no memory.
-    pub fn new(items: Vec<Row>) -> Rows
-        ensures { result ≡ items.items }
-    {
-        Rows { items }
-    }
-
-    pub fn as_slice(&self) -> &[Row]
-        ensures { result.now ≡ self.now }
-    {
-        self.items.as_slice()
-    }
-
-    /// Takes no memory.
-    pub fn into_vec(self) -> Vec<Row>
-        ensures { result.items ≡ self }
-    {
-        self.items
-    }
-}
-
-/// The answer of a fleet: one row a job.
-#[derive(Debug, Drop)]
-pub struct Report {
-    pub rows: Rows,
 }

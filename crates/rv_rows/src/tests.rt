@@ -4,10 +4,12 @@ ghost use Rattle.std.specs.Prelude.{Some};
 
 use crate::flat::flat_row;
 use crate::outcome::Outcome;
-use crate::report::{WriteError, write_report};
-use crate::row::{Refusal, Report, Row, RowEnd, Rows, Verdict, Words};
+use crate::report::{Report, WriteError, write_report};
+use crate::row::{Refusal, Row, RowEnd, Verdict};
+use crate::rows::Rows;
 use crate::sink::{Sink, SinkFailed};
 use crate::verdict::are_same;
+use crate::words::Words;
 use rv_jobs::{Bytes, Text};
 use rv_machine::FaultKind;
 use std::alloc::{AllocError, Global};
