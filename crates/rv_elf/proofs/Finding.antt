@@ -2,8 +2,7 @@
 use Rattle.std.proofs.Common.{◌≡◌, ◌∙◌, ◌<◌, ◌≤◌, ◌+◌, ◌-◌, ◌==◌, ℕ, suc, Bool, true, false, not, ◌&&◌, ◌||◌, cond}
 use Rattle.std.proofs.Common.{List, [], ◌∷◌, Option, Some, None, refl, ap, sym, arith, map, length, get_or, option_map}
 use Rattle.std.proofs.Common.{nat_eq, eqb-true, ne_eqb, ◌≢◌}
-use Rattle.std.specs.List.{starts_with, list_any}
-use Rattle.std.specs.List.{find, range_with_len}
+use Rattle.std.specs.List.{starts_with, list_any, find, range_with_len}
 use Rattle.std.specs.Option.{option_map_or}
 use Rattle.std.specs.Str.{bytes_eq}
 use Rattle.rv_elf.specs.Sections.{text_of, begins_with}

@@ -59,7 +59,8 @@ module _ (isa : Isa) (file : List ℕ) (image : Image) (e : image_of isa file �
   entries_good : (list_any (λ r. r.0) (entry_rows file) ≡ false)
       × (first_row (image_rows isa file) (Ok (image_there file)) ≡ Ok image)
   unfolding table_of
-  entries_good = none_refused (entry_rows file) (first_row (image_rows isa file) (Ok (image_there file))) image after_header
+  entries_good = none_refused (entry_rows file) (first_row (image_rows isa file) (Ok (image_there file))) image
+      after_header
 
   pub entered : list_any (λ r. r.0) (image_rows isa file) ≡ false
   entered = (none_refused (image_rows isa file) (Ok (image_there file)) image entries_good.1).0

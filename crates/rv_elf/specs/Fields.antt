@@ -1,4 +1,5 @@
--- The fields of a file: little-endian numbers at given places (System V ABI, "Object Files", ELFDATA2LSB).
+-- The fields of a file: little-endian numbers at given places (System V ABI, "Object Files",
+-- ELFDATA2LSB).
 use Rattle.std.specs.Prelude.{ℕ, List, drop, slice_index}
 use Rattle.byteorder.specs.Endian.{little_number}
 

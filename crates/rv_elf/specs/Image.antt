@@ -1,15 +1,17 @@
--- The image of a file's bytes, or the first refusal of the table that applies.
--- ELF32 of the System V ABI, chapters "Object Files" and "Program Loading"; RISC-V's machine number is that of its ELF
+-- The image of a file's bytes, or the first refusal of a list that applies. ELF32 of the System V
+-- ABI, chapters "Object Files" and "Program Loading"; RISC-V's machine number is that of its ELF
 -- psABI.
-use Rattle.std.specs.Prelude.{◌≡◌, ◌≤◌, ◌<◌, ◌==◌, ◌+◌, ◌*◌, ◌%◌, ℕ, Bool, not, ◌&&◌, ◌||◌, List, [], ◌∷◌, length, map}
-use Rattle.std.specs.Prelude.{filter, Result, Ok, nat_lt}
+use Rattle.std.specs.Prelude.{◌≡◌, ◌≤◌, ◌<◌, ◌==◌, ◌+◌, ◌*◌, ◌%◌, ℕ, Bool, not, ◌&&◌, ◌||◌, List}
+use Rattle.std.specs.Prelude.{[], ◌∷◌, length, map, filter, Result, Ok, nat_lt}
 use Rattle.std.specs.List.{list_any, range_with_len}
 use Rattle.rv_isa.specs.declared.sets.Isa.{Isa}
 use Rattle.rv_isa.specs.Extensions.{has, RV32C}
 use Rattle.rv_elf.specs.declared.error.ImageError.{ImageError}
-use Rattle.rv_elf.specs.declared.error.ImageError.TheVariants.{ShortHeader, BadMagic, Not32Bit, NotLittleEndian}
-use Rattle.rv_elf.specs.declared.error.ImageError.TheVariants.{BadVersion, NotExecutable, NotRiscv, ProgramTable}
-use Rattle.rv_elf.specs.declared.error.ImageError.TheVariants.{Dynamic, SegmentSizes, SegmentFile, NoSegment, EntryOdd}
+use Rattle.rv_elf.specs.declared.error.ImageError.TheVariants.{ShortHeader, BadMagic, Not32Bit}
+use Rattle.rv_elf.specs.declared.error.ImageError.TheVariants.{NotLittleEndian, BadVersion}
+use Rattle.rv_elf.specs.declared.error.ImageError.TheVariants.{NotExecutable, NotRiscv}
+use Rattle.rv_elf.specs.declared.error.ImageError.TheVariants.{ProgramTable, Dynamic, SegmentSizes}
+use Rattle.rv_elf.specs.declared.error.ImageError.TheVariants.{SegmentFile, NoSegment, EntryOdd}
 use Rattle.rv_elf.specs.declared.error.ImageError.TheVariants.{EntryAlign}
 use Rattle.rv_elf.specs.declared.image.Segment.{Segment}
 use Rattle.rv_elf.specs.declared.image.Image.{Image}
@@ -88,7 +90,7 @@ has_magic file = (byte_at file 0 == 0x7f) && ((byte_at file 1 == 0x45)
 abbrev pub has_bad_version : List ℕ → Bool
 has_bad_version file = not (byte_at file 6 == 1) || not (e_version file == 1)
 
--- more than 64 entries; or, with entries there, an entry size that is not 32 or a table past the file
+-- more than 64 entries; or there are some, and they are not of 32 bytes or go past the file
 abbrev pub has_bad_table : List ℕ → Bool
 has_bad_table file = nat_lt 64 (e_phnum file) || (nat_lt 0 (e_phnum file)
     && (not (e_phentsize file == 32) || nat_lt (length file) (e_phoff file + 32 * e_phnum file)))
@@ -101,13 +103,16 @@ is_dynamic e = (e.p_type == 2) || (e.p_type == 3)
 abbrev pub is_load : ProgramHeader → Bool
 is_load e = e.p_type == 1
 
+-- it has more bytes in the file than in memory
 abbrev pub has_bad_sizes : ProgramHeader → Bool
 has_bad_sizes e = is_load e && nat_lt e.segment.memsz e.segment.filesz
 
 -- its bytes go past a file of n bytes
 abbrev pub is_past : ℕ → ProgramHeader → Bool
-is_past n e = is_load e && (nat_lt 0 e.segment.filesz && nat_lt n (e.segment.offset + e.segment.filesz))
+is_past n e = is_load e
+    && (nat_lt 0 e.segment.filesz && nat_lt n (e.segment.offset + e.segment.filesz))
 
+-- it has bytes in memory
 abbrev pub is_kept : ProgramHeader → Bool
 is_kept e = is_load e && nat_lt 0 e.segment.memsz
 
@@ -120,9 +125,9 @@ segments file = kept_of (entries file)
 
 -- ---- the refusals, and the image
 
--- the refusals in their order, each with its condition: what is asked of the ELF header, of the place of
--- the program header table, of all its entries (one question of all before the next one), and of what is
--- read. Without the extension for compressed instructions an entry is a multiple of 4.
+-- the refusals in their order, each with its condition: of the ELF header, of the place of the
+-- program header table, of its entries (each question of all of them before the next one), and of
+-- what is read, where only a set of instructions without compressed ones asks for a multiple of 4
 abbrev pub refusals : Isa → List ℕ → List Row
 refusals isa file = (nat_lt (length file) 52, ShortHeader)
     ∷ (not (has_magic file), BadMagic)

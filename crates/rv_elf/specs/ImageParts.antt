@@ -7,7 +7,8 @@ use Rattle.rv_elf.specs.declared.image.Image.{Image}
 use Rattle.rv_elf.specs.Rows.{Row, first_row, accepted}
 use Rattle.rv_elf.specs.Image.{refusals, image_there}
 
--- the first eight are of the header. Only the last of all is asked of the set of instructions, so any set stands here
+-- the first eight are of the header. Only the last of all is asked of the set of instructions, so
+-- any set stands here
 abbrev pub header_rows : List ℕ → List Row
 header_rows file = take 8 (refusals Imc file)
 

@@ -1,6 +1,6 @@
--- Which images fit a map, and the memory that an image is loaded into (System V ABI, "Program Loading").
-use Rattle.std.specs.Prelude.{ℕ, ◌+◌, ◌-◌, ◌&&◌, ◌||◌, Bool, false, not, nat_lt, nat_le, min, max, if◌then◌else◌, List}
-use Rattle.std.specs.Prelude.{[], ◌∷◌, take, drop, slice_index, Result}
+-- Which images fit a map, and the memory that holds a loaded one (System V ABI, "Program Loading").
+use Rattle.std.specs.Prelude.{ℕ, ◌+◌, ◌-◌, ◌&&◌, ◌||◌, Bool, false, not, nat_lt, nat_le, min, max}
+use Rattle.std.specs.Prelude.{if◌then◌else◌, List, [], ◌∷◌, take, drop, slice_index, Result}
 use Rattle.std.specs.List.{list_any, list_all}
 use Rattle.std.specs.Ordering.{nat_cmp}
 use Rattle.std.specs.FinMap as fin
@@ -18,12 +18,13 @@ abbrev pub load_address : LoadAt → Segment → ℕ
 load_address Physical s = s.paddr
 load_address Virtual s = s.vaddr
 
--- its file bytes at the load address lie in one region, and so does its memory at the virtual address; no bytes always
--- do
+-- its file bytes at the load address lie in one region, and so does its memory at the virtual
+-- address; no bytes always do
 abbrev pub fits : List Region → LoadAt → Segment → Bool
 fits regions at s = in_one regions (load_address at s) s.filesz && in_one regions s.vaddr s.memsz
 
--- the file bytes of both, placed at their load addresses, share a byte: the later start is before the earlier end
+-- the file bytes of both, placed at their load addresses, share a byte: the later start is before
+-- the earlier end
 abbrev pub share : LoadAt → Segment → Segment → Bool
 share at s t = nat_lt (max (load_address at s) (load_address at t))
     (min (load_address at s + s.filesz) (load_address at t + t.filesz))
@@ -54,11 +55,13 @@ byte_of file at s a = slice_index file (s.offset + (a - load_address at s))
 -- Where the map is accepted no two fill the same address, so the first that does is the only one
 abbrev pub opening_byte : List Segment → List ℕ → LoadAt → ℕ → ℕ
 opening_byte [] file at a = 0
-opening_byte (s ∷ ss) file at a = if fills at a s then byte_of file at s a else opening_byte ss file at a
+opening_byte (s ∷ ss) file at a =
+    if fills at a s then byte_of file at s a else opening_byte ss file at a
 
 -- the memory at the start
 unfoldable pub opening_memory : List Region → List Segment → List ℕ → LoadAt → fin.FinMap nat_cmp ℕ
-opening_memory regions segments file at = tabulate (addresses regions) (opening_byte segments file at)
+opening_memory regions segments file at =
+    tabulate (addresses regions) (opening_byte segments file at)
 
 -- the segment's bytes in the file
 abbrev pub file_bytes : List ℕ → Segment → List ℕ

@@ -1,6 +1,7 @@
--- The section header table, the symbol table and its string table (System V ABI, "Sections", "String Table", "Symbol
--- Table").
-use Rattle.std.specs.Prelude.{◌≤◌, ◌==◌, ◌+◌, ◌*◌, ◌/◌, ◌%◌, ℕ, Bool, not, ◌&&◌, ◌||◌, List, [], ◌∷◌, length, map, take}
+-- The section header table, the symbol table and its string table (System V ABI, "Sections",
+-- "String Table", "Symbol Table").
+use Rattle.std.specs.Prelude.{◌≤◌, ◌==◌, ◌+◌, ◌*◌, ◌/◌, ◌%◌, ℕ, Bool, not, ◌&&◌, ◌||◌, List, []}
+use Rattle.std.specs.Prelude.{◌∷◌, length, map, take}
 use Rattle.std.specs.Prelude.{drop, nat_lt, Option, Some, None, if◌then◌else◌, option_map, false}
 use Rattle.std.specs.List.{find, range_with_len}
 use Rattle.std.specs.Option.{option_map_or}
@@ -78,7 +79,8 @@ is_symbols s = s.sh_type == 2
 unfoldable pub symbol_table : List ℕ → Option Section
 symbol_table file = find is_symbols (sections file)
 
--- its entries have another size, its size is no whole number of them, or it goes past a file of n bytes
+-- its entries have another size, its size is no whole number of them, or it goes past a file of n
+-- bytes
 abbrev pub is_bad_symbols : ℕ → Section → Bool
 is_bad_symbols n s = not (s.entsize == 16) || (not (s.size % 16 == 0) || is_past n s)
 
@@ -93,7 +95,8 @@ st_shndx table at = half_at table (at + 14)
 
 -- the symbol at a place of a table's bytes
 unfoldable pub symbol_at : List ℕ → ℕ → Symbol
-symbol_at table at = record { name = st_name table at; value = st_value table at; section = st_shndx table at }
+symbol_at table at =
+    record { name = st_name table at; value = st_value table at; section = st_shndx table at }
 
 -- the symbols of a table's bytes, 16 bytes each
 abbrev pub symbols_of : List ℕ → List Symbol
@@ -103,7 +106,8 @@ symbols_of table = map (λ k. symbol_at table (16 * k)) (range_with_len 0 (lengt
 
 -- the section that a symbol table's link names, if there are so many
 abbrev pub string_table : List ℕ → Section → Option Section
-string_table file symbols = if nat_lt symbols.link (e_shnum file) then Some (section file symbols.link) else None
+string_table file symbols =
+    if nat_lt symbols.link (e_shnum file) then Some (section file symbols.link) else None
 
 -- not SHT_STRTAB, or past a file of n bytes
 abbrev pub is_bad_strings : ℕ → Section → Bool

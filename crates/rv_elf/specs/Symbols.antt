@@ -1,21 +1,24 @@
--- The value of a symbol, and the range of a signature, or the first refusal of the table that applies.
-use Rattle.std.specs.Prelude.{◌==◌, ◌-◌, ◌%◌, ℕ, Bool, true, false, not, ◌&&◌, ◌||◌, List, [], ◌∷◌, length, nat_lt}
+-- The value of a symbol, and the range of a signature, or the first refusal of the table that
+-- applies.
+use Rattle.std.specs.Prelude.{◌==◌, ◌-◌, ◌%◌, ℕ, Bool, true, false, not, ◌&&◌, ◌||◌, List, [], ◌∷◌}
+use Rattle.std.specs.Prelude.{length, nat_lt}
 use Rattle.std.specs.Prelude.{Option, option_and_then, option_map, unwrap_or, Result, Ok, is_none}
 use Rattle.std.specs.Option.{option_map_or}
 use Rattle.rv_memory.specs.declared.map.Region.{Region}
 use Rattle.rv_memory.specs.Regions.{in_one}
 use Rattle.rv_elf.specs.declared.error.ImageError.{ImageError}
-use Rattle.rv_elf.specs.declared.error.ImageError.TheVariants.{SectionTable, NoSymbols, SymbolTable, StringTable}
-use Rattle.rv_elf.specs.declared.error.ImageError.TheVariants.{NoBegin, SignatureRange}
+use Rattle.rv_elf.specs.declared.error.ImageError.TheVariants.{SectionTable, NoSymbols, SymbolTable}
+use Rattle.rv_elf.specs.declared.error.ImageError.TheVariants.{StringTable, NoBegin, SignatureRange}
 use Rattle.rv_elf.specs.declared.sections.Section.{Section}
 use Rattle.rv_elf.specs.declared.symbols.Symbol.{Symbol}
 use Rattle.rv_elf.specs.Rows.{Row, first_row, accepted}
-use Rattle.rv_elf.specs.Sections.{has_bad_sections, symbol_table, string_table, is_bad_symbols, is_bad_strings}
-use Rattle.rv_elf.specs.Sections.{bytes_of, symbol_named}
+use Rattle.rv_elf.specs.Sections.{has_bad_sections, symbol_table, string_table, is_bad_symbols}
+use Rattle.rv_elf.specs.Sections.{is_bad_strings, bytes_of, symbol_named}
 
 -- the string table of a symbol table is missing, is none, or goes past the file
 abbrev pub has_bad_strings : List ℕ → Section → Bool
-has_bad_strings file symbols = option_map_or (is_bad_strings (length file)) (string_table file symbols) true
+has_bad_strings file symbols =
+    option_map_or (is_bad_strings (length file)) (string_table file symbols) true
 
 -- the first symbol of that name in a symbol table and its string table
 abbrev pub symbol_in : List ℕ → List ℕ → Section → Option Symbol
@@ -26,7 +29,8 @@ symbol_in file name symbols = option_and_then (λ strings. symbol_named (bytes_o
 abbrev pub symbol_there : List ℕ → List ℕ → Option Symbol
 symbol_there file name = option_and_then (symbol_in file name) (symbol_table file)
 
--- the refusals of a name, in their order: those of the first symbol table are asked where there is one
+-- the refusals of a name, in their order; what is asked of a symbol table is asked where there is
+-- one
 abbrev pub symbol_rows : List ℕ → List ℕ → List Row
 symbol_rows file name = (has_bad_sections file, SectionTable)
     ∷ (is_none (symbol_table file), NoSymbols)
@@ -35,17 +39,20 @@ symbol_rows file name = (has_bad_sections file, SectionTable)
     ∷ (is_none (symbol_there file name), NoBegin)
     ∷ []
 
--- the first refusal that applies, or the value of the symbol
+-- the first refusal that applies, or the value of the symbol; where no refusal applies there is
+-- one, so that the default is never taken
 unfoldable pub symbol_of : List ℕ → List ℕ → Result ℕ ImageError
 symbol_of file name = first_row (symbol_rows file name)
     (Ok (unwrap_or (option_map (λ s. s.value) (symbol_there file name)) 0))
 
--- the begin is above the end, one is no multiple of 4, or there are bytes that lie not in one region or are more than
--- 65,536 words
+-- the begin is above the end, one is no multiple of 4, or there are bytes that lie not in one
+-- region or are more than 65,536 words
 abbrev pub is_bad_range : ℕ → ℕ → List Region → Bool
 is_bad_range begin end regions = nat_lt end begin || (not (begin % 4 == 0) || (not (end % 4 == 0)
-    || (nat_lt begin end && (not (in_one regions begin (end - begin)) || nat_lt 0x4_0000 (end - begin)))))
+    || (nat_lt begin end && (not (in_one regions begin (end - begin))
+    || nat_lt 0x4_0000 (end - begin)))))
 
 -- the refusal of a signature's range, if it applies
 unfoldable pub signature_check : ℕ → ℕ → List Region → Result (Unit {0}) ImageError
-signature_check begin end regions = first_row ((is_bad_range begin end regions, SignatureRange) ∷ []) accepted
+signature_check begin end regions =
+    first_row ((is_bad_range begin end regions, SignatureRange) ∷ []) accepted

@@ -2,7 +2,8 @@
 ghost use Rattle.std.specs.Prelude.{◌≡◌, ◌+◌, ◌*◌, ◌<◌, ◌≤◌, IfSome, IfOk, IsTrue, false, length, MatchOption};
 ghost use Rattle.std.specs.List.{find, slice_get};
 ghost use Rattle.rv_elf.specs.Fields.{half_at, word_at};
-ghost use Rattle.rv_elf.specs.Sections.{section_at, section, has_bad_sections, symbol_table, string_table, is_past, is_bad_symbols, is_bad_strings, bytes_of, is_symbols, e_shnum, HasSections};
+ghost use Rattle.rv_elf.specs.Sections.{section_at, section, has_bad_sections, symbol_table, string_table, is_past};
+ghost use Rattle.rv_elf.specs.Sections.{is_bad_symbols, is_bad_strings, bytes_of, is_symbols, e_shnum, HasSections};
 
 use crate::fields::{
     E_SHENTSIZE, E_SHNUM, E_SHOFF, SH_ENTSIZE, SH_LINK, SH_OFFSET, SH_SIZE, SH_TYPE, half, word,

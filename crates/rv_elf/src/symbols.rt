@@ -1,5 +1,6 @@
 //! The value of a symbol by its name, and the range of a signature.
-ghost use Rattle.std.specs.Prelude.{◌≡◌, ◌+◌, ◌-◌, ◌%◌, ◌<◌, ◌≤◌, Ok, Err, MatchResult, Option, Some, false, length, option_map, drop};
+ghost use Rattle.std.specs.Prelude.{◌≡◌, ◌+◌, ◌-◌, ◌%◌, ◌<◌, ◌≤◌, Ok, Err, MatchResult, Option, Some, false, length};
+ghost use Rattle.std.specs.Prelude.{option_map, drop};
 ghost use Rattle.rv_elf.specs.Image.{IsImageOf};
 ghost use Rattle.rv_elf.specs.Sections.{symbol_at, symbol_named, begins_with, is_named, bytes_of, is_past, HasSections};
 ghost use Rattle.rv_elf.specs.Symbols.{symbol_of, signature_check, is_bad_range};

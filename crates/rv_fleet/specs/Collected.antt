@@ -7,7 +7,8 @@ use Rattle.rv_fleet.specs.Pieces.{pieces_of, rows_in, piece_at}
 
 -- a piece of the plan, with the rows of its number
 abbrev pub IsPiece : Planned → ℕ → Piece → Type 0
-IsPiece plan group piece = (piece.number < pieces_of plan group) × (piece ≡ piece_at plan group piece.number)
+IsPiece plan group piece = (piece.number < pieces_of plan group)
+    × (piece ≡ piece_at plan group piece.number)
 
 abbrev pub ArePieces : Planned → ℕ → List Piece → Type 0
 ArePieces plan group pieces = All (IsPiece plan group) pieces

@@ -13,10 +13,12 @@ IsFresh draw pass = (pass.draw ≡ draw) × (pass.draws ≡ [])
 abbrev pub AreFresh : SharedDraw → List Held → Type 0
 AreFresh draw passes = All (IsFresh draw) passes
 
--- the worker's promise: its result is the pieces that its pass drew, each under its number and with the rows of its jobs
+-- the worker's promise: its result is the pieces that its pass drew, each under its number and with
+-- the rows of its jobs
 abbrev pub HasWorked : Planned → ℕ → SharedDraw → Worked → Type 0
 HasWorked plan group draw worked = (worked.pass.draw ≡ draw)
-    × IfOk worked.pieces (λ made. made.items ≡ map (piece_at plan group) (pieces_among draw.pieces worked.pass.draws))
+    × IfOk worked.pieces (λ made. made.items
+    ≡ map (piece_at plan group) (pieces_among draw.pieces worked.pass.draws))
 
 abbrev pub HaveWorked : Planned → ℕ → SharedDraw → List Worked → Type 0
 HaveWorked plan group draw all = All (HasWorked plan group draw) all

@@ -9,4 +9,5 @@ use Rattle.rv_claims.specs.Passes.{SharedDraw}
 -- its promise is of this plan, this group and this shared draw
 abbrev pub IsStarted : Planned → ℕ → SharedDraw → PromisedHandle Worked Works → Type 0
 IsStarted plan group draw handle =
-    (handle.promise.plan.now ≡ plan) × (handle.promise.group ≡ group) × (handle.promise.claims.now ≡ draw)
+    (handle.promise.plan.now ≡ plan) × (handle.promise.group ≡ group)
+    × (handle.promise.claims.now ≡ draw)

@@ -6,7 +6,7 @@ ghost use Rattle.rv_fleet.specs.Pieces.{pieces_of};
 ghost use Rattle.rv_fleet.specs.Promised.{AreFresh, HasWorked, HaveWorked};
 ghost use Rattle.rv_rows.specs.Rows.{rows_of};
 
-use crate::collect::{collect, rows_in_order};
+use crate::collect::{collect, rows_kept_or_made};
 use crate::gate::Gate;
 use crate::piece::piece_count;
 use crate::worked::{Worked, Works};
@@ -65,7 +65,7 @@ pub fn run_fleet<R: Threads + Wait, G: Gate>(
         let _each_once = claims.finish(pass);
     }
     Ok(Report {
-        rows: rows_in_order(alloc, places, plan, group, gate)?,
+        rows: rows_kept_or_made(alloc, places, plan, group, gate)?,
     })
 }
 

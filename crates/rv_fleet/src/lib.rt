@@ -1,8 +1,8 @@
 //! Fleets: threads that draw the pieces of a plan and make their rows.
 //!
-//! [`run_fleet`] runs a plan in threads: each calls [`work`] with a pass of its own, which makes the pieces that the pass
-//! draws. Its report is that of [`run_one`], for every number of workers and of jobs in a piece. The rows and the shared
-//! draw are those of the crates below, and stand here under their names too.
+//! [`run_fleet`] runs a plan in threads: each calls [`work`] with a pass of its own, which makes the pieces that the
+//! pass draws. Its report is that of [`run_one`], for every number of workers and of jobs in a piece. The rows and the
+//! shared draw are those of the crates below, and stand here under their names too.
 #![tactic(auto)]
 
 mod collect;

@@ -56,8 +56,8 @@ pub(crate) fn plan_in(alloc: Global, list: &str, image: &[u8]) -> Result<Plan, F
 
 const TURNS: u64 = 100_000_000;
 
-/// Counts the entries of four pieces. The first `held` pieces wait until the first `awaited` have entered, and `late` is
-/// set where one waits in vain.
+/// Counts the entries of four pieces. The first `held` pieces wait until the first `awaited` have entered, and `late`
+/// is set where one waits in vain.
 #[derive(Drop)]
 pub(crate) struct HoldingGate {
     held: u64,

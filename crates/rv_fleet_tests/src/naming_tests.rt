@@ -102,7 +102,8 @@ each the one before | five 3, five 3 0, five 2 1, five 1 2, five 3 3 | none pass
 two by turns | five 3, five 1, five 3 0, five 1 1, five 1 0, five 3 1 | none none pass pass fail fail
 refused | cut 3, cut 3 0, five 3 0, five 3 2 | none fail fail pass
 full consoles | falls 200000, falls 200000 0, zeros 200000 0, falls 200000 0 | none pass fail pass
-more than are kept | five 3, five 1, five 3 0, five 3 2, five 3 3, five 3 4, five 3 5, five 3 6, five 3 7, five 3 8, five 3 9, five 1 0, five 1 1 | none none pass pass pass pass pass pass pass pass pass fail pass";
+more than are kept | five 3, five 1, five 3 0, five 3 2, five 3 3, five 3 4, five 3 5, five 3 6, five 3 7, \
+    five 3 8, five 3 9, five 1 0, five 1 1 | none none pass pass pass pass pass pass pass pass pass fail pass";
 
 #[test]
 fn judges_jobs_that_name_others(rt: HostRuntime) -> Result<(), Fail> {

@@ -1,5 +1,6 @@
 -- An image that a job's map takes, in a new bus.
-use Rattle.std.proofs.Common.{◌≡◌, ◌%◌, ◌==◌, ◌&&◌, ℕ, Bool, true, false, not, subst, List, Option, Some, None, IfSome, Result, Ok, Err, refl, sym, ap}
+use Rattle.std.proofs.Common.{◌≡◌, ◌%◌, ◌==◌, ◌&&◌, ℕ, Bool, true, false, not, subst, List, Option, Some, None, IfSome}
+use Rattle.std.proofs.Common.{Result, Ok, Err, refl, sym, ap}
 use Rattle.rv_isa.specs.declared.sets.Isa.{Isa}
 use Rattle.rv_isa.specs.Extensions.{RV32C, has}
 use Rattle.rv_elf.specs.declared.image.Image.{Image}
@@ -18,12 +19,14 @@ use Rattle.rv_rows.specs.declared.outcome.SignatureRange.{SignatureRange}
 use Rattle.rv_rows.specs.Outcome.{◌>>=◌, end_of_signature, loadable_of, loaded_state, range_if_asked, range_of}
 
 -- a second step that was reached: the first gave a value
-stepped : {E A B : Type 0} (r : Result A E) (f : A → Result B E) (y : B) → (r >>= f) ≡ Ok y → (x : A) × ((r ≡ Ok x) × (f x ≡ Ok y))
+stepped : {E A B : Type 0} (r : Result A E) (f : A → Result B E) (y : B) → (r >>= f) ≡ Ok y → (x : A)
+    × ((r ≡ Ok x) × (f x ≡ Ok y))
 stepped (Ok x) f y e = (x, (refl, e))
 stepped (Err why) f y e = cc
 
 -- a range is given where it is checked
-ranged : (file : List ℕ) (regions : List Region) (names : Symbols) (range : SignatureRange) → range_of file regions names ≡ Ok range
+ranged : (file : List ℕ) (regions : List Region) (names : Symbols) (range : SignatureRange)
+    → range_of file regions names ≡ Ok range
     → signature_check range.begin range.end regions ≡ accepted
 unfolding range_of
 ranged file regions names range e =
@@ -33,7 +36,8 @@ ranged file regions names range e =
     let is : record { begin = begin.0; end = end.0 } ≡ range = cc in
     rw (← is) unit.1.0
 
-ranged_if_asked : (file : List ℕ) (regions : List Region) (names : Option Symbols) (range : Option SignatureRange) → range_if_asked file regions names ≡ Ok range
+ranged_if_asked : (file : List ℕ) (regions : List Region) (names : Option Symbols) (range : Option SignatureRange)
+    → range_if_asked file regions names ≡ Ok range
     → IfSome range (λ there. signature_check there.begin there.end regions ≡ accepted)
 ranged_if_asked file regions None None e = tt
 ranged_if_asked file regions None (Some there) e = cc
@@ -49,24 +53,32 @@ pub record IsLoadable (job : Job) (file : List ℕ) (there : Loadable) : Type 0 
   pub fits : map_check there.image.segments job.regions job.load ≡ accepted
   pub range : IfSome there.range (λ range. signature_check range.begin range.end job.regions ≡ accepted)
 
-pub loadable_parts : (job : Job) (file : List ℕ) (there : Loadable) → loadable_of job file ≡ Ok there → IsLoadable job file there
+pub loadable_parts : (job : Job) (file : List ℕ) (there : Loadable) → loadable_of job file ≡ Ok there
+    → IsLoadable job file there
 unfolding loadable_of
 loadable_parts job file there e =
     let image = stepped (image_of job.isa file) _ there e in
     let unit = stepped (map_check image.0.segments job.regions job.load) _ there image.1.1 in
     let range = stepped (range_if_asked file job.regions job.signature) _ there unit.1.1 in
     let is : record { image = image.0; range = range.0 } ≡ there = cc in
-    rw (← is) (record { image = image.1.0; fits = unit.1.0; range = ranged_if_asked file job.regions job.signature range.0 range.1.0 })
+    rw (← is) (record {
+      image = image.1.0;
+      fits = unit.1.0;
+      range = ranged_if_asked file job.regions job.signature range.0 range.1.0;
+    })
 
 -- a new bus
-pub new_bus_parts : (bus : Contents) (regions : List Region) (script : List ℕ) (misaligned : Choice) → bus ≡ new_bus regions script misaligned
+pub new_bus_parts : (bus : Contents) (regions : List Region) (script : List ℕ) (misaligned : Choice)
+    → bus ≡ new_bus regions script misaligned
     → (bus.regions ≡ regions) × (bus ≡ new_bus bus.regions bus.script bus.misaligned)
 unfolding new_bus
 new_bus_parts bus regions script misaligned is = rw is (refl, refl)
 
 -- what stands in the machine once the image is loaded
-pub loaded_is : (before after : Contents) (job : Job) (file : List ℕ) (image : Image) (script : List ℕ) → before ≡ new_bus job.regions script job.misaligned
-    → script ≡ job.script → after ≡ record before { memory = opening_memory before.regions image.segments file job.load }
+pub loaded_is : (before after : Contents) (job : Job) (file : List ℕ) (image : Image) (script : List ℕ)
+    → before ≡ new_bus job.regions script job.misaligned
+    → script ≡ job.script → after ≡ record before
+    { memory = opening_memory before.regions image.segments file job.load }
     → at_reset after image.entry job.isa ≡ loaded_state job file image
 unfolding new_bus
 loaded_is before after job file image script is same loaded = rw (loaded, is, same) refl
@@ -80,9 +92,11 @@ aligned isa entry h = go (has isa RV32C) refl
     go false is = rw (h is) refl
 
 -- in a loaded machine the range is checked against its own regions
-pub range_there : (job : Job) (file : List ℕ) (there : Loadable) (state : State) → loadable_of job file ≡ Ok there → state ≡ loaded_state job file there.image
+pub range_there : (job : Job) (file : List ℕ) (there : Loadable) (state : State) → loadable_of job file ≡ Ok there
+    → state ≡ loaded_state job file there.image
     → IfSome there.range (λ range. signature_check range.begin range.end state.bus.regions ≡ accepted)
 unfolding new_bus
 range_there job file there state e is =
-    let P : List Region → Type 0 = λ regions. IfSome there.range (λ range. signature_check range.begin range.end regions ≡ accepted) in
+    let P : List Region → Type 0 = λ regions.
+    IfSome there.range (λ range. signature_check range.begin range.end regions ≡ accepted) in
     subst P (sym (ap (λ (s : State). s.bus.regions) is)) (loadable_parts job file there e).range

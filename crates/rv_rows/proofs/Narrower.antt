@@ -1,5 +1,6 @@
 -- A job's row stays where its set is made RV32IMC, unless it was refused or ended in a fault of the narrower set.
-use Rattle.std.proofs.Common.{◌≡◌, ◌∙◌, ◌<◌, ℕ, zero, suc, true, List, [], ◌∷◌, Option, Some, None, IfSome, Result, Ok, Err, arith, map, refl, sym, ap, subst}
+use Rattle.std.proofs.Common.{◌≡◌, ◌∙◌, ◌<◌, ℕ, zero, suc, true, List, [], ◌∷◌, Option, Some, None, IfSome, Result, Ok}
+use Rattle.std.proofs.Common.{Err, arith, map, refl, sym, ap, subst}
 use Rattle.std.specs.Prelude.{slice_get, option_map, option_and_then, IsTrue}
 use Rattle.std.proofs.lemmas.Bool.{false≢true}
 use Rattle.std.proofs.lemmas.Option.{slice_get-map, slice_get_within, get_or_from_slice_get}
@@ -21,7 +22,8 @@ use Rattle.rv_rows.specs.declared.outcome.Loadable.{Loadable}
 use Rattle.rv_rows.specs.declared.row.Refusal.{Refusal}
 use Rattle.rv_rows.specs.declared.row.Row.{Row}
 use Rattle.rv_rows.specs.Narrower.{widened, widened_at, widened_plan, is_of_any_set}
-use Rattle.rv_rows.specs.Outcome.{◌>>=◌, end_of, file_of, file_outcome_of, loadable_of, loaded_state, outcome_if_loadable, outcome_if_there, outcome_of, outcome_of_run}
+use Rattle.rv_rows.specs.Outcome.{◌>>=◌, end_of, file_of, file_outcome_of, loadable_of, loaded_state}
+use Rattle.rv_rows.specs.Outcome.{outcome_if_loadable, outcome_if_there, outcome_of, outcome_of_run}
 use Rattle.rv_rows.specs.Rows.{other_in, outcome_in, row_of, rows_of}
 use Rattle.rv_rows.specs.Verdict.{verdict_of}
 

@@ -1,5 +1,7 @@
 -- What has gone out, piece by piece.
-use Rattle.std.proofs.Common.{◌≡◌, ◌∙◌, ◌+◌, ◌<◌, ◌≤◌, ◌-◌, ℕ, zero, suc, List, [], ◌∷◌, ◌++◌, Option, ap, sym, length, take, drop, get_or, arith, append_assoc, append-nil, take-append-drop, take_all, length-drop, refl}
+use Rattle.std.proofs.Common.{◌≡◌, ◌∙◌, ◌+◌, ◌<◌, ◌≤◌, ◌-◌, ℕ, zero, suc, List, [], ◌∷◌, ◌++◌, Option, ap, sym, length}
+use Rattle.std.proofs.Common.{take, drop, get_or, arith, append_assoc, append-nil, take-append-drop, take_all}
+use Rattle.std.proofs.Common.{length-drop, refl}
 use Rattle.std.proofs.Math.Seq.{take-add}
 use Rattle.std.specs.Io.KnownBytes.{Appends, Keeps}
 use Rattle.std.proofs.KnownBytes.{Appends-nil, Appends-trans, Appends-kept}
@@ -11,13 +13,16 @@ rest_is : (text : List ℕ) (at : ℕ) → at ≤ length text → take (length t
 rest_is text at within = take_all (length text - at) (drop at text) (omega (arith, length-drop at text))
 
 -- a put of the rest takes the next bytes
-pub next_taken : (a b c : Option (List ℕ)) (text : List ℕ) (at count : ℕ) → at ≤ length text → Appends a b (take at text)
+pub next_taken : (a b c : Option (List ℕ)) (text : List ℕ) (at count : ℕ) → at ≤ length text
+    → Appends a b (take at text)
     → Appends b c (take count (take (length text - at) (drop at text))) → Appends a c (take (at + count) text)
 next_taken a b c text at count within before now =
-    rw (take-add at count text) (Appends-trans a b c (take at text) (take count (drop at text)) before (rw (rest_is text at within) at now))
+    rw (take-add at count text)
+    (Appends-trans a b c (take at text) (take count (drop at text)) before (rw (rest_is text at within) at now))
 
 -- the first bytes of a text are a beginning of it
-pub first_bytes : (a b c : Option (List ℕ)) (text : List ℕ) (at : ℕ) → Appends a b (take at text) → Keeps b c → AppendsBeginning a c text
+pub first_bytes : (a b c : Option (List ℕ)) (text : List ℕ) (at : ℕ) → Appends a b (take at text) → Keeps b c
+    → AppendsBeginning a c text
 first_bytes a b c text at before kept = record {
   part = take at text;
   rest = drop at text;
@@ -25,25 +30,13 @@ first_bytes a b c text at before kept = record {
   appended = Appends-kept a b c (take at text) before kept;
 }
 
--- nothing is a beginning
-pub nothing_sent : (a b : Option (List ℕ)) (text : List ℕ) → Keeps a b → AppendsBeginning a b text
-nothing_sent a b text kept = record {
-  part = [];
-  rest = text;
-  whole = refl;
-  appended = Appends-kept a a b [] (Appends-nil a) kept;
-}
-
 -- nothing went out yet
 pub nothing_under_way : (a : Option (List ℕ)) (gathered text : List ℕ) → gathered ≡ text → IsUnderWay a a gathered text
 nothing_under_way a gathered text same = record { sent = []; appended = Appends-nil a; whole = sym same }
 
--- all went out
-pub all_under_way : (a b : Option (List ℕ)) (gathered text : List ℕ) → gathered ≡ [] → Appends a b text → IsUnderWay a b gathered text
-all_under_way a b gathered text none sent = record { sent = text; appended = sent; whole = sym (ap (λ more. text ++ more) none ∙ append-nil text) }
-
 -- one more piece is gathered, and a part of all that was gathered goes out
-pub more_under_way : (a b c : Option (List ℕ)) (gathered piece grown left text longer : List ℕ) → IsUnderWay a b gathered text → grown ≡ gathered ++ piece
+pub more_under_way : (a b c : Option (List ℕ)) (gathered piece grown left text longer : List ℕ)
+    → IsUnderWay a b gathered text → grown ≡ gathered ++ piece
     → IsUnderWay b c left grown → longer ≡ text ++ piece → IsUnderWay a c left longer
 more_under_way a b c gathered piece grown left text longer before pushed now whole = record {
   sent = before.sent ++ now.sent;
@@ -53,7 +46,8 @@ more_under_way a b c gathered piece grown left text longer before pushed now who
 }
 
 -- what went out is a beginning of each text that goes on from it
-pub stopped_under_way : (a b : Option (List ℕ)) (gathered text rest longer : List ℕ) → IsUnderWay a b gathered text → longer ≡ text ++ rest → AppendsBeginning a b longer
+pub stopped_under_way : (a b : Option (List ℕ)) (gathered text rest longer : List ℕ) → IsUnderWay a b gathered text
+    → longer ≡ text ++ rest → AppendsBeginning a b longer
 stopped_under_way a b gathered text rest longer before whole = record {
   part = before.sent;
   rest = gathered ++ rest;
@@ -62,7 +56,8 @@ stopped_under_way a b gathered text rest longer before whole = record {
 }
 
 -- a beginning of a text is one of each text that goes on from it
-pub beginning_of_longer : (a b : Option (List ℕ)) (text rest longer : List ℕ) → AppendsBeginning a b text → longer ≡ text ++ rest → AppendsBeginning a b longer
+pub beginning_of_longer : (a b : Option (List ℕ)) (text rest longer : List ℕ) → AppendsBeginning a b text
+    → longer ≡ text ++ rest → AppendsBeginning a b longer
 beginning_of_longer a b text rest longer begun whole = record {
   part = begun.part;
   rest = begun.rest ++ rest;
@@ -71,22 +66,26 @@ beginning_of_longer a b text rest longer begun whole = record {
 }
 
 -- one more piece is gathered, and only a beginning of all that was gathered goes out
-pub failed_under_way : (a b c : Option (List ℕ)) (gathered piece grown text longer : List ℕ) → IsUnderWay a b gathered text → grown ≡ gathered ++ piece
+pub failed_under_way : (a b c : Option (List ℕ)) (gathered piece grown text longer : List ℕ)
+    → IsUnderWay a b gathered text → grown ≡ gathered ++ piece
     → AppendsBeginning b c grown → longer ≡ text ++ piece → AppendsBeginning a c longer
 failed_under_way a b c gathered piece grown text longer before pushed begun whole = record {
   part = before.sent ++ begun.part;
   rest = begun.rest;
   whole = whole ∙ ap (λ front. front ++ piece) before.whole ∙ append_assoc before.sent gathered piece
-      ∙ ap (λ more. before.sent ++ more) (sym pushed ∙ begun.whole) ∙ sym (append_assoc before.sent begun.part begun.rest);
+      ∙ ap (λ more. before.sent ++ more) (sym pushed ∙ begun.whole)
+      ∙ sym (append_assoc before.sent begun.part begun.rest);
   appended = Appends-trans a b c before.sent begun.part before.appended begun.appended;
 }
 
 -- one more piece is gathered, and all goes out
-pub ended_under_way : (a b c : Option (List ℕ)) (gathered piece grown text : List ℕ) → IsUnderWay a b gathered text → grown ≡ gathered ++ piece
+pub ended_under_way : (a b c : Option (List ℕ)) (gathered piece grown text : List ℕ) → IsUnderWay a b gathered text
+    → grown ≡ gathered ++ piece
     → Appends b c grown → Appends a c (text ++ piece)
 ended_under_way a b c gathered piece grown text before pushed sent =
     let whole : text ++ piece ≡ before.sent ++ grown =
-    ap (λ front. front ++ piece) before.whole ∙ append_assoc before.sent gathered piece ∙ ap (λ more. before.sent ++ more) (sym pushed) in
+    ap (λ front. front ++ piece) before.whole ∙ append_assoc before.sent gathered piece
+    ∙ ap (λ more. before.sent ++ more) (sym pushed) in
     rw whole (Appends-trans a b c before.sent grown before.appended sent)
 
 -- one row more
@@ -94,10 +93,12 @@ pub rows_more : (from : ℕ) (rows : List Row) (at place : ℕ) (default : Row) 
     → rows_text from (take (suc at) rows) ≡ rows_text from (take at rows) ++ row_text place (get_or rows at default)
 unfolding rows_text
 rows_more from [] at place default within is = absurd (omega arith)
-rows_more from (row ∷ rows) zero place default within is = let same : place ≡ from = omega arith in rw same (append-nil (row_text from row))
+rows_more from (row ∷ rows) zero place default within is =
+    let same : place ≡ from = omega arith in rw same (append-nil (row_text from row))
 rows_more from (row ∷ rows) (suc at) place default within is =
     ap (λ text. row_text from row ++ text) (rows_more (from + 1) rows at place default (omega arith) (omega arith))
-    ∙ sym (append_assoc (row_text from row) (rows_text (from + 1) (take at rows)) (row_text place (get_or rows at default)))
+    ∙ sym (append_assoc (row_text from row) (rows_text (from + 1) (take at rows))
+    (row_text place (get_or rows at default)))
 
 -- the first rows, and the rest
 pub rows_split : (from : ℕ) (rows : List Row) (at place : ℕ) → place ≡ from + at

@@ -1,5 +1,6 @@
 -- A range that is no bad one is words in one region.
-use Rattle.std.proofs.Common.{◌≡◌, ◌-◌, ◌%◌, ◌≤◌, ◌==◌, ◌||◌, ◌&&◌, ℕ, Bool, true, false, not, cond, List, Err, refl, arith, eqb-true, nat_lt, ltb}
+use Rattle.std.proofs.Common.{◌≡◌, ◌-◌, ◌%◌, ◌≤◌, ◌==◌, ◌||◌, ◌&&◌, ℕ, Bool, true, false, not, cond, List, Err, refl}
+use Rattle.std.proofs.Common.{arith, eqb-true, nat_lt, ltb}
 use Rattle.std.proofs.lemmas.Bool.{ltb-false}
 use Rattle.rv_memory.specs.declared.map.Region.{Region}
 use Rattle.rv_memory.specs.Regions.{in_one}
@@ -28,16 +29,19 @@ good true why e = cc
 good false why e = refl
 
 -- of an empty range, or of one whose words are asked
-here : (begin end : ℕ) (regions : List Region) (most : Bool) → begin ≤ end → (nat_lt begin end && (not (in_one regions begin (end - begin)) || most)) ≡ false
+here : (begin end : ℕ) (regions : List Region) (most : Bool) → begin ≤ end
+    → (nat_lt begin end && (not (in_one regions begin (end - begin)) || most)) ≡ false
     → in_one regions begin (end - begin) ≡ true
 here begin end regions most order e = go (ltb begin end) refl e
   where
-    go : (b : Bool) → ltb begin end ≡ b → (b && (not (in_one regions begin (end - begin)) || most)) ≡ false → in_one regions begin (end - begin) ≡ true
+    go : (b : Bool) → ltb begin end ≡ b → (b && (not (in_one regions begin (end - begin)) || most)) ≡ false
+        → in_one regions begin (end - begin) ≡ true
     go true is k = not_false _ (or_parts _ most k).0
     go false is k = let none : end - begin ≡ 0 = omega (arith, ltb-false begin end is, order) in rw none refl
 
 -- what is accepted has these parts
-pub checked : (begin end : ℕ) (regions : List Region) → signature_check begin end regions ≡ accepted → IsWords begin end regions
+pub checked : (begin end : ℕ) (regions : List Region) → signature_check begin end regions ≡ accepted
+    → IsWords begin end regions
 unfolding signature_check
 checked begin end regions e =
     let bad = good (is_bad_range begin end regions) SignatureRange e in

@@ -1,4 +1,5 @@
--- What a job came to, of which nothing is copied yet: what its run wrote and its signature stand in the bus.
+-- What a job came to, of which nothing is copied yet: what its run wrote and its signature stand in
+-- the bus.
 use Rattle.std.specs.Prelude.{◌≡◌, ⊤, IfSome, option_map}
 use Rattle.rv_elf.specs.Rows.{accepted}
 use Rattle.rv_elf.specs.Symbols.{signature_check}
@@ -10,7 +11,8 @@ use Rattle.rv_rows.specs.Outcome.{refused_outcome, signature_in}
 
 -- the signature's range, where one is asked for, was checked against the map
 abbrev pub HasSignature : EndedRun → Type 0
-HasSignature run = IfSome run.range (λ range. signature_check range.begin range.end run.bus.regions ≡ accepted)
+HasSignature run = IfSome run.range
+    (λ range. signature_check range.begin range.end run.bus.regions ≡ accepted)
 
 abbrev pub outcome_in_bus : EndedRun → Outcome
 outcome_in_bus run = record {

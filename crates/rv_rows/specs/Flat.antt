@@ -1,5 +1,6 @@
 -- The row of a flat image: bytes without a header, for the default map.
-use Rattle.std.specs.Prelude.{ℕ, ◌-◌, true, List, [], ◌∷◌, length, get_or, leb, codes, None, nat_lt, if◌then◌else◌}
+use Rattle.std.specs.Prelude.{ℕ, ◌-◌, true, List, [], ◌∷◌, length, get_or, leb, codes, None, nat_lt}
+use Rattle.std.specs.Prelude.{if◌then◌else◌}
 use Rattle.rv_isa.specs.declared.sets.Isa.TheVariants.{Imc}
 use Rattle.rv_memory.specs.declared.map.Region.{Region}
 use Rattle.rv_memory.specs.declared.access.Misaligned.TheVariants.{Fault}
@@ -21,13 +22,15 @@ default_regions = record { base = 0x8000_0000; size = 0x10_0000; writable = true
 abbrev pub image_room : ℕ
 image_room = 0x10_0000
 
--- the bytes placed from 0x8000_0000 on, in zero memory; the script is empty, and misaligned accesses are refused
+-- the bytes placed from 0x8000_0000 on, in zero memory; the script is empty, and misaligned
+-- accesses are refused
 abbrev pub flat_contents : List ℕ → Contents
 flat_contents bytes = with_bytes (new_bus default_regions [] Fault) 0x8000_0000 bytes
 
 -- byte k of the image stands at 0x8000_0000 + k, and every other byte of memory is 0
 abbrev pub flat_byte : List ℕ → ℕ → ℕ
-flat_byte bytes address = if leb 0x8000_0000 address then get_or bytes (address - 0x8000_0000) 0 else 0
+flat_byte bytes address =
+    if leb 0x8000_0000 address then get_or bytes (address - 0x8000_0000) 0 else 0
 
 -- the hart of RV32IMC at reset, its pc at the image's first byte
 abbrev pub flat_state : List ℕ → State
@@ -40,7 +43,8 @@ flat_name = codes "raw"
 -- the outcome of these bytes within a budget of steps
 abbrev pub flat_outcome_of : List ℕ → ℕ → Outcome
 flat_outcome_of bytes budget =
-    if nat_lt image_room (length bytes) then refused_outcome refusal.ImageTooLong else outcome_of_run (run_of budget (flat_state bytes)) None
+    if nat_lt image_room (length bytes) then refused_outcome refusal.ImageTooLong
+    else outcome_of_run (run_of budget (flat_state bytes)) None
 
 -- and their row
 unfoldable pub flat_row_of : List ℕ → ℕ → Row

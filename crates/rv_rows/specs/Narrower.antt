@@ -1,4 +1,5 @@
--- Plans that differ in one job's set of instructions, and the endings that a wider set does not change.
+-- Plans that differ in one job's set of instructions, and the endings that a wider set does not
+-- change.
 use Rattle.std.specs.Prelude.{ℕ, zero, suc, Bool, true, false, not, List, [], ◌∷◌}
 use Rattle.rv_isa.specs.declared.sets.Isa.TheVariants.{Imc}
 use Rattle.rv_jobs.specs.declared.job.Job.{Job}
@@ -21,7 +22,8 @@ widened_at (suc place) (job ∷ jobs) = job ∷ widened_at place jobs
 abbrev pub widened_plan : ℕ → Planned → Planned
 widened_plan place plan = record plan { jobs = widened_at place plan.jobs }
 
--- the image was not refused, and the run ended in no fault of what the set lacks: `illegal` or `fetch-misaligned`
+-- the image was not refused, and the run ended in no fault of what the set lacks: `illegal` or
+-- `fetch-misaligned`
 abbrev pub is_of_any_set : RowEnd → Bool
 is_of_any_set (Exit code) = true
 is_of_any_set (Fault kind pc value) = not (is_of_set kind)

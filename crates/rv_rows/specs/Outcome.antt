@@ -72,13 +72,15 @@ range_of file regions names = do
   unit ← signature_check begin end regions
   Ok (record { begin = begin; end = end })
 
-abbrev pub range_if_asked : List ℕ → List Region → Option Symbols → Result (Option SignatureRange) ImageError
+abbrev pub range_if_asked : List ℕ → List Region → Option Symbols
+    → Result (Option SignatureRange) ImageError
 range_if_asked file regions None = Ok None
 range_if_asked file regions (Some names) = do
   range ← range_of file regions names
   Ok (Some range)
 
--- the image of a file, where the job's map takes it, and the range of the signature, where one is asked for
+-- the image of a file, where the job's map takes it, and the range of the signature, where one is
+-- asked for
 unfoldable pub loadable_of : Job → List ℕ → Result Loadable ImageError
 loadable_of job file = do
   image ← image_of job.isa file
@@ -91,7 +93,9 @@ loadable_of job file = do
 -- the image in memory, nothing stored, and the script
 abbrev pub loaded_contents : Job → List ℕ → Image → Contents
 loaded_contents job file image =
-    record (new_bus job.regions job.script job.misaligned) { memory = opening_memory job.regions image.segments file job.load }
+    record (new_bus job.regions job.script job.misaligned) {
+      memory = opening_memory job.regions image.segments file job.load;
+    }
 
 -- the hart at reset, its pc at the image's entry
 abbrev pub loaded_state : Job → List ℕ → Image → State
@@ -117,11 +121,13 @@ outcome_of_run ran range = record {
 
 -- a refusal has no steps, no console bytes and no signature
 abbrev pub refused_outcome : Refusal → Outcome
-refused_outcome why = record { ending = ending.Refused why; steps = 0; console = []; signature = None }
+refused_outcome why =
+    record { ending = ending.Refused why; steps = 0; console = []; signature = None }
 
 -- what comes of an image that is loaded, or of its refusal
 abbrev pub outcome_if_loadable : Job → List ℕ → Result Loadable ImageError → Outcome
-outcome_if_loadable job file (Ok there) = outcome_of_run (run_of job.budget (loaded_state job file there.image)) there.range
+outcome_if_loadable job file (Ok there) =
+    outcome_of_run (run_of job.budget (loaded_state job file there.image)) there.range
 outcome_if_loadable job file (Err why) = refused_outcome (refusal.Image why)
 
 unfoldable pub file_outcome_of : Job → List ℕ → Outcome

@@ -11,4 +11,5 @@ outcome_at plan place = option_map (outcome_in plan.answers) (slice_get plan.job
 
 -- each is that of the job at its place
 abbrev pub AreOutcomes : Planned → List RecentOutcome → Type 0
-AreOutcomes plan recent = All (λ (kept : RecentOutcome). outcome_at plan kept.place ≡ Some kept.outcome) recent
+AreOutcomes plan recent =
+    All (λ (kept : RecentOutcome). outcome_at plan kept.place ≡ Some kept.outcome) recent

@@ -1,11 +1,11 @@
 -- The text of a report: six parts a row, each of whole lines, and a last line.
-use Rattle.std.specs.Prelude.{◌==◌, if◌then◌else◌, ◌+◌, ℕ, List, [], ◌∷◌, ◌++◌, length, Option, Some, None, codes}
+use Rattle.std.specs.Prelude.{◌==◌, if◌then◌else◌, ◌+◌, ℕ, List, [], ◌∷◌, ◌++◌, length, Option}
+use Rattle.std.specs.Prelude.{Some, None, codes}
 use Rattle.std.specs.Int.{w32, to_be_bytes}
 use Rattle.std.specs.List.{flat_map}
 use Rattle.std.specs.Fmt.{decimal}
 use Rattle.hex.specs.Hex.{encode_lower}
-use Rattle.rv_elf.specs.declared.error.ImageError.{ImageError}
-use Rattle.rv_elf.specs.declared.error.ImageError.TheVariants as image
+use Rattle.rv_elf.specs.ErrorNames.{image_error_name}
 use Rattle.rv_machine.specs.Faults.{fault_name}
 use Rattle.rv_rows.specs.declared.row.Refusal.{Refusal}
 use Rattle.rv_rows.specs.declared.row.Refusal.TheVariants as refusal
@@ -23,33 +23,8 @@ line text = text ++ 10 ∷ []
 unfoldable pub word_digits : ℕ → List ℕ
 word_digits word = encode_lower (to_be_bytes w32 word)
 
--- no row has the last
-abbrev pub image_error_name : ImageError → List ℕ
-image_error_name image.ShortHeader = codes "short-header"
-image_error_name image.BadMagic = codes "bad-magic"
-image_error_name image.Not32Bit = codes "not-32-bit"
-image_error_name image.NotLittleEndian = codes "not-little-endian"
-image_error_name image.BadVersion = codes "bad-version"
-image_error_name image.NotExecutable = codes "not-executable"
-image_error_name image.NotRiscv = codes "not-riscv"
-image_error_name image.ProgramTable = codes "program-table"
-image_error_name image.Dynamic = codes "dynamic"
-image_error_name image.SegmentSizes = codes "segment-sizes"
-image_error_name image.SegmentFile = codes "segment-file"
-image_error_name image.NoSegment = codes "no-segment"
-image_error_name image.EntryOdd = codes "entry-odd"
-image_error_name image.EntryAlign = codes "entry-align"
-image_error_name image.SegmentMap = codes "segment-map"
-image_error_name image.SegmentOverlap = codes "segment-overlap"
-image_error_name image.SectionTable = codes "section-table"
-image_error_name image.NoSymbols = codes "no-symbols"
-image_error_name image.SymbolTable = codes "symbol-table"
-image_error_name image.StringTable = codes "string-table"
-image_error_name image.NoBegin = codes "no-begin"
-image_error_name image.NoEnd = codes "no-end"
-image_error_name image.SignatureRange = codes "signature-range"
-image_error_name image.OutOfMemory = codes "out-of-memory"
-
+-- why there is no run; no row is refused out of memory, so that word of an image's errors never
+-- stands here
 abbrev pub refusal_name : Refusal → List ℕ
 refusal_name refusal.ImageUnreadable = codes "image-unreadable"
 refusal_name refusal.ImageTooLong = codes "image-too-long"
@@ -61,7 +36,8 @@ refusal_name (refusal.Image why) = image_error_name why
 unfoldable pub end_line : RowEnd → List ℕ
 end_line (ending.Exit code) = line (codes "end exit " ++ decimal code)
 end_line (ending.Fault kind pc value) =
-    line (codes "end fault " ++ fault_name kind ++ codes " pc=" ++ word_digits pc ++ codes " value=" ++ word_digits value)
+    line (codes "end fault " ++ fault_name kind
+    ++ codes " pc=" ++ word_digits pc ++ codes " value=" ++ word_digits value)
 end_line ending.Budget = line (codes "end budget")
 end_line (ending.Refused why) = line (codes "end refused " ++ refusal_name why)
 
@@ -79,7 +55,8 @@ word_line word = line (word_digits word)
 -- the count of the signature's words, and a line for each; or a dash where none was asked for
 unfoldable pub signature_lines : Option (List ℕ) → List ℕ
 signature_lines None = line (codes "signature -")
-signature_lines (Some words) = line (codes "signature " ++ decimal (length words)) ++ flat_map word_line words
+signature_lines (Some words) = line (codes "signature " ++ decimal (length words))
+    ++ flat_map word_line words
 
 abbrev pub verdict_name : Verdict → List ℕ
 verdict_name verdict.Unasked = codes "none"
@@ -88,8 +65,11 @@ verdict_name verdict.Fail = codes "fail"
 
 -- the row at a place; places count from 0, and the printed number from 1
 unfoldable pub row_text : ℕ → Row → List ℕ
-row_text place row = line (codes "job " ++ decimal (place + 1) ++ codes " " ++ row.name) ++ end_line row.ending
-    ++ line (codes "steps " ++ decimal row.steps) ++ console_line row.console ++ signature_lines row.signature
+row_text place row = line (codes "job " ++ decimal (place + 1) ++ codes " " ++ row.name)
+    ++ end_line row.ending
+    ++ line (codes "steps " ++ decimal row.steps)
+    ++ console_line row.console
+    ++ signature_lines row.signature
     ++ line (codes "verdict " ++ verdict_name row.verdict)
 
 -- rows from a place on

@@ -1,5 +1,6 @@
 -- The rows of a plan: one a job, in list order.
-use Rattle.std.specs.Prelude.{ℕ, List, Option, Some, None, map, option_and_then, option_map, slice_get, unwrap_or}
+use Rattle.std.specs.Prelude.{ℕ, List, Option, Some, None, map, option_and_then, option_map}
+use Rattle.std.specs.Prelude.{slice_get, unwrap_or}
 use Rattle.rv_jobs.specs.declared.answers.Answer.{Answer}
 use Rattle.rv_jobs.specs.declared.job.Job.{Job}
 use Rattle.rv_jobs.specs.declared.store.Kept.{Kept}
@@ -11,13 +12,14 @@ use Rattle.rv_rows.specs.declared.row.Verdict.{Verdict}
 use Rattle.rv_rows.specs.Outcome.{outcome_of}
 use Rattle.rv_rows.specs.Verdict.{verdict_of}
 
--- what is kept of a path; each path of a plan's jobs has an answer
+-- what is kept of a path. Each path of a plan's jobs has an answer, so the default is never taken
 abbrev pub kept_for : List Answer → List ℕ → Kept
 kept_for answers path = unwrap_or (kept_of answers path) kept.Unreadable
 
 -- the outcome of a job over a plan's answers
 abbrev pub outcome_in : List Answer → Job → Outcome
-outcome_in answers job = outcome_of job (kept_for answers job.image) (option_map (kept_for answers) job.expect_signature)
+outcome_in answers job =
+    outcome_of job (kept_for answers job.image) (option_map (kept_for answers) job.expect_signature)
 
 -- the bytes of a reference, if it was read
 abbrev pub bytes_in : Option Kept → Option (List ℕ)
@@ -29,7 +31,8 @@ reference_in answers job = bytes_in (option_map (kept_for answers) job.expect_si
 
 -- the outcome (and not the verdict) of the job that a job names
 abbrev pub other_in : Planned → Job → Option Outcome
-other_in plan job = option_map (outcome_in plan.answers) (option_and_then (slice_get plan.jobs) job.same_as)
+other_in plan job =
+    option_map (outcome_in plan.answers) (option_and_then (slice_get plan.jobs) job.same_as)
 
 abbrev pub row_with : List ℕ → Outcome → Verdict → Row
 row_with name there verdict = record {
@@ -45,7 +48,8 @@ row_with name there verdict = record {
 unfoldable pub row_of : Planned → Job → Row
 row_of plan job =
     let there = outcome_in plan.answers job in
-    row_with job.name there (verdict_of job there (reference_in plan.answers job) (other_in plan job))
+    row_with job.name there
+    (verdict_of job there (reference_in plan.answers job) (other_in plan job))
 
 -- one row a job, in list order
 unfoldable pub rows_of : Planned → List Row

@@ -1,5 +1,6 @@
 -- The verdict on a job's outcome.
-use Rattle.std.specs.Prelude.{◌==◌, ◌&&◌, ◌||◌, ℕ, Bool, true, false, not, List, [], Option, Some, None, is_some, if◌then◌else◌}
+use Rattle.std.specs.Prelude.{◌==◌, ◌&&◌, ◌||◌, ℕ, Bool, true, false, not, List, [], Option, Some}
+use Rattle.std.specs.Prelude.{None, is_some, if◌then◌else◌}
 use Rattle.std.specs.List.{flat_map}
 use Rattle.std.specs.Str.{bytes_eq}
 use Rattle.rv_jobs.specs.declared.job.Job.{Job}
@@ -44,7 +45,8 @@ lines_of (Some words) = flat_map word_line words
 abbrev pub holds_reference : Option (List ℕ) → Option (List ℕ) → Outcome → Bool
 holds_reference None bytes there = true
 holds_reference (Some path) None there = false
-holds_reference (Some path) (Some bytes) there = is_run there.ending && bytes_eq bytes (lines_of there.signature)
+holds_reference (Some path) (Some bytes) there = is_run there.ending
+    && bytes_eq bytes (lines_of there.signature)
 
 -- ---- another job
 
@@ -74,9 +76,11 @@ same_signature None None = true
 same_signature (Some words) (Some others) = bytes_eq words others
 same_signature _ _ = false
 
--- two outcomes are the same but for steps, addresses and values; a refused one is the same as no other, nor as itself
+-- two outcomes are the same but for steps, addresses and values; a refused one is the same as no
+-- other, nor as itself
 abbrev pub are_same : Outcome → Outcome → Bool
-are_same there other = are_alike there.ending other.ending && (bytes_eq there.console other.console && same_signature there.signature other.signature)
+are_same there other = are_alike there.ending other.ending
+    && (bytes_eq there.console other.console && same_signature there.signature other.signature)
 
 abbrev pub holds_same : Option ℕ → Option Outcome → Outcome → Bool
 holds_same None other there = true
@@ -89,4 +93,6 @@ holds_same (Some place) (Some other) there = are_same there other
 unfoldable pub verdict_of : Job → Outcome → Option (List ℕ) → Option Outcome → Verdict
 verdict_of job there reference other =
     if not (is_asked job) then verdict.Unasked
-    else (if holds_exit job.expect_exit there.ending && (holds_reference job.expect_signature reference there && holds_same job.same_as other there) then verdict.Pass else verdict.Fail)
+    else (if holds_exit job.expect_exit there.ending
+    && (holds_reference job.expect_signature reference there && holds_same job.same_as other there)
+    then verdict.Pass else verdict.Fail)

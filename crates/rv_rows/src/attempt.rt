@@ -9,7 +9,8 @@ ghost use Rattle.rv_jobs.specs.Jobs.{most_script};
 ghost use Rattle.rv_machine.specs.Run.{run_of};
 ghost use Rattle.rv_machine.specs.Machine.{state_of};
 ghost use Rattle.rv_rows.specs.Attempt.{HasSignature, IsReadable, outcome_in_bus, outcome_of_attempt};
-ghost use Rattle.rv_rows.specs.Outcome.{end_of, end_of_signature, file_of, file_outcome_of, loadable_of, loaded_state, outcome_of, outcome_of_run, range_of};
+ghost use Rattle.rv_rows.specs.Outcome.{end_of, end_of_signature, file_of, file_outcome_of, loadable_of, loaded_state};
+ghost use Rattle.rv_rows.specs.Outcome.{outcome_of, outcome_of_run, range_of};
 
 use crate::outcome::{Attempt, EndedRun, Loadable, SignatureRange};
 use crate::row::{Refusal, RowEnd};

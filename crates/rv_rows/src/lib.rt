@@ -1,9 +1,9 @@
 //! Rows and reports: what jobs came to, and the text that says so.
 //!
-//! [`row_at`] is the row of a plan's job: what the job comes to over what is kept of its files, and the
-//! verdict on it. [`run_one`] is all rows, in list order; [`flat_row`] is the row of a flat image. Each answers exactly what
-//! the definitions of `specs/` make of the run. [`write_report`] appends a report's text to a [`Sink`], in few large
-//! puts; where it fails a beginning of the text went out, and nothing after it. [`narrower_sets_only_refuse`] is a law of
+//! [`row_at`] is the row of a plan's job: what the job comes to over what is kept of its files, and the verdict on it.
+//! [`run_one`] is all rows, in list order; [`flat_row`] is the row of a flat image. Each answers exactly what the
+//! definitions of `specs/` make of the run. [`write_report`] appends a report's text to a [`Sink`], in few large puts;
+//! where it fails a beginning of the text went out, and nothing after it. [`narrower_sets_only_refuse`] is a law of
 //! rows.
 #![tactic(auto)]
 
@@ -11,10 +11,10 @@ mod attempt;
 mod flat;
 mod law;
 mod outcome;
+mod plan_rows;
 mod recent;
 mod report;
 mod row;
-mod rows;
 mod signature_lines;
 mod sink;
 mod spare;
@@ -23,10 +23,10 @@ mod verdict;
 pub use flat::flat_row;
 pub use law::narrower_sets_only_refuse;
 pub use outcome::{Loadable, Outcome, SignatureRange};
+pub use plan_rows::{next_row, row_at, run_one};
 pub use recent::Recent;
-pub use report::{WriteError, write_report};
-pub use row::{Refusal, Report, Row, RowEnd, Rows, Verdict, Words};
-pub use rows::{next_row, row_at, run_one};
+pub use report::{Report, Rows, WriteError, write_report};
+pub use row::{Refusal, Row, RowEnd, Verdict, Words};
 pub use sink::{Sink, SinkFailed, put_all};
 pub use spare::Spare;
 pub use verdict::are_same;

@@ -1,6 +1,7 @@
 //! The rows of a plan: one a job, in list order.
 
-ghost use Rattle.std.specs.Prelude.{◌≡◌, ◌<◌, ◌≤◌, IfOk, IfSome, OnOk, Some, length, map, option_map, option_and_then, slice_index_or};
+ghost use Rattle.std.specs.Prelude.{◌≡◌, ◌<◌, ◌≤◌, IfOk, IfSome, OnOk, Some, length, map, option_map, option_and_then};
+ghost use Rattle.std.specs.Prelude.{slice_index_or};
 ghost use Rattle.rv_jobs.specs.declared.job.Job.{Job as AJob};
 ghost use Rattle.rv_rows.specs.Attempt.{IsReadable, outcome_of_attempt};
 ghost use Rattle.rv_rows.specs.Recent.{AreOutcomes, outcome_at};
@@ -10,7 +11,8 @@ ghost use Rattle.rv_rows.specs.Verdict.{are_same, holds_same};
 use crate::attempt::attempt_of;
 use crate::outcome::{Attempt, Outcome};
 use crate::recent::{MOST, Recent};
-use crate::row::{Report, Row, Rows, Verdict};
+use crate::report::{Report, Rows};
+use crate::row::{Row, Verdict};
 use crate::spare::Spare;
 use crate::verdict::{are_same, is_same, verdict};
 use rv_jobs::{Job, Kept, Plan, Text};

@@ -1,17 +1,28 @@
-//! The text of a report, sent in few large puts.
+//! Reports, and their text, sent in few large puts.
 
-ghost use Rattle.std.specs.Prelude.{◌≡◌, ◌++◌, ◌+◌, ◌<◌, ◌^◌, ◌-◌, [], OnOk, OnErr, IfErr, map, option_map, string_bytes};
+ghost use Rattle.std.specs.Prelude.{◌≡◌, ◌++◌, ◌+◌, ◌<◌, ◌^◌, ◌-◌, [], OnOk, OnErr, IfErr, map, option_map};
+ghost use Rattle.std.specs.Prelude.{string_bytes};
 ghost use Rattle.std.specs.Io.KnownBytes.{Appends};
-ghost use Rattle.rv_rows.specs.Report.{image_error_name, refusal_name, verdict_name, end_line, or_dash, console_line, signature_lines, row_text, rows_text, done_line, report_text};
+ghost use Rattle.rv_rows.specs.Report.{refusal_name, verdict_name, end_line, or_dash, console_line};
+ghost use Rattle.rv_rows.specs.Report.{signature_lines, row_text, rows_text, done_line, report_text};
 ghost use Rattle.rv_rows.specs.Sending.{AppendsBeginning, IsUnderWay, Rose, one_more};
 ghost use Rattle.rv_rows.specs.declared.report.WriteError.TheVariants.{Failed, OutOfMemory};
 
-use crate::row::{Refusal, Report, Row, RowEnd, Verdict};
+use crate::row::{Refusal, Row, RowEnd, Verdict};
 use crate::signature_lines::{push_word, push_word_lines};
 use crate::sink::{Sink, SinkFailed, put_all};
-use rv_elf::ImageError;
+use rv_sequence::Sequence;
 use std::alloc::{AllocError, Global};
 use thiserror::Error;
+
+/// Rows in list order, of which contracts see their list.
+pub type Rows = Sequence<Row>;
+
+/// The answer of a fleet: one row a job.
+#[derive(Debug, Drop)]
+pub struct Report {
+    pub rows: Rows,
+}
 
 /// Why a report didn't go out, or not all of it.
 #[derive(Clone, Copy, Debug, Error, PartialEq, Eq)]
@@ -45,9 +56,11 @@ const ENOUGH: usize = 32_768;
 
 /// Appends the report's text to the sink, or a beginning of it.
 pub fn write_report<W: Sink>(alloc: Global, report: &Report, out: &mut W) -> Result<(), WriteError>
-    ensures appended { OnOk result (Appends (W.taken out.old) (W.taken out.new) (report_text report.now.rows)) }
+    ensures appended { OnOk result
+        (Appends (W.taken out.old) (W.taken out.new) (report_text report.now.rows)) }
     ensures counted { OnOk result (W.failed out.new ≡ W.failed out.old) }
-    ensures part { OnErr result (AppendsBeginning (W.taken out.old) (W.taken out.new) (report_text report.now.rows)) }
+    ensures part { OnErr result
+        (AppendsBeginning (W.taken out.old) (W.taken out.new) (report_text report.now.rows)) }
     ensures failed { IfErr result (λ error. error ≡ WriteError.Failed
         → Rose (W.failed out.old) (W.failed out.new)) }
 {
@@ -68,9 +81,11 @@ fn gather<W: Sink>(
 ) -> Result<(), WriteError>
     requires { string_bytes text.old ≡ [] }
     ensures under_way { OnOk result
-        (IsUnderWay (W.taken out.old) (W.taken out.new) (string_bytes text.new) (rows_text 0 rows.now)) }
+        (IsUnderWay (W.taken out.old) (W.taken out.new)
+        (string_bytes text.new) (rows_text 0 rows.now)) }
     ensures counted { OnOk result (W.failed out.new ≡ W.failed out.old) }
-    ensures part { OnErr result (AppendsBeginning (W.taken out.old) (W.taken out.new) (rows_text 0 rows.now)) }
+    ensures part { OnErr result
+        (AppendsBeginning (W.taken out.old) (W.taken out.new) (rows_text 0 rows.now)) }
     ensures failed { IfErr result
         (λ error. error ≡ WriteError.Failed → W.failed out.new ≡ one_more (W.failed out.old)) }
 {
@@ -84,9 +99,11 @@ fn gather<W: Sink>(
 // Sends the gathered text where it is enough for a put.
 fn send_enough<W: Sink>(text: &mut String, out: &mut W) -> Result<(), WriteError>
     ensures under_way { OnOk result
-        (IsUnderWay (W.taken out.old) (W.taken out.new) (string_bytes text.new) (string_bytes text.old)) }
+        (IsUnderWay (W.taken out.old) (W.taken out.new)
+        (string_bytes text.new) (string_bytes text.old)) }
     ensures counted { OnOk result (W.failed out.new ≡ W.failed out.old) }
-    ensures part { OnErr result (AppendsBeginning (W.taken out.old) (W.taken out.new) (string_bytes text.old)) }
+    ensures part { OnErr result
+        (AppendsBeginning (W.taken out.old) (W.taken out.new) (string_bytes text.old)) }
     ensures failed { IfErr result
         (λ error. (error ≡ WriteError.Failed) × (W.failed out.new ≡ one_more (W.failed out.old))) }
 {
@@ -98,10 +115,12 @@ fn send_enough<W: Sink>(text: &mut String, out: &mut W) -> Result<(), WriteError
 
 // Puts the gathered text, and begins anew.
 fn send<W: Sink>(text: &mut String, out: &mut W) -> Result<(), WriteError>
-    ensures appended { OnOk result (Appends (W.taken out.old) (W.taken out.new) (string_bytes text.old)) }
+    ensures appended { OnOk result
+        (Appends (W.taken out.old) (W.taken out.new) (string_bytes text.old)) }
     ensures anew { OnOk result (string_bytes text.new ≡ []) }
     ensures counted { OnOk result (W.failed out.new ≡ W.failed out.old) }
-    ensures part { OnErr result (AppendsBeginning (W.taken out.old) (W.taken out.new) (string_bytes text.old)) }
+    ensures part { OnErr result
+        (AppendsBeginning (W.taken out.old) (W.taken out.new) (string_bytes text.old)) }
     ensures failed { IfErr result
         (λ error. (error ≡ WriteError.Failed) × (W.failed out.new ≡ one_more (W.failed out.old))) }
 {
@@ -210,38 +229,7 @@ fn refusal_text(refusal: Refusal) -> &'static str
         Refusal::ImageTooLong => "image-too-long",
         Refusal::ReferenceUnreadable => "reference-unreadable",
         Refusal::ReferenceTooLong => "reference-too-long",
-        Refusal::Image(error) => image_error_text(error),
-    }
-}
-
-fn image_error_text(error: ImageError) -> &'static str
-    ensures { result.now ≡ image_error_name error }
-{
-    match error {
-        ImageError::ShortHeader => "short-header",
-        ImageError::BadMagic => "bad-magic",
-        ImageError::Not32Bit => "not-32-bit",
-        ImageError::NotLittleEndian => "not-little-endian",
-        ImageError::BadVersion => "bad-version",
-        ImageError::NotExecutable => "not-executable",
-        ImageError::NotRiscv => "not-riscv",
-        ImageError::ProgramTable => "program-table",
-        ImageError::Dynamic => "dynamic",
-        ImageError::SegmentSizes => "segment-sizes",
-        ImageError::SegmentFile => "segment-file",
-        ImageError::NoSegment => "no-segment",
-        ImageError::EntryOdd => "entry-odd",
-        ImageError::EntryAlign => "entry-align",
-        ImageError::SegmentMap => "segment-map",
-        ImageError::SegmentOverlap => "segment-overlap",
-        ImageError::SectionTable => "section-table",
-        ImageError::NoSymbols => "no-symbols",
-        ImageError::SymbolTable => "symbol-table",
-        ImageError::StringTable => "string-table",
-        ImageError::NoBegin => "no-begin",
-        ImageError::NoEnd => "no-end",
-        ImageError::SignatureRange => "signature-range",
-        ImageError::OutOfMemory => "out-of-memory",
+        Refusal::Image(error) => error.name(),
     }
 }
 

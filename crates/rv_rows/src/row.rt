@@ -1,4 +1,4 @@
-//! Rows: what a report says of one job.
+//! A row: what a report says of one job.
 
 use rv_elf::ImageError;
 use rv_jobs::{Bytes, Text};
@@ -61,13 +61,4 @@ pub struct Row {
     /// The words between the two symbols of the signature, where one is asked for.
     pub signature: Option<Words>,
     pub verdict: Verdict,
-}
-
-/// Rows in list order, of which contracts see their list.
-pub type Rows = Sequence<Row>;
-
-/// The answer of a fleet: one row a job.
-#[derive(Debug, Drop)]
-pub struct Report {
-    pub rows: Rows,
 }

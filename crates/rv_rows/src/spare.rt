@@ -7,8 +7,8 @@ use crate::outcome::Attempt;
 use rv_memory::{Bus, Map, Misaligned};
 use std::alloc::{AllocError, Global};
 
-/// The bus of the last run, if there was one. A worker makes the bus of its next run in the memory of the last where the
-/// maps have as many bytes: to take memory afresh for each run costs more than a small run does.
+/// The bus of the last run, if there was one. A worker makes the bus of its next run in the memory of the last where
+/// the maps have as many bytes: to take memory afresh for each run costs more than a small run does.
 #[derive(Drop)]
 pub struct Spare {
     bus: Option<Bus>,

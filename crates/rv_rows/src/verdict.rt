@@ -3,7 +3,8 @@
 ghost use Rattle.std.specs.Prelude.{◌≡◌, Option, bytes_eq, option_map};
 ghost use Rattle.rv_rows.specs.declared.outcome.Outcome.{Outcome as AnOutcome};
 ghost use Rattle.rv_rows.specs.Attempt.{HasSignature, IsReadable, outcome_in_bus, outcome_of_attempt};
-ghost use Rattle.rv_rows.specs.Verdict.{are_alike, are_same, exits_with, fault_number, holds_exit, holds_reference, holds_same, is_asked, is_run, lines_of, same_signature, verdict_of};
+ghost use Rattle.rv_rows.specs.Verdict.{are_alike, are_same, exits_with, fault_number, holds_exit, holds_reference};
+ghost use Rattle.rv_rows.specs.Verdict.{holds_same, is_asked, is_run, lines_of, same_signature, verdict_of};
 
 use crate::outcome::{Attempt, EndedRun, Outcome};
 use crate::row::{RowEnd, Verdict, Words};

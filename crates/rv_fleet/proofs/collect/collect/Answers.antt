@@ -5,9 +5,14 @@ use Rattle.rv_fleet.proofs.collect.collect.Goals as goal
 
 pub keep_all-requires-clause-pieces : goal.keep_all-requires-clause-pieces
 keep_all-requires-clause-pieces c =
-    let has = All-first (HasWorked c.args.plan.now c.args.group c.args.claims.now) c.in-Some.field-0 _ _ c.in-Some.ensures.steps.0 c.loop-pass.invariant.1 in
+    let has = All-first (HasWorked c.args.plan.now c.args.group c.args.claims.now) c.in-Some.field-0 _ _
+    c.in-Some.ensures.steps.0 c.loop-pass.invariant.1 in
     pieces_worked _ _ _ c.in-Some.field-0 _ has c.in_ok-pieces.was c.requires.pieces
 
 pub loop-pass-preserved : goal.loop-pass-preserved
-loop-pass-preserved c =
-    (c.keep_all.ensures, All-rest (HasWorked c.args.plan.now c.args.group c.args.claims.now) _ _ _ c.in-Some.ensures.steps.0 c.loop-pass.invariant.1, c.joined.ensures)
+loop-pass-preserved c = (
+  c.keep_all.ensures,
+  All-rest (HasWorked c.args.plan.now c.args.group c.args.claims.now) _ _ _
+      c.in-Some.ensures.steps.0 c.loop-pass.invariant.1,
+  c.joined.ensures,
+)

@@ -6,4 +6,5 @@ use Rattle.rv_fleet.proofs.collect.collect.Given as goal
 
 abbrev pub invariant-loop-pass : goal.invariant-loop-pass
 invariant-loop-pass l =
-    IsFilled l.plan l.group l.places.items × HaveWorked l.plan l.group l.claims (into_iter_items l.pass-iterator) × IfSome l.all (λ other. other.draw ≡ l.claims)
+    IsFilled l.plan l.group l.places.items × HaveWorked l.plan l.group l.claims (into_iter_items l.pass-iterator)
+    × IfSome l.all (λ other. other.draw ≡ l.claims)

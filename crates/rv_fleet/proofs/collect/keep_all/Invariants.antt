@@ -3,4 +3,5 @@ use Rattle.rv_fleet.specs.Collected.{ArePieces, IsFilled}
 use Rattle.rv_fleet.proofs.collect.keep_all.Given as goal
 
 abbrev pub invariant-loop-piece : goal.invariant-loop-piece
-invariant-loop-piece l = IsFilled l.plan l.group l.places.items × ArePieces l.plan l.group (into_iter_items l.piece-iterator)
+invariant-loop-piece l = IsFilled l.plan l.group l.places.items
+    × ArePieces l.plan l.group (into_iter_items l.piece-iterator)

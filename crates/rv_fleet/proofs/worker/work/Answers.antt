@@ -14,7 +14,9 @@ pub loop-number-preserved : goal.loop-number-preserved
 loop-number-preserved g c =
     let was = c.loop-number.invariant in
     let t = took_some _ _ _ _ c.in-Some.number (c.take.ensures.none, c.take.ensures.drawn) c.in-Some.is in
-    let m = made_one (piece_at c.args.plan.now c.args.group) c.args.pass.now _ _ _ _ _ _ _ was.1 t.0 t.2 (ap (λ (d : SharedDraw). d.pieces) c.requires.pass) was.2 c.in_ok-push.ensures.items c.in_ok-piece.ensures.piece in
+    let m = made_one (piece_at c.args.plan.now c.args.group) c.args.pass.now _ _ _ _ _ _ _ was.1 t.0 t.2
+    (ap (λ (d : SharedDraw). d.pieces) c.requires.pass) was.2 c.in_ok-push.ensures.items
+    c.in_ok-piece.ensures.piece in
     (ap (λ (h : Held). h.draw) t.0 ∙ was.0, m.0, m.1, c.in_ok-piece.ensures.recent)
 
 pub returns-in_err-push-clause-pass : goal.returns-in_err-push-clause-pass
@@ -24,12 +26,18 @@ returns-in_err-push-clause-pass g c =
 
 pub returns-clause-pass : goal.returns-clause-pass
 returns-clause-pass g c =
-    (made_all (piece_at c.args.plan.now c.args.group) c.args.pass.now _ _ _ _ _ c.loop-number.invariant.1 (c.take.ensures.none, c.take.ensures.drawn) c.in_default.is (ap (λ (d : SharedDraw). d.pieces) c.requires.pass) c.loop-number.invariant.2).0
+    (made_all (piece_at c.args.plan.now c.args.group) c.args.pass.now _ _ _ _ _ c.loop-number.invariant.1
+    (c.take.ensures.none, c.take.ensures.drawn) c.in_default.is (ap (λ (d : SharedDraw). d.pieces) c.requires.pass)
+    c.loop-number.invariant.2).0
 
 pub returns-clause-ended : goal.returns-clause-ended
 returns-clause-ended g c =
-    (made_all (piece_at c.args.plan.now c.args.group) c.args.pass.now _ _ _ _ _ c.loop-number.invariant.1 (c.take.ensures.none, c.take.ensures.drawn) c.in_default.is (ap (λ (d : SharedDraw). d.pieces) c.requires.pass) c.loop-number.invariant.2).1
+    (made_all (piece_at c.args.plan.now c.args.group) c.args.pass.now _ _ _ _ _ c.loop-number.invariant.1
+    (c.take.ensures.none, c.take.ensures.drawn) c.in_default.is (ap (λ (d : SharedDraw). d.pieces) c.requires.pass)
+    c.loop-number.invariant.2).1
 
 pub returns-clause-made : goal.returns-clause-made
 returns-clause-made g c =
-    (made_all (piece_at c.args.plan.now c.args.group) c.args.pass.now _ _ _ _ _ c.loop-number.invariant.1 (c.take.ensures.none, c.take.ensures.drawn) c.in_default.is (ap (λ (d : SharedDraw). d.pieces) c.requires.pass) c.loop-number.invariant.2).2
+    (made_all (piece_at c.args.plan.now c.args.group) c.args.pass.now _ _ _ _ _ c.loop-number.invariant.1
+    (c.take.ensures.none, c.take.ensures.drawn) c.in_default.is (ap (λ (d : SharedDraw). d.pieces) c.requires.pass)
+    c.loop-number.invariant.2).2

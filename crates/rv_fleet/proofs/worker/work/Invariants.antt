@@ -7,7 +7,8 @@ use Rattle.rv_fleet.proofs.worker.work.Given as goal
 
 abbrev pub invariant-loop-number : goal.invariant-loop-number
 invariant-loop-number g l =
-    (l.pass.draw ≡ l.claims) × Grew l.initial.pass l.pass × (l.pieces.items ≡ map (piece_at l.plan l.group) (new_pieces l.initial.pass l.pass))
+    (l.pass.draw ≡ l.claims) × Grew l.initial.pass l.pass
+    × (l.pieces.items ≡ map (piece_at l.plan l.group) (new_pieces l.initial.pass l.pass))
     × AreOutcomes l.plan l.recent
 
 abbrev pub decreases-loop-number : goal.decreases-loop-number

@@ -4,7 +4,8 @@ use Rattle.rv_rows.proofs.Loadables.{aligned, loadable_parts, loaded_is, new_bus
 use Rattle.rv_rows.proofs.attempt.loaded_machine.Goals as goal
 
 pub load-requires-clause-image : goal.load-requires-clause-image
-load-requires-clause-image c = record { isa = c.args.job.now.isa; is = (loadable_parts _ _ _ c.requires.loadable).image }
+load-requires-clause-image c =
+    record { isa = c.args.job.now.isa; is = (loadable_parts _ _ _ c.requires.loadable).image }
 
 pub load-requires-clause-fits : goal.load-requires-clause-fits
 load-requires-clause-fits c = rw (new_bus_parts _ _ _ _ c.in_ok-bus.ensures).0 (loadable_parts _ _ _ c.requires.loadable).fits
@@ -20,4 +21,5 @@ new-requires-clause-aligned c = aligned _ _ (entry_aligned _ _ _ (loadable_parts
 
 pub returns : goal.returns
 returns c =
-    rw (loaded_is c.in_ok-bus.bus _ c.args.job.now c.args.file.now c.args.there.now.image _ c.in_ok-bus.ensures (c.in_ok-script.ensures ∙ c.as_slice.ensures) c.load.ensures) at c.new.ensures
+    rw (loaded_is c.in_ok-bus.bus _ c.args.job.now c.args.file.now c.args.there.now.image _ c.in_ok-bus.ensures
+    (c.in_ok-script.ensures ∙ c.as_slice.ensures) c.load.ensures) at c.new.ensures

@@ -10,5 +10,8 @@ place-requires c = image_fits _ _ (rw (c.default_map.ensures, c.new.ensures.item
 
 pub returns-clause-memory : goal.returns-clause-memory
 returns-clause-memory c =
-    let new : c.in_ok-bus.bus ≡ new_bus default_regions [] Fault = rw (c.default_map.ensures, c.new.ensures.items) at c.in_ok-bus.ensures in
-    λ address. ap (λ bus. byte_at bus.memory address) (c.place.ensures ∙ ap (λ bus. with_bytes bus 0x8000_0000 c.args.bytes.now) new) ∙ flat_memory c.args.bytes.now address
+    let new : c.in_ok-bus.bus ≡ new_bus default_regions [] Fault =
+    rw (c.default_map.ensures, c.new.ensures.items) at c.in_ok-bus.ensures in
+    λ address. ap (λ bus. byte_at bus.memory address)
+    (c.place.ensures ∙ ap (λ bus. with_bytes bus 0x8000_0000 c.args.bytes.now) new)
+    ∙ flat_memory c.args.bytes.now address

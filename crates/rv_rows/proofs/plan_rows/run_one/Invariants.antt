@@ -1,7 +1,7 @@
 use Rattle.std.proofs.Common.{◌≡◌, map, take}
 use Rattle.rv_rows.specs.Recent.{AreOutcomes}
 use Rattle.rv_rows.specs.Rows.{row_of}
-use Rattle.rv_rows.proofs.rows.run_one.Given as goal
+use Rattle.rv_rows.proofs.plan_rows.run_one.Given as goal
 
 abbrev pub invariant-loop-i : goal.invariant-loop-i
 invariant-loop-i l = record {

@@ -5,6 +5,7 @@ use Rattle.rv_rows.proofs.report.gather.Given as goal
 
 abbrev pub invariant-loop-place : goal.invariant-loop-place
 invariant-loop-place g l = record {
-  under_way : IsUnderWay (g.W.Sink.taken l.initial.out) (g.W.Sink.taken l.out) (string_bytes l.text) (rows_text 0 (take l.place l.rows));
+  under_way : IsUnderWay (g.W.Sink.taken l.initial.out) (g.W.Sink.taken l.out) (string_bytes l.text)
+      (rows_text 0 (take l.place l.rows));
   counted : g.W.Sink.failed l.out ≡ g.W.Sink.failed l.initial.out;
 }

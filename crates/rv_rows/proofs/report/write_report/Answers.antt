@@ -13,7 +13,8 @@ returns-in_err-gather-clause-part g c =
 pub returns-in_err-push_done-clause-part : goal.returns-in_err-push_done-clause-part
 unfolding report_text
 returns-in_err-push_done-clause-part g c =
-    let error = err_from_is_err_and c.from_residual-in_err-push_done.result c.from_residual-in_err-push_done.ensures.1 in
+    let error = err_from_is_err_and c.from_residual-in_err-push_done.result
+    c.from_residual-in_err-push_done.ensures.1 in
     rw (error.1, ← c.as_slice-rows.ensures) (stopped_under_way _ _ _ _ _ _ c.in_ok-gather.ensures.under_way refl)
 
 pub returns-in_err-send-clause-part : goal.returns-in_err-send-clause-part
@@ -21,9 +22,12 @@ unfolding report_text
 returns-in_err-send-clause-part g c =
     let error = err_from_is_err_and c.from_residual-in_err-send.result c.from_residual-in_err-send.ensures.1 in
     rw (error.1, ← c.as_slice-rows.ensures)
-    (failed_under_way _ _ _ _ _ _ _ _ c.in_ok-gather.ensures.under_way c.in_ok-push_done.ensures c.in_err-send.ensures.part refl)
+    (failed_under_way _ _ _ _ _ _ _ _ c.in_ok-gather.ensures.under_way c.in_ok-push_done.ensures
+    c.in_err-send.ensures.part refl)
 
 pub returns-clause-appended : goal.returns-clause-appended
 unfolding report_text
 returns-clause-appended g c =
-    rw (← c.as_slice-rows.ensures) (ended_under_way _ _ _ _ _ _ _ c.in_ok-gather.ensures.under_way c.in_ok-push_done.ensures c.in_ok-send.ensures.appended)
+    rw (← c.as_slice-rows.ensures)
+    (ended_under_way _ _ _ _ _ _ _ c.in_ok-gather.ensures.under_way c.in_ok-push_done.ensures
+    c.in_ok-send.ensures.appended)

@@ -5,9 +5,11 @@ use Rattle.rv_rows.proofs.sink.put_all.Goals as goal
 pub loop-at-preserved : goal.loop-at-preserved
 loop-at-preserved g c = record {
   within = omega (arith, length-take {A = ℕ}, length-drop {A = ℕ}, c.in-Ok.ensures.within);
-  appended = next_taken _ _ _ c.args.bytes.now c.loop-at.at c.in-Ok.count c.loop-at.invariant.within c.loop-at.invariant.appended c.in-Ok.ensures.taken;
+  appended = next_taken _ _ _ c.args.bytes.now c.loop-at.at c.in-Ok.count c.loop-at.invariant.within
+      c.loop-at.invariant.appended c.in-Ok.ensures.taken;
   counted = c.in-Ok.ensures.counted ∙ c.loop-at.invariant.counted;
 }
 
 pub returns-in-Err-clause-part : goal.returns-in-Err-clause-part
-returns-in-Err-clause-part g c = first_bytes _ _ _ c.args.bytes.now c.loop-at.at c.loop-at.invariant.appended c.in-Err.ensures.kept
+returns-in-Err-clause-part g c =
+    first_bytes _ _ _ c.args.bytes.now c.loop-at.at c.loop-at.invariant.appended c.in-Err.ensures.kept

@@ -10,5 +10,7 @@ loop-pass-preserved g c =
     let is = c.in-Ok.ensures.ok in
     let started = IsStarted c.captures.plan.now c.captures.group c.captures.claims.now in (
       All-rest (IsFresh c.captures.claims.now) _ _ _ c.in-Some.ensures.steps.0 c.loop-pass.invariant.0,
-      All-same started _ _ c.in-Ok-push.ensures.items (All-push started _ _ c.loop-pass.invariant.1 (ap (λ (w : Works). w.plan.now) is, ap (λ (w : Works). w.group) is, ap (λ (w : Works). w.claims.now) is)),
+      All-same started _ _ c.in-Ok-push.ensures.items
+          (All-push started _ _ c.loop-pass.invariant.1
+          (ap (λ (w : Works). w.plan.now) is, ap (λ (w : Works). w.group) is, ap (λ (w : Works). w.claims.now) is)),
     )
