@@ -35,6 +35,7 @@ pub fn is_long(half: u16) -> bool
 #[inline(always)]
 pub fn expand(half: u16) -> Option<u32>
     ensures none { IsNone result ↔ ((i : Instr) → Means16 set.Imc half i → ⊥) }
+    // The word means just what the halfword does.
     ensures word { IfSome result (λ w. (i : Instr) → Means32 set.Imc w i ↔ Means16 set.Imc half i) }
     ensures value { Expands half result }
 {

@@ -67,6 +67,7 @@ impl Bus {
     #[inline]
     pub fn load(&mut self, addr: u32, width: Width) -> Result<u32, BusFault>
         ensures narrow { IfOk result (λ v. v < 2 ^ (8 * size_of width)) }
+        // The value and what is left of the script, or a fault, which changes nothing.
         ensures value { MatchResult result (λ v. load_from self.old addr width ≡ Ok (v, self.new))
             (λ e. (load_from self.old addr width ≡ Err e) × (self.new ≡ self.old)) }
     {
@@ -82,6 +83,7 @@ impl Bus {
     /// Writes the low bytes of a value, and marks them as stored.
     #[inline]
     pub fn store(&mut self, addr: u32, width: Width, value: u32) -> Result<(), BusFault>
+        // The contents that the store leaves, or a fault, which changes nothing.
         ensures { MatchResult result (λ _. store_to self.old addr width value ≡ Ok self.new)
             (λ e. (store_to self.old addr width value ≡ Err e) × (self.new ≡ self.old)) }
     {
@@ -121,6 +123,7 @@ impl Bus {
     #[inline]
     pub fn fetch_word(&self, addr: u32) -> Option<u32>
         ensures value { result ≡ fetch_word_from self.now addr }
+        // Its halves are what fetches of the two halfwords give.
         ensures halves { IfSome result (λ w. (fetch_half_from self.now addr ≡ Ok (w % 0x1_0000))
             × (fetch_half_from self.now ((addr + 2) % 0x1_0000_0000) ≡ Ok (w / 0x1_0000))) }
     {

@@ -23,14 +23,17 @@ abbrev pub allows : Choice → Bool
 allows Fault = false
 allows Allow = true
 
+-- the choice again
 abbrev pub choice_of : Bool → Choice
 choice_of false = Fault
 choice_of true = Allow
 
+-- it is the one that was stored
 abbrev pub choice_again : (m : Choice) → choice_of (allows m) ≡ m
 choice_again Fault = refl
 choice_again Allow = refl
 
+-- so a choice is stored
 abbrev pub choice_code : Coded Choice
 choice_code = code_by Bool coded_bool allows choice_of choice_again
 
@@ -40,6 +43,7 @@ Parts =
     List Region
     × (fin.FinMap nat_cmp ℕ × (set.FinSet nat_cmp × (List ℕ × (List ℕ × Choice))))
 
+-- so they are stored
 abbrev pub parts_code : Coded Parts
 parts_code =
     coded× (coded_list region_code)
