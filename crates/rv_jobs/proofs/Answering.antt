@@ -1,5 +1,7 @@
 -- Answers by their paths, and the paths of jobs in order of first use.
-use Rattle.std.proofs.Common.{◌≡◌, ◌∙◌, ◌+◌, ◌<◌, ◌++◌, Bool, true, false, ℕ, zero, suc, List, [], ◌∷◌, Option, Some, None, refl, ap, sym, length, option_map, cond, arith, subst, get_or, is_some, take, IfSome, inl, inr, option_and_then, map, length-append}
+use Rattle.std.proofs.Common.{◌≡◌, ◌∙◌, ◌+◌, ◌<◌, ◌++◌, Bool, true, false, ℕ, zero, suc, List, [], ◌∷◌, Option, Some}
+use Rattle.std.proofs.Common.{None, refl, ap, sym, length, option_map, cond, arith, subst, get_or, is_some, take}
+use Rattle.std.proofs.Common.{IfSome, inl, inr, option_and_then, map, length-append}
 use Rattle.std.specs.List.{find, fold}
 use Rattle.std.specs.Str.{bytes_eq}
 use Rattle.std.proofs.lemmas.List.{map-append, get_or_default, get_or_push}
@@ -14,24 +16,30 @@ use Rattle.rv_jobs.specs.declared.answers.Answer.{Answer}
 use Rattle.rv_jobs.specs.declared.plan.Places.{Places}
 use Rattle.rv_jobs.specs.JobList.{place_in}
 use Rattle.rv_jobs.specs.Stores.{FileContents, IsKeptOf, is_unreadable, one_more, faults_with}
-use Rattle.rv_jobs.specs.Plans.{paths_of, answers_with, with_path, with_reference, with_job, paths_used, kept_of, reference_kept, AreKept, unreadables, more}
+use Rattle.rv_jobs.specs.Plans.{paths_of, answers_with, with_path, with_reference, with_job, paths_used, kept_of}
+use Rattle.rv_jobs.specs.Plans.{reference_kept, AreKept, unreadables, more}
 use Rattle.rv_jobs.specs.Placed.{ArePlaced}
 use Rattle.rv_jobs.proofs.PlaceLemmas.{place_below, place_last}
 use Rattle.std.proofs.lemmas.Slice.Eq.{bytes_eq-Decides}
 
 -- ---- what is kept of a path
 
-found_at : (b : Bool) (o : Option ℕ) (a : Answer) (ans : List Answer) (f : Option Answer) (k : ℕ) (d : Answer) → ((j : ℕ) → o ≡ Some j → option_map (λ (x : Answer). x.kept) f ≡ Some (get_or ans j d).kept)
-    → cond b (Some 0) (option_map (λ j. j + 1) o) ≡ Some k → option_map (λ (x : Answer). x.kept) (cond b (Some a) f) ≡ Some (get_or (a ∷ ans) k d).kept
+found_at : (b : Bool) (o : Option ℕ) (a : Answer) (ans : List Answer) (f : Option Answer) (k : ℕ) (d : Answer)
+    → ((j : ℕ) → o ≡ Some j → option_map (λ (x : Answer). x.kept) f ≡ Some (get_or ans j d).kept)
+    → cond b (Some 0) (option_map (λ j. j + 1) o) ≡ Some k
+    → option_map (λ (x : Answer). x.kept) (cond b (Some a) f) ≡ Some (get_or (a ∷ ans) k d).kept
 found_at true o a ans f k d ih e = let z : 0 ≡ k = cc in ap (λ j. Some (get_or (a ∷ ans) j d).kept) z
 found_at false None a ans f k d ih e = cc
-found_at false (Some j) a ans f k d ih e = let z : j + 1 ≡ k = cc in let s : suc j ≡ k = omega arith in ih j refl ∙ ap (λ i. Some (get_or (a ∷ ans) i d).kept) s
+found_at false (Some j) a ans f k d ih e = let z : j + 1 ≡ k = cc in let s : suc j ≡ k = omega arith in ih j refl
+    ∙ ap (λ i. Some (get_or (a ∷ ans) i d).kept) s
 
 -- the answer at the place of the path
-pub kept_at : (ans : List Answer) (p : List ℕ) (k : ℕ) (d : Answer) → place_in (paths_of ans) p ≡ Some k → kept_of ans p ≡ Some (get_or ans k d).kept
+pub kept_at : (ans : List Answer) (p : List ℕ) (k : ℕ) (d : Answer) → place_in (paths_of ans) p ≡ Some k
+    → kept_of ans p ≡ Some (get_or ans k d).kept
 unfolding place_in
 kept_at [] p k d e = cc
-kept_at (a ∷ ans) p k d e = found_at (bytes_eq p a.path) (place_in (paths_of ans) p) a ans (find (λ (x : Answer). bytes_eq p x.path) ans) k d (λ j h. kept_at ans p j d h) e
+kept_at (a ∷ ans) p k d e = found_at (bytes_eq p a.path) (place_in (paths_of ans) p) a ans
+    (find (λ (x : Answer). bytes_eq p x.path) ans) k d (λ j h. kept_at ans p j d h) e
 
 -- ---- paths beside what is kept of them
 
@@ -40,13 +48,15 @@ paths-with [] ks e = refl
 paths-with (p ∷ ps) [] e = absurd (omega arith)
 paths-with (p ∷ ps) (k ∷ ks) e = ap (λ l. p ∷ l) (paths-with ps ks (omega arith))
 
-pub kept-with : (ps : List (List ℕ)) (ks : List Kept) → length ps ≡ length ks → ks ≡ map (λ (a : Answer). a.kept) (answers_with ps ks)
+pub kept-with : (ps : List (List ℕ)) (ks : List Kept) → length ps ≡ length ks
+    → ks ≡ map (λ (a : Answer). a.kept) (answers_with ps ks)
 kept-with [] [] e = refl
 kept-with [] (k ∷ ks) e = absurd (omega arith)
 kept-with (p ∷ ps) [] e = absurd (omega arith)
 kept-with (p ∷ ps) (k ∷ ks) e = ap (λ l. k ∷ l) (kept-with ps ks (omega arith))
 
-with-push : (ps : List (List ℕ)) (ks : List Kept) (p : List ℕ) (k : Kept) → length ps ≡ length ks → answers_with (ps ++ p ∷ []) (ks ++ k ∷ []) ≡ answers_with ps ks ++ record { path = p; kept = k } ∷ []
+with-push : (ps : List (List ℕ)) (ks : List Kept) (p : List ℕ) (k : Kept) → length ps ≡ length ks
+    → answers_with (ps ++ p ∷ []) (ks ++ k ∷ []) ≡ answers_with ps ks ++ record { path = p; kept = k } ∷ []
 with-push [] [] p k e = refl
 with-push [] (x ∷ xs) p k e = absurd (omega arith)
 with-push (q ∷ qs) [] p k e = absurd (omega arith)
@@ -56,10 +66,12 @@ with-parts : (all : List Answer) → answers_with (paths_of all) (map (λ (a : A
 with-parts [] = refl
 with-parts (a ∷ rest) = ap (λ l. a ∷ l) (with-parts rest)
 
-pub parts_whole : (all : List Answer) (ps : List (List ℕ)) (ks : List Kept) → paths_of all ≡ ps → ks ≡ map (λ (a : Answer). a.kept) all → answers_with ps ks ≡ all
+pub parts_whole : (all : List Answer) (ps : List (List ℕ)) (ks : List Kept) → paths_of all ≡ ps
+    → ks ≡ map (λ (a : Answer). a.kept) all → answers_with ps ks ≡ all
 parts_whole all ps ks e f = (λ i. answers_with (sym e i) (f i)) ∙ with-parts all
 
-with-at : (ps : List (List ℕ)) (ks : List Kept) (i : ℕ) (d : Answer) (k : Kept) → length ps ≡ length ks → i < length ks → (get_or (answers_with ps ks) i d).kept ≡ get_or ks i k
+with-at : (ps : List (List ℕ)) (ks : List Kept) (i : ℕ) (d : Answer) (k : Kept) → length ps ≡ length ks → i < length ks
+    → (get_or (answers_with ps ks) i d).kept ≡ get_or ks i k
 with-at ps [] i d k e l = absurd (omega arith)
 with-at [] (x ∷ xs) i d k e l = absurd (omega arith)
 with-at (p ∷ ps) (x ∷ xs) zero d k e l = refl
@@ -83,14 +95,18 @@ unfolding with_path
 with_path-new xs p e = sym (ap (λ b. cond b xs (xs ++ p ∷ [])) e)
 
 module _ (xs : List (List ℕ)) (p : List ℕ) where
-  found_still : (q : List ℕ) (k : ℕ) (b : Bool) → bytes_eq p q ≡ b → place_in xs p ≡ None → place_in xs q ≡ Some k → cond b (Some (length xs)) (place_in xs q) ≡ Some k
-  found_still q k true e none h = let z : None ≡ Some k = sym none ∙ ap (place_in xs) ((bytes_eq-Decides p q).0 e) ∙ h in cc
+  found_still : (q : List ℕ) (k : ℕ) (b : Bool) → bytes_eq p q ≡ b → place_in xs p ≡ None → place_in xs q ≡ Some k
+      → cond b (Some (length xs)) (place_in xs q) ≡ Some k
+  found_still q k true e none h = let z : None ≡ Some k = sym none ∙ ap (place_in xs) ((bytes_eq-Decides p q).0 e)
+      ∙ h in cc
   found_still q k false e none h = h
 
-  found_in : (q : List ℕ) (k : ℕ) (b : Bool) → is_some (place_in xs p) ≡ b → place_in xs q ≡ Some k → place_in (with_path xs p) q ≡ Some k
+  found_in : (q : List ℕ) (k : ℕ) (b : Bool) → is_some (place_in xs p) ≡ b → place_in xs q ≡ Some k
+      → place_in (with_path xs p) q ≡ Some k
   found_in q k true e h = ap (λ ys. place_in ys q) (sym (with_path-old xs p e)) ∙ h
   found_in q k false e h =
-      ap (λ ys. place_in ys q) (sym (with_path-new xs p e)) ∙ place_last xs p q (no_place xs p e) ∙ found_still q k (bytes_eq p q) refl (no_place xs p e) h
+      ap (λ ys. place_in ys q) (sym (with_path-new xs p e)) ∙ place_last xs p q (no_place xs p e)
+      ∙ found_still q k (bytes_eq p q) refl (no_place xs p e) h
 
   -- a path keeps its place
   pub keeps_place : (q : List ℕ) (k : ℕ) → place_in xs q ≡ Some k → place_in (with_path xs p) q ≡ Some k
@@ -106,7 +122,8 @@ below_length (Some j) k n m e is h = let z : k ≡ j = cc in omega arith
 abbrev pub one_answer : List Answer → List ℕ → Kept → List Answer
 one_answer old p kept = old ++ record { path = p; kept = kept } ∷ []
 
-counted_at : (b : Bool) (n u before after : ℕ) → before ≡ more n u → after ≡ cond b (one_more before) before → after ≡ more n (u + cond b 1 0)
+counted_at : (b : Bool) (n u before after : ℕ) → before ≡ more n u → after ≡ cond b (one_more before) before
+    → after ≡ more n (u + cond b 1 0)
 unfolding more
 counted_at true n u before after e f = f ∙ ap one_more e ∙ ap (more n) (let s : suc u ≡ u + 1 = omega arith in s)
 counted_at false n u before after e f = f ∙ e ∙ ap (more n) (let s : u ≡ u + 0 = omega arith in s)
@@ -116,50 +133,76 @@ never_some None h = refl
 never_some (Some k) h = absurd (h k refl)
 
 -- where the search that puts a path in found no place, it has none
-pub not_placed : (xs : List (List ℕ)) (p : List ℕ) (found old : Option ℕ) → old ≡ place_in xs p → found ≡ old → ((k : ℕ) → found ≡ Some k → ⊥) → place_in xs p ≡ None
+pub not_placed : (xs : List (List ℕ)) (p : List ℕ) (found old : Option ℕ) → old ≡ place_in xs p → found ≡ old
+    → ((k : ℕ) → found ≡ Some k → ⊥) → place_in xs p ≡ None
 not_placed xs p found old is e never = sym is ∙ sym e ∙ never_some found never
 
 -- a path that is new has the place behind the others
-pub new_place : (xs ys : List (List ℕ)) (p : List ℕ) (at : ℕ) → place_in xs p ≡ None → ys ≡ xs ++ p ∷ [] → at ≡ length xs → place_in ys p ≡ Some at
+pub new_place : (xs ys : List (List ℕ)) (p : List ℕ) (at : ℕ) → place_in xs p ≡ None → ys ≡ xs ++ p ∷ []
+    → at ≡ length xs → place_in ys p ≡ Some at
 new_place xs ys p at none pushed is =
     let itself : bytes_eq p p ≡ true = (bytes_eq-Decides p p).1 refl in
-    ap (λ zs. place_in zs p) pushed ∙ place_last xs p p none ∙ ap (λ b. cond b (Some (length xs)) (place_in xs p)) itself ∙ ap (λ k. Some k) (sym is)
+    ap (λ zs. place_in zs p) pushed ∙ place_last xs p p none
+    ∙ ap (λ b. cond b (Some (length xs)) (place_in xs p)) itself ∙ ap (λ k. Some k) (sym is)
 
 -- the paths and what is kept of them, with one of each more
-module _ (ps qs : List (List ℕ)) (ks ms : List Kept) (p : List ℕ) (kept : Kept) (even : length ps ≡ length ks) (pathed : qs ≡ ps ++ p ∷ []) (pushed : ms ≡ ks ++ kept ∷ []) (old : List Answer) (view : answers_with ps ks ≡ old) where
+module _ (ps qs : List (List ℕ)) (ks ms : List Kept) (p : List ℕ) (kept : Kept) (even : length ps ≡ length ks)
+    (pathed : qs ≡ ps ++ p ∷ []) (pushed : ms ≡ ks ++ kept ∷ []) (old : List Answer)
+    (view : answers_with ps ks ≡ old) where
   pub still_even : length qs ≡ length ms
-  still_even = omega (arith, ap length pathed, ap (length {A = Kept}) pushed, length-append ps (p ∷ []), length-append {A = Kept} ks (kept ∷ []))
+  still_even = omega (
+    arith,
+    ap length pathed,
+    ap (length {A = Kept}) pushed,
+    length-append ps (p ∷ []),
+    length-append
+        {A = Kept} ks (kept ∷ []),
+  )
 
   grown : answers_with qs ms ≡ one_answer old p kept
-  grown = (λ i. answers_with (pathed i) (pushed i)) ∙ with-push ps ks p kept even ∙ ap (λ (l : List Answer). one_answer l p kept) view
+  grown = (λ i. answers_with (pathed i) (pushed i)) ∙ with-push ps ks p kept even
+      ∙ ap (λ (l : List Answer). one_answer l p kept) view
 
   pub asked_paths : place_in ps p ≡ None → paths_of (answers_with qs ms) ≡ with_path (paths_of old) p
   asked_paths none =
       let same_paths : paths_of old ≡ ps = ap paths_of (sym view) ∙ paths-with ps ks even in
-      ap paths_of grown ∙ map-append (λ (x : Answer). x.path) old (record { path = p; kept = kept } ∷ []) ∙ with_path-new (paths_of old) p (ap is_some (ap (λ l. place_in l p) same_paths ∙ none))
+      ap paths_of grown ∙ map-append (λ (x : Answer). x.path) old (record { path = p; kept = kept } ∷ [])
+      ∙ with_path-new (paths_of old) p (ap is_some (ap (λ l. place_in l p) same_paths ∙ none))
 
-  pub asked_place : (at : ℕ) → place_in ps p ≡ None → at ≡ length ks → place_in (paths_of (answers_with qs ms)) p ≡ Some at
-  asked_place at none is = new_place ps (paths_of (answers_with qs ms)) p at none (paths-with qs ms still_even ∙ pathed) (is ∙ sym even)
+  pub asked_place : (at : ℕ) → place_in ps p ≡ None → at ≡ length ks
+      → place_in (paths_of (answers_with qs ms)) p ≡ Some at
+  asked_place at none is =
+      new_place ps (paths_of (answers_with qs ms)) p at none (paths-with qs ms still_even ∙ pathed) (is ∙ sym even)
 
-  pub asked_kept : (known : Option FileContents) → IsKeptOf known p kept → AreKept known old → AreKept known (answers_with qs ms)
-  asked_kept known is before = subst (AreKept known) (sym grown) (All-push (λ (x : Answer). IsKeptOf known x.path x.kept) old (record { path = p; kept = kept }) before is)
+  pub asked_kept : (known : Option FileContents) → IsKeptOf known p kept → AreKept known old
+      → AreKept known (answers_with qs ms)
+  asked_kept known is before = subst (AreKept known) (sym grown)
+      (All-push (λ (x : Answer). IsKeptOf known x.path x.kept) old (record { path = p; kept = kept }) before is)
 
-  pub asked_faults : (n before after : ℕ) → before ≡ more n (unreadables old) → after ≡ faults_with kept before → after ≡ more n (unreadables (answers_with qs ms))
+  pub asked_faults : (n before after : ℕ) → before ≡ more n (unreadables old) → after ≡ faults_with kept before
+      → after ≡ more n (unreadables (answers_with qs ms))
   asked_faults n before after b f =
       let more_one : unreadables (one_answer old p kept) ≡ unreadables old + cond (is_unreadable kept) 1 0 =
-      sum_by-append (λ (x : Answer). cond (is_unreadable x.kept) 1 0) old (record { path = p; kept = kept } ∷ []) ∙ ap (λ k. unreadables old + k) (let z : 0 + cond (is_unreadable kept) 1 0 ≡ cond (is_unreadable kept) 1 0 = omega arith in z) in
-      counted_at (is_unreadable kept) n (unreadables old) before after b f ∙ ap (more n) (sym more_one ∙ sym (ap unreadables grown))
+      sum_by-append (λ (x : Answer). cond (is_unreadable x.kept) 1 0) old (record { path = p; kept = kept } ∷ [])
+      ∙ ap (λ k. unreadables old + k)
+      (let z : 0 + cond (is_unreadable kept) 1 0 ≡ cond (is_unreadable kept) 1 0 = omega arith in z) in
+      counted_at (is_unreadable kept) n (unreadables old) before after b f
+      ∙ ap (more n) (sym more_one ∙ sym (ap unreadables grown))
 
 -- ---- the places of a job's answers
 
-with_reference-place : (xs : List (List ℕ)) (o : Option (List ℕ)) (q : List ℕ) (k : ℕ) → place_in xs q ≡ Some k → place_in (with_reference xs o) q ≡ Some k
+with_reference-place : (xs : List (List ℕ)) (o : Option (List ℕ)) (q : List ℕ) (k : ℕ) → place_in xs q ≡ Some k
+    → place_in (with_reference xs o) q ≡ Some k
 with_reference-place xs None q k h = h
 with_reference-place xs (Some p) q k h = keeps_place xs p q k h
 
-with_job-place : (xs : List (List ℕ)) (j : Job) (q : List ℕ) (k : ℕ) → place_in xs q ≡ Some k → place_in (with_job xs j) q ≡ Some k
-with_job-place xs j q k h = with_reference-place (with_path xs j.image) j.expect_signature q k (keeps_place xs j.image q k h)
+with_job-place : (xs : List (List ℕ)) (j : Job) (q : List ℕ) (k : ℕ) → place_in xs q ≡ Some k
+    → place_in (with_job xs j) q ≡ Some k
+with_job-place xs j q k h =
+    with_reference-place (with_path xs j.image) j.expect_signature q k (keeps_place xs j.image q k h)
 
-reference_later : (xs ys : List (List ℕ)) → ((q : List ℕ) (k : ℕ) → place_in xs q ≡ Some k → place_in ys q ≡ Some k) → (o : Option (List ℕ)) (r : Option ℕ)
+reference_later : (xs ys : List (List ℕ)) → ((q : List ℕ) (k : ℕ) → place_in xs q ≡ Some k → place_in ys q ≡ Some k)
+    → (o : Option (List ℕ)) (r : Option ℕ)
     → option_map (place_in xs) o ≡ option_map (λ k. Some k) r → option_map (place_in ys) o ≡ option_map (λ k. Some k) r
 reference_later xs ys still None None e = refl
 reference_later xs ys still None (Some k) e = cc
@@ -167,13 +210,16 @@ reference_later xs ys still (Some q) None e = cc
 reference_later xs ys still (Some q) (Some k) e = let h : place_in xs q ≡ Some k = cc in ap (λ o. Some o) (still q k h)
 
 -- the answers of one job more leave the places of a job as they are
-pub placed_later : (xs : List (List ℕ)) (other job : Job) (at : Places) → ArePlaced xs job at → ArePlaced (with_job xs other) job at
+pub placed_later : (xs : List (List ℕ)) (other job : Job) (at : Places) → ArePlaced xs job at
+    → ArePlaced (with_job xs other) job at
 placed_later xs other job at h = record {
   image = with_job-place xs other job.image at.image h.image;
-  reference = reference_later xs (with_job xs other) (with_job-place xs other) job.expect_signature at.reference h.reference;
+  reference =
+      reference_later xs (with_job xs other) (with_job-place xs other) job.expect_signature at.reference h.reference;
 }
 
-pub placed_both : (xs ys : List (List ℕ)) (job : Job) (image place : ℕ) (p q : List ℕ) → p ≡ job.image → place_in xs p ≡ Some image → job.expect_signature ≡ Some q → ys ≡ with_path xs q → place_in ys q ≡ Some place
+pub placed_both : (xs ys : List (List ℕ)) (job : Job) (image place : ℕ) (p q : List ℕ) → p ≡ job.image
+    → place_in xs p ≡ Some image → job.expect_signature ≡ Some q → ys ≡ with_path xs q → place_in ys q ≡ Some place
     → ArePlaced ys job (record { image = image; reference = Some place })
 placed_both xs ys job image place p q is found has grown there = record {
   image = ap (λ zs. place_in zs job.image) grown ∙ keeps_place xs q job.image image (ap (place_in xs) (sym is) ∙ found);
@@ -181,18 +227,23 @@ placed_both xs ys job image place p q is found has grown there = record {
 }
 
 -- a job more
-pub placed_more : (all js : List Job) (ps new : List Places) (x : Places) (xs ys : List (List ℕ)) (n : ℕ) (j : Job) → all ≡ js → n < length all → j ≡ get_or all n j → length ps ≡ n → new ≡ ps ++ x ∷ [] → ys ≡ with_job xs j → ArePlaced ys j x
+pub placed_more : (all js : List Job) (ps new : List Places) (x : Places) (xs ys : List (List ℕ)) (n : ℕ) (j : Job)
+    → all ≡ js → n < length all → j ≡ get_or all n j → length ps ≡ n → new ≡ ps ++ x ∷ [] → ys ≡ with_job xs j
+    → ArePlaced ys j x
     → ((i : ℕ) (d : Job) (e : Places) → i < n → ArePlaced xs (get_or js i d) (get_or ps i e))
     → (i : ℕ) (d : Job) (e : Places) → i < n + 1 → ArePlaced ys (get_or js i d) (get_or new i e)
 placed_more all js ps new x xs ys n j same low is many pushed grown mine before i d e h = elim (cases_lt i n) [
   | inl below ↦
       let inside : i < length ps = omega arith in
-      rw (pushed, get_or-append ps (x ∷ []) e i inside) (subst (λ zs. ArePlaced zs (get_or js i d) (get_or ps i e)) (sym grown) (placed_later xs j (get_or js i d) (get_or ps i e) (before i d e below)))
+      rw (pushed, get_or-append ps (x ∷ []) e i inside)
+      (subst (λ zs. ArePlaced zs (get_or js i d) (get_or ps i e)) (sym grown)
+      (placed_later xs j (get_or js i d) (get_or ps i e) (before i d e below)))
   | inr past ↦
       let at : n ≡ i = omega arith in
       let last : x ≡ get_or new i e = sym (ap (λ l. get_or l i e) pushed ∙ get_or_push ps x e i (many ∙ at)) in
       let inside : i < length js = subst (λ l. i < length l) same (omega arith) in
-      let job : j ≡ get_or js i d = is ∙ ap (λ k. get_or all k j) at ∙ ap (λ l. get_or l i j) same ∙ get_or_default js i j d inside in
+      let job : j ≡ get_or js i d = is ∙ ap (λ k. get_or all k j) at ∙ ap (λ l. get_or l i j) same
+      ∙ get_or_default js i j d inside in
       subst (λ z. ArePlaced ys (get_or js i d) z) last (subst (λ z. ArePlaced ys z x) job mine)
 ]
 
@@ -206,29 +257,37 @@ job_there (j ∷ js) (suc i) l = job_there js i (omega arith)
 place_within : (xs : List (List ℕ)) (q : List ℕ) (k n : ℕ) → length xs ≡ n → place_in xs q ≡ Some k → k < n
 place_within xs q k n e is = below_length (place_in xs q) k (length xs) n e (sym is) (place_below xs q)
 
-kept_there : (ps : List (List ℕ)) (ks : List Kept) (q : List ℕ) (k : ℕ) (x : Kept) → length ps ≡ length ks → place_in ps q ≡ Some k → x ≡ get_or ks k x → kept_of (answers_with ps ks) q ≡ Some x
+kept_there : (ps : List (List ℕ)) (ks : List Kept) (q : List ℕ) (k : ℕ) (x : Kept) → length ps ≡ length ks
+    → place_in ps q ≡ Some k → x ≡ get_or ks k x → kept_of (answers_with ps ks) q ≡ Some x
 kept_there ps ks q k x even found is =
     let d : Answer = record { path = q; kept = x } in
-    kept_at (answers_with ps ks) q k d (ap (λ l. place_in l q) (paths-with ps ks even) ∙ found) ∙ ap (λ (y : Kept). Some y) (with-at ps ks k d x even (place_within ps q k (length ks) even found) ∙ sym is)
+    kept_at (answers_with ps ks) q k d (ap (λ l. place_in l q) (paths-with ps ks even) ∙ found)
+    ∙ ap (λ (y : Kept). Some y) (with-at ps ks k d x even (place_within ps q k (length ks) even found) ∙ sym is)
 
 -- the place of a reference, where the job has one
-reference_at : (paths : List (List ℕ)) (o : Option (List ℕ)) (r : Option ℕ) (k : ℕ) → option_map (place_in paths) o ≡ option_map (λ k. Some k) r → r ≡ Some k → (q : List ℕ) × (o ≡ Some q) × (place_in paths q ≡ Some k)
+reference_at : (paths : List (List ℕ)) (o : Option (List ℕ)) (r : Option ℕ) (k : ℕ)
+    → option_map (place_in paths) o ≡ option_map (λ k. Some k) r → r ≡ Some k → (q : List ℕ) × (o ≡ Some q)
+    × (place_in paths q ≡ Some k)
 reference_at paths None None k e is = cc
 reference_at paths None (Some j) k e is = cc
 reference_at paths (Some q) None k e is = cc
 reference_at paths (Some q) (Some j) k e is = let h : place_in paths q ≡ Some j = cc in (q, refl, h ∙ is)
 
-no_reference : (paths : List (List ℕ)) (o : Option (List ℕ)) (r : Option ℕ) → option_map (place_in paths) o ≡ option_map (λ k. Some k) r → r ≡ None → o ≡ None
+no_reference : (paths : List (List ℕ)) (o : Option (List ℕ)) (r : Option ℕ)
+    → option_map (place_in paths) o ≡ option_map (λ k. Some k) r → r ≡ None → o ≡ None
 no_reference paths None r e is = refl
 no_reference paths (Some q) None e is = cc
 no_reference paths (Some q) (Some j) e is = cc
 
-module _ (js : List Job) (ks : List Kept) (even : length (paths_used js) ≡ length ks) (i : ℕ) (d e : Job) (at : Places) (l : i < length js) (placed : ArePlaced (paths_used js) (get_or js i e) at) where
+module _ (js : List Job) (ks : List Kept) (even : length (paths_used js) ≡ length ks) (i : ℕ) (d e : Job) (at : Places)
+    (l : i < length js) (placed : ArePlaced (paths_used js) (get_or js i e) at) where
   pub image_below : at.image < length ks
   image_below = place_within (paths_used js) (get_or js i e).image at.image (length ks) even placed.image
 
-  pub image_found : (x : Kept) → x ≡ get_or ks at.image x → kept_of (answers_with (paths_used js) ks) (get_or js i d).image ≡ Some x
-  image_found x is = ap (λ (j : Job). kept_of (answers_with (paths_used js) ks) j.image) (get_or_default js i d e l) ∙ kept_there (paths_used js) ks (get_or js i e).image at.image x even placed.image is
+  pub image_found : (x : Kept) → x ≡ get_or ks at.image x
+      → kept_of (answers_with (paths_used js) ks) (get_or js i d).image ≡ Some x
+  image_found x is = ap (λ (j : Job). kept_of (answers_with (paths_used js) ks) j.image) (get_or_default js i d e l)
+      ∙ kept_there (paths_used js) ks (get_or js i e).image at.image x even placed.image is
 
   pub reference_below : (k : ℕ) → at.reference ≡ Some k → k < length ks
   reference_below k is =
@@ -240,13 +299,17 @@ module _ (js : List Job) (ks : List Kept) (even : length (paths_used js) ≡ len
       let t = reference_at (paths_used js) (get_or js i e).expect_signature at.reference k placed.reference is in
       sym (ap (λ (j : Job). is_some j.expect_signature) (get_or_default js i d e l) ∙ ap is_some t.1)
 
-  pub reference_found : (k : ℕ) (x : Kept) → at.reference ≡ Some k → x ≡ get_or ks k x → Some x ≡ reference_kept (answers_with (paths_used js) ks) (get_or js i d)
+  pub reference_found : (k : ℕ) (x : Kept) → at.reference ≡ Some k → x ≡ get_or ks k x
+      → Some x ≡ reference_kept (answers_with (paths_used js) ks) (get_or js i d)
   reference_found k x is there =
       let t = reference_at (paths_used js) (get_or js i e).expect_signature at.reference k placed.reference is in
-      sym (ap (reference_kept (answers_with (paths_used js) ks)) (get_or_default js i d e l) ∙ ap (option_and_then (kept_of (answers_with (paths_used js) ks))) t.1 ∙ kept_there (paths_used js) ks t.0 k x even t.2 there)
+      sym (ap (reference_kept (answers_with (paths_used js) ks)) (get_or_default js i d e l)
+      ∙ ap (option_and_then (kept_of (answers_with (paths_used js) ks))) t.1
+      ∙ kept_there (paths_used js) ks t.0 k x even t.2 there)
 
   pub reference_none : at.reference ≡ None → (get_or js i d).expect_signature ≡ None
-  reference_none is = ap (λ (j : Job). j.expect_signature) (get_or_default js i d e l) ∙ no_reference (paths_used js) (get_or js i e).expect_signature at.reference placed.reference is
+  reference_none is = ap (λ (j : Job). j.expect_signature) (get_or_default js i d e l)
+      ∙ no_reference (paths_used js) (get_or js i e).expect_signature at.reference placed.reference is
 
 -- ---- the loop over jobs
 
@@ -262,7 +325,11 @@ pub paths_whole : (js : List Job) (n : ℕ) → n ≡ length js → fold with_jo
 unfolding paths_used
 paths_whole js n e = ap (fold with_job []) (ap (λ k. take k js) e ∙ take-length js)
 
-pub paths_more : (js all : List Job) (i : ℕ) (j : Job) (ps qs : List (List ℕ)) → all ≡ js → i < length all → j ≡ get_or all i j → ps ≡ fold with_job [] (take i js) → qs ≡ with_job ps j → qs ≡ fold with_job [] (take (i + 1) js)
+pub paths_more : (js all : List Job) (i : ℕ) (j : Job) (ps qs : List (List ℕ)) → all ≡ js → i < length all
+    → j ≡ get_or all i j → ps ≡ fold with_job [] (take i js) → qs ≡ with_job ps j
+    → qs ≡ fold with_job [] (take (i + 1) js)
 paths_more js all i j ps qs same l is before after =
     let inside : i < length js = subst (λ (x : List Job). i < length x) same l in
-    after ∙ ap (λ x. with_job x j) before ∙ ap (with_job (fold with_job [] (take i js))) (is ∙ ap (λ x. get_or x i j) same) ∙ sym (fold_more with_job [] js i j inside)
+    after ∙ ap (λ x. with_job x j) before
+    ∙ ap (with_job (fold with_job [] (take i js))) (is ∙ ap (λ x. get_or x i j) same)
+    ∙ sym (fold_more with_job [] js i j inside)

@@ -17,4 +17,5 @@ answers_of a = answers_with (paths_in a) a.answers.items
 
 pub record IsAnswersInside (a : Inside) : Type 0 where
   pub even : length (paths_in a) ≡ length a.answers.items
-  pub places : (t : List ℕ) → get_by (λ k. slice_cmp nat_cmp t k.now) a.places ≡ place_in (paths_in a) t
+  pub places : (t : List ℕ)
+      → get_by (λ k. slice_cmp nat_cmp t k.now) a.places ≡ place_in (paths_in a) t

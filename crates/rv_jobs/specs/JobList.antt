@@ -1,9 +1,11 @@
--- The list of jobs that a document stands for, or the job and its fault: the keys of a job in the order of their faults.
+-- The list of jobs that a document stands for, or the job and its fault: the keys of a job in the
+-- order of their faults.
 use Rattle.std.specs.Prelude.{◌+◌, ◌==◌, ℕ, ℤ, pos, negsuc, Bool, true, false, not, ◌&&◌, ◌||◌}
 use Rattle.std.specs.Prelude.{List, [], ◌∷◌, ◌++◌, length, Option, Some, None, Result, Ok, Err}
 use Rattle.std.specs.Prelude.{codes, option_and_then, option_map, is_some, unwrap_or, if◌then◌else◌}
 use Rattle.std.specs.Prelude.{nat_le, nat_lt, map}
-use Rattle.std.specs.List.{list_all}
+use Rattle.std.specs.Char.{is_ascii_alphanumeric}
+use Rattle.std.specs.List.{list_all, list_any}
 use Rattle.std.specs.Str.{bytes_eq, is_utf8}
 use Rattle.toml.specs.Parse.{parse_document}
 use Rattle.toml.specs.Data.{Data, Items, no_items, item, Members, table, array, get_member}
@@ -24,6 +26,7 @@ use Rattle.rv_jobs.specs.declared.error.What.TheVariants as what
 use Rattle.rv_jobs.specs.declared.error.JobError.{JobError}
 use Rattle.rv_jobs.specs.declared.job.Job.{Job}
 use Rattle.rv_jobs.specs.declared.job.Symbols.{Symbols}
+use Rattle.rv_jobs.specs.declared.limits.TheConstants.{MOST_BUDGET, MOST_NAME, MOST_SYMBOL}
 use Rattle.rv_jobs.specs.Jobs.{most_jobs, most_path, most_script, default_regions}
 use Rattle.rv_jobs.specs.Reading.{◌>>=◌, unless, passing, or_else, numbered}
 use Rattle.rv_jobs.specs.Keys.{any_unknown_key, is_list_key, count_of, text_at, number_at, truth_at}
@@ -34,12 +37,12 @@ use Rattle.rv_jobs.specs.Keys.{array_at, has_wrong_kind, has_unknown_key}
 abbrev pub is_within : ℕ → ℕ → ℕ → Bool
 is_within low high n = nat_le low n && nat_le n high
 
--- a letter, a digit, or one of `.`, `_` and `-`
+-- an ASCII letter or digit, or one of `.`, `_` and `-`
 unfoldable pub is_name_byte : ℕ → Bool
-is_name_byte c = is_within 97 122 c || (is_within 65 90 c || (is_within 48 57 c || ((c == 46) || ((c == 95) || (c == 45)))))
+is_name_byte c = is_ascii_alphanumeric c || list_any (λ b. c == b) (codes "._-")
 
 unfoldable pub is_name : List ℕ → Bool
-is_name t = is_within 1 64 (length t) && list_all is_name_byte t
+is_name t = is_within 1 MOST_NAME (length t) && list_all is_name_byte t
 
 abbrev pub is_path : List ℕ → Bool
 is_path t = is_within 1 most_path (length t)
@@ -60,7 +63,8 @@ required f fault None = Err fault
 required f fault (Some x) = f x
 
 unfoldable pub budget_in : Members → Result ℕ What
-budget_in ms = required (number_within 1 1000000000 what.Budget) what.Budget (number_at (codes "budget") ms)
+budget_in ms =
+    required (number_within 1 MOST_BUDGET what.Budget) what.Budget (number_at (codes "budget") ms)
 
 -- ---- the script
 
@@ -117,16 +121,18 @@ regions_in ms = or_else map_of default_regions (array_at (codes "region") ms)
 -- ---- where the image is loaded
 
 abbrev pub load_of : List ℕ → Result LoadAt What
-load_of t = if bytes_eq t (codes "physical") then Ok Physical else (if bytes_eq t (codes "virtual") then Ok Virtual else Err what.Load)
+load_of t = if bytes_eq t (codes "physical") then Ok Physical
+    else if bytes_eq t (codes "virtual") then Ok Virtual
+    else Err what.Load
 
 unfoldable pub load_in : Members → Result LoadAt What
 load_in ms = or_else load_of Physical (text_at (codes "load") ms)
 
 -- ---- the signature
 
--- 1 to 255 bytes, none of them 0
+-- not empty, not too long, and without a zero byte
 unfoldable pub is_symbol : List ℕ → Bool
-is_symbol t = is_within 1 255 (length t) && list_all (λ b. not (b == 0)) t
+is_symbol t = is_within 1 MOST_SYMBOL (length t) && list_all (λ b. not (b == 0)) t
 
 abbrev pub symbol_in : ℕ → Items → Result (List ℕ) What
 symbol_in n ds = passing is_symbol what.Signature (option_and_then as_str (get_item n ds))
@@ -178,14 +184,19 @@ same_in earlier ms = or_else (same_of earlier) None (text_at (codes "same_as") m
 -- ---- the hart
 
 abbrev pub isa_of : List ℕ → Result Isa What
-isa_of t = if bytes_eq t (codes "rv32i") then Ok isa.I else (if bytes_eq t (codes "rv32im") then Ok isa.Im
-    else (if bytes_eq t (codes "rv32ic") then Ok isa.Ic else (if bytes_eq t (codes "rv32imc") then Ok isa.Imc else Err what.Isa)))
+isa_of t = if bytes_eq t (codes "rv32i") then Ok isa.I
+    else if bytes_eq t (codes "rv32im") then Ok isa.Im
+    else if bytes_eq t (codes "rv32ic") then Ok isa.Ic
+    else if bytes_eq t (codes "rv32imc") then Ok isa.Imc
+    else Err what.Isa
 
 unfoldable pub isa_in : Members → Result Isa What
 isa_in ms = or_else isa_of isa.Imc (text_at (codes "isa") ms)
 
 abbrev pub misaligned_of : List ℕ → Result Choice What
-misaligned_of t = if bytes_eq t (codes "fault") then Ok Fault else (if bytes_eq t (codes "allow") then Ok Allow else Err what.Misaligned)
+misaligned_of t = if bytes_eq t (codes "fault") then Ok Fault
+    else if bytes_eq t (codes "allow") then Ok Allow
+    else Err what.Misaligned
 
 unfoldable pub misaligned_in : Members → Result Choice What
 misaligned_in ms = or_else misaligned_of Fault (text_at (codes "misaligned") ms)
@@ -231,7 +242,8 @@ element_in earlier _ = Err what.WrongType
 
 -- ---- the whole list
 
--- the jobs of the elements, of which the first has the number n, or the first bad one with its fault
+-- the jobs of the elements, of which the first has the number n, or the first bad one with its
+-- fault
 unfoldable pub jobs_from : ℕ → List (List ℕ) → Items → Result (List Job) JobError
 jobs_from n earlier no_items = Ok []
 jobs_from n earlier (item d ds) = do

@@ -6,22 +6,24 @@ use Rattle.rv_memory.specs.declared.map.Region.{Region}
 use Rattle.rv_memory.specs.declared.access.Misaligned.TheVariants.{Fault}
 use Rattle.rv_elf.specs.declared.loading.LoadAt.TheVariants.{Physical}
 use Rattle.rv_jobs.specs.declared.job.Job.{Job}
+use Rattle.rv_jobs.specs.declared.limits.TheConstants.{MOST_JOBS, MOST_PATH, MOST_SCRIPT}
 
--- the most jobs of a list, bytes of a path, and bytes of a script
+-- the most jobs of a list, bytes of a path, and bytes of a script: the limits of the code
 abbrev pub most_jobs : ℕ
-most_jobs = 4096
+most_jobs = MOST_JOBS
 
 abbrev pub most_path : ℕ
-most_path = 4096
+most_path = MOST_PATH
 
 abbrev pub most_script : ℕ
-most_script = 0x1_0000
+most_script = MOST_SCRIPT
 
 -- the regions of a job without any of its own
 abbrev pub default_regions : List Region
 default_regions = record { base = 0x8000_0000; size = 0x10_0000; writable = true } ∷ []
 
--- the job at a place of a list: its script fits a bus, its symbols have names, and it names an earlier job if any
+-- the job at a place of a list: its script fits a bus, its symbols have names, and it names an
+-- earlier job if any
 pub record IsJob (at : ℕ) (job : Job) : Type 0 where
   pub script : length job.script ≤ most_script
   pub named : IfSome job.signature (λ s. (0 < length s.begin) × (0 < length s.end))

@@ -7,4 +7,5 @@ use Rattle.rv_jobs.specs.JobList.{place_in}
 -- these are the places of a job's paths among those
 pub record ArePlaced (paths : List (List ℕ)) (job : Job) (at : Places) : Type 0 where
   pub image : place_in paths job.image ≡ Some at.image
-  pub reference : option_map (place_in paths) job.expect_signature ≡ option_map (λ k. Some k) at.reference
+  pub reference :
+      option_map (place_in paths) job.expect_signature ≡ option_map (λ k. Some k) at.reference

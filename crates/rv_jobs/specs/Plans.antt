@@ -37,7 +37,8 @@ paths_used jobs = fold with_job [] jobs
 
 -- what is kept of a path
 abbrev pub kept_of : List Answer → List ℕ → Option Kept
-kept_of answers path = option_map (λ (a : Answer). a.kept) (find (λ (a : Answer). bytes_eq path a.path) answers)
+kept_of answers path =
+    option_map (λ (a : Answer). a.kept) (find (λ (a : Answer). bytes_eq path a.path) answers)
 
 -- every answer agrees with the contents, where the store tells them
 abbrev pub AreKept : Option FileContents → List Answer → Type 0

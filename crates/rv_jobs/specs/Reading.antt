@@ -1,4 +1,5 @@
--- Readings that may find a fault: one step after another, each only where the earlier ones found none.
+-- Readings that may find a fault: one step after another, each only where the earlier ones found
+-- none.
 use Rattle.std.specs.Prelude.{◌≡◌, ℕ, Bool, if◌then◌else◌, List, ◌++◌, Option, Some, None, Result}
 use Rattle.std.specs.Prelude.{Ok, Err, MatchResult}
 use Rattle.rv_jobs.specs.declared.error.What.{What}
@@ -19,11 +20,6 @@ unless b fault = if b then Err fault else Ok tt
 abbrev pub passing : {X : Type 0} → (X → Bool) → What → Option X → Result X What
 passing p fault None = Err fault
 passing p fault (Some x) = if p x then Ok x else Err fault
-
--- absent, or a value that passes; else the fault
-abbrev pub passing_if_there : {X : Type 0} → (X → Bool) → What → Option X → Result (Option X) What
-passing_if_there p fault None = Ok None
-passing_if_there p fault (Some x) = if p x then Ok (Some x) else Err fault
 
 -- what a reading makes of a value, or the value for none
 abbrev pub or_else : {X Y : Type 0} → (X → Result Y What) → Y → Option X → Result Y What

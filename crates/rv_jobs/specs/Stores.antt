@@ -1,6 +1,7 @@
 -- What files hold, what is kept of a path, and how faults are counted.
 use Rattle.std.specs.Prelude.{◌≡◌, ◌≤◌, ◌<◌, ◌+◌, ◌-◌, ◌^◌, ℕ, Bool, true, false, List, Option}
 use Rattle.std.specs.Prelude.{Some, IfSome, IsSomeAnd, length, min, if◌then◌else◌}
+use Rattle.rv_jobs.specs.declared.limits.TheConstants.{MOST_BYTES}
 use Rattle.rv_jobs.specs.declared.store.ReadError.{ReadError}
 use Rattle.rv_jobs.specs.declared.store.ReadError.TheVariants as error
 use Rattle.rv_jobs.specs.declared.store.Kept.{Kept}
@@ -8,7 +9,7 @@ use Rattle.rv_jobs.specs.declared.store.Kept.TheVariants.{Content, TooLong, Unre
 
 -- the most bytes of a file
 abbrev pub most_bytes : ℕ
-most_bytes = 0x100_0000
+most_bytes = MOST_BYTES
 
 -- the bytes that each path holds, if it holds some
 abbrev pub FileContents : Type 0
@@ -34,6 +35,8 @@ faults_with kept n = if is_unreadable kept then one_more n else n
 
 -- what is kept of a path agrees with the contents, where the store tells them
 abbrev pub IsKeptOf : Option FileContents → List ℕ → Kept → Type 0
-IsKeptOf known path (Content bytes) = (length bytes ≤ most_bytes) × IfSome known (λ files. files path ≡ Some bytes)
-IsKeptOf known path TooLong = IfSome known (λ files. IsSomeAnd (files path) (λ bytes. most_bytes < length bytes))
+IsKeptOf known path (Content bytes) =
+    (length bytes ≤ most_bytes) × IfSome known (λ files. files path ≡ Some bytes)
+IsKeptOf known path TooLong =
+    IfSome known (λ files. IsSomeAnd (files path) (λ bytes. most_bytes < length bytes))
 IsKeptOf known path Unreadable = Unit {0}

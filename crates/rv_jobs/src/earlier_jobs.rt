@@ -1,7 +1,7 @@
 //! The jobs of a list that are read so far, with the place of each name.
 
 ghost use Rattle.std.specs.Prelude.{◌≡◌, ◌<◌, ◌++◌, ◌∷◌, [], IfSome, IfOk, None, length};
-ghost use Rattle.rv_jobs.specs.Jobs.{IsJob};
+ghost use Rattle.rv_jobs.specs.Jobs.{IsJob, most_jobs};
 ghost use Rattle.rv_jobs.specs.JobList.{place_in, names_of};
 
 use crate::job::{Job, JobList};
@@ -52,7 +52,7 @@ impl EarlierJobs {
     pub(crate) fn with(self, alloc: Global, job: Job) -> Result<EarlierJobs, AllocError>
         requires fresh { place_in (names_of self) job.name ≡ None }
         requires good { IsJob (length self) job }
-        requires room { length self < 4096 }
+        requires room { length self < most_jobs }
         ensures { IfOk result (λ g. g ≡ self ++ job ∷ []) }
     {
         let EarlierJobs {

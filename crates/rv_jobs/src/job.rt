@@ -17,9 +17,10 @@ pub struct Symbols {
     pub end: Text,
 }
 
-/// A run of an image, and what is expected of it. The limits that the fields tell are those that [`read_jobs`](crate::read_jobs)
-/// asks of a list; what every [`JobList`] promises of its jobs is the script's length, that the names of a signature's symbols
-/// are not empty, and that `same_as` is the place of an earlier job.
+/// A run of an image, and what is expected of it. The limits that the fields tell are those that
+/// [`read_jobs`](crate::read_jobs) asks of a list; what every [`JobList`] promises of its jobs is the
+/// script's length, that the names of a signature's symbols are not empty, and that `same_as` is the
+/// place of an earlier job.
 #[derive(Drop)]
 pub struct Job {
     /// 1 to 64 ASCII letters, digits, `.`, `_` and `-`, which no other job of the list has.

@@ -19,6 +19,7 @@ use crate::error::What;
 use crate::job::Job;
 use crate::keys::{number_of, text_of};
 use crate::kinds::{has_unknown_key, has_wrong_kind};
+use crate::limits::{MOST_BUDGET, MOST_SCRIPT};
 use crate::regions::regions_of;
 use crate::signature::signature_of;
 use crate::text::{Bytes, Text};
@@ -124,7 +125,7 @@ fn budget_of(table: &Table) -> Result<u32, What>
 {
     match number_of(table, "budget") {
         Some(n) => {
-            if 1 <= n && n <= 1_000_000_000 {
+            if 1 <= n && n <= i64::from(MOST_BUDGET) {
                 Ok(n as u32)
             } else {
                 Err(What::Budget)
@@ -151,7 +152,7 @@ fn limited_copy(alloc: Global, bytes: &[u8]) -> Result<Bytes, What>
     ensures value { Gives result (limited bytes.now) }
     ensures short { IfOk result (λ s. length s ≤ most_script) }
 {
-    if bytes.len() <= 0x1_0000 {
+    if bytes.len() <= MOST_SCRIPT {
         Ok(Bytes::new(bytes.to_vec(alloc)?))
     } else {
         Err(What::Input)
@@ -164,7 +165,7 @@ fn limited_hex(alloc: Global, digits: &str) -> Result<Bytes, What>
 {
     match hex::decode(alloc, digits) {
         Ok(bytes) => {
-            if bytes.len() <= 0x1_0000 {
+            if bytes.len() <= MOST_SCRIPT {
                 Ok(Bytes::new(bytes))
             } else {
                 Err(What::Input)

@@ -13,6 +13,7 @@ mod job;
 mod job_keys;
 mod keys;
 mod kinds;
+pub mod limits;
 mod list;
 mod plan;
 mod regions;

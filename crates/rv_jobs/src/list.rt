@@ -14,6 +14,7 @@ use crate::error::{JobError, What};
 use crate::job::JobList;
 use crate::job_keys::element_of;
 use crate::keys::{has_unknown_list_key, value_of};
+use crate::limits::MOST_JOBS;
 use std::alloc::Global;
 use toml::value::Array;
 use toml::{Table, Value};
@@ -96,7 +97,7 @@ fn has_too_many(value: Option<&Value>) -> bool
 {
     match value {
         Some(value) => match value.as_array() {
-            Some(elements) => 4096 < elements.len(),
+            Some(elements) => MOST_JOBS < elements.len(),
             None => false,
         },
         None => false,

@@ -11,6 +11,7 @@ ghost use Rattle.rv_jobs.specs.JobList.{is_symbol, symbol_in, symbols_of, signat
 use crate::error::What;
 use crate::job::Symbols;
 use crate::keys::array_of;
+use crate::limits::MOST_SYMBOL;
 use crate::text::Text;
 use crate::texts::is_within;
 use std::alloc::Global;
@@ -70,7 +71,7 @@ fn text_at<'a>(values: &'a [Value], at: usize) -> Option<&'a str>
 fn is_symbol(text: &str) -> bool
     ensures { result ≡ is_symbol text.now }
 {
-    is_within(1, 255, text.len()) && has_no_zero(text)
+    is_within(1, MOST_SYMBOL, text.len()) && has_no_zero(text)
 }
 
 fn has_no_zero(text: &str) -> bool

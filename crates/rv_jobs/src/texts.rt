@@ -4,11 +4,13 @@ ghost use Rattle.std.specs.Prelude.{◌≡◌};
 ghost use Rattle.std.specs.List.{list_all};
 ghost use Rattle.rv_jobs.specs.JobList.{is_name, is_name_byte, is_path, is_within};
 
+use crate::limits::{MOST_NAME, MOST_PATH};
+
 #[tactic(auto, unfolding(crate::specs::JobList::is_name))]
 pub(crate) fn is_name(text: &str) -> bool
     ensures { result ≡ is_name text.now }
 {
-    is_within(1, 64, text.len()) && has_name_bytes(text)
+    is_within(1, MOST_NAME, text.len()) && has_name_bytes(text)
 }
 
 fn has_name_bytes(text: &str) -> bool
@@ -21,12 +23,7 @@ fn has_name_bytes(text: &str) -> bool
 fn is_name_byte(byte: u8) -> bool
     ensures { result ≡ is_name_byte byte }
 {
-    (b'a' <= byte && byte <= b'z')
-        || (b'A' <= byte && byte <= b'Z')
-        || (b'0' <= byte && byte <= b'9')
-        || byte == b'.'
-        || byte == b'_'
-        || byte == b'-'
+    byte.is_ascii_alphanumeric() || byte == b'.' || byte == b'_' || byte == b'-'
 }
 
 pub(crate) fn is_within(low: usize, high: usize, n: usize) -> bool
@@ -38,5 +35,5 @@ pub(crate) fn is_within(low: usize, high: usize, n: usize) -> bool
 pub(crate) fn is_path(text: &str) -> bool
     ensures { result ≡ is_path text.now }
 {
-    is_within(1, 4096, text.len())
+    is_within(1, MOST_PATH, text.len())
 }

@@ -6,5 +6,7 @@ use Rattle.rv_jobs.proofs.list.elements_of.Goals as goal
 
 pub returns-in-Some-as_array-clause-few : goal.returns-in-Some-as_array-clause-few
 returns-in-Some-as_array-clause-few c =
-    let below : has_too_many (Some (view c.in-Some.value.now)) ≡ false = sym (rw c.in-Some.is at c.if-has_too_many.ensures) in
-    rw c.in-Some-as_array.elements.now.ok.0 (few_items c.in-Some-as_array.elements.now.items (view c.in-Some.value.now) c.in-Some-as_array.ensures below)
+    let below : has_too_many (Some (view c.in-Some.value.now))
+    ≡ false = sym (rw c.in-Some.is at c.if-has_too_many.ensures) in
+    rw c.in-Some-as_array.elements.now.ok.0
+    (few_items c.in-Some-as_array.elements.now.items (view c.in-Some.value.now) c.in-Some-as_array.ensures below)

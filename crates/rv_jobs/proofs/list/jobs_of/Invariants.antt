@@ -5,4 +5,6 @@ use Rattle.rv_jobs.specs.JobList.{jobs_from, names_of}
 use Rattle.rv_jobs.proofs.list.jobs_of.Given as goal
 
 abbrev pub invariant-loop-at : goal.invariant-loop-at
-invariant-loop-at l = (with_front l.jobs (jobs_from (l.at + 1) (names_of l.jobs) (items_view (drop l.at l.elements))) ≡ jobs_from 1 [] (items_view l.elements)) × (length l.jobs ≡ l.at)
+invariant-loop-at l =
+    (with_front l.jobs (jobs_from (l.at + 1) (names_of l.jobs) (items_view (drop l.at l.elements)))
+    ≡ jobs_from 1 [] (items_view l.elements)) × (length l.jobs ≡ l.at)

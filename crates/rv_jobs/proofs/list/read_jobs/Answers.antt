@@ -5,8 +5,11 @@ use Rattle.rv_jobs.proofs.list.read_jobs.Goals as goal
 
 pub returns-in-Ok : goal.returns-in-Ok
 unfolding job_list_of
-returns-in-Ok c = rw (read_document c.args.bytes.now _ c.in-Ok.ensures.ok.0 c.in-Ok.ensures.ok.1) c.jobs_of_table.ensures
+returns-in-Ok c =
+    rw (read_document c.args.bytes.now _ c.in-Ok.ensures.ok.0 c.in-Ok.ensures.ok.1) c.jobs_of_table.ensures
 
 pub returns-else-is_memory : goal.returns-else-is_memory
 unfolding jobs_in job_list_of
-returns-else-is_memory c = λ _. rw (refused_document c.args.bytes.now (c.in-Err.ensures.refused (λ m. cc (c.if-is_memory.ensures.1 m)))) (ap (λ e. Err e) (sym c.list_error-in-Err.ensures))
+returns-else-is_memory c = λ _. rw
+    (refused_document c.args.bytes.now (c.in-Err.ensures.refused (λ m. cc (c.if-is_memory.ensures.1 m))))
+    (ap (λ e. Err e) (sym c.list_error-in-Err.ensures))

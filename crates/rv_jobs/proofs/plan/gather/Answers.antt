@@ -24,13 +24,17 @@ loop-job-preserved g c =
     let kept : AreKept (g.S.Store.contents c.loop-job.store) c.loop-job.asked = rw inv.same inv.kept in
     record {
       same = c.in_ok-more.ensures.same ∙ inv.same;
-      paths = paths_more c.args.jobs c.as_slice-job-items.result.now c.loop-job.job-index c.job-item.result (paths_of c.loop-job.asked) (paths_of c.in_ok-more.more) c.as_slice-job-items.ensures.value
+      paths = paths_more c.args.jobs c.as_slice-job-items.result.now c.loop-job.job-index c.job-item.result
+          (paths_of c.loop-job.asked) (paths_of c.in_ok-more.more) c.as_slice-job-items.ensures.value
           c.loop-job-test.true c.job-item.is inv.paths c.in_ok-more.ensures.paths;
       kept = rw inv.same at (c.in_ok-more.ensures.kept kept);
       faults = c.in_ok-more.ensures.faults (g.S.Store.faulted c.args.store.now) inv.faults;
       many = omega (arith, ap (length {A = Places}) c.in_ok-push.ensures.items, length-append {A = Places}, inv.many);
-      placed = placed_more c.as_slice-job-items.result.now c.args.jobs c.loop-job.places.items c.push.new.self.items c.in_ok-more.those (paths_of c.loop-job.asked) (paths_of c.in_ok-more.more) c.loop-job.job-index c.job-item.result
-          c.as_slice-job-items.ensures.value c.loop-job-test.true c.job-item.is inv.many c.in_ok-push.ensures.items c.in_ok-more.ensures.paths c.in_ok-more.ensures.places inv.placed;
+      placed = placed_more c.as_slice-job-items.result.now c.args.jobs c.loop-job.places.items c.push.new.self.items
+          c.in_ok-more.those (paths_of c.loop-job.asked) (paths_of c.in_ok-more.more) c.loop-job.job-index
+          c.job-item.result
+          c.as_slice-job-items.ensures.value c.loop-job-test.true c.job-item.is inv.many c.in_ok-push.ensures.items
+          c.in_ok-more.ensures.paths c.in_ok-more.ensures.places inv.placed;
     }
 
 pub invariant_of-result : goal.invariant_of-result
@@ -40,28 +44,38 @@ invariant_of-result g c =
     let used = c.loop-job.invariant.paths ∙ paths_whole c.args.jobs c.loop-job.job-index whole in
     record {
       jobs = c.as_slice-job-items.ensures.jobs;
-      even = sym (ap length used) ∙ length-map c.loop-job.asked (λ (a : Answer). a.path) ∙ sym (ap (length {A = Kept}) c.into_kept-answers.ensures ∙ length-map c.loop-job.asked (λ (a : Answer). a.kept));
+      even = sym (ap length used) ∙ length-map c.loop-job.asked (λ (a : Answer). a.path)
+          ∙ sym (ap (length {A = Kept}) c.into_kept-answers.ensures
+          ∙ length-map c.loop-job.asked (λ (a : Answer). a.kept));
       many = c.loop-job.invariant.many ∙ whole;
-      placed = λ i d e l. subst (λ xs. ArePlaced xs (get_or c.args.jobs i d) (get_or c.loop-job.places.items i e)) used (c.loop-job.invariant.placed i d e (omega arith));
+      placed = λ i d e l. subst (λ xs. ArePlaced xs (get_or c.args.jobs i d) (get_or c.loop-job.places.items i e)) used
+          (c.loop-job.invariant.placed i d e (omega arith));
     }
 
 -- the answers of the plan are those that were asked for
 pub returns-clause-paths : goal.returns-clause-paths
 returns-clause-paths g c =
     let all : c.loop-job.job-index ≡ length c.as_slice-job-items.result.now = omega arith in
-    let used = c.loop-job.invariant.paths ∙ paths_whole c.args.jobs c.loop-job.job-index (all ∙ ap length c.as_slice-job-items.ensures.value) in
-    ap paths_of (parts_whole c.loop-job.asked (paths_used c.args.jobs) c.into_kept-answers.result.items used c.into_kept-answers.ensures) ∙ used
+    let used = c.loop-job.invariant.paths
+    ∙ paths_whole c.args.jobs c.loop-job.job-index (all ∙ ap length c.as_slice-job-items.ensures.value) in
+    ap paths_of (parts_whole c.loop-job.asked (paths_used c.args.jobs) c.into_kept-answers.result.items used
+    c.into_kept-answers.ensures) ∙ used
 
 pub returns-clause-kept : goal.returns-clause-kept
 returns-clause-kept g c =
     let all : c.loop-job.job-index ≡ length c.as_slice-job-items.result.now = omega arith in
-    let used = c.loop-job.invariant.paths ∙ paths_whole c.args.jobs c.loop-job.job-index (all ∙ ap length c.as_slice-job-items.ensures.value) in
-    let same = parts_whole c.loop-job.asked (paths_used c.args.jobs) c.into_kept-answers.result.items used c.into_kept-answers.ensures in
+    let used = c.loop-job.invariant.paths
+    ∙ paths_whole c.args.jobs c.loop-job.job-index (all ∙ ap length c.as_slice-job-items.ensures.value) in
+    let same = parts_whole c.loop-job.asked (paths_used c.args.jobs) c.into_kept-answers.result.items used
+    c.into_kept-answers.ensures in
     subst (AreKept (g.S.Store.contents c.args.store.now)) (sym same) c.loop-job.invariant.kept
 
 pub returns-clause-faults : goal.returns-clause-faults
 returns-clause-faults g c =
     let all : c.loop-job.job-index ≡ length c.as_slice-job-items.result.now = omega arith in
-    let used = c.loop-job.invariant.paths ∙ paths_whole c.args.jobs c.loop-job.job-index (all ∙ ap length c.as_slice-job-items.ensures.value) in
-    let same = parts_whole c.loop-job.asked (paths_used c.args.jobs) c.into_kept-answers.result.items used c.into_kept-answers.ensures in
-    c.loop-job.invariant.faults ∙ ap (λ (a : List Answer). more (g.S.Store.faulted c.args.store.now) (unreadables a)) (sym same)
+    let used = c.loop-job.invariant.paths
+    ∙ paths_whole c.args.jobs c.loop-job.job-index (all ∙ ap length c.as_slice-job-items.ensures.value) in
+    let same = parts_whole c.loop-job.asked (paths_used c.args.jobs) c.into_kept-answers.result.items used
+    c.into_kept-answers.ensures in
+    c.loop-job.invariant.faults
+    ∙ ap (λ (a : List Answer). more (g.S.Store.faulted c.args.store.now) (unreadables a)) (sym same)

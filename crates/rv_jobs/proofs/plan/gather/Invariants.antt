@@ -13,5 +13,6 @@ invariant-loop-job g l = record {
   kept : AreKept (g.S.Store.contents l.initial.store) l.asked;
   faults : g.S.Store.faulted l.store ≡ more (g.S.Store.faulted l.initial.store) (unreadables l.asked);
   many : length l.places.items ≡ l.job-index;
-  placed : (i : ℕ) (d : Job) (e : Places) → i < l.job-index → ArePlaced (paths_of l.asked) (get_or l.fn.jobs i d) (get_or l.places.items i e);
+  placed : (i : ℕ) (d : Job) (e : Places) → i < l.job-index
+      → ArePlaced (paths_of l.asked) (get_or l.fn.jobs i d) (get_or l.places.items i e);
 }

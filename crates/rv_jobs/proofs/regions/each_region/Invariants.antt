@@ -5,4 +5,5 @@ use Rattle.rv_jobs.specs.JobList.{regions_from}
 use Rattle.rv_jobs.proofs.regions.each_region.Given as goal
 
 abbrev pub invariant-loop-element : goal.invariant-loop-element
-invariant-loop-element l = with_front l.regions.items (regions_from (items_view (drop l.element-index l.elements))) ≡ regions_from (items_view l.elements)
+invariant-loop-element l = with_front l.regions.items (regions_from (items_view (drop l.element-index l.elements)))
+    ≡ regions_from (items_view l.elements)

@@ -7,4 +7,6 @@ use Rattle.rv_jobs.proofs.signature.text_at.Goals as goal
 
 pub returns : goal.returns
 returns c =
-    c.as_str.ensures ∙ ap (option_and_then as_str) (ap (λ v. Some (view v)) c.index-values-at.is ∙ get_item_within c.args.values.now c.args.at c.index-values-at.result c.requires)
+    c.as_str.ensures ∙ ap (option_and_then as_str)
+    (ap (λ v. Some (view v)) c.index-values-at.is
+    ∙ get_item_within c.args.values.now c.args.at c.index-values-at.result c.requires)

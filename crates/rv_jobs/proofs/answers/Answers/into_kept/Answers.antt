@@ -5,4 +5,5 @@ use Rattle.rv_jobs.proofs.Answering.{kept-with}
 use Rattle.rv_jobs.proofs.answers.Answers.into_kept.Goals as goal
 
 pub returns : goal.returns
-returns c = kept-with (paths_in c.self.inside) c.self.inside.answers.items c.self.invariant.even ∙ ap (map (λ (a : Answer). a.kept)) c.self.view_is
+returns c = kept-with (paths_in c.self.inside) c.self.inside.answers.items c.self.invariant.even
+    ∙ ap (map (λ (a : Answer). a.kept)) c.self.view_is

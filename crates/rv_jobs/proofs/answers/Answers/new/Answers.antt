@@ -9,5 +9,6 @@ invariant_of-result c =
     let none = ap (map (λ (q : Bor (List ℕ)). q.now)) c.new-2.ensures.items in
     record {
       even = ap length none ∙ sym (ap (length {A = Kept}) c.new.ensures.items);
-      places = no_places c.new-3.result (map (λ (q : Bor (List ℕ)). q.now) c.new-2.result.items) c.new-3.ensures.empty none;
+      places =
+          no_places c.new-3.result (map (λ (q : Bor (List ℕ)). q.now) c.new-2.result.items) c.new-3.ensures.empty none;
     }

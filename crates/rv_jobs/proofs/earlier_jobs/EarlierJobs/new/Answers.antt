@@ -6,5 +6,6 @@ use Rattle.rv_jobs.proofs.earlier_jobs.EarlierJobs.new.Goals as goal
 pub invariant_of-result : goal.invariant_of-result
 invariant_of-result c = record {
   jobs = no_jobs_are c.new.result.items c.new.ensures.items;
-  places = none_placed c.new-2.result (names_of c.new.result.items) c.new-2.ensures.empty (ap names_of c.new.ensures.items);
+  places =
+      none_placed c.new-2.result (names_of c.new.result.items) c.new-2.ensures.empty (ap names_of c.new.ensures.items);
 }
