@@ -7,8 +7,8 @@ ghost use Rattle.rv_rows.specs.Flat.{flat_byte, flat_contents, flat_outcome_of, 
 
 use crate::attempt::run;
 use crate::outcome::{Outcome, refused};
+use crate::plan_rows::row_with;
 use crate::row::{Refusal, Row, Verdict};
-use crate::rows::row_with;
 use rv_isa::Isa;
 use rv_machine::Machine;
 use rv_memory::{Bus, Map, Misaligned};
