@@ -11,9 +11,9 @@ use Rattle.atomic_table.specs.Table.{State, step, keeps, stepped, opening, Allow
 use Rattle.atomic_table.proofs.Lists.{at_set, set_again}
 use Rattle.rv_claims.specs.declared.view.Entry.{Entry}
 use Rattle.rv_claims.specs.declared.view.View.{View}
-use Rattle.rv_claims.specs.Draws.{total, times, IsIn, Within, IsHistory, past, entry, count_of, numbers, Same, view}
-use Rattle.rv_claims.specs.Draws.{opened, unseated, note_of, both, spent, Fits, Runs, Sitting, first_of, Drew, Sat}
-use Rattle.rv_claims.specs.Draws.{Looked}
+use Rattle.rv_claims.specs.Draws.{total, times, IsIn, Within, IsHistory, past_count, entry, count_of, numbers, Same}
+use Rattle.rv_claims.specs.Draws.{view, first_view, new_seat_view, note_of, joined_view, empty_view, Fits, Runs}
+use Rattle.rv_claims.specs.Draws.{Sitting, first_of, Drew, Sat, Looked}
 use Rattle.rv_claims.proofs.Sums.{snoc_at, at_lt, in_append, in_left, in_right, in_one, in_none, total-append}
 use Rattle.rv_claims.proofs.Sums.{total-set, term_le, terms_le, some_term, only_term, total_le, total-map, places_few}
 use Rattle.rv_claims.proofs.Sums.{past_no, past_le, history_past, history-snoc, counted_in, weighs_same, views_weigh}
@@ -53,7 +53,8 @@ bounded pieces s r = omega (
   arith,
   history_past pieces r.history r.numbered,
   views_weigh (one_past pieces) s.views r.history r.held,
-  total_le (λ (v : View). past pieces v.draws) (λ (v : View). length v.places) s.views (λ k v at. (r.each k v at).few),
+  total_le (λ (v : View). past_count pieces v.draws) (λ (v : View). length v.places) s.views
+      (λ k v at. (r.each k v at).few),
   places_few s.views (λ j v at. (r.each j v at).places) (once_each pieces s r),
 )
 
@@ -77,7 +78,7 @@ each_snoc pieces h vs w all mine i v at =
     (λ (t : (i ≡ length vs) × (w ≡ v)). subst (Fits pieces h) t.1 mine) (snoc_at vs w v i at)
 
 pub opens : (pieces : ℕ) (ws : List ℕ) → length ws ≡ 65 → get_or ws 0 0 ≡ 0 → get_or ws 1 0 ≡ 1
-    → ((p : ℕ) → 1 < p → p < 65 → get_or ws p 0 ≡ 0) → Runs pieces (opening ws [] (opened pieces))
+    → ((p : ℕ) → 1 < p → p < 65 → get_or ws p 0 ≡ 0) → Runs pieces (opening ws [] (first_view pieces))
 opens pieces ws wide zeroth first others = record {
   history = [];
   numbered = λ j e at. absurd (some-ne-none e (sym at));
@@ -90,7 +91,7 @@ opens pieces ws wide zeroth first others = record {
   single = λ p h. dite (ℕ_discrete 0 p) (λ e. subst (λ (q : ℕ). get_or ws (q + 1) 0 ≤ 1) e (omega (arith, first)))
       (λ ne. let o = others (p + 1) (omega arith) (omega arith) in omega arith);
   each = λ i v at. ⊎_elim (λ (t : get_elem? [] i ≡ some v). absurd (some-ne-none v (sym t)))
-      (λ (t : (i ≡ 0) × (opened pieces ≡ v)). subst (Fits pieces []) t.1
+      (λ (t : (i ≡ 0) × (first_view pieces ≡ v)). subst (Fits pieces []) t.1
       (record {
         places = λ p in-it. let e = in_one 0 p in-it in
             omega arith;
@@ -98,11 +99,12 @@ opens pieces ws wide zeroth first others = record {
         few = omega arith;
         noted = λ e in-it. in-it;
       }))
-      (snoc_at [] (opened pieces) v i at);
+      (snoc_at [] (first_view pieces) v i at);
 }
 
 -- a draw
-pub draws : (pieces slots id : ℕ) (m : Sitting) → pieces ≤ 4096 → past pieces m.0.draws ≡ 0 → 0 < length m.0.places
+pub draws : (pieces slots id : ℕ) (m : Sitting) → pieces ≤ 4096 → past_count pieces m.0.draws ≡ 0
+    → 0 < length m.0.places
     → Allows (Runs pieces) slots id m 0 (λ n. (n + 1) % 2 ^ 64) (Drew (step slots 0 1 0 none) m)
 draws pieces slots id m most going sits s r _ at small =
     let v = m.0 in
@@ -258,7 +260,7 @@ sits pieces slots id m p k low is s r _ at small =
     place_low q (zero, e) = let e' : k - 1 ≡ q = some-injective (k - 1) q e in omega arith
     place_low q (suc j, e) = (r.each id m.0 at).places q (j, e)
 
-unseated_fits : (pieces : ℕ) (h : List Entry) (v : View) → Fits pieces h (unseated v)
+unseated_fits : (pieces : ℕ) (h : List Entry) (v : View) → Fits pieces h (new_seat_view v)
 unseated_fits pieces h v =
     record {
       places = λ p i. absurd (in_none p i);
@@ -294,32 +296,33 @@ splits pieces id v w no_place no_draw notes s r at =
       each = each_snoc pieces r.history s.views w r.each (record {
         places = λ p i. absurd (in_none p (subst (λ (l : List ℕ). IsIn p l) no_place i));
         own = λ e i. absurd (in_none e (subst (λ (l : List Entry). IsIn e l) no_draw i));
-        few = omega (arith, ap (past pieces) no_draw);
+        few = omega (arith, ap (past_count pieces) no_draw);
         noted = notes s r at;
       });
     })
 
 -- a new seat
-pub frees : (pieces id : ℕ) (v : View) → Splits (Runs pieces) id v v (unseated v)
-frees pieces id v = splits pieces id v (unseated v) refl refl (λ s r at e i. absurd (in_none e i))
+pub frees : (pieces id : ℕ) (v : View) → Splits (Runs pieces) id v v (new_seat_view v)
+frees pieces id v = splits pieces id v (new_seat_view v) refl refl (λ s r at e i. absurd (in_none e i))
 
 -- a copy of the draws for another seat
 pub notes : (pieces id : ℕ) (v : View) → Splits (Runs pieces) id v v (note_of v)
 notes pieces id v = splits pieces id v (note_of v) refl refl (λ s r at. in_history pieces s r id v at)
 
 -- two seats in one
-pub joins : (pieces id : ℕ) (v : View) (other : ℕ) (w : View) → Joins (Runs pieces) id v other w (both v w) spent
+pub joins : (pieces id : ℕ) (v : View) (other : ℕ) (w : View)
+    → Joins (Runs pieces) id v other w (joined_view v w) empty_view
 joins pieces id v other w s r at apart there =
-    let b : View = both v w in
+    let b : View = joined_view v w in
     let vs : List View = set s.views id b in
     let was : get_elem? s.views other ≡ some w =
     ⊎_elim (λ (t : (other ≡ id) × (b ≡ w)). absurd (apart t.0))
     (λ (t : (other ≢ id) × (get_elem? s.views other ≡ some w)). t.1) (at_set s.views id other b w there) in
     let fv = r.each id v at in
     let fw = r.each other w was in
-    let moved : (g : View → ℕ) → g b ≡ g v + g w → g spent ≡ 0
-    → total g (set vs other spent) ≡ total g s.views = λ g e z.
-    omega (arith, total-set g s.views id v b at, total-set g vs other w spent there, e, z) in
+    let moved : (g : View → ℕ) → g b ≡ g v + g w → g empty_view ≡ 0
+    → total g (set vs other empty_view) ≡ total g s.views = λ g e z.
+    omega (arith, total-set g s.views id v b at, total-set g vs other w empty_view there, e, z) in
     record {
       history = r.history;
       numbered = r.numbered;
@@ -329,7 +332,7 @@ joins pieces id v other w s r at apart there =
       seated = λ p h. moved (λ (u : View). times p u.places) (total-append (one_at p) v.places w.places) refl
           ∙ r.seated p h;
       single = r.single;
-      each = each_set pieces r.history vs other spent
+      each = each_set pieces r.history vs other empty_view
           (each_set pieces r.history s.views id b r.each (record {
             places = λ p i. ⊎_elim (λ (t : IsIn p v.places). fv.places p t) (λ (t : IsIn p w.places). fw.places p t)
                 (in_append v.places w.places p i);
@@ -399,7 +402,8 @@ at_history h is x low =
     entry_at (e ∷ es) (suc i) h = entry_at es i (omega arith)
 
 -- draws that are a whole history, with one past the end, have each piece once
-pub each_once : (pieces : ℕ) (ds h : List Entry) → IsHistory h → Same ds h → 0 < past pieces ds → (x : ℕ) → x < pieces
+pub each_once : (pieces : ℕ) (ds h : List Entry) → IsHistory h → Same ds h → 0 < past_count pieces ds → (x : ℕ)
+    → x < pieces
     → times x (numbers ds) ≡ 1
 each_once pieces ds h is same over x low =
     let t = some_term (one_past pieces) h (omega (arith, weighs_same (one_past pieces) ds h same)) in

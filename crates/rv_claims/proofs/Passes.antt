@@ -17,9 +17,9 @@ use Rattle.std.specs.Prelude.{Option}
 use Rattle.atomic_table.specs.Seated.{TableId}
 use Rattle.atomic_table.specs.Table.{Step, opening, Final, Seen}
 use Rattle.rv_claims.specs.declared.view.Entry.{Entry}
-use Rattle.rv_claims.specs.Draws.{times, both, IsIn, IsHistory, Within, past, entry, numbers, first_of, view, Sitting}
-use Rattle.rv_claims.specs.Draws.{Drew, Sat, opened, Runs}
-use Rattle.rv_claims.specs.Passes.{pass_of, with_draw, piece_of, IsPass, seen, opening_row, AreAll}
+use Rattle.rv_claims.specs.Draws.{times, joined_view, IsIn, IsHistory, Within, past_count, entry, numbers, first_of}
+use Rattle.rv_claims.specs.Draws.{view, Sitting, Drew, Sat, first_view, Runs}
+use Rattle.rv_claims.specs.Passes.{pass_of, with_draw, piece_of, IsPass, pass_view, opening_row, AreAll}
 use Rattle.rv_claims.proofs.Keeps.{opens, whole, each_once}
 use Rattle.rv_claims.proofs.Sums.{in_append, in_one, in_left, in_right, in_none, total-append, term_le, one_at}
 use Rattle.rv_claims.proofs.Sums.{one_at-same, one_past, past_yes, past_no}
@@ -33,7 +33,7 @@ first_in (p ∷ ps) h = (0, refl)
 
 -- the places of a pass that drew are as they were
 pub drew_pass : {st : Step (Unit {0})} (m m' : Sitting) (n bits : ℕ) (ended now : Bool) → IsPass m bits ended
-    → Drew st m n m' → now ≡ nat_lt 0 (past m.0.pieces (m.0.draws ++ entry (first_of m.0.places) n ∷ []))
+    → Drew st m n m' → now ≡ nat_lt 0 (past_count m.0.pieces (m.0.draws ++ entry (first_of m.0.places) n ∷ []))
     → IsPass m' bits now
 drew_pass m m' n bits ended now p d stop =
     let e = entry (first_of m.0.places) n in
@@ -51,25 +51,25 @@ drew_pass m m' n bits ended now p d stop =
       stopped = stop;
     })
 
-pub goes_on : (pieces : ℕ) (ds : List Entry) (e : Entry) → nat_lt 0 (past pieces ds) ≡ false → e.number < pieces
-    → false ≡ nat_lt 0 (past pieces (ds ++ e ∷ []))
+pub goes_on : (pieces : ℕ) (ds : List Entry) (e : Entry) → nat_lt 0 (past_count pieces ds) ≡ false → e.number < pieces
+    → false ≡ nat_lt 0 (past_count pieces (ds ++ e ∷ []))
 goes_on pieces ds e not_yet low =
-    let z : past pieces (ds ++ e ∷ []) ≡ 0 =
+    let z : past_count pieces (ds ++ e ∷ []) ≡ 0 =
     omega (
       arith,
       total-append (one_past pieces) ds (e ∷ []),
       past_no pieces e low,
-      none_past (past pieces ds) not_yet,
-    ) in sym (le-ltb 0 (past pieces (ds ++ e ∷ [])) (omega arith))
+      none_past (past_count pieces ds) not_yet,
+    ) in sym (le-ltb 0 (past_count pieces (ds ++ e ∷ [])) (omega arith))
 
 pub ends_now : (pieces : ℕ) (ds : List Entry) (e : Entry) → pieces ≤ e.number
-    → true ≡ nat_lt 0 (past pieces (ds ++ e ∷ []))
+    → true ≡ nat_lt 0 (past_count pieces (ds ++ e ∷ []))
 ends_now pieces ds e high =
-    sym (lt-ltb 0 (past pieces (ds ++ e ∷ []))
+    sym (lt-ltb 0 (past_count pieces (ds ++ e ∷ []))
     (omega (arith, total-append (one_past pieces) ds (e ∷ []), past_yes pieces e high)))
 
 pub seen_drew : {st : Step (Unit {0})} (t t' : TableId) (m m' : Sitting) (n : ℕ) → t' ≡ t → Drew st m n m'
-    → seen t' m' ≡ with_draw (seen t m) n
+    → pass_view t' m' ≡ with_draw (pass_view t m) n
 seen_drew t t' m m' n same d =
     let v = d.drawn in λ i. pass_of (record { table = same i; pieces = (v i).pieces }) (v i).places (v i).draws
 
@@ -95,7 +95,7 @@ opening_free zero h l = absurd (omega arith)
 opening_free (suc zero) h l = absurd (omega arith)
 opening_free (suc (suc p)) h l = row_at 63 p
 
-pub opened_pass : (pieces : ℕ) (m : Sitting) → m ≡ (opened pieces, []) → IsPass m 1 false
+pub opened_pass : (pieces : ℕ) (m : Sitting) → m ≡ (first_view pieces, []) → IsPass m 1 false
 opened_pass pieces m e = subst (λ (x : Sitting). IsPass x 1 false) (sym e) (record {
   no_slot = refl;
   sits = omega arith;
@@ -107,8 +107,8 @@ opened_pass pieces m e = subst (λ (x : Sitting). IsPass x 1 false) (sym e) (rec
   stopped = sym (le-ltb 0 0 (omega arith));
 })
 
-pub opens_row : (pieces : ℕ) (ws : List ℕ) → ws ≡ opening_row → Runs pieces (opening ws [] (opened pieces))
-opens_row pieces ws e = subst (λ (l : List ℕ). Runs pieces (opening l [] (opened pieces))) (sym e)
+pub opens_row : (pieces : ℕ) (ws : List ℕ) → ws ≡ opening_row → Runs pieces (opening ws [] (first_view pieces))
+opens_row pieces ws e = subst (λ (l : List ℕ). Runs pieces (opening l [] (first_view pieces))) (sym e)
     (opens pieces opening_row refl refl refl opening_free)
 
 pub some_past : (n m : ℕ) → nat_lt 0 (n + m) ≡ (nat_lt 0 n || nat_lt 0 m)
@@ -117,7 +117,7 @@ some_past (suc n) m = lt-ltb 0 (suc n + m) (omega arith)
     ∙ sym (ap (λ (b : Bool). b || nat_lt 0 m) (lt-ltb 0 (suc n) (omega arith)))
 
 pub joined_pass : (m n m' : Sitting) (bits more : ℕ) (e f now : Bool) → IsPass m bits e → IsPass n more f
-    → m.0.pieces ≡ n.0.pieces → m' ≡ (both m.0 n.0, m.1) → now ≡ (e || f) → IsPass m' (bit_or bits more) now
+    → m.0.pieces ≡ n.0.pieces → m' ≡ (joined_view m.0 n.0, m.1) → now ≡ (e || f) → IsPass m' (bit_or bits more) now
 joined_pass m n m' bits more e f now p q same is stop =
     let ps = m.0.places in
     let qs = n.0.places in
@@ -132,15 +132,15 @@ joined_pass m n m' bits more e f now p q same is stop =
       own = λ x i. ⊎_elim (λ (t : IsIn x m.0.draws). in_left ps qs x.place (p.own x t))
           (λ (t : IsIn x n.0.draws). in_right ps qs x.place (q.own x t)) (in_append m.0.draws n.0.draws x i);
       stopped = stop ∙ (ap (λ (b : Bool × Bool). b.0 || b.1) (λ i. (p.stopped i, ends i))
-          ∙ (sym (some_past (past m.0.pieces m.0.draws) (past m.0.pieces n.0.draws))
+          ∙ (sym (some_past (past_count m.0.pieces m.0.draws) (past_count m.0.pieces n.0.draws))
           ∙ ap (nat_lt 0) (sym (total-append (one_past m.0.pieces) m.0.draws n.0.draws))));
     })
   where
     bit_low : (k x : ℕ) → bit_at k x ≤ 1
     bit_low k x = omega arith
 
-    ends : f ≡ nat_lt 0 (past m.0.pieces n.0.draws)
-    ends = q.stopped ∙ ap (λ (k : ℕ). nat_lt 0 (past k n.0.draws)) (sym same)
+    ends : f ≡ nat_lt 0 (past_count m.0.pieces n.0.draws)
+    ends = q.stopped ∙ ap (λ (k : ℕ). nat_lt 0 (past_count k n.0.draws)) (sym same)
 
 -- what was noted is no part of the pass
 pub noted_pass : (m m' : Sitting) (bits : ℕ) (ended : Bool) → IsPass m bits ended → m'.1 ≡ m.1
@@ -153,7 +153,7 @@ noted_pass m m' bits ended p slots pieces places draws = record {
   clear = subst (λ (l : List ℕ). (x : ℕ) → bit_at bits x ≡ 1 → IsIn x l) (sym places) p.clear;
   own = subst (λ (t : List ℕ × List Entry). (e : Entry) → IsIn e t.1 → IsIn e.place t.0)
       (λ i. (sym places i, sym draws i)) p.own;
-  stopped = p.stopped ∙ (λ i. nat_lt 0 (past (sym pieces i) (sym draws i)));
+  stopped = p.stopped ∙ (λ i. nat_lt 0 (past_count (sym pieces i) (sym draws i)));
 }
 
 small_power : (place : ℕ) → place < 64 → 1 * 2 ^ place % 18446744073709551616 ≡ 2 ^ place
@@ -256,6 +256,8 @@ ends_whole pieces ws xs id m bits ended pass final all =
           (all p low (subst (λ (l : List ℕ). get_elem? l (p + 1) ≡ some 1) words (read_one s.words (p + 1) one)))),
     )
 
-pub ends_pieces : (pieces : ℕ) (ds : List Entry) → AreAll ds → nat_lt 0 (past pieces ds) ≡ true → (x : ℕ) → x < pieces
+pub ends_pieces : (pieces : ℕ) (ds : List Entry) → AreAll ds → nat_lt 0 (past_count pieces ds) ≡ true → (x : ℕ)
+    → x < pieces
     → times x (numbers ds) ≡ 1
-ends_pieces pieces ds all over x low = each_once pieces ds all.0 all.1 all.2 (ltb-true 0 (past pieces ds) over) x low
+ends_pieces pieces ds all over x low =
+    each_once pieces ds all.0 all.1 all.2 (ltb-true 0 (past_count pieces ds) over) x low

@@ -62,8 +62,8 @@ abbrev pub is_past : ℕ → Entry → Bool
 is_past pieces e = nat_le pieces e.number
 
 -- how many draws are past the last piece
-abbrev pub past : ℕ → List Entry → ℕ
-past pieces draws = count (is_past pieces) draws
+abbrev pub past_count : ℕ → List Entry → ℕ
+past_count pieces draws = count (is_past pieces) draws
 
 -- ---- what seats hold
 
@@ -73,24 +73,24 @@ view pieces places draws noted =
     record { pieces = pieces; places = places; draws = draws; noted = noted }
 
 -- what the first seat holds: place 0
-abbrev pub opened : ℕ → View
-opened pieces = view pieces (0 ∷ []) [] []
+abbrev pub first_view : ℕ → View
+first_view pieces = view pieces (0 ∷ []) [] []
 
 -- what a new seat holds: nothing yet
-abbrev pub unseated : View → View
-unseated v = view v.pieces [] [] []
+abbrev pub new_seat_view : View → View
+new_seat_view v = view v.pieces [] [] []
 
 -- what a seat holds that carries a copy of another's draws
 abbrev pub note_of : View → View
 note_of v = view v.pieces [] [] v.draws
 
 -- what two seats hold, in one
-abbrev pub both : View → View → View
-both v w = view v.pieces (v.places ++ w.places) (v.draws ++ w.draws) (v.noted ++ w.noted)
+abbrev pub joined_view : View → View → View
+joined_view v w = view v.pieces (v.places ++ w.places) (v.draws ++ w.draws) (v.noted ++ w.noted)
 
 -- what is left to a seat that was joined into another
-abbrev pub spent : View
-spent = view 0 [] [] []
+abbrev pub empty_view : View
+empty_view = view 0 [] [] []
 
 -- ---- the rule
 
@@ -99,7 +99,7 @@ spent = view 0 [] [] []
 pub record Fits (pieces : ℕ) (history : List Entry) (v : View) : Type 0 where
   pub places : (p : ℕ) → IsIn p v.places → p < 64
   pub own : (e : Entry) → IsIn e v.draws → IsIn e.place v.places
-  pub few : past pieces v.draws ≤ length v.places
+  pub few : past_count pieces v.draws ≤ length v.places
   pub noted : Within v.noted history
 
 -- the rule over words and views: the views hold one history together, and the words count it

@@ -3,10 +3,10 @@ use Rattle.std.specs.Prelude.{◌≡◌, ℕ, nat_lt, List, ◌++◌, length, dr
 use Rattle.std.specs.List.{filter}
 use Rattle.rv_claims.specs.declared.view.Entry.{Entry}
 use Rattle.rv_claims.specs.Draws.{numbers}
-use Rattle.rv_claims.specs.Passes.{Held}
+use Rattle.rv_claims.specs.Passes.{PassView}
 
 -- the same pass, with more draws behind those that it had
-abbrev pub Grew : Held → Held → Type 0
+abbrev pub Grew : PassView → PassView → Type 0
 Grew p q = (q.draw ≡ p.draw) × (q.places ≡ p.places)
     × ((more : List Entry) × (q.draws ≡ p.draws ++ more))
 
@@ -15,5 +15,5 @@ abbrev pub pieces_among : ℕ → List Entry → List ℕ
 pieces_among pieces draws = filter (λ n. nat_lt n pieces) (numbers draws)
 
 -- the pieces among the new draws, in the order drawn
-abbrev pub new_pieces : Held → Held → List ℕ
+abbrev pub new_pieces : PassView → PassView → List ℕ
 new_pieces p q = pieces_among p.draw.pieces (drop (length p.draws) q.draws)

@@ -4,7 +4,7 @@ use Rattle.std.specs.Prelude.{replicate, Option, Some, None}
 use Rattle.std.specs.Int.{bit_at}
 use Rattle.atomic_table.specs.Seated.{TableId}
 use Rattle.rv_claims.specs.declared.view.Entry.{Entry}
-use Rattle.rv_claims.specs.Draws.{IsIn, past, entry, first_of, Sitting, view_of, slots_of}
+use Rattle.rv_claims.specs.Draws.{IsIn, past_count, entry, first_of, Sitting, view_of, slots_of}
 use Rattle.rv_claims.specs.Draws.{IsHistory, Within, Same}
 
 -- which shared draw it is, and the number of its pieces
@@ -13,21 +13,21 @@ pub record SharedDraw : Type 0 where
   pub pieces : ℕ
 
 -- what a pass holds: its places and its draws in order
-pub record Held : Type 0 where
+pub record PassView : Type 0 where
   pub draw : SharedDraw
   pub places : List ℕ
   pub draws : List Entry
 
 -- a pass of these parts
-abbrev pub pass_of : SharedDraw → List ℕ → List Entry → Held
+abbrev pub pass_of : SharedDraw → List ℕ → List Entry → PassView
 pass_of d places draws = record { draw = d; places = places; draws = draws }
 
 -- a pass has ended where it holds a number at or above the pieces
-abbrev pub has_ended : Held → Bool
-has_ended p = nat_lt 0 (past p.draw.pieces p.draws)
+abbrev pub has_ended : PassView → Bool
+has_ended p = nat_lt 0 (past_count p.draw.pieces p.draws)
 
 -- the pass with one more draw, by its first place
-abbrev pub with_draw : Held → ℕ → Held
+abbrev pub with_draw : PassView → ℕ → PassView
 with_draw p n = pass_of p.draw p.places (p.draws ++ entry (first_of p.places) n ∷ [])
 
 -- each number that was drawn is below n
@@ -60,11 +60,11 @@ pub record IsPass (me : Sitting) (bits : ℕ) (ended : Bool) : Type 0 where
   pub set : (p : ℕ) → IsIn p (view_of me).places → bit_at bits p ≡ 1
   pub clear : (p : ℕ) → bit_at bits p ≡ 1 → IsIn p (view_of me).places
   pub own : (e : Entry) → IsIn e (view_of me).draws → IsIn e.place (view_of me).places
-  pub stopped : ended ≡ nat_lt 0 (past (view_of me).pieces (view_of me).draws)
+  pub stopped : ended ≡ nat_lt 0 (past_count (view_of me).pieces (view_of me).draws)
 
 -- what a seat of a pass shows
-abbrev pub seen : TableId → Sitting → Held
-seen table me = let v = view_of me in
+abbrev pub pass_view : TableId → Sitting → PassView
+pass_view table me = let v = view_of me in
     pass_of (record { table = table; pieces = v.pieces }) v.places v.draws
 
 -- the words at the start: no draw, and place 0 taken
@@ -72,6 +72,6 @@ abbrev pub opening_row : List ℕ
 opening_row = 0 ∷ 1 ∷ replicate 63 0
 
 -- a pass with one place, which is not among these bits, and no draws
-abbrev pub IsNew : SharedDraw → ℕ → Held → Type 0
+abbrev pub IsNew : SharedDraw → ℕ → PassView → Type 0
 IsNew d taken p = (place : ℕ) × (place < 64) × (bit_at taken place ≡ 0)
     × (p ≡ pass_of d (place ∷ []) [])

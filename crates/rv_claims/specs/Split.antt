@@ -1,8 +1,8 @@
 -- What a refused split gives back.
-use Rattle.rv_claims.specs.Passes.{Held}
+use Rattle.rv_claims.specs.Passes.{PassView}
 use Rattle.rv_claims.specs.declared.pass.SplitError.{SplitError}
 use Rattle.rv_claims.specs.declared.pass.SplitError.TheVariants.{Full}
 
 -- the pass that comes back
-abbrev pub in_full : SplitError → Held
+abbrev pub in_full : SplitError → PassView
 in_full (Full p) = p

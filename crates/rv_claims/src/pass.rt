@@ -19,11 +19,11 @@ pub struct Pass {
 }
 
 impl Model for Pass {
-    ghost use Rattle.rv_claims.specs.Passes.{Held, seen, IsPass};
+    ghost use Rattle.rv_claims.specs.Passes.{PassView, pass_view, IsPass};
 
-    ghost Value = { Held };
+    ghost Value = { PassView };
 
-    ghost view = { λ p. seen p.seat.table_id p.seat.me };
+    ghost view = { λ p. pass_view p.seat.table_id p.seat.me };
 
     ghost invariant = { λ p. IsPass p.seat.me p.bits p.ended };
 }

@@ -10,11 +10,11 @@ use atomic_table::{Join, Play, Split, TableRule};
 pub(crate) struct Running;
 
 impl TableRule<(), View, u64> for Running {
-    ghost use Rattle.rv_claims.specs.Draws.{Runs, opened};
+    ghost use Rattle.rv_claims.specs.Draws.{Runs, first_view};
 
     ghost holds = { Runs };
 
-    ghost first = { opened };
+    ghost first = { first_view };
 }
 
 /// A draw: 1 is added to word 0, and what was found there is the number.
@@ -48,11 +48,11 @@ impl Play<(), View> for Look {
 pub(crate) struct Fresh;
 
 impl Split<View> for Fresh {
-    ghost use Rattle.rv_claims.specs.Draws.{unseated};
+    ghost use Rattle.rv_claims.specs.Draws.{new_seat_view};
 
     ghost left = { λ v. v };
 
-    ghost right = { unseated };
+    ghost right = { new_seat_view };
 }
 
 /// A seat that carries a copy of the draws to another seat.
@@ -70,9 +70,9 @@ impl Split<View> for Note {
 pub(crate) struct Both;
 
 impl Join<View> for Both {
-    ghost use Rattle.rv_claims.specs.Draws.{both, spent};
+    ghost use Rattle.rv_claims.specs.Draws.{joined_view, empty_view};
 
-    ghost both = { both };
+    ghost both = { joined_view };
 
-    ghost spent = { spent };
+    ghost spent = { empty_view };
 }

@@ -10,10 +10,11 @@ abbrev pub IsPiece : Planned → ℕ → Piece → Type 0
 IsPiece plan group piece = (piece.number < pieces_of plan group)
     × (piece ≡ piece_at plan group piece.number)
 
+-- each is such a piece
 abbrev pub ArePieces : Planned → ℕ → List Piece → Type 0
 ArePieces plan group pieces = All (IsPiece plan group) pieces
 
--- a place for each piece, where its rows stand or nothing does
+-- a place for each piece, where its rows stand or nothing does; past the places there is nothing
 abbrev pub IsFilled : Planned → ℕ → List (Option (List Row)) → Type 0
 IsFilled plan group places = (length places ≡ pieces_of plan group)
     × ((k : ℕ) → IfSome (slice_index_or places k None) (λ rows. rows ≡ rows_in plan group k))

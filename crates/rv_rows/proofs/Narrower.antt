@@ -21,7 +21,7 @@ use Rattle.rv_machine.proofs.Public.{run_wider}
 use Rattle.rv_rows.specs.declared.outcome.Loadable.{Loadable}
 use Rattle.rv_rows.specs.declared.row.Refusal.{Refusal}
 use Rattle.rv_rows.specs.declared.row.Row.{Row}
-use Rattle.rv_rows.specs.Narrower.{widened, widened_at, widened_plan, is_of_any_set}
+use Rattle.rv_rows.specs.Narrower.{widened_job, widened_jobs, widened_plan, is_of_any_set}
 use Rattle.rv_rows.specs.Outcome.{◌>>=◌, end_of, file_of, file_outcome_of, loadable_of, loaded_state}
 use Rattle.rv_rows.specs.Outcome.{outcome_if_loadable, outcome_if_there, outcome_of, outcome_of_run}
 use Rattle.rv_rows.specs.Rows.{other_in, outcome_in, row_of, rows_of}
@@ -36,7 +36,7 @@ reached (Ok x) wide f y h e = ap (λ r. r >>= f) (h x refl) ∙ e
 reached (Err why) wide f y h e = cc
 
 loadable_wider : (job : Job) (file : List ℕ) (there : Loadable) → loadable_of job file ≡ Ok there
-    → loadable_of (widened job) file ≡ Ok there
+    → loadable_of (widened_job job) file ≡ Ok there
 unfolding loadable_of
 loadable_wider job file there e =
     reached (image_of job.isa file) (image_of Imc file) _ there (image_wider job.isa file) e
@@ -47,28 +47,29 @@ of_any_set (machine.Fault kind pc value) = refl
 of_any_set machine.Budget = refl
 
 file_outcome_wider : (job : Job) (file : List ℕ) → is_of_any_set (file_outcome_of job file).ending ≡ true
-    → file_outcome_of (widened job) file ≡ file_outcome_of job file
+    → file_outcome_of (widened_job job) file ≡ file_outcome_of job file
 unfolding file_outcome_of
 file_outcome_wider job file h = go (loadable_of job file) refl h
   where
     go : (r : Result Loadable ImageError) → loadable_of job file ≡ r
         → is_of_any_set (outcome_if_loadable job file r).ending ≡ true
-        → outcome_if_loadable (widened job) file (loadable_of (widened job) file) ≡ outcome_if_loadable job file r
+        → outcome_if_loadable (widened_job job) file (loadable_of (widened_job job) file) ≡ outcome_if_loadable job file
+        r
     go (Ok there) is h =
         let start : State = loaded_state job file there.image in
         let ended = sym (of_any_set (run_of job.budget start).ending) ∙ h in
-        ap (outcome_if_loadable (widened job) file) (loadable_wider job file there is)
+        ap (outcome_if_loadable (widened_job job) file) (loadable_wider job file there is)
         ∙ ap (λ (r : Ran). outcome_of_run r there.range) (run_wider job.budget start ended)
     go (Err why) is h = absurd (false≢true h)
 
 outcome_wider : (job : Job) (image : Kept) (reference : Option Kept)
     → is_of_any_set (outcome_of job image reference).ending ≡ true
-    → outcome_of (widened job) image reference ≡ outcome_of job image reference
+    → outcome_of (widened_job job) image reference ≡ outcome_of job image reference
 unfolding outcome_of
 outcome_wider job image reference h = go (file_of image reference) h
   where
     go : (r : Result (List ℕ) Refusal) → is_of_any_set (outcome_if_there job r).ending ≡ true
-        → outcome_if_there (widened job) r ≡ outcome_if_there job r
+        → outcome_if_there (widened_job job) r ≡ outcome_if_there job r
     go (Ok file) h = file_outcome_wider job file h
     go (Err why) h = refl
 
@@ -76,13 +77,13 @@ outcome_wider job image reference h = go (file_of image reference) h
 
 -- the job at the place is the wider one
 got_widened : (place : ℕ) (jobs : List Job) (job : Job) → slice_get jobs place ≡ Some job
-    → slice_get (widened_at place jobs) place ≡ Some (widened job)
+    → slice_get (widened_jobs place jobs) place ≡ Some (widened_job job)
 got_widened place [] job e = cc
-got_widened zero (j ∷ jobs) job e = let same : j ≡ job = cc in ap (λ (x : Job). Some (widened x)) same
+got_widened zero (j ∷ jobs) job e = let same : j ≡ job = cc in ap (λ (x : Job). Some (widened_job x)) same
 got_widened (suc place) (j ∷ jobs) job e = got_widened place jobs job e
 
 -- an earlier job stays
-got_before : (place k : ℕ) (jobs : List Job) → k < place → slice_get (widened_at place jobs) k ≡ slice_get jobs k
+got_before : (place k : ℕ) (jobs : List Job) → k < place → slice_get (widened_jobs place jobs) k ≡ slice_get jobs k
 got_before place k [] l = refl
 got_before zero k (j ∷ jobs) l = absurd (omega (arith, l))
 got_before (suc place) zero (j ∷ jobs) l = refl
@@ -93,17 +94,17 @@ got_before (suc place) (suc k) (j ∷ jobs) l = got_before place k jobs (omega (
 module _ (plan : Planned) (place : ℕ) where
   -- so does the outcome of the job that the widened one names
   other_wider : (job : Job) → IfSome job.same_as (λ k. k < place)
-      → other_in (widened_plan place plan) (widened job) ≡ other_in plan job
+      → other_in (widened_plan place plan) (widened_job job) ≡ other_in plan job
   other_wider job earlier = go job.same_as earlier
     where
       go : (named : Option ℕ) → IfSome named (λ k. k < place)
-          → option_map (outcome_in plan.answers) (option_and_then (slice_get (widened_at place plan.jobs)) named)
+          → option_map (outcome_in plan.answers) (option_and_then (slice_get (widened_jobs place plan.jobs)) named)
           ≡ option_map (outcome_in plan.answers) (option_and_then (slice_get plan.jobs) named)
       go None l = refl
       go (Some k) l = ap (option_map (outcome_in plan.answers)) (got_before place k plan.jobs l)
 
   row_wider : (job : Job) → IfSome job.same_as (λ k. k < place) → is_of_any_set (row_of plan job).ending ≡ true
-      → row_of (widened_plan place plan) (widened job) ≡ row_of plan job
+      → row_of (widened_plan place plan) (widened_job job) ≡ row_of plan job
   unfolding row_of verdict_of
   row_wider job earlier h =
       let there = outcome_wider job _ _ h in
@@ -123,12 +124,12 @@ module _ (plan : Planned) (place : ℕ) where
   rows_wider row jobs e h = go (slice_get plan.jobs place) refl (sym (slice_get-map (row_of plan) plan.jobs place) ∙ e)
     where
       go : (found : Option Job) → slice_get plan.jobs place ≡ found → option_map (row_of plan) found ≡ Some row
-          → slice_get (map (row_of (widened_plan place plan)) (widened_at place plan.jobs)) place ≡ Some row
+          → slice_get (map (row_of (widened_plan place plan)) (widened_jobs place plan.jobs)) place ≡ Some row
       go None is at = cc
       go (Some job) is at =
           let same : row_of plan job ≡ row = cc in
           let stays : is_of_any_set (row_of plan job).ending ≡ true =
           ap (λ (r : Row). is_of_any_set r.ending) same ∙ h in
-          slice_get-map (row_of (widened_plan place plan)) (widened_at place plan.jobs) place
+          slice_get-map (row_of (widened_plan place plan)) (widened_jobs place plan.jobs) place
           ∙ ap (option_map (row_of (widened_plan place plan))) (got_widened place plan.jobs job is)
           ∙ ap (λ (r : Row). Some r) (row_wider job (named_before job jobs is) stays ∙ same)

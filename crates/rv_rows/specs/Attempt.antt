@@ -14,6 +14,7 @@ abbrev pub HasSignature : EndedRun → Type 0
 HasSignature run = IfSome run.range
     (λ range. signature_check range.begin range.end run.bus.regions ≡ accepted)
 
+-- the outcome of a run, as it stands in the bus
 abbrev pub outcome_in_bus : EndedRun → Outcome
 outcome_in_bus run = record {
   ending = run.ending;
@@ -22,10 +23,12 @@ outcome_in_bus run = record {
   signature = option_map (signature_in run.bus) run.range;
 }
 
+-- the signature of a run can be read from its bus
 abbrev pub IsReadable : Attempt → Type 0
 IsReadable (Refused why) = ⊤
 IsReadable (Ran run) = HasSignature run
 
+-- the outcome that a copy of it has
 abbrev pub outcome_of_attempt : Attempt → Outcome
 outcome_of_attempt (Refused why) = refused_outcome why
 outcome_of_attempt (Ran run) = outcome_in_bus run

@@ -9,18 +9,18 @@ use Rattle.rv_rows.specs.declared.row.RowEnd.{RowEnd}
 use Rattle.rv_rows.specs.declared.row.RowEnd.TheVariants.{Exit, Fault, Budget, Refused}
 
 -- the same job, its set RV32IMC
-abbrev pub widened : Job → Job
-widened job = record job { isa = Imc }
+abbrev pub widened_job : Job → Job
+widened_job job = record job { isa = Imc }
 
 -- the jobs, of which the one at a place is made RV32IMC
-abbrev pub widened_at : ℕ → List Job → List Job
-widened_at place [] = []
-widened_at zero (job ∷ jobs) = widened job ∷ jobs
-widened_at (suc place) (job ∷ jobs) = job ∷ widened_at place jobs
+abbrev pub widened_jobs : ℕ → List Job → List Job
+widened_jobs place [] = []
+widened_jobs zero (job ∷ jobs) = widened_job job ∷ jobs
+widened_jobs (suc place) (job ∷ jobs) = job ∷ widened_jobs place jobs
 
 -- the plan of these jobs, with the same kept answers
 abbrev pub widened_plan : ℕ → Planned → Planned
-widened_plan place plan = record plan { jobs = widened_at place plan.jobs }
+widened_plan place plan = record plan { jobs = widened_jobs place plan.jobs }
 
 -- the image was not refused, and the run ended in no fault of what the set lacks: `illegal` or
 -- `fetch-misaligned`

@@ -60,6 +60,7 @@ abbrev pub end_error : ImageError → ImageError
 end_error image.NoBegin = image.NoEnd
 end_error why = why
 
+-- the address of the second name, or why there is none
 abbrev pub end_of_signature : Result ℕ ImageError → Result ℕ ImageError
 end_of_signature (Ok address) = Ok address
 end_of_signature (Err why) = Err (end_error why)
@@ -72,6 +73,7 @@ range_of file regions names = do
   unit ← signature_check begin end regions
   Ok (record { begin = begin; end = end })
 
+-- the range, where a signature is asked for
 abbrev pub range_if_asked : List ℕ → List Region → Option Symbols
     → Result (Option SignatureRange) ImageError
 range_if_asked file regions None = Ok None
@@ -101,6 +103,7 @@ loaded_contents job file image =
 abbrev pub loaded_state : Job → List ℕ → Image → State
 loaded_state job file image = at_reset (loaded_contents job file image) image.entry job.isa
 
+-- the ending of a machine as that of a row
 abbrev pub end_of : Ending → RowEnd
 end_of (machine.Exit code) = ending.Exit code
 end_of (machine.Fault kind pc value) = ending.Fault kind pc value
@@ -130,9 +133,11 @@ outcome_if_loadable job file (Ok there) =
     outcome_of_run (run_of job.budget (loaded_state job file there.image)) there.range
 outcome_if_loadable job file (Err why) = refused_outcome (refusal.Image why)
 
+-- the outcome over the image's bytes
 unfoldable pub file_outcome_of : Job → List ℕ → Outcome
 file_outcome_of job file = outcome_if_loadable job file (loadable_of job file)
 
+-- what comes of the image's bytes, or of the refusal of a file
 abbrev pub outcome_if_there : Job → Result (List ℕ) Refusal → Outcome
 outcome_if_there job (Ok file) = file_outcome_of job file
 outcome_if_there job (Err why) = refused_outcome why

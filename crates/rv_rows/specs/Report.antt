@@ -49,6 +49,7 @@ or_dash text = if length text == 0 then codes "-" else text
 unfoldable pub console_line : List ℕ → List ℕ
 console_line bytes = line (codes "console " ++ or_dash (encode_lower bytes))
 
+-- a word of a signature on a line of its own
 abbrev pub word_line : ℕ → List ℕ
 word_line word = line (word_digits word)
 
@@ -77,6 +78,7 @@ unfoldable pub rows_text : ℕ → List Row → List ℕ
 rows_text place [] = []
 rows_text place (row ∷ rows) = row_text place row ++ rows_text (place + 1) rows
 
+-- the last line says how many rows there were
 unfoldable pub done_line : ℕ → List ℕ
 done_line count = line (codes "done " ++ decimal count)
 

@@ -26,6 +26,7 @@ abbrev pub bytes_in : Option Kept → Option (List ℕ)
 bytes_in (Some (kept.Content bytes)) = Some bytes
 bytes_in _ = None
 
+-- the bytes of a job's reference, where it has one and it was read
 abbrev pub reference_in : List Answer → Job → Option (List ℕ)
 reference_in answers job = bytes_in (option_map (kept_for answers) job.expect_signature)
 
@@ -34,6 +35,7 @@ abbrev pub other_in : Planned → Job → Option Outcome
 other_in plan job =
     option_map (outcome_in plan.answers) (option_and_then (slice_get plan.jobs) job.same_as)
 
+-- the row of a name, an outcome and a verdict
 abbrev pub row_with : List ℕ → Outcome → Verdict → Row
 row_with name there verdict = record {
   name = name;

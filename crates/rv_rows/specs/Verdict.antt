@@ -26,12 +26,14 @@ exits_with code (ending.Fault kind pc value) = false
 exits_with code ending.Budget = false
 exits_with code (ending.Refused why) = false
 
+-- the run ended with the code that is expected, if one is
 abbrev pub holds_exit : Option ℕ → RowEnd → Bool
 holds_exit None end = true
 holds_exit (Some code) end = exits_with code end
 
 -- ---- the reference
 
+-- every ending but a refusal is that of a run
 abbrev pub is_run : RowEnd → Bool
 is_run (ending.Refused why) = false
 is_run _ = true
@@ -71,6 +73,7 @@ are_alike (ending.Fault k pc value) (ending.Fault l at met) = fault_number k == 
 are_alike ending.Budget ending.Budget = true
 are_alike _ _ = false
 
+-- neither has a signature, or both have the same words
 abbrev pub same_signature : Option (List ℕ) → Option (List ℕ) → Bool
 same_signature None None = true
 same_signature (Some words) (Some others) = bytes_eq words others
@@ -82,6 +85,8 @@ abbrev pub are_same : Outcome → Outcome → Bool
 are_same there other = are_alike there.ending other.ending
     && (bytes_eq there.console other.console && same_signature there.signature other.signature)
 
+-- the outcome is the same as that of the job that it names, if it names one. The named job stands
+-- earlier in the list, so that its outcome is there
 abbrev pub holds_same : Option ℕ → Option Outcome → Outcome → Bool
 holds_same None other there = true
 holds_same (Some place) None there = false

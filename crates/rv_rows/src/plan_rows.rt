@@ -21,6 +21,8 @@ use std::alloc::{AllocError, Global};
 /// The row of the job at a place, counted from 0.
 pub fn row_at(alloc: Global, plan: &Plan, i: usize) -> Result<Row, AllocError>
     requires { i < length plan.now.jobs }
+
+    // `d` would be the job past the end of the list, where no place is.
     ensures { IfOk result (λ row. (d : AJob) → row
         ≡ row_of plan.now (slice_index_or plan.now.jobs i d)) }
 {

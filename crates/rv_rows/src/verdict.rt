@@ -16,6 +16,7 @@ use rv_machine::FaultKind;
 /// the same as the outcome of the job that it names, if it names one.
 #[tactic(auto, unfolding(crate::specs::Verdict::verdict_of))]
 pub(crate) fn verdict(job: &Job, there: &Outcome, reference: Option<&[u8]>, same: bool) -> Verdict
+    // Whatever the outcome of the named job is, where `same` says of it whether it is the same.
     ensures { (other : Option AnOutcome) → same ≡ holds_same job.now.same_as other there.now
         → result ≡ verdict_of job.now there.now (option_map
         (λ bytes. bytes.now) reference.entry) other }

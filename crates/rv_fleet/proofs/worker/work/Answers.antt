@@ -1,5 +1,5 @@
 use Rattle.std.proofs.Common.{◌∙◌, sym, ap, subst}
-use Rattle.rv_claims.specs.Passes.{SharedDraw, Held}
+use Rattle.rv_claims.specs.Passes.{SharedDraw, PassView}
 use Rattle.rv_fleet.specs.Pieces.{piece_at}
 use Rattle.rv_claims.specs.NewPieces.{Grew}
 use Rattle.rv_claims.proofs.Public.{took_some, made_one, made_all, falls, grew_more}
@@ -17,7 +17,7 @@ loop-number-preserved g c =
     let m = made_one (piece_at c.args.plan.now c.args.group) c.args.pass.now _ _ _ _ _ _ _ was.1 t.0 t.2
     (ap (λ (d : SharedDraw). d.pieces) c.requires.pass) was.2 c.in_ok-push.ensures.items
     c.in_ok-piece.ensures.piece in
-    (ap (λ (h : Held). h.draw) t.0 ∙ was.0, m.0, m.1, c.in_ok-piece.ensures.recent)
+    (ap (λ (h : PassView). h.draw) t.0 ∙ was.0, m.0, m.1, c.in_ok-piece.ensures.recent)
 
 pub returns-in_err-push-clause-pass : goal.returns-in_err-push-clause-pass
 returns-in_err-push-clause-pass g c =

@@ -1,12 +1,12 @@
 use Rattle.std.proofs.Common.{ℕ, ◌<◌, sym, ap, subst}
 use Rattle.rv_claims.specs.Draws.{IsIn}
-use Rattle.rv_claims.specs.Passes.{Held, SharedDraw, AreAll}
+use Rattle.rv_claims.specs.Passes.{PassView, SharedDraw, AreAll}
 use Rattle.rv_claims.proofs.Passes.{ends_whole, ends_pieces}
 use Rattle.rv_claims.proofs.claims.Claims.finish.Goals as goal
 
 pub returns-clause-all : goal.returns-clause-all
 returns-clause-all c is_whole =
-    subst (λ (h : Held). AreAll h.draws) c.pass.view_is
+    subst (λ (h : PassView). AreAll h.draws) c.pass.view_is
     (ends_whole _ _ _ _ _ _ _ c.pass.invariant c.close_with-closed.ensures.values.2
     (c.has_each-all.ensures.held is_whole))
 
@@ -18,4 +18,4 @@ returns-clause-pieces c is_whole over x low =
 pub returns-clause-full : goal.returns-clause-full
 returns-clause-full c all =
     c.has_each-all.ensures.full
-    (λ p low _. c.pass.invariant.set p (subst (λ (h : Held). IsIn p h.places) (sym c.pass.view_is) (all p low)))
+    (λ p low _. c.pass.invariant.set p (subst (λ (h : PassView). IsIn p h.places) (sym c.pass.view_is) (all p low)))

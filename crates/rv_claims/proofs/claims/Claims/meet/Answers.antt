@@ -1,7 +1,7 @@
 use Rattle.std.proofs.Common.{ℕ, ◌∙◌, sym, ap, subst, arith, append-nil, List, ◌++◌, ◌≤◌}
 use Rattle.rv_claims.specs.declared.view.Entry.{Entry}
 use Rattle.rv_claims.specs.Draws.{times, Sitting, Within, numbers, IsIn}
-use Rattle.rv_claims.specs.Passes.{Held, SharedDraw, NoneInBoth}
+use Rattle.rv_claims.specs.Passes.{PassView, SharedDraw, NoneInBoth}
 use Rattle.rv_claims.proofs.Keeps.{joins, notes, looks}
 use Rattle.rv_claims.proofs.Sums.{in_left, in_right}
 use Rattle.rv_claims.proofs.Passes.{overlap, noted_pass, apart}
@@ -9,27 +9,27 @@ use Rattle.rv_claims.proofs.claims.Claims.meet.Goals as goal
 
 pub load-requires : goal.load-requires
 load-requires c =
-    let all = ap (λ (h : Held). h.draw) (c.all.view_is ∙ c.join-all.ensures) ∙ sym c.self.view_is in
+    let all = ap (λ (h : PassView). h.draw) (c.all.view_is ∙ c.join-all.ensures) ∙ sym c.self.view_is in
     (ap (λ (d : SharedDraw). d.table) all, omega (arith, c.self.invariant.1), looks _ _ _ _)
 
 pub unreachable-requires : goal.unreachable-requires
 unreachable-requires c =
-    let places = ap (λ (h : Held). h.places) (c.all.view_is ∙ c.join-all.ensures) in
-    let first = ap (λ (h : Held). h.places) c.first.view_is in
-    let second = ap (λ (h : Held). h.places) c.second.view_is in
+    let places = ap (λ (h : PassView). h.places) (c.all.view_is ∙ c.join-all.ensures) in
+    let first = ap (λ (h : PassView). h.places) c.first.view_is in
+    let second = ap (λ (h : PassView). h.places) c.second.view_is in
     overlap c.first.inside.seat.me c.second.inside.seat.me _ _ _ _ (omega arith) (omega arith) c.first.invariant
     c.second.invariant c.if-first-second-ne0.true
     (λ p. subst (λ (l : List ℕ). times p l ≤ 1) (places ∙ (λ i. sym first i ++ sym second i)) (c.load.ensures.2.once p))
 
 pub split_seat-note-requires : goal.split_seat-note-requires
 split_seat-note-requires c =
-    let one = ap (λ (h : Held). h.draw) c.first.view_is ∙ (c.requires.first ∙ sym c.self.view_is) in
+    let one = ap (λ (h : PassView). h.draw) c.first.view_is ∙ (c.requires.first ∙ sym c.self.view_is) in
     (ap (λ (d : SharedDraw). d.table) one, omega (arith, c.self.invariant.1), notes _ _ _)
 
 pub join_seat-requires : goal.join_seat-requires
 join_seat-requires c =
-    let one = ap (λ (h : Held). h.draw) c.first.view_is ∙ (c.requires.first ∙ sym c.self.view_is) in
-    let two = ap (λ (h : Held). h.draw) c.second.view_is ∙ (c.requires.second ∙ sym c.self.view_is) in (
+    let one = ap (λ (h : PassView). h.draw) c.first.view_is ∙ (c.requires.first ∙ sym c.self.view_is) in
+    let two = ap (λ (h : PassView). h.draw) c.second.view_is ∙ (c.requires.second ∙ sym c.self.view_is) in (
       ap (λ (d : SharedDraw). d.table) two,
       c.split_seat-note.ensures.3 ∙ ap (λ (d : SharedDraw). d.table) one,
       ap (λ (m : Sitting). m.1) c.split_seat-note.ensures.4,
@@ -39,7 +39,7 @@ join_seat-requires c =
 
 pub load-requires-2 : goal.load-requires-2
 load-requires-2 c =
-    let two = ap (λ (h : Held). h.draw) c.second.view_is ∙ (c.requires.second ∙ sym c.self.view_is) in
+    let two = ap (λ (h : PassView). h.draw) c.second.view_is ∙ (c.requires.second ∙ sym c.self.view_is) in
     (c.join_seat.ensures.0 ∙ ap (λ (d : SharedDraw). d.table) two, omega (arith, c.self.invariant.1), looks _ _ _ _)
 
 pub invariant_of-first : goal.invariant_of-first
@@ -66,19 +66,19 @@ returns-clause-history c =
     let w = c.split_seat-note.result.me.0 in (
       t.history,
       t.numbered,
-      subst (λ (h : Held). Within h.draws t.history) c.first.view_is
+      subst (λ (h : PassView). Within h.draws t.history) c.first.view_is
           (λ e i. subst (λ (m : Sitting). Within m.0.noted t.history) me t.noted e
           (in_right v.noted w.noted e (subst (λ (m : Sitting). IsIn e m.0.noted) (sym note) i))),
-      subst (λ (h : Held). Within h.draws t.history) c.second.view_is
+      subst (λ (h : PassView). Within h.draws t.history) c.second.view_is
           (λ e i. subst (λ (m : Sitting). Within m.0.draws t.history) me t.draws e (in_left v.draws w.draws e i)),
     )
 
 pub returns-clause-apart : goal.returns-clause-apart
 returns-clause-apart c =
     let t = returns-clause-history c in
-    let first = ap (λ (h : Held). h.draws) c.first.view_is in
-    let second = ap (λ (h : Held). h.draws) c.second.view_is in
-    subst (λ (h : Held × Held). NoneInBoth (numbers h.0.draws) (numbers h.1.draws))
+    let first = ap (λ (h : PassView). h.draws) c.first.view_is in
+    let second = ap (λ (h : PassView). h.draws) c.second.view_is in
+    subst (λ (h : PassView × PassView). NoneInBoth (numbers h.0.draws) (numbers h.1.draws))
     (λ i. (c.first.view_is i, c.second.view_is i))
     (apart c.first.inside.seat.me c.second.inside.seat.me _ _ _ _ c.first.invariant c.second.invariant
     c.if-first-second-ne0.false t.0 t.1 (subst (λ (ds : List Entry). Within ds t.0) (sym first) t.2)

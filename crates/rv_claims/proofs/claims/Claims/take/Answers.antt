@@ -1,26 +1,27 @@
 use Rattle.std.proofs.Common.{◌≡◌, ℕ, ◌∙◌, sym, ap, subst, arith}
-use Rattle.rv_claims.specs.Draws.{past, first_of, entry}
-use Rattle.rv_claims.specs.Passes.{Held, SharedDraw, with_draw, AllBelow}
+use Rattle.rv_claims.specs.Draws.{past_count, first_of, entry}
+use Rattle.rv_claims.specs.Passes.{PassView, SharedDraw, with_draw, AllBelow}
 use Rattle.rv_claims.proofs.Keeps.{draws}
 use Rattle.rv_claims.proofs.Passes.{none_past, drew_pass, goes_on, ends_now, seen_drew, is_piece, no_piece}
 use Rattle.rv_claims.proofs.claims.Claims.take.Goals as goal
 
 pub fetch_add-number-requires : goal.fetch_add-number-requires
 fetch_add-number-requires c =
-    let same = ap (λ (h : Held). h.draw) c.pass.view_is ∙ (c.requires ∙ sym c.self.view_is) in
+    let same = ap (λ (h : PassView). h.draw) c.pass.view_is ∙ (c.requires ∙ sym c.self.view_is) in
     let v = c.pass.inside.seat.me.0 in
     let key = ap (λ (d : SharedDraw). d.pieces) same ∙ sym c.self.invariant.0 in (
       ap (λ (d : SharedDraw). d.table) same,
       omega (arith, c.self.invariant.1),
       draws _ _ _ c.pass.inside.seat.me (omega (arith, c.self.invariant.0, c.self.invariant.3))
-          (subst (λ (k : ℕ). past k v.draws ≡ 0) key (none_past _ (sym c.pass.invariant.stopped ∙ c.if-pass.false)))
+          (subst (λ (k : ℕ). past_count k v.draws ≡ 0) key
+          (none_past _ (sym c.pass.invariant.stopped ∙ c.if-pass.false)))
           c.pass.invariant.sits,
     )
 
 pub invariant_of-pass : goal.invariant_of-pass
 invariant_of-pass c =
     let same = ap (λ (d : SharedDraw). d.pieces)
-    (ap (λ (h : Held). h.draw) c.pass.view_is ∙ (c.requires ∙ sym c.self.view_is)) in
+    (ap (λ (h : PassView). h.draw) c.pass.view_is ∙ (c.requires ∙ sym c.self.view_is)) in
     let v = c.pass.inside.seat.me.0 in
     drew_pass _ _ _ _ _ _ c.pass.invariant c.fetch_add-number.ensures.2
     (c.if-pass.false ∙ goes_on _ v.draws (entry (first_of v.places) c.fetch_add-number.result)
@@ -29,7 +30,7 @@ invariant_of-pass c =
 pub invariant_of-pass-else-number-self : goal.invariant_of-pass-else-number-self
 invariant_of-pass-else-number-self c =
     let same = ap (λ (d : SharedDraw). d.pieces)
-    (ap (λ (h : Held). h.draw) c.pass.view_is ∙ (c.requires ∙ sym c.self.view_is)) in
+    (ap (λ (h : PassView). h.draw) c.pass.view_is ∙ (c.requires ∙ sym c.self.view_is)) in
     let v = c.pass.inside.seat.me.0 in
     drew_pass _ _ _ _ _ _ c.pass.invariant c.fetch_add-number.ensures.2
     (ends_now _ v.draws (entry (first_of v.places) c.fetch_add-number.result)
@@ -39,8 +40,9 @@ pub returns-then-number-self-clause-drawn : goal.returns-then-number-self-clause
 returns-then-number-self-clause-drawn c _ = (
   c.fetch_add-number.result,
   seen_drew _ _ _ _ _ c.fetch_add-number.ensures.0 c.fetch_add-number.ensures.2
-      ∙ ap (λ (h : Held). with_draw h c.fetch_add-number.result) c.pass.view_is,
-  subst (λ (h : Held). AllBelow c.fetch_add-number.result h.draws) c.pass.view_is c.fetch_add-number.ensures.2.above,
+      ∙ ap (λ (h : PassView). with_draw h c.fetch_add-number.result) c.pass.view_is,
+  subst (λ (h : PassView). AllBelow c.fetch_add-number.result h.draws) c.pass.view_is
+      c.fetch_add-number.ensures.2.above,
   rw (sym c.self.view_is) (is_piece _ _ c.if-number-self.true),
 )
 
@@ -48,17 +50,18 @@ pub returns-else-number-self-clause-drawn : goal.returns-else-number-self-clause
 returns-else-number-self-clause-drawn c _ = (
   c.fetch_add-number.result,
   seen_drew _ _ _ _ _ c.fetch_add-number.ensures.0 c.fetch_add-number.ensures.2
-      ∙ ap (λ (h : Held). with_draw h c.fetch_add-number.result) c.pass.view_is,
-  subst (λ (h : Held). AllBelow c.fetch_add-number.result h.draws) c.pass.view_is c.fetch_add-number.ensures.2.above,
+      ∙ ap (λ (h : PassView). with_draw h c.fetch_add-number.result) c.pass.view_is,
+  subst (λ (h : PassView). AllBelow c.fetch_add-number.result h.draws) c.pass.view_is
+      c.fetch_add-number.ensures.2.above,
   rw (sym c.self.view_is) (no_piece _ _ c.if-number-self.false),
 )
 
 pub returns-then-number-self-clause-draw : goal.returns-then-number-self-clause-draw
 returns-then-number-self-clause-draw c =
-    ap (λ (h : Held). h.draw) (seen_drew _ _ _ _ _ c.fetch_add-number.ensures.0 c.fetch_add-number.ensures.2
-    ∙ ap (λ (h : Held). with_draw h c.fetch_add-number.result) c.pass.view_is) ∙ c.requires
+    ap (λ (h : PassView). h.draw) (seen_drew _ _ _ _ _ c.fetch_add-number.ensures.0 c.fetch_add-number.ensures.2
+    ∙ ap (λ (h : PassView). with_draw h c.fetch_add-number.result) c.pass.view_is) ∙ c.requires
 
 pub returns-else-number-self-clause-draw : goal.returns-else-number-self-clause-draw
 returns-else-number-self-clause-draw c =
-    ap (λ (h : Held). h.draw) (seen_drew _ _ _ _ _ c.fetch_add-number.ensures.0 c.fetch_add-number.ensures.2
-    ∙ ap (λ (h : Held). with_draw h c.fetch_add-number.result) c.pass.view_is) ∙ c.requires
+    ap (λ (h : PassView). h.draw) (seen_drew _ _ _ _ _ c.fetch_add-number.ensures.0 c.fetch_add-number.ensures.2
+    ∙ ap (λ (h : PassView). with_draw h c.fetch_add-number.result) c.pass.view_is) ∙ c.requires
