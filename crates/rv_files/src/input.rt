@@ -54,8 +54,8 @@ pub fn read_at_most<R: Read>(
 // One read, into a buffer of its own: so a growth that is refused is told from a read that fails.
 fn read_more<R: Read>(input: &mut R, bytes: &mut Vec<u8>, most: usize) -> Result<usize, InputError>
     requires { vec_len bytes.old < most }
-    ensures { IfOk result
-        (GrowsByRead most (R.remaining input.old) (R.remaining input.new) bytes.old.items bytes.new.items) }
+    ensures { IfOk result (GrowsByRead most (R.remaining input.old) (R.remaining input.new)
+        bytes.old.items bytes.new.items) }
 {
     let mut chunk = [0u8; CHUNK];
     let room = (most - bytes.len()).min(CHUNK);

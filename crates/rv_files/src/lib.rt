@@ -1,8 +1,8 @@
 //! The system's files as a store, and the process's streams as sinks.
 //!
-//! What the world outside holds is not known, so contracts speak of any reader and any writer: [`read_at_most`] and
-//! [`read_whole`] give what a reader has, and a [`StreamSink`] puts what its writer takes. [`FileStore`] opens a file and
-//! reads it by these.
+//! What the world outside holds is not known, so contracts speak of any reader and any writer:
+//! [`read_at_most`] and [`read_whole`] give what a reader has, and a [`StreamSink`] puts what its
+//! writer takes. [`FileStore`] opens a file and reads it by these.
 #![tactic(auto)]
 
 mod files;

@@ -48,8 +48,8 @@ impl<W: Write + Drop> Sink for StreamSink<W> {
 
     fn put(&mut self, bytes: &[u8]) -> Result<usize, SinkFailed>
         ensures within { IfOk result (λ count. (1 ≤ count) × (count ≤ length bytes.now)) }
-        ensures written { IfOk result
-            (λ count. Appends (W.contents self.old.stream) (W.contents self.new.stream) (take count bytes.now)) }
+        ensures written { IfOk result (λ count. Appends (W.contents self.old.stream)
+            (W.contents self.new.stream) (take count bytes.now)) }
         ensures part { OnErr result
             (AppendsBeginning (W.contents self.old.stream) (W.contents self.new.stream) bytes.now) }
         ensures counted { IfOk result (λ _. self.new.failures ≡ self.old.failures) }
