@@ -10,8 +10,8 @@ use std::sync::Wait;
 use std::test::Fail;
 use std::thread::Threads;
 
-// The file of each image: an exit by code 5, its header cut, and two that print 65,536 bytes first, all zero, or each less
-// by one than the one before.
+// The file of each image: an exit by code 5, its header cut, and two that print 65,536 bytes first, all zero, or each
+// less by one than the one before.
 fn image_of(alloc: Global, path: &str) -> Result<Vec<u8>, BadSample> {
     match path {
         "cut" => file(alloc, "one 83"),

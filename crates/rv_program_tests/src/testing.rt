@@ -177,8 +177,10 @@ impl MemoryStore {
 
 // A file's bytes as a store gives them.
 fn copied(alloc: Global, bytes: &[u8]) -> Result<Vec<u8>, ReadError>
-    ensures value { IfOk result (λ copy. (copy.items ≡ bytes.now) × (length bytes.now ≤ most_bytes)) }
-    ensures long { IfErr result (λ error. error ≡ ReadError.TooLong → most_bytes < length bytes.now) }
+    ensures value { IfOk result
+        (λ copy. (copy.items ≡ bytes.now) × (length bytes.now ≤ most_bytes)) }
+    ensures long { IfErr result
+        (λ error. error ≡ ReadError.TooLong → most_bytes < length bytes.now) }
     ensures found { IfErr result (λ error. error ≢ ReadError.Unreadable) }
 {
     if 16_777_216 < bytes.len() {

@@ -1,10 +1,11 @@
-//! Runs of small images: their endings, and the steps that they complete. What the program's tests run is not run again.
+//! Runs of small images: their endings, and the steps that they complete. What the program's tests run is not run
+//! again.
 use super::check;
 use std::test::Fail;
 
-// A budget of 0; the link of C.JAL; an illegal word and a breakpoint; loads and stores at misaligned addresses and outside
-// every region; accesses of the console that are no words, or beside its two addresses: image | budget | ending | completed
-// steps.
+// A budget of 0; the link of C.JAL; an illegal word and a breakpoint; loads and stores at misaligned addresses and
+// outside every region; accesses of the console that are no words, or beside its two addresses: image | budget |
+// ending | completed steps.
 const RUNS: &str = "\
 00500513 X | 0 | budget | 0
 2011 0000 8506 X | 10 | exit 2147483650 | 3

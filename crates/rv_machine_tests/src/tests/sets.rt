@@ -30,9 +30,9 @@ fn machine_of(rt: &impl Abort, alloc: Global, cell: &str, image: &str) -> Result
     Err("a set".into())
 }
 
-// A 16-bit instruction where there are none; jumps and branches to the middle of a word, where 16-bit instructions are and
-// where they are not: JAL, branches taken, JALR with its lowest bit set and clear. Then stores over both halves of an
-// instruction of a set without 16-bit ones, up to FENCE.I and behind it.
+// A 16-bit instruction where there are none; jumps and branches to the middle of a word, where 16-bit instructions
+// are and where they are not: JAL, branches taken, JALR with its lowest bit set and clear. Then stores over both halves
+// of an instruction of a set without 16-bit ones, up to FENCE.I and behind it.
 const NARROW: &str = "\
 rv32im | 6105 850a X | illegal 80000000 6105 | 0
 rv32i | 0080006f 00000000 00500513 X | exit 5 | 3

@@ -8,7 +8,8 @@ load-requires-clause-image c =
     record { isa = c.args.job.now.isa; is = (loadable_parts _ _ _ c.requires.loadable).image }
 
 pub load-requires-clause-fits : goal.load-requires-clause-fits
-load-requires-clause-fits c = rw (new_bus_parts _ _ _ _ c.in_ok-bus.ensures).0 (loadable_parts _ _ _ c.requires.loadable).fits
+load-requires-clause-fits c =
+    rw (new_bus_parts _ _ _ _ c.in_ok-bus.ensures).0 (loadable_parts _ _ _ c.requires.loadable).fits
 
 pub load-requires-clause-new : goal.load-requires-clause-new
 load-requires-clause-new c = (new_bus_parts _ _ _ _ c.in_ok-bus.ensures).1
