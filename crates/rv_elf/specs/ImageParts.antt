@@ -1,5 +1,5 @@
 -- What each step of reading an image asks: its part of the list of refusals.
-use Rattle.std.specs.Prelude.{◌≤◌, ℕ, List, drop, take, Result, Ok}
+use Rattle.std.specs.Prelude.{ℕ, List, drop, take, Result, Ok}
 use Rattle.rv_isa.specs.declared.sets.Isa.{Isa}
 use Rattle.rv_isa.specs.declared.sets.Isa.TheVariants.{Imc}
 use Rattle.rv_elf.specs.declared.error.ImageError.{ImageError}
