@@ -1,5 +1,6 @@
 -- Words that the command takes ask for something.
-use Rattle.std.proofs.Common.{◌≡◌, ◌∙◌, ◌<◌, ◌^◌, ◌&&◌, ◌||◌, ℕ, Bool, not, true, false, true≢false, refl, sym, ap, cond, arith, List, [], Option, Some, None, codes, nat_lt}
+use Rattle.std.proofs.Common.{◌≡◌, ◌∙◌, ◌<◌, ◌^◌, ◌&&◌, ◌||◌, ℕ, Bool, not, true, false, true≢false, refl, sym, ap}
+use Rattle.std.proofs.Common.{cond, arith, List, [], Option, Some, None, codes, nat_lt}
 use Rattle.std.specs.Option.{is_some, option_and_then, option_map, option_map_or, unwrap_or}
 use Rattle.std.specs.List.{find, list_all, list_any}
 use Rattle.std.specs.Prelude.{pos, slice_get}
@@ -11,17 +12,21 @@ use Rattle.clap.specs.Facts.{explicit_source, parser_of_value}
 use Rattle.clap.specs.ValueTests.{accepts, is_numeral}
 use Rattle.clap.specs.Values.{read_as, reading_of}
 use Rattle.clap.specs.Simple.{App, Shape, argument_words, built, entered, is_simple, label_of, names_of, rows_at}
-use Rattle.clap.specs.Takes.{built_takes, default_passes, entered_passes, is_given, level_passes, settle_passes, walk_passes}
-use Rattle.clap.specs.Walk.{Held, Names, Row, Rule, Text, answers_to, arg_by_id, finished, nothing_held, one_of, rows_after, walk, walk_from}
+use Rattle.clap.specs.Takes.{built_takes, default_passes, entered_passes, is_given, level_passes, settle_passes}
+use Rattle.clap.specs.Takes.{walk_passes}
+use Rattle.clap.specs.Walk.{Held, Names, Row, Rule, Text, answers_to, arg_by_id, finished, nothing_held, one_of}
+use Rattle.clap.specs.Walk.{rows_after, walk, walk_from}
 use Rattle.clap.specs.declared.builder.value_parser.ValueParser.TheVariants as value_parser
 use Rattle.clap.proofs.CallerReads.{signed_reads}
 use Rattle.clap.proofs.ValueTestLemmas.{accepts-Accepts}
 use Rattle.clap.proofs.WalkLemmas.{both}
-use Rattle.rv_program.proofs.Matching.{AreGood, EachOf, IsRead, IsThere, found_of_each, help_good, level_read, there_if_given, there_if_had, value_good, value_there}
+use Rattle.rv_program.proofs.Matching.{AreGood, EachOf, IsRead, IsThere, found_of_each, help_good, level_read}
+use Rattle.rv_program.proofs.Matching.{there_if_given, there_if_had, value_good, value_there}
 use Rattle.rv_program.proofs.Numerals.{test_gives, test_holds}
 use Rattle.rv_program.specs.declared.command.Request.{Request as Value}
 use Rattle.rv_program.specs.Requests.{request}
-use Rattle.rv_program.specs.CommandLine.{budget_rule, fleet_app, is_taken, number_in, number_of, number_within, one_in, raw_in, request_in, request_of, run_in}
+use Rattle.rv_program.specs.CommandLine.{budget_rule, fleet_app, is_taken, number_in, number_of, number_within, one_in}
+use Rattle.rv_program.specs.CommandLine.{raw_in, request_in, request_of, run_in}
 
 -- ---- numbers
 

@@ -1,5 +1,6 @@
 -- Rows whose values pass the tests of their arguments.
-use Rattle.std.proofs.Common.{◌≡◌, ◌∙◌, ◌<◌, ◌≤◌, ◌||◌, Bool, true, false, true≢false, not, refl, sym, ap, subst, cond, arith, List, [], ◌∷◌, ◌++◌, Option, Some, None, length, length-append, leb-true, nat_le}
+use Rattle.std.proofs.Common.{◌≡◌, ◌∙◌, ◌<◌, ◌≤◌, ◌||◌, Bool, true, false, true≢false, not, refl, sym, ap, subst, cond}
+use Rattle.std.proofs.Common.{arith, List, [], ◌∷◌, ◌++◌, Option, Some, None, length, length-append, leb-true, nat_le}
 use Rattle.std.specs.Option.{option_map_or}
 use Rattle.std.specs.List.{find, fold, list_all, list_any}
 use Rattle.std.specs.Str.{bytes_eq}
@@ -7,8 +8,11 @@ use Rattle.std.proofs.lemmas.List.Folds.{list_all-append}
 use Rattle.std.proofs.lemmas.Slice.Eq.{bytes_eq-Decides}
 use Rattle.clap.specs.Facts.{explicit_source, unwrap_or_range}
 use Rattle.clap.specs.Simple.{Shape}
-use Rattle.clap.specs.Takes.{default_passes, is_given, is_valid, level_passes, set_passes, settle_passes, use_passes, value_passes, values_pass, walk_passes}
-use Rattle.clap.specs.Walk.{Held, Row, Rule, Text, action_of, arg_by_id, default_rows, first_of, has_row, is_empty, most_values, nothing_held, one_of, reading_by, rows_after, settled, stronger, used, walk, walk_from, with_default, with_values, without}
+use Rattle.clap.specs.Takes.{default_passes, is_given, is_valid, level_passes, set_passes, settle_passes, use_passes}
+use Rattle.clap.specs.Takes.{value_passes, values_pass, walk_passes}
+use Rattle.clap.specs.Walk.{Held, Row, Rule, Text, action_of, arg_by_id, default_rows, first_of, has_row, is_empty}
+use Rattle.clap.specs.Walk.{most_values, nothing_held, one_of, reading_by, rows_after, settled, stronger, used, walk}
+use Rattle.clap.specs.Walk.{walk_from, with_default, with_values, without}
 use Rattle.clap.specs.declared.builder.action.ArgAction.TheVariants.{Help, Set}
 use Rattle.clap.specs.declared.builder.value_parser.Reading.{Reading}
 use Rattle.clap.specs.Values.{read_as}

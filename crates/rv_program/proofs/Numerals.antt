@@ -1,5 +1,6 @@
 -- What the typed getter of a number gives, by the rows.
-use Rattle.std.proofs.Common.{◌≡◌, ◌∙◌, ◌<◌, ◌^◌, ℕ, Bool, true, false, refl, ap, List, [], ◌∷◌, Option, Some, None, Result, Ok, Err, nat_lt, option_and_then, lt-ltb, ltb-true, cond, ◌&&◌}
+use Rattle.std.proofs.Common.{◌≡◌, ◌∙◌, ◌<◌, ◌^◌, ℕ, Bool, true, false, refl, ap, List, [], ◌∷◌, Option, Some, None}
+use Rattle.std.proofs.Common.{Result, Ok, Err, nat_lt, option_and_then, lt-ltb, ltb-true, cond, ◌&&◌}
 use Rattle.std.specs.List.{list_all}
 use Rattle.std.specs.Char.{digit_value}
 use Rattle.std.specs.Str.Parse.{AllDigits, IsNumeral, ParsesUnsigned, digits_value, without_leading_plus}
@@ -20,10 +21,12 @@ digits_back : (ds : List ℕ) → AllDigits 10 ds → list_all (λ d. nat_lt (di
 digits_back [] h = refl
 digits_back (d ∷ ds) h = rw (lt-ltb (digit_value d) 10 h.0) (digits_back ds h.1)
 
-pub test_holds : (ds : List ℕ) → IsNumeral 10 ds → digits_value 10 ds < 2 ^ 32 → (is_numeral ds && nat_lt (digits_value 10 ds) (2 ^ 32)) ≡ true
+pub test_holds : (ds : List ℕ) → IsNumeral 10 ds → digits_value 10 ds < 2 ^ 32
+    → (is_numeral ds && nat_lt (digits_value 10 ds) (2 ^ 32)) ≡ true
 test_holds ds h lt = rw (lt-ltb _ _ h.0, digits_back ds h.1, lt-ltb _ _ lt) refl
 
-pub test_gives : (ds : List ℕ) → (is_numeral ds && nat_lt (digits_value 10 ds) (2 ^ 32)) ≡ true → IsNumeral 10 ds × (digits_value 10 ds < 2 ^ 32)
+pub test_gives : (ds : List ℕ) → (is_numeral ds && nat_lt (digits_value 10 ds) (2 ^ 32)) ≡ true
+    → IsNumeral 10 ds × (digits_value 10 ds < 2 ^ 32)
 test_gives ds e =
     let a = both _ _ e in
     let n = both _ _ a.0 in
@@ -36,9 +39,11 @@ parsed {E} t (Some v) G read only =
     let p = only (Ok v) read in
     let b = test_holds (without_leading_plus t) p.0.0 p.0.1 in
     rw b (ap Some p.1)
-parsed {E} t None G read only = go (is_numeral (without_leading_plus t) && nat_lt (digits_value 10 (without_leading_plus t)) (2 ^ 32)) refl
+parsed {E} t None G read only =
+    go (is_numeral (without_leading_plus t) && nat_lt (digits_value 10 (without_leading_plus t)) (2 ^ 32)) refl
   where
-    go : (b : Bool) → (is_numeral (without_leading_plus t) && nat_lt (digits_value 10 (without_leading_plus t)) (2 ^ 32)) ≡ b
+    go : (b : Bool) → (is_numeral (without_leading_plus t) && nat_lt (digits_value 10 (without_leading_plus t))
+        (2 ^ 32)) ≡ b
         → None ≡ cond b (Some (digits_value 10 (without_leading_plus t))) None
     go true e = absurd (only (Err read.0) read.1 (test_gives (without_leading_plus t) e))
     go false e = refl

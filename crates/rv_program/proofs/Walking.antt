@@ -1,13 +1,22 @@
 -- What holds of the rows of a walk over words that pass, where each use of an argument that passes keeps it.
-use Rattle.std.proofs.Common.{◌≡◌, ◌&&◌, ◌||◌, ℕ, Bool, true, false, zero, suc, refl, cond, List, [], ◌∷◌, Option, Some, None, length, drop}
+use Rattle.std.proofs.Common.{◌≡◌, ◌&&◌, ◌||◌, ℕ, Bool, true, false, zero, suc, refl, cond, List, [], ◌∷◌, Option, Some}
+use Rattle.std.proofs.Common.{None, length, drop}
 use Rattle.std.specs.Option.{is_some, option_map_or}
 use Rattle.std.specs.List.{find, fold}
 use Rattle.std.specs.Str.{bytes_eq, chars}
 use Rattle.std.specs.Prelude.{encode_utf8, slice_get}
 use Rattle.clap.specs.Lexer.{long_of, short_of}
 use Rattle.clap.specs.Simple.{Shape}
-use Rattle.clap.specs.Takes.{bundle_step_passes, flag_word_passes, flags_pass, long_passes, option_passes, other_passes, positional_passes, react_passes, settle_passes, short_passes, step_passes, turn_passes, use_passes, walk_passes, word_passes}
-use Rattle.clap.specs.Walk.{Held, Names, Outcome, Row, Rule, Step, Text, Waiting, Walk, after_flag, after_step, arg_by_id, arg_by_index, arg_by_long, arg_by_short, attached_value, bundle_met, bundle_step, done, waits, plain, refused, idle, option, positional, next, option_word, trailing, subcommand, value, is_pending, long_met, long_or_other, option_met, flag_met, plain_word, reacted, settled, settled_rows, short_met, short_or_plain, subcommand_met, subcommand_or_other, takes_several, takes_values, to_positional, used, used_by_id, walked, walked_from, word_met}
+use Rattle.clap.specs.Takes.{bundle_step_passes, flag_word_passes, flags_pass, long_passes, option_passes, other_passes}
+use Rattle.clap.specs.Takes.{positional_passes, react_passes, settle_passes, short_passes, step_passes, turn_passes}
+use Rattle.clap.specs.Takes.{use_passes, walk_passes, word_passes}
+use Rattle.clap.specs.Walk.{Held, Names, Outcome, Row, Rule, Step, Text, Waiting, Walk, after_flag, after_step}
+use Rattle.clap.specs.Walk.{arg_by_id, arg_by_index, arg_by_long, arg_by_short, attached_value, bundle_met, bundle_step}
+use Rattle.clap.specs.Walk.{done, waits, plain, refused, idle, option, positional, next, option_word, trailing}
+use Rattle.clap.specs.Walk.{subcommand, value, is_pending, long_met, long_or_other, option_met, flag_met, plain_word}
+use Rattle.clap.specs.Walk.{reacted, settled, settled_rows, short_met, short_or_plain, subcommand_met}
+use Rattle.clap.specs.Walk.{subcommand_or_other, takes_several, takes_values, to_positional, used, used_by_id, walked}
+use Rattle.clap.specs.Walk.{walked_from, word_met}
 use Rattle.clap.proofs.WalkLemmas.{both}
 
 module _ (s : Shape) (Inv : List Row → Type 0)

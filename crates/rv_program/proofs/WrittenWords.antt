@@ -29,15 +29,19 @@ budget_above : takes fleet_app (codes "rvfleet" ∷ codes "raw" ∷ codes "--bud
 unfolding clap_on_literals
 budget_above = refl
 
-one_is_taken : takes fleet_app (codes "rvfleet" ∷ codes "one" ∷ codes "a.elf" ∷ codes "--budget" ∷ codes "3" ∷ []) ≡ true
+one_is_taken : takes fleet_app (codes "rvfleet" ∷ codes "one" ∷ codes "a.elf" ∷ codes "--budget" ∷ codes "3" ∷ [])
+    ≡ true
 unfolding clap_on_literals
 one_is_taken = refl
 
-one_asks : request_of (codes "rvfleet" ∷ codes "one" ∷ codes "a.elf" ∷ codes "--budget" ∷ codes "3" ∷ []) ≡ Some (one (codes "a.elf") 3 None)
+one_asks : request_of (codes "rvfleet" ∷ codes "one" ∷ codes "a.elf" ∷ codes "--budget" ∷ codes "3" ∷ [])
+    ≡ Some (one (codes "a.elf") 3 None)
 unfolding clap_on_literals
 one_asks = refl
 
-one_asks_with_input : request_of (codes "rvfleet" ∷ codes "one" ∷ codes "--input-hex" ∷ codes "4142" ∷ codes "--budget=3" ∷ codes "a" ∷ []) ≡ Some (one (codes "a") 3 (Some (codes "4142")))
+one_asks_with_input : request_of
+    (codes "rvfleet" ∷ codes "one" ∷ codes "--input-hex" ∷ codes "4142" ∷ codes "--budget=3" ∷ codes "a" ∷ [])
+    ≡ Some (one (codes "a") 3 (Some (codes "4142")))
 unfolding clap_on_literals
 one_asks_with_input = refl
 
@@ -49,7 +53,8 @@ run_asks : request_of (codes "rvfleet" ∷ codes "run" ∷ codes "a.toml" ∷ []
 unfolding clap_on_literals
 run_asks = refl
 
-run_asks_with_both : request_of (codes "rvfleet" ∷ codes "run" ∷ codes "a.toml" ∷ codes "--workers" ∷ codes "4" ∷ codes "--group=64" ∷ [])
+run_asks_with_both : request_of
+    (codes "rvfleet" ∷ codes "run" ∷ codes "a.toml" ∷ codes "--workers" ∷ codes "4" ∷ codes "--group=64" ∷ [])
     ≡ Some (run (codes "a.toml") 4 64)
 unfolding clap_on_literals
 run_asks_with_both = refl

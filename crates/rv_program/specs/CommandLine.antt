@@ -1,21 +1,25 @@
 -- The command line: the rules that `clap` reads words by, and what words ask for.
-use Rattle.std.specs.Prelude.{◌^◌, ℕ, Bool, true, List, [], ◌∷◌, Option, Some, None, pos, codes, option_map, option_and_then, if◌then◌else◌, ◌&&◌, nat_le, nat_lt}
+use Rattle.std.specs.Prelude.{◌≡◌, ◌⊎◌, is_some, ◌^◌, ℕ, Bool, true, List, [], ◌∷◌, Option, Some}
+use Rattle.std.specs.Prelude.{None, pos, codes, option_map, option_and_then, if◌then◌else◌, ◌&&◌}
+use Rattle.std.specs.Prelude.{nat_le, nat_lt}
 use Rattle.std.specs.Str.{bytes_eq}
 use Rattle.std.specs.Str.Parse.{digits_value, without_leading_plus}
 use Rattle.clap.specs.ValueTests.{is_numeral}
-use Rattle.clap.specs.Words.{App, IsAmong, Kinds, Row, Rule, Text, fault_of, first_of, new_app, new_rule, one_of, subcommand_of, takes, with_rule, with_subcommand}
+use Rattle.clap.specs.Words.{App, IsAmong, Kinds, Row, Rule, Text, fault_of, first_of, new_app}
+use Rattle.clap.specs.Words.{new_rule, one_of, subcommand_of, takes, with_rule, with_subcommand}
 use Rattle.clap.specs.declared.error.kind.ErrorKind.TheVariants as kind
+use Rattle.rv_jobs.specs.declared.limits.TheConstants.{MOST_BUDGET}
 use Rattle.clap.specs.declared.builder.value_parser.ValueParser.TheVariants as value_parser
 
 -- ---- the rules
 
--- --budget <N>, required: from 1 to 1,000,000,000
+-- --budget <N>, required: from 1 to the greatest budget of a job
 abbrev pub budget_rule : Rule
 budget_rule = record (new_rule (codes "budget")) {
   long = Some (codes "budget");
   required = true;
   value_names = 1;
-  parser = Some (value_parser.Signed (pos 1) (pos 1000000000));
+  parser = Some (value_parser.Signed (pos 1) (pos MOST_BUDGET));
 }
 
 -- <IMAGE>, required
@@ -24,7 +28,10 @@ image_rule = record (new_rule (codes "image")) { required = true; value_names = 
 
 -- --input-hex <H>
 abbrev pub input_rule : Rule
-input_rule = record (new_rule (codes "input-hex")) { long = Some (codes "input-hex"); value_names = 1 }
+input_rule = record (new_rule (codes "input-hex")) {
+  long = Some (codes "input-hex");
+  value_names = 1;
+}
 
 -- <JOBS>, required
 abbrev pub jobs_rule : Rule
@@ -54,24 +61,30 @@ raw_app = with_rule (new_app (codes "raw")) budget_rule
 
 -- one <IMAGE> --budget <N> [--input-hex <H>]
 abbrev pub one_app : App
-one_app = with_rule (with_rule (with_rule (new_app (codes "one")) image_rule) budget_rule) input_rule
+one_app =
+    with_rule (with_rule (with_rule (new_app (codes "one")) image_rule) budget_rule) input_rule
 
 -- run <JOBS> [--workers <N>] [--group <N>]
 abbrev pub run_app : App
-run_app = with_rule (with_rule (with_rule (new_app (codes "run")) jobs_rule) workers_rule) group_rule
+run_app =
+    with_rule (with_rule (with_rule (new_app (codes "run")) jobs_rule) workers_rule) group_rule
 
 -- a subcommand is required, and none is called help
 abbrev pub top_app : App
 top_app = let app = new_app (codes "rvfleet") in
-    record app { top = record app.top { subcommand_required = true; disable_help_subcommand = true } }
+    record app {
+      top = record app.top { subcommand_required = true; disable_help_subcommand = true };
+    }
 
 -- the whole command
 abbrev pub fleet_app : App
-fleet_app = with_subcommand (with_subcommand (with_subcommand top_app raw_app.top) one_app.top) run_app.top
+fleet_app =
+    with_subcommand (with_subcommand (with_subcommand top_app raw_app.top) one_app.top) run_app.top
 
 -- ---- what words ask for
 
--- a flat image within a budget; an image at a path, within a budget, with the digits of its input; a list at a path, with the workers and the group
+-- a flat image within a budget; an image at a path, within a budget, with the digits of its input;
+-- a list at a path, with the workers and the group
 pub data Request : Type 0 where
   raw : ℕ → Request
   one : Text → ℕ → Option Text → Request
@@ -83,7 +96,8 @@ number_of text = let number = digits_value 10 (without_leading_plus text) in
     if is_numeral (without_leading_plus text) && nat_lt number (2 ^ 32) then Some number else None
 
 abbrev pub number_within : ℕ → ℕ → ℕ → Option ℕ
-number_within low high number = if nat_le low number && nat_le number high then Some number else None
+number_within low high number =
+    if nat_le low number && nat_le number high then Some number else None
 
 -- the number that stands for an argument
 abbrev pub read_number_in : Text → List Row → Option ℕ
@@ -94,27 +108,32 @@ abbrev pub number_in : Text → ℕ → ℕ → List Row → Option ℕ
 number_in id low high rows = option_and_then (number_within low high) (read_number_in id rows)
 
 abbrev pub budget_in : List Row → Option ℕ
-budget_in rows = number_in (codes "budget") 1 1000000000 rows
+budget_in rows = number_in (codes "budget") 1 MOST_BUDGET rows
 
 abbrev pub raw_in : List Row → Option Request
 raw_in rows = option_map raw (budget_in rows)
 
 abbrev pub one_in : List Row → Option Request
-one_in rows = option_and_then (λ path. option_map (λ budget. one path budget (first_of (codes "input-hex") rows)) (budget_in rows))
-    (first_of (codes "image") rows)
+one_in rows = option_and_then
+    (λ path. option_map (λ budget. one path budget (first_of (codes "input-hex") rows))
+    (budget_in rows)) (first_of (codes "image") rows)
 
 abbrev pub run_in : List Row → Option Request
-run_in rows = option_and_then (λ path. option_and_then (λ workers. option_map (run path workers) (number_in (codes "group") 1 4096 rows))
+run_in rows = option_and_then (λ path. option_and_then
+    (λ workers. option_map (run path workers) (number_in (codes "group") 1 4096 rows))
     (number_in (codes "workers") 1 64 rows)) (first_of (codes "jobs") rows)
 
 -- what a subcommand with these values asks for
 abbrev pub request_in : Text → List Row → Option Request
 request_in name rows = if bytes_eq name (codes "raw") then raw_in rows
-    else (if bytes_eq name (codes "one") then one_in rows else (if bytes_eq name (codes "run") then run_in rows else None))
+    else if bytes_eq name (codes "one") then one_in rows
+    else if bytes_eq name (codes "run") then run_in rows
+    else None
 
 -- the subcommand and the values are the matches that `clap` defines for the words
 abbrev pub request_of : List Text → Option Request
-request_of words = option_and_then (λ found. request_in found.0 found.1) (subcommand_of fleet_app words)
+request_of words =
+    option_and_then (λ found. request_in found.0 found.1) (subcommand_of fleet_app words)
 
 -- the command takes the words
 unfoldable pub is_taken : List Text → Bool
@@ -128,6 +147,10 @@ request_beside (fault ∷ more) request = None
 -- what words ask for in which the command finds no fault
 unfoldable pub asked_of : List Text → Option Request
 asked_of words = request_beside (fault_of fleet_app words) (request_of words)
+
+-- the command takes the words, or finds no fault in them and something is asked for
+abbrev pub IsToAnswer : List Text → Type 0
+IsToAnswer words = (is_taken words ≡ true) ⊎ (is_some (asked_of words) ≡ true)
 
 -- the words ask for help
 abbrev pub AsksHelp : List Text → Type 0

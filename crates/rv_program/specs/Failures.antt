@@ -1,5 +1,5 @@
 -- What the program says of an error of a layer below.
-use Rattle.std.specs.Prelude.{◌≡◌}
+use Rattle.std.specs.Prelude.{◌≡◌, Bool, true, false}
 use Rattle.rv_jobs.specs.declared.error.JobError.{JobError}
 use Rattle.rv_program.specs.declared.error.ListError.{ListError}
 use Rattle.rv_program.specs.declared.error.ListError.TheVariants.{Failed, Refused}
@@ -40,6 +40,29 @@ fleet_failure fleet.NoWorker = failure.NoWorker
 abbrev pub send_failure : WriteError → Failure
 send_failure write.OutOfMemory = failure.OutOfMemory
 send_failure write.Failed = failure.WriteFailed
+
+-- sending a report, or help, may fail so
+abbrev pub is_of_sending : Failure → Bool
+is_of_sending failure.OutOfMemory = true
+is_of_sending failure.WriteFailed = true
+is_of_sending _ = false
+
+-- a flat image may fail so, whose input is read
+abbrev pub is_of_raw : Failure → Bool
+is_of_raw failure.OutOfMemory = true
+is_of_raw failure.ReadFailed = true
+is_of_raw failure.WriteFailed = true
+is_of_raw _ = false
+
+-- a job list may fail so, which has a file and workers, and for which the input isn't read
+abbrev pub is_of_list : Failure → Bool
+is_of_list failure.ReadFailed = false
+is_of_list _ = true
+
+-- reading a list failed so, if it did
+abbrev pub IsListFailure : ListError → Type 0
+IsListFailure (Refused error) = Unit {0}
+IsListFailure (Failed failure) = is_of_list failure ≡ true
 
 -- a list that is refused for this; want of memory is a failure of the program
 abbrev pub IsListError : JobError → ListError → Type 0

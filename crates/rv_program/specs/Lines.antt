@@ -19,7 +19,8 @@ bad_words_line = program_line (codes "bad words")
 
 -- the line of a list's fault: the number of the job, or 0 for the whole list, and the fault's name
 abbrev pub fault_line : JobError → List ℕ
-fault_line error = program_line (codes "job " ++ decimal error.job ++ codes ": " ++ what_name error.what)
+fault_line error =
+    program_line (codes "job " ++ decimal error.job ++ codes ": " ++ what_name error.what)
 
 abbrev pub failure_name : Failure → List ℕ
 failure_name failure.OutOfMemory = codes "out of memory"
@@ -33,7 +34,9 @@ failure_name failure.WriteFailed = codes "write failed"
 abbrev pub failure_line : Failure → List ℕ
 failure_line failure = program_line (failure_name failure)
 
--- the whole line went out and no put failed; or one put failed, and a beginning of the line went out
+-- the whole line went out and no put failed; or one put failed, and a beginning of the line went
+-- out
 unfoldable pub Told : Option (List ℕ) → Option (List ℕ) → ℕ → ℕ → List ℕ → Type 0
-Told before after failures_before failures_after line = (Appends before after line × (failures_after ≡ failures_before))
+Told before after failures_before failures_after line =
+    (Appends before after line × (failures_after ≡ failures_before))
     ⊎ (AppendsBeginning before after line × (failures_after ≡ one_more failures_before))

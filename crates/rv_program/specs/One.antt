@@ -1,5 +1,6 @@
 -- The words of a run of one image: which are refused, and which job they stand for.
-use Rattle.std.specs.Prelude.{◌==◌, ◌||◌, ℕ, Bool, true, List, [], ◌∷◌, length, nat_lt, Option, Some, None, Result, Ok, Err}
+use Rattle.std.specs.Prelude.{◌==◌, ◌||◌, ℕ, Bool, true, List, [], ◌∷◌, length, nat_lt, Option}
+use Rattle.std.specs.Prelude.{Some, None, Result, Ok, Err}
 use Rattle.hex.specs.Hex.{decode_of}
 use Rattle.hex.specs.declared.error.FromHexError.{FromHexError}
 use Rattle.rv_jobs.specs.declared.job.Job.{Job}
@@ -18,14 +19,6 @@ bytes_of (Some digits) = decode_of digits
 abbrev pub is_bad_script : Result (List ℕ) FromHexError → Bool
 is_bad_script (Ok script) = nat_lt most_script (length script)
 is_bad_script (Err _) = true
-
-abbrev pub script_or_none : Result (List ℕ) FromHexError → List ℕ
-script_or_none (Ok script) = script
-script_or_none (Err _) = []
-
--- the script of digits that aren't refused
-abbrev pub script_of : Option (List ℕ) → List ℕ
-script_of digits = script_or_none (bytes_of digits)
 
 -- the words are refused for their path or their digits
 abbrev pub is_bad_one : List ℕ → Option (List ℕ) → Bool

@@ -20,24 +20,27 @@ pub record Stored : Type 0 where
 abbrev pub stored : Option FileContents → ℕ → ℕ → Stored
 stored known before after = record { known = known; before = before; after = after }
 
--- a plan of jobs over answers that the store may give: one for each of their paths, and one more fault for each that is unreadable
+-- a plan of jobs over answers that the store may give: one for each of their paths, and one more
+-- fault for each that is unreadable
 pub record MayPlan (store : Stored) (list : List Job) (plan : Planned) : Type 0 where
   pub jobs : plan.jobs ≡ list
   pub paths : paths_of plan.answers ≡ paths_used list
   pub kept : AreKept store.known plan.answers
   pub faults : store.after ≡ more store.before (unreadables plan.answers)
 
--- what is owed for the rows of jobs
-abbrev pub ForJobs : Stored → List Job → (List Row → Type 0) → Type 0
-ForJobs store jobs owed = (plan : Planned) × (MayPlan store jobs plan × owed (rows_of plan))
+-- the rows of jobs, over answers that the store may give
+abbrev pub AreJobRows : Stored → List Job → List Row → Type 0
+AreJobRows store jobs rows = (plan : Planned) × (MayPlan store jobs plan × (rows ≡ rows_of plan))
 
 -- the jobs are those of a list that the store may hold at a path
 abbrev pub MayList : Option FileContents → List ℕ → List Job → Type 0
-MayList known path jobs = (list : List ℕ) × (IsKeptOf known path (Content list) × (job_list_of list ≡ Ok jobs))
+MayList known path jobs =
+    (list : List ℕ) × (IsKeptOf known path (Content list) × (job_list_of list ≡ Ok jobs))
 
 -- a list that the store may hold at a path has this fault
 abbrev pub MayFault : Option FileContents → List ℕ → JobError → Type 0
-MayFault known path error = (list : List ℕ) × (IsKeptOf known path (Content list) × (job_list_of list ≡ Err error))
+MayFault known path error =
+    (list : List ℕ) × (IsKeptOf known path (Content list) × (job_list_of list ≡ Err error))
 
 -- the fault of a list that was read; a list that wasn't read has none
 abbrev pub OfFault : Option FileContents → List ℕ → ListError → Type 0

@@ -1,5 +1,5 @@
 -- What comes of the input's bytes.
-use Rattle.std.specs.Prelude.{ℕ, List, [], ◌∷◌, take}
+use Rattle.std.specs.Prelude.{◌≡◌, ℕ, List, [], ◌∷◌, take, Option, IfSome}
 use Rattle.rv_rows.specs.declared.row.Row.{Row}
 use Rattle.rv_rows.specs.Flat.{flat_row_of}
 
@@ -7,6 +7,11 @@ use Rattle.rv_rows.specs.Flat.{flat_row_of}
 abbrev pub most_read : ℕ
 most_read = 1048577
 
--- the one row of an input
-abbrev pub raw_rows : List ℕ → ℕ → List Row
-raw_rows input budget = flat_row_of (take most_read input) budget ∷ []
+-- these bytes are read of the input: its first ones, where it tells what it has
+abbrev pub AreRead : Option (List ℕ) → List ℕ → Type 0
+AreRead input bytes = IfSome input (λ known. bytes ≡ take most_read known)
+
+-- the one row of the flat image that is read
+abbrev pub AreRawRows : Option (List ℕ) → ℕ → List Row → Type 0
+AreRawRows input budget rows =
+    (bytes : List ℕ) × (AreRead input bytes × (rows ≡ flat_row_of bytes budget ∷ []))

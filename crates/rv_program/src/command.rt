@@ -1,13 +1,20 @@
 //! The command line.
 
-ghost use Rattle.std.specs.Prelude.{◌≡◌, ◌≤◌, [], IfOk, IfErr, IfSome, is_some, true, false, map, option_map};
-ghost use Rattle.clap.specs.Words.{FailsBy, app_of, fault_of, first_of, found_of, kind_of, rows_of, rule_of};
+ghost use Rattle.std.specs.Prelude.{◌≡◌, ◌≤◌, [], IfOk, IfErr, IfSome, is_some, true, false, map};
+ghost use Rattle.std.specs.Prelude.{option_map};
+ghost use Rattle.clap.specs.Words.{FailsBy, app_of, fault_of, first_of, found_of, kind_of, rows_of};
+ghost use Rattle.clap.specs.Words.{rule_of};
 ghost use Rattle.clap.specs.declared.builder.command.Command.TheViews.{out-Command};
-ghost use Rattle.rv_program.specs.CommandLine.{budget_rule, image_rule, input_rule, jobs_rule, workers_rule, group_rule, raw_app, one_app, run_app, top_app, fleet_app, budget_in, number_in, read_number_in, raw_in, one_in, run_in, request_in, request_of, is_taken};
+ghost use Rattle.rv_program.specs.CommandLine.{budget_rule, image_rule, input_rule, jobs_rule};
+ghost use Rattle.rv_program.specs.CommandLine.{workers_rule, group_rule, raw_app, one_app, run_app};
+ghost use Rattle.rv_program.specs.CommandLine.{top_app, fleet_app, budget_in, number_in};
+ghost use Rattle.rv_program.specs.CommandLine.{read_number_in, raw_in, one_in, run_in, request_in};
+ghost use Rattle.rv_program.specs.CommandLine.{request_of, is_taken};
 ghost use Rattle.rv_program.specs.Requests.{AreWithin, request};
 
 use clap::error::ErrorKind;
 use clap::{Arg, ArgMatches, Command, Error, value_parser};
+use rv_jobs::limits::MOST_BUDGET;
 use std::alloc::{AllocError, Global};
 use std::convert::AsStr;
 
@@ -35,12 +42,18 @@ pub enum Request<'a> {
 /// Reads words, the first of which is the program's name. `None` stands where words name no request; those that the
 /// command takes name one. An error is `clap`'s own; help is one, of the kind DisplayHelp.
 pub fn read_words<'a, T: AsStr>(alloc: Global, words: &'a [T]) -> Result<Option<Request<'a>>, Error>
-    ensures value { IfOk result (λ asked. option_map request asked ≡ request_of (map T.text words.entry.now)) }
+    // What is read is what the words ask for.
+    ensures value { IfOk result
+        (λ asked. option_map request asked ≡ request_of (map T.text words.entry.now)) }
+    // Each number is within the range of its argument.
     ensures within { IfOk result (λ asked. IfSome asked AreWithin) }
+    // Words that the command takes ask for something.
     ensures asked { is_taken (map T.text words.entry.now) ≡ true
         → IfOk result (λ asked. is_some asked ≡ true) }
-    ensures taken { IfErr result
-        (λ error. is_taken (map T.text words.entry.now) ≡ true → kind_of error ≡ ErrorKind.OutOfMemory) }
+    // They fail for want of memory alone.
+    ensures taken { IfErr result (λ error. is_taken (map T.text words.entry.now) ≡ true
+        → kind_of error ≡ ErrorKind.OutOfMemory) }
+    // Any words fail by a fault that is found in them, or for want of memory, and else have none.
     ensures kinds { FailsBy (fault_of fleet_app (map T.text words.entry.now)) result }
 {
     let command = fleet_command(alloc)?;
@@ -61,7 +74,8 @@ fn fleet_command<'a>(alloc: Global) -> Result<Command<'a>, AllocError>
 }
 
 fn top_command<'a>(alloc: Global) -> Result<Command<'a>, AllocError>
-    ensures { IfOk result (λ command. (app_of command ≡ top_app) × ((out-Command command).has_globals ≡ false)) }
+    ensures { IfOk result (λ command.
+        (app_of command ≡ top_app) × ((out-Command command).has_globals ≡ false)) }
 {
     Command::new(alloc, "rvfleet")
         .subcommand_required(true)
@@ -71,7 +85,8 @@ fn top_command<'a>(alloc: Global) -> Result<Command<'a>, AllocError>
 }
 
 fn raw_command<'a>(alloc: Global) -> Result<Command<'a>, AllocError>
-    ensures { IfOk result (λ command. (app_of command ≡ raw_app) × ((out-Command command).has_globals ≡ false)) }
+    ensures { IfOk result (λ command.
+        (app_of command ≡ raw_app) × ((out-Command command).has_globals ≡ false)) }
 {
     Command::new(alloc, "raw")
         .about("Runs the flat image on standard input, placed at 0x80000000")
@@ -79,7 +94,8 @@ fn raw_command<'a>(alloc: Global) -> Result<Command<'a>, AllocError>
 }
 
 fn one_command<'a>(alloc: Global) -> Result<Command<'a>, AllocError>
-    ensures { IfOk result (λ command. (app_of command ≡ one_app) × ((out-Command command).has_globals ≡ false)) }
+    ensures { IfOk result (λ command.
+        (app_of command ≡ one_app) × ((out-Command command).has_globals ≡ false)) }
 {
     Command::new(alloc, "one")
         .about("Runs one ELF image, placed at its physical addresses")
@@ -89,7 +105,8 @@ fn one_command<'a>(alloc: Global) -> Result<Command<'a>, AllocError>
 }
 
 fn run_command<'a>(alloc: Global) -> Result<Command<'a>, AllocError>
-    ensures { IfOk result (λ command. (app_of command ≡ run_app) × ((out-Command command).has_globals ≡ false)) }
+    ensures { IfOk result (λ command.
+        (app_of command ≡ run_app) × ((out-Command command).has_globals ≡ false)) }
 {
     Command::new(alloc, "run")
         .about("Runs the jobs of a list, and reports one row a job")
@@ -181,7 +198,8 @@ fn group_option<'a>(alloc: Global) -> Arg<'a>
 }
 
 fn subcommand_asked<'a>(name: &str, values: &ArgMatches<'a>) -> Option<Request<'a>>
-    ensures value { option_map request result ≡ request_in name.now (rows_of (found_of values.now)) }
+    ensures value { option_map request result
+        ≡ request_in name.now (rows_of (found_of values.now)) }
     ensures within { IfSome result AreWithin }
 {
     if name == "raw" {
@@ -233,9 +251,9 @@ fn run_asked<'a>(values: &ArgMatches<'a>) -> Option<Request<'a>>
 
 fn budget(values: &ArgMatches<'_>) -> Option<u32>
     ensures value { result ≡ budget_in (rows_of (found_of values.now)) }
-    ensures within { IfSome result (λ number. (1 ≤ number) × (number ≤ 1000000000)) }
+    ensures within { IfSome result (λ number. (1 ≤ number) × (number ≤ MOST_BUDGET)) }
 {
-    number(values, "budget", 1, 1_000_000_000)
+    number(values, "budget", 1, MOST_BUDGET)
 }
 
 // `clap` has tested the range already; here it is the caller's to know.
@@ -258,7 +276,8 @@ fn read_number(values: &ArgMatches<'_>, id: &str) -> Option<u32>
 }
 
 fn text<'a>(values: &ArgMatches<'a>, id: &str) -> Option<&'a str>
-    ensures { option_map (λ text. text.now) result ≡ first_of id.now (rows_of (found_of values.now)) }
+    ensures { option_map (λ text. text.now) result
+        ≡ first_of id.now (rows_of (found_of values.now)) }
 {
     values.get_str(id)
 }

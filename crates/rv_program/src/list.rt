@@ -1,11 +1,12 @@
 //! The jobs of a list in a store.
 
-ghost use Rattle.std.specs.Prelude.{◌≡◌, ◌≤◌, ◌⊎◌, IfErr, IfOk, OnErr, OnOk};
+ghost use Rattle.std.specs.Prelude.{true, List, ◌≡◌, ◌≤◌, ◌⊎◌, IfErr, IfOk, OnErr, OnOk};
 ghost use Rattle.std.specs.Io.KnownBytes.{Keeps};
+ghost use Rattle.rv_rows.specs.declared.row.Row.{Row as ARow};
 ghost use Rattle.rv_rows.specs.Sending.{Rose};
 ghost use Rattle.rv_program.specs.Answers.{Began, Reported};
-ghost use Rattle.rv_program.specs.Failures.{IsListError};
-ghost use Rattle.rv_program.specs.Plans.{ForJobs, MayList, OfFault, stored};
+ghost use Rattle.rv_program.specs.Failures.{IsListError, IsListFailure, is_of_list};
+ghost use Rattle.rv_program.specs.Plans.{AreJobRows, MayList, OfFault, stored};
 
 use crate::error::{Failure, ListError};
 use crate::sending::send;
@@ -21,6 +22,7 @@ pub fn read_list<S: Store>(alloc: Global, store: &mut S, path: &str) -> Result<J
     ensures listed { IfOk result (MayList (S.contents store.old) path.now) }
     ensures unfaulted { OnOk result (S.faulted store.new ≡ S.faulted store.old) }
     ensures refused { IfErr result (OfFault (S.contents store.old) path.now) }
+    ensures why { IfErr result IsListFailure }
 {
     let bytes = match store.read(alloc, path) {
         Ok(bytes) => bytes,
@@ -32,7 +34,9 @@ pub fn read_list<S: Store>(alloc: Global, store: &mut S, path: &str) -> Result<J
     }
 }
 
-fn unread_list(error: ReadError) -> Failure {
+fn unread_list(error: ReadError) -> Failure
+    ensures { is_of_list result ≡ true }
+{
     match error {
         ReadError::Unreadable => Failure::ListUnreadable,
         ReadError::TooLong => Failure::ListTooLong,
@@ -52,6 +56,7 @@ fn list_error(error: JobError) -> ListError
 
 /// Runs jobs, over the answers of a store for their paths, which are each read once, by workers that take so many
 /// jobs at a time; and appends the report to the sink. The answer is the status of the report's verdicts.
+#[tactic(auto, using(crate::proofs::Failing::fleet_why, crate::proofs::Failing::list_why))]
 pub fn run_jobs<R: Threads + Wait, S: Store, O: Sink, G: Gate>(
     rt: &R,
     alloc: Global,
@@ -64,16 +69,20 @@ pub fn run_jobs<R: Threads + Wait, S: Store, O: Sink, G: Gate>(
 ) -> Result<u8, Failure>
     requires workers { (1 ≤ workers) × (workers ≤ 64) }
     requires group { (1 ≤ group) × (group ≤ 4096) }
-    ensures reported { IfOk result
-        (λ status. ForJobs (stored (S.contents store.old) (S.faulted store.old) (S.faulted store.new)) jobs
-        (Reported (O.taken out.old) (O.taken out.new) status)) }
+    ensures reported { IfOk result (λ status. (rows : List ARow)
+        × (AreJobRows (stored (S.contents store.old) (S.faulted store.old) (S.faulted store.new))
+        jobs rows
+        × Reported (O.taken out.old) (O.taken out.new) status rows)) }
     ensures range { IfOk result (λ status. status ≤ 1) }
     ensures counted { OnOk result (O.failed out.new ≡ O.failed out.old) }
-    ensures part { OnErr result
-        (Keeps (O.taken out.old) (O.taken out.new)
-        ⊎ ForJobs (stored (S.contents store.old) (S.faulted store.old) (S.faulted store.new)) jobs
-        (Began (O.taken out.old) (O.taken out.new))) }
-    ensures failed { IfErr result (λ error. error ≡ Failure.WriteFailed → Rose (O.failed out.old) (O.failed out.new)) }
+    ensures why { IfErr result (λ failure. is_of_list failure ≡ true) }
+    ensures part { OnErr result (Keeps (O.taken out.old) (O.taken out.new)
+        ⊎ ((rows : List ARow)
+        × (AreJobRows (stored (S.contents store.old) (S.faulted store.old) (S.faulted store.new))
+        jobs rows
+        × Began (O.taken out.old) (O.taken out.new) rows))) }
+    ensures failed { IfErr result
+        (λ error. error ≡ Failure.WriteFailed → Rose (O.failed out.old) (O.failed out.new)) }
     ensures same { S.contents store.new ≡ S.contents store.old }
 {
     let plan = gather(alloc, jobs, store)?;

@@ -1,14 +1,17 @@
 //! The whole program, over a store, a reader and sinks.
 
-ghost use Rattle.std.specs.Prelude.{◌≡◌, ◌⊎◌, ◌≤◌, IfSome, Some, None, is_some, map, option_map, true, false};
+ghost use Rattle.std.specs.Prelude.{◌≡◌, ◌⊎◌, ◌≤◌, List, Some, None, is_some, map, option_map};
+ghost use Rattle.std.specs.Prelude.{true, false};
 ghost use Rattle.std.specs.Io.KnownBytes.{Keeps};
 ghost use Rattle.clap.specs.Words.{kind_of};
-ghost use Rattle.rv_rows.specs.Report.{report_text};
-ghost use Rattle.rv_program.specs.Answers.{Answers, Began, IsQuiet, Reported, Tells, TellsFailure, reads_input, reads_store};
-ghost use Rattle.rv_program.specs.CommandLine.{AsksHelp, asked_of, is_taken, one, request_of, run};
+ghost use Rattle.rv_rows.specs.declared.row.Row.{Row};
+ghost use Rattle.rv_program.specs.Answers.{Answers, Began, IsQuiet, Reported, Tells, TellsFailure};
+ghost use Rattle.rv_program.specs.Answers.{reads_input, reads_store};
+ghost use Rattle.rv_program.specs.CommandLine.{AsksHelp, IsToAnswer, asked_of, is_taken, one};
+ghost use Rattle.rv_program.specs.CommandLine.{raw, request_of, run};
 ghost use Rattle.rv_program.specs.Lines.{Told, bad_words_line};
 ghost use Rattle.rv_program.specs.Plans.{stored};
-ghost use Rattle.rv_program.specs.Raw.{raw_rows};
+ghost use Rattle.rv_program.specs.Raw.{AreRawRows};
 ghost use Rattle.rv_program.specs.Requests.{AreWithin, request};
 
 use crate::command::{Request, read_words};
@@ -41,23 +44,32 @@ pub fn run_words<'a, R: Threads + Wait, T: AsStr, S: Store, I: Read, O: Sink, E:
     errors: &mut E,
     gate: &G,
 ) -> u8
+    // Words that the command takes ask for something.
     ensures asked { is_taken (map T.text words.entry.now) ≡ true
         → is_some (request_of (map T.text words.entry.now)) ≡ true }
-    ensures answers { is_taken (map T.text words.entry.now) ≡ true
+    // Words that it takes, or in which it finds no fault, are answered: a report of what they ask for
+    // went out whole, in part, or not at all, as the status says.
+    ensures answers { IsToAnswer (map T.text words.entry.now)
         → Answers (request_of (map T.text words.entry.now)) (I.remaining input.old)
-        (stored (S.contents store.old) (S.faulted store.old) (S.faulted store.new)) (O.taken out.old)
-        (O.taken out.new) result }
+        (stored (S.contents store.old) (S.faulted store.old) (S.faulted store.new))
+        (O.taken out.old) (O.taken out.new) result }
+    // No put of `out` failed where the status is 0 or 1.
     ensures counted { result ≡ 0 ⊎ result ≡ 1 → O.failed out.new ≡ O.failed out.old }
+    // A line on `errors` says why the status is 2 or 3, for any words; else nothing is said there.
     ensures told { Tells (asked_of (map T.text words.entry.now)) (S.contents store.old)
         (E.taken errors.old) (E.taken errors.new)
         (E.failed errors.old) (E.failed errors.new) result }
+    // Status 0 or 1 is for words that ask for something, or for help.
     ensures helped { result ≡ 0 ⊎ result ≡ 1
         → is_some (asked_of (map T.text words.entry.now)) ≡ true
         ⊎ AsksHelp (map T.text words.entry.now) }
-    ensures unread { reads_store (request_of (map T.text words.entry.now)) ≡ false
+    // Words that ask for no file have none read.
+    ensures unread { reads_store (asked_of (map T.text words.entry.now)) ≡ false
         → S.faulted store.new ≡ S.faulted store.old }
-    ensures untaken { reads_input (request_of (map T.text words.entry.now)) ≡ false
+    // Words that don't ask for the input leave it as it is.
+    ensures untaken { reads_input (asked_of (map T.text words.entry.now)) ≡ false
         → I.remaining input.new ≡ I.remaining input.old }
+    // The status is 0, 1, 2 or 3.
     ensures range { result ≤ 3 }
 {
     match read_words(alloc, words) {
@@ -79,14 +91,16 @@ fn asked_status<R: Threads + Wait, S: Store, I: Read, O: Sink, E: Sink, G: Gate>
 ) -> u8
     requires { AreWithin asked }
     ensures answers { Answers (Some (request asked.entry)) (I.remaining input.old)
-        (stored (S.contents store.old) (S.faulted store.old) (S.faulted store.new)) (O.taken out.old)
-        (O.taken out.new) result }
+        (stored (S.contents store.old) (S.faulted store.old) (S.faulted store.new))
+        (O.taken out.old) (O.taken out.new) result }
     ensures told { Tells (Some (request asked.entry)) (S.contents store.old)
         (E.taken errors.old) (E.taken errors.new)
         (E.failed errors.old) (E.failed errors.new) result }
     ensures counted { result ≡ 0 ⊎ result ≡ 1 → O.failed out.new ≡ O.failed out.old }
-    ensures unread { reads_store (Some (request asked.entry)) ≡ false → S.faulted store.new ≡ S.faulted store.old }
-    ensures untaken { reads_input (Some (request asked.entry)) ≡ false → I.remaining input.new ≡ I.remaining input.old }
+    ensures unread { reads_store (Some (request asked.entry)) ≡ false
+        → S.faulted store.new ≡ S.faulted store.old }
+    ensures untaken { reads_input (Some (request asked.entry)) ≡ false
+        → I.remaining input.new ≡ I.remaining input.old }
     ensures range { result ≤ 3 }
 {
     match asked {
@@ -104,6 +118,7 @@ fn asked_status<R: Threads + Wait, S: Store, I: Read, O: Sink, E: Sink, G: Gate>
     }
 }
 
+#[tactic(auto, using(crate::proofs::Failing::raw_why))]
 fn raw_status<I: Read, O: Sink, E: Sink>(
     alloc: Global,
     budget: u32,
@@ -112,16 +127,16 @@ fn raw_status<I: Read, O: Sink, E: Sink>(
     errors: &mut E,
 ) -> u8
     ensures reported { result ≡ DONE
-        → IfSome (I.remaining input.old)
-        (λ bytes. Reported (O.taken out.old) (O.taken out.new) DONE (raw_rows bytes budget)) }
+        → (rows : List Row) × (AreRawRows (I.remaining input.old) budget rows
+        × Reported (O.taken out.old) (O.taken out.new) DONE rows) }
     ensures counted { result ≡ DONE → O.failed out.new ≡ O.failed out.old }
-    ensures part { result ≡ FAILED
-        → IfSome (I.remaining input.old)
-        (λ bytes. Began (O.taken out.old) (O.taken out.new) (raw_rows bytes budget)) }
+    ensures part { result ≡ FAILED → Keeps (O.taken out.old) (O.taken out.new)
+        ⊎ ((rows : List Row) × (AreRawRows (I.remaining input.old) budget rows
+        × Began (O.taken out.old) (O.taken out.new) rows)) }
     ensures quiet { result ≡ DONE → IsQuiet (E.taken errors.old) (E.taken errors.new)
         (E.failed errors.old) (E.failed errors.new) }
-    ensures told { result ≡ FAILED → TellsFailure (E.taken errors.old) (E.taken errors.new)
-        (E.failed errors.old) (E.failed errors.new) }
+    ensures told { result ≡ FAILED → TellsFailure (Some (raw budget))
+        (E.taken errors.old) (E.taken errors.new) (E.failed errors.old) (E.failed errors.new) }
     ensures range { result ≡ DONE ⊎ result ≡ FAILED }
 {
     match run_raw(alloc, input, out, budget) {
@@ -141,9 +156,10 @@ fn one_status<S: Store, O: Sink, E: Sink>(
     errors: &mut E,
 ) -> u8
     requires { (1 ≤ budget) × (budget ≤ 1000000000) }
-    ensures answers { Answers (Some (one image.now budget (option_map (λ text. text.now) input_hex.entry))) None
-        (stored (S.contents store.old) (S.faulted store.old) (S.faulted store.new)) (O.taken out.old)
-        (O.taken out.new) result }
+    ensures answers { Answers
+        (Some (one image.now budget (option_map (λ text. text.now) input_hex.entry))) None
+        (stored (S.contents store.old) (S.faulted store.old) (S.faulted store.new))
+        (O.taken out.old) (O.taken out.new) result }
     ensures told { Tells
         (Some (one image.now budget (option_map (λ text. text.now) input_hex.entry)))
         (S.contents store.old) (E.taken errors.old) (E.taken errors.new)
@@ -180,8 +196,8 @@ fn run_status<R: Threads + Wait, S: Store, O: Sink, E: Sink, G: Gate>(
     requires workers { (1 ≤ workers) × (workers ≤ 64) }
     requires group { (1 ≤ group) × (group ≤ 4096) }
     ensures answers { Answers (Some (run path.now workers group)) None
-        (stored (S.contents store.old) (S.faulted store.old) (S.faulted store.new)) (O.taken out.old)
-        (O.taken out.new) result }
+        (stored (S.contents store.old) (S.faulted store.old) (S.faulted store.new))
+        (O.taken out.old) (O.taken out.new) result }
     ensures told { Tells (Some (run path.now workers group)) (S.contents store.old)
         (E.taken errors.old) (E.taken errors.new)
         (E.failed errors.old) (E.failed errors.new) result }
@@ -213,7 +229,7 @@ fn error_status<O: Sink, E: Sink>(alloc: Global, error: &Error, out: &mut O, err
     ensures refused { result ≡ BAD_WORDS
         → Told (E.taken errors.old) (E.taken errors.new)
         (E.failed errors.old) (E.failed errors.new) bad_words_line }
-    ensures told { result ≡ FAILED → TellsFailure (E.taken errors.old) (E.taken errors.new)
+    ensures told { result ≡ FAILED → TellsFailure None (E.taken errors.old) (E.taken errors.new)
         (E.failed errors.old) (E.failed errors.new) }
     ensures range { result ≡ DONE ⊎ result ≡ BAD_WORDS ⊎ result ≡ FAILED }
 {
@@ -228,7 +244,7 @@ fn help_status<O: Sink, E: Sink>(alloc: Global, help: &Error, out: &mut O, error
     ensures counted { result ≡ DONE → O.failed out.new ≡ O.failed out.old }
     ensures quiet { result ≡ DONE → IsQuiet (E.taken errors.old) (E.taken errors.new)
         (E.failed errors.old) (E.failed errors.new) }
-    ensures told { result ≡ FAILED → TellsFailure (E.taken errors.old) (E.taken errors.new)
+    ensures told { result ≡ FAILED → TellsFailure None (E.taken errors.old) (E.taken errors.new)
         (E.failed errors.old) (E.failed errors.new) }
     ensures range { result ≡ DONE ⊎ result ≡ FAILED }
 {

@@ -1,12 +1,14 @@
 //! A flat image from a reader.
 
-ghost use Rattle.std.specs.Prelude.{◌≡◌, [], ◌∷◌, IfErr, IfOk, IfSome, OnErr, OnOk};
+ghost use Rattle.std.specs.Prelude.{◌≡◌, ◌⊎◌, List, [], ◌∷◌, IfErr, IfOk, OnErr, OnOk};
 ghost use Rattle.std.specs.Io.KnownBytes.{Appends, Keeps};
+ghost use Rattle.rv_rows.specs.declared.row.Row.{Row as ARow};
 ghost use Rattle.rv_rows.specs.Flat.{flat_row_of};
 ghost use Rattle.rv_rows.specs.Report.{report_text};
-ghost use Rattle.rv_rows.specs.Sending.{AppendsBeginning, Rose};
+ghost use Rattle.rv_rows.specs.Sending.{Rose};
 ghost use Rattle.rv_files.specs.Input.{TookFirst};
-ghost use Rattle.rv_program.specs.Raw.{most_read, raw_rows};
+ghost use Rattle.rv_program.specs.Answers.{Began};
+ghost use Rattle.rv_program.specs.Raw.{AreRawRows, most_read};
 
 use crate::error::RunError;
 use rv_files::read_at_most;
@@ -25,16 +27,19 @@ pub fn run_raw<R: Read, O: Sink>(
     out: &mut O,
     budget: u32,
 ) -> Result<(), RunError>
-    ensures appended { OnOk result
-        (IfSome (R.remaining input.old)
-        (λ bytes. Appends (O.taken out.old) (O.taken out.new) (report_text (raw_rows bytes budget)))) }
-    ensures left { OnOk result (TookFirst most_read (R.remaining input.old) (R.remaining input.new)) }
+    ensures appended { OnOk result ((rows : List ARow)
+        × (AreRawRows (R.remaining input.old) budget rows
+        × Appends (O.taken out.old) (O.taken out.new) (report_text rows))) }
+    ensures left { OnOk result
+        (TookFirst most_read (R.remaining input.old) (R.remaining input.new)) }
     ensures counted { OnOk result (O.failed out.new ≡ O.failed out.old) }
-    ensures unread { IfErr result (λ error. error ≡ RunError.ReadFailed → Keeps (O.taken out.old) (O.taken out.new)) }
-    ensures part { OnErr result
-        (IfSome (R.remaining input.old)
-        (λ bytes. AppendsBeginning (O.taken out.old) (O.taken out.new) (report_text (raw_rows bytes budget)))) }
-    ensures failed { IfErr result (λ error. error ≡ RunError.WriteFailed → Rose (O.failed out.old) (O.failed out.new)) }
+    ensures unread { IfErr result
+        (λ error. error ≡ RunError.ReadFailed → Keeps (O.taken out.old) (O.taken out.new)) }
+    ensures part { OnErr result (Keeps (O.taken out.old) (O.taken out.new)
+        ⊎ ((rows : List ARow) × (AreRawRows (R.remaining input.old) budget rows
+        × Began (O.taken out.old) (O.taken out.new) rows))) }
+    ensures failed { IfErr result
+        (λ error. error ≡ RunError.WriteFailed → Rose (O.failed out.old) (O.failed out.new)) }
 {
     let bytes = read_at_most(alloc, input, MOST_READ)?;
     let report = flat_report(alloc, bytes.as_slice(), budget)?;

@@ -4,5 +4,7 @@ use Rattle.rv_program.proofs.Numerals.{number_reads}
 use Rattle.rv_program.proofs.command.read_number.Goals as goal
 
 pub returns : goal.returns
-returns c = number_reads (λ text read. ParsesUnsigned 32 10 text read × ExplainsUnsignedError 10 text read × HasUnsignedDigitsIfOk text read)
-    (found_of c.args.values.now) c.args.id.now c.get_one.result c.get_one.ensures.none c.get_one.ensures.value (λ _ _ gives. gives.0)
+returns c = number_reads
+    (λ text read. ParsesUnsigned 32 10 text read × ExplainsUnsignedError 10 text read × HasUnsignedDigitsIfOk text read)
+    (found_of c.args.values.now) c.args.id.now c.get_one.result c.get_one.ensures.none c.get_one.ensures.value
+    (λ _ _ gives. gives.0)

@@ -10,7 +10,9 @@ pub returns-in_err-matches-clause-taken : goal.returns-in_err-matches-clause-tak
 unfolding is_taken
 returns-in_err-matches-clause-taken g c =
     let error = err_from_is_err_and c.from_residual-in_err-matches.result c.from_residual-in_err-matches.ensures.1 in
-    rw (error.1, error.2) (λ taken. c.in_err-matches.ensures.passes (ap (λ app. takes app (map g.T.AsStr.text c.args.words.now)) c.in_ok-command.ensures ∙ taken))
+    rw (error.1, error.2)
+    (λ taken. c.in_err-matches.ensures.passes
+    (ap (λ app. takes app (map g.T.AsStr.text c.args.words.now)) c.in_ok-command.ensures ∙ taken))
 
 pub returns-in-Some-clause-kinds : goal.returns-in-Some-clause-kinds
 returns-in-Some-clause-kinds g c =
@@ -19,5 +21,6 @@ returns-in-Some-clause-kinds g c =
 
 pub returns-in-Some-clause-asked : goal.returns-in-Some-clause-asked
 returns-in-Some-clause-asked g c =
-    let value : option_map request c.subcommand_asked.result ≡ request_of (map g.T.AsStr.text c.args.words.now) = search rules in
+    let value : option_map request c.subcommand_asked.result
+    ≡ request_of (map g.T.AsStr.text c.args.words.now) = search rules in
     some_asked c.subcommand_asked.result (map g.T.AsStr.text c.args.words.now) value

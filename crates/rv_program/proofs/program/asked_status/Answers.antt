@@ -1,0 +1,7 @@
+use Rattle.rv_program.proofs.Answering.{raw_answers}
+use Rattle.rv_program.proofs.program.asked_status.Goals as goal
+
+pub returns-in-Raw-clause-answers : goal.returns-in-Raw-clause-answers
+returns-in-Raw-clause-answers g c =
+    let run = c.raw_status.ensures in
+    rw c.in-Raw.is (raw_answers _ _ _ _ _ c.in-Raw.budget run.reported run.part run.range)
