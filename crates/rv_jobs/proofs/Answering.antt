@@ -16,8 +16,9 @@ use Rattle.rv_jobs.specs.declared.answers.Answer.{Answer}
 use Rattle.rv_jobs.specs.declared.plan.Places.{Places}
 use Rattle.rv_jobs.specs.JobList.{place_in}
 use Rattle.rv_jobs.specs.Stores.{FileContents, IsKeptOf, is_unreadable, one_more, faults_with}
-use Rattle.rv_jobs.specs.Plans.{paths_of, answers_with, with_path, with_reference, with_job, paths_used, kept_of}
-use Rattle.rv_jobs.specs.Plans.{reference_kept, AreKept, unreadables, more}
+use Rattle.rv_jobs.specs.Jobs.{console_path}
+use Rattle.rv_jobs.specs.Plans.{paths_of, answers_with, with_path, with_path_if, with_job, paths_used, kept_of}
+use Rattle.rv_jobs.specs.Plans.{AreKept, unreadables, more}
 use Rattle.rv_jobs.specs.Placed.{ArePlaced}
 use Rattle.rv_jobs.proofs.PlaceLemmas.{place_below, place_last}
 use Rattle.std.proofs.lemmas.Slice.Eq.{bytes_eq-Decides}
@@ -191,15 +192,16 @@ module _ (ps qs : List (List ℕ)) (ks ms : List Kept) (p : List ℕ) (kept : Ke
 
 -- ---- the places of a job's answers
 
-with_reference-place : (xs : List (List ℕ)) (o : Option (List ℕ)) (q : List ℕ) (k : ℕ) → place_in xs q ≡ Some k
-    → place_in (with_reference xs o) q ≡ Some k
-with_reference-place xs None q k h = h
-with_reference-place xs (Some p) q k h = keeps_place xs p q k h
+with_path_if-place : (xs : List (List ℕ)) (o : Option (List ℕ)) (q : List ℕ) (k : ℕ) → place_in xs q ≡ Some k
+    → place_in (with_path_if xs o) q ≡ Some k
+with_path_if-place xs None q k h = h
+with_path_if-place xs (Some p) q k h = keeps_place xs p q k h
 
 with_job-place : (xs : List (List ℕ)) (j : Job) (q : List ℕ) (k : ℕ) → place_in xs q ≡ Some k
     → place_in (with_job xs j) q ≡ Some k
 with_job-place xs j q k h =
-    with_reference-place (with_path xs j.image) j.expect_signature q k (keeps_place xs j.image q k h)
+    with_path_if-place (with_path_if (with_path xs j.image) j.expect_signature) (console_path j.expect_console) q k
+    (with_path_if-place (with_path xs j.image) j.expect_signature q k (keeps_place xs j.image q k h))
 
 reference_later : (xs ys : List (List ℕ)) → ((q : List ℕ) (k : ℕ) → place_in xs q ≡ Some k → place_in ys q ≡ Some k)
     → (o : Option (List ℕ)) (r : Option ℕ)
@@ -216,15 +218,28 @@ placed_later xs other job at h = record {
   image = with_job-place xs other job.image at.image h.image;
   reference =
       reference_later xs (with_job xs other) (with_job-place xs other) job.expect_signature at.reference h.reference;
+  console =
+      reference_later xs (with_job xs other) (with_job-place xs other) (console_path job.expect_console) at.console
+      h.console;
 }
 
-pub placed_both : (xs ys : List (List ℕ)) (job : Job) (image place : ℕ) (p q : List ℕ) → p ≡ job.image
-    → place_in xs p ≡ Some image → job.expect_signature ≡ Some q → ys ≡ with_path xs q → place_in ys q ≡ Some place
-    → ArePlaced ys job (record { image = image; reference = Some place })
-placed_both xs ys job image place p q is found has grown there = record {
-  image = ap (λ zs. place_in zs job.image) grown ∙ keeps_place xs q job.image image (ap (place_in xs) (sym is) ∙ found);
-  reference = ap (option_map (place_in ys)) has ∙ ap (λ o. Some o) there;
-}
+-- the places of a job, whose paths are asked for one after the other
+pub placed_all : (xs ys zs : List (List ℕ)) (job : Job) (image : ℕ) (reference console : Option ℕ) (p : List ℕ)
+    (r c : Option (List ℕ)) → p ≡ job.image → r ≡ job.expect_signature → c ≡ console_path job.expect_console
+    → place_in xs p ≡ Some image
+    → ys ≡ with_path_if xs r → option_map (place_in ys) r ≡ option_map (λ k. Some k) reference
+    → zs ≡ with_path_if ys c → option_map (place_in zs) c ≡ option_map (λ k. Some k) console
+    → ArePlaced zs job (record { image = image; reference = reference; console = console })
+placed_all xs ys zs job image reference console p r c is_p is_r is_c found grown there more last =
+    let later : (q : List ℕ) (k : ℕ) → place_in xs q ≡ Some k → place_in ys q ≡ Some k =
+    λ q k h. ap (λ ws. place_in ws q) grown ∙ with_path_if-place xs r q k h in
+    let last_too : (q : List ℕ) (k : ℕ) → place_in ys q ≡ Some k → place_in zs q ≡ Some k =
+    λ q k h. ap (λ ws. place_in ws q) more ∙ with_path_if-place ys c q k h in
+    record {
+      image = last_too job.image image (later job.image image (ap (place_in xs) (sym is_p) ∙ found));
+      reference = ap (option_map (place_in zs)) (sym is_r) ∙ reference_later ys zs last_too r reference there;
+      console = ap (option_map (place_in zs)) (sym is_c) ∙ last;
+    }
 
 -- a job more
 pub placed_more : (all js : List Job) (ps new : List Places) (x : Places) (xs ys : List (List ℕ)) (n : ℕ) (j : Job)
@@ -289,27 +304,32 @@ module _ (js : List Job) (ks : List Kept) (even : length (paths_used js) ≡ len
   image_found x is = ap (λ (j : Job). kept_of (answers_with (paths_used js) ks) j.image) (get_or_default js i d e l)
       ∙ kept_there (paths_used js) ks (get_or js i e).image at.image x even placed.image is
 
-  pub reference_below : (k : ℕ) → at.reference ≡ Some k → k < length ks
+-- the answer of a path that a job may name, as its reference
+module _ (js : List Job) (ks : List Kept) (even : length (paths_used js) ≡ length ks) (i : ℕ) (d e : Job)
+    (l : i < length js) (named : Job → Option (List ℕ)) (at : Option ℕ)
+    (placed : option_map (place_in (paths_used js)) (named (get_or js i e)) ≡ option_map (λ k. Some k) at) where
+  pub reference_below : (k : ℕ) → at ≡ Some k → k < length ks
   reference_below k is =
-      let t = reference_at (paths_used js) (get_or js i e).expect_signature at.reference k placed.reference is in
+      let t = reference_at (paths_used js) (named (get_or js i e)) at k placed is in
       place_within (paths_used js) t.0 k (length ks) even t.2
 
-  pub reference_asked : (k : ℕ) → at.reference ≡ Some k → true ≡ is_some (get_or js i d).expect_signature
+  pub reference_asked : (k : ℕ) → at ≡ Some k → true ≡ is_some (named (get_or js i d))
   reference_asked k is =
-      let t = reference_at (paths_used js) (get_or js i e).expect_signature at.reference k placed.reference is in
-      sym (ap (λ (j : Job). is_some j.expect_signature) (get_or_default js i d e l) ∙ ap is_some t.1)
+      let t = reference_at (paths_used js) (named (get_or js i e)) at k placed is in
+      sym (ap (λ (j : Job). is_some (named j)) (get_or_default js i d e l) ∙ ap is_some t.1)
 
-  pub reference_found : (k : ℕ) (x : Kept) → at.reference ≡ Some k → x ≡ get_or ks k x
-      → Some x ≡ reference_kept (answers_with (paths_used js) ks) (get_or js i d)
+  pub reference_found : (k : ℕ) (x : Kept) → at ≡ Some k → x ≡ get_or ks k x
+      → Some x ≡ option_and_then (kept_of (answers_with (paths_used js) ks)) (named (get_or js i d))
   reference_found k x is there =
-      let t = reference_at (paths_used js) (get_or js i e).expect_signature at.reference k placed.reference is in
-      sym (ap (reference_kept (answers_with (paths_used js) ks)) (get_or_default js i d e l)
+      let t = reference_at (paths_used js) (named (get_or js i e)) at k placed is in
+      sym (ap (λ (j : Job). option_and_then (kept_of (answers_with (paths_used js) ks)) (named j))
+      (get_or_default js i d e l)
       ∙ ap (option_and_then (kept_of (answers_with (paths_used js) ks))) t.1
       ∙ kept_there (paths_used js) ks t.0 k x even t.2 there)
 
-  pub reference_none : at.reference ≡ None → (get_or js i d).expect_signature ≡ None
-  reference_none is = ap (λ (j : Job). j.expect_signature) (get_or_default js i d e l)
-      ∙ no_reference (paths_used js) (get_or js i e).expect_signature at.reference placed.reference is
+  pub reference_none : at ≡ None → named (get_or js i d) ≡ None
+  reference_none is = ap named (get_or_default js i d e l)
+      ∙ no_reference (paths_used js) (named (get_or js i e)) at placed is
 
 -- ---- the loop over jobs
 

@@ -26,8 +26,14 @@ use Rattle.rv_jobs.specs.declared.error.What.TheVariants as what
 use Rattle.rv_jobs.specs.declared.error.JobError.{JobError}
 use Rattle.rv_jobs.specs.declared.job.Job.{Job}
 use Rattle.rv_jobs.specs.declared.job.Symbols.{Symbols}
+use Rattle.rv_jobs.specs.declared.job.ExpectedConsole.{ExpectedConsole}
+use Rattle.rv_jobs.specs.declared.job.ExpectedConsole.TheVariants.{Text, File}
+use Rattle.rv_jobs.specs.declared.job.ExpectedEnd.{ExpectedEnd}
+use Rattle.rv_jobs.specs.declared.job.ExpectedEnd.TheVariants as expected
+use Rattle.rv_machine.specs.declared.ending.FaultKind.{FaultKind}
+use Rattle.rv_machine.specs.Faults.{fault_named}
 use Rattle.rv_jobs.specs.declared.limits.TheConstants.{MOST_BUDGET, MOST_NAME, MOST_SYMBOL}
-use Rattle.rv_jobs.specs.Jobs.{most_jobs, most_path, most_script, default_regions}
+use Rattle.rv_jobs.specs.Jobs.{most_console, most_jobs, most_path, most_script, default_regions}
 use Rattle.rv_jobs.specs.Reading.{◌>>=◌, unless, passing, or_else, numbered}
 use Rattle.rv_jobs.specs.Keys.{any_unknown_key, is_list_key, count_of, text_at, number_at, truth_at}
 use Rattle.rv_jobs.specs.Keys.{array_at, has_wrong_kind, has_unknown_key}
@@ -162,6 +168,36 @@ reference_of asked path = if asked && is_path path then Ok (Some path) else Err 
 unfoldable pub reference_in : Bool → Members → Result (Option (List ℕ)) What
 reference_in asked ms = or_else (reference_of asked) None (text_at (codes "expect_signature") ms)
 
+-- the bytes of a text, where they are no more than a console holds
+abbrev pub console_text : List ℕ → Result (Option ExpectedConsole) What
+console_text text =
+    if nat_le (length text) most_console then Ok (Some (Text text)) else Err what.Expect
+
+abbrev pub console_file : List ℕ → Result (Option ExpectedConsole) What
+console_file path = if is_path path then Ok (Some (File path)) else Err what.Expect
+
+-- of `expect_console` and `expect_console_file`, of which one stands at most
+abbrev pub console_of : Option (List ℕ) → Option (List ℕ) → Result (Option ExpectedConsole) What
+console_of None None = Ok None
+console_of (Some text) None = console_text text
+console_of None (Some path) = console_file path
+console_of (Some text) (Some path) = Err what.Expect
+
+unfoldable pub console_in : Members → Result (Option ExpectedConsole) What
+console_in ms =
+    console_of (text_at (codes "expect_console") ms) (text_at (codes "expect_console_file") ms)
+
+abbrev pub end_by : Option FaultKind → Result (Option ExpectedEnd) What
+end_by None = Err what.Expect
+end_by (Some kind) = Ok (Some (expected.Fault kind))
+
+-- `budget`, or the name of a fault
+abbrev pub end_of : List ℕ → Result (Option ExpectedEnd) What
+end_of t = if bytes_eq t (codes "budget") then Ok (Some expected.Budget) else end_by (fault_named t)
+
+unfoldable pub end_in : Members → Result (Option ExpectedEnd) What
+end_in ms = or_else end_of None (text_at (codes "expect_end") ms)
+
 -- the names of jobs, in order
 abbrev pub names_of : List Job → List (List ℕ)
 names_of jobs = map (λ (j : Job). j.name) jobs
@@ -218,6 +254,8 @@ job_in earlier ms = do
   signature ← signature_in ms
   expect_exit ← exit_in ms
   expect_signature ← reference_in (is_some signature) ms
+  expect_console ← console_in ms
+  expect_end ← end_in ms
   same_as ← same_in earlier ms
   set ← isa_in ms
   choice ← misaligned_in ms
@@ -231,6 +269,8 @@ job_in earlier ms = do
     signature = signature;
     expect_exit = expect_exit;
     expect_signature = expect_signature;
+    expect_console = expect_console;
+    expect_end = expect_end;
     same_as = same_as;
     isa = set;
     misaligned = choice;

@@ -1,12 +1,15 @@
 -- What is known of the jobs of every list.
-use Rattle.std.specs.Prelude.{ℕ, ◌<◌, ◌≤◌, List, [], ◌∷◌, length, slice_index_or, IfSome, None}
-use Rattle.std.specs.Prelude.{true, codes}
+use Rattle.std.specs.Prelude.{ℕ, ◌<◌, ◌≤◌, List, [], ◌∷◌, length, slice_index_or, IfSome, Option}
+use Rattle.std.specs.Prelude.{Some, None, true, codes}
 use Rattle.rv_isa.specs.declared.sets.Isa.TheVariants.{Imc}
 use Rattle.rv_memory.specs.declared.map.Region.{Region}
 use Rattle.rv_memory.specs.declared.access.Misaligned.TheVariants.{Fault}
 use Rattle.rv_elf.specs.declared.loading.LoadAt.TheVariants.{Physical}
 use Rattle.rv_jobs.specs.declared.job.Job.{Job}
-use Rattle.rv_jobs.specs.declared.limits.TheConstants.{MOST_JOBS, MOST_PATH, MOST_SCRIPT}
+use Rattle.rv_jobs.specs.declared.job.ExpectedConsole.{ExpectedConsole}
+use Rattle.rv_jobs.specs.declared.job.ExpectedConsole.TheVariants.{Text, File}
+use Rattle.rv_jobs.specs.declared.limits.TheConstants.{MOST_CONSOLE, MOST_JOBS, MOST_PATH}
+use Rattle.rv_jobs.specs.declared.limits.TheConstants.{MOST_SCRIPT}
 
 -- the most jobs of a list, bytes of a path, and bytes of a script: the limits of the code
 abbrev pub most_jobs : ℕ
@@ -17,6 +20,16 @@ most_path = MOST_PATH
 
 abbrev pub most_script : ℕ
 most_script = MOST_SCRIPT
+
+-- the most bytes that a console is expected to hold
+abbrev pub most_console : ℕ
+most_console = MOST_CONSOLE
+
+-- the path of the file that a console is expected to hold, where one is named
+abbrev pub console_path : Option ExpectedConsole → Option (List ℕ)
+console_path None = None
+console_path (Some (Text bytes)) = None
+console_path (Some (File path)) = Some path
 
 -- the regions of a job without any of its own
 abbrev pub default_regions : List Region
@@ -46,6 +59,8 @@ single_job image budget script = record {
   signature = None;
   expect_exit = None;
   expect_signature = None;
+  expect_console = None;
+  expect_end = None;
   same_as = None;
   isa = Imc;
   misaligned = Fault;

@@ -102,6 +102,9 @@ job_keys =
     ∷ key (codes "signature") is_texts
     ∷ key (codes "expect_exit") is_number
     ∷ key (codes "expect_signature") is_text
+    ∷ key (codes "expect_console") is_text
+    ∷ key (codes "expect_console_file") is_text
+    ∷ key (codes "expect_end") is_text
     ∷ key (codes "same_as") is_text
     ∷ key (codes "isa") is_text
     ∷ key (codes "misaligned") is_text

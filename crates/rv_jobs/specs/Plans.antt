@@ -7,6 +7,7 @@ use Rattle.rv_jobs.specs.declared.job.Job.{Job}
 use Rattle.rv_jobs.specs.declared.store.Kept.{Kept}
 use Rattle.rv_jobs.specs.declared.answers.Answer.{Answer}
 use Rattle.rv_jobs.specs.JobList.{place_in}
+use Rattle.rv_jobs.specs.Jobs.{console_path}
 use Rattle.rv_jobs.specs.Stores.{FileContents, IsKeptOf, is_unreadable, one_more}
 
 -- the paths of answers, in order
@@ -23,13 +24,17 @@ answers_with (p ∷ ps) (k ∷ ks) = record { path = p; kept = k } ∷ answers_w
 unfoldable pub with_path : List (List ℕ) → List ℕ → List (List ℕ)
 with_path paths p = if is_some (place_in paths p) then paths else paths ++ p ∷ []
 
--- the paths, and those of a job: that of its image, and then that of its reference
-abbrev pub with_reference : List (List ℕ) → Option (List ℕ) → List (List ℕ)
-with_reference paths None = paths
-with_reference paths (Some p) = with_path paths p
+-- the paths, and one more if it is there
+abbrev pub with_path_if : List (List ℕ) → Option (List ℕ) → List (List ℕ)
+with_path_if paths None = paths
+with_path_if paths (Some p) = with_path paths p
 
+-- the paths, and those of a job: its image, its reference, and the file that its console is
+-- expected to hold
 abbrev pub with_job : List (List ℕ) → Job → List (List ℕ)
-with_job paths job = with_reference (with_path paths job.image) job.expect_signature
+with_job paths job =
+    with_path_if (with_path_if (with_path paths job.image) job.expect_signature)
+    (console_path job.expect_console)
 
 -- the different paths of jobs, in order of first use
 unfoldable pub paths_used : List Job → List (List ℕ)
@@ -56,6 +61,10 @@ more n (suc k) = one_more (more n k)
 -- what is kept of the path of a job's reference
 abbrev pub reference_kept : List Answer → Job → Option Kept
 reference_kept answers job = option_and_then (kept_of answers) job.expect_signature
+
+-- what is kept of the path of the file that its console is expected to hold
+abbrev pub console_kept : List Answer → Job → Option Kept
+console_kept answers job = option_and_then (kept_of answers) (console_path job.expect_console)
 
 -- what callers see of a plan
 pub record Planned : Type 0 where

@@ -38,8 +38,9 @@ pub enum What {
     Load,
     /// `signature` has not two texts, or one of them not 1 to 255 bytes without a zero byte.
     Signature,
-    /// `expect_exit` is no 32-bit number; or `expect_signature` is not 1 to 4,096 bytes, or stands
-    /// without `signature`.
+    /// `expect_exit` is no 32-bit number; `expect_signature` is not 1 to 4,096 bytes, or stands without `signature`;
+    /// `expect_console` has more than 65,536 bytes; `expect_console_file` is not 1 to 4,096 bytes, or stands beside
+    /// `expect_console`; or `expect_end` is neither `budget` nor the name of a fault.
     Expect,
     /// `same_as` is the name of no earlier job.
     SameAs,

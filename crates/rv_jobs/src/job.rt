@@ -1,11 +1,12 @@
 //! Jobs, and lists of them.
 
-ghost use Rattle.std.specs.Prelude.{◌≡◌, ◌≤◌, ◌<◌, ◌∷◌, [], IfOk, length, vec_len};
-ghost use Rattle.rv_jobs.specs.Jobs.{AreJobs, single_job};
+ghost use Rattle.std.specs.Prelude.{◌≡◌, ◌≤◌, ◌<◌, ◌∷◌, [], IfOk, Some, length, option_map, vec_len};
+ghost use Rattle.rv_jobs.specs.Jobs.{AreJobs, console_path, single_job};
 
 use crate::text::{Bytes, Text};
 use rv_elf::LoadAt;
 use rv_isa::Isa;
+use rv_machine::FaultKind;
 use rv_memory::{Map, Misaligned};
 use std::alloc::{AllocError, Global};
 use std::marker::Model;
@@ -15,6 +16,36 @@ use std::marker::Model;
 pub struct Symbols {
     pub begin: Text,
     pub end: Text,
+}
+
+/// What the console of a run is expected to hold.
+#[derive(Debug, Drop)]
+pub enum ExpectedConsole {
+    /// These bytes, at most 65,536: the key `expect_console`.
+    Text(Bytes),
+    /// The bytes of the file at a path of 1 to 4,096 bytes: the key `expect_console_file`.
+    File(Text),
+}
+
+impl ExpectedConsole {
+    /// The path of the file, where one is named.
+    pub fn path(&self) -> Option<&str>
+        ensures { option_map (λ path. path.now) result ≡ console_path (Some self.now) }
+    {
+        match self {
+            ExpectedConsole::Text(_) => None,
+            ExpectedConsole::File(path) => Some(path.as_str()),
+        }
+    }
+}
+
+/// How a run is expected to end.
+#[derive(Clone, Copy, Debug, PartialEq, Eq)]
+pub enum ExpectedEnd {
+    /// The budget is used up.
+    Budget,
+    /// By a fault of this kind, wherever it is met.
+    Fault(FaultKind),
 }
 
 /// A run of an image, and what is expected of it. The limits that the fields tell are those that
@@ -38,6 +69,9 @@ pub struct Job {
     pub expect_exit: Option<u32>,
     /// The path of the reference, 1 to 4,096 bytes; only where there is a signature.
     pub expect_signature: Option<Text>,
+    /// The keys `expect_console` and `expect_console_file`, of which one stands at most.
+    pub expect_console: Option<ExpectedConsole>,
+    pub expect_end: Option<ExpectedEnd>,
     /// The place of an earlier job, counted from 0.
     pub same_as: Option<usize>,
     pub isa: Isa,
@@ -88,6 +122,8 @@ impl JobList {
             signature: None,
             expect_exit: None,
             expect_signature: None,
+            expect_console: None,
+            expect_end: None,
             same_as: None,
             isa: Isa::Imc,
             misaligned: Misaligned::Fault,

@@ -5,17 +5,15 @@ ghost use Rattle.hex.specs.Hex.{decode_of};
 ghost use Rattle.toml.specs.View.{view, table_view};
 ghost use Rattle.rv_jobs.specs.Reading.{Gives};
 ghost use Rattle.rv_jobs.specs.Jobs.{IsJob, most_script};
-ghost use Rattle.rv_jobs.specs.JobList.{name_in, image_in, budget_in};
-ghost use Rattle.rv_jobs.specs.JobList.{limited, from_hex, script_in, load_of, load_in, exit_of};
-ghost use Rattle.rv_jobs.specs.JobList.{exit_in};
-ghost use Rattle.rv_jobs.specs.JobList.{reference_of, reference_in, place_in, names_of, same_of};
-ghost use Rattle.rv_jobs.specs.JobList.{same_in, isa_of};
-ghost use Rattle.rv_jobs.specs.JobList.{isa_in, misaligned_of, misaligned_in, job_in, element_in};
+ghost use Rattle.rv_jobs.specs.JobList.{name_in, image_in, budget_in, limited, from_hex, script_in, load_of};
+ghost use Rattle.rv_jobs.specs.JobList.{load_in, place_in, names_of, same_of, same_in, isa_of, isa_in};
+ghost use Rattle.rv_jobs.specs.JobList.{misaligned_of, misaligned_in, job_in, element_in};
 ghost use Rattle.std.specs.Prelude.{◌==◌, Ok, Err};
 ghost use Rattle.rv_jobs.specs.declared.error.What.TheVariants.{OutOfMemory};
 
 use crate::earlier_jobs::EarlierJobs;
 use crate::error::What;
+use crate::expected::{console_of, end_of, exit_of, reference_of};
 use crate::job::Job;
 use crate::keys::{number_of, text_of};
 use crate::kinds::{has_unknown_key, has_wrong_kind};
@@ -68,6 +66,8 @@ fn job_of(alloc: Global, earlier: &EarlierJobs, table: &Table) -> Result<Job, Wh
     let signature = signature_of(alloc, table)?;
     let expect_exit = exit_of(table)?;
     let expect_signature = reference_of(alloc, signature.is_some(), table)?;
+    let expect_console = console_of(alloc, table)?;
+    let expect_end = end_of(table)?;
     let same_as = same_of(earlier, table)?;
     let isa = isa_of(table)?;
     let misaligned = misaligned_of(table)?;
@@ -81,6 +81,8 @@ fn job_of(alloc: Global, earlier: &EarlierJobs, table: &Table) -> Result<Job, Wh
         signature,
         expect_exit,
         expect_signature,
+        expect_console,
+        expect_end,
         same_as,
         isa,
         misaligned,
@@ -195,38 +197,6 @@ fn load_named(text: &str) -> Result<LoadAt, What>
         Ok(LoadAt::Virtual)
     } else {
         Err(What::Load)
-    }
-}
-
-#[tactic(auto, unfolding(crate::specs::JobList::exit_in))]
-fn exit_of(table: &Table) -> Result<Option<u32>, What>
-    ensures { result ≡ exit_in (table_view table.now) }
-{
-    match number_of(table, "expect_exit") {
-        Some(n) => {
-            if 0 <= n && n <= 0xffff_ffff {
-                Ok(Some(n as u32))
-            } else {
-                Err(What::Expect)
-            }
-        }
-        None => Ok(None),
-    }
-}
-
-#[tactic(auto, unfolding(crate::specs::JobList::reference_in))]
-fn reference_of(alloc: Global, asked: bool, table: &Table) -> Result<Option<Text>, What>
-    ensures { Gives result (reference_in asked (table_view table.now)) }
-{
-    match text_of(table, "expect_signature") {
-        Some(path) => {
-            if asked && is_path(path) {
-                Ok(Some(Text::copy(alloc, path)?))
-            } else {
-                Err(What::Expect)
-            }
-        }
-        None => Ok(None),
     }
 }
 

@@ -24,7 +24,7 @@ pub(crate) enum Kind {
 }
 
 /// The keys of a job, each with the kind of its value.
-pub(crate) const JOB_KEYS: [(&str, Kind); 13] = [
+pub(crate) const JOB_KEYS: [(&str, Kind); 16] = [
     ("name", Kind::Text),
     ("image", Kind::Text),
     ("budget", Kind::Number),
@@ -35,6 +35,9 @@ pub(crate) const JOB_KEYS: [(&str, Kind); 13] = [
     ("signature", Kind::Texts),
     ("expect_exit", Kind::Number),
     ("expect_signature", Kind::Text),
+    ("expect_console", Kind::Text),
+    ("expect_console_file", Kind::Text),
+    ("expect_end", Kind::Text),
     ("same_as", Kind::Text),
     ("isa", Kind::Text),
     ("misaligned", Kind::Text),

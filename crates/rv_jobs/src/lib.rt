@@ -9,6 +9,7 @@
 mod answers;
 mod earlier_jobs;
 mod error;
+mod expected;
 mod job;
 mod job_keys;
 mod keys;
@@ -24,7 +25,7 @@ mod texts;
 
 pub use answers::Answer;
 pub use error::{JobError, What};
-pub use job::{Job, JobList, Symbols};
+pub use job::{ExpectedConsole, ExpectedEnd, Job, JobList, Symbols};
 pub use list::read_jobs;
 pub use plan::{Plan, gather};
 pub use store::{Kept, ReadError, Store};

@@ -15,6 +15,9 @@ pub const MOST_BUDGET: u32 = 1_000_000_000;
 /// The most bytes that the console gives a job.
 pub const MOST_SCRIPT: usize = 0x1_0000;
 
+/// The most bytes that the console of a job is expected to hold.
+pub const MOST_CONSOLE: usize = 0x1_0000;
+
 /// The most bytes of the name of a signature's symbol.
 pub const MOST_SYMBOL: usize = 255;
 

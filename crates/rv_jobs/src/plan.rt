@@ -6,7 +6,9 @@ ghost use Rattle.std.specs.Prelude.{slice_index_or};
 ghost use Rattle.std.specs.Prelude.{option_map};
 ghost use Rattle.rv_jobs.specs.Jobs.{IsJob};
 ghost use Rattle.rv_jobs.specs.Plans.{paths_of, with_job, paths_used, kept_of, reference_kept};
-ghost use Rattle.rv_jobs.specs.Plans.{AreKept};
+ghost use Rattle.rv_jobs.specs.Jobs.{console_path};
+ghost use Rattle.rv_jobs.specs.JobList.{place_in};
+ghost use Rattle.rv_jobs.specs.Plans.{AreKept, console_kept, with_path_if};
 ghost use Rattle.rv_jobs.specs.Plans.{unreadables, more};
 ghost use Rattle.rv_jobs.specs.Placed.{ArePlaced};
 
@@ -21,6 +23,7 @@ use std::marker::Model;
 pub(crate) struct Places {
     pub(crate) image: usize,
     pub(crate) reference: Option<usize>,
+    pub(crate) console: Option<usize>,
 }
 
 /// Jobs, and one answer for each different path that they name, which all jobs that name it share.
@@ -84,17 +87,58 @@ fn ask_of_job<'a, S: Store>(
     ensures faults { (n : ℕ) → S.faulted store.old ≡ more n (unreadables asked.entry)
         → IfOk result (λ a. S.faulted store.new ≡ more n (unreadables a.0)) }
 {
-    let (asked, image) = asked.ask(alloc, store, job.image.as_str())?;
+    let (first, image) = asked.ask(alloc, store, job.image.as_str())?;
+    let (second, reference) = ask_if(alloc, store, first, reference_path(job))?;
+    let (third, console) = ask_if(alloc, store, second, console_path(job))?;
+    let places = Places {
+        image,
+        reference,
+        console,
+    };
+    Ok((third, places))
+}
+
+fn reference_path(job: &Job) -> Option<&str>
+    ensures { option_map (λ path. path.now) result ≡ job.now.expect_signature }
+{
     match &job.expect_signature {
+        Some(path) => Some(path.as_str()),
+        None => None,
+    }
+}
+
+fn console_path(job: &Job) -> Option<&str>
+    ensures { option_map (λ path. path.now) result ≡ console_path job.now.expect_console }
+{
+    match &job.expect_console {
+        Some(expected) => expected.path(),
+        None => None,
+    }
+}
+
+/// The answers with that of a path, where there is one, and the place of its answer.
+fn ask_if<'a, S: Store>(
+    alloc: Global,
+    store: &mut S,
+    asked: Answers<'a>,
+    path: Option<&'a str>,
+) -> Result<(Answers<'a>, Option<usize>), AllocError>
+    ensures same { S.contents store.new ≡ S.contents store.old }
+    ensures paths { IfOk result (λ a. paths_of a.0
+        ≡ with_path_if (paths_of asked.entry) (option_map (λ p. p.now) path.entry)) }
+    ensures place { IfOk result (λ a. option_map (place_in (paths_of a.0))
+        (option_map (λ p. p.now) path.entry) ≡ option_map (λ k. Some k) a.1) }
+    ensures kept { AreKept (S.contents store.old) asked.entry
+        → IfOk result (λ a. AreKept (S.contents store.old) a.0) }
+    ensures faults { (n : ℕ) → S.faulted store.old ≡ more n (unreadables asked.entry)
+        → IfOk result (λ a. S.faulted store.new ≡ more n (unreadables a.0)) }
+{
+    match path {
         Some(path) => {
-            let (asked, place) = asked.ask(alloc, store, path.as_str())?;
-            let reference = Some(place);
-            Ok((asked, Places { image, reference }))
+            let (asked, place) = asked.ask(alloc, store, path)?;
+            Ok((asked, Some(place)))
         }
-        None => {
-            let reference = None;
-            Ok((asked, Places { image, reference }))
-        }
+        None => Ok((asked, None)),
     }
 }
 
@@ -135,6 +179,20 @@ impl Plan {
     {
         match self.places[i].reference {
             Some(place) => Some(&self.answers[place]),
+            None => None,
+        }
+    }
+
+    /// What is kept of the path of the file that a job's console is expected to hold, where it names one.
+    pub fn console_reference(&self, i: usize) -> Option<&Kept>
+        requires { i < length self.now.jobs }
+        ensures value { (d : AJob) → option_map (λ k. k.now) result
+            ≡ console_kept self.now.answers (slice_index_or self.now.jobs i d) }
+        ensures asked { (d : AJob) → is_some result
+            ≡ is_some (console_path (slice_index_or self.now.jobs i d).expect_console) }
+    {
+        match self.places[i].console {
+            Some(at) => Some(&self.answers[at]),
             None => None,
         }
     }

@@ -1,4 +1,4 @@
-//! Lists that are refused: each fault, limits, and long lists.
+//! Lists that are refused, by each fault.
 
 use rv_jobs::{What, read_jobs};
 use rv_memory::Misaligned;
@@ -7,7 +7,7 @@ use std::process::Abort;
 use std::test::Fail;
 
 /// What is wrong with a list: `job N: NAME`, or `good`.
-fn fault_of(alloc: Global, list: &str) -> Result<String, Fail> {
+pub(crate) fn fault_of(alloc: Global, list: &str) -> Result<String, Fail> {
     Ok(match read_jobs(alloc, list.as_bytes()) {
         Ok(_) => String::from_str(alloc, "good")?,
         Err(error) => {
@@ -102,6 +102,33 @@ expect_signature = 'r' | job 1: expect
 expect_signature = 'r', signature = ['a', 'b'] | good
 expect_signature = '', signature = ['a', 'b'] | job 1: expect
 expect_signature = 'r', signature = ['a'] | job 1: signature
+expect_console = 'a' | good
+expect_console = '' | good
+expect_console = 1 | job 1: wrong-type
+expect_console_file = 'f' | good
+expect_console_file = '' | job 1: expect
+expect_console_file = ['f'] | job 1: wrong-type
+expect_console = '', expect_console_file = 'f' | job 1: expect
+expect_end = 'budget' | good
+expect_end = 'fetch-access' | good
+expect_end = 'stale-code' | good
+expect_end = 'illegal' | good
+expect_end = 'breakpoint' | good
+expect_end = 'load-misaligned' | good
+expect_end = 'load-access' | good
+expect_end = 'store-misaligned' | good
+expect_end = 'store-access' | good
+expect_end = 'console-full' | good
+expect_end = 'unknown-call' | good
+expect_end = 'fetch-misaligned' | good
+expect_end = 'load_access' | job 1: expect
+expect_end = 'load-acces' | job 1: expect
+expect_end = 'Budget' | job 1: expect
+expect_end = 'exit' | job 1: expect
+expect_end = '' | job 1: expect
+expect_end = 5 | job 1: wrong-type
+expect_end = 'budget', expect_exit = 0 | good
+expect_end = 'exit', same_as = 'q' | job 1: expect
 expect_exit = -1, same_as = 'q' | job 1: expect
 same_as = 'q' | job 1: same-as
 same_as = 'a' | job 1: same-as
@@ -173,107 +200,5 @@ fn faults(rt: HostRuntime) -> Result<(), Fail> {
         Some((0, What::NotToml))
     );
     assert_eq!(&rt; (What::NotToml as u8, What::Misaligned as u8), (1, 18));
-    Ok(())
-}
-
-/// A text so many times.
-fn repeated(alloc: Global, text: &str, count: usize) -> Result<String, Fail> {
-    let mut all = String::new(alloc);
-    for _ in 0..count {
-        all.push_str(text)?;
-    }
-    Ok(all)
-}
-
-/// What stands before a repeated text, the text, its last good count, and what stands behind it; and the fault of one
-/// more.
-type Limit = (
-    &'static str,
-    &'static str,
-    usize,
-    &'static str,
-    &'static str,
-);
-
-const LIMITS: [Limit; 7] = [
-    ("image = 'b', name = '", "q", 64, "'", "name"),
-    ("name = 'a', image = '", "q", 4096, "'", "image"),
-    (
-        "name = 'a', image = 'b', input = '",
-        "q",
-        65_536,
-        "'",
-        "input",
-    ),
-    (
-        "name = 'a', image = 'b', input_hex = '",
-        "0f",
-        65_536,
-        "'",
-        "input",
-    ),
-    (
-        "name = 'a', image = 'b', signature = ['b', '",
-        "q",
-        255,
-        "']",
-        "signature",
-    ),
-    (
-        "name = 'a', image = 'b', signature = ['",
-        "q",
-        255,
-        "', 'b']",
-        "signature",
-    ),
-    (
-        "name = 'a', image = 'b', signature = ['b', 'c'], expect_signature = '",
-        "q",
-        4096,
-        "'",
-        "expect",
-    ),
-];
-
-/// The fault of a list of one job, of whose table these are the three parts behind the budget.
-fn fault_of_job(alloc: Global, before: &str, text: &str, after: &str) -> Result<String, Fail> {
-    let list = format!(in alloc; "job = [{{ budget = 3, {before}{text}{after} }}]")?;
-    fault_of(alloc, list.as_str())
-}
-
-#[test]
-fn limits(rt: HostRuntime) -> Result<(), Fail> {
-    let alloc = rt.alloc();
-    for (before, part, most, after, fault) in LIMITS {
-        let mut text = repeated(alloc, part, most)?;
-        let found = fault_of_job(alloc, before, text.as_str(), after)?;
-        assert_eq!(&rt; found.as_str(), "good", "{before}");
-        text.push_str(part)?;
-        let found = fault_of_job(alloc, before, text.as_str(), after)?;
-        let fault = format!(in alloc; "job 1: {fault}")?;
-        assert_eq!(&rt; found, fault, "{before}");
-    }
-    Ok(())
-}
-
-#[test]
-fn long_lists(rt: HostRuntime) -> Result<(), Fail> {
-    let alloc = rt.alloc();
-    let many = repeated(alloc, "[[job]]\n", 4097)?;
-    assert_eq!(&rt; fault_of(alloc, many.as_str())?.as_str(), "job 0: too-many");
-    let other = format!(in alloc; "x = 1\n{many}")?;
-    assert_eq!(&rt;
-        fault_of(alloc, other.as_str())?.as_str(),
-        "job 0: too-many"
-    );
-    let mut list = String::new(alloc);
-    for k in 0..4096 {
-        let job = format!(in alloc; "[[job]]\nname = 'n{k}'\nimage = 'b'\nbudget = 3\n")?;
-        list.push_str(job.as_str())?;
-    }
-    let jobs = read_jobs(alloc, list.as_bytes());
-    assert!(&rt; jobs.is_ok());
-    let Ok(jobs) = jobs else { return Ok(()) };
-    assert_eq!(&rt; jobs.as_slice().len(), 4096);
     Ok(())
 }

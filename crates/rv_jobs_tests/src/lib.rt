@@ -5,4 +5,6 @@
 #[cfg(test)]
 mod fault_tests;
 #[cfg(test)]
+mod limit_tests;
+#[cfg(test)]
 mod plan_tests;

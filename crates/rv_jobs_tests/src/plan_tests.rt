@@ -4,7 +4,10 @@ ghost use Rattle.std.specs.Prelude.{None};
 
 use rv_elf::LoadAt;
 use rv_isa::Isa;
-use rv_jobs::{JobList, Kept, Plan, ReadError, Store, What, gather, read_jobs};
+use rv_jobs::{
+    ExpectedConsole, ExpectedEnd, JobList, Kept, Plan, ReadError, Store, What, gather, read_jobs,
+};
+use rv_machine::FaultKind;
 use rv_memory::Misaligned;
 use std::alloc::Global;
 use std::process::Abort;
@@ -19,7 +22,8 @@ const EACH_KEY: &str = "job = [
 { name = 'first', image = 'a.elf', budget = 7 },
 { name = 'second', image = 'b.elf', budget = 8, input_hex = '00fF', load = 'virtual', \
 region = [{ base = 16, size = 8 }, { base = 32, size = 4, write = false }], signature = ['s', 'e'], \
-expect_exit = 9, expect_signature = 'r', same_as = 'first', isa = 'rv32im', misaligned = 'allow' }]";
+expect_exit = 9, expect_signature = 'r', expect_console = 'é', \
+expect_end = 'load-access', same_as = 'first', isa = 'rv32im', misaligned = 'allow' }]";
 
 #[test]
 fn each_key(rt: HostRuntime) -> Result<(), Fail> {
@@ -54,6 +58,15 @@ fn each_key(rt: HostRuntime) -> Result<(), Fail> {
         second.expect_signature.as_ref().map(|t| t.as_str()),
         Some("r")
     );
+    let console = second.expect_console.as_ref();
+    assert!(&rt;
+        matches!(console, Some(ExpectedConsole::Text(text)) if text.as_slice() == [0xc3, 0xa9].as_slice())
+    );
+    assert_eq!(&rt;
+        second.expect_end,
+        Some(ExpectedEnd::Fault(FaultKind::LoadAccess))
+    );
+    assert!(&rt; first.expect_console.is_none() && first.expect_end.is_none());
     assert!(&rt; second.isa == Isa::Im && second.misaligned == Misaligned::Allow);
     Ok(())
 }
@@ -141,7 +154,13 @@ const PATHS: &str = "job = [
 { name = 'n2', image = 'b', budget = 1 },
 { name = 'n3', image = 'l', budget = 1, signature = ['s', 's'], expect_signature = 'x' },
 { name = 'n4', image = 'r', budget = 1, signature = ['s', 's'], expect_signature = 'l' },
-{ name = 'n5', image = 'x', budget = 1 }]";
+{ name = 'n5', image = 'x', budget = 1, expect_console_file = 'a' },
+{ name = 'n6', image = 'y', budget = 1, signature = ['s', 's'], expect_signature = 'z', expect_console_file = 'l' }]";
+
+fn console_of(rt: &impl Abort, plan: &Plan, i: usize) -> &'static str {
+    assert!(rt; i < plan.jobs());
+    word_of(plan.console_reference(i))
+}
 
 #[test]
 fn paths(rt: HostRuntime) -> Result<(), Fail> {
@@ -152,13 +171,15 @@ fn paths(rt: HostRuntime) -> Result<(), Fail> {
         faults: 5,
     };
     let plan = gather(alloc, list, &mut store)?;
-    assert_eq!(&rt; store.log.as_str(), "bralx");
-    assert_eq!(&rt; (store.faults(), plan.jobs()), (6, 6));
-    let images = ["b", "a", "b", "long", "r", "unreadable"];
-    let references = ["r", "b", "none", "unreadable", "long", "none"];
-    for i in 0..6 {
+    assert_eq!(&rt; store.log.as_str(), "bralxyz");
+    assert_eq!(&rt; (store.faults(), plan.jobs()), (8, 7));
+    let images = ["b", "a", "b", "long", "r", "unreadable", "unreadable"];
+    let references = ["r", "b", "none", "unreadable", "long", "none", "unreadable"];
+    let consoles = ["none", "none", "none", "none", "none", "a", "long"];
+    for i in 0..7 {
         assert_eq!(&rt; image_of(&rt, &plan, i), images[i], "image {i}");
         assert_eq!(&rt; reference_of(&rt, &plan, i), references[i], "reference {i}");
+        assert_eq!(&rt; console_of(&rt, &plan, i), consoles[i], "console {i}");
     }
     assert!(&rt; 4 < plan.jobs());
     assert_eq!(&rt; plan.job(4).name.as_str(), "n4");

@@ -1,5 +1,7 @@
 -- The words for the faults of a run.
-use Rattle.std.specs.Prelude.{ℕ, List, codes}
+use Rattle.std.specs.Prelude.{ℕ, List, [], ◌∷◌, Option, codes}
+use Rattle.std.specs.List.{find}
+use Rattle.std.specs.Str.{bytes_eq}
 use Rattle.rv_machine.specs.declared.ending.FaultKind.{FaultKind}
 use Rattle.rv_machine.specs.declared.ending.FaultKind.TheVariants as fault
 
@@ -16,3 +18,14 @@ fault_name fault.StoreAccess = codes "store-access"
 fault_name fault.ConsoleFull = codes "console-full"
 fault_name fault.UnknownCall = codes "unknown-call"
 fault_name fault.FetchMisaligned = codes "fetch-misaligned"
+
+-- all of them
+abbrev pub fault_kinds : List FaultKind
+fault_kinds =
+    fault.FetchAccess ∷ fault.StaleCode ∷ fault.Illegal ∷ fault.Breakpoint ∷ fault.LoadMisaligned
+    ∷ fault.LoadAccess ∷ fault.StoreMisaligned ∷ fault.StoreAccess ∷ fault.ConsoleFull
+    ∷ fault.UnknownCall ∷ fault.FetchMisaligned ∷ []
+
+-- the one of this name
+abbrev pub fault_named : List ℕ → Option FaultKind
+fault_named name = find (λ kind. bytes_eq name (fault_name kind)) fault_kinds

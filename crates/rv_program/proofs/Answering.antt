@@ -1,5 +1,5 @@
 -- Answers to words that the command takes.
-use Rattle.std.proofs.Common.{◌≡◌, ◌∙◌, ◌⊎◌, ℕ, true, false, List, [], ◌∷◌, Option, Some, Ok, Err, Result, refl, sym}
+use Rattle.std.proofs.Common.{◌≡◌, ◌∙◌, ◌⊎◌, ℕ, List, [], ◌∷◌, Option, Some, Ok, Err, Result, refl, sym}
 use Rattle.std.proofs.Common.{ap}
 use Rattle.std.proofs.Common.{IfOk, arith, inl, inr}
 use Rattle.std.specs.Io.KnownBytes.{Appends, Keeps}

@@ -3,6 +3,8 @@
 #![tactic(auto)]
 
 #[cfg(test)]
+mod expectation_tests;
+#[cfg(test)]
 mod failing_tests;
 #[cfg(test)]
 mod file_tests;
@@ -18,6 +20,8 @@ mod list_tests;
 mod report_tests;
 #[cfg(test)]
 mod row_tests;
+#[cfg(test)]
+mod sample_store;
 #[cfg(test)]
 mod stream_tests;
 #[cfg(test)]

@@ -114,7 +114,9 @@ pub(crate) fn runs_job(
     let run = job_run_of(line).ok_or("six cells")?;
     let list = list_of_one(alloc, &run)?;
     let mut store = MemoryStore::of(alloc, "jobs", list.as_bytes())?;
-    store.add(alloc, "image", file(alloc, run.file)?)?;
+    if run.file != "none" {
+        store.add(alloc, "image", file(alloc, run.file)?)?;
+    }
     let answer = ask_store(rt, alloc, "run jobs", &mut store)?;
     answer.is(0, report_of_one(alloc, &run)?.as_str(), "")
 }

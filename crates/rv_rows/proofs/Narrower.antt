@@ -62,11 +62,11 @@ file_outcome_wider job file h = go (loadable_of job file) refl h
         ∙ ap (λ (r : Ran). outcome_of_run r there.range) (run_wider job.budget start ended)
     go (Err why) is h = absurd (false≢true h)
 
-outcome_wider : (job : Job) (image : Kept) (reference : Option Kept)
-    → is_of_any_set (outcome_of job image reference).ending ≡ true
-    → outcome_of (widened_job job) image reference ≡ outcome_of job image reference
+outcome_wider : (job : Job) (image : Kept) (reference console : Option Kept)
+    → is_of_any_set (outcome_of job image reference console).ending ≡ true
+    → outcome_of (widened_job job) image reference console ≡ outcome_of job image reference console
 unfolding outcome_of
-outcome_wider job image reference h = go (file_of image reference) h
+outcome_wider job image reference console h = go (file_of image reference console) h
   where
     go : (r : Result (List ℕ) Refusal) → is_of_any_set (outcome_if_there job r).ending ≡ true
         → outcome_if_there (widened_job job) r ≡ outcome_if_there job r
@@ -107,7 +107,7 @@ module _ (plan : Planned) (place : ℕ) where
       → row_of (widened_plan place plan) (widened_job job) ≡ row_of plan job
   unfolding row_of verdict_of
   row_wider job earlier h =
-      let there = outcome_wider job _ _ h in
+      let there = outcome_wider job _ _ _ h in
       rw there (rw (other_wider job earlier) refl)
 
   -- a job at the place names an earlier one, if any

@@ -39,18 +39,19 @@ content_of (kept.Content bytes) unreadable long = Ok bytes
 content_of kept.Unreadable unreadable long = Err unreadable
 content_of kept.TooLong unreadable long = Err long
 
--- the reference, where one is asked for
+-- a reference, where one is named: that of a signature, or that of a console
 abbrev pub reference_of : Option Kept → Result (Option (List ℕ)) Refusal
 reference_of None = Ok None
 reference_of (Some kept) = do
   bytes ← content_of kept refusal.ReferenceUnreadable refusal.ReferenceTooLong
   Ok (Some bytes)
 
--- the image's bytes, if the reference is there too
-unfoldable pub file_of : Kept → Option Kept → Result (List ℕ) Refusal
-file_of image reference = do
+-- the image's bytes, if the references of the signature and of the console are there too
+unfoldable pub file_of : Kept → Option Kept → Option Kept → Result (List ℕ) Refusal
+file_of image reference console = do
   file ← content_of image refusal.ImageUnreadable refusal.ImageTooLong
-  bytes ← reference_of reference
+  lines ← reference_of reference
+  bytes ← reference_of console
   Ok file
 
 -- ---- the image and the signature's range
@@ -142,6 +143,7 @@ abbrev pub outcome_if_there : Job → Result (List ℕ) Refusal → Outcome
 outcome_if_there job (Ok file) = file_outcome_of job file
 outcome_if_there job (Err why) = refused_outcome why
 
--- the outcome of a job over what is kept of the paths of its image and of its reference
-unfoldable pub outcome_of : Job → Kept → Option Kept → Outcome
-outcome_of job image reference = outcome_if_there job (file_of image reference)
+-- the outcome of a job over what is kept of the paths of its image, of its reference and of the
+-- file that its console is expected to hold
+unfoldable pub outcome_of : Job → Kept → Option Kept → Option Kept → Outcome
+outcome_of job image reference console = outcome_if_there job (file_of image reference console)

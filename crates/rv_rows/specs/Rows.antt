@@ -5,6 +5,7 @@ use Rattle.rv_jobs.specs.declared.answers.Answer.{Answer}
 use Rattle.rv_jobs.specs.declared.job.Job.{Job}
 use Rattle.rv_jobs.specs.declared.store.Kept.{Kept}
 use Rattle.rv_jobs.specs.declared.store.Kept.TheVariants as kept
+use Rattle.rv_jobs.specs.Jobs.{console_path}
 use Rattle.rv_jobs.specs.Plans.{Planned, kept_of}
 use Rattle.rv_rows.specs.declared.outcome.Outcome.{Outcome}
 use Rattle.rv_rows.specs.declared.row.Row.{Row}
@@ -20,6 +21,7 @@ kept_for answers path = unwrap_or (kept_of answers path) kept.Unreadable
 abbrev pub outcome_in : List Answer → Job → Outcome
 outcome_in answers job =
     outcome_of job (kept_for answers job.image) (option_map (kept_for answers) job.expect_signature)
+    (option_map (kept_for answers) (console_path job.expect_console))
 
 -- the bytes of a reference, if it was read
 abbrev pub bytes_in : Option Kept → Option (List ℕ)
@@ -29,6 +31,10 @@ bytes_in _ = None
 -- the bytes of a job's reference, where it has one and it was read
 abbrev pub reference_in : List Answer → Job → Option (List ℕ)
 reference_in answers job = bytes_in (option_map (kept_for answers) job.expect_signature)
+
+abbrev pub console_in : List Answer → Job → Option (List ℕ)
+console_in answers job =
+    bytes_in (option_map (kept_for answers) (console_path job.expect_console))
 
 -- the outcome (and not the verdict) of the job that a job names
 abbrev pub other_in : Planned → Job → Option Outcome
@@ -51,7 +57,8 @@ unfoldable pub row_of : Planned → Job → Row
 row_of plan job =
     let there = outcome_in plan.answers job in
     row_with job.name there
-    (verdict_of job there (reference_in plan.answers job) (other_in plan job))
+    (verdict_of job there (reference_in plan.answers job) (console_in plan.answers job)
+    (other_in plan job))
 
 -- one row a job, in list order
 unfoldable pub rows_of : Planned → List Row

@@ -3,6 +3,10 @@ use Rattle.std.specs.Prelude.{◌==◌, ◌&&◌, ◌||◌, ℕ, Bool, true, fal
 use Rattle.std.specs.Prelude.{None, is_some, if◌then◌else◌}
 use Rattle.std.specs.List.{flat_map}
 use Rattle.std.specs.Str.{bytes_eq}
+use Rattle.rv_jobs.specs.declared.job.ExpectedConsole.{ExpectedConsole}
+use Rattle.rv_jobs.specs.declared.job.ExpectedConsole.TheVariants.{Text, File}
+use Rattle.rv_jobs.specs.declared.job.ExpectedEnd.{ExpectedEnd}
+use Rattle.rv_jobs.specs.declared.job.ExpectedEnd.TheVariants as expected
 use Rattle.rv_jobs.specs.declared.job.Job.{Job}
 use Rattle.rv_machine.specs.declared.ending.FaultKind.{FaultKind}
 use Rattle.rv_machine.specs.declared.ending.FaultKind.TheVariants as fault
@@ -15,7 +19,25 @@ use Rattle.rv_rows.specs.Report.{word_line}
 
 -- a job expects something of its row
 abbrev pub is_asked : Job → Bool
-is_asked job = is_some job.expect_exit || (is_some job.expect_signature || is_some job.same_as)
+is_asked job =
+    is_some job.expect_exit || (is_some job.expect_end || (is_some job.expect_console
+    || (is_some job.expect_signature || is_some job.same_as)))
+
+-- ---- kinds of faults
+
+-- faults are of one kind where their numbers are equal
+abbrev pub fault_number : FaultKind → ℕ
+fault_number fault.FetchAccess = 1
+fault_number fault.StaleCode = 2
+fault_number fault.Illegal = 3
+fault_number fault.Breakpoint = 4
+fault_number fault.LoadMisaligned = 5
+fault_number fault.LoadAccess = 6
+fault_number fault.StoreMisaligned = 7
+fault_number fault.StoreAccess = 8
+fault_number fault.ConsoleFull = 9
+fault_number fault.UnknownCall = 10
+fault_number fault.FetchMisaligned = 11
 
 -- ---- the exit code
 
@@ -31,12 +53,38 @@ abbrev pub holds_exit : Option ℕ → RowEnd → Bool
 holds_exit None end = true
 holds_exit (Some code) end = exits_with code end
 
--- ---- the reference
+-- ---- the end
+
+-- the run ended so: by its budget, or by a fault of the kind
+abbrev pub ends_by : ExpectedEnd → RowEnd → Bool
+ends_by expected.Budget ending.Budget = true
+ends_by (expected.Fault kind) (ending.Fault met pc value) = fault_number kind == fault_number met
+ends_by _ _ = false
+
+-- the run ended as is expected, if something is
+abbrev pub holds_end : Option ExpectedEnd → RowEnd → Bool
+holds_end None end = true
+holds_end (Some how) end = ends_by how end
+
+-- ---- the console
 
 -- every ending but a refusal is that of a run
 abbrev pub is_run : RowEnd → Bool
 is_run (ending.Refused why) = false
 is_run _ = true
+
+-- the job ran, and its console has these bytes
+abbrev pub prints : List ℕ → Outcome → Bool
+prints bytes there = is_run there.ending && bytes_eq bytes there.console
+
+-- the bytes are those of the job itself, or of the file that it names, which was read
+abbrev pub holds_console : Option ExpectedConsole → Option (List ℕ) → Outcome → Bool
+holds_console None bytes there = true
+holds_console (Some (Text text)) bytes there = prints text there
+holds_console (Some (File path)) None there = false
+holds_console (Some (File path)) (Some bytes) there = prints bytes there
+
+-- ---- the reference
 
 -- each word of a signature as a line
 abbrev pub lines_of : Option (List ℕ) → List ℕ
@@ -51,20 +99,6 @@ holds_reference (Some path) (Some bytes) there = is_run there.ending
     && bytes_eq bytes (lines_of there.signature)
 
 -- ---- another job
-
--- faults are of one kind where their numbers are equal
-abbrev pub fault_number : FaultKind → ℕ
-fault_number fault.FetchAccess = 1
-fault_number fault.StaleCode = 2
-fault_number fault.Illegal = 3
-fault_number fault.Breakpoint = 4
-fault_number fault.LoadMisaligned = 5
-fault_number fault.LoadAccess = 6
-fault_number fault.StoreMisaligned = 7
-fault_number fault.StoreAccess = 8
-fault_number fault.ConsoleFull = 9
-fault_number fault.UnknownCall = 10
-fault_number fault.FetchMisaligned = 11
 
 -- two runs ended alike: by the same code, by the same kind of fault, or both by their budgets
 abbrev pub are_alike : RowEnd → RowEnd → Bool
@@ -94,10 +128,19 @@ holds_same (Some place) (Some other) there = are_same there other
 
 -- ---- all of them
 
--- the verdict over the outcome, the reference's bytes, and the outcome of the job that it names
-unfoldable pub verdict_of : Job → Outcome → Option (List ℕ) → Option Outcome → Verdict
-verdict_of job there reference other =
+-- each expectation holds or is not there, over the bytes of the references that were read, and the
+-- outcome of the job that it names
+abbrev pub holds_all : Job → Outcome → Option (List ℕ) → Option (List ℕ) → Option Outcome → Bool
+holds_all job there reference console other =
+    holds_exit job.expect_exit there.ending
+    && (holds_end job.expect_end there.ending
+    && (holds_console job.expect_console console there
+    && (holds_reference job.expect_signature reference there
+    && holds_same job.same_as other there)))
+
+-- the verdict over the same
+unfoldable pub verdict_of :
+    Job → Outcome → Option (List ℕ) → Option (List ℕ) → Option Outcome → Verdict
+verdict_of job there reference console other =
     if not (is_asked job) then verdict.Unasked
-    else (if holds_exit job.expect_exit there.ending
-    && (holds_reference job.expect_signature reference there && holds_same job.same_as other there)
-    then verdict.Pass else verdict.Fail)
+    else (if holds_all job there reference console other then verdict.Pass else verdict.Fail)

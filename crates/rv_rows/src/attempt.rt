@@ -1,6 +1,6 @@
 //! The making of an outcome: the first refusal that applies, or the run of a job.
 
-ghost use Rattle.std.specs.Prelude.{◌≡◌, ◌≢◌, ◌<◌, ◌≤◌, IfOk, IfSome, MatchResult, Ok, Err, length, option_map};
+ghost use Rattle.std.specs.Prelude.{◌≡◌, ◌≢◌, ◌<◌, ◌≤◌, IfOk, IfSome, MatchResult, Ok, Err, IsOk, length, option_map};
 ghost use Rattle.rv_elf.specs.declared.error.ImageError.TheVariants.{OutOfMemory};
 ghost use Rattle.rv_elf.specs.Image.{IsImageOf};
 ghost use Rattle.rv_elf.specs.Symbols.{signature_check, symbol_of};
@@ -10,7 +10,7 @@ ghost use Rattle.rv_machine.specs.Run.{run_of};
 ghost use Rattle.rv_machine.specs.Machine.{state_of};
 ghost use Rattle.rv_rows.specs.Attempt.{HasSignature, IsReadable, outcome_in_bus, outcome_of_attempt};
 ghost use Rattle.rv_rows.specs.Outcome.{end_of, end_of_signature, file_of, file_outcome_of, loadable_of, loaded_state};
-ghost use Rattle.rv_rows.specs.Outcome.{outcome_of, outcome_of_run, range_of};
+ghost use Rattle.rv_rows.specs.Outcome.{outcome_of, outcome_of_run, range_of, reference_of};
 
 use crate::outcome::{Attempt, EndedRun, Loadable, SignatureRange};
 use crate::row::{Refusal, RowEnd};
@@ -21,44 +21,62 @@ use rv_machine::{Ending, Machine};
 use rv_memory::Map;
 use std::alloc::{AllocError, Global};
 
-/// What a job comes to over what is kept of the paths of its image and of its reference.
+/// What a job comes to over what is kept of the paths of its image, of its reference, and of the file that its console
+/// is expected to hold.
 #[tactic(auto, unfolding(crate::specs::Outcome::outcome_of))]
 pub(crate) fn attempt_of(
     alloc: Global,
     job: &Job,
     image: &Kept,
     reference: Option<&Kept>,
+    console: Option<&Kept>,
     spare: &mut Spare,
 ) -> Result<Attempt, AllocError>
     requires script { length job.now.script ≤ most_script }
     requires named { IfSome job.now.signature (λ names. (0 < length names.begin)
         × (0 < length names.end)) }
     ensures outcome { IfOk result (λ attempt. outcome_of_attempt attempt
-        ≡ outcome_of job.now image.now (option_map (λ kept. kept.now) reference.entry)) }
+        ≡ outcome_of job.now image.now (option_map (λ kept. kept.now) reference.entry)
+        (option_map (λ kept. kept.now) console.entry)) }
     ensures readable { IfOk result IsReadable }
 {
-    match file(image, reference) {
+    match file(image, reference, console) {
         Ok(file) => file_attempt(alloc, job, file, spare),
         Err(why) => Ok(Attempt::Refused(why)),
     }
 }
 
-// The image's bytes, if the reference is there too.
+// The image's bytes, if the references are there too.
 #[tactic(auto, unfolding(crate::specs::Outcome::file_of))]
-fn file<'a>(image: &'a Kept, reference: Option<&Kept>) -> Result<&'a [u8], Refusal>
-    ensures { MatchResult result
-        (λ file. file_of image.now (option_map (λ kept. kept.now) reference.entry) ≡ Ok file.now)
-        (λ why. file_of image.now (option_map (λ kept. kept.now) reference.entry) ≡ Err why) }
+fn file<'a>(
+    image: &'a Kept,
+    reference: Option<&Kept>,
+    console: Option<&Kept>,
+) -> Result<&'a [u8], Refusal>
+    ensures { let found = file_of image.now (option_map (λ kept. kept.now) reference.entry)
+        (option_map (λ kept. kept.now) console.entry) in
+        MatchResult result (λ file. found ≡ Ok file.now) (λ why. found ≡ Err why) }
 {
     let file = match image {
         Kept::Content(bytes) => bytes.as_slice(),
         Kept::Unreadable => return Err(Refusal::ImageUnreadable),
         Kept::TooLong => return Err(Refusal::ImageTooLong),
     };
+    check_reference(reference)?;
+    check_reference(console)?;
+    Ok(file)
+}
+
+// That a reference was read, where one is named.
+fn check_reference(reference: Option<&Kept>) -> Result<(), Refusal>
+    ensures { MatchResult result
+        (λ _. IsOk (reference_of (option_map (λ kept. kept.now) reference.entry)))
+        (λ why. reference_of (option_map (λ kept. kept.now) reference.entry) ≡ Err why) }
+{
     match reference {
         Some(Kept::Unreadable) => Err(Refusal::ReferenceUnreadable),
         Some(Kept::TooLong) => Err(Refusal::ReferenceTooLong),
-        Some(Kept::Content(_)) | None => Ok(file),
+        Some(Kept::Content(_)) | None => Ok(()),
     }
 }
 

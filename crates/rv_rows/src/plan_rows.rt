@@ -5,7 +5,8 @@ ghost use Rattle.std.specs.Prelude.{slice_index_or};
 ghost use Rattle.rv_jobs.specs.declared.job.Job.{Job as AJob};
 ghost use Rattle.rv_rows.specs.Attempt.{IsReadable, outcome_of_attempt};
 ghost use Rattle.rv_rows.specs.Recent.{AreOutcomes, outcome_at};
-ghost use Rattle.rv_rows.specs.Rows.{bytes_in, other_in, outcome_in, reference_in, row_of, row_with, rows_of};
+ghost use Rattle.rv_rows.specs.Rows.{bytes_in, console_in, other_in, outcome_in, reference_in, row_of, row_with};
+ghost use Rattle.rv_rows.specs.Rows.{rows_of};
 ghost use Rattle.rv_rows.specs.Verdict.{are_same, holds_same};
 
 use crate::attempt::attempt_of;
@@ -47,7 +48,13 @@ pub fn next_row(
     let job = plan.job(i);
     let there = outcome_at(alloc, plan, i, spare)?;
     let same = holds_same(alloc, plan, job, &there, spare, recent)?;
-    let verdict = verdict(job, &there, reference_bytes(plan, i), same);
+    let verdict = verdict(
+        job,
+        &there,
+        reference_bytes(plan, i),
+        console_bytes(plan, i),
+        same,
+    );
     keep_if_named(alloc, plan, i, &there, recent)?;
     row_with(alloc, job.name.as_str(), there, verdict)
 }
@@ -81,7 +88,14 @@ fn attempt_at(
         ≡ outcome_in plan.now.answers (slice_index_or plan.now.jobs i d)) }
     ensures readable { IfOk result IsReadable }
 {
-    attempt_of(alloc, plan.job(i), plan.image(i), plan.reference(i), spare)
+    attempt_of(
+        alloc,
+        plan.job(i),
+        plan.image(i),
+        plan.reference(i),
+        plan.console_reference(i),
+        spare,
+    )
 }
 
 // Whether an outcome is the same as that of the job that a job names, if it names one.
@@ -170,7 +184,23 @@ fn reference_bytes(plan: &Plan, i: usize) -> Option<&[u8]>
     ensures { (d : AJob) → option_map (λ bytes. bytes.now) result
         ≡ reference_in plan.now.answers (slice_index_or plan.now.jobs i d) }
 {
-    match plan.reference(i) {
+    content_of(plan.reference(i))
+}
+
+// The bytes of the file that a job's console is expected to hold, where it was read.
+fn console_bytes(plan: &Plan, i: usize) -> Option<&[u8]>
+    requires { i < length plan.now.jobs }
+    ensures { (d : AJob) → option_map (λ bytes. bytes.now) result
+        ≡ console_in plan.now.answers (slice_index_or plan.now.jobs i d) }
+{
+    content_of(plan.console_reference(i))
+}
+
+fn content_of(kept: Option<&Kept>) -> Option<&[u8]>
+    ensures { option_map (λ bytes. bytes.now) result
+        ≡ bytes_in (option_map (λ there. there.now) kept.entry) }
+{
+    match kept {
         Some(Kept::Content(bytes)) => Some(bytes.as_slice()),
         Some(_) | None => None,
     }

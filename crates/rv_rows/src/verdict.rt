@@ -3,28 +3,41 @@
 ghost use Rattle.std.specs.Prelude.{◌≡◌, Option, bytes_eq, option_map};
 ghost use Rattle.rv_rows.specs.declared.outcome.Outcome.{Outcome as AnOutcome};
 ghost use Rattle.rv_rows.specs.Attempt.{HasSignature, IsReadable, outcome_in_bus, outcome_of_attempt};
-ghost use Rattle.rv_rows.specs.Verdict.{are_alike, are_same, exits_with, fault_number, holds_exit, holds_reference};
-ghost use Rattle.rv_rows.specs.Verdict.{holds_same, is_asked, is_run, lines_of, same_signature, verdict_of};
+ghost use Rattle.rv_rows.specs.Verdict.{are_alike, are_same, ends_by, exits_with, fault_number, holds_console};
+ghost use Rattle.rv_rows.specs.Verdict.{holds_end, holds_exit, holds_reference};
+ghost use Rattle.rv_rows.specs.Verdict.{holds_same, is_asked, is_run, lines_of, prints, same_signature, verdict_of};
 
 use crate::outcome::{Attempt, EndedRun, Outcome};
 use crate::row::{RowEnd, Verdict, Words};
 use crate::signature_lines::are_word_lines;
-use rv_jobs::{Job, Text};
+use rv_jobs::{ExpectedConsole, ExpectedEnd, Job, Text};
 use rv_machine::FaultKind;
 
-/// Whether an outcome is what the job expects, over the bytes of its reference, where that was read, and whether it is
-/// the same as the outcome of the job that it names, if it names one.
+/// Whether an outcome is what the job expects, over the bytes of its references, where they were read, and whether it
+/// is the same as the outcome of the job that it names, if it names one.
 #[tactic(auto, unfolding(crate::specs::Verdict::verdict_of))]
-pub(crate) fn verdict(job: &Job, there: &Outcome, reference: Option<&[u8]>, same: bool) -> Verdict
+pub(crate) fn verdict(
+    job: &Job,
+    there: &Outcome,
+    reference: Option<&[u8]>,
+    console: Option<&[u8]>,
+    same: bool,
+) -> Verdict
     // Whatever the outcome of the named job is, where `same` says of it whether it is the same.
     ensures { (other : Option AnOutcome) → same ≡ holds_same job.now.same_as other there.now
-        → result ≡ verdict_of job.now there.now (option_map
-        (λ bytes. bytes.now) reference.entry) other }
+        → result ≡ verdict_of job.now there.now (option_map (λ bytes. bytes.now) reference.entry)
+        (option_map (λ bytes. bytes.now) console.entry) other }
 {
     if !is_asked(job) {
         return Verdict::Unasked;
     }
     if !holds_exit(job.expect_exit, there.ending) {
+        return Verdict::Fail;
+    }
+    if !holds_end(job.expect_end, there.ending) {
+        return Verdict::Fail;
+    }
+    if !holds_console(&job.expect_console, console, there) {
         return Verdict::Fail;
     }
     if !holds_reference(&job.expect_signature, reference, there) {
@@ -40,7 +53,11 @@ pub(crate) fn verdict(job: &Job, there: &Outcome, reference: Option<&[u8]>, same
 fn is_asked(job: &Job) -> bool
     ensures { result ≡ is_asked job.now }
 {
-    job.expect_exit.is_some() || job.expect_signature.is_some() || job.same_as.is_some()
+    job.expect_exit.is_some()
+        || job.expect_end.is_some()
+        || job.expect_console.is_some()
+        || job.expect_signature.is_some()
+        || job.same_as.is_some()
 }
 
 fn holds_exit(expected: Option<u32>, ending: RowEnd) -> bool
@@ -61,6 +78,47 @@ fn exits_with(code: u32, ending: RowEnd) -> bool
         RowEnd::Budget => false,
         RowEnd::Refused(_) => false,
     }
+}
+
+fn holds_end(expected: Option<ExpectedEnd>, ending: RowEnd) -> bool
+    ensures { result ≡ holds_end expected ending }
+{
+    match expected {
+        Some(expected) => ends_by(expected, ending),
+        None => true,
+    }
+}
+
+// Whether a run ended by its budget, or by a fault of the kind.
+fn ends_by(expected: ExpectedEnd, ending: RowEnd) -> bool
+    ensures { result ≡ ends_by expected ending }
+{
+    match (expected, ending) {
+        (ExpectedEnd::Budget, RowEnd::Budget) => true,
+        (ExpectedEnd::Fault(kind), RowEnd::Fault(met, ..)) => {
+            fault_number(kind) == fault_number(met)
+        }
+        _ => false,
+    }
+}
+
+// Whether the job ran, and its console is the one that is expected.
+fn holds_console(expected: &Option<ExpectedConsole>, file: Option<&[u8]>, there: &Outcome) -> bool
+    ensures { result ≡ holds_console expected.now (option_map (λ bytes. bytes.now) file.entry)
+        there.now }
+{
+    match (expected, file) {
+        (None, _) => true,
+        (Some(ExpectedConsole::Text(text)), _) => prints(text.as_slice(), there),
+        (Some(ExpectedConsole::File(_)), Some(bytes)) => prints(bytes, there),
+        (Some(ExpectedConsole::File(_)), None) => false,
+    }
+}
+
+fn prints(bytes: &[u8], there: &Outcome) -> bool
+    ensures { result ≡ prints bytes.now there.now }
+{
+    is_run(there.ending) && bytes == there.console.as_slice()
 }
 
 // Whether the job ran, and the reference is its signature's lines.
