@@ -1,6 +1,7 @@
 //! Fetches, and the marks of stored bytes that refuse them.
 use super::{RAM, ROM, accesses, bus, place};
-use rv_memory::{FetchFault, Width};
+use rv_memory::{Bus, FetchFault, Width};
+use std::process::Abort;
 use std::test::Fail;
 
 // label | access | answer
@@ -48,6 +49,11 @@ fn fetches(rt: HostRuntime) -> Result<(), Fail> {
     Ok(())
 }
 
+fn clean(rt: &impl Abort, bus: &Bus, addr: u32, len: u32) -> bool {
+    assert!(rt; len == 2 || len == 4);
+    bus.clean(addr, len)
+}
+
 #[test]
 fn clean_bytes(rt: HostRuntime) -> Result<(), Fail> {
     let mut bus = bus(rt.alloc(), &[ROM, RAM], b"")?;
@@ -65,9 +71,8 @@ fn clean_bytes(rt: HostRuntime) -> Result<(), Fail> {
         ("past the end", 0x2000_0010, 2, false),
         ("its first half outside", 0x1fff_fffe, 4, false),
     ];
-    for (label, addr, len, clean) in rows {
-        assert!(&rt; len == 2 || len == 4);
-        assert_eq!(&rt; bus.clean(addr, len), clean, "{label}");
+    for (label, addr, len, is_clean) in rows {
+        assert_eq!(&rt; clean(&rt, &bus, addr, len), is_clean, "{label}");
     }
     bus.sync_code();
     assert!(&rt; bus.clean(0x2000_000c, 4));
