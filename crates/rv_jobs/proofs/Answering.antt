@@ -1,10 +1,11 @@
 -- Answers by their paths, and the paths of jobs in order of first use.
 use Rattle.std.proofs.Common.{◌≡◌, ◌∙◌, ◌+◌, ◌<◌, ◌++◌, Bool, true, false, ℕ, zero, suc, List, [], ◌∷◌, Option, Some}
 use Rattle.std.proofs.Common.{None, refl, ap, sym, length, option_map, cond, arith, subst, get_or, is_some, take}
+use Rattle.std.specs.Prelude.{unwrap_or}
 use Rattle.std.proofs.Common.{IfSome, inl, inr, option_and_then, map, length-append}
 use Rattle.std.specs.List.{find, fold}
 use Rattle.std.specs.Str.{bytes_eq}
-use Rattle.std.proofs.lemmas.List.{map-append, get_or_default, get_or_push}
+use Rattle.std.proofs.lemmas.List.{map-append, get_or_default, get_or_push, length-map}
 use Rattle.std.proofs.lemmas.Bool.{cases_lt}
 use Rattle.std.proofs.Math.ListN.{get_or-append}
 use Rattle.std.proofs.lemmas.List.Sums.{sum_by-append, fold_more}
@@ -12,14 +13,15 @@ use Rattle.std.proofs.Math.Seq.{take-length}
 use Rattle.std.proofs.lemmas.List.Elements.{All-push}
 use Rattle.rv_jobs.specs.declared.job.Job.{Job}
 use Rattle.rv_jobs.specs.declared.store.Kept.{Kept}
+use Rattle.rv_jobs.specs.declared.store.Kept.TheVariants.{Unreadable}
 use Rattle.rv_jobs.specs.declared.answers.Answer.{Answer}
-use Rattle.rv_jobs.specs.declared.plan.Places.{Places}
+use Rattle.rv_jobs.specs.declared.asking.Places.{Places}
 use Rattle.rv_jobs.specs.JobList.{place_in}
 use Rattle.rv_jobs.specs.Stores.{FileContents, IsKeptOf, is_unreadable, one_more, faults_with}
 use Rattle.rv_jobs.specs.Jobs.{console_path}
 use Rattle.rv_jobs.specs.Plans.{paths_of, answers_with, with_path, with_path_if, with_job, paths_used, kept_of}
-use Rattle.rv_jobs.specs.Plans.{AreKept, unreadables, more}
-use Rattle.rv_jobs.specs.Placed.{ArePlaced}
+use Rattle.rv_jobs.specs.Plans.{AreKept, kept_for, unreadables, more}
+use Rattle.rv_jobs.specs.Placed.{ArePlaced, IsFound}
 use Rattle.rv_jobs.proofs.PlaceLemmas.{place_below, place_last}
 use Rattle.std.proofs.lemmas.Slice.Eq.{bytes_eq-Decides}
 
@@ -41,6 +43,14 @@ unfolding place_in
 kept_at [] p k d e = cc
 kept_at (a ∷ ans) p k d e = found_at (bytes_eq p a.path) (place_in (paths_of ans) p) a ans
     (find (λ (x : Answer). bytes_eq p x.path) ans) k d (λ j h. kept_at ans p j d h) e
+
+absent : (b : Bool) (o : Option ℕ) (a : Answer) (f : Option Answer)
+    → (o ≡ None → option_map (λ (x : Answer). x.kept) f ≡ None)
+    → cond b (Some 0) (option_map (λ j. j + 1) o) ≡ None
+    → option_map (λ (x : Answer). x.kept) (cond b (Some a) f) ≡ None
+absent true o a f ih e = cc
+absent false None a f ih e = ih refl
+absent false (Some k) a f ih e = cc
 
 -- ---- paths beside what is kept of them
 
@@ -241,33 +251,7 @@ placed_all xs ys zs job image reference console p r c is_p is_r is_c found grown
       console = ap (option_map (place_in zs)) (sym is_c) ∙ last;
     }
 
--- a job more
-pub placed_more : (all js : List Job) (ps new : List Places) (x : Places) (xs ys : List (List ℕ)) (n : ℕ) (j : Job)
-    → all ≡ js → n < length all → j ≡ get_or all n j → length ps ≡ n → new ≡ ps ++ x ∷ [] → ys ≡ with_job xs j
-    → ArePlaced ys j x
-    → ((i : ℕ) (d : Job) (e : Places) → i < n → ArePlaced xs (get_or js i d) (get_or ps i e))
-    → (i : ℕ) (d : Job) (e : Places) → i < n + 1 → ArePlaced ys (get_or js i d) (get_or new i e)
-placed_more all js ps new x xs ys n j same low is many pushed grown mine before i d e h = elim (cases_lt i n) [
-  | inl below ↦
-      let inside : i < length ps = omega arith in
-      rw (pushed, get_or-append ps (x ∷ []) e i inside)
-      (subst (λ zs. ArePlaced zs (get_or js i d) (get_or ps i e)) (sym grown)
-      (placed_later xs j (get_or js i d) (get_or ps i e) (before i d e below)))
-  | inr past ↦
-      let at : n ≡ i = omega arith in
-      let last : x ≡ get_or new i e = sym (ap (λ l. get_or l i e) pushed ∙ get_or_push ps x e i (many ∙ at)) in
-      let inside : i < length js = subst (λ l. i < length l) same (omega arith) in
-      let job : j ≡ get_or js i d = is ∙ ap (λ k. get_or all k j) at ∙ ap (λ l. get_or l i j) same
-      ∙ get_or_default js i j d inside in
-      subst (λ z. ArePlaced ys (get_or js i d) z) last (subst (λ z. ArePlaced ys z x) job mine)
-]
-
 -- ---- the answers of a plan
-
-pub job_there : (js : List Job) (i : ℕ) → i < length js → Job
-job_there [] i l = absurd (omega arith)
-job_there (j ∷ js) zero l = j
-job_there (j ∷ js) (suc i) l = job_there js i (omega arith)
 
 place_within : (xs : List (List ℕ)) (q : List ℕ) (k n : ℕ) → length xs ≡ n → place_in xs q ≡ Some k → k < n
 place_within xs q k n e is = below_length (place_in xs q) k (length xs) n e (sym is) (place_below xs q)
@@ -279,57 +263,60 @@ kept_there ps ks q k x even found is =
     kept_at (answers_with ps ks) q k d (ap (λ l. place_in l q) (paths-with ps ks even) ∙ found)
     ∙ ap (λ (y : Kept). Some y) (with-at ps ks k d x even (place_within ps q k (length ks) even found) ∙ sym is)
 
--- the place of a reference, where the job has one
-reference_at : (paths : List (List ℕ)) (o : Option (List ℕ)) (r : Option ℕ) (k : ℕ)
-    → option_map (place_in paths) o ≡ option_map (λ k. Some k) r → r ≡ Some k → (q : List ℕ) × (o ≡ Some q)
-    × (place_in paths q ≡ Some k)
-reference_at paths None None k e is = cc
-reference_at paths None (Some j) k e is = cc
-reference_at paths (Some q) None k e is = cc
-reference_at paths (Some q) (Some j) k e is = let h : place_in paths q ≡ Some j = cc in (q, refl, h ∙ is)
+-- a path that has no place has no answer
+pub kept_none : (ans : List Answer) (p : List ℕ) → place_in (paths_of ans) p ≡ None → kept_of ans p ≡ None
+unfolding place_in
+kept_none [] p e = refl
+kept_none (a ∷ ans) p e = absent (bytes_eq p a.path) (place_in (paths_of ans) p) a
+    (find (λ (x : Answer). bytes_eq p x.path) ans) (kept_none ans p) e
 
-no_reference : (paths : List (List ℕ)) (o : Option (List ℕ)) (r : Option ℕ)
-    → option_map (place_in paths) o ≡ option_map (λ k. Some k) r → r ≡ None → o ≡ None
-no_reference paths None r e is = refl
-no_reference paths (Some q) None e is = cc
-no_reference paths (Some q) (Some j) e is = cc
+-- what is kept of the path that has this place, or none
+module _ (all : List Answer) (ps : List (List ℕ)) (ks : List Kept) (even : length ps ≡ length ks)
+    (view : answers_with ps ks ≡ all) (at : Option ℕ) where
+  pub kept_below : (k : ℕ) → at ≡ Some k → IfSome at (λ j. j < length all) → k < length ks
+  kept_below k is within =
+      let below : k < length all = subst (λ o. IfSome o (λ j. j < length all)) is within in
+      omega (arith, below, ap length (sym view), ap (length {A = Kept}) (kept-with ps ks even),
+      length-map (answers_with ps ks) (λ (a : Answer). a.kept))
 
-module _ (js : List Job) (ks : List Kept) (even : length (paths_used js) ≡ length ks) (i : ℕ) (d e : Job) (at : Places)
-    (l : i < length js) (placed : ArePlaced (paths_used js) (get_or js i e) at) where
-  pub image_below : at.image < length ks
-  image_below = place_within (paths_used js) (get_or js i e).image at.image (length ks) even placed.image
+  same_place : (p : List ℕ) → place_in (paths_of all) p ≡ at → place_in ps p ≡ at
+  same_place p placed = ap (λ l. place_in l p) (sym (paths-with ps ks even) ∙ ap paths_of view) ∙ placed
 
-  pub image_found : (x : Kept) → x ≡ get_or ks at.image x
-      → kept_of (answers_with (paths_used js) ks) (get_or js i d).image ≡ Some x
-  image_found x is = ap (λ (j : Job). kept_of (answers_with (paths_used js) ks) j.image) (get_or_default js i d e l)
-      ∙ kept_there (paths_used js) ks (get_or js i e).image at.image x even placed.image is
+  pub kept_in : (k : ℕ) (x : Kept) (p : List ℕ) → at ≡ Some k → x ≡ get_or ks k x → place_in (paths_of all) p ≡ at
+      → x ≡ kept_for all p
+  kept_in k x p is there placed =
+      sym (ap (λ (a : List Answer). kept_for a p) (sym view)
+      ∙ ap (λ o. unwrap_or o Unreadable) (kept_there ps ks p k x even (same_place p placed ∙ is) there))
 
--- the answer of a path that a job may name, as its reference
-module _ (js : List Job) (ks : List Kept) (even : length (paths_used js) ≡ length ks) (i : ℕ) (d e : Job)
-    (l : i < length js) (named : Job → Option (List ℕ)) (at : Option ℕ)
-    (placed : option_map (place_in (paths_used js)) (named (get_or js i e)) ≡ option_map (λ k. Some k) at) where
-  pub reference_below : (k : ℕ) → at ≡ Some k → k < length ks
-  reference_below k is =
-      let t = reference_at (paths_used js) (named (get_or js i e)) at k placed is in
-      place_within (paths_used js) t.0 k (length ks) even t.2
+  pub kept_not_in : (x : Kept) (p : List ℕ) → at ≡ None → x ≡ Unreadable → place_in (paths_of all) p ≡ at
+      → x ≡ kept_for all p
+  kept_not_in x p is unread placed =
+      unread ∙ sym (ap (λ o. unwrap_or o Unreadable) (kept_none all p (placed ∙ is)))
 
-  pub reference_asked : (k : ℕ) → at ≡ Some k → true ≡ is_some (named (get_or js i d))
-  reference_asked k is =
-      let t = reference_at (paths_used js) (named (get_or js i e)) at k placed is in
-      sym (ap (λ (j : Job). is_some (named j)) (get_or_default js i d e l) ∙ ap is_some t.1)
+-- the place of a path that has an answer is one of theirs
+pub path_below : (all : List Answer) (ps : List (List ℕ)) (ks : List Kept) → length ps ≡ length ks
+    → answers_with ps ks ≡ all → (p : List ℕ) (at : Option ℕ) → place_in ps p ≡ at → IfSome at (λ k. k < length all)
+path_below all ps ks even view p at placed =
+    subst (λ o. IfSome o (λ k. k < length all)) placed
+    (subst (λ n. IfSome (place_in ps p) (λ k. k < n))
+    (sym (ap length (paths-with ps ks even)) ∙ length-map (answers_with ps ks) (λ (a : Answer). a.path) ∙ ap length view)
+    (place_below ps p))
 
-  pub reference_found : (k : ℕ) (x : Kept) → at ≡ Some k → x ≡ get_or ks k x
-      → Some x ≡ option_and_then (kept_of (answers_with (paths_used js) ks)) (named (get_or js i d))
-  reference_found k x is there =
-      let t = reference_at (paths_used js) (named (get_or js i e)) at k placed is in
-      sym (ap (λ (j : Job). option_and_then (kept_of (answers_with (paths_used js) ks)) (named j))
-      (get_or_default js i d e l)
-      ∙ ap (option_and_then (kept_of (answers_with (paths_used js) ks))) t.1
-      ∙ kept_there (paths_used js) ks t.0 k x even t.2 there)
+-- the places of the paths of a job that was asked for
+found_if : (xs : List (List ℕ)) (o : Option (List ℕ)) (r : Option ℕ)
+    → option_map (place_in xs) o ≡ option_map (λ k. Some k) r → option_and_then (place_in xs) o ≡ r
+found_if xs None None e = refl
+found_if xs None (Some k) e = cc
+found_if xs (Some q) None e = cc
+found_if xs (Some q) (Some k) e = cc
 
-  pub reference_none : at ≡ None → named (get_or js i d) ≡ None
-  reference_none is = ap named (get_or_default js i d e l)
-      ∙ no_reference (paths_used js) (named (get_or js i e)) at placed is
+pub placed_found : (xs : List (List ℕ)) (job : Job) (at : Places) → ArePlaced xs job at
+    → IsFound xs job (record { image = Some at.image; reference = at.reference; console = at.console })
+placed_found xs job at h = record {
+  image = h.image;
+  reference = found_if xs job.expect_signature at.reference h.reference;
+  console = found_if xs (console_path job.expect_console) at.console h.console;
+}
 
 -- ---- the loop over jobs
 
@@ -340,16 +327,3 @@ module _ (ans : List Answer) (e : ans ≡ []) where
   pub start_faults : (n : ℕ) → n ≡ more n (unreadables ans)
   unfolding more
   start_faults n = ap (λ a. more n (unreadables a)) (sym e)
-
-pub paths_whole : (js : List Job) (n : ℕ) → n ≡ length js → fold with_job [] (take n js) ≡ paths_used js
-unfolding paths_used
-paths_whole js n e = ap (fold with_job []) (ap (λ k. take k js) e ∙ take-length js)
-
-pub paths_more : (js all : List Job) (i : ℕ) (j : Job) (ps qs : List (List ℕ)) → all ≡ js → i < length all
-    → j ≡ get_or all i j → ps ≡ fold with_job [] (take i js) → qs ≡ with_job ps j
-    → qs ≡ fold with_job [] (take (i + 1) js)
-paths_more js all i j ps qs same l is before after =
-    let inside : i < length js = subst (λ (x : List Job). i < length x) same l in
-    after ∙ ap (λ x. with_job x j) before
-    ∙ ap (with_job (fold with_job [] (take i js))) (is ∙ ap (λ x. get_or x i j) same)
-    ∙ sym (fold_more with_job [] js i j inside)

@@ -2,3 +2,6 @@ pub mod Entries
 pub mod PlaceLemmas
 pub mod Steps
 pub mod Answering
+pub mod Needing
+pub mod Noting
+pub mod Planning

@@ -1,11 +1,13 @@
 -- Where the answers of a job's paths stand.
-use Rattle.std.specs.Prelude.{◌≡◌, ℕ, List, Some, option_map}
+use Rattle.std.specs.Prelude.{◌≡◌, ◌<◌, ℕ, List, length, Option, Some, None, IfSome, option_map}
+use Rattle.std.specs.Prelude.{option_and_then, slice_index_or}
 use Rattle.rv_jobs.specs.declared.job.Job.{Job}
-use Rattle.rv_jobs.specs.declared.plan.Places.{Places}
+use Rattle.rv_jobs.specs.declared.asking.Places.{Places}
+use Rattle.rv_jobs.specs.declared.asking.Found.{Found}
 use Rattle.rv_jobs.specs.JobList.{place_in}
 use Rattle.rv_jobs.specs.Jobs.{console_path}
 
--- these are the places of a job's paths among those
+-- these are the places of a job's paths, all of which are there
 pub record ArePlaced (paths : List (List ℕ)) (job : Job) (at : Places) : Type 0 where
   pub image : place_in paths job.image ≡ Some at.image
   pub reference :
@@ -13,3 +15,21 @@ pub record ArePlaced (paths : List (List ℕ)) (job : Job) (at : Places) : Type 
   pub console :
       option_map (place_in paths) (console_path job.expect_console)
       ≡ option_map (λ k. Some k) at.console
+
+-- what is noted of the jobs: of each the places of its paths, or nothing
+pub record AreNoted (paths : List (List ℕ)) (jobs : List Job) (noted : List (Option Places)) : Type 0 where
+  pub many : length noted ≡ length jobs
+  pub each : (i : ℕ) → IfSome (slice_index_or noted i None)
+      (λ at. (d : Job) → ArePlaced paths (slice_index_or jobs i d) at)
+
+-- these are the places of those of a job's paths that are there
+pub record IsFound (paths : List (List ℕ)) (job : Job) (at : Found) : Type 0 where
+  pub image : place_in paths job.image ≡ at.image
+  pub reference : option_and_then (place_in paths) job.expect_signature ≡ at.reference
+  pub console : option_and_then (place_in paths) (console_path job.expect_console) ≡ at.console
+
+-- those of each job
+pub record AreFound (paths : List (List ℕ)) (jobs : List Job) (found : List Found) : Type 0 where
+  pub many : length found ≡ length jobs
+  pub each : (i : ℕ) (d : Job) (e : Found) → i < length jobs
+      → IsFound paths (slice_index_or jobs i d) (slice_index_or found i e)

@@ -1,21 +1,22 @@
 -- What is known of every plan.
-use Rattle.std.specs.Prelude.{◌≡◌, ◌<◌, ℕ, length, slice_index_or}
-use Rattle.rv_jobs.specs.declared.job.Job.{Job}
-use Rattle.rv_jobs.specs.declared.plan.Places.{Places}
+use Rattle.std.specs.Prelude.{◌≡◌, List, ℕ, length}
 use Rattle.rv_jobs.specs.declared.plan.Plan.TheInside.{Inside}
+use Rattle.rv_jobs.specs.declared.store.Kept.TheVariants.{Unreadable}
 use Rattle.rv_jobs.specs.Jobs.{AreJobs}
-use Rattle.rv_jobs.specs.Placed.{ArePlaced}
-use Rattle.rv_jobs.specs.Plans.{Planned, paths_used, answers_with}
+use Rattle.rv_jobs.specs.Placed.{AreFound}
+use Rattle.rv_jobs.specs.Plans.{Planned, paths_used, needed_for, answers_with}
+
+-- the paths that were read
+abbrev pub paths_read : Inside → List (List ℕ)
+paths_read a = paths_used (needed_for a.jobs a.chosen.items)
 
 abbrev pub planned_of : Inside → Planned
-planned_of a = record { jobs = a.jobs; answers = answers_with (paths_used a.jobs) a.answers.items }
+planned_of a = record { jobs = a.jobs; answers = answers_with (paths_read a) a.answers.items }
 
--- the jobs are those of a list, each path that they use has an answer, and the places are those of
+-- the jobs are those of a list, each path that was read has an answer, and these are the places of
 -- each job's answers
 pub record IsPlanInside (a : Inside) : Type 0 where
   pub jobs : AreJobs a.jobs
-  pub even : length (paths_used a.jobs) ≡ length a.answers.items
-  pub many : length a.places.items ≡ length a.jobs
-  pub placed : (i : ℕ) (d : Job) (e : Places) → i < length a.jobs
-      → ArePlaced (paths_used a.jobs) (slice_index_or a.jobs i d)
-      (slice_index_or a.places.items i e)
+  pub even : length (paths_read a) ≡ length a.answers.items
+  pub found : AreFound (paths_read a) a.jobs a.found.items
+  pub unread : a.unread ≡ Unreadable

@@ -1,13 +1,15 @@
 -- A plan: the jobs of a list, and one answer for each path that they name.
-use Rattle.std.specs.Prelude.{ℕ, zero, suc, option_and_then, List, [], ◌∷◌, ◌++◌, Option, Some}
-use Rattle.std.specs.Prelude.{None, map, is_some, option_map, if◌then◌else◌, count_by}
-use Rattle.std.specs.List.{All, find, fold}
+use Rattle.std.specs.Prelude.{ℕ, zero, suc, List, [], ◌∷◌, ◌++◌, Option, Some}
+use Rattle.std.specs.Prelude.{None, map, is_some, option_map, unwrap_or, if◌then◌else◌, count_by}
+use Rattle.std.specs.Prelude.{slice_index_or, IfSome, IsTrue}
+use Rattle.std.specs.List.{All, find, flat_map, fold}
 use Rattle.std.specs.Str.{bytes_eq}
 use Rattle.rv_jobs.specs.declared.job.Job.{Job}
 use Rattle.rv_jobs.specs.declared.store.Kept.{Kept}
+use Rattle.rv_jobs.specs.declared.store.Kept.TheVariants.{Unreadable}
 use Rattle.rv_jobs.specs.declared.answers.Answer.{Answer}
 use Rattle.rv_jobs.specs.JobList.{place_in}
-use Rattle.rv_jobs.specs.Jobs.{console_path}
+use Rattle.rv_jobs.specs.Jobs.{console_path, single_job}
 use Rattle.rv_jobs.specs.Stores.{FileContents, IsKeptOf, is_unreadable, one_more}
 
 -- the paths of answers, in order
@@ -45,6 +47,32 @@ abbrev pub kept_of : List Answer → List ℕ → Option Kept
 kept_of answers path =
     option_map (λ (a : Answer). a.kept) (find (λ (a : Answer). bytes_eq path a.path) answers)
 
+-- what is kept of a path, where one that has no answer passes as unreadable
+abbrev pub kept_for : List Answer → List ℕ → Kept
+kept_for answers path = unwrap_or (kept_of answers path) Unreadable
+
+-- the job that a job names, if it names one
+abbrev pub named_by : List Job → Option ℕ → List Job
+named_by jobs None = []
+named_by jobs (Some place) = slice_index_or jobs place (single_job [] 0 []) ∷ []
+
+-- the jobs whose paths the row of the job at a place needs: its own, and those of the job that it
+-- names
+abbrev pub needed_at : List Job → ℕ → List Job
+needed_at jobs place =
+    let job = slice_index_or jobs place (single_job [] 0 []) in job ∷ named_by jobs job.same_as
+
+-- those that the rows of the jobs at some places need, place by place
+abbrev pub needed_for : List Job → List ℕ → List Job
+needed_for jobs places = flat_map (needed_at jobs) places
+
+-- each path that a job names has an answer
+pub record HasAnswers (answers : List Answer) (job : Job) : Type 0 where
+  pub image : IsTrue (is_some (kept_of answers job.image))
+  pub reference : IfSome job.expect_signature (λ path. IsTrue (is_some (kept_of answers path)))
+  pub console :
+      IfSome (console_path job.expect_console) (λ path. IsTrue (is_some (kept_of answers path)))
+
 -- every answer agrees with the contents, where the store tells them
 abbrev pub AreKept : Option FileContents → List Answer → Type 0
 AreKept known answers = All (λ (a : Answer). IsKeptOf known a.path a.kept) answers
@@ -57,14 +85,6 @@ unreadables answers = count_by (λ (a : Answer). is_unreadable a.kept) answers
 unfoldable pub more : ℕ → ℕ → ℕ
 more n zero = n
 more n (suc k) = one_more (more n k)
-
--- what is kept of the path of a job's reference
-abbrev pub reference_kept : List Answer → Job → Option Kept
-reference_kept answers job = option_and_then (kept_of answers) job.expect_signature
-
--- what is kept of the path of the file that its console is expected to hold
-abbrev pub console_kept : List Answer → Job → Option Kept
-console_kept answers job = option_and_then (kept_of answers) (console_path job.expect_console)
 
 -- what callers see of a plan
 pub record Planned : Type 0 where

@@ -92,6 +92,14 @@ impl<'a> Answers<'a> {
         Ok((asked, next))
     }
 
+    /// The place of the answer of a path, if it has one.
+    pub(crate) fn place_of(&self, path: &str) -> Option<usize>
+        ensures { result ≡ place_in (paths_of self.now) path.now }
+    {
+        let _ = &self.paths;
+        self.places.get(path).copied()
+    }
+
     /// What is kept of each path, in order.
     pub(crate) fn into_kept(self) -> Vec<Kept>
         ensures { result.items ≡ map (λ a. a.kept) self.entry }

@@ -3,10 +3,11 @@
 //! [`read_jobs`] reads bytes as a [`JobList`], or names the job and its fault ([`JobError`], [`What`]).
 //! Callers see a list of [`Job`]s, each with one field for each key of the format. [`gather`] reads the
 //! paths of a list from a [`Store`], each different one once, and gives a [`Plan`]: the jobs, and one
-//! answer ([`Kept`]) for each path.
+//! answer ([`Kept`]) for each path. [`gather_places`] reads the paths alone that the rows of some jobs need.
 #![tactic(auto)]
 
 mod answers;
+mod asking;
 mod earlier_jobs;
 mod error;
 mod expected;
@@ -14,6 +15,7 @@ mod job;
 mod job_keys;
 mod keys;
 mod kinds;
+mod law;
 pub mod limits;
 mod list;
 mod plan;
@@ -26,7 +28,8 @@ mod texts;
 pub use answers::Answer;
 pub use error::{JobError, What};
 pub use job::{ExpectedConsole, ExpectedEnd, Job, JobList, Symbols};
+pub use law::used_paths_have_answers;
 pub use list::read_jobs;
-pub use plan::{Plan, gather};
+pub use plan::{Plan, gather, gather_places};
 pub use store::{Kept, ReadError, Store};
 pub use text::{Bytes, Text};

@@ -1,39 +1,33 @@
 //! A plan: jobs, and what is kept of the paths that they name.
 
 ghost use Rattle.rv_jobs.specs.declared.job.Job.{Job as AJob};
-ghost use Rattle.std.specs.Prelude.{◌≡◌, ◌<◌, ◌≤◌, ℕ, is_some, IfOk, Some, None, length};
-ghost use Rattle.std.specs.Prelude.{slice_index_or};
-ghost use Rattle.std.specs.Prelude.{option_map};
-ghost use Rattle.rv_jobs.specs.Jobs.{IsJob};
-ghost use Rattle.rv_jobs.specs.Plans.{paths_of, with_job, paths_used, kept_of, reference_kept};
-ghost use Rattle.rv_jobs.specs.Jobs.{console_path};
+ghost use Rattle.std.specs.Prelude.{◌≡◌, ◌<◌, ◌≤◌, ℕ, List, IfOk, IfSome, length};
+ghost use Rattle.std.specs.Prelude.{slice_index_or, option_map};
+ghost use Rattle.std.specs.List.{All};
+ghost use Rattle.rv_jobs.specs.Jobs.{IsJob, console_path};
 ghost use Rattle.rv_jobs.specs.JobList.{place_in};
-ghost use Rattle.rv_jobs.specs.Plans.{AreKept, console_kept, with_path_if};
-ghost use Rattle.rv_jobs.specs.Plans.{unreadables, more};
-ghost use Rattle.rv_jobs.specs.Placed.{ArePlaced};
+ghost use Rattle.rv_jobs.specs.Plans.{paths_of, paths_used, needed_for, kept_for};
+ghost use Rattle.rv_jobs.specs.Plans.{AreKept, unreadables, more};
 
 use crate::answers::Answers;
+use crate::asking::{Found, ask_for_row, console_path, found_of, nothing_noted, reference_path};
 use crate::job::{Job, JobList};
 use crate::store::{Kept, Store};
 use std::alloc::{AllocError, Global};
 use std::marker::Model;
 
-/// The places of the answers of a job's paths.
-#[derive(Clone, Copy)]
-pub(crate) struct Places {
-    pub(crate) image: usize,
-    pub(crate) reference: Option<usize>,
-    pub(crate) console: Option<usize>,
-}
-
-/// Jobs, and one answer for each different path that they name, which all jobs that name it share.
+/// Jobs, and one answer for each different path that was read, which all jobs that name it share.
 #[derive(Drop)]
 pub struct Plan {
     jobs: JobList,
-    // What is kept of each path that the jobs use, in order of first use.
+    // The places that it was gathered for.
+    chosen: Vec<usize>,
+    // What is kept of each path that their rows need, in order of first use.
     answers: Vec<Kept>,
-    // The places of each job's answers.
-    places: Vec<Places>,
+    // Where the answers of each job's paths stand.
+    found: Vec<Found>,
+    // What is kept of a path that was not read.
+    unread: Kept,
 }
 
 impl Model for Plan {
@@ -57,89 +51,54 @@ pub fn gather<S: Store>(alloc: Global, jobs: JobList, store: &mut S) -> Result<P
     ensures faults { IfOk result (λ p. S.faulted store.new
         ≡ more (S.faulted store.old) (unreadables p.answers)) }
 {
+    let places = all_places(alloc, &jobs)?;
+    gather_places(alloc, jobs, places, store)
+}
+
+/// The same for the rows of the jobs at some places alone: reads each different path of these jobs and of those that they
+/// name by `same_as` once, in order of first use.
+pub fn gather_places<S: Store>(
+    alloc: Global,
+    jobs: JobList,
+    places: Vec<usize>,
+    store: &mut S,
+) -> Result<Plan, AllocError>
+    requires { All (λ place. place < length jobs) places.items }
+    ensures same { S.contents store.new ≡ S.contents store.old }
+    ensures jobs { IfOk result (λ p. p.jobs ≡ jobs) }
+    ensures paths { IfOk result (λ p. paths_of p.answers ≡ paths_used (needed_for jobs places.items)) }
+    ensures kept { IfOk result (λ p. AreKept (S.contents store.old) p.answers) }
+    ensures faults { IfOk result (λ p. S.faulted store.new
+        ≡ more (S.faulted store.old) (unreadables p.answers)) }
+{
     let mut asked = Answers::new(alloc);
-    let mut places = Vec::new(alloc);
-    for job in jobs.as_slice() {
-        let (more, those) = ask_of_job(alloc, store, asked, job)?;
-        asked = more;
-        places.push(those)?;
+    let mut noted = nothing_noted(alloc, jobs.as_slice())?;
+    for place in places.as_slice() {
+        asked = ask_for_row(alloc, store, asked, jobs.as_slice(), *place, &mut noted)?;
     }
+    let found = found_of(alloc, &asked, jobs.as_slice(), noted.as_slice())?;
     let answers = asked.into_kept();
     Ok(Plan {
         jobs,
+        chosen: places,
         answers,
-        places,
+        found,
+        unread: Kept::Unreadable,
     })
 }
 
-/// The answers with those of a job's paths, and the places of these.
-fn ask_of_job<'a, S: Store>(
-    alloc: Global,
-    store: &mut S,
-    asked: Answers<'a>,
-    job: &'a Job,
-) -> Result<(Answers<'a>, Places), AllocError>
-    ensures same { S.contents store.new ≡ S.contents store.old }
-    ensures paths { IfOk result (λ a. paths_of a.0 ≡ with_job (paths_of asked.entry) job.now) }
-    ensures places { IfOk result (λ a. ArePlaced (paths_of a.0) job.now a.1) }
-    ensures kept { AreKept (S.contents store.old) asked.entry
-        → IfOk result (λ a. AreKept (S.contents store.old) a.0) }
-    ensures faults { (n : ℕ) → S.faulted store.old ≡ more n (unreadables asked.entry)
-        → IfOk result (λ a. S.faulted store.new ≡ more n (unreadables a.0)) }
+/// The places of all jobs.
+fn all_places(alloc: Global, jobs: &JobList) -> Result<Vec<usize>, AllocError>
+    ensures within { IfOk result (λ places. All (λ place. place < length jobs.now) places.items) }
+    ensures paths { IfOk result (λ places. paths_used (needed_for jobs.now places.items)
+        ≡ paths_used jobs.now) }
 {
-    let (first, image) = asked.ask(alloc, store, job.image.as_str())?;
-    let (second, reference) = ask_if(alloc, store, first, reference_path(job))?;
-    let (third, console) = ask_if(alloc, store, second, console_path(job))?;
-    let places = Places {
-        image,
-        reference,
-        console,
-    };
-    Ok((third, places))
-}
-
-fn reference_path(job: &Job) -> Option<&str>
-    ensures { option_map (λ path. path.now) result ≡ job.now.expect_signature }
-{
-    match &job.expect_signature {
-        Some(path) => Some(path.as_str()),
-        None => None,
+    let count = jobs.as_slice().len();
+    let mut places = Vec::with_capacity(alloc, count)?;
+    for place in 0..count {
+        places.push(place)?;
     }
-}
-
-fn console_path(job: &Job) -> Option<&str>
-    ensures { option_map (λ path. path.now) result ≡ console_path job.now.expect_console }
-{
-    match &job.expect_console {
-        Some(expected) => expected.path(),
-        None => None,
-    }
-}
-
-/// The answers with that of a path, where there is one, and the place of its answer.
-fn ask_if<'a, S: Store>(
-    alloc: Global,
-    store: &mut S,
-    asked: Answers<'a>,
-    path: Option<&'a str>,
-) -> Result<(Answers<'a>, Option<usize>), AllocError>
-    ensures same { S.contents store.new ≡ S.contents store.old }
-    ensures paths { IfOk result (λ a. paths_of a.0
-        ≡ with_path_if (paths_of asked.entry) (option_map (λ p. p.now) path.entry)) }
-    ensures place { IfOk result (λ a. option_map (place_in (paths_of a.0))
-        (option_map (λ p. p.now) path.entry) ≡ option_map (λ k. Some k) a.1) }
-    ensures kept { AreKept (S.contents store.old) asked.entry
-        → IfOk result (λ a. AreKept (S.contents store.old) a.0) }
-    ensures faults { (n : ℕ) → S.faulted store.old ≡ more n (unreadables asked.entry)
-        → IfOk result (λ a. S.faulted store.new ≡ more n (unreadables a.0)) }
-{
-    match path {
-        Some(path) => {
-            let (asked, place) = asked.ask(alloc, store, path)?;
-            Ok((asked, Some(place)))
-        }
-        None => Ok((asked, None)),
-    }
+    Ok(places)
 }
 
 impl Plan {
@@ -160,40 +119,50 @@ impl Plan {
         &self.jobs.as_slice()[i]
     }
 
-    /// What is kept of the path of a job's image.
+    /// What is kept of the path of a job's image. A path that was not read passes as unreadable.
     pub fn image(&self, i: usize) -> &Kept
         requires { i < length self.now.jobs }
-        ensures { (d : AJob) → kept_of self.now.answers (slice_index_or self.now.jobs i d).image
-            ≡ Some result.now }
+        ensures { (d : AJob) → result.now
+            ≡ kept_for self.now.answers (slice_index_or self.now.jobs i d).image }
     {
-        &self.answers[self.places[i].image]
+        self.kept(self.found[i].image)
     }
 
-    /// What is kept of the path of a job's reference, where it has one.
+    /// What is kept of the path of a job's reference, where it has one. A path that was not read passes as unreadable.
     pub fn reference(&self, i: usize) -> Option<&Kept>
         requires { i < length self.now.jobs }
-        ensures value { (d : AJob) → option_map (λ k. k.now) result
-            ≡ reference_kept self.now.answers (slice_index_or self.now.jobs i d) }
-        ensures asked { (d : AJob) → is_some result
-            ≡ is_some (slice_index_or self.now.jobs i d).expect_signature }
+        ensures { (d : AJob) → option_map (λ k. k.now) result
+            ≡ option_map (kept_for self.now.answers) (slice_index_or self.now.jobs i d).expect_signature }
     {
-        match self.places[i].reference {
-            Some(place) => Some(&self.answers[place]),
+        match reference_path(self.job(i)) {
+            Some(_) => Some(self.kept(self.found[i].reference)),
             None => None,
         }
     }
 
-    /// What is kept of the path of the file that a job's console is expected to hold, where it names one.
+    /// What is kept of the path of the file that a job's console is expected to hold, where it names one. A path that
+    /// was not read passes as unreadable.
     pub fn console_reference(&self, i: usize) -> Option<&Kept>
         requires { i < length self.now.jobs }
-        ensures value { (d : AJob) → option_map (λ k. k.now) result
-            ≡ console_kept self.now.answers (slice_index_or self.now.jobs i d) }
-        ensures asked { (d : AJob) → is_some result
-            ≡ is_some (console_path (slice_index_or self.now.jobs i d).expect_console) }
+        ensures { (d : AJob) → option_map (λ k. k.now) result
+            ≡ option_map (kept_for self.now.answers)
+            (console_path (slice_index_or self.now.jobs i d).expect_console) }
     {
-        match self.places[i].console {
-            Some(at) => Some(&self.answers[at]),
+        match console_path(self.job(i)) {
+            Some(_) => Some(self.kept(self.found[i].console)),
             None => None,
+        }
+    }
+
+    // What is kept of the path whose answer is here.
+    fn kept(&self, at: Option<usize>) -> &Kept
+        requires { IfSome at (λ k. k < length self.now.answers) }
+        ensures { (path : List ℕ) → place_in (paths_of self.now.answers) path ≡ at
+            → result.now ≡ kept_for self.now.answers path }
+    {
+        match at {
+            Some(place) => &self.answers[place],
+            None => &self.unread,
         }
     }
 }

@@ -1,6 +1,6 @@
 use Rattle.rv_jobs.specs.Plans.{paths_of}
 use Rattle.rv_jobs.proofs.Answering.{placed_all}
-use Rattle.rv_jobs.proofs.plan.ask_of_job.Goals as goal
+use Rattle.rv_jobs.proofs.asking.ask_of_job.Goals as goal
 
 pub returns-clause-places : goal.returns-clause-places
 returns-clause-places g c =

@@ -1,0 +1,59 @@
+-- What a plan answers for the paths of its jobs.
+use Rattle.std.proofs.Common.{◌≡◌, ◌∙◌, ◌<◌, ℕ, List, [], Option, Some, None, refl, ap, sym, length, subst, get_or}
+use Rattle.std.proofs.Common.{IfSome, option_map, option_and_then}
+use Rattle.std.proofs.lemmas.List.{get_or_default}
+use Rattle.rv_jobs.specs.declared.job.Job.{Job}
+use Rattle.rv_jobs.specs.declared.store.Kept.{Kept}
+use Rattle.rv_jobs.specs.declared.asking.Found.{Found}
+use Rattle.rv_jobs.specs.declared.plan.Plan.TheInside.{Inside}
+use Rattle.rv_jobs.specs.Jobs.{single_job}
+use Rattle.rv_jobs.specs.JobList.{place_in}
+use Rattle.rv_jobs.specs.Placed.{IsFound}
+use Rattle.rv_jobs.specs.PlanInside.{IsPlanInside, paths_read, planned_of}
+use Rattle.rv_jobs.specs.Plans.{Planned, paths_of, kept_for}
+use Rattle.rv_jobs.proofs.Answering.{paths-with, path_below}
+
+module _ (a : Inside) (is : IsPlanInside a) (p : Planned) (view : planned_of a ≡ p) (i : ℕ) (within : i < length p.jobs)
+    (at : Found) (there : at ≡ get_or a.found.items i at) where
+  inside : i < length a.jobs
+  inside = subst (λ (q : Planned). i < length q.jobs) (sym view) within
+
+  pub found : (d : Job) → IsFound (paths_read a) (get_or a.jobs i d) at
+  found d = subst (λ f. IsFound (paths_read a) (get_or a.jobs i d) f) (sym there) (is.found.each i d at inside)
+
+  path_within : (path : List ℕ) (place : Option ℕ) → place_in (paths_read a) path ≡ place
+      → IfSome place (λ k. k < length p.answers)
+  path_within = path_below p.answers (paths_read a) a.answers.items is.even (ap (λ (q : Planned). q.answers) view)
+
+  pub image_within : IfSome at.image (λ k. k < length p.answers)
+  image_within =
+      let any = get_or a.jobs i (single_job [] 0 []) in path_within any.image at.image (found (single_job [] 0 [])).image
+
+  pub image_at : (d : Job) → place_in (paths_of p.answers) (get_or p.jobs i d).image ≡ at.image
+  image_at d = subst (λ (q : Planned). place_in (paths_of q.answers) (get_or q.jobs i d).image ≡ at.image) view
+      (ap (λ l. place_in l (get_or a.jobs i d).image) (paths-with (paths_read a) a.answers.items is.even)
+      ∙ (found d).image)
+
+  -- of the path that a job may name, as its reference
+  module _ (named : Job → Option (List ℕ)) (place : Option ℕ)
+      (placed : (d : Job) → option_and_then (place_in (paths_read a)) (named (get_or a.jobs i d)) ≡ place) where
+    within_if : (o : Option (List ℕ)) → option_and_then (place_in (paths_read a)) o ≡ place
+        → IfSome place (λ k. k < length p.answers)
+    within_if None e = subst (λ o. IfSome o (λ k. k < length p.answers)) e tt
+    within_if (Some path) e = path_within path place e
+
+    pub named_within : IfSome place (λ k. k < length p.answers)
+    named_within = within_if (named (get_or a.jobs i (single_job [] 0 []))) (placed (single_job [] 0 []))
+
+    pub named_kept : (job : Job) (path : List ℕ) (kept : Kept) → job ≡ get_or p.jobs i job → named job ≡ Some path
+        → ((q : List ℕ) → place_in (paths_of p.answers) q ≡ place → kept ≡ kept_for p.answers q) → (d : Job)
+        → Some kept ≡ option_map (kept_for p.answers) (named (get_or p.jobs i d))
+    named_kept job path kept job_is names told d =
+        let same : named (get_or p.jobs i d) ≡ Some path =
+        ap named (sym (job_is ∙ get_or_default p.jobs i job d within)) ∙ names in
+        let stands : option_and_then (place_in (paths_of p.answers)) (named (get_or p.jobs i d)) ≡ place =
+        subst (λ (q : Planned). option_and_then (place_in (paths_of q.answers)) (named (get_or q.jobs i d)) ≡ place) view
+        (ap (λ l. option_and_then (place_in l) (named (get_or a.jobs i d)))
+        (paths-with (paths_read a) a.answers.items is.even) ∙ placed d) in
+        ap (λ k. Some k) (told path (sym (ap (option_and_then (place_in (paths_of p.answers))) same) ∙ stands))
+        ∙ sym (ap (option_map (kept_for p.answers)) same)
