@@ -1,22 +1,23 @@
 -- From what workers made to the rows in order.
-use Rattle.std.proofs.Common.{◌≡◌, ℕ, suc, ◌+◌, ◌*◌, ◌<◌, Bool, true, nat_lt, List, ◌∷◌, map, length, take, All, IfOk}
-use Rattle.std.proofs.Common.{IfSome, None, Ok, Vec, Global, refl, sym, ap, ◌∙◌, subst, arith}
+use Rattle.std.proofs.Common.{◌≡◌, ℕ, suc, ◌+◌, ◌*◌, ◌<◌, Bool, true, nat_lt, List, [], ◌∷◌, map, length, take, All, IfOk, IfSome, None, Ok, Vec, Global, refl, sym, ap, ◌∙◌, subst, arith}
 use Rattle.std.specs.Prelude.{Option, slice_index_or}
 use Rattle.std.specs.Int.{div_ceil}
 use Rattle.std.specs.List.{filter}
 use Rattle.std.proofs.lemmas.Bool.{ltb-true}
 use Rattle.std.proofs.lemmas.List.{length-map}
 use Rattle.std.proofs.lemmas.List.Elements.{All-head, All-map, All-weaker, All-same, filter_passes}
+use Rattle.rv_jobs.specs.Jobs.{single_job}
 use Rattle.rv_jobs.specs.Plans.{Planned}
+use Rattle.rv_rows.specs.Rows.{rows_at}
 use Rattle.rv_fleet.specs.declared.piece.Piece.{Piece}
 use Rattle.rv_rows.specs.declared.row.Row.{Row}
 use Rattle.rv_fleet.specs.declared.worked.Worked.{Worked}
 use Rattle.rv_fleet.specs.Collected.{IsPiece, ArePieces}
 use Rattle.rv_claims.specs.Draws.{numbers}
 use Rattle.rv_claims.specs.Passes.{SharedDraw}
-use Rattle.rv_fleet.specs.Pieces.{pieces_of, piece_at}
+use Rattle.rv_fleet.specs.Pieces.{pieces_in, piece_for}
 use Rattle.rv_fleet.specs.Promised.{HasWorked}
-use Rattle.rv_rows.specs.Rows.{row_of, rows_of}
+use Rattle.rv_rows.specs.Rows.{row_of}
 use Rattle.rv_fleet.proofs.Chunks.{chunks_all}
 
 -- the first of a list's elements
@@ -24,47 +25,39 @@ pub All-first : {X : Type 0} (P : X → Type 0) (x : X) (xs all : List X) → al
 All-first P x xs all is each = All-head P x xs (All-same P _ _ (sym is) each)
 
 -- what a worker made is pieces with the rows of their numbers
-pub pieces_worked : (plan : Planned) (group : ℕ) (draw : SharedDraw) (worked : Worked) (made : Vec Piece Global)
-    → HasWorked plan group draw worked → worked.pieces ≡ Ok made → draw.pieces ≡ pieces_of plan group
-    → ArePieces plan group made.items
-pieces_worked plan group draw worked made has is total =
+pub pieces_worked : (rows : List Row) (group : ℕ) (draw : SharedDraw) (worked : Worked) (made : Vec Piece Global)
+    → HasWorked rows group draw worked → worked.pieces ≡ Ok made
+    → draw.pieces ≡ pieces_in rows group → ArePieces rows group made.items
+pieces_worked rows group draw worked made has is total =
     let low : ℕ → Bool = λ n. nat_lt n draw.pieces in
     let drawn : List ℕ = numbers worked.pass.draws in
-    let kept : made.items ≡ map (piece_at plan group) (filter low drawn) =
-    subst (λ r. IfOk r (λ (v : Vec Piece Global). v.items ≡ map (piece_at plan group) (filter low drawn))) is
+    let kept : made.items ≡ map (piece_for rows group) (filter low drawn) =
+    subst (λ r. IfOk r (λ (v : Vec Piece Global). v.items ≡ map (piece_for rows group) (filter low drawn))) is
     has.1 in
     let below : (n : ℕ) → low n ≡ true
-    → IsPiece plan group (piece_at plan group n) = λ n passes. let l : n < draw.pieces =
+    → IsPiece rows group (piece_for rows group n) = λ n passes. let l : n < draw.pieces =
     ltb-true n draw.pieces passes in (omega arith, refl) in
-    All-same (IsPiece plan group) _ _ kept
-    (All-map (IsPiece plan group) (piece_at plan group) (filter low drawn)
-    (All-weaker (λ n. low n ≡ true) (λ n. IsPiece plan group (piece_at plan group n)) below (filter low drawn)
+    All-same (IsPiece rows group) _ _ kept
+    (All-map (IsPiece rows group) (piece_for rows group) (filter low drawn)
+    (All-weaker (λ n. low n ≡ true) (λ n. IsPiece rows group (piece_for rows group n)) below (filter low drawn)
     (filter_passes low drawn)))
 
 -- what stands at the first of the places that are left, and at the others
-pub place_here : (P : ℕ → List Row → Type 0) (old new : List (Option (List Row))) (place : Option (List Row))
-    (number : ℕ) → old ≡ place ∷ new → ((k : ℕ) → IfSome (slice_index_or old k None) (P (number + k)))
-    → IfSome place (P number)
+pub place_here : (P : ℕ → List Row → Type 0) (old new : List (Option (List Row))) (place : Option (List Row)) (number : ℕ) → old ≡ place ∷ new → ((k : ℕ) → IfSome (slice_index_or old k None) (P (number + k))) → IfSome place (P number)
 place_here P old new place number e all =
     let n : number + 0 ≡ number = omega arith in
-    subst (λ (m : ℕ). IfSome place (P m)) n
-    (subst (λ (l : List (Option (List Row))). IfSome (slice_index_or l 0 None) (P (number + 0))) e (all 0))
+    subst (λ (m : ℕ). IfSome place (P m)) n (subst (λ (l : List (Option (List Row))). IfSome (slice_index_or l 0 None) (P (number + 0))) e (all 0))
 
-pub places_left : (P : ℕ → List Row → Type 0) (old new : List (Option (List Row))) (place : Option (List Row))
-    (number : ℕ) → old ≡ place ∷ new → ((k : ℕ) → IfSome (slice_index_or old k None) (P (number + k))) → (k : ℕ)
-    → IfSome (slice_index_or new k None) (P (number + 1 + k))
+pub places_left : (P : ℕ → List Row → Type 0) (old new : List (Option (List Row))) (place : Option (List Row)) (number : ℕ) → old ≡ place ∷ new → ((k : ℕ) → IfSome (slice_index_or old k None) (P (number + k))) → (k : ℕ) → IfSome (slice_index_or new k None) (P (number + 1 + k))
 places_left P old new place number e all k =
     let n : number + suc k ≡ number + 1 + k = omega arith in
-    subst (λ (m : ℕ). IfSome (slice_index_or new k None) (P m)) n
-    (subst (λ (l : List (Option (List Row))). IfSome (slice_index_or l (suc k) None) (P (number + suc k))) e
-    (all (suc k)))
+    subst (λ (m : ℕ). IfSome (slice_index_or new k None) (P m)) n (subst (λ (l : List (Option (List Row))). IfSome (slice_index_or l (suc k) None) (P (number + suc k))) e (all (suc k)))
 
-pub rows_count : (plan : Planned) → length (rows_of plan) ≡ length plan.jobs
-unfolding rows_of
-rows_count plan = length-map plan.jobs (row_of plan)
+-- a row for each place
+pub rows_count : (plan : Planned) (places : List ℕ) → length (rows_at plan places) ≡ length places
+unfolding rows_at
+rows_count plan places = length-map places (λ i. row_of plan (slice_index_or plan.jobs i (single_job [] 0 [])))
 
--- the rows of all pieces are those of the plan
-pub pieces_all : (plan : Planned) (group k : ℕ) → 0 < group → k ≡ pieces_of plan group
-    → take (k * group) (rows_of plan) ≡ rows_of plan
-pieces_all plan group k some is =
-    chunks_all (rows_of plan) group k some (is ∙ ap (λ (m : ℕ). div_ceil m group) (sym (rows_count plan)))
+-- the rows of all pieces are all rows
+pub pieces_all : (rows : List Row) (group k : ℕ) → 0 < group → k ≡ pieces_in rows group → take (k * group) rows ≡ rows
+pieces_all rows group k some is = chunks_all rows group k some is

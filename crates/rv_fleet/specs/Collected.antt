@@ -1,20 +1,20 @@
 -- What is collected of the workers' pieces.
 use Rattle.std.specs.Prelude.{◌≡◌, ℕ, ◌<◌, List, length, All, Option, None, IfSome, slice_index_or}
-use Rattle.rv_jobs.specs.Plans.{Planned}
+use Rattle.std.specs.Fork.{slice_chunk}
 use Rattle.rv_fleet.specs.declared.piece.Piece.{Piece}
 use Rattle.rv_rows.specs.declared.row.Row.{Row}
-use Rattle.rv_fleet.specs.Pieces.{pieces_of, rows_in, piece_at}
+use Rattle.rv_fleet.specs.Pieces.{pieces_in, piece_for}
 
--- a piece of the plan, with the rows of its number
-abbrev pub IsPiece : Planned → ℕ → Piece → Type 0
-IsPiece plan group piece = (piece.number < pieces_of plan group)
-    × (piece ≡ piece_at plan group piece.number)
+-- a piece of these rows
+abbrev pub IsPiece : List Row → ℕ → Piece → Type 0
+IsPiece rows group piece = (piece.number < pieces_in rows group)
+    × (piece ≡ piece_for rows group piece.number)
 
 -- each is such a piece
-abbrev pub ArePieces : Planned → ℕ → List Piece → Type 0
-ArePieces plan group pieces = All (IsPiece plan group) pieces
+abbrev pub ArePieces : List Row → ℕ → List Piece → Type 0
+ArePieces rows group pieces = All (IsPiece rows group) pieces
 
--- a place for each piece, where its rows stand or nothing does; past the places there is nothing
-abbrev pub IsFilled : Planned → ℕ → List (Option (List Row)) → Type 0
-IsFilled plan group places = (length places ≡ pieces_of plan group)
-    × ((k : ℕ) → IfSome (slice_index_or places k None) (λ rows. rows ≡ rows_in plan group k))
+-- a slot for each piece, where its rows stand or nothing does; past the slots there is nothing
+abbrev pub IsFilled : List Row → ℕ → List (Option (List Row)) → Type 0
+IsFilled rows group slots = (length slots ≡ pieces_in rows group)
+    × ((k : ℕ) → IfSome (slice_index_or slots k None) (λ part. part ≡ slice_chunk rows group k))

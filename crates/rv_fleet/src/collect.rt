@@ -1,10 +1,12 @@
 //! From what the workers made to the rows in list order.
 
-ghost use Rattle.std.specs.Prelude.{◌≡◌, ◌<◌, ◌≤◌, length, IfOk, IfSome};
+ghost use Rattle.std.specs.Prelude.{◌≡◌, ◌<◌, ◌≤◌, IfOk, IfSome};
 ghost use Rattle.rv_fleet.specs.Collected.{ArePieces, IsPiece, IsFilled};
-ghost use Rattle.rv_fleet.specs.Pieces.{pieces_of, rows_in};
+ghost use Rattle.std.specs.Fork.{slice_chunk};
+ghost use Rattle.rv_fleet.specs.Pieces.{Hears, pieces_in};
 ghost use Rattle.rv_fleet.specs.Promised.{HaveWorked};
-ghost use Rattle.rv_rows.specs.Rows.{rows_of};
+ghost use Rattle.rv_fleet.specs.Choices.{AreChosen};
+ghost use Rattle.rv_rows.specs.Rows.{rows_at};
 
 use crate::gate::Gate;
 use crate::piece::{Piece, make_piece, piece_count};
@@ -14,62 +16,97 @@ use rv_jobs::Plan;
 use rv_rows::{Recent, Row, Rows, Spare};
 use std::alloc::{AllocError, Global};
 
-/// What all workers made, at the places of the pieces and each once; and all their passes in one, if there are any.
+/// What all workers made.
+#[derive(Drop)]
+pub(crate) struct Collected {
+    /// The rows of each piece that was made, in the slot of its number.
+    pub(crate) slots: Vec<Option<Rows>>,
+    /// All passes in one, if there are any.
+    pub(crate) pass: Option<Pass>,
+    /// Whether a worker was told to stop.
+    pub(crate) stopped: bool,
+}
+
+/// What all workers made, each piece once.
 pub(crate) fn collect(
     alloc: Global,
     claims: &Claims,
     worked: Vec<Worked>,
     plan: &Plan,
+    places: &[usize],
     group: u32,
-) -> Result<(Vec<Option<Rows>>, Option<Pass>), AllocError>
+) -> Result<Collected, AllocError>
     requires group { 0 < group }
-    requires pieces { claims.now.pieces ≡ pieces_of plan.now group }
-    requires worked { HaveWorked plan.now group claims.now worked.items }
-    ensures places { IfOk result (λ all. IsFilled plan.now group all.0.items) }
-    ensures pass { IfOk result (λ all. IfSome all.1 (λ pass. pass.draw ≡ claims.now)) }
+    requires chosen { AreChosen plan.now places.now }
+    requires pieces { claims.now.pieces ≡ pieces_in (rows_at plan.now places.now) group }
+    requires worked { HaveWorked (rows_at plan.now places.now) group claims.now worked.items }
+    ensures slots { IfOk result (λ all. IsFilled (rows_at plan.now places.now) group all.slots.items) }
+    ensures pass { IfOk result (λ all. IfSome all.pass (λ pass. pass.draw ≡ claims.now)) }
 {
-    let mut places = empty_places(alloc, plan, group)?;
+    let mut slots = empty_slots(alloc, plan, places, group)?;
     let mut all = None;
+    let mut stopped = false;
     for Worked { pass, pieces } in worked {
-        keep_all(&mut places, plan, group, pieces?);
+        keep_all(&mut slots, plan, places, group, pieces?);
+        if !pass.ended() {
+            stopped = true;
+        }
         all = Some(joined(claims, all, pass));
     }
-    Ok((places, all))
+    Ok(Collected {
+        slots,
+        pass: all,
+        stopped,
+    })
 }
 
-/// A place for each piece, and no rows there yet.
-fn empty_places(alloc: Global, plan: &Plan, group: u32) -> Result<Vec<Option<Rows>>, AllocError>
-    requires { 0 < group }
-    ensures { IfOk result (λ places. IsFilled plan.now group places.items) }
-{
-    let mut places = Vec::new(alloc);
-    for _ in 0..piece_count(plan, group) {
-        places.push(None)?;
-    }
-    Ok(places)
-}
-
-fn keep_all(places: &mut Vec<Option<Rows>>, plan: &Plan, group: u32, pieces: Vec<Piece>)
+/// A slot for each piece, and no rows there yet.
+fn empty_slots(
+    alloc: Global,
+    plan: &Plan,
+    places: &[usize],
+    group: u32,
+) -> Result<Vec<Option<Rows>>, AllocError>
     requires group { 0 < group }
-    requires places { IsFilled plan.now group places.old.items }
-    requires pieces { ArePieces plan.now group pieces.items }
-    ensures { IsFilled plan.now group places.new.items }
+    requires chosen { AreChosen plan.now places.now }
+    ensures { IfOk result (λ slots. IsFilled (rows_at plan.now places.now) group slots.items) }
+{
+    let mut slots = Vec::new(alloc);
+    for _ in 0..piece_count(plan, places, group) {
+        slots.push(None)?;
+    }
+    Ok(slots)
+}
+
+fn keep_all(
+    slots: &mut Vec<Option<Rows>>,
+    plan: &Plan,
+    places: &[usize],
+    group: u32,
+    pieces: Vec<Piece>,
+)
+    requires group { 0 < group }
+    requires chosen { AreChosen plan.now places.now }
+    requires slots { IsFilled (rows_at plan.now places.now) group slots.old.items }
+    requires pieces { ArePieces (rows_at plan.now places.now) group pieces.items }
+    ensures { IsFilled (rows_at plan.now places.now) group slots.new.items }
 {
     for piece in pieces {
-        keep(places, plan, group, piece);
+        keep(slots, plan, places, group, piece);
     }
 }
 
 /// Keeps a piece's rows, unless they are there.
-fn keep(places: &mut Vec<Option<Rows>>, plan: &Plan, group: u32, piece: Piece)
+fn keep(slots: &mut Vec<Option<Rows>>, plan: &Plan, places: &[usize], group: u32, piece: Piece)
     requires group { 0 < group }
-    requires places { IsFilled plan.now group places.old.items }
-    requires piece { IsPiece plan.now group piece }
-    ensures { IsFilled plan.now group places.new.items }
+    requires chosen { AreChosen plan.now places.now }
+    requires slots { IsFilled (rows_at plan.now places.now) group slots.old.items }
+    requires piece { IsPiece (rows_at plan.now places.now) group piece }
+    ensures { IsFilled (rows_at plan.now places.now) group slots.new.items }
 {
     let at = piece.number as usize;
-    if places[at].is_none() {
-        places[at] = Some(piece.rows);
+    if slots[at].is_none() {
+        slots[at] = Some(piece.rows);
     }
 }
 
@@ -85,47 +122,54 @@ fn joined(claims: &Claims, all: Option<Pass>, pass: Pass) -> Pass
 }
 
 /// The rows of all pieces, in order. A piece that no worker made is made here.
-pub(crate) fn rows_kept_or_made<G: Gate>(
+pub(crate) fn rows_in_order<G: Gate>(
     alloc: Global,
-    places: Vec<Option<Rows>>,
+    slots: Vec<Option<Rows>>,
     plan: &Plan,
+    places: &[usize],
     group: u32,
     gate: &G,
 ) -> Result<Rows, AllocError>
     requires group { 0 < group }
-    requires places { IsFilled plan.now group places.items }
-    ensures { IfOk result (λ rows. rows ≡ rows_of plan.now) }
+    requires chosen { AreChosen plan.now places.now }
+    requires slots { IsFilled (rows_at plan.now places.now) group slots.items }
+    requires gate { Hears (G.awaits gate.now) (rows_at plan.now places.now) group }
+    ensures { IfOk result (λ rows. rows ≡ rows_at plan.now places.now) }
 {
-    let mut rows: Vec<Row> = Vec::with_capacity(alloc, plan.jobs())?;
+    let mut rows: Vec<Row> = Vec::with_capacity(alloc, places.len())?;
     let mut number = 0;
-    for place in places {
-        let part = rows_at_place(alloc, place, plan, group, gate, number)?;
+    for slot in slots {
+        let part = rows_in_slot(alloc, slot, plan, places, group, gate, number)?;
         rows.append(&mut part.into_vec())?;
         number += 1;
     }
     Ok(Rows::new(rows))
 }
 
-/// The rows at a piece's place; where there are none, they are made.
-fn rows_at_place<G: Gate>(
+/// The rows in a piece's slot; where there are none, they are made.
+fn rows_in_slot<G: Gate>(
     alloc: Global,
-    place: Option<Rows>,
+    slot: Option<Rows>,
     plan: &Plan,
+    places: &[usize],
     group: u32,
     gate: &G,
     number: u64,
 ) -> Result<Rows, AllocError>
     requires group { 0 < group }
-    requires number { number < pieces_of plan.now group }
-    requires place { IfSome place (λ rows. rows ≡ rows_in plan.now group number) }
-    ensures { IfOk result (λ rows. rows ≡ rows_in plan.now group number) }
+    requires chosen { AreChosen plan.now places.now }
+    requires number { number < pieces_in (rows_at plan.now places.now) group }
+    requires gate { Hears (G.awaits gate.now) (rows_at plan.now places.now) group }
+    requires slot { IfSome slot (λ rows. rows ≡ slice_chunk (rows_at plan.now places.now) group number) }
+    ensures { IfOk result (λ rows. rows ≡ slice_chunk (rows_at plan.now places.now) group number) }
 {
-    match place {
+    match slot {
         Some(rows) => Ok(rows),
         None => {
             let mut spare = Spare::new();
             let mut recent = Recent::new(alloc);
-            Ok(make_piece(alloc, plan, group, gate, number, &mut spare, &mut recent)?.rows)
+            let made = make_piece(alloc, plan, places, group, gate, number, &mut spare, &mut recent)?;
+            Ok(made.piece.rows)
         }
     }
 }

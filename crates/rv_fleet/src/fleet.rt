@@ -1,22 +1,22 @@
-//! A fleet: threads that draw the pieces of a plan and make their rows.
+//! A fleet: the rows of a plan, made by threads that draw its pieces.
 
-ghost use Rattle.std.specs.Prelude.{◌≡◌, ◌<◌, ◌≤◌, [], IfOk};
+ghost use Rattle.std.specs.Prelude.{◌≡◌, ◌<◌, ◌≤◌, IfOk};
+ghost use Rattle.std.specs.List.Sorted.{IsStrictlyIncreasing};
+ghost use Rattle.rv_rows.specs.Rows.{rows_at, rows_of};
 ghost use Rattle.rv_fleet.specs.declared.fleet.FleetError.TheVariants.{OutOfMemory};
-ghost use Rattle.rv_fleet.specs.Pieces.{pieces_of};
-ghost use Rattle.rv_fleet.specs.Promised.{AreFresh, HasWorked, HaveWorked};
-ghost use Rattle.rv_rows.specs.Rows.{rows_of};
+ghost use Rattle.rv_fleet.specs.declared.fleet.PlacesError.TheVariants as places;
+ghost use Rattle.rv_fleet.specs.Choices.{AreWithin};
+ghost use Rattle.rv_fleet.specs.Fleets.{of_fleet};
+ghost use Rattle.rv_fleet.specs.Pieces.{Hears};
 
-use crate::collect::{collect, rows_kept_or_made};
-use crate::gate::Gate;
-use crate::piece::piece_count;
-use crate::worked::{Worked, Works};
-use crate::worker::work_with;
-use rv_claims::{Claims, Pass, SplitError};
+use crate::choice::{all_places, check_places};
+use crate::collect::rows_in_order;
+use crate::gate::{Gate, Unheard};
+use crate::threads::made_by_threads;
 use rv_jobs::Plan;
-use rv_rows::Report;
+use rv_rows::{Report, Rows};
 use std::alloc::{AllocError, Global};
 use std::sync::Wait;
-use std::thread;
 use std::thread::Threads;
 use thiserror::Error;
 
@@ -39,10 +39,44 @@ impl From<AllocError> for FleetError {
     }
 }
 
+/// Why there are no rows of the jobs at some places.
+#[derive(Clone, Copy, Debug, Error, PartialEq, Eq)]
+pub enum PlacesError {
+    /// A growth was refused.
+    #[error("out of memory")]
+    OutOfMemory,
+    /// The start of a thread was refused.
+    #[error("no worker")]
+    NoWorker,
+    /// The gate answered that no more is to be run.
+    #[error("stopped")]
+    Stopped,
+}
+
+impl From<AllocError> for PlacesError {
+    ghost from_gives = { λ _ error. error ≡ places.OutOfMemory };
+
+    fn from(_: AllocError) -> PlacesError {
+        PlacesError::OutOfMemory
+    }
+}
+
+impl From<FleetError> for PlacesError {
+    ghost from_gives = { λ error given. given ≡ of_fleet error };
+
+    fn from(error: FleetError) -> PlacesError {
+        match error {
+            FleetError::OutOfMemory => PlacesError::OutOfMemory,
+            FleetError::NoWorker => PlacesError::NoWorker,
+        }
+    }
+}
+
 /// The rows of all jobs in list order, made by as many threads as `workers` says, or as there are pieces if these are
 /// fewer: the same report for every number of workers, from 1 to 64, and of jobs in a piece, from 1 to 4,096.
 ///
-/// Each thread draws the next piece when it is free. It waits for all threads that it started, on a refusal too.
+/// Each thread draws the next piece when it is free. It waits for all threads that it started, on a refusal too. The gate
+/// is entered and not told of the rows: [`run_places`] tells it.
 pub fn run_fleet<R: Threads + Wait, G: Gate>(
     rt: &R,
     alloc: Global,
@@ -55,101 +89,37 @@ pub fn run_fleet<R: Threads + Wait, G: Gate>(
     requires group { (0 < group) × (group ≤ 4096) }
     ensures { IfOk result (λ report. report.rows ≡ rows_of plan.now) }
 {
-    let pieces = piece_count(plan, group);
-    let (claims, first) = Claims::new(alloc, pieces)?;
-    let passes = split_passes(alloc, &claims, first, pieces.min(u64::from(workers)))?;
-    let worked = run_workers(rt, alloc, &claims, passes, plan, group, gate)?;
-    let (places, all) = collect(alloc, &claims, worked, plan, group)?;
-    if let Some(pass) = all {
-        // The rows rest on what the workers promise, and not on this answer: a piece that nobody made is made below.
-        let _each_once = claims.finish(pass);
-    }
-    Ok(Report {
-        rows: rows_kept_or_made(alloc, places, plan, group, gate)?,
-    })
+    let places = all_places(alloc, plan)?;
+    let places = places.as_slice();
+    let gate = Unheard { gate };
+    let made = made_by_threads(rt, alloc, plan, places, workers, group, &gate)?;
+    let rows = rows_in_order(alloc, made.slots, plan, places, group, &gate)?;
+    Ok(Report { rows })
 }
 
-/// A pass for each thread: as many as asked, or as there are free places. The last is the first pass itself.
-fn split_passes(
-    alloc: Global,
-    claims: &Claims,
-    first: Pass,
-    count: u64,
-) -> Result<Vec<Pass>, AllocError>
-    requires { (first.draw ≡ claims.now) × (first.draws ≡ []) }
-    ensures { IfOk result (λ passes. AreFresh claims.now passes.items) }
-{
-    let mut passes = Vec::new(alloc);
-    if count == 0 {
-        return Ok(passes);
-    }
-    let mut last = first;
-    for _ in 1..count {
-        match claims.split(last) {
-            Ok((pass, new)) => {
-                last = pass;
-                passes.push(new)?;
-            },
-            Err(SplitError::Full(pass)) => {
-                last = pass;
-                break;
-            },
-        }
-    }
-    passes.push(last)?;
-    Ok(passes)
-}
-
-/// A thread for each pass: what each made. It returns when all of them have ended.
-fn run_workers<R: Threads + Wait, G: Gate>(
+/// The rows of the jobs at some places, in order: the same for every number of workers and of jobs in a piece. The gate
+/// is told of each piece when its rows are made, and may stop the run: then each worker ends with the piece that it
+/// makes.
+pub fn run_places<R: Threads + Wait, G: Gate>(
     rt: &R,
     alloc: Global,
-    claims: &Claims,
-    passes: Vec<Pass>,
     plan: &Plan,
+    places: &[usize],
+    workers: u32,
     group: u32,
     gate: &G,
-) -> Result<Vec<Worked>, FleetError>
+) -> Result<Rows, PlacesError>
+    requires within { AreWithin plan.now places.now }
+    requires rising { IsStrictlyIncreasing places.now }
+    requires workers { (0 < workers) × (workers ≤ 64) }
     requires group { (0 < group) × (group ≤ 4096) }
-    requires pieces { claims.now.pieces ≡ pieces_of plan.now group }
-    requires passes { AreFresh claims.now passes.items }
-    ensures { IfOk result (λ worked. HaveWorked plan.now group claims.now worked.items) }
+    requires gate { Hears (G.awaits gate.now) (rows_at plan.now places.now) group }
+    ensures { IfOk result (λ rows. rows ≡ rows_at plan.now places.now) }
 {
-    thread::scope(
-        thread::scope_env(),
-        rt,
-        |scope| -> Result<Vec<Worked>, FleetError>
-            requires { (0 < group) × (group ≤ 4096) × (claims.now.pieces ≡ pieces_of plan.now group)
-                × AreFresh claims.now passes.items }
-            ensures { IfOk result
-                (λ worked. HaveWorked plan.entry.now group claims.entry.now worked.items) }
-        {
-            let mut handles = Vec::with_capacity(alloc, passes.len())?;
-            for pass in passes {
-                let promise = Works {
-                    plan,
-                    group,
-                    claims,
-                };
-                let Ok(handle) = scope.spawn_with(
-                    promise,
-                    move || -> Worked
-                        requires { (0 < group) × (group ≤ 4096)
-                            × (claims.now.pieces ≡ pieces_of plan.now group)
-                            × (pass.draw ≡ claims.now) × (pass.draws ≡ []) }
-                        ensures { HasWorked plan.entry.now group claims.entry.now result }
-                    { work_with(alloc, claims, pass, plan, group, gate) },
-                ) else {
-                    return Err(FleetError::NoWorker);
-                };
-                let Ok(()) = handles.push(handle) else {
-                    return Err(FleetError::OutOfMemory);
-                };
-            }
-            match thread::join_promised(rt, handles) {
-                Ok(worked) => Ok(worked),
-                Err(_) => Err(FleetError::OutOfMemory),
-            }
-        },
-    )
+    check_places(plan, places);
+    let made = made_by_threads(rt, alloc, plan, places, workers, group, gate)?;
+    if made.stopped {
+        return Err(PlacesError::Stopped);
+    }
+    Ok(rows_in_order(alloc, made.slots, plan, places, group, gate)?)
 }

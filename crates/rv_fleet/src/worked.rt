@@ -17,12 +17,15 @@ pub(crate) struct Worked {
 #[derive(Clone, Copy)]
 pub(crate) struct Works<'a> {
     pub plan: &'a Plan,
+    pub places: &'a [usize],
     pub group: u32,
     pub claims: &'a Claims,
 }
 
 impl<'a> Promise<Worked> for Works<'a> {
+    ghost use Rattle.rv_rows.specs.Rows.{rows_at};
     ghost use Rattle.rv_fleet.specs.Promised.{HasWorked};
 
-    ghost kept_by = { λ p worked. HasWorked p.plan.now p.group p.claims.now worked };
+    ghost kept_by = { λ p worked.
+        HasWorked (rows_at p.plan.now p.places.now) p.group p.claims.now worked };
 }

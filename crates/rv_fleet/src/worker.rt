@@ -1,12 +1,15 @@
 //! What a worker does: it draws pieces and makes them.
 
-ghost use Rattle.std.specs.Prelude.{◌≡◌, ◌<◌, ◌≤◌, [], true, map, IfOk};
+ghost use Rattle.std.specs.Prelude.{◌≡◌, ◌<◌, ◌≤◌, [], true, map, IfOk, IsFalse};
 ghost use Rattle.rv_claims.specs.NewPieces.{Grew, new_pieces};
 ghost use Rattle.rv_claims.specs.Passes.{has_ended};
-ghost use Rattle.rv_fleet.specs.Pieces.{pieces_of, piece_at};
+ghost use Rattle.rv_rows.specs.Rows.{rows_at};
+ghost use Rattle.rv_fleet.specs.Choices.{AreChosen};
+ghost use Rattle.rv_fleet.specs.Pieces.{Hears, pieces_in, pieces_of, piece_at, piece_for};
 ghost use Rattle.rv_fleet.specs.Promised.{HasWorked};
 
-use crate::gate::Gate;
+use crate::choice::all_places;
+use crate::gate::{Gate, Unheard};
 use crate::piece::{Piece, make_piece};
 use crate::worked::Worked;
 use rv_claims::{Claims, Pass};
@@ -32,12 +35,41 @@ pub fn work<G: Gate>(
     ensures made { IfOk result (λ made. made.items
         ≡ map (piece_at plan.now group) (new_pieces pass.old pass.new)) }
 {
+    let places = all_places(alloc, plan)?;
+    let places = places.as_slice();
+    work_on(alloc, claims, pass, plan, places, group, &Unheard { gate })
+}
+
+/// The same for the jobs at some places, by a gate that is told of each piece. After a no of the gate it takes no other
+/// piece, and its pass has not ended.
+pub(crate) fn work_on<G: Gate>(
+    alloc: Global,
+    claims: &Claims,
+    pass: &mut Pass,
+    plan: &Plan,
+    places: &[usize],
+    group: u32,
+    gate: &G,
+) -> Result<Vec<Piece>, AllocError>
+    requires group { (0 < group) × (group ≤ 4096) }
+    requires pieces { claims.now.pieces ≡ pieces_in (rows_at plan.now places.now) group }
+    requires pass { pass.old.draw ≡ claims.now }
+    requires places { AreChosen plan.now places.now }
+    requires gate { Hears (G.awaits gate.now) (rows_at plan.now places.now) group }
+    ensures pass { Grew pass.old pass.new }
+    ensures ended { IfOk result (λ _. IsFalse (has_ended pass.new) → G.stops gate.now) }
+    ensures made { IfOk result (λ made. made.items
+        ≡ map (piece_for (rows_at plan.now places.now) group) (new_pieces pass.old pass.new)) }
+{
     let mut pieces = Vec::new(alloc);
     let mut spare = Spare::new();
     let mut recent = Recent::new(alloc);
     while let Some(number) = claims.take(pass) {
-        let piece = make_piece(alloc, plan, group, gate, number, &mut spare, &mut recent)?;
-        pieces.push(piece)?;
+        let made = make_piece(alloc, plan, places, group, gate, number, &mut spare, &mut recent)?;
+        pieces.push(made.piece)?;
+        if !made.goes_on {
+            return Ok(pieces);
+        }
     }
     Ok(pieces)
 }
@@ -48,14 +80,17 @@ pub(crate) fn work_with<G: Gate>(
     claims: &Claims,
     mut pass: Pass,
     plan: &Plan,
+    places: &[usize],
     group: u32,
     gate: &G,
 ) -> Worked
     requires group { (0 < group) × (group ≤ 4096) }
-    requires pieces { claims.now.pieces ≡ pieces_of plan.now group }
+    requires pieces { claims.now.pieces ≡ pieces_in (rows_at plan.now places.now) group }
     requires pass { (pass.draw ≡ claims.now) × (pass.draws ≡ []) }
-    ensures { HasWorked plan.now group claims.now result }
+    requires places { AreChosen plan.now places.now }
+    requires gate { Hears (G.awaits gate.now) (rows_at plan.now places.now) group }
+    ensures { HasWorked (rows_at plan.now places.now) group claims.now result }
 {
-    let pieces = work(alloc, claims, &mut pass, plan, group, gate);
+    let pieces = work_on(alloc, claims, &mut pass, plan, places, group, gate);
     Worked { pass, pieces }
 }

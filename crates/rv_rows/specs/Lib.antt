@@ -7,3 +7,4 @@ pub mod Recent
 pub mod Narrower
 pub mod Sending
 pub mod Verdict
+pub mod Wholes

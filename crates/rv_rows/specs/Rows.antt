@@ -1,21 +1,17 @@
 -- The rows of a plan: one a job, in list order.
 use Rattle.std.specs.Prelude.{ℕ, List, Option, Some, None, map, option_and_then, option_map}
-use Rattle.std.specs.Prelude.{slice_get, unwrap_or}
+use Rattle.std.specs.Prelude.{[], slice_get, slice_index_or}
 use Rattle.rv_jobs.specs.declared.answers.Answer.{Answer}
 use Rattle.rv_jobs.specs.declared.job.Job.{Job}
 use Rattle.rv_jobs.specs.declared.store.Kept.{Kept}
 use Rattle.rv_jobs.specs.declared.store.Kept.TheVariants as kept
-use Rattle.rv_jobs.specs.Jobs.{console_path}
-use Rattle.rv_jobs.specs.Plans.{Planned, kept_of}
+use Rattle.rv_jobs.specs.Jobs.{console_path, single_job}
+use Rattle.rv_jobs.specs.Plans.{Planned, kept_for}
 use Rattle.rv_rows.specs.declared.outcome.Outcome.{Outcome}
 use Rattle.rv_rows.specs.declared.row.Row.{Row}
 use Rattle.rv_rows.specs.declared.row.Verdict.{Verdict}
 use Rattle.rv_rows.specs.Outcome.{outcome_of}
 use Rattle.rv_rows.specs.Verdict.{verdict_of}
-
--- what is kept of a path. Each path of a plan's jobs has an answer, so the default is never taken
-abbrev pub kept_for : List Answer → List ℕ → Kept
-kept_for answers path = unwrap_or (kept_of answers path) kept.Unreadable
 
 -- the outcome of a job over a plan's answers
 abbrev pub outcome_in : List Answer → Job → Outcome
@@ -63,3 +59,8 @@ row_of plan job =
 -- one row a job, in list order
 unfoldable pub rows_of : Planned → List Row
 rows_of plan = map (row_of plan) plan.jobs
+
+-- the rows of the jobs at some places, each of which is that of a job
+unfoldable pub rows_at : Planned → List ℕ → List Row
+rows_at plan places =
+    map (λ i. row_of plan (slice_index_or plan.jobs i (single_job [] 0 []))) places

@@ -21,7 +21,7 @@ mod spare;
 mod verdict;
 
 pub use flat::flat_row;
-pub use law::narrower_sets_only_refuse;
+pub use law::{narrower_sets_only_refuse, parts_have_the_rows_of_the_whole};
 pub use outcome::{Loadable, Outcome, SignatureRange};
 pub use plan_rows::{next_row, row_at, run_one};
 pub use recent::Recent;

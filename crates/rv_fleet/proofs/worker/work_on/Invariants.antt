@@ -1,14 +1,15 @@
 use Rattle.std.proofs.Common.{◌≡◌, ◌-◌, map}
 use Rattle.rv_claims.specs.NewPieces.{Grew, new_pieces}
-use Rattle.rv_fleet.specs.Pieces.{piece_at}
-use Rattle.rv_rows.specs.Recent.{AreOutcomes}
 use Rattle.rv_claims.proofs.Public.{above}
-use Rattle.rv_fleet.proofs.worker.work.Given as goal
+use Rattle.rv_rows.specs.Recent.{AreOutcomes}
+use Rattle.rv_rows.specs.Rows.{rows_at}
+use Rattle.rv_fleet.specs.Pieces.{piece_for}
+use Rattle.rv_fleet.proofs.worker.work_on.Given as goal
 
 abbrev pub invariant-loop-number : goal.invariant-loop-number
 invariant-loop-number g l =
     (l.pass.draw ≡ l.claims) × Grew l.initial.pass l.pass
-    × (l.pieces.items ≡ map (piece_at l.plan l.group) (new_pieces l.initial.pass l.pass))
+    × (l.pieces.items ≡ map (piece_for (rows_at l.plan l.places) l.group) (new_pieces l.initial.pass l.pass))
     × AreOutcomes l.plan l.recent
 
 abbrev pub decreases-loop-number : goal.decreases-loop-number

@@ -1,5 +1,5 @@
 use Rattle.rv_fleet.specs.Promised.{IsFresh, AreFresh}
-use Rattle.rv_fleet.proofs.fleet.split_passes.Given as goal
+use Rattle.rv_fleet.proofs.threads.split_passes.Given as goal
 
 abbrev pub invariant-loop : goal.invariant-loop
 invariant-loop l = IsFresh l.claims l.last × AreFresh l.claims l.passes.items

@@ -1,0 +1,19 @@
+-- Plans of the same jobs, of which one may have read less.
+use Rattle.std.specs.Prelude.{◌≡◌, List, option_map}
+use Rattle.rv_jobs.specs.declared.answers.Answer.{Answer}
+use Rattle.rv_jobs.specs.declared.job.Job.{Job}
+use Rattle.rv_jobs.specs.Jobs.{console_path}
+use Rattle.rv_jobs.specs.Plans.{Planned, kept_for}
+
+abbrev pub planned : List Job → List Answer → Planned
+planned jobs answers = record { jobs = jobs; answers = answers }
+
+-- the same is kept of each path of a job
+pub record KeepSame (some others : List Answer) (job : Job) : Type 0 where
+  pub image : kept_for some job.image ≡ kept_for others job.image
+  pub reference :
+      option_map (kept_for some) job.expect_signature
+      ≡ option_map (kept_for others) job.expect_signature
+  pub console :
+      option_map (kept_for some) (console_path job.expect_console)
+      ≡ option_map (kept_for others) (console_path job.expect_console)
