@@ -1,29 +1,114 @@
 //! Encodings beside their meanings, written out by hand from the manual's listings.
-
-use rv_isa::{Instr, Isa, Op, sign_extend};
+use rv_isa::{Instr, Isa, decode16, decode32, expand, is_long, sign_extend};
+use std::alloc::{AllocError, Global};
+use std::process::Abort;
+use std::test::Fail;
 
 mod halfwords;
 mod words;
 
-const SETS: [Isa; 4] = [Isa::I, Isa::Im, Isa::Ic, Isa::Imc];
+// The answer that a row has in its third cell.
+const OWN: &str = "$2";
 
-// A label, an encoding, and what it means: name, `[rd, rs1, rs2]`, immediate.
-type Row<E> = (&'static str, E, Op, [u8; 3], i32);
+// The answer where there is no meaning and no word.
+const NONE: &str = "nothing";
 
-fn instruction(op: Op, [rd, rs1, rs2]: [u8; 3], imm: i32) -> Option<Instr> {
-    Some(Instr {
-        op,
-        rd,
-        rs1,
-        rs2,
-        imm,
-    })
+fn cell_of(row: &str, place: usize) -> &str {
+    row.split('|').nth(place).unwrap_or("").trim()
 }
 
+fn isa_of(name: &str) -> Result<Isa, Fail> {
+    match name {
+        "rv32i" => Ok(Isa::I),
+        "rv32im" => Ok(Isa::Im),
+        "rv32ic" => Ok(Isa::Ic),
+        "rv32imc" => Ok(Isa::Imc),
+        _ => Err("a set".into()),
+    }
+}
+
+// What four digits mean as a halfword, or eight as a word.
+fn meaning_of(digits: &str, isa: Isa) -> Result<Option<Instr>, Fail> {
+    if digits.len() == 4 {
+        return Ok(decode16(u16::from_str_radix(digits, 16)?, isa));
+    }
+    Ok(decode32(u32::from_str_radix(digits, 16)?, isa))
+}
+
+// The name, `rd`, `rs1`, `rs2` and the immediate of a meaning.
+fn told(alloc: Global, meaning: Option<Instr>) -> Result<String, AllocError> {
+    let Some(instr) = meaning else {
+        return String::from_str(alloc, NONE);
+    };
+    let (op, imm) = (instr.op, instr.imm);
+    let (rd, rs1, rs2) = (instr.rd, instr.rs1, instr.rs2);
+    format!(in alloc; "{op:?} {rd} {rs1} {rs2} {imm}")
+}
+
+fn expanded(alloc: Global, half: u16) -> Result<String, AllocError> {
+    match expand(half) {
+        Some(word) => format!(in alloc; "{word:08x}"),
+        None => String::from_str(alloc, NONE),
+    }
+}
+
+fn length(half: u16) -> &'static str {
+    if is_long(half) { "long" } else { "short" }
+}
+
+fn letters(isa: Isa) -> &'static str {
+    match (isa.has_m(), isa.has_c()) {
+        (false, false) => "none",
+        (true, false) => "m",
+        (false, true) => "c",
+        (true, true) => "mc",
+    }
+}
+
+// What is answered of an encoding's digits: the word that it expands to, its length, or its meaning in a set; and of a
+// set's name its letters.
+fn answer(alloc: Global, ask: &str, digits: &str) -> Result<String, Fail> {
+    match ask {
+        "expand" => Ok(expanded(alloc, u16::from_str_radix(digits, 16)?)?),
+        "length" => Ok(String::from_str(alloc, length(u16::from_str_radix(digits, 16)?))?),
+        "letters" => Ok(String::from_str(alloc, letters(isa_of(digits)?))?),
+        set => Ok(told(alloc, meaning_of(digits, isa_of(set)?)?)?),
+    }
+}
+
+// Whether each encoding of a table has an answer, or its own.
+fn check(
+    rt: &impl Abort,
+    alloc: Global,
+    ask: &str,
+    wanted: &str,
+    rows: &str,
+    lines: usize,
+) -> Result<(), Fail> {
+    assert_eq!(rt; rows.lines().count(), lines);
+    for row in rows.lines() {
+        let wanted = if wanted == OWN {
+            cell_of(row, 2)
+        } else {
+            wanted
+        };
+        let answer = answer(alloc, ask, cell_of(row, 1))?;
+        assert_eq!(rt; answer.as_str(), wanted, "{row} in {ask}");
+    }
+    Ok(())
+}
+
+// label | set | the letters of its extensions
+const LETTERS: &str = "\
+the base alone | rv32i | none
+products | rv32im | m
+halfwords | rv32ic | c
+both | rv32imc | mc
+";
+
 #[test]
-fn a_set_has_the_extensions_of_its_letters(rt: HostRuntime) {
-    assert_eq!(rt; SETS.map(Isa::has_m), [false, true, false, true]);
-    assert_eq!(rt; SETS.map(Isa::has_c), [false, false, true, true]);
+fn a_set_has_the_extensions_of_its_letters(rt: HostRuntime) -> Result<(), Fail> {
+    check(&rt, rt.alloc(), "letters", OWN, LETTERS, 4)
 }
 
 #[test]

@@ -1,7 +1,10 @@
 //! Each instruction's effect, by the exit code that it leads to.
-use super::{cells_of, machine};
-use rv_machine::Ending;
+use super::check;
 use std::test::Fail;
+
+// The words stand behind a jump over them, which leaves their address in x5.
+const EFFECT: &str =
+    "rv32imc refuse default 80000000 | 80000000: 00c002ef $1 $2 0002a583 0042a603 $3 X | exit 100 = $4";
 
 // What each computing, branching and accessing instruction makes of two words in x11 and x12 comes out
 // as the exit code: instructions | first word | second word | their encodings | exit code.
@@ -101,17 +104,5 @@ remu a0,a1,a2 | fffffff9 | 00000000 | 02c5f533 | fffffff9
 
 #[test]
 fn instructions_have_their_effects(rt: HostRuntime) -> Result<(), Fail> {
-    let alloc = rt.alloc();
-    assert_eq!(rt; EFFECTS.lines().count(), 91);
-    for line in EFFECTS.lines() {
-        let cells = cells_of(alloc, line)?;
-        assert_eq!(rt; cells.len(), 5, "{line}");
-        let (first, second, code) = (cells[1], cells[2], cells[3]);
-        // The words stand behind a jump over them, which leaves their address in x5.
-        let image = format!(in alloc; "00c002ef {first} {second} 0002a583 0042a603 {code} X")?;
-        let outcome = machine(&rt, alloc, image.as_str())?.run(100);
-        let want = u32::from_str_radix(cells[4], 16)?;
-        assert_eq!(rt; outcome.ending, Ending::Exit(want), "{line}");
-    }
-    Ok(())
+    check(&rt, rt.alloc(), EFFECT, EFFECTS, 91)
 }

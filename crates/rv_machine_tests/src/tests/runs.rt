@@ -1,6 +1,6 @@
 //! Runs of small images: their endings, and the steps that they complete. What the program's tests run is not run
 //! again.
-use super::check;
+use super::{RUN, check};
 use std::test::Fail;
 
 // A budget of 0; the link of C.JAL; an illegal word and a breakpoint; loads and stores at misaligned addresses and
@@ -24,5 +24,5 @@ const RUNS: &str = "\
 
 #[test]
 fn small_images_run(rt: HostRuntime) -> Result<(), Fail> {
-    check(&rt, rt.alloc(), RUNS, 13)
+    check(&rt, rt.alloc(), RUN, RUNS, 13)
 }

@@ -1,11 +1,11 @@
 //! Fetches, and the marks of stored bytes that refuse them.
-use super::{RAM, ROM, accesses, bus, place};
-use rv_memory::{Bus, FetchFault, Width};
-use std::process::Abort;
+use super::{REFUSING, ask, bus_of, check};
 use std::test::Fail;
 
-// label | access | answer
+// label | ask | answer
 const FETCHES: &str = "\
+bytes that are not writable | place 20000000 44332211 88776655 | done
+bytes that are | place 20000008 44332211 88776655 | done
 the byte that stands there already | store byte 2000000d 00000066 | done
 placed | fetch half 20000000 | 2211
 odd address | fetch half 20000001 | 3322
@@ -25,75 +25,64 @@ start of the next | fetch word 20000008 | 44332211
 its last byte stored | fetch word 2000000a | none
 its second byte stored | fetch word 2000000c | none
 two bytes left | fetch word 2000000e | none
+nothing stored any more | sync | done
+the stored byte | fetch half 2000000c | 6655
+the stored byte | fetch word 2000000a | 66554433
 ";
 
 #[test]
 fn fetches(rt: HostRuntime) -> Result<(), Fail> {
-    let mut bus = bus(rt.alloc(), &[ROM, RAM], b"")?;
-    place(
-        &rt,
-        &mut bus,
-        0x2000_0000,
-        b"\x11\x22\x33\x44\x55\x66\x77\x88",
-    );
-    place(
-        &rt,
-        &mut bus,
-        0x2000_0008,
-        b"\x11\x22\x33\x44\x55\x66\x77\x88",
-    );
-    accesses(&rt, rt.alloc(), &mut bus, FETCHES)?;
-    bus.sync_code();
-    assert_eq!(&rt; bus.fetch_half(0x2000_000c), Ok(0x6655));
-    assert_eq!(&rt; bus.fetch_word(0x2000_000a), Some(0x6655_4433));
-    Ok(())
+    check(&rt, rt.alloc(), REFUSING, FETCHES)
 }
 
-fn clean(rt: &impl Abort, bus: &Bus, addr: u32, len: u32) -> bool {
-    assert!(rt; len == 2 || len == 4);
-    bus.clean(addr, len)
-}
+// label | ask | answer
+const CLEAN: &str = "\
+one byte | store byte 2000000d 00000000 | done
+a half | clean 20000004 2 | yes
+two halves | clean 20000004 4 | yes
+two halves of two regions | clean 20000006 4 | yes
+a half before the store | clean 2000000a 2 | yes
+its second half stored | clean 2000000a 4 | no
+its half stored | clean 2000000c 2 | no
+its first half stored | clean 2000000c 4 | no
+a half up to the end | clean 2000000e 2 | yes
+its second half past the end | clean 2000000e 4 | no
+past the end | clean 20000010 2 | no
+its first half outside | clean 1ffffffe 4 | no
+nothing stored any more | sync | done
+two halves | clean 2000000c 4 | yes
+";
 
 #[test]
 fn clean_bytes(rt: HostRuntime) -> Result<(), Fail> {
-    let mut bus = bus(rt.alloc(), &[ROM, RAM], b"")?;
-    assert_eq!(&rt; bus.store(0x2000_000d, Width::Byte, 0), Ok(()));
-    let rows = [
-        ("a half", 0x2000_0004, 2, true),
-        ("two halves", 0x2000_0004, 4, true),
-        ("two halves of two regions", 0x2000_0006, 4, true),
-        ("a half before the store", 0x2000_000a, 2, true),
-        ("its second half stored", 0x2000_000a, 4, false),
-        ("its half stored", 0x2000_000c, 2, false),
-        ("its first half stored", 0x2000_000c, 4, false),
-        ("a half up to the end", 0x2000_000e, 2, true),
-        ("its second half past the end", 0x2000_000e, 4, false),
-        ("past the end", 0x2000_0010, 2, false),
-        ("its first half outside", 0x1fff_fffe, 4, false),
-    ];
-    for (label, addr, len, is_clean) in rows {
-        assert_eq!(&rt; clean(&rt, &bus, addr, len), is_clean, "{label}");
-    }
-    bus.sync_code();
-    assert!(&rt; bus.clean(0x2000_000c, 4));
-    Ok(())
+    check(&rt, rt.alloc(), REFUSING, CLEAN)
 }
+
+// One round: label | ask | answer
+const ROUND: &str = "\
+nothing stored any more | sync | done
+stored before the rounds | fetch half 2000000c | 0001
+stored in the last round | fetch word 20000008 | $0
+the next number | store word 20000008 $1 | done
+its second half | fetch half 2000000a | Stale
+all of it | fetch word 20000008 | none
+";
 
 #[test]
 fn marks_of_many_rounds(rt: HostRuntime) -> Result<(), Fail> {
-    let mut bus = bus(rt.alloc(), &[RAM], b"")?;
-    assert_eq!(&rt; bus.store(0x2000_000c, Width::Byte, 1), Ok(()));
-    for round in 0..300 {
-        bus.sync_code();
-        assert_eq!(&rt; bus.fetch_half(0x2000_000c), Ok(1), "round {round}");
-        assert_eq!(&rt; bus.fetch_word(0x2000_0008), Some(round), "round {round}");
-        assert_eq!(&rt; bus.store(0x2000_0008, Width::Word, round + 1), Ok(()));
-        assert_eq!(&rt;
-            bus.fetch_half(0x2000_000a),
-            Err(FetchFault::Stale),
-            "round {round}"
-        );
-        assert_eq!(&rt; bus.fetch_word(0x2000_0008), None, "round {round}");
+    let alloc = rt.alloc();
+    let mut bus = bus_of(alloc, "refuse | 20000008+8 |")?;
+    ask(
+        &rt,
+        alloc,
+        &mut bus,
+        "one byte | store byte 2000000c 01 | done",
+        "",
+    )?;
+    for round in 0..300u32 {
+        let next = round + 1;
+        let line = format!(in alloc; "{round:08x} | {next:08x}")?;
+        ask(&rt, alloc, &mut bus, ROUND, &line)?;
     }
     Ok(())
 }

@@ -1,21 +1,8 @@
 //! Buses as they begin: renewed ones, and the smallest and the largest.
-ghost use Rattle.std.specs.Prelude.{◌≤◌};
-
-use super::{RAM, accesses, bus, loads, region};
-use rv_memory::{Bus, Map, Misaligned, Region, Width};
-use std::alloc::Global;
+use super::{ask, bus_of, check_each, renewed};
 use std::test::Fail;
 
-// A bus whose script is as many bytes `.`.
-fn scripted(alloc: Global, regions: &[Region], length: usize) -> Result<Bus, Fail>
-    requires { length ≤ 0x1_0000 }
-{
-    let map = Map::of(regions)?;
-    let script = vec![in alloc; 0x2eu8; length]?;
-    Ok(Bus::new(alloc, map, script, Misaligned::Fault)?)
-}
-
-// label | access | answer, of a bus before it is renewed
+// label | ask | answer, of a bus before it is renewed
 const USED: &str = "\
 four bytes | store word 20000008 44332211 | done
 the last byte | store byte 2000000f 00000055 | done
@@ -23,8 +10,9 @@ the script | load word 10000000 | 00000041
 the console | store word 10000000 00000021 | done
 ";
 
-// label | access | answer, of the bus that it becomes
+// label | ask | answer, of the bus that it becomes
 const RENEWED: &str = "\
+no output | console | 0
 zero | load word 30000000 | 00000000
 zero up to the last byte | load word 30000004 | 00000000
 nothing stored | fetch word 30000000 | 00000000
@@ -39,57 +27,36 @@ the other choice | load half 30000001 | 00000000
 #[test]
 fn renewed_buses(rt: HostRuntime) -> Result<(), Fail> {
     let alloc = rt.alloc();
-    for size in [8, 12] {
-        let mut used = bus(alloc, &[RAM], b"\x41")?;
-        accesses(&rt, alloc, &mut used, USED)?;
-        let map = Map::of(&[region(0x3000_0000, size)])?;
-        let script = b"\x42".to_vec(alloc)?;
-        let mut bus = used.renewed(alloc, map, script, Misaligned::Allow)?;
-        assert!(&rt; bus.console().is_empty(), "{size}");
-        accesses(&rt, alloc, &mut bus, RENEWED)?;
+    for setup in ["allow | 30000000+8 | 42", "allow | 30000000+c | 42"] {
+        let mut used = bus_of(alloc, "refuse | 20000008+8 | 41")?;
+        ask(&rt, alloc, &mut used, USED, "")?;
+        let mut bus = renewed(alloc, used, setup)?;
+        ask(&rt, alloc, &mut bus, RENEWED, "")?;
     }
     Ok(())
 }
 
-// The smallest and the largest of what a bus is made of: maps of 4 and of 16,777,216 bytes, scripts of none, one and
-// 65,536 bytes.
+// The smallest and the largest of what a bus is made of, maps of 4 and of 16,777,216 bytes, scripts of none, one and
+// 65,536 bytes: label | region | script | bytes left | the next | bytes left then | first word | last byte
+const LIMITS: &str = "\
+smallest map, no script | 0+4 | | 00000000 | ffffffff | 00000000 | 0 | 3
+smallest map, one byte | 0+4 | 2e | 00000001 | 0000002e | 00000000 | 0 | 3
+smallest map, longest script | 0+4 | 2e*65536 | 00010000 | 0000002e | 0000ffff | 0 | 3
+largest map, longest script | 20000000+1000000 | 2e*65536 | 00010000 | 0000002e | 0000ffff | 20000000 | 20ffffff
+";
+
+const AT_A_LIMIT: &str = "\
+$0 : bytes left | load word 10000004 | $3
+$0 : the next | load word 10000000 | $4
+$0 : bytes left then | load word 10000004 | $5
+$0 : first word | load word $6 | 00000000
+$0 : last byte | load byte $7 | 00000000
+$0 : no output | console | 0
+$0 : output | store word 10000000 00000021 | done
+$0 : its byte | console | 1 to 21
+";
+
 #[test]
 fn the_limits_of_a_bus(rt: HostRuntime) -> Result<(), Fail> {
-    let all = region(0x2000_0000, 0x0100_0000);
-    let rows = [
-        ("smallest map, no script", region(0, 4), 0, 0, 3),
-        ("smallest map, one byte", region(0, 4), 1, 0, 3),
-        ("smallest map, longest script", region(0, 4), 0x1_0000, 0, 3),
-        (
-            "largest map, longest script",
-            all,
-            0x1_0000,
-            0x2000_0000,
-            0x20ff_ffff,
-        ),
-    ];
-    for (label, region, length, first, last) in rows {
-        let mut bus = scripted(rt.alloc(), &[region], length)?;
-        let left = length as u32;
-        let next = if left == 0 { u32::MAX } else { 0x2e };
-        loads(
-            &rt,
-            &mut bus,
-            &[
-                (label, 0x1000_0004, Width::Word, Ok(left)),
-                (label, 0x1000_0000, Width::Word, Ok(next)),
-                (label, 0x1000_0004, Width::Word, Ok(left.saturating_sub(1))),
-                (label, first, Width::Word, Ok(0)),
-                (label, last, Width::Byte, Ok(0)),
-            ],
-        );
-        assert_eq!(&rt; bus.console().len(), 0, "{label}");
-        assert_eq!(&rt;
-            bus.store(0x1000_0000, Width::Word, 0x21),
-            Ok(()),
-            "{label}"
-        );
-        assert_eq!(&rt; bus.console(), b"\x21".as_slice(), "{label}");
-    }
-    Ok(())
+    check_each(&rt, rt.alloc(), "refuse | $1 | $2", AT_A_LIMIT, LIMITS)
 }

@@ -1,10 +1,10 @@
 //! Loads and stores of memory and of the console.
-use super::{RAM, ROM, accesses, bus, place};
-use rv_memory::{BusFault, Width};
+use super::{REFUSING, check};
 use std::test::Fail;
 
-// label | access | answer
+// label | ask | answer
 const LOADS_AND_STORES: &str = "\
+bytes that are not writable | place 20000000 84038201 | done
 word | store word 20000008 88776655 | done
 low half | store half 2000000a aaaa1234 | done
 low byte | store byte 2000000f aaaaaaff | done
@@ -24,12 +24,10 @@ misaligned, nothing there | load word 80000002 | Misaligned
 
 #[test]
 fn loads_and_stores(rt: HostRuntime) -> Result<(), Fail> {
-    let mut bus = bus(rt.alloc(), &[ROM, RAM], b"")?;
-    place(&rt, &mut bus, 0x2000_0000, b"\x01\x82\x03\x84");
-    accesses(&rt, rt.alloc(), &mut bus, LOADS_AND_STORES)
+    check(&rt, rt.alloc(), REFUSING, LOADS_AND_STORES)
 }
 
-// label | access | answer
+// label | ask | answer
 const CONSOLE: &str = "\
 two left | load word 10000004 | 00000002
 first byte | load word 10000000 | 00000041
@@ -48,21 +46,13 @@ half | store half 10000000 12345678 | Access
 second word | store word 10000004 12345678 | Access
 third word | store word 10000008 12345678 | Access
 odd | store word 10000002 12345678 | Misaligned
+the low byte alone | console | 1 to 78
+ffff bytes more | store word 10000000 0000002e ffff | done
+one too many | store word 10000000 00000021 | ConsoleFull
+a full console | console | 65536 to 2e
 ";
 
 #[test]
 fn console(rt: HostRuntime) -> Result<(), Fail> {
-    let mut bus = bus(rt.alloc(), &[RAM], b"\x41\x42")?;
-    accesses(&rt, rt.alloc(), &mut bus, CONSOLE)?;
-    assert_eq!(&rt; bus.console(), b"\x78".as_slice());
-    for _ in 1..0x1_0000 {
-        assert_eq!(&rt; bus.store(0x1000_0000, Width::Word, 0x2e), Ok(()));
-    }
-    assert_eq!(&rt;
-        bus.store(0x1000_0000, Width::Word, 0x21),
-        Err(BusFault::ConsoleFull)
-    );
-    assert_eq!(&rt; bus.console().len(), 0x1_0000);
-    assert_eq!(&rt; bus.console().last(), Some(&0x2e));
-    Ok(())
+    check(&rt, rt.alloc(), "refuse | 20000008+8 | 41 42", CONSOLE)
 }

@@ -1,7 +1,7 @@
 //! Which lists of regions are maps, and which bytes lie in one region.
-use super::{RAM, ROM, bus, region};
-use rv_memory::{Map, MapError, Region};
-use std::alloc::{AllocError, Global};
+use super::{REFUSING, cell_of, check, is_in_one, map_of, pair_of, regions_of};
+use rv_memory::Map;
+use std::alloc::Global;
 use std::test::Fail;
 
 // label | the base and the size of each region | what is wrong with the map
@@ -25,66 +25,51 @@ behind the console | 10000010+4 | good
 a wrong size, then a wrong base | 00000004+0 00000002+4 | Align
 ";
 
-// Regions that are each `BASE+SIZE`, in hexadecimal digits.
-fn regions_of(alloc: Global, text: &str) -> Result<Vec<Region>, Fail> {
-    let mut regions = Vec::new(alloc);
-    for part in text.split(' ') {
-        if !part.is_empty() {
-            let (base, size) = part.split_once('+').ok_or("a base and a size")?;
-            let base = u32::from_str_radix(base, 16)?;
-            regions.push(region(base, u32::from_str_radix(size, 16)?))?;
-        }
+// What is wrong with a map of regions, or `good`.
+fn refusal(alloc: Global, regions: &str) -> Result<String, Fail> {
+    let regions = regions_of(alloc, regions)?;
+    match Map::of(&regions) {
+        Ok(_) => Ok(String::from_str(alloc, "good")?),
+        Err(error) => Ok(format!(in alloc; "{error:?}")?),
     }
-    Ok(regions)
-}
-
-// The name of a refusal, or `good` where there is none.
-fn name_of(alloc: Global, refusal: Option<MapError>) -> Result<String, AllocError> {
-    match refusal {
-        Some(error) => format!(in alloc; "{error:?}"),
-        None => String::from_str(alloc, "good"),
-    }
-}
-
-// Whether making a map of the regions of a row answers as it says.
-fn makes_map(alloc: Global, row: &str) -> Result<bool, Fail> {
-    let mut cells = row.split('|');
-    let _label = cells.next();
-    let regions = regions_of(alloc, cells.next().unwrap_or("").trim())?;
-    let name = name_of(alloc, Map::of(&regions).err())?;
-    Ok(name.as_str() == cells.next().unwrap_or("").trim())
 }
 
 #[test]
 fn maps(rt: HostRuntime) -> Result<(), Fail> {
     for row in MAPS.lines() {
-        assert!(&rt; makes_map(rt.alloc(), row)?, "{row}");
+        let found = refusal(rt.alloc(), cell_of(row, 1))?;
+        assert_eq!(&rt; found.as_str(), cell_of(row, 2), "{row}");
     }
     Ok(())
 }
 
+// label | regions | an address and a number of bytes | whether they lie in one of the regions
+const IN_ONE: &str = "\
+default | default | 80000000 100000 | yes
+before it | default | 7fffffff 2 | no
+its last byte | default | 800fffff 1 | yes
+past its last byte | default | 800fffff 2 | no
+no bytes, anywhere | default | 7 0 | yes
+longer than any region | default | 80000000 ffffffff | no
+the second region | 20000000-8 20000008+8 | 20000008 8 | yes
+over the border | 20000000-8 20000008+8 | 20000004 8 | no
+up to the last address | fffffffc+4 | fffffffc 4 | yes
+past the last address | fffffffc+4 | fffffffc 5 | no
+around the address space | fffffffc+4 | fffffffe fffffffe | no
+";
+
+// The same of a bus's map: label | ask | answer
+const IN_A_BUS: &str = "\
+the first region | in 20000000 8 | yes
+behind both regions | in 20000010 1 | no
+";
+
 #[test]
 fn bytes_in_one_region(rt: HostRuntime) -> Result<(), Fail> {
-    let rows = [
-        ("default", 0x8000_0000, 0x10_0000, true),
-        ("before it", 0x7fff_ffff, 2, false),
-        ("its last byte", 0x800f_ffff, 1, true),
-        ("past its last byte", 0x800f_ffff, 2, false),
-        ("no bytes, anywhere", 7, 0, true),
-        ("longer than any region", 0x8000_0000, 0xffff_ffff, false),
-    ];
-    for (label, addr, len, one) in rows {
-        assert_eq!(&rt; Map::default_map().in_one(addr, len), one, "{label}");
+    for row in IN_ONE.lines() {
+        let map = map_of(rt.alloc(), cell_of(row, 1))?;
+        let found = is_in_one(map, pair_of(cell_of(row, 2))?);
+        assert_eq!(&rt; found, cell_of(row, 3), "{row}");
     }
-    let two = Map::of(&[ROM, RAM])?;
-    assert!(&rt; two.in_one(0x2000_0008, 8));
-    assert!(&rt; !two.in_one(0x2000_0004, 8));
-    let last = Map::of(&[region(0xffff_fffc, 4)])?;
-    assert!(&rt; last.in_one(0xffff_fffc, 4));
-    assert!(&rt; !last.in_one(0xffff_fffc, 5));
-    assert!(&rt; !last.in_one(0xffff_fffe, 0xffff_fffe));
-    let bus = bus(rt.alloc(), &[ROM, RAM], b"")?;
-    assert!(&rt; bus.map().in_one(0x2000_0000, 8));
-    assert!(&rt; !bus.map().in_one(0x2000_0010, 1));
-    Ok(())
+    check(&rt, rt.alloc(), REFUSING, IN_A_BUS)
 }

@@ -1,10 +1,8 @@
 //! Accesses whose address is no multiple of their width, where they are allowed and where not.
-use super::{RAM, ROM, accesses, allowing, answer_to, bus, place, region};
-use rv_memory::{Bus, FetchFault};
-use std::alloc::Global;
+use super::{ALLOWING, REFUSING, check, check_each};
 use std::test::Fail;
 
-// label | access | the answer where misaligned accesses are allowed | and where they are not
+// label | ask | the answer where misaligned accesses are allowed | and where they are not
 const MISALIGNED_LOADS: &str = "\
 half at 1 | load half 20000009 | 00003322 | Misaligned
 half at 2 | load half 2000000a | 00004433 | 00004433
@@ -17,36 +15,20 @@ word past the end | load word 2000000d | Access | Misaligned
 nothing there | load word 80000002 | Access | Misaligned
 ";
 
-// Whether two buses answer as a row says: one that allows misaligned accesses, and one that does not.
-fn both_answer(
-    alloc: Global,
-    allowing: &mut Bus,
-    refusing: &mut Bus,
-    row: &str,
-) -> Result<bool, Fail> {
-    let mut cells = row.split('|');
-    let _label = cells.next();
-    let access = cells.next().unwrap_or("").trim();
-    let allowed = answer_to(alloc, allowing, access)?;
-    let is_allowed = allowed.as_str() == cells.next().unwrap_or("").trim();
-    let refused = answer_to(alloc, refusing, access)?;
-    Ok(is_allowed && refused.as_str() == cells.next().unwrap_or("").trim())
-}
+const ALLOWED: &str = "\
+bytes | place 20000008 44332211 b8a79685 | done
+$0 | $1 | $2
+";
+
+const REFUSED: &str = "\
+bytes | place 20000008 44332211 b8a79685 | done
+$0 | $1 | $3
+";
 
 #[test]
 fn misaligned_loads(rt: HostRuntime) -> Result<(), Fail> {
-    let bytes = b"\x11\x22\x33\x44\x85\x96\xa7\xb8";
-    let mut allowed = allowing(rt.alloc(), &[ROM, RAM])?;
-    place(&rt, &mut allowed, 0x2000_0008, bytes);
-    let mut refused = bus(rt.alloc(), &[ROM, RAM], b"")?;
-    place(&rt, &mut refused, 0x2000_0008, bytes);
-    for row in MISALIGNED_LOADS.lines() {
-        assert!(&rt;
-            both_answer(rt.alloc(), &mut allowed, &mut refused, row)?,
-            "{row}"
-        );
-    }
-    Ok(())
+    check_each(&rt, rt.alloc(), ALLOWING, ALLOWED, MISALIGNED_LOADS)?;
+    check_each(&rt, rt.alloc(), REFUSING, REFUSED, MISALIGNED_LOADS)
 }
 
 // a store into a new bus | the word there | the next word | `x` for each of their halfwords that is stale
@@ -59,34 +41,21 @@ store word 2000000a 55667788 | 77880000 | 00005566 | -xx-
 store word 2000000b 55667788 | 88000000 | 00556677 | -xxx
 ";
 
-// Whether the store of a row leaves the words that it says, and marks the halfwords.
-fn marks(alloc: Global, row: &str) -> Result<bool, Fail> {
-    let mut bus = allowing(alloc, &[RAM])?;
-    let mut cells = row.split('|');
-    let store = answer_to(alloc, &mut bus, cells.next().unwrap_or("").trim())?;
-    let first = answer_to(alloc, &mut bus, "load word 20000008")?;
-    let is_first = first.as_str() == cells.next().unwrap_or("").trim();
-    let second = answer_to(alloc, &mut bus, "load word 2000000c")?;
-    let is_second = second.as_str() == cells.next().unwrap_or("").trim();
-    let mut stale = String::new(alloc);
-    for addr in [0x2000_0008, 0x2000_000a, 0x2000_000c, 0x2000_000e] {
-        let is_stale = bus.fetch_half(addr) == Err(FetchFault::Stale);
-        stale.push_str(if is_stale { "x" } else { "-" })?;
-    }
-    let is_marked = stale.as_str() == cells.next().unwrap_or("").trim();
-    Ok(store.as_str() == "done" && is_first && is_second && is_marked)
-}
+const STORED: &str = "\
+$0 | $0 | done
+$0 : the word there | load word 20000008 | $1
+$0 : the next word | load word 2000000c | $2
+$0 : their halfwords | stale 20000008 | $3
+";
 
 // A misaligned store marks each of its bytes, and no other.
 #[test]
 fn misaligned_stores(rt: HostRuntime) -> Result<(), Fail> {
-    for row in MISALIGNED_STORES.lines() {
-        assert!(&rt; marks(rt.alloc(), row)?, "{row}");
-    }
-    Ok(())
+    let setup = "allow | 20000008+8 |";
+    check_each(&rt, rt.alloc(), setup, STORED, MISALIGNED_STORES)
 }
 
-// At the border of two regions: label | access | answer
+// At the border of two regions: label | ask | answer
 const BORDERS: &str = "\
 half over the border | load half 20000007 | Access
 word over the border | load word 20000006 | Access
@@ -97,7 +66,7 @@ not writable | store half 20000001 00000000 | Access
 half behind the border | store half 20000009 00000000 | done
 ";
 
-// In a region up to the last address: label | access | answer
+// In a region up to the last address: label | ask | answer
 const LAST_ADDRESSES: &str = "\
 word at 3 bytes | store word fffffffd 00001234 | Access
 word at 2 bytes | store word fffffffe 00001234 | Access
@@ -114,13 +83,11 @@ half at 3 bytes | load half fffffffd | 00001234
 // Under `Allow` an access still lies in one region, which for a store is a writable one.
 #[test]
 fn misaligned_accesses_at_borders(rt: HostRuntime) -> Result<(), Fail> {
-    let mut two = allowing(rt.alloc(), &[ROM, RAM])?;
-    accesses(&rt, rt.alloc(), &mut two, BORDERS)?;
-    let mut last = allowing(rt.alloc(), &[region(0xffff_fff8, 8)])?;
-    accesses(&rt, rt.alloc(), &mut last, LAST_ADDRESSES)
+    check(&rt, rt.alloc(), ALLOWING, BORDERS)?;
+    check(&rt, rt.alloc(), "allow | fffffff8+8 |", LAST_ADDRESSES)
 }
 
-// Between two regions: label | access | answer
+// Between two regions: label | ask | answer
 const AT_THE_CONSOLE: &str = "\
 half over its start | load half 0fffffff | Access
 half over its start | store half 0fffffff 00000000 | Access
@@ -145,14 +112,12 @@ half up to it | load half 0ffffffe | 00001234
 half behind it | load half 10000011 | 00001234
 its first word | load word 10000000 | ffffffff
 its second word | load word 10000004 | 00000000
+its output | console | 1 to 34
 ";
 
 // Between two regions, the console's bytes are reached by its own word accesses alone.
 #[test]
 fn misaligned_accesses_at_the_console(rt: HostRuntime) -> Result<(), Fail> {
-    let sides = [region(0x0fff_fff0, 0x10), region(0x1000_0010, 0x10)];
-    let mut bus = allowing(rt.alloc(), &sides)?;
-    accesses(&rt, rt.alloc(), &mut bus, AT_THE_CONSOLE)?;
-    assert_eq!(&rt; bus.console(), b"\x34".as_slice());
-    Ok(())
+    let setup = "allow | 0ffffff0+10 10000010+10 |";
+    check(&rt, rt.alloc(), setup, AT_THE_CONSOLE)
 }

@@ -1,44 +1,25 @@
 //! The words of a range of memory.
-use super::{RAM, ROM, bus, place, region};
-use rv_memory::{Bus, Width};
-use std::alloc::Global;
-use std::process::Abort;
+use super::{REFUSING, check};
 use std::test::Fail;
 
-// The words of a bus from one address up to another.
-fn words(
-    rt: &impl Abort,
-    alloc: Global,
-    bus: &Bus,
-    begin: u32,
-    end: u32,
-) -> Result<Vec<u32>, Fail> {
-    assert!(rt; begin % 4 == 0 && end % 4 == 0 && begin <= end);
-    assert!(rt; bus.map().in_one(begin, end - begin));
-    Ok(bus.words(alloc, begin, end)?)
-}
+// label | ask | how many words there are, and the first four
+const WORDS: &str = "\
+bytes that are not writable | place 20000000 44332211 88776655 | done
+bytes that are | place 20000008 44332211 88776655 | done
+a word of them | store word 2000000c ffffffff | done
+a region | words 20000000 20000008 | 2 44332211 88776655
+its last word | words 20000004 20000008 | 1 88776655
+the other region | words 20000008 20000010 | 2 44332211 ffffffff
+none in a region | words 20000004 20000004 | 0
+none outside | words 0 0 | 0
+";
+
+const ALL_BUT_ONE: &str =
+    "all but the last word | words ff000000 fffffffc | 4194303 00000000 00000000 00000000 00000000";
 
 #[test]
 fn words_of_memory(rt: HostRuntime) -> Result<(), Fail> {
-    let alloc = rt.alloc();
-    let mut small = bus(alloc, &[ROM, RAM], b"")?;
-    let bytes = b"\x11\x22\x33\x44\x55\x66\x77\x88";
-    place(&rt, &mut small, 0x2000_0000, bytes);
-    place(&rt, &mut small, 0x2000_0008, bytes);
-    assert_eq!(&rt; small.store(0x2000_000c, Width::Word, 0xffff_ffff), Ok(()));
-    let rows: [(u32, u32, &[u32]); 5] = [
-        (0x2000_0000, 0x2000_0008, &[0x4433_2211, 0x8877_6655]),
-        (0x2000_0004, 0x2000_0008, &[0x8877_6655]),
-        (0x2000_0008, 0x2000_0010, &[0x4433_2211, 0xffff_ffff]),
-        (0x2000_0004, 0x2000_0004, &[]),
-        (0, 0, &[]),
-    ];
-    for (begin, end, expected) in rows {
-        let found = words(&rt, alloc, &small, begin, end)?;
-        assert_eq!(&rt; found.as_slice(), expected, "{begin:x} to {end:x}");
-    }
-    let large = bus(alloc, &[region(0xff00_0000, 0x100_0000)], b"")?;
-    let found = words(&rt, alloc, &large, 0xff00_0000, 0xffff_fffc)?;
-    assert_eq!(&rt; found.len(), 0x3f_ffff);
-    Ok(())
+    check(&rt, rt.alloc(), REFUSING, WORDS)?;
+    let setup = "refuse | ff000000+1000000 |";
+    check(&rt, rt.alloc(), setup, ALL_BUT_ONE)
 }
