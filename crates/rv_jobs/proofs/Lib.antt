@@ -2,3 +2,4 @@ pub mod Entries
 pub mod PlaceLemmas
 pub mod Steps
 pub mod Answering
+pub mod NamedJobs

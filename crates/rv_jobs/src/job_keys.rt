@@ -8,6 +8,7 @@ ghost use Rattle.rv_jobs.specs.Jobs.{IsJob, most_script};
 ghost use Rattle.rv_jobs.specs.JobList.{name_in, image_in, budget_in, limited, from_hex, script_in, load_of};
 ghost use Rattle.rv_jobs.specs.JobList.{load_in, place_in, names_of, same_of, same_in, isa_of, isa_in};
 ghost use Rattle.rv_jobs.specs.JobList.{misaligned_of, misaligned_in, job_in, element_in};
+ghost use Rattle.rv_jobs.specs.JobSteps.{named_in, expecting_in, running_in};
 ghost use Rattle.std.specs.Prelude.{◌==◌, Ok, Err};
 ghost use Rattle.rv_jobs.specs.declared.error.What.TheVariants.{OutOfMemory};
 
@@ -58,20 +59,24 @@ fn job_of(alloc: Global, earlier: &EarlierJobs, table: &Table) -> Result<Job, Wh
     if earlier.place_of(name.as_str()).is_some() {
         return Err(What::Duplicate);
     }
+    named(alloc, earlier, name, table)
+}
+
+/// The job of a name that no earlier job has.
+#[tactic(auto, unfolding(crate::specs::JobSteps::named_in))]
+fn named(alloc: Global, earlier: &EarlierJobs, name: Text, table: &Table) -> Result<Job, What>
+    requires { place_in (names_of earlier.now) name ≡ None }
+    ensures value { Gives result (named_in (names_of earlier.now) name (table_view table.now)) }
+    ensures good { IfOk result (IsJob (length earlier.now)) }
+    ensures fresh { IfOk result (λ job. place_in (names_of earlier.now) job.name ≡ None) }
+{
     let image = image_of(alloc, table)?;
     let budget = budget_of(table)?;
     let script = script_of(alloc, table)?;
     let regions = regions_of(alloc, table)?;
     let load = load_of(table)?;
     let signature = signature_of(alloc, table)?;
-    let expect_exit = exit_of(table)?;
-    let expect_signature = reference_of(alloc, signature.is_some(), table)?;
-    let expect_console = console_of(alloc, table)?;
-    let expect_end = end_of(table)?;
-    let same_as = same_of(earlier, table)?;
-    let isa = isa_of(table)?;
-    let misaligned = misaligned_of(table)?;
-    Ok(Job {
+    let job = Job {
         name,
         image,
         budget,
@@ -79,13 +84,55 @@ fn job_of(alloc: Global, earlier: &EarlierJobs, table: &Table) -> Result<Job, Wh
         load,
         regions,
         signature,
+        expect_exit: None,
+        expect_signature: None,
+        expect_console: None,
+        expect_end: None,
+        same_as: None,
+        isa: Isa::Imc,
+        misaligned: Misaligned::Fault,
+    };
+    expecting(alloc, earlier, job, table)
+}
+
+/// The job with what is expected of it.
+#[tactic(auto, unfolding(crate::specs::JobSteps::expecting_in))]
+fn expecting(alloc: Global, earlier: &EarlierJobs, job: Job, table: &Table) -> Result<Job, What>
+    requires { IsJob (length earlier.now) job }
+    ensures value { Gives result (expecting_in (names_of earlier.now) job (table_view table.now)) }
+    ensures good { IfOk result (IsJob (length earlier.now)) }
+    ensures name { IfOk result (λ expecting. expecting.name ≡ job.name) }
+{
+    let expect_exit = exit_of(table)?;
+    let expect_signature = reference_of(alloc, job.signature.is_some(), table)?;
+    let expect_console = console_of(alloc, table)?;
+    let expect_end = end_of(table)?;
+    let expecting = Job {
         expect_exit,
         expect_signature,
         expect_console,
         expect_end,
+        ..job
+    };
+    running(earlier, expecting, table)
+}
+
+/// The job with how it runs.
+#[tactic(auto, unfolding(crate::specs::JobSteps::running_in))]
+fn running(earlier: &EarlierJobs, job: Job, table: &Table) -> Result<Job, What>
+    requires { IsJob (length earlier.now) job }
+    ensures value { Gives result (running_in (names_of earlier.now) job (table_view table.now)) }
+    ensures good { IfOk result (IsJob (length earlier.now)) }
+    ensures name { IfOk result (λ running. running.name ≡ job.name) }
+{
+    let same_as = same_of(earlier, table)?;
+    let isa = isa_of(table)?;
+    let misaligned = misaligned_of(table)?;
+    Ok(Job {
         same_as,
         isa,
         misaligned,
+        ..job
     })
 }
 
