@@ -2,4 +2,4 @@ pub mod Entries
 pub mod PlaceLemmas
 pub mod Steps
 pub mod Answering
-pub mod NamedJobs
+pub mod JobStages
