@@ -1,5 +1,5 @@
 -- A job behind its name, its image and its budget.
-use Rattle.std.proofs.Common.{◌≡◌, ◌∙◌, ℕ, Bool, true, false, List, Option, Result, Ok, Err, refl, is_some}
+use Rattle.std.proofs.Common.{◌≡◌, ℕ, false, List, Option, Result, Ok, Err, refl, is_some}
 use Rattle.toml.specs.Data.{Members}
 use Rattle.rv_isa.specs.declared.sets.Isa.{Isa}
 use Rattle.rv_memory.specs.declared.access.Misaligned.{Misaligned}

@@ -1,5 +1,5 @@
 -- What a job's reading goes through behind its name, its image and its budget.
-use Rattle.std.specs.Prelude.{ℕ, List, Option, Result, Ok, Err, is_some}
+use Rattle.std.specs.Prelude.{ℕ, List, Result, Ok, is_some}
 use Rattle.toml.specs.Data.{Members}
 use Rattle.rv_jobs.specs.declared.error.What.{What}
 use Rattle.rv_jobs.specs.declared.job.Job.{Job}

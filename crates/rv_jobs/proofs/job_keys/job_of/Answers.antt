@@ -1,7 +1,7 @@
-use Rattle.std.proofs.Common.{◌≡◌, ◌∙◌, ap, sym, subst, is_some}
+use Rattle.std.proofs.Common.{◌∙◌, ap, sym, subst, is_some}
 use Rattle.toml.specs.View.{table_view}
 use Rattle.rv_jobs.specs.Reading.{Gives}
-use Rattle.rv_jobs.specs.JobList.{names_of, place_in}
+use Rattle.rv_jobs.specs.JobList.{names_of}
 use Rattle.rv_jobs.proofs.JobStages.{job_described}
 use Rattle.rv_jobs.proofs.job_keys.job_of.Goals as goal
 
