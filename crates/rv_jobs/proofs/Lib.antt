@@ -5,3 +5,4 @@ pub mod Answering
 pub mod Needing
 pub mod Noting
 pub mod Planning
+pub mod JobStages

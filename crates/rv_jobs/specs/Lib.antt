@@ -3,6 +3,7 @@ pub mod Keys
 pub mod KeysInside
 pub mod Jobs
 pub mod JobList
+pub mod JobSteps
 pub mod EarlierJobsInside
 pub mod Stores
 pub mod Plans

@@ -8,13 +8,14 @@ ghost use Rattle.rv_jobs.specs.Jobs.{IsJob, most_script};
 ghost use Rattle.rv_jobs.specs.JobList.{name_in, image_in, budget_in, limited, from_hex, script_in, load_of};
 ghost use Rattle.rv_jobs.specs.JobList.{load_in, place_in, names_of, same_of, same_in, isa_of, isa_in};
 ghost use Rattle.rv_jobs.specs.JobList.{misaligned_of, misaligned_in, job_in, element_in};
-ghost use Rattle.std.specs.Prelude.{◌==◌, Ok, Err};
+ghost use Rattle.rv_jobs.specs.JobSteps.{described_in, manner_in};
+ghost use Rattle.std.specs.Prelude.{◌==◌, MatchResult, Ok, Err};
 ghost use Rattle.rv_jobs.specs.declared.error.What.TheVariants.{OutOfMemory};
 
 use crate::earlier_jobs::EarlierJobs;
 use crate::error::What;
 use crate::expected::{console_of, end_of, exit_of, reference_of};
-use crate::job::Job;
+use crate::job::{ExpectedEnd, Job};
 use crate::keys::{number_of, text_of};
 use crate::kinds::{has_unknown_key, has_wrong_kind};
 use crate::limits::{MOST_BUDGET, MOST_SCRIPT};
@@ -54,12 +55,31 @@ fn job_of(alloc: Global, earlier: &EarlierJobs, table: &Table) -> Result<Job, Wh
     if has_wrong_kind(table) {
         return Err(What::WrongType);
     }
-    let name = name_of(alloc, table)?;
-    if earlier.place_of(name.as_str()).is_some() {
+    let name = name_of(table)?;
+    if earlier.place_of(name).is_some() {
         return Err(What::Duplicate);
     }
-    let image = image_of(alloc, table)?;
+    let image = image_of(table)?;
     let budget = budget_of(table)?;
+    described(alloc, earlier, name, image, budget, table)
+}
+
+/// The job of a name that no earlier job has, of an image and a budget.
+#[tactic(auto, unfolding(crate::specs::JobSteps::described_in))]
+fn described(
+    alloc: Global,
+    earlier: &EarlierJobs,
+    name: &str,
+    image: &str,
+    budget: u32,
+    table: &Table,
+) -> Result<Job, What>
+    requires { place_in (names_of earlier.now) name.now ≡ None }
+    ensures value { Gives result
+        (described_in (names_of earlier.now) name.now image.now budget (table_view table.now)) }
+    ensures good { IfOk result (IsJob (length earlier.now)) }
+    ensures fresh { IfOk result (λ job. place_in (names_of earlier.now) job.name ≡ None) }
+{
     let script = script_of(alloc, table)?;
     let regions = regions_of(alloc, table)?;
     let load = load_of(table)?;
@@ -67,13 +87,10 @@ fn job_of(alloc: Global, earlier: &EarlierJobs, table: &Table) -> Result<Job, Wh
     let expect_exit = exit_of(table)?;
     let expect_signature = reference_of(alloc, signature.is_some(), table)?;
     let expect_console = console_of(alloc, table)?;
-    let expect_end = end_of(table)?;
-    let same_as = same_of(earlier, table)?;
-    let isa = isa_of(table)?;
-    let misaligned = misaligned_of(table)?;
+    let manner = manner_of(earlier, table)?;
     Ok(Job {
-        name,
-        image,
+        name: Text::copy(alloc, name)?,
+        image: Text::copy(alloc, image)?,
         budget,
         script,
         load,
@@ -82,6 +99,33 @@ fn job_of(alloc: Global, earlier: &EarlierJobs, table: &Table) -> Result<Job, Wh
         expect_exit,
         expect_signature,
         expect_console,
+        expect_end: manner.expect_end,
+        same_as: manner.same_as,
+        isa: manner.isa,
+        misaligned: manner.misaligned,
+    })
+}
+
+/// How a job runs and is to end.
+#[derive(Clone, Copy)]
+struct Manner {
+    expect_end: Option<ExpectedEnd>,
+    same_as: Option<usize>,
+    isa: Isa,
+    misaligned: Misaligned,
+}
+
+#[tactic(auto, unfolding(crate::specs::JobSteps::manner_in))]
+fn manner_of(earlier: &EarlierJobs, table: &Table) -> Result<Manner, What>
+    ensures value { result ≡ manner_in (names_of earlier.now) (table_view table.now) }
+    ensures earlier { IfOk result
+        (λ manner. IfSome manner.same_as (λ place. place < length earlier.now)) }
+{
+    let expect_end = end_of(table)?;
+    let same_as = same_of(earlier, table)?;
+    let isa = isa_of(table)?;
+    let misaligned = misaligned_of(table)?;
+    Ok(Manner {
         expect_end,
         same_as,
         isa,
@@ -90,13 +134,14 @@ fn job_of(alloc: Global, earlier: &EarlierJobs, table: &Table) -> Result<Job, Wh
 }
 
 #[tactic(auto, unfolding(crate::specs::JobList::name_in))]
-fn name_of(alloc: Global, table: &Table) -> Result<Text, What>
-    ensures { Gives result (name_in (table_view table.now)) }
+fn name_of(table: &Table) -> Result<&str, What>
+    ensures { MatchResult result (λ name. name_in (table_view table.now) ≡ Ok name.now)
+        (λ fault. name_in (table_view table.now) ≡ Err fault) }
 {
     match text_of(table, "name") {
         Some(text) => {
             if is_name(text) {
-                Ok(Text::copy(alloc, text)?)
+                Ok(text)
             } else {
                 Err(What::Name)
             }
@@ -106,13 +151,14 @@ fn name_of(alloc: Global, table: &Table) -> Result<Text, What>
 }
 
 #[tactic(auto, unfolding(crate::specs::JobList::image_in))]
-fn image_of(alloc: Global, table: &Table) -> Result<Text, What>
-    ensures { Gives result (image_in (table_view table.now)) }
+fn image_of(table: &Table) -> Result<&str, What>
+    ensures { MatchResult result (λ path. image_in (table_view table.now) ≡ Ok path.now)
+        (λ fault. image_in (table_view table.now) ≡ Err fault) }
 {
     match text_of(table, "image") {
         Some(text) => {
             if is_path(text) {
-                Ok(Text::copy(alloc, text)?)
+                Ok(text)
             } else {
                 Err(What::Image)
             }

@@ -1,5 +1,6 @@
 pub mod Answering
 pub mod Asking
+pub mod Commands
 pub mod Failing
 pub mod Matching
 pub mod Numerals
