@@ -6,3 +6,4 @@ pub mod Needing
 pub mod Noting
 pub mod Planning
 pub mod JobStages
+pub mod Choosing

@@ -11,3 +11,4 @@ pub mod Placed
 pub mod AnswersInside
 pub mod PlanInside
 pub mod Faults
+pub mod Choices

@@ -8,6 +8,7 @@
 
 mod answers;
 mod asking;
+mod choice;
 mod earlier_jobs;
 mod error;
 mod expected;
@@ -26,6 +27,7 @@ mod text;
 mod texts;
 
 pub use answers::Answer;
+pub use choice::marked_places;
 pub use error::{JobError, What};
 pub use job::{ExpectedConsole, ExpectedEnd, Job, JobList, Symbols};
 pub use law::used_paths_have_answers;
