@@ -1,9 +1,8 @@
 //! Expected consoles and endings, through the whole program.
 
-use crate::sample_store::SampleStore;
-use crate::testing::ask_store;
-use crate::word_tests::repeated;
-use rv_jobs::Store;
+use crate::report_tests::{judges, signed, summary_of};
+use crate::sample_store::{paths_of, told_of};
+use crate::testing::{cell, repeated};
 use std::alloc::{AllocError, Global};
 use std::sync::Wait;
 use std::test::Fail;
@@ -60,32 +59,22 @@ all six but one | image = 'sign', S, expect_signature = 'bytes 38 30*7 0a 66*8 0
 ";
 
 fn list_of(alloc: Global, keys: &str) -> Result<String, AllocError> {
-    let keys = keys.replace(
-        alloc,
-        " S,",
-        " signature = ['begin_signature', 'end_signature'],",
-    )?;
+    let keys = signed(alloc, keys)?;
     format!(in alloc; "job = [{{name = 'a', budget = 100, {keys}}}]")
 }
 
 // Whether the verdict on a job, and the program's status, are as a line of the table says.
-fn judges(rt: &(impl Threads + Wait), alloc: Global, line: &str) -> Result<bool, Fail> {
-    let mut cells = line.split('|');
-    let _label = cells.next();
-    let list = list_of(alloc, cells.next().ok_or("keys")?)?;
-    let verdict = cells.next().ok_or("a verdict")?.trim();
-    let mut store = SampleStore::new(alloc, list.as_str())?;
-    let answer = ask_store(rt, alloc, "run jobs", &mut store)?;
-    let end = format!(in alloc; "verdict {verdict}\ndone 1\n")?;
-    let status = if verdict == "fail" { 1 } else { 0 };
-    Ok(answer.status == status && answer.out.text()?.ends_with(end.as_str()))
+fn judges_line(rt: &(impl Threads + Wait), alloc: Global, line: &str) -> Result<bool, Fail> {
+    let list = list_of(alloc, cell(line, 1))?;
+    let verdict = cell(line, 2);
+    let status = if verdict == "fail" { "1" } else { "0" };
+    judges(rt, alloc, "run jobs", list.as_str(), "", status, verdict)
 }
 
 #[test]
 fn judges_consoles_and_endings(rt: HostRuntime) -> Result<(), Fail> {
-    let alloc = rt.alloc();
     for line in RUNS.lines() {
-        assert!(rt; judges(&rt, alloc, line)?, "{line}");
+        assert!(rt; judges_line(&rt, rt.alloc(), line)?, "{line}");
     }
     Ok(())
 }
@@ -93,48 +82,45 @@ fn judges_consoles_and_endings(rt: HostRuntime) -> Result<(), Fail> {
 // Prints 65,536 times `A`, and exits or prints once more.
 const FILLS: &str = "code 100002b7 00010337 04100513 00a2a023 fff30313 fe031ce3";
 
-// The keys of a job that fills the console, and what is expected of it.
-fn filling(alloc: Global, code: &str, expected: &str) -> Result<String, AllocError> {
-    format!(in alloc;
-        "job = [{{name = 'a', budget = 200000, image = '{FILLS}{code}', {expected}}}]"
-    )
+// what follows in the image | a key | how often `A` stands in its text, where it has no other value | the answer
+const FULL_CONSOLES: &str = "\
+X | expect_console | 65536 | 0 pass done 1
+X | expect_console | 65535 | 1 fail done 1
+X | expect_console | 65537 | 2 rvfleet: job 1: expect
+X | expect_console_file = 'bytes 41*65536' | | 0 pass done 1
+X | expect_console_file = 'bytes 41*65537' | | 1 fail done 1
+00a2a023 | expect_end = 'console-full' | | 0 pass done 1
+";
+
+// A key with its text, or as it stands.
+fn expectation(alloc: Global, key: &str, count: &str) -> Result<String, Fail> {
+    if count.is_empty() {
+        return Ok(String::from_str(alloc, key)?);
+    }
+    let text = repeated(alloc, "A", count.parse::<usize>()?)?;
+    Ok(format!(in alloc; "{key} = '{text}'")?)
 }
 
-// The last lines of the report, or what is told of the list.
-fn tells(
-    rt: &(impl Threads + Wait),
-    alloc: Global,
-    list: &str,
-    out: &str,
-    errors: &str,
-) -> Result<bool, Fail> {
-    let mut store = SampleStore::new(alloc, list)?;
-    let answer = ask_store(rt, alloc, "run jobs", &mut store)?;
-    Ok(answer.out.text()?.ends_with(out) && answer.errors.text()? == errors)
+// The list of a job that fills the console, and what is expected of it.
+fn filling_list(alloc: Global, line: &str) -> Result<String, Fail> {
+    let expected = expectation(alloc, cell(line, 1), cell(line, 2))?;
+    let code = cell(line, 0);
+    Ok(format!(in alloc;
+        "job = [{{name = 'a', budget = 200000, image = '{FILLS} {code}', {expected}}}]"
+    )?)
+}
+
+fn compares_console(rt: &(impl Threads + Wait), alloc: Global, line: &str) -> Result<bool, Fail> {
+    let list = filling_list(alloc, line)?;
+    let summary = summary_of(rt, alloc, "run jobs", list.as_str(), "")?;
+    Ok(summary.as_str() == cell(line, 3))
 }
 
 #[test]
 fn compares_a_full_console(rt: HostRuntime) -> Result<(), Fail> {
-    let alloc = rt.alloc();
-    let text = repeated(alloc, "A", 65_536)?;
-    let whole = format!(in alloc; "expect_console = '{text}'")?;
-    let list = filling(alloc, " X", whole.as_str())?;
-    assert!(rt; tells(&rt, alloc, list.as_str(), "verdict pass\ndone 1\n", "")?);
-    let short = format!(in alloc;
-        "expect_console = '{}'",
-        text.as_str().get(1..).unwrap_or("")
-    )?;
-    let list = filling(alloc, " X", short.as_str())?;
-    assert!(rt; tells(&rt, alloc, list.as_str(), "verdict fail\ndone 1\n", "")?);
-    let long = format!(in alloc; "expect_console = '{text}A'")?;
-    let list = filling(alloc, " X", long.as_str())?;
-    assert!(rt; tells(&rt, alloc, list.as_str(), "", "rvfleet: job 1: expect\n")?);
-    let list = filling(alloc, " X", "expect_console_file = 'bytes 41*65536'")?;
-    assert!(rt; tells(&rt, alloc, list.as_str(), "verdict pass\ndone 1\n", "")?);
-    let list = filling(alloc, " X", "expect_console_file = 'bytes 41*65537'")?;
-    assert!(rt; tells(&rt, alloc, list.as_str(), "verdict fail\ndone 1\n", "")?);
-    let list = filling(alloc, " 00a2a023", "expect_end = 'console-full'")?;
-    assert!(rt; tells(&rt, alloc, list.as_str(), "verdict pass\ndone 1\n", "")?);
+    for line in FULL_CONSOLES.lines() {
+        assert!(rt; compares_console(&rt, rt.alloc(), line)?, "{line}");
+    }
     Ok(())
 }
 
@@ -151,33 +137,37 @@ missing | missing | reference-unreadable | jobs;sign;missing;
 bytes 00 | sign | | jobs;sign;bytes 00;
 ";
 
-// Whether a job with both references is refused so, and reads so.
-fn reads(rt: &(impl Threads + Wait), alloc: Global, line: &str) -> Result<bool, Fail> {
-    let mut cells = line.split('|');
-    let signature = cells.next().ok_or("a path")?.trim();
-    let console = cells.next().ok_or("a path")?.trim();
-    let refusal = cells.next().ok_or("a refusal")?.trim();
-    let log = cells.next().ok_or("paths")?.trim();
+// A list of a job with both references.
+fn referring_list(alloc: Global, line: &str) -> Result<String, AllocError> {
+    let (signature, console) = (cell(line, 0), cell(line, 1));
     let keys = format!(in alloc;
         "image = 'sign', S, expect_signature = '{signature}', expect_console_file = '{console}'"
     )?;
-    let list = list_of(alloc, keys.as_str())?;
-    let mut store = SampleStore::new(alloc, list.as_str())?;
-    let answer = ask_store(rt, alloc, "run jobs", &mut store)?;
-    let text = answer.out.text()?;
-    let is_refused = if refusal.is_empty() {
-        text.contains("\nend exit 0\n")
-    } else {
-        text.contains(format!(in alloc; "\nend refused {refusal}\nsteps 0\n")?.as_str())
-    };
-    Ok(is_refused && answer.status == 1 && store.log.as_str() == log)
+    list_of(alloc, keys.as_str())
+}
+
+// Whether a report's first job is refused so before its first step, or exits where no refusal is named.
+fn is_refused(report: &str, refusal: &str) -> bool {
+    let (_, row) = report.split_once("\nend ").unwrap_or(("", ""));
+    match row.strip_prefix("refused ") {
+        Some(row) => row.split_once("\nsteps 0\n").unwrap_or(("", "")).0 == refusal,
+        None => refusal.is_empty() && row.starts_with("exit 0\n"),
+    }
+}
+
+// Whether a job with both references is refused so, and reads so.
+fn reads(rt: &(impl Threads + Wait), alloc: Global, line: &str) -> Result<bool, Fail> {
+    let list = referring_list(alloc, line)?;
+    let told = told_of(rt, alloc, "run jobs", list.as_bytes(), "")?;
+    let told = told.as_str();
+    let is_read = paths_of(told) == cell(line, 3);
+    Ok(is_read && cell(told, 1) == "1" && is_refused(told, cell(line, 2)))
 }
 
 #[test]
 fn reads_the_reference_before_the_console(rt: HostRuntime) -> Result<(), Fail> {
-    let alloc = rt.alloc();
     for line in READS.lines() {
-        assert!(rt; reads(&rt, alloc, line)?, "{line}");
+        assert!(rt; reads(&rt, rt.alloc(), line)?, "{line}");
     }
     Ok(())
 }
@@ -214,29 +204,30 @@ expect_end = 'breakpoint'
 same_as = 'd'
 ";
 
-// The verdicts of a report, a letter each.
-fn verdicts_of(alloc: Global, report: &str) -> Result<String, AllocError> {
-    let mut verdicts = String::new(alloc);
-    for line in report.lines() {
-        if let Some(verdict) = line.strip_prefix("verdict ") {
-            verdicts.push_str(verdict.get(..1).unwrap_or("?"))?;
-        }
-    }
-    Ok(verdicts)
+// What is told where each file is read once, and none is missing; what follows is the status.
+const READ_ONCE: &str = "0;jobs;one;bytes 41;code 9002;|1|";
+
+fn reads_once(rt: &(impl Threads + Wait), alloc: Global, words: &str) -> Result<bool, Fail> {
+    let told = told_of(rt, alloc, words, NAMING.as_bytes(), "")?;
+    Ok(told.as_str().starts_with(READ_ONCE))
+}
+
+fn judges_alike(rt: &(impl Threads + Wait), alloc: Global, words: &str) -> Result<bool, Fail> {
+    let summary = summary_of(rt, alloc, words, NAMING, "")?;
+    Ok(summary.as_str() == "1 fail pass pass fail pass done 5")
 }
 
 #[test]
 fn judges_alike_for_all_workers(rt: HostRuntime) -> Result<(), Fail> {
     let alloc = rt.alloc();
-    for workers in ["1", "4", "64"] {
-        let words = format!(in alloc; "run jobs --workers {workers}")?;
-        let mut store = SampleStore::new(alloc, NAMING)?;
-        let answer = ask_store(&rt, alloc, words.as_str(), &mut store)?;
-        let verdicts = verdicts_of(alloc, answer.out.text()?)?;
-        assert_eq!(rt; (answer.status, verdicts.as_str()), (1, "fppfp"));
-        assert_eq!(rt;
-            (store.log.as_str(), store.faults()),
-            ("jobs;one;bytes 41;code 9002;", 0)
+    for words in [
+        "run jobs --workers 1",
+        "run jobs --workers 4",
+        "run jobs --workers 64",
+    ] {
+        assert!(rt;
+            reads_once(&rt, alloc, words)? && judges_alike(&rt, alloc, words)?,
+            "{words}"
         );
     }
     Ok(())

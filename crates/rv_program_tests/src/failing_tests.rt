@@ -1,201 +1,200 @@
 //! Reads and writes that fail, each in turn, through the whole program.
 
-use crate::report_tests::{LIST, LIST_REPORT, list_store};
+use crate::report_tests::{LIST_READ, LIST_REPORT, is_list_report, list_store, told_of_list};
+use crate::sample_store::{raw_answer, told};
 use crate::stream_tests::{ADD_AND_EXIT, RAW_WORDS};
-use crate::testing::{Answer, MemorySink, MemoryStore, SlowReader, ask, ask_store};
-use rv_jobs::Store;
+use crate::testing::{MemorySink, SlowReader};
 use std::alloc::Global;
 use std::sync::Wait;
 use std::test::Fail;
 use std::thread::Threads;
 
-// The list's report where the images of these jobs are unreadable.
-fn report_without(alloc: Global, jobs: &str) -> Result<String, Fail> {
-    let rows = LIST_REPORT.strip_suffix("done 5\n").ok_or("a last line")?;
-    let mut report = String::new(alloc);
-    for row in rows.split("job ") {
-        let Some((number, _)) = row.split_once(' ') else {
-            continue;
-        };
-        report.push_str("job ")?;
-        if jobs.contains(number) {
-            push_unreadable(&mut report, row)?;
-        } else {
-            report.push_str(row)?;
-        }
-    }
-    report.push_str("done 5\n")?;
-    Ok(report)
+// The list by one worker, and by some that share it.
+const RUNS: [&str; 2] = ["run jobs --workers 1", "run jobs --workers 4 --group 2"];
+
+// What is told of the list where the read of one number finds no file, and that of another no memory.
+fn told_of_failing(
+    rt: &(impl Threads + Wait),
+    alloc: Global,
+    words: &str,
+    fails_at: u64,
+    wants_at: u64,
+) -> Result<String, Fail> {
+    let mut store = list_store(alloc);
+    store.fails_at = fails_at;
+    store.wants_at = wants_at;
+    told(rt, alloc, words, &mut store, &mut MemorySink::new(alloc))
 }
 
-// The row of the same job, with its image unreadable.
-fn push_unreadable(report: &mut String, row: &str) -> Result<(), Fail> {
-    let (head, rest) = row.split_once('\n').ok_or("a line")?;
+// What stands between the name and the verdict of a job whose image is unreadable.
+const UNREADABLE: &str =
+    "\nend refused image-unreadable\nsteps 0\nconsole -\nsignature -\nverdict ";
+
+// The verdict of a row with this head whose image is unreadable.
+fn unreadable_verdict<'a>(row: &'a str, head: &str) -> Option<&'a str> {
+    row.strip_prefix(head)?
+        .strip_prefix(UNREADABLE)?
+        .strip_suffix('\n')
+}
+
+// Whether a row of a report is this one of the whole report, or of one of these jobs and with its image unreadable.
+fn is_row(found: &str, whole: &str, jobs: &str) -> bool {
+    let (head, rest) = whole.split_once('\n').unwrap_or(("", ""));
+    let (number, _) = head.split_once(' ').unwrap_or(("no job", ""));
+    if !jobs.contains(number) {
+        return found == whole;
+    }
     let verdict = if rest.contains("pass") {
         "fail"
     } else {
         "none"
     };
-    report.push_str(head)?;
-    report.push_str("\nend refused image-unreadable\nsteps 0\nconsole -\nsignature -\nverdict ")?;
-    report.push_str(verdict)?;
-    report.push_str("\n")?;
-    Ok(())
+    unreadable_verdict(found, head) == Some(verdict)
 }
 
-// The list by one worker, and by some that share it.
-const RUNS: [&str; 2] = ["run jobs --workers 1", "run jobs --workers 4 --group 2"];
+// Whether an answer is the list's report, but for the images of these jobs.
+fn is_report_without(answer: &str, status: &str, jobs: &str) -> bool {
+    let (found, report) = answer.split_once("||").unwrap_or(("", ""));
+    let Some(rows) = report.strip_suffix("done 5\n") else {
+        return false;
+    };
+    let whole = LIST_REPORT.strip_suffix("done 5\n").unwrap_or("");
+    for (row, wanted) in rows.split("job ").zip(whole.split("job ")) {
+        if !is_row(row, wanted, jobs) {
+            return false;
+        }
+    }
+    found == status && rows.split("job ").count() == 6
+}
 
 // number of the read that finds no file, the jobs whose image that is, and the status
-const FAILED_READS: [(u64, &str, u8); 4] = [(2, "13", 1), (3, "2", 0), (4, "4", 0), (5, "5", 0)];
+const FAILED_READS: [(u64, &str, &str); 4] = [
+    (2, "13", "1"),
+    (3, "2", "0"),
+    (4, "4", "0"),
+    (5, "5", "0"),
+];
 
-// Whether each run goes on where one read finds no file.
+// Whether the run goes on where one read finds no file.
 fn misses_a_read(
     rt: &(impl Threads + Wait),
     alloc: Global,
-    fails_at: u64,
-    jobs: &str,
-    status: u8,
+    words: &str,
+    failed: (u64, &str, &str),
 ) -> Result<bool, Fail> {
-    let report = report_without(alloc, jobs)?;
-    for words in RUNS {
-        let mut store = list_store(alloc, LIST)?;
-        store.fails_at = fails_at;
-        let answer = ask_store(rt, alloc, words, &mut store)?;
-        if store.faults() != 1 || !answer.is(status, report.as_str(), "")? {
-            return Ok(false);
-        }
-    }
-    Ok(true)
+    let (fails_at, jobs, status) = failed;
+    let told = told_of_failing(rt, alloc, words, fails_at, 0)?;
+    let (reads, answer) = told.as_str().split_once('|').unwrap_or(("", ""));
+    Ok(reads.starts_with("1;") && is_report_without(answer, status, jobs))
 }
 
 #[test]
 fn goes_on_without_a_file(rt: HostRuntime) -> Result<(), Fail> {
-    let alloc = rt.alloc();
-    for (fails_at, jobs, status) in FAILED_READS {
-        assert!(rt;
-            misses_a_read(&rt, alloc, fails_at, jobs, status)?,
-            "{fails_at}"
-        );
-    }
-    Ok(())
-}
-
-// Whether one read that fails ends the program before anything goes out.
-fn ends_at_read(
-    rt: &(impl Threads + Wait),
-    alloc: Global,
-    words: &str,
-    store: &mut MemoryStore,
-    line: &str,
-) -> Result<bool, Fail> {
-    let answer = ask_store(rt, alloc, words, store)?;
-    answer.is(3, "", line)
-}
-
-#[test]
-fn ends_without_the_list(rt: HostRuntime) -> Result<(), Fail> {
-    let alloc = rt.alloc();
-    for words in RUNS {
-        let mut store = list_store(alloc, LIST)?;
-        store.fails_at = 1;
-        assert!(rt;
-            ends_at_read(&rt, alloc, words, &mut store, "rvfleet: list unreadable\n")?,
-            "{words}"
-        );
-    }
-    Ok(())
-}
-
-// Whether the program ends where so many reads, less one, had memory.
-fn ends_without_memory(
-    rt: &(impl Threads + Wait),
-    alloc: Global,
-    words: &str,
-    wants_at: u64,
-) -> Result<bool, Fail> {
-    let mut store = list_store(alloc, LIST)?;
-    store.wants_at = wants_at;
-    ends_at_read(rt, alloc, words, &mut store, "rvfleet: out of memory\n")
-}
-
-#[test]
-fn ends_without_memory_for_a_file(rt: HostRuntime) -> Result<(), Fail> {
-    let alloc = rt.alloc();
-    for wants_at in 1..6 {
+    for failed in FAILED_READS {
         for words in RUNS {
             assert!(rt;
-                ends_without_memory(&rt, alloc, words, wants_at)?,
-                "{words}, {wants_at}"
+                misses_a_read(&rt, rt.alloc(), words, failed)?,
+                "{words}, {}",
+                failed.0
             );
         }
     }
     Ok(())
 }
 
-fn ask_into(
+// The numbers of the read that finds no file and of that without memory, and what is told of it: nothing goes out.
+const ENDS: [(u64, u64, &str); 6] = [
+    (1, 0, "|3|rvfleet: list unreadable\n|"),
+    (0, 1, "|3|rvfleet: out of memory\n|"),
+    (0, 2, "|3|rvfleet: out of memory\n|"),
+    (0, 3, "|3|rvfleet: out of memory\n|"),
+    (0, 4, "|3|rvfleet: out of memory\n|"),
+    (0, 5, "|3|rvfleet: out of memory\n|"),
+];
+
+fn ends_so(
     rt: &(impl Threads + Wait),
     alloc: Global,
     words: &str,
-    out: MemorySink,
-) -> Result<Answer, Fail> {
-    let mut store = list_store(alloc, LIST)?;
-    let mut input: &[u8] = &[];
-    Ok(ask(rt, alloc, words, &mut store, &mut input, out)?)
+    end: (u64, u64, &str),
+) -> Result<bool, Fail> {
+    let (fails_at, wants_at, answer) = end;
+    let told = told_of_failing(rt, alloc, words, fails_at, wants_at)?;
+    Ok(told.as_str().ends_with(answer))
 }
 
-// Whether a sink that takes one byte a put, and fails at one, has the bytes of the puts before it.
+#[test]
+fn ends_without_a_file_that_it_needs(rt: HostRuntime) -> Result<(), Fail> {
+    for end in ENDS {
+        for words in RUNS {
+            assert!(rt;
+                ends_so(&rt, rt.alloc(), words, end)?,
+                "{words}, {}, {}",
+                end.0,
+                end.1
+            );
+        }
+    }
+    Ok(())
+}
+
+// What is told where a put fails, and before what went out.
+const FAILED_PUT: &str = "3|rvfleet: write failed\n|";
+
+// Whether a sink that takes so many bytes a put, and fails at one, has the bytes of the puts before it.
 fn stops_at(
     rt: &(impl Threads + Wait),
     alloc: Global,
     words: &str,
+    most: usize,
     fails_at: usize,
 ) -> Result<bool, Fail> {
-    let cut = ask_into(
-        rt,
-        alloc,
-        words,
-        MemorySink::failing(alloc, 1, fails_at as u64),
-    )?;
-    let taken = LIST_REPORT
-        .get(..fails_at.saturating_sub(1))
-        .ok_or("as many bytes")?;
-    Ok(cut.out.failures == 1 && cut.is(3, taken, "rvfleet: write failed\n")?)
+    let mut out = MemorySink::failing(alloc, most, fails_at as u64);
+    let told = told_of_list(rt, alloc, words, &mut out)?;
+    let cut = told.as_str().strip_prefix(LIST_READ).unwrap_or("");
+    let taken = LIST_REPORT.get(..fails_at.saturating_sub(1));
+    Ok(out.failures == 1 && cut.strip_prefix(FAILED_PUT) == taken)
+}
+
+// Whether the whole report goes out in puts of so many bytes, and in how many.
+fn puts_of(
+    rt: &(impl Threads + Wait),
+    alloc: Global,
+    words: &str,
+    most: usize,
+) -> Result<Option<u64>, Fail> {
+    let mut out = MemorySink::failing(alloc, most, 0);
+    let told = told_of_list(rt, alloc, words, &mut out)?;
+    Ok(is_list_report(told.as_str()).then_some(out.puts))
 }
 
 fn stops_at_each(rt: &(impl Threads + Wait), alloc: Global, words: &str) -> Result<bool, Fail> {
     for fails_at in 1..LIST_REPORT.len() + 1 {
-        if !stops_at(rt, alloc, words, fails_at)? {
+        if !stops_at(rt, alloc, words, 1, fails_at)? {
             return Ok(false);
         }
     }
-    let whole = ask_into(rt, alloc, words, MemorySink::slow(alloc, 1))?;
-    whole.is(0, LIST_REPORT, "")
+    Ok(puts_of(rt, alloc, words, 1)?.is_some())
 }
 
 #[test]
 fn stops_at_each_put(rt: HostRuntime) -> Result<(), Fail> {
-    let alloc = rt.alloc();
-    assert!(rt; stops_at_each(&rt, alloc, "run jobs --workers 1")?);
+    assert!(rt; stops_at_each(&rt, rt.alloc(), "run jobs --workers 1")?);
     Ok(())
 }
 
 #[test]
 fn stops_at_each_put_of_workers(rt: HostRuntime) -> Result<(), Fail> {
-    let alloc = rt.alloc();
-    assert!(rt; stops_at_each(&rt, alloc, "run jobs --workers 4 --group 2")?);
+    assert!(rt; stops_at_each(&rt, rt.alloc(), "run jobs --workers 4 --group 2")?);
     Ok(())
 }
 
 // All rows are one large put, so the first is each that may fail.
 #[test]
 fn stops_at_the_first_put(rt: HostRuntime) -> Result<(), Fail> {
-    let alloc = rt.alloc();
     for words in RUNS {
-        let whole = ask_into(&rt, alloc, words, MemorySink::new(alloc))?;
-        assert!(rt; whole.is(0, LIST_REPORT, "")? && whole.out.puts == 1);
-        let none = ask_into(&rt, alloc, words, MemorySink::failing(alloc, 1_000_000, 1))?;
-        assert!(rt; none.is(3, "", "rvfleet: write failed\n")?);
+        assert_eq!(rt; puts_of(&rt, rt.alloc(), words, usize::MAX)?, Some(1));
+        assert!(rt; stops_at(&rt, rt.alloc(), words, 1_000_000, 1)?);
     }
     Ok(())
 }
@@ -203,24 +202,21 @@ fn stops_at_the_first_put(rt: HostRuntime) -> Result<(), Fail> {
 // Whether a reader that fails behind so many bytes leaves nothing written.
 fn fails_behind(rt: &(impl Threads + Wait), alloc: Global, count: usize) -> Result<bool, Fail> {
     let bytes = ADD_AND_EXIT.get(..count).ok_or("12 bytes")?;
-    let mut store = MemoryStore::new(alloc);
     let mut input = SlowReader { bytes, fails: true };
-    let answer = ask(
+    let answer = raw_answer(
         rt,
         alloc,
         RAW_WORDS,
-        &mut store,
         &mut input,
-        MemorySink::new(alloc),
+        &mut MemorySink::new(alloc),
     )?;
-    answer.is(3, "", "rvfleet: read failed\n")
+    Ok(answer.as_str() == "3|rvfleet: read failed\n|")
 }
 
 #[test]
 fn fails_behind_each_byte(rt: HostRuntime) -> Result<(), Fail> {
-    let alloc = rt.alloc();
     for count in 0..13 {
-        assert!(rt; fails_behind(&rt, alloc, count)?, "{count}");
+        assert!(rt; fails_behind(&rt, rt.alloc(), count)?, "{count}");
     }
     Ok(())
 }

@@ -1,6 +1,7 @@
 //! What the store answers for paths, and the store over files.
 
-use crate::testing::{MemoryStore, ask_store};
+use crate::sample_store::{SampleStore, told};
+use crate::testing::{MemorySink, answer};
 use rv_files::FileStore;
 use rv_jobs::{ReadError, Store};
 use samples::file;
@@ -10,92 +11,118 @@ use std::sync::Wait;
 use std::test::Fail;
 use std::thread::Threads;
 
-fn refused_text(alloc: Global, why: &str) -> Result<String, AllocError> {
-    format!(in alloc;
-        "job 1 one\nend refused {why}\nsteps 0\nconsole -\nsignature -\nverdict none\ndone 1\n"
-    )
-}
+const UNREADABLE: &str = "\
+1;image;|0||job 1 one
+end refused image-unreadable
+steps 0
+console -
+signature -
+verdict none
+done 1
+";
 
-const ONE_WORDS: &str = "one image --budget 10";
+const TOO_LONG: &str = "\
+0;image;|0||job 1 one
+end refused image-too-long
+steps 0
+console -
+signature -
+verdict none
+done 1
+";
 
-// Whether the store's one answer is told as a refusal, and counted so often.
-fn refuses(
+// the file | the number of the read without memory | what is told
+const ANSWERS: [(&str, u64, &str); 3] = [
+    ("image = none", 0, UNREADABLE),
+    ("image = bytes 00*16777217", 0, TOO_LONG),
+    ("image = none", 1, "0;image;|3|rvfleet: out of memory\n|"),
+];
+
+fn answers(
     rt: &(impl Threads + Wait),
     alloc: Global,
-    store: &mut MemoryStore,
-    why: &str,
-    faults: u64,
+    files: &str,
+    wants_at: u64,
+    wanted: &str,
 ) -> Result<bool, Fail> {
-    let answer = ask_store(rt, alloc, ONE_WORDS, store)?;
-    let is_counted = (store.reads, store.faults()) == (1, faults);
-    Ok(is_counted && answer.is(0, refused_text(alloc, why)?.as_str(), "")?)
+    let mut store = SampleStore::new(alloc, &[], files);
+    store.wants_at = wants_at;
+    let words = "one image --budget 10";
+    let told = told(rt, alloc, words, &mut store, &mut MemorySink::new(alloc))?;
+    Ok(told.as_str() == wanted)
 }
 
 #[test]
 fn answers_for_paths(rt: HostRuntime) -> Result<(), Fail> {
-    let alloc = rt.alloc();
-    let mut other = MemoryStore::new(alloc);
-    assert!(rt; refuses(&rt, alloc, &mut other, "image-unreadable", 1)?);
-    let long = vec![in alloc; 0u8; 16_777_217]?;
-    let mut too_long = MemoryStore::of(alloc, "image", long.as_slice())?;
-    assert!(rt; refuses(&rt, alloc, &mut too_long, "image-too-long", 0)?);
-
-    let mut poor = MemoryStore::new(alloc);
-    poor.wants_at = 1;
-    let failed = ask_store(&rt, alloc, ONE_WORDS, &mut poor)?;
-    assert!(rt; failed.is(3, "", "rvfleet: out of memory\n")?);
+    for (files, wants_at, wanted) in ANSWERS {
+        assert!(rt;
+            answers(&rt, rt.alloc(), files, wants_at, wanted)?,
+            "{wanted}"
+        );
+    }
     Ok(())
 }
 
-// The files of a test, in the folder that it runs in.
-const IMAGE_FILE: &str = "image.elf";
-
-const LONG_FILE: &str = "long.bin";
-
-const EMPTY_FILE: &str = "empty.bin";
-
+// The most bytes that a store over files reads.
 const MOST_BYTES: usize = 16_777_216;
 
 // What a store over files answers for a path: the number of bytes, or the error; and its faults.
 fn file_answer(rt: &HostRuntime, path: &str) -> (Result<usize, ReadError>, u64) {
     let mut store = FileStore::new(rt);
-    let answer = match store.read(rt.alloc(), path) {
-        Ok(bytes) => Ok(bytes.len()),
-        Err(error) => Err(error),
-    };
+    let answer = store.read(rt.alloc(), path).map(|bytes| bytes.len());
     (answer, store.faults())
 }
 
+// Whether the program runs the image that a store has.
+fn runs_image<S: Store>(
+    rt: &(impl Threads + Wait),
+    alloc: Global,
+    store: &mut S,
+) -> Result<bool, Fail> {
+    let mut input: &[u8] = &[];
+    let mut out = MemorySink::new(alloc);
+    let words = "one image.elf --budget 10";
+    let answer = answer(rt, alloc, words, store, &mut input, &mut out)?;
+    Ok(
+        answer
+            .as_str()
+            .starts_with("0||job 1 one\nend exit 5\nsteps 2\n"),
+    )
+}
+
+#[test]
+fn runs_a_file(rt: HostRuntime) -> Result<(), Fail> {
+    fs::write(&rt, "image.elf", file(rt.alloc(), "one")?)?;
+    let runs = runs_image(&rt, rt.alloc(), &mut FileStore::new(&rt))?;
+    fs::remove_file(&rt, "image.elf")?;
+    assert!(rt; runs);
+    Ok(())
+}
+
+// What the store answers for a path where such a file was, and where it is no more.
+type FileAnswers = [(Result<usize, ReadError>, u64); 2];
+
+fn answers_of_length(rt: &HostRuntime, length: usize) -> Result<FileAnswers, Fail> {
+    fs::write(rt, "zeros.bin", vec![in rt.alloc(); 0u8; length]?)?;
+    let there = file_answer(rt, "zeros.bin");
+    fs::remove_file(rt, "zeros.bin")?;
+    Ok([there, file_answer(rt, "zeros.bin")])
+}
+
+const GONE: (Result<usize, ReadError>, u64) = (Err(ReadError::Unreadable), 1);
+
 #[test]
 fn reads_files(rt: HostRuntime) -> Result<(), Fail> {
-    let alloc = rt.alloc();
-    fs::write(&rt, IMAGE_FILE, file(alloc, "one")?)?;
-    fs::write(&rt, EMPTY_FILE, Vec::new(alloc))?;
-    let ran = ask_store(
-        &rt,
-        alloc,
-        "one image.elf --budget 10",
-        &mut FileStore::new(&rt),
-    )?;
-    let text = ran.out.text()?;
-    assert!(rt; ran.status == 0 && text.starts_with("job 1 one\nend exit 5\nsteps 2\n"));
-    assert_eq!(rt; file_answer(&rt, EMPTY_FILE), (Ok(0), 0));
-    fs::remove_file(&rt, IMAGE_FILE)?;
-    fs::remove_file(&rt, EMPTY_FILE)?;
+    assert_eq!(rt; answers_of_length(&rt, 0)?, [(Ok(0), 0), GONE]);
     assert_eq!(rt;
-        file_answer(&rt, IMAGE_FILE),
-        (Err(ReadError::Unreadable), 1)
+        answers_of_length(&rt, MOST_BYTES)?,
+        [(Ok(MOST_BYTES), 0), GONE]
     );
     assert_eq!(rt;
-        file_answer(&rt, "no folder/image"),
-        (Err(ReadError::Unreadable), 1)
+        answers_of_length(&rt, MOST_BYTES + 1)?,
+        [(Err(ReadError::TooLong), 0), GONE]
     );
-
-    fs::write(&rt, LONG_FILE, vec![in alloc; 0u8; MOST_BYTES]?)?;
-    assert_eq!(rt; file_answer(&rt, LONG_FILE), (Ok(MOST_BYTES), 0));
-    fs::write(&rt, LONG_FILE, vec![in alloc; 0u8; MOST_BYTES + 1]?)?;
-    assert_eq!(rt; file_answer(&rt, LONG_FILE), (Err(ReadError::TooLong), 0));
-    fs::remove_file(&rt, LONG_FILE)?;
+    assert_eq!(rt; file_answer(&rt, "no folder/image"), GONE);
     Ok(())
 }
 
@@ -107,6 +134,21 @@ const WHOLE_FILES: [(&str, usize, [u8; 3]); 4] = [
     (" spaced ", 3, [1, 2, 3]),
 ];
 
+fn marked_bytes(alloc: Global, length: usize, first: &[u8]) -> Result<Vec<u8>, AllocError> {
+    let mut bytes = first.to_vec(alloc)?;
+    bytes.resize(length, 0x5a)?;
+    Ok(bytes)
+}
+
+// Whether a store over files reads these bytes of a path.
+fn has_bytes(rt: &HostRuntime, path: &str, bytes: &[u8]) -> bool {
+    let mut store = FileStore::new(rt);
+    match store.read(rt.alloc(), path) {
+        Ok(read) => read.as_slice() == bytes,
+        Err(_) => false,
+    }
+}
+
 // Whether a store over files reads a file of so many bytes as it is.
 fn is_read_whole(
     rt: &HostRuntime,
@@ -114,16 +156,11 @@ fn is_read_whole(
     length: usize,
     first: [u8; 3],
 ) -> Result<bool, Fail> {
-    let alloc = rt.alloc();
-    let mut bytes = vec![in alloc; 0x5a; length]?;
-    for (byte, marked) in bytes.iter_mut().zip(first) {
-        *byte = marked;
-    }
+    let bytes = marked_bytes(rt.alloc(), length, &first)?;
     fs::write(rt, path, bytes.as_slice())?;
-    let mut store = FileStore::new(rt);
-    let answer = store.read(alloc, path);
+    let is_whole = has_bytes(rt, path, &bytes);
     fs::remove_file(rt, path)?;
-    Ok(answer.is_ok_and(|read| read.as_slice() == bytes.as_slice()))
+    Ok(is_whole)
 }
 
 #[test]

@@ -2,8 +2,7 @@
 
 use crate::image_tests::runs_elf;
 use crate::list_tests::{refuses_list, runs_job};
-use crate::testing::{MemoryStore, ask_store};
-use samples::file;
+use crate::sample_store::told_of;
 use std::alloc::{AllocError, Global};
 use std::sync::Wait;
 use std::test::Fail;
@@ -71,9 +70,8 @@ memory size at its greatest | one 72=ffffffff | 3 | refused segment-map | 0 | -
 
 #[test]
 fn reads_fields_at_their_ends(rt: HostRuntime) -> Result<(), Fail> {
-    let alloc = rt.alloc();
     for line in FIELDS.lines() {
-        assert!(rt; runs_elf(&rt, alloc, line)?, "{line}");
+        assert!(rt; runs_elf(&rt, rt.alloc(), line)?, "{line}");
     }
     Ok(())
 }
@@ -97,9 +95,8 @@ begin between two words | sign 152=80000029 | budget = 100, signature = ['begin_
 
 #[test]
 fn reads_fields_of_signatures(rt: HostRuntime) -> Result<(), Fail> {
-    let alloc = rt.alloc();
     for line in SIGNATURE_FIELDS.lines() {
-        assert!(rt; runs_job(&rt, alloc, line)?, "{line}");
+        assert!(rt; runs_job(&rt, rt.alloc(), line)?, "{line}");
     }
     Ok(())
 }
@@ -124,22 +121,10 @@ fn cut_list(alloc: Global, keys: &str) -> Result<String, AllocError> {
     for left in 0..IMAGE_SIZE + 1 {
         write!(
             list,
-            "[[job]]\nname = '{left}'\nimage = '{left}'\nbudget = 100\n{keys}\n"
+            "[[job]]\nname = '{left}'\nimage = 'sign {left}'\nbudget = 100\n{keys}\n"
         )?;
     }
     Ok(list)
-}
-
-fn cut_store(alloc: Global, keys: &str) -> Result<MemoryStore, Fail> {
-    let image = file(alloc, "sign")?;
-    let list = cut_list(alloc, keys)?;
-    let mut store = MemoryStore::of(alloc, "jobs", list.as_bytes())?;
-    for left in 0..IMAGE_SIZE + 1 {
-        let path = format!(in alloc; "{left}")?;
-        let part = image.get(..left).ok_or("332 bytes")?;
-        store.add(alloc, path.as_str(), part.to_vec(alloc)?)?;
-    }
-    Ok(store)
 }
 
 // Whether each cut ends as it should, after as many steps.
@@ -158,22 +143,23 @@ fn ends_as_cut(report: &str, is_signed: bool) -> bool {
 }
 
 fn refuses_cuts(rt: &(impl Threads + Wait), alloc: Global, keys: &str) -> Result<bool, Fail> {
-    let mut store = cut_store(alloc, keys)?;
-    let answer = ask_store(rt, alloc, "run jobs --workers 2 --group 3", &mut store)?;
-    Ok(answer.status == 0 && ends_as_cut(answer.out.text()?, !keys.is_empty()))
+    let list = cut_list(alloc, keys)?;
+    let told = told_of(
+        rt,
+        alloc,
+        "run jobs --workers 2 --group 3",
+        list.as_bytes(),
+        "",
+    )?;
+    let (_, report) = told.as_str().split_once(";|0||").unwrap_or(("", ""));
+    Ok(ends_as_cut(report, !keys.is_empty()))
 }
 
 #[test]
 fn refuses_cut_images(rt: HostRuntime) -> Result<(), Fail> {
-    let alloc = rt.alloc();
-    assert!(rt;
-        refuses_cuts(
-            &rt,
-            alloc,
-            "signature = ['begin_signature', 'end_signature']"
-        )?
-    );
-    assert!(rt; refuses_cuts(&rt, alloc, "")?);
+    for keys in ["signature = ['begin_signature', 'end_signature']", ""] {
+        assert!(rt; refuses_cuts(&rt, rt.alloc(), keys)?, "{keys}");
+    }
     Ok(())
 }
 
@@ -191,28 +177,26 @@ fn cut_fault(left: usize) -> Option<&'static str> {
     }
 }
 
+// Whether a list is read whose image is unreadable.
+fn reads_list(rt: &(impl Threads + Wait), alloc: Global, list: &[u8]) -> Result<bool, Fail> {
+    let told = told_of(rt, alloc, "run jobs", list, "")?;
+    let (_, report) = told.as_str().split_once(";|0||").unwrap_or(("", ""));
+    Ok(report.contains("end refused image-unreadable\n"))
+}
+
 fn reads_cut_list(rt: &(impl Threads + Wait), alloc: Global, left: usize) -> Result<bool, Fail> {
     let list = LIST.as_bytes().get(..left).ok_or("42 bytes")?;
-    if let Some(fault) = cut_fault(left) {
-        return refuses_list(rt, alloc, list, fault);
+    match cut_fault(left) {
+        Some(fault) => refuses_list(rt, alloc, list, fault),
+        None => reads_list(rt, alloc, list),
     }
-    let mut store = MemoryStore::of(alloc, "jobs", list)?;
-    let answer = ask_store(rt, alloc, "run jobs", &mut store)?;
-    Ok(
-        answer.status == 0
-            && answer
-                .out
-                .text()?
-                .contains("end refused image-unreadable\n"),
-    )
 }
 
 #[test]
 fn reads_cut_lists(rt: HostRuntime) -> Result<(), Fail> {
-    let alloc = rt.alloc();
     assert_eq!(rt; LIST.len(), 42);
     for left in 0..43 {
-        assert!(rt; reads_cut_list(&rt, alloc, left)?, "{left}");
+        assert!(rt; reads_cut_list(&rt, rt.alloc(), left)?, "{left}");
     }
     Ok(())
 }

@@ -1,8 +1,8 @@
 //! Flat images, ELF images and the example firmware, through the whole program.
 
-use crate::testing::{Answer, MemoryStore, ask_raw, ask_store};
-use rv_jobs::Store;
-use samples::{CHECKSUM, UPPER, file, file_bytes, numbers};
+use crate::sample_store::{raw_answer, told_of};
+use crate::testing::{MemorySink, cell, repeated};
+use samples::{CHECKSUM, UPPER, numbers};
 use std::alloc::Global;
 use std::sync::Wait;
 use std::test::Fail;
@@ -69,61 +69,46 @@ the console but for a byte | 100002b7 0002a023 ffdff06f | 131070 | budget | 1310
 one byte of the console | 100002b7 04100513 00a2a023 | 10 | fault illegal pc=8000000c value=00000000 | 3 | 41
 ";
 
-#[derive(Drop)]
-struct Run<'a> {
-    label: &'a str,
-    image: &'a str,
-    budget: &'a str,
-    ending: &'a str,
-    steps: &'a str,
-    console: &'a str,
-    input: &'a str,
+/// The report of one job without a signature; of the console `0*3` stands for 000.
+pub(crate) fn report_of(
+    alloc: Global,
+    name: &str,
+    ending: &str,
+    steps: &str,
+    console: &str,
+) -> Result<String, Fail> {
+    let (part, count) = console.split_once('*').unwrap_or((console, "1"));
+    let console = repeated(alloc, part, count.parse::<usize>()?)?;
+    Ok(format!(in alloc;
+        "job 1 {name}\nend {ending}\nsteps {steps}\nconsole {console}\nsignature -\nverdict none\ndone 1\n"
+    )?)
 }
 
-fn run_of(line: &str) -> Option<Run<'_>> {
-    let mut cells = line.split('|');
-    Some(Run {
-        label: cells.next()?.trim(),
-        image: cells.next()?.trim(),
-        budget: cells.next()?.trim(),
-        ending: cells.next()?.trim(),
-        steps: cells.next()?.trim(),
-        console: cells.next()?.trim(),
-        input: cells.next().unwrap_or("").trim(),
-    })
-}
-
-fn report_of(alloc: Global, name: &str, run: &Run<'_>) -> Result<String, Fail> {
-    let (ending, steps) = (run.ending, run.steps);
-    let mut text = format!(in alloc; "job 1 {name}\nend {ending}\nsteps {steps}\nconsole ")?;
-    push_repeated(&mut text, run.console)?;
-    text.push_str("\nsignature -\nverdict none\ndone 1\n")?;
-    Ok(text)
-}
-
-// `0*3` stands for 000.
-fn push_repeated(text: &mut String, cell: &str) -> Result<(), Fail> {
-    let (part, count) = cell.split_once('*').unwrap_or((cell, "1"));
-    for _ in 0..count.parse::<u32>()? {
-        text.push_str(part)?;
-    }
-    Ok(())
+// The program's answer to the flat image of a line of the table.
+fn flat_answer(rt: &(impl Threads + Wait), alloc: Global, line: &str) -> Result<String, Fail> {
+    let bytes = numbers(alloc, cell(line, 1))?;
+    let words = format!(in alloc; "raw --budget {}", cell(line, 2))?;
+    let mut input = bytes.as_slice();
+    raw_answer(
+        rt,
+        alloc,
+        words.as_str(),
+        &mut input,
+        &mut MemorySink::new(alloc),
+    )
 }
 
 // Whether the program answers a flat image as a line of the table says.
 fn runs_flat(rt: &(impl Threads + Wait), alloc: Global, line: &str) -> Result<bool, Fail> {
-    let run = run_of(line).ok_or("six cells")?;
-    let bytes = numbers(alloc, run.image)?;
-    let words = format!(in alloc; "raw --budget {}", run.budget)?;
-    let answer = ask_raw(rt, alloc, words.as_str(), bytes.as_slice())?;
-    answer.is(0, report_of(alloc, "raw", &run)?.as_str(), "")
+    let answer = flat_answer(rt, alloc, line)?;
+    let report = report_of(alloc, "raw", cell(line, 3), cell(line, 4), cell(line, 5))?;
+    Ok(answer.as_str().strip_prefix("0||") == Some(report.as_str()))
 }
 
 #[test]
 fn runs_flat_images(rt: HostRuntime) -> Result<(), Fail> {
-    let alloc = rt.alloc();
     for line in FLAT_RUNS.lines() {
-        assert!(rt; runs_flat(&rt, alloc, line)?, "{line}");
+        assert!(rt; runs_flat(&rt, rt.alloc(), line)?, "{line}");
     }
     Ok(())
 }
@@ -163,29 +148,37 @@ bytes left | code 100002b7 0042a503 X | 100 | exit 2 | 3 | - | 4142
 upper case digits | code 100002b7 0002a503 X | 100 | exit 175 | 3 | - | aF
 ";
 
-// Whether the program answers an ELF image as a line of the table says, and reads its path once.
+// What is told of a run of one image, with some input.
+fn told_of_image(
+    rt: &(impl Threads + Wait),
+    alloc: Global,
+    image: &str,
+    budget: &str,
+    input: &str,
+) -> Result<String, Fail> {
+    let files = format!(in alloc; "image = {image}")?;
+    let mut words = format!(in alloc; "one image --budget {budget}")?;
+    if !input.is_empty() {
+        write!(words, " --input-hex {input}")?;
+    }
+    told_of(rt, alloc, words.as_str(), &[], files.as_str())
+}
+
+/// Whether the program answers an ELF image as a line of the table says, and reads its path once.
 pub(crate) fn runs_elf(
     rt: &(impl Threads + Wait),
     alloc: Global,
     line: &str,
 ) -> Result<bool, Fail> {
-    let run = run_of(line).ok_or("six cells")?;
-    let bytes = file(alloc, run.image)?;
-    let mut store = MemoryStore::of(alloc, "image", bytes.as_slice())?;
-    let mut words = format!(in alloc; "one image --budget {}", run.budget)?;
-    if !run.input.is_empty() {
-        write!(words, " --input-hex {}", run.input)?;
-    }
-    let answer = ask_store(rt, alloc, words.as_str(), &mut store)?;
-    let is_read_once = (store.reads, store.faults()) == (1, 0);
-    Ok(is_read_once && answer.is(0, report_of(alloc, "one", &run)?.as_str(), "")?)
+    let told = told_of_image(rt, alloc, cell(line, 1), cell(line, 2), cell(line, 6))?;
+    let report = report_of(alloc, "one", cell(line, 3), cell(line, 4), cell(line, 5))?;
+    Ok(told.as_str().strip_prefix("0;image;|0||") == Some(report.as_str()))
 }
 
 #[test]
 fn runs_elf_images(rt: HostRuntime) -> Result<(), Fail> {
-    let alloc = rt.alloc();
     for line in ONE_RUNS.lines() {
-        assert!(rt; runs_elf(&rt, alloc, line)?, "{line}");
+        assert!(rt; runs_elf(&rt, rt.alloc(), line)?, "{line}");
     }
     Ok(())
 }
@@ -206,25 +199,21 @@ const FIRMWARE_RUNS: [(&str, &str, &str, &str); 2] = [
     ),
 ];
 
-fn firmware_text(
+fn runs_firmware(
     rt: &(impl Threads + Wait),
     alloc: Global,
-    digits: &str,
-    input: &str,
-) -> Result<Answer, Fail> {
-    let bytes = file_bytes(alloc, digits)?;
-    let mut store = MemoryStore::of(alloc, "image", bytes.as_slice())?;
-    let words = format!(in alloc; "one image --budget 100000 --input-hex {input}")?;
-    Ok(ask_store(rt, alloc, words.as_str(), &mut store)?)
+    run: (&str, &str, &str, &str),
+) -> Result<bool, Fail> {
+    let (digits, input, ending, console) = run;
+    let image = format!(in alloc; "digits {digits}")?;
+    let told = told_of_image(rt, alloc, image.as_str(), "100000", input)?;
+    Ok(told.as_str().contains(ending) && told.as_str().contains(console))
 }
 
 #[test]
 fn runs_example_firmware(rt: HostRuntime) -> Result<(), Fail> {
-    let alloc = rt.alloc();
-    for (digits, input, ending, console) in FIRMWARE_RUNS {
-        let answer = firmware_text(&rt, alloc, digits, input)?;
-        let text = answer.out.text()?;
-        assert!(rt; text.contains(ending) && text.contains(console), "{input}");
+    for run in FIRMWARE_RUNS {
+        assert!(rt; runs_firmware(&rt, rt.alloc(), run)?, "{}", run.1);
     }
     Ok(())
 }

@@ -1,8 +1,7 @@
 //! Job lists through the whole program, over files in memory.
 
-use crate::testing::{MemoryStore, ask_store};
-use rv_jobs::Store;
-use samples::file;
+use crate::sample_store::told_of;
+use crate::testing::cell;
 use std::alloc::{AllocError, Global};
 use std::sync::Wait;
 use std::test::Fail;
@@ -59,73 +58,47 @@ jump to the second stored word | code 00000297 0002a723 0080006f 00000013 X | mi
 jump to the second stored word, refused | code 00000297 0002a723 0080006f 00000013 X | misaligned = 'fault' | fault store-misaligned pc=80000004 value=8000000e | 1 | -
 ";
 
-#[derive(Drop)]
-struct JobRun<'a> {
-    file: &'a str,
-    keys: &'a str,
-    ending: &'a str,
-    steps: &'a str,
-    signature: &'a str,
-}
-
-fn job_run_of(line: &str) -> Option<JobRun<'_>> {
-    let mut cells = line.split('|');
-    let _label = cells.next()?;
-    Some(JobRun {
-        file: cells.next()?.trim(),
-        keys: cells.next()?.trim(),
-        ending: cells.next()?.trim(),
-        steps: cells.next()?.trim(),
-        signature: cells.next()?.trim(),
-    })
-}
-
 // A list of one job with these keys beside its name, its image and, unless they give one, a budget of 10.
-fn list_of_one(alloc: Global, run: &JobRun<'_>) -> Result<String, AllocError> {
-    let path = if run.file == "none" { "none" } else { "image" };
-    let keys = run.keys;
+fn list_of_one(alloc: Global, keys: &str) -> Result<String, AllocError> {
     let budget = if keys.starts_with("budget") {
         ""
     } else {
         "budget = 10, "
     };
-    format!(in alloc; "job = [{{name = 'a.b-c_9', image = '{path}', {budget}{keys}}}]")
+    format!(in alloc; "job = [{{name = 'a.b-c_9', image = 'image', {budget}{keys}}}]")
 }
 
-fn report_of_one(alloc: Global, run: &JobRun<'_>) -> Result<String, AllocError> {
-    let (ending, steps) = (run.ending, run.steps);
-    let mut text = format!(in alloc;
-        "job 1 a.b-c_9\nend {ending}\nsteps {steps}\nconsole -\nsignature "
-    )?;
-    for word in run.signature.split(' ') {
-        text.push_str(word)?;
-        text.push_str("\n")?;
-    }
-    text.push_str("verdict none\ndone 1\n")?;
-    Ok(text)
+// What is told of the list of a line of the table.
+fn told_of_job(rt: &(impl Threads + Wait), alloc: Global, line: &str) -> Result<String, Fail> {
+    let files = format!(in alloc; "image = {}", cell(line, 1))?;
+    let list = list_of_one(alloc, cell(line, 2))?;
+    told_of(rt, alloc, "run jobs", list.as_bytes(), files.as_str())
 }
 
-// Whether the program answers a list of one job as a line of the table says.
+fn report_of_one(alloc: Global, line: &str) -> Result<String, AllocError> {
+    let (ending, steps) = (cell(line, 3), cell(line, 4));
+    let signature = cell(line, 5).replace(alloc, " ", "\n")?;
+    format!(in alloc;
+        "0||job 1 a.b-c_9\nend {ending}\nsteps {steps}\nconsole -\nsignature {signature}\nverdict none\ndone 1\n"
+    )
+}
+
+/// Whether the program answers a list of one job as a line of the table says.
 pub(crate) fn runs_job(
     rt: &(impl Threads + Wait),
     alloc: Global,
     line: &str,
 ) -> Result<bool, Fail> {
-    let run = job_run_of(line).ok_or("six cells")?;
-    let list = list_of_one(alloc, &run)?;
-    let mut store = MemoryStore::of(alloc, "jobs", list.as_bytes())?;
-    if run.file != "none" {
-        store.add(alloc, "image", file(alloc, run.file)?)?;
-    }
-    let answer = ask_store(rt, alloc, "run jobs", &mut store)?;
-    answer.is(0, report_of_one(alloc, &run)?.as_str(), "")
+    let told = told_of_job(rt, alloc, line)?;
+    let wanted = report_of_one(alloc, line)?;
+    let (_, answer) = told.as_str().split_once('|').unwrap_or(("", ""));
+    Ok(answer == wanted.as_str())
 }
 
 #[test]
 fn runs_jobs(rt: HostRuntime) -> Result<(), Fail> {
-    let alloc = rt.alloc();
     for line in JOB_RUNS.lines() {
-        assert!(rt; runs_job(&rt, alloc, line)?, "{line}");
+        assert!(rt; runs_job(&rt, rt.alloc(), line)?, "{line}");
     }
     Ok(())
 }
@@ -167,37 +140,37 @@ x = 1;[[job]];name = 'a';image = 'b';budget = 3 | job 0: unknown-key
 [[job]];name = 'a';image = 'b';budget = 3;misaligned = true | job 1: wrong-type
 ";
 
-// Whether the program refuses a list by this fault, and reads no file of its jobs.
+/// Whether the program refuses a list by this fault, and reads no file of its jobs.
 pub(crate) fn refuses_list(
     rt: &(impl Threads + Wait),
     alloc: Global,
     list: &[u8],
     fault: &str,
 ) -> Result<bool, Fail> {
-    let mut store = MemoryStore::of(alloc, "jobs", list)?;
-    let answer = ask_store(rt, alloc, "run jobs", &mut store)?;
-    let line = format!(in alloc; "rvfleet: {fault}\n")?;
-    Ok(store.reads == 1 && answer.is(2, "", line.as_str())?)
+    let told = told_of(rt, alloc, "run jobs", list, "")?;
+    let fault_told = told
+        .as_str()
+        .strip_prefix("0;jobs;|2|rvfleet: ")
+        .unwrap_or("");
+    Ok(fault_told.strip_suffix("\n|") == Some(fault))
 }
 
 fn refuses_line(rt: &(impl Threads + Wait), alloc: Global, line: &str) -> Result<bool, Fail> {
-    let (list, fault) = line.split_once('|').ok_or("two cells")?;
-    let list = list.trim().replace(alloc, ";", "\n")?;
-    refuses_list(rt, alloc, list.as_bytes(), fault.trim())
+    let list = cell(line, 0).replace(alloc, ";", "\n")?;
+    refuses_list(rt, alloc, list.as_bytes(), cell(line, 1))
 }
 
 #[test]
 fn refuses_lists(rt: HostRuntime) -> Result<(), Fail> {
-    let alloc = rt.alloc();
     for line in REFUSED_LISTS.lines() {
-        assert!(rt; refuses_line(&rt, alloc, line)?, "{line}");
+        assert!(rt; refuses_line(&rt, rt.alloc(), line)?, "{line}");
     }
-    assert!(rt; refuses_list(&rt, alloc, &[0x6a, 0xff], "job 0: not-toml")?);
+    assert!(rt; refuses_list(&rt, rt.alloc(), &[0x6a, 0xff], "job 0: not-toml")?);
     Ok(())
 }
 
-// So many jobs of one image and budget 10, behind a first line.
-fn long_list(alloc: Global, first: &str, count: u32) -> Result<String, AllocError> {
+// So many jobs of one image and budget 10, between a first line and last ones.
+fn long_list(alloc: Global, first: &str, count: u32, last: &str) -> Result<String, AllocError> {
     let mut list = String::from_str(alloc, first)?;
     for number in 0..count {
         write!(
@@ -205,72 +178,85 @@ fn long_list(alloc: Global, first: &str, count: u32) -> Result<String, AllocErro
             "[[job]]\nname = '{number}'\nimage = 'image'\nbudget = 10\n"
         )?;
     }
+    list.push_str(last)?;
     Ok(list)
 }
 
-#[test]
-fn counts_jobs(rt: HostRuntime) -> Result<(), Fail> {
-    let alloc = rt.alloc();
-    let long = long_list(alloc, "", 4097)?;
-    assert!(rt; refuses_list(&rt, alloc, long.as_bytes(), "job 0: too-many")?);
-    let stray = long_list(alloc, "x = 1\n", 4097)?;
-    assert!(rt; refuses_list(&rt, alloc, stray.as_bytes(), "job 0: too-many")?);
-    Ok(())
-}
+const BAD_BUDGET: &str = "[[job]]\nname = 'last'\nimage = 'image'\nbudget = 0\n";
 
-// Whether a list is refused by this fault whose last job, behind so many good ones, has a budget of 0.
-fn refuses_last(
+// the first line | the number of good jobs behind it | what stands behind them | what is told
+const LONG_LISTS: [(&str, u32, &str, &str); 5] = [
+    ("", 4097, "", "job 0: too-many"),
+    ("x = 1\n", 4097, "", "job 0: too-many"),
+    ("", 9, BAD_BUDGET, "job 10: budget"),
+    ("", 99, BAD_BUDGET, "job 100: budget"),
+    ("", 4095, BAD_BUDGET, "job 4096: budget"),
+];
+
+fn refuses_long(
     rt: &(impl Threads + Wait),
     alloc: Global,
-    before: u32,
-    fault: &str,
+    long: (&str, u32, &str, &str),
 ) -> Result<bool, Fail> {
-    let mut list = long_list(alloc, "", before)?;
-    list.push_str("[[job]]\nname = 'last'\nimage = 'image'\nbudget = 0\n")?;
+    let (first, count, last, fault) = long;
+    let list = long_list(alloc, first, count, last)?;
     refuses_list(rt, alloc, list.as_bytes(), fault)
 }
 
 #[test]
-fn numbers_the_refused_job(rt: HostRuntime) -> Result<(), Fail> {
-    let alloc = rt.alloc();
-    assert!(rt; refuses_last(&rt, alloc, 9, "job 10: budget")?);
-    assert!(rt; refuses_last(&rt, alloc, 99, "job 100: budget")?);
-    assert!(rt; refuses_last(&rt, alloc, 4095, "job 4096: budget")?);
+fn counts_jobs_and_numbers_the_refused_one(rt: HostRuntime) -> Result<(), Fail> {
+    for long in LONG_LISTS {
+        assert!(rt; refuses_long(&rt, rt.alloc(), long)?, "{}", long.3);
+    }
     Ok(())
 }
 
-// The answers to a list of 4,096 jobs of an image that is cut, each a row of 7 lines.
+// What is told of a list of 4,096 jobs of an image that is cut.
+fn told_of_longest(rt: &(impl Threads + Wait), alloc: Global, words: &str) -> Result<String, Fail> {
+    let list = long_list(alloc, "", 4096, "")?;
+    told_of(rt, alloc, words, list.as_bytes(), "image = one 51")
+}
+
+// The number of lines that are this one.
+pub(crate) fn count_of(text: &str, wanted: &str) -> usize {
+    text.lines().filter(|line| *line == wanted).count()
+}
+
+// Whether each is refused, in a row of 7 lines, and the image is read once.
 fn refuses_each(rt: &(impl Threads + Wait), alloc: Global, words: &str) -> Result<bool, Fail> {
-    let list = long_list(alloc, "", 4096)?;
-    let mut store = MemoryStore::of(alloc, "jobs", list.as_bytes())?;
-    store.add(alloc, "image", file(alloc, "one 51")?)?;
-    let answer = ask_store(rt, alloc, words, &mut store)?;
-    let text = answer.out.text()?;
-    let refused = text
-        .lines()
-        .filter(|line| *line == "end refused short-header");
-    let is_whole = refused.count() == 4096 && text.ends_with("verdict none\ndone 4096\n");
-    Ok(answer.status == 0 && is_whole && store.log.as_str() == "jobs image ")
+    let told = told_of_longest(rt, alloc, words)?;
+    let told = told.as_str();
+    let is_whole = told.starts_with("0;jobs;image;|0||")
+        && told.ends_with("verdict none\ndone 4096\n");
+    Ok(is_whole && count_of(told, "end refused short-header") == 4096)
 }
 
 #[test]
 fn runs_the_longest_list(rt: HostRuntime) -> Result<(), Fail> {
-    let alloc = rt.alloc();
-    assert!(rt; refuses_each(&rt, alloc, "run jobs --workers 64 --group 1")?);
-    assert!(rt; refuses_each(&rt, alloc, "run jobs --workers 64 --group 4096")?);
+    for words in [
+        "run jobs --workers 64 --group 1",
+        "run jobs --workers 64 --group 4096",
+    ] {
+        assert!(rt; refuses_each(&rt, rt.alloc(), words)?, "{words}");
+    }
     Ok(())
 }
+
+// Where the list is, and what is told of it.
+const UNREAD_LISTS: [(&str, &str); 2] = [
+    ("jobs = none", "1;jobs;|3|rvfleet: list unreadable\n|"),
+    (
+        "jobs = bytes 20*16777217",
+        "0;jobs;|3|rvfleet: list too long\n|",
+    ),
+];
 
 // The list is read through the store too.
 #[test]
 fn reads_the_list(rt: HostRuntime) -> Result<(), Fail> {
-    let alloc = rt.alloc();
-    let mut none = MemoryStore::new(alloc);
-    let answer = ask_store(&rt, alloc, "run jobs", &mut none)?;
-    assert!(rt; answer.is(3, "", "rvfleet: list unreadable\n")? && none.faults() == 1);
-    let long = vec![in alloc; 32u8; 16_777_217]?;
-    let mut long = MemoryStore::of(alloc, "jobs", long.as_slice())?;
-    let answer = ask_store(&rt, alloc, "run jobs", &mut long)?;
-    assert!(rt; answer.is(3, "", "rvfleet: list too long\n")? && long.faults() == 0);
+    for (files, wanted) in UNREAD_LISTS {
+        let told = told_of(&rt, rt.alloc(), "run jobs", &[], files)?;
+        assert_eq!(rt; told.as_str(), wanted);
+    }
     Ok(())
 }

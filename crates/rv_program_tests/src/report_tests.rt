@@ -1,7 +1,7 @@
 //! Reports of lists and verdicts on their jobs, for every number of workers.
 
-use crate::testing::{MemoryStore, ask_store};
-use samples::file;
+use crate::sample_store::{SampleStore, told, told_of};
+use crate::testing::{MemorySink, cell};
 use std::alloc::{AllocError, Global};
 use std::sync::Wait;
 use std::test::Fail;
@@ -73,42 +73,72 @@ verdict none
 done 5
 ";
 
-// The files that the list names, and some references.
-pub(crate) fn list_store(alloc: Global, list: &str) -> Result<MemoryStore, Fail> {
-    let mut store = MemoryStore::of(alloc, "jobs", list.as_bytes())?;
-    store.add(alloc, "a.elf", file(alloc, "one")?)?;
-    store.add(alloc, "f.elf", file(alloc, "code 9002")?)?;
-    store.add(alloc, "cut.elf", file(alloc, "one 51")?)?;
-    store.add(alloc, "s.elf", file(alloc, "sign")?)?;
-    Ok(store)
+/// The files that the list names.
+pub(crate) const LIST_FILES: &str = "\
+a.elf = one
+f.elf = code 9002
+cut.elf = one 51
+s.elf = sign
+";
+
+/// What is told before the list's report, and its status, where each path is read once, in order of first use.
+pub(crate) const LIST_READ: &str = "0;jobs;a.elf;f.elf;cut.elf;s.elf;|";
+
+/// A store of the list.
+pub(crate) fn list_store<'a>(alloc: Global) -> SampleStore<'a> {
+    SampleStore::new(alloc, LIST.as_bytes(), LIST_FILES)
 }
 
-// Whether the list's report is this where words ask for it, and each path is read once, in order of first use.
-fn reports(rt: &(impl Threads + Wait), alloc: Global, words: &str) -> Result<bool, Fail> {
-    let mut store = list_store(alloc, LIST)?;
-    let answer = ask_store(rt, alloc, words, &mut store)?;
-    let is_read_once = store.log.as_str() == "jobs a.elf f.elf cut.elf s.elf ";
-    Ok(is_read_once && answer.is(0, LIST_REPORT, "")?)
+/// What is told of the list, and of what it reads, with the report in a sink.
+pub(crate) fn told_of_list(
+    rt: &(impl Threads + Wait),
+    alloc: Global,
+    words: &str,
+    out: &mut MemorySink,
+) -> Result<String, Fail> {
+    told(rt, alloc, words, &mut list_store(alloc), out)
 }
+
+/// Whether the list's report is told, and each path was read once, in order of first use.
+pub(crate) fn is_list_report(told: &str) -> bool {
+    match told.strip_prefix(LIST_READ) {
+        Some(answer) => answer.strip_prefix("0||") == Some(LIST_REPORT),
+        None => false,
+    }
+}
+
+fn reports(rt: &(impl Threads + Wait), alloc: Global, words: &str) -> Result<bool, Fail> {
+    let told = told_of_list(rt, alloc, words, &mut MemorySink::new(alloc))?;
+    Ok(is_list_report(told.as_str()))
+}
+
+const WORDS: [&str; 4] = [
+    "run jobs",
+    "run jobs --workers 4 --group 2",
+    "run jobs --workers 1 --group 5",
+    "run --group 1 jobs --workers 64",
+];
 
 #[test]
 fn reports_alike_for_all_workers(rt: HostRuntime) -> Result<(), Fail> {
-    let alloc = rt.alloc();
-    assert!(rt; reports(&rt, alloc, "run jobs")?);
-    assert!(rt; reports(&rt, alloc, "run jobs --workers 4 --group 2")?);
-    assert!(rt; reports(&rt, alloc, "run jobs --workers 1 --group 5")?);
-    assert!(rt; reports(&rt, alloc, "run --group 1 jobs --workers 64")?);
+    for words in WORDS {
+        assert!(rt; reports(&rt, rt.alloc(), words)?, "{words}");
+    }
     Ok(())
+}
+
+// What is told of the list where no job expects an exit.
+fn told_without_expectations(rt: &(impl Threads + Wait), alloc: Global) -> Result<String, Fail> {
+    let list = LIST.replace(alloc, "expect_exit = 5\n", "")?;
+    told_of(rt, alloc, "run jobs", list.as_bytes(), LIST_FILES)
 }
 
 #[test]
 fn reports_without_expectations(rt: HostRuntime) -> Result<(), Fail> {
-    let alloc = rt.alloc();
-    let list = LIST.replace(alloc, "expect_exit = 5\n", "")?;
-    let text = LIST_REPORT.replace(alloc, "verdict pass", "verdict none")?;
-    let mut store = list_store(alloc, list.as_str())?;
-    let answer = ask_store(&rt, alloc, "run jobs", &mut store)?;
-    assert!(rt; answer.is(0, text.as_str(), "")?);
+    let told = told_without_expectations(&rt, rt.alloc())?;
+    let report = LIST_REPORT.replace(rt.alloc(), "verdict pass", "verdict none")?;
+    let answer = told.as_str().strip_prefix(LIST_READ).unwrap_or("");
+    assert_eq!(rt; answer.strip_prefix("0||"), Some(report.as_str()));
     Ok(())
 }
 
@@ -140,17 +170,34 @@ all three but the reference | image = 's.elf', budget = 100, S; image = 's.elf',
 all three but the other job | image = 's.elf', budget = 5, S; image = 's.elf', budget = 100, S, expect_exit = 0, expect_signature = 'lines', same_as = '0' | none fail | 1
 ";
 
+// The files that these jobs name; `lines` holds the signature, and `long` is too long.
+const VERDICT_FILES: &str = "\
+a.elf = one
+f.elf = code 9002
+cut.elf = one 51
+s.elf = sign
+lines = bytes 38 30*7 0a 66*8 0a
+cut lines = bytes 38 30*7 0a 66*8
+empty = bytes
+six = code 00600513 X
+greatest = code fff00513 X
+late break = code 0001 9002
+illegal = code 0000
+put A = code 100002b7 04100513 00a2a023 00000513 X
+put B = code 100002b7 04200513 00a2a023 00000513 X
+";
+
+/// Keys with the signature's two names for `S`.
+pub(crate) fn signed(alloc: Global, keys: &str) -> Result<String, AllocError> {
+    keys.replace(
+        alloc,
+        " S",
+        " signature = ['begin_signature', 'end_signature']",
+    )
+}
+
 fn verdict_list(alloc: Global, jobs: &str) -> Result<String, AllocError> {
-    let jobs = jobs.replace(
-        alloc,
-        " S,",
-        " signature = ['begin_signature', 'end_signature'],",
-    )?;
-    let jobs = jobs.replace(
-        alloc,
-        " S;",
-        " signature = ['begin_signature', 'end_signature'];",
-    )?;
+    let jobs = signed(alloc, jobs)?;
     let mut list = String::from_str(alloc, "job = [")?;
     for (name, job) in jobs.as_str().split(';').enumerate() {
         write!(list, "{{name = '{name}', {job}}}, ")?;
@@ -159,95 +206,103 @@ fn verdict_list(alloc: Global, jobs: &str) -> Result<String, AllocError> {
     Ok(list)
 }
 
-fn verdict_store(alloc: Global, list: &str) -> Result<MemoryStore, Fail> {
-    let mut store = list_store(alloc, list)?;
-    store.add(alloc, "lines", b"80000000\nffffffff\n".to_vec(alloc)?)?;
-    store.add(alloc, "cut lines", b"80000000\nffffffff".to_vec(alloc)?)?;
-    store.add(alloc, "empty", Vec::new(alloc))?;
-    store.add(alloc, "six", file(alloc, "code 00600513 X")?)?;
-    store.add(alloc, "greatest", file(alloc, "code fff00513 X")?)?;
-    store.add(alloc, "late break", file(alloc, "code 0001 9002")?)?;
-    store.add(alloc, "illegal", file(alloc, "code 0000")?)?;
-    store.add(
-        alloc,
-        "put A",
-        file(alloc, "code 100002b7 04100513 00a2a023 00000513 X")?,
-    )?;
-    store.add(
-        alloc,
-        "put B",
-        file(alloc, "code 100002b7 04200513 00a2a023 00000513 X")?,
-    )?;
-    Ok(store)
-}
-
-// The verdicts of a report, with a space between two.
-fn verdicts_of(alloc: Global, report: &str) -> Result<String, AllocError> {
-    let mut verdicts = String::new(alloc);
-    for line in report.lines() {
-        if let Some(verdict) = line.strip_prefix("verdict") {
-            verdicts.push_str(verdict)?;
+// The status, what is told, each verdict and the last line of an answer, with a space between two.
+fn summary(alloc: Global, told: &str) -> Result<String, AllocError> {
+    let (status, errors) = (cell(told, 1), cell(told, 2));
+    let mut summary = if errors.is_empty() {
+        String::from_str(alloc, status)?
+    } else {
+        format!(in alloc; "{status} {errors}")?
+    };
+    for line in told.lines() {
+        if line.starts_with("verdict ") || line.starts_with("done ") {
+            summary.push_str(" ")?;
+            summary.push_str(line.strip_prefix("verdict ").unwrap_or(line))?;
         }
     }
-    Ok(verdicts)
+    Ok(summary)
+}
+
+/// The same of the answer to a list.
+pub(crate) fn summary_of(
+    rt: &(impl Threads + Wait),
+    alloc: Global,
+    words: &str,
+    list: &str,
+    files: &str,
+) -> Result<String, Fail> {
+    let told = told_of(rt, alloc, words, list.as_bytes(), files)?;
+    Ok(summary(alloc, told.as_str())?)
+}
+
+/// Whether a list has this status and, with a space between two, these verdicts.
+pub(crate) fn judges(
+    rt: &(impl Threads + Wait),
+    alloc: Global,
+    words: &str,
+    list: &str,
+    files: &str,
+    status: &str,
+    verdicts: &str,
+) -> Result<bool, Fail> {
+    let found = summary_of(rt, alloc, words, list, files)?;
+    let count = verdicts.split(' ').count();
+    let wanted = format!(in alloc; "{status} {verdicts} done {count}")?;
+    Ok(found == wanted)
 }
 
 // Whether the verdicts on jobs are as a line of the table says.
-fn judges(rt: &(impl Threads + Wait), alloc: Global, line: &str) -> Result<bool, Fail> {
-    let mut cells = line.split('|');
-    let _label = cells.next();
-    let jobs = cells.next().ok_or("jobs")?;
-    let verdicts = cells.next().ok_or("verdicts")?;
-    let status = cells.next().ok_or("a status")?.trim().parse::<u8>()?;
-    let list = verdict_list(alloc, jobs)?;
-    let mut store = verdict_store(alloc, list.as_str())?;
-    let answer = ask_store(rt, alloc, "run jobs --workers 2", &mut store)?;
-    let found = verdicts_of(alloc, answer.out.text()?)?;
-    Ok(answer.status == status && found.as_str().trim() == verdicts.trim())
+fn judges_line(rt: &(impl Threads + Wait), alloc: Global, line: &str) -> Result<bool, Fail> {
+    let list = verdict_list(alloc, cell(line, 1))?;
+    judges(
+        rt,
+        alloc,
+        "run jobs --workers 2",
+        list.as_str(),
+        VERDICT_FILES,
+        cell(line, 3),
+        cell(line, 2),
+    )
 }
 
 #[test]
 fn judges_outcomes(rt: HostRuntime) -> Result<(), Fail> {
-    let alloc = rt.alloc();
     for line in VERDICTS.lines() {
-        assert!(rt; judges(&rt, alloc, line)?, "{line}");
+        assert!(rt; judges_line(&rt, rt.alloc(), line)?, "{line}");
     }
     Ok(())
 }
 
-// The refusal of a job whose reference was not read comes before its image is looked at.
-#[test]
-fn refuses_references(rt: HostRuntime) -> Result<(), Fail> {
-    let alloc = rt.alloc();
-    let jobs =
-        "image = 's.elf', budget = 9, S, expect_signature = 'none'; image = 'cut.elf', budget = 9, S, expect_signature = 'long'";
-    let list = verdict_list(alloc, jobs)?;
-    let mut store = list_store(alloc, list.as_str())?;
-    store.add(alloc, "long", vec![in alloc; 48u8; 16_777_217]?)?;
-    let answer = ask_store(&rt, alloc, "run jobs", &mut store)?;
-    let text = answer.out.text()?;
-    assert!(rt;
-        text.contains(
-            "end refused reference-unreadable\nsteps 0\nconsole -\nsignature -\nverdict fail\n"
-        )
-    );
-    assert!(rt;
-        text.contains(
-            "end refused reference-too-long\nsteps 0\nconsole -\nsignature -\nverdict fail\n"
-        )
-    );
-    assert_eq!(rt;
-        (answer.status, store.log.as_str()),
-        (1, "jobs s.elf none cut.elf long ")
-    );
-    Ok(())
-}
+// Jobs, and what is told of their list.
+const REFUSED_REFERENCES: [(&str, &str); 2] = [
+    (
+        "image = 's.elf', budget = 9, S, expect_signature = 'none'; image = 'cut.elf', budget = 9, S, expect_signature = 'long'",
+        TWO_REFUSED,
+    ),
+    (
+        "image = 's.elf', budget = 100, S, expect_signature = 'none', expect_exit = 0",
+        ONE_REFUSED,
+    ),
+];
 
-const NO_REFERENCE: &str =
-    "image = 's.elf', budget = 100, S, expect_signature = 'none', expect_exit = 0";
+const TWO_REFUSED: &str = "\
+1;jobs;s.elf;none;cut.elf;long;|1||job 1 0
+end refused reference-unreadable
+steps 0
+console -
+signature -
+verdict fail
+job 2 1
+end refused reference-too-long
+steps 0
+console -
+signature -
+verdict fail
+done 2
+";
 
-const NO_REFERENCE_REPORT: &str = "\
-job 1 0
+const ONE_REFUSED: &str = "\
+1;jobs;s.elf;none;|1||job 1 0
 end refused reference-unreadable
 steps 0
 console -
@@ -256,13 +311,23 @@ verdict fail
 done 1
 ";
 
-// The exit code that the job expects is the one that the image would have, if it was run.
+fn is_told(
+    rt: &(impl Threads + Wait),
+    alloc: Global,
+    jobs: &str,
+    wanted: &str,
+) -> Result<bool, Fail> {
+    let list = verdict_list(alloc, jobs)?;
+    let told = told_of(rt, alloc, "run jobs", list.as_bytes(), VERDICT_FILES)?;
+    Ok(told.as_str() == wanted)
+}
+
+// The refusal of a job whose reference was not read comes before its image is looked at. The exit code that the last
+// job expects is the one that its image would have, if it was run.
 #[test]
-fn fails_without_a_reference(rt: HostRuntime) -> Result<(), Fail> {
-    let alloc = rt.alloc();
-    let list = verdict_list(alloc, NO_REFERENCE)?;
-    let mut store = list_store(alloc, list.as_str())?;
-    let answer = ask_store(&rt, alloc, "run jobs", &mut store)?;
-    assert!(rt; answer.is(1, NO_REFERENCE_REPORT, "")?);
+fn refuses_references(rt: HostRuntime) -> Result<(), Fail> {
+    for (jobs, wanted) in REFUSED_REFERENCES {
+        assert!(rt; is_told(&rt, rt.alloc(), jobs, wanted)?, "{jobs}");
+    }
     Ok(())
 }

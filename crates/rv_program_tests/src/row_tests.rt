@@ -55,34 +55,63 @@ fault unknown-call pc=80000004 value=00000abc
 fault fetch-misaligned pc=80000004 value=00000abc
 ";
 
-#[test]
-fn writes_each_ending(rt: HostRuntime) -> Result<(), Fail> {
-    let alloc = rt.alloc();
-    let mut endings = Vec::new(alloc);
-    endings.push(RowEnd::Exit(0))?;
-    endings.push(RowEnd::Exit(u32::MAX))?;
-    endings.push(RowEnd::Budget)?;
-    endings.push(RowEnd::Refused(Refusal::ImageTooLong))?;
-    for kind in FAULTS {
-        endings.push(RowEnd::Fault(kind, 0x8000_0004, 0xabc))?;
-    }
+// A report of rows that end so.
+fn report_of(alloc: Global, endings: &[RowEnd]) -> Result<Report, AllocError> {
     let mut rows = Vec::new(alloc);
-    for ending in &endings {
+    for ending in endings {
         rows.push(row_of(alloc, *ending, 12)?)?;
     }
-    let report = Report {
+    Ok(Report {
         rows: Rows::new(rows),
-    };
-    let mut out = MemorySink::new(alloc);
-    assert_eq!(rt; write_report(alloc, &report, &mut out), Ok(()));
-    let mut expected = String::new(alloc);
-    for (place, ending) in ENDINGS.lines().enumerate() {
-        let number = place.saturating_add(1);
-        write!(expected, "job {number} a.b_c-d\nend {ending}\n")?;
-        expected.push_str("steps 12\nconsole -\nsignature -\nverdict none\n")?;
+    })
+}
+
+// Whether a report is written as this, and what the sink has of it.
+fn is_written(
+    alloc: Global,
+    report: &Report,
+    out: &mut MemorySink,
+    written: Result<(), WriteError>,
+    text: Option<&str>,
+) -> Result<bool, Fail> {
+    Ok(write_report(alloc, report, out) == written && Some(out.text()?) == text)
+}
+
+fn all_endings(alloc: Global) -> Result<Report, AllocError> {
+    let mut endings = [RowEnd::Budget; 15];
+    endings[0] = RowEnd::Exit(0);
+    endings[1] = RowEnd::Exit(u32::MAX);
+    endings[3] = RowEnd::Refused(Refusal::ImageTooLong);
+    for (place, kind) in FAULTS.iter().enumerate() {
+        endings[place + 4] = RowEnd::Fault(*kind, 0x8000_0004, 0xabc);
     }
-    expected.push_str("done 15\n")?;
-    assert_eq!(rt; out.text()?, expected.as_str());
+    report_of(alloc, &endings)
+}
+
+// The report of jobs with these endings, a line each.
+fn text_of(alloc: Global, endings: &str) -> Result<String, AllocError> {
+    let mut text = String::new(alloc);
+    for (place, ending) in endings.lines().enumerate() {
+        let number = place.saturating_add(1);
+        write!(
+            text,
+            "job {number} a.b_c-d\nend {ending}\nsteps 12\nconsole -\nsignature -\nverdict none\n"
+        )?;
+    }
+    text.push_str("done 15\n")?;
+    Ok(text)
+}
+
+fn writes_all_endings(alloc: Global) -> Result<bool, Fail> {
+    let report = all_endings(alloc)?;
+    let text = text_of(alloc, ENDINGS)?;
+    let mut out = MemorySink::new(alloc);
+    is_written(alloc, &report, &mut out, Ok(()), Some(text.as_str()))
+}
+
+#[test]
+fn writes_each_ending(rt: HostRuntime) -> Result<(), Fail> {
+    assert!(rt; writes_all_endings(rt.alloc())?);
     Ok(())
 }
 
@@ -128,69 +157,94 @@ verdict none
 done 3
 ";
 
+fn writes_none(alloc: Global) -> Result<bool, Fail> {
+    let none = report_of(alloc, &[])?;
+    is_written(
+        alloc,
+        &none,
+        &mut MemorySink::new(alloc),
+        Ok(()),
+        Some("done 0\n"),
+    )
+}
+
+// Whether the report is written in puts of one byte, and, where the third put of 30 bytes fails, up to there.
+fn writes_in_parts(alloc: Global) -> Result<bool, Fail> {
+    let report = full_report(alloc)?;
+    let mut slow = MemorySink::failing(alloc, 1, 0);
+    let is_whole = is_written(alloc, &report, &mut slow, Ok(()), Some(FULL_TEXT))?;
+    Ok(is_whole && stops_at_third(alloc, &report)?)
+}
+
+fn stops_at_third(alloc: Global, report: &Report) -> Result<bool, Fail> {
+    let mut out = MemorySink::failing(alloc, 30, 3);
+    let cut = is_written(
+        alloc,
+        report,
+        &mut out,
+        Err(WriteError::Failed),
+        FULL_TEXT.get(..60),
+    )?;
+    Ok(cut && (out.puts, out.failures) == (3, 1))
+}
+
+// How many lines a report of 4,096 rows has, and how many puts it takes.
+fn lines_and_puts(alloc: Global) -> Result<(usize, u64), Fail> {
+    let report = report_of(alloc, &[RowEnd::Exit(5); 4096])?;
+    let mut out = MemorySink::new(alloc);
+    if write_report(alloc, &report, &mut out).is_err() {
+        return Ok((0, 0));
+    }
+    Ok((out.text()?.lines().count(), out.puts))
+}
+
 #[test]
 fn writes_reports(rt: HostRuntime) -> Result<(), Fail> {
-    let alloc = rt.alloc();
-    let none = Report {
-        rows: Rows::new(Vec::new(alloc)),
-    };
-    let mut out = MemorySink::new(alloc);
-    assert_eq!(rt; write_report(alloc, &none, &mut out), Ok(()));
-    assert_eq!(rt; out.text()?, "done 0\n");
-
-    let report = full_report(alloc)?;
-    let mut out = MemorySink::slow(alloc, 1);
-    assert_eq!(rt; write_report(alloc, &report, &mut out), Ok(()));
-    assert_eq!(rt; out.text()?, FULL_TEXT);
-
-    let mut out = MemorySink::failing(alloc, 30, 3);
-    assert_eq!(rt;
-        write_report(alloc, &report, &mut out),
-        Err(WriteError::Failed)
-    );
-    assert_eq!(rt; Some(out.text()?), FULL_TEXT.get(..60));
-    assert_eq!(rt; (out.puts, out.failures()), (3, 1));
-
+    assert!(rt; writes_none(rt.alloc())?);
+    assert!(rt; writes_in_parts(rt.alloc())?);
     // Rows of about 70 bytes go out together, some 32,768 bytes a put.
-    let mut rows = Vec::new(alloc);
-    for _ in 0..4096 {
-        rows.push(row_of(alloc, RowEnd::Exit(5), 2)?)?;
-    }
-    let report = Report {
-        rows: Rows::new(rows),
-    };
-    let mut out = MemorySink::new(alloc);
-    assert_eq!(rt; write_report(alloc, &report, &mut out), Ok(()));
-    assert_eq!(rt; out.text()?.lines().count(), 4096 * 6 + 1);
-    assert!(rt; out.puts < 16, "{} puts", out.puts);
+    let (lines, puts) = lines_and_puts(rt.alloc())?;
+    assert!(rt; lines == 4096 * 6 + 1 && puts < 16, "{puts} puts");
     Ok(())
+}
+
+fn keeps_text(alloc: Global) -> Result<bool, AllocError> {
+    let name = Text::new(String::from_str(alloc, "raw")?);
+    Ok(name.as_str() == "raw" && name.into_string().as_str() == "raw")
+}
+
+fn keeps_bytes(alloc: Global) -> Result<bool, AllocError> {
+    let bytes = Bytes::new([1, 2, 3].to_vec(alloc)?);
+    Ok(
+        bytes.as_slice() == [1, 2, 3].as_slice()
+            && bytes.into_vec().as_slice() == [1, 2, 3].as_slice(),
+    )
+}
+
+fn keeps_words(alloc: Global) -> Result<bool, AllocError> {
+    let words = Words::new([1, 2].to_vec(alloc)?);
+    Ok(words.as_slice() == [1, 2].as_slice() && words.into_vec().as_slice() == [1, 2].as_slice())
+}
+
+fn keeps_rows(alloc: Global) -> Result<bool, AllocError> {
+    let rows = full_report(alloc)?.rows;
+    Ok(rows.as_slice().len() == 3 && rows.into_vec().len() == 3)
+}
+
+fn runs_into_row(alloc: Global) -> Result<bool, AllocError> {
+    let row = flat_row(alloc, &ADD_AND_EXIT, 3)?;
+    let is_plain = row.signature.is_none() && row.console.as_slice().is_empty();
+    let wanted = ("raw", RowEnd::Exit(5), 2, Verdict::Unasked);
+    Ok(is_plain && (row.name.as_str(), row.ending, row.steps, row.verdict) == wanted)
 }
 
 #[test]
 fn keeps_what_rows_are_made_from(rt: HostRuntime) -> Result<(), Fail> {
-    let alloc = rt.alloc();
-    let name = Text::new(String::from_str(alloc, "raw")?);
-    assert_eq!(rt; name.as_str(), "raw");
-    assert_eq!(rt; name.into_string().as_str(), "raw");
-    let bytes = Bytes::new([1, 2, 3].to_vec(alloc)?);
-    assert_eq!(rt; bytes.as_slice(), [1, 2, 3].as_slice());
-    assert_eq!(rt; bytes.into_vec().as_slice(), [1, 2, 3].as_slice());
-    let words = Words::new([1, 2].to_vec(alloc)?);
-    assert_eq!(rt; words.as_slice(), [1, 2].as_slice());
-    assert_eq!(rt; words.into_vec().as_slice(), [1, 2].as_slice());
-    let rows = full_report(alloc)?.rows;
-    assert_eq!(rt; rows.as_slice().len(), 3);
-    assert_eq!(rt; rows.into_vec().len(), 3);
-    let row = flat_row(alloc, &ADD_AND_EXIT, 3)?;
-    assert_eq!(rt;
-        (row.name.as_str(), row.ending, row.steps),
-        ("raw", RowEnd::Exit(5), 2)
-    );
-    assert_eq!(rt;
-        (row.verdict, row.signature.is_none()),
-        (Verdict::Unasked, true)
-    );
-    assert!(rt; row.console.as_slice().is_empty());
+    assert!(rt; keeps_text(rt.alloc())?);
+    assert!(rt; keeps_bytes(rt.alloc())?);
+    assert!(rt; keeps_words(rt.alloc())?);
+    assert!(rt; keeps_rows(rt.alloc())?);
+    assert!(rt; runs_into_row(rt.alloc())?);
     Ok(())
 }
 

@@ -2,54 +2,91 @@
 
 ghost use Rattle.std.specs.Prelude.{None};
 
+use crate::testing::{MemorySink, answer};
 use rv_jobs::{ReadError, Store};
-use samples::{BadSample, file, numbers};
-use std::alloc::{AllocError, Global};
+use samples::{BadSample, file, file_bytes, numbers};
+use std::alloc::Global;
+use std::io::Read;
+use std::sync::Wait;
+use std::test::Fail;
+use std::thread::Threads;
 
-/// A store that makes each file from its path: `bytes` and numbers, or an image by a line of words. The list stands at
-/// `jobs`; nothing is at `missing`, and `long` is too long.
+/// A store that makes each file when it is read. A line of `files`, as `image = one 51`, tells what stands at a path;
+/// where none does, the list stands at `jobs`, and another path tells it itself: `bytes` and numbers, `digits`, or an
+/// image by a line of words. What stands behind a `#` tells nothing. Nothing is at `missing`, and `long` is too long.
 #[derive(Drop)]
-pub(crate) struct SampleStore {
-    list: String,
+pub(crate) struct SampleStore<'a> {
+    list: &'a [u8],
+    files: &'a str,
     /// The paths that were read, each with a semicolon behind it.
-    pub(crate) log: String,
+    log: String,
+    reads: u64,
     faults: u64,
+    /// The number of the read that finds no file, from 1.
+    pub(crate) fails_at: u64,
+    /// The number of the read that has no memory, from 1.
+    pub(crate) wants_at: u64,
 }
 
-impl SampleStore {
-    pub(crate) fn new(alloc: Global, list: &str) -> Result<SampleStore, AllocError> {
-        Ok(SampleStore {
-            list: String::from_str(alloc, list)?,
+impl<'a> SampleStore<'a> {
+    pub(crate) fn new(alloc: Global, list: &'a [u8], files: &'a str) -> SampleStore<'a> {
+        SampleStore {
+            list,
+            files,
             log: String::new(alloc),
+            reads: 0,
             faults: 0,
-        })
+            fails_at: 0,
+            wants_at: 0,
+        }
     }
 
     fn bytes(&self, alloc: Global, path: &str) -> Result<Vec<u8>, BadSample> {
-        if path == "jobs" {
-            return Ok(self.list.as_bytes().to_vec(alloc)?);
+        if self.reads == self.wants_at {
+            return Err(BadSample::OutOfMemory);
         }
-        if path == "bytes" {
-            return Ok(Vec::new(alloc));
+        if self.reads == self.fails_at {
+            return Err(BadSample::Name);
         }
-        match path.strip_prefix("bytes ") {
-            Some(text) => numbers(alloc, text),
-            None => file(alloc, path),
+        match sample_at(self.files, path) {
+            "jobs" => Ok(self.list.to_vec(alloc)?),
+            sample => bytes_of(alloc, sample),
         }
     }
 }
 
-impl Store for SampleStore {
+fn sample_at<'a>(files: &'a str, path: &'a str) -> &'a str {
+    for line in files.lines() {
+        let (at, sample) = line.split_once(" = ").unwrap_or(("", ""));
+        if at == path {
+            return sample;
+        }
+    }
+    path.split_once('#').unwrap_or((path, "")).0
+}
+
+const ONE_TOO_MANY: usize = 16_777_217;
+
+fn bytes_of(alloc: Global, sample: &str) -> Result<Vec<u8>, BadSample> {
+    let (kind, text) = sample.split_once(' ').unwrap_or((sample, ""));
+    match kind {
+        "long" => Ok(vec![in alloc; 0x30; ONE_TOO_MANY]?),
+        "bytes" if text.is_empty() => Ok(Vec::new(alloc)),
+        "bytes" => numbers(alloc, text),
+        "digits" => file_bytes(alloc, text),
+        _ => file(alloc, sample),
+    }
+}
+
+impl<'a> Store for SampleStore<'a> {
     ghost contents = { λ _. None };
 
     ghost faulted = { λ store. store.faults };
 
     fn read(&mut self, alloc: Global, path: &str) -> Result<Vec<u8>, ReadError> {
+        self.reads = self.reads.saturating_add(1);
         if self.log.push_str(path).is_err() || self.log.push_str(";").is_err() {
             return Err(ReadError::OutOfMemory);
-        }
-        if path == "long" {
-            return Err(ReadError::TooLong);
         }
         match self.bytes(alloc, path) {
             Ok(bytes) if bytes.len() <= 16_777_216 => Ok(bytes),
@@ -65,4 +102,53 @@ impl Store for SampleStore {
     fn faults(&self) -> u64 {
         self.faults
     }
+}
+
+/// The number of faults and the paths that are read, each with a semicolon behind it, a bar, and the program's answer.
+pub(crate) fn told(
+    rt: &(impl Threads + Wait),
+    alloc: Global,
+    words: &str,
+    store: &mut SampleStore<'_>,
+    out: &mut MemorySink,
+) -> Result<String, Fail> {
+    let mut input: &[u8] = &[];
+    let text = answer(rt, alloc, words, store, &mut input, out)?;
+    Ok(format!(in alloc; "{};{}|{text}", store.faults, store.log.as_str())?)
+}
+
+/// The same for a list and files.
+pub(crate) fn told_of(
+    rt: &(impl Threads + Wait),
+    alloc: Global,
+    words: &str,
+    list: &[u8],
+    files: &str,
+) -> Result<String, Fail> {
+    let mut store = SampleStore::new(alloc, list, files);
+    told(rt, alloc, words, &mut store, &mut MemorySink::new(alloc))
+}
+
+/// The program's answer where it reads no file.
+pub(crate) fn raw_answer<I: Read>(
+    rt: &(impl Threads + Wait),
+    alloc: Global,
+    words: &str,
+    input: &mut I,
+    out: &mut MemorySink,
+) -> Result<String, Fail> {
+    answer(
+        rt,
+        alloc,
+        words,
+        &mut SampleStore::new(alloc, &[], ""),
+        input,
+        out,
+    )
+}
+
+/// The paths that were read, each with a semicolon behind it.
+pub(crate) fn paths_of(told: &str) -> &str {
+    let (read, _) = told.split_once('|').unwrap_or(("", ""));
+    read.split_once(';').unwrap_or(("", "")).1
 }

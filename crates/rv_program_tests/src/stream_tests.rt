@@ -1,11 +1,11 @@
 //! Input that comes and output that goes in parts, and streams that fail.
 
-use crate::testing::{Answer, MemorySink, MemoryStore, SlowReader, ask};
+use crate::sample_store::{SampleStore, raw_answer};
+use crate::testing::{MemorySink, SlowReader, status_of};
 use rv_files::{StreamSink, read_at_most};
-use rv_fleet::{FreeGate, Sink, put_all};
-use rv_program::{RunError, ScriptError, read_script, run_raw, run_words};
-use samples::file;
-use std::alloc::{AllocError, Global};
+use rv_fleet::{Sink, put_all};
+use rv_program::{RunError, ScriptError, read_script, run_raw};
+use std::alloc::Global;
 use std::io::{self, Write};
 use std::sync::Wait;
 use std::test::Fail;
@@ -51,8 +51,8 @@ impl Write for CountingWriter {
 
 pub(crate) const RAW_WORDS: &str = "raw --budget 3";
 
-const RAW_TEXT: &str = "\
-job 1 raw
+const RAW_ANSWER: &str = "\
+0||job 1 raw
 end exit 5
 steps 2
 console -
@@ -61,106 +61,117 @@ verdict none
 done 1
 ";
 
-// The program's answer to a flat image that a slow reader gives.
-fn ask_slow(
-    rt: &(impl Threads + Wait),
-    alloc: Global,
-    bytes: &[u8],
-    fails: bool,
-) -> Result<Answer, AllocError> {
-    let mut store = MemoryStore::new(alloc);
-    let mut input = SlowReader { bytes, fails };
-    ask(
-        rt,
-        alloc,
-        RAW_WORDS,
-        &mut store,
-        &mut input,
-        MemorySink::new(alloc),
-    )
-}
-
-#[test]
-fn reads_in_parts(rt: HostRuntime) -> Result<(), Fail> {
-    let alloc = rt.alloc();
-    assert!(rt; ask_slow(&rt, alloc, &ADD_AND_EXIT, false)?.is(0, RAW_TEXT, "")?);
-    let start: &[u8] = &[0x13, 0x05, 0x50, 0x00];
-    assert!(rt; ask_slow(&rt, alloc, start, true)?.is(3, "", "rvfleet: read failed\n")?);
-    Ok(())
-}
-
-#[test]
-fn writes_nothing_where_a_read_fails(rt: HostRuntime) {
-    let alloc = rt.alloc();
-    let mut out = MemorySink::new(alloc);
-    let mut input = SlowReader {
-        bytes: &[0x13],
-        fails: true,
-    };
-    let failed = run_raw(alloc, &mut input, &mut out, 3);
-    assert_eq!(rt; (failed, out.puts), (Err(RunError::ReadFailed), 0));
-}
-
-#[test]
-fn reads_no_further_than_it_needs(rt: HostRuntime) -> Result<(), Fail> {
-    let alloc = rt.alloc();
-    let long = vec![in alloc; 1u8; 1_048_580]?;
-    let mut input = long.as_slice();
-    let mut out = MemorySink::new(alloc);
-    assert_eq!(rt; run_raw(alloc, &mut input, &mut out, 3), Ok(()));
-    assert_eq!(rt; input.len(), 3);
-    let mut input = long.as_slice();
-    let all = read_at_most(alloc, &mut input, 2_000_000)
-        .ok()
-        .ok_or("all bytes")?;
-    assert_eq!(rt; (all.len(), input.len()), (1_048_580, 0));
-    Ok(())
-}
-
 // Sets x10 to 5 and x17 to 93, then ECALL.
 pub(crate) const ADD_AND_EXIT: [u8; 12] = [
     0x13, 0x05, 0x50, 0x00, 0x93, 0x08, 0xd0, 0x05, 0x73, 0x00, 0x00, 0x00,
 ];
 
-// The program's answer to that flat image, into a sink.
-fn ask_into(
+// The program's answer to a flat image that a slow reader gives, into a sink.
+fn slow_answer(
     rt: &(impl Threads + Wait),
     alloc: Global,
-    out: MemorySink,
-) -> Result<Answer, AllocError> {
-    let mut store = MemoryStore::new(alloc);
-    let mut input: &[u8] = &ADD_AND_EXIT;
-    ask(rt, alloc, RAW_WORDS, &mut store, &mut input, out)
+    count: usize,
+    fails: bool,
+    out: &mut MemorySink,
+) -> Result<String, Fail> {
+    let bytes = ADD_AND_EXIT.get(..count).ok_or("12 bytes")?;
+    raw_answer(rt, alloc, RAW_WORDS, &mut SlowReader { bytes, fails }, out)
+}
+
+// Whether that is the answer, into puts of so many bytes.
+fn is_answered(
+    rt: &(impl Threads + Wait),
+    alloc: Global,
+    count: usize,
+    fails: bool,
+    most: usize,
+    wanted: &str,
+) -> Result<bool, Fail> {
+    let mut out = MemorySink::failing(alloc, most, 0);
+    Ok(slow_answer(rt, alloc, count, fails, &mut out)?.as_str() == wanted)
+}
+
+// how many bytes are read | whether the next read fails | the most bytes of a put | the answer
+const SLOW: [(usize, bool, usize, &str); 3] = [
+    (12, false, usize::MAX, RAW_ANSWER),
+    (4, true, usize::MAX, "3|rvfleet: read failed\n|"),
+    (12, false, 1, RAW_ANSWER),
+];
+
+#[test]
+fn reads_and_writes_in_parts(rt: HostRuntime) -> Result<(), Fail> {
+    for (count, fails, most, wanted) in SLOW {
+        assert!(rt;
+            is_answered(&rt, rt.alloc(), count, fails, most, wanted)?,
+            "{count}, {most}"
+        );
+    }
+    Ok(())
+}
+
+// The error of a run of one byte behind which the read fails, and the number of puts.
+fn failed_run(alloc: Global) -> (Result<(), RunError>, u64) {
+    let mut out = MemorySink::new(alloc);
+    let mut input = SlowReader {
+        bytes: &[0x13],
+        fails: true,
+    };
+    (run_raw(alloc, &mut input, &mut out, 3), out.puts)
+}
+
+#[test]
+fn writes_nothing_where_a_read_fails(rt: HostRuntime) {
+    assert_eq!(rt; failed_run(rt.alloc()), (Err(RunError::ReadFailed), 0));
+}
+
+// What a run leaves of bytes.
+fn left_by_a_run(alloc: Global, bytes: &[u8]) -> (Result<(), RunError>, usize) {
+    let mut input = bytes;
+    let run = run_raw(alloc, &mut input, &mut MemorySink::new(alloc), 3);
+    (run, input.len())
+}
+
+// How many bytes are read of these, and how many are left.
+fn read_of(alloc: Global, bytes: &[u8]) -> (usize, usize) {
+    let mut input = bytes;
+    let read = read_at_most(alloc, &mut input, 2_000_000).map_or(0, |all| all.len());
+    (read, input.len())
+}
+
+#[test]
+fn reads_no_further_than_it_needs(rt: HostRuntime) -> Result<(), Fail> {
+    let long = vec![in rt.alloc(); 1u8; 1_048_580]?;
+    let found = (left_by_a_run(rt.alloc(), &long), read_of(rt.alloc(), &long));
+    assert_eq!(rt; found, ((Ok(()), 3), (1_048_580, 0)));
+    Ok(())
 }
 
 // Whether a put that fails leaves the text of the puts before it, ten bytes each.
 fn stops_at(rt: &(impl Threads + Wait), alloc: Global, fails_at: u64) -> Result<bool, Fail> {
-    let cut = ask_into(rt, alloc, MemorySink::failing(alloc, 10, fails_at))?;
+    let mut out = MemorySink::failing(alloc, 10, fails_at);
+    let cut = slow_answer(rt, alloc, 12, false, &mut out)?;
     let taken = (fails_at as usize).saturating_sub(1).saturating_mul(10);
-    let text = RAW_TEXT.get(..taken).ok_or("71 bytes")?;
-    let is_counted = (cut.out.puts, cut.out.failures()) == (fails_at, 1);
-    Ok(is_counted && cut.is(3, text, "rvfleet: write failed\n")?)
+    let is_counted = (out.puts, out.failures) == (fails_at, 1);
+    let text = RAW_ANSWER.strip_prefix("0||").unwrap_or("").get(..taken);
+    Ok(is_counted && cut.as_str().strip_prefix("3|rvfleet: write failed\n|") == text)
 }
 
+// The report has 71 bytes, so ten bytes a put make eight puts.
 #[test]
-fn writes_in_parts(rt: HostRuntime) -> Result<(), Fail> {
-    let alloc = rt.alloc();
-    let slow = ask_into(&rt, alloc, MemorySink::slow(alloc, 1))?;
-    assert!(rt; slow.is(0, RAW_TEXT, "")?);
-    // The report has 71 bytes, so ten bytes a put make eight puts.
+fn stops_at_each_put(rt: HostRuntime) -> Result<(), Fail> {
     for fails_at in 1..9 {
-        assert!(rt; stops_at(&rt, alloc, fails_at)?, "{fails_at}");
+        assert!(rt; stops_at(&rt, rt.alloc(), fails_at)?, "{fails_at}");
     }
     Ok(())
 }
 
 // The status, and the failures of the line's sink, where its first put fails and no path has a file.
 fn status_without_line(rt: &(impl Threads + Wait), alloc: Global, words: &[&str]) -> (u8, u64) {
-    let mut store = MemoryStore::new(alloc);
+    let mut store = SampleStore::new(alloc, &[], "jobs = missing");
     let mut input: &[u8] = &[];
     let mut out = MemorySink::new(alloc);
     let mut errors = MemorySink::failing(alloc, 10, 1);
-    let status = run_words(
+    let status = status_of(
         rt,
         alloc,
         words,
@@ -168,18 +179,15 @@ fn status_without_line(rt: &(impl Threads + Wait), alloc: Global, words: &[&str]
         &mut input,
         &mut out,
         &mut errors,
-        &FreeGate,
     );
-    (status, errors.failures())
+    (status, errors.failures)
 }
 
 #[test]
 fn ends_alike_where_its_line_fails(rt: HostRuntime) {
-    let alloc = rt.alloc();
-    let bad_words = status_without_line(&rt, alloc, &["rvfleet", "raw"]);
-    assert_eq!(rt; bad_words, (2, 1));
-    let no_list = status_without_line(&rt, alloc, &["rvfleet", "run", "jobs"]);
-    assert_eq!(rt; no_list, (3, 1));
+    let bad_words = status_without_line(&rt, rt.alloc(), &["rvfleet", "raw"]);
+    let no_list = status_without_line(&rt, rt.alloc(), &["rvfleet", "run", "jobs"]);
+    assert_eq!(rt; (bad_words, no_list), ((2, 1), (3, 1)));
 }
 
 // What putting ten bytes into a stream over this writer comes to: whether all were taken, the
@@ -205,16 +213,23 @@ fn puts_into_streams(rt: HostRuntime) {
     assert_eq!(rt; flush_fails, (false, 1, 1, 1));
 }
 
+// digits, and the bytes of the script
+const SCRIPTS: [(Option<&str>, Option<&[u8]>); 3] = [
+    (Some("4fE0"), Some(&[0x4f, 0xe0])),
+    (None, Some(&[])),
+    (Some("4"), None),
+];
+
+fn is_script(alloc: Global, digits: Option<&str>, bytes: Option<&[u8]>) -> bool {
+    match read_script(alloc, digits) {
+        Ok(script) => bytes == Some(script.as_slice()),
+        Err(error) => bytes.is_none() && error == ScriptError::Refused,
+    }
+}
+
 #[test]
-fn reads_scripts(rt: HostRuntime) -> Result<(), Fail> {
-    let alloc = rt.alloc();
-    let script = read_script(alloc, Some("4fE0")).ok().ok_or("a script")?;
-    assert_eq!(rt; script.as_slice(), [0x4f, 0xe0].as_slice());
-    let none = read_script(alloc, None).ok().ok_or("a script")?;
-    assert!(rt; none.is_empty());
-    assert_eq!(rt;
-        read_script(alloc, Some("4")).err(),
-        Some(ScriptError::Refused)
-    );
-    Ok(())
+fn reads_scripts(rt: HostRuntime) {
+    for (digits, bytes) in SCRIPTS {
+        assert!(rt; is_script(rt.alloc(), digits, bytes));
+    }
 }

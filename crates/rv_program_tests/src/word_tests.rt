@@ -1,8 +1,8 @@
 //! The words of the command: refused ones, the longest, and help.
 
-use crate::testing::{MemoryStore, ask_raw, ask_store};
-use samples::file;
-use std::alloc::{AllocError, Global};
+use crate::sample_store::told_of;
+use crate::testing::repeated;
+use std::alloc::Global;
 use std::sync::Wait;
 use std::test::Fail;
 use std::thread::Threads;
@@ -42,66 +42,85 @@ run jobs --group 4097
 run jobs --group x
 ";
 
-// Whether words are refused, and before the store is read.
+// What is told of words that are refused; no path is read.
+const REFUSED: &str = "0;|2|rvfleet: bad words\n|";
+
 fn is_refused(rt: &(impl Threads + Wait), alloc: Global, line: &str) -> Result<bool, Fail> {
-    let mut store = MemoryStore::new(alloc);
-    let answer = ask_store(rt, alloc, line, &mut store)?;
-    Ok(store.reads == 0 && answer.is(2, "", "rvfleet: bad words\n")?)
+    Ok(told_of(rt, alloc, line, &[], "")?.as_str() == REFUSED)
 }
 
 #[test]
 fn refuses_bad_words(rt: HostRuntime) -> Result<(), Fail> {
-    let alloc = rt.alloc();
     for line in BAD_WORDS.lines() {
-        assert!(rt; is_refused(&rt, alloc, line)?, "{line}");
+        assert!(rt; is_refused(&rt, rt.alloc(), line)?, "{line}");
     }
     Ok(())
 }
 
-pub(crate) fn repeated(alloc: Global, part: &str, count: usize) -> Result<String, AllocError> {
-    let mut text = String::new(alloc);
-    for _ in 0..count {
-        text.push_str(part)?;
-    }
-    Ok(text)
+// What is told of the words of a run of an image at a path, with a script of so many bytes.
+fn told_of_image(
+    rt: &(impl Threads + Wait),
+    alloc: Global,
+    path: &str,
+    script: usize,
+) -> Result<String, Fail> {
+    let digits = repeated(alloc, "4f", script)?;
+    let words = format!(in alloc; "one {path} --budget 10 --input-hex {digits}")?;
+    let files = format!(in alloc; "{path} = code 100002b7 0042a503 X")?;
+    told_of(rt, alloc, words.as_str(), &[], files.as_str())
 }
 
-// The words of a run of an image at a path and with a script of so many bytes.
-fn long_words(alloc: Global, path: &str, script: usize) -> Result<String, AllocError> {
-    let digits = repeated(alloc, "4f", script)?;
-    format!(in alloc; "one {path} --budget 10 --input-hex {digits}")
+// What is told of the words of a run of the list at a path where no file is.
+fn told_of_list(rt: &(impl Threads + Wait), alloc: Global, path: &str) -> Result<String, Fail> {
+    let words = format!(in alloc; "run {path}")?;
+    told_of(rt, alloc, words.as_str(), &[], "")
 }
+
+// Whether this is told, behind the path where one is read, of a path of so many letters: of an image with a script of
+// so many bytes, or of a list.
+fn tells_of_path(
+    rt: &(impl Threads + Wait),
+    alloc: Global,
+    letters: usize,
+    script: Option<usize>,
+    wanted: &str,
+) -> Result<bool, Fail> {
+    let path = repeated(alloc, "a", letters)?;
+    let path = path.as_str();
+    let told = match script {
+        Some(bytes) => told_of_image(rt, alloc, path, bytes)?,
+        None => told_of_list(rt, alloc, path)?,
+    };
+    let told = told.as_str();
+    Ok(told.split_once(path).unwrap_or(("", told)).1 == wanted)
+}
+
+const LONGEST_SCRIPT: &str = "\
+;|0||job 1 one
+end exit 65536
+steps 3
+console -
+signature -
+verdict none
+done 1
+";
+
+const LONGEST: [(usize, Option<usize>, &str); 5] = [
+    (4096, Some(65_536), LONGEST_SCRIPT),
+    (5, Some(65_537), REFUSED),
+    (4097, Some(0), REFUSED),
+    (4096, None, ";|3|rvfleet: list unreadable\n|"),
+    (4097, None, REFUSED),
+];
 
 #[test]
 fn takes_the_longest_words(rt: HostRuntime) -> Result<(), Fail> {
-    let alloc = rt.alloc();
-    let path = repeated(alloc, "a", 4096)?;
-    let bytes = file(alloc, "code 100002b7 0042a503 X")?;
-    let mut store = MemoryStore::of(alloc, path.as_str(), bytes.as_slice())?;
-    let words = long_words(alloc, path.as_str(), 65_536)?;
-    let answer = ask_store(&rt, alloc, words.as_str(), &mut store)?;
-    assert!(rt; answer.status == 0 && answer.out.text()?.contains("end exit 65536\n"));
-
-    let words = long_words(alloc, "image", 65_537)?;
-    assert!(rt; is_refused(&rt, alloc, words.as_str())?);
-    let path = repeated(alloc, "a", 4097)?;
-    let words = long_words(alloc, path.as_str(), 0)?;
-    assert!(rt; is_refused(&rt, alloc, words.as_str())?);
-    Ok(())
-}
-
-#[test]
-fn takes_the_longest_path_of_a_list(rt: HostRuntime) -> Result<(), Fail> {
-    let alloc = rt.alloc();
-    let path = repeated(alloc, "a", 4096)?;
-    let words = format!(in alloc; "run {path}")?;
-    let mut store = MemoryStore::new(alloc);
-    let answer = ask_store(&rt, alloc, words.as_str(), &mut store)?;
-    assert!(rt; answer.is(3, "", "rvfleet: list unreadable\n")? && store.reads == 1);
-
-    let path = repeated(alloc, "a", 4097)?;
-    let words = format!(in alloc; "run {path}")?;
-    assert!(rt; is_refused(&rt, alloc, words.as_str())?);
+    for (letters, script, wanted) in LONGEST {
+        assert!(rt;
+            tells_of_path(&rt, rt.alloc(), letters, script, wanted)?,
+            "{letters}"
+        );
+    }
     Ok(())
 }
 
@@ -157,6 +176,14 @@ Options:
   -h, --help         Print help
 ";
 
+const HELPS: [(&str, &str); 5] = [
+    ("--help", HELP),
+    ("-h", HELP),
+    ("raw --help", RAW_HELP),
+    ("one --help", ONE_HELP),
+    ("run --help", RUN_HELP),
+];
+
 // Whether words are answered by this help.
 fn is_helped(
     rt: &(impl Threads + Wait),
@@ -164,16 +191,14 @@ fn is_helped(
     line: &str,
     text: &str,
 ) -> Result<bool, Fail> {
-    ask_raw(rt, alloc, line, &[])?.is(0, text, "")
+    let told = told_of(rt, alloc, line, &[], "")?;
+    Ok(told.as_str().strip_prefix("0;|0||") == Some(text))
 }
 
 #[test]
 fn shows_help(rt: HostRuntime) -> Result<(), Fail> {
-    let alloc = rt.alloc();
-    assert!(rt; is_helped(&rt, alloc, "--help", HELP)?);
-    assert!(rt; is_helped(&rt, alloc, "-h", HELP)?);
-    assert!(rt; is_helped(&rt, alloc, "raw --help", RAW_HELP)?);
-    assert!(rt; is_helped(&rt, alloc, "one --help", ONE_HELP)?);
-    assert!(rt; is_helped(&rt, alloc, "run --help", RUN_HELP)?);
+    for (line, text) in HELPS {
+        assert!(rt; is_helped(&rt, rt.alloc(), line, text)?, "{line}");
+    }
     Ok(())
 }
