@@ -1,7 +1,6 @@
 -- From what workers made to the rows in order.
-use Rattle.std.proofs.Common.{◌≡◌, ℕ, suc, ◌+◌, ◌*◌, ◌<◌, Bool, true, nat_lt, List, [], ◌∷◌, map, length, take, All, IfOk, IfSome, None, Ok, Vec, Global, refl, sym, ap, ◌∙◌, subst, arith}
+use Rattle.std.proofs.Common.{◌≡◌, ℕ, suc, ◌+◌, ◌*◌, ◌<◌, Bool, true, nat_lt, List, [], ◌∷◌, map, length, take, All, IfOk, IfSome, None, Ok, Vec, Global, refl, sym, subst, arith}
 use Rattle.std.specs.Prelude.{Option, slice_index_or}
-use Rattle.std.specs.Int.{div_ceil}
 use Rattle.std.specs.List.{filter}
 use Rattle.std.proofs.lemmas.Bool.{ltb-true}
 use Rattle.std.proofs.lemmas.List.{length-map}

@@ -168,7 +168,16 @@ fn rows_in_slot<G: Gate>(
         None => {
             let mut spare = Spare::new();
             let mut recent = Recent::new(alloc);
-            let made = make_piece(alloc, plan, places, group, gate, number, &mut spare, &mut recent)?;
+            let made = make_piece(
+                alloc,
+                plan,
+                places,
+                group,
+                gate,
+                number,
+                &mut spare,
+                &mut recent,
+            )?;
             Ok(made.piece.rows)
         }
     }

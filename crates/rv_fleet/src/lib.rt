@@ -20,7 +20,7 @@ pub use piece::Piece;
 pub use rv_claims::{Claims, Pass, SplitError};
 pub use rv_rows::{
     Loadable, Outcome, Refusal, Report, Row, RowEnd, Rows, SignatureRange, Sink, SinkFailed,
-    Verdict, Words, WriteError, flat_row, narrower_sets_only_refuse, parts_have_the_rows_of_the_whole, put_all, row_at, run_one,
-    write_report,
+    Verdict, Words, WriteError, flat_row, narrower_sets_only_refuse,
+    parts_have_the_rows_of_the_whole, put_all, row_at, run_one, write_report,
 };
 pub use worker::work;

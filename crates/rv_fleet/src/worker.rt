@@ -65,7 +65,16 @@ pub(crate) fn work_on<G: Gate>(
     let mut spare = Spare::new();
     let mut recent = Recent::new(alloc);
     while let Some(number) = claims.take(pass) {
-        let made = make_piece(alloc, plan, places, group, gate, number, &mut spare, &mut recent)?;
+        let made = make_piece(
+            alloc,
+            plan,
+            places,
+            group,
+            gate,
+            number,
+            &mut spare,
+            &mut recent,
+        )?;
         pieces.push(made.piece)?;
         if !made.goes_on {
             return Ok(pieces);

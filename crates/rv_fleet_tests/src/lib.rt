@@ -9,6 +9,8 @@ mod fleet_tests;
 #[cfg(test)]
 mod naming_tests;
 #[cfg(test)]
+mod places_tests;
+#[cfg(test)]
 mod recent_tests;
 #[cfg(test)]
 mod worker_tests;

@@ -5,7 +5,6 @@ use rv_fleet::{Gate, PlacesError, Rows, run_places};
 use rv_jobs::marked_places;
 use samples::ONE_SEGMENT;
 use std::alloc::Global;
-use std::process::Abort;
 use std::sync::Wait;
 use std::sync::atomic::{AtomicU64, Ordering};
 use std::test::Fail;
@@ -42,7 +41,7 @@ xxxx|1|1|2|stopped: 2 rows in 2 pieces
 xxxx|1|3|1|stopped: 3 rows in 1 pieces
 xxxx|1|4|1|stopped: 4 rows in 1 pieces";
 
-fn run<R: Threads + Wait + Abort>(
+fn run<R: Threads + Wait>(
     rt: &R,
     alloc: Global,
     choice: &str,
@@ -54,10 +53,13 @@ fn run<R: Threads + Wait + Abort>(
     for mark in choice.bytes() {
         marks.push(mark == b'x')?;
     }
-    let plan = plan_of(alloc, marks.len(), ONE_SEGMENT)?;
+    let plan = plan_of(alloc, marks.len(), &ONE_SEGMENT)?;
     let places = marked_places(alloc, marks.as_slice())?;
-    assert!(rt; marks.len() == plan.jobs());
-    assert!(rt; 0 < workers && workers <= 64 && 0 < group && group <= 4096);
+    if marks.len() != plan.jobs() {
+        return Err("a mark for each job".into());
+    }
+    let workers = workers.clamp(1, 64);
+    let group = group.clamp(1, 4096);
     Ok(run_places(rt, alloc, &plan, places.as_slice(), workers, group, gate))
 }
 
@@ -70,7 +72,7 @@ fn names_of(alloc: Global, rows: &Rows) -> Result<String, Fail> {
     Ok(names)
 }
 
-fn answer<R: Threads + Wait + Abort>(rt: &R, alloc: Global, line: &str) -> Result<String, Fail> {
+fn answer<R: Threads + Wait>(rt: &R, alloc: Global, line: &str) -> Result<String, Fail> {
     let mut cells = line.split('|');
     let choice = cells.next().ok_or("a choice")?;
     let workers = cells.next().ok_or("workers")?.parse::<u32>()?;
@@ -83,7 +85,7 @@ fn answer<R: Threads + Wait + Abort>(rt: &R, alloc: Global, line: &str) -> Resul
     };
     let mut text = match run(rt, alloc, choice, workers, group, &gate)? {
         Ok(rows) => names_of(alloc, &rows)?,
-        Err(error) => String::from_str(alloc, error.name())?,
+        Err(error) => error.to_string(alloc)?,
     };
     let rows = gate.rows.load(Ordering::SeqCst);
     let pieces = gate.pieces.load(Ordering::SeqCst);

@@ -1,15 +1,12 @@
 -- Answers by their paths, and the paths of jobs in order of first use.
 use Rattle.std.proofs.Common.{◌≡◌, ◌∙◌, ◌+◌, ◌<◌, ◌++◌, Bool, true, false, ℕ, zero, suc, List, [], ◌∷◌, Option, Some}
-use Rattle.std.proofs.Common.{None, refl, ap, sym, length, option_map, cond, arith, subst, get_or, is_some, take}
+use Rattle.std.proofs.Common.{None, refl, ap, sym, length, option_map, cond, arith, subst, get_or, is_some}
 use Rattle.std.specs.Prelude.{unwrap_or}
-use Rattle.std.proofs.Common.{IfSome, inl, inr, option_and_then, map, length-append}
-use Rattle.std.specs.List.{find, fold}
+use Rattle.std.proofs.Common.{IfSome, option_and_then, map, length-append}
+use Rattle.std.specs.List.{find}
 use Rattle.std.specs.Str.{bytes_eq}
-use Rattle.std.proofs.lemmas.List.{map-append, get_or_default, get_or_push, length-map}
-use Rattle.std.proofs.lemmas.Bool.{cases_lt}
-use Rattle.std.proofs.Math.ListN.{get_or-append}
-use Rattle.std.proofs.lemmas.List.Sums.{sum_by-append, fold_more}
-use Rattle.std.proofs.Math.Seq.{take-length}
+use Rattle.std.proofs.lemmas.List.{map-append, length-map}
+use Rattle.std.proofs.lemmas.List.Sums.{sum_by-append}
 use Rattle.std.proofs.lemmas.List.Elements.{All-push}
 use Rattle.rv_jobs.specs.declared.job.Job.{Job}
 use Rattle.rv_jobs.specs.declared.store.Kept.{Kept}
@@ -19,7 +16,7 @@ use Rattle.rv_jobs.specs.declared.asking.Places.{Places}
 use Rattle.rv_jobs.specs.JobList.{place_in}
 use Rattle.rv_jobs.specs.Stores.{FileContents, IsKeptOf, is_unreadable, one_more, faults_with}
 use Rattle.rv_jobs.specs.Jobs.{console_path}
-use Rattle.rv_jobs.specs.Plans.{paths_of, answers_with, with_path, with_path_if, with_job, paths_used, kept_of}
+use Rattle.rv_jobs.specs.Plans.{paths_of, answers_with, with_path, with_path_if, with_job, kept_of}
 use Rattle.rv_jobs.specs.Plans.{AreKept, kept_for, unreadables, more}
 use Rattle.rv_jobs.specs.Placed.{ArePlaced, IsFound}
 use Rattle.rv_jobs.proofs.PlaceLemmas.{place_below, place_last}
@@ -276,8 +273,13 @@ module _ (all : List Answer) (ps : List (List ℕ)) (ks : List Kept) (even : len
   pub kept_below : (k : ℕ) → at ≡ Some k → IfSome at (λ j. j < length all) → k < length ks
   kept_below k is within =
       let below : k < length all = subst (λ o. IfSome o (λ j. j < length all)) is within in
-      omega (arith, below, ap length (sym view), ap (length {A = Kept}) (kept-with ps ks even),
-      length-map (answers_with ps ks) (λ (a : Answer). a.kept))
+      omega (
+        arith,
+        below,
+        ap length (sym view),
+        ap (length {A = Kept}) (kept-with ps ks even),
+        length-map (answers_with ps ks) (λ (a : Answer). a.kept),
+      )
 
   same_place : (p : List ℕ) → place_in (paths_of all) p ≡ at → place_in ps p ≡ at
   same_place p placed = ap (λ l. place_in l p) (sym (paths-with ps ks even) ∙ ap paths_of view) ∙ placed

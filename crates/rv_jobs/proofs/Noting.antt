@@ -1,5 +1,5 @@
 -- The places that are noted of jobs while their paths are asked for.
-use Rattle.std.proofs.Common.{◌≡◌, ◌∙◌, ◌<◌, ◌≤◌, Bool, true, false, ℕ, List, [], ◌∷◌, Option, Some, None, refl, ap, sym}
+use Rattle.std.proofs.Common.{◌≡◌, ◌∙◌, ◌<◌, true, ℕ, List, [], ◌∷◌, Option, Some, None, ap, sym}
 use Rattle.std.proofs.Common.{length, arith, subst, get_or, is_some, IfSome, inl, inr}
 use Rattle.std.specs.Prelude.{slice_set}
 use Rattle.std.proofs.lemmas.Bool.{cases_lt}
@@ -66,12 +66,12 @@ module _ (xs ys : List (List ℕ)) (jobs : List Job) (noted : List (Option Place
     each = λ k. elim (cases_lt k i) [
       | inl low ↦ at_other k (λ e. omega arith)
       | inr high ↦ elim (cases_lt i k) [
-          | inl above ↦ at_other k (λ e. omega arith)
-          | inr not_above ↦
-              let same : i ≡ k = omega arith in
-              subst (λ n. IfSome (get_or (slice_set noted i (Some at)) n None)
-              (λ a. (d : Job) → ArePlaced ys (get_or jobs n d) a)) same at_itself
-        ]
+        | inl above ↦ at_other k (λ e. omega arith)
+        | inr not_above ↦
+            let same : i ≡ k = omega arith in
+            subst (λ n. IfSome (get_or (slice_set noted i (Some at)) n None)
+            (λ a. (d : Job) → ArePlaced ys (get_or jobs n d) a)) same at_itself
+      ]
     ];
   }
 

@@ -1,5 +1,5 @@
 -- What a plan answers for the paths of its jobs.
-use Rattle.std.proofs.Common.{◌≡◌, ◌∙◌, ◌<◌, ℕ, List, [], Option, Some, None, refl, ap, sym, length, subst, get_or}
+use Rattle.std.proofs.Common.{◌≡◌, ◌∙◌, ◌<◌, ℕ, List, [], Option, Some, None, ap, sym, length, subst, get_or}
 use Rattle.std.proofs.Common.{IfSome, option_map, option_and_then}
 use Rattle.std.proofs.lemmas.List.{get_or_default}
 use Rattle.rv_jobs.specs.declared.job.Job.{Job}

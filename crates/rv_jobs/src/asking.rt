@@ -31,10 +31,7 @@ pub(crate) struct Found {
 }
 
 /// Room for the places of each job, where no job has been asked for.
-pub(crate) fn nothing_noted(
-    alloc: Global,
-    jobs: &[Job],
-) -> Result<Vec<Option<Places>>, AllocError>
+pub(crate) fn nothing_noted(alloc: Global, jobs: &[Job]) -> Result<Vec<Option<Places>>, AllocError>
     ensures { IfOk result (λ noted. AreNoted [] jobs.now noted.items) }
 {
     let mut noted = Vec::with_capacity(alloc, jobs.len())?;

@@ -22,7 +22,12 @@ x....|br: b r none, unreadable none unreadable, unreadable none none, unreadable
 .x..x|axb: b unreadable none, a none unreadable, unreadable none none, unreadable none none, b a none
 xxxxx|braxly: b r none, a none unreadable, long none none, unreadable none none, b a none";
 
-fn gathered(rt: &impl Abort, alloc: Global, choice: &str, store: &mut ListingStore) -> Result<Plan, Fail> {
+fn gathered(
+    rt: &impl Abort,
+    alloc: Global,
+    choice: &str,
+    store: &mut ListingStore,
+) -> Result<Plan, Fail> {
     let list = jobs_of(rt, alloc, LIST);
     let mut marks = Vec::new(alloc);
     for mark in choice.bytes() {
@@ -34,7 +39,10 @@ fn gathered(rt: &impl Abort, alloc: Global, choice: &str, store: &mut ListingSto
 }
 
 fn answer(rt: &impl Abort, alloc: Global, choice: &str) -> Result<String, Fail> {
-    let mut store = ListingStore::new(alloc);
+    let mut store = ListingStore {
+        log: String::new(alloc),
+        faults: 0,
+    };
     let plan = gathered(rt, alloc, choice, &mut store)?;
     let mut text = store.log;
     for i in 0..plan.jobs() {

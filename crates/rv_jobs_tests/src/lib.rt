@@ -3,6 +3,8 @@
 #![tactic(auto)]
 
 #[cfg(test)]
+mod choice_tests;
+#[cfg(test)]
 mod fault_tests;
 #[cfg(test)]
 mod limit_tests;

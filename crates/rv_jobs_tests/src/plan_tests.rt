@@ -14,7 +14,7 @@ use std::process::Abort;
 use std::test::Fail;
 
 /// The jobs of a list that is good.
-fn jobs_of(rt: &impl Abort, alloc: Global, list: &str) -> JobList {
+pub(crate) fn jobs_of(rt: &impl Abort, alloc: Global, list: &str) -> JobList {
     read_jobs(alloc, list.as_bytes()).expect(rt, "a good list")
 }
 
@@ -91,9 +91,9 @@ fn single_job(rt: HostRuntime) -> Result<(), Fail> {
 /// A store with the files `a`, `b` and `r`, of which each holds its own name, and a long one `l`; it
 /// lists the paths that it was read at.
 #[derive(Drop)]
-struct ListingStore {
-    log: String,
-    faults: u64,
+pub(crate) struct ListingStore {
+    pub(crate) log: String,
+    pub(crate) faults: u64,
 }
 
 impl Store for ListingStore {
@@ -138,12 +138,12 @@ fn word_of(kept: Option<&Kept>) -> &'static str {
     }
 }
 
-fn image_of(rt: &impl Abort, plan: &Plan, i: usize) -> &'static str {
+pub(crate) fn image_of(rt: &impl Abort, plan: &Plan, i: usize) -> &'static str {
     assert!(rt; i < plan.jobs());
     word_of(Some(plan.image(i)))
 }
 
-fn reference_of(rt: &impl Abort, plan: &Plan, i: usize) -> &'static str {
+pub(crate) fn reference_of(rt: &impl Abort, plan: &Plan, i: usize) -> &'static str {
     assert!(rt; i < plan.jobs());
     word_of(plan.reference(i))
 }
@@ -157,7 +157,7 @@ const PATHS: &str = "job = [
 { name = 'n5', image = 'x', budget = 1, expect_console_file = 'a' },
 { name = 'n6', image = 'y', budget = 1, signature = ['s', 's'], expect_signature = 'z', expect_console_file = 'l' }]";
 
-fn console_of(rt: &impl Abort, plan: &Plan, i: usize) -> &'static str {
+pub(crate) fn console_of(rt: &impl Abort, plan: &Plan, i: usize) -> &'static str {
     assert!(rt; i < plan.jobs());
     word_of(plan.console_reference(i))
 }

@@ -13,6 +13,8 @@ mod hostile_tests;
 #[cfg(test)]
 mod image_tests;
 #[cfg(test)]
+mod known_tests;
+#[cfg(test)]
 mod limit_tests;
 #[cfg(test)]
 mod list_tests;

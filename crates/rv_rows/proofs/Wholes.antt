@@ -1,6 +1,6 @@
 -- The rows of a choice of jobs are those of the whole.
-use Rattle.std.proofs.Common.{◌≡◌, ◌∙◌, ℕ, suc, ◌+◌, ◌-◌, ◌<◌, List, [], ◌∷◌, ◌++◌, Option, Some, None, length, get_or}
-use Rattle.std.proofs.Common.{refl, sym, ap, subst, arith, option_map, length-append}
+use Rattle.std.proofs.Common.{◌≡◌, ◌∙◌, ℕ, suc, ◌+◌, ◌-◌, List, [], ◌∷◌, Option, Some, None, length, get_or}
+use Rattle.std.proofs.Common.{refl, ap, subst, arith, option_map, length-append}
 use Rattle.std.specs.Prelude.{option_and_then, slice_get}
 use Rattle.std.specs.List.{All}
 use Rattle.std.proofs.lemmas.Option.{get_or_from_slice_get}

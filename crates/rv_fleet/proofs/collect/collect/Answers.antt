@@ -1,4 +1,3 @@
-use Rattle.std.proofs.lemmas.List.Elements.{All-rest}
 use Rattle.rv_rows.specs.Rows.{rows_at}
 use Rattle.rv_fleet.specs.Promised.{HasWorked}
 use Rattle.rv_fleet.proofs.Collects.{All-first, pieces_worked}

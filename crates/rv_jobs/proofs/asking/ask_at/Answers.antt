@@ -1,4 +1,4 @@
-use Rattle.std.proofs.Common.{◌∙◌, sym, ap}
+use Rattle.std.proofs.Common.{◌∙◌, sym}
 use Rattle.rv_jobs.specs.Jobs.{single_job}
 use Rattle.std.proofs.Common.{[]}
 use Rattle.rv_jobs.specs.Plans.{paths_of}

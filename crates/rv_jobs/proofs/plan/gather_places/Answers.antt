@@ -1,4 +1,4 @@
-use Rattle.std.proofs.Common.{◌≡◌, ◌∙◌, refl, ap, arith, length, sym, subst, get_or, List}
+use Rattle.std.proofs.Common.{◌∙◌, refl, ap, arith, length, sym, subst, get_or, List}
 use Rattle.std.specs.List.{fold}
 use Rattle.std.proofs.lemmas.List.{length-map}
 use Rattle.rv_jobs.specs.declared.answers.Answer.{Answer}
