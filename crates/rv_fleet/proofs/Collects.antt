@@ -1,5 +1,6 @@
 -- From what workers made to the rows in order.
-use Rattle.std.proofs.Common.{◌≡◌, ℕ, suc, ◌+◌, ◌*◌, ◌<◌, Bool, true, nat_lt, List, [], ◌∷◌, map, length, take, All, IfOk, IfSome, None, Ok, Vec, Global, refl, sym, subst, arith}
+use Rattle.std.proofs.Common.{◌≡◌, ℕ, suc, ◌+◌, ◌*◌, ◌<◌, Bool, true, nat_lt, List, [], ◌∷◌, map, length, take, All}
+use Rattle.std.proofs.Common.{IfOk, IfSome, None, Ok, Vec, Global, refl, sym, subst, arith}
 use Rattle.std.specs.Prelude.{Option, slice_index_or}
 use Rattle.std.specs.List.{filter}
 use Rattle.std.proofs.lemmas.Bool.{ltb-true}
@@ -42,15 +43,22 @@ pieces_worked rows group draw worked made has is total =
     (filter_passes low drawn)))
 
 -- what stands at the first of the places that are left, and at the others
-pub place_here : (P : ℕ → List Row → Type 0) (old new : List (Option (List Row))) (place : Option (List Row)) (number : ℕ) → old ≡ place ∷ new → ((k : ℕ) → IfSome (slice_index_or old k None) (P (number + k))) → IfSome place (P number)
+pub place_here : (P : ℕ → List Row → Type 0) (old new : List (Option (List Row))) (place : Option (List Row))
+    (number : ℕ) → old ≡ place ∷ new → ((k : ℕ) → IfSome (slice_index_or old k None) (P (number + k)))
+    → IfSome place (P number)
 place_here P old new place number e all =
     let n : number + 0 ≡ number = omega arith in
-    subst (λ (m : ℕ). IfSome place (P m)) n (subst (λ (l : List (Option (List Row))). IfSome (slice_index_or l 0 None) (P (number + 0))) e (all 0))
+    subst (λ (m : ℕ). IfSome place (P m)) n
+    (subst (λ (l : List (Option (List Row))). IfSome (slice_index_or l 0 None) (P (number + 0))) e (all 0))
 
-pub places_left : (P : ℕ → List Row → Type 0) (old new : List (Option (List Row))) (place : Option (List Row)) (number : ℕ) → old ≡ place ∷ new → ((k : ℕ) → IfSome (slice_index_or old k None) (P (number + k))) → (k : ℕ) → IfSome (slice_index_or new k None) (P (number + 1 + k))
+pub places_left : (P : ℕ → List Row → Type 0) (old new : List (Option (List Row))) (place : Option (List Row))
+    (number : ℕ) → old ≡ place ∷ new → ((k : ℕ) → IfSome (slice_index_or old k None) (P (number + k))) → (k : ℕ)
+    → IfSome (slice_index_or new k None) (P (number + 1 + k))
 places_left P old new place number e all k =
     let n : number + suc k ≡ number + 1 + k = omega arith in
-    subst (λ (m : ℕ). IfSome (slice_index_or new k None) (P m)) n (subst (λ (l : List (Option (List Row))). IfSome (slice_index_or l (suc k) None) (P (number + suc k))) e (all (suc k)))
+    subst (λ (m : ℕ). IfSome (slice_index_or new k None) (P m)) n
+    (subst (λ (l : List (Option (List Row))). IfSome (slice_index_or l (suc k) None) (P (number + suc k))) e
+    (all (suc k)))
 
 -- a row for each place
 pub rows_count : (plan : Planned) (places : List ℕ) → length (rows_at plan places) ≡ length places

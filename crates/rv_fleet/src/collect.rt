@@ -40,7 +40,8 @@ pub(crate) fn collect(
     requires chosen { AreChosen plan.now places.now }
     requires pieces { claims.now.pieces ≡ pieces_in (rows_at plan.now places.now) group }
     requires worked { HaveWorked (rows_at plan.now places.now) group claims.now worked.items }
-    ensures slots { IfOk result (λ all. IsFilled (rows_at plan.now places.now) group all.slots.items) }
+    ensures slots { IfOk result (λ all. IsFilled
+        (rows_at plan.now places.now) group all.slots.items) }
     ensures pass { IfOk result (λ all. IfSome all.pass (λ pass. pass.draw ≡ claims.now)) }
 {
     let mut slots = empty_slots(alloc, plan, places, group)?;
@@ -160,7 +161,8 @@ fn rows_in_slot<G: Gate>(
     requires chosen { AreChosen plan.now places.now }
     requires number { number < pieces_in (rows_at plan.now places.now) group }
     requires gate { Hears (G.awaits gate.now) (rows_at plan.now places.now) group }
-    requires slot { IfSome slot (λ rows. rows ≡ slice_chunk (rows_at plan.now places.now) group number) }
+    requires slot { IfSome slot (λ rows. rows
+        ≡ slice_chunk (rows_at plan.now places.now) group number) }
     ensures { IfOk result (λ rows. rows ≡ slice_chunk (rows_at plan.now places.now) group number) }
 {
     match slot {

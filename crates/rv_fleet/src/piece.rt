@@ -52,9 +52,11 @@ pub(crate) fn make_piece<G: Gate>(
     requires group { 0 < group }
     requires places { AreChosen plan.now places.now }
     requires number { number < pieces_in (rows_at plan.now places.now) group }
-    requires gate { G.awaits gate.now number (slice_chunk (rows_at plan.now places.now) group number) }
+    requires gate { G.awaits gate.now number (slice_chunk
+        (rows_at plan.now places.now) group number) }
     requires recent { AreOutcomes plan.now recent.old }
-    ensures piece { IfOk result (λ made. made.piece ≡ piece_for (rows_at plan.now places.now) group number) }
+    ensures piece { IfOk result (λ made. made.piece
+        ≡ piece_for (rows_at plan.now places.now) group number) }
     ensures recent { OnOk result (AreOutcomes plan.now recent.new) }
     ensures goes_on { IfOk result (λ made. IsFalse made.goes_on → G.stops gate.now) }
 {
@@ -78,7 +80,8 @@ fn rows_of_piece(
     requires places { AreChosen plan.now places.now }
     requires number { number < pieces_in (rows_at plan.now places.now) group }
     requires recent { AreOutcomes plan.now recent.old }
-    ensures rows { IfOk result (λ rows. rows ≡ slice_chunk (rows_at plan.now places.now) group number) }
+    ensures rows { IfOk result (λ rows. rows ≡ slice_chunk
+        (rows_at plan.now places.now) group number) }
     ensures recent { OnOk result (AreOutcomes plan.now recent.new) }
 {
     let jobs = places.len();

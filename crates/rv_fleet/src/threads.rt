@@ -103,15 +103,20 @@ fn run_workers<R: Threads + Wait, G: Gate>(
     requires chosen { AreChosen plan.now places.now }
     requires gate { Hears (G.awaits gate.now) (rows_at plan.now places.now) group }
     requires passes { AreFresh claims.now passes.items }
-    ensures { IfOk result (λ worked. HaveWorked (rows_at plan.now places.now) group claims.now worked.items) }
+    ensures { IfOk result (λ worked. HaveWorked
+        (rows_at plan.now places.now) group claims.now worked.items) }
 {
     thread::scope(
         thread::scope_env(),
         rt,
         |scope| -> Result<Vec<Worked>, FleetError>
-            requires { (0 < group) × (group ≤ 4096) × (claims.now.pieces ≡ pieces_in (rows_at plan.now places.now) group)
-                × AreChosen plan.now places.now × Hears (G.awaits gate.now) (rows_at plan.now places.now) group × AreFresh claims.now passes.items }
-            ensures { IfOk result (λ worked. HaveWorked (rows_at plan.entry.now places.entry.now) group claims.entry.now worked.items) }
+            requires { (0 < group) × (group ≤ 4096)
+                × (claims.now.pieces ≡ pieces_in (rows_at plan.now places.now) group)
+                × AreChosen plan.now places.now
+                × Hears (G.awaits gate.now) (rows_at plan.now places.now) group
+                × AreFresh claims.now passes.items }
+            ensures { IfOk result (λ worked. HaveWorked
+                (rows_at plan.entry.now places.entry.now) group claims.entry.now worked.items) }
         {
             let mut handles = Vec::with_capacity(alloc, passes.len())?;
             for pass in passes {
@@ -124,9 +129,13 @@ fn run_workers<R: Threads + Wait, G: Gate>(
                 let Ok(handle) = scope.spawn_with(
                     promise,
                     move || -> Worked
-                        requires { (0 < group) × (group ≤ 4096) × (claims.now.pieces ≡ pieces_in (rows_at plan.now places.now) group)
-                            × AreChosen plan.now places.now × Hears (G.awaits gate.now) (rows_at plan.now places.now) group × (pass.draw ≡ claims.now) × (pass.draws ≡ []) }
-                        ensures { HasWorked (rows_at plan.entry.now places.entry.now) group claims.entry.now result }
+                        requires { (0 < group) × (group ≤ 4096)
+                            × (claims.now.pieces ≡ pieces_in (rows_at plan.now places.now) group)
+                            × AreChosen plan.now places.now
+                            × Hears (G.awaits gate.now) (rows_at plan.now places.now) group
+                            × (pass.draw ≡ claims.now) × (pass.draws ≡ []) }
+                        ensures { HasWorked (rows_at plan.entry.now places.entry.now) group
+                            claims.entry.now result }
                     { work_with(alloc, claims, pass, plan, places, group, gate) },
                 ) else {
                     return Err(FleetError::NoWorker);

@@ -301,7 +301,8 @@ pub path_below : (all : List Answer) (ps : List (List ℕ)) (ks : List Kept) →
 path_below all ps ks even view p at placed =
     subst (λ o. IfSome o (λ k. k < length all)) placed
     (subst (λ n. IfSome (place_in ps p) (λ k. k < n))
-    (sym (ap length (paths-with ps ks even)) ∙ length-map (answers_with ps ks) (λ (a : Answer). a.path) ∙ ap length view)
+    (sym (ap length (paths-with ps ks even)) ∙ length-map (answers_with ps ks) (λ (a : Answer). a.path)
+    ∙ ap length view)
     (place_below ps p))
 
 -- the places of the paths of a job that was asked for

@@ -1,5 +1,6 @@
 -- The paths that rows need, place by place.
-use Rattle.std.proofs.Common.{◌≡◌, ◌∙◌, ◌+◌, ◌<◌, ◌≤◌, ◌++◌, true, false, ℕ, zero, suc, List, [], ◌∷◌, Option, Some, None}
+use Rattle.std.proofs.Common.{◌≡◌, ◌∙◌, ◌+◌, ◌<◌, ◌≤◌, ◌++◌, true, false, ℕ, zero, suc, List, [], ◌∷◌, Option, Some}
+use Rattle.std.proofs.Common.{None}
 use Rattle.std.proofs.Common.{IfSome, refl, ap, sym, length, arith, get_or, is_some, take, append-nil, option_map}
 use Rattle.std.specs.List.{fold}
 use Rattle.std.proofs.Math.Seq.{take-length}
@@ -43,7 +44,8 @@ stays_if xs (Some p) q h = stays xs p q h
 
 put_in_if : (xs : List (List ℕ)) (o : Option (List ℕ)) (p : List ℕ) → o ≡ Some p → IsThere (with_path_if xs o) p
 put_in_if xs None p e = cc
-put_in_if xs (Some q) p e = let same : q ≡ p = cc in ap (λ z. is_some (place_in (with_path xs q) z)) (sym same) ∙ put_in xs q
+put_in_if xs (Some q) p e = let same : q ≡ p = cc in ap (λ z. is_some (place_in (with_path xs q) z)) (sym same)
+    ∙ put_in xs q
 
 old_if : (xs : List (List ℕ)) (o : Option (List ℕ)) → ((p : List ℕ) → o ≡ Some p → IsThere xs p)
     → with_path_if xs o ≡ xs

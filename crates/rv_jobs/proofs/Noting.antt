@@ -20,7 +20,8 @@ old_at xs job None e h = cc
 old_at xs job (Some at) e h = sym (placed_old xs job at h)
 
 of_one : (xs : List (List ℕ)) (jobs : List Job) (i : ℕ) (d : Job) (o : Option Places)
-    → IfSome o (λ at. (d : Job) → ArePlaced xs (get_or jobs i d) at) → IfSome o (λ at. ArePlaced xs (get_or jobs i d) at)
+    → IfSome o (λ at. (d : Job) → ArePlaced xs (get_or jobs i d) at)
+    → IfSome o (λ at. ArePlaced xs (get_or jobs i d) at)
 of_one xs jobs i d None h = tt
 of_one xs jobs i d (Some at) h = h d
 
@@ -29,7 +30,8 @@ pub noted_old : (xs : List (List ℕ)) (jobs : List Job) (noted : List (Option P
     (o : Option Places) → AreNoted xs jobs noted → i < length jobs → o ≡ get_or noted i o → is_some o ≡ true
     → xs ≡ with_job xs (get_or jobs i d)
 noted_old xs jobs noted i d o are inside there e =
-    let same : o ≡ get_or noted i None = there ∙ get_or_default noted i o None (subst (λ n. i < n) (sym are.many) inside) in
+    let same : o ≡ get_or noted i None = there ∙ get_or_default noted i o None
+    (subst (λ n. i < n) (sym are.many) inside) in
     old_at xs (get_or jobs i d) o e
     (of_one xs jobs i d o (subst (λ p. IfSome p (λ at. (d : Job) → ArePlaced xs (get_or jobs i d) at)) (sym same)
     (are.each i)))

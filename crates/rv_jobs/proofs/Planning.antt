@@ -27,7 +27,8 @@ module _ (a : Inside) (is : IsPlanInside a) (p : Planned) (view : planned_of a �
 
   pub image_within : IfSome at.image (λ k. k < length p.answers)
   image_within =
-      let any = get_or a.jobs i (single_job [] 0 []) in path_within any.image at.image (found (single_job [] 0 [])).image
+      let any = get_or a.jobs i (single_job [] 0 []) in
+      path_within any.image at.image (found (single_job [] 0 [])).image
 
   pub image_at : (d : Job) → place_in (paths_of p.answers) (get_or p.jobs i d).image ≡ at.image
   image_at d = subst (λ (q : Planned). place_in (paths_of q.answers) (get_or q.jobs i d).image ≡ at.image) view
@@ -52,7 +53,8 @@ module _ (a : Inside) (is : IsPlanInside a) (p : Planned) (view : planned_of a �
         let same : named (get_or p.jobs i d) ≡ Some path =
         ap named (sym (job_is ∙ get_or_default p.jobs i job d within)) ∙ names in
         let stands : option_and_then (place_in (paths_of p.answers)) (named (get_or p.jobs i d)) ≡ place =
-        subst (λ (q : Planned). option_and_then (place_in (paths_of q.answers)) (named (get_or q.jobs i d)) ≡ place) view
+        subst (λ (q : Planned). option_and_then (place_in (paths_of q.answers)) (named (get_or q.jobs i d)) ≡ place)
+        view
         (ap (λ l. option_and_then (place_in l) (named (get_or a.jobs i d)))
         (paths-with (paths_read a) a.answers.items is.even) ∙ placed d) in
         ap (λ k. Some k) (told path (sym (ap (option_and_then (place_in (paths_of p.answers))) same) ∙ stands))

@@ -17,7 +17,8 @@ pub record ArePlaced (paths : List (List ℕ)) (job : Job) (at : Places) : Type 
       ≡ option_map (λ k. Some k) at.console
 
 -- what is noted of the jobs: of each the places of its paths, or nothing
-pub record AreNoted (paths : List (List ℕ)) (jobs : List Job) (noted : List (Option Places)) : Type 0 where
+pub record AreNoted (paths : List (List ℕ)) (jobs : List Job)
+    (noted : List (Option Places)) : Type 0 where
   pub many : length noted ≡ length jobs
   pub each : (i : ℕ) → IfSome (slice_index_or noted i None)
       (λ at. (d : Job) → ArePlaced paths (slice_index_or jobs i d) at)

@@ -55,7 +55,8 @@ pub(crate) fn ask_for_row<'a, S: Store>(
     requires place { place < length jobs.now }
     requires noted { AreNoted (paths_of asked) jobs.now noted.old.items }
     ensures same { S.contents store.new ≡ S.contents store.old }
-    ensures paths { IfOk result (λ a. paths_of a ≡ fold with_job (paths_of asked.entry) (needed_at jobs.now place)) }
+    ensures paths { IfOk result (λ a. paths_of a
+        ≡ fold with_job (paths_of asked.entry) (needed_at jobs.now place)) }
     ensures noted { IfOk result (λ a. AreNoted (paths_of a) jobs.now noted.new.items) }
     ensures kept { AreKept (S.contents store.old) asked.entry
         → IfOk result (AreKept (S.contents store.old)) }
@@ -206,7 +207,8 @@ fn found_at(asked: &Answers, job: &Job, noted: Option<Places>) -> Found
 
 /// The place of the answer of a path, where there is a path and it has an answer.
 fn place_of_any(asked: &Answers, path: Option<&str>) -> Option<usize>
-    ensures { result ≡ option_and_then (place_in (paths_of asked.now)) (option_map (λ p. p.now) path.entry) }
+    ensures { result ≡ option_and_then (place_in (paths_of asked.now))
+        (option_map (λ p. p.now) path.entry) }
 {
     match path {
         Some(path) => asked.place_of(path),

@@ -66,7 +66,8 @@ pub fn gather_places<S: Store>(
     requires { All (λ place. place < length jobs) places.items }
     ensures same { S.contents store.new ≡ S.contents store.old }
     ensures jobs { IfOk result (λ p. p.jobs ≡ jobs) }
-    ensures paths { IfOk result (λ p. paths_of p.answers ≡ paths_used (needed_for jobs places.items)) }
+    ensures paths { IfOk result (λ p. paths_of p.answers
+        ≡ paths_used (needed_for jobs places.items)) }
     ensures kept { IfOk result (λ p. AreKept (S.contents store.old) p.answers) }
     ensures faults { IfOk result (λ p. S.faulted store.new
         ≡ more (S.faulted store.old) (unreadables p.answers)) }

@@ -4,4 +4,8 @@ use Rattle.rv_fleet.specs.Collected.{IsPiece}
 use Rattle.rv_fleet.proofs.collect.keep_all.Goals as goal
 
 pub loop-piece-preserved : goal.loop-piece-preserved
-loop-piece-preserved c = (c.keep.ensures, All-rest (IsPiece (rows_at c.args.plan.now c.args.places.now) c.args.group) _ _ _ c.in-Some.ensures.steps.0 c.loop-piece.invariant.1)
+loop-piece-preserved c = (
+  c.keep.ensures,
+  All-rest (IsPiece (rows_at c.args.plan.now c.args.places.now) c.args.group) _
+      _ _ c.in-Some.ensures.steps.0 c.loop-piece.invariant.1,
+)

@@ -7,14 +7,19 @@ use Rattle.rv_fleet.proofs.collect.rows_in_order.Goals as goal
 
 pub rows_in_slot-requires-clause-slot : goal.rows_in_slot-requires-clause-slot
 rows_in_slot-requires-clause-slot g c κs within =
-    place_here (λ k rows. rows ≡ slice_chunk (rows_at c.args.plan.now c.args.places.now) c.args.group k) _ _ _ _ c.in-Some.ensures.steps.0 c.loop-slot.invariant.2
+    place_here (λ k rows. rows ≡ slice_chunk (rows_at c.args.plan.now c.args.places.now) c.args.group k) _ _ _ _
+    c.in-Some.ensures.steps.0 c.loop-slot.invariant.2
 
 pub loop-slot-preserved : goal.loop-slot-preserved
 loop-slot-preserved g c = (
-  chunk_more (rows_at c.args.plan.now c.args.places.now) c.args.group c.loop-slot.number _ _ _ c.loop-slot.invariant.0 c.in_ok-append.ensures.items (c.into_vec.ensures ∙ c.in_ok-part.ensures),
+  chunk_more (rows_at c.args.plan.now c.args.places.now) c.args.group c.loop-slot.number _ _ _ c.loop-slot.invariant.0
+      c.in_ok-append.ensures.items (c.into_vec.ensures ∙ c.in_ok-part.ensures),
   omega (arith, c.loop-slot.invariant.1, c.in-Some.ensures.steps.1),
-  places_left (λ k rows. rows ≡ slice_chunk (rows_at c.args.plan.now c.args.places.now) c.args.group k) _ _ _ _ c.in-Some.ensures.steps.0 c.loop-slot.invariant.2,
+  places_left (λ k rows. rows ≡ slice_chunk (rows_at c.args.plan.now c.args.places.now) c.args.group k) _ _ _ _
+      c.in-Some.ensures.steps.0 c.loop-slot.invariant.2,
 )
 
 pub returns : goal.returns
-returns g c = c.new.ensures ∙ (c.loop-slot.invariant.0 ∙ pieces_all (rows_at c.args.plan.now c.args.places.now) _ c.loop-slot.number c.requires.group (omega (arith, c.loop-slot.invariant.1, c.in-None.ensures.steps.0)))
+returns g c = c.new.ensures ∙ (c.loop-slot.invariant.0
+    ∙ pieces_all (rows_at c.args.plan.now c.args.places.now) _ c.loop-slot.number c.requires.group
+    (omega (arith, c.loop-slot.invariant.1, c.in-None.ensures.steps.0)))

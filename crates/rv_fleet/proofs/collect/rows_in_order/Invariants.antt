@@ -10,4 +10,5 @@ abbrev pub invariant-loop-slot : goal.invariant-loop-slot
 invariant-loop-slot g l =
     (l.rows.items ≡ take (l.number * l.group) (rows_at l.plan l.places))
     × (l.number + into_iter_len l.slot-iterator ≡ pieces_in (rows_at l.plan l.places) l.group)
-    × ((k : ℕ) → IfSome (slice_index_or (into_iter_items l.slot-iterator) k None) (λ rows. rows ≡ slice_chunk (rows_at l.plan l.places) l.group (l.number + k)))
+    × ((k : ℕ) → IfSome (slice_index_or (into_iter_items l.slot-iterator) k None)
+    (λ rows. rows ≡ slice_chunk (rows_at l.plan l.places) l.group (l.number + k)))

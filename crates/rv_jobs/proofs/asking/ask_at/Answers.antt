@@ -12,6 +12,7 @@ returns-then-is_some-clause-paths g c =
 
 pub returns-clause-noted : goal.returns-clause-noted
 returns-clause-noted g c =
-    noted_more (paths_of c.args.asked) (paths_of c.in_ok-asked.asked) c.args.jobs.now c.args.noted.now.items c.args.place
+    noted_more (paths_of c.args.asked) (paths_of c.in_ok-asked.asked) c.args.jobs.now c.args.noted.now.items
+    c.args.place
     c.index-jobs-place.result c.in_ok-asked.places c.requires.noted c.requires.place c.index-jobs-place.is
     c.in_ok-asked.ensures.paths c.in_ok-asked.ensures.places

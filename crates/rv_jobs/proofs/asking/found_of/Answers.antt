@@ -9,6 +9,7 @@ loop-at-preserved c =
     let inv = c.loop-at.invariant in (
       omega (arith, ap (length {A = Found}) c.in_ok-push.ensures.items, length-append {A = Found}, inv.0),
       found_more (paths_of c.args.asked.now) c.args.jobs.now c.loop-at.found.items c.push.new.self.items c.loop-at.at
-          c.index-jobs-at.result c.found_at.result c.loop-at-test.true c.index-jobs-at.is inv.0 c.in_ok-push.ensures.items
+          c.index-jobs-at.result c.found_at.result c.loop-at-test.true c.index-jobs-at.is inv.0
+          c.in_ok-push.ensures.items
           c.found_at.ensures inv.1,
     )

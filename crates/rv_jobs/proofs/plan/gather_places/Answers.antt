@@ -30,7 +30,8 @@ loop-place-preserved g c =
       same = c.in_ok-asked.ensures.same ∙ inv.same;
       paths = c.in_ok-asked.ensures.paths
           ∙ (ap (λ js. fold with_job (paths_of c.loop-place.asked) (needed_at js place)) jobs
-          ∙ ap (λ ps. fold with_job (paths_of c.loop-place.asked) (needed_at c.args.jobs (get_or ps c.loop-place.place-index 0))) c.as_slice-place-items.ensures.value
+          ∙ ap (λ ps. fold with_job (paths_of c.loop-place.asked)
+          (needed_at c.args.jobs (get_or ps c.loop-place.place-index 0))) c.as_slice-place-items.ensures.value
           ∙ ap (λ ps. fold with_job ps (needed_at c.args.jobs (get_or c.args.places.items c.loop-place.place-index 0)))
           inv.paths
           ∙ sym (needed_more c.args.jobs c.args.places.items c.loop-place.place-index 0 (omega arith)));
@@ -49,7 +50,8 @@ invariant_of-result g c =
       even = sym (ap length used) ∙ length-map c.loop-place.asked (λ (a : Answer). a.path)
           ∙ sym (ap (length {A = Kept}) c.into_kept-answers.ensures
           ∙ length-map c.loop-place.asked (λ (a : Answer). a.kept));
-      found = subst (λ js. AreFound (paths_used (needed_for c.args.jobs c.args.places.items)) js c.in_ok-found.found.items)
+      found = subst (λ js. AreFound (paths_used (needed_for c.args.jobs c.args.places.items)) js
+          c.in_ok-found.found.items)
           c.as_slice-2.ensures.value
           (subst (λ xs. AreFound xs c.as_slice-2.result.now c.in_ok-found.found.items) used c.in_ok-found.ensures);
       unread = refl;

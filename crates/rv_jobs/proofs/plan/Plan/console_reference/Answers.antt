@@ -18,6 +18,7 @@ returns-in-Some c =
     let placed = found c.self.inside c.self.invariant c.args.self.now c.self.view_is c.args.i c.requires
     c.index.result.now c.index.ensures in
     named_kept c.self.inside c.self.invariant c.args.self.now c.self.view_is c.args.i c.requires c.index.result.now
-    c.index.ensures (λ (j : Job). console_path j.expect_console) c.index.result.now.console (λ d. (placed d).console) c.job.result.now c.in-Some.field-0.now
+    c.index.ensures (λ (j : Job). console_path j.expect_console) c.index.result.now.console
+    (λ d. (placed d).console) c.job.result.now c.in-Some.field-0.now
     c.kept.result.now c.job.ensures.value
     (sym c.console_path.ensures ∙ ap (option_map (λ (q : Bor (List ℕ)). q.now)) c.in-Some.is) c.kept.ensures

@@ -17,6 +17,7 @@ returns-in-Some c =
     let placed = found c.self.inside c.self.invariant c.args.self.now c.self.view_is c.args.i c.requires
     c.index.result.now c.index.ensures in
     named_kept c.self.inside c.self.invariant c.args.self.now c.self.view_is c.args.i c.requires c.index.result.now
-    c.index.ensures (λ (j : Job). j.expect_signature) c.index.result.now.reference (λ d. (placed d).reference) c.job.result.now c.in-Some.field-0.now
+    c.index.ensures (λ (j : Job). j.expect_signature) c.index.result.now.reference
+    (λ d. (placed d).reference) c.job.result.now c.in-Some.field-0.now
     c.kept.result.now c.job.ensures.value
     (sym c.reference_path.ensures ∙ ap (option_map (λ (q : Bor (List ℕ)). q.now)) c.in-Some.is) c.kept.ensures

@@ -9,7 +9,12 @@ use Rattle.rv_fleet.proofs.threads.fn.run_workers.scope.Goals as goal
 pub loop-pass-preserved : goal.loop-pass-preserved
 loop-pass-preserved g c =
     let is = c.in-Ok.ensures.ok in
-    let started = IsStarted (rows_at c.captures.plan.now c.captures.places.now) c.captures.group c.captures.claims.now in (
+    let started = IsStarted (rows_at c.captures.plan.now c.captures.places.now) c.captures.group c.captures.claims.now
+    in (
       All-rest (IsFresh c.captures.claims.now) _ _ _ c.in-Some.ensures.steps.0 c.loop-pass.invariant.0,
-      All-same started _ _ c.in-Ok-push.ensures.items (All-push started _ _ c.loop-pass.invariant.1 (ap (λ (w : Works). rows_at w.plan.now w.places.now) is, ap (λ (w : Works). w.group) is, ap (λ (w : Works). w.claims.now) is)),
+      All-same started _ _ c.in-Ok-push.ensures.items (All-push started _ _ c.loop-pass.invariant.1 (
+        ap (λ (w : Works). rows_at w.plan.now w.places.now) is,
+        ap (λ (w : Works). w.group) is,
+        ap (λ (w : Works). w.claims.now) is,
+      )),
     )
