@@ -59,7 +59,7 @@ fn files_are_known(rt: HostRuntime) -> Result<(), Fail> {
             alloc,
             "run jobs",
             LIST.as_bytes(),
-            "end refused bad-magic"
+            "end refused short-header"
         )?
     );
     Ok(())
