@@ -123,7 +123,7 @@ fn joined(claims: &Claims, all: Option<Pass>, pass: Pass) -> Pass
 }
 
 /// The rows of all pieces, in order. A piece that no worker made is made here.
-pub(crate) fn rows_in_order<G: Gate>(
+pub(crate) fn rows_kept_or_made<G: Gate>(
     alloc: Global,
     slots: Vec<Option<Rows>>,
     plan: &Plan,

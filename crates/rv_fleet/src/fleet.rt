@@ -10,7 +10,7 @@ ghost use Rattle.rv_fleet.specs.Fleets.{of_fleet};
 ghost use Rattle.rv_fleet.specs.Pieces.{Hears};
 
 use crate::choice::{all_places, check_places};
-use crate::collect::rows_in_order;
+use crate::collect::rows_kept_or_made;
 use crate::gate::{Gate, Unheard};
 use crate::threads::made_by_threads;
 use rv_jobs::Plan;
@@ -93,7 +93,7 @@ pub fn run_fleet<R: Threads + Wait, G: Gate>(
     let places = places.as_slice();
     let gate = Unheard { gate };
     let made = made_by_threads(rt, alloc, plan, places, workers, group, &gate)?;
-    let rows = rows_in_order(alloc, made.slots, plan, places, group, &gate)?;
+    let rows = rows_kept_or_made(alloc, made.slots, plan, places, group, &gate)?;
     Ok(Report { rows })
 }
 
@@ -121,5 +121,5 @@ pub fn run_places<R: Threads + Wait, G: Gate>(
     if made.stopped {
         return Err(PlacesError::Stopped);
     }
-    Ok(rows_in_order(alloc, made.slots, plan, places, group, gate)?)
+    Ok(rows_kept_or_made(alloc, made.slots, plan, places, group, gate)?)
 }

@@ -3,7 +3,7 @@ use Rattle.std.specs.Fork.{slice_chunk}
 use Rattle.rv_rows.specs.Rows.{rows_at}
 use Rattle.rv_fleet.proofs.Chunks.{chunk_more}
 use Rattle.rv_fleet.proofs.Collects.{place_here, places_left, pieces_all}
-use Rattle.rv_fleet.proofs.collect.rows_in_order.Goals as goal
+use Rattle.rv_fleet.proofs.collect.rows_kept_or_made.Goals as goal
 
 pub rows_in_slot-requires-clause-slot : goal.rows_in_slot-requires-clause-slot
 rows_in_slot-requires-clause-slot g c κs within =

@@ -4,7 +4,7 @@ use Rattle.std.specs.Prelude.{slice_index_or}
 use Rattle.std.specs.Vec.Iter.{into_iter_items, into_iter_len}
 use Rattle.rv_fleet.specs.Pieces.{pieces_in}
 use Rattle.rv_rows.specs.Rows.{rows_at}
-use Rattle.rv_fleet.proofs.collect.rows_in_order.Given as goal
+use Rattle.rv_fleet.proofs.collect.rows_kept_or_made.Given as goal
 
 abbrev pub invariant-loop-slot : goal.invariant-loop-slot
 invariant-loop-slot g l =
