@@ -38,29 +38,29 @@ ranged file regions names range e =
 
 ranged_if_asked : (file : List ℕ) (regions : List Region) (names : Option Symbols) (range : Option SignatureRange)
     → range_if_asked file regions names ≡ Ok range
-    → IfSome range (λ there. signature_check there.begin there.end regions ≡ accepted)
+    → IfSome range (λ loadable. signature_check loadable.begin loadable.end regions ≡ accepted)
 ranged_if_asked file regions None None e = tt
-ranged_if_asked file regions None (Some there) e = cc
+ranged_if_asked file regions None (Some loadable) e = cc
 ranged_if_asked file regions (Some names) None e = let found = stepped (range_of file regions names) _ None e in cc
-ranged_if_asked file regions (Some names) (Some there) e =
-    let found = stepped (range_of file regions names) _ (Some there) e in
-    let is : found.0 ≡ there = cc in
+ranged_if_asked file regions (Some names) (Some loadable) e =
+    let found = stepped (range_of file regions names) _ (Some loadable) e in
+    let is : found.0 ≡ loadable = cc in
     rw (← is) (ranged file regions names found.0 found.1.0)
 
 -- what is known of an image that can be loaded
-pub record IsLoadable (job : Job) (file : List ℕ) (there : Loadable) : Type 0 where
-  pub image : image_of job.isa file ≡ Ok there.image
-  pub fits : map_check there.image.segments job.regions job.load ≡ accepted
-  pub range : IfSome there.range (λ range. signature_check range.begin range.end job.regions ≡ accepted)
+pub record IsLoadable (job : Job) (file : List ℕ) (loadable : Loadable) : Type 0 where
+  pub image : image_of job.isa file ≡ Ok loadable.image
+  pub fits : map_check loadable.image.segments job.regions job.load ≡ accepted
+  pub range : IfSome loadable.range (λ range. signature_check range.begin range.end job.regions ≡ accepted)
 
-pub loadable_parts : (job : Job) (file : List ℕ) (there : Loadable) → loadable_of job file ≡ Ok there
-    → IsLoadable job file there
+pub loadable_parts : (job : Job) (file : List ℕ) (loadable : Loadable) → loadable_of job file ≡ Ok loadable
+    → IsLoadable job file loadable
 unfolding loadable_of
-loadable_parts job file there e =
-    let image = stepped (image_of job.isa file) _ there e in
-    let unit = stepped (map_check image.0.segments job.regions job.load) _ there image.1.1 in
-    let range = stepped (range_if_asked file job.regions job.signature) _ there unit.1.1 in
-    let is : record { image = image.0; range = range.0 } ≡ there = cc in
+loadable_parts job file loadable e =
+    let image = stepped (image_of job.isa file) _ loadable e in
+    let unit = stepped (map_check image.0.segments job.regions job.load) _ loadable image.1.1 in
+    let range = stepped (range_if_asked file job.regions job.signature) _ loadable unit.1.1 in
+    let is : record { image = image.0; range = range.0 } ≡ loadable = cc in
     rw (← is) (record {
       image = image.1.0;
       fits = unit.1.0;
@@ -92,11 +92,11 @@ aligned isa entry h = go (has isa RV32C) refl
     go false is = rw (h is) refl
 
 -- in a loaded machine the range is checked against its own regions
-pub range_there : (job : Job) (file : List ℕ) (there : Loadable) (state : State) → loadable_of job file ≡ Ok there
-    → state ≡ loaded_state job file there.image
-    → IfSome there.range (λ range. signature_check range.begin range.end state.bus.regions ≡ accepted)
+pub range_there : (job : Job) (file : List ℕ) (loadable : Loadable) (state : State) → loadable_of job file ≡ Ok loadable
+    → state ≡ loaded_state job file loadable.image
+    → IfSome loadable.range (λ range. signature_check range.begin range.end state.bus.regions ≡ accepted)
 unfolding new_bus
-range_there job file there state e is =
+range_there job file loadable state e is =
     let P : List Region → Type 0 = λ regions.
-    IfSome there.range (λ range. signature_check range.begin range.end regions ≡ accepted) in
-    subst P (sym (ap (λ (s : State). s.bus.regions) is)) (loadable_parts job file there e).range
+    IfSome loadable.range (λ range. signature_check range.begin range.end regions ≡ accepted) in
+    subst P (sym (ap (λ (s : State). s.bus.regions) is)) (loadable_parts job file loadable e).range

@@ -35,11 +35,11 @@ reached : {E A B : Type 0} (narrow wide : Result A E) (f : A → Result B E) (y 
 reached (Ok x) wide f y h e = ap (λ r. r >>= f) (h x refl) ∙ e
 reached (Err why) wide f y h e = cc
 
-loadable_wider : (job : Job) (file : List ℕ) (there : Loadable) → loadable_of job file ≡ Ok there
-    → loadable_of (widened_job job) file ≡ Ok there
+loadable_wider : (job : Job) (file : List ℕ) (loadable : Loadable) → loadable_of job file ≡ Ok loadable
+    → loadable_of (widened_job job) file ≡ Ok loadable
 unfolding loadable_of
-loadable_wider job file there e =
-    reached (image_of job.isa file) (image_of Imc file) _ there (image_wider job.isa file) e
+loadable_wider job file loadable e =
+    reached (image_of job.isa file) (image_of Imc file) _ loadable (image_wider job.isa file) e
 
 of_any_set : (e : Ending) → is_of_any_set (end_of e) ≡ ends_in_any_set e
 of_any_set (machine.Exit code) = refl
@@ -55,11 +55,11 @@ file_outcome_wider job file h = go (loadable_of job file) refl h
         → is_of_any_set (outcome_if_loadable job file r).ending ≡ true
         → outcome_if_loadable (widened_job job) file (loadable_of (widened_job job) file) ≡ outcome_if_loadable job file
         r
-    go (Ok there) is h =
-        let start : State = loaded_state job file there.image in
+    go (Ok loadable) is h =
+        let start : State = loaded_state job file loadable.image in
         let ended = sym (of_any_set (run_of job.budget start).ending) ∙ h in
-        ap (outcome_if_loadable (widened_job job) file) (loadable_wider job file there is)
-        ∙ ap (λ (r : Ran). outcome_of_run r there.range) (run_wider job.budget start ended)
+        ap (outcome_if_loadable (widened_job job) file) (loadable_wider job file loadable is)
+        ∙ ap (λ (r : Ran). outcome_of_run r loadable.range) (run_wider job.budget start ended)
     go (Err why) is h = absurd (false≢true h)
 
 outcome_wider : (job : Job) (image : Kept) (reference console : Option Kept)
@@ -107,8 +107,8 @@ module _ (plan : Planned) (place : ℕ) where
       → row_of (widened_plan place plan) (widened_job job) ≡ row_of plan job
   unfolding row_of verdict_of
   row_wider job earlier h =
-      let there = outcome_wider job _ _ _ h in
-      rw there (rw (other_wider job earlier) refl)
+      let loadable = outcome_wider job _ _ _ h in
+      rw loadable (rw (other_wider job earlier) refl)
 
   -- a job at the place names an earlier one, if any
   named_before : (job : Job) → AreJobs plan.jobs → slice_get plan.jobs place ≡ Some job

@@ -130,8 +130,8 @@ refused_outcome why =
 
 -- what comes of an image that is loaded, or of its refusal
 abbrev pub outcome_if_loadable : Job → List ℕ → Result Loadable ImageError → Outcome
-outcome_if_loadable job file (Ok there) =
-    outcome_of_run (run_of job.budget (loaded_state job file there.image)) there.range
+outcome_if_loadable job file (Ok loadable) =
+    outcome_of_run (run_of job.budget (loaded_state job file loadable.image)) loadable.range
 outcome_if_loadable job file (Err why) = refused_outcome (refusal.Image why)
 
 -- the outcome over the image's bytes

@@ -39,21 +39,21 @@ other_in plan job =
 
 -- the row of a name, an outcome and a verdict
 abbrev pub row_with : List ℕ → Outcome → Verdict → Row
-row_with name there verdict = record {
+row_with name outcome verdict = record {
   name = name;
-  ending = there.ending;
-  steps = there.steps;
-  console = there.console;
-  signature = there.signature;
+  ending = outcome.ending;
+  steps = outcome.steps;
+  console = outcome.console;
+  signature = outcome.signature;
   verdict = verdict;
 }
 
 -- the row of a job of a plan
 unfoldable pub row_of : Planned → Job → Row
 row_of plan job =
-    let there = outcome_in plan.answers job in
-    row_with job.name there
-    (verdict_of job there (reference_in plan.answers job) (console_in plan.answers job)
+    let outcome = outcome_in plan.answers job in
+    row_with job.name outcome
+    (verdict_of job outcome (reference_in plan.answers job) (console_in plan.answers job)
     (other_in plan job))
 
 -- one row a job, in list order

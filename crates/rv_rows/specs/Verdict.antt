@@ -75,14 +75,14 @@ is_run _ = true
 
 -- the job ran, and its console has these bytes
 abbrev pub prints : List ℕ → Outcome → Bool
-prints bytes there = is_run there.ending && bytes_eq bytes there.console
+prints bytes outcome = is_run outcome.ending && bytes_eq bytes outcome.console
 
 -- the bytes are those of the job itself, or of the file that it names, which was read
 abbrev pub holds_console : Option ExpectedConsole → Option (List ℕ) → Outcome → Bool
-holds_console None bytes there = true
-holds_console (Some (Text text)) bytes there = prints text there
-holds_console (Some (File path)) None there = false
-holds_console (Some (File path)) (Some bytes) there = prints bytes there
+holds_console None bytes outcome = true
+holds_console (Some (Text text)) bytes outcome = prints text outcome
+holds_console (Some (File path)) None outcome = false
+holds_console (Some (File path)) (Some bytes) outcome = prints bytes outcome
 
 -- ---- the reference
 
@@ -93,10 +93,10 @@ lines_of (Some words) = flat_map word_line words
 
 -- the job ran, and the bytes of the reference, which was read, are its signature's lines
 abbrev pub holds_reference : Option (List ℕ) → Option (List ℕ) → Outcome → Bool
-holds_reference None bytes there = true
-holds_reference (Some path) None there = false
-holds_reference (Some path) (Some bytes) there = is_run there.ending
-    && bytes_eq bytes (lines_of there.signature)
+holds_reference None bytes outcome = true
+holds_reference (Some path) None outcome = false
+holds_reference (Some path) (Some bytes) outcome = is_run outcome.ending
+    && bytes_eq bytes (lines_of outcome.signature)
 
 -- ---- another job
 
@@ -116,31 +116,31 @@ same_signature _ _ = false
 -- two outcomes are the same but for steps, addresses and values; a refused one is the same as no
 -- other, nor as itself
 abbrev pub are_same : Outcome → Outcome → Bool
-are_same there other = are_alike there.ending other.ending
-    && (bytes_eq there.console other.console && same_signature there.signature other.signature)
+are_same outcome other = are_alike outcome.ending other.ending
+    && (bytes_eq outcome.console other.console && same_signature outcome.signature other.signature)
 
 -- the outcome is the same as that of the job that it names, if it names one. The named job stands
 -- earlier in the list, so that its outcome is there
 abbrev pub holds_same : Option ℕ → Option Outcome → Outcome → Bool
-holds_same None other there = true
-holds_same (Some place) None there = false
-holds_same (Some place) (Some other) there = are_same there other
+holds_same None other outcome = true
+holds_same (Some place) None outcome = false
+holds_same (Some place) (Some other) outcome = are_same outcome other
 
 -- ---- all of them
 
 -- each expectation holds or is not there, over the bytes of the references that were read, and the
 -- outcome of the job that it names
 abbrev pub holds_all : Job → Outcome → Option (List ℕ) → Option (List ℕ) → Option Outcome → Bool
-holds_all job there reference console other =
-    holds_exit job.expect_exit there.ending
-    && (holds_end job.expect_end there.ending
-    && (holds_console job.expect_console console there
-    && (holds_reference job.expect_signature reference there
-    && holds_same job.same_as other there)))
+holds_all job outcome reference console other =
+    holds_exit job.expect_exit outcome.ending
+    && (holds_end job.expect_end outcome.ending
+    && (holds_console job.expect_console console outcome
+    && (holds_reference job.expect_signature reference outcome
+    && holds_same job.same_as other outcome)))
 
 -- the verdict over the same
 unfoldable pub verdict_of :
     Job → Outcome → Option (List ℕ) → Option (List ℕ) → Option Outcome → Verdict
-verdict_of job there reference console other =
+verdict_of job outcome reference console other =
     if not (is_asked job) then verdict.Unasked
-    else (if holds_all job there reference console other then verdict.Pass else verdict.Fail)
+    else (if holds_all job outcome reference console other then verdict.Pass else verdict.Fail)

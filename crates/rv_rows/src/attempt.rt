@@ -95,9 +95,9 @@ fn file_attempt(
     ensures readable { IfOk result IsReadable }
 {
     match loadable_of(alloc, job, file) {
-        Ok(there) => {
-            let machine = loaded_machine(alloc, job, file, &there, spare)?;
-            Ok(Attempt::Ran(run(machine, job.budget, there.range)))
+        Ok(loadable) => {
+            let machine = loaded_machine(alloc, job, file, &loadable, spare)?;
+            Ok(Attempt::Ran(run(machine, job.budget, loadable.range)))
         }
         Err(ImageError::OutOfMemory) => Err(AllocError),
         Err(error) => Ok(Attempt::Refused(Refusal::Image(error))),
@@ -109,7 +109,7 @@ fn file_attempt(
 fn loadable_of(alloc: Global, job: &Job, file: &[u8]) -> Result<Loadable, ImageError>
     requires { IfSome job.now.signature (λ names. (0 < length names.begin)
         × (0 < length names.end)) }
-    ensures { MatchResult result (λ there. loadable_of job.now file.now ≡ Ok there)
+    ensures { MatchResult result (λ loadable. loadable_of job.now file.now ≡ Ok loadable)
         (λ error. error ≢ OutOfMemory → loadable_of job.now file.now ≡ Err error) }
 {
     let image = read_image(alloc, file, job.isa)?;
@@ -155,18 +155,18 @@ fn loaded_machine(
     alloc: Global,
     job: &Job,
     file: &[u8],
-    there: &Loadable,
+    loadable: &Loadable,
     spare: &mut Spare,
 ) -> Result<Machine, AllocError>
     requires script { length job.now.script ≤ most_script }
-    requires loadable { loadable_of job.now file.now ≡ Ok there.now }
+    requires loadable { loadable_of job.now file.now ≡ Ok loadable.now }
     ensures { IfOk result (λ machine. state_of machine
-        ≡ loaded_state job.now file.now there.now.image) }
+        ≡ loaded_state job.now file.now loadable.now.image) }
 {
     let script = copied(alloc, job.script.as_slice())?;
     let mut bus = spare.new_bus(alloc, job.regions, script, job.misaligned)?;
-    load(&there.image, file, job.load, &mut bus);
-    Machine::new(alloc, bus, there.image.entry, job.isa)
+    load(&loadable.image, file, job.load, &mut bus);
+    Machine::new(alloc, bus, loadable.image.entry, job.isa)
 }
 
 fn copied(alloc: Global, bytes: &[u8]) -> Result<Vec<u8>, AllocError>
@@ -178,7 +178,7 @@ fn copied(alloc: Global, bytes: &[u8]) -> Result<Vec<u8>, AllocError>
 // What a run within a budget comes to.
 pub(crate) fn run(machine: Machine, budget: u32, range: Option<SignatureRange>) -> EndedRun
     requires { IfSome range
-        (λ there. signature_check there.begin there.end (state_of machine).bus.regions ≡ accepted) }
+        (λ range. signature_check range.begin range.end (state_of machine).bus.regions ≡ accepted) }
     ensures outcome { outcome_in_bus result
         ≡ outcome_of_run (run_of budget (state_of machine)) range }
     ensures readable { HasSignature result }

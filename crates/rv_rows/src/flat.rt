@@ -26,12 +26,12 @@ const ENTRY: u32 = 0x8000_0000;
 pub fn flat_row(alloc: Global, bytes: &[u8], budget: u32) -> Result<Row, AllocError>
     ensures { IfOk result (λ row. row ≡ flat_row_of bytes.now budget) }
 {
-    let there = flat_outcome(alloc, bytes, budget)?;
-    row_with(alloc, "raw", there, Verdict::Unasked)
+    let outcome = flat_outcome(alloc, bytes, budget)?;
+    row_with(alloc, "raw", outcome, Verdict::Unasked)
 }
 
 fn flat_outcome(alloc: Global, bytes: &[u8], budget: u32) -> Result<Outcome, AllocError>
-    ensures { IfOk result (λ there. there ≡ flat_outcome_of bytes.now budget) }
+    ensures { IfOk result (λ outcome. outcome ≡ flat_outcome_of bytes.now budget) }
 {
     if IMAGE_ROOM < bytes.len() {
         return Ok(refused(alloc, Refusal::ImageTooLong));

@@ -59,7 +59,7 @@ impl Attempt {
     /// A copy of the outcome.
     pub(crate) fn outcome(&self, alloc: Global) -> Result<Outcome, AllocError>
         requires { IsReadable self.now }
-        ensures { IfOk result (λ there. there ≡ outcome_of_attempt self.now) }
+        ensures { IfOk result (λ outcome. outcome ≡ outcome_of_attempt self.now) }
     {
         match self {
             Attempt::Refused(why) => Ok(refused(alloc, *why)),
@@ -80,7 +80,7 @@ impl EndedRun {
     /// A copy of the outcome.
     pub(crate) fn outcome(&self, alloc: Global) -> Result<Outcome, AllocError>
         requires { HasSignature self.now }
-        ensures { IfOk result (λ there. there ≡ outcome_in_bus self.now) }
+        ensures { IfOk result (λ outcome. outcome ≡ outcome_in_bus self.now) }
     {
         let console = self.bus.console().to_vec(alloc)?;
         let signature = signature_in(alloc, &self.bus, self.range)?;
@@ -146,7 +146,7 @@ fn signature_in(
     bus: &Bus,
     range: Option<SignatureRange>,
 ) -> Result<Option<Words>, AllocError>
-    requires { IfSome range (λ there. signature_check there.begin there.end bus.now.regions
+    requires { IfSome range (λ at. signature_check at.begin at.end bus.now.regions
         ≡ accepted) }
     ensures { IfOk result (λ words. words ≡ option_map (signature_in bus.now) range) }
 {

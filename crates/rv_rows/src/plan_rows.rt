@@ -46,17 +46,17 @@ pub fn next_row(
     ensures recent { OnOk result (AreOutcomes plan.now recent.new) }
 {
     let job = plan.job(i);
-    let there = outcome_at(alloc, plan, i, spare)?;
-    let same = holds_same(alloc, plan, job, &there, spare, recent)?;
+    let outcome = outcome_at(alloc, plan, i, spare)?;
+    let same = holds_same(alloc, plan, job, &outcome, spare, recent)?;
     let verdict = verdict(
         job,
-        &there,
+        &outcome,
         reference_bytes(plan, i),
         console_bytes(plan, i),
         same,
     );
-    keep_if_named(alloc, plan, i, &there, recent)?;
-    row_with(alloc, job.name.as_str(), there, verdict)
+    keep_if_named(alloc, plan, i, &outcome, recent)?;
+    row_with(alloc, job.name.as_str(), outcome, verdict)
 }
 
 // The outcome of the job at a place.
@@ -68,13 +68,13 @@ fn outcome_at(
 ) -> Result<Outcome, AllocError>
     requires { i < length plan.now.jobs }
     ensures { IfOk result
-        (λ there. (d : AJob) → there
+        (λ outcome. (d : AJob) → outcome
         ≡ outcome_in plan.now.answers (slice_index_or plan.now.jobs i d)) }
 {
     let attempt = attempt_at(alloc, plan, i, spare)?;
-    let there = attempt.outcome(alloc)?;
+    let outcome = attempt.outcome(alloc)?;
     spare.keep(attempt);
-    Ok(there)
+    Ok(outcome)
 }
 
 fn attempt_at(
@@ -103,18 +103,18 @@ fn holds_same(
     alloc: Global,
     plan: &Plan,
     job: &Job,
-    there: &Outcome,
+    outcome: &Outcome,
     spare: &mut Spare,
     recent: &mut Recent,
 ) -> Result<bool, AllocError>
     requires place { IfSome job.now.same_as (λ place. place < length plan.now.jobs) }
     requires recent { AreOutcomes plan.now recent.old }
     ensures same { IfOk result
-        (λ same. same ≡ holds_same job.now.same_as (other_in plan.now job.now) there.now) }
+        (λ same. same ≡ holds_same job.now.same_as (other_in plan.now job.now) outcome.now) }
     ensures recent { OnOk result (AreOutcomes plan.now recent.new) }
 {
     match job.same_as {
-        Some(place) => is_same_as(alloc, plan, place, there, spare, recent),
+        Some(place) => is_same_as(alloc, plan, place, outcome, spare, recent),
         None => Ok(true),
     }
 }
@@ -124,21 +124,21 @@ fn is_same_as(
     alloc: Global,
     plan: &Plan,
     place: usize,
-    there: &Outcome,
+    outcome: &Outcome,
     spare: &mut Spare,
     recent: &mut Recent,
 ) -> Result<bool, AllocError>
     requires place { place < length plan.now.jobs }
     requires recent { AreOutcomes plan.now recent.old }
     ensures same { IfOk result (λ same. (d : AJob) → same
-        ≡ are_same there.now (outcome_in plan.now.answers (slice_index_or plan.now.jobs place d))) }
+        ≡ are_same outcome.now (outcome_in plan.now.answers (slice_index_or plan.now.jobs place d))) }
     ensures recent { OnOk result (AreOutcomes plan.now recent.new) }
 {
     if let Some(other) = recent.find(place) {
-        return Ok(are_same(there, other));
+        return Ok(are_same(outcome, other));
     }
     let other = attempt_at(alloc, plan, place, spare)?;
-    let same = is_same(there, &other);
+    let same = is_same(outcome, &other);
     if recent.make_room(other.size()) {
         recent.keep(place, other.outcome(alloc)?)?;
     }
@@ -151,16 +151,16 @@ fn keep_if_named(
     alloc: Global,
     plan: &Plan,
     i: usize,
-    there: &Outcome,
+    outcome: &Outcome,
     recent: &mut Recent,
 ) -> Result<(), AllocError>
     requires place { i < length plan.now.jobs }
-    requires outcome { outcome_at plan.now i ≡ Some there.now }
+    requires outcome { outcome_at plan.now i ≡ Some outcome.now }
     requires recent { AreOutcomes plan.now recent.old }
     ensures { OnOk result (AreOutcomes plan.now recent.new) }
 {
-    if is_named_soon(plan, i) && recent.make_room(there.size()) {
-        recent.keep(i, there.copy(alloc)?)?;
+    if is_named_soon(plan, i) && recent.make_room(outcome.size()) {
+        recent.keep(i, outcome.copy(alloc)?)?;
     }
     Ok(())
 }
@@ -198,7 +198,7 @@ fn console_bytes(plan: &Plan, i: usize) -> Option<&[u8]>
 
 fn content_of(kept: Option<&Kept>) -> Option<&[u8]>
     ensures { option_map (λ bytes. bytes.now) result
-        ≡ bytes_in (option_map (λ there. there.now) kept.entry) }
+        ≡ bytes_in (option_map (λ one. one.now) kept.entry) }
 {
     match kept {
         Some(Kept::Content(bytes)) => Some(bytes.as_slice()),
@@ -210,17 +210,17 @@ fn content_of(kept: Option<&Kept>) -> Option<&[u8]>
 pub(crate) fn row_with(
     alloc: Global,
     name: &str,
-    there: Outcome,
+    outcome: Outcome,
     verdict: Verdict,
 ) -> Result<Row, AllocError>
-    ensures { IfOk result (λ row. row ≡ row_with name.now there verdict) }
+    ensures { IfOk result (λ row. row ≡ row_with name.now outcome verdict) }
 {
     Ok(Row {
         name: Text::new(String::from_str(alloc, name)?),
-        ending: there.ending,
-        steps: there.steps,
-        console: there.console,
-        signature: there.signature,
+        ending: outcome.ending,
+        steps: outcome.steps,
+        console: outcome.console,
+        signature: outcome.signature,
         verdict,
     })
 }

@@ -50,7 +50,7 @@ impl Recent {
     /// The outcome of the job at a place, if it is kept.
     pub fn find(&self, place: usize) -> Option<&Outcome>
         ensures { (plan : Planned) → AreOutcomes plan self.now
-            → IfSome result (λ there. outcome_at plan place ≡ Some there.now) }
+            → IfSome result (λ found. outcome_at plan place ≡ Some found.now) }
     {
         for kept in &self.items {
             if kept.place == place {

@@ -66,14 +66,14 @@ pub fn write_report<W: Sink>(alloc: Global, report: &Report, out: &mut W) -> Res
 {
     let rows = report.rows.as_slice();
     let mut text = String::new(alloc);
-    gather(alloc, rows, &mut text, out)?;
+    put_rows(alloc, rows, &mut text, out)?;
     push_done(&mut text, rows.len())?;
-    send(&mut text, out)?;
+    put_text(&mut text, out)?;
     Ok(())
 }
 
 // The rows' text: the first part of it goes out, the rest stands in `text`.
-fn gather<W: Sink>(
+fn put_rows<W: Sink>(
     alloc: Global,
     rows: &[Row],
     text: &mut String,
@@ -91,13 +91,13 @@ fn gather<W: Sink>(
 {
     for (place, row) in rows.iter().enumerate() {
         push_row(alloc, text, place, row)?;
-        send_enough(text, out)?;
+        put_if_enough(text, out)?;
     }
     Ok(())
 }
 
 // Sends the gathered text where it is enough for a put.
-fn send_enough<W: Sink>(text: &mut String, out: &mut W) -> Result<(), WriteError>
+fn put_if_enough<W: Sink>(text: &mut String, out: &mut W) -> Result<(), WriteError>
     ensures under_way { OnOk result
         (IsUnderWay (W.taken out.old) (W.taken out.new)
         (string_bytes text.new) (string_bytes text.old)) }
@@ -110,11 +110,11 @@ fn send_enough<W: Sink>(text: &mut String, out: &mut W) -> Result<(), WriteError
     if text.len() < ENOUGH {
         return Ok(());
     }
-    send(text, out)
+    put_text(text, out)
 }
 
 // Puts the gathered text, and begins anew.
-fn send<W: Sink>(text: &mut String, out: &mut W) -> Result<(), WriteError>
+fn put_text<W: Sink>(text: &mut String, out: &mut W) -> Result<(), WriteError>
     ensures appended { OnOk result
         (Appends (W.taken out.old) (W.taken out.new) (string_bytes text.old)) }
     ensures anew { OnOk result (string_bytes text.new ≡ []) }

@@ -18,29 +18,29 @@ use rv_machine::FaultKind;
 #[tactic(auto, unfolding(crate::specs::Verdict::verdict_of))]
 pub(crate) fn verdict(
     job: &Job,
-    there: &Outcome,
+    outcome: &Outcome,
     reference: Option<&[u8]>,
     console: Option<&[u8]>,
     same: bool,
 ) -> Verdict
     // Whatever the outcome of the named job is, where `same` says of it whether it is the same.
-    ensures { (other : Option AnOutcome) → same ≡ holds_same job.now.same_as other there.now
-        → result ≡ verdict_of job.now there.now (option_map (λ bytes. bytes.now) reference.entry)
+    ensures { (other : Option AnOutcome) → same ≡ holds_same job.now.same_as other outcome.now
+        → result ≡ verdict_of job.now outcome.now (option_map (λ bytes. bytes.now) reference.entry)
         (option_map (λ bytes. bytes.now) console.entry) other }
 {
     if !is_asked(job) {
         return Verdict::Unasked;
     }
-    if !holds_exit(job.expect_exit, there.ending) {
+    if !holds_exit(job.expect_exit, outcome.ending) {
         return Verdict::Fail;
     }
-    if !holds_end(job.expect_end, there.ending) {
+    if !holds_end(job.expect_end, outcome.ending) {
         return Verdict::Fail;
     }
-    if !holds_console(&job.expect_console, console, there) {
+    if !holds_console(&job.expect_console, console, outcome) {
         return Verdict::Fail;
     }
-    if !holds_reference(&job.expect_signature, reference, there) {
+    if !holds_reference(&job.expect_signature, reference, outcome) {
         return Verdict::Fail;
     }
     if !same {
@@ -103,28 +103,28 @@ fn ends_by(expected: ExpectedEnd, ending: RowEnd) -> bool
 }
 
 // Whether the job ran, and its console is the one that is expected.
-fn holds_console(expected: &Option<ExpectedConsole>, file: Option<&[u8]>, there: &Outcome) -> bool
+fn holds_console(expected: &Option<ExpectedConsole>, file: Option<&[u8]>, outcome: &Outcome) -> bool
     ensures { result ≡ holds_console expected.now (option_map (λ bytes. bytes.now) file.entry)
-        there.now }
+        outcome.now }
 {
     match (expected, file) {
         (None, _) => true,
-        (Some(ExpectedConsole::Text(text)), _) => prints(text.as_slice(), there),
-        (Some(ExpectedConsole::File(_)), Some(bytes)) => prints(bytes, there),
+        (Some(ExpectedConsole::Text(text)), _) => prints(text.as_slice(), outcome),
+        (Some(ExpectedConsole::File(_)), Some(bytes)) => prints(bytes, outcome),
         (Some(ExpectedConsole::File(_)), None) => false,
     }
 }
 
-fn prints(bytes: &[u8], there: &Outcome) -> bool
-    ensures { result ≡ prints bytes.now there.now }
+fn prints(bytes: &[u8], outcome: &Outcome) -> bool
+    ensures { result ≡ prints bytes.now outcome.now }
 {
-    is_run(there.ending) && bytes == there.console.as_slice()
+    is_run(outcome.ending) && bytes == outcome.console.as_slice()
 }
 
 // Whether the job ran, and the reference is its signature's lines.
-fn holds_reference(expected: &Option<Text>, reference: Option<&[u8]>, there: &Outcome) -> bool
+fn holds_reference(expected: &Option<Text>, reference: Option<&[u8]>, outcome: &Outcome) -> bool
     ensures { result
-        ≡ holds_reference expected.now (option_map (λ bytes. bytes.now) reference.entry) there.now }
+        ≡ holds_reference expected.now (option_map (λ bytes. bytes.now) reference.entry) outcome.now }
 {
     let Some(_) = expected else {
         return true;
@@ -132,7 +132,7 @@ fn holds_reference(expected: &Option<Text>, reference: Option<&[u8]>, there: &Ou
     let Some(bytes) = reference else {
         return false;
     };
-    is_run(there.ending) && are_lines_of(bytes, &there.signature)
+    is_run(outcome.ending) && are_lines_of(bytes, &outcome.signature)
 }
 
 fn is_run(ending: RowEnd) -> bool
@@ -152,40 +152,40 @@ fn are_lines_of(bytes: &[u8], signature: &Option<Words>) -> bool
 }
 
 /// Whether two outcomes are the same, but for steps, addresses and values.
-pub fn are_same(there: &Outcome, other: &Outcome) -> bool
-    ensures { result ≡ are_same there.now other.now }
+pub fn are_same(outcome: &Outcome, other: &Outcome) -> bool
+    ensures { result ≡ are_same outcome.now other.now }
 {
-    if !are_alike(there.ending, other.ending) {
+    if !are_alike(outcome.ending, other.ending) {
         return false;
     }
-    if there.console.as_slice() != other.console.as_slice() {
+    if outcome.console.as_slice() != other.console.as_slice() {
         return false;
     }
-    same_signature(&there.signature, &other.signature)
+    same_signature(&outcome.signature, &other.signature)
 }
 
 /// The same, where nothing of the other is copied.
-pub(crate) fn is_same(there: &Outcome, other: &Attempt) -> bool
+pub(crate) fn is_same(outcome: &Outcome, other: &Attempt) -> bool
     requires { IsReadable other.now }
-    ensures { result ≡ are_same there.now (outcome_of_attempt other.now) }
+    ensures { result ≡ are_same outcome.now (outcome_of_attempt other.now) }
 {
     match other {
-        Attempt::Refused(why) => are_alike(there.ending, RowEnd::Refused(*why)),
-        Attempt::Ran(run) => is_same_run(there, run),
+        Attempt::Refused(why) => are_alike(outcome.ending, RowEnd::Refused(*why)),
+        Attempt::Ran(run) => is_same_run(outcome, run),
     }
 }
 
-fn is_same_run(there: &Outcome, run: &EndedRun) -> bool
+fn is_same_run(outcome: &Outcome, run: &EndedRun) -> bool
     requires { HasSignature run.now }
-    ensures { result ≡ are_same there.now (outcome_in_bus run.now) }
+    ensures { result ≡ are_same outcome.now (outcome_in_bus run.now) }
 {
-    if !are_alike(there.ending, run.ending) {
+    if !are_alike(outcome.ending, run.ending) {
         return false;
     }
-    if there.console.as_slice() != run.bus.console() {
+    if outcome.console.as_slice() != run.bus.console() {
         return false;
     }
-    has_signature(run, &there.signature)
+    has_signature(run, &outcome.signature)
 }
 
 // Whether the words of a run's signature are these.

@@ -22,5 +22,5 @@ new-requires-clause-aligned c = aligned _ _ (entry_aligned _ _ _ (loadable_parts
 
 pub returns : goal.returns
 returns c =
-    rw (loaded_is c.in_ok-bus.bus _ c.args.job.now c.args.file.now c.args.there.now.image _ c.in_ok-bus.ensures
+    rw (loaded_is c.in_ok-bus.bus _ c.args.job.now c.args.file.now c.args.loadable.now.image _ c.in_ok-bus.ensures
     (c.in_ok-script.ensures ∙ c.as_slice.ensures) c.load.ensures) at c.new.ensures

@@ -3,7 +3,7 @@ use Rattle.std.proofs.lemmas.Result.{err_from_is_err_and}
 use Rattle.rv_rows.specs.Report.{row_text, rows_text}
 use Rattle.rv_rows.proofs.Outgoing.{beginning_of_longer, failed_under_way, more_under_way, nothing_under_way, rows_more}
 use Rattle.rv_rows.proofs.Outgoing.{rows_split, stopped_under_way}
-use Rattle.rv_rows.proofs.report.gather.Goals as goal
+use Rattle.rv_rows.proofs.report.put_rows.Goals as goal
 
 pub loop-place-init : goal.loop-place-init
 unfolding rows_text
@@ -15,15 +15,15 @@ returns-in_err-push_row-clause-part g c =
     rw error.1 (stopped_under_way _ _ _ _ _ _ c.loop-place.invariant.under_way
     (rows_split 0 c.args.rows.now c.loop-place.place c.loop-place.place (omega arith)))
 
-pub returns-in_err-send_enough-clause-part : goal.returns-in_err-send_enough-clause-part
-returns-in_err-send_enough-clause-part g c =
+pub returns-in_err-put_if_enough-clause-part : goal.returns-in_err-put_if_enough-clause-part
+returns-in_err-put_if_enough-clause-part g c =
     let rows = c.args.rows.now in
     let place = c.loop-place.place in
-    let error = err_from_is_err_and c.from_residual-in_err-send_enough.result
-    c.from_residual-in_err-send_enough.ensures.1 in
+    let error = err_from_is_err_and c.from_residual-in_err-put_if_enough.result
+    c.from_residual-in_err-put_if_enough.ensures.1 in
     rw error.1 (beginning_of_longer _ _ _ _ _
     (failed_under_way _ _ _ _ (row_text place c.index-rows-place.result) _ _ _ c.loop-place.invariant.under_way
-    c.in_ok-push_row.ensures c.in_err-send_enough.ensures.part
+    c.in_ok-push_row.ensures c.in_err-put_if_enough.ensures.part
     (rw (← c.index-rows-place.is) at
     (rows_more 0 rows place place c.index-rows-place.result (omega arith) (omega arith))))
     (rows_split 0 rows (suc place) (suc place) (omega arith)))
@@ -32,8 +32,8 @@ pub loop-place-preserved : goal.loop-place-preserved
 loop-place-preserved g c =
     let place = c.loop-place.place in record {
       under_way = rw add-one (more_under_way _ _ _ _ (row_text place c.index-rows-place.result) _ _ _ _
-          c.loop-place.invariant.under_way c.in_ok-push_row.ensures c.in_ok-send_enough.ensures.under_way
+          c.loop-place.invariant.under_way c.in_ok-push_row.ensures c.in_ok-put_if_enough.ensures.under_way
           (rw (← c.index-rows-place.is) at
           (rows_more 0 c.args.rows.now place place c.index-rows-place.result (omega arith) (omega arith))));
-      counted = c.in_ok-send_enough.ensures.counted ∙ c.loop-place.invariant.counted;
+      counted = c.in_ok-put_if_enough.ensures.counted ∙ c.loop-place.invariant.counted;
     }
