@@ -2,7 +2,8 @@
 
 ghost use Rattle.std.specs.Prelude.{◌≡◌, ◌≤◌, None, IfOk, IfErr, OnErr, length, take};
 ghost use Rattle.std.specs.Io.KnownBytes.{Appends};
-ghost use Rattle.rv_rows.specs.Sending.{AppendsBeginning, one_more};
+ghost use Rattle.rv_rows.specs.Sending.{AppendsBeginning};
+ghost use Rattle.rv_jobs.specs.Stores.{one_more};
 
 use rv_rows::{Sink, SinkFailed};
 use std::io::Write;

@@ -3,7 +3,8 @@ use Rattle.std.specs.Prelude.{◌≡◌, ◌⊎◌, ℕ, List, ◌++◌, Option,
 use Rattle.std.specs.Fmt.{decimal}
 use Rattle.std.specs.Io.KnownBytes.{Appends}
 use Rattle.rv_rows.specs.Report.{line}
-use Rattle.rv_rows.specs.Sending.{AppendsBeginning, one_more}
+use Rattle.rv_rows.specs.Sending.{AppendsBeginning}
+use Rattle.rv_jobs.specs.Stores.{one_more}
 use Rattle.rv_jobs.specs.Faults.{what_name}
 use Rattle.rv_jobs.specs.declared.error.JobError.{JobError}
 use Rattle.rv_program.specs.declared.error.Failure.{Failure}

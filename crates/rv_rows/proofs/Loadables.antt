@@ -16,7 +16,8 @@ use Rattle.rv_memory.specs.Bus.{Contents, new_bus}
 use Rattle.rv_machine.specs.State.{State, at_reset, is_misaligned}
 use Rattle.rv_rows.specs.declared.outcome.Loadable.{Loadable}
 use Rattle.rv_rows.specs.declared.outcome.SignatureRange.{SignatureRange}
-use Rattle.rv_rows.specs.Outcome.{◌>>=◌, end_of_signature, loadable_of, loaded_state, range_if_asked, range_of}
+use Rattle.rv_rows.specs.Outcome.{end_of_signature, loadable_of, loaded_state, range_if_asked, range_of}
+use Rattle.rv_jobs.specs.Reading.{◌>>=◌}
 
 -- a second step that was reached: the first gave a value
 stepped : {E A B : Type 0} (r : Result A E) (f : A → Result B E) (y : B) → (r >>= f) ≡ Ok y → (x : A)

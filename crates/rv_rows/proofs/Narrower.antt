@@ -22,7 +22,8 @@ use Rattle.rv_rows.specs.declared.outcome.Loadable.{Loadable}
 use Rattle.rv_rows.specs.declared.row.Refusal.{Refusal}
 use Rattle.rv_rows.specs.declared.row.Row.{Row}
 use Rattle.rv_rows.specs.Narrower.{widened_job, widened_jobs, widened_plan, is_of_any_set}
-use Rattle.rv_rows.specs.Outcome.{◌>>=◌, end_of, file_of, file_outcome_of, loadable_of, loaded_state}
+use Rattle.rv_rows.specs.Outcome.{end_of, file_of, file_outcome_of, loadable_of, loaded_state}
+use Rattle.rv_jobs.specs.Reading.{◌>>=◌}
 use Rattle.rv_rows.specs.Outcome.{outcome_if_loadable, outcome_if_there, outcome_of, outcome_of_run}
 use Rattle.rv_rows.specs.Rows.{other_in, outcome_in, row_of, rows_of}
 use Rattle.rv_rows.specs.Verdict.{verdict_of}

@@ -2,9 +2,9 @@
 use Rattle.std.specs.Prelude.{ℕ, ◌-◌, true, List, [], ◌∷◌, length, get_or, leb, codes, None, nat_lt}
 use Rattle.std.specs.Prelude.{if◌then◌else◌}
 use Rattle.rv_isa.specs.declared.sets.Isa.TheVariants.{Imc}
-use Rattle.rv_memory.specs.declared.map.Region.{Region}
 use Rattle.rv_memory.specs.declared.access.Misaligned.TheVariants.{Fault}
 use Rattle.rv_memory.specs.Bus.{Contents, new_bus, with_bytes}
+use Rattle.rv_jobs.specs.Jobs.{default_regions}
 use Rattle.rv_machine.specs.Run.{run_of}
 use Rattle.rv_machine.specs.State.{State, at_reset}
 use Rattle.rv_rows.specs.declared.row.Refusal.TheVariants as refusal
@@ -13,10 +13,6 @@ use Rattle.rv_rows.specs.declared.row.Row.{Row}
 use Rattle.rv_rows.specs.declared.row.Verdict.TheVariants as verdict
 use Rattle.rv_rows.specs.Outcome.{outcome_of_run, refused_outcome}
 use Rattle.rv_rows.specs.Rows.{row_with}
-
--- the default map: one region, which may be written
-abbrev pub default_regions : List Region
-default_regions = record { base = 0x8000_0000; size = 0x10_0000; writable = true } ∷ []
 
 -- the most bytes of a flat image: those of the region
 abbrev pub image_room : ℕ

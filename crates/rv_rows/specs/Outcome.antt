@@ -8,6 +8,7 @@ use Rattle.rv_elf.specs.Loading.{map_check, opening_memory}
 use Rattle.rv_elf.specs.Symbols.{signature_check, symbol_of}
 use Rattle.rv_jobs.specs.declared.job.Job.{Job}
 use Rattle.rv_jobs.specs.declared.job.Symbols.{Symbols}
+use Rattle.rv_jobs.specs.Reading.{◌>>=◌}
 use Rattle.rv_jobs.specs.declared.store.Kept.{Kept}
 use Rattle.rv_jobs.specs.declared.store.Kept.TheVariants as kept
 use Rattle.rv_memory.specs.declared.map.Region.{Region}
@@ -24,12 +25,6 @@ use Rattle.rv_rows.specs.declared.row.Refusal.{Refusal}
 use Rattle.rv_rows.specs.declared.row.Refusal.TheVariants as refusal
 use Rattle.rv_rows.specs.declared.row.RowEnd.{RowEnd}
 use Rattle.rv_rows.specs.declared.row.RowEnd.TheVariants as ending
-
--- the second step, if the first was not refused
-infixl 10 ◌>>=◌
-abbrev pub ◌>>=◌ : {E A B : Type 0} → Result A E → (A → Result B E) → Result B E
-(Ok x) >>= f = f x
-(Err why) >>= f = Err why
 
 -- ---- the files of a job
 

@@ -1,6 +1,7 @@
 -- What a sink took, and how often it failed.
-use Rattle.std.specs.Prelude.{◌≡◌, ◌≤◌, ◌+◌, ◌^◌, ◌-◌, ℕ, List, ◌++◌, Option, min}
+use Rattle.std.specs.Prelude.{◌≡◌, ◌≤◌, ℕ, List, ◌++◌, Option}
 use Rattle.std.specs.Io.KnownBytes.{Appends}
+use Rattle.rv_jobs.specs.Stores.{one_more}
 
 -- the known bytes grew by a beginning of the text
 pub record AppendsBeginning (old new : Option (List ℕ)) (text : List ℕ) : Type 0 where
@@ -14,14 +15,6 @@ pub record IsUnderWay (old new : Option (List ℕ)) (gathered text : List ℕ) :
   pub sent : List ℕ
   pub appended : Appends old new sent
   pub whole : text ≡ sent ++ gathered
-
--- the greatest count of failures
-abbrev pub most_failures : ℕ
-most_failures = 2 ^ 64 - 1
-
--- one failure more; at its greatest the count stays
-abbrev pub one_more : ℕ → ℕ
-one_more failures = min (failures + 1) most_failures
 
 -- the count rose by one or more; at its greatest it passes as risen
 abbrev pub Rose : ℕ → ℕ → Type 0

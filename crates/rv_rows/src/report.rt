@@ -5,7 +5,8 @@ ghost use Rattle.std.specs.Prelude.{string_bytes};
 ghost use Rattle.std.specs.Io.KnownBytes.{Appends};
 ghost use Rattle.rv_rows.specs.Report.{refusal_name, verdict_name, end_line, or_dash, console_line};
 ghost use Rattle.rv_rows.specs.Report.{signature_lines, row_text, rows_text, done_line, report_text};
-ghost use Rattle.rv_rows.specs.Sending.{AppendsBeginning, IsUnderWay, Rose, one_more};
+ghost use Rattle.rv_rows.specs.Sending.{AppendsBeginning, IsUnderWay, Rose};
+ghost use Rattle.rv_jobs.specs.Stores.{one_more};
 ghost use Rattle.rv_rows.specs.declared.report.WriteError.TheVariants.{Failed, OutOfMemory};
 
 use crate::row::{Refusal, Row, RowEnd, Verdict};

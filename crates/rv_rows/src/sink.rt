@@ -2,7 +2,8 @@
 
 ghost use Rattle.std.specs.Prelude.{◌≡◌, ◌≤◌, ◌<◌, ◌+◌, ℕ, List, Option, None, IfOk, IfErr, OnOk, OnErr, length, take};
 ghost use Rattle.std.specs.Io.KnownBytes.{Appends, Keeps};
-ghost use Rattle.rv_rows.specs.Sending.{AppendsBeginning, one_more};
+ghost use Rattle.rv_rows.specs.Sending.{AppendsBeginning};
+ghost use Rattle.rv_jobs.specs.Stores.{one_more};
 
 /// The sink took nothing.
 #[derive(Clone, Copy, Debug, PartialEq, Eq)]
