@@ -7,3 +7,4 @@ pub mod Noting
 pub mod Planning
 pub mod JobStages
 pub mod Choosing
+pub mod Public

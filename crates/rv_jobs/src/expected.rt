@@ -101,7 +101,7 @@ fn end_named(text: &str) -> Result<Option<ExpectedEnd>, What>
     if text == "budget" {
         return Ok(Some(ExpectedEnd::Budget));
     }
-    match FaultKind::named(text) {
+    match FaultKind::named(text.as_bytes()) {
         Some(kind) => Ok(Some(ExpectedEnd::Fault(kind))),
         None => Err(What::Expect),
     }

@@ -4,3 +4,4 @@ pub mod Signatures
 pub mod Loadables
 pub mod Narrower
 pub mod Wholes
+pub mod Public

@@ -1,11 +1,13 @@
 -- The text of a report: six parts a row, each of whole lines, and a last line.
 use Rattle.std.specs.Prelude.{◌==◌, if◌then◌else◌, ◌+◌, ℕ, List, [], ◌∷◌, ◌++◌, length, Option}
-use Rattle.std.specs.Prelude.{Some, None, codes}
+use Rattle.std.specs.Prelude.{Some, None, codes, map}
 use Rattle.std.specs.Int.{w32, to_be_bytes}
-use Rattle.std.specs.List.{flat_map}
+use Rattle.std.specs.List.{flat_map, find}
+use Rattle.std.specs.Str.{bytes_eq}
 use Rattle.std.specs.Fmt.{decimal}
 use Rattle.hex.specs.Hex.{encode_lower}
 use Rattle.rv_elf.specs.ErrorNames.{image_error_name}
+use Rattle.rv_elf.specs.declared.error.ImageError.TheVariants as image
 use Rattle.rv_machine.specs.Faults.{fault_name}
 use Rattle.rv_rows.specs.declared.row.Refusal.{Refusal}
 use Rattle.rv_rows.specs.declared.row.Refusal.TheVariants as refusal
@@ -31,6 +33,20 @@ refusal_name refusal.ImageTooLong = codes "image-too-long"
 refusal_name refusal.ReferenceUnreadable = codes "reference-unreadable"
 refusal_name refusal.ReferenceTooLong = codes "reference-too-long"
 refusal_name (refusal.Image why) = image_error_name why
+
+-- all that a row can have
+abbrev pub refusals : List Refusal
+refusals = refusal.ImageUnreadable ∷ refusal.ImageTooLong ∷ refusal.ReferenceUnreadable
+    ∷ refusal.ReferenceTooLong ∷ map refusal.Image (image.ShortHeader ∷ image.BadMagic
+    ∷ image.Not32Bit ∷ image.NotLittleEndian ∷ image.BadVersion ∷ image.NotExecutable
+    ∷ image.NotRiscv ∷ image.ProgramTable ∷ image.Dynamic ∷ image.SegmentSizes ∷ image.SegmentFile
+    ∷ image.NoSegment ∷ image.EntryOdd ∷ image.EntryAlign ∷ image.SegmentMap ∷ image.SegmentOverlap
+    ∷ image.SectionTable ∷ image.NoSymbols ∷ image.SymbolTable ∷ image.StringTable ∷ image.NoBegin
+    ∷ image.NoEnd ∷ image.SignatureRange ∷ [])
+
+-- the one of this name
+abbrev pub refusal_named : List ℕ → Option Refusal
+refusal_named name = find (λ r. bytes_eq name (refusal_name r)) refusals
 
 -- how the run ended
 unfoldable pub end_line : RowEnd → List ℕ

@@ -3,13 +3,13 @@
 ghost use Rattle.std.specs.Prelude.{◌≡◌, ◌++◌, ◌+◌, ◌<◌, ◌^◌, ◌-◌, [], OnOk, OnErr, IfErr, map, option_map};
 ghost use Rattle.std.specs.Prelude.{string_bytes};
 ghost use Rattle.std.specs.Io.KnownBytes.{Appends};
-ghost use Rattle.rv_rows.specs.Report.{refusal_name, verdict_name, end_line, or_dash, console_line};
+ghost use Rattle.rv_rows.specs.Report.{verdict_name, end_line, or_dash, console_line};
 ghost use Rattle.rv_rows.specs.Report.{signature_lines, row_text, rows_text, done_line, report_text};
 ghost use Rattle.rv_rows.specs.Sending.{AppendsBeginning, IsUnderWay, Rose};
 ghost use Rattle.rv_jobs.specs.Stores.{one_more};
 ghost use Rattle.rv_rows.specs.declared.report.WriteError.TheVariants.{Failed, OutOfMemory};
 
-use crate::row::{Refusal, Row, RowEnd, Verdict};
+use crate::row::{Row, RowEnd, Verdict};
 use crate::signature_lines::{push_word, push_word_lines};
 use crate::sink::{Sink, SinkFailed, put_all};
 use rv_sequence::Sequence;
@@ -130,15 +130,17 @@ fn put_text<W: Sink>(text: &mut String, out: &mut W) -> Result<(), WriteError>
     Ok(())
 }
 
+/// Appends the last line of a report of so many rows.
 #[tactic(auto, unfolding(crate::specs::Report::done_line))]
-fn push_done(text: &mut String, count: usize) -> Result<(), AllocError>
+pub fn push_done(text: &mut String, count: usize) -> Result<(), AllocError>
     ensures { OnOk result (string_bytes text.new ≡ string_bytes text.old ++ done_line count) }
 {
     write!(text, "done {count}\n")
 }
 
+/// Appends what a report says of the row at a place, counted from 0.
 #[tactic(auto, unfolding(crate::specs::Report::row_text))]
-fn push_row(alloc: Global, text: &mut String, place: usize, row: &Row) -> Result<(), AllocError>
+pub fn push_row(alloc: Global, text: &mut String, place: usize, row: &Row) -> Result<(), AllocError>
     requires { place < 2 ^ 64 - 1 }
     ensures { OnOk result (string_bytes text.new
         ≡ string_bytes text.old ++ row_text place row.now) }
@@ -171,7 +173,7 @@ fn push_end(alloc: Global, text: &mut String, ending: RowEnd) -> Result<(), Allo
         }
         RowEnd::Budget => text.push_str("end budget\n"),
         RowEnd::Refused(refusal) => {
-            let name = refusal_text(refusal);
+            let name = refusal.name();
             write!(text, "end refused {name}\n")
         }
     }
@@ -219,18 +221,6 @@ fn push_signature(
             push_word_lines(alloc, text, words)
         }
         None => text.push_str("signature -\n"),
-    }
-}
-
-fn refusal_text(refusal: Refusal) -> &'static str
-    ensures { result.now ≡ refusal_name refusal }
-{
-    match refusal {
-        Refusal::ImageUnreadable => "image-unreadable",
-        Refusal::ImageTooLong => "image-too-long",
-        Refusal::ReferenceUnreadable => "reference-unreadable",
-        Refusal::ReferenceTooLong => "reference-too-long",
-        Refusal::Image(error) => error.name(),
     }
 }
 

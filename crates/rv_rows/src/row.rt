@@ -1,5 +1,10 @@
 //! A row: what a report says of one job.
 
+ghost use Rattle.std.specs.Prelude.{◌≡◌, option_map};
+ghost use Rattle.std.specs.List.{find};
+ghost use Rattle.std.specs.Str.{bytes_eq};
+ghost use Rattle.rv_rows.specs.Report.{refusal_name, refusal_named};
+
 use rv_elf::ImageError;
 use rv_jobs::{Bytes, Text};
 use rv_machine::FaultKind;
@@ -23,6 +28,71 @@ pub enum Refusal {
     /// The file is no image, the image doesn't fit the map, or there is no signature as it is asked for. No row has
     /// OutOfMemory here.
     Image(ImageError),
+}
+
+// All that a row can have.
+const REFUSALS: [Refusal; 27] = [
+    Refusal::ImageUnreadable,
+    Refusal::ImageTooLong,
+    Refusal::ReferenceUnreadable,
+    Refusal::ReferenceTooLong,
+    Refusal::Image(ImageError::ShortHeader),
+    Refusal::Image(ImageError::BadMagic),
+    Refusal::Image(ImageError::Not32Bit),
+    Refusal::Image(ImageError::NotLittleEndian),
+    Refusal::Image(ImageError::BadVersion),
+    Refusal::Image(ImageError::NotExecutable),
+    Refusal::Image(ImageError::NotRiscv),
+    Refusal::Image(ImageError::ProgramTable),
+    Refusal::Image(ImageError::Dynamic),
+    Refusal::Image(ImageError::SegmentSizes),
+    Refusal::Image(ImageError::SegmentFile),
+    Refusal::Image(ImageError::NoSegment),
+    Refusal::Image(ImageError::EntryOdd),
+    Refusal::Image(ImageError::EntryAlign),
+    Refusal::Image(ImageError::SegmentMap),
+    Refusal::Image(ImageError::SegmentOverlap),
+    Refusal::Image(ImageError::SectionTable),
+    Refusal::Image(ImageError::NoSymbols),
+    Refusal::Image(ImageError::SymbolTable),
+    Refusal::Image(ImageError::StringTable),
+    Refusal::Image(ImageError::NoBegin),
+    Refusal::Image(ImageError::NoEnd),
+    Refusal::Image(ImageError::SignatureRange),
+];
+
+impl Refusal {
+    /// The refusal of a name, as [`name`](Refusal::name) gives it; its bytes need not be UTF-8.
+    pub fn named(name: &[u8]) -> Option<Refusal>
+        ensures { result ≡ refusal_named name.now }
+    {
+        match find_named(&REFUSALS, name) {
+            Some(refusal) => Some(*refusal),
+            None => None,
+        }
+    }
+
+    /// The word for it in a report.
+    pub fn name(self) -> &'static str
+        ensures { result.now ≡ refusal_name self }
+    {
+        match self {
+            Refusal::ImageUnreadable => "image-unreadable",
+            Refusal::ImageTooLong => "image-too-long",
+            Refusal::ReferenceUnreadable => "reference-unreadable",
+            Refusal::ReferenceTooLong => "reference-too-long",
+            Refusal::Image(error) => error.name(),
+        }
+    }
+}
+
+fn find_named<'a>(refusals: &'a [Refusal], name: &[u8]) -> Option<&'a Refusal>
+    ensures { option_map (λ refusal. refusal.now) result
+        ≡ find (λ refusal. bytes_eq name.now (refusal_name refusal)) refusals.now }
+{
+    refusals
+        .iter()
+        .find(|refusal| name == refusal.name().as_bytes())
 }
 
 /// How the run of a job ended.

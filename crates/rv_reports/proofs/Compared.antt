@@ -1,0 +1,71 @@
+-- Reading: take what a text says, write it, and compare.
+use Rattle.std.proofs.Common.{◌≡◌, ◌∙◌, ◌<◌, ◌^◌, ℕ, true, false, List, length, sym, ap, subst, arith}
+use Rattle.std.proofs.lemmas.Bool.{false≢true}
+use Rattle.std.proofs.lemmas.Slice.Eq.{bytes_eq-Decides}
+use Rattle.std.specs.Str.{bytes_eq}
+use Rattle.std.specs.Prelude.{Result, Ok, Err, IfErr}
+use Rattle.std.specs.Result.{IsErrAnd}
+use Rattle.rv_reports.specs.declared.read.ReadError.{ReadError}
+use Rattle.rv_reports.specs.declared.read.ReadError.TheVariants.{OutOfMemory, Line, CutOff}
+use Rattle.rv_reports.specs.declared.saved.SavedReport.{SavedReport}
+use Rattle.rv_reports.specs.Said.{said}
+use Rattle.rv_reports.specs.Saved.{IsListed, IsSaved, saved_text}
+use Rattle.rv_reports.specs.Faults.{Tells, IsPlace, fault}
+use Rattle.rv_reports.proofs.Cut.{said_listed, few_numbers}
+use Rattle.rv_reports.proofs.Named.{tells}
+use Rattle.rv_reports.proofs.Parts.{has_numbers}
+use Rattle.rv_reports.proofs.Reports.{said-saved}
+
+-- a report that can be says itself
+pub says_itself : (r : SavedReport) → IsSaved r → said (saved_text r) ≡ r
+says_itself r h =
+    let counted = h.listed.counted in
+    let few = few_numbers r.numbers h.listed.rising in
+    said-saved r h (has_numbers r.extent r.numbers h.listed.fits) (omega arith)
+
+pub same_reports : (r other : SavedReport) → IsSaved r → IsSaved other → saved_text r ≡ saved_text other → r ≡ other
+same_reports r other h k e = sym (says_itself r h) ∙ ap said e ∙ says_itself other k
+
+pub is_listed : (bytes : List ℕ) (r : SavedReport) → r ≡ said bytes → IsListed r
+is_listed bytes r s = subst (λ (x : SavedReport). IsListed x) (sym s) (said_listed bytes)
+
+pub found_is : (bytes text : List ℕ) (r : SavedReport) → r ≡ said bytes → text ≡ saved_text r → true ≡ bytes_eq text bytes
+    → IsListed r × (saved_text r ≡ bytes)
+found_is bytes text r s t e = (is_listed bytes r s, sym t ∙ (bytes_eq-Decides text bytes).0 (sym e))
+
+pub only_is : (bytes : List ℕ) (r : SavedReport) → r ≡ said bytes → (wanted : SavedReport) → IsSaved wanted
+    → saved_text wanted ≡ bytes → r ≡ wanted
+only_is bytes r s wanted h e = s ∙ ap said (sym e) ∙ says_itself wanted h
+
+pub never : (bytes text : List ℕ) (r : SavedReport) → r ≡ said bytes → text ≡ saved_text r → false ≡ bytes_eq text bytes
+    → (wanted : SavedReport) → IsSaved wanted → saved_text wanted ≡ bytes → ⊥
+never bytes text r s t other wanted h e =
+    let same = t ∙ ap saved_text (only_is bytes r s wanted h e) ∙ e in
+    false≢true (other ∙ (bytes_eq-Decides text bytes).1 same)
+
+pub err_is : (bytes text : List ℕ) (r : SavedReport) (error : ReadError) → r ≡ said bytes → text ≡ saved_text r
+    → error ≡ fault 1 text bytes → (x : SavedReport) × IsListed x × Tells error (saved_text x) bytes
+err_is bytes text r error s t f = (
+  r,
+  is_listed bytes r s,
+  subst (λ (e : ReadError). Tells e (saved_text r) bytes) (sym (f ∙ ap (λ (x : List ℕ). fault 1 x bytes) t))
+      (tells (saved_text r) bytes),
+)
+
+is_place : (error place : ReadError) → error ≡ place → IsPlace error place
+is_place OutOfMemory place e = tt
+is_place (Line line) place e = sym e
+is_place CutOff place e = sym e
+
+pub place_is : (bytes text : List ℕ) (r : SavedReport) (error : ReadError) → r ≡ said bytes → text ≡ saved_text r
+    → error ≡ fault 1 text bytes → IsPlace error (fault 1 (saved_text (said bytes)) bytes)
+place_is bytes text r error s t f =
+    is_place error (fault 1 (saved_text (said bytes)) bytes)
+    (f ∙ ap (λ (x : List ℕ). fault 1 x bytes) (t ∙ ap saved_text s))
+
+-- nothing is said of the text where memory ran out
+pub err_of : {X : Type 0} (bytes : List ℕ) (result : Result X ReadError) → IsErrAnd result (λ error. error ≡ OutOfMemory)
+    → IfErr result (λ error. (x : SavedReport) × IsListed x × Tells error (saved_text x) bytes)
+err_of bytes (Ok x) h = tt
+err_of bytes (Err error) h =
+    (said bytes, said_listed bytes, subst (λ (e : ReadError). Tells e (saved_text (said bytes)) bytes) (sym h) tt)

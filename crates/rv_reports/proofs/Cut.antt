@@ -1,0 +1,169 @@
+-- What is left once it is cut at the first row that can't stand there.
+use Rattle.std.proofs.Common.{◌≡◌, ◌∙◌, ◌+◌, ◌<◌, ◌≤◌, ◌^◌, ℕ, zero, suc, Bool, true, false, ◌&&◌, not, cond, List, [], ◌∷◌}
+use Rattle.std.proofs.Common.{◌++◌, length, take, map, refl, sym, ap, arith, subst, inl, inr}
+use Rattle.std.specs.Prelude.{nat_le, nat_lt, min, is_some}
+use Rattle.std.specs.List.{list_all}
+use Rattle.std.proofs.lemmas.Bool.{and_parts, and_from, cases_Bool}
+use Rattle.std.proofs.lemmas.Bool.Decides.{nat_tests}
+use Rattle.rv_jobs.specs.JobList.{is_name, place_in}
+use Rattle.rv_jobs.specs.Jobs.{most_jobs}
+use Rattle.rv_rows.specs.declared.row.Row.{Row}
+use Rattle.rv_reports.specs.declared.saved.Extent.{Extent}
+use Rattle.rv_reports.specs.declared.saved.Extent.TheVariants.{Choice}
+use Rattle.rv_reports.specs.declared.saved.SavedReport.{SavedReport}
+use Rattle.rv_reports.specs.Said.{Gathered, rising_count, new_count, fitting, gathered, said}
+use Rattle.rv_reports.specs.Saved.{IsListed, are_rising, are_new, fits, names_of}
+use Rattle.rv_reports.proofs.Named.{AreNamed, gathered_named}
+
+-- the counts are not above the lengths
+rising_within : (before : ℕ) (ns : List ℕ) → rising_count before ns ≤ length ns
+unfolding rising_count
+rising_within before [] = omega arith
+rising_within before (n ∷ ns) =
+    let k = rising_within n ns in
+    elim (cases_Bool (nat_lt before n && nat_le n most_jobs)) [
+      | inl e ↦
+          let s : rising_count before (n ∷ ns) ≡ rising_count n ns + 1 = ap (λ (t : Bool). cond t (rising_count n ns + 1) 0) e in
+          omega arith
+      | inr e ↦
+          let s : rising_count before (n ∷ ns) ≡ 0 = ap (λ (t : Bool). cond t (rising_count n ns + 1) 0) e in
+          omega arith
+    ]
+
+new_within : (earlier texts : List (List ℕ)) → new_count earlier texts ≤ length texts
+unfolding new_count
+new_within earlier [] = omega arith
+new_within earlier (t ∷ ts) =
+    let k = new_within (earlier ++ t ∷ []) ts in
+    elim (cases_Bool (is_some (place_in earlier t))) [
+      | inl e ↦
+          let s : new_count earlier (t ∷ ts) ≡ 0 = ap (λ (b : Bool). cond b 0 (new_count (earlier ++ t ∷ []) ts + 1)) e in
+          omega arith
+      | inr e ↦
+          let s : new_count earlier (t ∷ ts) ≡ new_count (earlier ++ t ∷ []) ts + 1 =
+          ap (λ (b : Bool). cond b 0 (new_count (earlier ++ t ∷ []) ts + 1)) e in
+          omega arith
+    ]
+
+rising_taken : (before count : ℕ) (ns : List ℕ) → count ≤ rising_count before ns
+    → are_rising before most_jobs (take count ns) ≡ true
+unfolding rising_count are_rising
+rising_taken before zero ns h = refl
+rising_taken before (suc count) [] h = refl
+rising_taken before (suc count) (n ∷ ns) h =
+    elim (cases_Bool (nat_lt before n && nat_le n most_jobs)) [
+      | inl e ↦
+          let s : rising_count before (n ∷ ns) ≡ rising_count n ns + 1 = ap (λ (t : Bool). cond t (rising_count n ns + 1) 0) e in
+          let parts = and_parts (nat_lt before n) (nat_le n most_jobs) e in
+          and_from (nat_lt before n) (nat_le n most_jobs && are_rising n most_jobs (take count ns)) parts.0
+          (and_from (nat_le n most_jobs) (are_rising n most_jobs (take count ns)) parts.1
+          (rising_taken n count ns (omega arith)))
+      | inr e ↦
+          let s : rising_count before (n ∷ ns) ≡ 0 = ap (λ (t : Bool). cond t (rising_count n ns + 1) 0) e in
+          absurd (omega arith)
+    ]
+
+new_taken : (earlier : List (List ℕ)) (count : ℕ) (rows : List Row) → count ≤ new_count earlier (names_of rows)
+    → are_new earlier (names_of (take count rows)) ≡ true
+unfolding new_count are_new
+new_taken earlier zero rows h = refl
+new_taken earlier (suc count) [] h = refl
+new_taken earlier (suc count) (row ∷ rows) h =
+    let t = row.name in
+    let later = new_count (earlier ++ t ∷ []) (names_of rows) in
+    elim (cases_Bool (is_some (place_in earlier t))) [
+      | inl e ↦
+          let s : new_count earlier (names_of (row ∷ rows)) ≡ 0 = ap (λ (b : Bool). cond b 0 (later + 1)) e in
+          absurd (omega arith)
+      | inr e ↦
+          let s : new_count earlier (names_of (row ∷ rows)) ≡ later + 1 = ap (λ (b : Bool). cond b 0 (later + 1)) e in
+          and_from (not (is_some (place_in earlier t))) (are_new (earlier ++ t ∷ []) (names_of (take count rows)))
+          (ap not e) (new_taken (earlier ++ t ∷ []) count rows (omega arith))
+    ]
+
+named_taken : (count : ℕ) (rows : List Row) → AreNamed rows → AreNamed (take count rows)
+named_taken zero rows h = refl
+named_taken (suc count) [] h = refl
+named_taken (suc count) (row ∷ rows) h =
+    let parts = and_parts (is_name row.name) (list_all is_name (names_of rows)) h in
+    and_from (is_name row.name) (list_all is_name (names_of (take count rows))) parts.0 (named_taken count rows parts.1)
+
+fitting_fits : (e : Extent) (ns : List ℕ) → are_rising 0 most_jobs ns ≡ true → fits (fitting e ns) ns ≡ true
+unfolding fitting fits
+fitting_fits e ns h =
+    let P : Extent → Type 0 = λ x. fits x ns ≡ true in
+    elim (cases_Bool (fits e ns)) [
+      | inl t ↦ subst P (sym (ap (λ (b : Bool). cond b e (Choice most_jobs)) t)) t
+      | inr t ↦ subst P (sym (ap (λ (b : Bool). cond b e (Choice most_jobs)) t)) (and_from (nat_le most_jobs most_jobs) (are_rising 0 most_jobs ns) refl h)
+    ]
+
+pub length-taken : {X : Type 0} (count : ℕ) (xs : List X) → count ≤ length xs → length (take count xs) ≡ count
+length-taken zero xs h = refl
+length-taken (suc count) [] h = absurd (omega arith)
+length-taken (suc count) (x ∷ xs) h = ap suc (length-taken count xs (omega arith))
+
+pub length-names : (rows : List Row) → length (names_of rows) ≡ length rows
+length-names [] = refl
+length-names (row ∷ rows) = ap suc (length-names rows)
+
+cut_listed : (g : Gathered) (count : ℕ) → count ≡ min (rising_count 0 g.numbers) (new_count [] (names_of g.rows))
+    → AreNamed g.rows
+    → IsListed (record {
+      extent = fitting g.extent (take count g.numbers);
+      numbers = take count g.numbers;
+      rows = take count g.rows;
+    })
+cut_listed g count is named =
+    let a = rising_within 0 g.numbers in
+    let b = new_within [] (names_of g.rows) in
+    let c = length-names g.rows in
+    let rising = rising_taken 0 count g.numbers (omega arith) in
+    record {
+      counted = length-taken count g.numbers (omega arith) ∙ sym (length-taken count g.rows (omega arith));
+      rising = rising;
+      fits = fitting_fits g.extent (take count g.numbers) rising;
+      names = named_taken count g.rows named;
+      new = new_taken [] count g.rows (omega arith);
+    }
+
+-- what a text says is listed
+pub said_listed : (text : List ℕ) → IsListed (said text)
+unfolding said
+said_listed text =
+    let g = gathered text in
+    cut_listed g (min (rising_count 0 g.numbers) (new_count [] (names_of g.rows))) refl (gathered_named text)
+
+-- ---- how many there are
+
+within_last : (before last : ℕ) (ns : List ℕ) → before ≤ last → are_rising before last ns ≡ true → before + length ns ≤ last
+unfolding are_rising
+within_last before last [] low h = omega arith
+within_last before last (n ∷ ns) low h =
+    let first = and_parts (nat_lt before n) (nat_le n last && are_rising n last ns) h in
+    let then = and_parts (nat_le n last) (are_rising n last ns) first.1 in
+    let a : before < n = grind (arith, nat_tests) in
+    let b : n ≤ last = grind (arith, nat_tests) in
+    let c = within_last n last ns b then.1 in
+    omega arith
+
+pub few_numbers : (ns : List ℕ) → are_rising 0 most_jobs ns ≡ true → length ns ≤ most_jobs
+few_numbers ns h = let k = within_last 0 most_jobs ns (omega arith) h in omega arith
+
+pub few_taken : (count : ℕ) (ns : List ℕ) → count ≤ rising_count 0 ns → length (take count ns) ≤ most_jobs
+few_taken count ns h = few_numbers (take count ns) (rising_taken 0 count ns h)
+
+-- the same, of what was worked out piece by piece
+pub cut_made : (g : Gathered) (count : ℕ) (e : Extent) (ns : List ℕ) (rs : List Row) → ns ≡ take count g.numbers
+    → rs ≡ take count g.rows → e ≡ fitting g.extent ns
+    → count ≡ min (rising_count 0 g.numbers) (new_count [] (names_of g.rows)) → AreNamed g.rows
+    → IsListed (record { extent = e; numbers = ns; rows = rs })
+cut_made g count e ns rs n r x is named =
+    let e' = fitting g.extent (take count g.numbers) in
+    subst (λ (y : SavedReport). IsListed y)
+    (sym (ap (λ (t : Extent). record { extent = t; numbers = ns; rows = rs }) (x ∙ ap (fitting g.extent) n)
+    ∙ ap (λ (t : List ℕ). record { extent = e'; numbers = t; rows = rs }) n
+    ∙ ap (λ (t : List Row). record { extent = e'; numbers = take count g.numbers; rows = t }) r))
+    (cut_listed g count is named)
+
+pub named_view : (g : Gathered) (text : List ℕ) → g ≡ gathered text → AreNamed g.rows
+named_view g text is = subst (λ (x : Gathered). AreNamed x.rows) (sym is) (gathered_named text)

@@ -1,0 +1,9 @@
+pub mod Pieces
+pub mod Words
+pub mod Spelled
+pub mod Parts
+pub mod Reports
+pub mod Cut
+pub mod Loops
+pub mod Named
+pub mod Compared

@@ -1,0 +1,4 @@
+pub mod Saved
+pub mod Said
+pub mod View
+pub mod Faults

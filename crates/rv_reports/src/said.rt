@@ -1,0 +1,75 @@
+//! What a text says: its lines, up to the first row that can't stand where it does.
+
+ghost use Rattle.std.specs.Prelude.{◌≡◌, ◌≤◌, [], IfOk, length};
+ghost use Rattle.rv_reports.specs.Said.{rising_count, new_count, fitting, said};
+ghost use Rattle.rv_jobs.specs.Jobs.{most_jobs};
+ghost use Rattle.rv_reports.specs.Saved.{names_of, IsListed};
+
+use crate::gathering::gathered;
+use crate::saved::{Extent, SavedReport};
+use rv_jobs::limits::MOST_JOBS;
+use rv_rows::{Row, Rows, Words};
+use std::alloc::{AllocError, Global};
+use std::collections::BTreeMap;
+
+/// What a text says.
+#[tactic(auto, unfolding(crate::specs::Said::said))]
+pub(crate) fn said(alloc: Global, text: &[u8]) -> Result<SavedReport, AllocError>
+    ensures value { IfOk result (λ report. report ≡ said text.now) }
+    ensures listed { IfOk result (λ report. IsListed report) }
+{
+    let gathering = gathered(alloc, text)?;
+    let mut numbers = gathering.numbers;
+    let mut rows = gathering.rows;
+    let count = rising_count(&numbers).min(new_count(alloc, &rows)?);
+    numbers.truncate(count);
+    rows.truncate(count);
+    let extent = fitting(gathering.extent, &numbers);
+    Ok(SavedReport {
+        extent,
+        numbers: Words::new(numbers),
+        rows: Rows::new(rows),
+    })
+}
+
+// Any extent that these numbers fit, where they don't fit the given one.
+#[tactic(auto, unfolding(crate::specs::Said::fitting))]
+fn fitting(extent: Extent, numbers: &[u32]) -> Extent
+    requires { length numbers.now ≤ most_jobs }
+    ensures { result ≡ fitting extent numbers.now }
+{
+    if extent.fits(numbers) {
+        extent
+    } else {
+        Extent::Choice(MOST_JOBS as u32)
+    }
+}
+
+// How many of the numbers rise, up to the most jobs of a list.
+fn rising_count(numbers: &[u32]) -> usize
+    ensures { result ≡ rising_count 0 numbers.now }
+{
+    let mut before = 0;
+    for (at, number) in numbers.iter().enumerate() {
+        if *number <= before || MOST_JOBS < *number as usize {
+            return at;
+        }
+        before = *number;
+    }
+    numbers.len()
+}
+
+// How many rows stand before the first whose name is there already.
+fn new_count(alloc: Global, rows: &[Row]) -> Result<usize, AllocError>
+    ensures { IfOk result (λ count. count ≡ new_count [] (names_of rows.now)) }
+{
+    let mut places: BTreeMap<&str, usize> = BTreeMap::new(alloc);
+    for (at, row) in rows.iter().enumerate() {
+        let name = row.name.as_str();
+        if places.contains_key(name) {
+            return Ok(at);
+        }
+        places.insert(name, at)?;
+    }
+    Ok(rows.len())
+}

@@ -1,0 +1,66 @@
+//! The text of a saved report.
+
+ghost use Rattle.std.specs.Prelude.{◌≡◌, ◌++◌, ◌≤◌, ◌<◌, ◌^◌, true, IfOk, OnOk, string_bytes, length};
+ghost use Rattle.rv_reports.specs.Saved.{IsListed, are_rising, numbered_text, last_line, saved_text};
+ghost use Rattle.rv_jobs.specs.Jobs.{most_jobs};
+
+use crate::saved::{Extent, SavedReport, Shard};
+use rv_rows::{Row, push_done, push_row};
+use std::alloc::{AllocError, Global};
+
+/// The text of a report.
+#[tactic(auto, unfolding(crate::specs::Saved::saved_text))]
+pub(crate) fn text_of(alloc: Global, report: &SavedReport) -> Result<String, AllocError>
+    requires { IsListed report.now }
+    ensures { IfOk result (λ text. string_bytes text ≡ saved_text report.now) }
+{
+    let rows = report.rows.as_slice();
+    let mut text = String::new(alloc);
+    push_rows(alloc, &mut text, report.numbers.as_slice(), rows)?;
+    push_last(&mut text, &report.extent, rows.len())?;
+    Ok(text)
+}
+
+fn push_rows(
+    alloc: Global,
+    text: &mut String,
+    numbers: &[u32],
+    rows: &[Row],
+) -> Result<(), AllocError>
+    requires counted { length numbers.now ≡ length rows.now }
+    requires rising { are_rising 0 most_jobs numbers.now ≡ true }
+    ensures { OnOk result (string_bytes text.new
+        ≡ string_bytes text.old ++ numbered_text numbers.now rows.now) }
+{
+    for (at, row) in rows.iter().enumerate() {
+        push_row(alloc, text, numbers[at] as usize - 1, row)?;
+    }
+    Ok(())
+}
+
+/// Appends the line below so many rows.
+#[tactic(auto, unfolding(crate::specs::Saved::last_line))]
+pub(crate) fn push_last(text: &mut String, extent: &Extent, count: usize) -> Result<(), AllocError>
+    ensures { OnOk result (string_bytes text.new
+        ≡ string_bytes text.old ++ last_line extent.now count) }
+{
+    match extent {
+        Extent::Whole => push_done(text, count),
+        Extent::Choice(jobs) => write!(text, "part {count} of {jobs}\n"),
+        Extent::Shard(shard) => push_shard(text, shard, count),
+    }
+}
+
+#[tactic(auto, unfolding(crate::specs::Saved::last_line))]
+fn push_shard(text: &mut String, shard: &Shard, count: usize) -> Result<(), AllocError>
+    ensures { OnOk result (string_bytes text.new
+        ≡ string_bytes text.old ++ last_line (Extent.Shard shard.now) count) }
+{
+    let jobs = shard.jobs;
+    let number = shard.number;
+    let shards = shard.shards;
+    let stamp = shard.stamp.as_str();
+    write!(text, "part {count} of {jobs}")?;
+    write!(text, " shard {number}/{shards}")?;
+    write!(text, " stamp {stamp}\n")
+}
