@@ -29,7 +29,8 @@ same_reports r other h k e = sym (says_itself r h) ∙ ap said e ∙ says_itself
 pub is_listed : (bytes : List ℕ) (r : SavedReport) → r ≡ said bytes → IsListed r
 is_listed bytes r s = subst (λ (x : SavedReport). IsListed x) (sym s) (said_listed bytes)
 
-pub found_is : (bytes text : List ℕ) (r : SavedReport) → r ≡ said bytes → text ≡ saved_text r → true ≡ bytes_eq text bytes
+pub found_is : (bytes text : List ℕ) (r : SavedReport) → r ≡ said bytes → text ≡ saved_text r
+    → true ≡ bytes_eq text bytes
     → IsListed r × (saved_text r ≡ bytes)
 found_is bytes text r s t e = (is_listed bytes r s, sym t ∙ (bytes_eq-Decides text bytes).0 (sym e))
 
@@ -64,7 +65,8 @@ place_is bytes text r error s t f =
     (f ∙ ap (λ (x : List ℕ). fault 1 x bytes) (t ∙ ap saved_text s))
 
 -- nothing is said of the text where memory ran out
-pub err_of : {X : Type 0} (bytes : List ℕ) (result : Result X ReadError) → IsErrAnd result (λ error. error ≡ OutOfMemory)
+pub err_of : {X : Type 0} (bytes : List ℕ) (result : Result X ReadError)
+    → IsErrAnd result (λ error. error ≡ OutOfMemory)
     → IfErr result (λ error. (x : SavedReport) × IsListed x × Tells error (saved_text x) bytes)
 err_of bytes (Ok x) h = tt
 err_of bytes (Err error) h =

@@ -1,6 +1,6 @@
 -- What is left once it is cut at the first row that can't stand there.
-use Rattle.std.proofs.Common.{◌≡◌, ◌∙◌, ◌+◌, ◌<◌, ◌≤◌, ◌^◌, ℕ, zero, suc, Bool, true, false, ◌&&◌, not, cond, List, [], ◌∷◌}
-use Rattle.std.proofs.Common.{◌++◌, length, take, map, refl, sym, ap, arith, subst, inl, inr}
+use Rattle.std.proofs.Common.{◌≡◌, ◌∙◌, ◌+◌, ◌<◌, ◌≤◌, ◌^◌, ℕ, zero, suc, Bool, true, false, ◌&&◌, not, cond, List, []}
+use Rattle.std.proofs.Common.{◌∷◌, ◌++◌, length, take, map, refl, sym, ap, arith, subst, inl, inr}
 use Rattle.std.specs.Prelude.{nat_le, nat_lt, min, is_some}
 use Rattle.std.specs.List.{list_all}
 use Rattle.std.proofs.lemmas.Bool.{and_parts, and_from, cases_Bool}
@@ -23,7 +23,8 @@ rising_within before (n ∷ ns) =
     let k = rising_within n ns in
     elim (cases_Bool (nat_lt before n && nat_le n most_jobs)) [
       | inl e ↦
-          let s : rising_count before (n ∷ ns) ≡ rising_count n ns + 1 = ap (λ (t : Bool). cond t (rising_count n ns + 1) 0) e in
+          let s : rising_count before (n ∷ ns) ≡ rising_count n ns + 1 =
+          ap (λ (t : Bool). cond t (rising_count n ns + 1) 0) e in
           omega arith
       | inr e ↦
           let s : rising_count before (n ∷ ns) ≡ 0 = ap (λ (t : Bool). cond t (rising_count n ns + 1) 0) e in
@@ -37,7 +38,8 @@ new_within earlier (t ∷ ts) =
     let k = new_within (earlier ++ t ∷ []) ts in
     elim (cases_Bool (is_some (place_in earlier t))) [
       | inl e ↦
-          let s : new_count earlier (t ∷ ts) ≡ 0 = ap (λ (b : Bool). cond b 0 (new_count (earlier ++ t ∷ []) ts + 1)) e in
+          let s : new_count earlier (t ∷ ts) ≡ 0 =
+          ap (λ (b : Bool). cond b 0 (new_count (earlier ++ t ∷ []) ts + 1)) e in
           omega arith
       | inr e ↦
           let s : new_count earlier (t ∷ ts) ≡ new_count (earlier ++ t ∷ []) ts + 1 =
@@ -53,7 +55,8 @@ rising_taken before (suc count) [] h = refl
 rising_taken before (suc count) (n ∷ ns) h =
     elim (cases_Bool (nat_lt before n && nat_le n most_jobs)) [
       | inl e ↦
-          let s : rising_count before (n ∷ ns) ≡ rising_count n ns + 1 = ap (λ (t : Bool). cond t (rising_count n ns + 1) 0) e in
+          let s : rising_count before (n ∷ ns) ≡ rising_count n ns + 1 =
+          ap (λ (t : Bool). cond t (rising_count n ns + 1) 0) e in
           let parts = and_parts (nat_lt before n) (nat_le n most_jobs) e in
           and_from (nat_lt before n) (nat_le n most_jobs && are_rising n most_jobs (take count ns)) parts.0
           (and_from (nat_le n most_jobs) (are_rising n most_jobs (take count ns)) parts.1
@@ -94,7 +97,8 @@ fitting_fits e ns h =
     let P : Extent → Type 0 = λ x. fits x ns ≡ true in
     elim (cases_Bool (fits e ns)) [
       | inl t ↦ subst P (sym (ap (λ (b : Bool). cond b e (Choice most_jobs)) t)) t
-      | inr t ↦ subst P (sym (ap (λ (b : Bool). cond b e (Choice most_jobs)) t)) (and_from (nat_le most_jobs most_jobs) (are_rising 0 most_jobs ns) refl h)
+      | inr t ↦ subst P (sym (ap (λ (b : Bool). cond b e (Choice most_jobs)) t))
+          (and_from (nat_le most_jobs most_jobs) (are_rising 0 most_jobs ns) refl h)
     ]
 
 pub length-taken : {X : Type 0} (count : ℕ) (xs : List X) → count ≤ length xs → length (take count xs) ≡ count
@@ -135,7 +139,8 @@ said_listed text =
 
 -- ---- how many there are
 
-within_last : (before last : ℕ) (ns : List ℕ) → before ≤ last → are_rising before last ns ≡ true → before + length ns ≤ last
+within_last : (before last : ℕ) (ns : List ℕ) → before ≤ last → are_rising before last ns ≡ true
+    → before + length ns ≤ last
 unfolding are_rising
 within_last before last [] low h = omega arith
 within_last before last (n ∷ ns) low h =

@@ -1,5 +1,7 @@
 -- Steps of the loops over a text.
-use Rattle.std.proofs.Common.{◌≡◌, ◌∙◌, ◌==◌, ◌+◌, ◌-◌, ◌<◌, ◌≤◌, ℕ, zero, suc, Bool, true, false, ◌&&◌, not, cond, List, [], ◌∷◌, length, take, drop, get_or, refl, sym, ap, arith, add-one, inl, inr, ◌++◌, append-nil, append_assoc, nat_lt, nat_le, Option, Some, None}
+use Rattle.std.proofs.Common.{◌≡◌, ◌∙◌, ◌==◌, ◌+◌, ◌-◌, ◌<◌, ◌≤◌, ℕ, zero, suc, Bool, true, false, ◌&&◌, not, cond}
+use Rattle.std.proofs.Common.{List, [], ◌∷◌, length, take, drop, get_or, refl, sym, ap, arith, add-one, inl, inr, ◌++◌}
+use Rattle.std.proofs.Common.{append-nil, append_assoc, nat_lt, nat_le, Option, Some, None}
 use Rattle.std.proofs.lemmas.List.{at_drop_more, at_drop_all, drop_more}
 use Rattle.std.proofs.lemmas.Bool.Decides.{nat_tests}
 use Rattle.rv_reports.specs.declared.read.ReadError.TheVariants.{Line, CutOff}
@@ -10,7 +12,8 @@ use Rattle.std.specs.List.{onto_first, list_all}
 use Rattle.std.specs.Str.{IsAscii, IsUtf8}
 use Rattle.rv_jobs.specs.JobList.{is_name, is_name_byte, is_within}
 use Rattle.std.specs.Prelude.{Result, Ok, Err, IfOk}
-use Rattle.rv_reports.specs.Said.{Gathered, with_line, with_lines, lines, place_of, number_on, word_on, digit_on, hex_digit, is_word, is_hex}
+use Rattle.rv_reports.specs.Said.{Gathered, with_line, with_lines, lines, place_of, number_on, word_on, digit_on}
+use Rattle.rv_reports.specs.Said.{hex_digit, is_word, is_hex}
 use Rattle.rv_reports.specs.Faults.{feeds, fault}
 use Rattle.rv_jobs.specs.Jobs.{most_jobs}
 use Rattle.rv_rows.specs.Report.{row_text}
@@ -21,7 +24,8 @@ use Rattle.rv_jobs.specs.JobList.{place_in}
 use Rattle.rv_reports.specs.Said.{rising_count, new_count}
 use Rattle.rv_reports.specs.Saved.{are_rising, are_stepped, numbered_text, names_of}
 
-pub place_step : (byte : ℕ) (xs : List ℕ) (i : ℕ) → i < length xs → place_of byte (drop i xs) ≡ cond (get_or xs i 0 == byte) 0 (place_of byte (drop (i + 1) xs) + 1)
+pub place_step : (byte : ℕ) (xs : List ℕ) (i : ℕ) → i < length xs
+    → place_of byte (drop i xs) ≡ cond (get_or xs i 0 == byte) 0 (place_of byte (drop (i + 1) xs) + 1)
 unfolding place_of
 place_step byte xs i h = at_drop_more (place_of byte) xs i 0 h
 
@@ -29,7 +33,8 @@ pub place_end : (byte : ℕ) (xs : List ℕ) (i : ℕ) → length xs ≤ i → p
 unfolding place_of
 place_end byte xs i h = at_drop_all (place_of byte) xs i h
 
-pub number_step : (value : ℕ) (xs : List ℕ) (i : ℕ) → i < length xs → number_on value (drop i xs) ≡ number_on (digit_on 10 value (get_or xs i 0 - 48)) (drop (i + 1) xs)
+pub number_step : (value : ℕ) (xs : List ℕ) (i : ℕ) → i < length xs
+    → number_on value (drop i xs) ≡ number_on (digit_on 10 value (get_or xs i 0 - 48)) (drop (i + 1) xs)
 unfolding number_on
 number_step value xs i h = at_drop_more (number_on value) xs i 0 h
 
@@ -37,7 +42,8 @@ pub number_end : (value : ℕ) (xs : List ℕ) (i : ℕ) → length xs ≤ i →
 unfolding number_on
 number_end value xs i h = at_drop_all (number_on value) xs i h
 
-pub word_step : (value : ℕ) (xs : List ℕ) (i : ℕ) → i < length xs → word_on value (drop i xs) ≡ word_on (digit_on 16 value (hex_digit (get_or xs i 0))) (drop (i + 1) xs)
+pub word_step : (value : ℕ) (xs : List ℕ) (i : ℕ) → i < length xs
+    → word_on value (drop i xs) ≡ word_on (digit_on 16 value (hex_digit (get_or xs i 0))) (drop (i + 1) xs)
 unfolding word_on
 word_step value xs i h = at_drop_more (word_on value) xs i 0 h
 
@@ -45,7 +51,8 @@ pub word_end : (value : ℕ) (xs : List ℕ) (i : ℕ) → length xs ≤ i → w
 unfolding word_on
 word_end value xs i h = at_drop_all (word_on value) xs i h
 
-pub hex_step : (xs : List ℕ) (i : ℕ) → i < length xs → is_word (drop i xs) ≡ (is_hex (get_or xs i 0) && is_word (drop (i + 1) xs))
+pub hex_step : (xs : List ℕ) (i : ℕ) → i < length xs
+    → is_word (drop i xs) ≡ (is_hex (get_or xs i 0) && is_word (drop (i + 1) xs))
 unfolding is_word
 hex_step xs i h = at_drop_more is_word xs i 0 h
 
@@ -53,7 +60,8 @@ pub hex_end : (xs : List ℕ) (i : ℕ) → length xs ≤ i → is_word (drop i 
 unfolding is_word
 hex_end xs i h = at_drop_all is_word xs i h
 
-pub feeds_step : (xs : List ℕ) (i : ℕ) → i < length xs → feeds (drop i xs) ≡ cond (get_or xs i 0 == 10) (feeds (drop (i + 1) xs) + 1) (feeds (drop (i + 1) xs))
+pub feeds_step : (xs : List ℕ) (i : ℕ) → i < length xs
+    → feeds (drop i xs) ≡ cond (get_or xs i 0 == 10) (feeds (drop (i + 1) xs) + 1) (feeds (drop (i + 1) xs))
 feeds_step xs i h = at_drop_more feeds xs i 0 h
 
 pub feeds_end : (xs : List ℕ) (i : ℕ) → length xs ≤ i → feeds (drop i xs) ≡ 0
@@ -71,10 +79,12 @@ bytes_are_ascii (b ∷ bs) h (suc i) = bytes_are_ascii bs (and_parts (is_name_by
 
 pub name_is_text : (xs : List ℕ) → is_name xs ≡ true → IsUtf8 xs
 unfolding is_name
-name_is_text xs h = IsUtf8-from_ascii xs (bytes_are_ascii xs (and_parts (is_within 1 64 (length xs)) (list_all is_name_byte xs) h).1)
+name_is_text xs h = IsUtf8-from_ascii xs (bytes_are_ascii xs
+    (and_parts (is_within 1 64 (length xs)) (list_all is_name_byte xs) h).1)
 
 -- the first line, by the place of its line feed
-pub first_line : (b : ℕ) (bs : List ℕ) (p : ℕ) → p ≡ place_of 10 (b ∷ bs) → lines (b ∷ bs) ≡ take p (b ∷ bs) ∷ lines (drop (suc p) (b ∷ bs))
+pub first_line : (b : ℕ) (bs : List ℕ) (p : ℕ) → p ≡ place_of 10 (b ∷ bs)
+    → lines (b ∷ bs) ≡ take p (b ∷ bs) ∷ lines (drop (suc p) (b ∷ bs))
 unfolding lines place_of
 first_line b [] p is =
     elim (cases_Bool (b == 10)) [
@@ -93,10 +103,12 @@ first_line b (c ∷ cs) p is =
       | inr e ↦
           let q = place_of 10 (c ∷ cs) in
           let z : p ≡ suc q = is ∙ ap (λ (t : Bool). cond t 0 (q + 1)) e ∙ add-one q in
-          rw z (ap (λ (t : Bool). cond t ([] ∷ lines (c ∷ cs)) (onto_first b (lines (c ∷ cs)))) e ∙ ap (onto_first b) (first_line c cs q refl))
+          rw z (ap (λ (t : Bool). cond t ([] ∷ lines (c ∷ cs)) (onto_first b (lines (c ∷ cs)))) e
+          ∙ ap (onto_first b) (first_line c cs q refl))
     ]
 
-pub first_line_of : (text : List ℕ) (p : ℕ) → 0 < length text → p ≡ place_of 10 text → lines text ≡ take p text ∷ lines (drop (p + 1) text)
+pub first_line_of : (text : List ℕ) (p : ℕ) → 0 < length text → p ≡ place_of 10 text
+    → lines text ≡ take p text ∷ lines (drop (p + 1) text)
 first_line_of [] p h is = absurd (omega arith)
 first_line_of (b ∷ bs) p h is = rw (add-one p) (first_line b bs p is)
 
@@ -107,7 +119,8 @@ place_here byte xs i h is =
     let e : (get_or xs i 0 == byte) ≡ true = grind arith in
     place_step byte xs i h ∙ ap (λ (t : Bool). cond t 0 (place_of byte (drop (i + 1) xs) + 1)) e
 
-pub place_later : (byte : ℕ) (xs : List ℕ) (i : ℕ) → i < length xs → (get_or xs i 0 ≡ byte → ⊥) → place_of byte (drop i xs) ≡ place_of byte (drop (i + 1) xs) + 1
+pub place_later : (byte : ℕ) (xs : List ℕ) (i : ℕ) → i < length xs → (get_or xs i 0 ≡ byte → ⊥)
+    → place_of byte (drop i xs) ≡ place_of byte (drop (i + 1) xs) + 1
 place_later byte xs i h other =
     let e : (get_or xs i 0 == byte) ≡ false = grind arith in
     place_step byte xs i h ∙ ap (λ (t : Bool). cond t 0 (place_of byte (drop (i + 1) xs) + 1)) e
@@ -115,7 +128,8 @@ place_later byte xs i h other =
 pub hex_no : (xs : List ℕ) (i : ℕ) → i < length xs → is_hex (get_or xs i 0) ≡ false → is_word (drop i xs) ≡ false
 hex_no xs i h e = hex_step xs i h ∙ ap (λ (t : Bool). t && is_word (drop (i + 1) xs)) e
 
-pub hex_yes : (xs : List ℕ) (i : ℕ) → i < length xs → is_hex (get_or xs i 0) ≡ true → is_word (drop i xs) ≡ is_word (drop (i + 1) xs)
+pub hex_yes : (xs : List ℕ) (i : ℕ) → i < length xs → is_hex (get_or xs i 0) ≡ true
+    → is_word (drop i xs) ≡ is_word (drop (i + 1) xs)
 hex_yes xs i h e = hex_step xs i h ∙ ap (λ (t : Bool). t && is_word (drop (i + 1) xs)) e
 
 pub feeds_here : (xs : List ℕ) (i : ℕ) → i < length xs → get_or xs i 0 ≡ 10 → 0 < feeds (drop i xs)
@@ -124,7 +138,8 @@ feeds_here xs i h is =
     let s = feeds_step xs i h ∙ ap (λ (t : Bool). cond t (feeds (drop (i + 1) xs) + 1) (feeds (drop (i + 1) xs))) e in
     omega arith
 
-pub feeds_later : (xs : List ℕ) (i : ℕ) → i < length xs → (get_or xs i 0 ≡ 10 → ⊥) → feeds (drop i xs) ≡ feeds (drop (i + 1) xs)
+pub feeds_later : (xs : List ℕ) (i : ℕ) → i < length xs → (get_or xs i 0 ≡ 10 → ⊥)
+    → feeds (drop i xs) ≡ feeds (drop (i + 1) xs)
 feeds_later xs i h other =
     let e : (get_or xs i 0 == 10) ≡ false = grind arith in
     feeds_step xs i h ∙ ap (λ (t : Bool). cond t (feeds (drop (i + 1) xs) + 1) (feeds (drop (i + 1) xs))) e
@@ -136,53 +151,69 @@ unfolding fault
 fault_end line [] bytes i h = at_drop_all (fault line []) bytes i h
 fault_end line (t ∷ ts) bytes i h = at_drop_all (fault line (t ∷ ts)) bytes i h
 
-pub fault_past : (line : ℕ) (text bytes : List ℕ) (i : ℕ) → length text ≤ i → i < length bytes → fault line (drop i text) (drop i bytes) ≡ Line line
+pub fault_past : (line : ℕ) (text bytes : List ℕ) (i : ℕ) → length text ≤ i → i < length bytes
+    → fault line (drop i text) (drop i bytes) ≡ Line line
 unfolding fault
-fault_past line text bytes i h k = at_drop_all (λ (xs : List ℕ). fault line xs (drop i bytes)) text i h ∙ at_drop_more (fault line []) bytes i 0 k
+fault_past line text bytes i h k = at_drop_all (λ (xs : List ℕ). fault line xs (drop i bytes)) text i h
+    ∙ at_drop_more (fault line []) bytes i 0 k
 
-fault_step : (line : ℕ) (text bytes : List ℕ) (i : ℕ) → i < length text → i < length bytes → fault line (drop i text) (drop i bytes)
-    ≡ cond (get_or bytes i 0 == get_or text i 0) (fault (cond (get_or bytes i 0 == 10) (line + 1) line) (drop (i + 1) text) (drop (i + 1) bytes))
+fault_step : (line : ℕ) (text bytes : List ℕ) (i : ℕ) → i < length text → i < length bytes
+    → fault line (drop i text) (drop i bytes)
+    ≡ cond (get_or bytes i 0 == get_or text i 0) (fault (cond (get_or bytes i 0 == 10) (line + 1) line)
+    (drop (i + 1) text) (drop (i + 1) bytes))
     (cond (feeds (get_or bytes i 0 ∷ drop (i + 1) bytes) == 0) CutOff (Line line))
 unfolding fault
 fault_step line text bytes i h k =
-    at_drop_more (λ (xs : List ℕ). fault line xs (drop i bytes)) text i 0 h ∙ at_drop_more (fault line (get_or text i 0 ∷ drop (i + 1) text)) bytes i 0 k
+    at_drop_more (λ (xs : List ℕ). fault line xs (drop i bytes)) text i 0 h
+    ∙ at_drop_more (fault line (get_or text i 0 ∷ drop (i + 1) text)) bytes i 0 k
 
-pub fault_here : (line : ℕ) (text bytes : List ℕ) (i : ℕ) → i < length text → i < length bytes → (get_or bytes i 0 ≡ get_or text i 0 → ⊥)
+pub fault_here : (line : ℕ) (text bytes : List ℕ) (i : ℕ) → i < length text → i < length bytes
+    → (get_or bytes i 0 ≡ get_or text i 0 → ⊥)
     → fault line (drop i text) (drop i bytes) ≡ cond (feeds (drop i bytes) == 0) CutOff (Line line)
 fault_here line text bytes i h k other =
     let e : (get_or bytes i 0 == get_or text i 0) ≡ false = grind arith in
     fault_step line text bytes i h k
-    ∙ ap (λ (t : Bool). cond t (fault (cond (get_or bytes i 0 == 10) (line + 1) line) (drop (i + 1) text) (drop (i + 1) bytes))
+    ∙ ap (λ (t : Bool). cond t (fault (cond (get_or bytes i 0 == 10) (line + 1) line) (drop (i + 1) text)
+    (drop (i + 1) bytes))
     (cond (feeds (get_or bytes i 0 ∷ drop (i + 1) bytes) == 0) CutOff (Line line))) e
     ∙ ap (λ (xs : List ℕ). cond (feeds xs == 0) CutOff (Line line)) (sym (drop_more bytes i 0 k))
 
-pub fault_later : (line : ℕ) (text bytes : List ℕ) (i : ℕ) → i < length text → i < length bytes → get_or bytes i 0 ≡ get_or text i 0
-    → fault line (drop i text) (drop i bytes) ≡ fault (cond (get_or bytes i 0 == 10) (line + 1) line) (drop (i + 1) text) (drop (i + 1) bytes)
+pub fault_later : (line : ℕ) (text bytes : List ℕ) (i : ℕ) → i < length text → i < length bytes
+    → get_or bytes i 0 ≡ get_or text i 0
+    → fault line (drop i text) (drop i bytes) ≡ fault (cond (get_or bytes i 0 == 10) (line + 1) line)
+    (drop (i + 1) text) (drop (i + 1) bytes)
 fault_later line text bytes i h k same =
     let e : (get_or bytes i 0 == get_or text i 0) ≡ true = grind arith in
     fault_step line text bytes i h k
-    ∙ ap (λ (t : Bool). cond t (fault (cond (get_or bytes i 0 == 10) (line + 1) line) (drop (i + 1) text) (drop (i + 1) bytes))
+    ∙ ap (λ (t : Bool). cond t (fault (cond (get_or bytes i 0 == 10) (line + 1) line) (drop (i + 1) text)
+    (drop (i + 1) bytes))
     (cond (feeds (get_or bytes i 0 ∷ drop (i + 1) bytes) == 0) CutOff (Line line))) e
 
-pub fault_feed : (line : ℕ) (text bytes : List ℕ) (i : ℕ) → i < length text → i < length bytes → get_or bytes i 0 ≡ get_or text i 0 → get_or bytes i 0 ≡ 10
+pub fault_feed : (line : ℕ) (text bytes : List ℕ) (i : ℕ) → i < length text → i < length bytes
+    → get_or bytes i 0 ≡ get_or text i 0 → get_or bytes i 0 ≡ 10
     → fault line (drop i text) (drop i bytes) ≡ fault (line + 1) (drop (i + 1) text) (drop (i + 1) bytes)
 fault_feed line text bytes i h k same is =
     let e : (get_or bytes i 0 == 10) ≡ true = grind arith in
-    fault_later line text bytes i h k same ∙ ap (λ (t : Bool). fault (cond t (line + 1) line) (drop (i + 1) text) (drop (i + 1) bytes)) e
+    fault_later line text bytes i h k same ∙ ap (λ (t : Bool). fault (cond t (line + 1) line) (drop (i + 1) text)
+    (drop (i + 1) bytes)) e
 
-pub fault_plain : (line : ℕ) (text bytes : List ℕ) (i : ℕ) → i < length text → i < length bytes → get_or bytes i 0 ≡ get_or text i 0 → (get_or bytes i 0 ≡ 10 → ⊥)
+pub fault_plain : (line : ℕ) (text bytes : List ℕ) (i : ℕ) → i < length text → i < length bytes
+    → get_or bytes i 0 ≡ get_or text i 0 → (get_or bytes i 0 ≡ 10 → ⊥)
     → fault line (drop i text) (drop i bytes) ≡ fault line (drop (i + 1) text) (drop (i + 1) bytes)
 fault_plain line text bytes i h k same other =
     let e : (get_or bytes i 0 == 10) ≡ false = grind arith in
-    fault_later line text bytes i h k same ∙ ap (λ (t : Bool). fault (cond t (line + 1) line) (drop (i + 1) text) (drop (i + 1) bytes)) e
+    fault_later line text bytes i h k same ∙ ap (λ (t : Bool). fault (cond t (line + 1) line) (drop (i + 1) text)
+    (drop (i + 1) bytes)) e
 
 -- ---- lines, taken one by one
 
-pub said_step : (rest front behind : List ℕ) (p : ℕ) (g h : Gathered) → 0 < length rest → p ≡ place_of 10 rest → front ≡ take p rest → behind ≡ drop (p + 1) rest
+pub said_step : (rest front behind : List ℕ) (p : ℕ) (g h : Gathered) → 0 < length rest → p ≡ place_of 10 rest
+    → front ≡ take p rest → behind ≡ drop (p + 1) rest
     → h ≡ with_line front g → with_lines (lines behind) h ≡ with_lines (lines rest) g
 unfolding with_lines
 said_step rest front behind p g h some is f b w =
-    ap (λ (ls : List ℕ). with_lines (lines ls) h) b ∙ ap (with_lines (lines (drop (p + 1) rest))) (w ∙ ap (λ (x : List ℕ). with_line x g) f)
+    ap (λ (ls : List ℕ). with_lines (lines ls) h) b
+    ∙ ap (with_lines (lines (drop (p + 1) rest))) (w ∙ ap (λ (x : List ℕ). with_line x g) f)
     ∙ ap (λ (ls : List (List ℕ)). with_lines ls g) (sym (first_line_of rest p some is))
 
 pub said_end : (rest : List ℕ) (g : Gathered) → length rest ≡ 0 → with_lines (lines rest) g ≡ g
@@ -206,7 +237,8 @@ both_false true false h = refl
 both_false false b h = refl
 
 rising_step : (before last : ℕ) (xs : List ℕ) (i : ℕ) → i < length xs → are_rising before last (drop i xs)
-    ≡ (nat_lt before (get_or xs i 0) && (nat_le (get_or xs i 0) last && are_rising (get_or xs i 0) last (drop (i + 1) xs)))
+    ≡ (nat_lt before (get_or xs i 0) && (nat_le (get_or xs i 0) last
+    && are_rising (get_or xs i 0) last (drop (i + 1) xs)))
 unfolding are_rising
 rising_step before last xs i h = at_drop_more (are_rising before last) xs i 0 h
 
@@ -221,7 +253,8 @@ rising_no before last xs i h never =
     let later = are_rising x last (drop (i + 1) xs) in
     rising_step before last xs i h
     ∙ both_false (nat_lt before x) (nat_le x last && later)
-    (λ low high. never (grind (arith, nat_tests)) (let first = (and_parts (nat_le x last) later high).0 in grind (arith, nat_tests)))
+    (λ low high. never (grind (arith, nat_tests))
+    (let first = (and_parts (nat_le x last) later high).0 in grind (arith, nat_tests)))
 
 pub rising_on : (before last : ℕ) (xs : List ℕ) (i : ℕ) → i < length xs → before < get_or xs i 0 → get_or xs i 0 ≤ last
     → are_rising before last (drop i xs) ≡ are_rising (get_or xs i 0) last (drop (i + 1) xs)
@@ -230,10 +263,12 @@ rising_on before last xs i h low high =
     let later = are_rising x last (drop (i + 1) xs) in
     let a : nat_lt before x ≡ true = grind (arith, nat_tests) in
     let b : nat_le x last ≡ true = grind (arith, nat_tests) in
-    rising_step before last xs i h ∙ ap (λ (t : Bool). t && (nat_le x last && later)) a ∙ ap (λ (t : Bool). t && later) b
+    rising_step before last xs i h ∙ ap (λ (t : Bool). t && (nat_le x last && later)) a
+    ∙ ap (λ (t : Bool). t && later) b
 
 stepped_step : (next step last : ℕ) (xs : List ℕ) (i : ℕ) → i < length xs → are_stepped next step last (drop i xs)
-    ≡ ((get_or xs i 0 == next) && (nat_le (get_or xs i 0) last && are_stepped (next + step) step last (drop (i + 1) xs)))
+    ≡ ((get_or xs i 0 == next) && (nat_le (get_or xs i 0) last
+    && are_stepped (next + step) step last (drop (i + 1) xs)))
 unfolding are_stepped
 stepped_step next step last xs i h = at_drop_more (are_stepped next step last) xs i 0 h
 
@@ -249,16 +284,19 @@ stepped_no next step last xs i h never =
     let later = are_stepped (next + step) step last (drop (i + 1) xs) in
     stepped_step next step last xs i h
     ∙ both_false (x == next) (nat_le x last && later)
-    (λ same high. never (grind (arith, nat_tests)) (let first = (and_parts (nat_le x last) later high).0 in grind (arith, nat_tests)))
+    (λ same high. never (grind (arith, nat_tests))
+    (let first = (and_parts (nat_le x last) later high).0 in grind (arith, nat_tests)))
 
 pub stepped_on : (next step last : ℕ) (xs : List ℕ) (i : ℕ) → i < length xs → get_or xs i 0 ≡ next
-    → get_or xs i 0 ≤ last → are_stepped next step last (drop i xs) ≡ are_stepped (next + step) step last (drop (i + 1) xs)
+    → get_or xs i 0 ≤ last → are_stepped next step last (drop i xs)
+    ≡ are_stepped (next + step) step last (drop (i + 1) xs)
 stepped_on next step last xs i h same high =
     let x = get_or xs i 0 in
     let later = are_stepped (next + step) step last (drop (i + 1) xs) in
     let a : (x == next) ≡ true = grind (arith, nat_tests) in
     let b : nat_le x last ≡ true = grind (arith, nat_tests) in
-    stepped_step next step last xs i h ∙ ap (λ (t : Bool). t && (nat_le x last && later)) a ∙ ap (λ (t : Bool). t && later) b
+    stepped_step next step last xs i h ∙ ap (λ (t : Bool). t && (nat_le x last && later)) a
+    ∙ ap (λ (t : Bool). t && later) b
 
 count_step : (before : ℕ) (xs : List ℕ) (i : ℕ) → i < length xs → rising_count before (drop i xs)
     ≡ cond (nat_lt before (get_or xs i 0) && nat_le (get_or xs i 0) most_jobs)
@@ -276,7 +314,8 @@ count_no before xs i h never =
     let x = get_or xs i 0 in
     count_step before xs i h
     ∙ ap (λ (t : Bool). cond t (rising_count x (drop (i + 1) xs) + 1) 0)
-    (both_false (nat_lt before x) (nat_le x most_jobs) (λ low high. never (grind (arith, nat_tests)) (grind (arith, nat_tests))))
+    (both_false (nat_lt before x) (nat_le x most_jobs)
+    (λ low high. never (grind (arith, nat_tests)) (grind (arith, nat_tests))))
 
 pub count_on : (before : ℕ) (xs : List ℕ) (i : ℕ) → i < length xs → before < get_or xs i 0 → get_or xs i 0 ≤ most_jobs
     → rising_count before (drop i xs) ≡ rising_count (get_or xs i 0) (drop (i + 1) xs) + 1
@@ -303,7 +342,8 @@ numbered_more (k ∷ ks) (r ∷ rows) zero n place row h even at is =
     append-nil (row_text (k - 1) r) ∙ ap (λ (p : ℕ). row_text p r) (ap (λ (m : ℕ). m - 1) at ∙ sym is)
 numbered_more (k ∷ ks) (r ∷ rows) (suc i) n place row h even at is =
     ap (λ (t : List ℕ). row_text (k - 1) r ++ t) (numbered_more ks rows i n place row (omega arith) (omega arith) at is)
-    ∙ sym (append_assoc (row_text (k - 1) r) (numbered_text (take i ks) (take i rows)) (row_text place (get_or rows i row)))
+    ∙ sym (append_assoc (row_text (k - 1) r) (numbered_text (take i ks) (take i rows))
+    (row_text place (get_or rows i row)))
 
 -- numbers that rise from behind one are above it
 pub above : (before last : ℕ) (ns : List ℕ) (i : ℕ) → are_rising before last ns ≡ true → i < length ns
@@ -345,7 +385,8 @@ pub new_here : (earlier : List (List ℕ)) (rows : List Row) (i : ℕ) (row : Ro
     → new_count earlier (names_of (drop i rows)) ≡ 0
 new_here earlier rows i row name h is e =
     new_step earlier rows i row h
-    ∙ ap (λ (t : Bool). cond t 0 (new_count (earlier ++ (get_or rows i row).name ∷ []) (names_of (drop (i + 1) rows)) + 1))
+    ∙ ap (λ (t : Bool). cond t 0 (new_count (earlier ++ (get_or rows i row).name ∷ [])
+    (names_of (drop (i + 1) rows)) + 1))
     (ap (λ (n : List ℕ). is_some (place_in earlier n)) (sym is) ∙ e)
 
 pub new_later : (earlier : List (List ℕ)) (rows : List Row) (i : ℕ) (row : Row) (name : List ℕ) → i < length rows
@@ -354,7 +395,8 @@ pub new_later : (earlier : List (List ℕ)) (rows : List Row) (i : ℕ) (row : R
     ≡ new_count (earlier ++ name ∷ []) (names_of (drop (i + 1) rows)) + 1
 new_later earlier rows i row name h is e =
     new_step earlier rows i row h
-    ∙ ap (λ (t : Bool). cond t 0 (new_count (earlier ++ (get_or rows i row).name ∷ []) (names_of (drop (i + 1) rows)) + 1))
+    ∙ ap (λ (t : Bool). cond t 0 (new_count (earlier ++ (get_or rows i row).name ∷ [])
+    (names_of (drop (i + 1) rows)) + 1))
     (ap (λ (n : List ℕ). is_some (place_in earlier n)) (sym is) ∙ e)
     ∙ ap (λ (n : List ℕ). new_count (earlier ++ n ∷ []) (names_of (drop (i + 1) rows)) + 1) (sym is)
 

@@ -1,6 +1,6 @@
 -- The rows that a text says have names, and where a text differs from another.
-use Rattle.std.proofs.Common.{◌≡◌, ◌∙◌, ◌==◌, ◌+◌, ℕ, Bool, true, false, ◌&&◌, not, cond, slice_index, drop, List, [], ◌∷◌}
-use Rattle.std.proofs.Common.{◌++◌, length, map, refl, sym, ap, subst, inl, inr, append_assoc}
+use Rattle.std.proofs.Common.{◌≡◌, ◌∙◌, ◌==◌, ◌+◌, ℕ, Bool, true, false, ◌&&◌, not, cond, slice_index, drop, List, []}
+use Rattle.std.proofs.Common.{◌∷◌, ◌++◌, length, map, refl, sym, ap, subst, inl, inr, append_assoc}
 use Rattle.std.proofs.lemmas.Bool.{cases_Bool, eqb-true, and_parts, and_from}
 use Rattle.std.specs.Prelude.{codes, nat_lt, if◌then◌else◌}
 use Rattle.std.specs.List.{list_all}
@@ -14,9 +14,10 @@ use Rattle.rv_reports.specs.declared.saved.Extent.{Extent}
 use Rattle.rv_reports.specs.declared.saved.Extent.TheVariants.{Whole}
 use Rattle.rv_reports.specs.declared.read.ReadError.{ReadError}
 use Rattle.rv_reports.specs.declared.read.ReadError.TheVariants.{Line, CutOff}
-use Rattle.rv_reports.specs.Said.{lines, name_or_dash, job_of, name_of, after, number_of, word_of, is_word, bytes_of, ending_of}
-use Rattle.rv_reports.specs.Said.{verdict_of, part_of, Gathered, whole, closed, over, next_row, between, at_ending, at_steps}
-use Rattle.rv_reports.specs.Said.{at_console, at_signature, at_words, with_line_at, with_line, with_lines, finished, gathered}
+use Rattle.rv_reports.specs.Said.{lines, name_or_dash, job_of, name_of, after, number_of, word_of, is_word, bytes_of}
+use Rattle.rv_reports.specs.Said.{ending_of, verdict_of, part_of, Gathered, whole, closed, over, next_row, between}
+use Rattle.rv_reports.specs.Said.{at_ending, at_steps, at_console, at_signature, at_words, with_line_at, with_line}
+use Rattle.rv_reports.specs.Said.{with_lines, finished, gathered}
 use Rattle.rv_reports.specs.Saved.{names_of}
 use Rattle.rv_reports.specs.Faults.{feeds, fault, Tells}
 
@@ -90,13 +91,15 @@ named_steps line g h =
 named_console : (line : List ℕ) (g : Gathered) → IsNamed g → IsNamed (at_console line g)
 unfolding at_console
 named_console line g h =
-    pick IsNamed (slice_index line 0 == 99) (record g { console = bytes_of (drop 8 line); stage = stage.Signature }) (over g) h h
+    pick IsNamed (slice_index line 0 == 99) (record g { console = bytes_of (drop 8 line); stage = stage.Signature })
+    (over g) h h
 
 named_signature : (line : List ℕ) (g : Gathered) → IsNamed g → IsNamed (at_signature line g)
 unfolding at_signature
 named_signature line g h =
     pick IsNamed ((slice_index line 0 == 115) && (slice_index line 1 == 105))
-    (record g { signed = not (slice_index line 10 == 45); count = number_of (drop 10 line); stage = stage.Words }) (over g) h h
+    (record g { signed = not (slice_index line 10 == 45); count = number_of (drop 10 line); stage = stage.Words })
+    (over g) h h
 
 named_words : (line : List ℕ) (g : Gathered) → IsNamed g → IsNamed (at_words line g)
 unfolding at_words
@@ -133,7 +136,8 @@ gathered_named text =
 
 -- ---- differences
 
-swap : (s t : Bool) (n : ℕ) → cond s (cond t (n + 1) n + 1) (cond t (n + 1) n) ≡ cond t (cond s (n + 1) n + 1) (cond s (n + 1) n)
+swap : (s t : Bool) (n : ℕ) → cond s (cond t (n + 1) n + 1) (cond t (n + 1) n)
+    ≡ cond t (cond s (n + 1) n + 1) (cond s (n + 1) n)
 swap true true n = refl
 swap true false n = refl
 swap false true n = refl
@@ -147,7 +151,8 @@ one_line_on : (s : Bool) (n line : ℕ) → n + 1 ≡ line → cond s (n + 1) n 
 one_line_on true n line l = ap (λ (k : ℕ). k + 1) l
 one_line_on false n line l = l
 
-tells_on : (text bytes common ts bs : List ℕ) (line : ℕ) → text ≡ common ++ ts → bytes ≡ common ++ bs → feeds common + 1 ≡ line → Tells (fault line ts bs) text bytes
+tells_on : (text bytes common ts bs : List ℕ) (line : ℕ) → text ≡ common ++ ts → bytes ≡ common ++ bs
+    → feeds common + 1 ≡ line → Tells (fault line ts bs) text bytes
 unfolding fault
 tells_on text bytes common [] [] line t b l = (common, [], [], b, t, refl)
 tells_on text bytes common (x ∷ ts) [] line t b l = (common, [], x ∷ ts, b, t, refl)
@@ -166,7 +171,8 @@ tells_on text bytes common (x ∷ ts) (y ∷ bs) line t b l =
       | inr e ↦
           subst Q (sym (ap (λ (s : Bool). cond s next here) e))
           (elim (cases_Bool (feeds (y ∷ bs) == 0)) [
-            | inl z ↦ subst Q (sym (ap (λ (s : Bool). cond s CutOff (Line line)) z)) (common, y ∷ bs, x ∷ ts, b, t, eqb-true (feeds (y ∷ bs)) 0 z)
+            | inl z ↦ subst Q (sym (ap (λ (s : Bool). cond s CutOff (Line line)) z))
+                (common, y ∷ bs, x ∷ ts, b, t, eqb-true (feeds (y ∷ bs)) 0 z)
             | inr z ↦ subst Q (sym (ap (λ (s : Bool). cond s CutOff (Line line)) z)) (common, y ∷ bs, x ∷ ts, b, t, l)
           ])
     ]

@@ -1,6 +1,7 @@
 -- The last line, and what it says.
-use Rattle.std.proofs.Common.{◌≡◌, ◌∙◌, ◌==◌, ◌+◌, ◌<◌, ◌≤◌, ◌^◌, ℕ, suc, Bool, true, false, ◌&&◌, not, cond, List, [], ◌∷◌}
-use Rattle.std.proofs.Common.{◌++◌, length, take, drop, refl, sym, ap, arith, append_assoc, append-nil, length-append, add-one}
+use Rattle.std.proofs.Common.{◌≡◌, ◌∙◌, ◌==◌, ◌+◌, ◌<◌, ◌≤◌, ◌^◌, ℕ, suc, Bool, true, false, ◌&&◌, not, cond, List, []}
+use Rattle.std.proofs.Common.{◌∷◌, ◌++◌, length, take, drop, refl, sym, ap, arith, append_assoc, append-nil}
+use Rattle.std.proofs.Common.{length-append, add-one}
 use Rattle.std.specs.Prelude.{codes, nat_le, nat_lt}
 use Rattle.std.proofs.lemmas.Bool.{and_parts}
 use Rattle.std.proofs.lemmas.Bool.Decides.{nat_tests}
@@ -13,8 +14,8 @@ use Rattle.rv_reports.specs.declared.saved.Extent.{Extent}
 use Rattle.rv_reports.specs.declared.saved.Extent.TheVariants.{Whole, Choice}
 use Rattle.rv_reports.specs.declared.saved.Extent.TheVariants as extent
 use Rattle.rv_reports.specs.declared.saved.Shard.{Shard}
-use Rattle.rv_reports.specs.Said.{before, after, number_of, name_or_dash, shard_of, part_of, Gathered, whole, over, between}
-use Rattle.rv_reports.specs.Said.{with_line, place_of}
+use Rattle.rv_reports.specs.Said.{before, after, number_of, name_or_dash, shard_of, part_of, Gathered, whole, over}
+use Rattle.rv_reports.specs.Said.{between, with_line, place_of}
 use Rattle.rv_reports.specs.Saved.{part_words, shard_words, last_line, is_shard, are_rising, are_stepped, fits}
 use Rattle.rv_reports.proofs.Pieces.{lacks, lacks-append, before_at, after_at}
 use Rattle.rv_reports.proofs.Words.{lacks-decimal, number_of-decimal}
@@ -95,7 +96,8 @@ pub lacks-last : (e : Extent) (count : ℕ) → HasNumbers e → count < 2 ^ 32 
 lacks-last extent.Whole count h few = lacks-decimal 10 count (omega arith) (omega arith)
 lacks-last (extent.Choice jobs) count h few = lacks-part 10 count jobs refl refl (omega arith) few h
 lacks-last (extent.Shard s) count h few =
-    lacks-append 10 (part_words count s.jobs) (shard_words s) (lacks-part 10 count s.jobs refl refl (omega arith) few h.jobs)
+    lacks-append 10 (part_words count s.jobs) (shard_words s)
+    (lacks-part 10 count s.jobs refl refl (omega arith) few h.jobs)
     (lacks-shard s h)
 
 -- ---- what it says
@@ -139,7 +141,8 @@ choice_is count jobs few small =
     let js = decimal jobs in
     let rest = codes "of " ++ js in
     let plain : lacks 32 js ≡ true = lacks-decimal 32 jobs (omega arith) (omega arith) in
-    let from : List ℕ → Extent = λ t. extent_from (before 32 (drop 3 (after 32 t))) (drop 6 (after 32 (drop 3 (after 32 t)))) in
+    let from : List ℕ → Extent = λ t. extent_from (before 32 (drop 3 (after 32 t)))
+    (drop 6 (after 32 (drop 3 (after 32 t)))) in
     ap from (choice_regroup (decimal count) js)
     ∙ ap (λ (t : List ℕ). extent_from (before 32 (drop 3 t)) (drop 6 (after 32 (drop 3 t))))
     (after_at 32 (decimal count) rest (lacks-decimal 32 count (omega arith) (omega arith)))
@@ -149,7 +152,8 @@ choice_is count jobs few small =
 
 shard_regroup : (n jobs number shards stamp : List ℕ)
     → n ++ codes " of " ++ jobs ++ (codes " shard " ++ number ++ codes "/" ++ shards ++ codes " stamp " ++ stamp)
-    ≡ n ++ 32 ∷ (codes "of " ++ (jobs ++ 32 ∷ (codes "shard " ++ (number ++ 47 ∷ (shards ++ 32 ∷ (codes "stamp " ++ stamp))))))
+    ≡ n ++ 32 ∷ (codes "of " ++ (jobs ++ 32 ∷ (codes "shard " ++
+    (number ++ 47 ∷ (shards ++ 32 ∷ (codes "stamp " ++ stamp))))))
 shard_regroup n jobs number shards stamp = simp append_assoc
 
 abbrev shard_made : ℕ → ℕ → ℕ → List ℕ → Extent
@@ -174,7 +178,8 @@ shard_says jobs s is =
     (after_at 47 number t3 plain)
     ∙ ap (λ (t : List ℕ). shard_made jobs (number_of (before 47 t2)) (number_of (before 32 t3)) (drop 6 t))
     (after_at 32 shards t4 spaced)
-    ∙ ap (λ (t : List ℕ). shard_made jobs (number_of t) (number_of (before 32 t3)) s.stamp) (before_at 47 number t3 plain)
+    ∙ ap (λ (t : List ℕ). shard_made jobs (number_of t) (number_of (before 32 t3)) s.stamp)
+    (before_at 47 number t3 plain)
     ∙ ap (λ (t : List ℕ). shard_made jobs (number_of number) (number_of t) s.stamp) (before_at 32 shards t4 spaced)
     ∙ ap (λ (t : ℕ). shard_made jobs t (number_of shards) s.stamp) (number_of-decimal s.number (omega arith))
     ∙ ap (λ (t : ℕ). shard_made jobs s.number t s.stamp) (number_of-decimal s.shards (omega arith))
@@ -195,7 +200,8 @@ shard_is count s is few =
     let t1 = jobs ++ 32 ∷ (codes "shard " ++ t2) in
     let hj = is.jobs in
     let plain : lacks 32 jobs ≡ true = lacks-decimal 32 s.jobs (omega arith) (omega arith) in
-    let from : List ℕ → Extent = λ t. extent_from (before 32 (drop 3 (after 32 t))) (drop 6 (after 32 (drop 3 (after 32 t)))) in
+    let from : List ℕ → Extent = λ t. extent_from (before 32 (drop 3 (after 32 t)))
+    (drop 6 (after 32 (drop 3 (after 32 t)))) in
     ap from (shard_regroup n jobs (decimal s.number) (decimal s.shards) s.stamp)
     ∙ ap (λ (t : List ℕ). extent_from (before 32 (drop 3 t)) (drop 6 (after 32 (drop 3 t))))
     (after_at 32 n (codes "of " ++ t1) (lacks-decimal 32 count (omega arith) (omega arith)))

@@ -1,6 +1,7 @@
 -- What is written is read again.
 use Rattle.std.proofs.Common.{◌≡◌, ◌∙◌, ◌==◌, ◌+◌, ◌-◌, ◌*◌, ◌<◌, ◌≤◌, ◌^◌, ℕ, suc, Bool, true, false, ◌&&◌, not, cond}
-use Rattle.std.proofs.Common.{List, [], ◌∷◌, ◌++◌, length, take, map, refl, sym, ap, arith, append_assoc, append-nil, take_all}
+use Rattle.std.proofs.Common.{List, [], ◌∷◌, ◌++◌, length, take, map, refl, sym, ap, arith, append_assoc, append-nil}
+use Rattle.std.proofs.Common.{take_all}
 use Rattle.std.specs.Prelude.{codes, nat_le, nat_lt, min, is_some}
 use Rattle.std.specs.List.{AllByRecursion}
 use Rattle.std.proofs.lemmas.Bool.{and_parts}
@@ -16,10 +17,10 @@ use Rattle.rv_reports.specs.declared.saved.Extent.TheVariants.{Whole, Choice}
 use Rattle.rv_reports.specs.declared.saved.Extent.TheVariants as extent
 use Rattle.rv_reports.specs.declared.saved.Shard.{Shard}
 use Rattle.rv_reports.specs.declared.saved.SavedReport.{SavedReport}
-use Rattle.rv_reports.specs.Said.{lines, Gathered, whole, over, between, with_line, with_lines, finished, gathered, said}
-use Rattle.rv_reports.specs.Said.{rising_count, new_count, fitting}
-use Rattle.rv_reports.specs.Saved.{IsRow, IsListed, IsSaved, are_rising, are_new, fits, names_of, numbered_text, last_line}
-use Rattle.rv_reports.specs.Saved.{saved_text}
+use Rattle.rv_reports.specs.Said.{lines, Gathered, whole, over, between, with_line, with_lines, finished, gathered}
+use Rattle.rv_reports.specs.Said.{said, rising_count, new_count, fitting}
+use Rattle.rv_reports.specs.Saved.{IsRow, IsListed, IsSaved, are_rising, are_new, fits, names_of, numbered_text}
+use Rattle.rv_reports.specs.Saved.{last_line, saved_text}
 use Rattle.rv_reports.proofs.Pieces.{lacks}
 use Rattle.rv_reports.proofs.Words.{lacks-decimal}
 use Rattle.rv_reports.proofs.Spelled.{says, says_line, row_says}
@@ -47,7 +48,8 @@ rows_say (n ∷ ns) (row ∷ rows) rest earlier done e before each counted risin
     let parts = rising_parts before most_jobs n ns rising in
     let low = parts.0 in
     let high = parts.1 in
-    ap (λ (t : List ℕ). says t (whole earlier done e)) (append_assoc (row_text (n - 1) row) (numbered_text ns rows) rest)
+    ap (λ (t : List ℕ). says t (whole earlier done e))
+    (append_assoc (row_text (n - 1) row) (numbered_text ns rows) rest)
     ∙ row_says (n - 1) n row (numbered_text ns rows ++ rest) earlier done e each.0 (omega arith) (omega arith)
     ∙ rows_say ns rows rest (earlier ++ n ∷ []) (done ++ row ∷ []) e n each.1 (omega arith) parts.2
     ∙ ap (λ (t : List ℕ). says rest (whole t ((done ++ row ∷ []) ++ rows) e)) (append_assoc earlier (n ∷ []) ns)
@@ -69,7 +71,8 @@ gathered_all : (r : SavedReport) → IsSaved r → HasNumbers r.extent → lengt
 unfolding gathered saved_text
 gathered_all r h known few =
     let count = length r.rows in
-    ap (λ (t : List ℕ). finished (says (numbered_text r.numbers r.rows ++ t) (whole [] [] Whole))) (last_is_line r.extent count)
+    ap (λ (t : List ℕ). finished (says (numbered_text r.numbers r.rows ++ t) (whole [] [] Whole)))
+    (last_is_line r.extent count)
     ∙ ap finished (rows_say r.numbers r.rows (line (last_words r.extent count)) [] [] Whole 0 h.rows h.listed.counted
     h.listed.rising
     ∙ last_line_says (last_words r.extent count) (whole r.numbers r.rows Whole)
@@ -125,7 +128,8 @@ kept_all r count h is =
     let rows : take count r.rows ≡ r.rows = take_all count r.rows (omega arith) in
     ap (λ (t : List ℕ). record { extent = fitting r.extent t; numbers = t; rows = take count r.rows }) ns
     ∙ ap (λ (t : List Row). record { extent = fitting r.extent r.numbers; numbers = r.numbers; rows = t }) rows
-    ∙ ap (λ (e : Extent). record { extent = e; numbers = r.numbers; rows = r.rows }) (fitting_same r.extent r.numbers h.fits)
+    ∙ ap (λ (e : Extent). record { extent = e; numbers = r.numbers; rows = r.rows })
+    (fitting_same r.extent r.numbers h.fits)
 
 count_all : (r : SavedReport) → IsListed r
     → min (rising_count 0 r.numbers) (new_count [] (names_of r.rows)) ≡ length r.rows
@@ -139,5 +143,6 @@ count_all r h =
 pub said-saved : (r : SavedReport) → IsSaved r → HasNumbers r.extent → length r.rows < 2 ^ 32 → said (saved_text r) ≡ r
 unfolding said whole
 said-saved r h known few =
-    ap (λ (g : Gathered). kept (min (rising_count 0 g.numbers) (new_count [] (names_of g.rows))) g) (gathered_all r h known few)
+    ap (λ (g : Gathered). kept (min (rising_count 0 g.numbers) (new_count [] (names_of g.rows))) g)
+    (gathered_all r h known few)
     ∙ kept_all r (min (rising_count 0 r.numbers) (new_count [] (names_of r.rows))) h.listed (count_all r h.listed)

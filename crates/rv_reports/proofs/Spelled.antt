@@ -24,10 +24,10 @@ use Rattle.rv_rows.specs.Report.{line, word_digits, word_line, refusal_name, ref
 use Rattle.rv_rows.specs.Report.{or_dash, console_line, signature_lines, row_text}
 use Rattle.rv_reports.specs.declared.gathering.Stage.TheVariants as stage
 use Rattle.rv_reports.specs.declared.saved.Extent.{Extent}
-use Rattle.rv_reports.specs.Said.{lines, before, after, number_of, word_of, is_word, bytes_of, name_or_dash, job_of, name_of}
-use Rattle.rv_reports.specs.Said.{fault_or_first, refusal_or_first, fault_of, ending_of, verdict_of, number_on, padded}
-use Rattle.rv_reports.specs.Said.{most_padded, Gathered, whole, closed, over, next_row, between, at_ending, at_steps}
-use Rattle.rv_reports.specs.Said.{at_console, at_signature, at_words, with_line, with_lines}
+use Rattle.rv_reports.specs.Said.{lines, before, after, number_of, word_of, is_word, bytes_of, name_or_dash, job_of}
+use Rattle.rv_reports.specs.Said.{name_of, fault_or_first, refusal_or_first, fault_of, ending_of, verdict_of, number_on}
+use Rattle.rv_reports.specs.Said.{padded, most_padded, Gathered, whole, closed, over, next_row, between, at_ending}
+use Rattle.rv_reports.specs.Said.{at_steps, at_console, at_signature, at_words, with_line, with_lines}
 use Rattle.rv_reports.specs.Saved.{IsWord, IsEnd, AreWords, IsRow}
 use Rattle.rv_reports.proofs.Pieces.{lacks, lacks-append, lines_at, before_at, after_at, first_is_other}
 use Rattle.rv_reports.proofs.Words.{lacks-decimal, lacks-encode, lacks-digits, number_of-decimal, word_of-digits}
@@ -37,10 +37,12 @@ use Rattle.rv_reports.proofs.Words.{is_word-digits, bytes_of-encode}
 abbrev pub says : List ℕ → Gathered → Gathered
 says text g = with_lines (lines text) g
 
-pub says_line : (xs rest : List ℕ) (g : Gathered) → lacks 10 xs ≡ true → says (line xs ++ rest) g ≡ says rest (with_line xs g)
+pub says_line : (xs rest : List ℕ) (g : Gathered) → lacks 10 xs ≡ true
+    → says (line xs ++ rest) g ≡ says rest (with_line xs g)
 unfolding with_lines
 says_line xs rest g h =
-    ap (λ (text : List ℕ). says text g) (append_assoc xs (10 ∷ []) rest) ∙ ap (λ (ls : List (List ℕ)). with_lines ls g) (lines_at xs rest h)
+    ap (λ (text : List ℕ). says text g) (append_assoc xs (10 ∷ []) rest)
+    ∙ ap (λ (ls : List (List ℕ)). with_lines ls g) (lines_at xs rest h)
 
 -- ---- names
 
@@ -70,7 +72,8 @@ lacks-fault_name fault.ConsoleFull = refl
 lacks-fault_name fault.UnknownCall = refl
 lacks-fault_name fault.FetchMisaligned = refl
 
-pub refusal_named-name : (why : Refusal) → (why ≡ refusal.Image image.OutOfMemory → ⊥) → refusal_named (refusal_name why) ≡ Some why
+pub refusal_named-name : (why : Refusal) → (why ≡ refusal.Image image.OutOfMemory → ⊥)
+    → refusal_named (refusal_name why) ≡ Some why
 refusal_named-name refusal.ImageUnreadable h = refl
 refusal_named-name refusal.ImageTooLong h = refl
 refusal_named-name refusal.ReferenceUnreadable h = refl
@@ -169,7 +172,8 @@ job_name n name h is =
 job_number : (n : ℕ) (name : List ℕ) → n < 2 ^ 32 → job_of (codes "job " ++ decimal n ++ codes " " ++ name) ≡ n
 job_number n name h =
     ap (λ (text : List ℕ). number_of (before 32 text)) (append_assoc (decimal n) (codes " ") name)
-    ∙ ap number_of (before_at 32 (decimal n) name (lacks-decimal 32 n (omega arith) (omega arith))) ∙ number_of-decimal n h
+    ∙ ap number_of (before_at 32 (decimal n) name (lacks-decimal 32 n (omega arith) (omega arith)))
+    ∙ number_of-decimal n h
 
 job_says : (n : ℕ) (name : List ℕ) (g : Gathered) → n < 2 ^ 32 → is_name name ≡ true
     → with_line (codes "job " ++ decimal n ++ codes " " ++ name) (record g { stage = stage.Between })
@@ -187,7 +191,8 @@ job_says n name g h is =
 
 -- ---- the line of the steps
 
-steps_says : (n : ℕ) (g : Gathered) → n < 2 ^ 32 → with_line (codes "steps " ++ decimal n) (record g { stage = stage.Steps }) ≡ record g { steps = n; stage = stage.Console }
+steps_says : (n : ℕ) (g : Gathered) → n < 2 ^ 32 → with_line (codes "steps " ++ decimal n)
+    (record g { stage = stage.Steps }) ≡ record g { steps = n; stage = stage.Console }
 unfolding with_line at_steps
 steps_says n g h = ap (λ (t : ℕ). record g { steps = t; stage = stage.Console }) (number_of-decimal n h)
 
@@ -195,7 +200,8 @@ steps_says n g h = ap (λ (t : ℕ). record g { steps = t; stage = stage.Console
 
 abbrev end_words : RowEnd → List ℕ
 end_words (ending.Exit code) = codes "end exit " ++ decimal code
-end_words (ending.Fault kind pc value) = codes "end fault " ++ fault_name kind ++ codes " pc=" ++ word_digits pc ++ codes " value=" ++ word_digits value
+end_words (ending.Fault kind pc value) = codes "end fault " ++ fault_name kind ++ codes " pc=" ++ word_digits pc ++
+    codes " value=" ++ word_digits value
 end_words ending.Budget = codes "end budget"
 end_words (ending.Refused why) = codes "end refused " ++ refusal_name why
 
@@ -212,11 +218,13 @@ lacks-end (ending.Fault kind pc value) h =
     let name = and_parts (lacks 10 (fault_name kind)) (lacks 32 (fault_name kind)) (lacks-fault_name kind) in
     lacks-append 10 (fault_name kind ++ codes " pc=" ++ word_digits pc ++ codes " value=") (word_digits value)
     (lacks-append 10 (fault_name kind ++ codes " pc=" ++ word_digits pc) (codes " value=")
-    (lacks-append 10 (fault_name kind ++ codes " pc=") (word_digits pc) (lacks-append 10 (fault_name kind) (codes " pc=") name.0 refl) (lacks-digits pc)) refl) (lacks-digits value)
+    (lacks-append 10 (fault_name kind ++ codes " pc=") (word_digits pc)
+    (lacks-append 10 (fault_name kind) (codes " pc=") name.0 refl) (lacks-digits pc)) refl) (lacks-digits value)
 lacks-end ending.Budget h = refl
 lacks-end (ending.Refused why) h = lacks-refusal_name why
 
-fault_regroup : (name pc value : List ℕ) → name ++ codes " pc=" ++ pc ++ codes " value=" ++ value ≡ name ++ 32 ∷ (codes "pc=" ++ pc ++ codes " value=" ++ value)
+fault_regroup : (name pc value : List ℕ) → name ++ codes " pc=" ++ pc ++ codes " value=" ++ value
+    ≡ name ++ 32 ∷ (codes "pc=" ++ pc ++ codes " value=" ++ value)
 fault_regroup name pc value = simp append_assoc
 
 -- the two words behind the name
@@ -232,26 +240,33 @@ unfolding word_digits encode_with
 second_word pc value = refl
 
 fault_says : (kind : FaultKind) (pc value : ℕ) → pc < 2 ^ 32 → value < 2 ^ 32
-    → fault_of (fault_name kind ++ codes " pc=" ++ word_digits pc ++ codes " value=" ++ word_digits value) ≡ ending.Fault kind pc value
+    → fault_of (fault_name kind ++ codes " pc=" ++ word_digits pc ++ codes " value=" ++ word_digits value)
+    ≡ ending.Fault kind pc value
 unfolding fault_of
 fault_says kind pc value hp hv =
     let name = fault_name kind in
     let plain = (and_parts (lacks 10 name) (lacks 32 name) (lacks-fault_name kind)).1 in
     let words = two_words pc value in
     ap fault_of (fault_regroup name (word_digits pc) (word_digits value))
-    ∙ ap (λ (t : List ℕ). ending.Fault (fault_or_first (fault_named t)) (word_of (take 8 (drop 3 (after 32 (name ++ 32 ∷ words))))) (word_of (drop 18 (after 32 (name ++ 32 ∷ words)))))
+    ∙ ap (λ (t : List ℕ). ending.Fault (fault_or_first (fault_named t))
+    (word_of (take 8 (drop 3 (after 32 (name ++ 32 ∷ words))))) (word_of (drop 18 (after 32 (name ++ 32 ∷ words)))))
     (before_at 32 name words plain)
-    ∙ ap (λ (t : List ℕ). ending.Fault (fault_or_first (fault_named name)) (word_of (take 8 (drop 3 t))) (word_of (drop 18 t))) (after_at 32 name words plain)
-    ∙ ap (λ (k : Option FaultKind). ending.Fault (fault_or_first k) (word_of (take 8 (drop 3 words))) (word_of (drop 18 words))) (fault_named-name kind)
+    ∙ ap (λ (t : List ℕ). ending.Fault (fault_or_first (fault_named name)) (word_of (take 8 (drop 3 t)))
+    (word_of (drop 18 t))) (after_at 32 name words plain)
+    ∙ ap (λ (k : Option FaultKind). ending.Fault (fault_or_first k) (word_of (take 8 (drop 3 words)))
+    (word_of (drop 18 words))) (fault_named-name kind)
     ∙ ap (λ (w : List ℕ). ending.Fault kind (word_of w) (word_of (drop 18 words))) (first_word pc value)
     ∙ ap (λ (w : List ℕ). ending.Fault kind (word_of (word_digits pc)) (word_of w)) (second_word pc value)
     ∙ ap (λ (w : ℕ). ending.Fault kind w (word_of (word_digits value))) (word_of-digits pc hp)
     ∙ ap (λ (w : ℕ). ending.Fault kind pc w) (word_of-digits value hv)
 
-end_says : (e : RowEnd) (g : Gathered) → IsEnd e → with_line (end_words e) (record g { stage = stage.Ending }) ≡ record g { ending = e; stage = stage.Steps }
+end_says : (e : RowEnd) (g : Gathered) → IsEnd e → with_line (end_words e) (record g { stage = stage.Ending })
+    ≡ record g { ending = e; stage = stage.Steps }
 unfolding with_line at_ending ending_of
-end_says (ending.Exit code) g h = ap (λ (n : ℕ). record g { ending = ending.Exit n; stage = stage.Steps }) (number_of-decimal code h)
-end_says (ending.Fault kind pc value) g h = ap (λ (e : RowEnd). record g { ending = e; stage = stage.Steps }) (fault_says kind pc value h.0 h.1)
+end_says (ending.Exit code) g h = ap (λ (n : ℕ). record g { ending = ending.Exit n; stage = stage.Steps })
+    (number_of-decimal code h)
+end_says (ending.Fault kind pc value) g h = ap (λ (e : RowEnd). record g { ending = e; stage = stage.Steps })
+    (fault_says kind pc value h.0 h.1)
 end_says ending.Budget g h = refl
 end_says (ending.Refused why) g h =
     ap (λ (r : Option Refusal). record g { ending = ending.Refused (refusal_or_first r); stage = stage.Steps })
@@ -279,12 +294,16 @@ unfolding encode_with
 lacks-shown [] h = refl
 lacks-shown (b ∷ bs) h = ap (lacks 10) (dash_of_encode b bs) ∙ lacks-encode (b ∷ bs) h
 
-console_text_says : (text : List ℕ) (g : Gathered) → with_line (codes "console " ++ text) (record g { stage = stage.Console }) ≡ record g { console = bytes_of text; stage = stage.Signature }
+console_text_says : (text : List ℕ) (g : Gathered) → with_line (codes "console " ++ text)
+    (record g { stage = stage.Console }) ≡ record g { console = bytes_of text; stage = stage.Signature }
 unfolding with_line at_console
 console_text_says text g = refl
 
-console_says : (bytes : List ℕ) (g : Gathered) → IsBytes bytes → with_line (codes "console " ++ or_dash (encode_lower bytes)) (record g { stage = stage.Console }) ≡ record g { console = bytes; stage = stage.Signature }
-console_says bytes g h = console_text_says (or_dash (encode_lower bytes)) g ∙ ap (λ (t : List ℕ). record g { console = t; stage = stage.Signature }) (bytes_of-shown bytes h)
+console_says : (bytes : List ℕ) (g : Gathered) → IsBytes bytes
+    → with_line (codes "console " ++ or_dash (encode_lower bytes)) (record g { stage = stage.Console })
+    ≡ record g { console = bytes; stage = stage.Signature }
+console_says bytes g h = console_text_says (or_dash (encode_lower bytes)) g
+    ∙ ap (λ (t : List ℕ). record g { console = t; stage = stage.Signature }) (bytes_of-shown bytes h)
 
 -- ---- the signature's lines
 
@@ -294,20 +313,28 @@ no_word line g =
     if slice_index line 0 == 118 then closed (verdict_of line) (record g { stage = stage.Words })
     else over g
 
-word_says : (w : ℕ) (g : Gathered) → w < 2 ^ 32 → length g.words < g.count → with_line (word_digits w) (record g { stage = stage.Words }) ≡ record g { words = g.words ++ w ∷ []; stage = stage.Words }
+word_says : (w : ℕ) (g : Gathered) → w < 2 ^ 32 → length g.words < g.count
+    → with_line (word_digits w) (record g { stage = stage.Words })
+    ≡ record g { words = g.words ++ w ∷ []; stage = stage.Words }
 unfolding with_line at_words
 word_says w g h more =
     let room : nat_lt (length g.words) g.count ≡ true = grind arith in
-    ap (λ (t : Bool). cond (t && nat_lt (length g.words) g.count) (record g { words = g.words ++ word_of (word_digits w) ∷ []; stage = stage.Words }) (no_word (word_digits w) g)) (is_word-digits w)
-    ∙ ap (λ (t : Bool). cond t (record g { words = g.words ++ word_of (word_digits w) ∷ []; stage = stage.Words }) (no_word (word_digits w) g)) room
+    ap (λ (t : Bool). cond (t && nat_lt (length g.words) g.count)
+    (record g { words = g.words ++ word_of (word_digits w) ∷ []; stage = stage.Words }) (no_word (word_digits w) g))
+    (is_word-digits w)
+    ∙ ap (λ (t : Bool). cond t (record g { words = g.words ++ word_of (word_digits w) ∷ []; stage = stage.Words })
+    (no_word (word_digits w) g)) room
     ∙ ap (λ (v : ℕ). record g { words = g.words ++ v ∷ []; stage = stage.Words }) (word_of-digits w h)
 
 words_say : (ws rest : List ℕ) (g : Gathered) → AllByRecursion IsWord ws → length g.words + length ws ≤ g.count
-    → says (flat_map word_line ws ++ rest) (record g { stage = stage.Words }) ≡ says rest (record g { words = g.words ++ ws; stage = stage.Words })
-words_say [] rest g h room = ap (λ (t : List ℕ). says rest (record g { words = t; stage = stage.Words })) (sym (append-nil g.words))
+    → says (flat_map word_line ws ++ rest) (record g { stage = stage.Words })
+    ≡ says rest (record g { words = g.words ++ ws; stage = stage.Words })
+words_say [] rest g h room = ap (λ (t : List ℕ). says rest (record g { words = t; stage = stage.Words }))
+    (sym (append-nil g.words))
 words_say (w ∷ ws) rest g h room =
     let longer = length-append g.words (w ∷ []) in
-    ap (λ (t : List ℕ). says t (record g { stage = stage.Words })) (append_assoc (word_line w) (flat_map word_line ws) rest)
+    ap (λ (t : List ℕ). says t (record g { stage = stage.Words }))
+    (append_assoc (word_line w) (flat_map word_line ws) rest)
     ∙ says_line (word_digits w) (flat_map word_line ws ++ rest) (record g { stage = stage.Words }) (lacks-digits w)
     ∙ ap (says (flat_map word_line ws ++ rest)) (word_says w g h.0 (omega arith))
     ∙ words_say ws rest (record g { words = g.words ++ w ∷ [] }) h.1 (omega arith)
@@ -317,32 +344,47 @@ abbrev words_or_nil : Option (List ℕ) → List ℕ
 words_or_nil None = []
 words_or_nil (Some words) = words
 
-signature_text_says : (text : List ℕ) (g : Gathered) → with_line (codes "signature " ++ text) (record g { stage = stage.Signature }) ≡ record g { signed = not (slice_index text 0 == 45); count = number_of text; stage = stage.Words }
+signature_text_says : (text : List ℕ) (g : Gathered)
+    → with_line (codes "signature " ++ text) (record g { stage = stage.Signature })
+    ≡ record g { signed = not (slice_index text 0 == 45); count = number_of text; stage = stage.Words }
 unfolding with_line at_signature
 signature_text_says text g = refl
 
 signature_says : (s : Option (List ℕ)) (rest : List ℕ) (g : Gathered) → AreWords s → g.words ≡ []
-    → says (signature_lines s ++ rest) (record g { stage = stage.Signature }) ≡ says rest (record g { signed = is_some s; count = length (words_or_nil s); words = words_or_nil s; stage = stage.Words })
+    → says (signature_lines s ++ rest) (record g { stage = stage.Signature })
+    ≡ says rest (record g {
+      signed = is_some s;
+      count = length (words_or_nil s);
+      words = words_or_nil s;
+      stage =
+          stage.Words;
+    })
 unfolding signature_lines number_on
 signature_says None rest g h fresh =
-    says_line (codes "signature -") rest (record g { stage = stage.Signature }) refl ∙ ap (says rest) (signature_text_says (codes "-") g)
+    says_line (codes "signature -") rest (record g { stage = stage.Signature }) refl
+    ∙ ap (says rest) (signature_text_says (codes "-") g)
     ∙ ap (λ (t : List ℕ). says rest (record g { signed = false; count = 0; words = t; stage = stage.Words })) fresh
 signature_says (Some ws) rest g h fresh =
     let n = length ws in
     let few : length ws < 2 ^ 32 = h.0 in
     let none : length g.words ≡ 0 = ap length fresh in
-    ap (λ (t : List ℕ). says t (record g { stage = stage.Signature })) (append_assoc (line (codes "signature " ++ decimal n)) (flat_map word_line ws) rest)
-    ∙ says_line (codes "signature " ++ decimal n) (flat_map word_line ws ++ rest) (record g { stage = stage.Signature }) (lacks-decimal 10 n (omega arith) (omega arith))
+    ap (λ (t : List ℕ). says t (record g { stage = stage.Signature }))
+    (append_assoc (line (codes "signature " ++ decimal n)) (flat_map word_line ws) rest)
+    ∙ says_line (codes "signature " ++ decimal n) (flat_map word_line ws ++ rest) (record g { stage = stage.Signature })
+    (lacks-decimal 10 n (omega arith) (omega arith))
     ∙ ap (says (flat_map word_line ws ++ rest)) (signature_text_says (decimal n) g)
-    ∙ ap (λ (t : Bool). says (flat_map word_line ws ++ rest) (record g { signed = not t; count = number_of (decimal n); stage = stage.Words }))
+    ∙ ap (λ (t : Bool). says (flat_map word_line ws ++ rest)
+    (record g { signed = not t; count = number_of (decimal n); stage = stage.Words }))
     (first_is_other 45 (decimal n) (omega arith) (lacks-decimal 45 n (omega arith) (omega arith)))
-    ∙ ap (λ (k : ℕ). says (flat_map word_line ws ++ rest) (record g { signed = true; count = k; stage = stage.Words })) (number_of-decimal n few)
+    ∙ ap (λ (k : ℕ). says (flat_map word_line ws ++ rest) (record g { signed = true; count = k; stage = stage.Words }))
+    (number_of-decimal n few)
     ∙ words_say ws rest (record g { signed = true; count = n }) h.1 (omega arith)
     ∙ ap (λ (t : List ℕ). says rest (record g { signed = true; count = n; words = t ++ ws; stage = stage.Words })) fresh
 
 -- ---- the verdict's line
 
-verdict_says : (v : Verdict) (g : Gathered) → with_line (codes "verdict " ++ verdict_name v) (record g { stage = stage.Words }) ≡ closed v g
+verdict_says : (v : Verdict) (g : Gathered) → with_line (codes "verdict " ++ verdict_name v)
+    (record g { stage = stage.Words }) ≡ closed v g
 unfolding with_line at_words is_word verdict_of closed next_row
 verdict_says verdict.Unasked g = refl
 verdict_says verdict.Pass g = refl
@@ -366,10 +408,13 @@ padded_whole : (words : List ℕ) → padded (length words) words ≡ words
 unfolding padded
 padded_whole words =
     let none : length words - length words ≡ 0 = omega arith in
-    let same : words ++ replicate (length words - length words) 0 ≡ words = ap (λ (k : ℕ). words ++ replicate k 0) none ∙ append-nil words in
-    ap (λ (t : List ℕ). cond (nat_le (length words) most_padded) t words) same ∙ either (nat_le (length words) most_padded) words
+    let same : words ++ replicate (length words - length words) 0 ≡ words = ap (λ (k : ℕ). words ++ replicate k 0) none
+    ∙ append-nil words in
+    ap (λ (t : List ℕ). cond (nat_le (length words) most_padded) t words) same
+    ∙ either (nat_le (length words) most_padded) words
 
-same_signature : (s : Option (List ℕ)) → cond (is_some s) (Some (padded (length (words_or_nil s)) (words_or_nil s))) None ≡ s
+same_signature : (s : Option (List ℕ)) → cond (is_some s) (Some (padded (length (words_or_nil s)) (words_or_nil s)))
+    None ≡ s
 same_signature None = refl
 same_signature (Some words) = ap Some (padded_whole words)
 
@@ -394,7 +439,8 @@ up_to_verdict n row numbers rows extent = record {
 row_is : (n : ℕ) (row : Row) (numbers : List ℕ) (rows : List Row) (extent : Extent)
     → next_row row.verdict (up_to_verdict n row numbers rows extent) ≡ row
 unfolding next_row
-row_is n row numbers rows extent = ap (λ (s : Option (List ℕ)). record row { signature = s }) (same_signature row.signature)
+row_is n row numbers rows extent = ap (λ (s : Option (List ℕ)). record row { signature = s })
+    (same_signature row.signature)
 
 closed_is : (n : ℕ) (row : Row) (numbers : List ℕ) (rows : List Row) (extent : Extent)
     → closed row.verdict (up_to_verdict n row numbers rows extent) ≡ whole (numbers ++ n ∷ []) (rows ++ row ∷ []) extent
@@ -438,4 +484,5 @@ row_says place n row rest numbers rows extent is same small =
     ∙ ap (says t3) (console_says row.console g3 is.console)
     ∙ signature_says row.signature t4 g4 is.signature refl
     ∙ says_line v rest (up_to_verdict n row numbers rows extent) (lacks-verdict row.verdict)
-    ∙ ap (says rest) (verdict_says row.verdict (up_to_verdict n row numbers rows extent) ∙ closed_is n row numbers rows extent)
+    ∙ ap (says rest) (verdict_says row.verdict (up_to_verdict n row numbers rows extent)
+    ∙ closed_is n row numbers rows extent)

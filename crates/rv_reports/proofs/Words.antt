@@ -1,5 +1,6 @@
 -- Numbers and words, read as they are written.
-use Rattle.std.proofs.Common.{◌≡◌, ◌∙◌, ◌==◌, ◌+◌, ◌-◌, ◌*◌, ◌/◌, ◌%◌, ◌<◌, ◌^◌, ℕ, zero, suc, Bool, true, ◌&&◌, not, List, [], ◌∷◌, ◌++◌, slice_index, refl, ap, arith, inl, inr}
+use Rattle.std.proofs.Common.{◌≡◌, ◌∙◌, ◌==◌, ◌+◌, ◌-◌, ◌*◌, ◌/◌, ◌%◌, ◌<◌, ◌^◌, ℕ, zero, suc, Bool, true, ◌&&◌, not}
+use Rattle.std.proofs.Common.{List, [], ◌∷◌, ◌++◌, slice_index, refl, ap, arith, inl, inr}
 use Rattle.std.proofs.lemmas.Bool.{and_parts, and_from, cases_lt, eqb-true}
 use Rattle.std.proofs.lemmas.Fmt.{decimal_by_steps}
 use Rattle.std.specs.Fmt.{decimal}
@@ -7,7 +8,8 @@ use Rattle.std.specs.Int.{w32, to_be_bytes}
 use Rattle.hex.specs.Hex.{IsBytes, encode_lower, encode_with, lower_digits}
 use Rattle.hex.proofs.HexLemmas.{decode_of-encode_lower}
 use Rattle.rv_rows.specs.Report.{word_digits}
-use Rattle.rv_reports.specs.Said.{number_on, number_of, digit_on, word_on, word_of, hex_digit, is_hex, is_word, bytes_of, decoded}
+use Rattle.rv_reports.specs.Said.{number_on, number_of, digit_on, word_on, word_of, hex_digit, is_hex, is_word}
+use Rattle.rv_reports.specs.Said.{bytes_of, decoded}
 use Rattle.rv_reports.proofs.Pieces.{lacks, lacks-append}
 
 -- ---- decimal numbers
@@ -20,7 +22,8 @@ lacks-decimal byte n h small =
     decimal_by_steps (λ _ ds. lacks byte ds ≡ true) (λ m _. lacks_digit byte m h)
     (λ m ds _ so. lacks-append byte ds ((48 + m % 10) ∷ []) so (lacks_digit byte (m % 10) h)) n small
 
-number_push : (value : ℕ) (ds : List ℕ) (b : ℕ) → number_on value (ds ++ b ∷ []) ≡ digit_on 10 (number_on value ds) (b - 48)
+number_push : (value : ℕ) (ds : List ℕ) (b : ℕ) → number_on value (ds ++ b ∷ [])
+    ≡ digit_on 10 (number_on value ds) (b - 48)
 unfolding number_on
 number_push value [] b = refl
 number_push value (d ∷ ds) b = number_push (digit_on 10 value (d - 48)) ds b
@@ -35,7 +38,8 @@ last_digit n value h is = omega arith
 pub number_of-decimal : (n : ℕ) → n < 2 ^ 32 → number_of (decimal n) ≡ n
 number_of-decimal n small =
     decimal_by_steps (λ m ds. m < 2 ^ 32 → number_on 0 ds ≡ m) (λ m h _. one_digit m h)
-    (λ m ds _ so h. number_push 0 ds (48 + m % 10) ∙ last_digit m (number_on 0 ds) h (so (omega arith))) n (omega arith) small
+    (λ m ds _ so h. number_push 0 ds (48 + m % 10) ∙ last_digit m (number_on 0 ds) h (so (omega arith))) n (omega arith)
+    small
 
 -- ---- words
 
@@ -56,7 +60,8 @@ holds_at p (suc n) k h lt =
     ]
 
 digit_is : (d : ℕ) → d < 16 → hex_digit (slice_index lower_digits d) ≡ d
-digit_is d h = eqb-true (hex_digit (slice_index lower_digits d)) d (holds_at (λ k. hex_digit (slice_index lower_digits k) == k) 16 d refl h)
+digit_is d h = eqb-true (hex_digit (slice_index lower_digits d)) d
+    (holds_at (λ k. hex_digit (slice_index lower_digits k) == k) 16 d refl h)
 
 digit_is_hex : (d : ℕ) → d < 16 → is_hex (slice_index lower_digits d) ≡ true
 digit_is_hex d h = holds_at (λ k. is_hex (slice_index lower_digits k)) 16 d refl h
@@ -69,27 +74,32 @@ unfolding is_word encode_with
 is_word-encode [] h = refl
 is_word-encode (b ∷ bs) h =
     let fits : b < 256 = h 0 in
-    and_from _ _ (digit_is_hex (b / 16) (omega arith)) (and_from _ _ (digit_is_hex (b % 16) (omega arith)) (is_word-encode bs (λ i. h (suc i))))
+    and_from _ _ (digit_is_hex (b / 16) (omega arith))
+    (and_from _ _ (digit_is_hex (b % 16) (omega arith)) (is_word-encode bs (λ i. h (suc i))))
 
 pub lacks-encode : (bs : List ℕ) → IsBytes bs → lacks 10 (encode_lower bs) ≡ true
 unfolding encode_with
 lacks-encode [] h = refl
 lacks-encode (b ∷ bs) h =
     let fits : b < 256 = h 0 in
-    and_from _ _ (digit_is_no_feed (b / 16) (omega arith)) (and_from _ _ (digit_is_no_feed (b % 16) (omega arith)) (lacks-encode bs (λ i. h (suc i))))
+    and_from _ _ (digit_is_no_feed (b / 16) (omega arith))
+    (and_from _ _ (digit_is_no_feed (b % 16) (omega arith)) (lacks-encode bs (λ i. h (suc i))))
 
 -- one byte more
-byte_on : (value b : ℕ) (bs : List ℕ) → b < 256 → value * 256 + b < 2 ^ 32 → word_on value (encode_lower (b ∷ bs)) ≡ word_on (value * 256 + b) (encode_lower bs)
+byte_on : (value b : ℕ) (bs : List ℕ) → b < 256 → value * 256 + b < 2 ^ 32
+    → word_on value (encode_lower (b ∷ bs)) ≡ word_on (value * 256 + b) (encode_lower bs)
 unfolding word_on encode_with
 byte_on value b bs fits small =
     let high = digit_is (b / 16) (omega arith) in
     let low = digit_is (b % 16) (omega arith) in
     let same : digit_on 16 (digit_on 16 value (b / 16)) (b % 16) ≡ value * 256 + b = omega arith in
-    ap (λ (d : ℕ). word_on (digit_on 16 (digit_on 16 value d) (hex_digit (slice_index lower_digits (b % 16)))) (encode_lower bs)) high
+    ap (λ (d : ℕ). word_on (digit_on 16 (digit_on 16 value d) (hex_digit (slice_index lower_digits (b % 16))))
+    (encode_lower bs)) high
     ∙ ap (λ (d : ℕ). word_on (digit_on 16 (digit_on 16 value (b / 16)) d) (encode_lower bs)) low
     ∙ ap (λ (v : ℕ). word_on v (encode_lower bs)) same
 
-four_bytes : (a b c d : ℕ) → a < 256 → b < 256 → c < 256 → d < 256 → word_of (encode_lower (a ∷ b ∷ c ∷ d ∷ [])) ≡ ((a * 256 + b) * 256 + c) * 256 + d
+four_bytes : (a b c d : ℕ) → a < 256 → b < 256 → c < 256 → d < 256
+    → word_of (encode_lower (a ∷ b ∷ c ∷ d ∷ [])) ≡ ((a * 256 + b) * 256 + c) * 256 + d
 unfolding word_on encode_with
 four_bytes a b c d fa fb fc fd =
     byte_on 0 a (b ∷ c ∷ d ∷ []) fa (omega arith)
@@ -100,7 +110,8 @@ four_bytes a b c d fa fb fc fd =
 
 pub word_of-digits : (w : ℕ) → w < 2 ^ 32 → word_of (word_digits w) ≡ w
 unfolding word_digits
-word_of-digits w h = four_bytes (w / 2 ^ 24 % 256) (w / 2 ^ 16 % 256) (w / 2 ^ 8 % 256) (w % 256) (omega arith) (omega arith) (omega arith) (omega arith) ∙ omega arith
+word_of-digits w h = four_bytes (w / 2 ^ 24 % 256) (w / 2 ^ 16 % 256) (w / 2 ^ 8 % 256) (w % 256) (omega arith)
+    (omega arith) (omega arith) (omega arith) ∙ omega arith
 
 four_fit : (a b c d : ℕ) → a < 256 → b < 256 → c < 256 → d < 256 → IsBytes (a ∷ b ∷ c ∷ d ∷ [])
 four_fit a b c d fa fb fc fd zero = fa
@@ -110,7 +121,8 @@ four_fit a b c d fa fb fc fd (suc (suc (suc zero))) = fd
 four_fit a b c d fa fb fc fd (suc (suc (suc (suc n)))) = omega arith
 
 pub fits_digits : (w : ℕ) → IsBytes (to_be_bytes w32 w)
-fits_digits w = four_fit (w / 2 ^ 24 % 256) (w / 2 ^ 16 % 256) (w / 2 ^ 8 % 256) (w % 256) (omega arith) (omega arith) (omega arith) (omega arith)
+fits_digits w = four_fit (w / 2 ^ 24 % 256) (w / 2 ^ 16 % 256) (w / 2 ^ 8 % 256) (w % 256) (omega arith) (omega arith)
+    (omega arith) (omega arith)
 
 pub lacks-digits : (w : ℕ) → lacks 10 (word_digits w) ≡ true
 unfolding word_digits

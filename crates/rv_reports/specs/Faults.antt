@@ -1,5 +1,6 @@
 -- Where a text is no report.
-use Rattle.std.specs.Prelude.{◌≡◌, ◌==◌, ◌+◌, ℕ, if◌then◌else◌, true, List, [], ◌∷◌, ◌++◌, Result, Ok, Err}
+use Rattle.std.specs.Prelude.{◌≡◌, ◌==◌, ◌+◌, ℕ, if◌then◌else◌, true, List, [], ◌∷◌, ◌++◌, Result}
+use Rattle.std.specs.Prelude.{Ok, Err}
 use Rattle.rv_reports.specs.declared.read.ReadError.{ReadError}
 use Rattle.rv_reports.specs.declared.read.ReadError.TheVariants.{OutOfMemory, Line, CutOff}
 

@@ -1,8 +1,9 @@
--- What the lines of a text say. Any text says something: whether it is a report is seen by writing what it
--- says.
-use Rattle.std.specs.Prelude.{◌==◌, if◌then◌else◌, ◌+◌, ◌-◌, ◌*◌, ◌^◌, ◌&&◌, ◌||◌, ℕ, nat_lt, nat_le}
-use Rattle.std.specs.Prelude.{min, Bool, true, false, not, List, [], ◌∷◌, ◌++◌, length, replicate, take}
-use Rattle.std.specs.Prelude.{drop, slice_index, Option, Some, None, Result, Ok, Err, codes, is_some}
+-- What the lines of a text say. Any text says something: whether it is a report is seen by writing
+-- what it says.
+use Rattle.std.specs.Prelude.{◌==◌, if◌then◌else◌, ◌+◌, ◌-◌, ◌*◌, ◌^◌, ◌&&◌, ◌||◌, ℕ, nat_lt}
+use Rattle.std.specs.Prelude.{nat_le, min, Bool, true, false, not, List, [], ◌∷◌, ◌++◌, length}
+use Rattle.std.specs.Prelude.{replicate, take, drop, slice_index, Option, Some, None, Result, Ok}
+use Rattle.std.specs.Prelude.{Err, codes, is_some}
 use Rattle.std.specs.List.{onto_first}
 use Rattle.hex.specs.Hex.{decode_of}
 use Rattle.hex.specs.declared.error.FromHexError.{FromHexError}
@@ -156,8 +157,8 @@ part_of line =
 
 -- ---- what lines say together
 
--- The rows so far and the numbers of their jobs, the last line, and what is known of the next row. The
--- stage says which line comes next.
+-- The rows so far and the numbers of their jobs, the last line, and what is known of the next row.
+-- The stage says which line comes next.
 pub record Gathered : Type 0 where
   pub numbers : List ℕ
   pub rows : List Row
@@ -195,7 +196,8 @@ whole numbers rows extent = record {
 abbrev pub most_padded : ℕ
 most_padded = 65536
 
--- words that are missing are zeros: so a signature that is cut off differs from its report behind the cut
+-- words that are missing are zeros: so a signature that is cut off differs from its report behind
+-- the cut
 unfoldable pub padded : ℕ → List ℕ → List ℕ
 padded count words =
     if nat_le count most_padded then words ++ replicate (count - length words) 0 else words
@@ -248,7 +250,12 @@ at_console line g =
 unfoldable pub at_signature : List ℕ → Gathered → Gathered
 at_signature line g =
     if (slice_index line 0 == 115) && (slice_index line 1 == 105) then
-    record g { signed = not (slice_index line 10 == 45); count = number_of (drop 10 line); stage = stage.Words }
+    record g {
+      signed = not (slice_index line 10 == 45);
+      count = number_of (drop 10 line);
+      stage =
+          stage.Words;
+    }
     else over g
 
 -- a word of the signature, or the verdict

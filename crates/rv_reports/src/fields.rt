@@ -3,7 +3,8 @@
 ghost use Rattle.std.specs.Prelude.{◌≡◌, ◌≤◌, IfOk, take, drop, slice_index, string_bytes, length};
 ghost use Rattle.std.specs.List.{list_all};
 ghost use Rattle.rv_jobs.specs.JobList.{is_name, is_name_byte};
-ghost use Rattle.rv_reports.specs.Said.{place_of, before, after, number_of, hex_digit, word_of, is_hex, is_word, bytes_of, name_or_dash};
+ghost use Rattle.rv_reports.specs.Said.{place_of, before, after, number_of, hex_digit, word_of, is_hex, is_word};
+ghost use Rattle.rv_reports.specs.Said.{bytes_of, name_or_dash};
 
 use hex::FromHexError;
 use std::alloc::{AllocError, Global};

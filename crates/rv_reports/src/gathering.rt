@@ -1,7 +1,8 @@
 //! What the lines of a text say together: rows with the numbers of their jobs, and a last line.
 
 ghost use Rattle.std.specs.Prelude.{◌≡◌, ◌++◌, ◌∷◌, [], OnOk, IfOk, string_bytes};
-ghost use Rattle.rv_reports.specs.Said.{lines, whole, closed, over, between, at_ending, at_steps, at_console, at_signature};
+ghost use Rattle.rv_reports.specs.Said.{lines, whole, closed, over, between, at_ending, at_steps, at_console};
+ghost use Rattle.rv_reports.specs.Said.{at_signature};
 ghost use Rattle.rv_reports.specs.Said.{at_words, with_line, with_lines, padded, finished, gathered};
 ghost use Rattle.rv_reports.specs.View.{view};
 

@@ -1,7 +1,8 @@
 //! What single lines of a report say. Any line says something: the byte that tells it from others is enough.
 
 ghost use Rattle.std.specs.Prelude.{◌≡◌, IfOk, string_bytes};
-ghost use Rattle.rv_reports.specs.Said.{job_of, name_of, fault_or_first, refusal_or_first, fault_of, ending_of, verdict_of};
+ghost use Rattle.rv_reports.specs.Said.{job_of, name_of, fault_or_first, refusal_or_first, fault_of, ending_of};
+ghost use Rattle.rv_reports.specs.Said.{verdict_of};
 ghost use Rattle.rv_reports.specs.Said.{shard_of, part_of};
 ghost use Rattle.rv_rows.specs.Report.{refusal_named};
 

@@ -1,4 +1,5 @@
-use Rattle.std.proofs.Common.{◌≡◌, ◌∙◌, ◌+◌, ◌∷◌, [], ◌++◌, ℕ, List, Bool, true, false, Some, length, take, drop, refl, sym, ap, arith}
+use Rattle.std.proofs.Common.{◌≡◌, ◌∙◌, ◌+◌, ◌∷◌, [], ◌++◌, ℕ, List, Bool, true, false, Some, length, take, drop, refl}
+use Rattle.std.proofs.Common.{sym, ap, arith}
 use Rattle.std.specs.Prelude.{is_some}
 use Rattle.std.specs.BTreeMap.{get_by}
 use Rattle.std.specs.Cmp.Lexicographic.{slice_cmp}
@@ -14,7 +15,10 @@ use Rattle.rv_reports.proofs.said.new_count.Goals as goal
 
 pub loop-at-init : goal.loop-at-init
 unfolding place_in
-loop-at-init c = record { rest = omega arith; places = no_places c.new-places.result [] c.new-places.ensures.empty refl }
+loop-at-init c = record {
+  rest = omega arith;
+  places = no_places c.new-places.result [] c.new-places.ensures.empty refl;
+}
 
 pub returns-then-contains_key : goal.returns-then-contains_key
 returns-then-contains_key c =
@@ -50,7 +54,8 @@ loop-at-preserved c =
       rest = omega (arith, step, same, c.loop-at.invariant.rest);
       places = λ t.
           places_more (λ q. get_by (λ k. slice_cmp nat_cmp q k.now) c.loop-at.places)
-          (λ q. get_by (λ k. slice_cmp nat_cmp q k.now) c.insert.new.self) earlier (names_of (take (at + 1) rows)) name at
+          (λ q. get_by (λ k. slice_cmp nat_cmp q k.now) c.insert.new.self) earlier (names_of (take (at + 1) rows)) name
+          at
           (btree_map_updates_str name c.loop-at.places c.insert.new.self (Some at) c.in_ok-insert.ensures.updates) long
           c.loop-at.invariant.places (nowhere (place_in earlier name) fresh) grown t;
     }

@@ -8,9 +8,17 @@ pub returns-then-number-before : goal.returns-then-number-before
 returns-then-number-before c =
     elim c.then-number-before.branch [
       | then-number-before-via-then-number-before w ↦
-          omega (arith, count_no c.loop-at.before c.args.numbers.now c.loop-at.at (omega arith) (λ low high. omega arith))
+          omega (
+            arith,
+            count_no c.loop-at.before c.args.numbers.now c.loop-at.at (omega arith)
+                (λ low high. omega arith),
+          )
       | then-number-before-via-else-number-before+then-number-gt-MOST_JOBS w ↦
-          omega (arith, count_no c.loop-at.before c.args.numbers.now c.loop-at.at (omega arith) (λ low high. omega arith))
+          omega (
+            arith,
+            count_no c.loop-at.before c.args.numbers.now c.loop-at.at (omega arith)
+                (λ low high. omega arith),
+          )
     ]
 
 pub loop-at-preserved : goal.loop-at-preserved

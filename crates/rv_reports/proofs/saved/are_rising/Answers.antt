@@ -19,7 +19,8 @@ returns-then-number-before c =
 
 pub loop-number-preserved : goal.loop-number-preserved
 loop-number-preserved c =
-    sym (rising_on c.loop-number.before c.args.last c.args.numbers.now c.loop-number.number-index (omega arith) (omega arith)
+    sym (rising_on c.loop-number.before c.args.last c.args.numbers.now c.loop-number.number-index (omega arith)
+    (omega arith)
     (omega arith))
     ∙ c.loop-number.invariant
 

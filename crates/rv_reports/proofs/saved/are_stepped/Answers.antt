@@ -10,7 +10,8 @@ returns-then-number-next c =
     let i = c.loop-number.number-index in
     elim c.then-number-next.branch [
       | then-number-next-via-then-number-next w ↦
-          sym (stepped_no next c.args.step c.args.last c.args.numbers.now i (omega arith) (λ same high. w.if-number-next.true same))
+          sym (stepped_no next c.args.step c.args.last c.args.numbers.now i (omega arith)
+          (λ same high. w.if-number-next.true same))
           ∙ c.loop-number.invariant.rest
       | then-number-next-via-else-number-next+then-last-number w ↦
           sym (stepped_no next c.args.step c.args.last c.args.numbers.now i (omega arith) (λ same high. omega arith))
@@ -19,7 +20,8 @@ returns-then-number-next c =
 
 pub loop-number-preserved : goal.loop-number-preserved
 loop-number-preserved c = record {
-  rest = sym (stepped_on c.loop-number.next c.args.step c.args.last c.args.numbers.now c.loop-number.number-index (omega arith)
+  rest = sym (stepped_on c.loop-number.next c.args.step c.args.last c.args.numbers.now c.loop-number.number-index
+      (omega arith)
       (omega arith) (omega arith))
       ∙ c.loop-number.invariant.rest;
   small = omega arith;
@@ -27,5 +29,6 @@ loop-number-preserved c = record {
 
 pub returns : goal.returns
 returns c =
-    sym (stepped_end c.loop-number.next c.args.step c.args.last c.args.numbers.now c.loop-number.number-index (omega arith))
+    sym (stepped_end c.loop-number.next c.args.step c.args.last c.args.numbers.now c.loop-number.number-index
+    (omega arith))
     ∙ c.loop-number.invariant.rest

@@ -1,4 +1,5 @@
-use Rattle.std.proofs.Common.{◌≡◌, ◌∙◌, ◌++◌, ◌<◌, ℕ, List, get_or, refl, sym, ap, arith, append-nil, append_assoc, ◌-◌, take, add-one}
+use Rattle.std.proofs.Common.{◌≡◌, ◌∙◌, ◌++◌, ◌<◌, ℕ, List, get_or, refl, sym, ap, arith, append-nil, append_assoc, ◌-◌}
+use Rattle.std.proofs.Common.{take, add-one}
 use Rattle.std.specs.Prelude.{string_bytes}
 use Rattle.rv_jobs.specs.Jobs.{most_jobs}
 use Rattle.rv_rows.specs.Report.{row_text}
@@ -23,6 +24,8 @@ loop-at-preserved c =
     let n = get_or numbers at 0 in
     let row = c.index-rows-at.result in
     rw add-one (c.in_ok-push_row.ensures ∙ ap (λ (t : List ℕ). t ++ row_text (n - 1) row) c.loop-at.invariant
-    ∙ append_assoc (string_bytes c.args.text.now) (numbered_text (take at numbers) (take at rows)) (row_text (n - 1) row)
+    ∙ append_assoc (string_bytes c.args.text.now) (numbered_text (take at numbers) (take at rows))
+    (row_text (n - 1) row)
     ∙ ap (λ (t : List ℕ). string_bytes c.args.text.now ++ t)
-    (sym (rw (← c.index-rows-at.is) at (numbered_more numbers rows at n (n - 1) row (omega arith) c.requires.counted refl refl))))
+    (sym (rw (← c.index-rows-at.is) at (numbered_more numbers rows at n (n - 1) row (omega arith) c.requires.counted
+    refl refl))))
