@@ -1,5 +1,6 @@
 -- Each step of the shared draw keeps its rule.
-use Rattle.std.proofs.Common.{◌≡◌, ℕ, zero, suc, ◌+◌, ◌-◌, ◌%◌, ◌^◌, ◌<◌, ◌≤◌, ◌≢◌, List, [], ◌∷◌, ◌++◌, length, set}
+use Rattle.std.proofs.Common.{◌≡◌, ℕ, zero, suc, ◌+◌, ◌-◌, ◌%◌, ◌^◌, ◌<◌, ◌≤◌}
+use Rattle.std.proofs.Common.{◌≢◌, List, [], ◌∷◌, ◌++◌, length, set}
 use Rattle.std.proofs.Common.{get_or, sym, refl, ap, ◌∙◌, subst, ⊎_elim, arith, length-set, length-append}
 use Rattle.std.proofs.Common.{get_or-set_other, get_or-set_same}
 use mathlib.Core.Logic.{dite}
@@ -44,7 +45,8 @@ below_length pieces s r i v at e here =
     let t = in_history pieces s r i v at e here in
     let n = r.numbered t.0 e t.1 in let l = at_lt r.history t.0 e t.1 in omega arith
 
-pub once_each : (pieces : ℕ) (s : St) (r : Runs pieces s) (p : ℕ) → p < 64 → total (λ v. times p v.places) s.views ≤ 1
+pub once_each : (pieces : ℕ) (s : St) (r : Runs pieces s) (p : ℕ) → p < 64
+    → total (λ v. times p v.places) s.views ≤ 1
 once_each pieces s r p h = omega (arith, r.seated p h, r.single p h)
 
 -- word 0 is at most pieces + 64
@@ -58,20 +60,23 @@ bounded pieces s r = omega (
   places_few s.views (λ j v at. (r.each j v at).places) (once_each pieces s r),
 )
 
-fits_longer : (pieces : ℕ) (h : List Entry) (e : Entry) (v : View) → Fits pieces h v → Fits pieces (h ++ e ∷ []) v
+fits_longer : (pieces : ℕ) (h : List Entry) (e : Entry) (v : View) → Fits pieces h v
+    → Fits pieces (h ++ e ∷ []) v
 fits_longer pieces h e v f =
     record { places = f.places; own = f.own; few = f.few; noted = λ x i. in_left h (e ∷ []) x (f.noted x i) }
 
 -- what all views but one had to meet, and that one now
 each_set : (pieces : ℕ) (h : List Entry) (vs : List View) (j : ℕ) (w : View)
-    → ((i : ℕ) (v : View) → get_elem? vs i ≡ some v → Fits pieces h v) → Fits pieces h w → (i : ℕ) (v : View)
+    → ((i : ℕ) (v : View) → get_elem? vs i ≡ some v → Fits pieces h v) → Fits pieces h w
+    → (i : ℕ) (v : View)
     → get_elem? (set vs j w) i ≡ some v → Fits pieces h v
 each_set pieces h vs j w all mine i v at =
     ⊎_elim (λ (t : (i ≡ j) × (w ≡ v)). subst (Fits pieces h) t.1 mine)
     (λ (t : (i ≢ j) × (get_elem? vs i ≡ some v)). all i v t.1) (at_set vs j i w v at)
 
 each_snoc : (pieces : ℕ) (h : List Entry) (vs : List View) (w : View)
-    → ((i : ℕ) (v : View) → get_elem? vs i ≡ some v → Fits pieces h v) → Fits pieces h w → (i : ℕ) (v : View)
+    → ((i : ℕ) (v : View) → get_elem? vs i ≡ some v → Fits pieces h v) → Fits pieces h w
+    → (i : ℕ) (v : View)
     → get_elem? (vs ++ w ∷ []) i ≡ some v → Fits pieces h v
 each_snoc pieces h vs w all mine i v at =
     ⊎_elim (λ (t : get_elem? vs i ≡ some v). all i v t)
@@ -88,7 +93,8 @@ opens pieces ws wide zeroth first others = record {
   seated = λ p h. dite (ℕ_discrete 0 p)
       (λ e. subst (λ (q : ℕ). one_at q 0 + 0 + 0 ≡ get_or ws (q + 1) 0) e (sym first))
       (λ ne. let z = one_at-other p 0 ne in let o = others (p + 1) (omega arith) (omega arith) in omega arith);
-  single = λ p h. dite (ℕ_discrete 0 p) (λ e. subst (λ (q : ℕ). get_or ws (q + 1) 0 ≤ 1) e (omega (arith, first)))
+  single =
+      λ p h. dite (ℕ_discrete 0 p) (λ e. subst (λ (q : ℕ). get_or ws (q + 1) 0 ≤ 1) e (omega (arith, first)))
       (λ ne. let o = others (p + 1) (omega arith) (omega arith) in omega arith);
   each = λ i v at. ⊎_elim (λ (t : get_elem? [] i ≡ some v). absurd (some-ne-none v (sym t)))
       (λ (t : (i ≡ 0) × (first_view pieces ≡ v)). subst (Fits pieces []) t.1
@@ -156,7 +162,12 @@ draws pieces slots id m most going sits s r _ at small =
           noted = λ x i. in_left r.history (e ∷ []) x (fits.noted x i);
         });
       },
-      record { drawn = refl; slots = refl; above = λ x i. omega (arith, below_length pieces s r id v at x i, r.drawn) },
+      record {
+        drawn = refl;
+        slots = refl;
+        above =
+            λ x i. omega (arith, below_length pieces s r id v at x i, r.drawn);
+      },
     )
   where
     first_in : (ps : List ℕ) → 0 < length ps → IsIn (first_of ps) ps
@@ -194,11 +205,13 @@ looks pieces slots id m s r _ at small = (
   where
     none_beyond : (ps : List ℕ) (p : ℕ) → ((q : ℕ) → IsIn q ps → q ≢ p) → times p ps ≤ 1
     none_beyond [] p h = omega arith
-    none_beyond (q ∷ qs) p h = omega (arith, one_at-other p q (h q (0, refl)), none_at qs p (λ x i. h x (suc i.0, i.1)))
+    none_beyond (q ∷ qs) p h =
+        omega (arith, one_at-other p q (h q (0, refl)), none_at qs p (λ x i. h x (suc i.0, i.1)))
       where
         none_at : (ps : List ℕ) (p : ℕ) → ((q : ℕ) → IsIn q ps → q ≢ p) → times p ps ≡ 0
         none_at [] p h = refl
-        none_at (q ∷ qs) p h = omega (arith, one_at-other p q (h q (0, refl)), none_at qs p (λ x i. h x (suc i.0, i.1)))
+        none_at (q ∷ qs) p h =
+            omega (arith, one_at-other p q (h q (0, refl)), none_at qs p (λ x i. h x (suc i.0, i.1)))
 
 -- sitting
 pub sits : (pieces slots id : ℕ) (m : Sitting) (p k : ℕ) → p < 64 → k ≡ p + 1
@@ -225,7 +238,8 @@ sits pieces slots id m p k low is s r _ at small =
             (λ e. let here : get_or (set s.words k 1) (q + 1) 0 ≡ 1 =
             ap (λ (i : ℕ). get_or (set s.words k 1) i 0) (omega arith)
             ∙ get_or-set_same s.words k 1 0 (omega (arith, r.wide)) in
-            let before : get_or s.words (q + 1) 0 ≡ 0 = ap (λ (i : ℕ). get_or s.words i 0) (omega arith) ∙ free in
+            let before : get_or s.words (q + 1) 0 ≡ 0 = ap (λ (i : ℕ). get_or s.words i 0) (omega arith)
+            ∙ free in
             let one : one_at q (k - 1) ≡ 1 = ap (λ (z : ℕ). one_at q z) e ∙ one_at-same q in
             omega (arith, total-set (λ (u : View). times q u.places) s.views id v w at, r.seated q h))
             (λ ne. let zero-more = one_at-other q (k - 1) ne in
@@ -236,7 +250,8 @@ sits pieces slots id m p k low is s r _ at small =
               get_or-set_other s.words k (q + 1) 1 0 (λ z. ne (omega arith)),
             ));
         single = λ q h. dite (ℕ_discrete (q + 1) k)
-            (λ e. let here : get_or (set s.words k 1) (q + 1) 0 ≡ 1 = ap (λ (i : ℕ). get_or (set s.words k 1) i 0) e
+            (λ e. let here : get_or (set s.words k 1) (q + 1) 0 ≡ 1 =
+            ap (λ (i : ℕ). get_or (set s.words k 1) i 0) e
             ∙ get_or-set_same s.words k 1 0 (omega (arith, r.wide)) in omega arith)
             (λ ne. omega (arith, r.single q h, get_or-set_other s.words k (q + 1) 1 0 ne));
         each = each_set pieces r.history s.views id w r.each (record {
@@ -328,13 +343,15 @@ joins pieces id v other w s r at apart there =
       numbered = r.numbered;
       wide = r.wide;
       drawn = r.drawn;
-      held = λ x. moved (λ (u : View). count_of x u.draws) (total-append (one_for x) v.draws w.draws) refl ∙ r.held x;
+      held = λ x. moved (λ (u : View). count_of x u.draws) (total-append (one_for x) v.draws w.draws) refl
+          ∙ r.held x;
       seated = λ p h. moved (λ (u : View). times p u.places) (total-append (one_at p) v.places w.places) refl
           ∙ r.seated p h;
       single = r.single;
       each = each_set pieces r.history vs other empty_view
           (each_set pieces r.history s.views id b r.each (record {
-            places = λ p i. ⊎_elim (λ (t : IsIn p v.places). fv.places p t) (λ (t : IsIn p w.places). fw.places p t)
+            places =
+                λ p i. ⊎_elim (λ (t : IsIn p v.places). fv.places p t) (λ (t : IsIn p w.places). fw.places p t)
                 (in_append v.places w.places p i);
             own = λ e i. ⊎_elim (λ (t : IsIn e v.draws). in_left v.places w.places e.place (fv.own e t))
                 (λ (t : IsIn e w.draws). in_right v.places w.places e.place (fw.own e t))
@@ -366,7 +383,8 @@ times_in p ps i = omega (arith, term_le (one_at p) ps i.0 p i.1, one_at-same p)
 pub whole : (pieces : ℕ) (s : St) (r : Runs pieces s) (id : ℕ) (v : View) → get_elem? s.views id ≡ some v
     → ((p : ℕ) → p < 64 → get_or s.words (p + 1) 0 ≡ 1 → IsIn p v.places) → Same v.draws r.history
 whole pieces s r id v at all x =
-    let empty : (k : ℕ) (u : View) → k ≢ id → get_elem? s.views k ≡ some u → count_of x u.draws ≡ 0 = λ k u ne there.
+    let empty : (k : ℕ) (u : View) → k ≢ id → get_elem? s.views k ≡ some u → count_of x u.draws ≡ 0 =
+    λ k u ne there.
     let fu = r.each k u there in
     let none_here : (p : ℕ) → IsIn p u.places → ⊥ = λ p i.
     let low = fu.places p i in
@@ -389,7 +407,8 @@ whole pieces s r id v at all x =
     ap (count_of x) (no_draws u.draws (λ e i. none_here e.place (fu.own e i))) in
     sym (only_term (λ (u : View). count_of x u.draws) s.views id v at empty) ∙ r.held x
 
-at_history : (h : List Entry) → IsHistory h → (x : ℕ) → x < length h → total (λ (e : Entry). one_at x e.number) h ≡ 1
+at_history : (h : List Entry) → IsHistory h → (x : ℕ) → x < length h
+    → total (λ (e : Entry). one_at x e.number) h ≡ 1
 at_history h is x low =
     let t = entry_at h x low in
     let here : one_at x t.0.number ≡ 1 = ap (one_at x) (is x t.0 t.1) ∙ one_at-same x in
@@ -402,7 +421,8 @@ at_history h is x low =
     entry_at (e ∷ es) (suc i) h = entry_at es i (omega arith)
 
 -- draws that are a whole history, with one past the end, have each piece once
-pub each_once : (pieces : ℕ) (ds h : List Entry) → IsHistory h → Same ds h → 0 < past_count pieces ds → (x : ℕ)
+pub each_once : (pieces : ℕ) (ds h : List Entry) → IsHistory h → Same ds h → 0 < past_count pieces ds
+    → (x : ℕ)
     → x < pieces
     → times x (numbers ds) ≡ 1
 each_once pieces ds h is same over x low =

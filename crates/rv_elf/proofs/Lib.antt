@@ -6,5 +6,8 @@ pub mod NewBus
 pub mod Opening
 pub mod Finding
 pub mod Naming
+pub mod Texts
+pub mod Ranking
+pub mod Standing
 pub mod Narrower
 pub mod Public

@@ -6,3 +6,4 @@ pub mod ErrorNames
 pub mod Loading
 pub mod Sections
 pub mod Symbols
+pub mod Nearest

@@ -1,6 +1,7 @@
 -- The section header table, the symbol table and its string table (System V ABI, "Sections",
 -- "String Table", "Symbol Table").
-use Rattle.std.specs.Prelude.{◌≤◌, ◌==◌, ◌+◌, ◌*◌, ◌/◌, ◌%◌, ℕ, Bool, not, ◌&&◌, ◌||◌, List, []}
+use Rattle.std.specs.Prelude.{◌≤◌, ◌==◌, ◌+◌, ◌*◌, ◌/◌, ◌%◌, ℕ, Bool, not, ◌&&◌}
+use Rattle.std.specs.Prelude.{◌||◌, List, []}
 use Rattle.std.specs.Prelude.{◌∷◌, length, map, take}
 use Rattle.std.specs.Prelude.{drop, nat_lt, Option, Some, None, if◌then◌else◌, option_map, false}
 use Rattle.std.specs.List.{find, range_with_len}
@@ -8,7 +9,7 @@ use Rattle.std.specs.Option.{option_map_or}
 use Rattle.std.specs.Str.{bytes_eq}
 use Rattle.rv_elf.specs.declared.sections.Section.{Section}
 use Rattle.rv_elf.specs.declared.symbols.Symbol.{Symbol}
-use Rattle.rv_elf.specs.Fields.{half_at, word_at}
+use Rattle.rv_elf.specs.Fields.{byte_at, half_at, word_at}
 
 -- ---- the ELF header's fields of the table
 
@@ -90,17 +91,25 @@ st_name table at = word_at table at
 abbrev pub st_value : List ℕ → ℕ → ℕ
 st_value table at = word_at table (at + 4)
 
+-- ELF32_ST_TYPE, the low four bits of st_info
+abbrev pub st_type : List ℕ → ℕ → ℕ
+st_type table at = byte_at table (at + 12) % 16
+
 abbrev pub st_shndx : List ℕ → ℕ → ℕ
 st_shndx table at = half_at table (at + 14)
 
 -- the symbol at a place of a table's bytes
-unfoldable pub symbol_at : List ℕ → ℕ → Symbol
-symbol_at table at =
-    record { name = st_name table at; value = st_value table at; section = st_shndx table at }
+unfoldable pub symbol_entry : List ℕ → ℕ → Symbol
+symbol_entry table at = record {
+  name = st_name table at;
+  value = st_value table at;
+  kind = st_type table at;
+  section = st_shndx table at;
+}
 
 -- the symbols of a table's bytes, 16 bytes each
 abbrev pub symbols_of : List ℕ → List Symbol
-symbols_of table = map (λ k. symbol_at table (16 * k)) (range_with_len 0 (length table / 16))
+symbols_of table = map (λ k. symbol_entry table (16 * k)) (range_with_len 0 (length table / 16))
 
 -- ---- its string table
 

@@ -1,6 +1,8 @@
 -- The value of a symbol, and the range of a signature, or the first refusal of the table that
 -- applies.
-use Rattle.std.specs.Prelude.{◌==◌, ◌-◌, ◌%◌, ℕ, Bool, true, false, not, ◌&&◌, ◌||◌, List, [], ◌∷◌}
+use Rattle.std.specs.Prelude.{◌==◌, ◌-◌, ◌%◌, ℕ, Bool, true, false, not, ◌&&◌, ◌||◌, List, []}
+use Rattle.std.specs.Prelude.{◌∷◌}
+use Rattle.std.specs.Prelude.{◌++◌}
 use Rattle.std.specs.Prelude.{length, nat_lt}
 use Rattle.std.specs.Prelude.{Option, option_and_then, option_map, unwrap_or, Result, Ok, is_none}
 use Rattle.std.specs.Option.{option_map_or}
@@ -20,24 +22,35 @@ abbrev pub has_bad_strings : List ℕ → Section → Bool
 has_bad_strings file symbols =
     option_map_or (is_bad_strings (length file)) (string_table file symbols) true
 
--- the first symbol of that name in a symbol table and its string table
-abbrev pub symbol_in : List ℕ → List ℕ → Section → Option Symbol
-symbol_in file name symbols = option_and_then (λ strings. symbol_named (bytes_of file symbols)
-    (bytes_of file strings) name) (string_table file symbols)
-
--- the first symbol of that name in the first symbol table
-abbrev pub symbol_there : List ℕ → List ℕ → Option Symbol
-symbol_there file name = option_and_then (symbol_in file name) (symbol_table file)
-
--- the refusals of a name, in their order; what is asked of a symbol table is asked where there is
--- one
-abbrev pub symbol_rows : List ℕ → List ℕ → List Row
-symbol_rows file name = (has_bad_sections file, SectionTable)
+-- the refusals of a file's symbols, in their order; what is asked of a symbol table is asked where
+-- there is one
+abbrev pub table_rows : List ℕ → List Row
+table_rows file = (has_bad_sections file, SectionTable)
     ∷ (is_none (symbol_table file), NoSymbols)
     ∷ (option_map_or (is_bad_symbols (length file)) (symbol_table file) false, SymbolTable)
     ∷ (option_map_or (has_bad_strings file) (symbol_table file) false, StringTable)
-    ∷ (is_none (symbol_there file name), NoBegin)
     ∷ []
+
+-- the first of them that applies, if one does
+unfoldable pub table_check : List ℕ → Result (Unit {0}) ImageError
+table_check file = first_row (table_rows file) accepted
+
+-- the bytes of a symbol table and of its string table
+abbrev pub tables_of : List ℕ → Section → Option (List ℕ × List ℕ)
+tables_of file symbols =
+    option_map (λ strings. (bytes_of file symbols, bytes_of file strings)) (string_table file symbols)
+
+-- those of the first symbol table
+abbrev pub tables_there : List ℕ → Option (List ℕ × List ℕ)
+tables_there file = option_and_then (tables_of file) (symbol_table file)
+
+-- the first symbol of that name in them
+abbrev pub symbol_there : List ℕ → List ℕ → Option Symbol
+symbol_there file name = option_and_then (λ t. symbol_named t.0 t.1 name) (tables_there file)
+
+-- the refusals of a name, in their order
+abbrev pub symbol_rows : List ℕ → List ℕ → List Row
+symbol_rows file name = table_rows file ++ (is_none (symbol_there file name), NoBegin) ∷ []
 
 -- the first refusal that applies, or the value of the symbol; where no refusal applies there is
 -- one, so that the default is never taken

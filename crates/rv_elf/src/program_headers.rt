@@ -13,7 +13,7 @@ use crate::image::Segment;
 use std::alloc::{AllocError, Global};
 
 /// A program header, as far as it is looked at.
-#[derive(Clone, Copy, Debug, PartialEq, Eq)]
+#[derive(Clone, Copy)]
 pub(crate) struct ProgramHeader {
     p_type: u32,
     segment: Segment,

@@ -1,5 +1,6 @@
 //! The section header table, and in it the first symbol table and its strings.
-ghost use Rattle.std.specs.Prelude.{◌≡◌, ◌+◌, ◌*◌, ◌<◌, ◌≤◌, IfSome, IfOk, IsTrue, false, length, MatchOption};
+ghost use Rattle.std.specs.Prelude.{◌≡◌, ◌+◌, ◌*◌, ◌<◌, ◌≤◌, IfSome, IfOk, IsTrue, false};
+ghost use Rattle.std.specs.Prelude.{length, MatchOption};
 ghost use Rattle.std.specs.List.{find, slice_get};
 ghost use Rattle.rv_elf.specs.Fields.{half_at, word_at};
 ghost use Rattle.rv_elf.specs.Sections.{section_at, section, has_bad_sections, symbol_table, string_table, is_past};
@@ -10,7 +11,7 @@ use crate::fields::{
 };
 
 /// A section header, as far as it is looked at (System V ABI, "Sections").
-#[derive(Clone, Copy, Debug, PartialEq, Eq)]
+#[derive(Clone, Copy)]
 pub(crate) struct Section {
     pub(crate) sh_type: u32,
     pub(crate) offset: u32,

@@ -1,30 +1,34 @@
 //! The value of a symbol by its name, and the range of a signature.
-ghost use Rattle.std.specs.Prelude.{◌≡◌, ◌+◌, ◌-◌, ◌%◌, ◌<◌, ◌≤◌, Ok, Err, MatchResult, Option, Some, false, length};
+ghost use Rattle.std.specs.Prelude.{◌≡◌, ◌+◌, ◌-◌, ◌%◌, ◌<◌, ◌≤◌, Ok, Err, IfOk};
+ghost use Rattle.std.specs.Prelude.{MatchResult, Some, length};
 ghost use Rattle.std.specs.Prelude.{option_map, drop};
+ghost use Rattle.rv_elf.specs.Rows.{accepted};
 ghost use Rattle.rv_elf.specs.Image.{IsImageOf};
-ghost use Rattle.rv_elf.specs.Sections.{symbol_at, symbol_named, begins_with, is_named, bytes_of, is_past, HasSections};
-ghost use Rattle.rv_elf.specs.Symbols.{symbol_of, signature_check, is_bad_range};
+ghost use Rattle.rv_elf.specs.Sections.{symbol_entry, symbol_named, begins_with, is_named};
+ghost use Rattle.rv_elf.specs.Symbols.{table_check, tables_there, symbol_of, signature_check, is_bad_range};
 
 use crate::error::ImageError;
-use crate::fields::{ST_NAME, ST_SHNDX, ST_VALUE, half, word};
+use crate::fields::{ST_INFO, ST_NAME, ST_SHNDX, ST_VALUE, half, word};
 use crate::image::Image;
 use crate::sections::{has_bad_sections, string_table, symbol_table};
 use rv_memory::Map;
 
 /// An entry of a symbol table, as far as it is looked at (System V ABI, "Symbol Table").
-#[derive(Clone, Copy, Debug, PartialEq, Eq)]
+#[derive(Clone, Copy)]
 pub(crate) struct Symbol {
     /// Where its name begins in the string table.
-    name: u32,
-    value: u32,
+    pub(crate) name: u32,
+    pub(crate) value: u32,
+    /// What it stands for: 0 (STT_NOTYPE) where that is not said, 2 (STT_FUNC) for a function.
+    pub(crate) kind: u8,
     /// The index of its section, 0 (SHN_UNDEF) where it is not defined.
-    section: u16,
+    pub(crate) section: u16,
 }
 
 /// The bytes of an entry.
-const SYMBOL_SIZE: usize = 16;
+pub(crate) const SYMBOL_SIZE: usize = 16;
 
-const SHN_UNDEF: u16 = 0;
+pub(crate) const SHN_UNDEF: u16 = 0;
 
 /// The most bytes of a signature, 65,536 words.
 const MOST_BYTES: u32 = 0x4_0000;
@@ -39,22 +43,8 @@ pub fn find_symbol(image: &Image, file: &[u8], name: &[u8]) -> Result<u32, Image
     ensures { result ≡ symbol_of file.now name.now }
 {
     let _ = image;
-    if has_bad_sections(file) {
-        return Err(ImageError::SectionTable);
-    }
-    let Some(symbols) = symbol_table(file) else {
-        return Err(ImageError::NoSymbols);
-    };
-    if symbols.is_bad_symbols(file.len()) {
-        return Err(ImageError::SymbolTable);
-    }
-    let Some(strings) = string_table(file, &symbols) else {
-        return Err(ImageError::StringTable);
-    };
-    if strings.is_bad_strings(file.len()) {
-        return Err(ImageError::StringTable);
-    }
-    match value_named(symbols.bytes_in(file), strings.bytes_in(file), name) {
+    let (table, strings) = symbol_tables(file)?;
+    match value_named(table, strings, name) {
         Some(value) => Ok(value),
         None => Err(ImageError::NoBegin),
     }
@@ -81,12 +71,37 @@ fn is_bad_range(begin: u32, end: u32, map: &Map) -> bool
         || begin < end && (!map.in_one(begin, end - begin) || MOST_BYTES < end - begin)
 }
 
+/// The bytes of the first symbol table and of its string table, or the first of their refusals.
+pub(crate) fn symbol_tables(file: &[u8]) -> Result<(&[u8], &[u8]), ImageError>
+    requires { 52 ≤ length file.now }
+    ensures checked { MatchResult result (λ _. table_check file.now ≡ accepted)
+        (λ e. table_check file.now ≡ Err e) }
+    ensures there { IfOk result (λ t. tables_there file.now ≡ Some (t.0.now, t.1.now)) }
+{
+    if has_bad_sections(file) {
+        return Err(ImageError::SectionTable);
+    }
+    let Some(symbols) = symbol_table(file) else {
+        return Err(ImageError::NoSymbols);
+    };
+    if symbols.is_bad_symbols(file.len()) {
+        return Err(ImageError::SymbolTable);
+    }
+    let Some(strings) = string_table(file, &symbols) else {
+        return Err(ImageError::StringTable);
+    };
+    if strings.is_bad_strings(file.len()) {
+        return Err(ImageError::StringTable);
+    }
+    Ok((symbols.bytes_in(file), strings.bytes_in(file)))
+}
+
 // The value of the first defined symbol of a name, over the bytes of a symbol table and its strings.
 fn value_named(table: &[u8], strings: &[u8], name: &[u8]) -> Option<u32>
     ensures { result ≡ option_map (λ s. s.value) (symbol_named table.now strings.now name.now) }
 {
     for k in 0..table.len() / SYMBOL_SIZE {
-        let symbol = symbol_at(table, SYMBOL_SIZE * k);
+        let symbol = symbol_entry(table, SYMBOL_SIZE * k);
         if symbol.is_named(strings, name) {
             return Some(symbol.value);
         }
@@ -94,14 +109,16 @@ fn value_named(table: &[u8], strings: &[u8], name: &[u8]) -> Option<u32>
     None
 }
 
-#[tactic(auto, unfolding(crate::specs::Sections::symbol_at))]
-fn symbol_at(table: &[u8], at: usize) -> Symbol
+/// The entry of a symbol table that begins at a place of its bytes.
+#[tactic(auto, unfolding(crate::specs::Sections::symbol_entry))]
+pub(crate) fn symbol_entry(table: &[u8], at: usize) -> Symbol
     requires { at + 16 ≤ length table.now }
-    ensures { result ≡ symbol_at table.now at }
+    ensures { result ≡ symbol_entry table.now at }
 {
     Symbol {
         name: word(table, at + ST_NAME),
         value: word(table, at + ST_VALUE),
+        kind: table[at + ST_INFO] % 16,
         section: half(table, at + ST_SHNDX),
     }
 }
@@ -114,8 +131,8 @@ impl Symbol {
     }
 }
 
-// The bytes from a place on, none where it is past the end.
-fn tail(bytes: &[u8], at: usize) -> &[u8]
+/// The bytes from a place on, none where it is past the end.
+pub(crate) fn tail(bytes: &[u8], at: usize) -> &[u8]
     ensures { result.now ≡ drop at bytes.now }
 {
     &bytes[at.min(bytes.len())..]

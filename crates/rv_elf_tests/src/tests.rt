@@ -5,6 +5,7 @@ use std::alloc::{AllocError, Global};
 
 mod images;
 mod loading;
+mod places;
 mod symbols;
 
 const MEMORY: Region = Region {

@@ -1,5 +1,6 @@
 -- What a halfword means, row by row of the 16-bit table, and where none of a quadrant fits.
-use Rattle.std.proofs.Common.{◌≡◌, ◌≢◌, ℕ, ◌<◌, ◌+◌, ◌-◌, ◌*◌, ◌^◌, ltb, Some, None, IsTrue, IsFalse, pos, ◌-ℤ◌, refl}
+use Rattle.std.proofs.Common.{◌≡◌, ◌≢◌, ℕ, ◌<◌, ◌+◌, ◌-◌, ◌*◌, ◌^◌, ltb, Some, None}
+use Rattle.std.proofs.Common.{IsTrue, IsFalse, pos, ◌-ℤ◌, refl}
 use Rattle.std.proofs.Common.{inl, inr, arith}
 use Rattle.std.proofs.lemmas.Bool.{ne_eqb, cases_eq, lt-ltb, cond-true}
 use Rattle.rv_isa.specs.Bits.{field, bit, sign_extended}
@@ -31,7 +32,8 @@ pub c_sw : (h : ℕ) → field h 1 0 ≡ 0 → field h 15 13 ≡ 6
 unfolding meaning16 rows16
 c_sw h p q = rw (p, q) refl
 
-pub quadrant_0_else : (h : ℕ) → field h 1 0 ≡ 0 → field h 15 13 ≢ 0 → field h 15 13 ≢ 2 → field h 15 13 ≢ 6
+pub quadrant_0_else : (h : ℕ) → field h 1 0 ≡ 0 → field h 15 13 ≢ 0 → field h 15 13 ≢ 2
+    → field h 15 13 ≢ 6
     → meaning16 set.Imc h ≡ None
 unfolding meaning16 rows16
 quadrant_0_else h p q r s =
@@ -52,12 +54,14 @@ pub c_li : (h : ℕ) → field h 1 0 ≡ 1 → field h 15 13 ≡ 2
 unfolding meaning16 rows16
 c_li h p q = rw (p, q) refl
 
-pub c_addi16sp : (h : ℕ) → field h 1 0 ≡ 1 → field h 15 13 ≡ 3 → field h 11 7 ≡ 2 → immediate_addi16sp h ≢ 0
+pub c_addi16sp : (h : ℕ) → field h 1 0 ≡ 1 → field h 15 13 ≡ 3 → field h 11 7 ≡ 2
+    → immediate_addi16sp h ≢ 0
     → meaning16 set.Imc h ≡ Some (operands op.Addi 2 2 0 (sign_extended 10 (immediate_addi16sp h)))
 unfolding meaning16 rows16
 c_addi16sp h p q r z = rw (p, q, r, ne_eqb (immediate_addi16sp h) 0 z) refl
 
-pub c_addi16sp_of_zero : (h : ℕ) → field h 1 0 ≡ 1 → field h 15 13 ≡ 3 → field h 11 7 ≡ 2 → immediate_addi16sp h ≡ 0
+pub c_addi16sp_of_zero : (h : ℕ) → field h 1 0 ≡ 1 → field h 15 13 ≡ 3 → field h 11 7 ≡ 2
+    → immediate_addi16sp h ≡ 0
     → meaning16 set.Imc h ≡ None
 unfolding meaning16 rows16
 c_addi16sp_of_zero h p q r z = rw (p, q, r, z) refl
@@ -87,27 +91,32 @@ pub c_andi : (h : ℕ) → field h 1 0 ≡ 1 → field h 15 13 ≡ 4 → field h
 unfolding meaning16 rows16
 c_andi h p q r = rw (p, q, r) refl
 
-pub c_sub : (h : ℕ) → field h 1 0 ≡ 1 → field h 15 13 ≡ 4 → field h 11 10 ≡ 3 → field h 12 12 ≡ 0 → field h 6 5 ≡ 0
+pub c_sub : (h : ℕ) → field h 1 0 ≡ 1 → field h 15 13 ≡ 4 → field h 11 10 ≡ 3 → field h 12 12 ≡ 0
+    → field h 6 5 ≡ 0
     → meaning16 set.Imc h ≡ Some (operands op.Sub (short h 9 7) (short h 9 7) (short h 4 2) (pos 0))
 unfolding meaning16 rows16
 c_sub h p q r s t = rw (p, q, r, s, t) refl
 
-pub c_xor : (h : ℕ) → field h 1 0 ≡ 1 → field h 15 13 ≡ 4 → field h 11 10 ≡ 3 → field h 12 12 ≡ 0 → field h 6 5 ≡ 1
+pub c_xor : (h : ℕ) → field h 1 0 ≡ 1 → field h 15 13 ≡ 4 → field h 11 10 ≡ 3 → field h 12 12 ≡ 0
+    → field h 6 5 ≡ 1
     → meaning16 set.Imc h ≡ Some (operands op.Xor (short h 9 7) (short h 9 7) (short h 4 2) (pos 0))
 unfolding meaning16 rows16
 c_xor h p q r s t = rw (p, q, r, s, t) refl
 
-pub c_or : (h : ℕ) → field h 1 0 ≡ 1 → field h 15 13 ≡ 4 → field h 11 10 ≡ 3 → field h 12 12 ≡ 0 → field h 6 5 ≡ 2
+pub c_or : (h : ℕ) → field h 1 0 ≡ 1 → field h 15 13 ≡ 4 → field h 11 10 ≡ 3 → field h 12 12 ≡ 0
+    → field h 6 5 ≡ 2
     → meaning16 set.Imc h ≡ Some (operands op.Or (short h 9 7) (short h 9 7) (short h 4 2) (pos 0))
 unfolding meaning16 rows16
 c_or h p q r s t = rw (p, q, r, s, t) refl
 
-pub c_and : (h : ℕ) → field h 1 0 ≡ 1 → field h 15 13 ≡ 4 → field h 11 10 ≡ 3 → field h 12 12 ≡ 0 → field h 6 5 ≡ 3
+pub c_and : (h : ℕ) → field h 1 0 ≡ 1 → field h 15 13 ≡ 4 → field h 11 10 ≡ 3 → field h 12 12 ≡ 0
+    → field h 6 5 ≡ 3
     → meaning16 set.Imc h ≡ Some (operands op.And (short h 9 7) (short h 9 7) (short h 4 2) (pos 0))
 unfolding meaning16 rows16
 c_and h p q r s t = rw (p, q, r, s, t) refl
 
-pub arithmetic_else : (h : ℕ) → field h 1 0 ≡ 1 → field h 15 13 ≡ 4 → field h 11 10 ≢ 2 → field h 12 12 ≢ 0
+pub arithmetic_else : (h : ℕ) → field h 1 0 ≡ 1 → field h 15 13 ≡ 4 → field h 11 10 ≢ 2
+    → field h 12 12 ≢ 0
     → meaning16 set.Imc h ≡ None
 unfolding meaning16 rows16
 arithmetic_else h p q r s = rw (p, q, ne_eqb (field h 11 10) 2 r, ne_eqb (field h 12 12) 0 s) (grind arith)
@@ -132,7 +141,8 @@ pub c_slli : (h : ℕ) → field h 1 0 ≡ 2 → field h 15 13 ≡ 0 → field h
 unfolding meaning16 rows16
 c_slli h p q r = rw (p, q, r) refl
 
-pub c_slli_with_bit_12 : (h : ℕ) → field h 1 0 ≡ 2 → field h 15 13 ≡ 0 → field h 12 12 ≢ 0 → meaning16 set.Imc h ≡ None
+pub c_slli_with_bit_12 : (h : ℕ) → field h 1 0 ≡ 2 → field h 15 13 ≡ 0 → field h 12 12 ≢ 0
+    → meaning16 set.Imc h ≡ None
 unfolding meaning16 rows16
 c_slli_with_bit_12 h p q r = rw (p, q, ne_eqb (field h 12 12) 0 r) refl
 
@@ -141,16 +151,19 @@ pub c_lwsp : (h : ℕ) → field h 1 0 ≡ 2 → field h 15 13 ≡ 2 → field h
 unfolding meaning16 rows16
 c_lwsp h p q r = rw (p, q, ne_eqb (field h 11 7) 0 r) refl
 
-pub c_lwsp_into_x0 : (h : ℕ) → field h 1 0 ≡ 2 → field h 15 13 ≡ 2 → field h 11 7 ≡ 0 → meaning16 set.Imc h ≡ None
+pub c_lwsp_into_x0 : (h : ℕ) → field h 1 0 ≡ 2 → field h 15 13 ≡ 2 → field h 11 7 ≡ 0
+    → meaning16 set.Imc h ≡ None
 unfolding meaning16 rows16
 c_lwsp_into_x0 h p q r = rw (p, q, r) refl
 
-pub c_jr : (h : ℕ) → field h 1 0 ≡ 2 → field h 15 13 ≡ 4 → field h 12 12 ≡ 0 → field h 11 7 ≢ 0 → field h 6 2 ≡ 0
+pub c_jr : (h : ℕ) → field h 1 0 ≡ 2 → field h 15 13 ≡ 4 → field h 12 12 ≡ 0 → field h 11 7 ≢ 0
+    → field h 6 2 ≡ 0
     → meaning16 set.Imc h ≡ Some (operands op.Jalr 0 (rd h) 0 (pos 0))
 unfolding meaning16 rows16
 c_jr h p q r s t = rw (p, q, r, ne_eqb (field h 11 7) 0 s, t) refl
 
-pub c_jr_x0 : (h : ℕ) → field h 1 0 ≡ 2 → field h 15 13 ≡ 4 → field h 12 12 ≡ 0 → field h 11 7 ≡ 0 → field h 6 2 ≡ 0
+pub c_jr_x0 : (h : ℕ) → field h 1 0 ≡ 2 → field h 15 13 ≡ 4 → field h 12 12 ≡ 0 → field h 11 7 ≡ 0
+    → field h 6 2 ≡ 0
     → meaning16 set.Imc h ≡ None
 unfolding meaning16 rows16
 c_jr_x0 h p q r s t = rw (p, q, r, s, t) refl
@@ -160,12 +173,14 @@ pub c_mv : (h : ℕ) → field h 1 0 ≡ 2 → field h 15 13 ≡ 4 → field h 1
 unfolding meaning16 rows16
 c_mv h p q r s = rw (p, q, r, ne_eqb (field h 6 2) 0 s) refl
 
-pub c_ebreak : (h : ℕ) → field h 1 0 ≡ 2 → field h 15 13 ≡ 4 → field h 12 12 ≡ 1 → field h 11 7 ≡ 0 → field h 6 2 ≡ 0
+pub c_ebreak : (h : ℕ) → field h 1 0 ≡ 2 → field h 15 13 ≡ 4 → field h 12 12 ≡ 1 → field h 11 7 ≡ 0
+    → field h 6 2 ≡ 0
     → meaning16 set.Imc h ≡ Some (operands op.Ebreak 0 0 0 (pos 0))
 unfolding meaning16 rows16
 c_ebreak h p q r s t = rw (p, q, r, s, t) refl
 
-pub c_jalr : (h : ℕ) → field h 1 0 ≡ 2 → field h 15 13 ≡ 4 → field h 12 12 ≡ 1 → field h 11 7 ≢ 0 → field h 6 2 ≡ 0
+pub c_jalr : (h : ℕ) → field h 1 0 ≡ 2 → field h 15 13 ≡ 4 → field h 12 12 ≡ 1 → field h 11 7 ≢ 0
+    → field h 6 2 ≡ 0
     → meaning16 set.Imc h ≡ Some (operands op.Jalr 1 (rd h) 0 (pos 0))
 unfolding meaning16 rows16
 c_jalr h p q r s t = rw (p, q, r, ne_eqb (field h 11 7) 0 s, t) refl
@@ -180,7 +195,8 @@ pub c_swsp : (h : ℕ) → field h 1 0 ≡ 2 → field h 15 13 ≡ 6
 unfolding meaning16 rows16
 c_swsp h p q = rw (p, q) refl
 
-pub quadrant_2_else : (h : ℕ) → field h 1 0 ≡ 2 → field h 15 13 ≢ 0 → field h 15 13 ≢ 2 → field h 15 13 ≢ 4
+pub quadrant_2_else : (h : ℕ) → field h 1 0 ≡ 2 → field h 15 13 ≢ 0 → field h 15 13 ≢ 2
+    → field h 15 13 ≢ 4
     → field h 15 13 ≢ 6 → meaning16 set.Imc h ≡ None
 unfolding meaning16 rows16
 quadrant_2_else h p q r s t =
@@ -192,7 +208,8 @@ quadrant_2_else h p q r s t =
       ne_eqb (field h 15 13) 6 t,
     ) refl
 
-pub quadrant_3 : (h : ℕ) → field h 1 0 ≢ 0 → field h 1 0 ≢ 1 → field h 1 0 ≢ 2 → meaning16 set.Imc h ≡ None
+pub quadrant_3 : (h : ℕ) → field h 1 0 ≢ 0 → field h 1 0 ≢ 1 → field h 1 0 ≢ 2
+    → meaning16 set.Imc h ≡ None
 unfolding meaning16 rows16
 quadrant_3 h p q r = rw (ne_eqb (field h 1 0) 0 p, ne_eqb (field h 1 0) 1 q, ne_eqb (field h 1 0) 2 r) refl
 

@@ -1,5 +1,6 @@
 -- Answers by their paths, and the paths of jobs in order of first use.
-use Rattle.std.proofs.Common.{◌≡◌, ◌∙◌, ◌+◌, ◌<◌, ◌++◌, Bool, true, false, ℕ, zero, suc, List, [], ◌∷◌, Option, Some}
+use Rattle.std.proofs.Common.{◌≡◌, ◌∙◌, ◌+◌, ◌<◌, ◌++◌, Bool, true, false, ℕ, zero, suc, List}
+use Rattle.std.proofs.Common.{[], ◌∷◌, Option, Some}
 use Rattle.std.proofs.Common.{None, refl, ap, sym, length, option_map, cond, arith, subst, get_or, is_some}
 use Rattle.std.specs.Prelude.{unwrap_or}
 use Rattle.std.proofs.Common.{IfSome, option_and_then, map, length-append}
@@ -51,7 +52,8 @@ absent false (Some k) a f ih e = cc
 
 -- ---- paths beside what is kept of them
 
-pub paths-with : (ps : List (List ℕ)) (ks : List Kept) → length ps ≡ length ks → paths_of (answers_with ps ks) ≡ ps
+pub paths-with : (ps : List (List ℕ)) (ks : List Kept) → length ps ≡ length ks
+    → paths_of (answers_with ps ks) ≡ ps
 paths-with [] ks e = refl
 paths-with (p ∷ ps) [] e = absurd (omega arith)
 paths-with (p ∷ ps) (k ∷ ks) e = ap (λ l. p ∷ l) (paths-with ps ks (omega arith))
@@ -68,7 +70,8 @@ with-push : (ps : List (List ℕ)) (ks : List Kept) (p : List ℕ) (k : Kept) �
 with-push [] [] p k e = refl
 with-push [] (x ∷ xs) p k e = absurd (omega arith)
 with-push (q ∷ qs) [] p k e = absurd (omega arith)
-with-push (q ∷ qs) (x ∷ xs) p k e = ap (λ l. record { path = q; kept = x } ∷ l) (with-push qs xs p k (omega arith))
+with-push (q ∷ qs) (x ∷ xs) p k e =
+    ap (λ l. record { path = q; kept = x } ∷ l) (with-push qs xs p k (omega arith))
 
 with-parts : (all : List Answer) → answers_with (paths_of all) (map (λ (a : Answer). a.kept) all) ≡ all
 with-parts [] = refl
@@ -78,7 +81,8 @@ pub parts_whole : (all : List Answer) (ps : List (List ℕ)) (ks : List Kept) �
     → ks ≡ map (λ (a : Answer). a.kept) all → answers_with ps ks ≡ all
 parts_whole all ps ks e f = (λ i. answers_with (sym e i) (f i)) ∙ with-parts all
 
-with-at : (ps : List (List ℕ)) (ks : List Kept) (i : ℕ) (d : Answer) (k : Kept) → length ps ≡ length ks → i < length ks
+with-at : (ps : List (List ℕ)) (ks : List Kept) (i : ℕ) (d : Answer) (k : Kept) → length ps ≡ length ks
+    → i < length ks
     → (get_or (answers_with ps ks) i d).kept ≡ get_or ks i k
 with-at ps [] i d k e l = absurd (omega arith)
 with-at [] (x ∷ xs) i d k e l = absurd (omega arith)
@@ -98,12 +102,14 @@ pub with_path-old : (xs : List (List ℕ)) (p : List ℕ) → is_some (place_in 
 unfolding with_path
 with_path-old xs p e = sym (ap (λ b. cond b xs (xs ++ p ∷ [])) e)
 
-pub with_path-new : (xs : List (List ℕ)) (p : List ℕ) → is_some (place_in xs p) ≡ false → xs ++ p ∷ [] ≡ with_path xs p
+pub with_path-new : (xs : List (List ℕ)) (p : List ℕ) → is_some (place_in xs p) ≡ false
+    → xs ++ p ∷ [] ≡ with_path xs p
 unfolding with_path
 with_path-new xs p e = sym (ap (λ b. cond b xs (xs ++ p ∷ [])) e)
 
 module _ (xs : List (List ℕ)) (p : List ℕ) where
-  found_still : (q : List ℕ) (k : ℕ) (b : Bool) → bytes_eq p q ≡ b → place_in xs p ≡ None → place_in xs q ≡ Some k
+  found_still : (q : List ℕ) (k : ℕ) (b : Bool) → bytes_eq p q ≡ b → place_in xs p ≡ None
+      → place_in xs q ≡ Some k
       → cond b (Some (length xs)) (place_in xs q) ≡ Some k
   found_still q k true e none h = let z : None ≡ Some k = sym none ∙ ap (place_in xs) ((bytes_eq-Decides p q).0 e)
       ∙ h in cc
@@ -141,7 +147,8 @@ never_some None h = refl
 never_some (Some k) h = absurd (h k refl)
 
 -- where the search that puts a path in found no place, it has none
-pub not_placed : (xs : List (List ℕ)) (p : List ℕ) (found old : Option ℕ) → old ≡ place_in xs p → found ≡ old
+pub not_placed : (xs : List (List ℕ)) (p : List ℕ) (found old : Option ℕ) → old ≡ place_in xs p
+    → found ≡ old
     → ((k : ℕ) → found ≡ Some k → ⊥) → place_in xs p ≡ None
 not_placed xs p found old is e never = sym is ∙ sym e ∙ never_some found never
 
@@ -187,7 +194,8 @@ module _ (ps qs : List (List ℕ)) (ks ms : List Kept) (p : List ℕ) (kept : Ke
   asked_kept known is before = subst (AreKept known) (sym grown)
       (All-push (λ (x : Answer). IsKeptOf known x.path x.kept) old (record { path = p; kept = kept }) before is)
 
-  pub asked_faults : (n before after : ℕ) → before ≡ more n (unreadables old) → after ≡ faults_with kept before
+  pub asked_faults : (n before after : ℕ) → before ≡ more n (unreadables old)
+      → after ≡ faults_with kept before
       → after ≡ more n (unreadables (answers_with qs ms))
   asked_faults n before after b f =
       let more_one : unreadables (one_answer old p kept) ≡ unreadables old + cond (is_unreadable kept) 1 0 =
@@ -199,7 +207,8 @@ module _ (ps qs : List (List ℕ)) (ks ms : List Kept) (p : List ℕ) (kept : Ke
 
 -- ---- the places of a job's answers
 
-with_path_if-place : (xs : List (List ℕ)) (o : Option (List ℕ)) (q : List ℕ) (k : ℕ) → place_in xs q ≡ Some k
+with_path_if-place : (xs : List (List ℕ)) (o : Option (List ℕ)) (q : List ℕ) (k : ℕ)
+    → place_in xs q ≡ Some k
     → place_in (with_path_if xs o) q ≡ Some k
 with_path_if-place xs None q k h = h
 with_path_if-place xs (Some p) q k h = keeps_place xs p q k h
@@ -210,13 +219,16 @@ with_job-place xs j q k h =
     with_path_if-place (with_path_if (with_path xs j.image) j.expect_signature) (console_path j.expect_console) q k
     (with_path_if-place (with_path xs j.image) j.expect_signature q k (keeps_place xs j.image q k h))
 
-reference_later : (xs ys : List (List ℕ)) → ((q : List ℕ) (k : ℕ) → place_in xs q ≡ Some k → place_in ys q ≡ Some k)
+reference_later : (xs ys : List (List ℕ))
+    → ((q : List ℕ) (k : ℕ) → place_in xs q ≡ Some k → place_in ys q ≡ Some k)
     → (o : Option (List ℕ)) (r : Option ℕ)
-    → option_map (place_in xs) o ≡ option_map (λ k. Some k) r → option_map (place_in ys) o ≡ option_map (λ k. Some k) r
+    → option_map (place_in xs) o ≡ option_map (λ k. Some k) r
+    → option_map (place_in ys) o ≡ option_map (λ k. Some k) r
 reference_later xs ys still None None e = refl
 reference_later xs ys still None (Some k) e = cc
 reference_later xs ys still (Some q) None e = cc
-reference_later xs ys still (Some q) (Some k) e = let h : place_in xs q ≡ Some k = cc in ap (λ o. Some o) (still q k h)
+reference_later xs ys still (Some q) (Some k) e = let h : place_in xs q ≡ Some k = cc in
+    ap (λ o. Some o) (still q k h)
 
 -- the answers of one job more leave the places of a job as they are
 pub placed_later : (xs : List (List ℕ)) (other job : Job) (at : Places) → ArePlaced xs job at
@@ -232,7 +244,8 @@ placed_later xs other job at h = record {
 
 -- the places of a job, whose paths are asked for one after the other
 pub placed_all : (xs ys zs : List (List ℕ)) (job : Job) (image : ℕ) (reference console : Option ℕ) (p : List ℕ)
-    (r c : Option (List ℕ)) → p ≡ job.image → r ≡ job.expect_signature → c ≡ console_path job.expect_console
+    (r c : Option (List ℕ)) → p ≡ job.image → r ≡ job.expect_signature
+    → c ≡ console_path job.expect_console
     → place_in xs p ≡ Some image
     → ys ≡ with_path_if xs r → option_map (place_in ys) r ≡ option_map (λ k. Some k) reference
     → zs ≡ with_path_if ys c → option_map (place_in zs) c ≡ option_map (λ k. Some k) console
@@ -250,7 +263,8 @@ placed_all xs ys zs job image reference console p r c is_p is_r is_c found grown
 
 -- ---- the answers of a plan
 
-place_within : (xs : List (List ℕ)) (q : List ℕ) (k n : ℕ) → length xs ≡ n → place_in xs q ≡ Some k → k < n
+place_within : (xs : List (List ℕ)) (q : List ℕ) (k n : ℕ) → length xs ≡ n → place_in xs q ≡ Some k
+    → k < n
 place_within xs q k n e is = below_length (place_in xs q) k (length xs) n e (sym is) (place_below xs q)
 
 kept_there : (ps : List (List ℕ)) (ks : List Kept) (q : List ℕ) (k : ℕ) (x : Kept) → length ps ≡ length ks
@@ -284,7 +298,8 @@ module _ (all : List Answer) (ps : List (List ℕ)) (ks : List Kept) (even : len
   same_place : (p : List ℕ) → place_in (paths_of all) p ≡ at → place_in ps p ≡ at
   same_place p placed = ap (λ l. place_in l p) (sym (paths-with ps ks even) ∙ ap paths_of view) ∙ placed
 
-  pub kept_in : (k : ℕ) (x : Kept) (p : List ℕ) → at ≡ Some k → x ≡ get_or ks k x → place_in (paths_of all) p ≡ at
+  pub kept_in : (k : ℕ) (x : Kept) (p : List ℕ) → at ≡ Some k → x ≡ get_or ks k x
+      → place_in (paths_of all) p ≡ at
       → x ≡ kept_for all p
   kept_in k x p is there placed =
       sym (ap (λ (a : List Answer). kept_for a p) (sym view)
@@ -297,7 +312,8 @@ module _ (all : List Answer) (ps : List (List ℕ)) (ks : List Kept) (even : len
 
 -- the place of a path that has an answer is one of theirs
 pub path_below : (all : List Answer) (ps : List (List ℕ)) (ks : List Kept) → length ps ≡ length ks
-    → answers_with ps ks ≡ all → (p : List ℕ) (at : Option ℕ) → place_in ps p ≡ at → IfSome at (λ k. k < length all)
+    → answers_with ps ks ≡ all → (p : List ℕ) (at : Option ℕ) → place_in ps p ≡ at
+    → IfSome at (λ k. k < length all)
 path_below all ps ks even view p at placed =
     subst (λ o. IfSome o (λ k. k < length all)) placed
     (subst (λ n. IfSome (place_in ps p) (λ k. k < n))

@@ -6,7 +6,7 @@ use Rattle.rv_memory.specs.declared.access.Misaligned.{Misaligned}
 use Rattle.rv_jobs.specs.declared.error.What.{What}
 use Rattle.rv_jobs.specs.declared.job.ExpectedEnd.{ExpectedEnd}
 use Rattle.rv_jobs.specs.declared.job.Job.{Job}
-use Rattle.rv_jobs.specs.declared.job_keys.Manner.{Manner}
+use Rattle.rv_jobs.specs.declared.manner.Manner.{Manner}
 use Rattle.rv_jobs.specs.Keys.{has_unknown_key, has_wrong_kind}
 use Rattle.rv_jobs.specs.JobList.{job_in, name_in, image_in, budget_in, place_in, script_in, regions_in, load_in}
 use Rattle.rv_jobs.specs.JobList.{signature_in, exit_in, reference_in, console_in, end_in, same_in, isa_in}

@@ -3,7 +3,7 @@ use Rattle.std.specs.Prelude.{ℕ, List, Result, Ok, is_some}
 use Rattle.toml.specs.Data.{Members}
 use Rattle.rv_jobs.specs.declared.error.What.{What}
 use Rattle.rv_jobs.specs.declared.job.Job.{Job}
-use Rattle.rv_jobs.specs.declared.job_keys.Manner.{Manner}
+use Rattle.rv_jobs.specs.declared.manner.Manner.{Manner}
 use Rattle.rv_jobs.specs.JobList.{script_in, regions_in, load_in, signature_in, exit_in}
 use Rattle.rv_jobs.specs.JobList.{reference_in, console_in}
 use Rattle.rv_jobs.specs.JobList.{end_in, same_in, isa_in, misaligned_in}

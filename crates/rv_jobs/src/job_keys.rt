@@ -1,32 +1,30 @@
 //! A job of a list: its keys in the order of their faults, a function each.
 
-ghost use Rattle.std.specs.Prelude.{◌≡◌, ◌≤◌, ◌<◌, IfOk, IfSome, None, length};
+ghost use Rattle.std.specs.Prelude.{◌≡◌, ◌≤◌, IfOk, None, length};
 ghost use Rattle.hex.specs.Hex.{decode_of};
 ghost use Rattle.toml.specs.View.{view, table_view};
 ghost use Rattle.rv_jobs.specs.Reading.{Gives};
 ghost use Rattle.rv_jobs.specs.Jobs.{IsJob, most_script};
 ghost use Rattle.rv_jobs.specs.JobList.{name_in, image_in, budget_in, limited, from_hex, script_in, load_of};
-ghost use Rattle.rv_jobs.specs.JobList.{load_in, place_in, names_of, same_of, same_in, isa_of, isa_in};
-ghost use Rattle.rv_jobs.specs.JobList.{misaligned_of, misaligned_in, job_in, element_in};
-ghost use Rattle.rv_jobs.specs.JobSteps.{described_in, manner_in};
+ghost use Rattle.rv_jobs.specs.JobList.{load_in, place_in, names_of, job_in, element_in};
+ghost use Rattle.rv_jobs.specs.JobSteps.{described_in};
 ghost use Rattle.std.specs.Prelude.{◌==◌, MatchResult, Ok, Err};
 ghost use Rattle.rv_jobs.specs.declared.error.What.TheVariants.{OutOfMemory};
 
 use crate::earlier_jobs::EarlierJobs;
 use crate::error::What;
-use crate::expected::{console_of, end_of, exit_of, reference_of};
-use crate::job::{ExpectedEnd, Job};
+use crate::expected::{console_of, exit_of, reference_of};
+use crate::job::Job;
 use crate::keys::{number_of, text_of};
 use crate::kinds::{has_unknown_key, has_wrong_kind};
 use crate::limits::{MOST_BUDGET, MOST_SCRIPT};
+use crate::manner::manner_of;
 use crate::regions::regions_of;
 use crate::signature::signature_of;
 use crate::text::{Bytes, Text};
 use crate::texts::{is_name, is_path};
 use hex::FromHexError;
 use rv_elf::LoadAt;
-use rv_isa::Isa;
-use rv_memory::Misaligned;
 use std::alloc::Global;
 use toml::{Table, Value};
 
@@ -103,33 +101,6 @@ fn described(
         same_as: manner.same_as,
         isa: manner.isa,
         misaligned: manner.misaligned,
-    })
-}
-
-/// How a job runs and is to end.
-#[derive(Clone, Copy)]
-struct Manner {
-    expect_end: Option<ExpectedEnd>,
-    same_as: Option<usize>,
-    isa: Isa,
-    misaligned: Misaligned,
-}
-
-#[tactic(auto, unfolding(crate::specs::JobSteps::manner_in))]
-fn manner_of(earlier: &EarlierJobs, table: &Table) -> Result<Manner, What>
-    ensures value { result ≡ manner_in (names_of earlier.now) (table_view table.now) }
-    ensures earlier { IfOk result
-        (λ manner. IfSome manner.same_as (λ place. place < length earlier.now)) }
-{
-    let expect_end = end_of(table)?;
-    let same_as = same_of(earlier, table)?;
-    let isa = isa_of(table)?;
-    let misaligned = misaligned_of(table)?;
-    Ok(Manner {
-        expect_end,
-        same_as,
-        isa,
-        misaligned,
     })
 }
 
@@ -243,67 +214,5 @@ fn load_named(text: &str) -> Result<LoadAt, What>
         Ok(LoadAt::Virtual)
     } else {
         Err(What::Load)
-    }
-}
-
-#[tactic(auto, unfolding(crate::specs::JobList::same_in))]
-fn same_of(earlier: &EarlierJobs, table: &Table) -> Result<Option<usize>, What>
-    ensures value { result ≡ same_in (names_of earlier.now) (table_view table.now) }
-    ensures earlier { IfOk result (λ o. IfSome o (λ k. k < length earlier.now)) }
-{
-    match text_of(table, "same_as") {
-        Some(name) => match earlier.place_of(name) {
-            Some(place) => Ok(Some(place)),
-            None => Err(What::SameAs),
-        },
-        None => Ok(None),
-    }
-}
-
-#[tactic(auto, unfolding(crate::specs::JobList::isa_in))]
-fn isa_of(table: &Table) -> Result<Isa, What>
-    ensures { result ≡ isa_in (table_view table.now) }
-{
-    match text_of(table, "isa") {
-        Some(text) => isa_named(text),
-        None => Ok(Isa::Imc),
-    }
-}
-
-fn isa_named(text: &str) -> Result<Isa, What>
-    ensures { result ≡ isa_of text.now }
-{
-    if text == "rv32i" {
-        Ok(Isa::I)
-    } else if text == "rv32im" {
-        Ok(Isa::Im)
-    } else if text == "rv32ic" {
-        Ok(Isa::Ic)
-    } else if text == "rv32imc" {
-        Ok(Isa::Imc)
-    } else {
-        Err(What::Isa)
-    }
-}
-
-#[tactic(auto, unfolding(crate::specs::JobList::misaligned_in))]
-fn misaligned_of(table: &Table) -> Result<Misaligned, What>
-    ensures { result ≡ misaligned_in (table_view table.now) }
-{
-    match text_of(table, "misaligned") {
-        Some(text) => misaligned_named(text),
-        None => Ok(Misaligned::Fault),
-    }
-}
-
-fn misaligned_named(text: &str) -> Result<Misaligned, What>
-    ensures { result ≡ misaligned_of text.now }
-{
-    if text == "fault" {
-        Ok(Misaligned::Fault)
-    } else if text == "allow" {
-        Ok(Misaligned::Allow)
-    } else {
-        Err(What::Misaligned)
     }
 }

@@ -19,6 +19,7 @@ mod kinds;
 mod law;
 pub mod limits;
 mod list;
+mod manner;
 mod plan;
 mod regions;
 mod signature;

@@ -4,7 +4,9 @@
 mod digits;
 mod files;
 mod images;
+mod symbols;
 
 pub use digits::{BadSample, file_bytes, numbers};
 pub use files::{changed, file, program};
 pub use images::{CHECKSUM, ONE_SEGMENT, SIGNATURE, TWO_SEGMENTS, UPPER, UPPER_STRIPPED};
+pub use symbols::with_symbols;

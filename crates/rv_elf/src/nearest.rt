@@ -1,0 +1,166 @@
+//! The symbol that stands nearest before an address.
+ghost use Rattle.std.specs.Prelude.{◌≡◌, ◌==◌, ◌≤◌, Some, None, IfSome, MatchOption, position, drop};
+ghost use Rattle.std.specs.Prelude.{true};
+ghost use Rattle.std.specs.Option.{option_map_or};
+ghost use Rattle.rv_elf.specs.Image.{IsImageOf};
+ghost use Rattle.rv_elf.specs.Sections.{text_of};
+ghost use Rattle.rv_elf.specs.Nearest.{symbol_at, nearest, candidates, is_candidate, in_one_segment, holds};
+ghost use Rattle.rv_elf.specs.Nearest.{is_nearer, is_function, is_code, has_section, has_name, IsNamesEnd};
+
+use crate::image::{Image, Segment};
+use crate::symbols::{SHN_UNDEF, SYMBOL_SIZE, Symbol, symbol_entry, symbol_tables, tail};
+
+/// A place in code by a symbol.
+#[derive(Clone, Copy)]
+pub struct SymbolAt<'a> {
+    /// The symbol's name, without the zero byte behind it.
+    pub name: &'a [u8],
+    /// How many bytes the place is past the symbol's value.
+    pub offset: u32,
+}
+
+const STT_NOTYPE: u8 = 0;
+
+const STT_FUNC: u8 = 2;
+
+/// The first of the reserved indices of sections.
+const SHN_LORESERVE: u16 = 0xff00;
+
+/// The symbol that an address of an image belongs to: of the functions and untyped symbols of the
+/// file's first symbol table (System V ABI, "Symbol Table") the one of the greatest value that is not
+/// above the address and lies in one loadable segment with it. Of equal values a function goes first,
+/// and then the first in the table. A symbol that has no section of the file, as an absolute value, or
+/// no name, or one that begins with `.` or `$`, is none. There is no answer where
+/// [`find_symbol`](crate::find_symbol) would refuse the tables.
+///
+/// It takes no memory, and its time is that of one pass over the table and one over the strings,
+/// however long the names are: of a symbol it reads the first byte of the name, and only the name of the
+/// answer is looked through.
+pub fn symbol_at<'a>(image: &Image, file: &'a [u8], addr: u32) -> Option<SymbolAt<'a>>
+    requires image { IsImageOf file.now image.now }
+    ensures { MatchOption result (symbol_at image.now file.now addr ≡ None)
+        (λ s. symbol_at image.now file.now addr ≡ Some (s.name.now, s.offset)) }
+{
+    let Ok((table, strings)) = symbol_tables(file) else {
+        return None;
+    };
+    let symbol = nearest(table, strings, image.segments.as_slice(), addr)?;
+    Some(SymbolAt {
+        name: text_of(tail(strings, symbol.name as usize))?,
+        offset: addr - symbol.value,
+    })
+}
+
+// The candidate of a table that no other is nearer than. A symbol that is no nearer than the best so
+// far is not looked at any further.
+fn nearest(table: &[u8], strings: &[u8], segments: &[Segment], addr: u32) -> Option<Symbol>
+    ensures value { result ≡ nearest (candidates segments.now strings.now addr table.now) }
+    ensures below { IfSome result (λ s. s.value ≤ addr) }
+{
+    let end = names_end(strings);
+    let mut best = None;
+    for k in 0..table.len() / SYMBOL_SIZE {
+        let symbol = symbol_entry(table, SYMBOL_SIZE * k);
+        if symbol.improves(best) && symbol.is_candidate(strings, end, segments, addr) {
+            best = Some(symbol);
+        }
+    }
+    best
+}
+
+// The place behind the last zero byte: a name begins at each place before it, and at no other.
+fn names_end(strings: &[u8]) -> usize
+    ensures { IsNamesEnd strings.now result }
+{
+    let mut end = strings.len();
+    while 0 < end && strings[end - 1] != 0 {
+        end -= 1;
+    }
+    end
+}
+
+impl Symbol {
+    // Whether it is nearer than the best so far, if there is one.
+    fn improves(&self, best: Option<Symbol>) -> bool
+        ensures { result ≡ option_map_or (is_nearer self.now) best true }
+    {
+        match best {
+            Some(best) => self.is_nearer(&best),
+            None => true,
+        }
+    }
+
+    fn is_nearer(&self, other: &Symbol) -> bool
+        ensures { result ≡ is_nearer self.now other.now }
+    {
+        other.value < self.value
+            || self.value == other.value && self.is_function() && !other.is_function()
+    }
+
+    // Whether the address may belong to it. There may be 64 segments, so they are asked last.
+    fn is_candidate(&self, strings: &[u8], end: usize, segments: &[Segment], addr: u32) -> bool
+        requires { IsNamesEnd strings.now end }
+        ensures { result ≡ is_candidate segments.now strings.now addr self.now }
+    {
+        self.is_code()
+            && self.has_section()
+            && self.value <= addr
+            && self.has_name(strings, end)
+            && in_one_segment(segments, self.value, addr)
+    }
+
+    fn is_function(&self) -> bool
+        ensures { result ≡ is_function self.now }
+    {
+        self.kind == STT_FUNC
+    }
+
+    fn is_code(&self) -> bool
+        ensures { result ≡ is_code self.now }
+    {
+        self.is_function() || self.kind == STT_NOTYPE
+    }
+
+    fn has_section(&self) -> bool
+        ensures { result ≡ has_section self.now }
+    {
+        SHN_UNDEF < self.section && self.section < SHN_LORESERVE
+    }
+
+    // Its name begins in front of the end of all names, and its first byte is no end, `.` or `$`.
+    fn has_name(&self, strings: &[u8], end: usize) -> bool
+        requires { IsNamesEnd strings.now end }
+        ensures { result ≡ has_name strings.now self.now }
+    {
+        let at = self.name as usize;
+        at < end && strings[at] != 0 && strings[at] != b'.' && strings[at] != b'$'
+    }
+}
+
+fn in_one_segment(segments: &[Segment], one: u32, other: u32) -> bool
+    ensures { result ≡ in_one_segment segments.now one other }
+{
+    segments
+        .iter()
+        .any(|segment| holds(one, segment) && holds(other, segment))
+}
+
+fn holds(addr: u32, segment: &Segment) -> bool
+    ensures { result ≡ holds addr segment.now }
+{
+    segment.vaddr <= addr && u64::from(addr) < u64::from(segment.vaddr) + u64::from(segment.memsz)
+}
+
+// The text that bytes begin with, up to a zero byte.
+fn text_of(bytes: &[u8]) -> Option<&[u8]>
+    ensures { MatchOption result (text_of bytes.now ≡ None) (λ t. text_of bytes.now ≡ Some t.now) }
+{
+    let end = zero_in(bytes)?;
+    Some(&bytes[..end])
+}
+
+fn zero_in(bytes: &[u8]) -> Option<usize>
+    ensures { result ≡ position (λ b. b == 0) bytes.now }
+{
+    bytes.iter().position(|b| *b == 0)
+}
