@@ -3,14 +3,4 @@
 #![tactic(auto)]
 
 #[cfg(test)]
-mod claims_tests;
-#[cfg(test)]
-mod fleet_tests;
-#[cfg(test)]
-mod naming_tests;
-#[cfg(test)]
-mod places_tests;
-#[cfg(test)]
-mod recent_tests;
-#[cfg(test)]
-mod worker_tests;
+mod tests;

@@ -1,24 +1,9 @@
 //! Lists that are refused, by each fault.
-
-use rv_jobs::{What, read_jobs};
-use rv_memory::Misaligned;
-use std::alloc::Global;
-use std::process::Abort;
+use super::{check, fault};
+use rv_jobs::What;
 use std::test::Fail;
 
-/// What is wrong with a list: `job N: NAME`, or `good`.
-pub(crate) fn fault_of(alloc: Global, list: &str) -> Result<String, Fail> {
-    Ok(match read_jobs(alloc, list.as_bytes()) {
-        Ok(_) => String::from_str(alloc, "good")?,
-        Err(error) => {
-            let job = error.job;
-            let name = error.what.name();
-            format!(in alloc; "job {job}: {name}")?
-        }
-    })
-}
-
-/// Rows of a list of one line, and what is wrong with it.
+// Rows of a list of one line, and what is wrong with it.
 const LISTS: &str = "\
 | job 0: no-jobs
 x = 1 | job 0: no-jobs
@@ -35,15 +20,16 @@ job = [{ name = 'a', image = 'b', budget = 3 }, { name = 'a', image = '', budget
 job = [{ name = 'a', image = 'b', budget = 3 }, 5, {}] | job 2: wrong-type
 job = [{ name = 'a', image = 'b' }, { x = 1 }] | job 1: budget
 job = [{ name = 'a', image = 'b', budget = 3 }, { name = 'b', image = 'b', budget = 3, same_as = 'a' }] | good
-job = [{ name = 'a', image = 'b', budget = 3, same_as = 'b' }, { name = 'b', image = 'b', budget = 3 }] | job 1: same-as";
+job = [{ name = 'a', image = 'b', budget = 3, same_as = 'b' }, \
+    { name = 'b', image = 'b', budget = 3 }] | job 1: same-as";
 
-/// Rows of a list behind a key beside `job`, and what is wrong with it.
+// Rows of a list behind a key beside `job`, and what is wrong with it.
 const STRAY: &str = "\
 job = [{ name = 'a', image = 'b', budget = 3 }] | job 0: unknown-key
 job = 5 | job 0: unknown-key
 job = [] | job 0: no-jobs";
 
-/// Rows of the keys of a job behind a good name, image and budget, and what is wrong with it.
+// Rows of the keys of a job behind a good name, image and budget, and what is wrong with it.
 const KEYS: &str = "\
 load = 'physical' | good
 load = 'virtual' | good
@@ -81,7 +67,8 @@ region = [{ base = 0, size = 4294967296 }] | job 1: region
 region = [{ base = 4, size = 4 }, { base = 4, size = 4 }] | job 1: region
 region = [{ base = 4, size = 4 }, { base = 8, size = 4 }] | good
 region = [{ base = 4, size = 4 }, { base = 8, size = 4 }, { base = 12, size = 4 }, { base = 16, size = 4 }] | good
-region = [{ base = 4, size = 4 }, { base = 8, size = 4 }, { base = 12, size = 4 }, { base = 16, size = 4 }, { base = 20, size = 4 }] | job 1: region
+region = [{ base = 4, size = 4 }, { base = 8, size = 4 }, { base = 12, size = 4 }, { base = 16, size = 4 }, \
+    { base = 20, size = 4 }] | job 1: region
 region = [], load = 'x' | job 1: region
 signature = ['a', 'b'] | good
 signature = ['a'] | job 1: signature
@@ -145,7 +132,7 @@ misaligned = 'allow' | good
 misaligned = 'yes' | job 1: misaligned
 misaligned = true | job 1: wrong-type";
 
-/// Rows of the keys of a job.
+// Rows of the keys of a job.
 const JOBS: &str = "\
 image = 'b', budget = 3 | job 1: name
 image = 'b' | job 1: name
@@ -165,40 +152,24 @@ name = 'a', image = 'b', budget = 1000000000 | good
 name = 'a', image = 'b', budget = 1000000001 | job 1: budget
 name = 'a', image = 'b', budget = '3' | job 1: wrong-type";
 
-fn expect_faults(
-    rt: &impl Abort,
-    alloc: Global,
-    rows: &str,
-    before: &str,
-    after: &str,
-) -> Result<(), Fail> {
-    for row in rows.lines() {
-        let (text, fault) = row.split_once('|').unwrap_or(("", ""));
-        let list = format!(in alloc; "{before}{text}{after}")?;
-        let found = fault_of(alloc, list.as_str())?;
-        assert_eq!(rt; found.as_str(), fault.trim(), "{row}");
-    }
+#[test]
+fn faults(rt: HostRuntime) -> Result<(), Fail> {
+    let alloc = rt.alloc();
+    let keys = "job = [{ name = 'a', image = 'b', budget = 3, $ }]";
+    check(&rt, alloc, "fault", "$", LISTS, 16)?;
+    check(&rt, alloc, "fault", "x = 1\n$", STRAY, 3)?;
+    check(&rt, alloc, "fault", "job = [{ $ }]", JOBS, 17)?;
+    check(&rt, alloc, "fault", keys, KEYS, 99)
+}
+
+#[test]
+fn no_text(rt: HostRuntime) -> Result<(), Fail> {
+    let fault = fault(rt.alloc(), &[0xff])?;
+    assert_eq!(&rt; fault.as_str(), "job 0: not-toml");
     Ok(())
 }
 
 #[test]
-fn faults(rt: HostRuntime) -> Result<(), Fail> {
-    let alloc = rt.alloc();
-    expect_faults(&rt, alloc, LISTS, "", "")?;
-    expect_faults(&rt, alloc, STRAY, "x = 1\n", "")?;
-    expect_faults(&rt, alloc, JOBS, "job = [{ ", " }]")?;
-    expect_faults(
-        &rt,
-        alloc,
-        KEYS,
-        "job = [{ name = 'a', image = 'b', budget = 3, ",
-        " }]",
-    )?;
-    let not_text: &[u8] = &[0xff];
-    assert_eq!(&rt;
-        read_jobs(alloc, not_text).err().map(|e| (e.job, e.what)),
-        Some((0, What::NotToml))
-    );
+fn numbers(rt: HostRuntime) {
     assert_eq!(&rt; (What::NotToml as u8, What::Misaligned as u8), (1, 18));
-    Ok(())
 }

@@ -1,0 +1,190 @@
+//! Plans for all jobs and for a choice: which paths are read, and what is kept of each job's.
+ghost use Rattle.std.specs.Prelude.{◌<◌, ◌≤◌, None, length};
+
+use super::{OWN, check, jobs_of};
+use rv_jobs::{JobList, Kept, Plan, ReadError, Store, gather, gather_places, marked_places};
+use std::alloc::{AllocError, Global};
+use std::test::Fail;
+
+/// A store with the files `a`, `b` and `r` of one byte and `A`, `B` and `C` of many, each full of its own name, and one
+/// `l` that is too long. It lists the paths that it was read at.
+#[derive(Drop)]
+struct Files {
+    log: String,
+    faults: u64,
+}
+
+// How many bytes a file has.
+fn length_of(path: &str) -> usize
+    ensures { result ≤ 0x100_0000 }
+{
+    match path {
+        "a" | "b" | "r" => 1,
+        "A" => 65_537,
+        "B" => 1_000_000,
+        "C" => 16_777_216,
+        _ => 0,
+    }
+}
+
+impl Store for Files {
+    ghost contents = { λ _. None };
+
+    ghost faulted = { λ s. s.faults };
+
+    fn read(&mut self, alloc: Global, path: &str) -> Result<Vec<u8>, ReadError> {
+        if self.log.push_str(path).is_err() {
+            return Err(ReadError::OutOfMemory);
+        }
+        if path == "l" {
+            return Err(ReadError::TooLong);
+        }
+        let length = length_of(path);
+        if length == 0 {
+            self.faults = self.faults.saturating_add(1);
+            return Err(ReadError::Unreadable);
+        }
+        let letter = path.bytes().next().unwrap_or(0);
+        vec![in alloc; letter; length].map_err(|_| ReadError::OutOfMemory)
+    }
+
+    fn faults(&self) -> u64 {
+        self.faults
+    }
+}
+
+fn marks_of(alloc: Global, choice: &str) -> Result<Vec<bool>, AllocError> {
+    let mut marks = Vec::new(alloc);
+    for mark in choice.bytes() {
+        marks.push(mark == b'x')?;
+    }
+    Ok(marks)
+}
+
+fn chosen(alloc: Global, jobs: JobList, marks: &[bool], store: &mut Files) -> Result<Plan, Fail> {
+    if marks.len() != jobs.as_slice().len() {
+        return Err("a mark for each job".into());
+    }
+    let places = marked_places(alloc, marks)?;
+    Ok(gather_places(alloc, jobs, places, store)?)
+}
+
+fn plan_of(alloc: Global, list: &str, choice: &str, store: &mut Files) -> Result<Plan, Fail> {
+    let jobs = jobs_of(alloc, list)?;
+    if choice == "all" {
+        return Ok(gather(alloc, jobs, store)?);
+    }
+    chosen(alloc, jobs, &marks_of(alloc, choice)?, store)
+}
+
+// What is kept of a path: nothing, why it has no bytes, its one byte, or how many there are and the last.
+fn tell_kept(text: &mut String, kept: Option<&Kept>) -> Result<(), AllocError> {
+    match kept {
+        Some(Kept::Content(bytes)) => tell_bytes(text, bytes.as_slice()),
+        Some(Kept::Unreadable) => text.push_str(" unreadable"),
+        Some(Kept::TooLong) => text.push_str(" long"),
+        None => text.push_str(" none"),
+    }
+}
+
+fn tell_bytes(text: &mut String, bytes: &[u8]) -> Result<(), AllocError> {
+    let (length, last) = (bytes.len(), bytes.last().copied().unwrap_or(0) as char);
+    if length == 1 {
+        write!(text, " {last}")
+    } else {
+        write!(text, " {length}{last}")
+    }
+}
+
+// A job's name, and what is kept of its image, reference and console.
+fn tell_job(text: &mut String, plan: &Plan, place: usize) -> Result<(), AllocError>
+    requires { place < length plan.now.jobs }
+{
+    let mark = if place == 0 { ':' } else { ',' };
+    let name = plan.job(place).name.as_str();
+    write!(text, "{mark} {name}")?;
+    tell_kept(text, Some(plan.image(place)))?;
+    tell_kept(text, plan.reference(place))?;
+    tell_kept(text, plan.console_reference(place))
+}
+
+// The paths that were read, how many faults the store has, and what is kept of each job's.
+fn told(alloc: Global, plan: &Plan, store: &Files) -> Result<String, AllocError> {
+    let (log, faults) = (store.log.as_str(), store.faults());
+    let mut text = format!(in alloc; "'{log}' {faults} faults")?;
+    for place in 0..plan.jobs() {
+        tell_job(&mut text, plan, place)?;
+    }
+    Ok(text)
+}
+
+// The plan for `all` jobs of a list, or for those that are marked by `x`.
+pub(super) fn told_of(alloc: Global, list: &str, choice: &str) -> Result<String, Fail> {
+    let mut store = Files {
+        log: String::new(alloc),
+        faults: 5,
+    };
+    let plan = plan_of(alloc, list, choice, &mut store)?;
+    Ok(told(alloc, &plan, &store)?)
+}
+
+const PATHS: &str = "job = [
+{ name = 'n0', image = 'b', budget = 1, signature = ['s', 's'], expect_signature = 'r' },
+{ name = 'n1', image = 'a', budget = 1, signature = ['s', 's'], expect_signature = 'b' },
+{ name = 'n2', image = 'b', budget = 1 },
+{ name = 'n3', image = 'l', budget = 1, signature = ['s', 's'], expect_signature = 'x' },
+{ name = 'n4', image = 'r', budget = 1, signature = ['s', 's'], expect_signature = 'l' },
+{ name = 'n5', image = 'x', budget = 1, expect_console_file = 'a' },
+{ name = 'n6', image = 'y', budget = 1, signature = ['s', 's'], expect_signature = 'z', expect_console_file = 'l' }]";
+
+const ALL_PATHS: &str = "\
+plan all | 'bralxyz' 8 faults: n0 b r none, n1 a b none, n2 b none none, n3 long unreadable none, \
+    n4 r long none, n5 unreadable none a, n6 unreadable unreadable long";
+
+#[test]
+fn paths(rt: HostRuntime) -> Result<(), Fail> {
+    check(&rt, rt.alloc(), OWN, PATHS, ALL_PATHS, 1)
+}
+
+const LONG_PATHS: &str = "job = [
+{ name = 'n0', image = 'A', budget = 1, signature = ['s', 's'], expect_signature = 'C' },
+{ name = 'n1', image = 'C', budget = 1, signature = ['s', 's'], expect_signature = 'A' },
+{ name = 'n2', image = 'A', budget = 1, signature = ['s', 's'], expect_signature = 'B' },
+{ name = 'n3', image = 'B', budget = 1, signature = ['s', 's'], expect_signature = 'B' },
+{ name = 'n4', image = 'C', budget = 1 }]";
+
+const LONG_KEPT: &str = "\
+plan all | 'ACB' 5 faults: n0 65537A 16777216C none, n1 16777216C 65537A none, n2 65537A 1000000B none, \
+    n3 1000000B 1000000B none, n4 16777216C none none";
+
+#[test]
+fn long_files_are_read_once(rt: HostRuntime) -> Result<(), Fail> {
+    check(&rt, rt.alloc(), OWN, LONG_PATHS, LONG_KEPT, 1)
+}
+
+const LIST: &str = "job = [
+{ name = 'n0', image = 'b', budget = 1, signature = ['s', 's'], expect_signature = 'r' },
+{ name = 'n1', image = 'a', budget = 1, expect_console_file = 'x' },
+{ name = 'n2', image = 'l', budget = 1, same_as = 'n0' },
+{ name = 'n3', image = 'y', budget = 1, same_as = 'n2' },
+{ name = 'n4', image = 'b', budget = 1, signature = ['s', 's'], expect_signature = 'a' }]";
+
+// The jobs of a choice, each path that was read, and what is kept of each job's image, reference and console.
+const CHOICES: &str = "\
+plan ..... | '' 5 faults: n0 unreadable unreadable none, n1 unreadable none unreadable, n2 unreadable none none, \
+    n3 unreadable none none, n4 unreadable unreadable none
+plan x.... | 'br' 5 faults: n0 b r none, n1 unreadable none unreadable, n2 unreadable none none, \
+    n3 unreadable none none, n4 b unreadable none
+plan ..x.. | 'lbr' 5 faults: n0 b r none, n1 unreadable none unreadable, n2 long none none, \
+    n3 unreadable none none, n4 b unreadable none
+plan ...x. | 'yl' 6 faults: n0 unreadable unreadable none, n1 unreadable none unreadable, n2 long none none, \
+    n3 unreadable none none, n4 unreadable unreadable none
+plan .x..x | 'axb' 6 faults: n0 b unreadable none, n1 a none unreadable, n2 unreadable none none, \
+    n3 unreadable none none, n4 b a none
+plan xxxxx | 'braxly' 7 faults: n0 b r none, n1 a none unreadable, n2 long none none, \
+    n3 unreadable none none, n4 b a none";
+
+#[test]
+fn reads_what_the_rows_need(rt: HostRuntime) -> Result<(), Fail> {
+    check(&rt, rt.alloc(), OWN, LIST, CHOICES, 6)
+}
