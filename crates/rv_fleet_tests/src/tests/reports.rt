@@ -139,5 +139,6 @@ three | 3*five 3 | j0 Exit(5) 2 Unasked [] false, j1 Exit(5) 2 Unasked [] false,
 #[test]
 fn rows_at_their_places(rt: HostRuntime) -> Result<(), Fail> {
     check(&rt, rt.alloc(), "rows no", ROWS, 1)?;
+    check(&rt, rt.alloc(), "rows 1 1", ROWS, 1)?;
     check(&rt, rt.alloc(), "each", ROWS, 1)
 }
