@@ -1,6 +1,5 @@
 //! What rows and reports are made from, and the text that reports have.
 
-use crate::stream_tests::ADD_AND_EXIT;
 use crate::testing::MemorySink;
 use rv_fleet::{
     Outcome, Refusal, Report, Row, RowEnd, Rows, Sink, Verdict, Words, WriteError, flat_row,
@@ -230,6 +229,11 @@ fn keeps_rows(alloc: Global) -> Result<bool, AllocError> {
     let rows = full_report(alloc)?.rows;
     Ok(rows.as_slice().len() == 3 && rows.into_vec().len() == 3)
 }
+
+// Sets x10 to 5 and x17 to 93, then ECALL.
+const ADD_AND_EXIT: [u8; 12] = [
+    0x13, 0x05, 0x50, 0x00, 0x93, 0x08, 0xd0, 0x05, 0x73, 0x00, 0x00, 0x00,
+];
 
 fn runs_into_row(alloc: Global) -> Result<bool, AllocError> {
     let row = flat_row(alloc, &ADD_AND_EXIT, 3)?;
