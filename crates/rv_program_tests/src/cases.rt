@@ -200,6 +200,23 @@ fn wanted(alloc: Global, answer: &str, line: &str) -> Result<String, AllocError>
     expanded(alloc, text.as_str())
 }
 
+fn compare(rt: &impl Abort, line: &str, found: &str, wanted: &str) {
+    assert_eq!(rt; found, wanted, "{line}");
+}
+
+fn check_line(
+    rt: &(impl Abort + Threads + Wait),
+    alloc: Global,
+    ask: &str,
+    answer: &str,
+    line: &str,
+) -> Result<(), Fail> {
+    let wanted = wanted(alloc, answer, line)?;
+    let found = answered(rt, alloc, ask, line)?;
+    compare(rt, line, found.as_str(), wanted.as_str());
+    Ok(())
+}
+
 /// Whether the program, asked by a form, answers by another, for each of so many lines that fill both.
 pub(crate) fn check(
     rt: &(impl Abort + Threads + Wait),
@@ -211,9 +228,7 @@ pub(crate) fn check(
 ) -> Result<(), Fail> {
     assert_eq!(rt; table.lines().count(), lines);
     for line in table.lines() {
-        let found = answered(rt, alloc, ask, line)?;
-        let wanted = wanted(alloc, answer, line)?;
-        assert_eq!(rt; found.as_str(), wanted.as_str(), "{line}");
+        check_line(rt, alloc, ask, answer, line)?;
     }
     Ok(())
 }

@@ -3,9 +3,9 @@
 use crate::cases::check;
 use crate::testing::{MemorySink, answer, cell};
 use rv_files::FileStore;
-use rv_jobs::Store;
+use rv_jobs::{ReadError, Store};
 use samples::{file, numbers};
-use std::alloc::{AllocError, Global};
+use std::alloc::Global;
 use std::fs;
 use std::sync::Wait;
 use std::test::Fail;
@@ -59,95 +59,96 @@ fn runs_image<S: Store>(
     Ok(report.starts_with("job 1 one\nend exit 5\nsteps 2\n"))
 }
 
+fn write_image(rt: &HostRuntime) -> Result<(), Fail> {
+    let image = file(rt.alloc(), "one")?;
+    Ok(fs::write(rt, "image.elf", image)?)
+}
+
 #[test]
 fn runs_a_file(rt: HostRuntime) -> Result<(), Fail> {
-    fs::write(&rt, "image.elf", file(rt.alloc(), "one")?)?;
+    write_image(&rt)?;
     let runs = runs_image(&rt, rt.alloc(), &mut FileStore::new(&rt))?;
     fs::remove_file(&rt, "image.elf")?;
     assert!(rt; runs);
     Ok(())
 }
 
-// What a store over files answers for a path: the number of bytes, or the error; and its faults.
-fn file_answer(rt: &HostRuntime, path: &str) -> Result<String, AllocError> {
+fn error_of(error: ReadError) -> (&'static str, u64) {
+    match error {
+        ReadError::TooLong => ("too long", 0),
+        ReadError::OutOfMemory => ("out of memory", 0),
+        ReadError::Unreadable => ("unreadable", 1),
+    }
+}
+
+// What a store answers for a path, where these bytes may be, and the faults that it then counts.
+fn answer_of(
+    store: &mut impl Store,
+    alloc: Global,
+    path: &str,
+    bytes: &[u8],
+) -> (&'static str, u64) {
+    match store.read(alloc, path) {
+        Ok(read) => {
+            let is_whole = read.as_slice() == bytes;
+            (
+                if is_whole {
+                    "these bytes"
+                } else {
+                    "other bytes"
+                },
+                0,
+            )
+        }
+        Err(error) => error_of(error),
+    }
+}
+
+// Whether a store over files answers so for a path, where these bytes may be, and counts what it cannot read.
+fn is_answered(rt: &HostRuntime, path: &str, bytes: &[u8], wanted: &str) -> bool {
     let mut store = FileStore::new(rt);
-    let answer = store.read(rt.alloc(), path).map(|bytes| bytes.len());
-    let faults = store.faults();
-    format!(in rt.alloc(); "{answer:?} {faults}")
+    let (answer, faults) = answer_of(&mut store, rt.alloc(), path, bytes);
+    answer == wanted && store.faults() == faults
 }
 
-fn write_zeros(rt: &HostRuntime, length: &str) -> Result<(), Fail> {
-    let zeros = vec![in rt.alloc(); 0u8; length.parse::<usize>()?]?;
-    fs::write(rt, "zeros.bin", zeros)?;
-    Ok(())
-}
-
-// What the store answers for a path whose file is then taken away.
-fn last_answer(rt: &HostRuntime, path: &str) -> Result<String, Fail> {
-    let answer = file_answer(rt, path)?;
+// Whether it answers as a line says where these bytes are, and that there is nothing to read once they are taken away.
+fn reads_file(rt: &HostRuntime, line: &str) -> Result<bool, Fail> {
+    let (path, file) = line.split_once('|').unwrap_or(("", ""));
+    let bytes = numbers(rt.alloc(), cell(file, 0))?;
+    fs::write(rt, path, bytes.as_slice())?;
+    let is_there = is_answered(rt, path, &bytes, cell(file, 1));
     fs::remove_file(rt, path)?;
-    Ok(answer)
+    Ok(is_there && is_answered(rt, path, &[], "unreadable"))
 }
 
-fn is_answered(rt: &HostRuntime, path: &str, wanted: &str) -> Result<bool, Fail> {
-    Ok(file_answer(rt, path)?.as_str() == wanted)
-}
-
-// the length of a file, the most, and one byte more | what the store answers
+// No bytes, the most, and one more: the path | the bytes | the answer.
 const LENGTHS: &str = "\
-0 | Ok(0) 0
-16777216 | Ok(16777216) 0
-16777217 | Err(TooLong) 0
+zeros.bin| | these bytes
+zeros.bin| 00*16777216 | these bytes
+zeros.bin| 00*16777217 | too long
 ";
-
-const GONE: &str = "Err(Unreadable) 1";
-
-fn reads_zeros(rt: &HostRuntime, line: &str) -> Result<bool, Fail> {
-    write_zeros(rt, cell(line, 0))?;
-    let is_there = last_answer(rt, "zeros.bin")?.as_str() == cell(line, 1);
-    Ok(is_there && is_answered(rt, "zeros.bin", GONE)?)
-}
 
 #[test]
 fn reads_files(rt: HostRuntime) -> Result<(), Fail> {
     for line in LENGTHS.lines() {
-        assert!(rt; reads_zeros(&rt, line)?, "{line}");
+        assert!(rt; reads_file(&rt, line)?, "{line}");
     }
-    assert!(rt; is_answered(&rt, "no folder/image", GONE)?);
+    assert!(rt; is_answered(&rt, "no folder/image", &[], "unreadable"));
     Ok(())
 }
 
-// The path and the bytes, the first three of which may be a mark of UTF-8.
+// A mark of UTF-8, some pages of bytes and one more, and spaces in a path.
 const WHOLE_FILES: &str = "\
-marked.bin|ef bb bf 5a*2
-page.bin|01 02 03 5a*4094
-pages.bin|01 02 03 5a*8190
- spaced |01 02 03
+marked.bin| ef bb bf 5a*2 | these bytes
+page.bin| 01 02 03 5a*4094 | these bytes
+pages.bin| 01 02 03 5a*8190 | these bytes
+ spaced | 01 02 03 | these bytes
 ";
-
-// Whether a store over files reads these bytes of a path.
-fn has_bytes(rt: &HostRuntime, path: &str, bytes: &[u8]) -> bool {
-    let mut store = FileStore::new(rt);
-    match store.read(rt.alloc(), path) {
-        Ok(read) => read.as_slice() == bytes,
-        Err(_) => false,
-    }
-}
-
-// Whether a store over files reads a file as it is.
-fn is_read_whole(rt: &HostRuntime, line: &str) -> Result<bool, Fail> {
-    let (path, text) = line.split_once('|').unwrap_or(("", ""));
-    let bytes = numbers(rt.alloc(), text)?;
-    fs::write(rt, path, bytes.as_slice())?;
-    let is_whole = has_bytes(rt, path, &bytes);
-    fs::remove_file(rt, path)?;
-    Ok(is_whole)
-}
 
 #[test]
 fn reads_whole_files(rt: HostRuntime) -> Result<(), Fail> {
     for line in WHOLE_FILES.lines() {
-        assert!(rt; is_read_whole(&rt, line)?, "{line}");
+        assert!(rt; reads_file(&rt, line)?, "{line}");
     }
     Ok(())
 }

@@ -42,7 +42,7 @@ const REFUSED: &str = "0;|2|rvfleet: bad words\n|";
 
 #[test]
 fn refuses_bad_words(rt: HostRuntime) -> Result<(), Fail> {
-    check(&rt, rt.alloc(), "all|$_", REFUSED, BAD_WORDS, 30)
+    check(&rt, rt.alloc(), "all|$_", REFUSED, BAD_WORDS, 31)
 }
 
 // An image at a path, with a script.
