@@ -1,19 +1,21 @@
 //! What the store answers for paths, and the store over files.
 
-use crate::sample_store::{SampleStore, told};
-use crate::testing::{MemorySink, answer};
+use crate::cases::check;
+use crate::testing::{MemorySink, answer, cell};
 use rv_files::FileStore;
 use rv_jobs::{ReadError, Store};
-use samples::file;
-use std::alloc::{AllocError, Global};
+use samples::{file, numbers};
+use std::alloc::Global;
 use std::fs;
 use std::sync::Wait;
 use std::test::Fail;
 use std::thread::Threads;
 
-const UNREADABLE: &str = "\
-1;image;|0||job 1 one
-end refused image-unreadable
+const UNREAD: &str = "all|one image --budget 10||image = $0";
+
+const UNREAD_REPORT: &str = "\
+$1;image;|0||job 1 one
+end refused $2
 steps 0
 console -
 signature -
@@ -21,56 +23,26 @@ verdict none
 done 1
 ";
 
-const TOO_LONG: &str = "\
-0;image;|0||job 1 one
-end refused image-too-long
-steps 0
-console -
-signature -
-verdict none
-done 1
+// the file | how many are not found | the refusal
+const UNREAD_FILES: &str = "\
+none | 1 | image-unreadable
+bytes 00*16777217 | 0 | image-too-long
 ";
 
-// the file | the number of the read without memory | what is told
-const ANSWERS: [(&str, u64, &str); 3] = [
-    ("image = none", 0, UNREADABLE),
-    ("image = bytes 00*16777217", 0, TOO_LONG),
-    ("image = none", 1, "0;image;|3|rvfleet: out of memory\n|"),
-];
-
-fn answers(
-    rt: &(impl Threads + Wait),
-    alloc: Global,
-    files: &str,
-    wants_at: u64,
-    wanted: &str,
-) -> Result<bool, Fail> {
-    let mut store = SampleStore::new(alloc, &[], files);
-    store.wants_at = wants_at;
-    let words = "one image --budget 10";
-    let told = told(rt, alloc, words, &mut store, &mut MemorySink::new(alloc))?;
-    Ok(told.as_str() == wanted)
-}
+const NO_MEMORY: &str = "all|one image --budget 10||image = $0|no_memory=1";
 
 #[test]
 fn answers_for_paths(rt: HostRuntime) -> Result<(), Fail> {
-    for (files, wants_at, wanted) in ANSWERS {
-        assert!(rt;
-            answers(&rt, rt.alloc(), files, wants_at, wanted)?,
-            "{wanted}"
-        );
-    }
-    Ok(())
-}
-
-// The most bytes that a store over files reads.
-const MOST_BYTES: usize = 16_777_216;
-
-// What a store over files answers for a path: the number of bytes, or the error; and its faults.
-fn file_answer(rt: &HostRuntime, path: &str) -> (Result<usize, ReadError>, u64) {
-    let mut store = FileStore::new(rt);
-    let answer = store.read(rt.alloc(), path).map(|bytes| bytes.len());
-    (answer, store.faults())
+    let alloc = rt.alloc();
+    check(&rt, alloc, UNREAD, UNREAD_REPORT, UNREAD_FILES, 2)?;
+    check(
+        &rt,
+        alloc,
+        NO_MEMORY,
+        "0;image;|3|rvfleet: out of memory\n|",
+        "none",
+        1,
+    )
 }
 
 // Whether the program runs the image that a store has.
@@ -83,90 +55,100 @@ fn runs_image<S: Store>(
     let mut out = MemorySink::new(alloc);
     let words = "one image.elf --budget 10";
     let answer = answer(rt, alloc, words, store, &mut input, &mut out)?;
-    Ok(
-        answer
-            .as_str()
-            .starts_with("0||job 1 one\nend exit 5\nsteps 2\n"),
-    )
+    let report = answer.as_str().strip_prefix("0||").unwrap_or("");
+    Ok(report.starts_with("job 1 one\nend exit 5\nsteps 2\n"))
+}
+
+fn write_image(rt: &HostRuntime) -> Result<(), Fail> {
+    let image = file(rt.alloc(), "one")?;
+    Ok(fs::write(rt, "image.elf", image)?)
 }
 
 #[test]
 fn runs_a_file(rt: HostRuntime) -> Result<(), Fail> {
-    fs::write(&rt, "image.elf", file(rt.alloc(), "one")?)?;
+    write_image(&rt)?;
     let runs = runs_image(&rt, rt.alloc(), &mut FileStore::new(&rt))?;
     fs::remove_file(&rt, "image.elf")?;
     assert!(rt; runs);
     Ok(())
 }
 
-// What the store answers for a path where such a file was, and where it is no more.
-type FileAnswers = [(Result<usize, ReadError>, u64); 2];
-
-fn answers_of_length(rt: &HostRuntime, length: usize) -> Result<FileAnswers, Fail> {
-    fs::write(rt, "zeros.bin", vec![in rt.alloc(); 0u8; length]?)?;
-    let there = file_answer(rt, "zeros.bin");
-    fs::remove_file(rt, "zeros.bin")?;
-    Ok([there, file_answer(rt, "zeros.bin")])
-}
-
-const GONE: (Result<usize, ReadError>, u64) = (Err(ReadError::Unreadable), 1);
-
-#[test]
-fn reads_files(rt: HostRuntime) -> Result<(), Fail> {
-    assert_eq!(rt; answers_of_length(&rt, 0)?, [(Ok(0), 0), GONE]);
-    assert_eq!(rt;
-        answers_of_length(&rt, MOST_BYTES)?,
-        [(Ok(MOST_BYTES), 0), GONE]
-    );
-    assert_eq!(rt;
-        answers_of_length(&rt, MOST_BYTES + 1)?,
-        [(Err(ReadError::TooLong), 0), GONE]
-    );
-    assert_eq!(rt; file_answer(&rt, "no folder/image"), GONE);
-    Ok(())
-}
-
-// name | length | first bytes
-const WHOLE_FILES: [(&str, usize, [u8; 3]); 4] = [
-    ("marked.bin", 5, [0xef, 0xbb, 0xbf]),
-    ("page.bin", 4_097, [1, 2, 3]),
-    ("pages.bin", 8_193, [1, 2, 3]),
-    (" spaced ", 3, [1, 2, 3]),
-];
-
-fn marked_bytes(alloc: Global, length: usize, first: &[u8]) -> Result<Vec<u8>, AllocError> {
-    let mut bytes = first.to_vec(alloc)?;
-    bytes.resize(length, 0x5a)?;
-    Ok(bytes)
-}
-
-// Whether a store over files reads these bytes of a path.
-fn has_bytes(rt: &HostRuntime, path: &str, bytes: &[u8]) -> bool {
-    let mut store = FileStore::new(rt);
-    match store.read(rt.alloc(), path) {
-        Ok(read) => read.as_slice() == bytes,
-        Err(_) => false,
+fn error_of(error: ReadError) -> (&'static str, u64) {
+    match error {
+        ReadError::TooLong => ("too long", 0),
+        ReadError::OutOfMemory => ("out of memory", 0),
+        ReadError::Unreadable => ("unreadable", 1),
     }
 }
 
-// Whether a store over files reads a file of so many bytes as it is.
-fn is_read_whole(
-    rt: &HostRuntime,
+// What a store answers for a path, where these bytes may be, and the faults that it then counts.
+fn answer_of(
+    store: &mut impl Store,
+    alloc: Global,
     path: &str,
-    length: usize,
-    first: [u8; 3],
-) -> Result<bool, Fail> {
-    let bytes = marked_bytes(rt.alloc(), length, &first)?;
-    fs::write(rt, path, bytes.as_slice())?;
-    let is_whole = has_bytes(rt, path, &bytes);
-    fs::remove_file(rt, path)?;
-    Ok(is_whole)
+    bytes: &[u8],
+) -> (&'static str, u64) {
+    match store.read(alloc, path) {
+        Ok(read) => {
+            let is_whole = read.as_slice() == bytes;
+            (
+                if is_whole {
+                    "these bytes"
+                } else {
+                    "other bytes"
+                },
+                0,
+            )
+        }
+        Err(error) => error_of(error),
+    }
 }
+
+// Whether a store over files answers so for a path, where these bytes may be, and counts what it cannot read.
+fn is_answered(rt: &HostRuntime, path: &str, bytes: &[u8], wanted: &str) -> bool {
+    let mut store = FileStore::new(rt);
+    let (answer, faults) = answer_of(&mut store, rt.alloc(), path, bytes);
+    answer == wanted && store.faults() == faults
+}
+
+// Whether it answers as a line says where these bytes are, and that there is nothing to read once they are taken away.
+fn reads_file(rt: &HostRuntime, line: &str) -> Result<bool, Fail> {
+    let (path, file) = line.split_once('|').unwrap_or(("", ""));
+    let bytes = numbers(rt.alloc(), cell(file, 0))?;
+    fs::write(rt, path, bytes.as_slice())?;
+    let is_there = is_answered(rt, path, &bytes, cell(file, 1));
+    fs::remove_file(rt, path)?;
+    Ok(is_there && is_answered(rt, path, &[], "unreadable"))
+}
+
+// No bytes, the most, and one more: the path | the bytes | the answer.
+const LENGTHS: &str = "\
+zeros.bin| | these bytes
+zeros.bin| 00*16777216 | these bytes
+zeros.bin| 00*16777217 | too long
+";
+
+#[test]
+fn reads_files(rt: HostRuntime) -> Result<(), Fail> {
+    for line in LENGTHS.lines() {
+        assert!(rt; reads_file(&rt, line)?, "{line}");
+    }
+    assert!(rt; is_answered(&rt, "no folder/image", &[], "unreadable"));
+    Ok(())
+}
+
+// A mark of UTF-8, some pages of bytes and one more, and spaces in a path.
+const WHOLE_FILES: &str = "\
+marked.bin| ef bb bf 5a*2 | these bytes
+page.bin| 01 02 03 5a*4094 | these bytes
+pages.bin| 01 02 03 5a*8190 | these bytes
+ spaced | 01 02 03 | these bytes
+";
 
 #[test]
 fn reads_whole_files(rt: HostRuntime) -> Result<(), Fail> {
-    for (path, length, first) in WHOLE_FILES {
-        assert!(rt; is_read_whole(&rt, path, length, first)?, "{path}");
+    for line in WHOLE_FILES.lines() {
+        assert!(rt; reads_file(&rt, line)?, "{line}");
     }
     Ok(())
 }

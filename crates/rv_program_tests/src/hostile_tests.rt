@@ -1,9 +1,9 @@
 //! Files and lists that are cut, and fields at their ends, through the whole program.
 
-use crate::image_tests::runs_elf;
-use crate::list_tests::{refuses_list, runs_job};
-use crate::sample_store::told_of;
-use std::alloc::{AllocError, Global};
+use crate::cases::{answered, check};
+use crate::image_tests::{ONE, ONE_REPORT};
+use crate::list_tests::{JOB, JOB_REPORT};
+use std::alloc::Global;
 use std::sync::Wait;
 use std::test::Fail;
 use std::thread::Threads;
@@ -70,97 +70,54 @@ memory size at its greatest | one 72=ffffffff | 3 | refused segment-map | 0 | -
 
 #[test]
 fn reads_fields_at_their_ends(rt: HostRuntime) -> Result<(), Fail> {
-    for line in FIELDS.lines() {
-        assert!(rt; runs_elf(&rt, rt.alloc(), line)?, "{line}");
-    }
-    Ok(())
+    check(&rt, rt.alloc(), ONE, ONE_REPORT, FIELDS, 56)
 }
 
-// label | file | keys | ending | steps | signature
+// label | file | budget | keys | ending | steps | signature
 const SIGNATURE_FIELDS: &str = "\
-section header offset at 0 | sign 32=00000000 | budget = 100, signature = ['begin_signature', 'end_signature'] | refused no-symbols | 0 | -
-section header offset at its greatest | sign 32=ffffffff | budget = 100, signature = ['begin_signature', 'end_signature'] | refused section-table | 0 | -
-section count at 0 | sign 48=0000 | budget = 100, signature = ['begin_signature', 'end_signature'] | refused section-table | 0 | -
-section count at its greatest | sign 48=ffff | budget = 100, signature = ['begin_signature', 'end_signature'] | refused section-table | 0 | -
-no symbol table | sign 256=00000000 | budget = 100, signature = ['begin_signature', 'end_signature'] | refused no-symbols | 0 | -
-symbol size 0 | sign 288=00000000 | budget = 100, signature = ['begin_signature', 'end_signature'] | refused symbol-table | 0 | -
-part of a symbol | sign 272=00000031 | budget = 100, signature = ['begin_signature', 'end_signature'] | refused symbol-table | 0 | -
-symbols past the file | sign 268=ffffffff | budget = 100, signature = ['begin_signature', 'end_signature'] | refused symbol-table | 0 | -
-no symbols in the table | sign 272=00000000 | budget = 100, signature = ['begin_signature', 'end_signature'] | refused no-begin | 0 | -
-link past the sections | sign 276=ffffffff | budget = 100, signature = ['begin_signature', 'end_signature'] | refused string-table | 0 | -
-no string table | sign 296=00000000 | budget = 100, signature = ['begin_signature', 'end_signature'] | refused string-table | 0 | -
-empty string table | sign 312=00000000 | budget = 100, signature = ['begin_signature', 'end_signature'] | refused no-begin | 0 | -
-begin between two words | sign 152=80000029 | budget = 100, signature = ['begin_signature', 'end_signature'] | refused signature-range | 0 | -
+section header offset at 0 | sign 32=00000000 | 100 | S | refused no-symbols | 0 | -
+section header offset at its greatest | sign 32=ffffffff | 100 | S | refused section-table | 0 | -
+section count at 0 | sign 48=0000 | 100 | S | refused section-table | 0 | -
+section count at its greatest | sign 48=ffff | 100 | S | refused section-table | 0 | -
+no symbol table | sign 256=00000000 | 100 | S | refused no-symbols | 0 | -
+symbol size 0 | sign 288=00000000 | 100 | S | refused symbol-table | 0 | -
+part of a symbol | sign 272=00000031 | 100 | S | refused symbol-table | 0 | -
+symbols past the file | sign 268=ffffffff | 100 | S | refused symbol-table | 0 | -
+no symbols in the table | sign 272=00000000 | 100 | S | refused no-begin | 0 | -
+link past the sections | sign 276=ffffffff | 100 | S | refused string-table | 0 | -
+no string table | sign 296=00000000 | 100 | S | refused string-table | 0 | -
+empty string table | sign 312=00000000 | 100 | S | refused no-begin | 0 | -
+begin between two words | sign 152=80000029 | 100 | S | refused signature-range | 0 | -
 ";
 
 #[test]
 fn reads_fields_of_signatures(rt: HostRuntime) -> Result<(), Fail> {
-    for line in SIGNATURE_FIELDS.lines() {
-        assert!(rt; runs_job(&rt, rt.alloc(), line)?, "{line}");
-    }
-    Ok(())
+    check(&rt, rt.alloc(), JOB, JOB_REPORT, SIGNATURE_FIELDS, 13)
 }
 
-// The bytes of the image with a signature.
-const IMAGE_SIZE: usize = 332;
+// A job for each number of bytes, from 1, that may be left of the image's 332, and behind them one for none.
+const CUTS: &str = "\
+end steps|run jobs --workers 2 --group 3|\
+332 times [[job]]/name = '%'/image = 'sign %'/budget = 100/$0/ + \
+[[job]]/name = '0'/image = 'sign 0'/budget = 100/$0/";
 
-// How an image ends of which so many bytes are left, with its signature or without, and its steps.
-fn cut_ending(left: usize, is_signed: bool) -> &'static str {
-    match left {
-        0..52 => "end refused short-header\nsteps 0\n",
-        52..84 => "end refused program-table\nsteps 0\n",
-        84..132 => "end refused segment-file\nsteps 0\n",
-        132..332 if is_signed => "end refused section-table\nsteps 0\n",
-        _ => "end exit 0\nsteps 9\n",
-    }
-}
+// How each ends, and its steps: cut in the header, in its table, in the segment, behind it, and not at all.
+const CUT_ENDS: &str = "\
+0 + \
+51 times  refused short-header 0 + \
+32 times  refused program-table 0 + \
+48 times  refused segment-file 0 + \
+200 times  $1 +  exit 0 9 refused short-header 0 done 333";
 
-// A list with one job for each number of bytes that may be left of the image.
-fn cut_list(alloc: Global, keys: &str) -> Result<String, AllocError> {
-    let mut list = String::new(alloc);
-    for left in 0..IMAGE_SIZE + 1 {
-        write!(
-            list,
-            "[[job]]\nname = '{left}'\nimage = 'sign {left}'\nbudget = 100\n{keys}\n"
-        )?;
-    }
-    Ok(list)
-}
-
-// Whether each cut ends as it should, after as many steps.
-fn ends_as_cut(report: &str, is_signed: bool) -> bool {
-    let mut left = 0usize;
-    for row in report.split("job ") {
-        let Some((_, ending)) = row.split_once('\n') else {
-            continue;
-        };
-        if !ending.starts_with(cut_ending(left, is_signed)) {
-            return false;
-        }
-        left = left.saturating_add(1);
-    }
-    left == IMAGE_SIZE + 1
-}
-
-fn refuses_cuts(rt: &(impl Threads + Wait), alloc: Global, keys: &str) -> Result<bool, Fail> {
-    let list = cut_list(alloc, keys)?;
-    let told = told_of(
-        rt,
-        alloc,
-        "run jobs --workers 2 --group 3",
-        list.as_bytes(),
-        "",
-    )?;
-    let (_, report) = told.as_str().split_once(";|0||").unwrap_or(("", ""));
-    Ok(ends_as_cut(report, !keys.is_empty()))
-}
+// the signature | how the image ends without its sections, and its steps
+const SIGNATURES: &str = "\
+signature = ['begin_signature', 'end_signature'] | refused section-table 0
+ | exit 0 9
+";
 
 #[test]
 fn refuses_cut_images(rt: HostRuntime) -> Result<(), Fail> {
-    for keys in ["signature = ['begin_signature', 'end_signature']", ""] {
-        assert!(rt; refuses_cuts(&rt, rt.alloc(), keys)?, "{keys}");
-    }
-    Ok(())
+    check(&rt, rt.alloc(), CUTS, CUT_ENDS, SIGNATURES, 2)
 }
 
 const LIST: &str = "[[job]]\nname = \"a\"\nimage = \"b\"\nbudget = 3\n";
@@ -177,19 +134,24 @@ fn cut_fault(left: usize) -> Option<&'static str> {
     }
 }
 
-// Whether a list is read whose image is unreadable.
-fn reads_list(rt: &(impl Threads + Wait), alloc: Global, list: &[u8]) -> Result<bool, Fail> {
-    let told = told_of(rt, alloc, "run jobs", list, "")?;
-    let (_, report) = told.as_str().split_once(";|0||").unwrap_or(("", ""));
-    Ok(report.contains("end refused image-unreadable\n"))
+// Whether a list is refused by this fault, or is read and its image is unreadable.
+fn is_told(told: &str, fault: Option<&str>) -> bool {
+    match fault {
+        Some(fault) => {
+            let found = told.strip_prefix("0;jobs;|2|rvfleet: ").unwrap_or("");
+            found.strip_suffix("\n|") == Some(fault)
+        }
+        None => {
+            let (_, report) = told.split_once(";|0||").unwrap_or(("", ""));
+            report.contains("end refused image-unreadable\n")
+        }
+    }
 }
 
 fn reads_cut_list(rt: &(impl Threads + Wait), alloc: Global, left: usize) -> Result<bool, Fail> {
-    let list = LIST.as_bytes().get(..left).ok_or("42 bytes")?;
-    match cut_fault(left) {
-        Some(fault) => refuses_list(rt, alloc, list, fault),
-        None => reads_list(rt, alloc, list),
-    }
+    let list = LIST.get(..left).ok_or("42 bytes")?;
+    let told = answered(rt, alloc, "all|run jobs|$_", list)?;
+    Ok(is_told(told.as_str(), cut_fault(left)))
 }
 
 #[test]

@@ -1,12 +1,20 @@
 //! Flat images, ELF images and the example firmware, through the whole program.
 
-use crate::sample_store::{raw_answer, told_of};
-use crate::testing::{MemorySink, cell, repeated};
-use samples::{CHECKSUM, UPPER, numbers};
-use std::alloc::Global;
-use std::sync::Wait;
+use crate::cases::check;
 use std::test::Fail;
-use std::thread::Threads;
+
+// The image of a line of these tables, on standard input.
+const FLAT: &str = "answer|raw --budget $2||||$1";
+
+const FLAT_REPORT: &str = "\
+0||job 1 raw
+end $3
+steps $4
+console $5
+signature -
+verdict none
+done 1
+";
 
 // label | numbers | budget | ending | steps | console
 const FLAT_RUNS: &str = "\
@@ -60,60 +68,37 @@ c.j to itself | a001 | 1000 | budget | 1000 | -
 c.jalr links two ahead | 00000097 00c08093 9082 0000 8506 X | 10 | exit 2147483658 | 5 | -
 the largest image | 0001*524287 0013 | 600000 | fault fetch-access pc=800ffffe value=80100000 | 524287 | -
 one byte more | 0001*524287 0013 00 | 600000 | refused image-too-long | 0 | -
-a store over code, and fence.i | 00000297 07000313 00500513 00039a63 00100393 00629523 0000100f fedff06f X | 100 | exit 7 | 11 | -
-a store over code | 00000297 07000313 00500513 00039a63 00100393 00629523 00000013 fedff06f X | 100 | fault stale-code pc=80000008 value=8000000a | 8 | -
-a store of what was there | 00000297 05000313 00500513 00039a63 00100393 00629523 00000013 fedff06f X | 100 | fault stale-code pc=80000008 value=8000000a | 8 | -
+a store over code, and fence.i | 00000297 07000313 00500513 00039a63 00100393 00629523 0000100f fedff06f X | 100 | \
+exit 7 | 11 | -
+a store over code | 00000297 07000313 00500513 00039a63 00100393 00629523 00000013 fedff06f X | 100 | \
+fault stale-code pc=80000008 value=8000000a | 8 | -
+a store of what was there | 00000297 05000313 00500513 00039a63 00100393 00629523 00000013 fedff06f X | 100 | \
+fault stale-code pc=80000008 value=8000000a | 8 | -
 a byte of the console | 100002b7 00028503 | 10 | fault load-access pc=80000004 value=10000000 | 1 | -
 a full console | 100002b7 0002a023 ffdff06f | 200000 | fault console-full pc=80000004 value=00000000 | 131073 | 0*131072
 the console but for a byte | 100002b7 0002a023 ffdff06f | 131070 | budget | 131070 | 0*131070
 one byte of the console | 100002b7 04100513 00a2a023 | 10 | fault illegal pc=8000000c value=00000000 | 3 | 41
 ";
 
-/// The report of one job without a signature; of the console `0*3` stands for 000.
-pub(crate) fn report_of(
-    alloc: Global,
-    name: &str,
-    ending: &str,
-    steps: &str,
-    console: &str,
-) -> Result<String, Fail> {
-    let (part, count) = console.split_once('*').unwrap_or((console, "1"));
-    let console = repeated(alloc, part, count.parse::<usize>()?)?;
-    Ok(format!(in alloc;
-        "job 1 {name}\nend {ending}\nsteps {steps}\nconsole {console}\nsignature -\nverdict none\ndone 1\n"
-    )?)
-}
-
-// The program's answer to the flat image of a line of the table.
-fn flat_answer(rt: &(impl Threads + Wait), alloc: Global, line: &str) -> Result<String, Fail> {
-    let bytes = numbers(alloc, cell(line, 1))?;
-    let words = format!(in alloc; "raw --budget {}", cell(line, 2))?;
-    let mut input = bytes.as_slice();
-    raw_answer(
-        rt,
-        alloc,
-        words.as_str(),
-        &mut input,
-        &mut MemorySink::new(alloc),
-    )
-}
-
-// Whether the program answers a flat image as a line of the table says.
-fn runs_flat(rt: &(impl Threads + Wait), alloc: Global, line: &str) -> Result<bool, Fail> {
-    let answer = flat_answer(rt, alloc, line)?;
-    let report = report_of(alloc, "raw", cell(line, 3), cell(line, 4), cell(line, 5))?;
-    Ok(answer.as_str().strip_prefix("0||") == Some(report.as_str()))
-}
-
 #[test]
 fn runs_flat_images(rt: HostRuntime) -> Result<(), Fail> {
-    for line in FLAT_RUNS.lines() {
-        assert!(rt; runs_flat(&rt, rt.alloc(), line)?, "{line}");
-    }
-    Ok(())
+    check(&rt, rt.alloc(), FLAT, FLAT_REPORT, FLAT_RUNS, 57)
 }
 
-// label | file | budget | ending | steps | console | input
+/// The image of a line of these tables, whose path is read once.
+pub(crate) const ONE: &str = "all|one image --budget $2||image = $1";
+
+pub(crate) const ONE_REPORT: &str = "\
+0;image;|0||job 1 one
+end $3
+steps $4
+console $5
+signature -
+verdict none
+done 1
+";
+
+// label | file | budget, and the input where there is some | ending | steps | console
 const ONE_RUNS: &str = "\
 exit | one | 10 | exit 5 | 2 | -
 no byte | one 0 | 3 | refused short-header | 0 | -
@@ -143,77 +128,33 @@ the word at its physical address | two | 10 | exit 0 | 3 | -
 an overlap | two 96=80000008 | 10 | refused segment-overlap | 0 | -
 no overlap | two 96=80000010 | 10 | exit 0 | 3 | -
 another type | two 84=70000003 88=ffffffff | 10 | exit 0 | 3 | -
-echo to the end | code 100002b7 0002a503 00a2a023 0002a503 00a2a023 0002a503 X | 100 | exit 4294967295 | 7 | 4142 | 4142
-bytes left | code 100002b7 0042a503 X | 100 | exit 2 | 3 | - | 4142
-upper case digits | code 100002b7 0002a503 X | 100 | exit 175 | 3 | - | aF
+echo to the end | code 100002b7 0002a503 00a2a023 0002a503 00a2a023 0002a503 X | 100 --input-hex 4142 | \
+exit 4294967295 | 7 | 4142
+bytes left | code 100002b7 0042a503 X | 100 --input-hex 4142 | exit 2 | 3 | -
+upper case digits | code 100002b7 0002a503 X | 100 --input-hex aF | exit 175 | 3 | -
 ";
-
-// What is told of a run of one image, with some input.
-fn told_of_image(
-    rt: &(impl Threads + Wait),
-    alloc: Global,
-    image: &str,
-    budget: &str,
-    input: &str,
-) -> Result<String, Fail> {
-    let files = format!(in alloc; "image = {image}")?;
-    let mut words = format!(in alloc; "one image --budget {budget}")?;
-    if !input.is_empty() {
-        write!(words, " --input-hex {input}")?;
-    }
-    told_of(rt, alloc, words.as_str(), &[], files.as_str())
-}
-
-/// Whether the program answers an ELF image as a line of the table says, and reads its path once.
-pub(crate) fn runs_elf(
-    rt: &(impl Threads + Wait),
-    alloc: Global,
-    line: &str,
-) -> Result<bool, Fail> {
-    let told = told_of_image(rt, alloc, cell(line, 1), cell(line, 2), cell(line, 6))?;
-    let report = report_of(alloc, "one", cell(line, 3), cell(line, 4), cell(line, 5))?;
-    Ok(told.as_str().strip_prefix("0;image;|0||") == Some(report.as_str()))
-}
 
 #[test]
 fn runs_elf_images(rt: HostRuntime) -> Result<(), Fail> {
-    for line in ONE_RUNS.lines() {
-        assert!(rt; runs_elf(&rt, rt.alloc(), line)?, "{line}");
-    }
-    Ok(())
+    check(&rt, rt.alloc(), ONE, ONE_REPORT, ONE_RUNS, 31)
 }
 
-// What the programs print is worked out from their source.
-const FIRMWARE_RUNS: [(&str, &str, &str, &str); 2] = [
-    (
-        UPPER,
-        "48692c207276333221",
-        "end exit 3\n",
-        "console 232048492c2052563332210a\n",
-    ),
-    (
-        CHECKSUM,
-        "313233343536373839",
-        "end exit 0\n",
-        "console 63626634333932360a\n",
-    ),
-];
+const FIRMWARE: &str = "end console|one image --budget 100000 --input-hex $1||image = $0";
 
-fn runs_firmware(
-    rt: &(impl Threads + Wait),
-    alloc: Global,
-    run: (&str, &str, &str, &str),
-) -> Result<bool, Fail> {
-    let (digits, input, ending, console) = run;
-    let image = format!(in alloc; "digits {digits}")?;
-    let told = told_of_image(rt, alloc, image.as_str(), "100000", input)?;
-    Ok(told.as_str().contains(ending) && told.as_str().contains(console))
-}
+// firmware | input | ending | console; what the programs print is worked out from their source.
+const FIRMWARE_RUNS: &str = "\
+upper | 48692c207276333221 | exit 3 | 232048492c2052563332210a
+checksum | 313233343536373839 | exit 0 | 63626634333932360a
+";
 
 #[test]
 fn runs_example_firmware(rt: HostRuntime) -> Result<(), Fail> {
-    for run in FIRMWARE_RUNS {
-        assert!(rt; runs_firmware(&rt, rt.alloc(), run)?, "{}", run.1);
-    }
-    Ok(())
+    check(
+        &rt,
+        rt.alloc(),
+        FIRMWARE,
+        "0 $2 $3 done 1",
+        FIRMWARE_RUNS,
+        2,
+    )
 }

@@ -3,6 +3,8 @@
 #![tactic(auto)]
 
 #[cfg(test)]
+mod cases;
+#[cfg(test)]
 mod expectation_tests;
 #[cfg(test)]
 mod failing_tests;
@@ -28,5 +30,7 @@ mod sample_store;
 mod stream_tests;
 #[cfg(test)]
 mod testing;
+#[cfg(test)]
+mod verdict_tests;
 #[cfg(test)]
 mod word_tests;

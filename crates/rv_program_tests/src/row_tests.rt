@@ -1,6 +1,5 @@
 //! What rows and reports are made from, and the text that reports have.
 
-use crate::stream_tests::ADD_AND_EXIT;
 use crate::testing::MemorySink;
 use rv_fleet::{
     Outcome, Refusal, Report, Row, RowEnd, Rows, Sink, Verdict, Words, WriteError, flat_row,
@@ -12,14 +11,29 @@ use rv_rows::are_same;
 use std::alloc::{AllocError, Global};
 use std::test::Fail;
 
-fn row_of(alloc: Global, ending: RowEnd, steps: u32) -> Result<Row, AllocError> {
+fn signature_of(alloc: Global, words: Option<&[u32]>) -> Result<Option<Words>, AllocError> {
+    match words {
+        Some(words) => Ok(Some(Words::new(words.to_vec(alloc)?))),
+        None => Ok(None),
+    }
+}
+
+fn row_of(
+    alloc: Global,
+    (ending, steps, verdict): (RowEnd, u32, Verdict),
+    console: &[u8],
+    signature: Option<&[u32]>,
+) -> Result<Row, AllocError> {
+    let name = String::from_str(alloc, "a.b_c-d")?;
+    let console = console.to_vec(alloc)?;
+    let signature = signature_of(alloc, signature)?;
     Ok(Row {
-        name: Text::new(String::from_str(alloc, "a.b_c-d")?),
+        name: Text::new(name),
         ending,
         steps,
-        console: Bytes::new(Vec::new(alloc)),
-        signature: None,
-        verdict: Verdict::Unasked,
+        console: Bytes::new(console),
+        signature,
+        verdict,
     })
 }
 
@@ -59,7 +73,7 @@ fault fetch-misaligned pc=80000004 value=00000abc
 fn report_of(alloc: Global, endings: &[RowEnd]) -> Result<Report, AllocError> {
     let mut rows = Vec::new(alloc);
     for ending in endings {
-        rows.push(row_of(alloc, *ending, 12)?)?;
+        rows.push(row_of(alloc, (*ending, 12, Verdict::Unasked), &[], None)?)?;
     }
     Ok(Report {
         rows: Rows::new(rows),
@@ -117,17 +131,14 @@ fn writes_each_ending(rt: HostRuntime) -> Result<(), Fail> {
 
 // Three rows with all that a row may have.
 fn full_report(alloc: Global) -> Result<Report, AllocError> {
-    let mut first = row_of(alloc, RowEnd::Exit(5), 2)?;
-    first.console = Bytes::new([0x41, 0x00, 0xff].to_vec(alloc)?);
-    first.signature = Some(Words::new(Vec::new(alloc)));
-    first.verdict = Verdict::Pass;
-    let mut second = row_of(alloc, RowEnd::Budget, u32::MAX)?;
-    second.signature = Some(Words::new([0x8000_0000, 0x1f].to_vec(alloc)?));
-    second.verdict = Verdict::Fail;
+    let first = (RowEnd::Exit(5), 2, Verdict::Pass);
+    let second = (RowEnd::Budget, u32::MAX, Verdict::Fail);
+    let third = (RowEnd::Exit(1), 0, Verdict::Unasked);
+    let words = [0x8000_0000, 0x1f];
     let mut rows = Vec::new(alloc);
-    rows.push(first)?;
-    rows.push(second)?;
-    rows.push(row_of(alloc, RowEnd::Exit(1), 0)?)?;
+    rows.push(row_of(alloc, first, &[0x41, 0x00, 0xff], Some(&[]))?)?;
+    rows.push(row_of(alloc, second, &[], Some(&words))?)?;
+    rows.push(row_of(alloc, third, &[], None)?)?;
     Ok(Report {
         rows: Rows::new(rows),
     })
@@ -230,6 +241,11 @@ fn keeps_rows(alloc: Global) -> Result<bool, AllocError> {
     let rows = full_report(alloc)?.rows;
     Ok(rows.as_slice().len() == 3 && rows.into_vec().len() == 3)
 }
+
+// Sets x10 to 5 and x17 to 93, then ECALL.
+const ADD_AND_EXIT: [u8; 12] = [
+    0x13, 0x05, 0x50, 0x00, 0x93, 0x08, 0xd0, 0x05, 0x73, 0x00, 0x00, 0x00,
+];
 
 fn runs_into_row(alloc: Global) -> Result<bool, AllocError> {
     let row = flat_row(alloc, &ADD_AND_EXIT, 3)?;

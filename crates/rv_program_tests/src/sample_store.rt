@@ -4,7 +4,7 @@ ghost use Rattle.std.specs.Prelude.{None};
 
 use crate::testing::{MemorySink, answer};
 use rv_jobs::{ReadError, Store};
-use samples::{BadSample, file, file_bytes, numbers};
+use samples::{BadSample, CHECKSUM, UPPER, file, file_bytes, numbers};
 use std::alloc::Global;
 use std::io::Read;
 use std::sync::Wait;
@@ -12,8 +12,9 @@ use std::test::Fail;
 use std::thread::Threads;
 
 /// A store that makes each file when it is read. A line of `files`, as `image = one 51`, tells what stands at a path;
-/// where none does, the list stands at `jobs`, and another path tells it itself: `bytes` and numbers, `digits`, or an
-/// image by a line of words. What stands behind a `#` tells nothing. Nothing is at `missing`, and `long` is too long.
+/// where none does, the list stands at `jobs`, and another path tells it itself: `bytes` and numbers, `upper` or
+/// `checksum` for the example firmware, or an image by a line of words. What stands behind a `#` tells nothing. Nothing
+/// is at `missing`, and `long` is too long.
 #[derive(Drop)]
 pub(crate) struct SampleStore<'a> {
     list: &'a [u8],
@@ -22,22 +23,27 @@ pub(crate) struct SampleStore<'a> {
     log: String,
     reads: u64,
     faults: u64,
-    /// The number of the read that finds no file, from 1.
-    pub(crate) fails_at: u64,
-    /// The number of the read that has no memory, from 1.
-    pub(crate) wants_at: u64,
+    // The numbers of the read that finds no file and of that which has no memory, from 1.
+    fails_at: u64,
+    wants_at: u64,
 }
 
 impl<'a> SampleStore<'a> {
-    pub(crate) fn new(alloc: Global, list: &'a [u8], files: &'a str) -> SampleStore<'a> {
+    /// A store of a list and files, and the numbers of the reads that find no file and no memory.
+    pub(crate) fn failing(
+        alloc: Global,
+        list: &'a [u8],
+        files: &'a str,
+        (fails_at, wants_at): (u64, u64),
+    ) -> SampleStore<'a> {
         SampleStore {
             list,
             files,
             log: String::new(alloc),
             reads: 0,
             faults: 0,
-            fails_at: 0,
-            wants_at: 0,
+            fails_at,
+            wants_at,
         }
     }
 
@@ -73,7 +79,8 @@ fn bytes_of(alloc: Global, sample: &str) -> Result<Vec<u8>, BadSample> {
         "long" => Ok(vec![in alloc; 0x30; ONE_TOO_MANY]?),
         "bytes" if text.is_empty() => Ok(Vec::new(alloc)),
         "bytes" => numbers(alloc, text),
-        "digits" => file_bytes(alloc, text),
+        "upper" => file_bytes(alloc, UPPER),
+        "checksum" => file_bytes(alloc, CHECKSUM),
         _ => file(alloc, sample),
     }
 }
@@ -104,51 +111,18 @@ impl<'a> Store for SampleStore<'a> {
     }
 }
 
-/// The number of faults and the paths that are read, each with a semicolon behind it, a bar, and the program's answer.
-pub(crate) fn told(
+/// The puts into the sink and its failures, a bar, the number of faults and the paths that are read, each with a
+/// semicolon behind it, a bar, and the program's answer.
+pub(crate) fn told<I: Read>(
     rt: &(impl Threads + Wait),
     alloc: Global,
     words: &str,
     store: &mut SampleStore<'_>,
-    out: &mut MemorySink,
-) -> Result<String, Fail> {
-    let mut input: &[u8] = &[];
-    let text = answer(rt, alloc, words, store, &mut input, out)?;
-    Ok(format!(in alloc; "{};{}|{text}", store.faults, store.log.as_str())?)
-}
-
-/// The same for a list and files.
-pub(crate) fn told_of(
-    rt: &(impl Threads + Wait),
-    alloc: Global,
-    words: &str,
-    list: &[u8],
-    files: &str,
-) -> Result<String, Fail> {
-    let mut store = SampleStore::new(alloc, list, files);
-    told(rt, alloc, words, &mut store, &mut MemorySink::new(alloc))
-}
-
-/// The program's answer where it reads no file.
-pub(crate) fn raw_answer<I: Read>(
-    rt: &(impl Threads + Wait),
-    alloc: Global,
-    words: &str,
     input: &mut I,
     out: &mut MemorySink,
 ) -> Result<String, Fail> {
-    answer(
-        rt,
-        alloc,
-        words,
-        &mut SampleStore::new(alloc, &[], ""),
-        input,
-        out,
-    )
-}
-
-/// The paths that were read, each with a semicolon behind it.
-pub(crate) fn paths_of(told: &str) -> &str {
-    let (read, _) = told.split_once('|').unwrap_or(("", ""));
-    read.split_once(';').unwrap_or(("", "")).1
+    let text = answer(rt, alloc, words, store, input, out)?;
+    let (puts, failures) = (out.puts, out.failures);
+    let (faults, paths) = (store.faults, store.log.as_str());
+    Ok(format!(in alloc; "{puts} {failures}|{faults};{paths}|{text}")?)
 }

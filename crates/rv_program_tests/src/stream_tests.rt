@@ -1,7 +1,9 @@
 //! Input that comes and output that goes in parts, and streams that fail.
 
-use crate::sample_store::{SampleStore, raw_answer};
-use crate::testing::{MemorySink, SlowReader, status_of};
+use crate::cases::check;
+use crate::failing_tests::stops_at;
+use crate::sample_store::SampleStore;
+use crate::testing::{MemoryReader, MemorySink, status_of};
 use rv_files::{StreamSink, read_at_most};
 use rv_fleet::{Sink, put_all};
 use rv_program::{RunError, ScriptError, read_script, run_raw};
@@ -49,10 +51,11 @@ impl Write for CountingWriter {
     }
 }
 
-pub(crate) const RAW_WORDS: &str = "raw --budget 3";
+// A flat image that sets x10 to 5 and exits, from a reader that gives a byte a read.
+const SLOW: &str = "puts|raw --budget 3|||read_most=1 $1|00500513 X";
 
-const RAW_ANSWER: &str = "\
-0||job 1 raw
+const RAW_REPORT: &str = "\
+job 1 raw
 end exit 5
 steps 2
 console -
@@ -61,59 +64,44 @@ verdict none
 done 1
 ";
 
-// Sets x10 to 5 and x17 to 93, then ECALL.
-pub(crate) const ADD_AND_EXIT: [u8; 12] = [
-    0x13, 0x05, 0x50, 0x00, 0x93, 0x08, 0xd0, 0x05, 0x73, 0x00, 0x00, 0x00,
-];
+// The report, behind the number of puts.
+const RAW_ANSWER: &str = "\
+$2 0|0;|0||job 1 raw
+end exit 5
+steps 2
+console -
+signature -
+verdict none
+done 1
+";
 
-// The program's answer to a flat image that a slow reader gives, into a sink.
-fn slow_answer(
-    rt: &(impl Threads + Wait),
-    alloc: Global,
-    count: usize,
-    fails: bool,
-    out: &mut MemorySink,
-) -> Result<String, Fail> {
-    let bytes = ADD_AND_EXIT.get(..count).ok_or("12 bytes")?;
-    raw_answer(rt, alloc, RAW_WORDS, &mut SlowReader { bytes, fails }, out)
-}
-
-// Whether that is the answer, into puts of so many bytes.
-fn is_answered(
-    rt: &(impl Threads + Wait),
-    alloc: Global,
-    count: usize,
-    fails: bool,
-    most: usize,
-    wanted: &str,
-) -> Result<bool, Fail> {
-    let mut out = MemorySink::failing(alloc, most, 0);
-    Ok(slow_answer(rt, alloc, count, fails, &mut out)?.as_str() == wanted)
-}
-
-// how many bytes are read | whether the next read fails | the most bytes of a put | the answer
-const SLOW: [(usize, bool, usize, &str); 3] = [
-    (12, false, usize::MAX, RAW_ANSWER),
-    (4, true, usize::MAX, "3|rvfleet: read failed\n|"),
-    (12, false, 1, RAW_ANSWER),
-];
+// label | the most bytes of a put | the number of puts
+const PUTS: &str = "\
+in one put | | 1
+a byte a put | put_most=1 | 71
+";
 
 #[test]
 fn reads_and_writes_in_parts(rt: HostRuntime) -> Result<(), Fail> {
-    for (count, fails, most, wanted) in SLOW {
-        assert!(rt;
-            is_answered(&rt, rt.alloc(), count, fails, most, wanted)?,
-            "{count}, {most}"
-        );
-    }
-    Ok(())
+    let alloc = rt.alloc();
+    check(&rt, alloc, SLOW, RAW_ANSWER, PUTS, 2)?;
+    let broken_off = "answer|raw --budget 3|||read_most=1 read_fails=1|$_";
+    check(
+        &rt,
+        alloc,
+        broken_off,
+        "3|rvfleet: read failed\n|",
+        "00500513",
+        1,
+    )
 }
 
 // The error of a run of one byte behind which the read fails, and the number of puts.
 fn failed_run(alloc: Global) -> (Result<(), RunError>, u64) {
     let mut out = MemorySink::new(alloc);
-    let mut input = SlowReader {
+    let mut input = MemoryReader {
         bytes: &[0x13],
+        most: 1,
         fails: true,
     };
     (run_raw(alloc, &mut input, &mut out, 3), out.puts)
@@ -146,28 +134,22 @@ fn reads_no_further_than_it_needs(rt: HostRuntime) -> Result<(), Fail> {
     Ok(())
 }
 
-// Whether a put that fails leaves the text of the puts before it, ten bytes each.
-fn stops_at(rt: &(impl Threads + Wait), alloc: Global, fails_at: u64) -> Result<bool, Fail> {
-    let mut out = MemorySink::failing(alloc, 10, fails_at);
-    let cut = slow_answer(rt, alloc, 12, false, &mut out)?;
-    let taken = (fails_at as usize).saturating_sub(1).saturating_mul(10);
-    let is_counted = (out.puts, out.failures) == (fails_at, 1);
-    let text = RAW_ANSWER.strip_prefix("0||").unwrap_or("").get(..taken);
-    Ok(is_counted && cut.as_str().strip_prefix("3|rvfleet: write failed\n|") == text)
-}
-
 // The report has 71 bytes, so ten bytes a put make eight puts.
 #[test]
 fn stops_at_each_put(rt: HostRuntime) -> Result<(), Fail> {
     for fails_at in 1..9 {
-        assert!(rt; stops_at(&rt, rt.alloc(), fails_at)?, "{fails_at}");
+        let case = (SLOW, "raw", "0;", RAW_REPORT);
+        assert!(rt;
+            stops_at(&rt, rt.alloc(), case, 10, fails_at)?,
+            "{fails_at}"
+        );
     }
     Ok(())
 }
 
 // The status, and the failures of the line's sink, where its first put fails and no path has a file.
 fn status_without_line(rt: &(impl Threads + Wait), alloc: Global, words: &[&str]) -> (u8, u64) {
-    let mut store = SampleStore::new(alloc, &[], "jobs = missing");
+    let mut store = SampleStore::failing(alloc, &[], "jobs = missing", (0, 0));
     let mut input: &[u8] = &[];
     let mut out = MemorySink::new(alloc);
     let mut errors = MemorySink::failing(alloc, 10, 1);

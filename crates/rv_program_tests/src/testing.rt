@@ -61,47 +61,30 @@ impl Sink for MemorySink {
     }
 }
 
-/// A reader that gives one byte a read, and fails at its end where it is told to.
+/// A reader that gives so many bytes a read at most, and fails at its end where it is told to.
 #[derive(Drop)]
-pub(crate) struct SlowReader<'a> {
+pub(crate) struct MemoryReader<'a> {
     pub(crate) bytes: &'a [u8],
+    pub(crate) most: usize,
     pub(crate) fails: bool,
 }
 
-impl<'a> Read for SlowReader<'a> {
+impl<'a> Read for MemoryReader<'a> {
     fn read(&mut self, buffer: &mut [u8]) -> io::Result<usize> {
-        let Some((first, rest)) = self.bytes.split_first() else {
-            return if self.fails {
-                Err(io::ErrorKind::Other.into())
-            } else {
-                Ok(0)
-            };
-        };
-        let Some(room) = buffer.first_mut() else {
-            return Ok(0);
-        };
-        *room = *first;
-        self.bytes = rest;
-        Ok(1)
+        let count = self.bytes.len().min(buffer.len()).min(self.most);
+        if count == 0 && self.fails {
+            return Err(io::ErrorKind::Other.into());
+        }
+        let (given, left) = self.bytes.split_at(count);
+        buffer[..count].copy_from_slice(given);
+        self.bytes = left;
+        Ok(count)
     }
 }
 
 /// A cell of a line of a table, from 0, without the spaces around it.
 pub(crate) fn cell(line: &str, place: usize) -> &str {
-    for (at, text) in line.split('|').enumerate() {
-        if at == place {
-            return text.trim();
-        }
-    }
-    ""
-}
-
-pub(crate) fn repeated(alloc: Global, part: &str, count: usize) -> Result<String, AllocError> {
-    let mut text = String::new(alloc);
-    for _ in 0..count {
-        text.push_str(part)?;
-    }
-    Ok(text)
+    line.split('|').nth(place).unwrap_or("").trim()
 }
 
 /// The program's status for its words.

@@ -1,15 +1,10 @@
 //! The words of the command: refused ones, the longest, and help.
 
-use crate::sample_store::told_of;
-use crate::testing::repeated;
-use std::alloc::Global;
-use std::sync::Wait;
+use crate::cases::check;
 use std::test::Fail;
-use std::thread::Threads;
 
 // Words that are refused, a line each; the first has none.
-const BAD_WORDS: &str = "\
-
+const BAD_WORDS: &str = "
 walk
 help
 --version
@@ -45,58 +40,16 @@ run jobs --group x
 // What is told of words that are refused; no path is read.
 const REFUSED: &str = "0;|2|rvfleet: bad words\n|";
 
-fn is_refused(rt: &(impl Threads + Wait), alloc: Global, line: &str) -> Result<bool, Fail> {
-    Ok(told_of(rt, alloc, line, &[], "")?.as_str() == REFUSED)
-}
-
 #[test]
 fn refuses_bad_words(rt: HostRuntime) -> Result<(), Fail> {
-    for line in BAD_WORDS.lines() {
-        assert!(rt; is_refused(&rt, rt.alloc(), line)?, "{line}");
-    }
-    Ok(())
+    check(&rt, rt.alloc(), "all|$_", REFUSED, BAD_WORDS, 31)
 }
 
-// What is told of the words of a run of an image at a path, with a script of so many bytes.
-fn told_of_image(
-    rt: &(impl Threads + Wait),
-    alloc: Global,
-    path: &str,
-    script: usize,
-) -> Result<String, Fail> {
-    let digits = repeated(alloc, "4f", script)?;
-    let words = format!(in alloc; "one {path} --budget 10 --input-hex {digits}")?;
-    let files = format!(in alloc; "{path} = code 100002b7 0042a503 X")?;
-    told_of(rt, alloc, words.as_str(), &[], files.as_str())
-}
-
-// What is told of the words of a run of the list at a path where no file is.
-fn told_of_list(rt: &(impl Threads + Wait), alloc: Global, path: &str) -> Result<String, Fail> {
-    let words = format!(in alloc; "run {path}")?;
-    told_of(rt, alloc, words.as_str(), &[], "")
-}
-
-// Whether this is told, behind the path where one is read, of a path of so many letters: of an image with a script of
-// so many bytes, or of a list.
-fn tells_of_path(
-    rt: &(impl Threads + Wait),
-    alloc: Global,
-    letters: usize,
-    script: Option<usize>,
-    wanted: &str,
-) -> Result<bool, Fail> {
-    let path = repeated(alloc, "a", letters)?;
-    let path = path.as_str();
-    let told = match script {
-        Some(bytes) => told_of_image(rt, alloc, path, bytes)?,
-        None => told_of_list(rt, alloc, path)?,
-    };
-    let told = told.as_str();
-    Ok(told.split_once(path).unwrap_or(("", told)).1 == wanted)
-}
+// An image at a path, with a script.
+const SCRIPT: &str = "all|one $0 --budget 10 --input-hex $1||$0 = code 100002b7 0042a503 X";
 
 const LONGEST_SCRIPT: &str = "\
-;|0||job 1 one
+0;$0;|0||job 1 one
 end exit 65536
 steps 3
 console -
@@ -105,27 +58,22 @@ verdict none
 done 1
 ";
 
-const LONGEST: [(usize, Option<usize>, &str); 5] = [
-    (4096, Some(65_536), LONGEST_SCRIPT),
-    (5, Some(65_537), REFUSED),
-    (4097, Some(0), REFUSED),
-    (4096, None, ";|3|rvfleet: list unreadable\n|"),
-    (4097, None, REFUSED),
-];
+// A list at a path where no file is.
+const NO_LIST: &str = "all|run $0";
+
+const UNREADABLE: &str = "1;$0;|3|rvfleet: list unreadable\n|";
 
 #[test]
 fn takes_the_longest_words(rt: HostRuntime) -> Result<(), Fail> {
-    for (letters, script, wanted) in LONGEST {
-        assert!(rt;
-            tells_of_path(&rt, rt.alloc(), letters, script, wanted)?,
-            "{letters}"
-        );
-    }
-    Ok(())
+    let alloc = rt.alloc();
+    check(&rt, alloc, SCRIPT, LONGEST_SCRIPT, "a*4096 | 4f*65536", 1)?;
+    check(&rt, alloc, SCRIPT, REFUSED, "a*5 | 4f*65537\na*4097 |", 2)?;
+    check(&rt, alloc, NO_LIST, UNREADABLE, "a*4096", 1)?;
+    check(&rt, alloc, NO_LIST, REFUSED, "a*4097", 1)
 }
 
 const HELP: &str = "\
-Runs RV32IMC firmware images and reports how each run ended
+0;|0||Runs RV32IMC firmware images and reports how each run ended
 
 Usage: rvfleet <COMMAND>
 
@@ -139,7 +87,7 @@ Options:
 ";
 
 const RAW_HELP: &str = "\
-Runs the flat image on standard input, placed at 0x80000000
+0;|0||Runs the flat image on standard input, placed at 0x80000000
 
 Usage: rvfleet raw --budget <N>
 
@@ -149,7 +97,7 @@ Options:
 ";
 
 const ONE_HELP: &str = "\
-Runs one ELF image, placed at its physical addresses
+0;|0||Runs one ELF image, placed at its physical addresses
 
 Usage: rvfleet one [OPTIONS] --budget <N> <IMAGE>
 
@@ -163,7 +111,7 @@ Options:
 ";
 
 const RUN_HELP: &str = "\
-Runs the jobs of a list, and reports one row a job
+0;|0||Runs the jobs of a list, and reports one row a job
 
 Usage: rvfleet run [OPTIONS] <JOBS>
 
@@ -176,29 +124,11 @@ Options:
   -h, --help         Print help
 ";
 
-const HELPS: [(&str, &str); 5] = [
-    ("--help", HELP),
-    ("-h", HELP),
-    ("raw --help", RAW_HELP),
-    ("one --help", ONE_HELP),
-    ("run --help", RUN_HELP),
-];
-
-// Whether words are answered by this help.
-fn is_helped(
-    rt: &(impl Threads + Wait),
-    alloc: Global,
-    line: &str,
-    text: &str,
-) -> Result<bool, Fail> {
-    let told = told_of(rt, alloc, line, &[], "")?;
-    Ok(told.as_str().strip_prefix("0;|0||") == Some(text))
-}
-
 #[test]
 fn shows_help(rt: HostRuntime) -> Result<(), Fail> {
-    for (line, text) in HELPS {
-        assert!(rt; is_helped(&rt, rt.alloc(), line, text)?, "{line}");
-    }
-    Ok(())
+    let alloc = rt.alloc();
+    check(&rt, alloc, "all|$_", HELP, "--help\n-h", 2)?;
+    check(&rt, alloc, "all|$_", RAW_HELP, "raw --help", 1)?;
+    check(&rt, alloc, "all|$_", ONE_HELP, "one --help", 1)?;
+    check(&rt, alloc, "all|$_", RUN_HELP, "run --help", 1)
 }

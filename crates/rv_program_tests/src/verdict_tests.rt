@@ -1,0 +1,122 @@
+//! Verdicts on the jobs of lists.
+
+use crate::cases::check;
+use std::test::Fail;
+
+// Jobs by the files that they name: `lines` holds the signature, and `long` is too long.
+const VERDICT: &str = "\
+verdict|run jobs --workers 2|job = [$1]|
+a.elf = one
+f.elf = code 9002
+cut.elf = one 51
+s.elf = sign
+lines = bytes 38 30*7 0a 66*8 0a
+cut lines = bytes 38 30*7 0a 66*8
+empty = bytes
+six = code 00600513 X
+greatest = code fff00513 X
+late break = code 0001 9002
+illegal = code 0000
+put A = code 100002b7 04100513 00a2a023 00000513 X
+put B = code 100002b7 04200513 00a2a023 00000513 X
+";
+
+// label | jobs, ` S` for the signature's names | the status and the verdicts
+const VERDICTS: &str = "\
+reference | {name = '0', image = 's.elf', budget = 100, S, expect_signature = 'lines'} | 0 pass done 1
+reference without its last line feed | {name = '0', image = 's.elf', budget = 100, S, \
+expect_signature = 'cut lines'} | 1 fail done 1
+another word | {name = '0', image = 's.elf', budget = 5, S, expect_signature = 'lines'} | 1 fail done 1
+no reference | {name = '0', image = 's.elf', budget = 100, S, expect_signature = 'none', expect_exit = 0} | \
+1 fail done 1
+no lines | {name = '0', image = 's.elf', budget = 100, signature = ['end_signature', 'end_signature'], \
+expect_signature = 'empty'} | 0 pass done 1
+refused, and an empty reference | {name = '0', image = 'cut.elf', budget = 100, S, expect_signature = 'empty'} | \
+1 fail done 1
+two refused alike | {name = '0', image = 'cut.elf', budget = 3}, {name = '1', image = 'cut.elf', budget = 3, \
+same_as = '0'} | 1 none fail done 2
+steps and budgets | {name = '0', image = 'a.elf', budget = 3}, {name = '1', image = 'a.elf', budget = 4, \
+same_as = '0'}, {name = '2', image = 'a.elf', budget = 2, same_as = '0'} | 1 none pass fail done 3
+both at their budgets | {name = '0', image = 'a.elf', budget = 1}, {name = '1', image = 'a.elf', budget = 2, \
+same_as = '0'} | 0 none pass done 2
+another exit code | {name = '0', image = 'a.elf', budget = 3}, {name = '1', image = 'six', budget = 3, \
+same_as = '0'} | 1 none fail done 2
+one kind of fault, another pc | {name = '0', image = 'f.elf', budget = 3}, {name = '1', image = 'late break', \
+budget = 3, same_as = '0'} | 0 none pass done 2
+another kind of fault | {name = '0', image = 'f.elf', budget = 3}, {name = '1', image = 'illegal', budget = 3, \
+same_as = '0'} | 1 none fail done 2
+consoles | {name = '0', image = 'put A', budget = 9}, {name = '1', image = 'put B', budget = 9, same_as = '0'} | \
+1 none fail done 2
+equal consoles | {name = '0', image = 'put A', budget = 9}, {name = '1', image = 'put A', budget = 8, \
+same_as = '0'} | 0 none pass done 2
+as a job whose reference is missing | {name = '0', image = 's.elf', budget = 100, S, expect_signature = 'none'}, \
+{name = '1', image = 's.elf', budget = 100, S, same_as = '0'} | 1 fail fail done 2
+without a signature, and an empty one | {name = '0', image = 's.elf', budget = 100}, {name = '1', image = 's.elf', \
+budget = 100, signature = ['end_signature', 'end_signature'], same_as = '0'} | 1 none fail done 2
+the outcome, and not the verdict | {name = '0', image = 'a.elf', budget = 3, expect_exit = 6}, {name = '1', \
+image = 'a.elf', budget = 3, same_as = '0'} | 1 fail pass done 2
+exit code | {name = '0', image = 'a.elf', budget = 3, expect_exit = 5} | 0 pass done 1
+no exit | {name = '0', image = 'a.elf', budget = 2, expect_exit = 5} | 1 fail done 1
+the greatest exit code | {name = '0', image = 'greatest', budget = 3, expect_exit = 4294967295} | 0 pass done 1
+all three | {name = '0', image = 's.elf', budget = 100, S}, {name = '1', image = 's.elf', budget = 100, S, \
+expect_exit = 0, expect_signature = 'lines', same_as = '0'} | 0 none pass done 2
+all three but the exit | {name = '0', image = 's.elf', budget = 100, S}, {name = '1', image = 's.elf', budget = 100, \
+S, expect_exit = 1, expect_signature = 'lines', same_as = '0'} | 1 none fail done 2
+all three but the reference | {name = '0', image = 's.elf', budget = 100, S}, {name = '1', image = 's.elf', \
+budget = 100, S, expect_exit = 0, expect_signature = 'cut lines', same_as = '0'} | 1 none fail done 2
+all three but the other job | {name = '0', image = 's.elf', budget = 5, S}, {name = '1', image = 's.elf', \
+budget = 100, S, expect_exit = 0, expect_signature = 'lines', same_as = '0'} | 1 none fail done 2
+";
+
+#[test]
+fn judges_outcomes(rt: HostRuntime) -> Result<(), Fail> {
+    check(&rt, rt.alloc(), VERDICT, "$2", VERDICTS, 24)
+}
+
+// Jobs by the files that they name; the list is told in full.
+const TOLD: &str = "\
+all|run jobs|job = [$_]|
+s.elf = sign
+cut.elf = one 51
+";
+
+const TWO: &str = "\
+{name = '0', image = 's.elf', budget = 9, S, expect_signature = 'none'}, \
+{name = '1', image = 'cut.elf', budget = 9, S, expect_signature = 'long'}";
+
+const ONE: &str = "\
+{name = '0', image = 's.elf', budget = 100, S, expect_signature = 'none', expect_exit = 0}";
+
+const TWO_REFUSED: &str = "\
+1;jobs;s.elf;none;cut.elf;long;|1||job 1 0
+end refused reference-unreadable
+steps 0
+console -
+signature -
+verdict fail
+job 2 1
+end refused reference-too-long
+steps 0
+console -
+signature -
+verdict fail
+done 2
+";
+
+const ONE_REFUSED: &str = "\
+1;jobs;s.elf;none;|1||job 1 0
+end refused reference-unreadable
+steps 0
+console -
+signature -
+verdict fail
+done 1
+";
+
+// The refusal of a job whose reference was not read comes before its image is looked at. The exit code that the last
+// job expects is the one that its image would have, if it was run.
+#[test]
+fn refuses_references(rt: HostRuntime) -> Result<(), Fail> {
+    check(&rt, rt.alloc(), TOLD, TWO_REFUSED, TWO, 1)?;
+    check(&rt, rt.alloc(), TOLD, ONE_REFUSED, ONE, 1)
+}
