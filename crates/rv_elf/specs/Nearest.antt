@@ -22,8 +22,8 @@ is_function s = s.kind == 2
 abbrev pub is_code : Symbol → Bool
 is_code s = is_function s || (s.kind == 0)
 
--- it is defined in a section of the file: its index is neither SHN_UNDEF nor reserved, as that of an
--- absolute value is (SHN_ABS)
+-- it is defined in a section of the file: its index is neither SHN_UNDEF nor reserved, as that of
+-- an absolute value is (SHN_ABS)
 abbrev pub has_section : Symbol → Bool
 has_section s = nat_lt 0 s.section && nat_lt s.section 0xff00
 
@@ -86,8 +86,8 @@ symbol_at image file addr = if is_ok (table_check file)
 
 -- ---- where names end
 
--- a place behind the last zero byte of a string table: a name begins at each place before it, and at
--- no other
+-- a place behind the last zero byte of a string table: a name begins at each place before it, and
+-- at no other
 pub record IsNamesEnd (strings : List ℕ) (end : ℕ) : Type 0 where
   pub within : end ≤ length strings
   pub names : (k : ℕ) → is_some (text_of (drop k strings)) ≡ nat_lt k end

@@ -38,7 +38,8 @@ table_check file = first_row (table_rows file) accepted
 -- the bytes of a symbol table and of its string table
 abbrev pub tables_of : List ℕ → Section → Option (List ℕ × List ℕ)
 tables_of file symbols =
-    option_map (λ strings. (bytes_of file symbols, bytes_of file strings)) (string_table file symbols)
+    option_map (λ strings. (bytes_of file symbols, bytes_of file strings))
+    (string_table file symbols)
 
 -- those of the first symbol table
 abbrev pub tables_there : List ℕ → Option (List ℕ × List ℕ)

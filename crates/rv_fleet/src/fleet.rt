@@ -75,8 +75,8 @@ impl From<FleetError> for PlacesError {
 /// The rows of all jobs in list order, made by as many threads as `workers` says, or as there are pieces if these are
 /// fewer: the same report for every number of workers, from 1 to 64, and of jobs in a piece, from 1 to 4,096.
 ///
-/// Each thread draws the next piece when it is free. It waits for all threads that it started, on a refusal too. The gate
-/// is entered and not told of the rows: [`run_places`] tells it.
+/// Each thread draws the next piece when it is free. It waits for all threads that it started, on a refusal too. The
+/// gate is entered and not told of the rows: [`run_places`] tells it.
 pub fn run_fleet<R: Threads + Wait, G: Gate>(
     rt: &R,
     alloc: Global,

@@ -2,7 +2,8 @@
 //!
 //! [`run_fleet`] runs a plan in threads: each calls [`work`] with a pass of its own, which makes the pieces that the
 //! pass draws. Its report is that of [`run_one`], for every number of workers and of jobs in a piece. [`run_places`]
-//! runs the jobs at some places, and tells the [`Gate`] of each piece when it is made. The rows and the shared draw are those of the crates below, and stand here under their names too.
+//! runs the jobs at some places, and tells the [`Gate`] of each piece when it is made. The rows and the shared draw are
+//! those of the crates below, and stand here under their names too.
 #![tactic(auto)]
 
 mod choice;

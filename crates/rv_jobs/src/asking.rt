@@ -70,7 +70,8 @@ pub(crate) fn ask_for_row<'a, S: Store>(
     }
 }
 
-/// The answers with those of the paths of the job at a place, whose places are noted. A job that was asked for adds none.
+/// The answers with those of the paths of the job at a place, whose places are noted. A job that was asked for adds
+/// none.
 fn ask_at<'a, S: Store>(
     alloc: Global,
     store: &mut S,

@@ -55,8 +55,8 @@ pub fn gather<S: Store>(alloc: Global, jobs: JobList, store: &mut S) -> Result<P
     gather_places(alloc, jobs, places, store)
 }
 
-/// The same for the rows of the jobs at some places alone: reads each different path of these jobs and of those that they
-/// name by `same_as` once, in order of first use.
+/// The same for the rows of the jobs at some places alone: reads each different path of these jobs and of those that
+/// they name by `same_as` once, in order of first use.
 pub fn gather_places<S: Store>(
     alloc: Global,
     jobs: JobList,

@@ -23,7 +23,11 @@ fn expanded(alloc: Global, text: &str) -> Result<String, AllocError> {
 fn push_row(text: &mut String, number: u32, row: &Row) -> Result<(), AllocError> {
     let name = row.name.as_str();
     let console = row.console.as_slice();
-    write!(text, "; {number} {name} {:?} {} {console:?} ", row.ending, row.steps)?;
+    write!(
+        text,
+        "; {number} {name} {:?} {} {console:?} ",
+        row.ending, row.steps
+    )?;
     match &row.signature {
         Some(words) => write!(text, "{:?} ", words.as_slice())?,
         None => text.push_str("- ")?,
@@ -37,7 +41,10 @@ fn extent_text(alloc: Global, extent: &Extent) -> Result<String, AllocError> {
         Extent::Choice(jobs) => format!(in alloc; "choice of {jobs}"),
         Extent::Shard(shard) => {
             let stamp = shard.stamp.as_str();
-            format!(in alloc; "{}/{} of {} in {stamp}", shard.number, shard.shards, shard.jobs)
+            format!(in alloc;
+                "{}/{} of {} in {stamp}",
+                shard.number, shard.shards, shard.jobs
+            )
         }
     }
 }

@@ -21,9 +21,9 @@ pub fn narrower_sets_only_refuse()
         ≡ Some row }
 {}
 
-/// A law of parts, with nothing to run: where two plans have the same jobs, and keep the same of each path that the rows
-/// of the jobs at some places need, they have the same rows there. So a plan that was gathered for these places alone has
-/// the rows there that one gathered for all has.
+/// A law of parts, with nothing to run: where two plans have the same jobs, and keep the same of each path that the
+/// rows of the jobs at some places need, they have the same rows there. So a plan that was gathered for these places
+/// alone has the rows there that one gathered for all has.
 pub fn parts_have_the_rows_of_the_whole()
     ensures { (jobs : List Job) (some others : List Answer) (places : List ℕ)
         → All (KeepSame some others) (needed_for jobs places)
