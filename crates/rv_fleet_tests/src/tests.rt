@@ -4,7 +4,7 @@ ghost use Rattle.std.specs.Prelude.{None};
 
 use rv_fleet::Row;
 use rv_jobs::{Plan, ReadError, Store, gather, read_jobs};
-use samples::file;
+use samples::{cell_of, file, word_of};
 use std::alloc::{AllocError, Global};
 use std::process::Abort;
 use std::sync::Wait;
@@ -17,14 +17,6 @@ mod places;
 mod recent;
 mod reports;
 mod workers;
-
-fn cell_of(line: &str, place: usize) -> &str {
-    line.split('|').nth(place).unwrap_or("").trim()
-}
-
-fn word_of(text: &str, place: usize) -> &str {
-    text.split(' ').nth(place).unwrap_or("")
-}
 
 // The sample of each path: an exit by code 5, its header cut, its program table cut, two that print 65,536 bytes first,
 // all zero, or each less by one than the one before, and the image with a signature, of 16,000 words or one more.

@@ -1,5 +1,6 @@
 //! Encodings beside their meanings, written out by hand from the manual's listings.
 use rv_isa::{Instr, Isa, decode16, decode32, expand, is_long, sign_extend};
+use samples::cell_of;
 use std::alloc::{AllocError, Global};
 use std::process::Abort;
 use std::test::Fail;
@@ -12,10 +13,6 @@ const OWN: &str = "$2";
 
 // The answer where there is no meaning and no word.
 const NONE: &str = "nothing";
-
-fn cell_of(row: &str, place: usize) -> &str {
-    row.split('|').nth(place).unwrap_or("").trim()
-}
 
 fn isa_of(name: &str) -> Result<Isa, Fail> {
     match name {

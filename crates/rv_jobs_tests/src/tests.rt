@@ -1,5 +1,6 @@
 //! Lists of jobs by the lines of tables: which list is made, what it is asked, and what it answers.
 use rv_jobs::{JobList, read_jobs};
+use samples::cell_of;
 use std::alloc::{AllocError, Global};
 use std::process::Abort;
 use std::test::Fail;
@@ -14,10 +15,6 @@ const OWN: &str = "$";
 
 // The list that is made of no text.
 const SINGLE: &str = "single";
-
-fn cell_of(line: &str, place: usize) -> &str {
-    line.split('|').nth(place).unwrap_or("").trim()
-}
 
 // A form with a text in place of `$`.
 fn filled(alloc: Global, form: &str, text: &str) -> Result<String, AllocError> {

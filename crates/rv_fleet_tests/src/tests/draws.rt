@@ -1,8 +1,9 @@
 //! Draws by one pass and by several, in one thread and in four.
 ghost use Rattle.std.specs.Prelude.{◌≡◌, IfOk};
 
-use super::{cell_of, check};
+use super::check;
 use rv_fleet::{Claims, Pass, SplitError};
+use samples::cell_of;
 use std::alloc::{AllocError, Global};
 use std::test::Fail;
 use std::thread;

@@ -1,7 +1,8 @@
 //! Fleets of small jobs, behind gates that show which pieces were under way at the same time.
-use super::{cell_of, check, rows_told};
+use super::{check, rows_told};
 use rv_fleet::{Gate, run_fleet};
 use rv_jobs::Plan;
+use samples::cell_of;
 use std::alloc::Global;
 use std::sync::Wait;
 use std::sync::atomic::{AtomicBool, AtomicU64, Ordering};

@@ -1,7 +1,8 @@
 //! Runs of the jobs at some places, by a gate that is told of each piece and may stop the run.
-use super::{cell_of, check, push_names};
+use super::{check, push_names};
 use rv_fleet::{Gate, PlacesError, Row, Rows, run_places};
 use rv_jobs::{Plan, marked_places};
+use samples::cell_of;
 use std::alloc::{AllocError, Global};
 use std::sync::Wait;
 use std::sync::atomic::{AtomicU64, Ordering};

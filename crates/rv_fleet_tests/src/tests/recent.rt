@@ -1,10 +1,11 @@
 //! Which outcomes a worker keeps of its last jobs, by the sizes of their consoles and signatures.
 ghost use Rattle.std.specs.Prelude.{◌<◌, length};
 
-use super::{cell_of, check};
+use super::check;
 use rv_fleet::{Outcome, RowEnd, Words};
 use rv_jobs::{Bytes, Plan};
 use rv_rows::{Recent, Spare, next_row};
+use samples::cell_of;
 use std::alloc::{AllocError, Global};
 use std::test::Fail;
 

@@ -1,9 +1,10 @@
 //! Reports of fleets whose pieces have several sizes, and of none.
 ghost use Rattle.std.specs.Prelude.{◌<◌, length};
 
-use super::{check, push_row, rows_told, word_of};
+use super::{check, push_row, rows_told};
 use rv_fleet::{FreeGate, Report, Row, Verdict, row_at, run_fleet, run_one};
 use rv_jobs::Plan;
+use samples::word_of;
 use std::alloc::{AllocError, Global};
 use std::sync::Wait;
 use std::test::Fail;

@@ -1,5 +1,6 @@
 //! Fetches, and the marks of stored bytes that refuse them.
-use super::{REFUSING, ask, bus_of, check};
+use super::setups::bus_of;
+use super::{REFUSING, ask, check};
 use std::test::Fail;
 
 // label | ask | answer

@@ -1,5 +1,6 @@
 //! Buses as they begin: renewed ones, and the smallest and the largest.
-use super::{ask, bus_of, check_each, renewed};
+use super::setups::{bus_of, renewed};
+use super::{ask, check_each};
 use std::test::Fail;
 
 // label | ask | answer, of a bus before it is renewed

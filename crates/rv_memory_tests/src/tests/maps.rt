@@ -1,6 +1,9 @@
 //! Which lists of regions are maps, and which bytes lie in one region.
-use super::{REFUSING, cell_of, check, is_in_one, map_of, pair_of, regions_of};
+use super::asks::{is_in_one, pair_of};
+use super::setups::{map_of, regions_of};
+use super::{REFUSING, check};
 use rv_memory::Map;
+use samples::cell_of;
 use std::alloc::Global;
 use std::test::Fail;
 
