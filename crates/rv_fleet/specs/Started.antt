@@ -1,11 +1,21 @@
--- What is known of a thread that was started.
-use Rattle.std.specs.Prelude.{◌≡◌, ℕ, List}
+-- When a thread may be started, and what is known of one that was.
+use Rattle.std.specs.Prelude.{◌≡◌, ◌<◌, ◌≤◌, ℕ, List}
 use Rattle.std.specs.declared.thread.PromisedHandle.{PromisedHandle}
 use Rattle.rv_rows.specs.declared.row.Row.{Row}
 use Rattle.rv_rows.specs.Rows.{rows_at}
 use Rattle.rv_fleet.specs.declared.worked.Worked.{Worked}
 use Rattle.rv_fleet.specs.declared.worked.Works.{Works}
 use Rattle.rv_claims.specs.Passes.{SharedDraw}
+use Rattle.rv_jobs.specs.Plans.{Planned}
+use Rattle.rv_fleet.specs.Choices.{AreChosen}
+use Rattle.rv_fleet.specs.Pieces.{Hears, pieces_in}
+
+-- the shared draw is of the pieces of these jobs' rows, and a gate that awaits this may be told of
+-- them
+abbrev pub CanWork : Planned → List ℕ → ℕ → SharedDraw → (ℕ → List Row → Type 0) → Type 0
+CanWork plan places group draw awaits = ((0 < group) × (group ≤ 4096))
+    × (draw.pieces ≡ pieces_in (rows_at plan places) group) × AreChosen plan places
+    × Hears awaits (rows_at plan places) group
 
 -- its promise is of these rows, this group and this shared draw
 abbrev pub IsStarted : List Row → ℕ → SharedDraw → PromisedHandle Worked Works → Type 0

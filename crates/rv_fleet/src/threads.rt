@@ -4,8 +4,9 @@ ghost use Rattle.std.specs.Prelude.{◌≡◌, ◌<◌, ◌≤◌, [], IfOk};
 ghost use Rattle.rv_rows.specs.Rows.{rows_at};
 ghost use Rattle.rv_fleet.specs.Choices.{AreChosen};
 ghost use Rattle.rv_fleet.specs.Collected.{IsFilled};
-ghost use Rattle.rv_fleet.specs.Pieces.{Hears, pieces_in};
+ghost use Rattle.rv_fleet.specs.Pieces.{Hears};
 ghost use Rattle.rv_fleet.specs.Promised.{AreFresh, HasWorked, HaveWorked};
+ghost use Rattle.rv_fleet.specs.Started.{CanWork};
 
 use crate::collect::{Collected, collect};
 use crate::fleet::FleetError;
@@ -98,10 +99,7 @@ fn run_workers<R: Threads + Wait, G: Gate>(
     group: u32,
     gate: &G,
 ) -> Result<Vec<Worked>, FleetError>
-    requires group { (0 < group) × (group ≤ 4096) }
-    requires pieces { claims.now.pieces ≡ pieces_in (rows_at plan.now places.now) group }
-    requires chosen { AreChosen plan.now places.now }
-    requires gate { Hears (G.awaits gate.now) (rows_at plan.now places.now) group }
+    requires work { CanWork plan.now places.now group claims.now (G.awaits gate.now) }
     requires passes { AreFresh claims.now passes.items }
     ensures { IfOk result (λ worked. HaveWorked
         (rows_at plan.now places.now) group claims.now worked.items) }
@@ -110,10 +108,7 @@ fn run_workers<R: Threads + Wait, G: Gate>(
         thread::scope_env(),
         rt,
         |scope| -> Result<Vec<Worked>, FleetError>
-            requires { (0 < group) × (group ≤ 4096)
-                × (claims.now.pieces ≡ pieces_in (rows_at plan.now places.now) group)
-                × AreChosen plan.now places.now
-                × Hears (G.awaits gate.now) (rows_at plan.now places.now) group
+            requires { CanWork plan.now places.now group claims.now (G.awaits gate.now)
                 × AreFresh claims.now passes.items }
             ensures { IfOk result (λ worked. HaveWorked
                 (rows_at plan.entry.now places.entry.now) group claims.entry.now worked.items) }
@@ -129,10 +124,7 @@ fn run_workers<R: Threads + Wait, G: Gate>(
                 let Ok(handle) = scope.spawn_with(
                     promise,
                     move || -> Worked
-                        requires { (0 < group) × (group ≤ 4096)
-                            × (claims.now.pieces ≡ pieces_in (rows_at plan.now places.now) group)
-                            × AreChosen plan.now places.now
-                            × Hears (G.awaits gate.now) (rows_at plan.now places.now) group
+                        requires { CanWork plan.now places.now group claims.now (G.awaits gate.now)
                             × (pass.draw ≡ claims.now) × (pass.draws ≡ []) }
                         ensures { HasWorked (rows_at plan.entry.now places.entry.now) group
                             claims.entry.now result }
@@ -144,10 +136,7 @@ fn run_workers<R: Threads + Wait, G: Gate>(
                     return Err(FleetError::OutOfMemory);
                 };
             }
-            match thread::join_promised(rt, handles) {
-                Ok(worked) => Ok(worked),
-                Err(_) => Err(FleetError::OutOfMemory),
-            }
+            thread::join_promised(rt, handles).map_err(|_| FleetError::OutOfMemory)
         },
     )
 }
