@@ -1,18 +1,19 @@
 -- Reading: take what a text says, write it, and compare.
-use Rattle.std.proofs.Common.{◌≡◌, ◌∙◌, ◌<◌, ◌^◌, ℕ, true, false, List, length, sym, ap, subst, arith}
+use Rattle.std.proofs.Common.{◌≡◌, ◌∙◌, ℕ, true, false, List, sym, ap, subst, arith}
 use Rattle.std.proofs.lemmas.Bool.{false≢true}
 use Rattle.std.proofs.lemmas.Slice.Eq.{bytes_eq-Decides}
 use Rattle.std.specs.Str.{bytes_eq}
 use Rattle.std.specs.Prelude.{Result, Ok, Err, IfErr}
 use Rattle.std.specs.Result.{IsErrAnd}
+use Rattle.rv_reports.specs.declared.read.FirstWord.TheVariants as word
 use Rattle.rv_reports.specs.declared.read.ReadError.{ReadError}
 use Rattle.rv_reports.specs.declared.read.ReadError.TheVariants.{OutOfMemory, Line, CutOff}
 use Rattle.rv_reports.specs.declared.saved.SavedReport.{SavedReport}
 use Rattle.rv_reports.specs.Said.{said}
-use Rattle.rv_reports.specs.Saved.{IsListed, IsSaved, saved_text}
-use Rattle.rv_reports.specs.Faults.{Tells, IsPlace, fault}
-use Rattle.rv_reports.proofs.Cut.{said_listed, few_numbers}
-use Rattle.rv_reports.proofs.Named.{tells}
+use Rattle.rv_reports.specs.Saved.{IsSaved, saved_text}
+use Rattle.rv_reports.specs.Differences.{Tells, IsPlace, difference}
+use Rattle.rv_reports.proofs.Cut.{said_can_be, few_numbers}
+use Rattle.rv_reports.proofs.Told.{tells}
 use Rattle.rv_reports.proofs.Parts.{has_numbers}
 use Rattle.rv_reports.proofs.Reports.{said-saved}
 
@@ -26,13 +27,13 @@ says_itself r h =
 pub same_reports : (r other : SavedReport) → IsSaved r → IsSaved other → saved_text r ≡ saved_text other → r ≡ other
 same_reports r other h k e = sym (says_itself r h) ∙ ap said e ∙ says_itself other k
 
-pub is_listed : (bytes : List ℕ) (r : SavedReport) → r ≡ said bytes → IsListed r
-is_listed bytes r s = subst (λ (x : SavedReport). IsListed x) (sym s) (said_listed bytes)
+pub can_be : (bytes : List ℕ) (r : SavedReport) → r ≡ said bytes → IsSaved r
+can_be bytes r s = subst (λ (x : SavedReport). IsSaved x) (sym s) (said_can_be bytes)
 
 pub found_is : (bytes text : List ℕ) (r : SavedReport) → r ≡ said bytes → text ≡ saved_text r
     → true ≡ bytes_eq text bytes
-    → IsListed r × (saved_text r ≡ bytes)
-found_is bytes text r s t e = (is_listed bytes r s, sym t ∙ (bytes_eq-Decides text bytes).0 (sym e))
+    → IsSaved r × (saved_text r ≡ bytes)
+found_is bytes text r s t e = (can_be bytes r s, sym t ∙ (bytes_eq-Decides text bytes).0 (sym e))
 
 pub only_is : (bytes : List ℕ) (r : SavedReport) → r ≡ said bytes → (wanted : SavedReport) → IsSaved wanted
     → saved_text wanted ≡ bytes → r ≡ wanted
@@ -45,11 +46,12 @@ never bytes text r s t other wanted h e =
     false≢true (other ∙ (bytes_eq-Decides text bytes).1 same)
 
 pub err_is : (bytes text : List ℕ) (r : SavedReport) (error : ReadError) → r ≡ said bytes → text ≡ saved_text r
-    → error ≡ fault 1 text bytes → (x : SavedReport) × IsListed x × Tells error (saved_text x) bytes
+    → error ≡ difference 1 word.Ahead text bytes → (x : SavedReport) × IsSaved x × Tells error (saved_text x) bytes
 err_is bytes text r error s t f = (
   r,
-  is_listed bytes r s,
-  subst (λ (e : ReadError). Tells e (saved_text r) bytes) (sym (f ∙ ap (λ (x : List ℕ). fault 1 x bytes) t))
+  can_be bytes r s,
+  subst (λ (e : ReadError). Tells e (saved_text r) bytes)
+      (sym (f ∙ ap (λ (x : List ℕ). difference 1 word.Ahead x bytes) t))
       (tells (saved_text r) bytes),
 )
 
@@ -59,15 +61,16 @@ is_place (Line line) place e = sym e
 is_place CutOff place e = sym e
 
 pub place_is : (bytes text : List ℕ) (r : SavedReport) (error : ReadError) → r ≡ said bytes → text ≡ saved_text r
-    → error ≡ fault 1 text bytes → IsPlace error (fault 1 (saved_text (said bytes)) bytes)
+    → error ≡ difference 1 word.Ahead text bytes
+    → IsPlace error (difference 1 word.Ahead (saved_text (said bytes)) bytes)
 place_is bytes text r error s t f =
-    is_place error (fault 1 (saved_text (said bytes)) bytes)
-    (f ∙ ap (λ (x : List ℕ). fault 1 x bytes) (t ∙ ap saved_text s))
+    is_place error (difference 1 word.Ahead (saved_text (said bytes)) bytes)
+    (f ∙ ap (λ (x : List ℕ). difference 1 word.Ahead x bytes) (t ∙ ap saved_text s))
 
 -- nothing is said of the text where memory ran out
 pub err_of : {X : Type 0} (bytes : List ℕ) (result : Result X ReadError)
     → IsErrAnd result (λ error. error ≡ OutOfMemory)
-    → IfErr result (λ error. (x : SavedReport) × IsListed x × Tells error (saved_text x) bytes)
+    → IfErr result (λ error. (x : SavedReport) × IsSaved x × Tells error (saved_text x) bytes)
 err_of bytes (Ok x) h = tt
 err_of bytes (Err error) h =
-    (said bytes, said_listed bytes, subst (λ (e : ReadError). Tells e (saved_text (said bytes)) bytes) (sym h) tt)
+    (said bytes, said_can_be bytes, subst (λ (e : ReadError). Tells e (saved_text (said bytes)) bytes) (sym h) tt)

@@ -1,7 +1,7 @@
 -- What is left once it is cut at the first row that can't stand there.
-use Rattle.std.proofs.Common.{◌≡◌, ◌∙◌, ◌+◌, ◌<◌, ◌≤◌, ◌^◌, ℕ, zero, suc, Bool, true, false, ◌&&◌, not, cond, List, []}
-use Rattle.std.proofs.Common.{◌∷◌, ◌++◌, length, take, map, refl, sym, ap, arith, subst, inl, inr}
-use Rattle.std.specs.Prelude.{nat_le, nat_lt, min, is_some}
+use Rattle.std.proofs.Common.{◌≡◌, ◌∙◌, ◌+◌, ◌<◌, ◌≤◌, ℕ, zero, suc, Bool, true, ◌&&◌, not, cond, List, []}
+use Rattle.std.proofs.Common.{◌∷◌, ◌++◌, length, take, refl, sym, ap, arith, subst, inl, inr}
+use Rattle.std.specs.Prelude.{nat_le, nat_lt, is_some}
 use Rattle.std.specs.List.{list_all}
 use Rattle.std.proofs.lemmas.Bool.{and_parts, and_from, cases_Bool}
 use Rattle.std.proofs.lemmas.Bool.Decides.{nat_tests}
@@ -12,8 +12,8 @@ use Rattle.rv_reports.specs.declared.saved.Extent.{Extent}
 use Rattle.rv_reports.specs.declared.saved.Extent.TheVariants.{Choice}
 use Rattle.rv_reports.specs.declared.saved.SavedReport.{SavedReport}
 use Rattle.rv_reports.specs.Said.{Gathered, rising_count, new_count, fitting, gathered, said}
-use Rattle.rv_reports.specs.Saved.{IsListed, are_rising, are_new, fits, names_of}
-use Rattle.rv_reports.proofs.Named.{AreNamed, gathered_named}
+use Rattle.rv_reports.specs.Saved.{IsSaved, are_rising, are_new, fits, names_of}
+use Rattle.rv_reports.proofs.Drafts.{AreGood, gathered_good}
 
 -- the counts are not above the lengths
 rising_within : (before : ℕ) (ns : List ℕ) → rising_count before ns ≤ length ns
@@ -84,12 +84,21 @@ new_taken earlier (suc count) (row ∷ rows) h =
           (ap not e) (new_taken (earlier ++ t ∷ []) count rows (omega arith))
     ]
 
-named_taken : (count : ℕ) (rows : List Row) → AreNamed rows → AreNamed (take count rows)
-named_taken zero rows h = refl
-named_taken (suc count) [] h = refl
-named_taken (suc count) (row ∷ rows) h =
-    let parts = and_parts (is_name row.name) (list_all is_name (names_of rows)) h in
-    and_from (is_name row.name) (list_all is_name (names_of (take count rows))) parts.0 (named_taken count rows parts.1)
+-- the first rows of good ones are good, and have names
+good_taken : (count : ℕ) (rows : List Row) → AreGood rows → AreGood (take count rows)
+good_taken zero rows h = tt
+good_taken (suc count) [] h = tt
+good_taken (suc count) (row ∷ rows) h = (h.0, good_taken count rows h.1)
+
+named_good : (rows : List Row) → AreGood rows → list_all is_name (names_of rows) ≡ true
+named_good [] h = refl
+named_good (row ∷ rows) h =
+    and_from (is_name row.name) (list_all is_name (names_of rows)) h.0.name (named_good rows h.1)
+
+taken_within : {X : Type 0} (count : ℕ) (xs : List X) → length (take count xs) ≤ count
+taken_within zero xs = omega arith
+taken_within (suc count) [] = omega arith
+taken_within (suc count) (x ∷ xs) = let h = taken_within count xs in omega arith
 
 fitting_fits : (e : Extent) (ns : List ℕ) → are_rising 0 most_jobs ns ≡ true → fits (fitting e ns) ns ≡ true
 unfolding fitting fits
@@ -110,32 +119,41 @@ pub length-names : (rows : List Row) → length (names_of rows) ≡ length rows
 length-names [] = refl
 length-names (row ∷ rows) = ap suc (length-names rows)
 
-cut_listed : (g : Gathered) (count : ℕ) → count ≡ min (rising_count 0 g.numbers) (new_count [] (names_of g.rows))
-    → AreNamed g.rows
-    → IsListed (record {
+cut_saved : (g : Gathered) (rising : List Row) (count : ℕ) → rising ≡ take (rising_count 0 g.numbers) g.rows
+    → count ≡ new_count [] (names_of rising) → AreGood g.rows
+    → IsSaved (record {
       extent = fitting g.extent (take count g.numbers);
       numbers = take count g.numbers;
-      rows = take count g.rows;
+      rows = take count rising;
     })
-cut_listed g count is named =
+cut_saved g rising count r is good =
+    let most = rising_count 0 g.numbers in
     let a = rising_within 0 g.numbers in
-    let b = new_within [] (names_of g.rows) in
-    let c = length-names g.rows in
-    let rising = rising_taken 0 count g.numbers (omega arith) in
+    let b = new_within [] (names_of rising) in
+    let c = length-names rising in
+    let d : length rising ≤ most =
+    subst (λ (rows : List Row). length rows ≤ most) (sym r) (taken_within most g.rows) in
+    let rises = rising_taken 0 count g.numbers (omega arith) in
+    let rows : AreGood (take count rising) =
+    good_taken count rising (subst (λ (rows : List Row). AreGood rows) (sym r) (good_taken most g.rows good)) in
     record {
-      counted = length-taken count g.numbers (omega arith) ∙ sym (length-taken count g.rows (omega arith));
-      rising = rising;
-      fits = fitting_fits g.extent (take count g.numbers) rising;
-      names = named_taken count g.rows named;
-      new = new_taken [] count g.rows (omega arith);
+      listed = record {
+        counted = length-taken count g.numbers (omega arith) ∙ sym (length-taken count rising (omega arith));
+        rising = rises;
+        fits = fitting_fits g.extent (take count g.numbers) rises;
+        names = named_good (take count rising) rows;
+        new = new_taken [] count rising (omega arith);
+      };
+      rows = rows;
     }
 
--- what a text says is listed
-pub said_listed : (text : List ℕ) → IsListed (said text)
+-- what a text says can be a report
+pub said_can_be : (text : List ℕ) → IsSaved (said text)
 unfolding said
-said_listed text =
+said_can_be text =
     let g = gathered text in
-    cut_listed g (min (rising_count 0 g.numbers) (new_count [] (names_of g.rows))) refl (gathered_named text)
+    let rising = take (rising_count 0 g.numbers) g.rows in
+    cut_saved g rising (new_count [] (names_of rising)) refl refl (gathered_good text)
 
 -- ---- how many there are
 
@@ -154,21 +172,28 @@ within_last before last (n ∷ ns) low h =
 pub few_numbers : (ns : List ℕ) → are_rising 0 most_jobs ns ≡ true → length ns ≤ most_jobs
 few_numbers ns h = let k = within_last 0 most_jobs ns (omega arith) h in omega arith
 
-pub few_taken : (count : ℕ) (ns : List ℕ) → count ≤ rising_count 0 ns → length (take count ns) ≤ most_jobs
-few_taken count ns h = few_numbers (take count ns) (rising_taken 0 count ns h)
+pub few_cut : (g : Gathered) (rising : List Row) (count : ℕ) → rising ≡ take (rising_count 0 g.numbers) g.rows
+    → count ≡ new_count [] (names_of rising) → length (take count g.numbers) ≤ most_jobs
+few_cut g rising count r is =
+    let most = rising_count 0 g.numbers in
+    let b = new_within [] (names_of rising) in
+    let c = length-names rising in
+    let d : length rising ≤ most =
+    subst (λ (rows : List Row). length rows ≤ most) (sym r) (taken_within most g.rows) in
+    few_numbers (take count g.numbers) (rising_taken 0 count g.numbers (omega arith))
 
 -- the same, of what was worked out piece by piece
-pub cut_made : (g : Gathered) (count : ℕ) (e : Extent) (ns : List ℕ) (rs : List Row) → ns ≡ take count g.numbers
-    → rs ≡ take count g.rows → e ≡ fitting g.extent ns
-    → count ≡ min (rising_count 0 g.numbers) (new_count [] (names_of g.rows)) → AreNamed g.rows
-    → IsListed (record { extent = e; numbers = ns; rows = rs })
-cut_made g count e ns rs n r x is named =
+pub cut_made : (g : Gathered) (rising : List Row) (count : ℕ) (e : Extent) (ns : List ℕ) (rs : List Row)
+    → rising ≡ take (rising_count 0 g.numbers) g.rows → count ≡ new_count [] (names_of rising)
+    → ns ≡ take count g.numbers → rs ≡ take count rising → e ≡ fitting g.extent ns → AreGood g.rows
+    → IsSaved (record { extent = e; numbers = ns; rows = rs })
+cut_made g rising count e ns rs up is n r x good =
     let e' = fitting g.extent (take count g.numbers) in
-    subst (λ (y : SavedReport). IsListed y)
+    subst (λ (y : SavedReport). IsSaved y)
     (sym (ap (λ (t : Extent). record { extent = t; numbers = ns; rows = rs }) (x ∙ ap (fitting g.extent) n)
     ∙ ap (λ (t : List ℕ). record { extent = e'; numbers = t; rows = rs }) n
     ∙ ap (λ (t : List Row). record { extent = e'; numbers = take count g.numbers; rows = t }) r))
-    (cut_listed g count is named)
+    (cut_saved g rising count up is good)
 
-pub named_view : (g : Gathered) (text : List ℕ) → g ≡ gathered text → AreNamed g.rows
-named_view g text is = subst (λ (x : Gathered). AreNamed x.rows) (sym is) (gathered_named text)
+pub good_view : (g : Gathered) (text : List ℕ) → g ≡ gathered text → AreGood g.rows
+good_view g text is = subst (λ (x : Gathered). AreGood x.rows) (sym is) (gathered_good text)

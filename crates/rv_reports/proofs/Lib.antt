@@ -3,7 +3,9 @@ pub mod Words
 pub mod Spelled
 pub mod Parts
 pub mod Reports
+pub mod Drafts
 pub mod Cut
 pub mod Loops
-pub mod Named
+pub mod Told
 pub mod Compared
+pub mod Wholes

@@ -4,6 +4,7 @@ use Rattle.std.proofs.Common.{List, [], ◌∷◌, length, take, drop, get_or, r
 use Rattle.std.proofs.Common.{append-nil, append_assoc, nat_lt, nat_le, Option, Some, None}
 use Rattle.std.proofs.lemmas.List.{at_drop_more, at_drop_all, drop_more}
 use Rattle.std.proofs.lemmas.Bool.Decides.{nat_tests}
+use Rattle.rv_reports.specs.declared.read.FirstWord.{FirstWord}
 use Rattle.rv_reports.specs.declared.read.ReadError.TheVariants.{Line, CutOff}
 use Rattle.std.proofs.lemmas.Bool.{and_parts}
 use Rattle.std.proofs.lemmas.Str.{IsUtf8-from_ascii}
@@ -13,8 +14,8 @@ use Rattle.std.specs.Str.{IsAscii, IsUtf8}
 use Rattle.rv_jobs.specs.JobList.{is_name, is_name_byte, is_within}
 use Rattle.std.specs.Prelude.{Result, Ok, Err, IfOk}
 use Rattle.rv_reports.specs.Said.{Gathered, with_line, with_lines, lines, place_of, number_on, word_on, digit_on}
-use Rattle.rv_reports.specs.Said.{hex_digit, is_word, is_hex}
-use Rattle.rv_reports.specs.Faults.{feeds, fault}
+use Rattle.rv_reports.specs.Said.{hex_digit, shifted, all_hex, is_hex}
+use Rattle.rv_reports.specs.Differences.{feeds, past, line_past, difference, difference_at}
 use Rattle.rv_jobs.specs.Jobs.{most_jobs}
 use Rattle.rv_rows.specs.Report.{row_text}
 use Rattle.rv_rows.specs.declared.row.Row.{Row}
@@ -51,14 +52,25 @@ pub word_end : (value : ℕ) (xs : List ℕ) (i : ℕ) → length xs ≤ i → w
 unfolding word_on
 word_end value xs i h = at_drop_all (word_on value) xs i h
 
-pub hex_step : (xs : List ℕ) (i : ℕ) → i < length xs
-    → is_word (drop i xs) ≡ (is_hex (get_or xs i 0) && is_word (drop (i + 1) xs))
-unfolding is_word
-hex_step xs i h = at_drop_more is_word xs i 0 h
+-- missing digits are zeros
+pub shifted_step : (i value : ℕ) → i < 8 → shifted (8 - i) value ≡ shifted (8 - (i + 1)) (digit_on 16 value 0)
+unfolding shifted
+shifted_step i value h =
+    let e : 8 - i ≡ suc (8 - (i + 1)) = omega arith in
+    ap (λ (n : ℕ). shifted n value) e
 
-pub hex_end : (xs : List ℕ) (i : ℕ) → length xs ≤ i → is_word (drop i xs) ≡ true
-unfolding is_word
-hex_end xs i h = at_drop_all is_word xs i h
+pub shifted_end : (i value : ℕ) → 8 ≤ i → shifted (8 - i) value ≡ value
+unfolding shifted
+shifted_end i value h = let e : 8 - i ≡ 0 = omega arith in ap (λ (n : ℕ). shifted n value) e
+
+pub hex_step : (xs : List ℕ) (i : ℕ) → i < length xs
+    → all_hex (drop i xs) ≡ (is_hex (get_or xs i 0) && all_hex (drop (i + 1) xs))
+unfolding all_hex
+hex_step xs i h = at_drop_more all_hex xs i 0 h
+
+pub hex_end : (xs : List ℕ) (i : ℕ) → length xs ≤ i → all_hex (drop i xs) ≡ true
+unfolding all_hex
+hex_end xs i h = at_drop_all all_hex xs i h
 
 pub feeds_step : (xs : List ℕ) (i : ℕ) → i < length xs
     → feeds (drop i xs) ≡ cond (get_or xs i 0 == 10) (feeds (drop (i + 1) xs) + 1) (feeds (drop (i + 1) xs))
@@ -125,12 +137,12 @@ place_later byte xs i h other =
     let e : (get_or xs i 0 == byte) ≡ false = grind arith in
     place_step byte xs i h ∙ ap (λ (t : Bool). cond t 0 (place_of byte (drop (i + 1) xs) + 1)) e
 
-pub hex_no : (xs : List ℕ) (i : ℕ) → i < length xs → is_hex (get_or xs i 0) ≡ false → is_word (drop i xs) ≡ false
-hex_no xs i h e = hex_step xs i h ∙ ap (λ (t : Bool). t && is_word (drop (i + 1) xs)) e
+pub hex_no : (xs : List ℕ) (i : ℕ) → i < length xs → is_hex (get_or xs i 0) ≡ false → all_hex (drop i xs) ≡ false
+hex_no xs i h e = hex_step xs i h ∙ ap (λ (t : Bool). t && all_hex (drop (i + 1) xs)) e
 
 pub hex_yes : (xs : List ℕ) (i : ℕ) → i < length xs → is_hex (get_or xs i 0) ≡ true
-    → is_word (drop i xs) ≡ is_word (drop (i + 1) xs)
-hex_yes xs i h e = hex_step xs i h ∙ ap (λ (t : Bool). t && is_word (drop (i + 1) xs)) e
+    → all_hex (drop i xs) ≡ all_hex (drop (i + 1) xs)
+hex_yes xs i h e = hex_step xs i h ∙ ap (λ (t : Bool). t && all_hex (drop (i + 1) xs)) e
 
 pub feeds_here : (xs : List ℕ) (i : ℕ) → i < length xs → get_or xs i 0 ≡ 10 → 0 < feeds (drop i xs)
 feeds_here xs i h is =
@@ -146,64 +158,60 @@ feeds_later xs i h other =
 
 -- ---- the first difference
 
-pub fault_end : (line : ℕ) (text bytes : List ℕ) (i : ℕ) → length bytes ≤ i → fault line text (drop i bytes) ≡ CutOff
-unfolding fault
-fault_end line [] bytes i h = at_drop_all (fault line []) bytes i h
-fault_end line (t ∷ ts) bytes i h = at_drop_all (fault line (t ∷ ts)) bytes i h
+pub difference_end : (line : ℕ) (met : FirstWord) (text bytes : List ℕ) (i : ℕ) → length bytes ≤ i
+    → difference line met text (drop i bytes) ≡ CutOff
+unfolding difference
+difference_end line met [] bytes i h = at_drop_all (difference line met []) bytes i h
+difference_end line met (t ∷ ts) bytes i h = at_drop_all (difference line met (t ∷ ts)) bytes i h
 
-pub fault_past : (line : ℕ) (text bytes : List ℕ) (i : ℕ) → length text ≤ i → i < length bytes
-    → fault line (drop i text) (drop i bytes) ≡ Line line
-unfolding fault
-fault_past line text bytes i h k = at_drop_all (λ (xs : List ℕ). fault line xs (drop i bytes)) text i h
-    ∙ at_drop_more (fault line []) bytes i 0 k
+pub difference_past : (line : ℕ) (met : FirstWord) (text bytes : List ℕ) (i : ℕ) → length text ≤ i → i < length bytes
+    → difference line met (drop i text) (drop i bytes) ≡ Line line
+unfolding difference
+difference_past line met text bytes i h k =
+    at_drop_all (λ (xs : List ℕ). difference line met xs (drop i bytes)) text i h
+    ∙ at_drop_more (difference line met []) bytes i 0 k
 
-fault_step : (line : ℕ) (text bytes : List ℕ) (i : ℕ) → i < length text → i < length bytes
-    → fault line (drop i text) (drop i bytes)
-    ≡ cond (get_or bytes i 0 == get_or text i 0) (fault (cond (get_or bytes i 0 == 10) (line + 1) line)
-    (drop (i + 1) text) (drop (i + 1) bytes))
-    (cond (feeds (get_or bytes i 0 ∷ drop (i + 1) bytes) == 0) CutOff (Line line))
-unfolding fault
-fault_step line text bytes i h k =
-    at_drop_more (λ (xs : List ℕ). fault line xs (drop i bytes)) text i 0 h
-    ∙ at_drop_more (fault line (get_or text i 0 ∷ drop (i + 1) text)) bytes i 0 k
+difference_step : (line : ℕ) (met : FirstWord) (text bytes : List ℕ) (i : ℕ) → i < length text → i < length bytes
+    → difference line met (drop i text) (drop i bytes)
+    ≡ cond (get_or bytes i 0 == get_or text i 0)
+    (difference (line_past line (get_or bytes i 0)) (past met (get_or bytes i 0)) (drop (i + 1) text)
+    (drop (i + 1) bytes))
+    (difference_at line met (get_or text i 0) (get_or bytes i 0 ∷ drop (i + 1) bytes))
+unfolding difference
+difference_step line met text bytes i h k =
+    at_drop_more (λ (xs : List ℕ). difference line met xs (drop i bytes)) text i 0 h
+    ∙ at_drop_more (difference line met (get_or text i 0 ∷ drop (i + 1) text)) bytes i 0 k
 
-pub fault_here : (line : ℕ) (text bytes : List ℕ) (i : ℕ) → i < length text → i < length bytes
+pub difference_here : (line : ℕ) (met : FirstWord) (text bytes : List ℕ) (i : ℕ) → i < length text → i < length bytes
     → (get_or bytes i 0 ≡ get_or text i 0 → ⊥)
-    → fault line (drop i text) (drop i bytes) ≡ cond (feeds (drop i bytes) == 0) CutOff (Line line)
-fault_here line text bytes i h k other =
+    → difference line met (drop i text) (drop i bytes) ≡ difference_at line met (get_or text i 0) (drop i bytes)
+difference_here line met text bytes i h k other =
     let e : (get_or bytes i 0 == get_or text i 0) ≡ false = grind arith in
-    fault_step line text bytes i h k
-    ∙ ap (λ (t : Bool). cond t (fault (cond (get_or bytes i 0 == 10) (line + 1) line) (drop (i + 1) text)
+    difference_step line met text bytes i h k
+    ∙ ap (λ (t : Bool). cond t
+    (difference (line_past line (get_or bytes i 0)) (past met (get_or bytes i 0)) (drop (i + 1) text)
     (drop (i + 1) bytes))
-    (cond (feeds (get_or bytes i 0 ∷ drop (i + 1) bytes) == 0) CutOff (Line line))) e
-    ∙ ap (λ (xs : List ℕ). cond (feeds xs == 0) CutOff (Line line)) (sym (drop_more bytes i 0 k))
+    (difference_at line met (get_or text i 0) (get_or bytes i 0 ∷ drop (i + 1) bytes))) e
+    ∙ ap (difference_at line met (get_or text i 0)) (sym (drop_more bytes i 0 k))
 
-pub fault_later : (line : ℕ) (text bytes : List ℕ) (i : ℕ) → i < length text → i < length bytes
-    → get_or bytes i 0 ≡ get_or text i 0
-    → fault line (drop i text) (drop i bytes) ≡ fault (cond (get_or bytes i 0 == 10) (line + 1) line)
-    (drop (i + 1) text) (drop (i + 1) bytes)
-fault_later line text bytes i h k same =
+pub difference_later : (line : ℕ) (met : FirstWord) (text bytes : List ℕ) (i : ℕ) → i < length text
+    → i < length bytes → get_or bytes i 0 ≡ get_or text i 0
+    → difference line met (drop i text) (drop i bytes)
+    ≡ difference (line_past line (get_or bytes i 0)) (past met (get_or bytes i 0)) (drop (i + 1) text)
+    (drop (i + 1) bytes)
+difference_later line met text bytes i h k same =
     let e : (get_or bytes i 0 == get_or text i 0) ≡ true = grind arith in
-    fault_step line text bytes i h k
-    ∙ ap (λ (t : Bool). cond t (fault (cond (get_or bytes i 0 == 10) (line + 1) line) (drop (i + 1) text)
+    difference_step line met text bytes i h k
+    ∙ ap (λ (t : Bool). cond t
+    (difference (line_past line (get_or bytes i 0)) (past met (get_or bytes i 0)) (drop (i + 1) text)
     (drop (i + 1) bytes))
-    (cond (feeds (get_or bytes i 0 ∷ drop (i + 1) bytes) == 0) CutOff (Line line))) e
+    (difference_at line met (get_or text i 0) (get_or bytes i 0 ∷ drop (i + 1) bytes))) e
 
-pub fault_feed : (line : ℕ) (text bytes : List ℕ) (i : ℕ) → i < length text → i < length bytes
-    → get_or bytes i 0 ≡ get_or text i 0 → get_or bytes i 0 ≡ 10
-    → fault line (drop i text) (drop i bytes) ≡ fault (line + 1) (drop (i + 1) text) (drop (i + 1) bytes)
-fault_feed line text bytes i h k same is =
-    let e : (get_or bytes i 0 == 10) ≡ true = grind arith in
-    fault_later line text bytes i h k same ∙ ap (λ (t : Bool). fault (cond t (line + 1) line) (drop (i + 1) text)
-    (drop (i + 1) bytes)) e
+pub line_fed : (b line : ℕ) → b ≡ 10 → line_past line b ≡ line + 1
+line_fed b line is = let e : (b == 10) ≡ true = grind arith in ap (λ (t : Bool). cond t (line + 1) line) e
 
-pub fault_plain : (line : ℕ) (text bytes : List ℕ) (i : ℕ) → i < length text → i < length bytes
-    → get_or bytes i 0 ≡ get_or text i 0 → (get_or bytes i 0 ≡ 10 → ⊥)
-    → fault line (drop i text) (drop i bytes) ≡ fault line (drop (i + 1) text) (drop (i + 1) bytes)
-fault_plain line text bytes i h k same other =
-    let e : (get_or bytes i 0 == 10) ≡ false = grind arith in
-    fault_later line text bytes i h k same ∙ ap (λ (t : Bool). fault (cond t (line + 1) line) (drop (i + 1) text)
-    (drop (i + 1) bytes)) e
+pub line_same : (b line : ℕ) → (b ≡ 10 → ⊥) → line_past line b ≡ line
+line_same b line other = let e : (b == 10) ≡ false = grind arith in ap (λ (t : Bool). cond t (line + 1) line) e
 
 -- ---- lines, taken one by one
 

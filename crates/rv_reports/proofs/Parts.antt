@@ -1,12 +1,12 @@
 -- The last line, and what it says.
 use Rattle.std.proofs.Common.{◌≡◌, ◌∙◌, ◌==◌, ◌+◌, ◌<◌, ◌≤◌, ◌^◌, ℕ, suc, Bool, true, false, ◌&&◌, not, cond, List, []}
-use Rattle.std.proofs.Common.{◌∷◌, ◌++◌, length, take, drop, refl, sym, ap, arith, append_assoc, append-nil}
-use Rattle.std.proofs.Common.{length-append, add-one}
-use Rattle.std.specs.Prelude.{codes, nat_le, nat_lt}
+use Rattle.std.proofs.Common.{◌∷◌, ◌++◌, length, take, drop, refl, ap, arith, append_assoc}
+use Rattle.std.proofs.Common.{add-one}
+use Rattle.std.specs.Prelude.{codes, nat_le}
 use Rattle.std.proofs.lemmas.Bool.{and_parts}
 use Rattle.std.proofs.lemmas.Bool.Decides.{nat_tests}
 use Rattle.std.specs.Fmt.{decimal}
-use Rattle.rv_jobs.specs.JobList.{is_name, is_within, is_name_byte}
+use Rattle.rv_jobs.specs.JobList.{is_name}
 use Rattle.rv_jobs.specs.Jobs.{most_jobs}
 use Rattle.rv_rows.specs.declared.row.Row.{Row}
 use Rattle.rv_rows.specs.Report.{line, done_line}
@@ -14,7 +14,7 @@ use Rattle.rv_reports.specs.declared.saved.Extent.{Extent}
 use Rattle.rv_reports.specs.declared.saved.Extent.TheVariants.{Whole, Choice}
 use Rattle.rv_reports.specs.declared.saved.Extent.TheVariants as extent
 use Rattle.rv_reports.specs.declared.saved.Shard.{Shard}
-use Rattle.rv_reports.specs.Said.{before, after, number_of, name_or_dash, shard_of, part_of, Gathered, whole, over}
+use Rattle.rv_reports.specs.Said.{before, after, number_of, name_or_dash, shard_of, part_of, whole, over}
 use Rattle.rv_reports.specs.Said.{between, with_line, place_of}
 use Rattle.rv_reports.specs.Saved.{part_words, shard_words, last_line, is_shard, are_rising, are_stepped, fits}
 use Rattle.rv_reports.proofs.Pieces.{lacks, lacks-append, before_at, after_at}

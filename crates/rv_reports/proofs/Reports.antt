@@ -1,28 +1,24 @@
 -- What is written is read again.
-use Rattle.std.proofs.Common.{◌≡◌, ◌∙◌, ◌==◌, ◌+◌, ◌-◌, ◌*◌, ◌<◌, ◌≤◌, ◌^◌, ℕ, suc, Bool, true, false, ◌&&◌, not, cond}
-use Rattle.std.proofs.Common.{List, [], ◌∷◌, ◌++◌, length, take, map, refl, sym, ap, arith, append_assoc, append-nil}
-use Rattle.std.proofs.Common.{take_all}
-use Rattle.std.specs.Prelude.{codes, nat_le, nat_lt, min, is_some}
+use Rattle.std.proofs.Common.{◌≡◌, ◌∙◌, ◌+◌, ◌-◌, ◌<◌, ◌≤◌, ℕ, Bool, true, false, ◌&&◌, not, cond}
+use Rattle.std.proofs.Common.{List, [], ◌∷◌, ◌++◌, length, take, refl, sym, ap, arith, append_assoc, append-nil}
+use Rattle.std.proofs.Common.{take_all, length-append}
+use Rattle.std.specs.Prelude.{nat_le, nat_lt, is_some}
 use Rattle.std.specs.List.{AllByRecursion}
 use Rattle.std.proofs.lemmas.Bool.{and_parts}
 use Rattle.std.proofs.lemmas.Bool.Decides.{nat_tests}
-use Rattle.std.specs.Fmt.{decimal}
-use Rattle.rv_jobs.specs.JobList.{is_name, place_in}
+use Rattle.rv_jobs.specs.JobList.{place_in}
 use Rattle.rv_jobs.specs.Jobs.{most_jobs}
 use Rattle.rv_rows.specs.declared.row.Row.{Row}
-use Rattle.rv_rows.specs.Report.{line, row_text, done_line}
-use Rattle.rv_reports.specs.declared.gathering.Stage.TheVariants as stage
+use Rattle.rv_rows.specs.Report.{line, row_text}
 use Rattle.rv_reports.specs.declared.saved.Extent.{Extent}
 use Rattle.rv_reports.specs.declared.saved.Extent.TheVariants.{Whole, Choice}
-use Rattle.rv_reports.specs.declared.saved.Extent.TheVariants as extent
-use Rattle.rv_reports.specs.declared.saved.Shard.{Shard}
 use Rattle.rv_reports.specs.declared.saved.SavedReport.{SavedReport}
-use Rattle.rv_reports.specs.Said.{lines, Gathered, whole, over, between, with_line, with_lines, finished, gathered}
+use Rattle.rv_reports.specs.Said.{lines, Gathered, whole, over, with_line, with_lines, finished, gathered}
 use Rattle.rv_reports.specs.Said.{said, rising_count, new_count, fitting}
 use Rattle.rv_reports.specs.Saved.{IsRow, IsListed, IsSaved, are_rising, are_new, fits, names_of, numbered_text}
-use Rattle.rv_reports.specs.Saved.{last_line, saved_text}
+use Rattle.rv_reports.specs.Saved.{saved_text}
+use Rattle.rv_reports.proofs.Cut.{length-names}
 use Rattle.rv_reports.proofs.Pieces.{lacks}
-use Rattle.rv_reports.proofs.Words.{lacks-decimal}
 use Rattle.rv_reports.proofs.Spelled.{says, says_line, row_says}
 use Rattle.rv_reports.proofs.Parts.{last_words, last_is_line, last_says, lacks-last, HasNumbers}
 
@@ -36,22 +32,25 @@ rising_parts before last n ns h =
 
 pub rows_say : (numbers : List ℕ) (rows : List Row) (rest earlier : List ℕ) (done : List Row) (e : Extent) (before : ℕ)
     → AllByRecursion IsRow rows → length numbers ≡ length rows → are_rising before most_jobs numbers ≡ true
+    → length done + length rows ≤ most_jobs
     → says (numbered_text numbers rows ++ rest) (whole earlier done e)
     ≡ says rest (whole (earlier ++ numbers) (done ++ rows) e)
 unfolding numbered_text
-rows_say [] [] rest earlier done e before each counted rising =
+rows_say [] [] rest earlier done e before each counted rising few =
     ap (λ (ns : List ℕ). says rest (whole ns done e)) (sym (append-nil earlier))
     ∙ ap (λ (t : List Row). says rest (whole (earlier ++ []) t e)) (sym (append-nil done))
-rows_say [] (row ∷ rows) rest earlier done e before each counted rising = absurd (omega arith)
-rows_say (n ∷ ns) [] rest earlier done e before each counted rising = absurd (omega arith)
-rows_say (n ∷ ns) (row ∷ rows) rest earlier done e before each counted rising =
+rows_say [] (row ∷ rows) rest earlier done e before each counted rising few = absurd (omega arith)
+rows_say (n ∷ ns) [] rest earlier done e before each counted rising few = absurd (omega arith)
+rows_say (n ∷ ns) (row ∷ rows) rest earlier done e before each counted rising few =
     let parts = rising_parts before most_jobs n ns rising in
     let low = parts.0 in
     let high = parts.1 in
     ap (λ (t : List ℕ). says t (whole earlier done e))
     (append_assoc (row_text (n - 1) row) (numbered_text ns rows) rest)
     ∙ row_says (n - 1) n row (numbered_text ns rows ++ rest) earlier done e each.0 (omega arith) (omega arith)
+    (omega arith)
     ∙ rows_say ns rows rest (earlier ++ n ∷ []) (done ++ row ∷ []) e n each.1 (omega arith) parts.2
+    (let longer = length-append done (row ∷ []) in omega arith)
     ∙ ap (λ (t : List ℕ). says rest (whole t ((done ++ row ∷ []) ++ rows) e)) (append_assoc earlier (n ∷ []) ns)
     ∙ ap (λ (t : List Row). says rest (whole (earlier ++ n ∷ ns) t e)) (append_assoc done (row ∷ []) rows)
 
@@ -66,7 +65,7 @@ finished_all : (numbers : List ℕ) (rows : List Row) (e : Extent)
 unfolding finished whole
 finished_all numbers rows e = refl
 
-gathered_all : (r : SavedReport) → IsSaved r → HasNumbers r.extent → length r.rows < 2 ^ 32
+gathered_all : (r : SavedReport) → IsSaved r → HasNumbers r.extent → length r.rows ≤ most_jobs
     → gathered (saved_text r) ≡ over (whole r.numbers r.rows r.extent)
 unfolding gathered saved_text
 gathered_all r h known few =
@@ -74,7 +73,7 @@ gathered_all r h known few =
     ap (λ (t : List ℕ). finished (says (numbered_text r.numbers r.rows ++ t) (whole [] [] Whole)))
     (last_is_line r.extent count)
     ∙ ap finished (rows_say r.numbers r.rows (line (last_words r.extent count)) [] [] Whole 0 h.rows h.listed.counted
-    h.listed.rising
+    h.listed.rising (omega arith)
     ∙ last_line_says (last_words r.extent count) (whole r.numbers r.rows Whole)
     (lacks-last r.extent count known (omega arith))
     ∙ last_says r.extent count r.numbers r.rows known (omega arith))
@@ -108,20 +107,19 @@ fitting_same : (e : Extent) (ns : List ℕ) → fits e ns ≡ true → fitting e
 unfolding fitting
 fitting_same e ns h = ap (λ (t : Bool). cond t e (Choice most_jobs)) h
 
-length-names : (rows : List Row) → length (names_of rows) ≡ length rows
-length-names [] = refl
-length-names (row ∷ rows) = ap suc (length-names rows)
-
--- what is kept of all that was gathered
-abbrev kept : ℕ → Gathered → SavedReport
-kept count g = record {
+-- what is kept of rows that were gathered
+abbrev kept : ℕ → List Row → Gathered → SavedReport
+kept count rows g = record {
   extent = fitting g.extent (take count g.numbers);
   numbers = take count g.numbers;
-  rows = take count g.rows;
+  rows = take count rows;
 }
 
+abbrev said_of : List Row → Gathered → SavedReport
+said_of rising g = kept (new_count [] (names_of rising)) rising g
+
 kept_all : (r : SavedReport) (count : ℕ) → IsListed r → count ≡ length r.rows
-    → kept count (over (whole r.numbers r.rows r.extent)) ≡ r
+    → kept count r.rows (over (whole r.numbers r.rows r.extent)) ≡ r
 unfolding whole
 kept_all r count h is =
     let ns : take count r.numbers ≡ r.numbers = let c = h.counted in take_all count r.numbers (omega arith) in
@@ -131,18 +129,17 @@ kept_all r count h is =
     ∙ ap (λ (e : Extent). record { extent = e; numbers = r.numbers; rows = r.rows })
     (fitting_same r.extent r.numbers h.fits)
 
-count_all : (r : SavedReport) → IsListed r
-    → min (rising_count 0 r.numbers) (new_count [] (names_of r.rows)) ≡ length r.rows
-count_all r h =
-    let a = rising_all 0 r.numbers h.rising in
-    let b = new_all [] (names_of r.rows) h.new ∙ length-names r.rows in
-    let c = h.counted in
-    omega arith
-
 -- a report says itself
-pub said-saved : (r : SavedReport) → IsSaved r → HasNumbers r.extent → length r.rows < 2 ^ 32 → said (saved_text r) ≡ r
+pub said-saved : (r : SavedReport) → IsSaved r → HasNumbers r.extent → length r.rows ≤ most_jobs
+    → said (saved_text r) ≡ r
 unfolding said whole
 said-saved r h known few =
-    ap (λ (g : Gathered). kept (min (rising_count 0 g.numbers) (new_count [] (names_of g.rows))) g)
-    (gathered_all r h known few)
-    ∙ kept_all r (min (rising_count 0 r.numbers) (new_count [] (names_of r.rows))) h.listed (count_all r h.listed)
+    let listed = h.listed in
+    let counted = listed.counted in
+    let all = rising_all 0 r.numbers listed.rising in
+    let rising : take (rising_count 0 r.numbers) r.rows ≡ r.rows =
+    take_all (rising_count 0 r.numbers) r.rows (omega arith) in
+    ap (λ (g : Gathered). said_of (take (rising_count 0 g.numbers) g.rows) g) (gathered_all r h known few)
+    ∙ ap (λ (rows : List Row). said_of rows (over (whole r.numbers r.rows r.extent))) rising
+    ∙ kept_all r (new_count [] (names_of r.rows)) listed
+    (new_all [] (names_of r.rows) listed.new ∙ length-names r.rows)

@@ -1,13 +1,12 @@
 -- The lines of a row, and what they say.
-use Rattle.std.proofs.Common.{◌≡◌, ◌∙◌, ◌==◌, ◌+◌, ◌-◌, ◌/◌, ◌%◌, ◌<◌, ◌≤◌, ◌^◌, ℕ, suc, Bool, true, false, ◌&&◌, not}
+use Rattle.std.proofs.Common.{◌≡◌, ◌∙◌, ◌==◌, ◌+◌, ◌/◌, ◌%◌, ◌<◌, ◌≤◌, ◌^◌, ℕ, suc, Bool, true, false, ◌&&◌, not}
 use Rattle.std.proofs.Common.{cond, List, [], ◌∷◌, ◌++◌, length, slice_index, take, drop, Option, Some, None, refl, sym}
 use Rattle.std.proofs.Common.{ap, arith, append_assoc, append-nil, length-append, subst, inl, inr}
-use Rattle.std.specs.Prelude.{codes, is_some, nat_le, nat_lt, replicate, if◌then◌else◌}
+use Rattle.std.specs.Prelude.{codes, is_some, nat_le, nat_lt, if◌then◌else◌}
 use Rattle.std.proofs.lemmas.Bool.{and_parts, and_from, cases_eq, false≢true}
 use Rattle.std.specs.List.{flat_map, list_all, AllByRecursion}
 use Rattle.std.specs.Fmt.{decimal}
 use Rattle.hex.specs.Hex.{IsBytes, encode_lower, encode_with, lower_digits}
-use Rattle.rv_elf.specs.declared.error.ImageError.{ImageError}
 use Rattle.rv_elf.specs.declared.error.ImageError.TheVariants as image
 use Rattle.rv_jobs.specs.JobList.{is_name, is_name_byte, is_within}
 use Rattle.rv_machine.specs.declared.ending.FaultKind.{FaultKind}
@@ -24,11 +23,13 @@ use Rattle.rv_rows.specs.Report.{line, word_digits, word_line, refusal_name, ref
 use Rattle.rv_rows.specs.Report.{or_dash, console_line, signature_lines, row_text}
 use Rattle.rv_reports.specs.declared.gathering.Stage.TheVariants as stage
 use Rattle.rv_reports.specs.declared.saved.Extent.{Extent}
-use Rattle.rv_reports.specs.Said.{lines, before, after, number_of, word_of, is_word, bytes_of, name_or_dash, job_of}
-use Rattle.rv_reports.specs.Said.{name_of, fault_or_first, refusal_or_first, fault_of, ending_of, verdict_of, number_on}
-use Rattle.rv_reports.specs.Said.{padded, most_padded, Gathered, whole, closed, over, next_row, between, at_ending}
+use Rattle.rv_reports.specs.Said.{lines, before, after, number_of, word_of, all_hex, bytes_of, name_or_dash}
+use Rattle.rv_reports.specs.Said.{job_of, name_of, fault_or_first, refusal_or_first, fault_of, ending_of, verdict_of}
+use Rattle.rv_reports.specs.Said.{number_on, Gathered, whole, closed, over, next_row, between, at_ending}
 use Rattle.rv_reports.specs.Said.{at_steps, at_console, at_signature, at_words, with_line, with_lines}
-use Rattle.rv_reports.specs.Saved.{IsWord, IsEnd, AreWords, IsRow}
+use Rattle.rv_jobs.specs.Jobs.{most_jobs}
+use Rattle.std.proofs.lemmas.Bool.Decides.{nat_tests}
+use Rattle.rv_reports.specs.Saved.{most_words, IsWord, IsEnd, AreWords, IsRow}
 use Rattle.rv_reports.proofs.Pieces.{lacks, lacks-append, lines_at, before_at, after_at, first_is_other}
 use Rattle.rv_reports.proofs.Words.{lacks-decimal, lacks-encode, lacks-digits, number_of-decimal, word_of-digits}
 use Rattle.rv_reports.proofs.Words.{is_word-digits, bytes_of-encode}
@@ -175,12 +176,16 @@ job_number n name h =
     ∙ ap number_of (before_at 32 (decimal n) name (lacks-decimal 32 n (omega arith) (omega arith)))
     ∙ number_of-decimal n h
 
-job_says : (n : ℕ) (name : List ℕ) (g : Gathered) → n < 2 ^ 32 → is_name name ≡ true
+job_says : (n : ℕ) (name : List ℕ) (g : Gathered) → n < 2 ^ 32 → is_name name ≡ true → length g.rows < most_jobs
     → with_line (codes "job " ++ decimal n ++ codes " " ++ name) (record g { stage = stage.Between })
     ≡ record g { number = n; name = name; begun = true; stage = stage.Ending }
 unfolding with_line between
-job_says n name g h is =
-    ap (λ (t : ℕ). record g {
+job_says n name g h is few =
+    let line = codes "job " ++ decimal n ++ codes " " ++ name in
+    let room : nat_lt (length g.rows) most_jobs ≡ true = grind (arith, nat_tests) in
+    ap (λ (t : Bool). cond t
+    (record g { number = job_of line; name = name_of line; begun = true; stage = stage.Ending }) (over g)) room
+    ∙ ap (λ (t : ℕ). record g {
       number = t;
       name = name_of (codes "job " ++ decimal n ++ codes " " ++ name);
       begun = true;
@@ -310,7 +315,8 @@ console_says bytes g h = console_text_says (or_dash (encode_lower bytes)) g
 -- what a line says that is no word
 abbrev no_word : List ℕ → Gathered → Gathered
 no_word line g =
-    if slice_index line 0 == 118 then closed (verdict_of line) (record g { stage = stage.Words })
+    if (slice_index line 0 == 118) && (length g.words == g.count) then
+    closed (verdict_of line) (record g { stage = stage.Words })
     else over g
 
 word_says : (w : ℕ) (g : Gathered) → w < 2 ^ 32 → length g.words < g.count
@@ -344,13 +350,18 @@ abbrev words_or_nil : Option (List ℕ) → List ℕ
 words_or_nil None = []
 words_or_nil (Some words) = words
 
-signature_text_says : (text : List ℕ) (g : Gathered)
+signature_text_says : (text : List ℕ) (g : Gathered) → nat_le (number_of text) most_words ≡ true
     → with_line (codes "signature " ++ text) (record g { stage = stage.Signature })
-    ≡ record g { signed = not (slice_index text 0 == 45); count = number_of text; stage = stage.Words }
+    ≡ record g { signed = not (slice_index text 0 == 45); count = number_of text; words = []; stage = stage.Words }
 unfolding with_line at_signature
-signature_text_says text g = refl
+signature_text_says text g small = ap (λ (t : Bool). cond t (record g {
+  signed = not (slice_index text 0 == 45);
+  count = number_of text;
+  words = [];
+  stage = stage.Words;
+}) (over g)) small
 
-signature_says : (s : Option (List ℕ)) (rest : List ℕ) (g : Gathered) → AreWords s → g.words ≡ []
+signature_says : (s : Option (List ℕ)) (rest : List ℕ) (g : Gathered) → AreWords s
     → says (signature_lines s ++ rest) (record g { stage = stage.Signature })
     ≡ says rest (record g {
       signed = is_some s;
@@ -360,35 +371,35 @@ signature_says : (s : Option (List ℕ)) (rest : List ℕ) (g : Gathered) → Ar
           stage.Words;
     })
 unfolding signature_lines number_on
-signature_says None rest g h fresh =
+signature_says None rest g h =
     says_line (codes "signature -") rest (record g { stage = stage.Signature }) refl
-    ∙ ap (says rest) (signature_text_says (codes "-") g)
-    ∙ ap (λ (t : List ℕ). says rest (record g { signed = false; count = 0; words = t; stage = stage.Words })) fresh
-signature_says (Some ws) rest g h fresh =
+    ∙ ap (says rest) (signature_text_says (codes "-") g refl)
+signature_says (Some ws) rest g h =
     let n = length ws in
-    let few : length ws < 2 ^ 32 = h.0 in
-    let none : length g.words ≡ 0 = ap length fresh in
+    let few : length ws ≤ most_words = h.0 in
+    let value : number_of (decimal n) ≡ n = number_of-decimal n (omega arith) in
+    let small : nat_le (number_of (decimal n)) most_words ≡ true = grind (arith, nat_tests) in
     ap (λ (t : List ℕ). says t (record g { stage = stage.Signature }))
     (append_assoc (line (codes "signature " ++ decimal n)) (flat_map word_line ws) rest)
     ∙ says_line (codes "signature " ++ decimal n) (flat_map word_line ws ++ rest) (record g { stage = stage.Signature })
     (lacks-decimal 10 n (omega arith) (omega arith))
-    ∙ ap (says (flat_map word_line ws ++ rest)) (signature_text_says (decimal n) g)
+    ∙ ap (says (flat_map word_line ws ++ rest)) (signature_text_says (decimal n) g small)
     ∙ ap (λ (t : Bool). says (flat_map word_line ws ++ rest)
-    (record g { signed = not t; count = number_of (decimal n); stage = stage.Words }))
+    (record g { signed = not t; count = number_of (decimal n); words = []; stage = stage.Words }))
     (first_is_other 45 (decimal n) (omega arith) (lacks-decimal 45 n (omega arith) (omega arith)))
-    ∙ ap (λ (k : ℕ). says (flat_map word_line ws ++ rest) (record g { signed = true; count = k; stage = stage.Words }))
-    (number_of-decimal n few)
-    ∙ words_say ws rest (record g { signed = true; count = n }) h.1 (omega arith)
-    ∙ ap (λ (t : List ℕ). says rest (record g { signed = true; count = n; words = t ++ ws; stage = stage.Words })) fresh
+    ∙ ap (λ (k : ℕ). says (flat_map word_line ws ++ rest)
+    (record g { signed = true; count = k; words = []; stage = stage.Words }))
+    value
+    ∙ words_say ws rest (record g { signed = true; count = n; words = [] }) h.1 (omega arith)
 
 -- ---- the verdict's line
 
-verdict_says : (v : Verdict) (g : Gathered) → with_line (codes "verdict " ++ verdict_name v)
-    (record g { stage = stage.Words }) ≡ closed v g
-unfolding with_line at_words is_word verdict_of closed next_row
-verdict_says verdict.Unasked g = refl
-verdict_says verdict.Pass g = refl
-verdict_says verdict.Fail g = refl
+verdict_says : (v : Verdict) (g : Gathered) → (length g.words == g.count) ≡ true
+    → with_line (codes "verdict " ++ verdict_name v) (record g { stage = stage.Words }) ≡ closed v g
+unfolding with_line at_words all_hex verdict_of closed next_row
+verdict_says verdict.Unasked g full = ap (λ (t : Bool). cond t (closed verdict.Unasked g) (over g)) full
+verdict_says verdict.Pass g full = ap (λ (t : Bool). cond t (closed verdict.Pass g) (over g)) full
+verdict_says verdict.Fail g full = ap (λ (t : Bool). cond t (closed verdict.Fail g) (over g)) full
 
 lacks-verdict : (v : Verdict) → lacks 10 (codes "verdict " ++ verdict_name v) ≡ true
 lacks-verdict verdict.Unasked = refl
@@ -400,23 +411,12 @@ lacks-verdict verdict.Fail = refl
 regroup : (a b c d s v r : List ℕ) → a ++ b ++ c ++ d ++ s ++ v ++ r ≡ a ++ (b ++ (c ++ (d ++ (s ++ (v ++ r)))))
 regroup a b c d s v r = simp append_assoc
 
-either : (t : Bool) (words : List ℕ) → cond t words words ≡ words
-either true words = refl
-either false words = refl
-
-padded_whole : (words : List ℕ) → padded (length words) words ≡ words
-unfolding padded
-padded_whole words =
-    let none : length words - length words ≡ 0 = omega arith in
-    let same : words ++ replicate (length words - length words) 0 ≡ words = ap (λ (k : ℕ). words ++ replicate k 0) none
-    ∙ append-nil words in
-    ap (λ (t : List ℕ). cond (nat_le (length words) most_padded) t words) same
-    ∙ either (nat_le (length words) most_padded) words
-
-same_signature : (s : Option (List ℕ)) → cond (is_some s) (Some (padded (length (words_or_nil s)) (words_or_nil s)))
-    None ≡ s
+same_signature : (s : Option (List ℕ)) → cond (is_some s) (Some (words_or_nil s)) None ≡ s
 same_signature None = refl
-same_signature (Some words) = ap Some (padded_whole words)
+same_signature (Some words) = refl
+
+same_length : (n : ℕ) → (n == n) ≡ true
+same_length n = grind arith
 
 -- what is gathered when all lines of a row but the last are read
 abbrev pub up_to_verdict : ℕ → Row → List ℕ → List Row → Extent → Gathered
@@ -450,11 +450,11 @@ closed_is n row numbers rows extent =
 
 -- the row of the job of a number
 pub row_says : (place n : ℕ) (row : Row) (rest numbers : List ℕ) (rows : List Row) (extent : Extent) → IsRow row
-    → place + 1 ≡ n → n < 2 ^ 32
+    → place + 1 ≡ n → n < 2 ^ 32 → length rows < most_jobs
     → says (row_text place row ++ rest) (whole numbers rows extent)
     ≡ says rest (whole (numbers ++ n ∷ []) (rows ++ row ∷ []) extent)
 unfolding row_text console_line whole
-row_says place n row rest numbers rows extent is same small =
+row_says place n row rest numbers rows extent is same small few =
     let j = codes "job " ++ decimal n ++ codes " " ++ row.name in
     let e = end_words row.ending in
     let s = codes "steps " ++ decimal row.steps in
@@ -474,7 +474,7 @@ row_says place n row rest numbers rows extent is same small =
     ∙ ap (λ (t : List ℕ). says t g0)
     (regroup (line j) (end_line row.ending) (line s) (line c) (signature_lines row.signature) (line v) rest)
     ∙ says_line j (end_line row.ending ++ t1) g0 (lacks-job n row.name (omega arith) is.name)
-    ∙ ap (says (end_line row.ending ++ t1)) (job_says n row.name g0 small is.name)
+    ∙ ap (says (end_line row.ending ++ t1)) (job_says n row.name g0 small is.name few)
     ∙ ap (λ (t : List ℕ). says (t ++ t1) g1) (end_is_line row.ending)
     ∙ says_line e t1 g1 (lacks-end row.ending is.ending)
     ∙ ap (says t1) (end_says row.ending g1 is.ending)
@@ -482,7 +482,8 @@ row_says place n row rest numbers rows extent is same small =
     ∙ ap (says t2) (steps_says row.steps g2 is.steps)
     ∙ says_line c t3 g3 (lacks-shown row.console is.console)
     ∙ ap (says t3) (console_says row.console g3 is.console)
-    ∙ signature_says row.signature t4 g4 is.signature refl
+    ∙ signature_says row.signature t4 g4 is.signature
     ∙ says_line v rest (up_to_verdict n row numbers rows extent) (lacks-verdict row.verdict)
     ∙ ap (says rest) (verdict_says row.verdict (up_to_verdict n row numbers rows extent)
+    (same_length (length (words_or_nil row.signature)))
     ∙ closed_is n row numbers rows extent)

@@ -1,4 +1,6 @@
 -- Numbers and words, read as they are written.
+use Rattle.std.specs.Prelude.{nat_lt}
+use Rattle.std.proofs.Common.{length}
 use Rattle.std.proofs.Common.{◌≡◌, ◌∙◌, ◌==◌, ◌+◌, ◌-◌, ◌*◌, ◌/◌, ◌%◌, ◌<◌, ◌^◌, ℕ, zero, suc, Bool, true, ◌&&◌, not}
 use Rattle.std.proofs.Common.{List, [], ◌∷◌, ◌++◌, slice_index, refl, ap, arith, inl, inr}
 use Rattle.std.proofs.lemmas.Bool.{and_parts, and_from, cases_lt, eqb-true}
@@ -8,6 +10,7 @@ use Rattle.std.specs.Int.{w32, to_be_bytes}
 use Rattle.hex.specs.Hex.{IsBytes, encode_lower, encode_with, lower_digits}
 use Rattle.hex.proofs.HexLemmas.{decode_of-encode_lower}
 use Rattle.rv_rows.specs.Report.{word_digits}
+use Rattle.rv_reports.specs.Said.{shifted, all_hex}
 use Rattle.rv_reports.specs.Said.{number_on, number_of, digit_on, word_on, word_of, hex_digit, is_hex, is_word}
 use Rattle.rv_reports.specs.Said.{bytes_of, decoded}
 use Rattle.rv_reports.proofs.Pieces.{lacks, lacks-append}
@@ -69,13 +72,13 @@ digit_is_hex d h = holds_at (λ k. is_hex (slice_index lower_digits k)) 16 d ref
 digit_is_no_feed : (d : ℕ) → d < 16 → not (slice_index lower_digits d == 10) ≡ true
 digit_is_no_feed d h = holds_at (λ k. not (slice_index lower_digits k == 10)) 16 d refl h
 
-pub is_word-encode : (bs : List ℕ) → IsBytes bs → is_word (encode_lower bs) ≡ true
-unfolding is_word encode_with
-is_word-encode [] h = refl
-is_word-encode (b ∷ bs) h =
+pub all_hex-encode : (bs : List ℕ) → IsBytes bs → all_hex (encode_lower bs) ≡ true
+unfolding all_hex encode_with
+all_hex-encode [] h = refl
+all_hex-encode (b ∷ bs) h =
     let fits : b < 256 = h 0 in
     and_from _ _ (digit_is_hex (b / 16) (omega arith))
-    (and_from _ _ (digit_is_hex (b % 16) (omega arith)) (is_word-encode bs (λ i. h (suc i))))
+    (and_from _ _ (digit_is_hex (b % 16) (omega arith)) (all_hex-encode bs (λ i. h (suc i))))
 
 pub lacks-encode : (bs : List ℕ) → IsBytes bs → lacks 10 (encode_lower bs) ≡ true
 unfolding encode_with
@@ -99,7 +102,7 @@ byte_on value b bs fits small =
     ∙ ap (λ (v : ℕ). word_on v (encode_lower bs)) same
 
 four_bytes : (a b c d : ℕ) → a < 256 → b < 256 → c < 256 → d < 256
-    → word_of (encode_lower (a ∷ b ∷ c ∷ d ∷ [])) ≡ ((a * 256 + b) * 256 + c) * 256 + d
+    → word_on 0 (encode_lower (a ∷ b ∷ c ∷ d ∷ [])) ≡ ((a * 256 + b) * 256 + c) * 256 + d
 unfolding word_on encode_with
 four_bytes a b c d fa fb fc fd =
     byte_on 0 a (b ∷ c ∷ d ∷ []) fa (omega arith)
@@ -108,9 +111,15 @@ four_bytes a b c d fa fb fc fd =
     ∙ byte_on (((0 * 256 + a) * 256 + b) * 256 + c) d [] fd (omega arith)
     ∙ omega arith
 
+-- eight digits lack none
+all_there : (a b c d : ℕ) → word_of (encode_lower (a ∷ b ∷ c ∷ d ∷ [])) ≡ word_on 0 (encode_lower (a ∷ b ∷ c ∷ d ∷ []))
+unfolding word_of shifted encode_with
+all_there a b c d = refl
+
 pub word_of-digits : (w : ℕ) → w < 2 ^ 32 → word_of (word_digits w) ≡ w
 unfolding word_digits
-word_of-digits w h = four_bytes (w / 2 ^ 24 % 256) (w / 2 ^ 16 % 256) (w / 2 ^ 8 % 256) (w % 256) (omega arith)
+word_of-digits w h = all_there (w / 2 ^ 24 % 256) (w / 2 ^ 16 % 256) (w / 2 ^ 8 % 256) (w % 256)
+    ∙ four_bytes (w / 2 ^ 24 % 256) (w / 2 ^ 16 % 256) (w / 2 ^ 8 % 256) (w % 256) (omega arith)
     (omega arith) (omega arith) (omega arith) ∙ omega arith
 
 four_fit : (a b c d : ℕ) → a < 256 → b < 256 → c < 256 → d < 256 → IsBytes (a ∷ b ∷ c ∷ d ∷ [])
@@ -128,9 +137,16 @@ pub lacks-digits : (w : ℕ) → lacks 10 (word_digits w) ≡ true
 unfolding word_digits
 lacks-digits w = lacks-encode (to_be_bytes w32 w) (fits_digits w)
 
-pub is_word-digits : (w : ℕ) → is_word (word_digits w) ≡ true
+some_digits : (w : ℕ) → nat_lt 0 (length (word_digits w)) ≡ true
+unfolding word_digits encode_with
+some_digits w = refl
+
+all_digits : (w : ℕ) → all_hex (word_digits w) ≡ true
 unfolding word_digits
-is_word-digits w = is_word-encode (to_be_bytes w32 w) (fits_digits w)
+all_digits w = all_hex-encode (to_be_bytes w32 w) (fits_digits w)
+
+pub is_word-digits : (w : ℕ) → is_word (word_digits w) ≡ true
+is_word-digits w = and_from (nat_lt 0 (length (word_digits w))) (all_hex (word_digits w)) (some_digits w) (all_digits w)
 
 -- ---- bytes
 

@@ -1,4 +1,4 @@
 pub mod Saved
 pub mod Said
 pub mod View
-pub mod Faults
+pub mod Differences

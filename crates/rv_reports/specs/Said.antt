@@ -1,9 +1,9 @@
 -- What the lines of a text say. Any text says something: whether it is a report is seen by writing
 -- what it says.
-use Rattle.std.specs.Prelude.{◌==◌, if◌then◌else◌, ◌+◌, ◌-◌, ◌*◌, ◌^◌, ◌&&◌, ◌||◌, ℕ, nat_lt}
-use Rattle.std.specs.Prelude.{nat_le, min, Bool, true, false, not, List, [], ◌∷◌, ◌++◌, length}
-use Rattle.std.specs.Prelude.{replicate, take, drop, slice_index, Option, Some, None, Result, Ok}
-use Rattle.std.specs.Prelude.{Err, codes, is_some}
+use Rattle.std.specs.Prelude.{◌==◌, if◌then◌else◌, ◌+◌, ◌-◌, ◌*◌, ◌^◌, ◌&&◌, ◌||◌, ℕ, zero, suc}
+use Rattle.std.specs.Prelude.{nat_lt, nat_le, min, Bool, true, false, not, List, [], ◌∷◌, ◌++◌}
+use Rattle.std.specs.Prelude.{length, replicate, take, drop, slice_index, Option, Some, None}
+use Rattle.std.specs.Prelude.{Result, Ok, Err, codes, is_some}
 use Rattle.std.specs.List.{onto_first}
 use Rattle.hex.specs.Hex.{decode_of}
 use Rattle.hex.specs.declared.error.FromHexError.{FromHexError}
@@ -24,9 +24,8 @@ use Rattle.rv_reports.specs.declared.gathering.Stage.{Stage}
 use Rattle.rv_reports.specs.declared.gathering.Stage.TheVariants as stage
 use Rattle.rv_reports.specs.declared.saved.Extent.{Extent}
 use Rattle.rv_reports.specs.declared.saved.Extent.TheVariants as extent
-use Rattle.rv_reports.specs.declared.saved.Shard.{Shard}
 use Rattle.rv_reports.specs.declared.saved.SavedReport.{SavedReport}
-use Rattle.rv_reports.specs.Saved.{fits, names_of}
+use Rattle.rv_reports.specs.Saved.{fits, names_of, most_words}
 
 -- ---- lines, and the parts of a line
 
@@ -68,16 +67,27 @@ unfoldable pub word_on : ℕ → List ℕ → ℕ
 word_on value [] = value
 word_on value (b ∷ bs) = word_on (digit_on 16 value (hex_digit b)) bs
 
-abbrev pub word_of : List ℕ → ℕ
-word_of text = word_on 0 text
+-- a value with so many zeros behind it
+unfoldable pub shifted : ℕ → ℕ → ℕ
+shifted zero value = value
+shifted (suc count) value = shifted count (digit_on 16 value 0)
+
+-- digits that are missing of eight are zeros: so a word that is cut off differs from its report
+-- behind the cut
+unfoldable pub word_of : List ℕ → ℕ
+word_of text = shifted (8 - length (take 8 text)) (word_on 0 (take 8 text))
 
 abbrev pub is_hex : ℕ → Bool
 is_hex b = (nat_le 48 b && nat_le b 57) || (nat_le 97 b && nat_le b 102)
 
--- whether each byte is a lower-case hexadecimal digit, as in no other line of a report
-unfoldable pub is_word : List ℕ → Bool
-is_word [] = true
-is_word (b ∷ bs) = is_hex b && is_word bs
+-- whether each byte is a lower-case hexadecimal digit
+unfoldable pub all_hex : List ℕ → Bool
+all_hex [] = true
+all_hex (b ∷ bs) = is_hex b && all_hex bs
+
+-- a word, or a beginning of one, as no other line of a report is
+abbrev pub is_word : List ℕ → Bool
+is_word line = nat_lt 0 (length line) && all_hex line
 
 abbrev pub decoded : Result (List ℕ) FromHexError → List ℕ
 decoded (Ok bytes) = bytes
@@ -192,15 +202,10 @@ whole numbers rows extent = record {
   stage = stage.Between;
 }
 
--- the most words that a signature which is cut off is filled up to, as many as one can have
-abbrev pub most_padded : ℕ
-most_padded = 65536
-
 -- words that are missing are zeros: so a signature that is cut off differs from its report behind
 -- the cut
 unfoldable pub padded : ℕ → List ℕ → List ℕ
-padded count words =
-    if nat_le count most_padded then words ++ replicate (count - length words) 0 else words
+padded count words = words ++ replicate (count - length words) 0
 
 unfoldable pub next_row : Verdict → Gathered → Row
 next_row verdict g = record {
@@ -208,7 +213,7 @@ next_row verdict g = record {
   ending = g.ending;
   steps = g.steps;
   console = g.console;
-  signature = if g.signed then Some (padded g.count g.words) else None;
+  signature = if g.signed then Some g.words else None;
   verdict = verdict;
 }
 
@@ -221,10 +226,10 @@ closed verdict g =
 abbrev pub over : Gathered → Gathered
 over g = record g { stage = stage.Over }
 
--- a job's first line, or the last of all
+-- a job's first line, if there can be one more, or the last of all
 unfoldable pub between : List ℕ → Gathered → Gathered
 between line g =
-    if slice_index line 0 == 106 then
+    if (slice_index line 0 == 106) && nat_lt (length g.rows) most_jobs then
     record g { number = job_of line; name = name_of line; begun = true; stage = stage.Ending }
     else if slice_index line 0 == 112 then over (record g { extent = part_of line })
     else over g
@@ -246,24 +251,26 @@ at_console line g =
     record g { console = bytes_of (drop 8 line); stage = stage.Signature }
     else over g
 
--- a dash stands for no signature
+-- a dash stands for no signature, and says 0 words
 unfoldable pub at_signature : List ℕ → Gathered → Gathered
 at_signature line g =
-    if (slice_index line 0 == 115) && (slice_index line 1 == 105) then
+    if ((slice_index line 0 == 115) && (slice_index line 1 == 105))
+    && nat_le (number_of (drop 10 line)) most_words then
     record g {
       signed = not (slice_index line 10 == 45);
       count = number_of (drop 10 line);
-      stage =
-          stage.Words;
+      words = [];
+      stage = stage.Words;
     }
     else over g
 
--- a word of the signature, or the verdict
+-- a word of the signature, or the verdict once all words are there
 unfoldable pub at_words : List ℕ → Gathered → Gathered
 at_words line g =
     if is_word line && nat_lt (length g.words) g.count then
     record g { words = g.words ++ word_of line ∷ [] }
-    else if slice_index line 0 == 118 then closed (verdict_of line) g
+    else if (slice_index line 0 == 118) && (length g.words == g.count) then
+    closed (verdict_of line) g
     else over g
 
 abbrev pub with_line_at : Stage → List ℕ → Gathered → Gathered
@@ -284,7 +291,8 @@ with_lines (line ∷ lines) g = with_lines lines (with_line line g)
 
 -- a row that isn't whole at the end is one too
 unfoldable pub finished : Gathered → Gathered
-finished g = if g.begun then closed verdict.Unasked g else g
+finished g =
+    if g.begun then closed verdict.Unasked (record g { words = padded g.count g.words }) else g
 
 unfoldable pub gathered : List ℕ → Gathered
 gathered text = finished (with_lines (lines text) (whole [] [] extent.Whole))
@@ -311,9 +319,10 @@ fitting e numbers = if fits e numbers then e else extent.Choice most_jobs
 unfoldable pub said : List ℕ → SavedReport
 said text =
     let g = gathered text in
-    let count = min (rising_count 0 g.numbers) (new_count [] (names_of g.rows)) in
+    let rising = take (rising_count 0 g.numbers) g.rows in
+    let count = new_count [] (names_of rising) in
     record {
       extent = fitting g.extent (take count g.numbers);
       numbers = take count g.numbers;
-      rows = take count g.rows;
+      rows = take count rising;
     }

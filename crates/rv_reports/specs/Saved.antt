@@ -2,7 +2,7 @@
 -- good.
 use Rattle.std.specs.Prelude.{◌≡◌, ◌==◌, ◌+◌, ◌-◌, ◌^◌, ◌<◌, ◌≤◌, ℕ, List, [], ◌∷◌, ◌++◌, length}
 use Rattle.std.specs.Prelude.{map, Option, Some, None, Bool, true, ◌&&◌, not, nat_le, nat_lt, codes}
-use Rattle.std.specs.Prelude.{if◌then◌else◌, is_some}
+use Rattle.std.specs.Prelude.{is_some}
 use Rattle.std.specs.List.{AllByRecursion, list_all}
 use Rattle.std.specs.Fmt.{decimal}
 use Rattle.hex.specs.Hex.{IsBytes}
@@ -10,7 +10,6 @@ use Rattle.rv_elf.specs.declared.error.ImageError.TheVariants as image
 use Rattle.rv_jobs.specs.JobList.{is_name, place_in}
 use Rattle.rv_jobs.specs.Jobs.{most_jobs}
 use Rattle.rv_rows.specs.Report.{line, row_text, done_line}
-use Rattle.rv_rows.specs.declared.row.Refusal.{Refusal}
 use Rattle.rv_rows.specs.declared.row.Refusal.TheVariants as refusal
 use Rattle.rv_rows.specs.declared.row.Row.{Row}
 use Rattle.rv_rows.specs.declared.row.RowEnd.{RowEnd}
@@ -81,9 +80,13 @@ IsEnd (ending.Fault kind pc value) = IsWord pc × IsWord value
 IsEnd ending.Budget = Unit {0}
 IsEnd (ending.Refused why) = why ≡ refusal.Image image.OutOfMemory → ⊥
 
+-- the most words of a signature
+abbrev pub most_words : ℕ
+most_words = 65536
+
 abbrev pub AreWords : Option (List ℕ) → Type 0
 AreWords None = Unit {0}
-AreWords (Some words) = (length words < 2 ^ 32) × AllByRecursion IsWord words
+AreWords (Some words) = (length words ≤ most_words) × AllByRecursion IsWord words
 
 -- a row with a name of 1 to 64 letters, digits, `.`, `_` and `-`, and with numbers of 32 bits
 pub record IsRow (row : Row) : Type 0 where

@@ -3,8 +3,8 @@
 ghost use Rattle.std.specs.Prelude.{◌≡◌, ◌≤◌, IfOk, take, drop, slice_index, string_bytes, length};
 ghost use Rattle.std.specs.List.{list_all};
 ghost use Rattle.rv_jobs.specs.JobList.{is_name, is_name_byte};
-ghost use Rattle.rv_reports.specs.Said.{place_of, before, after, number_of, hex_digit, word_of, is_hex, is_word};
-ghost use Rattle.rv_reports.specs.Said.{bytes_of, name_or_dash};
+ghost use Rattle.rv_reports.specs.Said.{all_hex, word_on, place_of, before, after, number_of, hex_digit, word_of};
+ghost use Rattle.rv_reports.specs.Said.{is_hex, is_word, bytes_of, name_or_dash};
 
 use hex::FromHexError;
 use std::alloc::{AllocError, Global};
@@ -82,12 +82,24 @@ fn hex_digit(b: u8) -> u8
     if b < 97 { b.saturating_sub(48) } else { b - 87 }
 }
 
-/// The word that hexadecimal digits write.
+/// The word that up to eight hexadecimal digits begin, the rest of which are zeros.
+#[tactic(auto, unfolding(crate::specs::Said::word_of))]
 pub(crate) fn word_of(text: &[u8]) -> u32
     ensures { result ≡ word_of text.now }
 {
+    let digits = front(text, 8);
+    let mut value = word_on(digits);
+    for _ in digits.len()..8 {
+        value = value.saturating_mul(16);
+    }
+    value
+}
+
+fn word_on(digits: &[u8]) -> u32
+    ensures { result ≡ word_on 0 digits.now }
+{
     let mut value: u32 = 0;
-    for b in text {
+    for b in digits {
         value = value
             .saturating_mul(16)
             .saturating_add(u32::from(hex_digit(*b)));
@@ -101,9 +113,15 @@ fn is_hex(b: u8) -> bool
     (48 <= b && b <= 57) || (97 <= b && b <= 102)
 }
 
-/// Whether each byte is a lower-case hexadecimal digit.
+/// Whether it is a word in lower-case hexadecimal digits, or a beginning of one.
 pub(crate) fn is_word(text: &[u8]) -> bool
     ensures { result ≡ is_word text.now }
+{
+    !text.is_empty() && all_hex(text)
+}
+
+fn all_hex(text: &[u8]) -> bool
+    ensures { result ≡ all_hex text.now }
 {
     for b in text {
         if !is_hex(*b) {

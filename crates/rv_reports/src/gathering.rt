@@ -9,6 +9,7 @@ ghost use Rattle.rv_reports.specs.View.{view};
 use crate::fields::{behind, byte_at, bytes_of, front, is_word, number_of, place_of, word_of};
 use crate::lines::{ending_of, job_of, name_of, part_of, verdict_of};
 use crate::saved::Extent;
+use rv_jobs::limits::MOST_JOBS;
 use rv_jobs::{Bytes, Text};
 use rv_rows::{Row, RowEnd, Verdict, Words};
 use std::alloc::{AllocError, Global};
@@ -47,8 +48,8 @@ pub(crate) enum Stage {
     Over,
 }
 
-/// The most words that a signature which is cut off is filled up to.
-const MOST_PADDED: u32 = 65_536;
+/// The most words of a signature.
+const MOST_WORDS: u32 = 65_536;
 
 /// What the lines of a text say.
 #[tactic(auto, unfolding(crate::specs::Said::gathered))]
@@ -108,7 +109,7 @@ fn add_between(alloc: Global, gathering: &mut Gathering, line: &[u8]) -> Result<
     ensures { OnOk result (view gathering.new ≡ between line.now (view gathering.old)) }
 {
     match byte_at(line, 0) {
-        b'j' => {
+        b'j' if gathering.rows.len() < MOST_JOBS => {
             gathering.name = name_of(alloc, line)?;
             gathering.number = job_of(line);
             gathering.begun = true;
@@ -164,9 +165,11 @@ fn add_console(alloc: Global, gathering: &mut Gathering, line: &[u8]) -> Result<
 fn add_signature(gathering: &mut Gathering, line: &[u8])
     ensures { view gathering.new ≡ at_signature line.now (view gathering.old) }
 {
-    if byte_at(line, 0) == b's' && byte_at(line, 1) == b'i' {
+    let count = number_of(behind(line, 10));
+    if byte_at(line, 0) == b's' && byte_at(line, 1) == b'i' && count <= MOST_WORDS {
         gathering.signed = byte_at(line, 10) != b'-';
-        gathering.count = number_of(behind(line, 10));
+        gathering.count = count;
+        gathering.words.clear();
         gathering.stage = Stage::Words;
     } else {
         gathering.stage = Stage::Over;
@@ -179,7 +182,7 @@ fn add_word(alloc: Global, gathering: &mut Gathering, line: &[u8]) -> Result<(),
 {
     if is_word(line) && gathering.words.len() < gathering.count as usize {
         gathering.words.push(word_of(line))?;
-    } else if byte_at(line, 0) == b'v' {
+    } else if byte_at(line, 0) == b'v' && gathering.words.len() == gathering.count as usize {
         close(alloc, gathering, verdict_of(line))?;
     } else {
         gathering.stage = Stage::Over;
@@ -193,6 +196,7 @@ fn finish(alloc: Global, gathering: &mut Gathering) -> Result<(), AllocError>
     ensures { OnOk result (view gathering.new ≡ finished (view gathering.old)) }
 {
     if gathering.begun {
+        pad(&mut gathering.words, gathering.count)?;
         close(alloc, gathering, Verdict::Unasked)?;
     }
     Ok(())
@@ -203,10 +207,8 @@ fn finish(alloc: Global, gathering: &mut Gathering) -> Result<(), AllocError>
 fn pad(words: &mut Vec<u32>, count: u32) -> Result<(), AllocError>
     ensures { OnOk result (words.new.items ≡ padded count words.old.items) }
 {
-    if count <= MOST_PADDED {
-        while words.len() < count as usize {
-            words.push(0)?;
-        }
+    while words.len() < count as usize {
+        words.push(0)?;
     }
     Ok(())
 }
@@ -219,8 +221,7 @@ fn close(alloc: Global, gathering: &mut Gathering, verdict: Verdict) -> Result<(
     let dash = String::from_str(alloc, "-")?;
     let name = mem::replace(&mut gathering.name, dash);
     let console = mem::replace(&mut gathering.console, Vec::new(alloc));
-    let mut words = mem::replace(&mut gathering.words, Vec::new(alloc));
-    pad(&mut words, gathering.count)?;
+    let words = mem::replace(&mut gathering.words, Vec::new(alloc));
     let signature = if gathering.signed {
         Some(Words::new(words))
     } else {

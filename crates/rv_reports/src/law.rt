@@ -1,6 +1,8 @@
 //! Laws of reports, with nothing to run.
 
 ghost use Rattle.std.specs.Prelude.{◌≡◌};
+ghost use Rattle.rv_rows.specs.Report.{report_text};
+ghost use Rattle.rv_reports.specs.declared.saved.Extent.TheVariants.{Whole};
 ghost use Rattle.rv_reports.specs.declared.saved.SavedReport.{SavedReport};
 ghost use Rattle.rv_reports.specs.Saved.{IsSaved, saved_text};
 
@@ -8,4 +10,10 @@ ghost use Rattle.rv_reports.specs.Saved.{IsSaved, saved_text};
 pub fn one_text_one_report()
     ensures { (report other : SavedReport) → IsSaved report → IsSaved other
         → saved_text report ≡ saved_text other → report ≡ other }
+{}
+
+/// The text of a whole report is that of its rows, as `rv_rows` writes them.
+pub fn whole_text_is_report_text()
+    ensures { (report : SavedReport) → IsSaved report → report.extent ≡ Whole
+        → saved_text report ≡ report_text report.rows }
 {}

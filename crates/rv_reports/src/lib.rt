@@ -14,6 +14,6 @@ mod said;
 mod saved;
 mod text;
 
-pub use law::one_text_one_report;
+pub use law::{one_text_one_report, whole_text_is_report_text};
 pub use read::{ReadError, read_report};
-pub use saved::{Extent, SavedReport, Shard};
+pub use saved::{Extent, Numbers, SavedReport, Shard};

@@ -3,12 +3,12 @@
 ghost use Rattle.std.specs.Prelude.{◌≡◌, ◌≤◌, [], IfOk, length};
 ghost use Rattle.rv_reports.specs.Said.{rising_count, new_count, fitting, said};
 ghost use Rattle.rv_jobs.specs.Jobs.{most_jobs};
-ghost use Rattle.rv_reports.specs.Saved.{names_of, IsListed};
+ghost use Rattle.rv_reports.specs.Saved.{names_of, IsSaved};
 
 use crate::gathering::gathered;
-use crate::saved::{Extent, SavedReport};
+use crate::saved::{Extent, Numbers, SavedReport};
 use rv_jobs::limits::MOST_JOBS;
-use rv_rows::{Row, Rows, Words};
+use rv_rows::{Row, Rows};
 use std::alloc::{AllocError, Global};
 use std::collections::BTreeMap;
 
@@ -16,18 +16,19 @@ use std::collections::BTreeMap;
 #[tactic(auto, unfolding(crate::specs::Said::said))]
 pub(crate) fn said(alloc: Global, text: &[u8]) -> Result<SavedReport, AllocError>
     ensures value { IfOk result (λ report. report ≡ said text.now) }
-    ensures listed { IfOk result (λ report. IsListed report) }
+    ensures good { IfOk result (λ report. IsSaved report) }
 {
     let gathering = gathered(alloc, text)?;
     let mut numbers = gathering.numbers;
     let mut rows = gathering.rows;
-    let count = rising_count(&numbers).min(new_count(alloc, &rows)?);
+    rows.truncate(rising_count(&numbers));
+    let count = new_count(alloc, &rows)?;
     numbers.truncate(count);
     rows.truncate(count);
     let extent = fitting(gathering.extent, &numbers);
     Ok(SavedReport {
         extent,
-        numbers: Words::new(numbers),
+        numbers: Numbers::new(numbers),
         rows: Rows::new(rows),
     })
 }

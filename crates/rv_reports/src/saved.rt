@@ -7,14 +7,18 @@ ghost use Rattle.rv_reports.specs.Saved.{are_rising, are_stepped, is_shard, fits
 use crate::fields::is_name;
 use rv_jobs::Text;
 use rv_jobs::limits::MOST_JOBS;
-use rv_rows::{Rows, Words};
+use rv_rows::Rows;
+use rv_sequence::Sequence;
+
+/// Numbers of jobs, of which contracts see their list.
+pub type Numbers = Sequence<u32>;
 
 /// Which jobs of its list a report has rows of.
 #[derive(Drop)]
 pub enum Extent {
     /// All of them.
     Whole,
-    /// A choice, of so many jobs.
+    /// Some of them, where the list has so many, up to 4,096.
     Choice(u32),
     /// Those of a shard.
     Shard(Shard),
@@ -38,7 +42,7 @@ pub struct Shard {
 pub struct SavedReport {
     pub extent: Extent,
     /// The number of each row's job in its list, from 1: rising, and as many as there are rows.
-    pub numbers: Words,
+    pub numbers: Numbers,
     pub rows: Rows,
 }
 

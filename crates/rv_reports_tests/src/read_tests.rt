@@ -5,8 +5,8 @@ use std::alloc::{AllocError, Global};
 use std::process::Abort;
 use std::test::Fail;
 
-// `$a 1` and so on stand for rows: see `row`.
-fn expanded(alloc: Global, text: &str) -> Result<String, AllocError> {
+// The lines that bars part; `$1 a` stands for the six of a row of job 1, named a.
+pub(crate) fn expanded(alloc: Global, text: &str) -> Result<String, AllocError> {
     let mut whole = String::new(alloc);
     for part in text.split('|') {
         match part.strip_prefix('$') {
@@ -58,23 +58,38 @@ fn report_text(alloc: Global, report: &SavedReport) -> Result<String, AllocError
     Ok(text)
 }
 
+pub(crate) fn error_text(alloc: Global, error: ReadError) -> Result<String, AllocError> {
+    match error {
+        ReadError::Line(line) => format!(in alloc; "line {line}"),
+        ReadError::CutOff => String::from_str(alloc, "cut off"),
+        ReadError::OutOfMemory => Err(AllocError),
+    }
+}
+
 // What reading a text answers.
 fn answer(alloc: Global, text: &[u8]) -> Result<String, AllocError> {
     match read_report(alloc, text) {
         Ok(report) => report_text(alloc, &report),
-        Err(ReadError::Line(line)) => format!(in alloc; "line {line}"),
-        Err(ReadError::CutOff) => String::from_str(alloc, "cut off"),
-        Err(ReadError::OutOfMemory) => Err(AllocError),
+        Err(error) => error_text(alloc, error),
     }
 }
 
-// Each line is an answer and a text, whose lines bars part; a `<` ends a text without a line feed.
-fn expect(rt: &impl Abort, alloc: Global, table: &str) -> Result<(), Fail> {
-    for line in table.lines() {
+// The bytes of a text in which `~` stands for 255, as no UTF-8 has it; a `<` at the end takes the last line feed away.
+fn bytes_of(alloc: Global, text: &str) -> Result<Vec<u8>, AllocError> {
+    let text = expanded(alloc, text)?;
+    let mut bytes = Vec::new(alloc);
+    for b in text.strip_suffix("<\n").unwrap_or(text.as_str()).as_bytes() {
+        bytes.push(if *b == b'~' { 255 } else { *b })?;
+    }
+    Ok(bytes)
+}
+
+// Each line is an answer and a text.
+pub(crate) fn expect(rt: &impl Abort, alloc: Global, table: &str) -> Result<(), Fail> {
+    for line in table.split('\n') {
         let (wanted, text) = line.split_once(" = ").ok_or("an answer and a text")?;
-        let text = expanded(alloc, text)?;
-        let text = text.strip_suffix("<\n").unwrap_or(text.as_str());
-        let found = answer(alloc, text.as_bytes())?;
+        let bytes = bytes_of(alloc, text)?;
+        let found = answer(alloc, bytes.as_slice())?;
         assert_eq!(rt; found.as_str(), wanted, "{line}");
     }
     Ok(())
@@ -86,7 +101,8 @@ whole; 1 a Exit(0) 5 [] - Unasked = $1 a|done 1
 whole; 1 a.B_c-9 Exit(4294967295) 1000000000 [0, 255, 10] [] Pass = \
 job 1 a.B_c-9|end exit 4294967295|steps 1000000000|console 00ff0a|signature 0|verdict pass|done 1
 whole; 1 x Fault(LoadAccess, 2147483784, 0) 0 [] [1, 4294967295] Fail = \
-job 1 x|end fault load-access pc=80000088 value=00000000|steps 0|console -|signature 2|00000001|ffffffff|verdict fail|done 1
+job 1 x|end fault load-access pc=80000088 value=00000000|steps 0|console -|signature 2|00000001|ffffffff\
+|verdict fail|done 1
 whole; 1 x Budget 7 [104] - Unasked; 2 y Refused(ReferenceTooLong) 0 [] - Unasked = \
 job 1 x|end budget|steps 7|console 68|signature -|verdict none\
 |job 2 y|end refused reference-too-long|steps 0|console -|signature -|verdict none|done 2
@@ -105,6 +121,21 @@ fn reads(rt: HostRuntime) -> Result<(), Fail> {
     expect(&rt, rt.alloc(), READ)
 }
 
+// Each report of the table, cut at each of its bytes.
+#[test]
+fn cut_anywhere(rt: HostRuntime) -> Result<(), Fail> {
+    let alloc = rt.alloc();
+    for line in READ.split('\n') {
+        let (_, text) = line.split_once(" = ").ok_or("an answer and a text")?;
+        let bytes = bytes_of(alloc, text)?;
+        for end in 0..bytes.len() {
+            let found = answer(alloc, &bytes[..end])?;
+            assert_eq!(rt; found.as_str(), "cut off", "{end} bytes of {line}");
+        }
+    }
+    Ok(())
+}
+
 const CUT_OFF: &str = "\
 cut off = <
 cut off = $1 a|<
@@ -117,12 +148,24 @@ cut off = job 1 a|end ex<
 cut off = job 1 a|end fault load-access pc=8000<
 cut off = job 1 a|end fault lo<
 cut off = job 1 a|end refused image-<
+cut off = job 1 a|end exit 0|ste<
+cut off = job 1 a|end exit 0|steps 5|con<
 cut off = job 1 a|end exit 0|steps 5|console 6<
+cut off = job 1 a|end exit 0|steps 5|console 68|s<
+cut off = job 1 a|end exit 0|steps 5|console 68|signature 65536<
+cut off = job 1 a|end exit 0|steps 5|console 68|signature 65536|<
 cut off = job 1 a|end exit 0|steps 5|console 68|signature 3|00000001|<
 cut off = job 1 a|end exit 0|steps 5|console 68|signature 65536|00000001|0000<
+cut off = job 1 a|end exit 0|steps 5|console 68|signature 0|verdict <
+cut off = $1 a|jo<
+cut off = $1 a|job 1<
+cut off = $2 a|job 1<
+cut off = $2 a|$3 b|job 2<
 cut off = $1 ab|job 2 a<
 cut off = $1 a|job 2 a<
-cut off = $1 a|part 1 of 5 sha<";
+cut off = $2 a|part 1<
+cut off = $1 a|part 1 of 5 sha<
+cut off = $2 a|part 1 of 2 shard 2/2 st<";
 
 #[test]
 fn cut_off(rt: HostRuntime) -> Result<(), Fail> {
@@ -137,11 +180,17 @@ line 7 = $1 a|done 01
 line 7 = $1 a|Done 1
 line 7 = $1 a|done 1 
 line 8 = $1 a|done 1|done 1
-line 8 = $1 a|done 1|<x
+line 8 = $1 a|done 1|x<
+line 8 = $1 a|done 1|job 2 b<
 line 7 = $2 a|done 1
 line 1 = $0 a|done 1
 line 1 = $01 a|done 1
 line 1 = $4097 a|part 1 of 4097
+line 1 = $18446744073709551617 a|done 1
+line 1 = done 18446744073709551616
+line 1 = part 18446744073709551616 of 5
+line 1 = part 0 of 18446744073709551616
+line 1 = part 0 of 5 shard 18446744073709551617/18446744073709551617 stamp a
 line 1 = job 1 |end exit 0
 line 1 = job 1 a/b|end exit 0
 line 1 = job 1 a b|end exit 0
@@ -151,6 +200,7 @@ line 7 = $1 a|$2 a|done 2
 line 13 = $1 a|$2 b|$3 a|done 3
 line 2 = job 1 a|end exit 05
 line 2 = job 1 a|end exit 4294967296
+line 2 = job 1 a|end exit 18446744073709551616
 line 2 = job 1 a|end fault load pc=80000088 value=00000000
 line 2 = job 1 a|end fault load-access pc=8000008A value=00000000
 line 2 = job 1 a|end fault load-access pc=80000088 value=0000000
@@ -159,11 +209,19 @@ line 2 = job 1 a|end refused image
 line 2 = job 1 a|steps 5
 line 3 = job 1 a|end exit 0|steps -5
 line 3 = job 1 a|end exit 0|steps 05
+line 3 = job 1 a|end exit 0|steps 18446744073709551621
 line 4 = job 1 a|end exit 0|steps 5|console
 line 4 = job 1 a|end exit 0|steps 5|console 6
 line 4 = job 1 a|end exit 0|steps 5|console 6A
 line 4 = job 1 a|end exit 0|steps 5|console zz
 line 5 = job 1 a|end exit 0|steps 5|console -|signature 00
+line 5 = job 1 a|end exit 0|steps 5|console -|signature 65537
+line 5 = job 1 a|end exit 0|steps 5|console -|signature 65537|00000001<
+line 5 = job 1 a|end exit 0|steps 5|console -|signature 4294967295
+line 5 = job 1 a|end exit 0|steps 5|console -|signature 18446744073709551616
+line 6 = job 1 a|end exit 0|steps 5|console -|signature 65536|verdict none
+line 6 = job 1 a|end exit 0|steps 5|console -|signature 1||verdict none
+line 6 = job 1 a|end exit 0|steps 5|console -|signature 1|0123|verdict none
 line 6 = job 1 a|end exit 0|steps 5|console -|signature -|00000001
 line 6 = job 1 a|end exit 0|steps 5|console -|signature -|verdict no
 line 6 = job 1 a|end exit 0|steps 5|console -|signature 1|0000000A
@@ -187,4 +245,52 @@ line 7 = $1 a|part 2 of 5";
 #[test]
 fn wrong_line(rt: HostRuntime) -> Result<(), Fail> {
     expect(&rt, rt.alloc(), WRONG)
+}
+
+// Bytes that no report has: none of UTF-8, zeros, and the line ends of other systems.
+const STRANGE: &str = "\
+line 1 = ~
+line 1 = done ~
+line 1 = job 1 ~|end exit 0
+line 2 = job 1 a|end ~
+line 2 = job 1 a|end fault ~ pc=80000088 value=00000000
+line 2 = job 1 a|end refused ~
+line 4 = job 1 a|end exit 0|steps 5|console ~~
+line 6 = job 1 a|end exit 0|steps 5|console -|signature 1|0000000~
+line 1 = part 0 of 5 shard 6/6 stamp ~
+line 1 = \0
+line 1 = done 0\0
+line 1 = job 1 a\0|end exit 0
+line 4 = job 1 a|end exit 0|steps 5|console \0
+line 2 = done 0|\0<
+line 1 = done 0\r
+line 1 = job 1 a\r|end exit 0\r
+line 2 = job 1 a|end budget\r|steps 5\r
+line 6 = job 1 a|end exit 0|steps 5|console -|signature -|verdict none\r|done 1\r";
+
+#[test]
+fn strange_bytes(rt: HostRuntime) -> Result<(), Fail> {
+    expect(&rt, rt.alloc(), STRANGE)
+}
+
+// Texts of another kind, and lines whose first word stands elsewhere, without their last line feed.
+const OTHER: &str = "\
+line 1 = 404: Not Found<
+line 1 = x<
+line 1 =  <
+line 1 = jobs<
+line 1 = donut<
+line 1 = end exit 0<
+line 2 = job 1 a|job 2<
+line 2 = job 1 a|done 1<
+line 2 = job 1 a|endless<
+line 6 = job 1 a|end exit 0|steps 5|console -|signature -|00000001<
+line 6 = job 1 a|end exit 0|steps 5|console -|signature 1|0000000g<
+line 6 = job 1 a|end exit 0|steps 5|console -|signature 1|000000001<
+line 7 = $1 a|x<
+line 7 = $2 a|d<";
+
+#[test]
+fn other_texts(rt: HostRuntime) -> Result<(), Fail> {
+    expect(&rt, rt.alloc(), OTHER)
 }

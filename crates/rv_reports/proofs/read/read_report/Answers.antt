@@ -1,4 +1,4 @@
-use Rattle.std.proofs.Common.{◌∙◌, refl, sym, ap}
+use Rattle.std.proofs.Common.{◌∙◌}
 use Rattle.rv_reports.proofs.Compared.{found_is, only_is, never, err_is, err_of, place_is}
 use Rattle.rv_reports.proofs.read.read_report.Goals as goal
 
@@ -14,8 +14,8 @@ returns-then-eq-clause-found c =
 pub returns-else-eq-clause-place : goal.returns-else-eq-clause-place
 returns-else-eq-clause-place c =
     let written = c.as_bytes-else-eq.ensures.value ∙ c.in_ok-text.ensures in
-    place_is c.args.bytes.now c.as_bytes-else-eq.result.now c.in_ok-report.report c.fault.result
-    c.in_ok-report.ensures.value written c.fault.ensures
+    place_is c.args.bytes.now c.as_bytes-else-eq.result.now c.in_ok-report.report c.difference.result
+    c.in_ok-report.ensures.value written c.difference.ensures
 
 pub returns-then-eq-clause-only : goal.returns-then-eq-clause-only
 returns-then-eq-clause-only c = only_is c.args.bytes.now c.in_ok-report.report c.in_ok-report.ensures.value
@@ -29,6 +29,6 @@ returns-else-eq-clause-only c = λ r h e.
 pub returns-else-eq-clause-err : goal.returns-else-eq-clause-err
 returns-else-eq-clause-err c =
     let written = c.as_bytes-else-eq.ensures.value ∙ c.in_ok-text.ensures in
-    err_is c.args.bytes.now c.as_bytes-else-eq.result.now c.in_ok-report.report c.fault.result
+    err_is c.args.bytes.now c.as_bytes-else-eq.result.now c.in_ok-report.report c.difference.result
     c.in_ok-report.ensures.value
-    written c.fault.ensures
+    written c.difference.ensures

@@ -1,4 +1,4 @@
-use Rattle.std.proofs.Common.{◌∙◌, sym, arith}
+use Rattle.std.proofs.Common.{arith}
 use Rattle.rv_reports.proofs.Loops.{count_no, count_on, count_end}
 use Rattle.rv_reports.proofs.said.rising_count.Goals.{then-number-before-via-then-number-before}
 use Rattle.rv_reports.proofs.said.rising_count.Goals.{then-number-before-via-else-number-before+then-number-gt-MOST_JOBS}

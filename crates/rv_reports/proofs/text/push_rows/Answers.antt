@@ -1,4 +1,4 @@
-use Rattle.std.proofs.Common.{◌≡◌, ◌∙◌, ◌++◌, ◌<◌, ℕ, List, get_or, refl, sym, ap, arith, append-nil, append_assoc, ◌-◌}
+use Rattle.std.proofs.Common.{◌∙◌, ◌++◌, ℕ, List, get_or, refl, sym, ap, arith, append-nil, append_assoc, ◌-◌}
 use Rattle.std.proofs.Common.{take, add-one}
 use Rattle.std.specs.Prelude.{string_bytes}
 use Rattle.rv_jobs.specs.Jobs.{most_jobs}

@@ -1,4 +1,4 @@
-use Rattle.std.proofs.Common.{◌∙◌, sym, arith}
+use Rattle.std.proofs.Common.{◌∙◌, sym}
 use Rattle.rv_reports.proofs.Parts.{is_part}
 use Rattle.rv_reports.proofs.saved.Shard.fits.Goals as goal
 
