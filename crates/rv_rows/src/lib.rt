@@ -27,6 +27,7 @@ pub use plan_rows::{next_row, row_at, run_one};
 pub use recent::Recent;
 pub use report::{Report, Rows, WriteError, push_done, push_row, write_report};
 pub use row::{Refusal, Row, RowEnd, Verdict, Words};
+pub use signature_lines::{LINE, line_of};
 pub use sink::{Sink, SinkFailed, put_all};
 pub use spare::Spare;
-pub use verdict::are_same;
+pub use verdict::{are_alike, are_same, holds_end, holds_exit, is_asked, is_run};

@@ -7,8 +7,8 @@ ghost use Rattle.rv_rows.specs.Report.{word_digits, word_line};
 
 use std::alloc::{AllocError, Global};
 
-/// How many bytes a line has: eight digits and a line feed.
-const LINE: usize = 9;
+/// How many bytes the line of a word has: eight digits and a line feed.
+pub const LINE: usize = 9;
 
 /// Appends a word's digits, the high ones first.
 #[tactic(auto, unfolding(crate::specs::Report::word_digits))]
@@ -49,8 +49,9 @@ pub(crate) fn are_word_lines(bytes: &[u8], words: &[u32]) -> bool
     rest.is_empty()
 }
 
+/// The line of a word.
 #[tactic(auto, unfolding(crate::specs::Report::word_digits))]
-fn line_of(word: u32) -> [u8; LINE]
+pub fn line_of(word: u32) -> [u8; LINE]
     ensures { result ≡ word_line word }
 {
     let mut digits = [0u8; LINE - 1];

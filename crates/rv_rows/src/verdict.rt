@@ -49,8 +49,8 @@ pub(crate) fn verdict(
     Verdict::Pass
 }
 
-// Whether a job expects something of its row.
-fn is_asked(job: &Job) -> bool
+/// Whether a job expects something of its row.
+pub fn is_asked(job: &Job) -> bool
     ensures { result ≡ is_asked job.now }
 {
     job.expect_exit.is_some()
@@ -60,7 +60,8 @@ fn is_asked(job: &Job) -> bool
         || job.same_as.is_some()
 }
 
-fn holds_exit(expected: Option<u32>, ending: RowEnd) -> bool
+/// Whether a run ended with the code that is expected, if one is.
+pub fn holds_exit(expected: Option<u32>, ending: RowEnd) -> bool
     ensures { result ≡ holds_exit expected ending }
 {
     match expected {
@@ -80,7 +81,8 @@ fn exits_with(code: u32, ending: RowEnd) -> bool
     }
 }
 
-fn holds_end(expected: Option<ExpectedEnd>, ending: RowEnd) -> bool
+/// Whether a run ended as is expected, if something is.
+pub fn holds_end(expected: Option<ExpectedEnd>, ending: RowEnd) -> bool
     ensures { result ≡ holds_end expected ending }
 {
     match expected {
@@ -135,7 +137,8 @@ fn holds_reference(expected: &Option<Text>, reference: Option<&[u8]>, outcome: &
     is_run(outcome.ending) && are_lines_of(bytes, &outcome.signature)
 }
 
-fn is_run(ending: RowEnd) -> bool
+/// Whether an ending is that of a run: any but a refusal.
+pub fn is_run(ending: RowEnd) -> bool
     ensures { result ≡ is_run ending }
 {
     !matches!(ending, RowEnd::Refused(_))
@@ -202,8 +205,8 @@ fn has_signature(run: &EndedRun, signature: &Option<Words>) -> bool
     }
 }
 
-// Whether two runs ended alike: by the same code, by the same kind of fault, or both by their budgets.
-fn are_alike(ending: RowEnd, other: RowEnd) -> bool
+/// Whether two runs ended alike: by the same code, by the same kind of fault, or both by their budgets.
+pub fn are_alike(ending: RowEnd, other: RowEnd) -> bool
     ensures { result ≡ are_alike ending other }
 {
     match (ending, other) {

@@ -1,0 +1,4 @@
+pub mod Difference
+pub mod Reference
+pub mod Unmet
+pub mod Telling

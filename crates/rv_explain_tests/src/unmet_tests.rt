@@ -1,0 +1,190 @@
+//! Which expectations are told of a row, and what differs first.
+use rv_explain::unmet_expectations;
+use rv_jobs::{Bytes, JobList, Text, read_jobs};
+use rv_machine::FaultKind;
+use rv_rows::{Refusal, Row, RowEnd, Verdict, Words};
+use std::alloc::{AllocError, Global};
+use std::process::Abort;
+use std::test::Fail;
+
+// Two jobs, of which the second has the keys.
+fn jobs_of(alloc: Global, keys: &str) -> Result<JobList, Fail> {
+    let text = format!(in alloc;
+        "job = [{{name = 'a', image = 'a', budget = 9}}, \
+         {{name = 'b', image = 'b', budget = 9, signature = ['x', 'y'], {keys}}}]"
+    )?;
+    Ok(read_jobs(alloc, text.as_bytes())?)
+}
+
+fn ending_of(word: &str) -> Result<RowEnd, Fail> {
+    match word {
+        "budget" => Ok(RowEnd::Budget),
+        "refused" => Ok(RowEnd::Refused(Refusal::ImageTooLong)),
+        _ => match FaultKind::named(word.as_bytes()) {
+            Some(kind) => Ok(RowEnd::Fault(kind, 4, 5)),
+            None => Ok(RowEnd::Exit(word.parse::<u32>()?)),
+        },
+    }
+}
+
+// Numbers that commas part; none in `.`.
+fn words_of(alloc: Global, numbers: &str) -> Result<Words, Fail> {
+    let mut words = Vec::new(alloc);
+    for number in numbers.split(',') {
+        if number != "." {
+            words.push(number.parse::<u32>()?)?;
+        }
+    }
+    Ok(Words::new(words))
+}
+
+// Bytes as they stand, none in `.`, and a line feed for each slash.
+fn bytes_of(alloc: Global, text: &str) -> Result<Vec<u8>, AllocError> {
+    let mut bytes = Vec::new(alloc);
+    for byte in text.bytes() {
+        match byte {
+            b'.' => {}
+            b'/' => bytes.push(b'\n')?,
+            _ => bytes.push(byte)?,
+        }
+    }
+    Ok(bytes)
+}
+
+// A word for the ending, the console's bytes, and the signature's words or a dash.
+fn row_of(alloc: Global, text: &str) -> Result<Row, Fail> {
+    let (ending, rest) = text.split_once(' ').ok_or("an ending")?;
+    let (console, words) = rest.split_once(' ').ok_or("a console and a signature")?;
+    let signature = match words {
+        "-" => None,
+        _ => Some(words_of(alloc, words)?),
+    };
+    Ok(Row {
+        name: Text::new(String::from_str(alloc, "b")?),
+        ending: ending_of(ending)?,
+        steps: 7,
+        console: Bytes::new(bytes_of(alloc, console)?),
+        signature,
+        verdict: Verdict::Fail,
+    })
+}
+
+// What is told of a row; a dash stands for a file, or a row, that is not there.
+fn told(alloc: Global, keys: &str, row: &str, file: &str, other: &str) -> Result<String, Fail> {
+    let jobs = jobs_of(alloc, keys)?;
+    let job = jobs.as_slice().last().ok_or("two jobs")?;
+    let row = row_of(alloc, row)?;
+    let file = match file {
+        "-" => None,
+        _ => Some(bytes_of(alloc, file)?),
+    };
+    let other = match other {
+        "-" => None,
+        _ => Some(row_of(alloc, other)?),
+    };
+    let bytes = file.as_ref().map(|file| file.as_slice());
+    let unmet = unmet_expectations(alloc, job, &row, bytes, bytes, other.as_ref())?;
+    let unmet = unmet.as_slice();
+    Ok(format!(in alloc; "{unmet:?}")?)
+}
+
+// Each line has what is told, the job's keys, its row, the file and the row of the named job.
+fn expect(rt: &impl Abort, alloc: Global, table: &str) -> Result<(), Fail> {
+    for line in table.lines() {
+        let mut parts = line.split(" | ");
+        let wanted = parts.next().ok_or("what is told")?;
+        let keys = parts.next().ok_or("the keys")?;
+        let row = parts.next().ok_or("the row")?;
+        let file = parts.next().unwrap_or("-");
+        let other = parts.next().unwrap_or("-");
+        let found = told(alloc, keys, row, file, other)?;
+        assert_eq!(rt; found.as_str(), wanted, "{line}");
+    }
+    Ok(())
+}
+
+const ENDINGS: &str = "\
+[] | expect_exit = 3 | 3 . -
+[Exit] | expect_exit = 3 | 4 . -
+[Exit] | expect_exit = 0 | budget . -
+[Exit] | expect_exit = 4 | illegal . -
+[] | expect_end = 'budget' | budget . -
+[End] | expect_end = 'budget' | 0 . -
+[] | expect_end = 'illegal' | illegal . -
+[End] | expect_end = 'illegal' | load-access . -
+[Nothing] | input = '' | 1 . -
+[Nothing] | input = '' | budget . -
+[Nothing] | input = '' | illegal . -
+[] | input = '' | 0 . -
+[] | input = '' | refused . -
+[] | expect_exit = 3, expect_console = 'a', same_as = 'a' | refused . -";
+
+#[test]
+fn endings(rt: HostRuntime) -> Result<(), Fail> {
+    expect(&rt, rt.alloc(), ENDINGS)
+}
+
+const CONSOLES: &str = "\
+[] | expect_console = 'abc' | 1 abc -
+[Console(At(0))] | expect_console = 'abc' | 0 xbc -
+[Console(At(2))] | expect_console = 'abc' | 0 abxyz -
+[Console(At(1))] | expect_console = 'abcb' | 0 axcx -
+[Console(Lengths)] | expect_console = 'abc' | 0 ab -
+[Console(Lengths)] | expect_console = 'abc' | 0 abcd -
+[Console(Lengths)] | expect_console = '' | 0 a -
+[] | expect_console_file = 'f' | 0 ab - | ab
+[Console(At(1))] | expect_console_file = 'f' | 0 ab - | aa
+[Console(Absent)] | expect_console_file = 'f' | 0 . -
+[Exit, End, Console(Lengths), Signature(Absent), Same(Absent)] | \
+expect_exit = 1, expect_end = 'budget', expect_console = 'a', expect_signature = 'f', same_as = 'a' | 0 . -";
+
+#[test]
+fn consoles(rt: HostRuntime) -> Result<(), Fail> {
+    expect(&rt, rt.alloc(), CONSOLES)
+}
+
+const SIGNATURES: &str = "\
+[] | expect_signature = 'f' | 0 . 10,4294967295 | 0000000a/ffffffff/
+[] | expect_signature = 'f' | 0 . . | .
+[] | expect_signature = 'f' | 0 . - | .
+[Signature(Absent)] | expect_signature = 'f' | 0 . 10
+[Signature(Word(0))] | expect_signature = 'f' | 0 . 11,4294967295 | 0000000a/ffffffff/
+[Signature(Word(1))] | expect_signature = 'f' | 0 . 10,1,2 | 0000000a/00000002/00000003/
+[Signature(Word(1))] | expect_signature = 'f' | 0 . 10,1 | 0000000a/00000002/00000003/
+[Signature(Count)] | expect_signature = 'f' | 0 . 10 | 0000000a/ffffffff/
+[Signature(Count)] | expect_signature = 'f' | 0 . 10,2 | 0000000a/
+[Signature(Count)] | expect_signature = 'f' | 0 . 10 | .
+[Signature(Count)] | expect_signature = 'f' | 0 . - | 0000000a/
+[Signature(Line(1))] | expect_signature = 'f' | 0 . 10 | 0000000A/
+[Signature(Line(1))] | expect_signature = 'f' | 0 . 10 | 0000000a
+[Signature(Line(2))] | expect_signature = 'f' | 0 . 10,11 | 0000000a/0000000b
+[Signature(Line(2))] | expect_signature = 'f' | 0 . 11 | 0000000a/0000000g/0000000h/
+[Signature(Line(2))] | expect_signature = 'f' | 0 . 10 | 0000000a//
+[Signature(Line(1))] | expect_signature = 'f' | 0 . 10 | 000000a/
+[Signature(Line(1))] | expect_signature = 'f' | 0 . 10 | 00000000a/
+[Signature(Line(1))] | expect_signature = 'f' | 0 . 10 | 0x00000a/
+[Signature(Line(3))] | expect_signature = 'f' | 0 . 10,11 | 0000000a/0000000b/ 000000c/";
+
+#[test]
+fn signatures(rt: HostRuntime) -> Result<(), Fail> {
+    expect(&rt, rt.alloc(), SIGNATURES)
+}
+
+const SAME: &str = "\
+[] | same_as = 'a' | 3 ab 1,2 | - | 3 ab 1,2
+[] | same_as = 'a' | illegal ab - | - | illegal ab -
+[Same(Absent)] | same_as = 'a' | 3 ab -
+[Same(Ending)] | same_as = 'a' | 3 ab 1 | - | 4 ab 2
+[Same(Ending)] | same_as = 'a' | illegal ab - | - | breakpoint ax -
+[Same(Ending)] | same_as = 'a' | 0 . - | - | refused . -
+[Same(Console(At(1)))] | same_as = 'a' | 3 ab 1 | - | 3 ax 2
+[Same(Console(Lengths))] | same_as = 'a' | 3 ab 1 | - | 3 a 2
+[Same(Signature(At(1)))] | same_as = 'a' | 3 ab 1,2,3 | - | 3 ab 1,3,2
+[Same(Signature(Lengths))] | same_as = 'a' | 3 ab 1,2,3 | - | 3 ab 1,2
+[Same(Signature(Absent))] | same_as = 'a' | 3 ab - | - | 3 ab 1
+[Same(Signature(Absent))] | same_as = 'a' | 3 ab . | - | 3 ab -";
+
+#[test]
+fn same_as_another(rt: HostRuntime) -> Result<(), Fail> {
+    expect(&rt, rt.alloc(), SAME)
+}
