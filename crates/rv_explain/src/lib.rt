@@ -1,8 +1,8 @@
 //! What a person is told of a row: which expectations of its job the run does not meet, and what differs first.
 //!
-//! [`unmet_expectations`] answers them in the order exit, end, console, signature, other job. Each is told exactly where
-//! it does not hold by the definitions of the verdict ([`unmet_is_what_does_not_hold`]), and none exactly where the job
-//! passes ([`nothing_is_unmet_where_a_job_passes`]). What is said to differ is the first that does
+//! [`unmet_expectations`] answers them in the order exit, end, console, signature, other job. Each is told exactly
+//! where it does not hold by the definitions of the verdict ([`unmet_is_what_does_not_hold`]), and none exactly where
+//! the job passes ([`nothing_is_unmet_where_a_job_passes`]). What is said to differ is the first that does
 //! ([`differences_are_first`]), and a reference is words exactly where it is their lines
 //! ([`references_are_lines_of_words`]).
 #![tactic(auto)]
