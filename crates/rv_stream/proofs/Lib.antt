@@ -1,0 +1,2 @@
+mod Streaming
+mod Tellings

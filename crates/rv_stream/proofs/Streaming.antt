@@ -1,0 +1,99 @@
+-- Texts that go out in order: what each step of a stream keeps.
+use Rattle.std.proofs.Common.{◌≡◌, ◌∙◌, ℕ, ◌+◌, ◌*◌, ◌≤◌, false, min, List, [], ◌++◌, length, take, drop, Option, Some}
+use Rattle.std.proofs.Common.{None, is_some, refl, sym, ap, subst, arith, append_assoc, append-nil, take-append-drop}
+use Rattle.std.specs.Fork.{slice_chunk}
+use Rattle.std.specs.Io.KnownBytes.{Appends}
+use Rattle.std.specs.List.{concat}
+use Rattle.std.proofs.KnownBytes.{Appends-trans}
+use Rattle.std.proofs.lemmas.Grind.{common_steps}
+use Rattle.std.proofs.lemmas.List.{take_min}
+use Rattle.std.proofs.lemmas.List.Folds.{concat-append}
+use Rattle.rv_rows.specs.Sending.{AppendsBeginning}
+use Rattle.rv_stream.specs.declared.error.StreamError.{StreamError}
+use Rattle.rv_stream.specs.Streams.{IsOut, told_before, told_in}
+use Rattle.rv_fleet.proofs.Public.{chunk_more}
+
+-- the first texts, and those from there on, are all
+pub parts_of_all : (texts : List (List ℕ)) (n : ℕ) → concat texts ≡ concat (take n texts) ++ concat (drop n texts)
+parts_of_all texts n = ap concat (sym (take-append-drop n texts)) ∙ concat-append (take n texts) (drop n texts)
+
+-- the texts of one piece more
+pub next_texts : (texts : List (List ℕ)) (group next : ℕ)
+    → told_before texts group (next + 1) ≡ told_before texts group next ++ told_in texts group next
+next_texts texts group next =
+    ap concat (sym (chunk_more texts group next (take (next * group) texts)
+    (take (next * group) texts ++ slice_chunk texts group next) (slice_chunk texts group next) refl refl refl))
+    ∙ concat-append (take (next * group) texts) (slice_chunk texts group next)
+
+-- the texts up to a piece, and those of that piece
+pub one_more_told : (texts : List (List ℕ)) (group next : ℕ) (had text more now : List ℕ)
+    → told_before texts group next ≡ had ++ text → more ≡ told_in texts group next → now ≡ text ++ more
+    → told_before texts group (next + 1) ≡ had ++ now
+one_more_told texts group next had text more now so piece pushed =
+    next_texts texts group next
+    ∙ ((λ i. so i ++ sym piece i) ∙ (append_assoc had text more ∙ ap (λ l. had ++ l) (sym pushed)))
+
+-- what went out, and then a beginning of what comes next, is a beginning of all
+pub begun_on : (before now after : Option (List ℕ)) (had text rest all : List ℕ) → all ≡ (had ++ text) ++ rest
+    → Appends before now had → AppendsBeginning now after text → AppendsBeginning before after all
+begun_on before now after had text rest all whole sent part = record {
+  part = had ++ part.part;
+  rest = part.rest ++ rest;
+  whole = whole ∙ (ap (λ l. (had ++ l) ++ rest) part.whole ∙ regroup had part.part part.rest rest);
+  appended = Appends-trans before now after had part.part sent part.appended;
+}
+  where
+    regroup : (a b c d : List ℕ) → (a ++ (b ++ c)) ++ d ≡ (a ++ b) ++ (c ++ d)
+    regroup a b c d = grind (arith, common_steps)
+
+module _ (texts : List (List ℕ)) (group : ℕ) (before now : Option (List ℕ)) (next : ℕ) where
+  -- whatever happened, a beginning of all texts is out
+  pub begun : (failed : Option StreamError) → IsOut texts group before now next failed
+      → AppendsBeginning before now (concat texts)
+  begun None sent = record {
+    part = told_before texts group next;
+    rest = concat (drop (next * group) texts);
+    whole = parts_of_all texts (next * group);
+    appended = sent;
+  }
+  begun (Some error) sent = sent
+
+  -- where nothing failed, the texts of the pieces before the next one are out
+  unfailed : (failed : Option StreamError) → is_some failed ≡ false → IsOut texts group before now next failed
+      → Appends before now (told_before texts group next)
+  unfailed None is sent = sent
+  unfailed (Some error) is sent = cc
+
+  -- a beginning of the texts that were due went out
+  pub stopped : (after : Option (List ℕ)) (text : List ℕ) (then : ℕ) (failed : Option StreamError)
+      → is_some failed ≡ false → IsOut texts group before now next failed
+      → told_before texts group then ≡ told_before texts group next ++ text → AppendsBeginning now after text
+      → AppendsBeginning before after (concat texts)
+  stopped after text then failed is sent these part =
+      let rest : List ℕ = concat (drop (then * group) texts) in
+      begun_on before now after (told_before texts group next) text rest (concat texts)
+      (parts_of_all texts (then * group) ∙ ap (λ l. l ++ rest) these) (unfailed failed is sent) part
+
+-- the texts of the pieces before one end where the rest begins, at the end if they are all
+pub sent_to : (texts : List (List ℕ)) (next size group limit product from n : ℕ) → size ≡ group → length texts ≡ n
+    → n ≤ limit → product ≡ min (next * group) limit → from ≡ min product n
+    → take (next * size) texts ≡ take from texts
+sent_to texts next size group limit product from n same count fits multiplied least =
+    let e : next * size ≡ next * group = ap (λ s. next * s) same in
+    let m : from ≡ min (next * size) (length texts) = omega (arith, e, count, fits, multiplied, least) in
+    sym (take_min (next * size) texts) ∙ ap (λ k. take k texts) (sym m)
+
+module _ (before now after : Option (List ℕ)) (texts : List (List ℕ)) (count from : ℕ)
+    (same : take count texts ≡ take from texts) (sent : Appends before now (concat (take count texts))) where
+  whole : concat texts ≡ concat (take count texts) ++ concat (drop from texts)
+  whole = parts_of_all texts from ∙ ap (λ l. concat l ++ concat (drop from texts)) (sym same)
+
+  -- the first texts went out, and then the rest
+  pub all_sent : Appends now after (concat (drop from texts)) → Appends before after (concat texts)
+  all_sent rest = subst (Appends before after) (sym whole)
+      (Appends-trans before now after (concat (take count texts)) (concat (drop from texts)) sent rest)
+
+  -- the first texts went out, and then a beginning of the rest
+  pub part_sent : AppendsBeginning now after (concat (drop from texts)) → AppendsBeginning before after (concat texts)
+  part_sent rest = begun_on before now after (concat (take count texts)) (concat (drop from texts)) [] (concat texts)
+      (whole ∙ sym (append-nil (concat (take count texts) ++ concat (drop from texts)))) sent rest

@@ -1,0 +1,82 @@
+-- What is told of rows: its parts are told of parts of the rows.
+use Rattle.std.proofs.Common.{◌≡◌, ◌∙◌, ℕ, zero, suc, ◌+◌, ◌*◌, ◌-◌, ◌<◌, List, [], ◌∷◌, ◌++◌, length, take, drop}
+use Rattle.std.proofs.Common.{get_or, refl, sym, ap, arith, append-nil, append_assoc, length-drop}
+use Rattle.std.specs.Fork.{slice_chunk}
+use Rattle.std.specs.Int.{div_ceil}
+use Rattle.std.specs.List.{concat}
+use Rattle.std.proofs.lemmas.List.{length-take, take_all}
+use Rattle.rv_rows.specs.declared.row.Row.{Row}
+use Rattle.rv_fleet.proofs.Public.{chunk_inside}
+use Rattle.rv_stream.specs.Streams.{CanBeTold, texts_of, told}
+
+module _ (line : ℕ → Row → List ℕ) where
+  -- no texts of no rows
+  pub texts_none : (places : List ℕ) → texts_of line places [] ≡ []
+  texts_none [] = refl
+  texts_none (p ∷ places) = refl
+
+  -- the texts of the first rows
+  pub texts-take : (n : ℕ) (places : List ℕ) (rows : List Row)
+      → texts_of line places (take n rows) ≡ take n (texts_of line places rows)
+  texts-take zero places rows = texts_none places
+  texts-take (suc n) [] rows = refl
+  texts-take (suc n) (p ∷ places) [] = refl
+  texts-take (suc n) (p ∷ places) (r ∷ rows) = ap (λ l. line p r ∷ l) (texts-take n places rows)
+
+  -- the texts of the rows from one on
+  pub texts-drop : (n : ℕ) (places : List ℕ) (rows : List Row)
+      → texts_of line (drop n places) (drop n rows) ≡ drop n (texts_of line places rows)
+  texts-drop zero places rows = refl
+  texts-drop (suc n) [] rows = refl
+  texts-drop (suc n) (p ∷ places) [] = texts_none (drop n places)
+  texts-drop (suc n) (p ∷ places) (r ∷ rows) = texts-drop n places rows
+
+  -- what is told of the rows from one on
+  pub rest_told : (from : ℕ) (places : List ℕ) (rows : List Row)
+      → told line (take (length places - from) (drop from places)) (take (length rows - from) (drop from rows))
+      ≡ concat (drop from (texts_of line places rows))
+  rest_told from places rows =
+      let a = take_all (length places - from) (drop from places) (omega (arith, length-drop from places)) in
+      let b = take_all (length rows - from) (drop from rows) (omega (arith, length-drop from rows)) in
+      (λ i. told line (a i) (b i)) ∙ ap concat (texts-drop from places rows)
+
+  -- a text for each row
+  pub texts-length : (places : List ℕ) (rows : List Row) → length rows ≡ length places
+      → length (texts_of line places rows) ≡ length places
+  texts-length [] rows same = refl
+  texts-length (p ∷ places) [] same = same
+  texts-length (p ∷ places) (r ∷ rows) same = ap suc (texts-length places rows (omega (arith, same)))
+
+  told_next : (places : List ℕ) (rows : List Row) (i p : ℕ) (r : Row) → i < length places → i < length rows
+      → told line places (take (suc i) rows)
+      ≡ told line places (take i rows) ++ line (get_or places i p) (get_or rows i r)
+  told_next [] rows i p r in' low = absurd (omega arith)
+  told_next (q ∷ places) [] i p r in' low = absurd (omega arith)
+  told_next (q ∷ places) (s ∷ rows) zero p r in' low =
+      ap (λ l. line q s ++ concat l) (texts_none places) ∙ append-nil (line q s)
+  told_next (q ∷ places) (s ∷ rows) (suc i) p r in' low =
+      ap (λ l. line q s ++ l) (told_next places rows i p r (omega arith) (omega arith))
+      ∙ sym (append_assoc (line q s) (told line places (take i rows)) (line (get_or places i p) (get_or rows i r)))
+
+  -- the text of one row more
+  pub told_more : (places : List ℕ) (rows : List Row) (i p : ℕ) (r : Row) → i < length places → i < length rows
+      → told line places (take (i + 1) rows)
+      ≡ told line places (take i rows) ++ line (get_or places i p) (get_or rows i r)
+  told_more places rows i p r in' low =
+      let e : i + 1 ≡ suc i = omega arith in
+      ap (λ n. told line places (take n rows)) e ∙ told_next places rows i p r in' low
+
+  -- a piece's rows are told as the piece's texts
+  pub piece_told : (texts : List (List ℕ)) (size : ℕ) (places : List ℕ) (rows : List Row) (group k : ℕ)
+      → texts ≡ texts_of line places rows → size ≡ group → length rows ≡ length places → 0 < group
+      → k < div_ceil (length rows) group
+      → CanBeTold texts size line places group k (slice_chunk rows group k)
+  piece_told texts size places rows group k are same count some low =
+      let from : k * group < length rows = chunk_inside (length rows) group k some low in
+      record {
+        within = omega (arith, from, count, length-take group (drop (k * group) rows), length-drop (k * group) rows);
+        told_so =
+            ap concat (texts-take group (drop (k * group) places) (drop (k * group) rows)
+            ∙ (ap (take group) (texts-drop (k * group) places rows)
+            ∙ (λ i. take (sym same i) (drop (k * sym same i) (sym are i)))));
+      }

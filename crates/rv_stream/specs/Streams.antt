@@ -1,0 +1,65 @@
+-- Texts of rows that go out in the order of the rows, while other rows are still being made.
+use Rattle.std.specs.Prelude.{◌≡◌, ◌∷◌, ◌+◌, ◌*◌, ◌<◌, ◌≤◌, ℕ, List, [], length, take, drop}
+use Rattle.std.specs.Prelude.{Option, Some, None, IfSome, String, slice_index_or, string_bytes}
+use Rattle.std.specs.declared.alloc.Global.{Global}
+use Rattle.std.specs.Fork.{slice_chunk}
+use Rattle.std.specs.Io.KnownBytes.{Appends}
+use Rattle.std.specs.List.{concat}
+use Rattle.std.specs.List.Sorted.{IsStrictlyIncreasing}
+use Rattle.rv_jobs.specs.Plans.{Planned}
+use Rattle.rv_rows.specs.declared.row.Row.{Row}
+use Rattle.rv_rows.specs.Rows.{rows_at}
+use Rattle.rv_rows.specs.Sending.{AppendsBeginning}
+use Rattle.rv_fleet.specs.Choices.{AreWithin}
+use Rattle.rv_stream.specs.declared.error.StreamError.{StreamError}
+
+-- a text for each row, told of the job at its place
+abbrev pub texts_of : (ℕ → Row → List ℕ) → List ℕ → List Row → List (List ℕ)
+texts_of line [] rows = []
+texts_of line (place ∷ places) [] = []
+texts_of line (place ∷ places) (row ∷ rows) = line place row ∷ texts_of line places rows
+
+-- the texts of rows, one after the other
+abbrev pub told : (ℕ → Row → List ℕ) → List ℕ → List Row → List ℕ
+told line places rows = concat (texts_of line places rows)
+
+-- the texts of a piece
+abbrev pub told_in : List (List ℕ) → ℕ → ℕ → List ℕ
+told_in texts group k = concat (slice_chunk texts group k)
+
+-- the texts of the pieces before one
+abbrev pub told_before : List (List ℕ) → ℕ → ℕ → List ℕ
+told_before texts group k = concat (take (k * group) texts)
+
+-- what went out: the texts of the pieces before the next one; after a failure a beginning of all
+abbrev pub IsOut : List (List ℕ) → ℕ → Option (List ℕ) → Option (List ℕ) → ℕ → Option StreamError
+    → Type 0
+IsOut texts group before now next None = Appends before now (told_before texts group next)
+IsOut texts group before now next (Some error) = AppendsBeginning before now (concat texts)
+
+-- the texts that came early, each at its piece's place
+abbrev pub AreTexts : List (List ℕ) → ℕ → List (Option (String Global)) → Type 0
+AreTexts texts group early = (k : ℕ)
+    → IfSome (slice_index_or early k None) (λ text. string_bytes text ≡ told_in texts group k)
+
+-- what is known of a stream: what went out, and what waits
+pub record IsInOrder (texts : List (List ℕ)) (group : ℕ) (before now : Option (List ℕ)) (next : ℕ)
+    (failed : Option StreamError) (early : List (Option (String Global))) : Type 0 where
+  pub sent : IsOut texts group before now next failed
+  pub waiting : AreTexts texts group early
+
+-- rows of a piece whose texts, told of the jobs at the places of the piece, are those of the piece
+pub record CanBeTold (texts : List (List ℕ)) (group : ℕ) (line : ℕ → Row → List ℕ) (places : List ℕ)
+    (size k : ℕ) (rows : List Row) : Type 0 where
+  pub within : k * size + length rows ≤ length places
+  pub told_so : told line (drop (k * size) places) rows ≡ told_in texts group k
+
+-- a run of the jobs at some places, whose texts these are, in pieces of this size
+pub record IsStreamOf (texts : List (List ℕ)) (size : ℕ) (line : ℕ → Row → List ℕ) (plan : Planned)
+    (places : List ℕ) (workers group : ℕ) : Type 0 where
+  pub texts_told : texts ≡ texts_of line places (rows_at plan places)
+  pub size_given : size ≡ group
+  pub within : AreWithin plan places
+  pub rising : IsStrictlyIncreasing places
+  pub workers_few : (0 < workers) × (workers ≤ 64)
+  pub group_few : (0 < group) × (group ≤ 4096)

@@ -1,0 +1,45 @@
+//! What is told of a row.
+
+ghost use Rattle.std.specs.Prelude.{◌≡◌, ◌≤◌, IfOk, length, string_bytes};
+ghost use Rattle.rv_stream.specs.Streams.{told};
+
+use rv_fleet::Row;
+use std::alloc::{AllocError, Global};
+
+/// Tells of a job and its row.
+pub trait Telling {
+    ghost use Rattle.std.specs.Prelude.{◌≡◌, ◌++◌, ℕ, List, OnOk, string_bytes};
+    ghost use Rattle.rv_rows.specs.declared.row.Row.{Row};
+
+    // What is told of the job at a place and its row.
+    ghost line: { Self → ℕ → Row → List ℕ };
+
+    /// Appends what is told of the job at a place and its row. It may be nothing.
+    fn push(
+        &self,
+        alloc: Global,
+        place: usize,
+        row: &Row,
+        text: &mut String,
+    ) -> Result<(), AllocError>
+        ensures { OnOk result
+            (string_bytes text.new ≡ string_bytes text.old ++ line self.now place row.now) };
+}
+
+/// What is told of rows, those of the first places.
+pub(crate) fn text_of<T: Telling>(
+    alloc: Global,
+    telling: &T,
+    places: &[usize],
+    rows: &[Row],
+) -> Result<String, AllocError>
+    requires { length rows.now ≤ length places.now }
+    ensures { IfOk result
+        (λ text. string_bytes text ≡ told (T.line telling.now) places.now rows.now) }
+{
+    let mut text = String::new(alloc);
+    for i in 0..rows.len() {
+        telling.push(alloc, places[i], &rows[i], &mut text)?;
+    }
+    Ok(text)
+}
