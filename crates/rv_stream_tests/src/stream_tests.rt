@@ -1,0 +1,127 @@
+//! Streams of small jobs by the lines of tables: which jobs, by how many workers, which put fails, and what went out.
+
+use crate::testing::{Names, NotingSink, marks_of, plan_of};
+use rv_fleet::Rows;
+use rv_jobs::marked_places;
+use rv_stream::{StreamError, stream_places};
+use std::alloc::{AllocError, Global};
+use std::process::Abort;
+use std::sync::Wait;
+use std::sync::atomic::{AtomicU64, Ordering};
+use std::test::Fail;
+use std::thread::Threads;
+
+// label | the jobs' budgets | a choice of them | workers | group | what goes out
+const STREAMS: &str = "\
+a worker | 3 3 1 3 | xx.x | 1 | 1 | j0;j1;j3;
+four | 3 3 1 3 | xx.x | 4 | 1 | j0;j1;j3;
+as many as there may be | 3 3 1 3 | xx.x | 64 | 1 | j0;j1;j3;
+four, of pieces of two | 3 3 1 3 | xx.x | 4 | 2 | j0;j1;j3;
+of one piece | 3 3 1 3 | xx.x | 4 | 4096 | j0;j1;j3;
+nothing told of the third | 3 3 1 3 | xxxx | 4 | 1 | j0;j1;j3;
+of the first and the last | 1 3 1 | xxx | 64 | 1 | j1;
+of the only one | 1 | x | 4 | 1 |
+no job | 3 3 | .. | 4 | 1 |
+the last job | 3 3 1 3 | ...x | 4 | 1 | j3;
+one behind the other | 3 3 3 3 3 3 3 3 | xxxxxxxx | 4 | 1 | j0;j1;j2;j3;j4;j5;j6;j7;";
+
+// label | budgets | choice | workers | group | the put that fails, or 0 | what went out; how many rows were asked for
+// at each put, and in all; and how the call ended
+const PUTS: &str = "\
+each text at once | 3 3 3 | xxx | 1 | 1 | 0 | j0;j1;j2; at 1 2 3 of 3: 3 rows
+pieces of two | 3 3 3 | xxx | 1 | 2 | 0 | j0;j1;j2; at 2 3 of 3: 3 rows
+one piece | 3 3 3 | xxx | 1 | 4096 | 0 | j0;j1;j2; at 3 of 3: 3 rows
+nothing told of the second | 3 1 3 | xxx | 1 | 1 | 0 | j0;j2; at 1 3 of 3: 3 rows
+no job | 3 3 | .. | 1 | 1 | 1 | at of 0: 0 rows
+the first fails | 3 3 3 | xxx | 1 | 1 | 1 | at 1 of 1: write failed
+the second, and no job is run behind it | 3 3 3 3 | xxxx | 1 | 1 | 2 | j0; at 1 2 of 2: write failed
+the last | 3 3 | xx | 1 | 1 | 2 | j0; at 1 2 of 2: write failed
+the only one | 3 3 | xx | 1 | 2 | 1 | at 2 of 2: write failed";
+
+fn cell_of(line: &str, place: usize) -> &str {
+    line.split('|').nth(place).unwrap_or("").trim()
+}
+
+fn number_in(line: &str, place: usize) -> Result<u32, Fail> {
+    Ok(cell_of(line, place).parse::<u32>()?)
+}
+
+// Streams the jobs of a line.
+fn stream_of<'a, R: Threads + Wait + Sync>(
+    rt: &R,
+    alloc: Global,
+    line: &str,
+    out: NotingSink<'a>,
+) -> Result<(NotingSink<'a>, Result<Rows, StreamError>), Fail> {
+    let plan = plan_of(alloc, cell_of(line, 1))?;
+    let marks = marks_of(alloc, cell_of(line, 2))?;
+    if marks.len() != plan.jobs() {
+        return Err("a mark for each job".into());
+    }
+    let places = marked_places(alloc, marks.as_slice())?;
+    let places = places.as_slice();
+    let workers = number_in(line, 3)?.clamp(1, 64);
+    let group = number_in(line, 4)?.clamp(1, 4096);
+    let names = Names { asked: out.asked };
+    Ok(stream_places(rt, alloc, &plan, places, workers, group, &names, out))
+}
+
+fn push_end(text: &mut String, ran: &Result<Rows, StreamError>) -> Result<(), AllocError> {
+    match ran {
+        Ok(rows) => {
+            let count = rows.as_slice().len();
+            write!(text, ": {count} rows")
+        }
+        Err(error) => write!(text, ": {error}"),
+    }
+}
+
+fn told<R: Threads + Wait + Sync>(rt: &R, alloc: Global, line: &str) -> Result<String, Fail> {
+    let asked = AtomicU64::new(0);
+    let out = NotingSink::new(alloc, usize::MAX, u64::from(number_in(line, 5)?), &asked);
+    let (out, ran) = stream_of(rt, alloc, line, out)?;
+    let mut text = String::from_str(alloc, std::str::from_utf8(out.bytes.as_slice())?)?;
+    let notes = out.notes.as_str();
+    let asked = asked.load(Ordering::SeqCst);
+    write!(text, " at{notes} of {asked}")?;
+    push_end(&mut text, &ran)?;
+    Ok(text)
+}
+
+// A put takes one byte, and each put fails in turn: then the bytes before it are out, and no other.
+fn check_each_put<R: Abort + Threads + Wait + Sync>(
+    rt: &R,
+    alloc: Global,
+    line: &str,
+) -> Result<(), Fail> {
+    let whole = cell_of(line, 5).as_bytes();
+    for sent in 0..whole.len() + 1 {
+        let asked = AtomicU64::new(0);
+        let out = NotingSink::new(alloc, 1, (sent as u64).saturating_add(1), &asked);
+        let (out, ran) = stream_of(rt, alloc, line, out)?;
+        assert_eq!(rt; out.bytes.as_slice(), &whole[..sent], "{line}");
+        let failed = matches!(ran, Err(StreamError::Failed));
+        assert_eq!(rt; failed, sent < whole.len(), "{line}");
+        assert_eq!(rt; ran.is_ok(), sent == whole.len(), "{line}");
+    }
+    Ok(())
+}
+
+#[test]
+fn beginnings_go_out(rt: HostRuntime) -> Result<(), Fail> {
+    assert_eq!(rt; STREAMS.lines().count(), 11);
+    for line in STREAMS.lines() {
+        check_each_put(&rt, rt.alloc(), line)?;
+    }
+    Ok(())
+}
+
+#[test]
+fn texts_go_out_before_the_next_row_is_made(rt: HostRuntime) -> Result<(), Fail> {
+    assert_eq!(rt; PUTS.lines().count(), 9);
+    for line in PUTS.lines() {
+        let told = told(&rt, rt.alloc(), line)?;
+        assert_eq!(rt; told.as_str().trim(), cell_of(line, 6), "{line}");
+    }
+    Ok(())
+}
