@@ -1,3 +1,4 @@
 pub mod Differences
 pub mod References
 pub mod Tellings
+pub mod OfPlans

@@ -2,3 +2,4 @@ pub mod Difference
 pub mod Reference
 pub mod Unmet
 pub mod Telling
+pub mod Planned

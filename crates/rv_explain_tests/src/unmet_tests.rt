@@ -1,8 +1,12 @@
 //! Which expectations are told of a row, and what differs first.
-use rv_explain::unmet_expectations;
-use rv_jobs::{Bytes, JobList, Text, read_jobs};
+
+ghost use Rattle.std.specs.Prelude.{None};
+
+use rv_explain::{unmet_at, unmet_expectations};
+use rv_jobs::{Bytes, JobList, ReadError, Store, Text, gather, read_jobs};
 use rv_machine::FaultKind;
 use rv_rows::{Refusal, Row, RowEnd, Verdict, Words};
+use samples::file;
 use std::alloc::{AllocError, Global};
 use std::process::Abort;
 use std::test::Fail;
@@ -187,4 +191,70 @@ const SAME: &str = "\
 #[test]
 fn same_as_another(rt: HostRuntime) -> Result<(), Fail> {
     expect(&rt, rt.alloc(), SAME)
+}
+
+/// The two files that jobs name, and at every other path an image that ends by an exit with code 5 after two steps.
+#[derive(Drop)]
+struct Samples;
+
+impl Store for Samples {
+    ghost contents = { λ _. None };
+
+    ghost faulted = { λ _. 0 };
+
+    fn read(&mut self, alloc: Global, path: &str) -> Result<Vec<u8>, ReadError> {
+        let bytes = match path {
+            "words" => bytes_of(alloc, "0000000a/"),
+            "text" => bytes_of(alloc, "ab"),
+            _ => file(alloc, "one"),
+        };
+        match bytes {
+            Ok(bytes) if bytes.len() <= 0x100_0000 => Ok(bytes),
+            _ => Err(ReadError::OutOfMemory),
+        }
+    }
+
+    fn faults(&self) -> u64 {
+        0
+    }
+}
+
+// What is told of a row of the second of three jobs, which has the keys.
+fn told_of_a_plan(alloc: Global, keys: &str, row: &str) -> Result<String, Fail> {
+    let text = format!(in alloc;
+        "job = [{{name = 'a', image = 'one', budget = 9}}, {{name = 'b', image = 'one', budget = 9, {keys}}}, \
+         {{name = 'c', image = 'one', budget = 9, expect_exit = 77}}]"
+    )?;
+    let jobs = read_jobs(alloc, text.as_bytes())?;
+    let plan = gather(alloc, jobs, &mut Samples)?;
+    if plan.jobs() != 3 {
+        return Err("three jobs".into());
+    }
+    let unmet = unmet_at(alloc, &plan, 1, &row_of(alloc, row)?)?;
+    let unmet = unmet.as_slice();
+    Ok(format!(in alloc; "{unmet:?}")?)
+}
+
+const OF_A_PLAN: &str = "\
+[Nothing] | isa = 'rv32imc' | 5 . -
+[Exit] | expect_exit = 5 | 6 . -
+[] | expect_console_file = 'text' | 0 ab -
+[Console(At(1))] | expect_console_file = 'text' | 0 aa -
+[] | signature = ['x', 'y'], expect_signature = 'words' | 0 . 10
+[Signature(Word(0))] | signature = ['x', 'y'], expect_signature = 'words', expect_console_file = 'text' | 0 ab 11
+[] | same_as = 'a' | 5 . -
+[Same(Ending)] | same_as = 'a' | 6 . -
+[Same(Console(Lengths))] | same_as = 'a' | 5 x -";
+
+#[test]
+fn plans(rt: HostRuntime) -> Result<(), Fail> {
+    for line in OF_A_PLAN.lines() {
+        let mut parts = line.split(" | ");
+        let wanted = parts.next().ok_or("what is told")?;
+        let keys = parts.next().ok_or("the keys")?;
+        let row = parts.next().ok_or("the row")?;
+        let found = told_of_a_plan(rt.alloc(), keys, row)?;
+        assert_eq!(&rt; found.as_str(), wanted, "{line}");
+    }
+    Ok(())
 }

@@ -178,8 +178,8 @@ fn is_named_soon(plan: &Plan, i: usize) -> bool
     false
 }
 
-// The bytes of a job's reference, where it was read.
-fn reference_bytes(plan: &Plan, i: usize) -> Option<&[u8]>
+/// The bytes of the file with which the signature of the job at a place is compared, where it was read.
+pub fn reference_bytes(plan: &Plan, i: usize) -> Option<&[u8]>
     requires { i < length plan.now.jobs }
     ensures { (d : AJob) → option_map (λ bytes. bytes.now) result
         ≡ reference_in plan.now.answers (slice_index_or plan.now.jobs i d) }
@@ -187,8 +187,8 @@ fn reference_bytes(plan: &Plan, i: usize) -> Option<&[u8]>
     content_of(plan.reference(i))
 }
 
-// The bytes of the file that a job's console is expected to hold, where it was read.
-fn console_bytes(plan: &Plan, i: usize) -> Option<&[u8]>
+/// The bytes of the file with which the console of the job at a place is compared, where it was read.
+pub fn console_bytes(plan: &Plan, i: usize) -> Option<&[u8]>
     requires { i < length plan.now.jobs }
     ensures { (d : AJob) → option_map (λ bytes. bytes.now) result
         ≡ console_in plan.now.answers (slice_index_or plan.now.jobs i d) }
