@@ -52,7 +52,10 @@ fn rising_count(numbers: &[u32]) -> usize
 {
     let mut before = 0;
     for (at, number) in numbers.iter().enumerate() {
-        if *number <= before || MOST_JOBS < *number as usize {
+        if *number <= before {
+            return at;
+        }
+        if MOST_JOBS < *number as usize {
             return at;
         }
         before = *number;
