@@ -174,7 +174,10 @@ fn text_or_reason(rt: &HostRuntime, folder: Option<&str>, path: &str) -> Result<
     let mut store = NotingStore::new(rt, alloc, folder);
     let answer = store.read(alloc, path);
     let again = store.read(alloc, path);
-    if let Ok(bytes) = answer && again.is_ok() && store.unread().is_empty() {
+    if let Ok(bytes) = answer
+        && again.is_ok()
+        && store.unread().is_empty()
+    {
         return Ok(String::from_str(alloc, std::str::from_utf8(bytes.as_slice())?)?);
     }
     let unread = store.unread();
@@ -185,22 +188,18 @@ fn text_or_reason(rt: &HostRuntime, folder: Option<&str>, path: &str) -> Result<
     Ok(format!(in alloc; "{reason:?}")?)
 }
 
-fn check_reasons(rt: &HostRuntime) -> Result<(), Fail> {
-    for line in REASONS.lines() {
-        let folder = match cell(line, 0) {
-            "" => None,
-            folder => Some(folder),
-        };
-        let answer = text_or_reason(rt, folder, cell(line, 1))?;
-        assert_eq!(rt; answer.as_str(), cell(line, 2), "{line}");
-    }
-    Ok(())
-}
-
 #[test]
 fn notes_why_a_file_is_unreadable(rt: HostRuntime) -> Result<(), Fail> {
     fs::create_dir(&rt, "shelf")?;
     fs::write(&rt, "kept", "one")?;
     fs::write(&rt, "shelf/kept", "two")?;
-    check_reasons(&rt)
+    for line in REASONS.lines() {
+        let folder = match cell(line, 0) {
+            "" => None,
+            folder => Some(folder),
+        };
+        let answer = text_or_reason(&rt, folder, cell(line, 1))?;
+        assert_eq!(rt; answer.as_str(), cell(line, 2), "{line}");
+    }
+    Ok(())
 }
