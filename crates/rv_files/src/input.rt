@@ -5,15 +5,15 @@ ghost use Rattle.std.specs.Io.KnownBytes.{Consumes};
 ghost use Rattle.rv_files.specs.Input.{GrowsByRead};
 
 use std::alloc::{AllocError, Global};
-use std::io::Read;
+use std::io::{ErrorKind, Read};
 
 /// Why a reader's bytes weren't read.
 #[derive(Clone, Copy, Debug, PartialEq, Eq)]
 pub enum InputError {
     /// A growth was refused.
     OutOfMemory,
-    /// A read failed, an interrupted one included.
-    Failed,
+    /// A read failed, an interrupted one included, for this reason.
+    Failed(ErrorKind),
 }
 
 impl From<AllocError> for InputError {
@@ -61,7 +61,7 @@ fn read_more<R: Read>(input: &mut R, bytes: &mut Vec<u8>, most: usize) -> Result
     let room = (most - bytes.len()).min(CHUNK);
     let count = match input.read(&mut chunk[..room]) {
         Ok(count) => count,
-        Err(_) => return Err(InputError::Failed),
+        Err(error) => return Err(InputError::Failed(error.kind())),
     };
     bytes.extend_from_slice(&chunk[..count])?;
     Ok(count)

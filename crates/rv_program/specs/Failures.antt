@@ -18,7 +18,7 @@ use Rattle.rv_program.specs.declared.error.RunError.TheVariants as run
 -- a failed read of the input
 abbrev pub read_failure : InputError → RunError
 read_failure input.OutOfMemory = run.OutOfMemory
-read_failure input.Failed = run.ReadFailed
+read_failure (input.Failed reason) = run.ReadFailed
 
 -- a report that didn't go out
 abbrev pub write_failure : WriteError → RunError

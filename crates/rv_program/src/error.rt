@@ -72,7 +72,7 @@ impl From<InputError> for RunError {
     fn from(error: InputError) -> RunError {
         match error {
             InputError::OutOfMemory => RunError::OutOfMemory,
-            InputError::Failed => RunError::ReadFailed,
+            InputError::Failed(_) => RunError::ReadFailed,
         }
     }
 }

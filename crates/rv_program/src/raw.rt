@@ -8,10 +8,10 @@ ghost use Rattle.rv_rows.specs.Report.{report_text};
 ghost use Rattle.rv_rows.specs.Sending.{Rose};
 ghost use Rattle.rv_files.specs.Input.{TookFirst};
 ghost use Rattle.rv_program.specs.Answers.{Began};
-ghost use Rattle.rv_program.specs.Raw.{AreRawRows, most_read};
+ghost use Rattle.rv_program.specs.Raw.{AreRawRows, AreRead, most_read};
 
 use crate::error::RunError;
-use rv_files::read_at_most;
+use rv_files::{InputError, read_at_most};
 use rv_fleet::{Report, Rows, Sink, flat_row, write_report};
 use std::alloc::{AllocError, Global};
 use std::io::Read;
@@ -41,10 +41,19 @@ pub fn run_raw<R: Read, O: Sink>(
     ensures failed { IfErr result
         (λ error. error ≡ RunError.WriteFailed → Rose (O.failed out.old) (O.failed out.new)) }
 {
-    let bytes = read_at_most(alloc, input, MOST_READ)?;
+    let bytes = read_input(alloc, input)?;
     let report = flat_report(alloc, bytes.as_slice(), budget)?;
     write_report(alloc, &report, out)?;
     Ok(())
+}
+
+// The reader's first bytes: so many that a longer image is told from one that fits.
+fn read_input<R: Read>(alloc: Global, input: &mut R) -> Result<Vec<u8>, InputError>
+    ensures first { IfOk result (λ bytes. AreRead (R.remaining input.old) bytes.items) }
+    ensures left { OnOk result
+        (TookFirst most_read (R.remaining input.old) (R.remaining input.new)) }
+{
+    read_at_most(alloc, input, MOST_READ)
 }
 
 fn flat_report(alloc: Global, bytes: &[u8], budget: u32) -> Result<Report, AllocError>

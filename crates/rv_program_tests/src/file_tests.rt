@@ -2,7 +2,7 @@
 
 use crate::cases::check;
 use crate::testing::{MemorySink, answer, cell};
-use rv_files::FileStore;
+use rv_files::{FileStore, NotingStore};
 use rv_jobs::{ReadError, Store};
 use samples::{file, numbers};
 use std::alloc::Global;
@@ -149,6 +149,57 @@ pages.bin| 01 02 03 5a*8190 | these bytes
 fn reads_whole_files(rt: HostRuntime) -> Result<(), Fail> {
     for line in WHOLE_FILES.lines() {
         assert!(rt; reads_file(&rt, line)?, "{line}");
+    }
+    Ok(())
+}
+
+// The folder that paths are taken from, or none | a path | what its file holds, or why it was unreadable.
+// There are the file `kept`, the folder `shelf`, and the file `kept` in it.
+const REASONS: &str = "\
+| kept | one
+| missing | NotFound
+| shelf | IsADirectory
+| kept/kept | NotADirectory
+| shelf/kept | two
+shelf | kept | two
+shelf/ | kept | two
+shelf | missing | NotFound
+shelf | /kept | NotFound
+missing | kept | NotFound
+kept | kept | NotADirectory";
+
+// What a store that notes answers for a path which it is asked for twice.
+fn text_or_reason(rt: &HostRuntime, folder: Option<&str>, path: &str) -> Result<String, Fail> {
+    let alloc = rt.alloc();
+    let mut store = NotingStore::new(rt, alloc, folder);
+    let answer = store.read(alloc, path);
+    let again = store.read(alloc, path);
+    if let Ok(bytes) = answer
+        && again.is_ok()
+        && store.unread().is_empty()
+    {
+        return Ok(String::from_str(alloc, std::str::from_utf8(bytes.as_slice())?)?);
+    }
+    let unread = store.unread();
+    if store.faults() != 2 || unread.len() != 2 || unread[0].path.as_str() != path {
+        return Err("not noted each time".into());
+    }
+    let reason = unread[1].reason;
+    Ok(format!(in alloc; "{reason:?}")?)
+}
+
+#[test]
+fn notes_why_a_file_is_unreadable(rt: HostRuntime) -> Result<(), Fail> {
+    fs::create_dir(&rt, "shelf")?;
+    fs::write(&rt, "kept", "one")?;
+    fs::write(&rt, "shelf/kept", "two")?;
+    for line in REASONS.lines() {
+        let folder = match cell(line, 0) {
+            "" => None,
+            folder => Some(folder),
+        };
+        let answer = text_or_reason(&rt, folder, cell(line, 1))?;
+        assert_eq!(rt; answer.as_str(), cell(line, 2), "{line}");
     }
     Ok(())
 }

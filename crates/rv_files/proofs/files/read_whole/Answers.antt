@@ -3,9 +3,10 @@ use Rattle.rv_jobs.specs.Stores.{most_bytes}
 use Rattle.rv_files.proofs.Incoming.{longer, whole}
 use Rattle.rv_files.proofs.files.read_whole.Goals as goal
 
-pub returns-in-Ok-clause-whole : goal.returns-in-Ok-clause-whole
-returns-in-Ok-clause-whole g c = whole most_bytes _ _ c.in-Ok.ensures.value (omega arith)
+pub returns-clause-whole : goal.returns-clause-whole
+returns-clause-whole g c =
+    whole most_bytes _ _ c.in_ok-bytes.ensures.value (omega (arith, c.len.ensures, c.if-len-gt-MOST_BYTES.false))
 
-pub returns-in-Ok-2-clause-long : goal.returns-in-Ok-2-clause-long
-returns-in-Ok-2-clause-long g c =
-    λ _. longer most_bytes _ c.in-Ok.bytes.items c.in-Ok.ensures.value (omega (arith, c.len.ensures))
+pub returns-then-len-gt-MOST_BYTES-clause-long : goal.returns-then-len-gt-MOST_BYTES-clause-long
+returns-then-len-gt-MOST_BYTES-clause-long g c = λ _. longer most_bytes _ c.in_ok-bytes.bytes.items
+    c.in_ok-bytes.ensures.value (omega (arith, c.len.ensures, c.if-len-gt-MOST_BYTES.true))
