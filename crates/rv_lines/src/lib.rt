@@ -1,0 +1,20 @@
+//! The lines that a person sees of rows.
+//!
+//! [`push_shown`] shows text that comes from files, so that a terminal takes it as text: control characters and bytes of
+//! no character as `\xNN`.
+#![tactic(auto)]
+
+mod console_tail;
+mod numbers;
+mod passing;
+mod result_line;
+mod shown;
+mod slices;
+mod tally;
+mod ways;
+
+pub use console_tail::{TAIL_BYTES, TAIL_LINES, push_console_tail};
+pub use passing::{Rule, has_passed};
+pub use result_line::push_result;
+pub use shown::{VALUE_ROOM, push_shown, push_shown_value};
+pub use tally::{Tally, push_last_line};

@@ -1,0 +1,42 @@
+//! Numbers as text.
+
+ghost use Rattle.std.specs.Prelude.{◌≡◌, ◌++◌, OnOk};
+ghost use Rattle.std.specs.Fmt.{decimal};
+ghost use Rattle.rv_rows.specs.Report.{word_digits};
+ghost use Rattle.rv_lines.specs.ResultLine.{hexadecimal};
+
+use std::alloc::{AllocError, Global};
+
+/// Appends a number's decimal digits.
+pub(crate) fn push_decimal(
+    alloc: Global,
+    bytes: &mut Vec<u8>,
+    number: u64,
+) -> Result<(), AllocError>
+    ensures { OnOk result (bytes.new.items ≡ bytes.old.items ++ decimal number) }
+{
+    let text = format!(in alloc; "{number}")?;
+    bytes.extend_from_slice(text.as_bytes())
+}
+
+/// Appends a number's lower-case hexadecimal digits, without zeros in front.
+pub(crate) fn push_hexadecimal(
+    alloc: Global,
+    bytes: &mut Vec<u8>,
+    number: u32,
+) -> Result<(), AllocError>
+    ensures { OnOk result (bytes.new.items ≡ bytes.old.items ++ hexadecimal number) }
+{
+    let text = format!(in alloc; "{number:x}")?;
+    bytes.extend_from_slice(text.as_bytes())
+}
+
+/// Appends a word's eight lower-case hexadecimal digits.
+#[tactic(auto, unfolding(rv_rows::specs::Report::word_digits))]
+pub(crate) fn push_word(bytes: &mut Vec<u8>, word: u32) -> Result<(), AllocError>
+    ensures { OnOk result (bytes.new.items ≡ bytes.old.items ++ word_digits word) }
+{
+    let mut digits = [0u8; 8];
+    hex::encode_to_slice(word.to_be_bytes().as_slice(), &mut digits).unwrap();
+    bytes.extend_from_slice(&digits)
+}

@@ -1,0 +1,29 @@
+//! Parts of texts.
+
+ghost use Rattle.std.specs.Prelude.{◌≡◌, ◌≤◌, drop, length, slice_index};
+ghost use Rattle.rv_lines.specs.ConsoleTail.{last_of};
+
+/// The byte at a place, or 0 behind the end.
+pub(crate) fn byte_at(text: &[u8], place: usize) -> u8
+    ensures { result ≡ slice_index text.now place }
+{
+    if place < text.len() { text[place] } else { 0 }
+}
+
+/// What stands behind the first bytes.
+pub(crate) fn behind(text: &[u8], count: usize) -> &[u8]
+    ensures { result.now ≡ drop count text.now }
+{
+    if count < text.len() {
+        &text[count..]
+    } else {
+        &text[text.len()..]
+    }
+}
+
+/// The last bytes: so many, or all where there are fewer.
+pub(crate) fn last_of(text: &[u8], count: usize) -> &[u8]
+    ensures { result.now ≡ last_of count text.now }
+{
+    behind(text, text.len().saturating_sub(count))
+}
