@@ -4,3 +4,5 @@ pub mod Passing
 pub mod ResultLine
 pub mod LastLine
 pub mod Tally
+pub mod UnmetLines
+pub mod ImageReasons

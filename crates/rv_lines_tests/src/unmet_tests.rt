@@ -1,0 +1,157 @@
+//! The lines of expectations that are not met.
+use rv_explain::unmet_expectations;
+use rv_jobs::{Bytes, JobList, Text, read_jobs};
+use rv_lines::{Sides, push_all_unmet};
+use rv_machine::FaultKind;
+use rv_rows::{Refusal, Row, RowEnd, Verdict, Words};
+use std::alloc::{AllocError, Global};
+use std::process::Abort;
+use std::test::Fail;
+
+// Two jobs, of which the second has the keys.
+fn jobs_of(alloc: Global, keys: &str) -> Result<JobList, Fail> {
+    let text = format!(in alloc;
+        "job = [{{name = 'a', image = 'a', budget = 9}}, \
+         {{name = 'b', image = 'b', budget = 9, signature = ['x', 'y'], {keys}}}]"
+    )?;
+    Ok(read_jobs(alloc, text.as_bytes())?)
+}
+
+fn ending_of(word: &str) -> Result<RowEnd, Fail> {
+    match word {
+        "budget" => Ok(RowEnd::Budget),
+        "refused" => Ok(RowEnd::Refused(Refusal::ImageTooLong)),
+        _ => match FaultKind::named(word.as_bytes()) {
+            Some(kind) => Ok(RowEnd::Fault(kind, 4, 5)),
+            None => Ok(RowEnd::Exit(word.parse::<u32>()?)),
+        },
+    }
+}
+
+// Numbers that commas part; none in `.`.
+fn words_of(alloc: Global, numbers: &str) -> Result<Words, Fail> {
+    let mut words = Vec::new(alloc);
+    for number in numbers.split(',') {
+        if number != "." {
+            words.push(number.parse::<u32>()?)?;
+        }
+    }
+    Ok(Words::new(words))
+}
+
+// Bytes as they stand, none in `.`, and a line feed for each slash.
+fn bytes_of(alloc: Global, text: &str) -> Result<Vec<u8>, AllocError> {
+    let mut bytes = Vec::new(alloc);
+    for byte in text.bytes() {
+        match byte {
+            b'.' => {}
+            b'/' => bytes.push(b'\n')?,
+            _ => bytes.push(byte)?,
+        }
+    }
+    Ok(bytes)
+}
+
+// A name, a word for the ending, the console's bytes, and the signature's words or a dash.
+fn row_of(alloc: Global, name: &str, text: &str) -> Result<Row, Fail> {
+    let (ending, rest) = text.split_once(' ').ok_or("an ending")?;
+    let (console, words) = rest.split_once(' ').ok_or("a console and a signature")?;
+    let signature = match words {
+        "-" => None,
+        _ => Some(words_of(alloc, words)?),
+    };
+    Ok(Row {
+        name: Text::new(String::from_str(alloc, name)?),
+        ending: ending_of(ending)?,
+        steps: 7,
+        console: Bytes::new(bytes_of(alloc, console)?),
+        signature,
+        verdict: Verdict::Fail,
+    })
+}
+
+// What is told of a row; a dash stands for a file, or a row, that is not there.
+fn told(alloc: Global, keys: &str, row: &str, file: &str, other: &str) -> Result<Vec<u8>, Fail> {
+    let jobs = jobs_of(alloc, keys)?;
+    let job = jobs.as_slice().last().ok_or("two jobs")?;
+    let row = row_of(alloc, "b", row)?;
+    let file = match file {
+        "-" => None,
+        _ => Some(bytes_of(alloc, file)?),
+    };
+    let other = match other {
+        "-" => None,
+        _ => Some(row_of(alloc, "a", other)?),
+    };
+    let bytes = file.as_ref().map(|file| file.as_slice());
+    let sides = Sides {
+        job,
+        row: &row,
+        console: bytes,
+        reference: bytes,
+        other: other.as_ref(),
+        address: Some(0x8000_1000),
+    };
+    let unmet = unmet_expectations(alloc, job, &row, bytes, bytes, other.as_ref())?;
+    let mut lines = Vec::new(alloc);
+    push_all_unmet(&mut lines, &sides, unmet.as_slice())?;
+    Ok(lines)
+}
+
+// Each line has what is expected, parted by semicolons, the job's keys, its row, the file and the row of the named job.
+fn expect(rt: &impl Abort, alloc: Global, table: &str) -> Result<(), Fail> {
+    for line in table.lines() {
+        let mut parts = line.split(" | ");
+        let mut wanted = String::new(alloc);
+        for text in parts.next().ok_or("what is expected")?.split("; ") {
+            write!(wanted, "     expected {text}\n")?;
+        }
+        let keys = parts.next().ok_or("the keys")?;
+        let row = parts.next().ok_or("the row")?;
+        let file = parts.next().unwrap_or("-");
+        let other = parts.next().unwrap_or("-");
+        let found = told(alloc, keys, row, file, other)?;
+        let found = str::from_utf8(found.as_slice()).ok().ok_or("text")?;
+        assert_eq!(rt; found, wanted.as_str(), "{line}");
+    }
+    Ok(())
+}
+
+const JOB: &str = "\
+exit 3 | expect_exit = 3 | 4 . -
+the end budget | expect_end = 'budget' | 0 . -
+the end illegal | expect_end = 'illegal' | load-access . -
+exit 0, since it expects nothing else | input = '' | budget . -
+the console: byte 2 is \"xyz\", expected \"c\" | expect_console = 'abc' | 0 abxyz -
+the console: it has 2 bytes, expected 3 | expect_console = 'abc' | 0 ab -
+the console: byte 1 is \"b\\x0a\", expected \"a\" | expect_console = 'aa' | 0 ab/ -
+the console of f: byte 1 is \"b\", expected \"\\x0a\" | expect_console_file = 'f' | 0 ab - | a/
+the console of a\\x1bb: it was not read | expect_console_file = \"a\\u001bb\" | 0 . -
+the signature of f: word 1 (at 80001004) is 00000001, expected 00000002 | expect_signature = 'f' | 0 . 10,1,2 | \
+0000000a/00000002/00000003/
+the signature of f: it has 1 words, expected 2 | expect_signature = 'f' | 0 . 10 | 0000000a/ffffffff/
+the signature of f: it has 0 words, expected 1 | expect_signature = 'f' | 0 . - | 0000000a/
+the signature of f: line 2 of f is not eight lower-case digits and a line feed | expect_signature = 'f' | 0 . 10 | \
+0000000a//
+the signature of f: it was not read | expect_signature = 'f' | 0 . 10
+exit 1; the end budget; the console: it has 0 bytes, expected 1; the signature of f: it was not read; \
+the same as another job, which was not run | expect_exit = 1, expect_end = 'budget', expect_console = 'a', \
+expect_signature = 'f', same_as = 'a' | 0 . -";
+
+const SAME: &str = "\
+the same as a: it ended with exit 4, this with exit 3 | same_as = 'a' | 3 ab 1 | - | 4 ab 2
+the same as a: it ended with fault breakpoint, this with fault illegal | same_as = 'a' | illegal ab - | - | breakpoint . -
+the same as a: it ended with its budget used up, this with exit 0 | same_as = 'a' | 0 ab - | - | budget ab -
+the same as a: it ended with the refusal image-too-long, this with exit 0 | same_as = 'a' | 0 . - | - | refused . -
+the same as a: console: byte 1 is \"b\", expected \"x\" | same_as = 'a' | 3 ab 1 | - | 3 ax 2
+the same as a: console: it has 2 bytes, expected 1 | same_as = 'a' | 3 ab 1 | - | 3 a 2
+the same as a: signature: word 1 (at 80001004) is 00000002, expected 00000003 | same_as = 'a' | 3 . 1,2 | - | 3 . 1,3
+the same as a: signature: it has 3 words, expected 2 | same_as = 'a' | 3 . 1,2,3 | - | 3 . 1,2
+the same as a: signature: there is none, expected one | same_as = 'a' | 3 . - | - | 3 . 1
+the same as a: signature: there is one, expected none | same_as = 'a' | 3 . . | - | 3 . -";
+
+#[test]
+fn unmet_lines(rt: HostRuntime) -> Result<(), Fail> {
+    expect(&rt, rt.alloc(), JOB)?;
+    expect(&rt, rt.alloc(), SAME)
+}
