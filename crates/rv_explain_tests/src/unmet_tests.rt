@@ -204,12 +204,12 @@ impl Store for Samples {
 
     fn read(&mut self, alloc: Global, path: &str) -> Result<Vec<u8>, ReadError> {
         let bytes = match path {
-            "words" => bytes_of(alloc, "0000000a/"),
-            "text" => bytes_of(alloc, "ab"),
-            _ => file(alloc, "one"),
+            "words" => bytes_of(alloc, "0000000a/").ok(),
+            "text" => bytes_of(alloc, "ab").ok(),
+            _ => file(alloc, "one").ok(),
         };
         match bytes {
-            Ok(bytes) if bytes.len() <= 0x100_0000 => Ok(bytes),
+            Some(bytes) if bytes.len() <= 0x100_0000 => Ok(bytes),
             _ => Err(ReadError::OutOfMemory),
         }
     }

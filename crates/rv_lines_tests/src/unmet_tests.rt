@@ -1,6 +1,6 @@
 //! The lines of expectations that are not met.
 use rv_explain::unmet_expectations;
-use rv_jobs::{Bytes, JobList, Text, read_jobs};
+use rv_jobs::{Bytes, Job, JobList, Text, read_jobs};
 use rv_lines::{Sides, push_all_unmet};
 use rv_machine::FaultKind;
 use rv_rows::{Refusal, Row, RowEnd, Verdict, Words};
@@ -70,6 +70,23 @@ fn row_of(alloc: Global, name: &str, text: &str) -> Result<Row, Fail> {
     })
 }
 
+// What is compared, with one file for the console and the reference.
+fn sides<'a>(
+    job: &'a Job,
+    row: &'a Row,
+    file: Option<&'a [u8]>,
+    other: Option<&'a Row>,
+) -> Sides<'a> {
+    Sides {
+        job,
+        row,
+        console: file,
+        reference: file,
+        other,
+        address: Some(0x8000_1000),
+    }
+}
+
 // What is told of a row; a dash stands for a file, or a row, that is not there.
 fn told(alloc: Global, keys: &str, row: &str, file: &str, other: &str) -> Result<Vec<u8>, Fail> {
     let jobs = jobs_of(alloc, keys)?;
@@ -84,15 +101,9 @@ fn told(alloc: Global, keys: &str, row: &str, file: &str, other: &str) -> Result
         _ => Some(row_of(alloc, "a", other)?),
     };
     let bytes = file.as_ref().map(|file| file.as_slice());
-    let sides = Sides {
-        job,
-        row: &row,
-        console: bytes,
-        reference: bytes,
-        other: other.as_ref(),
-        address: Some(0x8000_1000),
-    };
-    let unmet = unmet_expectations(alloc, job, &row, bytes, bytes, other.as_ref())?;
+    let other = other.as_ref();
+    let unmet = unmet_expectations(alloc, job, &row, bytes, bytes, other)?;
+    let sides = sides(job, &row, bytes, other);
     let mut lines = Vec::new(alloc);
     push_all_unmet(&mut lines, &sides, unmet.as_slice())?;
     Ok(lines)
