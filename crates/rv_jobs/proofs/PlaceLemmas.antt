@@ -4,9 +4,9 @@ use Rattle.std.proofs.Common.{refl, ap, sym, length, option_map, cond, arith, su
 use Rattle.std.specs.Str.{bytes_eq}
 use Rattle.std.proofs.lemmas.Slice.Eq.{bytes_eq-Decides}
 use Rattle.std.proofs.lemmas.Bool.{both_ways, false_from_ne_true}
-use Rattle.std.specs.BTreeMap.{BTreeMap, get_by, get_by_text}
-use Rattle.std.specs.Cmp.Lexicographic.{slice_cmp}
-use Rattle.std.specs.Ordering.{nat_cmp}
+use Rattle.std.specs.BTreeMap.{BTreeMap, get_by_text}
+use Rattle.std.specs.HashMap as hash
+use Rattle.std.specs.HashMap.{HashMap}
 use denote.Ref.{Bor}
 use Rattle.std.specs.String.{string_cmp, string_bytes}
 use Rattle.std.specs.declared.alloc.Global.{Global}
@@ -149,7 +149,7 @@ names_more m n js new job key at updates is_key is before fresh pushed =
     (is ∙ sym (length-map js (λ (j : Job). j.name))) before fresh
     (ap names_of pushed ∙ map-append (λ (j : Job). j.name) js (job ∷ []))
 
-pub no_places : (m : BTreeMap (Bor (List ℕ)) ℕ) (xs : List (List ℕ)) → m.entries ≡ [] → xs ≡ [] → (t : List ℕ)
-    → get_by (λ k. slice_cmp nat_cmp t k.now) m ≡ place_in xs t
+pub no_places : {S : Type 0} (m : HashMap (Bor (List ℕ)) ℕ S) (xs : List (List ℕ)) → m.entries ≡ [] → xs ≡ []
+    → (t : List ℕ) → hash.get_by (λ k. bytes_eq t k.now) m ≡ place_in xs t
 unfolding place_in
 no_places m xs e f t = rw (e, f) refl

@@ -1,8 +1,7 @@
 -- How the answers so far stand beside the places of their paths.
 use Rattle.std.specs.Prelude.{◌≡◌, ℕ, List, map, length}
-use Rattle.std.specs.BTreeMap.{get_by}
-use Rattle.std.specs.Cmp.Lexicographic.{slice_cmp}
-use Rattle.std.specs.Ordering.{nat_cmp}
+use Rattle.std.specs.HashMap.{get_by}
+use Rattle.std.specs.Str.{bytes_eq}
 use Rattle.rv_jobs.specs.declared.answers.Answer.{Answer}
 use Rattle.rv_jobs.specs.declared.answers.Answers.TheInside.{Inside}
 use Rattle.rv_jobs.specs.JobList.{place_in}
@@ -18,4 +17,4 @@ answers_of a = answers_with (paths_in a) a.answers.items
 pub record IsAnswersInside (a : Inside) : Type 0 where
   pub even : length (paths_in a) ≡ length a.answers.items
   pub places : (t : List ℕ)
-      → get_by (λ k. slice_cmp nat_cmp t k.now) a.places ≡ place_in (paths_in a) t
+      → get_by (λ k. bytes_eq t k.now) a.places ≡ place_in (paths_in a) t

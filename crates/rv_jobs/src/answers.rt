@@ -7,7 +7,8 @@ ghost use Rattle.rv_jobs.specs.Plans.{paths_of, with_path, AreKept, unreadables,
 use crate::store::{Kept, Store, keep};
 use crate::text::Text;
 use std::alloc::{AllocError, Global};
-use std::collections::BTreeMap;
+use std::collections::HashMap;
+use std::hash::{BuildHasherDefault, DefaultHasher};
 use std::marker::Model;
 
 /// What is kept of a path. No value of it is made: contracts see the answers of a plan so.
@@ -17,12 +18,13 @@ pub struct Answer {
     pub kept: Kept,
 }
 
-/// The answers so far, with the place of each path. The paths are those that the jobs hold.
+/// The answers so far, with the place of each path. The paths are those that the jobs hold. They are found by a hash, since
+/// paths that differ in their ends alone are dear to order.
 #[derive(Drop)]
 pub(crate) struct Answers<'a> {
     answers: Vec<Kept>,
     paths: Vec<&'a str>,
-    places: BTreeMap<&'a str, usize>,
+    places: HashMap<&'a str, usize, BuildHasherDefault<DefaultHasher>>,
 }
 
 impl<'a> Model for Answers<'a> {
@@ -45,7 +47,7 @@ impl<'a> Answers<'a> {
         Answers {
             answers: Vec::new(alloc),
             paths: Vec::new(alloc),
-            places: BTreeMap::new(alloc),
+            places: HashMap::with_hasher(alloc, BuildHasherDefault::new()),
         }
     }
 

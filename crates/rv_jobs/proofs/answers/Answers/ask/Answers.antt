@@ -1,9 +1,8 @@
 use Rattle.std.proofs.Common.{◌∙◌, ◌∷◌, [], ℕ, sym, ap, List, is_some, map}
 use Rattle.std.proofs.lemmas.List.{map-append}
-use Rattle.std.proofs.lemmas.Map.Text.{btree_map_updates_str}
-use Rattle.std.specs.BTreeMap.{get_by}
-use Rattle.std.specs.Cmp.Lexicographic.{slice_cmp}
-use Rattle.std.specs.Ordering.{nat_cmp}
+use Rattle.std.proofs.lemmas.Map.Text.{hash_map_updates_str}
+use Rattle.std.specs.HashMap.{get_by}
+use Rattle.std.specs.Str.{bytes_eq}
 use denote.Ref.{Bor}
 use Rattle.rv_jobs.specs.declared.answers.Answer.{Answer}
 use Rattle.rv_jobs.specs.JobList.{place_in}
@@ -20,11 +19,11 @@ invariant_of-asked g c =
     record {
       even = c.self.invariant.even;
       places = λ t.
-          places_back (λ q. get_by (λ k. slice_cmp nat_cmp q k.now) c.self.inside.places)
-          (λ q. get_by (λ k. slice_cmp nat_cmp q k.now) c.insert.new.self)
-          (λ q. get_by (λ k. slice_cmp nat_cmp q k.now) c.insert-in-Some.new.self) p c.len-next.result c.in-Some.place
-          (btree_map_updates_str p c.self.inside.places c.insert.new.self _ c.in_ok-place.ensures.updates)
-          (btree_map_updates_str p c.insert.new.self c.insert-in-Some.new.self _ c.in_ok-insert.ensures.updates)
+          places_back (λ q. get_by (λ k. bytes_eq q k.now) c.self.inside.places)
+          (λ q. get_by (λ k. bytes_eq q k.now) c.insert.new.self)
+          (λ q. get_by (λ k. bytes_eq q k.now) c.insert-in-Some.new.self) p c.len-next.result c.in-Some.place
+          (hash_map_updates_str p c.self.inside.places c.insert.new.self _ c.in_ok-place.ensures.updates)
+          (hash_map_updates_str p c.insert.new.self c.insert-in-Some.new.self _ c.in_ok-insert.ensures.updates)
           (sym c.in_ok-place.ensures.old ∙ c.in-Some.is) t
           ∙ c.self.invariant.places t;
     }
@@ -53,10 +52,10 @@ invariant_of-asked-2 g c =
     record {
       even = still_even ps (map (λ (q : Bor (List ℕ)). q.now) c.push-2.new.self.items) ks c.push.new.self.items p
           c.in_ok-kept.kept c.self.invariant.even pathed c.in_ok-push.ensures.items c.args.self c.self.view_is;
-      places = places_more (λ q. get_by (λ k. slice_cmp nat_cmp q k.now) c.self.inside.places)
-          (λ q. get_by (λ k. slice_cmp nat_cmp q k.now) c.insert.new.self) ps
+      places = places_more (λ q. get_by (λ k. bytes_eq q k.now) c.self.inside.places)
+          (λ q. get_by (λ k. bytes_eq q k.now) c.insert.new.self) ps
           (map (λ (q : Bor (List ℕ)). q.now) c.push-2.new.self.items) p
-          c.len-next.result (btree_map_updates_str p c.self.inside.places c.insert.new.self _
+          c.len-next.result (hash_map_updates_str p c.self.inside.places c.insert.new.self _
           c.in_ok-place.ensures.updates)
           (c.len-next.ensures ∙ c.self.inside.answers.ok.0 ∙ sym c.self.invariant.even) c.self.invariant.places none
           pathed;

@@ -10,5 +10,5 @@ invariant_of-result c =
     record {
       even = ap length none ∙ sym (ap (length {A = Kept}) c.new.ensures.items);
       places =
-          no_places c.new-3.result (map (λ (q : Bor (List ℕ)). q.now) c.new-2.result.items) c.new-3.ensures.empty none;
+          no_places c.with_hasher.result (map (λ (q : Bor (List ℕ)). q.now) c.new-2.result.items) c.with_hasher.ensures.empty none;
     }
