@@ -10,7 +10,7 @@ use Rattle.rv_rows.specs.Rows.{rows_of}
 use Rattle.rv_jobs.specs.declared.job.Job.{Job}
 use Rattle.rv_jobs.specs.Plans.{Planned}
 use Rattle.rv_program.specs.Answers.{Answers, Began, Reported, status_of}
-use Rattle.rv_program.specs.CommandLine.{Request, raw}
+use Rattle.rv_words.specs.CommandLine.{Request, raw}
 use Rattle.rv_program.specs.declared.error.Failure.{Failure}
 use Rattle.rv_program.specs.Plans.{AreJobRows, MayPlan, Stored}
 use Rattle.rv_program.specs.Raw.{AreRawRows}

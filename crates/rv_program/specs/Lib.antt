@@ -1,8 +1,6 @@
 pub mod Answers
-pub mod CommandLine
 pub mod Failures
 pub mod Lines
 pub mod One
 pub mod Plans
 pub mod Raw
-pub mod Requests

@@ -6,7 +6,6 @@
 //! it the process's own words, files and streams.
 #![tactic(auto)]
 
-mod command;
 mod error;
 mod list;
 mod one;
@@ -15,11 +14,11 @@ mod raw;
 mod sending;
 mod status;
 
-pub use command::{Request, read_words};
 pub use error::{Failure, ListError, RunError};
 pub use list::{read_list, run_jobs};
 pub use one::{ScriptError, is_bad_path, read_script, run_image};
 pub use program::run_words;
 pub use raw::run_raw;
+pub use rv_words::{Request, read_words};
 pub use sending::send;
 pub use status::{BAD_WORDS, DONE, FAILED, SOME_FAIL, failed, refused, unread_status};

@@ -1,8 +1,8 @@
 use Rattle.std.proofs.Common.{rules, codes, Ok}
 use Rattle.clap.specs.Words.{new_app, with_rule}
-use Rattle.rv_program.specs.CommandLine.{image_rule, budget_rule, input_rule}
-use Rattle.rv_program.proofs.Commands.{Is, with_argument}
-use Rattle.rv_program.proofs.command.one_command.Goals as goal
+use Rattle.rv_words.specs.CommandLine.{image_rule, budget_rule, input_rule}
+use Rattle.rv_words.proofs.Commands.{Is, with_argument}
+use Rattle.rv_words.proofs.command.one_command.Goals as goal
 
 pub returns : goal.returns
 returns c =

@@ -1,10 +1,10 @@
 use Rattle.std.proofs.Common.{◌≡◌, ◌∙◌, ap, map, option_map, rules, sym}
 use Rattle.std.proofs.lemmas.Result.{err_from_is_err_and}
 use Rattle.clap.specs.Words.{fault_of, is_simple_and_free, takes}
-use Rattle.rv_program.proofs.Asking.{some_asked}
-use Rattle.rv_program.specs.CommandLine.{is_taken, request_of}
-use Rattle.rv_program.specs.Requests.{request}
-use Rattle.rv_program.proofs.command.read_words.Goals as goal
+use Rattle.rv_words.proofs.Asking.{some_asked}
+use Rattle.rv_words.specs.CommandLine.{is_taken, request_of}
+use Rattle.rv_words.specs.Requests.{request}
+use Rattle.rv_words.proofs.command.read_words.Goals as goal
 
 pub returns-in_err-matches-clause-taken : goal.returns-in_err-matches-clause-taken
 unfolding is_taken

@@ -1,8 +1,8 @@
 use Rattle.std.proofs.Common.{rules, codes}
 use Rattle.clap.specs.Words.{new_app}
-use Rattle.rv_program.specs.CommandLine.{budget_rule}
-use Rattle.rv_program.proofs.Commands.{Is, with_argument}
-use Rattle.rv_program.proofs.command.raw_command.Goals as goal
+use Rattle.rv_words.specs.CommandLine.{budget_rule}
+use Rattle.rv_words.proofs.Commands.{Is, with_argument}
+use Rattle.rv_words.proofs.command.raw_command.Goals as goal
 
 pub returns : goal.returns
 returns c =

@@ -20,13 +20,14 @@ use Rattle.clap.specs.declared.builder.value_parser.ValueParser.TheVariants as v
 use Rattle.clap.proofs.CallerReads.{signed_reads}
 use Rattle.clap.proofs.ValueTestLemmas.{accepts-Accepts}
 use Rattle.clap.proofs.WalkLemmas.{both}
-use Rattle.rv_program.proofs.Matching.{AreGood, EachOf, IsRead, IsThere, found_of_each, help_good, level_read}
-use Rattle.rv_program.proofs.Matching.{there_if_given, there_if_had, value_good, value_there}
-use Rattle.rv_program.proofs.Numerals.{test_gives, test_holds}
-use Rattle.rv_program.specs.declared.command.Request.{Request as Value}
-use Rattle.rv_program.specs.Requests.{request}
-use Rattle.rv_program.specs.CommandLine.{budget_rule, fleet_app, is_taken, number_in, number_of, number_within, one_in}
-use Rattle.rv_program.specs.CommandLine.{raw_in, request_in, request_of, run_in}
+use Rattle.rv_words.proofs.Matching.{AreGood, EachOf, IsRead, IsThere, found_of_each, help_good, level_read}
+use Rattle.rv_words.proofs.Matching.{there_if_given, there_if_had, value_good, value_there}
+use Rattle.rv_words.proofs.Numerals.{test_gives, test_holds}
+use Rattle.rv_words.specs.declared.command.Request.{Request as Value}
+use Rattle.rv_words.specs.Requests.{request}
+use Rattle.rv_words.specs.CommandLine.{budget_rule, fleet_app, is_taken, one_in}
+use Rattle.rv_words.specs.Values.{number_in, number_of, number_within}
+use Rattle.rv_words.specs.CommandLine.{raw_in, request_in, request_of, run_in}
 
 -- ---- numbers
 

@@ -1,8 +1,8 @@
 use Rattle.std.proofs.Common.{Ok}
 use Rattle.clap.specs.Words.{with_subcommand}
-use Rattle.rv_program.specs.CommandLine.{top_app, raw_app, one_app, run_app}
-use Rattle.rv_program.proofs.Commands.{with_command}
-use Rattle.rv_program.proofs.command.fleet_command.Goals as goal
+use Rattle.rv_words.specs.CommandLine.{top_app, raw_app, one_app, run_app}
+use Rattle.rv_words.proofs.Commands.{with_command}
+use Rattle.rv_words.proofs.command.fleet_command.Goals as goal
 
 pub returns : goal.returns
 returns c =

@@ -19,7 +19,7 @@ use Rattle.clap.specs.Values.{read_as}
 use Rattle.clap.specs.declared.parser.matches.ValueSource.{ValueSource}
 use Rattle.clap.specs.declared.parser.matches.ValueSource.TheVariants.{CommandLine, DefaultValue}
 use Rattle.clap.proofs.WalkLemmas.{both}
-use Rattle.rv_program.proofs.Walking.{settled_keeps, walk_keeps}
+use Rattle.rv_words.proofs.Walking.{settled_keeps, walk_keeps}
 
 -- ---- lists of rules
 

@@ -1,7 +1,7 @@
 use Rattle.std.specs.Str.Parse.{ExplainsUnsignedError, HasUnsignedDigitsIfOk, ParsesUnsigned}
 use Rattle.clap.specs.Words.{found_of}
-use Rattle.rv_program.proofs.Numerals.{number_reads}
-use Rattle.rv_program.proofs.command.read_number.Goals as goal
+use Rattle.rv_words.proofs.Numerals.{number_reads}
+use Rattle.rv_words.proofs.values.read_number.Goals as goal
 
 pub returns : goal.returns
 returns c = number_reads

@@ -3,12 +3,11 @@ use Rattle.std.specs.Prelude.{◌≡◌, ◌⊎◌, is_some, ◌^◌, ℕ, Bool,
 use Rattle.std.specs.Prelude.{None, pos, codes, option_map, option_and_then, if◌then◌else◌, ◌&&◌}
 use Rattle.std.specs.Prelude.{nat_le, nat_lt}
 use Rattle.std.specs.Str.{bytes_eq}
-use Rattle.std.specs.Str.Parse.{digits_value, without_leading_plus}
-use Rattle.clap.specs.ValueTests.{is_numeral}
 use Rattle.clap.specs.Words.{App, IsAmong, Kinds, Row, Rule, Text, fault_of, first_of, new_app}
 use Rattle.clap.specs.Words.{new_rule, one_of, subcommand_of, takes, with_rule, with_subcommand}
 use Rattle.clap.specs.declared.error.kind.ErrorKind.TheVariants as kind
 use Rattle.rv_jobs.specs.declared.limits.TheConstants.{MOST_BUDGET}
+use Rattle.rv_words.specs.Values.{number_in}
 use Rattle.clap.specs.declared.builder.value_parser.ValueParser.TheVariants as value_parser
 
 -- ---- the rules
@@ -89,23 +88,6 @@ pub data Request : Type 0 where
   raw : ℕ → Request
   one : Text → ℕ → Option Text → Request
   run : Text → ℕ → ℕ → Request
-
--- a decimal number of 32 bits; a plus may stand before it
-abbrev pub number_of : Text → Option ℕ
-number_of text = let number = digits_value 10 (without_leading_plus text) in
-    if is_numeral (without_leading_plus text) && nat_lt number (2 ^ 32) then Some number else None
-
-abbrev pub number_within : ℕ → ℕ → ℕ → Option ℕ
-number_within low high number =
-    if nat_le low number && nat_le number high then Some number else None
-
--- the number that stands for an argument
-abbrev pub read_number_in : Text → List Row → Option ℕ
-read_number_in id rows = option_and_then number_of (one_of id rows)
-
--- the number that stands for an argument, from low to high
-abbrev pub number_in : Text → ℕ → ℕ → List Row → Option ℕ
-number_in id low high rows = option_and_then (number_within low high) (read_number_in id rows)
 
 abbrev pub budget_in : List Row → Option ℕ
 budget_in rows = number_in (codes "budget") 1 MOST_BUDGET rows

@@ -5,13 +5,14 @@ ghost use Rattle.std.specs.Prelude.{option_map};
 ghost use Rattle.clap.specs.Words.{FailsBy, app_of, fault_of, first_of, found_of, kind_of, rows_of};
 ghost use Rattle.clap.specs.Words.{rule_of};
 ghost use Rattle.clap.specs.declared.builder.command.Command.TheViews.{out-Command};
-ghost use Rattle.rv_program.specs.CommandLine.{budget_rule, image_rule, input_rule, jobs_rule};
-ghost use Rattle.rv_program.specs.CommandLine.{workers_rule, group_rule, raw_app, one_app, run_app};
-ghost use Rattle.rv_program.specs.CommandLine.{top_app, fleet_app, budget_in, number_in};
-ghost use Rattle.rv_program.specs.CommandLine.{read_number_in, raw_in, one_in, run_in, request_in};
-ghost use Rattle.rv_program.specs.CommandLine.{request_of, is_taken};
-ghost use Rattle.rv_program.specs.Requests.{AreWithin, request};
+ghost use Rattle.rv_words.specs.CommandLine.{budget_rule, image_rule, input_rule, jobs_rule};
+ghost use Rattle.rv_words.specs.CommandLine.{workers_rule, group_rule, raw_app, one_app, run_app};
+ghost use Rattle.rv_words.specs.CommandLine.{top_app, fleet_app, budget_in};
+ghost use Rattle.rv_words.specs.CommandLine.{raw_in, one_in, run_in, request_in};
+ghost use Rattle.rv_words.specs.CommandLine.{request_of, is_taken};
+ghost use Rattle.rv_words.specs.Requests.{AreWithin, request};
 
+use crate::values::{number, text};
 use clap::error::ErrorKind;
 use clap::{Arg, ArgMatches, Command, Error, value_parser};
 use rv_jobs::limits::MOST_BUDGET;
@@ -254,30 +255,4 @@ fn budget(values: &ArgMatches<'_>) -> Option<u32>
     ensures within { IfSome result (λ number. (1 ≤ number) × (number ≤ MOST_BUDGET)) }
 {
     number(values, "budget", 1, MOST_BUDGET)
-}
-
-// `clap` has tested the range already; here it is the caller's to know.
-fn number(values: &ArgMatches<'_>, id: &str, low: u32, high: u32) -> Option<u32>
-    ensures value { result ≡ number_in id.now low high (rows_of (found_of values.now)) }
-    ensures within { IfSome result (λ number. (low ≤ number) × (number ≤ high)) }
-{
-    let number = read_number(values, id)?;
-    if low <= number && number <= high {
-        Some(number)
-    } else {
-        None
-    }
-}
-
-fn read_number(values: &ArgMatches<'_>, id: &str) -> Option<u32>
-    ensures { result ≡ read_number_in id.now (rows_of (found_of values.now)) }
-{
-    values.get_one::<u32>(id)
-}
-
-fn text<'a>(values: &ArgMatches<'a>, id: &str) -> Option<&'a str>
-    ensures { option_map (λ text. text.now) result
-        ≡ first_of id.now (rows_of (found_of values.now)) }
-{
-    values.get_str(id)
 }

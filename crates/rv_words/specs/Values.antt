@@ -1,0 +1,23 @@
+-- Numbers among the values that `clap` found for arguments.
+use Rattle.std.specs.Prelude.{◌&&◌, ◌^◌, ℕ, List, Option, Some, None, option_and_then, if◌then◌else◌}
+use Rattle.std.specs.Prelude.{nat_le, nat_lt}
+use Rattle.std.specs.Str.Parse.{digits_value, without_leading_plus}
+use Rattle.clap.specs.ValueTests.{is_numeral}
+use Rattle.clap.specs.Words.{Row, Text, one_of}
+
+-- a decimal number of 32 bits; a plus may stand before it
+abbrev pub number_of : Text → Option ℕ
+number_of text = let number = digits_value 10 (without_leading_plus text) in
+    if is_numeral (without_leading_plus text) && nat_lt number (2 ^ 32) then Some number else None
+
+abbrev pub number_within : ℕ → ℕ → ℕ → Option ℕ
+number_within low high number =
+    if nat_le low number && nat_le number high then Some number else None
+
+-- the number that stands for an argument
+abbrev pub read_number_in : Text → List Row → Option ℕ
+read_number_in id rows = option_and_then number_of (one_of id rows)
+
+-- the number that stands for an argument, from low to high
+abbrev pub number_in : Text → ℕ → ℕ → List Row → Option ℕ
+number_in id low high rows = option_and_then (number_within low high) (read_number_in id rows)
