@@ -10,8 +10,8 @@ ghost use Rattle.rv_jobs.specs.Plans.{AreKept, unreadables, more};
 ghost use Rattle.rv_jobs.specs.Placed.{ArePlaced, AreNoted, IsFound, AreFound};
 
 use crate::answers::Answers;
-use rv_lists::Job;
 use crate::store::Store;
+use rv_lists::Job;
 use std::alloc::{AllocError, Global};
 
 /// The places of the answers of a job's paths, each of which has one.

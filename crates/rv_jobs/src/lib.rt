@@ -16,7 +16,8 @@ pub use answers::Answer;
 pub use choice::marked_places;
 pub use law::used_paths_have_answers;
 pub use plan::{Plan, gather, gather_places};
-pub use rv_lists::limits;
-pub use rv_lists::{Bytes, ExpectedConsole, ExpectedEnd, Job, JobError, JobList, Symbols, Text, What};
-pub use rv_lists::read_jobs;
+pub use rv_lists::{
+    Bytes, ExpectedConsole, ExpectedEnd, Job, JobError, JobList, Symbols, Text, What, limits,
+    read_jobs,
+};
 pub use store::{Kept, ReadError, Store};

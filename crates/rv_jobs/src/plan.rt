@@ -11,8 +11,8 @@ ghost use Rattle.rv_jobs.specs.Plans.{AreKept, unreadables, more};
 
 use crate::answers::Answers;
 use crate::asking::{Found, ask_for_row, console_path, found_of, nothing_noted, reference_path};
-use rv_lists::{Job, JobList};
 use crate::store::{Kept, Store};
+use rv_lists::{Job, JobList};
 use std::alloc::{AllocError, Global};
 use std::marker::Model;
 
