@@ -1,8 +1,8 @@
 -- The job whose name is nearest to a text.
 use Rattle.std.specs.Prelude.{◌≤◌, ◌<◌, ℕ, List, [], length, nat_eq, slice_index_or}
 use Rattle.std.specs.Str.{chars}
-use Rattle.rv_jobs.specs.declared.job.Job.{Job}
-use Rattle.rv_jobs.specs.Jobs.{single_job}
+use Rattle.rv_lists.specs.declared.job.Job.{Job}
+use Rattle.rv_lists.specs.Jobs.{single_job}
 use Rattle.strsim.specs.Edits.{levenshtein_row}
 
 -- the least number of characters that are put in, taken out or changed to come from a text to the

@@ -1,6 +1,6 @@
 -- The expectations that the run of a plan's job does not meet.
 use Rattle.std.specs.Prelude.{List, Option, option_and_then, option_map, slice_get}
-use Rattle.rv_jobs.specs.declared.job.Job.{Job}
+use Rattle.rv_lists.specs.declared.job.Job.{Job}
 use Rattle.rv_jobs.specs.Plans.{Planned}
 use Rattle.rv_rows.specs.declared.row.Row.{Row}
 use Rattle.rv_rows.specs.Rows.{console_in, reference_in, row_of}

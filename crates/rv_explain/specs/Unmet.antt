@@ -1,7 +1,7 @@
 -- The expectations of a job that its run does not meet.
 use Rattle.std.specs.Prelude.{ℕ, List, [], ◌++◌, Option, Some, None, option_map, option_to_list}
 use Rattle.std.specs.Prelude.{if◌then◌else◌}
-use Rattle.rv_jobs.specs.declared.job.Job.{Job}
+use Rattle.rv_lists.specs.declared.job.Job.{Job}
 use Rattle.rv_rows.specs.declared.row.Row.{Row}
 use Rattle.rv_rows.specs.declared.row.RowEnd.{RowEnd}
 use Rattle.rv_rows.specs.Verdict.{holds_end, holds_exit, is_asked, is_run}

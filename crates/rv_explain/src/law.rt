@@ -2,7 +2,7 @@
 
 ghost use Rattle.std.specs.Prelude.{◌≡◌, ◌==◌, ℕ, List, Option, IsTrue, MatchOption, length};
 ghost use Rattle.std.specs.List.{AllByRecursion, flat_map};
-ghost use Rattle.rv_jobs.specs.declared.job.Job.{Job};
+ghost use Rattle.rv_lists.specs.declared.job.Job.{Job};
 ghost use Rattle.rv_rows.specs.declared.row.Row.{Row};
 ghost use Rattle.rv_jobs.specs.Plans.{Planned};
 ghost use Rattle.rv_rows.specs.Report.{word_line};

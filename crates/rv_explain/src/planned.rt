@@ -1,7 +1,7 @@
 //! The expectations that the run of a plan's job does not meet.
 
 ghost use Rattle.std.specs.Prelude.{◌≡◌, ◌<◌, IfOk, IfSome, length, option_map, slice_index_or};
-ghost use Rattle.rv_jobs.specs.declared.job.Job.{Job as AJob};
+ghost use Rattle.rv_lists.specs.declared.job.Job.{Job as AJob};
 ghost use Rattle.rv_explain.specs.Planned.{named_row, unmet_in};
 
 use crate::unmet::{Unmet, unmet_expectations};

@@ -1,7 +1,7 @@
 -- A choice of a plan's jobs: those at some places, in order.
 use Rattle.std.specs.Prelude.{ℕ, ◌<◌, ◌≤◌, List, length}
 use Rattle.std.specs.List.{All}
-use Rattle.rv_jobs.specs.Jobs.{most_jobs}
+use Rattle.rv_lists.specs.Jobs.{most_jobs}
 use Rattle.rv_jobs.specs.Plans.{Planned}
 
 -- each is the place of a job

@@ -9,18 +9,18 @@ use Rattle.std.specs.Str.{bytes_eq}
 use Rattle.std.proofs.lemmas.List.{map-append, length-map}
 use Rattle.std.proofs.lemmas.List.Sums.{sum_by-append}
 use Rattle.std.proofs.lemmas.List.Elements.{All-push}
-use Rattle.rv_jobs.specs.declared.job.Job.{Job}
+use Rattle.rv_lists.specs.declared.job.Job.{Job}
 use Rattle.rv_jobs.specs.declared.store.Kept.{Kept}
 use Rattle.rv_jobs.specs.declared.store.Kept.TheVariants.{Unreadable}
 use Rattle.rv_jobs.specs.declared.answers.Answer.{Answer}
 use Rattle.rv_jobs.specs.declared.asking.Places.{Places}
-use Rattle.rv_jobs.specs.JobList.{place_in}
+use Rattle.rv_lists.specs.JobList.{place_in}
 use Rattle.rv_jobs.specs.Stores.{FileContents, IsKeptOf, is_unreadable, one_more, faults_with}
-use Rattle.rv_jobs.specs.Jobs.{console_path}
+use Rattle.rv_lists.specs.Jobs.{console_path}
 use Rattle.rv_jobs.specs.Plans.{paths_of, answers_with, with_path, with_path_if, with_job, kept_of}
 use Rattle.rv_jobs.specs.Plans.{AreKept, kept_for, unreadables, more}
 use Rattle.rv_jobs.specs.Placed.{ArePlaced, IsFound}
-use Rattle.rv_jobs.proofs.PlaceLemmas.{place_below, place_last}
+use Rattle.rv_lists.proofs.Public.{place_below, place_last}
 use Rattle.std.proofs.lemmas.Slice.Eq.{bytes_eq-Decides}
 
 -- ---- what is kept of a path

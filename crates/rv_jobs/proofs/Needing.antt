@@ -6,10 +6,10 @@ use Rattle.std.specs.List.{fold}
 use Rattle.std.proofs.Math.Seq.{take-length}
 use Rattle.std.proofs.lemmas.Grind.{flat_map-append, fold-append}
 use Rattle.std.proofs.lemmas.List.{take_more, length-take, get_or-take}
-use Rattle.rv_jobs.specs.declared.job.Job.{Job}
+use Rattle.rv_lists.specs.declared.job.Job.{Job}
 use Rattle.rv_jobs.specs.declared.asking.Places.{Places}
-use Rattle.rv_jobs.specs.Jobs.{AreJobs, console_path, single_job}
-use Rattle.rv_jobs.specs.JobList.{place_in}
+use Rattle.rv_lists.specs.Jobs.{AreJobs, console_path, single_job}
+use Rattle.rv_lists.specs.JobList.{place_in}
 use Rattle.rv_jobs.specs.Placed.{ArePlaced}
 use Rattle.rv_jobs.specs.declared.answers.Answer.{Answer}
 use Rattle.rv_jobs.specs.declared.store.Kept.TheVariants.{Unreadable}

@@ -2,12 +2,12 @@
 use Rattle.std.proofs.Common.{◌≡◌, ◌∙◌, ◌<◌, ℕ, List, [], Option, Some, None, ap, sym, length, subst, get_or}
 use Rattle.std.proofs.Common.{IfSome, option_map, option_and_then}
 use Rattle.std.proofs.lemmas.List.{get_or_default}
-use Rattle.rv_jobs.specs.declared.job.Job.{Job}
+use Rattle.rv_lists.specs.declared.job.Job.{Job}
 use Rattle.rv_jobs.specs.declared.store.Kept.{Kept}
 use Rattle.rv_jobs.specs.declared.asking.Found.{Found}
 use Rattle.rv_jobs.specs.declared.plan.Plan.TheInside.{Inside}
-use Rattle.rv_jobs.specs.Jobs.{single_job}
-use Rattle.rv_jobs.specs.JobList.{place_in}
+use Rattle.rv_lists.specs.Jobs.{single_job}
+use Rattle.rv_lists.specs.JobList.{place_in}
 use Rattle.rv_jobs.specs.Placed.{IsFound}
 use Rattle.rv_jobs.specs.PlanInside.{IsPlanInside, paths_read, planned_of}
 use Rattle.rv_jobs.specs.Plans.{Planned, paths_of, kept_for}

@@ -1,14 +1,6 @@
-pub mod Reading
-pub mod Keys
-pub mod KeysInside
-pub mod Jobs
-pub mod JobList
-pub mod JobSteps
-pub mod EarlierJobsInside
 pub mod Stores
 pub mod Plans
 pub mod Placed
 pub mod AnswersInside
 pub mod PlanInside
-pub mod Faults
 pub mod Choices

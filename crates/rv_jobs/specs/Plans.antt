@@ -4,12 +4,12 @@ use Rattle.std.specs.Prelude.{None, map, is_some, option_map, unwrap_or, if◌th
 use Rattle.std.specs.Prelude.{slice_index_or, IfSome, IsTrue}
 use Rattle.std.specs.List.{All, find, flat_map, fold}
 use Rattle.std.specs.Str.{bytes_eq}
-use Rattle.rv_jobs.specs.declared.job.Job.{Job}
+use Rattle.rv_lists.specs.declared.job.Job.{Job}
 use Rattle.rv_jobs.specs.declared.store.Kept.{Kept}
 use Rattle.rv_jobs.specs.declared.store.Kept.TheVariants.{Unreadable}
 use Rattle.rv_jobs.specs.declared.answers.Answer.{Answer}
-use Rattle.rv_jobs.specs.JobList.{place_in}
-use Rattle.rv_jobs.specs.Jobs.{console_path, single_job}
+use Rattle.rv_lists.specs.JobList.{place_in}
+use Rattle.rv_lists.specs.Jobs.{console_path, single_job}
 use Rattle.rv_jobs.specs.Stores.{FileContents, IsKeptOf, is_unreadable, one_more}
 
 -- the paths of answers, in order

@@ -1,7 +1,7 @@
 -- What files hold, what is kept of a path, and how faults are counted.
 use Rattle.std.specs.Prelude.{◌≡◌, ◌≤◌, ◌<◌, ◌+◌, ◌-◌, ◌^◌, ℕ, Bool, true, false, List, Option}
 use Rattle.std.specs.Prelude.{Some, IfSome, IsSomeAnd, length, min, if◌then◌else◌}
-use Rattle.rv_jobs.specs.declared.limits.TheConstants.{MOST_BYTES}
+use Rattle.rv_lists.specs.declared.limits.TheConstants.{MOST_BYTES}
 use Rattle.rv_jobs.specs.declared.store.ReadError.{ReadError}
 use Rattle.rv_jobs.specs.declared.store.ReadError.TheVariants as error
 use Rattle.rv_jobs.specs.declared.store.Kept.{Kept}

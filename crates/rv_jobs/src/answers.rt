@@ -1,11 +1,11 @@
 //! What is kept of the different paths that jobs name, while a plan is gathered.
 
 ghost use Rattle.std.specs.Prelude.{◌≡◌, ℕ, [], IfOk, Some, map};
-ghost use Rattle.rv_jobs.specs.JobList.{place_in};
+ghost use Rattle.rv_lists.specs.JobList.{place_in};
 ghost use Rattle.rv_jobs.specs.Plans.{paths_of, with_path, AreKept, unreadables, more};
 
 use crate::store::{Kept, Store, keep};
-use crate::text::Text;
+use rv_lists::Text;
 use std::alloc::{AllocError, Global};
 use std::collections::HashMap;
 use std::hash::{BuildHasherDefault, DefaultHasher};

@@ -3,15 +3,15 @@
 ghost use Rattle.std.specs.Prelude.{◌≡◌, ◌<◌, ℕ, IfOk, IfSome, Some, [], length, slice_index_or};
 ghost use Rattle.std.specs.Prelude.{option_map, option_and_then};
 ghost use Rattle.std.specs.List.{fold};
-ghost use Rattle.rv_jobs.specs.Jobs.{AreJobs, console_path, single_job};
-ghost use Rattle.rv_jobs.specs.JobList.{place_in};
+ghost use Rattle.rv_lists.specs.Jobs.{AreJobs, console_path, single_job};
+ghost use Rattle.rv_lists.specs.JobList.{place_in};
 ghost use Rattle.rv_jobs.specs.Plans.{paths_of, with_job, with_path_if, needed_at};
 ghost use Rattle.rv_jobs.specs.Plans.{AreKept, unreadables, more};
 ghost use Rattle.rv_jobs.specs.Placed.{ArePlaced, AreNoted, IsFound, AreFound};
 
 use crate::answers::Answers;
-use crate::job::Job;
 use crate::store::Store;
+use rv_lists::Job;
 use std::alloc::{AllocError, Global};
 
 /// The places of the answers of a job's paths, each of which has one.

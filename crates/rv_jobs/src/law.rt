@@ -2,7 +2,7 @@
 
 ghost use Rattle.std.specs.Prelude.{ℕ, ◌≡◌, ◌<◌, List, length, slice_index_or};
 ghost use Rattle.rv_jobs.specs.declared.answers.Answer.{Answer};
-ghost use Rattle.rv_jobs.specs.declared.job.Job.{Job as AJob};
+ghost use Rattle.rv_lists.specs.declared.job.Job.{Job as AJob};
 ghost use Rattle.rv_jobs.specs.Plans.{HasAnswers, paths_of, paths_used};
 
 /// A law of plans, with nothing to run: where the answers are those of the paths that jobs use, each path that one of

@@ -1,18 +1,18 @@
 //! A plan: jobs, and what is kept of the paths that they name.
 
-ghost use Rattle.rv_jobs.specs.declared.job.Job.{Job as AJob};
+ghost use Rattle.rv_lists.specs.declared.job.Job.{Job as AJob};
 ghost use Rattle.std.specs.Prelude.{◌≡◌, ◌<◌, ◌≤◌, ℕ, List, IfOk, IfSome, length};
 ghost use Rattle.std.specs.Prelude.{slice_index_or, option_map};
 ghost use Rattle.std.specs.List.{All};
-ghost use Rattle.rv_jobs.specs.Jobs.{IsJob, console_path};
-ghost use Rattle.rv_jobs.specs.JobList.{place_in};
+ghost use Rattle.rv_lists.specs.Jobs.{IsJob, console_path};
+ghost use Rattle.rv_lists.specs.JobList.{place_in};
 ghost use Rattle.rv_jobs.specs.Plans.{paths_of, paths_used, needed_for, kept_for};
 ghost use Rattle.rv_jobs.specs.Plans.{AreKept, unreadables, more};
 
 use crate::answers::Answers;
 use crate::asking::{Found, ask_for_row, console_path, found_of, nothing_noted, reference_path};
-use crate::job::{Job, JobList};
 use crate::store::{Kept, Store};
+use rv_lists::{Job, JobList};
 use std::alloc::{AllocError, Global};
 use std::marker::Model;
 

@@ -6,7 +6,7 @@ ghost use Rattle.std.specs.Prelude.{length};
 ghost use Rattle.rv_jobs.specs.Stores.{FileContents, IsKeptOf, faults_after, faults_with};
 ghost use Rattle.rv_jobs.specs.Stores.{most_bytes};
 
-use crate::text::Bytes;
+use rv_lists::Bytes;
 use std::alloc::{AllocError, Global};
 
 /// Why a path was not read.

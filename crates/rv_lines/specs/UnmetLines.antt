@@ -14,11 +14,11 @@ use Rattle.rv_explain.specs.declared.difference.SignatureDifference.TheVariants 
 use Rattle.rv_explain.specs.declared.unmet.Unmet.{Unmet}
 use Rattle.rv_explain.specs.declared.unmet.Unmet.TheVariants as unmet
 use Rattle.rv_explain.specs.Reference.{words_or_none}
-use Rattle.rv_jobs.specs.declared.job.ExpectedConsole.{ExpectedConsole}
-use Rattle.rv_jobs.specs.declared.job.ExpectedConsole.TheVariants as console
-use Rattle.rv_jobs.specs.declared.job.ExpectedEnd.{ExpectedEnd}
-use Rattle.rv_jobs.specs.declared.job.ExpectedEnd.TheVariants as expected
-use Rattle.rv_jobs.specs.declared.job.Job.{Job}
+use Rattle.rv_lists.specs.declared.job.ExpectedConsole.{ExpectedConsole}
+use Rattle.rv_lists.specs.declared.job.ExpectedConsole.TheVariants as console
+use Rattle.rv_lists.specs.declared.job.ExpectedEnd.{ExpectedEnd}
+use Rattle.rv_lists.specs.declared.job.ExpectedEnd.TheVariants as expected
+use Rattle.rv_lists.specs.declared.job.Job.{Job}
 use Rattle.rv_lines.specs.declared.unmet_line.Sides.{Sides}
 use Rattle.rv_lines.specs.Shown.{shown, shown_value}
 use Rattle.rv_machine.specs.Faults.{fault_name}

@@ -7,7 +7,7 @@ use Rattle.rv_rows.specs.declared.row.Row.{Row}
 use Rattle.rv_rows.specs.Flat.{flat_row_of}
 use Rattle.rv_rows.specs.Report.{report_text}
 use Rattle.rv_rows.specs.Rows.{rows_of}
-use Rattle.rv_jobs.specs.declared.job.Job.{Job}
+use Rattle.rv_lists.specs.declared.job.Job.{Job}
 use Rattle.rv_jobs.specs.Plans.{Planned}
 use Rattle.rv_program.specs.Answers.{Answers, Began, Reported, status_of}
 use Rattle.rv_words.specs.CommandLine.{Request, raw}

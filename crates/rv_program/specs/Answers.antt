@@ -8,8 +8,8 @@ use Rattle.rv_rows.specs.declared.row.Verdict.{Verdict}
 use Rattle.rv_rows.specs.declared.row.Verdict.TheVariants as verdict
 use Rattle.rv_rows.specs.Report.{report_text}
 use Rattle.rv_rows.specs.Sending.{AppendsBeginning}
-use Rattle.rv_jobs.specs.declared.error.JobError.{JobError}
-use Rattle.rv_jobs.specs.declared.job.Job.{Job}
+use Rattle.rv_lists.specs.declared.error.JobError.{JobError}
+use Rattle.rv_lists.specs.declared.job.Job.{Job}
 use Rattle.rv_jobs.specs.Stores.{FileContents}
 use Rattle.rv_words.specs.CommandLine.{Request, one, raw, run}
 use Rattle.rv_program.specs.declared.error.Failure.{Failure}

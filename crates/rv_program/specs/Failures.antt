@@ -1,9 +1,9 @@
 -- What the program says of an error of a layer below.
 use Rattle.std.specs.Prelude.{◌≡◌, Bool, true, false}
-use Rattle.rv_jobs.specs.declared.error.JobError.{JobError}
+use Rattle.rv_lists.specs.declared.error.JobError.{JobError}
 use Rattle.rv_program.specs.declared.error.ListError.{ListError}
 use Rattle.rv_program.specs.declared.error.ListError.TheVariants.{Failed, Refused}
-use Rattle.rv_jobs.specs.declared.error.What.TheVariants as what
+use Rattle.rv_lists.specs.declared.error.What.TheVariants as what
 use Rattle.rv_fleet.specs.declared.fleet.FleetError.{FleetError}
 use Rattle.rv_fleet.specs.declared.fleet.FleetError.TheVariants as fleet
 use Rattle.rv_rows.specs.declared.report.WriteError.{WriteError}

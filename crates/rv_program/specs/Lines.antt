@@ -5,8 +5,8 @@ use Rattle.std.specs.Io.KnownBytes.{Appends}
 use Rattle.rv_rows.specs.Report.{line}
 use Rattle.rv_rows.specs.Sending.{AppendsBeginning}
 use Rattle.rv_jobs.specs.Stores.{one_more}
-use Rattle.rv_jobs.specs.Faults.{what_name}
-use Rattle.rv_jobs.specs.declared.error.JobError.{JobError}
+use Rattle.rv_lists.specs.Faults.{what_name}
+use Rattle.rv_lists.specs.declared.error.JobError.{JobError}
 use Rattle.rv_program.specs.declared.error.Failure.{Failure}
 use Rattle.rv_program.specs.declared.error.Failure.TheVariants as failure
 

@@ -5,7 +5,7 @@ ghost use Rattle.std.specs.Prelude.{length, option_map, true, vec_len};
 ghost use Rattle.std.specs.Io.KnownBytes.{Keeps};
 ghost use Rattle.rv_rows.specs.declared.row.Row.{Row as ARow};
 ghost use Rattle.rv_rows.specs.Sending.{Rose};
-ghost use Rattle.rv_jobs.specs.Jobs.{most_path, most_script};
+ghost use Rattle.rv_lists.specs.Jobs.{most_path, most_script};
 ghost use Rattle.rv_program.specs.Answers.{Began, Reported};
 ghost use Rattle.rv_program.specs.Failures.{is_of_sending};
 ghost use Rattle.rv_program.specs.One.{bytes_of, is_bad_path, is_bad_script, one_jobs};

@@ -11,8 +11,8 @@ use Rattle.hex.specs.Hex.{IsBytes, decode_of}
 use Rattle.hex.specs.declared.error.FromHexError.{FromHexError}
 use Rattle.hex.proofs.HexLemmas.{decode_of-ok}
 use Rattle.rv_elf.specs.declared.error.ImageError.TheVariants as image
-use Rattle.rv_jobs.specs.JobList.{is_name, is_name_byte}
-use Rattle.rv_jobs.specs.Jobs.{most_jobs}
+use Rattle.rv_lists.specs.JobList.{is_name, is_name_byte}
+use Rattle.rv_lists.specs.Jobs.{most_jobs}
 use Rattle.rv_rows.specs.Report.{refusal_name, refusal_named, refusals}
 use Rattle.rv_rows.specs.declared.row.Refusal.{Refusal}
 use Rattle.rv_rows.specs.declared.row.Refusal.TheVariants as refusal

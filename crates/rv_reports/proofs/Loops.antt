@@ -11,17 +11,17 @@ use Rattle.std.proofs.lemmas.Str.{IsUtf8-from_ascii}
 use Rattle.std.proofs.lemmas.Bool.{cases_Bool}
 use Rattle.std.specs.List.{onto_first, list_all}
 use Rattle.std.specs.Str.{IsAscii, IsUtf8}
-use Rattle.rv_jobs.specs.JobList.{is_name, is_name_byte, is_within}
+use Rattle.rv_lists.specs.JobList.{is_name, is_name_byte, is_within}
 use Rattle.std.specs.Prelude.{Result, Ok, Err, IfOk}
 use Rattle.rv_reports.specs.Said.{Gathered, with_line, with_lines, lines, place_of, number_on, word_on, digit_on}
 use Rattle.rv_reports.specs.Said.{hex_digit, shifted, all_hex, is_hex}
 use Rattle.rv_reports.specs.Differences.{feeds, past, line_past, difference, difference_at}
-use Rattle.rv_jobs.specs.Jobs.{most_jobs}
+use Rattle.rv_lists.specs.Jobs.{most_jobs}
 use Rattle.rv_rows.specs.Report.{row_text}
 use Rattle.rv_rows.specs.declared.row.Row.{Row}
 use Rattle.std.specs.Prelude.{is_some}
 use Rattle.std.proofs.lemmas.Bool.{false≢true}
-use Rattle.rv_jobs.specs.JobList.{place_in}
+use Rattle.rv_lists.specs.JobList.{place_in}
 use Rattle.rv_reports.specs.Said.{rising_count, new_count}
 use Rattle.rv_reports.specs.Saved.{are_rising, are_stepped, numbered_text, names_of}
 

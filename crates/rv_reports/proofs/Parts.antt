@@ -6,8 +6,8 @@ use Rattle.std.specs.Prelude.{codes, nat_le}
 use Rattle.std.proofs.lemmas.Bool.{and_parts}
 use Rattle.std.proofs.lemmas.Bool.Decides.{nat_tests}
 use Rattle.std.specs.Fmt.{decimal}
-use Rattle.rv_jobs.specs.JobList.{is_name}
-use Rattle.rv_jobs.specs.Jobs.{most_jobs}
+use Rattle.rv_lists.specs.JobList.{is_name}
+use Rattle.rv_lists.specs.Jobs.{most_jobs}
 use Rattle.rv_rows.specs.declared.row.Row.{Row}
 use Rattle.rv_rows.specs.Report.{line, done_line}
 use Rattle.rv_reports.specs.declared.saved.Extent.{Extent}

@@ -8,7 +8,7 @@ use Rattle.std.specs.List.{flat_map, list_all, AllByRecursion}
 use Rattle.std.specs.Fmt.{decimal}
 use Rattle.hex.specs.Hex.{IsBytes, encode_lower, encode_with, lower_digits}
 use Rattle.rv_elf.specs.declared.error.ImageError.TheVariants as image
-use Rattle.rv_jobs.specs.JobList.{is_name, is_name_byte, is_within}
+use Rattle.rv_lists.specs.JobList.{is_name, is_name_byte, is_within}
 use Rattle.rv_machine.specs.declared.ending.FaultKind.{FaultKind}
 use Rattle.rv_machine.specs.declared.ending.FaultKind.TheVariants as fault
 use Rattle.rv_machine.specs.Faults.{fault_name, fault_named}
@@ -27,7 +27,7 @@ use Rattle.rv_reports.specs.Said.{lines, before, after, number_of, word_of, all_
 use Rattle.rv_reports.specs.Said.{job_of, name_of, fault_or_first, refusal_or_first, fault_of, ending_of, verdict_of}
 use Rattle.rv_reports.specs.Said.{number_on, Gathered, whole, closed, over, next_row, between, at_ending}
 use Rattle.rv_reports.specs.Said.{at_steps, at_console, at_signature, at_words, with_line, with_lines}
-use Rattle.rv_jobs.specs.Jobs.{most_jobs}
+use Rattle.rv_lists.specs.Jobs.{most_jobs}
 use Rattle.std.proofs.lemmas.Bool.Decides.{nat_tests}
 use Rattle.rv_reports.specs.Saved.{most_words, IsWord, IsEnd, AreWords, IsRow}
 use Rattle.rv_reports.proofs.Pieces.{lacks, lacks-append, lines_at, before_at, after_at, first_is_other}

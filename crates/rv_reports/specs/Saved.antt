@@ -7,8 +7,8 @@ use Rattle.std.specs.List.{AllByRecursion, list_all}
 use Rattle.std.specs.Fmt.{decimal}
 use Rattle.hex.specs.Hex.{IsBytes}
 use Rattle.rv_elf.specs.declared.error.ImageError.TheVariants as image
-use Rattle.rv_jobs.specs.JobList.{is_name, place_in}
-use Rattle.rv_jobs.specs.Jobs.{most_jobs}
+use Rattle.rv_lists.specs.JobList.{is_name, place_in}
+use Rattle.rv_lists.specs.Jobs.{most_jobs}
 use Rattle.rv_rows.specs.Report.{line, row_text, done_line}
 use Rattle.rv_rows.specs.declared.row.Refusal.TheVariants as refusal
 use Rattle.rv_rows.specs.declared.row.Row.{Row}

@@ -2,7 +2,7 @@
 
 ghost use Rattle.std.specs.Prelude.{◌≡◌, ◌≤◌, IfOk, take, drop, slice_index, string_bytes, length};
 ghost use Rattle.std.specs.List.{list_all};
-ghost use Rattle.rv_jobs.specs.JobList.{is_name, is_name_byte};
+ghost use Rattle.rv_lists.specs.JobList.{is_name, is_name_byte};
 ghost use Rattle.rv_reports.specs.Said.{all_hex, word_on, place_of, before, after, number_of, hex_digit, word_of};
 ghost use Rattle.rv_reports.specs.Said.{is_hex, is_word, bytes_of, name_or_dash};
 
@@ -154,7 +154,7 @@ pub(crate) fn name_or_dash(alloc: Global, text: &[u8]) -> Result<String, AllocEr
     }
 }
 
-#[tactic(auto, unfolding(rv_jobs::specs::JobList::is_name))]
+#[tactic(auto, unfolding(rv_lists::specs::JobList::is_name))]
 pub(crate) fn is_name(text: &[u8]) -> bool
     ensures { result ≡ is_name text.now }
 {
@@ -167,7 +167,7 @@ fn has_name_bytes(text: &[u8]) -> bool
     text.iter().all(|byte| is_name_byte(*byte))
 }
 
-#[tactic(auto, unfolding(rv_jobs::specs::JobList::is_name_byte))]
+#[tactic(auto, unfolding(rv_lists::specs::JobList::is_name_byte))]
 fn is_name_byte(byte: u8) -> bool
     ensures { result ≡ is_name_byte byte }
 {

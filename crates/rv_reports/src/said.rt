@@ -2,7 +2,7 @@
 
 ghost use Rattle.std.specs.Prelude.{◌≡◌, ◌≤◌, [], IfOk, length};
 ghost use Rattle.rv_reports.specs.Said.{rising_count, new_count, fitting, said};
-ghost use Rattle.rv_jobs.specs.Jobs.{most_jobs};
+ghost use Rattle.rv_lists.specs.Jobs.{most_jobs};
 ghost use Rattle.rv_reports.specs.Saved.{names_of, IsSaved};
 
 use crate::gathering::gathered;

@@ -1,7 +1,7 @@
 //! Reports as files hold them: rows under the numbers of their jobs, and which jobs of a list these are.
 
 ghost use Rattle.std.specs.Prelude.{◌≡◌, ◌≤◌, length};
-ghost use Rattle.rv_jobs.specs.Jobs.{most_jobs};
+ghost use Rattle.rv_lists.specs.Jobs.{most_jobs};
 ghost use Rattle.rv_reports.specs.Saved.{are_rising, are_stepped, is_shard, fits};
 
 use crate::fields::is_name;

@@ -2,7 +2,7 @@
 
 ghost use Rattle.std.specs.Prelude.{◌≡◌, ◌++◌, ◌≤◌, ◌<◌, ◌^◌, true, IfOk, OnOk, string_bytes, length};
 ghost use Rattle.rv_reports.specs.Saved.{IsListed, are_rising, numbered_text, last_line, saved_text};
-ghost use Rattle.rv_jobs.specs.Jobs.{most_jobs};
+ghost use Rattle.rv_lists.specs.Jobs.{most_jobs};
 
 use crate::saved::{Extent, SavedReport, Shard};
 use rv_rows::{Row, push_done, push_row};

@@ -4,7 +4,7 @@ use Rattle.std.specs.Prelude.{if◌then◌else◌}
 use Rattle.rv_isa.specs.declared.sets.Isa.TheVariants.{Imc}
 use Rattle.rv_memory.specs.declared.access.Misaligned.TheVariants.{Fault}
 use Rattle.rv_memory.specs.Bus.{Contents, new_bus, with_bytes}
-use Rattle.rv_jobs.specs.Jobs.{default_regions}
+use Rattle.rv_lists.specs.Jobs.{default_regions}
 use Rattle.rv_machine.specs.Run.{run_of}
 use Rattle.rv_machine.specs.State.{State, at_reset}
 use Rattle.rv_rows.specs.declared.row.Refusal.TheVariants as refusal

@@ -2,7 +2,7 @@
 -- change.
 use Rattle.std.specs.Prelude.{ℕ, zero, suc, Bool, true, false, not, List, [], ◌∷◌}
 use Rattle.rv_isa.specs.declared.sets.Isa.TheVariants.{Imc}
-use Rattle.rv_jobs.specs.declared.job.Job.{Job}
+use Rattle.rv_lists.specs.declared.job.Job.{Job}
 use Rattle.rv_jobs.specs.Plans.{Planned}
 use Rattle.rv_machine.specs.Sets.{is_of_set}
 use Rattle.rv_rows.specs.declared.row.RowEnd.{RowEnd}

@@ -6,9 +6,9 @@ use Rattle.rv_elf.specs.declared.image.Image.{Image}
 use Rattle.rv_elf.specs.Image.{image_of}
 use Rattle.rv_elf.specs.Loading.{map_check, opening_memory}
 use Rattle.rv_elf.specs.Symbols.{signature_check, symbol_of}
-use Rattle.rv_jobs.specs.declared.job.Job.{Job}
-use Rattle.rv_jobs.specs.declared.job.Symbols.{Symbols}
-use Rattle.rv_jobs.specs.Reading.{◌>>=◌}
+use Rattle.rv_lists.specs.declared.job.Job.{Job}
+use Rattle.rv_lists.specs.declared.job.Symbols.{Symbols}
+use Rattle.rv_lists.specs.Reading.{◌>>=◌}
 use Rattle.rv_jobs.specs.declared.store.Kept.{Kept}
 use Rattle.rv_jobs.specs.declared.store.Kept.TheVariants as kept
 use Rattle.rv_memory.specs.declared.map.Region.{Region}

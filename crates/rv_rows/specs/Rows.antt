@@ -2,10 +2,10 @@
 use Rattle.std.specs.Prelude.{ℕ, List, Option, Some, None, map, option_and_then, option_map}
 use Rattle.std.specs.Prelude.{[], slice_get, slice_index_or}
 use Rattle.rv_jobs.specs.declared.answers.Answer.{Answer}
-use Rattle.rv_jobs.specs.declared.job.Job.{Job}
+use Rattle.rv_lists.specs.declared.job.Job.{Job}
 use Rattle.rv_jobs.specs.declared.store.Kept.{Kept}
 use Rattle.rv_jobs.specs.declared.store.Kept.TheVariants as kept
-use Rattle.rv_jobs.specs.Jobs.{console_path, single_job}
+use Rattle.rv_lists.specs.Jobs.{console_path, single_job}
 use Rattle.rv_jobs.specs.Plans.{Planned, kept_for}
 use Rattle.rv_rows.specs.declared.outcome.Outcome.{Outcome}
 use Rattle.rv_rows.specs.declared.row.Row.{Row}

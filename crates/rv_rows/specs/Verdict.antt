@@ -3,11 +3,11 @@ use Rattle.std.specs.Prelude.{◌==◌, ◌&&◌, ◌||◌, ℕ, Bool, true, fal
 use Rattle.std.specs.Prelude.{None, is_some, if◌then◌else◌}
 use Rattle.std.specs.List.{flat_map}
 use Rattle.std.specs.Str.{bytes_eq}
-use Rattle.rv_jobs.specs.declared.job.ExpectedConsole.{ExpectedConsole}
-use Rattle.rv_jobs.specs.declared.job.ExpectedConsole.TheVariants.{Text, File}
-use Rattle.rv_jobs.specs.declared.job.ExpectedEnd.{ExpectedEnd}
-use Rattle.rv_jobs.specs.declared.job.ExpectedEnd.TheVariants as expected
-use Rattle.rv_jobs.specs.declared.job.Job.{Job}
+use Rattle.rv_lists.specs.declared.job.ExpectedConsole.{ExpectedConsole}
+use Rattle.rv_lists.specs.declared.job.ExpectedConsole.TheVariants.{Text, File}
+use Rattle.rv_lists.specs.declared.job.ExpectedEnd.{ExpectedEnd}
+use Rattle.rv_lists.specs.declared.job.ExpectedEnd.TheVariants as expected
+use Rattle.rv_lists.specs.declared.job.Job.{Job}
 use Rattle.rv_machine.specs.declared.ending.FaultKind.{FaultKind}
 use Rattle.rv_machine.specs.declared.ending.FaultKind.TheVariants as fault
 use Rattle.rv_rows.specs.declared.outcome.Outcome.{Outcome}

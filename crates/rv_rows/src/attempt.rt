@@ -5,7 +5,7 @@ ghost use Rattle.rv_elf.specs.declared.error.ImageError.TheVariants.{OutOfMemory
 ghost use Rattle.rv_elf.specs.Image.{IsImageOf};
 ghost use Rattle.rv_elf.specs.Symbols.{signature_check, symbol_of};
 ghost use Rattle.rv_elf.specs.Rows.{accepted};
-ghost use Rattle.rv_jobs.specs.Jobs.{most_script};
+ghost use Rattle.rv_lists.specs.Jobs.{most_script};
 ghost use Rattle.rv_machine.specs.Run.{run_of};
 ghost use Rattle.rv_machine.specs.Machine.{state_of};
 ghost use Rattle.rv_rows.specs.Attempt.{HasSignature, IsReadable, outcome_in_bus, outcome_of_attempt};

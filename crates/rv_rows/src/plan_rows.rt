@@ -2,7 +2,7 @@
 
 ghost use Rattle.std.specs.Prelude.{◌≡◌, ◌<◌, ◌≤◌, IfOk, IfSome, OnOk, Some, length, map, option_map, option_and_then};
 ghost use Rattle.std.specs.Prelude.{slice_index_or};
-ghost use Rattle.rv_jobs.specs.declared.job.Job.{Job as AJob};
+ghost use Rattle.rv_lists.specs.declared.job.Job.{Job as AJob};
 ghost use Rattle.rv_rows.specs.Attempt.{IsReadable, outcome_of_attempt};
 ghost use Rattle.rv_rows.specs.Recent.{AreOutcomes, outcome_at};
 ghost use Rattle.rv_rows.specs.Rows.{bytes_in, console_in, other_in, outcome_in, reference_in, row_of, row_with};

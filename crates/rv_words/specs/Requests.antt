@@ -1,6 +1,6 @@
 -- What the program's own value of a request stands for.
 use Rattle.std.specs.Prelude.{◌≤◌, option_map}
-use Rattle.rv_jobs.specs.declared.limits.TheConstants.{MOST_BUDGET}
+use Rattle.rv_lists.specs.declared.limits.TheConstants.{MOST_BUDGET}
 use Rattle.rv_words.specs.declared.command.Request.{Request as Value}
 use Rattle.rv_words.specs.declared.command.Request.TheVariants.{One, Raw, Run}
 use Rattle.rv_words.specs.CommandLine.{Request, one, raw, run}

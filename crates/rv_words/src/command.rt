@@ -15,7 +15,7 @@ ghost use Rattle.rv_words.specs.Requests.{AreWithin, request};
 use crate::values::{number, text};
 use clap::error::ErrorKind;
 use clap::{Arg, ArgMatches, Command, Error, value_parser};
-use rv_jobs::limits::MOST_BUDGET;
+use rv_lists::limits::MOST_BUDGET;
 use std::alloc::{AllocError, Global};
 use std::convert::AsStr;
 

@@ -1,6 +1,6 @@
 use Rattle.std.proofs.Common.{◌≡◌, ◌∙◌, ◌+◌, ◌-◌, ◌*◌, ◌<◌, ℕ, [], arith, length, min}
 use Rattle.std.specs.Prelude.{slice_index_or}
-use Rattle.rv_jobs.specs.Jobs.{single_job}
+use Rattle.rv_lists.specs.Jobs.{single_job}
 use Rattle.rv_rows.specs.declared.row.Row.{Row}
 use Rattle.rv_rows.specs.Rows.{row_of, rows_at}
 use Rattle.rv_fleet.proofs.Chunks.{chunk_inside, chunk_made, part_more}

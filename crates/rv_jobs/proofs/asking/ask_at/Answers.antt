@@ -1,5 +1,5 @@
 use Rattle.std.proofs.Common.{◌∙◌, sym}
-use Rattle.rv_jobs.specs.Jobs.{single_job}
+use Rattle.rv_lists.specs.Jobs.{single_job}
 use Rattle.std.proofs.Common.{[]}
 use Rattle.rv_jobs.specs.Plans.{paths_of}
 use Rattle.rv_jobs.proofs.Noting.{noted_old, noted_more}

@@ -1,7 +1,7 @@
 use Rattle.std.proofs.Common.{◌≡◌, ◌<◌, ℕ, length}
 use Rattle.std.specs.Prelude.{slice_index_or}
 use Rattle.rv_jobs.specs.declared.asking.Found.{Found}
-use Rattle.rv_jobs.specs.declared.job.Job.{Job}
+use Rattle.rv_lists.specs.declared.job.Job.{Job}
 use Rattle.rv_jobs.specs.Plans.{paths_of}
 use Rattle.rv_jobs.specs.Placed.{IsFound}
 use Rattle.rv_jobs.proofs.asking.found_of.Given as goal

@@ -5,8 +5,8 @@ use Rattle.std.specs.BTreeMap.{get_by}
 use Rattle.std.specs.Cmp.Lexicographic.{slice_cmp}
 use Rattle.std.specs.Ordering.{nat_cmp}
 use Rattle.std.proofs.lemmas.Map.Text.{btree_map_updates_str}
-use Rattle.rv_jobs.specs.JobList.{place_in}
-use Rattle.rv_jobs.proofs.Public.{no_places, places_more}
+use Rattle.rv_lists.specs.JobList.{place_in}
+use Rattle.rv_lists.proofs.Public.{no_places, places_more}
 use Rattle.rv_reports.specs.Said.{new_count}
 use Rattle.rv_reports.specs.Saved.{names_of}
 use Rattle.rv_reports.proofs.Cut.{length-names, length-taken}

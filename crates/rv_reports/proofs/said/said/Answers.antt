@@ -1,6 +1,6 @@
 use Rattle.std.proofs.Common.{◌∙◌, ◌≤◌, ℕ, List, [], length, take, subst, sym, ap}
 use Rattle.rv_rows.specs.declared.row.Row.{Row}
-use Rattle.rv_jobs.specs.Jobs.{most_jobs}
+use Rattle.rv_lists.specs.Jobs.{most_jobs}
 use Rattle.rv_reports.specs.Said.{rising_count, new_count, fitting}
 use Rattle.rv_reports.specs.Saved.{names_of}
 use Rattle.rv_reports.specs.View.{view}

@@ -1,5 +1,5 @@
 use Rattle.std.proofs.Common.{◌≡◌, ◌+◌, ◌≤◌, drop}
-use Rattle.rv_jobs.specs.Jobs.{most_jobs}
+use Rattle.rv_lists.specs.Jobs.{most_jobs}
 use Rattle.rv_reports.specs.Saved.{are_stepped}
 use Rattle.rv_reports.proofs.saved.are_stepped.Given as goal
 

@@ -5,10 +5,10 @@ use Rattle.std.specs.HashMap.{get_by}
 use Rattle.std.specs.Str.{bytes_eq}
 use denote.Ref.{Bor}
 use Rattle.rv_jobs.specs.declared.answers.Answer.{Answer}
-use Rattle.rv_jobs.specs.JobList.{place_in}
+use Rattle.rv_lists.specs.JobList.{place_in}
 use Rattle.rv_jobs.specs.Plans.{paths_of, with_path, answers_with}
 use Rattle.rv_jobs.specs.AnswersInside.{paths_in}
-use Rattle.rv_jobs.proofs.PlaceLemmas.{places_more, places_back}
+use Rattle.rv_lists.proofs.Public.{places_more, places_back}
 use Rattle.rv_jobs.proofs.Answering.{with_path-old, not_placed, paths-with, still_even, asked_paths, asked_place}
 use Rattle.rv_jobs.proofs.Answering.{asked_kept, asked_faults}
 use Rattle.rv_jobs.proofs.answers.Answers.ask.Goals as goal

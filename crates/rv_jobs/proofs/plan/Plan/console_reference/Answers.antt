@@ -1,8 +1,8 @@
 use Rattle.std.proofs.Common.{◌∙◌, sym, ap, option_map}
 use denote.Ref.{Bor}
 use Rattle.std.proofs.Common.{List, ℕ}
-use Rattle.rv_jobs.specs.declared.job.Job.{Job}
-use Rattle.rv_jobs.specs.Jobs.{console_path}
+use Rattle.rv_lists.specs.declared.job.Job.{Job}
+use Rattle.rv_lists.specs.Jobs.{console_path}
 use Rattle.rv_jobs.proofs.Planning.{found, named_within, named_kept}
 use Rattle.rv_jobs.proofs.plan.Plan.console_reference.Goals as goal
 

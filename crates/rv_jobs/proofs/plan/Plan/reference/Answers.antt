@@ -1,7 +1,7 @@
 use Rattle.std.proofs.Common.{◌∙◌, sym, ap, option_map}
 use denote.Ref.{Bor}
 use Rattle.std.proofs.Common.{List, ℕ}
-use Rattle.rv_jobs.specs.declared.job.Job.{Job}
+use Rattle.rv_lists.specs.declared.job.Job.{Job}
 use Rattle.rv_jobs.proofs.Planning.{found, named_within, named_kept}
 use Rattle.rv_jobs.proofs.plan.Plan.reference.Goals as goal
 

@@ -1,7 +1,0 @@
-use Rattle.std.proofs.Common.{◌∙◌}
-use Rattle.rv_jobs.specs.Keys.{is_job_key}
-use Rattle.rv_jobs.proofs.Entries.{unknown_key_entries}
-use Rattle.rv_jobs.proofs.keys.has_unknown_job_key.Goals as goal
-
-pub returns : goal.returns
-returns c = c.any_unknown_job_key.ensures ∙ unknown_key_entries is_job_key c.args.table.now.entries

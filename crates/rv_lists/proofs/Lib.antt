@@ -1,0 +1,5 @@
+pub mod Entries
+pub mod PlaceLemmas
+pub mod Steps
+pub mod JobStages
+pub mod Public

@@ -1,0 +1,10 @@
+-- How the jobs that are read so far stand beside the places of their names.
+use Rattle.std.specs.Prelude.{◌≡◌, ℕ, List}
+use Rattle.std.specs.BTreeMap.{get_by_text}
+use Rattle.rv_lists.specs.declared.earlier_jobs.EarlierJobs.TheInside.{Inside}
+use Rattle.rv_lists.specs.Jobs.{AreJobs}
+use Rattle.rv_lists.specs.JobList.{place_in, names_of}
+
+pub record IsEarlierJobsInside (a : Inside) : Type 0 where
+  pub jobs : AreJobs a.jobs.items
+  pub places : (t : List ℕ) → get_by_text a.places t ≡ place_in (names_of a.jobs.items) t

@@ -1,0 +1,67 @@
+-- What is known of the jobs of every list.
+use Rattle.std.specs.Prelude.{ℕ, ◌<◌, ◌≤◌, List, [], ◌∷◌, length, slice_index_or, IfSome, Option}
+use Rattle.std.specs.Prelude.{Some, None, true, codes}
+use Rattle.rv_isa.specs.declared.sets.Isa.TheVariants.{Imc}
+use Rattle.rv_memory.specs.declared.map.Region.{Region}
+use Rattle.rv_memory.specs.declared.access.Misaligned.TheVariants.{Fault}
+use Rattle.rv_elf.specs.declared.loading.LoadAt.TheVariants.{Physical}
+use Rattle.rv_lists.specs.declared.job.Job.{Job}
+use Rattle.rv_lists.specs.declared.job.ExpectedConsole.{ExpectedConsole}
+use Rattle.rv_lists.specs.declared.job.ExpectedConsole.TheVariants.{Text, File}
+use Rattle.rv_lists.specs.declared.limits.TheConstants.{MOST_CONSOLE, MOST_JOBS, MOST_PATH}
+use Rattle.rv_lists.specs.declared.limits.TheConstants.{MOST_SCRIPT}
+
+-- the most jobs of a list, bytes of a path, and bytes of a script: the limits of the code
+abbrev pub most_jobs : ℕ
+most_jobs = MOST_JOBS
+
+abbrev pub most_path : ℕ
+most_path = MOST_PATH
+
+abbrev pub most_script : ℕ
+most_script = MOST_SCRIPT
+
+-- the most bytes that a console is expected to hold
+abbrev pub most_console : ℕ
+most_console = MOST_CONSOLE
+
+-- the path of the file that a console is expected to hold, where one is named
+abbrev pub console_path : Option ExpectedConsole → Option (List ℕ)
+console_path None = None
+console_path (Some (Text bytes)) = None
+console_path (Some (File path)) = Some path
+
+-- the regions of a job without any of its own
+abbrev pub default_regions : List Region
+default_regions = record { base = 0x8000_0000; size = 0x10_0000; writable = true } ∷ []
+
+-- the job at a place of a list: its script fits a bus, its symbols have names, and it names an
+-- earlier job if any
+pub record IsJob (at : ℕ) (job : Job) : Type 0 where
+  pub script : length job.script ≤ most_script
+  pub named : IfSome job.signature (λ s. (0 < length s.begin) × (0 < length s.end))
+  pub earlier : IfSome job.same_as (λ k. k < at)
+
+-- the jobs of a list
+pub record AreJobs (jobs : List Job) : Type 0 where
+  pub few : length jobs ≤ most_jobs
+  pub each : (k : ℕ) (d : Job) → k < length jobs → IsJob k (slice_index_or jobs k d)
+
+-- the job of a path that is run alone
+abbrev pub single_job : List ℕ → ℕ → List ℕ → Job
+single_job image budget script = record {
+  name = codes "one";
+  image = image;
+  budget = budget;
+  script = script;
+  load = Physical;
+  regions = default_regions;
+  signature = None;
+  expect_exit = None;
+  expect_signature = None;
+  expect_console = None;
+  expect_end = None;
+  same_as = None;
+  isa = Imc;
+  misaligned = Fault;
+}

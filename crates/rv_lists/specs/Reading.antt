@@ -1,0 +1,45 @@
+-- Readings that may find a fault: one step after another, each only where the earlier ones found
+-- none.
+use Rattle.std.specs.Prelude.{◌≡◌, ℕ, Bool, if◌then◌else◌, List, ◌++◌, Option, Some, None, Result}
+use Rattle.std.specs.Prelude.{Ok, Err, MatchResult}
+use Rattle.rv_lists.specs.declared.error.What.{What}
+use Rattle.rv_lists.specs.declared.error.What.TheVariants.{OutOfMemory}
+use Rattle.rv_lists.specs.declared.error.JobError.{JobError}
+
+-- the second step, if the first found no fault
+infixl 10 ◌>>=◌
+abbrev pub ◌>>=◌ : {F A B : Type 0} → Result A F → (A → Result B F) → Result B F
+(Ok x) >>= f = f x
+(Err e) >>= f = Err e
+
+-- a fault where the test holds
+abbrev pub unless : Bool → What → Result (Unit {0}) What
+unless b fault = if b then Err fault else Ok tt
+
+-- the value where it is there and passes, else the fault
+abbrev pub passing : {X : Type 0} → (X → Bool) → What → Option X → Result X What
+passing p fault None = Err fault
+passing p fault (Some x) = if p x then Ok x else Err fault
+
+-- what a reading makes of a value, or the value for none
+abbrev pub or_else : {X Y : Type 0} → (X → Result Y What) → Y → Option X → Result Y What
+or_else f y None = Ok y
+or_else f y (Some x) = f x
+
+-- a fault with the number of its job
+abbrev pub numbered : {A : Type 0} → ℕ → Result A What → Result A JobError
+numbered n (Ok x) = Ok x
+numbered n (Err w) = Err (record { job = n; what = w })
+
+-- the values before those that are read
+abbrev pub with_front : {F A : Type 0} → List A → Result (List A) F → Result (List A) F
+with_front front (Ok xs) = Ok (front ++ xs)
+with_front front (Err e) = Err e
+
+-- what a function returned is what reading gives, unless memory ran out
+abbrev pub Gives : {X : Type 0} → Result X What → Result X What → Type 0
+Gives r read = MatchResult r (λ x. read ≡ Ok x) (λ e. (e ≡ OutOfMemory → ⊥) → read ≡ Err e)
+
+-- the same of a list, whose fault has the number of its job
+abbrev pub GivesJobs : {X : Type 0} → Result X JobError → Result X JobError → Type 0
+GivesJobs r read = MatchResult r (λ x. read ≡ Ok x) (λ e. (e.what ≡ OutOfMemory → ⊥) → read ≡ Err e)

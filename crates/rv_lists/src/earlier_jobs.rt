@@ -1,0 +1,73 @@
+//! The jobs of a list that are read so far, with the place of each name.
+
+ghost use Rattle.std.specs.Prelude.{◌≡◌, ◌<◌, ◌++◌, ◌∷◌, [], IfSome, IfOk, None, length};
+ghost use Rattle.rv_lists.specs.Jobs.{IsJob, most_jobs};
+ghost use Rattle.rv_lists.specs.JobList.{place_in, names_of};
+
+use crate::job::{Job, JobList};
+use std::alloc::{AllocError, Global};
+use std::collections::BTreeMap;
+use std::marker::Model;
+
+/// The jobs that are read so far, with the place of each name.
+#[derive(Drop)]
+pub(crate) struct EarlierJobs {
+    jobs: Vec<Job>,
+    places: BTreeMap<String, usize>,
+}
+
+impl Model for EarlierJobs {
+    ghost use Rattle.std.specs.Prelude.{List};
+    ghost use Rattle.rv_lists.specs.declared.job.Job.{Job};
+
+    ghost Value = { List Job };
+
+    ghost use Rattle.rv_lists.specs.EarlierJobsInside.{IsEarlierJobsInside};
+
+    ghost view = { λ g. g.jobs.items };
+
+    ghost invariant = { IsEarlierJobsInside };
+}
+
+impl EarlierJobs {
+    pub(crate) fn new(alloc: Global) -> EarlierJobs
+        ensures { result ≡ [] }
+    {
+        EarlierJobs {
+            jobs: Vec::new(alloc),
+            places: BTreeMap::new(alloc),
+        }
+    }
+
+    /// The place of the job of a name.
+    pub(crate) fn place_of(&self, name: &str) -> Option<usize>
+        ensures value { result ≡ place_in (names_of self.now) name.now }
+        ensures within { IfSome result (λ k. k < length self.now) }
+    {
+        let _ = &self.jobs;
+        self.places.get(name).copied()
+    }
+
+    /// The jobs and one more.
+    pub(crate) fn with(self, alloc: Global, job: Job) -> Result<EarlierJobs, AllocError>
+        requires fresh { place_in (names_of self) job.name ≡ None }
+        requires good { IsJob (length self) job }
+        requires room { length self < most_jobs }
+        ensures { IfOk result (λ g. g ≡ self ++ job ∷ []) }
+    {
+        let EarlierJobs {
+            mut jobs,
+            mut places,
+        } = self;
+        let name = String::from_str(alloc, job.name.as_str())?;
+        places.insert(name, jobs.len())?;
+        jobs.push(job)?;
+        Ok(EarlierJobs { jobs, places })
+    }
+
+    pub(crate) fn into_list(self) -> JobList
+        ensures { result ≡ self }
+    {
+        JobList::new(self.jobs)
+    }
+}

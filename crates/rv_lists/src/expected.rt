@@ -1,0 +1,108 @@
+//! What a job of a list expects of its row: the keys `expect_exit`, `expect_end`, `expect_console`,
+//! `expect_console_file` and `expect_signature`.
+
+ghost use Rattle.std.specs.Prelude.{◌≡◌};
+ghost use Rattle.toml.specs.View.{table_view};
+ghost use Rattle.rv_lists.specs.Reading.{Gives};
+ghost use Rattle.rv_lists.specs.JobList.{exit_in, reference_in, console_text, console_file, console_in};
+ghost use Rattle.rv_lists.specs.JobList.{end_of, end_in};
+
+use crate::error::What;
+use crate::job::{ExpectedConsole, ExpectedEnd};
+use crate::keys::{number_of, text_of};
+use crate::limits::MOST_CONSOLE;
+use crate::text::{Bytes, Text};
+use crate::texts::is_path;
+use rv_machine::FaultKind;
+use std::alloc::Global;
+use toml::Table;
+
+#[tactic(auto, unfolding(crate::specs::JobList::exit_in))]
+pub(crate) fn exit_of(table: &Table) -> Result<Option<u32>, What>
+    ensures { result ≡ exit_in (table_view table.now) }
+{
+    match number_of(table, "expect_exit") {
+        Some(n) => {
+            if 0 <= n && n <= 0xffff_ffff {
+                Ok(Some(n as u32))
+            } else {
+                Err(What::Expect)
+            }
+        }
+        None => Ok(None),
+    }
+}
+
+#[tactic(auto, unfolding(crate::specs::JobList::reference_in))]
+pub(crate) fn reference_of(alloc: Global, asked: bool, table: &Table) -> Result<Option<Text>, What>
+    ensures { Gives result (reference_in asked (table_view table.now)) }
+{
+    match text_of(table, "expect_signature") {
+        Some(path) => {
+            if asked && is_path(path) {
+                Ok(Some(Text::copy(alloc, path)?))
+            } else {
+                Err(What::Expect)
+            }
+        }
+        None => Ok(None),
+    }
+}
+
+#[tactic(auto, unfolding(crate::specs::JobList::console_in))]
+pub(crate) fn console_of(alloc: Global, table: &Table) -> Result<Option<ExpectedConsole>, What>
+    ensures { Gives result (console_in (table_view table.now)) }
+{
+    match (
+        text_of(table, "expect_console"),
+        text_of(table, "expect_console_file"),
+    ) {
+        (None, None) => Ok(None),
+        (Some(text), None) => console_text(alloc, text.as_bytes()),
+        (None, Some(path)) => console_file(alloc, path),
+        (Some(_), Some(_)) => Err(What::Expect),
+    }
+}
+
+fn console_text(alloc: Global, text: &[u8]) -> Result<Option<ExpectedConsole>, What>
+    ensures { Gives result (console_text text.now) }
+{
+    if text.len() <= MOST_CONSOLE {
+        let bytes = Bytes::new(text.to_vec(alloc)?);
+        Ok(Some(ExpectedConsole::Text(bytes)))
+    } else {
+        Err(What::Expect)
+    }
+}
+
+fn console_file(alloc: Global, path: &str) -> Result<Option<ExpectedConsole>, What>
+    ensures { Gives result (console_file path.now) }
+{
+    if is_path(path) {
+        Ok(Some(ExpectedConsole::File(Text::copy(alloc, path)?)))
+    } else {
+        Err(What::Expect)
+    }
+}
+
+#[tactic(auto, unfolding(crate::specs::JobList::end_in))]
+pub(crate) fn end_of(table: &Table) -> Result<Option<ExpectedEnd>, What>
+    ensures { result ≡ end_in (table_view table.now) }
+{
+    match text_of(table, "expect_end") {
+        Some(text) => end_named(text),
+        None => Ok(None),
+    }
+}
+
+fn end_named(text: &str) -> Result<Option<ExpectedEnd>, What>
+    ensures { result ≡ end_of text.now }
+{
+    if text == "budget" {
+        return Ok(Some(ExpectedEnd::Budget));
+    }
+    match FaultKind::named(text.as_bytes()) {
+        Some(kind) => Ok(Some(ExpectedEnd::Fault(kind))),
+        None => Err(What::Expect),
+    }
+}

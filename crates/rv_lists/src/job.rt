@@ -1,0 +1,158 @@
+//! Jobs, and lists of them.
+
+ghost use Rattle.std.specs.Prelude.{◌≡◌, ◌≤◌, ◌<◌, ◌∷◌, [], IfOk, Some, length, option_map, vec_len};
+ghost use Rattle.rv_lists.specs.Jobs.{AreJobs, console_path, single_job};
+
+use crate::text::{Bytes, Text};
+use rv_elf::LoadAt;
+use rv_isa::Isa;
+use rv_machine::FaultKind;
+use rv_memory::{Map, Misaligned};
+use std::alloc::{AllocError, Global};
+use std::marker::Model;
+
+/// The names of the symbols that a signature stands between, 1 to 255 bytes each.
+#[derive(Debug, Drop)]
+pub struct Symbols {
+    pub begin: Text,
+    pub end: Text,
+}
+
+/// What the console of a run is expected to hold.
+#[derive(Debug, Drop)]
+pub enum ExpectedConsole {
+    /// These bytes, at most 65,536: the key `expect_console`.
+    Text(Bytes),
+    /// The bytes of the file at a path of 1 to 4,096 bytes: the key `expect_console_file`.
+    File(Text),
+}
+
+impl ExpectedConsole {
+    /// The path of the file, where one is named.
+    pub fn path(&self) -> Option<&str>
+        ensures { option_map (λ path. path.now) result ≡ console_path (Some self.now) }
+    {
+        match self {
+            ExpectedConsole::Text(_) => None,
+            ExpectedConsole::File(path) => Some(path.as_str()),
+        }
+    }
+}
+
+/// How a run is expected to end.
+#[derive(Clone, Copy, Debug, PartialEq, Eq)]
+pub enum ExpectedEnd {
+    /// The budget is used up.
+    Budget,
+    /// By a fault of this kind, wherever it is met.
+    Fault(FaultKind),
+}
+
+/// A run of an image, and what is expected of it. The limits that the fields tell are those that
+/// [`read_jobs`](crate::read_jobs) asks of a list; what every [`JobList`] promises of its jobs is the
+/// script's length, that the names of a signature's symbols are not empty, and that `same_as` is the
+/// place of an earlier job.
+#[derive(Drop)]
+pub struct Job {
+    /// 1 to 64 ASCII letters, digits, `.`, `_` and `-`, which no other job of the list has.
+    pub name: Text,
+    /// The path of the ELF file, 1 to 4,096 bytes.
+    pub image: Text,
+    /// The most steps, 1 to 1,000,000,000.
+    pub budget: u32,
+    /// What the console gives, at most 65,536 bytes: the key `input` or `input_hex`.
+    pub script: Bytes,
+    pub load: LoadAt,
+    /// The regions of memory: the key `region`.
+    pub regions: Map,
+    pub signature: Option<Symbols>,
+    pub expect_exit: Option<u32>,
+    /// The path of the reference, 1 to 4,096 bytes; only where there is a signature.
+    pub expect_signature: Option<Text>,
+    /// The keys `expect_console` and `expect_console_file`, of which one stands at most.
+    pub expect_console: Option<ExpectedConsole>,
+    pub expect_end: Option<ExpectedEnd>,
+    /// The place of an earlier job, counted from 0.
+    pub same_as: Option<usize>,
+    pub isa: Isa,
+    pub misaligned: Misaligned,
+}
+
+/// 1 to 4,096 jobs in the order of their list. Contracts see their list.
+#[derive(Drop)]
+pub struct JobList {
+    items: Vec<Job>,
+}
+
+impl Model for JobList {
+    ghost use Rattle.std.specs.Prelude.{List};
+    ghost use Rattle.rv_lists.specs.declared.job.Job.{Job};
+
+    ghost Value = { List Job };
+
+    ghost use Rattle.rv_lists.specs.Jobs.{AreJobs};
+
+    ghost view = { λ l. l.items.items };
+
+    ghost invariant = { λ l. AreJobs l.items.items };
+}
+
+impl JobList {
+    /// One job named `one`, and what a list gives where it leaves a key out.
+    pub fn single(
+        alloc: Global,
+        image: &str,
+        budget: u32,
+        script: Vec<u8>,
+    ) -> Result<JobList, AllocError>
+        requires path { length image.now ≤ 4096 }
+        requires named { 0 < length image.now }
+        requires room { vec_len script ≤ 0x1_0000 }
+        requires some { 0 < budget }
+        requires bound { budget ≤ 1000000000 }
+        ensures { IfOk result (λ l. l ≡ single_job image.now budget script.items ∷ []) }
+    {
+        let job = Job {
+            name: Text::copy(alloc, "one")?,
+            image: Text::copy(alloc, image)?,
+            budget,
+            script: Bytes::new(script),
+            load: LoadAt::Physical,
+            regions: Map::default_map(),
+            signature: None,
+            expect_exit: None,
+            expect_signature: None,
+            expect_console: None,
+            expect_end: None,
+            same_as: None,
+            isa: Isa::Imc,
+            misaligned: Misaligned::Fault,
+        };
+        let mut items = Vec::new(alloc);
+        items.push(job)?;
+        Ok(JobList { items })
+    }
+
+    /// The list of jobs that are one.
+    pub(crate) fn new(items: Vec<Job>) -> JobList
+        requires { AreJobs items.items }
+        ensures { result ≡ items.items }
+    {
+        JobList { items }
+    }
+
+    pub fn as_slice(&self) -> &[Job]
+        ensures value { result.now ≡ self.now }
+        ensures jobs { AreJobs self.now }
+    {
+        &self.items
+    }
+
+    /// Takes no memory.
+    pub fn into_vec(self) -> Vec<Job>
+        ensures value { result.items ≡ self }
+        ensures jobs { AreJobs self }
+    {
+        self.items
+    }
+}

@@ -1,0 +1,151 @@
+//! The keys of a list's tables and their values, and which keys no table has.
+
+ghost use Rattle.std.specs.Prelude.{◌≡◌, not, string_bytes, option_map};
+ghost use Rattle.std.specs.List.{list_any};
+ghost use Rattle.std.specs.BTreeMap.{keys};
+ghost use Rattle.std.specs.Str.{bytes_eq};
+ghost use Rattle.toml.specs.Data.{get_member};
+ghost use Rattle.toml.specs.View.{view, table_view, array_view};
+ghost use Rattle.rv_lists.specs.Keys.{text_at, number_at, truth_at, array_at};
+ghost use Rattle.rv_lists.specs.Keys.{is_job_key, is_region_key, is_list_key, any_unknown_key};
+
+use toml::value::Array;
+use toml::{Table, Value};
+
+/// What the value of a job's key is in TOML.
+#[derive(Clone, Copy)]
+pub(crate) enum Kind {
+    Text,
+    Number,
+    /// An array of texts.
+    Texts,
+    /// An array of tables, each with the keys of a region.
+    Regions,
+}
+
+/// The keys of a job, each with the kind of its value.
+pub(crate) const JOB_KEYS: [(&str, Kind); 16] = [
+    ("name", Kind::Text),
+    ("image", Kind::Text),
+    ("budget", Kind::Number),
+    ("input", Kind::Text),
+    ("input_hex", Kind::Text),
+    ("region", Kind::Regions),
+    ("load", Kind::Text),
+    ("signature", Kind::Texts),
+    ("expect_exit", Kind::Number),
+    ("expect_signature", Kind::Text),
+    ("expect_console", Kind::Text),
+    ("expect_console_file", Kind::Text),
+    ("expect_end", Kind::Text),
+    ("same_as", Kind::Text),
+    ("isa", Kind::Text),
+    ("misaligned", Kind::Text),
+];
+
+pub(crate) fn value_of<'a>(table: &'a Table, key: &str) -> Option<&'a Value>
+    ensures { option_map (λ v. view v.now) result ≡ get_member key.now (table_view table.now) }
+{
+    table.get(key)
+}
+
+pub(crate) fn text_of<'a>(table: &'a Table, key: &str) -> Option<&'a str>
+    ensures { option_map (λ s. s.now) result ≡ text_at key.now (table_view table.now) }
+{
+    match value_of(table, key) {
+        Some(value) => value.as_str(),
+        None => None,
+    }
+}
+
+pub(crate) fn number_of(table: &Table, key: &str) -> Option<i64>
+    ensures { result ≡ number_at key.now (table_view table.now) }
+{
+    match value_of(table, key) {
+        Some(value) => value.as_integer(),
+        None => None,
+    }
+}
+
+pub(crate) fn truth_of(table: &Table, key: &str) -> Option<bool>
+    ensures { result ≡ truth_at key.now (table_view table.now) }
+{
+    match value_of(table, key) {
+        Some(value) => value.as_bool(),
+        None => None,
+    }
+}
+
+pub(crate) fn array_of<'a>(table: &'a Table, key: &str) -> Option<&'a Array>
+    ensures { option_map (λ a. array_view a.now) result ≡ array_at key.now (table_view table.now) }
+{
+    match value_of(table, key) {
+        Some(value) => value.as_array(),
+        None => None,
+    }
+}
+
+/// Whether a job has a key that the format does not have.
+pub(crate) fn has_unknown_job_key(table: &Table) -> bool
+    ensures { result ≡ any_unknown_key is_job_key (table_view table.now) }
+{
+    any_unknown_job_key(table)
+}
+
+/// Whether a region has one.
+pub(crate) fn has_unknown_region_key(table: &Table) -> bool
+    ensures { result ≡ any_unknown_key is_region_key (table_view table.now) }
+{
+    any_unknown_region_key(table)
+}
+
+/// Whether the whole list has a key beside `job`.
+pub(crate) fn has_unknown_list_key(table: &Table) -> bool
+    ensures { result ≡ any_unknown_key is_list_key (table_view table.now) }
+{
+    any_unknown_list_key(table)
+}
+
+fn any_unknown_job_key(table: &Table) -> bool
+    ensures { result ≡ list_any (λ k. not (is_job_key (string_bytes k))) (keys table.now) }
+{
+    table.keys().any(|key| !is_job_key(key.as_str()))
+}
+
+fn any_unknown_region_key(table: &Table) -> bool
+    ensures { result ≡ list_any (λ k. not (is_region_key (string_bytes k))) (keys table.now) }
+{
+    table.keys().any(|key| !is_region_key(key.as_str()))
+}
+
+fn any_unknown_list_key(table: &Table) -> bool
+    ensures { result ≡ list_any (λ k. not (is_list_key (string_bytes k))) (keys table.now) }
+{
+    table.keys().any(|key| !(key.as_str() == "job"))
+}
+
+fn is_job_key(name: &str) -> bool
+    ensures { result ≡ is_job_key name.now }
+{
+    is_among(&JOB_KEYS, name)
+}
+
+fn is_among(keys: &[(&str, Kind)], name: &str) -> bool
+    ensures { result ≡ list_any (λ key. bytes_eq name.now key.0.now) keys.now }
+{
+    keys.iter().any(|key| name == key.0)
+}
+
+fn is_region_key(name: &str) -> bool
+    ensures { result ≡ is_region_key name.now }
+{
+    if name == "base" {
+        true
+    } else if name == "size" {
+        true
+    } else if name == "write" {
+        true
+    } else {
+        false
+    }
+}

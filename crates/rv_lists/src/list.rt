@@ -1,0 +1,129 @@
+//! Job lists: from bytes to jobs, or the first fault.
+
+ghost use Rattle.std.specs.Prelude.{◌≡◌, ◌≤◌, [], MatchResult, IfOk, Some, Ok, Err, length};
+ghost use Rattle.std.specs.Prelude.{vec_len, option_map};
+ghost use Rattle.toml.specs.View.{view, table_view, array_view, items_view};
+ghost use Rattle.rv_lists.specs.declared.error.What.TheVariants.{OutOfMemory};
+ghost use Rattle.rv_lists.specs.Jobs.{most_jobs};
+ghost use Rattle.rv_lists.specs.Reading.{GivesJobs};
+ghost use Rattle.rv_lists.specs.JobList.{has_no_jobs, has_too_many, elements_in, jobs_from, jobs_in};
+ghost use Rattle.rv_lists.specs.JobList.{job_list_of};
+
+use crate::earlier_jobs::EarlierJobs;
+use crate::error::{JobError, What};
+use crate::job::JobList;
+use crate::job_keys::element_of;
+use crate::keys::{has_unknown_list_key, value_of};
+use crate::limits::MOST_JOBS;
+use std::alloc::Global;
+use toml::value::Array;
+use toml::{Table, Value};
+
+/// Reads bytes as a job list, or names its first fault: those of the whole list stand before all
+/// others, with job 0, and then comes the first bad job in list order.
+#[tactic(auto, unfolding(crate::specs::JobList::job_list_of))]
+pub fn read_jobs(alloc: Global, bytes: &[u8]) -> Result<JobList, JobError>
+    ensures { GivesJobs result (job_list_of bytes.now) }
+{
+    match toml::table_from_slice(alloc, bytes) {
+        Ok(table) => jobs_of_table(alloc, &table),
+        Err(error) => {
+            if error.is_memory() {
+                return Err(list_error(What::OutOfMemory));
+            }
+            Err(list_error(What::NotToml))
+        }
+    }
+}
+
+/// A fault of the whole list.
+fn list_error(what: What) -> JobError
+    ensures { result ≡ record { job = 0; what = what } }
+{
+    JobError { job: 0, what }
+}
+
+#[tactic(auto, unfolding(crate::specs::JobList::jobs_in))]
+fn jobs_of_table(alloc: Global, table: &Table) -> Result<JobList, JobError>
+    ensures { GivesJobs result (jobs_in (Some (table_view table.now))) }
+{
+    match elements_of(table) {
+        Ok(elements) => jobs_of(alloc, elements.as_slice()),
+        Err(what) => Err(list_error(what)),
+    }
+}
+
+/// The elements of `job`, where the whole list has no fault.
+#[tactic(auto, unfolding(crate::specs::JobList::elements_in))]
+fn elements_of(table: &Table) -> Result<&Array, What>
+    ensures value { MatchResult result (λ a. elements_in (table_view table.now)
+        ≡ Ok (array_view a.now))
+        (λ e. elements_in (table_view table.now) ≡ Err e) }
+    ensures few { IfOk result (λ a. vec_len a.now ≤ most_jobs) }
+{
+    let value = value_of(table, "job");
+    if has_no_jobs(value) {
+        return Err(What::NoJobs);
+    }
+    if has_too_many(value) {
+        return Err(What::TooMany);
+    }
+    if has_unknown_list_key(table) {
+        return Err(What::UnknownKey);
+    }
+    match value {
+        Some(value) => match value.as_array() {
+            Some(elements) => Ok(elements),
+            None => Err(What::WrongType),
+        },
+        None => Err(What::WrongType),
+    }
+}
+
+fn has_no_jobs(value: Option<&Value>) -> bool
+    ensures { result ≡ has_no_jobs (option_map (λ v. view v.now) value.entry) }
+{
+    match value {
+        Some(value) => match value.as_array() {
+            Some(elements) => elements.is_empty(),
+            None => false,
+        },
+        None => true,
+    }
+}
+
+fn has_too_many(value: Option<&Value>) -> bool
+    ensures { result ≡ has_too_many (option_map (λ v. view v.now) value.entry) }
+{
+    match value {
+        Some(value) => match value.as_array() {
+            Some(elements) => MOST_JOBS < elements.len(),
+            None => false,
+        },
+        None => false,
+    }
+}
+
+fn jobs_of(alloc: Global, elements: &[Value]) -> Result<JobList, JobError>
+    requires { length elements.now ≤ most_jobs }
+    ensures { GivesJobs result (jobs_from 1 [] (items_view elements.now)) }
+{
+    let mut jobs = EarlierJobs::new(alloc);
+    for (at, element) in elements.iter().enumerate() {
+        let number = at as u32 + 1;
+        let job = match element_of(alloc, &jobs, element) {
+            Ok(job) => job,
+            Err(what) => return Err(JobError { job: number, what }),
+        };
+        jobs = match jobs.with(alloc, job) {
+            Ok(jobs) => jobs,
+            Err(_) => {
+                return Err(JobError {
+                    job: number,
+                    what: What::OutOfMemory,
+                });
+            }
+        };
+    }
+    Ok(jobs.into_list())
+}
