@@ -18,5 +18,6 @@ pub use law::{
     differences_are_first, nothing_is_unmet_where_a_job_passes, references_are_lines_of_words,
     unmet_is_what_does_not_hold, unmet_of_a_plan_is_what_does_not_hold,
 };
-pub use planned::unmet_at;
+pub use planned::{named_row, unmet_at};
+pub use reference::words_or_none;
 pub use unmet::{Unmet, unmet_expectations};

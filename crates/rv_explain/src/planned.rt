@@ -28,8 +28,8 @@ pub fn unmet_at(
     unmet_expectations(alloc, job, row, console, reference, named.as_ref())
 }
 
-// The row of the job that a job names.
-fn named_row(alloc: Global, plan: &Plan, job: &Job) -> Result<Option<Row>, AllocError>
+/// The row of the job that a job names, if it names one: that job is run once more.
+pub fn named_row(alloc: Global, plan: &Plan, job: &Job) -> Result<Option<Row>, AllocError>
     requires { IfSome job.now.same_as (λ place. place < length plan.now.jobs) }
     ensures { IfOk result (λ named. named ≡ named_row plan.now job.now) }
 {

@@ -39,8 +39,8 @@ pub(crate) fn signature_difference(
     }
 }
 
-// An absent signature counts as one of no words.
-fn words_or_none(signature: &Option<Words>) -> &[u32]
+/// The words of a signature; an absent one counts as one of no words.
+pub fn words_or_none(signature: &Option<Words>) -> &[u32]
     ensures { result.now ≡ words_or_none signature.now }
 {
     match signature {

@@ -2,90 +2,21 @@
 
 ghost use Rattle.std.specs.Prelude.{None};
 
+use crate::rows::{bytes_of, file_of, jobs_of, other_of, row_of};
 use rv_explain::{unmet_at, unmet_expectations};
-use rv_jobs::{Bytes, JobList, ReadError, Store, Text, gather, read_jobs};
-use rv_machine::FaultKind;
-use rv_rows::{Refusal, Row, RowEnd, Verdict, Words};
+use rv_jobs::{ReadError, Store, gather, read_jobs};
 use samples::file;
-use std::alloc::{AllocError, Global};
+use std::alloc::Global;
 use std::process::Abort;
 use std::test::Fail;
-
-// Two jobs, of which the second has the keys.
-fn jobs_of(alloc: Global, keys: &str) -> Result<JobList, Fail> {
-    let text = format!(in alloc;
-        "job = [{{name = 'a', image = 'a', budget = 9}}, \
-         {{name = 'b', image = 'b', budget = 9, signature = ['x', 'y'], {keys}}}]"
-    )?;
-    Ok(read_jobs(alloc, text.as_bytes())?)
-}
-
-fn ending_of(word: &str) -> Result<RowEnd, Fail> {
-    match word {
-        "budget" => Ok(RowEnd::Budget),
-        "refused" => Ok(RowEnd::Refused(Refusal::ImageTooLong)),
-        _ => match FaultKind::named(word.as_bytes()) {
-            Some(kind) => Ok(RowEnd::Fault(kind, 4, 5)),
-            None => Ok(RowEnd::Exit(word.parse::<u32>()?)),
-        },
-    }
-}
-
-// Numbers that commas part; none in `.`.
-fn words_of(alloc: Global, numbers: &str) -> Result<Words, Fail> {
-    let mut words = Vec::new(alloc);
-    for number in numbers.split(',') {
-        if number != "." {
-            words.push(number.parse::<u32>()?)?;
-        }
-    }
-    Ok(Words::new(words))
-}
-
-// Bytes as they stand, none in `.`, and a line feed for each slash.
-fn bytes_of(alloc: Global, text: &str) -> Result<Vec<u8>, AllocError> {
-    let mut bytes = Vec::new(alloc);
-    for byte in text.bytes() {
-        match byte {
-            b'.' => {}
-            b'/' => bytes.push(b'\n')?,
-            _ => bytes.push(byte)?,
-        }
-    }
-    Ok(bytes)
-}
-
-// A word for the ending, the console's bytes, and the signature's words or a dash.
-fn row_of(alloc: Global, text: &str) -> Result<Row, Fail> {
-    let (ending, rest) = text.split_once(' ').ok_or("an ending")?;
-    let (console, words) = rest.split_once(' ').ok_or("a console and a signature")?;
-    let signature = match words {
-        "-" => None,
-        _ => Some(words_of(alloc, words)?),
-    };
-    Ok(Row {
-        name: Text::new(String::from_str(alloc, "b")?),
-        ending: ending_of(ending)?,
-        steps: 7,
-        console: Bytes::new(bytes_of(alloc, console)?),
-        signature,
-        verdict: Verdict::Fail,
-    })
-}
 
 // What is told of a row; a dash stands for a file, or a row, that is not there.
 fn told(alloc: Global, keys: &str, row: &str, file: &str, other: &str) -> Result<String, Fail> {
     let jobs = jobs_of(alloc, keys)?;
     let job = jobs.as_slice().last().ok_or("two jobs")?;
-    let row = row_of(alloc, row)?;
-    let file = match file {
-        "-" => None,
-        _ => Some(bytes_of(alloc, file)?),
-    };
-    let other = match other {
-        "-" => None,
-        _ => Some(row_of(alloc, other)?),
-    };
+    let row = row_of(alloc, "b", row)?;
+    let file = file_of(alloc, file)?;
+    let other = other_of(alloc, other)?;
     let bytes = file.as_ref().map(|file| file.as_slice());
     let unmet = unmet_expectations(alloc, job, &row, bytes, bytes, other.as_ref())?;
     let unmet = unmet.as_slice();
@@ -230,7 +161,7 @@ fn told_of_a_plan(alloc: Global, keys: &str, row: &str) -> Result<String, Fail> 
     if plan.jobs() != 3 {
         return Err("three jobs".into());
     }
-    let unmet = unmet_at(alloc, &plan, 1, &row_of(alloc, row)?)?;
+    let unmet = unmet_at(alloc, &plan, 1, &row_of(alloc, "b", row)?)?;
     let unmet = unmet.as_slice();
     Ok(format!(in alloc; "{unmet:?}")?)
 }

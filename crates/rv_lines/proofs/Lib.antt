@@ -1,4 +1,3 @@
 pub mod Pieces
 pub mod ConsoleLines
 pub mod Counts
-pub mod Chains

@@ -4,5 +4,3 @@ pub mod Passing
 pub mod ResultLine
 pub mod LastLine
 pub mod Tally
-pub mod UnmetLines
-pub mod ImageReasons

@@ -1,29 +1,46 @@
-//! Parts of lines: text, names and numbers.
+//! Parts of lines: text and numbers.
 
 ghost use Rattle.std.specs.Prelude.{◌≡◌, ◌++◌, OnOk};
 ghost use Rattle.std.specs.Fmt.{decimal};
+ghost use Rattle.rv_rows.specs.Report.{word_digits};
+ghost use Rattle.rv_lines.specs.ResultLine.{hexadecimal};
 
 use itoa::Buffer;
-use std::alloc::AllocError;
+use std::alloc::{AllocError, Global};
 
-pub(crate) fn push_text(bytes: &mut Vec<u8>, text: &str) -> Result<(), AllocError>
+/// Appends a text as it stands.
+pub fn push_text(bytes: &mut Vec<u8>, text: &str) -> Result<(), AllocError>
     ensures { OnOk result (bytes.new.items ≡ bytes.old.items ++ text.now) }
 {
     bytes.extend_from_slice(text.as_bytes())
 }
 
-/// Appends what something is, and its name.
-pub(crate) fn push_named(bytes: &mut Vec<u8>, what: &str, name: &str) -> Result<(), AllocError>
-    ensures { OnOk result (bytes.new.items ≡ bytes.old.items ++ (what.now ++ name.now)) }
-{
-    push_text(bytes, what)?;
-    push_text(bytes, name)
-}
-
-/// Appends a number in decimal digits.
-pub(crate) fn push_number(bytes: &mut Vec<u8>, number: u64) -> Result<(), AllocError>
+/// Appends a number's decimal digits.
+pub fn push_number(bytes: &mut Vec<u8>, number: u64) -> Result<(), AllocError>
     ensures { OnOk result (bytes.new.items ≡ bytes.old.items ++ decimal number) }
 {
     let mut buffer = Buffer::new();
     push_text(bytes, buffer.format(number))
+}
+
+/// Appends a number's lower-case hexadecimal digits, without zeros in front.
+pub(crate) fn push_hexadecimal(
+    alloc: Global,
+    bytes: &mut Vec<u8>,
+    number: u32,
+) -> Result<(), AllocError>
+    ensures { OnOk result (bytes.new.items ≡ bytes.old.items ++ hexadecimal number) }
+{
+    let text = format!(in alloc; "{number:x}")?;
+    bytes.extend_from_slice(text.as_bytes())
+}
+
+/// Appends a word's eight lower-case hexadecimal digits.
+#[tactic(auto, unfolding(rv_rows::specs::Report::word_digits))]
+pub fn push_word(bytes: &mut Vec<u8>, word: u32) -> Result<(), AllocError>
+    ensures { OnOk result (bytes.new.items ≡ bytes.old.items ++ word_digits word) }
+{
+    let mut digits = [0u8; 8];
+    hex::encode_to_slice(word.to_be_bytes().as_slice(), &mut digits).unwrap();
+    bytes.extend_from_slice(&digits)
 }

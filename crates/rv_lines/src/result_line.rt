@@ -6,7 +6,7 @@ ghost use Rattle.rv_rows.specs.Report.{refusal_name, word_digits};
 ghost use Rattle.rv_lines.specs.ResultLine.{ending_text, passing_word, place_text, reason_text};
 ghost use Rattle.rv_lines.specs.ResultLine.{result_line, steps_text};
 
-use crate::numbers::{push_decimal, push_hexadecimal, push_word};
+use crate::parts::{push_hexadecimal, push_number, push_word};
 use crate::passing::{Rule, has_passed};
 use crate::shown::push_shown;
 use rv_elf::SymbolAt;
@@ -59,19 +59,19 @@ fn push_ending(
     match row.ending {
         RowEnd::Exit(code) => {
             bytes.extend_from_slice(b"exit ")?;
-            push_decimal(alloc, bytes, u64::from(code))?;
-            push_steps(alloc, bytes, row.steps)
+            push_number(bytes, u64::from(code))?;
+            push_steps(bytes, row.steps)
         }
         RowEnd::Fault(kind, pc, value) => {
             push_fault(alloc, bytes, kind, pc, place)?;
             bytes.extend_from_slice(b", value ")?;
             push_word(bytes, value)?;
             bytes.extend_from_slice(b",")?;
-            push_steps(alloc, bytes, row.steps)
+            push_steps(bytes, row.steps)
         }
         RowEnd::Budget => {
             bytes.extend_from_slice(b"budget used up")?;
-            push_steps(alloc, bytes, row.steps)
+            push_steps(bytes, row.steps)
         }
         RowEnd::Refused(why) => push_refusal(bytes, why, reason),
     }
@@ -114,11 +114,11 @@ fn push_place(
     bytes.extend_from_slice(b")")
 }
 
-fn push_steps(alloc: Global, bytes: &mut Vec<u8>, steps: u32) -> Result<(), AllocError>
+fn push_steps(bytes: &mut Vec<u8>, steps: u32) -> Result<(), AllocError>
     ensures { OnOk result (bytes.new.items ≡ bytes.old.items ++ steps_text steps) }
 {
     bytes.extend_from_slice(b" after ")?;
-    push_decimal(alloc, bytes, u64::from(steps))?;
+    push_number(bytes, u64::from(steps))?;
     bytes.extend_from_slice(b" steps")
 }
 

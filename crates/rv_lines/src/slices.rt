@@ -10,8 +10,8 @@ pub(crate) fn byte_at(text: &[u8], place: usize) -> u8
     if place < text.len() { text[place] } else { 0 }
 }
 
-/// What stands behind the first bytes.
-pub(crate) fn behind(text: &[u8], count: usize) -> &[u8]
+/// What stands behind the first bytes: nothing where there are no more.
+pub fn behind(text: &[u8], count: usize) -> &[u8]
     ensures { result.now ≡ drop count text.now }
 {
     if count < text.len() {

@@ -4,11 +4,11 @@ ghost use Rattle.std.specs.Prelude.{◌≡◌, ◌≤◌, ◌<◌, ◌*◌, ◌-
 ghost use Rattle.rv_rows.specs.declared.row.Row.{Row};
 ghost use Rattle.rv_lines.specs.LastLine.{counts_line, failures_below, last_line, numbers_text, ways};
 
-use crate::numbers::push_decimal;
+use crate::parts::push_number;
 use crate::passing::{Rule, has_passed};
 use crate::ways::{WAYS, push_bracket, way_of};
 use rv_rows::Row;
-use std::alloc::{AllocError, Global};
+use std::alloc::AllocError;
 
 /// What is counted of rows, one after the other.
 #[derive(Debug, Drop)]
@@ -58,43 +58,38 @@ impl Tally {
 
     /// Appends the last line: how many jobs there were, how many passed and failed, how those that failed ended, and the
     /// steps of all.
-    pub fn push_last_line(&self, alloc: Global, bytes: &mut Vec<u8>) -> Result<(), AllocError>
+    pub fn push_last_line(&self, bytes: &mut Vec<u8>) -> Result<(), AllocError>
         ensures { (rule : Rule) (rows : List Row) → IsTallyOf rule rows self.now
             → OnOk result (bytes.new.items ≡ bytes.old.items ++ last_line rule rows) }
     {
-        self.push_counts(alloc, bytes)
+        self.push_counts(bytes)
     }
 
     #[tactic(auto, unfolding(crate::specs::LastLine::counts_line))]
-    fn push_counts(&self, alloc: Global, bytes: &mut Vec<u8>) -> Result<(), AllocError>
+    fn push_counts(&self, bytes: &mut Vec<u8>) -> Result<(), AllocError>
         ensures { OnOk result (bytes.new.items ≡ bytes.old.items
             ++ counts_line self.now.jobs self.now.passed
             (failures_below (λ way. slice_index self.now.failed way) ways) self.now.steps) }
     {
-        push_numbers(alloc, bytes, self.jobs, self.passed)?;
-        push_bracket(alloc, bytes, &self.failed)?;
+        push_numbers(bytes, self.jobs, self.passed)?;
+        push_bracket(bytes, &self.failed)?;
         bytes.extend_from_slice(b", ")?;
-        push_decimal(alloc, bytes, self.steps)?;
+        push_number(bytes, self.steps)?;
         bytes.extend_from_slice(b" steps")?;
         bytes.extend_from_slice(b"\n")
     }
 }
 
 // Appends how many jobs there were, and how many of them passed and failed.
-fn push_numbers(
-    alloc: Global,
-    bytes: &mut Vec<u8>,
-    jobs: u64,
-    passed: u64,
-) -> Result<(), AllocError>
+fn push_numbers(bytes: &mut Vec<u8>, jobs: u64, passed: u64) -> Result<(), AllocError>
     requires { passed ≤ jobs }
     ensures { OnOk result (bytes.new.items ≡ bytes.old.items ++ numbers_text jobs passed) }
 {
-    push_decimal(alloc, bytes, jobs)?;
+    push_number(bytes, jobs)?;
     bytes.extend_from_slice(b" jobs: ")?;
-    push_decimal(alloc, bytes, passed)?;
+    push_number(bytes, passed)?;
     bytes.extend_from_slice(b" passed, ")?;
-    push_decimal(alloc, bytes, jobs - passed)?;
+    push_number(bytes, jobs - passed)?;
     bytes.extend_from_slice(b" failed")
 }
 
@@ -108,12 +103,7 @@ fn steps_of(row: &Row) -> u64
 }
 
 /// Appends the last line of rows that are all there.
-pub fn push_last_line(
-    alloc: Global,
-    bytes: &mut Vec<u8>,
-    rule: Rule,
-    rows: &[Row],
-) -> Result<(), AllocError>
+pub fn push_last_line(bytes: &mut Vec<u8>, rule: Rule, rows: &[Row]) -> Result<(), AllocError>
     requires { length rows.now < 2 ^ 32 }
     ensures { OnOk result (bytes.new.items ≡ bytes.old.items ++ last_line rule rows.now) }
 {
@@ -121,5 +111,5 @@ pub fn push_last_line(
     for row in rows {
         tally.add(row);
     }
-    tally.push_last_line(alloc, bytes)
+    tally.push_last_line(bytes)
 }

@@ -5,10 +5,10 @@ ghost use Rattle.std.specs.Fmt.{decimal};
 ghost use Rattle.rv_rows.specs.Verdict.{fault_number};
 ghost use Rattle.rv_lines.specs.LastLine.{bracket, failures_below, way_name, way_of, ways};
 
-use crate::numbers::push_decimal;
+use crate::parts::push_number;
 use rv_machine::FaultKind;
 use rv_rows::RowEnd;
-use std::alloc::{AllocError, Global};
+use std::alloc::AllocError;
 
 /// How many ways there are: exit, budget, each kind of fault, refused.
 pub(crate) const WAYS: usize = 14;
@@ -68,18 +68,14 @@ fn way_name(way: usize) -> &'static str
 }
 
 /// Appends in brackets the ways in which jobs failed, and how many; nothing where none did.
-pub(crate) fn push_bracket(
-    alloc: Global,
-    bytes: &mut Vec<u8>,
-    failed: &[u64; WAYS],
-) -> Result<(), AllocError>
+pub(crate) fn push_bracket(bytes: &mut Vec<u8>, failed: &[u64; WAYS]) -> Result<(), AllocError>
     ensures { OnOk result (bytes.new.items ≡ bytes.old.items
         ++ bracket (failures_below (λ way. slice_index failed.now way) ways)) }
 {
     let mut is_open = false;
     for way in 0..WAYS {
         if failed[way] > 0 {
-            push_failures(alloc, bytes, is_open, failed[way], way)?;
+            push_failures(bytes, is_open, failed[way], way)?;
             is_open = true;
         }
     }
@@ -90,7 +86,6 @@ pub(crate) fn push_bracket(
 }
 
 fn push_failures(
-    alloc: Global,
     bytes: &mut Vec<u8>,
     is_open: bool,
     count: u64,
@@ -102,7 +97,7 @@ fn push_failures(
         ++ (decimal count ++ codes " " ++ way_name way))) }
 {
     bytes.extend_from_slice(if is_open { b", " } else { b" (" })?;
-    push_decimal(alloc, bytes, count)?;
+    push_number(bytes, count)?;
     bytes.extend_from_slice(b" ")?;
     bytes.extend_from_slice(way_name(way).as_bytes())
 }

@@ -3,10 +3,6 @@
 #![tactic(auto)]
 
 #[cfg(test)]
-mod reason_tests;
-#[cfg(test)]
 mod row_line_tests;
 #[cfg(test)]
 mod shown_tests;
-#[cfg(test)]
-mod unmet_tests;

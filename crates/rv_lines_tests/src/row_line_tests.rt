@@ -139,7 +139,7 @@ fn last_lines(rt: HostRuntime) -> Result<(), Fail> {
         }
         let mut bytes = Vec::new(alloc);
         assert!(rt; rows.len() < 100);
-        push_last_line(alloc, &mut bytes, rule, rows.as_slice())?;
+        push_last_line(&mut bytes, rule, rows.as_slice())?;
         let wanted = format!(in alloc; "{wanted}\n")?;
         assert_eq!(rt; bytes.as_slice(), wanted.as_bytes(), "{line}");
     }

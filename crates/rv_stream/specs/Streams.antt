@@ -1,6 +1,6 @@
 -- Texts of rows that go out in the order of the rows, while other rows are still being made.
 use Rattle.std.specs.Prelude.{◌≡◌, ◌∷◌, ◌+◌, ◌*◌, ◌<◌, ◌≤◌, ℕ, List, [], length, take, drop}
-use Rattle.std.specs.Prelude.{Option, Some, None, IfSome, String, slice_index_or, string_bytes}
+use Rattle.std.specs.Prelude.{Option, Some, None, IfSome, Vec, slice_index_or}
 use Rattle.std.specs.declared.alloc.Global.{Global}
 use Rattle.std.specs.Fork.{slice_chunk}
 use Rattle.std.specs.Io.KnownBytes.{Appends}
@@ -38,13 +38,13 @@ IsOut texts group before now next None = Appends before now (told_before texts g
 IsOut texts group before now next (Some error) = AppendsBeginning before now (concat texts)
 
 -- the texts that came early, each at its piece's place
-abbrev pub AreTexts : List (List ℕ) → ℕ → List (Option (String Global)) → Type 0
+abbrev pub AreTexts : List (List ℕ) → ℕ → List (Option (Vec ℕ Global)) → Type 0
 AreTexts texts group early = (k : ℕ)
-    → IfSome (slice_index_or early k None) (λ text. string_bytes text ≡ told_in texts group k)
+    → IfSome (slice_index_or early k None) (λ text. text.items ≡ told_in texts group k)
 
 -- what is known of a stream: what went out, and what waits
 pub record IsInOrder (texts : List (List ℕ)) (group : ℕ) (before now : Option (List ℕ)) (next : ℕ)
-    (failed : Option StreamError) (early : List (Option (String Global))) : Type 0 where
+    (failed : Option StreamError) (early : List (Option (Vec ℕ Global))) : Type 0 where
   pub sent : IsOut texts group before now next failed
   pub waiting : AreTexts texts group early
 

@@ -1,6 +1,6 @@
 //! Texts that wait for their turn, and the sink that takes them.
 
-ghost use Rattle.std.specs.Prelude.{◌≡◌, ◌<◌, ◌++◌, ℕ, IfOk, IfSome, None, length, slice_index_or, string_bytes};
+ghost use Rattle.std.specs.Prelude.{◌≡◌, ◌<◌, ◌++◌, ℕ, IfOk, IfSome, None, length, slice_index_or};
 ghost use Rattle.std.specs.Io.KnownBytes.{Appends};
 ghost use Rattle.std.specs.List.{concat};
 ghost use Rattle.rv_rows.specs.Sending.{AppendsBeginning};
@@ -39,7 +39,7 @@ pub(crate) struct InOrder<J: Streamed, W: Sink + Drop> {
     out: W,
     // The piece whose text goes out next.
     next: usize,
-    early: Vec<Option<String>>,
+    early: Vec<Option<Vec<u8>>>,
     failed: Option<StreamError>,
     of: PhantomData<J>,
 }
@@ -56,7 +56,7 @@ impl<J: Streamed, W: Sink + Drop> Model for InOrder<J, W> {
 }
 
 impl<J: Streamed, W: Sink + Drop> InOrder<J, W> {
-    pub(crate) fn new(out: W, early: Vec<Option<String>>) -> InOrder<J, W>
+    pub(crate) fn new(out: W, early: Vec<Option<Vec<u8>>>) -> InOrder<J, W>
         requires out { W.taken out ≡ J.before }
         requires none { (k : ℕ) → slice_index_or early.items k None ≡ None }
     {
@@ -70,8 +70,8 @@ impl<J: Streamed, W: Sink + Drop> InOrder<J, W> {
     }
 
     /// Takes the text of a piece, and sends all texts whose turn has come. Answers whether to go on.
-    pub(crate) fn put(&mut self, piece: u64, text: String) -> bool
-        requires { string_bytes text ≡ told_in J.texts J.group piece }
+    pub(crate) fn put(&mut self, piece: u64, text: Vec<u8>) -> bool
+        requires { text.items ≡ told_in J.texts J.group piece }
     {
         let piece = piece as usize;
         if piece < self.early.len() {
@@ -87,7 +87,7 @@ impl<J: Streamed, W: Sink + Drop> InOrder<J, W> {
         }
         match take_due::<J>(&mut self.early, self.next) {
             Ok(None) => true,
-            Ok(Some(due)) => match put_all(&mut self.out, due.text.as_bytes()) {
+            Ok(Some(due)) => match put_all(&mut self.out, due.text.as_slice()) {
                 Ok(()) => {
                     self.next = due.next;
                     true
@@ -134,19 +134,19 @@ impl<J: Streamed, W: Sink + Drop> InOrder<J, W> {
 // A text that goes out at once, and the piece after it.
 #[derive(Drop)]
 struct Due {
-    text: String,
+    text: Vec<u8>,
     next: usize,
 }
 
 // Takes the texts from a piece on, as far as they are there, as one.
 fn take_due<J: Streamed>(
-    early: &mut Vec<Option<String>>,
+    early: &mut Vec<Option<Vec<u8>>>,
     from: usize,
 ) -> Result<Option<Due>, AllocError>
     requires { AreTexts J.texts J.group early.old.items }
     ensures early { AreTexts J.texts J.group early.new.items }
     ensures due { IfOk result (λ due. IfSome due (λ d. told_before J.texts J.group d.next
-        ≡ told_before J.texts J.group from ++ string_bytes d.text)) }
+        ≡ told_before J.texts J.group from ++ d.text.items)) }
 {
     let Some(mut text) = take_text::<J>(early, from) else {
         return Ok(None);
@@ -156,17 +156,17 @@ fn take_due<J: Streamed>(
         let Some(more) = take_text::<J>(early, next) else {
             return Ok(Some(Due { text, next }));
         };
-        text.push_str(more.as_str())?;
+        text.extend_from_slice(more.as_slice())?;
     }
     Ok(Some(Due { text, next: end }))
 }
 
-fn take_text<J: Streamed>(early: &mut Vec<Option<String>>, piece: usize) -> Option<String>
+fn take_text<J: Streamed>(early: &mut Vec<Option<Vec<u8>>>, piece: usize) -> Option<Vec<u8>>
     requires { AreTexts J.texts J.group early.old.items }
     ensures early { AreTexts J.texts J.group early.new.items }
     ensures len { length early.new.items ≡ length early.old.items }
     ensures inside { IfSome result (λ _. piece < length early.old.items) }
-    ensures text { IfSome result (λ text. string_bytes text ≡ told_in J.texts J.group piece) }
+    ensures text { IfSome result (λ text. text.items ≡ told_in J.texts J.group piece) }
 {
     if piece >= early.len() {
         return None;
@@ -175,7 +175,7 @@ fn take_text<J: Streamed>(early: &mut Vec<Option<String>>, piece: usize) -> Opti
 }
 
 /// A place for the text of each piece, and none there yet.
-pub(crate) fn empty_texts(alloc: Global, count: usize) -> Result<Vec<Option<String>>, AllocError>
+pub(crate) fn empty_texts(alloc: Global, count: usize) -> Result<Vec<Option<Vec<u8>>>, AllocError>
     ensures { IfOk result (λ early. (k : ℕ) → slice_index_or early.items k None ≡ None) }
 {
     let mut early = Vec::new(alloc);

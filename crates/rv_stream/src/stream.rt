@@ -214,7 +214,7 @@ fn send_from<T: Telling, W: Sink>(
         (concat (drop from (texts_of (T.line telling.now) places.now rows.now)))) }
 {
     let text = text_of(alloc, telling, &places[from..], &rows[from..])?;
-    match put_all(out, text.as_bytes()) {
+    match put_all(out, text.as_slice()) {
         Ok(()) => Ok(()),
         Err(_) => Err(StreamError::Failed),
     }

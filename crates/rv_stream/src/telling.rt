@@ -1,6 +1,6 @@
 //! What is told of a row.
 
-ghost use Rattle.std.specs.Prelude.{◌≡◌, ◌≤◌, IfOk, length, string_bytes};
+ghost use Rattle.std.specs.Prelude.{◌≡◌, ◌≤◌, IfOk, length};
 ghost use Rattle.rv_stream.specs.Streams.{told};
 
 use rv_fleet::Row;
@@ -8,7 +8,7 @@ use std::alloc::{AllocError, Global};
 
 /// Tells of a job and its row.
 pub trait Telling {
-    ghost use Rattle.std.specs.Prelude.{◌≡◌, ◌++◌, ℕ, List, OnOk, string_bytes};
+    ghost use Rattle.std.specs.Prelude.{◌≡◌, ◌++◌, ℕ, List, OnOk};
     ghost use Rattle.rv_rows.specs.declared.row.Row.{Row};
 
     // What is told of the job at a place and its row.
@@ -20,10 +20,10 @@ pub trait Telling {
         alloc: Global,
         place: usize,
         row: &Row,
-        text: &mut String,
+        text: &mut Vec<u8>,
     ) -> Result<(), AllocError>
         ensures { OnOk result
-            (string_bytes text.new ≡ string_bytes text.old ++ line self.now place row.now) };
+            (text.new.items ≡ text.old.items ++ line self.now place row.now) };
 }
 
 /// What is told of rows, those of the first places.
@@ -32,12 +32,12 @@ pub(crate) fn text_of<T: Telling>(
     telling: &T,
     places: &[usize],
     rows: &[Row],
-) -> Result<String, AllocError>
+) -> Result<Vec<u8>, AllocError>
     requires { length rows.now ≤ length places.now }
     ensures { IfOk result
-        (λ text. string_bytes text ≡ told (T.line telling.now) places.now rows.now) }
+        (λ text. text.items ≡ told (T.line telling.now) places.now rows.now) }
 {
-    let mut text = String::new(alloc);
+    let mut text = Vec::new(alloc);
     for i in 0..rows.len() {
         telling.push(alloc, places[i], &rows[i], &mut text)?;
     }

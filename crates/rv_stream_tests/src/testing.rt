@@ -69,14 +69,14 @@ impl<'a> Telling for Names<'a> {
         _alloc: Global,
         _place: usize,
         row: &Row,
-        text: &mut String,
+        text: &mut Vec<u8>,
     ) -> Result<(), AllocError> {
         self.asked.fetch_add(1, Ordering::SeqCst);
         if row.steps < 2 {
             return Ok(());
         }
-        text.push_str(row.name.as_str())?;
-        text.push_str(";")
+        text.extend_from_slice(row.name.as_str().as_bytes())?;
+        text.extend_from_slice(b";")
     }
 }
 

@@ -1,4 +1,4 @@
-use Rattle.std.proofs.Common.{[], string_bytes, append-nil, refl, sym}
+use Rattle.std.proofs.Common.{[], append-nil, refl, sym}
 use Rattle.rv_stream.proofs.Streaming.{one_more_told}
 use Rattle.rv_stream.specs.Streams.{told_before}
 use Rattle.rv_stream.proofs.in_order.take_due.Goals as goal
@@ -6,7 +6,7 @@ use Rattle.rv_stream.proofs.in_order.take_due.Goals as goal
 pub loop-next-init : goal.loop-next-init
 loop-next-init g c =
     let had = told_before g.J.Streamed.texts g.J.Streamed.group c.args.from in
-    let text = string_bytes c.in-Some.text in (
+    let text = c.in-Some.text.items in (
       c.take_text.ensures.early,
       one_more_told g.J.Streamed.texts g.J.Streamed.group c.args.from had [] text text (sym (append-nil had))
           c.in-Some.ensures.text refl,
@@ -16,7 +16,7 @@ pub loop-next-preserved : goal.loop-next-preserved
 loop-next-preserved g c = (
   c.take_text-in-loop-next.ensures.early,
   one_more_told g.J.Streamed.texts g.J.Streamed.group c.loop-next.next
-      (told_before g.J.Streamed.texts g.J.Streamed.group c.args.from) (string_bytes c.loop-next.text)
-      (string_bytes c.in-Some-take_text.more) (string_bytes c.push_str.new.self) c.loop-next.invariant.1
-      c.in-Some-take_text.ensures.text (cc (c.in_ok-push_str.ensures.bytes, c.as_str.ensures.value)),
+      (told_before g.J.Streamed.texts g.J.Streamed.group c.args.from) c.loop-next.text.items
+      c.in-Some-take_text.more.items c.extend_from_slice.new.self.items c.loop-next.invariant.1
+      c.in-Some-take_text.ensures.text (cc (c.in_ok-extend_from_slice.ensures.items, c.as_slice.ensures.value)),
 )

@@ -5,7 +5,7 @@ use Rattle.rv_stream.proofs.telling.text_of.Goals as goal
 
 pub loop-i-init : goal.loop-i-init
 loop-i-init g c =
-    c.new-text.ensures.bytes
+    c.new-text.ensures.items
     ∙ sym (ap concat (texts_none (g.T.Telling.line c.args.telling.now) c.args.places.now))
 
 pub loop-i-preserved : goal.loop-i-preserved

@@ -1,7 +1,7 @@
-use Rattle.std.proofs.Common.{◌≡◌, take, string_bytes}
+use Rattle.std.proofs.Common.{◌≡◌, take}
 use Rattle.rv_stream.specs.Streams.{told}
 use Rattle.rv_stream.proofs.telling.text_of.Given as goal
 
 abbrev pub invariant-loop-i : goal.invariant-loop-i
 invariant-loop-i g l =
-    string_bytes l.text ≡ told (g.T.Telling.line l.telling) l.places (take l.i l.rows)
+    l.text.items ≡ told (g.T.Telling.line l.telling) l.places (take l.i l.rows)

@@ -8,10 +8,10 @@ invariant_of-self-in-Err-put_all g c =
     let due = rw c.in-Ok-Some.field-0-is at c.in-Ok-Some.ensures.due in
     record {
       sent = stopped g.J.Streamed.texts g.J.Streamed.group g.J.Streamed.before (g.W.Sink.taken c.self.inside.out)
-          c.self.inside.next (g.W.Sink.taken c.put_all.new.out) c.as_bytes.result.now c.in-Ok-Some.due.next
+          c.self.inside.next (g.W.Sink.taken c.put_all.new.out) c.as_slice.result.now c.in-Ok-Some.due.next
           c.self.inside.failed (sym c.is_some.ensures ∙ c.if-is_some.false) c.self.invariant.sent
           (due ∙ ap (λ l. told_before g.J.Streamed.texts g.J.Streamed.group c.self.inside.next ++ l)
-          (sym c.as_bytes.ensures.value)) c.in-Err-put_all.ensures.part;
+          (sym c.as_slice.ensures.value)) c.in-Err-put_all.ensures.part;
       waiting = c.take_due.ensures.early;
     }
 

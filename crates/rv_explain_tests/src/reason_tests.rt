@@ -1,0 +1,61 @@
+//! Why images were refused, as it is told.
+use rv_jobs::read_jobs;
+use rv_reasons::push_reason_of_image;
+use rv_rows::Refusal;
+use samples::file;
+use std::alloc::Global;
+use std::process::Abort;
+use std::test::Fail;
+
+// What is told of a file that was refused with a word, for a job with these keys.
+fn told(alloc: Global, keys: &str, words: &str, why: &str) -> Result<Vec<u8>, Fail> {
+    let text = format!(in alloc; "job = [{{name = 'a', image = 'a', budget = 9, {keys}}}]")?;
+    let jobs = read_jobs(alloc, text.as_bytes())?;
+    let job = jobs.as_slice().first().ok_or("a job")?;
+    let file = file(alloc, words)?;
+    let Some(Refusal::Image(why)) = Refusal::named(why.as_bytes()) else {
+        return Err(Fail::from("a refusal of an image"));
+    };
+    let mut reason = Vec::new(alloc);
+    push_reason_of_image(alloc, &mut reason, job, file.as_slice(), why)?;
+    Ok(reason)
+}
+
+// Each line has what is told, the job's keys, the file and the refusal.
+fn expect(rt: &impl Abort, alloc: Global, table: &str) -> Result<(), Fail> {
+    for line in table.lines() {
+        let mut parts = line.split(" | ");
+        let wanted = parts.next().ok_or("what is told")?;
+        let keys = parts.next().ok_or("the keys")?;
+        let words = parts.next().ok_or("the file")?;
+        let why = parts.next().ok_or("the refusal")?;
+        let found = told(alloc, keys, words, why)?;
+        let found = str::from_utf8(found.as_slice()).ok().ok_or("text")?;
+        assert_eq!(rt; found, wanted, "{line}");
+    }
+    Ok(())
+}
+
+const REASONS: &str = "\
+the file is no ELF file | input = '' | one 0=00 | bad-magic
+the file is shorter than an ELF header | input = '' | one 51 | short-header
+the entry is odd | input = '' | one 24=80000001 | entry-odd
+a segment's bytes in memory, 80000000 to 801fffff, do not lie in one region: [80000000 to 800fffff] \
+| input = '' | one 72=00200000 | segment-map
+a segment's bytes from the file, 90000000 to 9000000b, do not lie in one region: [80000000 to 800fffff] \
+| input = '' | one 64=90000000 | segment-map
+a segment's bytes in memory, fffffff8 to past ffffffff, do not lie in one region: [80000000 to 800fffff] \
+| input = '' | one 60=fffffff8 | segment-map
+a segment does not lie in one region | input = '' | one 51 | segment-map
+the file bytes of two segments share addresses: 80000000 to 8000000f and 80000008 to 8000000b \
+| input = '' | two 96=80000008 | segment-overlap
+no symbol x is defined | signature = ['x', 'end_signature'] | sign | no-begin
+no symbol a\\x01 is defined | signature = ['begin_signature', \"a\\u0001\"] | sign | no-end
+the signature from end_signature at 80000030 to begin_signature at 80000028 is not up to 65536 whole words of one \
+region: [80000000 to 800fffff] | signature = ['end_signature', 'begin_signature'] | sign | signature-range
+the file has no symbol table | signature = ['x', 'y'] | one | no-symbols";
+
+#[test]
+fn reasons(rt: HostRuntime) -> Result<(), Fail> {
+    expect(&rt, rt.alloc(), REASONS)
+}

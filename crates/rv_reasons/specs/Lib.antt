@@ -1,0 +1,2 @@
+pub mod UnmetLines
+pub mod ImageReasons

@@ -1,0 +1,189 @@
+//! The addresses of segments that a map refuses, as a person is told them.
+
+ghost use Rattle.std.specs.Prelude.{◌≡◌, ◌+◌, ◌++◌, OnOk, option_map};
+ghost use Rattle.std.specs.List.{find};
+ghost use Rattle.rv_elf.specs.Loading.{fits, load_address, share};
+ghost use Rattle.rv_reasons.specs.ImageReasons.{last_text, map_text, outside_text, overlap_text, pair_text, range_text};
+ghost use Rattle.rv_reasons.specs.ImageReasons.{regions_text, sharing_segments, unfit_segment};
+ghost use Rattle.rv_memory.specs.Regions.{in_one};
+
+use rv_elf::{LoadAt, Segment};
+use rv_jobs::Job;
+use rv_lines::{push_text, push_word};
+use rv_memory::Region;
+use std::alloc::AllocError;
+
+#[tactic(auto, unfolding(crate::specs::ImageReasons::map_text))]
+pub(crate) fn push_unfit(
+    bytes: &mut Vec<u8>,
+    job: &Job,
+    segment: Option<&Segment>,
+) -> Result<(), AllocError>
+    ensures { OnOk result (bytes.new.items ≡ bytes.old.items
+        ++ map_text job.now (option_map (λ segment. segment.now) segment.entry)) }
+{
+    match segment {
+        Some(segment) => {
+            let is_file_inside = is_file_inside(job, segment);
+            push_outside(bytes, is_file_inside, job.load, segment)?;
+            push_text(bytes, ", do not lie in one region:")?;
+            push_regions(bytes, job.regions.as_slice())
+        }
+        None => push_text(bytes, "a segment does not lie in one region"),
+    }
+}
+
+/// The first segment that doesn't fit the job's regions.
+pub(crate) fn unfit_segment<'a>(job: &Job, segments: &'a [Segment]) -> Option<&'a Segment>
+    ensures { option_map (λ segment. segment.now) result ≡ unfit_segment job.now segments.now }
+{
+    segments.iter().find(|segment| !fits(job, segment))
+}
+
+fn fits(job: &Job, segment: &Segment) -> bool
+    ensures { result ≡ fits job.now.regions job.now.load segment.now }
+{
+    is_file_inside(job, segment) && job.regions.in_one(segment.vaddr, segment.memsz)
+}
+
+// Whether the segment's file bytes lie in one region.
+fn is_file_inside(job: &Job, segment: &Segment) -> bool
+    ensures { result ≡ in_one job.now.regions (load_address job.now.load segment.now)
+        segment.now.filesz }
+{
+    job.regions
+        .in_one(load_address(job.load, segment), segment.filesz)
+}
+
+// Where the segment's file bytes go.
+fn load_address(at: LoadAt, segment: &Segment) -> u32
+    ensures { result ≡ load_address at segment.now }
+{
+    match at {
+        LoadAt::Physical => segment.paddr,
+        LoadAt::Virtual => segment.vaddr,
+    }
+}
+
+// What of a segment is outside: its memory where its bytes from the file are inside, else these.
+#[tactic(auto, unfolding(crate::specs::ImageReasons::outside_text))]
+fn push_outside(
+    bytes: &mut Vec<u8>,
+    is_file_inside: bool,
+    at: LoadAt,
+    segment: &Segment,
+) -> Result<(), AllocError>
+    ensures { OnOk result (bytes.new.items
+        ≡ bytes.old.items ++ outside_text is_file_inside at segment.now) }
+{
+    if is_file_inside {
+        push_text(bytes, "a segment's bytes in memory, ")?;
+        push_range(bytes, segment.vaddr, segment.memsz)
+    } else {
+        push_text(bytes, "a segment's bytes from the file, ")?;
+        push_range(bytes, load_address(at, segment), segment.filesz)
+    }
+}
+
+#[tactic(auto, unfolding(crate::specs::ImageReasons::regions_text))]
+pub(crate) fn push_regions(bytes: &mut Vec<u8>, regions: &[Region]) -> Result<(), AllocError>
+    ensures { OnOk result (bytes.new.items ≡ bytes.old.items ++ regions_text regions.now) }
+{
+    for region in regions {
+        push_text(bytes, " [")?;
+        push_range(bytes, region.base, region.size)?;
+        push_text(bytes, "]")?;
+    }
+    Ok(())
+}
+
+// So many addresses from one on.
+#[tactic(auto, unfolding(crate::specs::ImageReasons::range_text))]
+fn push_range(bytes: &mut Vec<u8>, from: u32, count: u32) -> Result<(), AllocError>
+    ensures { OnOk result (bytes.new.items ≡ bytes.old.items ++ range_text from count) }
+{
+    push_word(bytes, from)?;
+    push_text(bytes, " to ")?;
+    push_last(bytes, from, count)
+}
+
+#[tactic(auto, unfolding(crate::specs::ImageReasons::last_text))]
+fn push_last(bytes: &mut Vec<u8>, from: u32, count: u32) -> Result<(), AllocError>
+    ensures { OnOk result (bytes.new.items ≡ bytes.old.items ++ last_text from count) }
+{
+    match from.checked_add(count.saturating_sub(1)) {
+        Some(last) => push_word(bytes, last),
+        None => push_text(bytes, "past ffffffff"),
+    }
+}
+
+#[tactic(auto, unfolding(crate::specs::ImageReasons::overlap_text))]
+pub(crate) fn push_overlap(
+    bytes: &mut Vec<u8>,
+    at: LoadAt,
+    segments: &[Segment],
+) -> Result<(), AllocError>
+    ensures { OnOk result (bytes.new.items
+        ≡ bytes.old.items ++ overlap_text at (sharing_segments at segments.now)) }
+{
+    match sharing_segments(at, segments) {
+        Some((one, other)) => {
+            let what = "the file bytes of two segments share addresses: ";
+            push_pair(bytes, what, at, &one, &other)
+        }
+        None => push_text(bytes, "the file bytes of two segments share addresses"),
+    }
+}
+
+// Says where the file bytes of two segments are loaded, behind a text.
+#[tactic(auto, unfolding(crate::specs::ImageReasons::pair_text))]
+fn push_pair(
+    bytes: &mut Vec<u8>,
+    what: &str,
+    at: LoadAt,
+    one: &Segment,
+    other: &Segment,
+) -> Result<(), AllocError>
+    ensures { OnOk result (bytes.new.items
+        ≡ bytes.old.items ++ (what.now ++ pair_text at one.now other.now)) }
+{
+    push_text(bytes, what)?;
+    push_range(bytes, load_address(at, one), one.filesz)?;
+    push_text(bytes, " and ")?;
+    push_range(bytes, load_address(at, other), other.filesz)
+}
+
+// The first segment that shares an address with a later one, and the first of those.
+fn sharing_segments(at: LoadAt, segments: &[Segment]) -> Option<(Segment, Segment)>
+    ensures { result ≡ sharing_segments at segments.now }
+{
+    let mut rest = segments;
+    while let Some((one, others)) = rest.split_first() {
+        if let Some(other) = sharing_one(at, one, others) {
+            return Some((*one, *other));
+        }
+        rest = others;
+    }
+    None
+}
+
+// The first of the others that shares an address with the one.
+fn sharing_one<'a>(at: LoadAt, one: &Segment, others: &'a [Segment]) -> Option<&'a Segment>
+    ensures { option_map (λ segment. segment.now) result ≡ find (share at one.now) others.now }
+{
+    others.iter().find(|other| share(at, one, other))
+}
+
+fn share(at: LoadAt, one: &Segment, other: &Segment) -> bool
+    ensures { result ≡ share at one.now other.now }
+{
+    let start = load_address(at, one).max(load_address(at, other));
+    u64::from(start) < end_address(at, one).min(end_address(at, other))
+}
+
+// The address past the last file byte.
+fn end_address(at: LoadAt, segment: &Segment) -> u64
+    ensures { result ≡ load_address at segment.now + segment.now.filesz }
+{
+    u64::from(load_address(at, segment)) + u64::from(segment.filesz)
+}
