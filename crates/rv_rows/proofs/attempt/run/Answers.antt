@@ -1,3 +1,4 @@
+use Rattle.std.proofs.Common.{rules}
 use Rattle.std.proofs.Common.{◌≡◌, ◌∙◌, IfSome, List, ap, subst, sym}
 use Rattle.rv_elf.specs.Rows.{accepted}
 use Rattle.rv_elf.specs.Symbols.{signature_check}
@@ -15,3 +16,6 @@ returns-clause-readable c =
     let same = run_keeps c.args.budget (state_of c.args.machine) in
     let kept = ap (λ (ran : Ran). ran.state.bus.regions) (sym c.run-ran.ensures) ∙ same in
     subst P (sym (ap (λ (bus : Contents). bus.regions) c.into_bus.ensures ∙ kept)) c.requires
+
+pub returns-clause-outcome : goal.returns-clause-outcome
+returns-clause-outcome c = search rules

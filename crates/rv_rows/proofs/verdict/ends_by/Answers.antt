@@ -4,3 +4,6 @@ use Rattle.rv_rows.proofs.verdict.ends_by.Goals as goal
 
 pub returns-in-Fault-Fault : goal.returns-in-Fault-Fault
 returns-in-Fault-Fault c = search (tests, rules)
+
+pub returns-in-Budget-Budget : goal.returns-in-Budget-Budget
+returns-in-Budget-Budget c = search rules
