@@ -6,7 +6,7 @@ use Rattle.std.specs.Cmp.Lexicographic.{slice_cmp}
 use Rattle.std.specs.Ordering.{nat_cmp}
 use Rattle.std.proofs.lemmas.Map.Text.{btree_map_updates_str}
 use Rattle.rv_lists.specs.JobList.{place_in}
-use Rattle.rv_lists.proofs.Public.{no_places, places_more}
+use Rattle.rv_lists.proofs.Public.{places_more}
 use Rattle.rv_reports.specs.Said.{new_count}
 use Rattle.rv_reports.specs.Saved.{names_of}
 use Rattle.rv_reports.proofs.Cut.{length-names, length-taken}
@@ -17,7 +17,7 @@ pub loop-at-init : goal.loop-at-init
 unfolding place_in
 loop-at-init c = record {
   rest = omega arith;
-  places = no_places c.new-places.result [] c.new-places.ensures.empty refl;
+  places = λ t. rw c.new-places.ensures.empty refl;
 }
 
 pub returns-then-contains_key : goal.returns-then-contains_key
