@@ -353,6 +353,21 @@ numbered_more (k ∷ ks) (r ∷ rows) (suc i) n place row h even at is =
     ∙ sym (append_assoc (row_text (k - 1) r) (numbered_text (take i ks) (take i rows))
     (row_text place (get_or rows i row)))
 
+-- the first rows, and the rest
+pub numbered_split : (numbers : List ℕ) (rows : List Row) (i : ℕ) → length numbers ≡ length rows
+    → numbered_text numbers rows
+    ≡ numbered_text (take i numbers) (take i rows) ++ numbered_text (drop i numbers) (drop i rows)
+unfolding numbered_text
+numbered_split [] [] zero even = refl
+numbered_split [] [] (suc i) even = refl
+numbered_split [] (r ∷ rows) i even = absurd (omega arith)
+numbered_split (k ∷ ks) [] i even = absurd (omega arith)
+numbered_split (k ∷ ks) (r ∷ rows) zero even = refl
+numbered_split (k ∷ ks) (r ∷ rows) (suc i) even =
+    ap (λ (t : List ℕ). row_text (k - 1) r ++ t) (numbered_split ks rows i (omega arith))
+    ∙ sym (append_assoc (row_text (k - 1) r) (numbered_text (take i ks) (take i rows))
+    (numbered_text (drop i ks) (drop i rows)))
+
 -- numbers that rise from behind one are above it
 pub above : (before last : ℕ) (ns : List ℕ) (i : ℕ) → are_rising before last ns ≡ true → i < length ns
     → before < get_or ns i 0

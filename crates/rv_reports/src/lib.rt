@@ -13,7 +13,9 @@ mod read;
 mod said;
 mod saved;
 mod text;
+mod write;
 
 pub use law::{one_text_one_report, whole_text_is_report_text};
 pub use read::{ReadError, read_report};
 pub use saved::{Extent, Numbers, SavedReport, Shard};
+pub use write::write_saved;

@@ -97,8 +97,8 @@ fn put_rows<W: Sink>(
     Ok(())
 }
 
-// Sends the gathered text where it is enough for a put.
-fn put_if_enough<W: Sink>(text: &mut String, out: &mut W) -> Result<(), WriteError>
+/// Sends the gathered text where it is enough for a large put.
+pub fn put_if_enough<W: Sink>(text: &mut String, out: &mut W) -> Result<(), WriteError>
     ensures under_way { OnOk result
         (IsUnderWay (W.taken out.old) (W.taken out.new)
         (string_bytes text.new) (string_bytes text.old)) }
@@ -114,8 +114,8 @@ fn put_if_enough<W: Sink>(text: &mut String, out: &mut W) -> Result<(), WriteErr
     put_text(text, out)
 }
 
-// Puts the gathered text, and begins anew.
-fn put_text<W: Sink>(text: &mut String, out: &mut W) -> Result<(), WriteError>
+/// Puts the gathered text, and begins anew.
+pub fn put_text<W: Sink>(text: &mut String, out: &mut W) -> Result<(), WriteError>
     ensures appended { OnOk result
         (Appends (W.taken out.old) (W.taken out.new) (string_bytes text.old)) }
     ensures anew { OnOk result (string_bytes text.new ≡ []) }
