@@ -2,4 +2,5 @@ pub mod Entries
 pub mod PlaceLemmas
 pub mod Steps
 pub mod JobStages
+pub mod AllFaults
 pub mod Public

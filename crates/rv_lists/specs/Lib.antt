@@ -6,3 +6,4 @@ pub mod JobList
 pub mod JobSteps
 pub mod EarlierJobsInside
 pub mod Faults
+pub mod ListFaults

@@ -78,6 +78,30 @@ pub struct Job {
     pub misaligned: Misaligned,
 }
 
+impl Job {
+    /// A job of these four, and of what a list gives where it leaves a key out.
+    pub(crate) fn plain(name: Text, image: Text, budget: u32, script: Bytes) -> Job
+        ensures { result ≡ record (single_job image budget script) { name = name } }
+    {
+        Job {
+            name,
+            image,
+            budget,
+            script,
+            load: LoadAt::Physical,
+            regions: Map::default_map(),
+            signature: None,
+            expect_exit: None,
+            expect_signature: None,
+            expect_console: None,
+            expect_end: None,
+            same_as: None,
+            isa: Isa::Imc,
+            misaligned: Misaligned::Fault,
+        }
+    }
+}
+
 /// 1 to 4,096 jobs in the order of their list. Contracts see their list.
 #[derive(Drop)]
 pub struct JobList {
@@ -112,24 +136,10 @@ impl JobList {
         requires bound { budget ≤ 1000000000 }
         ensures { IfOk result (λ l. l ≡ single_job image.now budget script.items ∷ []) }
     {
-        let job = Job {
-            name: Text::copy(alloc, "one")?,
-            image: Text::copy(alloc, image)?,
-            budget,
-            script: Bytes::new(script),
-            load: LoadAt::Physical,
-            regions: Map::default_map(),
-            signature: None,
-            expect_exit: None,
-            expect_signature: None,
-            expect_console: None,
-            expect_end: None,
-            same_as: None,
-            isa: Isa::Imc,
-            misaligned: Misaligned::Fault,
-        };
+        let name = Text::copy(alloc, "one")?;
+        let image = Text::copy(alloc, image)?;
         let mut items = Vec::new(alloc);
-        items.push(job)?;
+        items.push(Job::plain(name, image, budget, Bytes::new(script)))?;
         Ok(JobList { items })
     }
 

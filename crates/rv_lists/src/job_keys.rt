@@ -105,7 +105,7 @@ fn described(
 }
 
 #[tactic(auto, unfolding(crate::specs::JobList::name_in))]
-fn name_of(table: &Table) -> Result<&str, What>
+pub(crate) fn name_of(table: &Table) -> Result<&str, What>
     ensures { MatchResult result (λ name. name_in (table_view table.now) ≡ Ok name.now)
         (λ fault. name_in (table_view table.now) ≡ Err fault) }
 {

@@ -14,7 +14,7 @@ use toml::{Table, Value};
 
 /// What the value of a job's key is in TOML.
 #[derive(Clone, Copy)]
-pub(crate) enum Kind {
+pub enum Kind {
     Text,
     Number,
     /// An array of texts.
@@ -24,7 +24,7 @@ pub(crate) enum Kind {
 }
 
 /// The keys of a job, each with the kind of its value.
-pub(crate) const JOB_KEYS: [(&str, Kind); 16] = [
+pub const JOB_KEYS: [(&str, Kind); 16] = [
     ("name", Kind::Text),
     ("image", Kind::Text),
     ("budget", Kind::Number),

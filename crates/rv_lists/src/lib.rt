@@ -1,9 +1,11 @@
 //! Job lists: which jobs a TOML text stands for.
 //!
-//! [`read_jobs`] reads bytes as a [`JobList`], or names the job and its fault ([`JobError`], [`What`]).
+//! [`read_jobs`] reads bytes as a [`JobList`], or names the job and its fault ([`JobError`], [`What`]); [`read_faults`]
+//! names the first fault of every bad job.
 //! Callers see a list of [`Job`]s, each with one field for each key of the format.
 #![tactic(auto)]
 
+mod all_faults;
 mod earlier_jobs;
 mod error;
 mod expected;
@@ -19,7 +21,9 @@ mod signature;
 mod text;
 mod texts;
 
+pub use all_faults::{first_fault_refuses_a_list, read_faults};
 pub use error::{JobError, What};
 pub use job::{ExpectedConsole, ExpectedEnd, Job, JobList, Symbols};
+pub use keys::{JOB_KEYS, Kind};
 pub use list::read_jobs;
 pub use text::{Bytes, Text};

@@ -37,7 +37,7 @@ pub fn read_jobs(alloc: Global, bytes: &[u8]) -> Result<JobList, JobError>
 }
 
 /// A fault of the whole list.
-fn list_error(what: What) -> JobError
+pub(crate) fn list_error(what: What) -> JobError
     ensures { result ≡ record { job = 0; what = what } }
 {
     JobError { job: 0, what }
@@ -55,7 +55,7 @@ fn jobs_of_table(alloc: Global, table: &Table) -> Result<JobList, JobError>
 
 /// The elements of `job`, where the whole list has no fault.
 #[tactic(auto, unfolding(crate::specs::JobList::elements_in))]
-fn elements_of(table: &Table) -> Result<&Array, What>
+pub(crate) fn elements_of(table: &Table) -> Result<&Array, What>
     ensures value { MatchResult result (λ a. elements_in (table_view table.now)
         ≡ Ok (array_view a.now))
         (λ e. elements_in (table_view table.now) ≡ Err e) }

@@ -1,0 +1,142 @@
+//! All faults of a list: of each bad job the first.
+
+ghost use Rattle.std.specs.Prelude.{◌≡◌, ◌<◌, ◌≤◌, ◌+◌, ◌∷◌, ◌++◌, [], ℕ, List, IfOk, IfSome, OnOk};
+ghost use Rattle.std.specs.Prelude.{None, Some, length, option_map, slice_get};
+ghost use Rattle.std.specs.Result.{result_err};
+ghost use Rattle.toml.specs.View.{view, table_view, items_view};
+ghost use Rattle.rv_lists.specs.Jobs.{most_jobs};
+ghost use Rattle.rv_lists.specs.JobList.{element_in, job_list_of, names_of, place_in};
+ghost use Rattle.rv_lists.specs.ListFaults.{fault_in, faults_from, faults_in, list_faults, name_taken};
+ghost use Rattle.rv_lists.specs.ListFaults.{names_with};
+
+use crate::earlier_jobs::EarlierJobs;
+use crate::error::{JobError, What};
+use crate::job::Job;
+use crate::job_keys::{element_of, name_of};
+use crate::list::{elements_of, list_error};
+use crate::text::{Bytes, Text};
+use std::alloc::{AllocError, Global};
+use toml::{Table, Value};
+
+/// All faults of a list: one of the whole list, with job 0, which stands alone; or of each bad job the
+/// first, in list order. The name of a bad job counts as taken, where it is a good one that no job before
+/// has taken. A refused growth alone is an error.
+#[tactic(auto, unfolding(crate::specs::ListFaults::list_faults))]
+pub fn read_faults(alloc: Global, bytes: &[u8]) -> Result<Vec<JobError>, AllocError>
+    ensures { IfOk result (λ faults. faults.items ≡ list_faults bytes.now) }
+{
+    match toml::table_from_slice(alloc, bytes) {
+        Ok(table) => faults_of_table(alloc, &table),
+        Err(error) => {
+            if error.is_memory() {
+                return Err(AllocError);
+            }
+            one_fault(alloc, What::NotToml)
+        }
+    }
+}
+
+/// A fault of the whole list, alone.
+fn one_fault(alloc: Global, what: What) -> Result<Vec<JobError>, AllocError>
+    ensures { IfOk result (λ faults. faults.items ≡ record { job = 0; what = what } ∷ []) }
+{
+    let mut faults = Vec::new(alloc);
+    faults.push(list_error(what))?;
+    Ok(faults)
+}
+
+#[tactic(auto, unfolding(crate::specs::ListFaults::faults_in))]
+fn faults_of_table(alloc: Global, table: &Table) -> Result<Vec<JobError>, AllocError>
+    ensures { IfOk result (λ faults. faults.items ≡ faults_in (Some (table_view table.now))) }
+{
+    match elements_of(table) {
+        Ok(elements) => faults_of(alloc, elements.as_slice()),
+        Err(what) => one_fault(alloc, what),
+    }
+}
+
+fn faults_of(alloc: Global, elements: &[Value]) -> Result<Vec<JobError>, AllocError>
+    requires { length elements.now ≤ most_jobs }
+    ensures { IfOk result (λ faults. faults.items ≡ faults_from 1 [] (items_view elements.now)) }
+{
+    let mut faults = Vec::new(alloc);
+    let mut earlier = EarlierJobs::new(alloc);
+    for (at, element) in elements.iter().enumerate() {
+        let number = at as u32 + 1;
+        earlier = behind_element(alloc, earlier, number, element, &mut faults)?;
+    }
+    Ok(faults)
+}
+
+/// The jobs behind an element of a number; its fault is noted where it has one.
+fn behind_element(
+    alloc: Global,
+    earlier: EarlierJobs,
+    number: u32,
+    element: &Value,
+    faults: &mut Vec<JobError>,
+) -> Result<EarlierJobs, AllocError>
+    requires { length earlier < most_jobs }
+    ensures faults { OnOk result (faults.new.items ≡ faults.old.items
+        ++ fault_in number (element_in (names_of earlier) (view element.now))) }
+    ensures names { IfOk result (λ jobs. names_of jobs
+        ≡ names_with (names_of earlier) (name_taken (names_of earlier) (view element.now))) }
+    ensures few { IfOk result (λ jobs. length jobs ≤ length earlier + 1) }
+{
+    match element_of(alloc, &earlier, element) {
+        Ok(job) => earlier.with(alloc, job),
+        Err(What::OutOfMemory) => Err(AllocError),
+        Err(what) => {
+            faults.push(JobError { job: number, what })?;
+            behind_bad(alloc, earlier, element)
+        }
+    }
+}
+
+/// The jobs behind a bad element: where it takes a name, a job of that name stands in its place.
+fn behind_bad(
+    alloc: Global,
+    earlier: EarlierJobs,
+    element: &Value,
+) -> Result<EarlierJobs, AllocError>
+    requires { length earlier < most_jobs }
+    ensures names { IfOk result (λ jobs. names_of jobs
+        ≡ names_with (names_of earlier) (name_taken (names_of earlier) (view element.now))) }
+    ensures few { IfOk result (λ jobs. length jobs ≤ length earlier + 1) }
+{
+    match name_taken(&earlier, element) {
+        Some(name) => {
+            let name = Text::copy(alloc, name)?;
+            let no_image = Text::new(String::new(alloc));
+            let no_script = Bytes::new(Vec::new(alloc));
+            earlier.with(alloc, Job::plain(name, no_image, 1, no_script))
+        }
+        None => Ok(earlier),
+    }
+}
+
+/// The name that an element takes, be its job good or bad.
+#[tactic(auto, unfolding(crate::specs::ListFaults::name_taken))]
+fn name_taken<'a>(earlier: &EarlierJobs, element: &'a Value) -> Option<&'a str>
+    ensures value { option_map (λ name. name.now) result
+        ≡ name_taken (names_of earlier.now) (view element.now) }
+    ensures fresh { IfSome result (λ name. place_in (names_of earlier.now) name.now ≡ None) }
+{
+    let name = match element.as_table() {
+        Some(table) => match name_of(table) {
+            Ok(name) => name,
+            Err(_) => return None,
+        },
+        None => return None,
+    };
+    match earlier.place_of(name) {
+        Some(_) => None,
+        None => Some(name),
+    }
+}
+
+/// A law of lists, with nothing to run: the first of all faults is the one that a list is refused by, and
+/// there is none exactly where the list is one of jobs.
+pub fn first_fault_refuses_a_list()
+    ensures { (bytes : List ℕ) → slice_get (list_faults bytes) 0 ≡ result_err (job_list_of bytes) }
+{}
