@@ -123,6 +123,11 @@ abbrev pub refused_outcome : Refusal → Outcome
 refused_outcome why =
     record { ending = ending.Refused why; steps = 0; console = []; signature = None }
 
+-- the refusal that an ending is, if it is one
+abbrev pub refusal_in : RowEnd → Option Refusal
+refusal_in (ending.Refused why) = Some why
+refusal_in _ = None
+
 -- what comes of an image that is loaded, or of its refusal
 abbrev pub outcome_if_loadable : Job → List ℕ → Result Loadable ImageError → Outcome
 outcome_if_loadable job file (Ok loadable) =

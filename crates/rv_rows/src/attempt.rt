@@ -10,7 +10,7 @@ ghost use Rattle.rv_machine.specs.Run.{run_of};
 ghost use Rattle.rv_machine.specs.Machine.{state_of};
 ghost use Rattle.rv_rows.specs.Attempt.{HasSignature, IsReadable, outcome_in_bus, outcome_of_attempt};
 ghost use Rattle.rv_rows.specs.Outcome.{end_of, end_of_signature, file_of, file_outcome_of, loadable_of, loaded_state};
-ghost use Rattle.rv_rows.specs.Outcome.{outcome_of, outcome_of_run, range_of, reference_of};
+ghost use Rattle.rv_rows.specs.Outcome.{outcome_of, outcome_of_run, range_of, reference_of, refusal_in};
 
 use crate::outcome::{Attempt, EndedRun, Loadable, SignatureRange};
 use crate::row::{Refusal, RowEnd};
@@ -65,6 +65,41 @@ fn file<'a>(
     check_reference(reference)?;
     check_reference(console)?;
     Ok(file)
+}
+
+/// Why a job is refused over the same, if it is. Nothing is run.
+#[tactic(auto, unfolding(crate::specs::Outcome::outcome_of))]
+pub(crate) fn refusal_of(
+    alloc: Global,
+    job: &Job,
+    image: &Kept,
+    reference: Option<&Kept>,
+    console: Option<&Kept>,
+) -> Result<Option<Refusal>, AllocError>
+    requires named { IfSome job.now.signature (λ names. (0 < length names.begin)
+        × (0 < length names.end)) }
+    ensures { IfOk result (λ why. why
+        ≡ refusal_in (outcome_of job.now image.now (option_map (λ kept. kept.now) reference.entry)
+        (option_map (λ kept. kept.now) console.entry)).ending) }
+{
+    match file(image, reference, console) {
+        Ok(file) => file_refusal(alloc, job, file),
+        Err(why) => Ok(Some(why)),
+    }
+}
+
+#[tactic(auto, unfolding(crate::specs::Outcome::file_outcome_of))]
+fn file_refusal(alloc: Global, job: &Job, file: &[u8]) -> Result<Option<Refusal>, AllocError>
+    requires { IfSome job.now.signature (λ names. (0 < length names.begin)
+        × (0 < length names.end)) }
+    ensures { IfOk result
+        (λ why. why ≡ refusal_in (file_outcome_of job.now file.now).ending) }
+{
+    match loadable_of(alloc, job, file) {
+        Ok(_) => Ok(None),
+        Err(ImageError::OutOfMemory) => Err(AllocError),
+        Err(error) => Ok(Some(Refusal::Image(error))),
+    }
 }
 
 // That a reference was read, where one is named.

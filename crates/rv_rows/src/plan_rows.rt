@@ -4,16 +4,17 @@ ghost use Rattle.std.specs.Prelude.{◌≡◌, ◌<◌, ◌≤◌, IfOk, IfSome,
 ghost use Rattle.std.specs.Prelude.{slice_index_or};
 ghost use Rattle.rv_lists.specs.declared.job.Job.{Job as AJob};
 ghost use Rattle.rv_rows.specs.Attempt.{IsReadable, outcome_of_attempt};
+ghost use Rattle.rv_rows.specs.Outcome.{refusal_in};
 ghost use Rattle.rv_rows.specs.Recent.{AreOutcomes, outcome_at};
 ghost use Rattle.rv_rows.specs.Rows.{bytes_in, console_in, other_in, outcome_in, reference_in, row_of, row_with};
 ghost use Rattle.rv_rows.specs.Rows.{rows_of};
 ghost use Rattle.rv_rows.specs.Verdict.{are_same, holds_same};
 
-use crate::attempt::attempt_of;
+use crate::attempt::{attempt_of, refusal_of};
 use crate::outcome::{Attempt, Outcome};
 use crate::recent::{MOST, Recent};
 use crate::report::{Report, Rows};
-use crate::row::{Row, Verdict};
+use crate::row::{Refusal, Row, Verdict};
 use crate::spare::Spare;
 use crate::verdict::{are_same, is_same, verdict};
 use rv_jobs::{Job, Kept, Plan, Text};
@@ -95,6 +96,21 @@ fn attempt_at(
         plan.reference(i),
         plan.console_reference(i),
         spare,
+    )
+}
+
+/// Why the job at a place is refused, if its row is that of a refusal. Nothing is run.
+pub fn refusal_at(alloc: Global, plan: &Plan, i: usize) -> Result<Option<Refusal>, AllocError>
+    requires { i < length plan.now.jobs }
+    ensures { IfOk result (λ why. (d : AJob) → why
+        ≡ refusal_in (outcome_in plan.now.answers (slice_index_or plan.now.jobs i d)).ending) }
+{
+    refusal_of(
+        alloc,
+        plan.job(i),
+        plan.image(i),
+        plan.reference(i),
+        plan.console_reference(i),
     )
 }
 
