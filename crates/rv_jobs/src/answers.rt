@@ -41,14 +41,16 @@ impl<'a> Model for Answers<'a> {
 }
 
 impl<'a> Answers<'a> {
-    pub(crate) fn new(alloc: Global) -> Answers<'a>
-        ensures { result ≡ [] }
+    /// No answer, and room to find so many paths: a path is hashed once more for each growth.
+    pub(crate) fn new(alloc: Global, room: usize) -> Result<Answers<'a>, AllocError>
+        ensures { IfOk result (λ answers. answers ≡ []) }
     {
-        Answers {
+        let places = HashMap::with_capacity_and_hasher(alloc, room, BuildHasherDefault::new())?;
+        Ok(Answers {
             answers: Vec::new(alloc),
             paths: Vec::new(alloc),
-            places: HashMap::with_hasher(alloc, BuildHasherDefault::new()),
-        }
+            places,
+        })
     }
 
     /// The answers with that of a path, which is read unless it has one, and the place of its answer.

@@ -72,7 +72,8 @@ pub fn gather_places<S: Store>(
     ensures faults { IfOk result (λ p. S.faulted store.new
         ≡ more (S.faulted store.old) (unreadables p.answers)) }
 {
-    let mut asked = Answers::new(alloc);
+    let none = Answers::new(alloc, places.len())?;
+    let mut asked = none;
     let mut noted = nothing_noted(alloc, jobs.as_slice())?;
     for place in places.as_slice() {
         asked = ask_for_row(alloc, store, asked, jobs.as_slice(), *place, &mut noted)?;

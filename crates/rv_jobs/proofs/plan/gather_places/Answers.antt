@@ -12,11 +12,11 @@ use Rattle.rv_jobs.proofs.plan.gather_places.Goals as goal
 pub loop-place-init : goal.loop-place-init
 loop-place-init g c = record {
   same = λ i. g.S.Store.contents c.args.store.now;
-  paths = ap paths_of c.new-asked.ensures;
-  kept = start_kept c.new-asked.result c.new-asked.ensures (g.S.Store.contents c.args.store.now);
-  faults = start_faults c.new-asked.result c.new-asked.ensures (g.S.Store.faulted c.args.store.now);
-  noted = subst (λ js. AreNoted (paths_of c.new-asked.result) js c.in_ok-noted.noted.items) c.as_slice.ensures.value
-      (subst (λ xs. AreNoted xs c.as_slice.result.now c.in_ok-noted.noted.items) (sym (ap paths_of c.new-asked.ensures))
+  paths = ap paths_of c.in_ok-none.ensures;
+  kept = start_kept c.in_ok-none.none c.in_ok-none.ensures (g.S.Store.contents c.args.store.now);
+  faults = start_faults c.in_ok-none.none c.in_ok-none.ensures (g.S.Store.faulted c.args.store.now);
+  noted = subst (λ js. AreNoted (paths_of c.in_ok-none.none) js c.in_ok-noted.noted.items) c.as_slice.ensures.value
+      (subst (λ xs. AreNoted xs c.as_slice.result.now c.in_ok-noted.noted.items) (sym (ap paths_of c.in_ok-none.ensures))
       c.in_ok-noted.ensures);
 }
 

@@ -6,9 +6,9 @@ use Rattle.rv_jobs.proofs.answers.Answers.new.Goals as goal
 
 pub invariant_of-result : goal.invariant_of-result
 invariant_of-result c =
-    let none = ap (map (λ (q : Bor (List ℕ)). q.now)) c.new-2.ensures.items in
+    let none = ap (map (λ (q : Bor (List ℕ)). q.now)) c.new-3.ensures.items in
     record {
-      even = ap length none ∙ sym (ap (length {A = Kept}) c.new.ensures.items);
+      even = ap length none ∙ sym (ap (length {A = Kept}) c.new-2.ensures.items);
       places =
-          no_places c.with_hasher.result (map (λ (q : Bor (List ℕ)). q.now) c.new-2.result.items) c.with_hasher.ensures.empty none;
+          no_places c.in_ok-places.places (map (λ (q : Bor (List ℕ)). q.now) c.new-3.result.items) c.in_ok-places.ensures.empty none;
     }
