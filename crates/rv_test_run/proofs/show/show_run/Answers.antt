@@ -1,0 +1,23 @@
+use Rattle.std.proofs.Common.{◌∙◌, ap, arith, length}
+use Rattle.rv_fleet.proofs.Public.{rising_few, rows_count}
+use Rattle.rv_lines.specs.LastLine.{last_line}
+use Rattle.rv_test_run.proofs.Sent.{told_behind}
+use Rattle.rv_test_run.proofs.show.show_run.Goals as goal
+
+pub put_last_line-requires : goal.put_last_line-requires
+put_last_line-requires g c =
+    let rows = c.as_slice.ensures ∙ rw c.in-Ok.is at c.stream_places-out.ensures.rows in
+    omega (
+      arith,
+      ap length rows,
+      rows_count c.args.plan.now c.args.places.now,
+      rising_few c.args.places.now _ c.requires.rising c.requires.within,
+      c.jobs-jobs.ensures.value,
+      c.jobs-jobs.ensures.few,
+    )
+
+pub returns-in-Err-put_last_line-clause-part : goal.returns-in-Err-put_last_line-clause-part
+returns-in-Err-put_last_line-clause-part g c =
+    let rows = c.as_slice.ensures ∙ rw c.in-Ok.is at c.stream_places-out.ensures.rows in
+    told_behind _ _ _ _ (last_line c.args.rule) _ _ rows (rw c.in-Ok.is at c.stream_places-out.ensures.all)
+    c.in-Err-put_last_line.ensures.part

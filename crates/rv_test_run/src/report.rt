@@ -1,0 +1,55 @@
+//! The report of the rows of chosen jobs.
+
+ghost use Rattle.std.specs.Prelude.{◌≡◌, ◌+◌, ◌<◌, ◌≤◌, ◌^◌, IfOk, OnErr, OnOk, length, map};
+ghost use Rattle.std.specs.Io.KnownBytes.{Appends};
+ghost use Rattle.std.specs.List.{All};
+ghost use Rattle.std.specs.List.Sorted.{IsStrictlyIncreasing};
+ghost use Rattle.rv_lists.specs.Jobs.{most_jobs};
+ghost use Rattle.rv_rows.specs.Sending.{AppendsBeginning};
+ghost use Rattle.rv_test_run.specs.Shown.{numbers_of, report_of};
+
+use rv_fleet::{Report, Rows, Sink, WriteError, write_report};
+use rv_reports::{Extent, Numbers, SavedReport, write_saved};
+use std::alloc::{AllocError, Global};
+
+/// Appends the report of the rows of the jobs at some places of a list of so many jobs: the whole report where these are
+/// all, else that of a choice. After an error a beginning of it is out.
+pub fn write_rows<W: Sink>(
+    alloc: Global,
+    jobs: usize,
+    places: &[usize],
+    rows: Rows,
+    out: &mut W,
+) -> Result<(), WriteError>
+    requires few { jobs ≤ most_jobs }
+    requires within { All (λ place. place < jobs) places.now }
+    requires rising { IsStrictlyIncreasing places.now }
+    requires counted { length rows ≡ length places.now }
+    ensures all { OnOk result
+        (Appends (W.taken out.old) (W.taken out.new) (report_of jobs places.now rows)) }
+    ensures counted { OnOk result (W.failed out.new ≡ W.failed out.old) }
+    ensures part { OnErr result
+        (AppendsBeginning (W.taken out.old) (W.taken out.new) (report_of jobs places.now rows)) }
+{
+    if places.len() == jobs {
+        return write_report(alloc, &Report { rows }, out);
+    }
+    let report = SavedReport {
+        extent: Extent::Choice(jobs as u32),
+        numbers: Numbers::new(numbers_of(alloc, places)?),
+        rows,
+    };
+    write_saved(alloc, &report, out)
+}
+
+// The numbers of the jobs at some places, from 1.
+fn numbers_of(alloc: Global, places: &[usize]) -> Result<Vec<u32>, AllocError>
+    requires { All (λ place. place < most_jobs) places.now }
+    ensures { IfOk result (λ numbers. numbers.items ≡ numbers_of places.now) }
+{
+    let mut numbers = Vec::new(alloc);
+    for at in 0..places.len() {
+        numbers.push(places[at] as u32 + 1)?;
+    }
+    Ok(numbers)
+}

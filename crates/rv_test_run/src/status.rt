@@ -1,0 +1,32 @@
+//! The status of rows.
+
+ghost use Rattle.std.specs.Prelude.{◌≡◌};
+ghost use Rattle.std.specs.List.{list_all};
+ghost use Rattle.rv_lines.specs.Passing.{has_passed};
+ghost use Rattle.rv_test_run.specs.Shown.{status_of};
+
+use rv_lines::{Rule, has_passed};
+use rv_rows::Row;
+
+/// The status where no job failed.
+pub const DONE: u8 = 0;
+
+/// The status where some job failed.
+pub const SOME_FAIL: u8 = 1;
+
+/// [`SOME_FAIL`] where some job failed, else [`DONE`].
+pub fn status_of(rule: Rule, rows: &[Row]) -> u8
+    ensures { result ≡ status_of rule rows.now }
+{
+    if have_passed(rule, rows) {
+        DONE
+    } else {
+        SOME_FAIL
+    }
+}
+
+fn have_passed(rule: Rule, rows: &[Row]) -> bool
+    ensures { result ≡ list_all (has_passed rule) rows.now }
+{
+    rows.iter().all(|row| has_passed(rule, row))
+}
