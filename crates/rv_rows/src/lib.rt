@@ -25,7 +25,9 @@ pub use law::{narrower_sets_only_refuse, parts_have_the_rows_of_the_whole};
 pub use outcome::{Loadable, Outcome, SignatureRange};
 pub use plan_rows::{console_bytes, next_row, reference_bytes, refusal_at, row_at, run_one};
 pub use recent::Recent;
-pub use report::{Report, Rows, WriteError, push_done, push_row, put_if_enough, put_text, write_report};
+pub use report::{
+    Report, Rows, WriteError, push_done, push_row, put_if_enough, put_text, write_report,
+};
 pub use row::{Refusal, Row, RowEnd, Verdict, Words};
 pub use signature_lines::{LINE, line_of};
 pub use sink::{Sink, SinkFailed, put_all};
