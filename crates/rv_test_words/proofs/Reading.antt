@@ -1,0 +1,46 @@
+-- What a parse that succeeds shows of the words: the subcommand and its values, and that no fault is found.
+use Rattle.std.proofs.Common.{◌≡◌, ◌∙◌, ap, subst, sym, [], List, Option, Some, None, option_map, option_and_then}
+use Rattle.std.specs.Option.{option_map_or}
+use Rattle.std.specs.Prelude.{Box}
+use Rattle.std.specs.Box.{box_value}
+use Rattle.clap.proofs.FaultLemmas.{first_fails, past}
+use Rattle.clap.specs.Simple.{subcommand_rows}
+use Rattle.clap.specs.Words.{App, HasKind, HasMatchesOf, Row, Text, fault_of, is_simple, kind_of, subcommand_of}
+use Rattle.clap.specs.Words.{subcommand_rows_of}
+use Rattle.clap.specs.declared.error.Error.{Error}
+use Rattle.clap.specs.declared.parser.matches.ArgMatches.{ArgMatches}
+use Rattle.clap.specs.declared.parser.matches.ArgMatches.TheViews.{out-SubCommand}
+use Rattle.clap.specs.declared.parser.matches.SubCommand.{SubCommand}
+use Rattle.rv_test_words.specs.Words.{asked_of, faults_in, faults_of, test_app, words_in}
+
+module _ {Z : Type 0} where
+  -- a subcommand that was met, by its name and its values
+  pub met : (sub : Option (Box SubCommand Z)) (name : Text) (rows : List Row)
+      → Some name ≡ option_map (λ b. (out-SubCommand (box_value b)).name.now) sub
+      → Some rows ≡ option_map (λ p. p.1) (subcommand_rows sub) → subcommand_rows sub ≡ Some (name, rows)
+  met None name rows named valued = cc
+  met (Some b) name rows named valued = cc
+
+-- a command that is this one, with its matches, has met the subcommand of the words
+pub entered : (app : App) (words : List Text) (found : ArgMatches) (name : Text) (rows : List Row) → app ≡ test_app
+    → HasMatchesOf app words found → subcommand_rows_of found ≡ Some (name, rows)
+    → subcommand_of test_app words ≡ Some (name, rows)
+entered app words found name rows is has here =
+    ap (λ a. subcommand_of a words) (sym is) ∙ sym (has (ap is_simple is)).1 ∙ here
+
+pub asks : (words : List Text) (name : Text) (rows : List Row) → subcommand_of test_app words ≡ Some (name, rows)
+    → words_in name rows ≡ asked_of words
+asks words name rows here = sym (ap (λ found. option_and_then (λ p. words_in p.0 p.1) found) here)
+
+-- where `clap` finds no fault, the faults are those of the subcommand
+pub faults : (words : List Text) (name : Text) (rows : List Row) → fault_of test_app words ≡ []
+    → subcommand_of test_app words ≡ Some (name, rows) → faults_in name rows ≡ faults_of words
+faults words name rows none here =
+    sym (past (fault_of test_app words) _ none
+    ∙ ap (λ found. option_map_or (λ p. faults_in p.0 p.1) found []) here)
+
+-- an error of a fault that `clap` finds is one of the faults
+pub refused : (app : App) (words : List Text) (error : Error) → app ≡ test_app → HasKind (fault_of app words) error
+    → HasKind (faults_of words) error
+refused app words error is has =
+    first_fails (fault_of test_app words) _ (kind_of error) (subst (λ a. HasKind (fault_of a words) error) is has)

@@ -1,0 +1,247 @@
+//! Words that are refused, with what is said of them, help and the version, and what good words ask for.
+use clap::error::ErrorKind;
+use rv_test_words::{Asked, RunAsked, read_words, refusal, run_command};
+use std::alloc::{AllocError, Global};
+use std::test::Fail;
+
+fn cell(line: &str, place: usize) -> &str {
+    line.split(" | ").nth(place).unwrap_or("").trim()
+}
+
+// The words of a line, and the program's name before them.
+fn words_of(alloc: Global, line: &str) -> Result<Vec<&str>, AllocError> {
+    let mut words = Vec::new(alloc);
+    words.push("/opt/bin/rvtest")?;
+    for word in line.split_whitespace() {
+        words.push(word)?;
+    }
+    Ok(words)
+}
+
+fn push_option(text: &mut String, name: &str, value: Option<&str>) -> Result<(), AllocError> {
+    match value {
+        Some(value) => write!(text, " {name}={value}"),
+        None => Ok(()),
+    }
+}
+
+fn push_flag(text: &mut String, name: &str, is_there: bool) -> Result<(), AllocError> {
+    if is_there {
+        write!(text, " {name}")
+    } else {
+        Ok(())
+    }
+}
+
+fn run_text(alloc: Global, run: &RunAsked<'_>) -> Result<String, AllocError> {
+    let (list, group) = (run.list, run.group);
+    let mut text = format!(in alloc; "run {list} group={group}")?;
+    if let Some(workers) = run.workers {
+        write!(text, " workers={workers}")?;
+    }
+    for name in &run.only {
+        push_option(&mut text, "only", Some(name))?;
+    }
+    push_option(&mut text, "match", run.pattern)?;
+    push_option(&mut text, "failed", run.failed)?;
+    push_option(&mut text, "root", run.root)?;
+    push_option(&mut text, "report", run.report)?;
+    push_flag(&mut text, "lenient", run.lenient)?;
+    push_flag(&mut text, "verbose", run.verbose)?;
+    push_flag(&mut text, "quiet", run.quiet)?;
+    Ok(text)
+}
+
+fn asked_text(alloc: Global, asked: &Asked<'_>) -> Result<String, AllocError> {
+    match asked {
+        Asked::Run(run) => run_text(alloc, run),
+        Asked::Check(check) => {
+            let mut text = String::from_str(alloc, "check ")?;
+            text.push_str(check.list)?;
+            push_option(&mut text, "root", check.root)?;
+            Ok(text)
+        }
+    }
+}
+
+// What the words of a line ask for; else the kind of the error, and on the lines behind it what it says.
+fn answer(alloc: Global, line: &str) -> Result<String, Fail> {
+    let words = words_of(alloc, line)?;
+    match read_words(alloc, words.as_slice()) {
+        Ok(Some(asked)) => Ok(asked_text(alloc, &asked)?),
+        Ok(None) => Ok(String::from_str(alloc, "nothing")?),
+        Err(error) => {
+            let kind = error.kind();
+            Ok(format!(in alloc; "{kind:?}\n{error}")?)
+        }
+    }
+}
+
+const GOOD_WORDS: &str = "\
+run a.toml | run a.toml group=1
+run a.toml --workers 1 --group 4096 | run a.toml group=4096 workers=1
+run --workers=64 a.toml --report - | run a.toml group=1 workers=64 report=-
+run a.toml --only uart --match ^u.*$ --only=--x --failed old.txt \
+| run a.toml group=1 only=uart only=--x match=^u.*$ failed=old.txt
+run --root /srv/fw --lenient --verbose -- -odd.toml | run -odd.toml group=1 root=/srv/fw lenient verbose
+run a.toml --quiet --report out/report.txt | run a.toml group=1 report=out/report.txt quiet
+run run --only check | run run group=1 only=check
+check a.toml | check a.toml
+check --root fw a.toml | check a.toml root=fw";
+
+#[test]
+fn good_words(rt: HostRuntime) -> Result<(), Fail> {
+    for line in GOOD_WORDS.lines() {
+        let answer = answer(rt.alloc(), cell(line, 0))?;
+        assert_eq!(rt; answer.as_str(), cell(line, 1), "{line}");
+    }
+    Ok(())
+}
+
+// The words, the kind of the error, and what it says among other things. The second line has no words.
+const BAD_WORDS: &str = "\
+help | InvalidSubcommand | 'help' | Usage: rvtest <COMMAND>
+ | MissingSubcommand | 'rvtest' requires a subcommand | run, check | Usage: rvtest <COMMAND>
+walk a.toml | InvalidSubcommand | 'walk' | Usage: rvtest <COMMAND>
+runn a.toml | InvalidSubcommand | 'runn' | 'run'
+a.toml | InvalidSubcommand | 'a.toml' | Usage: rvtest <COMMAND>
+--verbose | UnknownArgument | '--verbose'
+run | MissingRequiredArgument | <LIST> | Usage: rvtest run
+run --quiet | MissingRequiredArgument | <LIST> | Usage: rvtest run
+run a.toml more | UnknownArgument | 'more' | Usage: rvtest run
+run a.toml --verbos | UnknownArgument | '--verbos' | '--verbose' | Usage: rvtest run
+run a.toml --job x | UnknownArgument | '--job' | Usage: rvtest run
+run a.toml -q | UnknownArgument | '-q'
+run a.toml --shard 1/2 | UnknownArgument | '--shard'
+run a.toml --version | UnknownArgument | '--version'
+run a.toml --workers 0 | ValueValidation | '0' | '--workers <N>' | 1..=64
+run a.toml --workers 65 | ValueValidation | '65' | '--workers <N>' | 1..=64
+run a.toml --workers -1 | UnknownArgument | '-1'
+run a.toml --workers=-1 | ValueValidation | '-1' | '--workers <N>' | 1..=64
+run a.toml --workers many | ValueValidation | 'many' | '--workers <N>'
+run a.toml --group 0 | ValueValidation | '0' | '--group <N>' | 1..=4096
+run a.toml --group 4097 | ValueValidation | '4097' | '--group <N>' | 1..=4096
+run a.toml --workers | InvalidValue | '--workers <N>'
+run a.toml --only | InvalidValue | '--only <NAME>'
+run a.toml --match --quiet | InvalidValue | '--match <REGEX>'
+run a.toml --report | InvalidValue | '--report <FILE>'
+run a.toml --root a --root b | ArgumentConflict | '--root <DIR>' | multiple times
+run a.toml --quiet --quiet | ArgumentConflict | '--quiet' | multiple times
+run a.toml --quiet=yes | TooManyValues | 'yes' | '--quiet'
+run a.toml --verbose --quiet | ArgumentConflict | '--verbose' cannot be used with '--quiet' \
+| Usage: rvtest run [OPTIONS] <LIST>
+run --quiet a.toml --verbose | ArgumentConflict | '--verbose' cannot be used with '--quiet'
+check | MissingRequiredArgument | <LIST> | Usage: rvtest check
+check a.toml --workers 2 | UnknownArgument | '--workers' | Usage: rvtest check
+check a.toml b.toml | UnknownArgument | 'b.toml'";
+
+// Whether an answer is of the kind that a line has, and says all that stands behind it in the line.
+fn is_said(answer: &str, line: &str) -> bool {
+    let (kind, message) = answer.split_once('\n').unwrap_or((answer, ""));
+    let help = "\n\nFor more information, try '--help'.\n";
+    kind == cell(line, 1)
+        && message.starts_with("error: ")
+        && message.ends_with(help)
+        && line
+            .split(" | ")
+            .skip(2)
+            .all(|text| message.contains(text.trim()))
+}
+
+#[test]
+fn bad_words(rt: HostRuntime) -> Result<(), Fail> {
+    for line in BAD_WORDS.lines() {
+        let answer = answer(rt.alloc(), cell(line, 0))?;
+        assert!(rt; is_said(&answer, line), "{line}: {answer}");
+    }
+    Ok(())
+}
+
+const HELP: &str = "\
+DisplayHelp
+Runs lists of firmware tests, and says what failed and why
+
+Usage: rvtest <COMMAND>
+
+Commands:
+  run    Runs the jobs of a list, and shows each that fails
+  check  Says all that is wrong with a list and its files, and runs nothing
+
+Options:
+  -h, --help     Print help
+  -V, --version  Print version
+";
+
+const RUN_HELP: &str = "\
+DisplayHelp
+Runs the jobs of a list, and shows each that fails
+
+Usage: rvtest run [OPTIONS] <LIST>
+
+Arguments:
+  <LIST>  Path of the job list
+
+Options:
+      --only <NAME>      Chooses the job of this name; may come again
+      --match <REGEX>    Chooses the jobs in whose names it is found
+      --failed <REPORT>  Chooses the jobs that failed in a report
+      --workers <N>      Threads, from 1 to 64; else one a processor
+      --group <N>        Jobs that a thread takes at once, from 1 to 4096 [default: 1]
+      --root <DIR>       Takes the paths in the list from this folder
+      --report <FILE>    Writes the report to this file; - is standard output
+      --lenient          Counts as failed only what misses an expectation
+      --verbose          Shows the jobs that pass, too; not beside --quiet
+      --quiet            Shows the last line alone; not beside --verbose
+  -h, --help             Print help
+";
+
+const CHECK_HELP: &str = "\
+DisplayHelp
+Says all that is wrong with a list and its files, and runs nothing
+
+Usage: rvtest check [OPTIONS] <LIST>
+
+Arguments:
+  <LIST>  Path of the job list
+
+Options:
+      --root <DIR>  Takes the paths in the list from this folder
+  -h, --help        Print help
+";
+
+const VERSION: &str = "DisplayVersion\nrvtest 1.0.0\n";
+
+#[test]
+fn help_and_version(rt: HostRuntime) -> Result<(), Fail> {
+    let shown = [
+        ("--help", HELP),
+        ("-h", HELP),
+        ("run --help", RUN_HELP),
+        ("run a.toml --verbose -h", RUN_HELP),
+        ("check --help", CHECK_HELP),
+        ("--version", VERSION),
+        ("-V", VERSION),
+    ];
+    for (words, wanted) in shown {
+        assert_eq!(rt; answer(rt.alloc(), words)?.as_str(), wanted, "{words}");
+    }
+    Ok(())
+}
+
+const BAD_REGEX: &str = "\
+error: invalid value '(' for '--match <REGEX>': a group is not closed
+
+Usage: rvtest run [OPTIONS] <LIST>
+
+For more information, try '--help'.
+";
+
+#[test]
+fn refuses_in_the_same_form(rt: HostRuntime) -> Result<(), Fail> {
+    let alloc = rt.alloc();
+    let text = "invalid value '(' for '--match <REGEX>': a group is not closed";
+    let error = refusal(run_command(alloc)?, ErrorKind::ValueValidation, text);
+    assert_eq!(rt; error.kind(), ErrorKind::ValueValidation);
+    assert_eq!(rt; format!(in alloc; "{error}")?.as_str(), BAD_REGEX);
+    Ok(())
+}
