@@ -123,7 +123,7 @@ fn saves_files(rt: HostRuntime) -> Result<(), Fail> {
         for word in cell(line, 4).split_whitespace() {
             assert!(rt; is_there(&rt, &folder, word)?, "{line}: {word}");
         }
-        fs::remove_dir_all(&rt, rt.alloc(), folder.as_str())?;
+        fs::remove_dir_all(&rt, folder.as_str())?;
     }
     assert!(rt;
         matches!(
