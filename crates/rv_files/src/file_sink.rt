@@ -9,7 +9,7 @@ use crate::places::{Places, places_of};
 use crate::streams::StreamSink;
 use rv_rows::{Sink, SinkFailed};
 use std::alloc::{AllocError, Global};
-use std::fs::{OpenFile, OpenOptions};
+use std::fs::{self, OpenFile, OpenOptions};
 use std::io::{self, ErrorKind};
 use std::rt::Files;
 
@@ -63,6 +63,7 @@ impl<'a, R: Files> FileSink<'a, R> {
         ensures { IfOk result (λ sink. sink.stream.failures ≡ 0) }
     {
         let places = places_of(files, alloc, path)?;
+        let _streams = (nothing(files), nothing(files), nothing(files));
         let file = match &places {
             Some(places) => open_anew(files, places.new.as_str())?,
             None => OpenOptions::new().write(true).open(files, path)?,
@@ -99,6 +100,12 @@ impl<'a, R: Files> FileSink<'a, R> {
             let _ = self.files.remove_file(places.new.as_str());
         }
     }
+}
+
+// A file that is open. Three of them take the places of standard streams that are closed, so that the file which is
+// opened behind them takes none, and what goes to the streams is not written to it.
+fn nothing<R: Files>(files: &R) -> io::Result<R::File> {
+    fs::open(files, "/dev/null")
 }
 
 // A new file: what stands at its path gives way.

@@ -98,38 +98,39 @@ report=old | report/ | finish | NotADirectory | report=old
 null>/dev/null | null | finish | done | null>/dev/null ~/dev/null !null.new !/dev/null.new
 | /dev/full | finish | Other | ~/dev/full !/dev/full.new";
 
-fn answer(rt: &HostRuntime, folder: &str, line: &str) -> Result<String, Fail> {
-    let path = path_in(rt.alloc(), folder, cell(line, 1))?;
-    match write(rt, &path, cell(line, 2)) {
+// How writing a file ended.
+fn answer(rt: &HostRuntime, path: &str, end: &str) -> Result<String, Fail> {
+    match write(rt, path, end) {
         Ok(()) => Ok(String::from_str(rt.alloc(), "done")?),
         Err(FileError::Failed(reason)) => Ok(format!(in rt.alloc(); "{reason:?}")?),
         Err(FileError::OutOfMemory) => Err("no memory".into()),
     }
 }
 
+// The answer for a line, in a folder of its own, and each word of what is to be there then and is not.
+fn answer_and_missing(rt: &HostRuntime, folder: &str, line: &str) -> Result<String, Fail> {
+    fs::create_dir(rt, folder)?;
+    for word in cell(line, 0).split_whitespace() {
+        put_there(rt, folder, word)?;
+    }
+    let path = path_in(rt.alloc(), folder, cell(line, 1))?;
+    let mut text = answer(rt, &path, cell(line, 2))?;
+    for word in cell(line, 4).split_whitespace() {
+        if !is_there(rt, folder, word)? {
+            write!(text, ", but {word}")?;
+        }
+    }
+    fs::remove_dir_all(rt, folder)?;
+    Ok(text)
+}
+
 #[test]
 fn saves_files(rt: HostRuntime) -> Result<(), Fail> {
     for (at, line) in SAVED.lines().enumerate() {
-        let folder = format!(in rt.alloc(); "{at}")?;
-        fs::create_dir(&rt, folder.as_str())?;
-        for word in cell(line, 0).split_whitespace() {
-            put_there(&rt, &folder, word)?;
-        }
-        assert_eq!(rt;
-            answer(&rt, &folder, line)?.as_str(),
-            cell(line, 3),
-            "{line}"
-        );
-        for word in cell(line, 4).split_whitespace() {
-            assert!(rt; is_there(&rt, &folder, word)?, "{line}: {word}");
-        }
-        fs::remove_dir_all(&rt, folder.as_str())?;
+        let folder = format!(in rt.alloc(); "saved{at}")?;
+        let text = answer_and_missing(&rt, &folder, line)?;
+        assert_eq!(rt; text.as_str(), cell(line, 3), "{line}");
     }
-    assert!(rt;
-        matches!(
-            &write(&rt, "", "finish"),
-            Err(FileError::Failed(io::ErrorKind::NotFound))
-        )
-    );
+    assert_eq!(rt; answer(&rt, "", "finish")?.as_str(), "NotFound");
     Ok(())
 }
