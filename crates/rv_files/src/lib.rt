@@ -1,16 +1,19 @@
-//! The system's files as a store, and the process's streams as sinks.
+//! The system's files as a store, and the process's streams and files that are written as sinks.
 //!
 //! What the world outside holds is not known, so contracts speak of any reader and any writer:
 //! [`read_at_most`] and [`read_whole`] give what a reader has, and a [`StreamSink`] puts what its
 //! writer takes. [`FileStore`] opens a file and reads it by these; a [`NotingStore`] notes why a file
-//! was unreadable, too.
+//! was unreadable, too. A [`FileSink`] writes a file that is there whole in the end, or not at all.
 #![tactic(auto)]
 
+mod file_sink;
 mod files;
 mod input;
 mod noting;
+mod places;
 mod streams;
 
+pub use file_sink::{FileError, FileSink};
 pub use files::{FileStore, WholeError, read_whole};
 pub use input::{InputError, read_at_most};
 pub use noting::{NotingStore, Unread};

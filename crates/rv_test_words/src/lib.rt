@@ -1,7 +1,7 @@
 //! The words of `rvtest`: what a person asks for, read by `clap`.
 //!
-//! [`read_words`] reads the words of a process. Its error is `clap`'s own, or has the form of those; help and the version are
-//! errors, too. [`refusal`] makes an error of that form for what `clap` does not find, as a bad regular expression.
+//! [`read_words`] reads the words of a process. Its error is `clap`'s own, or has the form of those; help and the version
+//! are errors, too. [`refusal`] makes an error of that form for what `clap` does not find, as a bad regular expression.
 #![tactic(auto)]
 
 mod arguments;

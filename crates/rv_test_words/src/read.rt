@@ -16,7 +16,7 @@ use std::alloc::{AllocError, Global};
 use std::convert::AsStr;
 
 /// Reads words, the first of which is the program's name. `None` stands where words ask for nothing. An error is `clap`'s
-/// own, but for `--verbose` beside `--quiet`; help and the version are errors, of the kinds DisplayHelp and DisplayVersion.
+/// own, but for `--verbose` beside `--quiet`. Help and the version are errors, too: DisplayHelp and DisplayVersion.
 pub fn read_words<'a, T: AsStr>(alloc: Global, words: &'a [T]) -> Result<Option<Asked<'a>>, Error>
     // What is read is what the words ask for.
     ensures value { IfOk result

@@ -1,0 +1,10 @@
+-- Why a file is not written.
+use Rattle.std.specs.declared.io.ErrorKind.{ErrorKind}
+use Rattle.std.specs.declared.io.ErrorKind.TheVariants as kind
+use Rattle.rv_files.specs.declared.file_sink.FileError.{FileError}
+use Rattle.rv_files.specs.declared.file_sink.FileError.TheVariants.{OutOfMemory, Failed}
+
+-- the error for what the system said
+abbrev pub error_for : ErrorKind → FileError
+error_for kind.OutOfMemory = OutOfMemory
+error_for reason = Failed reason
