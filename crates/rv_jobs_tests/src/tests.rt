@@ -1,5 +1,6 @@
 //! Lists of jobs by the lines of tables: which list is made, what it is asked, and what it answers.
 use rv_jobs::{JobList, read_jobs};
+use rv_lists::read_faults;
 use samples::cell_of;
 use std::alloc::{AllocError, Global};
 use std::process::Abort;
@@ -75,16 +76,27 @@ fn fault(alloc: Global, list: &[u8]) -> Result<String, AllocError> {
     format!(in alloc; "job {job}: {name}")
 }
 
+// The first fault of each bad job, or that of the whole list.
+fn all_faults(alloc: Global, list: &str) -> Result<String, Fail> {
+    let mut told = String::new(alloc);
+    for error in read_faults(alloc, list.as_bytes())?.as_slice() {
+        let (job, name) = (error.job, error.what.name());
+        write!(told, "job {job}: {name}, ")?;
+    }
+    Ok(String::from_str(alloc, told.as_str().trim())?)
+}
+
 fn count(alloc: Global, list: &str) -> Result<String, Fail> {
     let count = jobs_of(alloc, list)?.as_slice().len();
     Ok(format!(in alloc; "{count} jobs")?)
 }
 
-// What a list answers to `fault`, `count`, `job PLACE` or `plan CHOICE`.
+// What a list answers to `fault`, `faults`, `count`, `job PLACE` or `plan CHOICE`.
 fn answer(alloc: Global, ask: &str, list: &str) -> Result<String, Fail> {
     let (verb, rest) = ask.split_once(' ').unwrap_or((ask, ""));
     match verb {
         "fault" => Ok(fault(alloc, list.as_bytes())?),
+        "faults" => all_faults(alloc, list),
         "count" => count(alloc, list),
         "job" => jobs::told_at(alloc, list, rest.parse::<usize>()?),
         "plan" => plans::told_of(alloc, list, rest),

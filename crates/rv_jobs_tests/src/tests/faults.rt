@@ -152,6 +152,17 @@ name = 'a', image = 'b', budget = 1000000000 | good
 name = 'a', image = 'b', budget = 1000000001 | job 1: budget
 name = 'a', image = 'b', budget = '3' | job 1: wrong-type";
 
+// Rows of a list, and the first fault of each bad job of it, each behind which a comma stands.
+const ALL: &str = "\
+job = [{ name = 'a', image = 'b', budget = 3 }] |
+x = 1 | job 0: no-jobs,
+job = [{}, { x = 1 }, 5, { name = 'a', image = 'b', budget = 3 }] | job 1: name, job 2: unknown-key, job 3: wrong-type,
+job = [{ name = 'a' }, { name = 'a', image = 'b', budget = 3 }] | job 1: image, job 2: duplicate,
+job = [{ name = 'a' }, { name = 'b', image = 'b', budget = 3, same_as = 'a' }] | job 1: image,
+job = [{ name = 'a' }, { name = 'a' }, { name = 'b', image = '' }] | job 1: image, job 2: duplicate, job 3: image,
+job = [{ name = 5 }, { name = '' }, { name = 'b', image = 'b', budget = 3, same_as = '' }] \
+    | job 1: wrong-type, job 2: name, job 3: same-as,";
+
 #[test]
 fn faults(rt: HostRuntime) -> Result<(), Fail> {
     let alloc = rt.alloc();
@@ -159,7 +170,8 @@ fn faults(rt: HostRuntime) -> Result<(), Fail> {
     check(&rt, alloc, "fault", "$", LISTS, 16)?;
     check(&rt, alloc, "fault", "x = 1\n$", STRAY, 3)?;
     check(&rt, alloc, "fault", "job = [{ $ }]", JOBS, 17)?;
-    check(&rt, alloc, "fault", keys, KEYS, 99)
+    check(&rt, alloc, "fault", keys, KEYS, 99)?;
+    check(&rt, alloc, "faults", "$", ALL, 7)
 }
 
 #[test]
