@@ -1,0 +1,14 @@
+use Rattle.std.proofs.Common.{◌≡◌, ◌∙◌, ap, true, false, sym}
+use Rattle.rv_lines.specs.Passing.{has_passed}
+use Rattle.rv_telling.specs.Telling.{is_told, told_of_row}
+use Rattle.rv_telling.proofs.Chains.{ended}
+use Rattle.rv_telling.proofs.row_telling.RowTelling.push_row.Goals as goal
+
+pub returns : goal.returns
+unfolding told_of_row
+returns c =
+    let failed : has_passed c.args.self.now.rule c.args.row.now ≡ false =
+    sym c.has_passed-passed.ensures ∙ c.if-passed.false in
+    let told : is_told c.args.self.now.verbosity false ≡ true =
+    ap (is_told c.args.self.now.verbosity) (sym c.if-passed.false) ∙ (sym c.is_told.ensures ∙ c.if-not-is_told.false) in
+    rw (failed, told) (ended _ _ _ _ _ _ c.in_ok-push_line.ensures c.push_behind.ensures)

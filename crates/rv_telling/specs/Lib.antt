@@ -1,0 +1,4 @@
+pub mod Files
+pub mod UnreadFiles
+pub mod Reasons
+pub mod Telling

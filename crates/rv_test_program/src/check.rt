@@ -1,0 +1,133 @@
+//! The command `check`.
+
+ghost use Rattle.std.specs.Prelude.{◌≤◌, ◌<◌, IfOk, length};
+
+use crate::list::{jobs_of, read_text, told_of_faults};
+use crate::messages::{REFUSED, put_out};
+use crate::stop::Stop;
+use crate::streams::Streams;
+use rv_files::{NotingStore, Unread};
+use rv_headers::job_lines;
+use rv_jobs::{Plan, gather};
+use rv_lines::{push_number, push_shown, push_text};
+use rv_lists::read_faults;
+use rv_rows::{Refusal, RowEnd, refusal_at};
+use rv_telling::reason_of;
+use rv_test_run::DONE;
+use rv_test_words::CheckAsked;
+use std::alloc::{AllocError, Global};
+use std::rt::Files;
+
+/// Says all that is wrong with a list, or with the files of its jobs, and runs nothing. The status is 2 where anything is.
+pub(crate) fn check<R: Files, S: Streams>(
+    files: &R,
+    alloc: Global,
+    streams: &S,
+    asked: CheckAsked<'_>,
+) -> Result<u8, Stop>
+    ensures { IfOk result (λ status. status ≤ 2) }
+{
+    let text = read_text(files, alloc, asked.list)?;
+    let faults = read_faults(alloc, text.as_slice())?;
+    if !faults.is_empty() {
+        let told = told_of_faults(alloc, asked.list, text.as_slice(), faults.as_slice())?;
+        put_out(streams, told.as_slice())?;
+        return Ok(REFUSED);
+    }
+    check_files(files, alloc, streams, asked, text.as_slice())
+}
+
+// Says which jobs of a list are refused for their files.
+fn check_files<R: Files, S: Streams>(
+    files: &R,
+    alloc: Global,
+    streams: &S,
+    asked: CheckAsked<'_>,
+    text: &[u8],
+) -> Result<u8, Stop>
+    ensures { IfOk result (λ status. status ≤ 2) }
+{
+    let jobs = jobs_of(alloc, asked.list, text)?;
+    let mut store = NotingStore::new(files, alloc, asked.root);
+    let plan = gather(alloc, jobs, &mut store)?;
+    let lines = lines_of(alloc, text)?;
+    let mut told = Vec::new(alloc);
+    let list = Listed {
+        path: asked.list,
+        lines: lines.as_slice(),
+        plan: &plan,
+        unread: store.unread(),
+    };
+    let refused = list.push_refused(alloc, &mut told)?;
+    push_counts(&mut told, plan.jobs(), refused)?;
+    put_out(streams, told.as_slice())?;
+    Ok(if refused == 0 { DONE } else { REFUSED })
+}
+
+fn lines_of(alloc: Global, text: &[u8]) -> Result<Vec<usize>, AllocError> {
+    match str::from_utf8(text) {
+        Ok(text) => job_lines(alloc, text),
+        Err(_) => Ok(Vec::new(alloc)),
+    }
+}
+
+// A list whose files were read, with the lines on which its jobs begin.
+#[derive(Clone, Copy)]
+struct Listed<'a> {
+    path: &'a str,
+    lines: &'a [usize],
+    plan: &'a Plan,
+    unread: &'a [Unread],
+}
+
+impl<'a> Listed<'a> {
+    // Appends a line for each job that is refused, and gives their number.
+    fn push_refused(&self, alloc: Global, told: &mut Vec<u8>) -> Result<usize, AllocError> {
+        let mut refused = 0usize;
+        for place in 0..self.plan.jobs() {
+            if let Some(why) = refusal_at(alloc, self.plan, place)? {
+                self.push_refusal(alloc, told, place, why)?;
+                refused = refused.saturating_add(1);
+            }
+        }
+        Ok(refused)
+    }
+
+    fn push_refusal(
+        &self,
+        alloc: Global,
+        told: &mut Vec<u8>,
+        place: usize,
+        why: Refusal,
+    ) -> Result<(), AllocError>
+        requires { place < length self.now.plan.now.jobs }
+    {
+        push_shown(told, self.path.as_bytes())?;
+        if let Some(line) = self.lines.get(place) {
+            push_text(told, ":")?;
+            push_number(told, *line as u64)?;
+        }
+        push_text(told, ": job ")?;
+        push_number(told, (place as u64).saturating_add(1))?;
+        push_text(told, " (")?;
+        push_text(told, self.plan.job(place).name.as_str())?;
+        push_text(told, "): refused ")?;
+        push_text(told, why.name())?;
+        let ending = RowEnd::Refused(why);
+        if let Some(reason) = reason_of(alloc, self.plan, self.unread, place, ending)? {
+            push_text(told, ": ")?;
+            push_shown(told, reason.as_slice())?;
+        }
+        push_text(told, "\n")
+    }
+}
+
+fn push_counts(told: &mut Vec<u8>, jobs: usize, refused: usize) -> Result<(), AllocError> {
+    push_number(told, jobs as u64)?;
+    push_text(told, " jobs, ")?;
+    if refused == 0 {
+        return push_text(told, "none refused\n");
+    }
+    push_number(told, refused as u64)?;
+    push_text(told, " refused\n")
+}

@@ -1,0 +1,85 @@
+//! The jobs that failed in a report.
+
+use crate::files::read_file;
+use crate::messages::{say, told_of};
+use crate::stop::Stop;
+use crate::streams::Streams;
+use rv_jobs::Job;
+use rv_lines::{Rule, has_passed, push_number, push_shown, push_text};
+use rv_reports::{ReadError, SavedReport, read_report};
+use rv_rows::Row;
+use std::alloc::{AllocError, Global};
+use std::rt::Files;
+
+/// The report at a path: a whole one, or that of a part of a list. It is read whatever its size.
+pub(crate) fn read_saved<R: Files>(
+    files: &R,
+    alloc: Global,
+    path: &str,
+) -> Result<SavedReport, Stop> {
+    let text = read_file(files, alloc, path, usize::MAX)?;
+    match read_report(alloc, text.as_slice()) {
+        Ok(report) => Ok(report),
+        Err(ReadError::OutOfMemory) => Err(Stop::OutOfMemory),
+        Err(ReadError::CutOff) => Err(Stop::Refused(told_of(
+            alloc,
+            path,
+            "the report is cut off",
+        )?)),
+        Err(ReadError::Line(line)) => Err(Stop::Refused(told_of_line(alloc, path, line)?)),
+    }
+}
+
+fn told_of_line(alloc: Global, path: &str, line: usize) -> Result<Vec<u8>, AllocError> {
+    let mut text = Vec::new(alloc);
+    push_text(&mut text, "rvtest: ")?;
+    push_shown(&mut text, path.as_bytes())?;
+    push_text(&mut text, ":")?;
+    push_number(&mut text, line as u64)?;
+    push_text(&mut text, ": no report has this line here\n")?;
+    Ok(text)
+}
+
+/// The names of the jobs that failed.
+pub(crate) fn failed_names(
+    alloc: Global,
+    rule: Rule,
+    rows: &[Row],
+) -> Result<Vec<&str>, AllocError> {
+    let mut names = Vec::new(alloc);
+    for row in rows {
+        if !has_passed(rule, row) {
+            names.push(row.name.as_str())?;
+        }
+    }
+    Ok(names)
+}
+
+/// Says of each of these names that no job has it any more.
+pub(crate) fn say_gone<S: Streams>(
+    alloc: Global,
+    streams: &S,
+    path: &str,
+    jobs: &[Job],
+    names: &[&str],
+) -> Result<(), AllocError> {
+    for name in names {
+        if !has_job(jobs, name) {
+            let mut text = Vec::new(alloc);
+            push_text(&mut text, "rvtest: ")?;
+            push_shown(&mut text, path.as_bytes())?;
+            push_text(&mut text, ": job ")?;
+            push_text(&mut text, name)?;
+            push_text(
+                &mut text,
+                " failed there, and is no job of the list any more\n",
+            )?;
+            say(streams, text.as_slice());
+        }
+    }
+    Ok(())
+}
+
+fn has_job(jobs: &[Job], name: &str) -> bool {
+    jobs.iter().any(|job| job.name.as_str() == name)
+}

@@ -1,0 +1,87 @@
+//! What goes to standard error, and the statuses.
+
+ghost use Rattle.std.specs.Prelude.{◌≡◌, ◌≤◌};
+
+use crate::stop::Stop;
+use crate::streams::Streams;
+use clap::Error;
+use clap::error::ErrorKind;
+use rv_files::StreamSink;
+use rv_fleet::put_all;
+use rv_lines::{push_shown, push_text};
+use rv_test_run::DONE;
+use std::alloc::{AllocError, Global};
+
+/// The status where words, a list or a report are refused.
+pub(crate) const REFUSED: u8 = 2;
+
+/// The status where the system failed.
+pub(crate) const FAILED: u8 = 3;
+
+/// A line that says what is wrong with what stands at a path.
+pub(crate) fn told_of(alloc: Global, path: &str, what: &str) -> Result<Vec<u8>, AllocError> {
+    let mut line = Vec::new(alloc);
+    push_text(&mut line, "rvtest: ")?;
+    push_shown(&mut line, path.as_bytes())?;
+    push_text(&mut line, ": ")?;
+    push_text(&mut line, what)?;
+    push_text(&mut line, "\n")?;
+    Ok(line)
+}
+
+/// Puts a text to standard error. Where that fails nothing changes.
+pub(crate) fn say<S: Streams>(streams: &S, text: &[u8]) {
+    let _ = put_all(&mut StreamSink::new(streams.errors()), text);
+}
+
+/// Puts a text to standard output.
+pub(crate) fn put_out<S: Streams>(streams: &S, text: &[u8]) -> Result<(), Stop> {
+    match put_all(&mut StreamSink::new(streams.out()), text) {
+        Ok(()) => Ok(()),
+        Err(_) => Err(Stop::WriteFailed),
+    }
+}
+
+/// Says why a command ended before its work was done, and gives the status.
+pub(crate) fn stopped<S: Streams>(alloc: Global, streams: &S, stop: Stop) -> u8
+    ensures { result ≤ 3 }
+{
+    match stop {
+        Stop::Words(error) => words_status(alloc, streams, &error),
+        Stop::Refused(text) => {
+            say(streams, text.as_slice());
+            REFUSED
+        }
+        Stop::Failed(text) => failed(streams, text.as_slice()),
+        Stop::OutOfMemory => failed(streams, b"rvtest: out of memory\n"),
+        Stop::NoWorker => failed(streams, b"rvtest: no thread could be started\n"),
+        Stop::WriteFailed => failed(streams, b"rvtest: the results: write failed\n"),
+    }
+}
+
+fn failed<S: Streams>(streams: &S, text: &[u8]) -> u8
+    ensures { result ≡ FAILED }
+{
+    say(streams, text);
+    FAILED
+}
+
+// Help and the version go to standard output, and are no refusals.
+fn words_status<S: Streams>(alloc: Global, streams: &S, error: &Error) -> u8
+    ensures { result ≤ 3 }
+{
+    if error.kind() == ErrorKind::OutOfMemory {
+        return failed(streams, b"rvtest: out of memory\n");
+    }
+    let Ok(text) = error.to_string(alloc) else {
+        return failed(streams, b"rvtest: out of memory\n");
+    };
+    if error.use_stderr() {
+        say(streams, text.as_bytes());
+        return REFUSED;
+    }
+    match put_out(streams, text.as_bytes()) {
+        Ok(()) => DONE,
+        Err(_) => failed(streams, b"rvtest: the results: write failed\n"),
+    }
+}

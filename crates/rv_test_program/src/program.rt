@@ -1,0 +1,64 @@
+//! The whole program, over a runtime and streams.
+
+ghost use Rattle.std.specs.Prelude.{◌≤◌, IfOk};
+
+use crate::check::check;
+use crate::messages::{FAILED, REFUSED, say, stopped};
+use crate::run::run;
+use crate::stop::Stop;
+use crate::streams::Streams;
+use rv_test_words::{Asked, read_words};
+use std::alloc::Global;
+use std::convert::AsStr;
+use std::io::{self, ErrorKind};
+use std::rt::Files;
+use std::sync::Wait;
+use std::thread::Threads;
+use std::time::Clock;
+
+/// Answers words, the first of which is the program's name, with the status of the program.
+pub fn run_test_words<'a, R: Threads + Wait + Sync + Files + Clock, T: AsStr, S: Streams>(
+    rt: &R,
+    alloc: Global,
+    words: &'a [T],
+    streams: &S,
+) -> u8
+    ensures { result ≤ 3 }
+{
+    match answer(rt, alloc, words, streams) {
+        Ok(status) => status,
+        Err(stop) => stopped(alloc, streams, stop),
+    }
+}
+
+fn answer<'a, R: Threads + Wait + Sync + Files + Clock, T: AsStr, S: Streams>(
+    rt: &R,
+    alloc: Global,
+    words: &'a [T],
+    streams: &S,
+) -> Result<u8, Stop>
+    ensures { IfOk result (λ status. status ≤ 2) }
+{
+    match read_words(alloc, words) {
+        Ok(Some(Asked::Run(asked))) => run(rt, alloc, streams, &asked),
+        Ok(Some(Asked::Check(asked))) => check(rt, alloc, streams, asked),
+        Ok(None) => Ok(REFUSED),
+        Err(error) => Err(Stop::Words(error)),
+    }
+}
+
+/// The status of words that the process doesn't give: words that aren't UTF-8 are refused.
+pub fn unread_status<S: Streams>(error: &io::Error, streams: &S) -> u8
+    ensures { result ≤ 3 }
+{
+    match error.kind() {
+        ErrorKind::OutOfMemory => {
+            say(streams, b"rvtest: out of memory\n");
+            FAILED
+        }
+        _ => {
+            say(streams, b"rvtest: a word is no UTF-8 text\n");
+            REFUSED
+        }
+    }
+}

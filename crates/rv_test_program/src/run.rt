@@ -1,0 +1,196 @@
+//! The command `run`.
+
+ghost use Rattle.std.specs.Prelude.{◌≡◌, ◌≤◌, ◌<◌, IfOk, length};
+ghost use Rattle.std.specs.List.Sorted.{IsStrictlyIncreasing};
+ghost use Rattle.rv_fleet.specs.Choices.{AreWithin};
+ghost use Rattle.rv_jobs.specs.Choices.{marked};
+ghost use Rattle.rv_rows.specs.Rows.{rows_at};
+ghost use Rattle.rv_test_program.specs.Runs.{IsStatusOf};
+
+use crate::choosing::marks_asked;
+use crate::list::{jobs_of, read_text};
+use crate::report::ReportTo;
+use crate::stop::Stop;
+use crate::streams::Streams;
+use rv_files::{NotingStore, StreamSink};
+use rv_fleet::Rows;
+use rv_jobs::{JobList, Plan, gather_places, marked_places};
+use rv_lines::Rule;
+use rv_progress::{CountingTelling, Progress, TerminalSink};
+use rv_telling::{RowTelling, Verbosity};
+use rv_test_run::{DONE, show_run, status_of};
+use rv_test_words::RunAsked;
+use std::alloc::Global;
+use std::io::Write;
+use std::rt::Files;
+use std::sync::Wait;
+use std::thread::{self, Threads};
+use std::time::Clock;
+
+/// Runs the jobs that are asked for, shows them, and writes their report. The status is 1 where one of them failed.
+pub(crate) fn run<R: Threads + Wait + Sync + Files + Clock, S: Streams>(
+    rt: &R,
+    alloc: Global,
+    streams: &S,
+    asked: &RunAsked<'_>,
+) -> Result<u8, Stop>
+    ensures { IfOk result (λ status. status ≤ 1) }
+{
+    let rule = if asked.lenient {
+        Rule::Lenient
+    } else {
+        Rule::Strict
+    };
+    let text = read_text(rt, alloc, asked.list)?;
+    let jobs = jobs_of(alloc, asked.list, text.as_slice())?;
+    match marks_asked(rt, alloc, streams, asked, rule, jobs.as_slice())? {
+        Some(marks) => run_marked(rt, alloc, streams, asked, rule, jobs, marks.as_slice()),
+        None => Ok(DONE),
+    }
+}
+
+// Runs the jobs that are marked. The files are read, and the report is opened, before the first of them runs.
+fn run_marked<R: Threads + Wait + Sync + Files + Clock, S: Streams>(
+    rt: &R,
+    alloc: Global,
+    streams: &S,
+    asked: &RunAsked<'_>,
+    rule: Rule,
+    jobs: JobList,
+    marks: &[bool],
+) -> Result<u8, Stop>
+    requires { length marks.now ≡ length jobs }
+    ensures { IfOk result (IsStatusOf rule jobs marks.now) }
+{
+    let places = marked_places(alloc, marks)?;
+    let needed = marked_places(alloc, marks)?;
+    let mut store = NotingStore::new(rt, alloc, asked.root);
+    let plan = gather_places(alloc, jobs, needed, &mut store)?;
+    let telling = RowTelling {
+        plan: &plan,
+        unread: store.unread(),
+        rule,
+        verbosity: verbosity_of(asked),
+    };
+    let report = ReportTo::open(rt, alloc, asked.report)?;
+    let is_beside = report.is_out();
+    let rows = match show(
+        rt,
+        alloc,
+        streams,
+        asked,
+        &telling,
+        places.as_slice(),
+        is_beside,
+    ) {
+        Ok(rows) => rows,
+        Err(stop) => {
+            report.abandon();
+            return Err(stop);
+        }
+    };
+    let status = status_of(rule, rows.as_slice());
+    report.write(alloc, streams, plan.jobs(), places.as_slice(), rows)?;
+    Ok(status)
+}
+
+fn verbosity_of(asked: &RunAsked<'_>) -> Verbosity {
+    match (asked.verbose, asked.quiet) {
+        (_, true) => Verbosity::Quiet,
+        (true, false) => Verbosity::All,
+        (false, false) => Verbosity::Failures,
+    }
+}
+
+// Runs the jobs at some places, and shows them: on standard error where the report goes to standard output.
+fn show<R: Threads + Wait + Sync + Clock, S: Streams>(
+    rt: &R,
+    alloc: Global,
+    streams: &S,
+    asked: &RunAsked<'_>,
+    telling: &RowTelling<'_>,
+    places: &[usize],
+    is_beside: bool,
+) -> Result<Rows, Stop>
+    requires within { AreWithin telling.now.plan.now places.now }
+    requires rising { IsStrictlyIncreasing places.now }
+    ensures { IfOk result (λ rows. rows ≡ rows_at telling.now.plan.now places.now) }
+{
+    if is_beside {
+        let is_terminal = streams.is_errors_terminal();
+        show_on(
+            rt,
+            alloc,
+            streams,
+            asked,
+            telling,
+            places,
+            streams.errors(),
+            is_terminal,
+        )
+    } else {
+        let is_terminal = streams.is_out_terminal();
+        show_on(
+            rt,
+            alloc,
+            streams,
+            asked,
+            telling,
+            places,
+            streams.out(),
+            is_terminal,
+        )
+    }
+}
+
+// The same on a stream, and how far the run is on standard error.
+fn show_on<R: Threads + Wait + Sync + Clock, S: Streams, W: Write + Drop + Send>(
+    rt: &R,
+    alloc: Global,
+    streams: &S,
+    asked: &RunAsked<'_>,
+    telling: &RowTelling<'_>,
+    places: &[usize],
+    out: W,
+    is_terminal: bool,
+) -> Result<Rows, Stop>
+    requires within { AreWithin telling.now.plan.now places.now }
+    requires rising { IsStrictlyIncreasing places.now }
+    ensures { IfOk result (λ rows. rows ≡ rows_at telling.now.plan.now places.now) }
+{
+    let rule = telling.rule;
+    let errors = streams.errors();
+    let is_shown = streams.is_errors_terminal();
+    let progress = Progress::new(rt, places.len(), rule, errors, is_shown);
+    let counting = CountingTelling::new(rt, telling, &progress);
+    let sink = TerminalSink::new(rt, alloc, StreamSink::new(out), is_terminal, &progress);
+    let workers = workers_of(rt, asked);
+    let group = asked.group.clamp(1, 4_096);
+    let (sink, ran) = show_run(
+        rt,
+        alloc,
+        telling.plan,
+        places,
+        workers,
+        group,
+        rule,
+        &counting,
+        sink,
+    );
+    sink.into_inner();
+    progress.finish();
+    Ok(ran?)
+}
+
+// As many threads as are asked for, or as there are processors: from 1 to 64.
+fn workers_of<R: Threads>(rt: &R, asked: &RunAsked<'_>) -> u32
+    ensures { (0 < result) × (result ≤ 64) }
+{
+    match asked.workers {
+        Some(workers) => workers.clamp(1, 64),
+        None => match thread::available_parallelism(rt) {
+            Ok(count) => count.get().clamp(1, 64) as u32,
+            Err(_) => 1,
+        },
+    }
+}
