@@ -111,7 +111,7 @@ fn lines(rt: HostRuntime) -> Result<(), Fail> {
             .split(' ')
             .filter(|word| is_row(word))
             .count();
-        assert_eq!(rt; text.len(), 2 * rows, "{line}");
+        assert_eq!(rt; text.len(), rows.saturating_mul(2), "{line}");
     }
     Ok(())
 }
