@@ -34,7 +34,10 @@ const UNREAD: [(&str, ErrorKind); 17] = [
 /// are unreadable; and at every other path the image of the sample that the path names, with the symbols that stand
 /// behind an `@`.
 #[derive(Drop)]
-pub(crate) struct Samples;
+pub(crate) struct Samples {
+    /// How many paths were unreadable.
+    pub(crate) faults: u64,
+}
 
 fn image_of(alloc: Global, path: &str) -> Result<Vec<u8>, BadSample> {
     match path.split_once(" @ ") {
@@ -53,10 +56,11 @@ fn is_unread(path: &str) -> bool {
 impl Store for Samples {
     ghost contents = { λ _. None };
 
-    ghost faulted = { λ _. 0 };
+    ghost faulted = { λ samples. samples.faults };
 
     fn read(&mut self, alloc: Global, path: &str) -> Result<Vec<u8>, ReadError> {
         if is_unread(path) {
+            self.faults = self.faults.saturating_add(1);
             return Err(ReadError::Unreadable);
         }
         let bytes = match path {
@@ -74,7 +78,7 @@ impl Store for Samples {
     }
 
     fn faults(&self) -> u64 {
-        0
+        self.faults
     }
 }
 

@@ -21,7 +21,7 @@ fn plan_of(alloc: Global, keys: &str) -> Result<Plan, Fail> {
         "job = [{{name = 'a', image = 'one', budget = 9}}, {{name = 'b', {budget}{keys}}}]"
     )?;
     let jobs = read_jobs(alloc, text.as_bytes())?;
-    Ok(gather(alloc, jobs, &mut Samples)?)
+    Ok(gather(alloc, jobs, &mut Samples { faults: 0 })?)
 }
 
 pub(crate) fn verbosity_of(word: &str) -> Verbosity {
