@@ -41,7 +41,7 @@ impl<'a> Model for Answers<'a> {
 }
 
 impl<'a> Answers<'a> {
-    /// No answer, and room to find so many paths: a path is hashed once more for each growth.
+    /// No answer, and room to find so many paths.
     pub(crate) fn new(alloc: Global, room: usize) -> Result<Answers<'a>, AllocError>
         ensures { IfOk result (λ answers. answers ≡ []) }
     {
