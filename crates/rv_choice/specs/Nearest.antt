@@ -15,5 +15,6 @@ distance text jobs place =
 -- no name is nearer than that of the job at the place, and each before it is farther
 pub record IsNearest (jobs : List Job) (text : List ℕ) (place : ℕ) : Type 0 where
   pub within : place < length jobs
-  pub least : (other : ℕ) → other < length jobs → distance text jobs place ≤ distance text jobs other
+  pub least : (other : ℕ) → other < length jobs →
+      distance text jobs place ≤ distance text jobs other
   pub first : (other : ℕ) → other < place → distance text jobs place < distance text jobs other

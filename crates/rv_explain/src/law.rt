@@ -19,7 +19,8 @@ ghost use Rattle.rv_explain.specs.Unmet.{unmet_of};
 /// said, they are equal.
 pub fn differences_are_first()
     ensures { (xs ys : List ℕ)
-        → MatchOption (first_difference xs ys) (xs ≡ ys) (λ difference. IsDifference difference xs ys) }
+        → MatchOption (first_difference xs ys) (xs ≡ ys)
+        (λ difference. IsDifference difference xs ys) }
 {}
 
 /// A reference is read as words exactly where it is their lines. Else the first line is named that is not that of a
@@ -55,8 +56,8 @@ pub fn unmet_of_a_plan_is_what_does_not_hold()
     ensures told { (plan : Planned) (job : Job)
         → IsTrue (is_run (row_of plan job).ending)
         → AllByRecursion IsWord (words_or_none (row_of plan job).signature)
-        → TellsWhatDoesNotHold (unmet_in plan job (row_of plan job)) job (outcome_in plan.answers job)
-        (console_in plan.answers job) (reference_in plan.answers job) (other_in plan job) }
+        → TellsWhatDoesNotHold (unmet_in plan job (row_of plan job)) job
+        (outcome_in plan.answers job) (console_in plan.answers job) (reference_in plan.answers job) (other_in plan job) }
     ensures passes { (plan : Planned) (job : Job)
         → IsTrue (is_run (row_of plan job).ending)
         → AllByRecursion IsWord (words_or_none (row_of plan job).signature)

@@ -27,7 +27,8 @@ pub(crate) fn signature_difference(
     signature: &Option<Words>,
 ) -> Result<Option<SignatureDifference>, AllocError>
     ensures { IfOk result (λ difference. difference
-        ≡ signature_difference expected.now (option_map (λ bytes. bytes.now) reference.entry) signature.now) }
+        ≡ signature_difference expected.now (option_map (λ bytes. bytes.now) reference.entry)
+        signature.now) }
 {
     match (expected, reference) {
         (None, _) => Ok(None),

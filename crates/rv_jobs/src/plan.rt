@@ -134,7 +134,8 @@ impl Plan {
     pub fn reference(&self, i: usize) -> Option<&Kept>
         requires { i < length self.now.jobs }
         ensures { (d : AJob) → option_map (λ k. k.now) result
-            ≡ option_map (kept_for self.now.answers) (slice_index_or self.now.jobs i d).expect_signature }
+            ≡ option_map (kept_for self.now.answers)
+            (slice_index_or self.now.jobs i d).expect_signature }
     {
         match reference_path(self.job(i)) {
             Some(_) => Some(self.kept(self.found[i].reference)),

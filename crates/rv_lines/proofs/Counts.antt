@@ -1,7 +1,7 @@
 -- One row more, and one text more in brackets.
 use Rattle.std.proofs.Common.{◌≡◌, ◌∙◌, refl, sym, ap, ℕ, zero, suc, ◌+◌, ◌≤◌, ◌<◌, List, [], ◌∷◌, ◌++◌, length}
-use Rattle.std.proofs.Common.{Bool, true, false, cond, get_or, arith, eq-eqb, ne_eqb, zero-add, append-nil, append_assoc}
-use Rattle.std.proofs.Common.{◌==◌, set}
+use Rattle.std.proofs.Common.{Bool, true, false, cond, get_or, arith, eq-eqb, ne_eqb, zero-add, append-nil}
+use Rattle.std.proofs.Common.{append_assoc, ◌==◌, set}
 use Rattle.std.proofs.Common.{⊎_elim}
 use Rattle.std.specs.Prelude.{codes, count_by, not}
 use Rattle.std.specs.List.{flat_map}

@@ -26,7 +26,8 @@ shown_within-left room (suc left) (byte ∷ rest) =
     ap (λ xs. byte ∷ xs) (shown_within-left room left rest)
 
 -- a piece, and then what is made of the text behind it: for any such function of what is left and a text
-piece : (f : ℕ → List ℕ → List ℕ) → ((left : ℕ) (text : List ℕ) → f left text ≡ take left text ++ f 0 (drop left text)) →
+piece : (f : ℕ → List ℕ → List ℕ) →
+    ((left : ℕ) (text : List ℕ) → f left text ≡ take left text ++ f 0 (drop left text)) →
     (byte : ℕ) (rest : List ℕ) (count : ℕ) →
     cond (count == 0) (escape byte) (byte ∷ []) ++ f (count - 1) rest
     ≡ cond (count == 0) (escape byte) (take count (byte ∷ rest))

@@ -31,7 +31,8 @@ steps_text steps = codes " after " ++ decimal steps ++ codes " steps"
 
 -- how a run ended after so many steps, at a place, or why there is none
 unfoldable pub ending_text : RowEnd → ℕ → Option (List ℕ × ℕ) → Option (List ℕ) → List ℕ
-ending_text (ending.Exit code) steps place reason = codes "exit " ++ decimal code ++ steps_text steps
+ending_text (ending.Exit code) steps place reason =
+    codes "exit " ++ decimal code ++ steps_text steps
 ending_text (ending.Fault kind pc value) steps place reason =
     codes "fault " ++ fault_name kind ++ codes " at " ++ word_digits pc ++ place_text place
     ++ codes ", value " ++ word_digits value ++ codes "," ++ steps_text steps

@@ -1,13 +1,14 @@
--- Text that comes from files, as it is shown to a person: characters as they are; control characters, and bytes that are
--- of no character, each byte as a backslash, an x and two lower-case hexadecimal digits.
+-- Text that comes from files, as it is shown to a person: characters as they are; control characters,
+-- and bytes that are of no character, each byte as a backslash, an x and two lower-case hexadecimal
+-- digits.
 use Rattle.std.specs.Prelude.{◌==◌, ◌&&◌, ◌||◌, ◌+◌, ◌-◌, ℕ, zero, suc, Bool, List, [], ◌∷◌, ◌++◌}
 use Rattle.std.specs.Prelude.{if◌then◌else◌, nat_lt, not, codes, drop, length, take, slice_index}
 use Rattle.rv_lines.specs.declared.shown.TheConstants.{VALUE_ROOM}
 use Rattle.std.specs.Str.{continuation_len, is_utf8}
 use Rattle.hex.specs.Hex.{encode_lower}
 
--- whether a control character stands in front: below U+0020, U+007F, or U+0080 to U+009F, of which each has the bytes
--- 0xC2 and its number
+-- whether a control character stands in front: below U+0020, U+007F, or U+0080 to U+009F, of which
+-- each has the bytes 0xC2 and its number
 abbrev pub is_control : List ℕ → Bool
 is_control text = let first = slice_index text 0 in
     nat_lt first 0x20 || first == 0x7F || (first == 0xC2 && nat_lt (slice_index text 1) 0xA0)
@@ -16,7 +17,8 @@ is_control text = let first = slice_index text 0 in
 abbrev pub front_of : List ℕ → List ℕ
 front_of text = take (continuation_len (slice_index text 0) + 1) text
 
--- how many bytes in front are shown as they are: those of one character, if it is no control character
+-- how many bytes in front are shown as they are: those of one character, if it is no control
+-- character
 unfoldable pub plain_len : List ℕ → ℕ
 plain_len text =
     if is_utf8 (front_of text) && not (is_control text) then length (front_of text) else 0
@@ -40,7 +42,8 @@ shown_from (suc left) (byte ∷ rest) = byte ∷ shown_from left rest
 abbrev pub shown : List ℕ → List ℕ
 shown text = shown_from 0 text
 
--- how many characters the first byte of a text takes where it is shown: one for its character, or the four of an escape
+-- how many characters the first byte of a text takes where it is shown: one for its character, or the
+-- four of an escape
 abbrev pub first_width : List ℕ → ℕ
 first_width text = if plain_len text == 0 then 4 else 1
 

@@ -10,4 +10,5 @@ line_of message = shown message ++ 10 ∷ []
 -- behind what was there stand so many lines
 abbrev pub PutsLines : ℕ → List ℕ → List ℕ → Type 0
 PutsLines count before after =
-    (messages : List (List ℕ)) × (length messages ≡ count) × (after ≡ before ++ flat_map line_of messages)
+    (messages : List (List ℕ)) × (length messages ≡ count)
+    × (after ≡ before ++ flat_map line_of messages)

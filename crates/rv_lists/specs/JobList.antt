@@ -35,8 +35,8 @@ use Rattle.rv_machine.specs.Faults.{fault_named}
 use Rattle.rv_lists.specs.declared.limits.TheConstants.{MOST_BUDGET, MOST_NAME, MOST_SYMBOL}
 use Rattle.rv_lists.specs.Jobs.{most_console, most_jobs, most_path, most_script, default_regions}
 use Rattle.rv_lists.specs.Reading.{◌>>=◌, unless, passing, or_else, numbered}
-use Rattle.rv_lists.specs.Keys.{any_unknown_key, is_list_key, count_of, text_at, number_at, truth_at}
-use Rattle.rv_lists.specs.Keys.{array_at, has_wrong_kind, has_unknown_key}
+use Rattle.rv_lists.specs.Keys.{any_unknown_key, is_list_key, count_of, text_at, number_at}
+use Rattle.rv_lists.specs.Keys.{truth_at, array_at, has_wrong_kind, has_unknown_key}
 
 -- ---- name, image, budget
 

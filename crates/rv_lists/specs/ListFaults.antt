@@ -1,5 +1,5 @@
--- All faults of a list: one of the whole list, which stands alone, or the first of each bad job. The
--- name of a bad job counts as taken, so that a fault of one job makes none of another.
+-- All faults of a list: one of the whole list, which stands alone, or the first of each bad job.
+-- The name of a bad job counts as taken, so that a fault of one job makes none of another.
 use Rattle.std.specs.Prelude.{◌+◌, ℕ, List, [], ◌∷◌, ◌++◌, Option, Some, None, Result, Ok, Err}
 use Rattle.std.specs.Prelude.{is_some, if◌then◌else◌}
 use Rattle.toml.specs.Data.{Data, Items, no_items, item, Members, table}

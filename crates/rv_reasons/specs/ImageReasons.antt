@@ -1,7 +1,8 @@
 -- Why an image was refused, as a person is told it: the addresses that a map refuses beside its
 -- regions, the names of symbols, and a sentence for each other refusal.
 use Rattle.std.specs.Prelude.{◌+◌, ◌-◌, ◌^◌, ℕ, List, [], ◌∷◌, ◌++◌, codes, Option, Some, None}
-use Rattle.std.specs.Prelude.{option_map, Result, Ok, Err, Bool, true, false, if◌then◌else◌, nat_lt, not}
+use Rattle.std.specs.Prelude.{option_map, Result, Ok, Err, Bool, true, false, if◌then◌else◌, nat_lt}
+use Rattle.std.specs.Prelude.{not}
 use Rattle.std.specs.List.{find, flat_map}
 use Rattle.std.specs.Option.{option_or}
 use Rattle.rv_elf.specs.declared.error.ImageError.{ImageError}
@@ -38,8 +39,8 @@ regions_text regions = flat_map region_text regions
 
 -- ---- segments
 
--- what of a segment is outside: its memory, where its bytes in the file are inside, else these where
--- they are loaded
+-- what of a segment is outside: its memory, where its bytes in the file are inside, else these
+-- where they are loaded
 unfoldable pub outside_text : Bool → LoadAt → Segment → List ℕ
 outside_text true at segment =
     codes "a segment's bytes in memory, " ++ range_text segment.vaddr segment.memsz
@@ -53,7 +54,8 @@ unfit_segment job segments = find (λ segment. not (fits job.regions job.load se
 unfoldable pub map_text : Job → Option Segment → List ℕ
 map_text job None = codes "a segment does not lie in one region"
 map_text job (Some segment) =
-    outside_text (in_one job.regions (load_address job.load segment) segment.filesz) job.load segment
+    outside_text (in_one job.regions (load_address job.load segment) segment.filesz)
+    job.load segment
     ++ codes ", do not lie in one region:" ++ regions_text job.regions
 
 -- the first segment that shares an address with a later one, and the first of those

@@ -1,5 +1,5 @@
--- The line that a person sees of an expectation that a run does not meet: what is expected, what was
--- met, and where the two differ first. Bytes and words are counted from 0, lines from 1.
+-- The line that a person sees of an expectation that a run does not meet: what is expected, what
+-- was met, and where the two differ first. Bytes and words are counted from 0, lines from 1.
 use Rattle.std.specs.Prelude.{◌+◌, ◌*◌, ◌/◌, ◌%◌, ◌^◌, ℕ, List, [], ◌∷◌, ◌++◌, length, drop}
 use Rattle.std.specs.Prelude.{slice_index, slice_range, Option, Some, None, option_map, unwrap_or}
 use Rattle.std.specs.Prelude.{if◌then◌else◌, nat_lt, codes}
@@ -27,9 +27,9 @@ use Rattle.rv_rows.specs.declared.row.RowEnd.{RowEnd}
 use Rattle.rv_rows.specs.declared.row.RowEnd.TheVariants as ending
 use Rattle.rv_rows.specs.Report.{line, refusal_name, word_digits}
 
--- what stands beside an expectation: the job and its row, the bytes that were read of the files that
--- its console and its signature are compared with, the row of the job that it names, and the address
--- of the first word of its signature
+-- what stands beside an expectation: the job and its row, the bytes that were read of the files
+-- that its console and its signature are compared with, the row of the job that it names, and the
+-- address of the first word of its signature
 pub record Comparison : Type 0 where
   pub job : Job
   pub row : Row

@@ -45,7 +45,8 @@ pub fn read_report(alloc: Global, bytes: &[u8]) -> Result<SavedReport, ReadError
     // What is read has this text, and is a report that can be.
     ensures found { IfOk result (λ report. IsSaved report × (saved_text report ≡ bytes.now)) }
     // What has this text is read.
-    ensures only { (report : Saved) → IsSaved report → saved_text report ≡ bytes.now → Gives report result }
+    ensures only { (report : Saved) → IsSaved report → saved_text report ≡ bytes.now
+        → Gives report result }
     // Up to the place that the error names, the text begins as that of some report.
     ensures err { IfErr result (λ error. (report : Saved) × IsSaved report
         × Tells error (saved_text report) bytes.now) }

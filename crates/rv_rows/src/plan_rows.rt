@@ -147,7 +147,8 @@ fn is_same_as(
     requires place { place < length plan.now.jobs }
     requires recent { AreOutcomes plan.now recent.old }
     ensures same { IfOk result (λ same. (d : AJob) → same
-        ≡ are_same outcome.now (outcome_in plan.now.answers (slice_index_or plan.now.jobs place d))) }
+        ≡ are_same outcome.now
+        (outcome_in plan.now.answers (slice_index_or plan.now.jobs place d))) }
     ensures recent { OnOk result (AreOutcomes plan.now recent.new) }
 {
     if let Some(other) = recent.find(place) {

@@ -126,7 +126,8 @@ fn prints(bytes: &[u8], outcome: &Outcome) -> bool
 // Whether the job ran, and the reference is its signature's lines.
 fn holds_reference(expected: &Option<Text>, reference: Option<&[u8]>, outcome: &Outcome) -> bool
     ensures { result
-        ≡ holds_reference expected.now (option_map (λ bytes. bytes.now) reference.entry) outcome.now }
+        ≡ holds_reference expected.now (option_map (λ bytes. bytes.now) reference.entry)
+        outcome.now }
 {
     let Some(_) = expected else {
         return true;

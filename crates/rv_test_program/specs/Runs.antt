@@ -11,8 +11,10 @@ use Rattle.rv_test_run.specs.Shown.{status_of}
 abbrev pub places_of : List Bool → List ℕ
 places_of marks = marked marks (length marks)
 
--- over answers for the paths that the rows of the marked jobs need, the status is that of these rows
-pub record IsStatusOf (rule : Rule) (jobs : List Job) (marks : List Bool) (status : ℕ) : Type 0 where
+-- over answers for the paths that the rows of the marked jobs need, the status is that of these
+-- rows
+pub record IsStatusOf (rule : Rule) (jobs : List Job) (marks : List Bool)
+    (status : ℕ) : Type 0 where
   pub plan : Planned
   pub listed : plan.jobs ≡ jobs
   pub paths : paths_of plan.answers ≡ paths_used (needed_for jobs (places_of marks))

@@ -1,6 +1,6 @@
 -- Numbers among the values that `clap` found for arguments.
-use Rattle.std.specs.Prelude.{◌&&◌, ◌^◌, ℕ, List, Option, Some, None, option_and_then, if◌then◌else◌}
-use Rattle.std.specs.Prelude.{nat_le, nat_lt}
+use Rattle.std.specs.Prelude.{◌&&◌, ◌^◌, ℕ, List, Option, Some, None, option_and_then}
+use Rattle.std.specs.Prelude.{if◌then◌else◌, nat_le, nat_lt}
 use Rattle.std.specs.Str.Parse.{digits_value, without_leading_plus}
 use Rattle.clap.specs.ValueTests.{is_numeral}
 use Rattle.clap.specs.Words.{Row, Text, one_of}

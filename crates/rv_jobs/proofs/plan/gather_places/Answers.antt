@@ -16,7 +16,8 @@ loop-place-init g c = record {
   kept = start_kept c.in_ok-none.none c.in_ok-none.ensures (g.S.Store.contents c.args.store.now);
   faults = start_faults c.in_ok-none.none c.in_ok-none.ensures (g.S.Store.faulted c.args.store.now);
   noted = subst (λ js. AreNoted (paths_of c.in_ok-none.none) js c.in_ok-noted.noted.items) c.as_slice.ensures.value
-      (subst (λ xs. AreNoted xs c.as_slice.result.now c.in_ok-noted.noted.items) (sym (ap paths_of c.in_ok-none.ensures))
+      (subst (λ xs. AreNoted xs c.as_slice.result.now c.in_ok-noted.noted.items)
+      (sym (ap paths_of c.in_ok-none.ensures))
       c.in_ok-noted.ensures);
 }
 

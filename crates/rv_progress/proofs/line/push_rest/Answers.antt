@@ -13,5 +13,6 @@ returns c =
     let more = ap (λ t. t ++ decimal c.args.failed) (c.in_ok-push_text.ensures ∙ begun) in
     let most = ap (λ t. t ++ codes " failed") (c.in_ok-push_number-2.ensures ∙ more) in
     subst (λ t. OnOk c.push_text-2.result (c.push_text-2.new.bytes.items ≡ t))
-    (most ∙ joined c.args.text.now.items (decimal c.args.jobs) (codes " jobs done, ") (decimal c.args.failed) (codes " failed"))
+    (most ∙ joined c.args.text.now.items (decimal c.args.jobs) (codes " jobs done, ")
+    (decimal c.args.failed) (codes " failed"))
     c.push_text-2.ensures

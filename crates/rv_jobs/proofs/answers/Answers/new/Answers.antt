@@ -10,5 +10,6 @@ invariant_of-result c =
     record {
       even = ap length none ∙ sym (ap (length {A = Kept}) c.new-2.ensures.items);
       places =
-          no_places c.in_ok-places.places (map (λ (q : Bor (List ℕ)). q.now) c.new-3.result.items) c.in_ok-places.ensures.empty none;
+          no_places c.in_ok-places.places (map (λ (q : Bor (List ℕ)). q.now) c.new-3.result.items)
+          c.in_ok-places.ensures.empty none;
     }
