@@ -1,17 +1,23 @@
 -- A job behind its name, its image and its budget.
-use Rattle.std.proofs.Common.{◌≡◌, ℕ, false, List, Option, Result, Ok, Err, refl, is_some}
+use Rattle.std.proofs.Common.{◌≡◌, ◌∙◌, ℕ, false, List, Option, Result, Ok, Err, refl, is_some}
 use Rattle.toml.specs.Data.{Members}
 use Rattle.rv_isa.specs.declared.sets.Isa.{Isa}
 use Rattle.rv_memory.specs.declared.access.Misaligned.{Misaligned}
 use Rattle.rv_lists.specs.declared.error.What.{What}
 use Rattle.rv_lists.specs.declared.job.ExpectedEnd.{ExpectedEnd}
 use Rattle.rv_lists.specs.declared.job.Job.{Job}
+use Rattle.rv_lists.specs.declared.job.ExpectedConsole.{ExpectedConsole}
+use Rattle.rv_lists.specs.declared.job.Symbols.{Symbols}
 use Rattle.rv_lists.specs.declared.manner.Manner.{Manner}
+use Rattle.rv_lists.specs.declared.results.Results.{Results}
+use Rattle.rv_lists.specs.declared.setup.Setup.{Setup}
+use Rattle.rv_elf.specs.declared.loading.LoadAt.{LoadAt}
+use Rattle.rv_memory.specs.declared.map.Region.{Region}
 use Rattle.rv_lists.specs.Keys.{has_unknown_key, has_wrong_kind}
 use Rattle.rv_lists.specs.JobList.{job_in, name_in, image_in, budget_in, place_in, script_in, regions_in, load_in}
 use Rattle.rv_lists.specs.JobList.{signature_in, exit_in, reference_in, console_in, end_in, same_in, isa_in}
 use Rattle.rv_lists.specs.JobList.{misaligned_in}
-use Rattle.rv_lists.specs.JobSteps.{described_in, manner_in}
+use Rattle.rv_lists.specs.JobSteps.{described_in, manner_in, setup_in, results_in}
 use Rattle.rv_lists.specs.Reading.{◌>>=◌}
 
 under : {A B : Type 0} (r : Result A What) (f g : A → Result B What) → ((x : A) → f x ≡ g x) → (r >>= f) ≡ (r >>= g)
@@ -30,35 +36,74 @@ four_steps (Ok e) (Ok s) (Err x) choice k = refl
 four_steps (Ok e) (Ok s) (Ok i) (Err x) k = refl
 four_steps (Ok e) (Ok s) (Ok i) (Ok c) k = refl
 
+setup_steps : (script : Result (List ℕ) What) (regions : Result (List Region) What) (load : Result LoadAt What)
+    (k : Setup → Result Job What)
+    → (script >>= λ s. regions >>= λ r. load >>= λ l. k (record { script = s; regions = r; load = l }))
+    ≡ ((script >>= λ s. regions >>= λ r. load >>= λ l. Ok (record { script = s; regions = r; load = l })) >>= k)
+setup_steps (Err x) regions load k = refl
+setup_steps (Ok s) (Err x) load k = refl
+setup_steps (Ok s) (Ok r) (Err x) k = refl
+setup_steps (Ok s) (Ok r) (Ok l) k = refl
+
+result_steps : (signature : Result (Option Symbols) What) (exit : Result (Option ℕ) What)
+    (reference : Option Symbols → Result (Option (List ℕ)) What) (console : Result (Option ExpectedConsole) What)
+    (k : Results → Result Job What)
+    → (signature >>= λ s. exit >>= λ e. reference s >>= λ r. console >>= λ c.
+    k (record { signature = s; exit = e; reference = r; console = c }))
+    ≡ ((signature >>= λ s. exit >>= λ e. reference s >>= λ r. console >>= λ c.
+    Ok (record { signature = s; exit = e; reference = r; console = c })) >>= k)
+result_steps (Err x) exit reference console k = refl
+result_steps (Ok s) (Err x) reference console k = refl
+result_steps (Ok s) (Ok e) reference console k = on_reference (reference s)
+  where
+    on_reference : (read : Result (Option (List ℕ)) What)
+        → (read >>= λ r. console >>= λ c. k (record { signature = s; exit = e; reference = r; console = c }))
+        ≡ ((read >>= λ r. console >>= λ c. Ok (record { signature = s; exit = e; reference = r; console = c })) >>= k)
+    on_reference (Err x) = refl
+    on_reference (Ok r) = on_console console
+      where
+        on_console : (last : Result (Option ExpectedConsole) What)
+            → (last >>= λ c. k (record { signature = s; exit = e; reference = r; console = c }))
+            ≡ ((last >>= λ c. Ok (record { signature = s; exit = e; reference = r; console = c })) >>= k)
+        on_console (Err x) = refl
+        on_console (Ok c) = refl
+
 -- a job whose keys and kinds are in order is the one that is described, where no earlier job has its name
 pub job_described : (earlier : List (List ℕ)) (ms : Members) (name image : List ℕ) (budget : ℕ)
     → has_unknown_key ms ≡ false → has_wrong_kind ms ≡ false → name_in ms ≡ Ok name
     → is_some (place_in earlier name) ≡ false → image_in ms ≡ Ok image → budget_in ms ≡ Ok budget
     → job_in earlier ms ≡ described_in earlier name image budget ms
-unfolding job_in described_in manner_in
+unfolding job_in described_in manner_in setup_in results_in
 job_described earlier ms name image budget known typed named fresh imaged budgeted =
-    simp (known, typed, named, fresh, imaged, budgeted) (
-    under (script_in ms) _ _ (λ script.
-    under (regions_in ms) _ _ (λ regions.
-    under (load_in ms) _ _ (λ load.
-    under (signature_in ms) _ _ (λ signature.
-    under (exit_in ms) _ _ (λ exit.
-    under (reference_in (is_some signature) ms) _ _ (λ reference.
-    under (console_in ms) _ _ (λ console.
-    four_steps (end_in ms) (same_in earlier ms) (isa_in ms) (misaligned_in ms) (λ manner. Ok (record {
+    let described : Setup → Results → Manner → Result Job What
+    = λ setup results manner. Ok (record {
       name = name;
       image = image;
       budget = budget;
-      script = script;
-      load = load;
-      regions = regions;
-      signature = signature;
-      expect_exit = exit;
-      expect_signature = reference;
-      expect_console = console;
+      script = setup.script;
+      load = setup.load;
+      regions = setup.regions;
+      signature = results.signature;
+      expect_exit = results.exit;
+      expect_signature = results.reference;
+      expect_console = results.console;
       expect_end = manner.expect_end;
       same_as = manner.same_as;
       isa = manner.isa;
       misaligned = manner.misaligned;
-    })))))))))
+    }) in
+    let judged : Setup → Results → Result Job What
+    = λ setup results. (end_in ms >>= λ end. same_in earlier ms >>= λ same. isa_in ms >>= λ set.
+    misaligned_in ms >>= λ choice.
+    described setup results (record { expect_end = end; same_as = same; isa = set; misaligned = choice })) in
+    simp (known, typed, named, fresh, imaged, budgeted) (
+    setup_steps (script_in ms) (regions_in ms) (load_in ms) (λ setup.
+    signature_in ms >>= λ signature. exit_in ms >>= λ exit. reference_in (is_some signature) ms >>= λ reference.
+    console_in ms >>= λ console.
+    judged setup (record { signature = signature; exit = exit; reference = reference; console = console }))
+    ∙ under (setup_in ms) _ _ (λ setup.
+    result_steps (signature_in ms) (exit_in ms) (λ signature. reference_in (is_some signature) ms) (console_in ms)
+    (judged setup)
+    ∙ under (results_in ms) _ _ (λ results.
+    four_steps (end_in ms) (same_in earlier ms) (isa_in ms) (misaligned_in ms) (described setup results)))
     )

@@ -1,30 +1,24 @@
 //! A job of a list: its keys in the order of their faults, a function each.
 
-ghost use Rattle.std.specs.Prelude.{◌≡◌, ◌≤◌, IfOk, None, length};
-ghost use Rattle.hex.specs.Hex.{decode_of};
+ghost use Rattle.std.specs.Prelude.{◌≡◌, IfOk, None, length};
 ghost use Rattle.toml.specs.View.{view, table_view};
 ghost use Rattle.rv_lists.specs.Reading.{Gives};
-ghost use Rattle.rv_lists.specs.Jobs.{IsJob, most_script};
-ghost use Rattle.rv_lists.specs.JobList.{name_in, image_in, budget_in, limited, from_hex, script_in, load_of};
-ghost use Rattle.rv_lists.specs.JobList.{load_in, place_in, names_of, job_in, element_in};
+ghost use Rattle.rv_lists.specs.Jobs.{IsJob};
+ghost use Rattle.rv_lists.specs.JobList.{name_in, image_in, budget_in, place_in, names_of, job_in, element_in};
 ghost use Rattle.rv_lists.specs.JobSteps.{described_in};
-ghost use Rattle.std.specs.Prelude.{◌==◌, MatchResult, Ok, Err};
-ghost use Rattle.rv_lists.specs.declared.error.What.TheVariants.{OutOfMemory};
+ghost use Rattle.std.specs.Prelude.{MatchResult, Ok, Err};
 
 use crate::earlier_jobs::EarlierJobs;
 use crate::error::What;
-use crate::expected::{console_of, exit_of, reference_of};
 use crate::job::Job;
 use crate::keys::{number_of, text_of};
 use crate::kinds::{has_unknown_key, has_wrong_kind};
-use crate::limits::{MOST_BUDGET, MOST_SCRIPT};
-use crate::manner::manner_of;
-use crate::regions::regions_of;
-use crate::signature::signature_of;
-use crate::text::{Bytes, Text};
+use crate::limits::MOST_BUDGET;
+use crate::manner::{Manner, manner_of};
+use crate::results::{Results, results_of};
+use crate::setup::{Setup, setup_of};
+use crate::text::Text;
 use crate::texts::{is_name, is_path};
-use hex::FromHexError;
-use rv_elf::LoadAt;
 use std::alloc::Global;
 use toml::{Table, Value};
 
@@ -78,30 +72,55 @@ fn described(
     ensures good { IfOk result (IsJob (length earlier.now)) }
     ensures fresh { IfOk result (λ job. place_in (names_of earlier.now) job.name ≡ None) }
 {
-    let script = script_of(alloc, table)?;
-    let regions = regions_of(alloc, table)?;
-    let load = load_of(table)?;
-    let signature = signature_of(alloc, table)?;
-    let expect_exit = exit_of(table)?;
-    let expect_signature = reference_of(alloc, signature.is_some(), table)?;
-    let expect_console = console_of(alloc, table)?;
+    let setup = setup_of(alloc, table)?;
+    let results = results_of(alloc, table)?;
     let manner = manner_of(earlier, table)?;
-    Ok(Job {
-        name: Text::copy(alloc, name)?,
-        image: Text::copy(alloc, image)?,
+    let name = Text::copy(alloc, name)?;
+    let image = Text::copy(alloc, image)?;
+    Ok(job_with(name, image, budget, setup, results, manner))
+}
+
+fn job_with(
+    name: Text,
+    image: Text,
+    budget: u32,
+    setup: Setup,
+    results: Results,
+    manner: Manner,
+) -> Job
+    ensures { result ≡ record {
+      name = name;
+      image = image;
+      budget = budget;
+      script = setup.script;
+      load = setup.load;
+      regions = setup.regions;
+      signature = results.signature;
+      expect_exit = results.exit;
+      expect_signature = results.reference;
+      expect_console = results.console;
+      expect_end = manner.expect_end;
+      same_as = manner.same_as;
+      isa = manner.isa;
+      misaligned = manner.misaligned;
+    } }
+{
+    Job {
+        name,
+        image,
         budget,
-        script,
-        load,
-        regions,
-        signature,
-        expect_exit,
-        expect_signature,
-        expect_console,
+        script: setup.script,
+        load: setup.load,
+        regions: setup.regions,
+        signature: results.signature,
+        expect_exit: results.exit,
+        expect_signature: results.reference,
+        expect_console: results.console,
         expect_end: manner.expect_end,
         same_as: manner.same_as,
         isa: manner.isa,
         misaligned: manner.misaligned,
-    })
+    }
 }
 
 #[tactic(auto, unfolding(crate::specs::JobList::name_in))]
@@ -151,68 +170,5 @@ fn budget_of(table: &Table) -> Result<u32, What>
             }
         }
         None => Err(What::Budget),
-    }
-}
-
-#[tactic(auto, unfolding(crate::specs::JobList::script_in))]
-fn script_of(alloc: Global, table: &Table) -> Result<Bytes, What>
-    ensures value { Gives result (script_in (table_view table.now)) }
-    ensures short { IfOk result (λ s. length s ≤ most_script) }
-{
-    match (text_of(table, "input"), text_of(table, "input_hex")) {
-        (None, None) => Ok(Bytes::new(Vec::new(alloc))),
-        (Some(text), None) => limited_copy(alloc, text.as_bytes()),
-        (None, Some(digits)) => limited_hex(alloc, digits),
-        (Some(_), Some(_)) => Err(What::Input),
-    }
-}
-
-fn limited_copy(alloc: Global, bytes: &[u8]) -> Result<Bytes, What>
-    ensures value { Gives result (limited bytes.now) }
-    ensures short { IfOk result (λ s. length s ≤ most_script) }
-{
-    if bytes.len() <= MOST_SCRIPT {
-        Ok(Bytes::new(bytes.to_vec(alloc)?))
-    } else {
-        Err(What::Input)
-    }
-}
-
-fn limited_hex(alloc: Global, digits: &str) -> Result<Bytes, What>
-    ensures value { Gives result (from_hex (decode_of digits.now)) }
-    ensures short { IfOk result (λ s. length s ≤ most_script) }
-{
-    match hex::decode(alloc, digits) {
-        Ok(bytes) => {
-            if bytes.len() <= MOST_SCRIPT {
-                Ok(Bytes::new(bytes))
-            } else {
-                Err(What::Input)
-            }
-        }
-        Err(FromHexError::OutOfMemory) => Err(What::OutOfMemory),
-        Err(_) => Err(What::Input),
-    }
-}
-
-#[tactic(auto, unfolding(crate::specs::JobList::load_in))]
-fn load_of(table: &Table) -> Result<LoadAt, What>
-    ensures { result ≡ load_in (table_view table.now) }
-{
-    match text_of(table, "load") {
-        Some(text) => load_named(text),
-        None => Ok(LoadAt::Physical),
-    }
-}
-
-fn load_named(text: &str) -> Result<LoadAt, What>
-    ensures { result ≡ load_of text.now }
-{
-    if text == "physical" {
-        Ok(LoadAt::Physical)
-    } else if text == "virtual" {
-        Ok(LoadAt::Virtual)
-    } else {
-        Err(What::Load)
     }
 }

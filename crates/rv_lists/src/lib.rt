@@ -17,6 +17,8 @@ pub mod limits;
 mod list;
 mod manner;
 mod regions;
+mod results;
+mod setup;
 mod signature;
 mod text;
 mod texts;

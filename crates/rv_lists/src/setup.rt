@@ -1,0 +1,108 @@
+//! What a job starts with: its script, its regions, and where its segments go.
+
+ghost use Rattle.std.specs.Prelude.{◌≡◌, ◌≤◌, ◌==◌, IfOk, length};
+ghost use Rattle.hex.specs.Hex.{decode_of};
+ghost use Rattle.toml.specs.View.{table_view};
+ghost use Rattle.rv_lists.specs.declared.error.What.TheVariants.{OutOfMemory};
+ghost use Rattle.rv_lists.specs.Jobs.{most_script};
+ghost use Rattle.rv_lists.specs.JobList.{limited, from_hex, script_in, load_of, load_in};
+ghost use Rattle.rv_lists.specs.JobSteps.{setup_in};
+ghost use Rattle.rv_lists.specs.Reading.{Gives};
+
+use crate::error::What;
+use crate::keys::text_of;
+use crate::limits::MOST_SCRIPT;
+use crate::regions::regions_of;
+use crate::text::Bytes;
+use hex::FromHexError;
+use rv_elf::LoadAt;
+use rv_memory::Map;
+use std::alloc::Global;
+use toml::Table;
+
+/// What a job starts with.
+#[derive(Drop)]
+pub(crate) struct Setup {
+    pub(crate) script: Bytes,
+    pub(crate) regions: Map,
+    pub(crate) load: LoadAt,
+}
+
+/// The script, the regions and the choice of addresses of a job.
+#[tactic(auto, unfolding(crate::specs::JobSteps::setup_in))]
+pub(crate) fn setup_of(alloc: Global, table: &Table) -> Result<Setup, What>
+    ensures value { Gives result (setup_in (table_view table.now)) }
+    ensures short { IfOk result (λ setup. length setup.script ≤ most_script) }
+{
+    let script = script_of(alloc, table)?;
+    let regions = regions_of(alloc, table)?;
+    let load = load_of(table)?;
+    Ok(Setup {
+        script,
+        regions,
+        load,
+    })
+}
+
+#[tactic(auto, unfolding(crate::specs::JobList::script_in))]
+fn script_of(alloc: Global, table: &Table) -> Result<Bytes, What>
+    ensures value { Gives result (script_in (table_view table.now)) }
+    ensures short { IfOk result (λ s. length s ≤ most_script) }
+{
+    match (text_of(table, "input"), text_of(table, "input_hex")) {
+        (None, None) => Ok(Bytes::new(Vec::new(alloc))),
+        (Some(text), None) => limited_copy(alloc, text.as_bytes()),
+        (None, Some(digits)) => limited_hex(alloc, digits),
+        (Some(_), Some(_)) => Err(What::Input),
+    }
+}
+
+fn limited_copy(alloc: Global, bytes: &[u8]) -> Result<Bytes, What>
+    ensures value { Gives result (limited bytes.now) }
+    ensures short { IfOk result (λ s. length s ≤ most_script) }
+{
+    if bytes.len() <= MOST_SCRIPT {
+        Ok(Bytes::new(bytes.to_vec(alloc)?))
+    } else {
+        Err(What::Input)
+    }
+}
+
+fn limited_hex(alloc: Global, digits: &str) -> Result<Bytes, What>
+    ensures value { Gives result (from_hex (decode_of digits.now)) }
+    ensures short { IfOk result (λ s. length s ≤ most_script) }
+{
+    match hex::decode(alloc, digits) {
+        Ok(bytes) => {
+            if bytes.len() <= MOST_SCRIPT {
+                Ok(Bytes::new(bytes))
+            } else {
+                Err(What::Input)
+            }
+        }
+        Err(FromHexError::OutOfMemory) => Err(What::OutOfMemory),
+        Err(_) => Err(What::Input),
+    }
+}
+
+#[tactic(auto, unfolding(crate::specs::JobList::load_in))]
+fn load_of(table: &Table) -> Result<LoadAt, What>
+    ensures { result ≡ load_in (table_view table.now) }
+{
+    match text_of(table, "load") {
+        Some(text) => load_named(text),
+        None => Ok(LoadAt::Physical),
+    }
+}
+
+fn load_named(text: &str) -> Result<LoadAt, What>
+    ensures { result ≡ load_of text.now }
+{
+    if text == "physical" {
+        Ok(LoadAt::Physical)
+    } else if text == "virtual" {
+        Ok(LoadAt::Virtual)
+    } else {
+        Err(What::Load)
+    }
+}
