@@ -26,8 +26,8 @@ impl From<AllocError> for InputError {
     }
 }
 
-// A read asks for as many bytes at most.
-const CHUNK: usize = 4_096;
+// A read asks for as many bytes at most: many for a list or an image of megabytes, since each read is a call of the system.
+const CHUNK: usize = 16_384;
 
 /// The reader's bytes to its end, or the first `most` of them where there are more; what is behind
 /// them is left in the reader.
@@ -43,8 +43,9 @@ pub fn read_at_most<R: Read>(
     ensures within { IfOk result (λ bytes. length bytes.items ≤ most) }
 {
     let mut bytes = Vec::new(alloc);
+    let mut chunk = [0u8; CHUNK];
     'reading: while bytes.len() < most {
-        if read_more(input, &mut bytes, most)? == 0 {
+        if read_more(input, &mut chunk, &mut bytes, most)? == 0 {
             return Ok(bytes);
         }
     }
@@ -52,12 +53,16 @@ pub fn read_at_most<R: Read>(
 }
 
 // One read, into a buffer of its own: so a growth that is refused is told from a read that fails.
-fn read_more<R: Read>(input: &mut R, bytes: &mut Vec<u8>, most: usize) -> Result<usize, InputError>
+fn read_more<R: Read>(
+    input: &mut R,
+    chunk: &mut [u8; CHUNK],
+    bytes: &mut Vec<u8>,
+    most: usize,
+) -> Result<usize, InputError>
     requires { vec_len bytes.old < most }
     ensures { IfOk result (GrowsByRead most (R.remaining input.old) (R.remaining input.new)
         bytes.old.items bytes.new.items) }
 {
-    let mut chunk = [0u8; CHUNK];
     let room = (most - bytes.len()).min(CHUNK);
     let count = match input.read(&mut chunk[..room]) {
         Ok(count) => count,

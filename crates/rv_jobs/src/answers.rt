@@ -8,7 +8,7 @@ use crate::store::{Kept, Store, keep};
 use rv_lists::Text;
 use std::alloc::{AllocError, Global};
 use std::collections::HashMap;
-use std::hash::{BuildHasherDefault, DefaultHasher};
+use std::hash::{BuildHasherDefault, FoldHasher};
 use std::marker::Model;
 
 /// What is kept of a path. No value of it is made: contracts see the answers of a plan so.
@@ -24,7 +24,7 @@ pub struct Answer {
 pub(crate) struct Answers<'a> {
     answers: Vec<Kept>,
     paths: Vec<&'a str>,
-    places: HashMap<&'a str, usize, BuildHasherDefault<DefaultHasher>>,
+    places: HashMap<&'a str, usize, BuildHasherDefault<FoldHasher>>,
 }
 
 impl<'a> Model for Answers<'a> {
