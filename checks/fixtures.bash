@@ -12,7 +12,9 @@ fail() {
 ./rvfleet --help >/dev/null || fail 'the program was not built'
 work=$(mktemp -d)
 trap 'rm -rf "$work"' EXIT
-cp crates/rvfleet/out/rvfleet "$work/rvfleet"
+# shellcheck source=launch.bash
+source ./launch.bash
+cp "$(program rvfleet)" "$work/rvfleet"
 shim=$work/refuse_growth.so
 "${CC:-cc}" -O2 -Wall -shared -fPIC -o "$shim" checks/refuse_growth.c || fail 'the shim was not compiled'
 

@@ -1,6 +1,6 @@
 /* Prints the CRC-32 of what the console gives (that of ISO 3309, as in zip and Ethernet), in hexadecimal, and exits
  * with 0 where the console gave something, else with 1. */
-#include "console.h"
+#include "rvfleet.h"
 
 static unsigned table[256];
 static unsigned polynomial = 0xedb88320;

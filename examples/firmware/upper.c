@@ -1,5 +1,5 @@
 /* Prints what the console gives in capital letters, and exits with the number of letters that it changed. */
-#include "console.h"
+#include "rvfleet.h"
 
 static char prompt[] = "> ";
 static unsigned changed;

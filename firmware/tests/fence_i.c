@@ -1,0 +1,20 @@
+/* Writes a function that gives a number, and calls it, each behind FENCE.I. */
+#include "rvfleet.h"
+
+#define LI_A0(number) (0x00000513u | (number) << 20) /* addi a0, zero, number */
+#define RET 0x00008067u
+
+static unsigned code[2];
+
+static unsigned run_with(unsigned number)
+{
+    code[0] = LI_A0(number);
+    code[1] = RET;
+    fence_i();
+    return ((unsigned (*)(void))(void *)code)();
+}
+
+int main(void)
+{
+    return run_with(5) == 5 && run_with(6) == 6 ? 0 : 1;
+}

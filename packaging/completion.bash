@@ -1,0 +1,28 @@
+# shellcheck shell=bash
+# What bash offers behind `rvtest` and `rvfleet`: their commands, the options of each, and files where a path stands.
+_rvfleet_options() {
+    case "$1 $2" in
+        'rvtest run') echo '--only --match --failed --workers --group --root --report --lenient --verbose --quiet --help' ;;
+        'rvtest check') echo '--root --help' ;;
+        'rvfleet run') echo '--workers --group --help' ;;
+        'rvfleet one') echo '--budget --input-hex --help' ;;
+        'rvfleet raw') echo '--budget --help' ;;
+    esac
+}
+
+_rvfleet() {
+    local word=$2 before=$3 commands='run check --version --help'
+    COMPREPLY=()
+    [ "${1##*/}" = rvtest ] || commands='run one raw --help'
+    if [ "$COMP_CWORD" = 1 ]; then
+        mapfile -t COMPREPLY < <(compgen -W "$commands" -- "$word")
+    elif [[ $word = -* ]]; then
+        mapfile -t COMPREPLY < <(compgen -W "$(_rvfleet_options "${1##*/}" "${COMP_WORDS[1]}")" -- "$word")
+    elif [ "$before" = --root ]; then
+        mapfile -t COMPREPLY < <(compgen -d -- "$word")
+    elif [[ " --only --match --workers --group --budget --input-hex " != *" $before "* ]]; then
+        mapfile -t COMPREPLY < <(compgen -f -- "$word")
+    fi
+}
+
+complete -o filenames -F _rvfleet rvtest rvfleet
