@@ -1,6 +1,6 @@
 # shellcheck shell=bash
-# What the checks share, for a script at the top of the repository to source. It builds the program where there is no
-# build yet, makes a folder of its own, which goes away at the end, and puts there the program, the shim that refuses
+# What the checks share, for a script at the top of the repository to source. It builds the programs where there is no
+# build yet, makes a folder of its own, which goes away at the end, and puts there the programs, the shim that refuses
 # growths, images, a list of jobs over them, and the right text of each run.
 
 # Says what was wrong, and ends the check.
@@ -9,12 +9,13 @@ fail() {
     exit 1
 }
 
-./rvfleet --help >/dev/null || fail 'the program was not built'
+./rvfleet --help >/dev/null || fail 'rvfleet was not built'
+./rvtest --version >/dev/null || fail 'rvtest was not built'
 work=$(mktemp -d)
 trap 'rm -rf "$work"' EXIT
 # shellcheck source=launch.bash
 source ./launch.bash
-cp "$(program rvfleet)" "$work/rvfleet"
+cp "$(program rvfleet)" "$(program rvtest)" "$work"
 shim=$work/refuse_growth.so
 "${CC:-cc}" -O2 -Wall -shared -fPIC -o "$shim" checks/refuse_growth.c || fail 'the shim was not compiled'
 
@@ -141,3 +142,17 @@ report '1 failing' 'exit 5' 2 fail >"$work/failing.text"
     row '5 sign' 'exit 0' 9 none $'2\n80000000\nffffffff'
     echo 'done 5'
 } >"$work/list.text"
+
+# What rvtest shows of the list, and says of its files.
+unexpected='expected exit 0, since it expects nothing else'
+short='refused short-header: the file is shorter than an ELF header'
+{
+    printf 'FAIL fault: fault breakpoint at 80000000, value 00000000, after 0 steps\n     %s\n' "$unexpected"
+    printf 'FAIL budget: budget used up after 2 steps\n     %s\n' "$unexpected"
+    printf 'FAIL short: %s\n' "$short"
+    echo '5 jobs: 2 passed, 3 failed (1 budget, 1 breakpoint, 1 refused), 13 steps'
+} >"$work/list.shown"
+{
+    echo "list.toml:17: job 4 (short): $short"
+    echo '5 jobs, 1 refused'
+} >"$work/list.checked"
