@@ -4,15 +4,6 @@
 //! the job's number and name, the key with the value that was met, and what is taken instead.
 #![tactic(auto)]
 
-mod expected;
 mod faults;
-mod job_fault;
-mod keys;
-mod kinds;
-mod list;
-mod list_fault;
-mod message;
-mod names;
-mod regions;
 
 pub use faults::push_faults;

@@ -6,7 +6,7 @@ use toml::{Table, Value};
 
 /// A list that is a document.
 #[derive(Drop)]
-pub(crate) struct List<'a> {
+pub struct List<'a> {
     pub(crate) table: &'a Table,
     /// The elements of `job`; none where that is no array.
     pub(crate) jobs: &'a [Value],
@@ -18,7 +18,7 @@ pub(crate) struct List<'a> {
 
 impl<'a> List<'a> {
     /// The list of a text and its table.
-    pub(crate) fn of(alloc: Global, text: &[u8], table: &'a Table) -> Result<List<'a>, AllocError> {
+    pub fn of(alloc: Global, text: &[u8], table: &'a Table) -> Result<List<'a>, AllocError> {
         let jobs = jobs_of(table);
         Ok(List {
             table,
