@@ -1,8 +1,7 @@
 //! Encodings beside their meanings, written out by hand from the manual's listings.
 use rv_isa::{Instr, Isa, decode16, decode32, expand, is_long, sign_extend};
-use samples::cell_of;
+use samples::{agree, cell_of, has_lines, hex_of, word_of};
 use std::alloc::{AllocError, Global};
-use std::process::Abort;
 use std::test::Fail;
 
 mod halfwords;
@@ -62,12 +61,24 @@ fn letters(isa: Isa) -> &'static str {
     }
 }
 
+// The number that the low bits of a value are, of which the most significant is the sign.
+fn extended(alloc: Global, value: &str) -> Result<String, Fail> {
+    let number = hex_of(word_of(value, 0))?;
+    match word_of(value, 1).parse::<u32>()? {
+        bits @ 1..=32 if u64::from(number) < 1 << bits => {
+            Ok(format!(in alloc; "{}", sign_extend(number, bits))?)
+        }
+        _ => Err("a number of bits".into()),
+    }
+}
+
 // What is answered of an encoding's digits: the word that it expands to, its length, or its meaning in a set; and of a
 // set's name its letters.
 fn answer(alloc: Global, ask: &str, digits: &str) -> Result<String, Fail> {
     match ask {
         "expand" => Ok(expanded(alloc, u16::from_str_radix(digits, 16)?)?),
         "length" => Ok(String::from_str(alloc, length(u16::from_str_radix(digits, 16)?))?),
+        "number" => extended(alloc, digits),
         "letters" => Ok(String::from_str(alloc, letters(isa_of(digits)?))?),
         set => Ok(told(alloc, meaning_of(digits, isa_of(set)?)?)?),
     }
@@ -75,22 +86,20 @@ fn answer(alloc: Global, ask: &str, digits: &str) -> Result<String, Fail> {
 
 // Whether each encoding of a table has an answer, or its own.
 fn check(
-    rt: &impl Abort,
     alloc: Global,
     ask: &str,
     wanted: &str,
     rows: &str,
     lines: usize,
 ) -> Result<(), Fail> {
-    assert_eq!(rt; rows.lines().count(), lines);
+    has_lines(rows, lines)?;
     for row in rows.lines() {
-        let wanted = if wanted == OWN {
-            cell_of(row, 2)
-        } else {
-            wanted
-        };
         let answer = answer(alloc, ask, cell_of(row, 1))?;
-        assert_eq!(rt; answer.as_str(), wanted, "{row} in {ask}");
+        if wanted == OWN {
+            agree(row, answer.as_str(), cell_of(row, 2))?;
+        } else {
+            agree(row, answer.as_str(), wanted)?;
+        }
     }
     Ok(())
 }
@@ -105,19 +114,24 @@ both | rv32imc | mc
 
 #[test]
 fn a_set_has_the_extensions_of_its_letters(rt: HostRuntime) -> Result<(), Fail> {
-    check(&rt, rt.alloc(), "letters", OWN, LETTERS, 4)
+    check(rt.alloc(), "letters", OWN, LETTERS, 4)
 }
 
+// label | value in hexadecimal digits, bits | the number
+const NUMBERS: &str = "\
+no bit set | 0 1 | 0
+one bit | 1 1 | -1
+greatest of 8 | 7f 8 | 127
+least of 8 | 80 8 | -128
+greatest of 12 | 7ff 12 | 2047
+least of 12 | 800 12 | -2048
+all of 12 | fff 12 | -1
+greatest of 32 | 7fffffff 32 | 2147483647
+least of 32 | 80000000 32 | -2147483648
+all of 32 | ffffffff 32 | -1
+";
+
 #[test]
-fn a_sign_bit_is_extended(rt: HostRuntime) {
-    assert_eq!(rt; sign_extend(0, 1), 0);
-    assert_eq!(rt; sign_extend(1, 1), -1);
-    assert_eq!(rt; sign_extend(0x7f, 8), 127);
-    assert_eq!(rt; sign_extend(0x80, 8), -128);
-    assert_eq!(rt; sign_extend(0x7ff, 12), 2047);
-    assert_eq!(rt; sign_extend(0x800, 12), -2048);
-    assert_eq!(rt; sign_extend(0xfff, 12), -1);
-    assert_eq!(rt; sign_extend(0x7fff_ffff, 32), i32::MAX);
-    assert_eq!(rt; sign_extend(0x8000_0000, 32), i32::MIN);
-    assert_eq!(rt; sign_extend(0xffff_ffff, 32), -1);
+fn a_sign_bit_is_extended(rt: HostRuntime) -> Result<(), Fail> {
+    check(rt.alloc(), "number", OWN, NUMBERS, 10)
 }

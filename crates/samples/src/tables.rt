@@ -2,6 +2,7 @@
 
 use std::alloc::{AllocError, Global};
 use std::num::ParseIntError;
+use std::test::Fail;
 
 /// The cell of a line with this number, from 0, without the spaces around it; nothing where there are not so many.
 pub fn cell_of(line: &str, place: usize) -> &str {
@@ -29,4 +30,22 @@ pub fn filled(alloc: Global, form: &str, line: &str) -> Result<String, AllocErro
         write!(text, "{put} ")?;
     }
     Ok(text)
+}
+
+/// Fails where an answer isn't the wanted one, and says of which row.
+pub fn agree(row: &str, answer: &str, wanted: &str) -> Result<(), Fail> {
+    if answer == wanted {
+        Ok(())
+    } else {
+        Err(Fail::new(format_args!("{row}: {answer} in place of {wanted}")))
+    }
+}
+
+/// Fails where a table hasn't so many lines.
+pub fn has_lines(rows: &str, count: usize) -> Result<(), Fail> {
+    if rows.lines().count() == count {
+        Ok(())
+    } else {
+        Err(Fail::new("a table has another number of lines"))
+    }
 }

@@ -1,51 +1,31 @@
 //! Which images fit a map, and what memory holds once one is loaded.
-use super::{MEMORY, name_of};
+use super::{MEMORY, check, name_of};
 use rv_elf::{LoadAt, check_map, load, read_image};
 use rv_isa::Isa;
 use rv_memory::{Bus, Map, Misaligned, Region, Width};
-use samples::file;
+use samples::{cell_of, file, hex_of};
 use std::alloc::Global;
 use std::test::Fail;
 
-/// A row of a file that is loaded: into which region, and at which of its addresses.
-#[derive(Drop)]
-struct Loading<'a> {
-    file: &'a str,
-    region: Region,
-    at: LoadAt,
-    answer: &'a str,
-}
-
-fn region_of(name: &str) -> Option<Region> {
+fn region_of(name: &str) -> Result<Region, Fail> {
     match name {
-        "memory" => Some(MEMORY),
-        "small" => Some(Region { size: 8, ..MEMORY }),
-        "read-only" => Some(Region {
+        "memory" => Ok(MEMORY),
+        "small" => Ok(Region { size: 8, ..MEMORY }),
+        "read-only" => Ok(Region {
             size: 4096,
             writable: false,
             ..MEMORY
         }),
-        _ => None,
+        _ => Err("a region".into()),
     }
 }
 
-fn load_at_of(name: &str) -> Option<LoadAt> {
+fn load_at_of(name: &str) -> Result<LoadAt, Fail> {
     match name {
-        "physical" => Some(LoadAt::Physical),
-        "virtual" => Some(LoadAt::Virtual),
-        _ => None,
+        "physical" => Ok(LoadAt::Physical),
+        "virtual" => Ok(LoadAt::Virtual),
+        _ => Err("physical or virtual".into()),
     }
-}
-
-fn loading_of(row: &str) -> Option<Loading<'_>> {
-    let mut cells = row.split('|');
-    let _label = cells.next()?;
-    Some(Loading {
-        file: cells.next()?.trim(),
-        region: region_of(cells.next()?.trim())?,
-        at: load_at_of(cells.next()?.trim())?,
-        answer: cells.next()?.trim(),
-    })
 }
 
 // label | file | region | addresses | what is wrong with it
@@ -70,22 +50,23 @@ no bytes within it | two 96=0000000080000008 | memory | physical | good
 a map first | two 96=0008 | small | physical | SegmentMap
 ";
 
-// Whether checking the file of a row against its map answers as it says.
-fn checks_map(alloc: Global, row: &str) -> Result<bool, Fail> {
-    let row = loading_of(row).ok_or("five cells")?;
-    let file = file(alloc, row.file)?;
-    let image = read_image(alloc, &file, Isa::Imc)?;
-    let map = Map::of(&[row.region])?;
-    let name = name_of(alloc, check_map(&image, &map, row.at).err())?;
-    Ok(name.as_str() == row.answer)
+// What is wrong with a file on a map of one region.
+fn refusal(alloc: Global, file: &[u8], region: Region, at: LoadAt) -> Result<String, Fail> {
+    let map = Map::of(&[region])?;
+    let image = read_image(alloc, file, Isa::Imc)?;
+    Ok(name_of(alloc, check_map(&image, &map, at).err())?)
+}
+
+pub(super) fn of_map(alloc: Global, row: &str) -> Result<String, Fail> {
+    let region = region_of(cell_of(row, 2))?;
+    let at = load_at_of(cell_of(row, 3))?;
+    let file = file(alloc, cell_of(row, 1))?;
+    refusal(alloc, &file, region, at)
 }
 
 #[test]
 fn maps(rt: HostRuntime) -> Result<(), Fail> {
-    for row in MAPS.lines() {
-        assert!(&rt; checks_map(rt.alloc(), row)?, "{row}");
-    }
-    Ok(())
+    check(rt.alloc(), "map", MAPS, 18)
 }
 
 // A new bus that a file is loaded into.
@@ -119,22 +100,27 @@ nothing | one 68=00000000 | memory | physical | 80000000=00000000
 past the file | one 68=00000000 56=ffffffff | memory | physical | 80000000=00000000
 ";
 
-// Whether the word of a row is loaded and fetched, and the console is empty.
-fn has_word(alloc: Global, row: &str) -> Result<bool, Fail> {
-    let row = loading_of(row).ok_or("five cells")?;
-    let (addr, word) = row.answer.split_once('=').ok_or("an address and a word")?;
-    let addr = u32::from_str_radix(addr, 16)?;
-    let word = u32::from_str_radix(word, 16)?;
-    let file = file(alloc, row.file)?;
-    let mut bus = loaded(alloc, &file, row.region, row.at)?;
-    let is_loaded = bus.load(addr, Width::Word) == Ok(word);
-    Ok(is_loaded && bus.fetch_word(addr) == Some(word) && bus.console().is_empty())
+// The word that is loaded and fetched at an address, where it is one and the console is empty.
+fn word_at(alloc: Global, mut bus: Bus, addr: u32) -> Result<String, Fail> {
+    let Ok(word) = bus.load(addr, Width::Word) else {
+        return Err("a word".into());
+    };
+    if bus.fetch_word(addr) != Some(word) || !bus.console().is_empty() {
+        return Err("another word is fetched, or the console has bytes".into());
+    }
+    Ok(format!(in alloc; "{addr:08x}={word:08x}")?)
+}
+
+pub(super) fn word(alloc: Global, row: &str) -> Result<String, Fail> {
+    let region = region_of(cell_of(row, 2))?;
+    let at = load_at_of(cell_of(row, 3))?;
+    let addr = hex_of(cell_of(row, 4).get(..8).unwrap_or(""))?;
+    let file = file(alloc, cell_of(row, 1))?;
+    let bus = loaded(alloc, &file, region, at)?;
+    word_at(alloc, bus, addr)
 }
 
 #[test]
 fn memory(rt: HostRuntime) -> Result<(), Fail> {
-    for row in WORDS.lines() {
-        assert!(&rt; has_word(rt.alloc(), row)?, "{row}");
-    }
-    Ok(())
+    check(rt.alloc(), "word", WORDS, 17)
 }

@@ -1,7 +1,8 @@
 //! The symbols that addresses belong to.
+use super::{bytes_of, check};
 use rv_elf::{SymbolAt, read_image, symbol_at};
 use rv_isa::Isa;
-use samples::{CHECKSUM, UPPER, UPPER_STRIPPED, changed, file, file_bytes, with_symbols};
+use samples::{BadSample, cell_of, changed, file, hex_of, with_symbols};
 use std::alloc::Global;
 use std::str;
 use std::test::Fail;
@@ -17,7 +18,7 @@ fn text_of(alloc: Global, place: Option<SymbolAt>) -> Result<String, Fail> {
 
 // What the address of a file belongs to.
 fn place_in(alloc: Global, file: &[u8], addr: &str) -> Result<String, Fail> {
-    let addr = u32::from_str_radix(addr, 16)?;
+    let addr = hex_of(addr)?;
     let image = read_image(alloc, file, Isa::Imc)?;
     text_of(alloc, symbol_at(&image, file, addr))
 }
@@ -70,21 +71,19 @@ one 60=fffffff0 72=00000010 | top=fffffff4/02/0001 | ffffffff | top+b
 one | | 80000000 | none
 ";
 
-// Whether the address of a row belongs to what it says.
-fn has_place(alloc: Global, row: &str) -> Result<bool, Fail> {
-    let mut cells = row.split('|');
-    let file = file(alloc, cells.next().unwrap_or("").trim())?;
-    let file = with_symbols(alloc, &file, cells.next().unwrap_or(""))?;
-    let place = place_in(alloc, &file, cells.next().unwrap_or("").trim())?;
-    Ok(place.as_str() == cells.next().unwrap_or("").trim())
+fn file_with(alloc: Global, text: &str, symbols: &str) -> Result<Vec<u8>, BadSample> {
+    let plain = file(alloc, text)?;
+    with_symbols(alloc, &plain, symbols)
+}
+
+pub(super) fn place(alloc: Global, row: &str) -> Result<String, Fail> {
+    let file = file_with(alloc, cell_of(row, 0), cell_of(row, 1))?;
+    place_in(alloc, &file, cell_of(row, 2))
 }
 
 #[test]
 fn places(rt: HostRuntime) -> Result<(), Fail> {
-    for row in PLACES.lines() {
-        assert!(&rt; has_place(rt.alloc(), row)?, "{row}");
-    }
-    Ok(())
+    check(rt.alloc(), "place", PLACES, 42)
 }
 
 // Of the file `one` with the symbol `main` at 80000004: the symbol is at 112, the strings `\0main\0` at 128, and the
@@ -110,41 +109,40 @@ const TABLES: &str = "\
 234=ff | none
 ";
 
-// Whether a file with such changes answers as the row says.
-fn has_place_changed(alloc: Global, row: &str) -> Result<bool, Fail> {
-    let mut cells = row.split('|');
-    let file = with_symbols(alloc, &file(alloc, "one")?, "main=80000004/02/0001")?;
-    let file = changed(alloc, &file, cells.next().unwrap_or("").trim())?;
-    let place = place_in(alloc, &file, "80000006")?;
-    Ok(place.as_str() == cells.next().unwrap_or("").trim())
+fn file_of_changes(alloc: Global, changes: &str) -> Result<Vec<u8>, BadSample> {
+    let file = file_with(alloc, "one", "main=80000004/02/0001")?;
+    changed(alloc, &file, changes)
+}
+
+pub(super) fn place_by_table(alloc: Global, row: &str) -> Result<String, Fail> {
+    let file = file_of_changes(alloc, cell_of(row, 0))?;
+    place_in(alloc, &file, "80000006")
 }
 
 #[test]
 fn tables(rt: HostRuntime) -> Result<(), Fail> {
-    for row in TABLES.lines() {
-        assert!(&rt; has_place_changed(rt.alloc(), row)?, "{row}");
-    }
-    Ok(())
+    check(rt.alloc(), "table", TABLES, 16)
 }
 
 // Of the example firmware, by its symbols as `riscv64-unknown-elf-nm` prints them.
-const EXAMPLES: [(&str, &str, &str); 7] = [
-    (CHECKSUM, "80000000", "start+0"),
-    (CHECKSUM, "8000004f", "start+4f"),
-    (CHECKSUM, "80000050", "main+0"),
-    (CHECKSUM, "80080000", "none"),
-    (UPPER, "800000c7", "main+77"),
-    (UPPER, "80080003", "data_begin+3"),
-    (UPPER_STRIPPED, "80000000", "none"),
-];
+//
+// image | address | what it belongs to
+const EXAMPLES: &str = "\
+checksum | 80000000 | start+0
+checksum | 8000004f | start+4f
+checksum | 80000050 | main+0
+checksum | 80080000 | none
+upper | 800000c7 | main+77
+upper | 80080003 | data_begin+3
+stripped | 80000000 | none
+";
+
+pub(super) fn place_of_example(alloc: Global, row: &str) -> Result<String, Fail> {
+    let file = bytes_of(alloc, cell_of(row, 0))?;
+    place_in(alloc, &file, cell_of(row, 1))
+}
 
 #[test]
 fn places_of_the_examples(rt: HostRuntime) -> Result<(), Fail> {
-    let alloc = rt.alloc();
-    for (groups, addr, place) in EXAMPLES {
-        let file = file_bytes(alloc, groups)?;
-        let found = place_in(alloc, &file, addr)?;
-        assert_eq!(&rt; found.as_str(), place, "{addr}");
-    }
-    Ok(())
+    check(rt.alloc(), "example", EXAMPLES, 7)
 }

@@ -1,154 +1,145 @@
 //! The values of symbols, and the ranges of signatures.
-use super::MEMORY;
+use super::{MEMORY, bytes_of, check, name_of};
 use rv_elf::{ImageError, check_signature, find_symbol, read_image};
 use rv_isa::Isa;
 use rv_memory::{Map, Region};
-use samples::{CHECKSUM, SIGNATURE, UPPER, UPPER_STRIPPED, changed, file_bytes};
-use std::alloc::Global;
-use std::process::Abort;
+use samples::{cell_of, hex_of};
+use std::alloc::{AllocError, Global};
 use std::test::Fail;
 
-// What asking a file for a symbol answers: eight digits of its value, or the refusal's name.
+// Eight digits of a value, or the refusal's name.
+fn told(alloc: Global, found: Result<u32, ImageError>) -> Result<String, AllocError> {
+    match found {
+        Ok(value) => format!(in alloc; "{value:08x}"),
+        Err(error) => name_of(alloc, Some(error)),
+    }
+}
+
+// What asking a file for a symbol answers.
 fn symbol_in(alloc: Global, file: &[u8], name: &str) -> Result<String, Fail> {
-    let image = read_image(alloc, file, Isa::Imc)?;
     if name.is_empty() {
-        return Ok(String::from_str(alloc, "no name")?);
+        return Err("a name".into());
     }
-    Ok(match find_symbol(&image, file, name.as_bytes()) {
-        Ok(value) => format!(in alloc; "{value:08x}")?,
-        Err(error) => format!(in alloc; "{error:?}")?,
-    })
+    let image = read_image(alloc, file, Isa::Imc)?;
+    Ok(told(alloc, find_symbol(&image, file, name.as_bytes()))?)
 }
 
-// Rows of changes to the file, a name, and the answer.
-fn expect_symbols(rt: &impl Abort, alloc: Global, groups: &str, rows: &str) -> Result<(), Fail> {
-    let file = file_bytes(alloc, groups)?;
-    for row in rows.lines() {
-        let mut cells = row.split('|');
-        let changes = cells.next().unwrap_or("").trim();
-        let name = cells.next().unwrap_or("").trim();
-        let answer = cells.next().unwrap_or("").trim();
-        let file = changed(alloc, &file, changes)?;
-        let found = symbol_in(alloc, &file, name)?;
-        assert_eq!(rt; found.as_str(), answer, "{row}");
-    }
-    Ok(())
+pub(super) fn value(alloc: Global, row: &str) -> Result<String, Fail> {
+    let file = bytes_of(alloc, cell_of(row, 0))?;
+    symbol_in(alloc, &file, cell_of(row, 1))
 }
 
-// The section headers of the file are at 212, 252 and 292; its symbols at 132, 148 and 164.
+// The section headers of the file `sign` are at 212, 252 and 292; its symbols at 132, 148 and 164.
+//
+// file | symbol | the digits of its value, or what is wrong
 const SIGNATURE_ROWS: &str = "\
-| begin_signature | 80000028
-| end_signature | 80000030
-| signature | NoBegin
-| begin_signatur | NoBegin
-| begin_signature2 | NoBegin
-| egin_signature | NoBegin
-148=00000002 | egin_signature | 80000028
-148=ffffffff | begin_signature | NoBegin
-162=0000 | begin_signature | NoBegin
-162=0000 | end_signature | 80000030
-164=01 | begin_signature | 80000028
-164=01 | end_signature | NoBegin
-312=1e | end_signature | NoBegin
-32=00000000 | begin_signature | NoSymbols
-32=ffffffff | begin_signature | SectionTable
-32=d5 | begin_signature | SectionTable
-46=27 | begin_signature | SectionTable
-48=0000 | begin_signature | SectionTable
-48=ffff | begin_signature | SectionTable
-48=01 | begin_signature | NoSymbols
-256=00 | begin_signature | NoSymbols
-256=00 32=ffffffff | begin_signature | SectionTable
-288=00 | begin_signature | SymbolTable
-272=31 | begin_signature | SymbolTable
-268=ffffffff | begin_signature | SymbolTable
-268=011d | begin_signature | SymbolTable
-288=00 276=ffffffff | begin_signature | SymbolTable
-272=00 | begin_signature | NoBegin
-272=20 | end_signature | NoBegin
-276=ffffffff | begin_signature | StringTable
-276=03 | begin_signature | StringTable
-296=00 | begin_signature | StringTable
-308=012e | begin_signature | StringTable
-312=00 | begin_signature | NoBegin";
+sign | begin_signature | 80000028
+sign | end_signature | 80000030
+sign | signature | NoBegin
+sign | begin_signatur | NoBegin
+sign | begin_signature2 | NoBegin
+sign | egin_signature | NoBegin
+sign 148=00000002 | egin_signature | 80000028
+sign 148=ffffffff | begin_signature | NoBegin
+sign 162=0000 | begin_signature | NoBegin
+sign 162=0000 | end_signature | 80000030
+sign 164=01 | begin_signature | 80000028
+sign 164=01 | end_signature | NoBegin
+sign 312=1e | end_signature | NoBegin
+sign 32=00000000 | begin_signature | NoSymbols
+sign 32=ffffffff | begin_signature | SectionTable
+sign 32=d5 | begin_signature | SectionTable
+sign 46=27 | begin_signature | SectionTable
+sign 48=0000 | begin_signature | SectionTable
+sign 48=ffff | begin_signature | SectionTable
+sign 48=01 | begin_signature | NoSymbols
+sign 256=00 | begin_signature | NoSymbols
+sign 256=00 32=ffffffff | begin_signature | SectionTable
+sign 288=00 | begin_signature | SymbolTable
+sign 272=31 | begin_signature | SymbolTable
+sign 268=ffffffff | begin_signature | SymbolTable
+sign 268=011d | begin_signature | SymbolTable
+sign 288=00 276=ffffffff | begin_signature | SymbolTable
+sign 272=00 | begin_signature | NoBegin
+sign 272=20 | end_signature | NoBegin
+sign 276=ffffffff | begin_signature | StringTable
+sign 276=03 | begin_signature | StringTable
+sign 296=00 | begin_signature | StringTable
+sign 308=012e | begin_signature | StringTable
+sign 312=00 | begin_signature | NoBegin
+";
 
 #[test]
 fn symbols(rt: HostRuntime) -> Result<(), Fail> {
-    expect_symbols(&rt, rt.alloc(), SIGNATURE, SIGNATURE_ROWS)
+    check(rt.alloc(), "symbol", SIGNATURE_ROWS, 34)
 }
 
 // The example firmware's symbols, as `riscv64-unknown-elf-nm` prints them.
+const EXAMPLES: &str = "\
+checksum | start | 80000000
+checksum | main | 80000050
+checksum | table | 80080000
+checksum | data_image | 80000114
+checksum | data_begin | 80080000
+checksum | bss_end | 80080400
+checksum | stack_top | 80100000
+checksum | stack | NoBegin
+upper | start | 80000000
+upper | main | 80000050
+upper | changed | 80080004
+upper | prompt | 80080000
+upper | data_image | 800000c8
+upper | data_end | 80080004
+upper | table | NoBegin
+stripped | start | NoSymbols
+";
+
 #[test]
 fn symbols_of_the_examples(rt: HostRuntime) -> Result<(), Fail> {
-    let checksum = "\
-| start | 80000000
-| main | 80000050
-| table | 80080000
-| data_image | 80000114
-| data_begin | 80080000
-| bss_end | 80080400
-| stack_top | 80100000
-| stack | NoBegin";
-    let upper = "\
-| start | 80000000
-| main | 80000050
-| changed | 80080004
-| prompt | 80080000
-| data_image | 800000c8
-| data_end | 80080004
-| table | NoBegin";
-    expect_symbols(&rt, rt.alloc(), CHECKSUM, checksum)?;
-    expect_symbols(&rt, rt.alloc(), UPPER, upper)?;
-    expect_symbols(&rt, rt.alloc(), UPPER_STRIPPED, "| start | NoSymbols")
+    check(rt.alloc(), "symbol", EXAMPLES, 16)
 }
 
-// Whether there is a signature from one address up to another.
-fn is_signature(map: &Map, begin: u32, end: u32) -> bool {
-    check_signature(begin, end, map).is_ok()
+const LOW: Region = Region {
+    base: 0x2000_0000,
+    size: 8,
+    writable: true,
+};
+
+const HIGH: Region = Region {
+    base: 0x2000_0008,
+    ..LOW
+};
+
+// What is wrong with a signature from one address up to another.
+pub(super) fn of_range(alloc: Global, row: &str) -> Result<String, Fail> {
+    let begin = hex_of(cell_of(row, 0))?;
+    let end = hex_of(cell_of(row, 1))?;
+    let map = Map::of(&[MEMORY, LOW, HIGH])?;
+    Ok(name_of(alloc, check_signature(begin, end, &map).err())?)
 }
 
-// begin, end, and whether there is a signature between them
-const SIGNATURE_RANGES: [(u32, u32, bool); 16] = [
-    (0x8000_0000, 0x8004_0000, true),
-    (0x8000_0000, 0x8004_0004, false),
-    (0x8000_0004, 0x8004_0008, false),
-    (0, 0, true),
-    (0x8000_0004, 0x8000_0000, false),
-    (0x8000_0001, 0x8000_0004, false),
-    (0x8000_0002, 0x8000_0004, false),
-    (0x8000_0000, 0x8000_0001, false),
-    (0x8000_0000, 0x8000_0002, false),
-    (0x8000_0001, 0x8000_0001, false),
-    (0x8000_0002, 0x8000_0002, false),
-    (0x800f_fffc, 0x8010_0000, true),
-    (0x800f_fffc, 0x8010_0004, false),
-    (0x7fff_fffc, 0x8000_0004, false),
-    (0x2000_0008, 0x2000_0010, true),
-    (0x2000_0004, 0x2000_000c, false),
-];
+// begin | end | what is wrong
+const SIGNATURE_RANGES: &str = "\
+80000000 | 80040000 | good
+80000000 | 80040004 | SignatureRange
+80000004 | 80040008 | SignatureRange
+00000000 | 00000000 | good
+80000004 | 80000000 | SignatureRange
+80000001 | 80000004 | SignatureRange
+80000002 | 80000004 | SignatureRange
+80000000 | 80000001 | SignatureRange
+80000000 | 80000002 | SignatureRange
+80000001 | 80000001 | SignatureRange
+80000002 | 80000002 | SignatureRange
+800ffffc | 80100000 | good
+800ffffc | 80100004 | SignatureRange
+7ffffffc | 80000004 | SignatureRange
+20000008 | 20000010 | good
+20000004 | 2000000c | SignatureRange
+00000004 | 00000000 | SignatureRange
+";
 
 #[test]
 fn signature_ranges(rt: HostRuntime) -> Result<(), Fail> {
-    let low = Region {
-        base: 0x2000_0000,
-        size: 8,
-        writable: true,
-    };
-    let high = Region {
-        base: 0x2000_0008,
-        ..low
-    };
-    let map = Map::of(&[MEMORY, low, high])?;
-    for (begin, end, good) in SIGNATURE_RANGES {
-        assert_eq!(&rt;
-            is_signature(&map, begin, end),
-            good,
-            "{begin:x} to {end:x}"
-        );
-    }
-    assert_eq!(&rt;
-        check_signature(4, 0, &map),
-        Err(ImageError::SignatureRange)
-    );
-    Ok(())
+    check(rt.alloc(), "range", SIGNATURE_RANGES, 17)
 }

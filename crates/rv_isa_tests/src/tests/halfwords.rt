@@ -118,7 +118,7 @@ fn each_set_has_the_halfwords_of_its_letters(rt: HostRuntime) -> Result<(), Fail
         ("rv32ic", OWN),
         ("rv32imc", OWN),
     ] {
-        check(&rt, rt.alloc(), set, answer, HALFWORDS, 75)?;
+        check(rt.alloc(), set, answer, HALFWORDS, 75)?;
     }
     Ok(())
 }
@@ -126,7 +126,7 @@ fn each_set_has_the_halfwords_of_its_letters(rt: HostRuntime) -> Result<(), Fail
 #[test]
 fn no_other_halfword_has_a_meaning(rt: HostRuntime) -> Result<(), Fail> {
     for ask in ["expand", "rv32i", "rv32im", "rv32ic", "rv32imc"] {
-        check(&rt, rt.alloc(), ask, NONE, HALFWORDS_WITHOUT_A_ROW, 25)?;
+        check(rt.alloc(), ask, NONE, HALFWORDS_WITHOUT_A_ROW, 25)?;
     }
     Ok(())
 }
@@ -146,7 +146,7 @@ all ones | ffff
 #[test]
 fn a_halfword_stands_for_a_word(rt: HostRuntime) -> Result<(), Fail> {
     let alloc = rt.alloc();
-    check(&rt, alloc, "expand", OWN, EXPANDED, 2)?;
-    check(&rt, alloc, "length", "short", HALFWORDS, 75)?;
-    check(&rt, alloc, "length", "long", BEGINNINGS, 2)
+    check(alloc, "expand", OWN, EXPANDED, 2)?;
+    check(alloc, "length", "short", HALFWORDS, 75)?;
+    check(alloc, "length", "long", BEGINNINGS, 2)
 }

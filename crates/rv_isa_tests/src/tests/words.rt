@@ -114,7 +114,7 @@ addw | 0000003b
 fn each_set_has_the_words_of_its_letters(rt: HostRuntime) -> Result<(), Fail> {
     let alloc = rt.alloc();
     for set in ["rv32i", "rv32im", "rv32ic", "rv32imc"] {
-        check(&rt, alloc, set, OWN, WORDS, 57)?;
+        check(alloc, set, OWN, WORDS, 57)?;
     }
     for (set, answer) in [
         ("rv32i", NONE),
@@ -122,7 +122,7 @@ fn each_set_has_the_words_of_its_letters(rt: HostRuntime) -> Result<(), Fail> {
         ("rv32ic", NONE),
         ("rv32imc", OWN),
     ] {
-        check(&rt, alloc, set, answer, PRODUCTS, 8)?;
+        check(alloc, set, answer, PRODUCTS, 8)?;
     }
     Ok(())
 }
@@ -130,7 +130,7 @@ fn each_set_has_the_words_of_its_letters(rt: HostRuntime) -> Result<(), Fail> {
 #[test]
 fn no_other_word_has_a_meaning(rt: HostRuntime) -> Result<(), Fail> {
     for set in ["rv32i", "rv32im", "rv32ic", "rv32imc"] {
-        check(&rt, rt.alloc(), set, NONE, WORDS_WITHOUT_A_ROW, 31)?;
+        check(rt.alloc(), set, NONE, WORDS_WITHOUT_A_ROW, 31)?;
     }
     Ok(())
 }

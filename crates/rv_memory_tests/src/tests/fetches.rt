@@ -33,7 +33,7 @@ the stored byte | fetch word 2000000a | 66554433
 
 #[test]
 fn fetches(rt: HostRuntime) -> Result<(), Fail> {
-    check(&rt, rt.alloc(), REFUSING, FETCHES)
+    check(rt.alloc(), REFUSING, FETCHES)
 }
 
 // label | ask | answer
@@ -56,7 +56,7 @@ two halves | clean 2000000c 4 | yes
 
 #[test]
 fn clean_bytes(rt: HostRuntime) -> Result<(), Fail> {
-    check(&rt, rt.alloc(), REFUSING, CLEAN)
+    check(rt.alloc(), REFUSING, CLEAN)
 }
 
 // One round: label | ask | answer
@@ -74,7 +74,6 @@ fn marks_of_many_rounds(rt: HostRuntime) -> Result<(), Fail> {
     let alloc = rt.alloc();
     let mut bus = bus_of(alloc, "refuse | 20000008+8 |")?;
     ask(
-        &rt,
         alloc,
         &mut bus,
         "one byte | store byte 2000000c 01 | done",
@@ -83,7 +82,7 @@ fn marks_of_many_rounds(rt: HostRuntime) -> Result<(), Fail> {
     for round in 0..300u32 {
         let next = round + 1;
         let line = format!(in alloc; "{round:08x} | {next:08x}")?;
-        ask(&rt, alloc, &mut bus, ROUND, &line)?;
+        ask(alloc, &mut bus, ROUND, &line)?;
     }
     Ok(())
 }

@@ -30,9 +30,9 @@ fn renewed_buses(rt: HostRuntime) -> Result<(), Fail> {
     let alloc = rt.alloc();
     for setup in ["allow | 30000000+8 | 42", "allow | 30000000+c | 42"] {
         let mut used = bus_of(alloc, "refuse | 20000008+8 | 41")?;
-        ask(&rt, alloc, &mut used, USED, "")?;
+        ask(alloc, &mut used, USED, "")?;
         let mut bus = renewed(alloc, used, setup)?;
-        ask(&rt, alloc, &mut bus, RENEWED, "")?;
+        ask(alloc, &mut bus, RENEWED, "")?;
     }
     Ok(())
 }
@@ -59,5 +59,5 @@ $0 : its byte | console | 1 to 21
 
 #[test]
 fn the_limits_of_a_bus(rt: HostRuntime) -> Result<(), Fail> {
-    check_each(&rt, rt.alloc(), "refuse | $1 | $2", AT_A_LIMIT, LIMITS)
+    check_each(rt.alloc(), "refuse | $1 | $2", AT_A_LIMIT, LIMITS)
 }

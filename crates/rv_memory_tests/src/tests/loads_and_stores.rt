@@ -24,7 +24,7 @@ misaligned, nothing there | load word 80000002 | Misaligned
 
 #[test]
 fn loads_and_stores(rt: HostRuntime) -> Result<(), Fail> {
-    check(&rt, rt.alloc(), REFUSING, LOADS_AND_STORES)
+    check(rt.alloc(), REFUSING, LOADS_AND_STORES)
 }
 
 // label | ask | answer
@@ -54,5 +54,5 @@ a full console | console | 65536 to 2e
 
 #[test]
 fn console(rt: HostRuntime) -> Result<(), Fail> {
-    check(&rt, rt.alloc(), "refuse | 20000008+8 | 41 42", CONSOLE)
+    check(rt.alloc(), "refuse | 20000008+8 | 41 42", CONSOLE)
 }

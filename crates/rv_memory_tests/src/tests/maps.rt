@@ -3,7 +3,7 @@ use super::asks::{is_in_one, pair_of};
 use super::setups::{map_of, regions_of};
 use super::{REFUSING, check};
 use rv_memory::Map;
-use samples::cell_of;
+use samples::{agree, cell_of};
 use std::alloc::Global;
 use std::test::Fail;
 
@@ -41,7 +41,7 @@ fn refusal(alloc: Global, regions: &str) -> Result<String, Fail> {
 fn maps(rt: HostRuntime) -> Result<(), Fail> {
     for row in MAPS.lines() {
         let found = refusal(rt.alloc(), cell_of(row, 1))?;
-        assert_eq!(&rt; found.as_str(), cell_of(row, 2), "{row}");
+        agree(row, found.as_str(), cell_of(row, 2))?;
     }
     Ok(())
 }
@@ -72,7 +72,7 @@ fn bytes_in_one_region(rt: HostRuntime) -> Result<(), Fail> {
     for row in IN_ONE.lines() {
         let map = map_of(rt.alloc(), cell_of(row, 1))?;
         let found = is_in_one(map, pair_of(cell_of(row, 2))?);
-        assert_eq!(&rt; found, cell_of(row, 3), "{row}");
+        agree(row, found, cell_of(row, 3))?;
     }
-    check(&rt, rt.alloc(), REFUSING, IN_A_BUS)
+    check(rt.alloc(), REFUSING, IN_A_BUS)
 }

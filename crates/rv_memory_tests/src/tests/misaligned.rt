@@ -27,8 +27,8 @@ $0 | $1 | $3
 
 #[test]
 fn misaligned_loads(rt: HostRuntime) -> Result<(), Fail> {
-    check_each(&rt, rt.alloc(), ALLOWING, ALLOWED, MISALIGNED_LOADS)?;
-    check_each(&rt, rt.alloc(), REFUSING, REFUSED, MISALIGNED_LOADS)
+    check_each(rt.alloc(), ALLOWING, ALLOWED, MISALIGNED_LOADS)?;
+    check_each(rt.alloc(), REFUSING, REFUSED, MISALIGNED_LOADS)
 }
 
 // a store into a new bus | the word there | the next word | `x` for each of their halfwords that is stale
@@ -52,7 +52,7 @@ $0 : their halfwords | stale 20000008 | $3
 #[test]
 fn misaligned_stores(rt: HostRuntime) -> Result<(), Fail> {
     let setup = "allow | 20000008+8 |";
-    check_each(&rt, rt.alloc(), setup, STORED, MISALIGNED_STORES)
+    check_each(rt.alloc(), setup, STORED, MISALIGNED_STORES)
 }
 
 // At the border of two regions: label | ask | answer
@@ -83,8 +83,8 @@ half at 3 bytes | load half fffffffd | 00001234
 // Under `Allow` an access still lies in one region, which for a store is a writable one.
 #[test]
 fn misaligned_accesses_at_borders(rt: HostRuntime) -> Result<(), Fail> {
-    check(&rt, rt.alloc(), ALLOWING, BORDERS)?;
-    check(&rt, rt.alloc(), "allow | fffffff8+8 |", LAST_ADDRESSES)
+    check(rt.alloc(), ALLOWING, BORDERS)?;
+    check(rt.alloc(), "allow | fffffff8+8 |", LAST_ADDRESSES)
 }
 
 // Between two regions: label | ask | answer
@@ -119,5 +119,5 @@ its output | console | 1 to 34
 #[test]
 fn misaligned_accesses_at_the_console(rt: HostRuntime) -> Result<(), Fail> {
     let setup = "allow | 0ffffff0+10 10000010+10 |";
-    check(&rt, rt.alloc(), setup, AT_THE_CONSOLE)
+    check(rt.alloc(), setup, AT_THE_CONSOLE)
 }

@@ -19,7 +19,7 @@ const ALL_BUT_ONE: &str =
 
 #[test]
 fn words_of_memory(rt: HostRuntime) -> Result<(), Fail> {
-    check(&rt, rt.alloc(), REFUSING, WORDS)?;
+    check(rt.alloc(), REFUSING, WORDS)?;
     let setup = "refuse | ff000000+1000000 |";
-    check(&rt, rt.alloc(), setup, ALL_BUT_ONE)
+    check(rt.alloc(), setup, ALL_BUT_ONE)
 }
