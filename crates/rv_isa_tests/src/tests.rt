@@ -85,13 +85,7 @@ fn answer(alloc: Global, ask: &str, digits: &str) -> Result<String, Fail> {
 }
 
 // Whether each encoding of a table has an answer, or its own.
-fn check(
-    alloc: Global,
-    ask: &str,
-    wanted: &str,
-    rows: &str,
-    lines: usize,
-) -> Result<(), Fail> {
+fn check(alloc: Global, ask: &str, wanted: &str, rows: &str, lines: usize) -> Result<(), Fail> {
     has_lines(rows, lines)?;
     for row in rows.lines() {
         let answer = answer(alloc, ask, cell_of(row, 1))?;
