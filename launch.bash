@@ -32,8 +32,8 @@ sources() {
     (cd "$root" && {
         sed '/^samples:/,$d' crates.txt
         cat HANDLES
-        # A crate may lack a folder; what find says of that is no news.
-        find "${folders[@]/#/crates/}" \( -path '*/src/*' -o -path '*/specs/*' -o -path '*/proofs/*' \) -type f -print0 |
+        # What a build makes lies in `out`, and has folders of these names too.
+        find "${folders[@]/#/crates/}" -name out -prune -o \( -path '*/src/*' -o -path '*/specs/*' -o -path '*/proofs/*' \) -type f -print0 |
             LC_ALL=C sort -z | xargs -0 sha256sum
     } | sha256sum | cut -d ' ' -f 1)
 }
