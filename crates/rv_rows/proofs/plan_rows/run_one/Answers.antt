@@ -4,6 +4,9 @@ use Rattle.rv_lists.specs.Jobs.{single_job}
 use Rattle.rv_rows.specs.Rows.{row_of}
 use Rattle.rv_rows.proofs.plan_rows.run_one.Goals as goal
 
+pub loop-i-init : goal.loop-i-init
+loop-i-init c = record { rows = c.new-rows.ensures.items; recent = c.new-recent.ensures c.args.plan.now; }
+
 pub loop-i-preserved : goal.loop-i-preserved
 loop-i-preserved c =
     let any = single_job [] 0 [] in
