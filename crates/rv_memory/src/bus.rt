@@ -25,9 +25,9 @@ pub struct Bus {
     pub(crate) map: Map,
     // The bytes of the regions, one region after another, and their marks.
     pub(crate) bytes: Vec<u8>,
-    pub(crate) marks: Vec<u8>,
+    pub(crate) marks: Vec<u16>,
     // A byte is stored where its mark is this generation; the older ones are below it.
-    pub(crate) generation: u8,
+    pub(crate) generation: u16,
     pub(crate) console: Vec<u8>,
     pub(crate) script: Vec<u8>,
     // How many bytes of the script were read.
@@ -173,7 +173,7 @@ impl Bus {
     pub fn sync_code(&mut self)
         ensures { self.new ≡ without_stored self.old }
     {
-        if self.generation < u8::MAX {
+        if self.generation < u16::MAX {
             self.generation += 1;
         } else {
             self.marks.fill(0);
