@@ -7,6 +7,7 @@
 //! memory once a machine is made.
 #![tactic(auto)]
 
+mod accesses;
 mod alu;
 mod ending;
 mod execute;
@@ -16,6 +17,7 @@ mod kept;
 mod last_instruction;
 mod limits;
 mod machine;
+mod transfers;
 
 pub use ending::{Ending, FaultKind, Outcome};
 pub use machine::Machine;

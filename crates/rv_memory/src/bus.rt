@@ -3,13 +3,15 @@ ghost use Rattle.std.specs.Prelude.{◌≡◌, ◌+◌, ◌*◌, ◌/◌, ◌%�
 ghost use Rattle.std.specs.Prelude.{None, length};
 ghost use Rattle.rv_memory.specs.Regions.{in_one};
 ghost use Rattle.rv_memory.specs.Maps.{map_error};
+ghost use Rattle.rv_memory.specs.Inside.Places.{IsPlace};
 ghost use Rattle.rv_memory.specs.Bus.{size_of, load_from, store_to, fetch_half_from, fetch_word_from, clean_from};
-ghost use Rattle.rv_memory.specs.Bus.{without_stored, with_bytes};
+ghost use Rattle.rv_memory.specs.Bus.{put, without_stored, with_bytes};
 
 use crate::access::{Misaligned, Width, read, read_word, write};
 use crate::faults::{BusFault, FetchFault};
 use crate::map::Map;
 use crate::marks::{has_mark, mark};
+use crate::place::Place;
 use std::marker::Model;
 
 /// The memory of a map with its marks of stored bytes, and the console.
@@ -23,9 +25,9 @@ pub struct Bus {
     pub(crate) map: Map,
     // The bytes of the regions, one region after another, and their marks.
     pub(crate) bytes: Vec<u8>,
-    pub(crate) marks: Vec<u8>,
+    pub(crate) marks: Vec<u16>,
     // A byte is stored where its mark is this generation; the older ones are below it.
-    pub(crate) generation: u8,
+    pub(crate) generation: u16,
     pub(crate) console: Vec<u8>,
     pub(crate) script: Vec<u8>,
     // How many bytes of the script were read.
@@ -71,6 +73,11 @@ impl Bus {
         ensures value { MatchResult result (λ v. load_from self.old addr width ≡ Ok (v, self.new))
             (λ e. (load_from self.old addr width ≡ Err e) × (self.new ≡ self.old)) }
     {
+        if width.divides(addr) {
+            if let Some(place) = self.map.first_place(addr, width) {
+                return Ok(read(&self.bytes, place.at, width));
+            }
+        }
         if self.misaligned.refuses(addr, width) {
             return Err(BusFault::Misaligned);
         }
@@ -87,6 +94,14 @@ impl Bus {
         ensures { MatchResult result (λ _. store_to self.old addr width value ≡ Ok self.new)
             (λ e. (store_to self.old addr width value ≡ Err e) × (self.new ≡ self.old)) }
     {
+        if width.divides(addr) {
+            if let Some(place) = self.map.first_place(addr, width) {
+                if place.writable {
+                    self.put(place, addr, width, value);
+                    return Ok(());
+                }
+            }
+        }
         if self.misaligned.refuses(addr, width) {
             return Err(BusFault::Misaligned);
         }
@@ -96,9 +111,20 @@ impl Bus {
         if !place.writable {
             return Err(BusFault::Access);
         }
+        self.put(place, addr, width, value);
+        Ok(())
+    }
+
+    // Writes the low bytes of a value at the place of an address, and marks them as stored.
+    #[inline(always)]
+    fn put(&mut self, place: Place, addr: u32, width: Width, value: u32)
+        requires { IsPlace self.old.regions addr (size_of width) place.at place.writable }
+        ensures { self.new ≡ put self.old addr width value }
+    {
+        // The clauses alone speak of the address.
+        let _ = addr;
         write(&mut self.bytes, place.at, width, value);
         mark(&mut self.marks, place.at, width, self.generation);
-        Ok(())
     }
 
     /// The halfword of the two bytes at an address, which may be odd.
@@ -147,7 +173,7 @@ impl Bus {
     pub fn sync_code(&mut self)
         ensures { self.new ≡ without_stored self.old }
     {
-        if self.generation < u8::MAX {
+        if self.generation < u16::MAX {
             self.generation += 1;
         } else {
             self.marks.fill(0);

@@ -23,7 +23,7 @@ impl Bus {
     {
         let total = map.total();
         let bytes = vec![in alloc; 0u8; total]?;
-        let marks = vec![in alloc; 0u8; total]?;
+        let marks = vec![in alloc; 0u16; total]?;
         let console = Vec::with_capacity(alloc, CONSOLE_ROOM)?;
         Ok(Bus {
             map,

@@ -1,0 +1,89 @@
+//! The instructions that reach memory: loads and stores.
+ghost use Rattle.std.specs.Prelude.{◌≡◌, ◌<◌, ◌*◌, ◌^◌, MatchResult, false, is_ok, Ok};
+ghost use Rattle.rv_isa.specs.Words.{IsWellFormed};
+ghost use Rattle.rv_memory.specs.Bus.{size_of};
+ghost use Rattle.rv_machine.specs.Effect.{address, load as load_of, load_value, store as store_of};
+ghost use Rattle.rv_machine.specs.KeptTable.{with_asleep_over};
+ghost use Rattle.rv_machine.specs.State.{at_pc};
+
+use crate::ending::Ends;
+use crate::hart::{Hart, jump};
+use crate::kept::KeptTable;
+use crate::transfers::offset;
+use rv_isa::{Instr, sign_extend};
+use rv_memory::Width;
+
+/// What a load makes of a value that is narrower than a word.
+#[derive(Clone, Copy)]
+pub(crate) enum Extend {
+    Zero,
+    Sign,
+}
+
+impl Hart {
+    /// A load: the value goes into its register.
+    #[inline]
+    pub(crate) fn load(
+        &mut self,
+        pc: &mut u32,
+        instr: Instr,
+        width: Width,
+        extend: Extend,
+        next: u32,
+    ) -> Result<(), Ends>
+        requires { IsWellFormed instr }
+        ensures behind { self.new.pc ≡ self.old.pc }
+        ensures effect { MatchResult result
+            (λ _. load_of width extend (at_pc self.old pc.old) instr next
+            ≡ Ok (at_pc self.new pc.new))
+            (λ _. (is_ok (load_of width extend (at_pc self.old pc.old) instr next) ≡ false)
+            × (self.new ≡ self.old) × (pc.new ≡ pc.old)) }
+    {
+        let address = offset(self.registers[instr.rs1 as usize], instr.imm);
+        match self.bus.load(address, width) {
+            Ok(value) => self.complete(pc, instr.rd, load_value(value, width, extend), next),
+            Err(_) => Err(Ends),
+        }
+    }
+
+    /// A store, which puts to sleep what is kept of its bytes.
+    #[inline(always)]
+    pub(crate) fn store(
+        &mut self,
+        table: &mut KeptTable,
+        pc: &mut u32,
+        instr: Instr,
+        width: Width,
+        next: u32,
+    ) -> Result<(), Ends>
+        requires { IsWellFormed instr }
+        ensures behind { self.new.pc ≡ self.old.pc }
+        ensures effect { MatchResult result
+            (λ _. (store_of width (at_pc self.old pc.old) instr next ≡ Ok (at_pc self.new pc.new))
+            × (table.new ≡ with_asleep_over table.old (address self.old instr) width))
+            (λ _. (is_ok (store_of width (at_pc self.old pc.old) instr next) ≡ false)
+            × (self.new ≡ self.old) × (pc.new ≡ pc.old) × (table.new ≡ table.old)) }
+    {
+        let address = offset(self.registers[instr.rs1 as usize], instr.imm);
+        let value = self.registers[instr.rs2 as usize];
+        match self.bus.store(address, width, value) {
+            Ok(()) => {
+                table.sleep_over(address, width);
+                jump(pc, next)
+            }
+            Err(_) => Err(Ends),
+        }
+    }
+}
+
+#[inline]
+fn load_value(value: u32, width: Width, extend: Extend) -> u32
+    requires { value < 2 ^ (8 * size_of width) }
+    ensures { result ≡ load_value extend width value }
+{
+    match (extend, width) {
+        (Extend::Sign, Width::Byte) => sign_extend(value, 8).cast_unsigned(),
+        (Extend::Sign, Width::Half) => sign_extend(value, 16).cast_unsigned(),
+        _ => value,
+    }
+}

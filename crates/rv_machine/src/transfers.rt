@@ -1,0 +1,110 @@
+//! Where an instruction leads: the next one, or the target of a jump or a branch.
+ghost use Rattle.std.specs.Prelude.{◌≡◌, ◌+◌, ◌%◌, ◌⊎◌, MatchResult, false, is_ok, Ok, pos, ◌+ℤ◌};
+ghost use Rattle.rv_isa.specs.Bits.{wrap};
+ghost use Rattle.rv_isa.specs.Words.{IsWellFormed};
+ghost use Rattle.rv_machine.specs.Arithmetic.{even};
+ghost use Rattle.rv_machine.specs.Effect.{address, after_branch, after_jump};
+ghost use Rattle.rv_machine.specs.State.{at_pc};
+
+use crate::ending::Ends;
+use crate::hart::{Hart, jump};
+use rv_isa::Instr;
+
+impl Hart {
+    /// The address behind an instruction of `length` bytes. It is found by a branch of the processor, not by a sum, so
+    /// that what stands there is looked up before the length is known.
+    #[inline(always)]
+    pub(crate) fn next_of(&mut self, pc: u32, length: u32) -> u32
+        requires { (length ≡ 2) ⊎ (length ≡ 4) }
+        ensures value { result ≡ (pc + length) % 0x1_0000_0000 }
+        ensures same { self.new ≡ self.old }
+    {
+        if length == 2 {
+            // x0 is 0 already: the store keeps the compiler from making a choice of a value of the branch.
+            self.registers[0] = 0;
+            return pc.wrapping_add(2);
+        }
+        pc.wrapping_add(4)
+    }
+
+    /// JALR: the target is read before the link is written, and its lowest bit is cleared.
+    #[inline]
+    pub(crate) fn jump_by_register(
+        &mut self,
+        pc: &mut u32,
+        instr: Instr,
+        next: u32,
+    ) -> Result<(), Ends>
+        requires { IsWellFormed instr }
+        ensures behind { self.new.pc ≡ self.old.pc }
+        ensures effect { MatchResult result
+            (λ _. after_jump (at_pc self.old pc.old) instr next (even (address self.old instr))
+            ≡ Ok (at_pc self.new pc.new))
+            (λ _.
+            (is_ok (after_jump (at_pc self.old pc.old) instr next (even (address self.old instr)))
+            ≡ false)
+            × (self.new ≡ self.old) × (pc.new ≡ pc.old)) }
+    {
+        let target = offset(self.registers[instr.rs1 as usize], instr.imm) / 2 * 2;
+        self.link(pc, instr, next, target)
+    }
+
+    /// A jump: the link is written where the target is reached.
+    #[inline]
+    pub(crate) fn link(
+        &mut self,
+        pc: &mut u32,
+        instr: Instr,
+        next: u32,
+        target: u32,
+    ) -> Result<(), Ends>
+        requires { IsWellFormed instr }
+        ensures behind { self.new.pc ≡ self.old.pc }
+        ensures effect { MatchResult result
+            (λ _. after_jump (at_pc self.old pc.old) instr next target ≡ Ok (at_pc self.new pc.new))
+            (λ _. (is_ok (after_jump (at_pc self.old pc.old) instr next target) ≡ false)
+            × (self.new ≡ self.old) × (pc.new ≡ pc.old)) }
+    {
+        let refused = self.is_misaligned(target);
+        if refused {
+            return Err(Ends);
+        }
+        self.complete(pc, instr.rd, next, target)
+    }
+
+    /// A branch, of the instruction at `here`, which is the pc.
+    #[inline]
+    pub(crate) fn branch(
+        &mut self,
+        pc: &mut u32,
+        taken: bool,
+        instr: Instr,
+        next: u32,
+        here: u32,
+    ) -> Result<(), Ends>
+        requires { here ≡ pc.old }
+        ensures behind { self.new.pc ≡ self.old.pc }
+        ensures effect { MatchResult result
+            (λ _. after_branch taken (at_pc self.old pc.old) instr next
+            ≡ Ok (at_pc self.new pc.new))
+            (λ _. (is_ok (after_branch taken (at_pc self.old pc.old) instr next) ≡ false)
+            × (self.new ≡ self.old) × (pc.new ≡ pc.old)) }
+    {
+        if taken {
+            let target = offset(here, instr.imm);
+            if self.is_misaligned(target) {
+                return Err(Ends);
+            }
+            return jump(pc, target);
+        }
+        jump(pc, next)
+    }
+}
+
+/// The word at a signed distance from another, modulo 2^32.
+#[inline]
+pub(crate) fn offset(from: u32, by: i32) -> u32
+    ensures { result ≡ wrap (pos from +ℤ by) }
+{
+    from.wrapping_add(by.cast_unsigned())
+}

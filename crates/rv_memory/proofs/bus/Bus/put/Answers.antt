@@ -1,0 +1,56 @@
+use Rattle.std.proofs.Common.{◌≡◌, ◌∙◌, ap, sym, subst, arith, length, ℕ, List}
+use Rattle.rv_memory.specs.declared.map.Region.{Region}
+use Rattle.std.proofs.lemmas.List.{with_items_is}
+use Rattle.rv_memory.specs.Inside.Places.{IsPlace}
+use Rattle.rv_memory.specs.Inside.View.{memory_of, stored_of, written_at, marked_at}
+use Rattle.rv_memory.specs.Bus.{Contents, size_of}
+use Rattle.rv_memory.specs.Inside.Bus.{contents_of}
+use Rattle.rv_memory.proofs.Views.{put-is}
+use Rattle.rv_memory.proofs.Accesses.{length-written_at, length-marked_at, older-marked_at}
+use Rattle.rv_memory.proofs.bus.Bus.put.Goals as goal
+
+abbrev with_both : Contents → List Region → ℕ → List ℕ → List ℕ → Contents
+with_both d rs now bytes marks = record d { memory = memory_of rs bytes; stored = stored_of rs marks now }
+
+joined : (d : Contents) {bs bs' ms ms' : List ℕ} → (rs : List Region) (now : ℕ) → bs ≡ bs' → ms ≡ ms' → with_both
+    d rs now bs ms ≡ with_both d rs now bs' ms'
+joined d rs now e f = λ i. with_both d rs now (e i) (f i)
+
+pub invariant_of-self : goal.invariant_of-self
+invariant_of-self c =
+    let s = c.self.inside in
+    let bytes = with_items_is s.bytes c.write.new.bytes
+    (omega (arith, c.write.auto.bytes, c.deref_mut.ensures.len)) ∙ c.write.ensures
+    ∙ ap (λ x. written_at x c.args.place.at c.args.width c.args.value) c.deref_mut.ensures.value in
+    let marks = with_items_is s.marks c.mark.new.marks
+    (omega (arith, c.mark.auto.marks, c.deref_mut-2.ensures.len)) ∙ c.mark.ensures
+    ∙ ap (λ x. marked_at x c.args.place.at c.args.width s.generation) c.deref_mut-2.ensures.value in
+    record {
+      map = c.self.invariant.map;
+      bytes = ap length bytes ∙ length-written_at _ _ _ _ ∙ c.self.invariant.bytes;
+      marks = ap length marks ∙ length-marked_at _ _ _ _ ∙ c.self.invariant.marks;
+      older = rw marks (older-marked_at _ _ _ _ c.self.invariant.older);
+      generation = c.self.invariant.generation;
+      taken = c.self.invariant.taken;
+      short = c.self.invariant.short;
+      room = c.self.invariant.room;
+      full = c.self.invariant.full;
+    }
+
+pub returns : goal.returns
+returns c =
+    let s = c.self.inside in
+    let d = contents_of s in
+    let at = c.args.place.at in
+    let w = c.args.width in
+    let place = subst (λ (x : Contents). IsPlace x.regions c.args.addr (size_of w) at c.args.place.writable)
+    (sym c.self.view_is) c.requires in
+    let bytes = with_items_is s.bytes c.write.new.bytes
+    (omega (arith, c.write.auto.bytes, c.deref_mut.ensures.len)) ∙ c.write.ensures
+    ∙ ap (λ x. written_at x at w c.args.value) c.deref_mut.ensures.value in
+    let marks = with_items_is s.marks c.mark.new.marks
+    (omega (arith, c.mark.auto.marks, c.deref_mut-2.ensures.len)) ∙ c.mark.ensures
+    ∙ ap (λ x. marked_at x at w s.generation) c.deref_mut-2.ensures.value in
+    let same = put-is s.map d s.bytes.items s.marks.items s.generation c.args.addr at c.args.value w
+    c.args.place.writable place c.self.invariant.bytes c.self.invariant.marks in
+    rw (← c.self.view_is) (joined d s.map s.generation bytes marks ∙ same)

@@ -1,0 +1,111 @@
+//! Where the bytes of an access stand among those of all regions.
+ghost use Rattle.std.specs.Prelude.{◌≡◌, ◌+◌, ◌%◌, ◌<◌, ◌≤◌, IfSome, MatchOption, false, true};
+ghost use Rattle.std.specs.List.{list_any, list_all};
+ghost use Rattle.rv_memory.specs.Bus.{size_of};
+ghost use Rattle.rv_memory.specs.Inside.Places.{IsPlace, search_place};
+ghost use Rattle.rv_memory.specs.Maps.{is_aligned, is_sized};
+ghost use Rattle.rv_memory.specs.Regions.{covers, total_size};
+
+use crate::access::Width;
+use crate::limits::MAP_ROOM;
+use crate::map::{Map, Region};
+
+/// Where the bytes of an access stand among the bytes of all regions.
+#[derive(Clone, Copy)]
+pub(crate) struct Place {
+    pub(crate) at: usize,
+    pub(crate) writable: bool,
+}
+
+impl Map {
+    /// Where the `len` bytes from an address on stand, if they lie in one region.
+    ///
+    /// Every access goes through here, so the first region is tried without a loop: most maps have
+    /// one region alone.
+    #[inline]
+    pub(crate) fn place(&self, addr: u32, len: u32) -> Option<Place>
+        requires { 0 < len }
+        ensures { MatchOption result (list_any (covers addr len) self.now ≡ false)
+            (λ p. IsPlace self.now addr len p.at p.writable) }
+    {
+        let first = &self.regions[0];
+        if let Some(offset) = first.offset_of(addr, len) {
+            return Some(Place {
+                at: offset as usize,
+                writable: first.writable,
+            });
+        }
+        search(&self.regions[1..self.count], first.size as usize, addr, len)
+    }
+
+    /// The same where the first region has the bytes and the address is a multiple of the width: regions begin and end
+    /// at multiples of 4, so one comparison tells it.
+    #[inline(always)]
+    pub(crate) fn first_place(&self, addr: u32, width: Width) -> Option<Place>
+        requires { addr % size_of width ≡ 0 }
+        ensures { IfSome result (λ p. IsPlace self.now addr (size_of width) p.at p.writable) }
+    {
+        let first = &self.regions[0];
+        let offset = first.aligned_offset(addr, width)?;
+        Some(Place {
+            at: offset as usize,
+            writable: first.writable,
+        })
+    }
+}
+
+// Where the bytes stand, if they lie in one of the regions, whose own bytes begin at a place.
+#[inline]
+fn search(regions: &[Region], start: usize, addr: u32, len: u32) -> Option<Place>
+    requires some { 0 < len }
+    requires sized { list_all is_sized regions.now ≡ true }
+    requires room { start + total_size regions.now ≤ MAP_ROOM }
+    ensures { result ≡ search_place regions.now start addr len }
+{
+    let mut at = start;
+    for region in regions {
+        if let Some(offset) = region.offset_of(addr, len) {
+            return Some(Place {
+                at: at + offset as usize,
+                writable: region.writable,
+            });
+        }
+        at += region.size as usize;
+    }
+    None
+}
+
+impl Region {
+    // How far into the region the `len` bytes from an address on begin, if it has them all. An
+    // address below the base wraps to an offset past every region's end.
+    #[inline]
+    fn offset_of(&self, addr: u32, len: u32) -> Option<u32>
+        requires some { 0 < len }
+        requires sized { is_sized self.now ≡ true }
+        ensures { MatchOption result (covers addr len self.now ≡ false)
+            (λ k. (covers addr len self.now ≡ true) × (self.now.base + k ≡ addr)) }
+    {
+        let offset = addr.wrapping_sub(self.base);
+        // A region has four bytes at least: accesses need no test of their length.
+        if (len <= 4 || len <= self.size) && offset <= self.size - len {
+            return Some(offset);
+        }
+        None
+    }
+
+    // The same for an access whose address is a multiple of its width.
+    #[inline(always)]
+    fn aligned_offset(&self, addr: u32, width: Width) -> Option<u32>
+        requires aligned { is_aligned self.now ≡ true }
+        requires sized { is_sized self.now ≡ true }
+        requires multiple { addr % size_of width ≡ 0 }
+        ensures { IfSome result (λ k. (covers addr (size_of width) self.now ≡ true)
+            × (self.now.base + k ≡ addr)) }
+    {
+        let offset = addr.wrapping_sub(self.base);
+        if offset < self.size {
+            return Some(offset);
+        }
+        None
+    }
+}
