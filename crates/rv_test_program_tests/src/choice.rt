@@ -1,9 +1,9 @@
-//! Which jobs of a list are chosen, by the lines of tables, and which job is probably meant.
+//! `rv_choice`: which jobs of a list are chosen, by the lines of tables, and which job is probably meant.
 
 use regex::Regex;
 use rv_choice::{Wanted, chosen_marks, first_unknown, nearest};
-use rv_jobs::{JobList, read_jobs};
-use samples::cell_of;
+use rv_jobs::{Job, JobList, read_jobs};
+use samples::{agree, cell_of};
 use std::alloc::{AllocError, Global};
 use std::test::Fail;
 
@@ -27,7 +27,7 @@ fn names_of<'a>(alloc: Global, cell: &'a str) -> Result<Vec<&'a str>, AllocError
 }
 
 // label | exact names | a pattern, or a dash | names of failed jobs, or a dash where there is no report | the marks
-const CHOICES: &str = "\
+pub(crate) const CHOICES: &str = "\
 nothing chooses | . | - | - | xxxx
 a name | beta | - | - | .x..
 a beginning of a name | bet | - | - | ....
@@ -79,18 +79,12 @@ fn marked(alloc: Global, line: &str) -> Result<String, Fail> {
     Ok(text)
 }
 
-#[test]
-fn choices(rt: HostRuntime) -> Result<(), Fail> {
-    assert_eq!(&rt; CHOICES.lines().count(), 11);
-    for line in CHOICES.lines() {
-        let marks = marked(rt.alloc(), line)?;
-        assert_eq!(&rt; marks.as_str(), cell_of(line, 4), "{line}");
-    }
-    Ok(())
+pub(crate) fn check(alloc: Global, line: &str) -> Result<(), Fail> {
+    agree(line, marked(alloc, line)?.as_str(), cell_of(line, 4))
 }
 
 // names | the first that no job has, or a dash | the job whose name is nearest to it
-const UNKNOWN: &str = "\
+pub(crate) const UNKNOWN: &str = "\
 beta,beta.2 | - |
 beta,bta,nothing | bta | beta
 alphA | alphA | alpha
@@ -98,22 +92,25 @@ beta2 | beta2 | beta
 bet.2 | bet.2 | beta.2
 Gam | Gam | gamma";
 
-#[test]
-fn names_that_no_job_has(rt: HostRuntime) -> Result<(), Fail> {
-    let jobs = jobs(rt.alloc())?;
-    let jobs = jobs.as_slice();
-    for line in UNKNOWN.lines() {
-        let names = names_of(rt.alloc(), cell_of(line, 0))?;
-        let Some(name) = first_unknown(jobs, names.as_slice()) else {
-            assert_eq!(&rt; "-", cell_of(line, 1), "{line}");
-            continue;
-        };
-        assert_eq!(&rt; name, cell_of(line, 1), "{line}");
-        let near = match nearest(rt.alloc(), jobs, name)? {
-            Some(place) => jobs[place].name.as_str(),
-            None => "",
-        };
-        assert_eq!(&rt; near, cell_of(line, 2), "{line}");
+// The name, if there is one, and the name that is nearest to it.
+fn nearest_text(alloc: Global, jobs: &[Job], name: &str) -> Result<String, AllocError> {
+    let near = match nearest(alloc, jobs, name)? {
+        Some(place) => jobs[place].name.as_str(),
+        None => "",
+    };
+    format!(in alloc; "{name} | {near}")
+}
+
+fn unknown(alloc: Global, line: &str) -> Result<String, Fail> {
+    let jobs = jobs(alloc)?;
+    let names = names_of(alloc, cell_of(line, 0))?;
+    match first_unknown(jobs.as_slice(), names.as_slice()) {
+        Some(name) => Ok(nearest_text(alloc, jobs.as_slice(), name)?),
+        None => Ok(String::from_str(alloc, "- |")?),
     }
-    Ok(())
+}
+
+pub(crate) fn check_unknown(alloc: Global, line: &str) -> Result<(), Fail> {
+    let (_, wanted) = line.split_once(" | ").unwrap_or(("", line));
+    agree(line, unknown(alloc, line)?.as_str(), wanted)
 }

@@ -1,25 +1,26 @@
-//! What is as long as it may be, and one longer.
-use crate::read_tests::{error_text, expanded, expect};
+//! `rv_reports`: what is as long as it may be, and one longer.
+use super::{error_text, expanded};
 use rv_reports::read_report;
 use rv_rows::Row;
+use samples::word_of;
 use std::alloc::{AllocError, Global};
 use std::test::Fail;
 
-// A name of 64 letters, as long as one may be.
-const LONGEST: &str = "aaaaaaaaaaaaaaaaaaaaaaaaaaaaaaaaaaaaaaaaaaaaaaaaaaaaaaaaaaaaaaaa";
+// Names of 64 letters, as long as one may be, and longer ones: what reading answers = the text
+pub(crate) const NAMES: &str = "\
+whole; 1 aaaaaaaaaaaaaaaaaaaaaaaaaaaaaaaaaaaaaaaaaaaaaaaaaaaaaaaaaaaaaaaa Exit(0) 5 [] - Unasked = \
+$1 aaaaaaaaaaaaaaaaaaaaaaaaaaaaaaaaaaaaaaaaaaaaaaaaaaaaaaaaaaaaaaaa|done 1
+line 1 = $1 aaaaaaaaaaaaaaaaaaaaaaaaaaaaaaaaaaaaaaaaaaaaaaaaaaaaaaaaaaaaaaaaa|done 1
+1/1 of 0 in aaaaaaaaaaaaaaaaaaaaaaaaaaaaaaaaaaaaaaaaaaaaaaaaaaaaaaaaaaaaaaaa = \
+part 0 of 0 shard 1/1 stamp aaaaaaaaaaaaaaaaaaaaaaaaaaaaaaaaaaaaaaaaaaaaaaaaaaaaaaaaaaaaaaaa
+line 1 = part 0 of 0 shard 1/1 stamp aaaaaaaaaaaaaaaaaaaaaaaaaaaaaaaaaaaaaaaaaaaaaaaaaaaaaaaaaaaaaaaaa";
 
-#[test]
-fn long_names(rt: HostRuntime) -> Result<(), Fail> {
-    let alloc = rt.alloc();
-    let table = format!(in alloc;
-        "\
-whole; 1 {LONGEST} Exit(0) 5 [] - Unasked = $1 {LONGEST}|done 1
-line 1 = $1 {LONGEST}a|done 1
-1/1 of 0 in {LONGEST} = part 0 of 0 shard 1/1 stamp {LONGEST}
-line 1 = part 0 of 0 shard 1/1 stamp {LONGEST}a"
-    )?;
-    expect(&rt, alloc, table.as_str())
-}
+// What is counted = of what, and how many
+pub(crate) const COUNTS: &str = "\
+4096 rows, 0 words = rows 4096
+line 24577 = rows 4097
+1 rows, 65536 words = words 65536
+line 5 = words 65537";
 
 // So many rows, and their last line.
 fn many_rows(alloc: Global, count: usize) -> Result<String, AllocError> {
@@ -64,22 +65,12 @@ fn counts(alloc: Global, text: &str) -> Result<String, AllocError> {
     format!(in alloc; "{} rows, {words} words", rows.len())
 }
 
-#[test]
-fn as_many_as_can_be(rt: HostRuntime) -> Result<(), Fail> {
-    let alloc = rt.alloc();
-    let rows = many_rows(alloc, 4096)?;
-    assert_eq!(rt;
-        counts(alloc, rows.as_str())?.as_str(),
-        "4096 rows, 0 words"
-    );
-    let rows = many_rows(alloc, 4097)?;
-    assert_eq!(rt; counts(alloc, rows.as_str())?.as_str(), "line 24577");
-    let words = long_signature(alloc, 65_536)?;
-    assert_eq!(rt;
-        counts(alloc, words.as_str())?.as_str(),
-        "1 rows, 65536 words"
-    );
-    let words = long_signature(alloc, 65_537)?;
-    assert_eq!(rt; counts(alloc, words.as_str())?.as_str(), "line 5");
-    Ok(())
+// What is counted of so many rows, or words of a signature.
+pub(super) fn counts_of(alloc: Global, text: &str) -> Result<String, Fail> {
+    let count = word_of(text, 1).parse::<usize>()?;
+    let text = match word_of(text, 0) {
+        "rows" => many_rows(alloc, count)?,
+        _ => long_signature(alloc, count)?,
+    };
+    Ok(counts(alloc, text.as_str())?)
 }

@@ -1,101 +1,7 @@
-//! Texts that are reports, and where others go wrong.
-use rv_reports::{Extent, ReadError, SavedReport, read_report};
-use rv_rows::Row;
-use std::alloc::{AllocError, Global};
-use std::process::Abort;
-use std::test::Fail;
+//! `rv_reports`: texts that are reports, and where others go wrong.
 
-// The lines that bars part; `$1 a` stands for the six of a row of job 1, named a.
-pub(crate) fn expanded(alloc: Global, text: &str) -> Result<String, AllocError> {
-    let mut whole = String::new(alloc);
-    for part in text.split('|') {
-        match part.strip_prefix('$') {
-            Some(name) => write!(
-                whole,
-                "job {name}\nend exit 0\nsteps 5\nconsole -\nsignature -\nverdict none\n"
-            )?,
-            None => write!(whole, "{part}\n")?,
-        }
-    }
-    Ok(whole)
-}
-
-fn push_row(text: &mut String, number: u32, row: &Row) -> Result<(), AllocError> {
-    let name = row.name.as_str();
-    let console = row.console.as_slice();
-    write!(
-        text,
-        "; {number} {name} {:?} {} {console:?} ",
-        row.ending, row.steps
-    )?;
-    match &row.signature {
-        Some(words) => write!(text, "{:?} ", words.as_slice())?,
-        None => text.push_str("- ")?,
-    }
-    write!(text, "{:?}", row.verdict)
-}
-
-fn extent_text(alloc: Global, extent: &Extent) -> Result<String, AllocError> {
-    match extent {
-        Extent::Whole => String::from_str(alloc, "whole"),
-        Extent::Choice(jobs) => format!(in alloc; "choice of {jobs}"),
-        Extent::Shard(shard) => {
-            let stamp = shard.stamp.as_str();
-            format!(in alloc;
-                "{}/{} of {} in {stamp}",
-                shard.number, shard.shards, shard.jobs
-            )
-        }
-    }
-}
-
-fn report_text(alloc: Global, report: &SavedReport) -> Result<String, AllocError> {
-    let mut text = extent_text(alloc, &report.extent)?;
-    let rows = report.rows.as_slice();
-    for (number, row) in report.numbers.as_slice().iter().zip(rows) {
-        push_row(&mut text, *number, row)?;
-    }
-    Ok(text)
-}
-
-pub(crate) fn error_text(alloc: Global, error: ReadError) -> Result<String, AllocError> {
-    match error {
-        ReadError::Line(line) => format!(in alloc; "line {line}"),
-        ReadError::CutOff => String::from_str(alloc, "cut off"),
-        ReadError::OutOfMemory => Err(AllocError),
-    }
-}
-
-// What reading a text answers.
-fn answer(alloc: Global, text: &[u8]) -> Result<String, AllocError> {
-    match read_report(alloc, text) {
-        Ok(report) => report_text(alloc, &report),
-        Err(error) => error_text(alloc, error),
-    }
-}
-
-// The bytes of a text in which `~` stands for 255, as no UTF-8 has it; a `<` at the end takes the last line feed away.
-fn bytes_of(alloc: Global, text: &str) -> Result<Vec<u8>, AllocError> {
-    let text = expanded(alloc, text)?;
-    let mut bytes = Vec::new(alloc);
-    for b in text.strip_suffix("<\n").unwrap_or(text.as_str()).as_bytes() {
-        bytes.push(if *b == b'~' { 255 } else { *b })?;
-    }
-    Ok(bytes)
-}
-
-// Each line is an answer and a text.
-pub(crate) fn expect(rt: &impl Abort, alloc: Global, table: &str) -> Result<(), Fail> {
-    for line in table.split('\n') {
-        let (wanted, text) = line.split_once(" = ").ok_or("an answer and a text")?;
-        let bytes = bytes_of(alloc, text)?;
-        let found = answer(alloc, bytes.as_slice())?;
-        assert_eq!(rt; found.as_str(), wanted, "{line}");
-    }
-    Ok(())
-}
-
-const READ: &str = "\
+// What reading answers = the text
+pub(crate) const READ: &str = "\
 whole = done 0
 whole; 1 a Exit(0) 5 [] - Unasked = $1 a|done 1
 whole; 1 a.B_c-9 Exit(4294967295) 1000000000 [0, 255, 10] [] Pass = \
@@ -116,27 +22,7 @@ choice of 4096; 4096 z Exit(0) 5 [] - Unasked = $4096 z|part 1 of 4096
 1/1 of 0 in a = part 0 of 0 shard 1/1 stamp a
 4096/4096 of 4096 in -; 4096 z Exit(0) 5 [] - Unasked = $4096 z|part 1 of 4096 shard 4096/4096 stamp -";
 
-#[test]
-fn reads(rt: HostRuntime) -> Result<(), Fail> {
-    expect(&rt, rt.alloc(), READ)
-}
-
-// Each report of the table, cut at each of its bytes.
-#[test]
-fn cut_anywhere(rt: HostRuntime) -> Result<(), Fail> {
-    let alloc = rt.alloc();
-    for line in READ.split('\n') {
-        let (_, text) = line.split_once(" = ").ok_or("an answer and a text")?;
-        let bytes = bytes_of(alloc, text)?;
-        for end in 0..bytes.len() {
-            let found = answer(alloc, &bytes[..end])?;
-            assert_eq!(rt; found.as_str(), "cut off", "{end} bytes of {line}");
-        }
-    }
-    Ok(())
-}
-
-const CUT_OFF: &str = "\
+pub(crate) const CUT_OFF: &str = "\
 cut off = <
 cut off = $1 a|<
 cut off = $1 a|don<
@@ -167,12 +53,7 @@ cut off = $2 a|part 1<
 cut off = $1 a|part 1 of 5 sha<
 cut off = $2 a|part 1 of 2 shard 2/2 st<";
 
-#[test]
-fn cut_off(rt: HostRuntime) -> Result<(), Fail> {
-    expect(&rt, rt.alloc(), CUT_OFF)
-}
-
-const WRONG: &str = "\
+pub(crate) const WRONG: &str = "\
 line 1 = x
 line 1 = \x20
 line 7 = $1 a|done 2
@@ -242,13 +123,8 @@ line 7 = $2 a|part 1 of 2 shard 1/2 stamp a
 line 7 = $6 a|part 1 of 5
 line 7 = $1 a|part 2 of 5";
 
-#[test]
-fn wrong_line(rt: HostRuntime) -> Result<(), Fail> {
-    expect(&rt, rt.alloc(), WRONG)
-}
-
 // Bytes that no report has: none of UTF-8, zeros, and the line ends of other systems.
-const STRANGE: &str = "\
+pub(crate) const STRANGE: &str = "\
 line 1 = ~
 line 1 = done ~
 line 1 = job 1 ~|end exit 0
@@ -268,13 +144,8 @@ line 1 = job 1 a\r|end exit 0\r
 line 2 = job 1 a|end budget\r|steps 5\r
 line 6 = job 1 a|end exit 0|steps 5|console -|signature -|verdict none\r|done 1\r";
 
-#[test]
-fn strange_bytes(rt: HostRuntime) -> Result<(), Fail> {
-    expect(&rt, rt.alloc(), STRANGE)
-}
-
 // Texts of another kind, and lines whose first word stands elsewhere, without their last line feed.
-const OTHER: &str = "\
+pub(crate) const OTHER: &str = "\
 line 1 = 404: Not Found<
 line 1 = x<
 line 1 =  <
@@ -289,8 +160,3 @@ line 6 = job 1 a|end exit 0|steps 5|console -|signature 1|0000000g<
 line 6 = job 1 a|end exit 0|steps 5|console -|signature 1|000000001<
 line 7 = $1 a|x<
 line 7 = $2 a|d<";
-
-#[test]
-fn other_texts(rt: HostRuntime) -> Result<(), Fail> {
-    expect(&rt, rt.alloc(), OTHER)
-}

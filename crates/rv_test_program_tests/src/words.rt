@@ -1,12 +1,10 @@
-//! Words that are refused, with what is said of them, help and the version, and what good words ask for.
+//! `rv_test_words`: words that are refused, with what is said of them, help and the version, and what good words ask
+//! for.
 use clap::error::ErrorKind;
 use rv_test_words::{Asked, RunAsked, read_words, refusal, run_command};
+use samples::{agree, cell_of};
 use std::alloc::{AllocError, Global};
 use std::test::Fail;
-
-fn cell(line: &str, place: usize) -> &str {
-    line.split(" | ").nth(place).unwrap_or("").trim()
-}
 
 // The words of a line, and the program's name before them.
 fn words_of(alloc: Global, line: &str) -> Result<Vec<&str>, AllocError> {
@@ -77,7 +75,8 @@ fn answer(alloc: Global, line: &str) -> Result<String, Fail> {
     }
 }
 
-const GOOD_WORDS: &str = "\
+// The words | what they ask for
+pub(crate) const GOOD_WORDS: &str = "\
 run a.toml | run a.toml group=1
 run a.toml --workers 1 --group 4096 | run a.toml group=4096 workers=1
 run --workers=64 a.toml --report - | run a.toml group=1 workers=64 report=-
@@ -89,17 +88,8 @@ run run --only check | run run group=1 only=check
 check a.toml | check a.toml
 check --root fw a.toml | check a.toml root=fw";
 
-#[test]
-fn good_words(rt: HostRuntime) -> Result<(), Fail> {
-    for line in GOOD_WORDS.lines() {
-        let answer = answer(rt.alloc(), cell(line, 0))?;
-        assert_eq!(rt; answer.as_str(), cell(line, 1), "{line}");
-    }
-    Ok(())
-}
-
 // The words, the kind of the error, and what it says among other things. The second line has no words.
-const BAD_WORDS: &str = "\
+pub(crate) const BAD_WORDS: &str = "\
 help | InvalidSubcommand | 'help' | Usage: rvtest <COMMAND>
  | MissingSubcommand | 'rvtest' requires a subcommand | run, check | Usage: rvtest <COMMAND>
 walk a.toml | InvalidSubcommand | 'walk' | Usage: rvtest <COMMAND>
@@ -139,22 +129,13 @@ check a.toml b.toml | UnknownArgument | 'b.toml'";
 fn is_said(answer: &str, line: &str) -> bool {
     let (kind, message) = answer.split_once('\n').unwrap_or((answer, ""));
     let help = "\n\nFor more information, try '--help'.\n";
-    kind == cell(line, 1)
+    kind == cell_of(line, 1)
         && message.starts_with("error: ")
         && message.ends_with(help)
         && line
             .split(" | ")
             .skip(2)
             .all(|text| message.contains(text.trim()))
-}
-
-#[test]
-fn bad_words(rt: HostRuntime) -> Result<(), Fail> {
-    for line in BAD_WORDS.lines() {
-        let answer = answer(rt.alloc(), cell(line, 0))?;
-        assert!(rt; is_said(&answer, line), "{line}: {answer}");
-    }
-    Ok(())
 }
 
 const HELP: &str = "\
@@ -211,24 +192,38 @@ Options:
 
 const VERSION: &str = "DisplayVersion\nrvtest 1.0.0\n";
 
-#[test]
-fn help_and_version(rt: HostRuntime) -> Result<(), Fail> {
-    let shown = [
-        ("--help", HELP),
-        ("-h", HELP),
-        ("run --help", RUN_HELP),
-        ("run a.toml --verbose -h", RUN_HELP),
-        ("check --help", CHECK_HELP),
-        ("--version", VERSION),
-        ("-V", VERSION),
-    ];
-    for (words, wanted) in shown {
-        assert_eq!(rt; answer(rt.alloc(), words)?.as_str(), wanted, "{words}");
+// The words | what is shown
+pub(crate) const SHOWN: &str = "\
+--help | help
+-h | help
+run --help | help of run
+run a.toml --verbose -h | help of run
+check --help | help of check
+--version | version
+-V | version";
+
+fn shown(name: &str) -> &'static str {
+    match name {
+        "help" => HELP,
+        "help of run" => RUN_HELP,
+        "help of check" => CHECK_HELP,
+        _ => VERSION,
     }
-    Ok(())
+}
+
+/// Whether the words of a line are answered as it says: what they ask for, what is shown, or what is said of them.
+pub(crate) fn check(alloc: Global, ask: &str, line: &str) -> Result<(), Fail> {
+    let answer = answer(alloc, cell_of(line, 0))?;
+    match ask {
+        "words" => agree(line, answer.as_str(), cell_of(line, 1)),
+        "shown" => agree(line, answer.as_str(), shown(cell_of(line, 1))),
+        _ if is_said(&answer, line) => Ok(()),
+        _ => Err(Fail::new(format_args!("{line}: {answer}"))),
+    }
 }
 
 const BAD_REGEX: &str = "\
+ValueValidation
 error: invalid value '(' for '--match <REGEX>': a group is not closed
 
 Usage: rvtest run [OPTIONS] <LIST>
@@ -236,12 +231,15 @@ Usage: rvtest run [OPTIONS] <LIST>
 For more information, try '--help'.
 ";
 
+// The kind of an error, and what it says.
+fn error_text(alloc: Global, text: &str) -> Result<String, Fail> {
+    let error = refusal(run_command(alloc)?, ErrorKind::ValueValidation, text);
+    let kind = error.kind();
+    Ok(format!(in alloc; "{kind:?}\n{error}")?)
+}
+
 #[test]
 fn refuses_in_the_same_form(rt: HostRuntime) -> Result<(), Fail> {
-    let alloc = rt.alloc();
     let text = "invalid value '(' for '--match <REGEX>': a group is not closed";
-    let error = refusal(run_command(alloc)?, ErrorKind::ValueValidation, text);
-    assert_eq!(rt; error.kind(), ErrorKind::ValueValidation);
-    assert_eq!(rt; format!(in alloc; "{error}")?.as_str(), BAD_REGEX);
-    Ok(())
+    agree(text, error_text(rt.alloc(), text)?.as_str(), BAD_REGEX)
 }

@@ -1,6 +1,6 @@
-//! Where the jobs of a list begin, by the lines of a table.
+//! `rv_headers`: where the jobs of a list begin, by the lines of a table.
 use rv_headers::job_lines;
-use samples::cell_of;
+use samples::{agree, cell_of};
 use std::alloc::{AllocError, Global};
 use std::test::Fail;
 
@@ -28,7 +28,7 @@ fn told(alloc: Global, lines: &[usize]) -> Result<String, AllocError> {
 }
 
 // label | a text | the lines on which its jobs begin
-const TEXTS: &str = "\
+pub(crate) const TEXTS: &str = "\
 nothing | |
 headers | [[job]]/name = 'a'/[[job]]/ | 1 3
 headers with spaces | [[ job ]]/  [[job\t]]/ [[ job]] # a | 1 2 3
@@ -57,15 +57,9 @@ a string that is not closed | [[job]]/input = '/[[job]] | 1
 an array that is not closed | job = [{}, {} | 1 1
 a comma too much | job = [{}, , {}] | 1";
 
-#[test]
-fn texts(rt: HostRuntime) -> Result<(), Fail> {
-    let alloc = rt.alloc();
-    assert_eq!(&rt; TEXTS.lines().count(), 27);
-    for line in TEXTS.lines() {
-        let text = text_of(alloc, cell_of(line, 1))?;
-        let lines = job_lines(alloc, text.as_str())?;
-        let told = told(alloc, lines.as_slice())?;
-        assert_eq!(&rt; told.as_str().trim(), cell_of(line, 2), "{line}");
-    }
-    Ok(())
+pub(crate) fn check(alloc: Global, line: &str) -> Result<(), Fail> {
+    let text = text_of(alloc, cell_of(line, 1))?;
+    let lines = job_lines(alloc, text.as_str())?;
+    let told = told(alloc, lines.as_slice())?;
+    agree(line, told.as_str().trim(), cell_of(line, 2))
 }

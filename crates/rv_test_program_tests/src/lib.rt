@@ -1,0 +1,15 @@
+//! Tests of rooms of `rvtest`: reports, choices, the lines on which jobs begin, and words, by what `rv_reports`,
+//! `rv_choice`, `rv_headers` and `rv_test_words` show their callers. The crate has nothing else, so that no code is
+//! proved twice.
+#![tactic(auto)]
+
+#[cfg(test)]
+mod choice;
+#[cfg(test)]
+mod headers;
+#[cfg(test)]
+mod reports;
+#[cfg(test)]
+mod tables;
+#[cfg(test)]
+mod words;

@@ -1,0 +1,77 @@
+//! `rv_reports`, `rv_choice`, `rv_headers` and `rv_test_words`: whether each line of their tables is answered as it
+//! says.
+use crate::choice::{self, CHOICES, UNKNOWN};
+use crate::headers::{self, TEXTS};
+use crate::reports;
+use crate::reports::limits::{COUNTS, NAMES};
+use crate::reports::texts::{CUT_OFF, OTHER, READ, STRANGE, WRONG};
+use crate::words::{self, BAD_WORDS, GOOD_WORDS, SHOWN};
+use samples::cell_of;
+use std::alloc::Global;
+use std::test::Fail;
+
+// What is told of a line, and what it says of that, by what is asked.
+fn check_line(alloc: Global, ask: &str, line: &str) -> Result<(), Fail> {
+    match ask {
+        "choice" => choice::check(alloc, line),
+        "unknown" => choice::check_unknown(alloc, line),
+        "headers" => headers::check(alloc, line),
+        "report" | "cuts" | "counts" => reports::check(alloc, ask, line),
+        _ => words::check(alloc, ask, line),
+    }
+}
+
+// What is asked of each line of a table, and how many lines it has.
+const TABLES: &str = "\
+choice | choices | 11
+unknown | unknown | 6
+headers | texts | 27
+report | read | 13
+cuts | read | 13
+report | cut off | 29
+report | wrong | 68
+report | strange | 18
+report | other | 14
+report | names | 4
+counts | counts | 4
+words | good words | 9
+bad words | bad words | 33
+shown | shown | 7";
+
+fn table_of(name: &str) -> &'static str {
+    match name {
+        "choices" => CHOICES,
+        "unknown" => UNKNOWN,
+        "texts" => TEXTS,
+        "read" => READ,
+        "cut off" => CUT_OFF,
+        "wrong" => WRONG,
+        "strange" => STRANGE,
+        "other" => OTHER,
+        "names" => NAMES,
+        "counts" => COUNTS,
+        "good words" => GOOD_WORDS,
+        "bad words" => BAD_WORDS,
+        "shown" => SHOWN,
+        _ => "",
+    }
+}
+
+fn check(alloc: Global, table: &str) -> Result<(), Fail> {
+    let lines = table_of(cell_of(table, 1));
+    if lines.split('\n').count() != cell_of(table, 2).parse::<usize>()? {
+        return Err(Fail::new(format_args!("{table}: another number of lines")));
+    }
+    for line in lines.split('\n') {
+        check_line(alloc, cell_of(table, 0), line)?;
+    }
+    Ok(())
+}
+
+#[test]
+fn lines_are_answered(rt: HostRuntime) -> Result<(), Fail> {
+    for table in TABLES.lines() {
+        check(rt.alloc(), table)?;
+    }
+    Ok(())
+}
