@@ -1,10 +1,10 @@
-//! Fetches, and the marks of stored bytes that refuse them.
+//! `rv_memory`: fetches, and the marks of stored bytes that refuse them.
+use super::ask;
 use super::setups::bus_of;
-use super::{REFUSING, ask, check};
 use std::test::Fail;
 
 // label | ask | answer
-const FETCHES: &str = "\
+pub(super) const FETCHES: &str = "\
 bytes that are not writable | place 20000000 44332211 88776655 | done
 bytes that are | place 20000008 44332211 88776655 | done
 the byte that stands there already | store byte 2000000d 00000066 | done
@@ -31,13 +31,8 @@ the stored byte | fetch half 2000000c | 6655
 the stored byte | fetch word 2000000a | 66554433
 ";
 
-#[test]
-fn fetches(rt: HostRuntime) -> Result<(), Fail> {
-    check(rt.alloc(), REFUSING, FETCHES)
-}
-
 // label | ask | answer
-const CLEAN: &str = "\
+pub(super) const CLEAN: &str = "\
 one byte | store byte 2000000d 00000000 | done
 a half | clean 20000004 2 | yes
 two halves | clean 20000004 4 | yes
@@ -53,11 +48,6 @@ its first half outside | clean 1ffffffe 4 | no
 nothing stored any more | sync | done
 two halves | clean 2000000c 4 | yes
 ";
-
-#[test]
-fn clean_bytes(rt: HostRuntime) -> Result<(), Fail> {
-    check(rt.alloc(), REFUSING, CLEAN)
-}
 
 // One round: label | ask | answer
 const ROUND: &str = "\

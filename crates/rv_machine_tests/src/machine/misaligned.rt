@@ -1,17 +1,15 @@
-//! Runs of accesses that are misaligned, where they are allowed and where they are not.
-use super::check;
-use std::test::Fail;
+//! `rv_machine`: runs of accesses that are misaligned, where they are allowed and where they are not.
 
-const ALLOWED: &str =
+pub(super) const ALLOWED: &str =
     "rv32imc allow default 80000000 | 80000000: 00c002ef 7f92a341 05c6d788 0002a583 0042a603 $1 X | exit 100 = $2";
 
-const REFUSED: &str =
+pub(super) const REFUSED: &str =
     "rv32imc refuse default 80000000 | 80000000: 00c002ef 7f92a341 05c6d788 0002a583 0042a603 $1 X | exit 100 = $3";
 
 // Halfwords and words at each further byte of the first of two words, 7f92a341 and 05c6d788, which x5 points to;
 // x11 holds the first: instructions | encodings | exit code | the same where misaligned accesses are refused, or the
 // fault.
-const OFFSETS: &str = "\
+pub(super) const OFFSETS: &str = "\
 lh a0,1(t0) | 00129503 | ffff92a3 | load-misaligned 80000014 80000005
 lh a0,2(t0) | 00229503 | 00007f92 | 00007f92
 lh a0,3(t0) | 00329503 | ffff887f | load-misaligned 80000014 80000007
@@ -32,9 +30,3 @@ sw a1,2(t0); lw a0,4(t0) | 00b2a123 0042a503 | 05c67f92 | store-misaligned 80000
 sw a1,3(t0); lw a0,0(t0) | 00b2a1a3 0002a503 | 4192a341 | store-misaligned 80000014 80000007
 sw a1,3(t0); lw a0,4(t0) | 00b2a1a3 0042a503 | 057f92a3 | store-misaligned 80000014 80000007
 ";
-
-#[test]
-fn accesses_at_each_offset_of_a_word(rt: HostRuntime) -> Result<(), Fail> {
-    check(&rt, rt.alloc(), ALLOWED, OFFSETS, 19)?;
-    check(&rt, rt.alloc(), REFUSED, OFFSETS, 19)
-}

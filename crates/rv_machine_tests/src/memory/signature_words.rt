@@ -1,9 +1,7 @@
-//! The words of a range of memory.
-use super::{REFUSING, check};
-use std::test::Fail;
+//! `rv_memory`: the words of a range of memory.
 
 // label | ask | how many words there are, and the first four
-const WORDS: &str = "\
+pub(super) const WORDS: &str = "\
 bytes that are not writable | place 20000000 44332211 88776655 | done
 bytes that are | place 20000008 44332211 88776655 | done
 a word of them | store word 2000000c ffffffff | done
@@ -14,12 +12,5 @@ none in a region | words 20000004 20000004 | 0
 none outside | words 0 0 | 0
 ";
 
-const ALL_BUT_ONE: &str =
+pub(super) const ALL_BUT_ONE: &str =
     "all but the last word | words ff000000 fffffffc | 4194303 00000000 00000000 00000000 00000000";
-
-#[test]
-fn words_of_memory(rt: HostRuntime) -> Result<(), Fail> {
-    check(rt.alloc(), REFUSING, WORDS)?;
-    let setup = "refuse | ff000000+1000000 |";
-    check(rt.alloc(), setup, ALL_BUT_ONE)
-}

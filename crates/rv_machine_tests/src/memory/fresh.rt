@@ -1,6 +1,6 @@
-//! Buses as they begin: renewed ones, and the smallest and the largest.
+//! `rv_memory`: buses as they begin: renewed ones, and the smallest and the largest.
+use super::ask;
 use super::setups::{bus_of, renewed};
-use super::{ask, check_each};
 use std::test::Fail;
 
 // label | ask | answer, of a bus before it is renewed
@@ -39,14 +39,14 @@ fn renewed_buses(rt: HostRuntime) -> Result<(), Fail> {
 
 // The smallest and the largest of what a bus is made of, maps of 4 and of 16,777,216 bytes, scripts of none, one and
 // 65,536 bytes: label | region | script | bytes left | the next | bytes left then | first word | last byte
-const LIMITS: &str = "\
+pub(super) const LIMITS: &str = "\
 smallest map, no script | 0+4 | | 00000000 | ffffffff | 00000000 | 0 | 3
 smallest map, one byte | 0+4 | 2e | 00000001 | 0000002e | 00000000 | 0 | 3
 smallest map, longest script | 0+4 | 2e*65536 | 00010000 | 0000002e | 0000ffff | 0 | 3
 largest map, longest script | 20000000+1000000 | 2e*65536 | 00010000 | 0000002e | 0000ffff | 20000000 | 20ffffff
 ";
 
-const AT_A_LIMIT: &str = "\
+pub(super) const AT_A_LIMIT: &str = "\
 $0 : bytes left | load word 10000004 | $3
 $0 : the next | load word 10000000 | $4
 $0 : bytes left then | load word 10000004 | $5
@@ -56,8 +56,3 @@ $0 : no output | console | 0
 $0 : output | store word 10000000 00000021 | done
 $0 : its byte | console | 1 to 21
 ";
-
-#[test]
-fn the_limits_of_a_bus(rt: HostRuntime) -> Result<(), Fail> {
-    check_each(rt.alloc(), "refuse | $1 | $2", AT_A_LIMIT, LIMITS)
-}

@@ -1,14 +1,12 @@
-//! Each instruction's effect, by the exit code that it leads to.
-use super::check;
-use std::test::Fail;
+//! `rv_machine`: each instruction's effect, by the exit code that it leads to.
 
 // The words stand behind a jump over them, which leaves their address in x5.
-const EFFECT: &str =
+pub(super) const EFFECT: &str =
     "rv32imc refuse default 80000000 | 80000000: 00c002ef $1 $2 0002a583 0042a603 $3 X | exit 100 = $4";
 
 // What each computing, branching and accessing instruction makes of two words in x11 and x12 comes out
 // as the exit code: instructions | first word | second word | their encodings | exit code.
-const EFFECTS: &str = "\
+pub(super) const EFFECTS: &str = "\
 add a0,a1,a2 | ffffffff | 00000001 | 00c58533 | 00000000
 add a0,a1,a2 | 7fffffff | 00000001 | 00c58533 | 80000000
 sub a0,a1,a2 | 00000000 | 00000001 | 40c58533 | ffffffff
@@ -101,8 +99,3 @@ rem a0,a1,a2 | fffffff9 | 00000000 | 02c5e533 | fffffff9
 remu a0,a1,a2 | fffffff9 | 00000002 | 02c5f533 | 00000001
 remu a0,a1,a2 | fffffff9 | 00000000 | 02c5f533 | fffffff9
 ";
-
-#[test]
-fn instructions_have_their_effects(rt: HostRuntime) -> Result<(), Fail> {
-    check(&rt, rt.alloc(), EFFECT, EFFECTS, 91)
-}

@@ -1,12 +1,12 @@
-//! What is kept, and that nobody can tell but by `kept`.
-use super::{RUN, WHOLE, check};
+//! `rv_machine`: what is kept, and that nobody can tell but by `kept`.
+use super::check;
+use samples::cell_of;
 use std::alloc::Global;
-use std::process::Abort;
 use std::test::Fail;
 
 // Two instructions of one place, once and in turn; an instruction of four bytes that becomes two of two
 // bytes, with FENCE.I and without it.
-const PLACES: &str = "\
+pub(super) const PLACES: &str = "\
 0000206f 00000000*2047 00500513 X | 1000 | exit 5 | 3
 0000206f 00000000*2047 00150513 00300313 00650463 ff5fd06f X | 1000 | exit 3 | 15
 00000297 00004337 51d30313 00500513 00039a63 00100393 00629623 0000100f fedff06f X | 100 | exit 7 | 13
@@ -89,63 +89,64 @@ sw t1,18(t0) | 0062a923 | stale-code 80000012 80000012 | 15 | exit 5 | 21
 sw t1,19(t0) | 0062a9a3 | stale-code 80000012 80000012 | 15 | illegal 80000016 0 | 17
 ";
 
-// Runs the stores of a table over an instruction, which stands last in some code, with the jump back to it.
-fn check_stores(
-    rt: &impl Abort,
-    alloc: Global,
-    code: &str,
-    back: &str,
-    table: &str,
-    lines: usize,
-) -> Result<(), Fail> {
-    for (fence, answer) in [("00000013", "$2 after $3"), ("0000100f", "$4 after $5")] {
-        let form = format!(in alloc;
-            "rv32imc allow default 80000000 | 80000000: 00000297 00010337 00130313 {code} 0001 0001 0001 00039a63 00100393 $1 {fence} {back} X | run 100 = {answer}"
-        )?;
-        check(rt, alloc, &form, table, lines)?;
+// Code that ends in an instruction | the jump back to it | the table of the stores over it
+const STORES: &str = "\
+0001 0001 00550513 | fe7ff06f | over four
+0001 0001 00550513 | fe7ff06f | misaligned over four
+0001 0001 0001 00550513 | fe7ff06f | over four, odd
+0001 0001 0515 | fe9ff06f | over two
+0001 0001 0001 0515 | fe9ff06f | over two, odd
+0001 0001 0001 0515 | fe9ff06f | misaligned over two";
+
+fn stores_of(name: &str) -> (&'static str, usize) {
+    match name {
+        "over four" => (OVER_FOUR, 15),
+        "misaligned over four" => (MISALIGNED_OVER_FOUR, 12),
+        "over four, odd" => (OVER_FOUR_ODD, 2),
+        "over two" => (OVER_TWO, 11),
+        "over two, odd" => (OVER_TWO_ODD, 2),
+        "misaligned over two" => (MISALIGNED_OVER_TWO, 10),
+        _ => ("", 1),
     }
-    Ok(())
 }
 
+// Runs the stores of a line, with what stands behind the store, and the answer then.
+fn check_stores(alloc: Global, line: &str, fence: &str, answer: &str) -> Result<(), Fail> {
+    let (code, back) = (cell_of(line, 0), cell_of(line, 1));
+    let form = format!(in alloc;
+        "rv32imc allow default 80000000 | 80000000: 00000297 00010337 00130313 {code} 0001 0001 0001 00039a63 00100393 $1 {fence} {back} X | run 100 = {answer}"
+    )?;
+    let (table, lines) = stores_of(cell_of(line, 2));
+    check(alloc, &form, table, lines)
+}
+
+// Behind the store stands NOP, or FENCE.I.
 #[test]
 fn stores_drop_what_they_touch(rt: HostRuntime) -> Result<(), Fail> {
-    let alloc = rt.alloc();
-    check(&rt, alloc, RUN, PLACES, 4)?;
-    let four = "0001 0001 00550513";
-    check_stores(&rt, alloc, four, "fe7ff06f", OVER_FOUR, 15)?;
-    check_stores(&rt, alloc, four, "fe7ff06f", MISALIGNED_OVER_FOUR, 12)?;
-    let four = "0001 0001 0001 00550513";
-    check_stores(&rt, alloc, four, "fe7ff06f", OVER_FOUR_ODD, 2)?;
-    let two = "0001 0001 0515";
-    check_stores(&rt, alloc, two, "fe9ff06f", OVER_TWO, 11)?;
-    let two = "0001 0001 0001 0515";
-    check_stores(&rt, alloc, two, "fe9ff06f", OVER_TWO_ODD, 2)?;
-    check_stores(&rt, alloc, two, "fe9ff06f", MISALIGNED_OVER_TWO, 10)
+    for line in STORES.lines() {
+        check_stores(rt.alloc(), line, "00000013", "$2 after $3")?;
+        check_stores(rt.alloc(), line, "0000100f", "$4 after $5")?;
+    }
+    Ok(())
 }
 
 // AUIPC, a store over itself, and FENCE.I; C.LI at the first halfword of the address space; an entry in the middle of a
 // word. Last, in each of 70,000 rounds the immediate of the loop's first instruction is stored anew, and FENCE.I
 // follows: x8 adds up what the instruction gave. The first store is over the image's first instruction: setup | image |
 // dialogue.
-const KEPT: &str = "\
+pub(super) const KEPT: &str = "\
 rv32imc refuse default 80000000 | 80000000: 00000297 0052a223 0000100f | kept 80000000 = nothing; step = goes on; kept 80000000 = Auipc 5 0 0 0, 4 bytes; kept 80000001 = nothing; kept 80000002 = nothing; kept 80000004 = nothing; kept 80002000 = nothing; step = goes on; kept 80000004 = Sw 0 5 5 4, 4 bytes; step = goes on; kept 80000000 = Auipc 5 0 0 0, 4 bytes; kept 80000004 = nothing
 rv32imc refuse 0+4 0 | 0: 4515 9002 | run 10 = breakpoint 2 0 after 1; kept 0 = Addi 10 0 0 5, 2 bytes
 rv32imc refuse default 80000002 | 80000002: 00500513 X | run 10 = exit 5 after 2; kept 80000002 = Addi 10 0 0 5, 4 bytes
 rv32imc refuse default 80000000 | 80000000: 00000297 00028023 00011337 17030313 00000513 00a40433 01038393 00729923 0000100f fff30313 fe0314e3 00040513 X | run 2 = budget after 2; kept 80000000 = Auipc 5 0 0 0, 4 bytes; run 1000000 = exit 32712 after 490004; kept 80000000 = nothing
 ";
 
-const LAST_HALFWORD: &str =
+pub(super) const LAST_HALFWORD: &str =
     "rv32imc refuse 0+20,fffffffc+4 fffffffe | 0: 0055 00039a63 00100393 00601023 $0 fedff06f X; fffffffe: 0513 | step = goes on; kept fffffffe = Addi 10 10 0 5, 4 bytes; run 10 = $1 after $2";
 
 // An instruction whose halves are the last and the first halfword of the address space, run once, then
 // again after a store of zeros to the address 0: the fence | ending | steps after the first.
-const LAST: &str = "\
+pub(super) const LAST: &str = "\
 0000100f | exit 0 | 8
 00000013 | stale-code fffffffe 0 | 5
 ";
-
-#[test]
-fn what_ran_is_kept(rt: HostRuntime) -> Result<(), Fail> {
-    check(&rt, rt.alloc(), WHOLE, KEPT, 4)?;
-    check(&rt, rt.alloc(), LAST_HALFWORD, LAST, 2)
-}

@@ -1,9 +1,7 @@
-//! Halfwords beside their meanings, in each set of instructions, and the words that they stand for.
-use super::{NONE, OWN, check};
-use std::test::Fail;
+//! `rv_isa`: halfwords beside their meanings, in each set of instructions, and the words that they stand for.
 
 // label | halfword | meaning
-const HALFWORDS: &str = "\
+pub(super) const HALFWORDS: &str = "\
 c.addi4spn x8,x2,4 | 0040 | Addi 8 2 0 4
 c.addi4spn x15,x2,1020 | 1ffc | Addi 15 2 0 1020
 c.addi4spn x10,x2,40 | 1028 | Addi 10 2 0 40
@@ -82,7 +80,7 @@ hint c.add x0,x1 | 9006 | Add 0 0 1 0
 ";
 
 // label | halfword
-const HALFWORDS_WITHOUT_A_ROW: &str = "\
+pub(super) const HALFWORDS_WITHOUT_A_ROW: &str = "\
 all zeros | 0000
 c.addi4spn of 0 | 0008
 c.fld | 2000
@@ -110,43 +108,14 @@ begins addi | 0513
 all ones | ffff
 ";
 
-#[test]
-fn each_set_has_the_halfwords_of_its_letters(rt: HostRuntime) -> Result<(), Fail> {
-    for (set, answer) in [
-        ("rv32i", NONE),
-        ("rv32im", NONE),
-        ("rv32ic", OWN),
-        ("rv32imc", OWN),
-    ] {
-        check(rt.alloc(), set, answer, HALFWORDS, 75)?;
-    }
-    Ok(())
-}
-
-#[test]
-fn no_other_halfword_has_a_meaning(rt: HostRuntime) -> Result<(), Fail> {
-    for ask in ["expand", "rv32i", "rv32im", "rv32ic", "rv32imc"] {
-        check(rt.alloc(), ask, NONE, HALFWORDS_WITHOUT_A_ROW, 25)?;
-    }
-    Ok(())
-}
-
 // label | halfword | the word that it stands for
-const EXPANDED: &str = "\
+pub(super) const EXPANDED: &str = "\
 c.li x10,5 | 4515 | 00500513
 c.ebreak | 9002 | 00100073
 ";
 
 // label | halfword that begins a word
-const BEGINNINGS: &str = "\
+pub(super) const BEGINNINGS: &str = "\
 low bits 11 | 0003
 all ones | ffff
 ";
-
-#[test]
-fn a_halfword_stands_for_a_word(rt: HostRuntime) -> Result<(), Fail> {
-    let alloc = rt.alloc();
-    check(alloc, "expand", OWN, EXPANDED, 2)?;
-    check(alloc, "length", "short", HALFWORDS, 75)?;
-    check(alloc, "length", "long", BEGINNINGS, 2)
-}

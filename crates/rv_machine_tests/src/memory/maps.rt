@@ -1,7 +1,6 @@
-//! Which lists of regions are maps, and which bytes lie in one region.
+//! `rv_memory`: which lists of regions are maps, and which bytes lie in one region.
 use super::asks::{is_in_one, pair_of};
 use super::setups::{map_of, regions_of};
-use super::{REFUSING, check};
 use rv_memory::Map;
 use samples::{agree, cell_of};
 use std::alloc::Global;
@@ -62,7 +61,7 @@ around the address space | fffffffc+4 | fffffffe fffffffe | no
 ";
 
 // The same of a bus's map: label | ask | answer
-const IN_A_BUS: &str = "\
+pub(super) const IN_A_BUS: &str = "\
 the first region | in 20000000 8 | yes
 behind both regions | in 20000010 1 | no
 ";
@@ -74,5 +73,5 @@ fn bytes_in_one_region(rt: HostRuntime) -> Result<(), Fail> {
         let found = is_in_one(map, pair_of(cell_of(row, 2))?);
         agree(row, found, cell_of(row, 3))?;
     }
-    check(rt.alloc(), REFUSING, IN_A_BUS)
+    Ok(())
 }

@@ -1,10 +1,11 @@
-//! What a bus is made of, by the text of a row: whether misaligned accesses are allowed, regions, and a script.
+//! `rv_memory`: what a bus is made of, by the text of a row: whether misaligned accesses are allowed, regions, and a
+//! script.
 use rv_memory::{Bus, Map, Misaligned, Region};
 use samples::{cell_of, hex_of, numbers};
 use std::alloc::Global;
 use std::test::Fail;
 
-fn misaligned_of(name: &str) -> Result<Misaligned, Fail> {
+pub(crate) fn misaligned_of(name: &str) -> Result<Misaligned, Fail> {
     match name {
         "allow" => Ok(Misaligned::Allow),
         "refuse" => Ok(Misaligned::Fault),

@@ -1,9 +1,7 @@
-//! Loads and stores of memory and of the console.
-use super::{REFUSING, check};
-use std::test::Fail;
+//! `rv_memory`: loads and stores of memory and of the console.
 
 // label | ask | answer
-const LOADS_AND_STORES: &str = "\
+pub(super) const LOADS_AND_STORES: &str = "\
 bytes that are not writable | place 20000000 84038201 | done
 word | store word 20000008 88776655 | done
 low half | store half 2000000a aaaa1234 | done
@@ -22,13 +20,8 @@ nothing there | load word 20000010 | Access
 misaligned, nothing there | load word 80000002 | Misaligned
 ";
 
-#[test]
-fn loads_and_stores(rt: HostRuntime) -> Result<(), Fail> {
-    check(rt.alloc(), REFUSING, LOADS_AND_STORES)
-}
-
 // label | ask | answer
-const CONSOLE: &str = "\
+pub(super) const CONSOLE: &str = "\
 two left | load word 10000004 | 00000002
 first byte | load word 10000000 | 00000041
 one left | load word 10000004 | 00000001
@@ -51,8 +44,3 @@ ffff bytes more | store word 10000000 0000002e ffff | done
 one too many | store word 10000000 00000021 | ConsoleFull
 a full console | console | 65536 to 2e
 ";
-
-#[test]
-fn console(rt: HostRuntime) -> Result<(), Fail> {
-    check(rt.alloc(), "refuse | 20000008+8 | 41 42", CONSOLE)
-}

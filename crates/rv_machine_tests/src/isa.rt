@@ -1,8 +1,10 @@
-//! Encodings beside their meanings, written out by hand from the manual's listings.
+//! `rv_isa`: encodings beside their meanings, written out by hand from the manual's listings.
+use halfwords::{BEGINNINGS, EXPANDED, HALFWORDS, HALFWORDS_WITHOUT_A_ROW};
 use rv_isa::{Instr, Isa, decode16, decode32, expand, is_long, sign_extend};
 use samples::{agree, cell_of, has_lines, hex_of, word_of};
 use std::alloc::{AllocError, Global};
 use std::test::Fail;
+use words::{PRODUCTS, WORDS, WORDS_WITHOUT_A_ROW};
 
 mod halfwords;
 mod words;
@@ -13,7 +15,7 @@ const OWN: &str = "$2";
 // The answer where there is no meaning and no word.
 const NONE: &str = "nothing";
 
-fn isa_of(name: &str) -> Result<Isa, Fail> {
+pub(crate) fn isa_of(name: &str) -> Result<Isa, Fail> {
     match name {
         "rv32i" => Ok(Isa::I),
         "rv32im" => Ok(Isa::Im),
@@ -85,15 +87,15 @@ fn answer(alloc: Global, ask: &str, digits: &str) -> Result<String, Fail> {
 }
 
 // Whether each encoding of a table has an answer, or its own.
-fn check(alloc: Global, ask: &str, wanted: &str, rows: &str, lines: usize) -> Result<(), Fail> {
-    has_lines(rows, lines)?;
+fn check(alloc: Global, ask: &str, wanted: &str, rows: &str) -> Result<(), Fail> {
     for row in rows.lines() {
         let answer = answer(alloc, ask, cell_of(row, 1))?;
-        if wanted == OWN {
-            agree(row, answer.as_str(), cell_of(row, 2))?;
+        let wanted = if wanted == OWN {
+            cell_of(row, 2)
         } else {
-            agree(row, answer.as_str(), wanted)?;
-        }
+            wanted
+        };
+        agree(row, answer.as_str(), wanted)?;
     }
     Ok(())
 }
@@ -105,11 +107,6 @@ products | rv32im | m
 halfwords | rv32ic | c
 both | rv32imc | mc
 ";
-
-#[test]
-fn a_set_has_the_extensions_of_its_letters(rt: HostRuntime) -> Result<(), Fail> {
-    check(rt.alloc(), "letters", OWN, LETTERS, 4)
-}
 
 // label | value in hexadecimal digits, bits | the number
 const NUMBERS: &str = "\
@@ -125,7 +122,61 @@ least of 32 | 80000000 32 | -2147483648
 all of 32 | ffffffff 32 | -1
 ";
 
+// What is asked of each row | the answer to all, or `$2` for the row's own | the table
+const TABLES: &str = "\
+letters | $2 | letters
+number | $2 | numbers
+rv32i | $2 | words
+rv32im | $2 | words
+rv32ic | $2 | words
+rv32imc | $2 | words
+rv32i | nothing | products
+rv32im | $2 | products
+rv32ic | nothing | products
+rv32imc | $2 | products
+rv32i | nothing | words without a row
+rv32im | nothing | words without a row
+rv32ic | nothing | words without a row
+rv32imc | nothing | words without a row
+rv32i | nothing | halfwords
+rv32im | nothing | halfwords
+rv32ic | $2 | halfwords
+rv32imc | $2 | halfwords
+expand | nothing | halfwords without a row
+rv32i | nothing | halfwords without a row
+rv32im | nothing | halfwords without a row
+rv32ic | nothing | halfwords without a row
+rv32imc | nothing | halfwords without a row
+expand | $2 | expanded
+length | short | halfwords
+length | long | beginnings";
+
+// The rows of a table, and how many they are.
+fn table_of(name: &str) -> (&'static str, usize) {
+    match name {
+        "letters" => (LETTERS, 4),
+        "numbers" => (NUMBERS, 10),
+        "words" => (WORDS, 57),
+        "products" => (PRODUCTS, 8),
+        "words without a row" => (WORDS_WITHOUT_A_ROW, 31),
+        "halfwords" => (HALFWORDS, 75),
+        "halfwords without a row" => (HALFWORDS_WITHOUT_A_ROW, 25),
+        "expanded" => (EXPANDED, 2),
+        "beginnings" => (BEGINNINGS, 2),
+        _ => ("", 1),
+    }
+}
+
+fn check_table(alloc: Global, table: &str) -> Result<(), Fail> {
+    let (rows, lines) = table_of(cell_of(table, 2));
+    has_lines(rows, lines)?;
+    check(alloc, cell_of(table, 0), cell_of(table, 1), rows)
+}
+
 #[test]
-fn a_sign_bit_is_extended(rt: HostRuntime) -> Result<(), Fail> {
-    check(rt.alloc(), "number", OWN, NUMBERS, 10)
+fn encodings_have_their_meanings(rt: HostRuntime) -> Result<(), Fail> {
+    for table in TABLES.lines() {
+        check_table(rt.alloc(), table)?;
+    }
+    Ok(())
 }

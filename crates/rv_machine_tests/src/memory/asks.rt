@@ -1,4 +1,4 @@
-//! What a bus is asked, by the text of a row, and what it answers.
+//! `rv_memory`: what a bus is asked, by the text of a row, and what it answers.
 use rv_memory::{Bus, FetchFault, Map, Width};
 use samples::{hex_of, numbers, word_of};
 use std::alloc::{AllocError, Global};

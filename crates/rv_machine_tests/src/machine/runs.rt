@@ -1,12 +1,10 @@
-//! Runs of small images: their endings, and the steps that they complete. What the program's tests run is not run
-//! again.
-use super::{RUN, check};
-use std::test::Fail;
+//! `rv_machine`: runs of small images: their endings, and the steps that they complete. What the program's tests run is
+//! not run again.
 
 // A budget of 0; the link of C.JAL; an illegal word and a breakpoint; loads and stores at misaligned addresses and
 // outside every region; accesses of the console that are no words, or beside its two addresses: image | budget |
 // ending | completed steps.
-const RUNS: &str = "\
+pub(super) const RUNS: &str = "\
 00500513 X | 0 | budget | 0
 2011 0000 8506 X | 10 | exit 2147483650 | 3
 12340000 | 10 | illegal 80000000 0 | 0
@@ -21,8 +19,3 @@ const RUNS: &str = "\
 100002b7 00028023 | 10 | store-access 80000004 10000000 | 1
 100002b7 0002a223 | 10 | store-access 80000004 10000004 | 1
 ";
-
-#[test]
-fn small_images_run(rt: HostRuntime) -> Result<(), Fail> {
-    check(&rt, rt.alloc(), RUN, RUNS, 13)
-}

@@ -1,9 +1,7 @@
-//! Words beside their meanings, in each set of instructions.
-use super::{NONE, OWN, check};
-use std::test::Fail;
+//! `rv_isa`: words beside their meanings, in each set of instructions.
 
 // The rows that every set of instructions has: label | word | meaning
-const WORDS: &str = "\
+pub(super) const WORDS: &str = "\
 lui x10,0x7ffff | 7ffff537 | Lui 10 0 0 2147479552
 lui x31,0x80000 | 80000fb7 | Lui 31 0 0 -2147483648
 lui x1,0xfffff | fffff0b7 | Lui 1 0 0 -4096
@@ -64,7 +62,7 @@ ebreak | 00100073 | Ebreak 0 0 0 0
 ";
 
 // The rows of M: label | word | meaning
-const PRODUCTS: &str = "\
+pub(super) const PRODUCTS: &str = "\
 mul x1,x2,x3 | 023100b3 | Mul 1 2 3 0
 mulh x4,x5,x6 | 02629233 | Mulh 4 5 6 0
 mulhsu x7,x8,x9 | 029423b3 | Mulhsu 7 8 9 0
@@ -76,7 +74,7 @@ remu x29,x30,x31 | 03ff7eb3 | Remu 29 30 31 0
 ";
 
 // label | word
-const WORDS_WITHOUT_A_ROW: &str = "\
+pub(super) const WORDS_WITHOUT_A_ROW: &str = "\
 all zeros | 00000000
 all ones | ffffffff
 bits 4 to 0 set | 0001001f
@@ -109,28 +107,3 @@ lr.w | 1000202f
 addiw | 0000001b
 addw | 0000003b
 ";
-
-#[test]
-fn each_set_has_the_words_of_its_letters(rt: HostRuntime) -> Result<(), Fail> {
-    let alloc = rt.alloc();
-    for set in ["rv32i", "rv32im", "rv32ic", "rv32imc"] {
-        check(alloc, set, OWN, WORDS, 57)?;
-    }
-    for (set, answer) in [
-        ("rv32i", NONE),
-        ("rv32im", OWN),
-        ("rv32ic", NONE),
-        ("rv32imc", OWN),
-    ] {
-        check(alloc, set, answer, PRODUCTS, 8)?;
-    }
-    Ok(())
-}
-
-#[test]
-fn no_other_word_has_a_meaning(rt: HostRuntime) -> Result<(), Fail> {
-    for set in ["rv32i", "rv32im", "rv32ic", "rv32imc"] {
-        check(rt.alloc(), set, NONE, WORDS_WITHOUT_A_ROW, 31)?;
-    }
-    Ok(())
-}

@@ -1,9 +1,7 @@
-//! Accesses whose address is no multiple of their width, where they are allowed and where not.
-use super::{ALLOWING, REFUSING, check, check_each};
-use std::test::Fail;
+//! `rv_memory`: accesses whose address is no multiple of their width, where they are allowed and where not.
 
 // label | ask | the answer where misaligned accesses are allowed | and where they are not
-const MISALIGNED_LOADS: &str = "\
+pub(super) const MISALIGNED_LOADS: &str = "\
 half at 1 | load half 20000009 | 00003322 | Misaligned
 half at 2 | load half 2000000a | 00004433 | 00004433
 half at 3 | load half 2000000b | 00008544 | Misaligned
@@ -15,24 +13,19 @@ word past the end | load word 2000000d | Access | Misaligned
 nothing there | load word 80000002 | Access | Misaligned
 ";
 
-const ALLOWED: &str = "\
+pub(super) const ALLOWED: &str = "\
 bytes | place 20000008 44332211 b8a79685 | done
 $0 | $1 | $2
 ";
 
-const REFUSED: &str = "\
+pub(super) const REFUSED: &str = "\
 bytes | place 20000008 44332211 b8a79685 | done
 $0 | $1 | $3
 ";
 
-#[test]
-fn misaligned_loads(rt: HostRuntime) -> Result<(), Fail> {
-    check_each(rt.alloc(), ALLOWING, ALLOWED, MISALIGNED_LOADS)?;
-    check_each(rt.alloc(), REFUSING, REFUSED, MISALIGNED_LOADS)
-}
-
-// a store into a new bus | the word there | the next word | `x` for each of their halfwords that is stale
-const MISALIGNED_STORES: &str = "\
+// A misaligned store marks each of its bytes, and no other: a store into a new bus | the word there | the next word |
+// `x` for each of their halfwords that is stale
+pub(super) const MISALIGNED_STORES: &str = "\
 store half 20000009 55667788 | 00778800 | 00000000 | xx--
 store half 2000000a 55667788 | 77880000 | 00000000 | -x--
 store half 2000000b 55667788 | 88000000 | 00000077 | -xx-
@@ -41,22 +34,16 @@ store word 2000000a 55667788 | 77880000 | 00005566 | -xx-
 store word 2000000b 55667788 | 88000000 | 00556677 | -xxx
 ";
 
-const STORED: &str = "\
+pub(super) const STORED: &str = "\
 $0 | $0 | done
 $0 : the word there | load word 20000008 | $1
 $0 : the next word | load word 2000000c | $2
 $0 : their halfwords | stale 20000008 | $3
 ";
 
-// A misaligned store marks each of its bytes, and no other.
-#[test]
-fn misaligned_stores(rt: HostRuntime) -> Result<(), Fail> {
-    let setup = "allow | 20000008+8 |";
-    check_each(rt.alloc(), setup, STORED, MISALIGNED_STORES)
-}
-
-// At the border of two regions: label | ask | answer
-const BORDERS: &str = "\
+// Under `Allow` an access still lies in one region, which for a store is a writable one. At the border of two regions:
+// label | ask | answer
+pub(super) const BORDERS: &str = "\
 half over the border | load half 20000007 | Access
 word over the border | load word 20000006 | Access
 half before the border | load half 20000005 | 00000000
@@ -67,7 +54,7 @@ half behind the border | store half 20000009 00000000 | done
 ";
 
 // In a region up to the last address: label | ask | answer
-const LAST_ADDRESSES: &str = "\
+pub(super) const LAST_ADDRESSES: &str = "\
 word at 3 bytes | store word fffffffd 00001234 | Access
 word at 2 bytes | store word fffffffe 00001234 | Access
 word at the last byte | store word ffffffff 00001234 | Access
@@ -80,15 +67,8 @@ half at the last byte | load half ffffffff | Access
 half at 3 bytes | load half fffffffd | 00001234
 ";
 
-// Under `Allow` an access still lies in one region, which for a store is a writable one.
-#[test]
-fn misaligned_accesses_at_borders(rt: HostRuntime) -> Result<(), Fail> {
-    check(rt.alloc(), ALLOWING, BORDERS)?;
-    check(rt.alloc(), "allow | fffffff8+8 |", LAST_ADDRESSES)
-}
-
-// Between two regions: label | ask | answer
-const AT_THE_CONSOLE: &str = "\
+// Between two regions, the console's bytes are reached by its own word accesses alone: label | ask | answer
+pub(super) const AT_THE_CONSOLE: &str = "\
 half over its start | load half 0fffffff | Access
 half over its start | store half 0fffffff 00000000 | Access
 word over its start | load word 0fffffff | Access
@@ -114,10 +94,3 @@ its first word | load word 10000000 | ffffffff
 its second word | load word 10000004 | 00000000
 its output | console | 1 to 34
 ";
-
-// Between two regions, the console's bytes are reached by its own word accesses alone.
-#[test]
-fn misaligned_accesses_at_the_console(rt: HostRuntime) -> Result<(), Fail> {
-    let setup = "allow | 0ffffff0+10 10000010+10 |";
-    check(rt.alloc(), setup, AT_THE_CONSOLE)
-}
