@@ -18,7 +18,7 @@ mod instruction;
 mod opcodes;
 mod sets;
 
-pub use bits::sign_extend;
+pub use bits::{field, sign_extend};
 pub use decoder16::{decode16, expand, is_long, no_halfword_has_two_rows};
 pub use decoder32::{decode32, no_word_has_two_rows};
 pub use instruction::{Instr, Op};

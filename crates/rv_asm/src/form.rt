@@ -1,0 +1,71 @@
+//! How a row is written: its name, and which operands stand behind it.
+
+use rv_isa::Instr;
+
+/// An instruction, the code that it was fetched as, and its address.
+#[derive(Clone, Copy)]
+pub(crate) struct Fetched {
+    pub instr: Instr,
+    pub code: u32,
+    pub pc: u32,
+}
+
+/// What an operand shows of an instruction.
+#[derive(Clone, Copy)]
+pub(crate) enum Operand {
+    /// The name of the register that is written.
+    Rd,
+    /// The names of the registers that are read.
+    Rs1,
+    Rs2,
+    /// The immediate, decimal.
+    Imm,
+    /// The immediate and the register that it is added to, as `8(a0)`.
+    Address,
+    /// The upper 20 bits of the immediate, hexadecimal.
+    Upper,
+    /// The address that the immediate is the way to.
+    Target,
+    /// What a FENCE orders: before it, and behind it.
+    Predecessors,
+    Successors,
+}
+
+/// The operands of a row, in the order in which they are written.
+#[derive(Clone, Copy)]
+pub(crate) enum Operands {
+    Absent,
+    One(Operand),
+    Two(Operand, Operand),
+    Three(Operand, Operand, Operand),
+}
+
+/// How a row is written: its name and its operands.
+#[derive(Clone, Copy)]
+pub(crate) struct Form(pub &'static str, pub Operands);
+
+// The operands of the 32-bit rows; of the 16-bit ones some have the same.
+
+pub(crate) const REGISTERS: Operands = Operands::Three(Operand::Rd, Operand::Rs1, Operand::Rs2);
+
+pub(crate) const IMMEDIATE: Operands = Operands::Three(Operand::Rd, Operand::Rs1, Operand::Imm);
+
+pub(crate) const LOAD: Operands = Operands::Two(Operand::Rd, Operand::Address);
+
+pub(crate) const STORE: Operands = Operands::Two(Operand::Rs2, Operand::Address);
+
+pub(crate) const BRANCH: Operands = Operands::Three(Operand::Rs1, Operand::Rs2, Operand::Target);
+
+pub(crate) const UPPER_IMMEDIATE: Operands = Operands::Two(Operand::Rd, Operand::Upper);
+
+pub(crate) const JUMP: Operands = Operands::Two(Operand::Rd, Operand::Target);
+
+pub(crate) const FENCE: Operands = Operands::Two(Operand::Predecessors, Operand::Successors);
+
+// The other operands of the 16-bit rows.
+
+pub(crate) const REGISTER_IMMEDIATE: Operands = Operands::Two(Operand::Rd, Operand::Imm);
+
+pub(crate) const TWO_REGISTERS: Operands = Operands::Two(Operand::Rd, Operand::Rs2);
+
+pub(crate) const TEST_OF_ZERO: Operands = Operands::Two(Operand::Rs1, Operand::Target);
