@@ -5,7 +5,7 @@ use Rattle.rv_rows.specs.Rows.{row_of}
 use Rattle.rv_rows.proofs.plan_rows.run_one.Goals as goal
 
 pub loop-i-init : goal.loop-i-init
-loop-i-init c = record { rows = c.new-rows.ensures.items; recent = c.new-recent.ensures c.args.plan.now; }
+loop-i-init c = record { rows = c.new-rows.ensures.items; recent = c.new-recent.ensures c.args.plan.now }
 
 pub loop-i-preserved : goal.loop-i-preserved
 loop-i-preserved c =
