@@ -1,5 +1,5 @@
 -- The first element of a list that no other one ranks above, and how one more element changes it.
-use Rattle.std.proofs.Common.{◌≡◌, ◌∙◌, ◌≤◌, ◌+◌, ◌*◌, ◌==◌, ℕ, Bool, true, false, not}
+use Rattle.std.proofs.Common.{◌≡◌, ◌∙◌, ◌≤◌, ◌<◌, ◌+◌, ◌*◌, ◌==◌, ℕ, Bool, true, false, not, lit<}
 use Rattle.std.proofs.Common.{◌&&◌, ◌||◌, cond, ltb, List}
 use Rattle.std.proofs.Common.{[], ◌∷◌, ◌++◌, Option, Some, None, refl, sym, ap, arith, map, inl, inr}
 use Rattle.std.specs.List.{find, filter, list_any, range_with_len}
@@ -10,7 +10,7 @@ use Rattle.std.proofs.lemmas.Bool.Decides.{nat_tests}
 use Rattle.std.proofs.lemmas.List.{append-nil}
 use Rattle.std.proofs.lemmas.List.FromFn.{filter_of_map_range_with_len_more}
 use Rattle.rv_elf.specs.declared.symbols.Symbol.{Symbol}
-use Rattle.rv_elf.specs.Nearest.{is_function, is_nearer, nearest}
+use Rattle.rv_elf.specs.Nearest.{is_function, is_object, precedence, is_nearer, nearest}
 
 absorbed_right : (p q x : Bool) → (p ≡ true → q ≡ true) → p || (q || x) ≡ q || x
 absorbed_right true q x h = sym (or_left q x (h refl))
@@ -102,19 +102,21 @@ module _ {X : Type 0} (rank : X → ℕ) where
 
 -- ---- the nearest symbol
 
--- the value first, and then whether it is a function
+-- the value first, and then what it is
 abbrev pub rank_of : Symbol → ℕ
-rank_of s = 2 * s.value + cond (is_function s) 1 0
+rank_of s = 3 * s.value + precedence s
 
-ranked_alike : (a b : ℕ) (f g : Bool) → ltb b a || ((a == b) && (f && not g))
-    ≡ ltb (2 * b + cond g 1 0) (2 * a + cond f 1 0)
-ranked_alike a b true true = grind (arith, nat_tests)
-ranked_alike a b true false = grind (arith, nat_tests)
-ranked_alike a b false true = grind (arith, nat_tests)
-ranked_alike a b false false = grind (arith, nat_tests)
+below_three : (f o : Bool) → cond f 2 (cond o 1 0) < 3
+below_three true o = lit< tt
+below_three false true = lit< tt
+below_three false false = lit< tt
+
+ranked_alike : (a b f g : ℕ) → f < 3 → g < 3 → ltb b a || ((a == b) && ltb g f) ≡ ltb (3 * b + g) (3 * a + f)
+ranked_alike a b f g below under = grind (arith, nat_tests)
 
 is_ranked : (s t : Symbol) → is_nearer s t ≡ ltb (rank_of t) (rank_of s)
-is_ranked s t = ranked_alike s.value t.value (is_function s) (is_function t)
+is_ranked s t = ranked_alike s.value t.value (precedence s) (precedence t)
+    (below_three (is_function s) (is_object s)) (below_three (is_function t) (is_object t))
 
 nearest_ranked : (ss : List Symbol) → nearest ss ≡ first_best rank_of ss
 unfolding nearest

@@ -1,5 +1,5 @@
 -- The symbol that stands nearest before an address of a loaded image, as a disassembler names the
--- place (System V ABI, "Symbol Table").
+-- place, and the symbol of a value that may be an address (System V ABI, "Symbol Table").
 use Rattle.std.specs.Prelude.{◌≡◌, ◌≤◌, ◌==◌, ◌+◌, ◌-◌, ℕ, Bool, not, ◌&&◌, ◌||◌}
 use Rattle.std.specs.Prelude.{nat_lt, nat_le}
 use Rattle.std.specs.Prelude.{List, [], ◌∷◌, length, drop, filter, find, if◌then◌else◌, false}
@@ -8,6 +8,8 @@ use Rattle.std.specs.List.{list_any}
 use Rattle.std.specs.Option.{option_map_or}
 use Rattle.rv_elf.specs.declared.image.Image.{Image}
 use Rattle.rv_elf.specs.declared.image.Segment.{Segment}
+use Rattle.rv_elf.specs.declared.nearest.Sought.{Sought}
+use Rattle.rv_elf.specs.declared.nearest.Sought.TheVariants.{Code, Value}
 use Rattle.rv_elf.specs.declared.symbols.Symbol.{Symbol}
 use Rattle.rv_elf.specs.Sections.{text_of, symbols_of}
 use Rattle.rv_elf.specs.Symbols.{table_check, tables_there}
@@ -47,23 +49,42 @@ holds a segment = nat_le segment.vaddr a && nat_lt a (segment.vaddr + segment.me
 abbrev pub in_one_segment : List Segment → ℕ → ℕ → Bool
 in_one_segment segments a b = list_any (λ segment. holds a segment && holds b segment) segments
 
--- the symbol may stand for an address: a named symbol of code that is not above the address, and in
--- one segment with it
-abbrev pub is_candidate : List Segment → List ℕ → ℕ → Symbol → Bool
-is_candidate segments strings addr s = is_code s && (has_section s && (nat_le s.value addr
+-- STT_OBJECT
+abbrev pub is_object : Symbol → Bool
+is_object s = s.kind == 1
+
+-- the address lies in the bytes that the symbol says to have
+abbrev pub lies_in : ℕ → Symbol → Bool
+lies_in addr s = nat_le s.value addr && nat_lt addr (s.value + s.size)
+
+-- the address is the symbol's value, or lies in a function or an object
+abbrev pub is_of : ℕ → Symbol → Bool
+is_of addr s = (s.value == addr) || ((is_function s || is_object s) && lies_in addr s)
+
+-- the symbol may stand for an address: a named symbol that is not above it. Of code, that is a
+-- function or an untyped symbol which is in one segment with it; of a value, a function, an object or an
+-- untyped symbol which it is of
+abbrev pub is_candidate : Sought → List Segment → List ℕ → ℕ → Symbol → Bool
+is_candidate Code segments strings addr s = is_code s && (has_section s && (nat_le s.value addr
     && (has_name strings s && in_one_segment segments s.value addr)))
+is_candidate Value segments strings addr s = (is_code s || is_object s) && (has_section s
+    && (is_of addr s && has_name strings s))
 
 -- the candidates among the symbols of a table's bytes, in their order
-abbrev pub candidates : List Segment → List ℕ → ℕ → List ℕ → List Symbol
-candidates segments strings addr table =
-    filter (is_candidate segments strings addr) (symbols_of table)
+abbrev pub candidates : Sought → List Segment → List ℕ → ℕ → List ℕ → List Symbol
+candidates sought segments strings addr table =
+    filter (is_candidate sought segments strings addr) (symbols_of table)
 
 -- ---- which of them is taken
 
--- the first symbol has the greater value; or both have one value, and only the first is a function
+-- a function goes before an object, and an object before any other symbol
+abbrev pub precedence : Symbol → ℕ
+precedence s = if is_function s then 2 else if is_object s then 1 else 0
+
+-- the first symbol has the greater value; or both have one value, and the first goes before
 abbrev pub is_nearer : Symbol → Symbol → Bool
 is_nearer s t = nat_lt t.value s.value
-    || ((s.value == t.value) && (is_function s && not (is_function t)))
+    || ((s.value == t.value) && nat_lt (precedence t) (precedence s))
 
 -- the first symbol of a list that no other one is nearer than
 unfoldable pub nearest : List Symbol → Option Symbol
@@ -74,15 +95,23 @@ abbrev pub named_offset : List ℕ → ℕ → Symbol → Option (List ℕ × �
 named_offset strings addr s = option_map (λ name. (name, addr - s.value)) (name_of strings s)
 
 -- those of the nearest candidate of a symbol table and its string table
-abbrev pub symbol_before : List Segment → ℕ → List ℕ → List ℕ → Option (List ℕ × ℕ)
-symbol_before segments addr table strings = option_and_then (named_offset strings addr)
-    (nearest (candidates segments strings addr table))
+abbrev pub symbol_before : Sought → List Segment → ℕ → List ℕ → List ℕ → Option (List ℕ × ℕ)
+symbol_before sought segments addr table strings = option_and_then (named_offset strings addr)
+    (nearest (candidates sought segments strings addr table))
 
 -- those of the first symbol table of an image's file; none where a table is refused
-unfoldable pub symbol_at : Image → List ℕ → ℕ → Option (List ℕ × ℕ)
-symbol_at image file addr = if is_ok (table_check file)
-    then option_and_then (λ t. symbol_before image.segments addr t.0 t.1) (tables_there file)
+unfoldable pub symbol_sought : Sought → Image → List ℕ → ℕ → Option (List ℕ × ℕ)
+symbol_sought sought image file addr = if is_ok (table_check file)
+    then option_and_then (λ t. symbol_before sought image.segments addr t.0 t.1) (tables_there file)
     else None
+
+-- the symbol that an address of code belongs to
+abbrev pub symbol_at : Image → List ℕ → ℕ → Option (List ℕ × ℕ)
+symbol_at = symbol_sought Code
+
+-- the symbol that a value is the address of, or that it points into
+abbrev pub symbol_of_value : Image → List ℕ → ℕ → Option (List ℕ × ℕ)
+symbol_of_value = symbol_sought Value
 
 -- ---- where names end
 

@@ -91,6 +91,9 @@ st_name table at = word_at table at
 abbrev pub st_value : List ℕ → ℕ → ℕ
 st_value table at = word_at table (at + 4)
 
+abbrev pub st_size : List ℕ → ℕ → ℕ
+st_size table at = word_at table (at + 8)
+
 -- ELF32_ST_TYPE, the low four bits of st_info
 abbrev pub st_type : List ℕ → ℕ → ℕ
 st_type table at = byte_at table (at + 12) % 16
@@ -103,6 +106,7 @@ unfoldable pub symbol_entry : List ℕ → ℕ → Symbol
 symbol_entry table at = record {
   name = st_name table at;
   value = st_value table at;
+  size = st_size table at;
   kind = st_type table at;
   section = st_shndx table at;
 }

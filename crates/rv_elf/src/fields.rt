@@ -60,6 +60,8 @@ pub(crate) const ST_NAME: usize = 0;
 
 pub(crate) const ST_VALUE: usize = 4;
 
+pub(crate) const ST_SIZE: usize = 8;
+
 pub(crate) const ST_INFO: usize = 12;
 
 pub(crate) const ST_SHNDX: usize = 14;

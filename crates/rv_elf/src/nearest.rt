@@ -1,16 +1,17 @@
-//! The symbol that stands nearest before an address.
+//! The symbol that stands nearest before an address, and the symbol of a value.
 ghost use Rattle.std.specs.Prelude.{◌≡◌, ◌==◌, ◌≤◌, Some, None, IfSome, MatchOption, position, drop};
 ghost use Rattle.std.specs.Prelude.{true};
 ghost use Rattle.std.specs.Option.{option_map_or};
 ghost use Rattle.rv_elf.specs.Image.{IsImageOf};
 ghost use Rattle.rv_elf.specs.Sections.{text_of};
-ghost use Rattle.rv_elf.specs.Nearest.{symbol_at, nearest, candidates, is_candidate, in_one_segment, holds};
-ghost use Rattle.rv_elf.specs.Nearest.{is_nearer, is_function, is_code, has_section, has_name, IsNamesEnd};
+ghost use Rattle.rv_elf.specs.Nearest.{symbol_at, symbol_of_value, symbol_sought, nearest, candidates};
+ghost use Rattle.rv_elf.specs.Nearest.{is_candidate, in_one_segment, holds, is_nearer, precedence, is_of};
+ghost use Rattle.rv_elf.specs.Nearest.{is_function, is_object, is_code, has_section, has_name, IsNamesEnd};
 
 use crate::image::{Image, Segment};
 use crate::symbols::{SHN_UNDEF, SYMBOL_SIZE, Symbol, symbol_entry, symbol_tables, tail};
 
-/// A place in code by a symbol.
+/// A place by a symbol.
 #[derive(Clone, Copy)]
 pub struct SymbolAt<'a> {
     /// The symbol's name, without the zero byte behind it.
@@ -19,7 +20,18 @@ pub struct SymbolAt<'a> {
     pub offset: u32,
 }
 
+// What a symbol is sought for.
+#[derive(Clone, Copy)]
+enum Sought {
+    // The code that an address lies in.
+    Code,
+    // A value that may be the address of anything.
+    Value,
+}
+
 const STT_NOTYPE: u8 = 0;
+
+const STT_OBJECT: u8 = 1;
 
 const STT_FUNC: u8 = 2;
 
@@ -41,10 +53,38 @@ pub fn symbol_at<'a>(image: &Image, file: &'a [u8], addr: u32) -> Option<SymbolA
     ensures { MatchOption result (symbol_at image.now file.now addr ≡ None)
         (λ s. symbol_at image.now file.now addr ≡ Some (s.name.now, s.offset)) }
 {
+    symbol_sought(image, file, addr, Sought::Code)
+}
+
+/// The symbol of a value, as of a register's, that may be an address: of the file's first symbol table the
+/// function, object or untyped symbol at exactly that address, or the function or object in whose bytes
+/// (`st_size`) it lies. Where several do, the one of the greatest value is taken, which is one at exactly
+/// that address if there is one; of equal values a function goes before an object, an object before an
+/// untyped symbol, and then the first in the table. No symbol has a segment to lie in here, so that the
+/// end of a stack has its name too. What is no symbol for [`symbol_at`] is none here, and neither answers
+/// where the tables are refused; memory and time are as there.
+pub fn symbol_of_value<'a>(image: &Image, file: &'a [u8], value: u32) -> Option<SymbolAt<'a>>
+    requires image { IsImageOf file.now image.now }
+    ensures { MatchOption result (symbol_of_value image.now file.now value ≡ None)
+        (λ s. symbol_of_value image.now file.now value ≡ Some (s.name.now, s.offset)) }
+{
+    symbol_sought(image, file, value, Sought::Value)
+}
+
+fn symbol_sought<'a>(
+    image: &Image,
+    file: &'a [u8],
+    addr: u32,
+    sought: Sought,
+) -> Option<SymbolAt<'a>>
+    requires image { IsImageOf file.now image.now }
+    ensures { MatchOption result (symbol_sought sought image.now file.now addr ≡ None)
+        (λ s. symbol_sought sought image.now file.now addr ≡ Some (s.name.now, s.offset)) }
+{
     let Ok((table, strings)) = symbol_tables(file) else {
         return None;
     };
-    let symbol = nearest(table, strings, image.segments.as_slice(), addr)?;
+    let symbol = nearest(table, strings, image.segments.as_slice(), addr, sought)?;
     Some(SymbolAt {
         name: text_of(tail(strings, symbol.name as usize))?,
         offset: addr - symbol.value,
@@ -53,15 +93,21 @@ pub fn symbol_at<'a>(image: &Image, file: &'a [u8], addr: u32) -> Option<SymbolA
 
 // The candidate of a table that no other is nearer than. A symbol that is no nearer than the best so
 // far is not looked at any further.
-fn nearest(table: &[u8], strings: &[u8], segments: &[Segment], addr: u32) -> Option<Symbol>
-    ensures value { result ≡ nearest (candidates segments.now strings.now addr table.now) }
+fn nearest(
+    table: &[u8],
+    strings: &[u8],
+    segments: &[Segment],
+    addr: u32,
+    sought: Sought,
+) -> Option<Symbol>
+    ensures value { result ≡ nearest (candidates sought segments.now strings.now addr table.now) }
     ensures below { IfSome result (λ s. s.value ≤ addr) }
 {
     let end = names_end(strings);
     let mut best = None;
     for k in 0..table.len() / SYMBOL_SIZE {
         let symbol = symbol_entry(table, SYMBOL_SIZE * k);
-        if symbol.improves(best) && symbol.is_candidate(strings, end, segments, addr) {
+        if symbol.improves(best) && symbol.is_candidate(strings, end, segments, addr, sought) {
             best = Some(symbol);
         }
     }
@@ -94,25 +140,71 @@ impl Symbol {
         ensures { result ≡ is_nearer self.now other.now }
     {
         other.value < self.value
-            || self.value == other.value && self.is_function() && !other.is_function()
+            || self.value == other.value && other.precedence() < self.precedence()
+    }
+
+    fn precedence(&self) -> u8
+        ensures { result ≡ precedence self.now }
+    {
+        if self.is_function() {
+            2
+        } else if self.is_object() {
+            1
+        } else {
+            0
+        }
     }
 
     // Whether the address may belong to it. There may be 64 segments, so they are asked last.
-    fn is_candidate(&self, strings: &[u8], end: usize, segments: &[Segment], addr: u32) -> bool
+    fn is_candidate(
+        &self,
+        strings: &[u8],
+        end: usize,
+        segments: &[Segment],
+        addr: u32,
+        sought: Sought,
+    ) -> bool
         requires { IsNamesEnd strings.now end }
-        ensures { result ≡ is_candidate segments.now strings.now addr self.now }
+        ensures { result ≡ is_candidate sought segments.now strings.now addr self.now }
     {
-        self.is_code()
-            && self.has_section()
-            && self.value <= addr
-            && self.has_name(strings, end)
-            && in_one_segment(segments, self.value, addr)
+        match sought {
+            Sought::Code => {
+                self.is_code()
+                    && self.has_section()
+                    && self.value <= addr
+                    && self.has_name(strings, end)
+                    && in_one_segment(segments, self.value, addr)
+            }
+            Sought::Value => {
+                (self.is_code() || self.is_object())
+                    && self.has_section()
+                    && self.is_of(addr)
+                    && self.has_name(strings, end)
+            }
+        }
+    }
+
+    // Whether the address is its value, or in the bytes of a function or an object.
+    fn is_of(&self, addr: u32) -> bool
+        ensures { result ≡ is_of addr self.now }
+    {
+        let end = u64::from(self.value) + u64::from(self.size);
+        self.value == addr
+            || (self.is_function() || self.is_object())
+                && self.value <= addr
+                && u64::from(addr) < end
     }
 
     fn is_function(&self) -> bool
         ensures { result ≡ is_function self.now }
     {
         self.kind == STT_FUNC
+    }
+
+    fn is_object(&self) -> bool
+        ensures { result ≡ is_object self.now }
+    {
+        self.kind == STT_OBJECT
     }
 
     fn is_code(&self) -> bool

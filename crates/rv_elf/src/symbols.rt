@@ -8,7 +8,7 @@ ghost use Rattle.rv_elf.specs.Sections.{symbol_entry, symbol_named, begins_with,
 ghost use Rattle.rv_elf.specs.Symbols.{table_check, tables_there, symbol_of, signature_check, is_bad_range};
 
 use crate::error::ImageError;
-use crate::fields::{ST_INFO, ST_NAME, ST_SHNDX, ST_VALUE, half, word};
+use crate::fields::{ST_INFO, ST_NAME, ST_SHNDX, ST_SIZE, ST_VALUE, half, word};
 use crate::image::Image;
 use crate::sections::{has_bad_sections, string_table, symbol_table};
 use rv_memory::Map;
@@ -19,7 +19,10 @@ pub(crate) struct Symbol {
     /// Where its name begins in the string table.
     pub(crate) name: u32,
     pub(crate) value: u32,
-    /// What it stands for: 0 (STT_NOTYPE) where that is not said, 2 (STT_FUNC) for a function.
+    /// How many bytes it stands for, 0 where that is not known.
+    pub(crate) size: u32,
+    /// What it stands for: 0 (STT_NOTYPE) where that is not said, 1 (STT_OBJECT) for data, 2 (STT_FUNC)
+    /// for a function.
     pub(crate) kind: u8,
     /// The index of its section, 0 (SHN_UNDEF) where it is not defined.
     pub(crate) section: u16,
@@ -118,6 +121,7 @@ pub(crate) fn symbol_entry(table: &[u8], at: usize) -> Symbol
     Symbol {
         name: word(table, at + ST_NAME),
         value: word(table, at + ST_VALUE),
+        size: word(table, at + ST_SIZE),
         kind: table[at + ST_INFO] % 16,
         section: half(table, at + ST_SHNDX),
     }

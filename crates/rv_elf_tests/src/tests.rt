@@ -44,6 +44,7 @@ fn answer(alloc: Global, ask: &str, row: &str) -> Result<String, Fail> {
         "map" => loading::of_map(alloc, row),
         "word" => loading::word(alloc, row),
         "place" => places::place(alloc, row),
+        "value" => places::of_value(alloc, row),
         "table" => places::place_by_table(alloc, row),
         "example" => places::place_of_example(alloc, row),
         "symbol" => symbols::value(alloc, row),

@@ -9,6 +9,7 @@
 
 mod accesses;
 mod alu;
+mod awake;
 mod ending;
 mod execute;
 mod fetch;

@@ -1,6 +1,6 @@
-//! The symbols that addresses belong to.
+//! The symbols that addresses belong to, and those of values.
 use super::{bytes_of, check};
-use rv_elf::{SymbolAt, read_image, symbol_at};
+use rv_elf::{SymbolAt, read_image, symbol_at, symbol_of_value};
 use rv_isa::Isa;
 use samples::{BadSample, cell_of, changed, file, hex_of, with_symbols};
 use std::alloc::Global;
@@ -84,6 +84,51 @@ pub(super) fn place(alloc: Global, row: &str) -> Result<String, Fail> {
 #[test]
 fn places(rt: HostRuntime) -> Result<(), Fail> {
     check(rt.alloc(), "place", PLACES, 42)
+}
+
+// Of the file `one`, the sizes of whose symbols are at 120, 136 and 152.
+//
+// symbols | sizes | value | what it is of
+const VALUES: &str = "\
+main=80000004/02/0001 | | 80000004 | main+0
+main=80000004/02/0001 | | 80000005 | none
+main=80000004/02/0001 | 120=00000004 | 80000003 | none
+main=80000004/02/0001 | 120=00000004 | 80000007 | main+3
+main=80000004/02/0001 | 120=00000004 | 80000008 | none
+data=80000004/11/0001 | | 80000004 | data+0
+data=80000004/01/0001 | 120=00000004 | 80000007 | data+3
+label=80000004/00/0001 | 120=00000004 | 80000004 | label+0
+label=80000004/00/0001 | 120=00000004 | 80000005 | none
+text=80000004/03/0001 | 120=00000004 | 80000004 | none
+main=80000004/02/0000 | | 80000004 | none
+main=80000004/02/feff | | 80000004 | main+0
+main=80000004/02/ff00 | | 80000004 | none
+.text=80000004/00/0001 | | 80000004 | none
+main=80000000/02/0001 label=80000004/00/0001 | 120=00000010 | 80000004 | label+0
+main=80000000/02/0001 label=80000004/00/0001 | 120=00000010 | 80000005 | main+5
+main=80000000/02/0001 data=80000004/01/0001 | 120=00000010 136=00000004 | 80000005 | data+1
+main=80000000/02/0001 data=80000004/01/0001 | 120=00000010 136=00000004 | 80000008 | main+8
+label=80000004/00/0001 data=80000004/01/0001 main=80000004/02/0001 | | 80000004 | main+0
+label=80000004/00/0001 data=80000004/01/0001 | | 80000004 | data+0
+first=80000004/01/0001 second=80000004/01/0001 | | 80000004 | first+0
+stack_top=80100000/10/0001 | | 80100000 | stack_top+0
+top=fffffffc/01/0001 | 120=00000004 | ffffffff | top+3
+top=fffffffc/01/0001 | 120=ffffffff | 00000000 | none
+";
+
+pub(super) fn of_value(alloc: Global, row: &str) -> Result<String, Fail> {
+    let plain = file_with(alloc, "one", cell_of(row, 0))?;
+    let file = changed(alloc, &plain, cell_of(row, 1))?;
+    let image = read_image(alloc, &file, Isa::Imc)?;
+    text_of(
+        alloc,
+        symbol_of_value(&image, &file, hex_of(cell_of(row, 2))?),
+    )
+}
+
+#[test]
+fn values(rt: HostRuntime) -> Result<(), Fail> {
+    check(rt.alloc(), "value", VALUES, 24)
 }
 
 // Of the file `one` with the symbol `main` at 80000004: the symbol is at 112, the strings `\0main\0` at 128, and the

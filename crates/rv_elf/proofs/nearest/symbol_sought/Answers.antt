@@ -1,30 +1,30 @@
 use Rattle.std.proofs.Common.{Some, None}
 use Rattle.rv_elf.proofs.Naming.{header_there}
 use Rattle.rv_elf.proofs.Standing.{no_tables, by_nearest, by_name}
-use Rattle.rv_elf.proofs.nearest.symbol_at.Goals as goal
+use Rattle.rv_elf.proofs.nearest.symbol_sought.Goals as goal
 
 pub symbol_tables-requires : goal.symbol_tables-requires
 symbol_tables-requires c = header_there c.args.file.now c.args.image.now c.requires.image
 
 pub returns-in_default : goal.returns-in_default
-returns-in_default c = no_tables c.args.image.now c.args.file.now c.args.addr _ c.in_default.ensures.checked
+returns-in_default c = no_tables c.args.sought c.args.image.now c.args.file.now c.args.addr _ c.in_default.ensures.checked
 
 pub returns-in_err-symbol : goal.returns-in_err-symbol
 returns-in_err-symbol c = rw c.from_residual.ensures
-    (by_nearest c.args.image.now c.args.file.now c.args.addr c.in-Ok.table.now c.in-Ok.strings.now
+    (by_nearest c.args.sought c.args.image.now c.args.file.now c.args.addr c.in-Ok.table.now c.in-Ok.strings.now
     c.in-Ok.ensures.checked c.in-Ok.ensures.there c.as_slice.result.now c.as_slice.ensures
     None c.in_err-symbol.ensures.value)
 
 pub returns-in_err-text_of : goal.returns-in_err-text_of
 returns-in_err-text_of c = rw c.from_residual-in_err-text_of.ensures
-    (by_name c.args.image.now c.args.file.now c.args.addr c.in-Ok.table.now c.in-Ok.strings.now
+    (by_name c.args.sought c.args.image.now c.args.file.now c.args.addr c.in-Ok.table.now c.in-Ok.strings.now
     c.in-Ok.ensures.checked c.in-Ok.ensures.there c.as_slice.result.now c.as_slice.ensures
     c.nearest.result c.nearest.ensures.value c.in_ok-symbol.symbol c.in_ok-symbol.was
     c.tail.result.now c.tail.ensures None c.in_err-text_of.ensures)
 
 pub returns : goal.returns
 returns c =
-    by_name c.args.image.now c.args.file.now c.args.addr c.in-Ok.table.now c.in-Ok.strings.now
+    by_name c.args.sought c.args.image.now c.args.file.now c.args.addr c.in-Ok.table.now c.in-Ok.strings.now
     c.in-Ok.ensures.checked c.in-Ok.ensures.there c.as_slice.result.now c.as_slice.ensures
     c.nearest.result c.nearest.ensures.value c.in_ok-symbol.symbol c.in_ok-symbol.was
     c.tail.result.now c.tail.ensures (Some c.in_ok-text_of.field-0.now) c.in_ok-text_of.ensures
