@@ -10,6 +10,7 @@ ghost use Rattle.rv_test_program.specs.Runs.{IsStatusOf};
 use crate::choosing::marks_asked;
 use crate::list::{jobs_of, read_text};
 use crate::report::ReportTo;
+use crate::shard::shard_asked;
 use crate::stop::Stop;
 use crate::streams::Streams;
 use rv_files::{NotingStore, StreamSink};
@@ -18,7 +19,8 @@ use rv_jobs::{JobList, Plan, gather_places, marked_places};
 use rv_lines::Rule;
 use rv_progress::{CountingTelling, Progress, TerminalSink};
 use rv_telling::{RowTelling, Verbosity};
-use rv_test_run::{DONE, show_run, status_of};
+use rv_reports::Shard;
+use rv_test_run::{DONE, shard_marks, show_run, status_of};
 use rv_test_words::RunAsked;
 use std::alloc::Global;
 use std::io::Write;
@@ -43,8 +45,13 @@ pub(crate) fn run<R: Threads + Wait + Sync + Files + Clock, S: Streams>(
     };
     let text = read_text(rt, alloc, asked.list)?;
     let jobs = jobs_of(alloc, asked.list, text.as_slice())?;
-    match marks_asked(rt, alloc, streams, asked, rule, jobs.as_slice())? {
-        Some(marks) => run_marked(rt, alloc, streams, asked, rule, jobs, marks.as_slice()),
+    let shard = shard_asked(alloc, asked, text.as_slice(), jobs.len())?;
+    let marks = match &shard {
+        Some(shard) => Some(shard_marks(alloc, shard, jobs.len())?),
+        None => marks_asked(rt, alloc, streams, asked, rule, jobs.as_slice())?,
+    };
+    match marks {
+        Some(marks) => run_marked(rt, alloc, streams, asked, rule, jobs, marks.as_slice(), shard),
         None => Ok(DONE),
     }
 }
@@ -58,6 +65,7 @@ fn run_marked<R: Threads + Wait + Sync + Files + Clock, S: Streams>(
     rule: Rule,
     jobs: JobList,
     marks: &[bool],
+    shard: Option<Shard>,
 ) -> Result<u8, Stop>
     requires { length marks.now ≡ length jobs }
     ensures { IfOk result (IsStatusOf rule jobs marks.now) }
@@ -90,7 +98,7 @@ fn run_marked<R: Threads + Wait + Sync + Files + Clock, S: Streams>(
         }
     };
     let status = status_of(rule, rows.as_slice());
-    report.write(alloc, streams, plan.jobs(), places.as_slice(), rows)?;
+    report.write(alloc, streams, plan.jobs(), places.as_slice(), shard, rows)?;
     Ok(status)
 }
 

@@ -1,11 +1,12 @@
 -- What the program's own value of what is asked for stands for.
-use Rattle.std.specs.Prelude.{◌≤◌, IfSome, map, option_map}
+use Rattle.std.specs.Prelude.{◌≤◌, IfSome, Option, map, option_map}
 use Rattle.rv_test_words.specs.declared.asked.Asked.{Asked}
 use Rattle.rv_test_words.specs.declared.asked.Asked.TheVariants as asked
 use Rattle.rv_test_words.specs.declared.asked.RunAsked.{RunAsked}
 use Rattle.rv_test_words.specs.declared.asked.ExplainAsked.{ExplainAsked}
 use Rattle.rv_test_words.specs.declared.asked.MergeAsked.{MergeAsked}
-use Rattle.rv_test_words.specs.Words.{Text, Words, RunWords, ExplainWords, MergeWords, most_last}
+use Rattle.clap.specs.Words.{Text}
+use Rattle.rv_test_words.specs.Words.{Words, RunWords, ExplainWords, MergeWords, most_last}
 use Rattle.rv_test_words.specs.Words.{run, explain, check, merge, diff, show}
 use Rattle.std.specs.Borrow.{Bor}
 
