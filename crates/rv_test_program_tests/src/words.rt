@@ -150,7 +150,7 @@ show report --junit j.xml --lenient | show report junit=j.xml lenient";
 // The words, the kind of the error, and what it says among other things. The second line has no words.
 pub(crate) const BAD_WORDS: &str = "\
 help | InvalidSubcommand | 'help' | Usage: rvtest <COMMAND>
- | MissingSubcommand | 'rvtest' requires a subcommand | run, check | Usage: rvtest <COMMAND>
+ | MissingSubcommand | 'rvtest' requires a subcommand | run, explain, check, merge, diff, show | Usage: rvtest <COMMAND>
 walk a.toml | InvalidSubcommand | 'walk' | Usage: rvtest <COMMAND>
 runn a.toml | InvalidSubcommand | 'runn' | 'run'
 a.toml | InvalidSubcommand | 'a.toml' | Usage: rvtest <COMMAND>
