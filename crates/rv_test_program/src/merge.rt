@@ -43,11 +43,7 @@ fn report_path<'a>(asked: &MergeAsked<'a>) -> Option<&'a str> {
 }
 
 // The rows of the whole list.
-fn merged_rows<R: Files>(
-    files: &R,
-    alloc: Global,
-    asked: &MergeAsked<'_>,
-) -> Result<Rows, Stop>
+fn merged_rows<R: Files>(files: &R, alloc: Global, asked: &MergeAsked<'_>) -> Result<Rows, Stop>
     ensures { IfOk result (λ rows. length rows ≤ most_jobs) }
 {
     let mut texts = Vec::new(alloc);
@@ -176,7 +172,10 @@ fn push_flaw(
         }
         Flaw::CutOff => push_text(text, ": the part is cut off"),
         Flaw::Whole => push_text(text, ": a whole report, which is no part of a run"),
-        Flaw::Choice => push_text(text, ": the report of a choice of jobs, which is no shard's"),
+        Flaw::Choice => push_text(
+            text,
+            ": the report of a choice of jobs, which is no shard's",
+        ),
         Flaw::OtherShards => push_other(text, asked, "another number of shards than "),
         Flaw::OtherJobs => push_other(text, asked, "a list of another number of jobs than "),
         Flaw::OtherStamp => push_other(text, asked, "another stamp than "),
