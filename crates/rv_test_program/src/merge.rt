@@ -56,7 +56,7 @@ fn merged_rows<R: Files>(files: &R, alloc: Global, asked: &MergeAsked<'_>) -> Re
     }
     match merge_parts(alloc, parts.as_slice()) {
         Ok(rows) => Ok(rows),
-        Err(error) => Err(refused(alloc, asked, error)),
+        Err(error) => Err(refused(alloc, asked, error)?),
     }
 }
 
@@ -121,23 +121,11 @@ fn write_files<R: Files, S: Streams>(
 }
 
 // Why the parts are not those of one run.
-fn refused(alloc: Global, asked: &MergeAsked<'_>, error: MergeError) -> Stop {
-    match told_of_error(alloc, asked, error) {
-        Ok(Some(text)) => Stop::Refused(text),
-        Ok(None) | Err(_) => Stop::OutOfMemory,
-    }
-}
-
-// The line that says so, but for want of memory.
-fn told_of_error(
-    alloc: Global,
-    asked: &MergeAsked<'_>,
-    error: MergeError,
-) -> Result<Option<Vec<u8>>, AllocError> {
+fn refused(alloc: Global, asked: &MergeAsked<'_>, error: MergeError) -> Result<Stop, AllocError> {
     let mut text = Vec::new(alloc);
     push_text(&mut text, "rvtest: ")?;
     match error {
-        MergeError::OutOfMemory => return Ok(None),
+        MergeError::OutOfMemory => return Err(AllocError),
         MergeError::NoTexts => push_text(&mut text, "there is no part")?,
         MergeError::Text(at, flaw) => push_flaw(&mut text, asked, at, flaw)?,
         MergeError::Missing(number) => {
@@ -146,7 +134,7 @@ fn told_of_error(
         }
     }
     push_text(&mut text, "\n")?;
-    Ok(Some(text))
+    Ok(Stop::Refused(text))
 }
 
 fn push_path(text: &mut Vec<u8>, asked: &MergeAsked<'_>, at: usize) -> Result<(), AllocError> {
