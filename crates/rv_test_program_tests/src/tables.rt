@@ -34,8 +34,8 @@ report | strange | 18
 report | other | 14
 report | names | 4
 counts | counts | 4
-words | good words | 9
-bad words | bad words | 33
+words | good words | 22
+bad words | bad words | 47
 shown | shown | 7";
 
 fn table_of(name: &str) -> &'static str {

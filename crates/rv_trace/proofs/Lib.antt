@@ -1,0 +1,4 @@
+pub mod Runs
+pub mod Showing
+pub mod Fetched
+pub mod Rows

@@ -1,0 +1,4 @@
+pub mod Code
+pub mod Steps
+pub mod Trace
+pub mod Showing
