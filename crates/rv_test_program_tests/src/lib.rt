@@ -1,6 +1,6 @@
-//! Tests of rooms of `rvtest`: reports, choices, the lines on which jobs begin, and words, by what `rv_reports`,
-//! `rv_choice`, `rv_headers` and `rv_test_words` show their callers. The crate has nothing else, so that no code is
-//! proved twice.
+//! Tests of rooms of `rvtest`: reports, views of them, choices, the lines on which jobs begin, and words, by what
+//! `rv_reports`, `rv_views`, `rv_choice`, `rv_headers` and `rv_test_words` show their callers. The crate has nothing
+//! else, so that no code is proved twice.
 #![tactic(auto)]
 
 #[cfg(test)]
@@ -11,5 +11,7 @@ mod headers;
 mod reports;
 #[cfg(test)]
 mod tables;
+#[cfg(test)]
+mod views;
 #[cfg(test)]
 mod words;
