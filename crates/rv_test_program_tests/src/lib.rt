@@ -1,5 +1,5 @@
-//! Tests of rooms of `rvtest`: reports, choices, the lines on which jobs begin, and words, by what `rv_reports`,
-//! `rv_choice`, `rv_headers` and `rv_test_words` show their callers. The crate has nothing else, so that no code is
+//! Tests of rooms of `rvtest`: reports, merging, choices, the lines on which jobs begin, and words, by what `rv_reports`,
+//! `rv_merge`, `rv_choice`, `rv_headers` and `rv_test_words` show their callers. The crate has nothing else, so that no code is
 //! proved twice.
 #![tactic(auto)]
 
@@ -7,6 +7,8 @@
 mod choice;
 #[cfg(test)]
 mod headers;
+#[cfg(test)]
+mod merging;
 #[cfg(test)]
 mod reports;
 #[cfg(test)]
