@@ -24,7 +24,13 @@ pub(crate) fn diff<R: Files, S: Streams>(
     let old = read_saved(files, alloc, asked.old)?;
     let new = read_saved(files, alloc, asked.new)?;
     let mut text = Vec::new(alloc);
-    let counts = push_diff(alloc, &mut text, asked.steps, old.rows.as_slice(), new.rows.as_slice())?;
+    let counts = push_diff(
+        alloc,
+        &mut text,
+        asked.steps,
+        old.rows.as_slice(),
+        new.rows.as_slice(),
+    )?;
     put_out(streams, text.as_slice())?;
     Ok(status_of(counts))
 }

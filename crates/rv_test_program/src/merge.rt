@@ -43,11 +43,7 @@ fn report_path<'a>(asked: &MergeAsked<'a>) -> Option<&'a str> {
 }
 
 // The rows of the whole list.
-fn merged_rows<R: Files>(
-    files: &R,
-    alloc: Global,
-    asked: &MergeAsked<'_>,
-) -> Result<Rows, Stop>
+fn merged_rows<R: Files>(files: &R, alloc: Global, asked: &MergeAsked<'_>) -> Result<Rows, Stop>
     ensures { IfOk result (λ rows. length rows ≤ most_jobs) }
 {
     let mut texts = Vec::new(alloc);
@@ -60,7 +56,7 @@ fn merged_rows<R: Files>(
     }
     match merge_parts(alloc, parts.as_slice()) {
         Ok(rows) => Ok(rows),
-        Err(error) => Err(refused(alloc, asked, error)),
+        Err(error) => Err(refused(alloc, asked, error)?),
     }
 }
 
@@ -125,23 +121,11 @@ fn write_files<R: Files, S: Streams>(
 }
 
 // Why the parts are not those of one run.
-fn refused(alloc: Global, asked: &MergeAsked<'_>, error: MergeError) -> Stop {
-    match told_of_error(alloc, asked, error) {
-        Ok(Some(text)) => Stop::Refused(text),
-        Ok(None) | Err(_) => Stop::OutOfMemory,
-    }
-}
-
-// The line that says so, but for want of memory.
-fn told_of_error(
-    alloc: Global,
-    asked: &MergeAsked<'_>,
-    error: MergeError,
-) -> Result<Option<Vec<u8>>, AllocError> {
+fn refused(alloc: Global, asked: &MergeAsked<'_>, error: MergeError) -> Result<Stop, AllocError> {
     let mut text = Vec::new(alloc);
     push_text(&mut text, "rvtest: ")?;
     match error {
-        MergeError::OutOfMemory => return Ok(None),
+        MergeError::OutOfMemory => return Err(AllocError),
         MergeError::NoTexts => push_text(&mut text, "there is no part")?,
         MergeError::Text(at, flaw) => push_flaw(&mut text, asked, at, flaw)?,
         MergeError::Missing(number) => {
@@ -150,7 +134,7 @@ fn told_of_error(
         }
     }
     push_text(&mut text, "\n")?;
-    Ok(Some(text))
+    Ok(Stop::Refused(text))
 }
 
 fn push_path(text: &mut Vec<u8>, asked: &MergeAsked<'_>, at: usize) -> Result<(), AllocError> {
@@ -176,7 +160,10 @@ fn push_flaw(
         }
         Flaw::CutOff => push_text(text, ": the part is cut off"),
         Flaw::Whole => push_text(text, ": a whole report, which is no part of a run"),
-        Flaw::Choice => push_text(text, ": the report of a choice of jobs, which is no shard's"),
+        Flaw::Choice => push_text(
+            text,
+            ": the report of a choice of jobs, which is no shard's",
+        ),
         Flaw::OtherShards => push_other(text, asked, "another number of shards than "),
         Flaw::OtherJobs => push_other(text, asked, "a list of another number of jobs than "),
         Flaw::OtherStamp => push_other(text, asked, "another stamp than "),

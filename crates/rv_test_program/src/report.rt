@@ -144,7 +144,15 @@ impl<'a, R: Files> ReportTo<'a, R> {
         rows: &[Row],
     ) -> Result<(), Stop> {
         let places = vec![in alloc; 0usize; rows.len()]?;
-        self.write_junit(alloc, streams, class, told.rule, told, places.as_slice(), rows)
+        self.write_junit(
+            alloc,
+            streams,
+            class,
+            told.rule,
+            told,
+            places.as_slice(),
+            rows,
+        )
     }
 }
 

@@ -18,10 +18,10 @@ use rv_files::{NotingStore, StreamSink};
 use rv_fleet::Rows;
 use rv_jobs::{JobList, Plan, gather_places, marked_places};
 use rv_lines::Rule;
-use rv_progress::{CountingTelling, Progress, TerminalSink};
-use rv_telling::{RowTelling, Verbosity};
 use rv_merge::shard_marks;
+use rv_progress::{CountingTelling, Progress, TerminalSink};
 use rv_reports::Shard;
+use rv_telling::{RowTelling, Verbosity};
 use rv_test_run::{DONE, show_run, status_of};
 use rv_test_words::RunAsked;
 use std::alloc::Global;
@@ -49,7 +49,16 @@ pub(crate) fn run<R: Threads + Wait + Sync + Files + Clock, S: Streams>(
         None => marks_asked(rt, alloc, streams, asked, rule, jobs.as_slice())?,
     };
     match marks {
-        Some(marks) => run_marked(rt, alloc, streams, asked, rule, jobs, marks.as_slice(), shard),
+        Some(marks) => run_marked(
+            rt,
+            alloc,
+            streams,
+            asked,
+            rule,
+            jobs,
+            marks.as_slice(),
+            shard,
+        ),
         None => Ok(DONE),
     }
 }
@@ -77,6 +86,7 @@ fn run_marked<R: Threads + Wait + Sync + Files + Clock, S: Streams>(
         unread: store.unread(),
         rule,
         verbosity: verbosity_of(asked),
+        last: asked.last,
     };
     let outputs = Outputs::open(rt, alloc, asked.report, asked.junit)?;
     let is_beside = outputs.is_out();
@@ -100,7 +110,16 @@ fn run_marked<R: Threads + Wait + Sync + Files + Clock, S: Streams>(
         verbosity: Verbosity::Failures,
         ..telling
     };
-    write(alloc, streams, asked, outputs, &told, places.as_slice(), shard, rows)?;
+    write(
+        alloc,
+        streams,
+        asked,
+        outputs,
+        &told,
+        places.as_slice(),
+        shard,
+        rows,
+    )?;
     Ok(status)
 }
 
@@ -122,9 +141,15 @@ fn write<R: Files, S: Streams>(
     let Outputs { report, junit } = outputs;
     let class = class_of(asked.list).as_bytes();
     let rule = telling.rule;
-    if let Err(stop) =
-        junit.write_junit(alloc, streams, class, rule, telling, places, rows.as_slice())
-    {
+    if let Err(stop) = junit.write_junit(
+        alloc,
+        streams,
+        class,
+        rule,
+        telling,
+        places,
+        rows.as_slice(),
+    ) {
         report.abandon();
         return Err(stop);
     }

@@ -72,12 +72,16 @@ fn digest_of(alloc: Global, text: &[u8]) -> Result<String, AllocError> {
 }
 
 fn bad_shard(alloc: Global, words: &str) -> Result<Stop, AllocError> {
-    let what = format!(in alloc; "invalid value '{words}' for '--shard <K/N>': K and N are numbers, 1 <= K <= N <= 4096")?;
+    let what = format!(in alloc;
+        "invalid value '{words}' for '--shard <K/N>': K and N are numbers, 1 <= K <= N <= 4096"
+    )?;
     refused(alloc, what.as_str())
 }
 
 fn bad_stamp(alloc: Global, stamp: &str) -> Result<Stop, AllocError> {
-    let what = format!(in alloc; "invalid value '{stamp}' for '--stamp <TEXT>': 1 to 64 letters, digits, '.', '_' and '-'")?;
+    let what = format!(in alloc;
+        "invalid value '{stamp}' for '--stamp <TEXT>': 1 to 64 letters, digits, '.', '_' and '-'"
+    )?;
     refused(alloc, what.as_str())
 }
 

@@ -2,3 +2,4 @@ pub mod Runs
 pub mod Showing
 pub mod Fetched
 pub mod Rows
+pub mod Registers

@@ -2,3 +2,4 @@ pub mod Code
 pub mod Steps
 pub mod Trace
 pub mod Showing
+pub mod Text

@@ -8,11 +8,15 @@
 
 mod aim;
 mod code;
+mod columns;
 mod law;
 mod step;
+mod text;
+mod told;
 mod trace;
 
 pub use code::{Code, code_at};
 pub use law::{codes_are_fetched, rows_are_of_the_run, traces_show_the_end};
 pub use step::{TracedStep, TracedSteps, Wrote};
+pub use text::push_trace;
 pub use trace::{Trace, trace_at, trace_run};

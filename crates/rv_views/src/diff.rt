@@ -1,6 +1,6 @@
 //! Two reports, row by row.
 
-ghost use Rattle.std.specs.Prelude.{◌≡◌, ◌≤◌, ◌<◌, ◌+◌, ◌^◌, ◌++◌, IfOk, OnOk, count_by, length, option_map};
+ghost use Rattle.std.specs.Prelude.{◌≡◌, ◌==◌, ◌≤◌, ◌<◌, ◌+◌, ◌^◌, ◌++◌, IfOk, OnOk, count_by, length, not, option_map};
 ghost use Rattle.std.specs.List.{flat_map};
 ghost use Rattle.rv_rows.specs.Report.{line};
 ghost use Rattle.rv_views.specs.ByName.{row_named};
@@ -22,6 +22,15 @@ pub struct Differing {
     pub added: usize,
     /// Those that both have, with rows that do not agree.
     pub changed: usize,
+}
+
+impl Differing {
+    /// Whether any job differs, so that a line is due.
+    pub fn is_any(&self) -> bool
+        ensures { result ≡ not (differing_count self.now == 0) }
+    {
+        self.gone != 0 || self.added != 0 || self.changed != 0
+    }
 }
 
 /// Appends in what the rows of two reports differ: `- NAME` for a job that only the old one has, in its order, then in the

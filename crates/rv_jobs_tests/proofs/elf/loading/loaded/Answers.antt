@@ -2,7 +2,7 @@ use Rattle.std.proofs.Common.{◌∙◌, ap, sym}
 use Rattle.rv_memory.specs.declared.access.Misaligned.TheVariants.{Fault}
 use Rattle.rv_elf.specs.Loading.{map_check}
 use Rattle.rv_elf.proofs.Public.{regions_of_new, is_new}
-use Rattle.rv_elf_tests.proofs.tests.loading.loaded.Goals as goal
+use Rattle.rv_jobs_tests.proofs.elf.loading.loaded.Goals as goal
 
 pub load-requires-clause-fits : goal.load-requires-clause-fits
 load-requires-clause-fits c =
