@@ -3,3 +3,5 @@ pub mod Ranks
 pub mod Names
 pub mod Laws
 pub mod Cases
+pub mod XmlCharacters
+pub mod Documents

@@ -1,7 +1,8 @@
 -- Rows as JUnit's XML: one suite, and one case a row, in order.
-use Rattle.std.specs.Prelude.{◌&&◌, ℕ, Bool, not, List, [], ◌∷◌, ◌++◌, Option, Some, None, codes}
+use Rattle.std.specs.Prelude.{◌&&◌, ◌^◌, ◌<◌, ℕ, Bool, not, List, [], ◌∷◌, ◌++◌, Option, Some, None, codes}
 use Rattle.std.specs.Prelude.{count_by, if◌then◌else◌, length, position, take}
 use Rattle.std.specs.Fmt.{decimal}
+use Rattle.hex.specs.Hex.{IsBytes}
 use Rattle.rv_rows.specs.declared.row.Row.{Row}
 use Rattle.rv_rows.specs.Verdict.{is_run}
 use Rattle.rv_lines.specs.declared.passing.Rule.{Rule}
@@ -82,3 +83,11 @@ end_text = codes "</testsuite>\n</testsuites>\n"
 unfoldable pub junit_text : List ℕ → Rule → List (List ℕ) → List Row → List ℕ
 junit_text class rule texts rows =
     begin_text class rule rows ++ cases_text class rule texts rows ++ end_text
+
+-- ---- what rows are
+
+-- a name and a console of bytes, and steps of 64 bits
+pub record IsWrittenRow (row : Row) : Type 0 where
+  pub name : IsBytes row.name
+  pub console : IsBytes row.console
+  pub steps : row.steps < 2 ^ 64

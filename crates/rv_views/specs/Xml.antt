@@ -6,7 +6,7 @@ use Rattle.std.specs.Prelude.{slice_index}
 use Rattle.std.specs.Char.{encode_utf8, len_utf8}
 use Rattle.std.specs.Int.{is_in_range}
 use Rattle.std.specs.List.{flat_map, list_all}
-use Rattle.std.specs.Str.{chars, continuation_len, is_utf8}
+use Rattle.std.specs.Str.{chars, continuation_len, encode_utf8_all, is_utf8}
 use Rattle.hex.specs.Hex.{encode_lower}
 use Rattle.rv_views.specs.declared.xml.Within.{Within}
 use Rattle.rv_views.specs.declared.xml.Within.TheVariants.{Attribute, Element}
@@ -96,3 +96,9 @@ pub record IsXmlText (within : Within) (text : List ℕ) : Type 0 where
   pub characters : List ℕ
   pub taken : list_all is_xml_character characters ≡ true
   pub written : text ≡ flat_map (character_text within) characters
+
+-- the UTF-8 of characters of XML
+pub record IsXmlCharacters (text : List ℕ) : Type 0 where
+  pub characters : List ℕ
+  pub taken : list_all is_xml_character characters ≡ true
+  pub written : text ≡ encode_utf8_all characters

@@ -23,7 +23,7 @@ pub use diff::{Differing, push_diff};
 pub use failed_lines::FailedLines;
 pub use junit_writer::write_junit;
 pub use law::{
-    escaped_bytes_are_xml, failures_and_errors_are_what_did_not_pass,
+    documents_are_xml_characters, escaped_bytes_are_xml, failures_and_errors_are_what_did_not_pass,
     jobs_differ_where_a_line_is_due, rows_agree_where_no_line_is_due,
 };
 pub use most_steps::MOST_SHOWN;
