@@ -46,18 +46,39 @@ fn report_path<'a>(asked: &MergeAsked<'a>) -> Option<&'a str> {
 fn merged_rows<R: Files>(files: &R, alloc: Global, asked: &MergeAsked<'_>) -> Result<Rows, Stop>
     ensures { IfOk result (λ rows. length rows ≤ most_jobs) }
 {
-    let mut texts = Vec::new(alloc);
-    for path in &asked.parts {
-        texts.push(read_file(files, alloc, path, usize::MAX)?)?;
-    }
-    let mut parts = Vec::new(alloc);
-    for text in &texts {
-        parts.push(text.as_slice())?;
-    }
+    let texts = texts_of(files, alloc, asked)?;
+    let parts = slices_of(alloc, texts.as_slice())?;
     match merge_parts(alloc, parts.as_slice()) {
         Ok(rows) => Ok(rows),
         Err(error) => Err(refused(alloc, asked, error)?),
     }
+}
+
+// What the parts' files have.
+fn texts_of<R: Files>(
+    files: &R,
+    alloc: Global,
+    asked: &MergeAsked<'_>,
+) -> Result<Vec<Vec<u8>>, Stop> {
+    let mut texts = Vec::new(alloc);
+    for path in &asked.parts {
+        let text = read_file(files, alloc, path, usize::MAX)?;
+        add(&mut texts, text)?;
+    }
+    Ok(texts)
+}
+
+fn add(texts: &mut Vec<Vec<u8>>, text: Vec<u8>) -> Result<(), AllocError> {
+    texts.push(text)?;
+    Ok(())
+}
+
+fn slices_of(alloc: Global, texts: &[Vec<u8>]) -> Result<Vec<&[u8]>, AllocError> {
+    let mut slices = Vec::new(alloc);
+    for text in texts {
+        slices.push(text.as_slice())?;
+    }
+    Ok(slices)
 }
 
 // Writes what is asked for, and shows the last line.

@@ -43,9 +43,9 @@ pub(crate) fn run<R: Threads + Wait + Sync + Files + Clock, S: Streams>(
     let rule = rule_of(asked.lenient);
     let text = read_text(rt, alloc, asked.list)?;
     let jobs = jobs_of(alloc, asked.list, text.as_slice())?;
-    let shard = shard_asked(alloc, asked, text.as_slice(), jobs.len())?;
+    let shard = shard_asked(alloc, asked, text.as_slice(), jobs.as_slice().len())?;
     let marks = match &shard {
-        Some(shard) => Some(shard_marks(alloc, jobs.len(), shard.number, shard.shards)?),
+        Some(shard) => Some(shard_marks(alloc, jobs.as_slice().len(), shard.number, shard.shards)?),
         None => marks_asked(rt, alloc, streams, asked, rule, jobs.as_slice())?,
     };
     match marks {
@@ -64,11 +64,11 @@ pub(crate) fn run<R: Threads + Wait + Sync + Files + Clock, S: Streams>(
 }
 
 // Runs the jobs that are marked. The files are read, and the report is opened, before the first of them runs.
-fn run_marked<R: Threads + Wait + Sync + Files + Clock, S: Streams>(
-    rt: &R,
+fn run_marked<'x, R: Threads + Wait + Sync + Files + Clock, S: Streams>(
+    rt: &'x R,
     alloc: Global,
     streams: &S,
-    asked: &RunAsked<'_>,
+    asked: &RunAsked<'x>,
     rule: Rule,
     jobs: JobList,
     marks: &[bool],
@@ -107,8 +107,11 @@ fn run_marked<R: Threads + Wait + Sync + Files + Clock, S: Streams>(
     };
     let status = status_of(rule, rows.as_slice());
     let told = RowTelling {
+        plan: &plan,
+        unread: store.unread(),
+        rule,
         verbosity: Verbosity::Failures,
-        ..telling
+        last: asked.last,
     };
     write(
         alloc,
