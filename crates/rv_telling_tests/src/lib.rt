@@ -3,6 +3,8 @@
 #![tactic(auto)]
 
 #[cfg(test)]
+mod explain_tests;
+#[cfg(test)]
 mod files;
 #[cfg(test)]
 mod refusal_tests;

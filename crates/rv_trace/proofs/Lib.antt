@@ -3,3 +3,4 @@ pub mod Showing
 pub mod Fetched
 pub mod Rows
 pub mod Registers
+pub mod Stored

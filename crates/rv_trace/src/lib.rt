@@ -16,7 +16,7 @@ mod told;
 mod trace;
 
 pub use code::{Code, code_at};
-pub use law::{codes_are_fetched, rows_are_of_the_run, traces_show_the_end};
+pub use law::{codes_are_fetched, rows_are_of_the_run, stored_values_stand, traces_show_the_end};
 pub use step::{TracedStep, TracedSteps, Wrote};
 pub use text::push_trace;
 pub use trace::{Trace, trace_at, trace_run};
