@@ -158,7 +158,7 @@ explain 0 # image = 'sign', signature = ['begin_signature', 'end_signature'], ex
 
 // Of `run`, behind the console, and nothing of a job that passes.
 const RUNS: &str = "\
-run 1 # image = 'code 100002b7 06100313 0062a023 00000000 @ main=80000000/02/0001', expect_exit = 1 \
+run 1 # image = '100002b7 06100313 0062a023 00000000 @ main=80000000/02/0001', expect_exit = 1 \
 # FAIL b: fault illegal at 8000000c (main+0xc), value 00000000, after 3 steps / expected exit 1 / | a \
 / ended at 8000000c (main+0xc) / 80000008 main+0x8 0062a023 sw t1, 0(t0) 10000000 <- 00000061 \
 / 8000000c main+0xc 0000 no instruction illegal
