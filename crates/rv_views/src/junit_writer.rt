@@ -2,7 +2,7 @@
 
 ghost use Rattle.std.specs.Prelude.{◌≡◌, ◌≤◌, ◌++◌, IfErr, OnErr, OnOk, length, string_bytes};
 ghost use Rattle.std.specs.Io.KnownBytes.{Appends};
-ghost use Rattle.rv_rows.specs.declared.report.WriteError.TheVariants.{Failed};
+ghost use Rattle.rv_jobs.specs.Stores.{one_more};
 ghost use Rattle.rv_rows.specs.Sending.{AppendsBeginning, IsUnderWay, Rose};
 ghost use Rattle.rv_stream.specs.Streams.{texts_of};
 ghost use Rattle.rv_views.specs.Junit.{case_text, cases_text, junit_text};
@@ -32,6 +32,8 @@ pub fn write_junit<T: Telling, W: Sink>(
     ensures counted { OnOk result (W.failed out.new ≡ W.failed out.old) }
     ensures part { OnErr result (AppendsBeginning (W.taken out.old) (W.taken out.new)
         (junit_text class.now rule (texts_of (T.line telling.now) places.now rows.now) rows.now)) }
+    ensures failed { IfErr result (λ error. error ≡ WriteError.Failed
+        → Rose (W.failed out.old) (W.failed out.new)) }
 {
     let mut text = String::new(alloc);
     push_begin(alloc, &mut text, class, rule, rows)?;
@@ -60,6 +62,8 @@ fn put_cases<T: Telling, W: Sink>(
     ensures part { OnErr result (AppendsBeginning (W.taken out.old) (W.taken out.new)
         (string_bytes text.old
         ++ cases_text class.now rule (texts_of (T.line telling.now) places.now rows.now) rows.now)) }
+    ensures failed { IfErr result (λ error. error ≡ WriteError.Failed
+        → W.failed out.new ≡ one_more (W.failed out.old)) }
 {
     for i in 0..rows.len() {
         push_told_case(alloc, text, class, rule, telling, places[i], &rows[i])?;
