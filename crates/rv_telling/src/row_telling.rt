@@ -160,6 +160,7 @@ fn push_behind(
 }
 
 // Appends the expectations that a run doesn't meet, the end of its console, and how it came to its end.
+#[tactic(auto, unfolding(crate::specs::Telling::run_lines))]
 fn push_run(
     alloc: Global,
     plan: &Plan,
@@ -196,6 +197,7 @@ fn push_console_and_way(
 }
 
 // Appends every expectation of a run, and how it came to its end: nothing where the job didn't run.
+#[tactic(auto, unfolding(crate::specs::Telling::explained_run))]
 fn push_explained_run(
     alloc: Global,
     plan: &Plan,

@@ -79,7 +79,7 @@ fn answer(alloc: Global, text: &[u8]) -> Result<String, AllocError> {
 }
 
 // The bytes of a text in which `~` stands for 255, as no UTF-8 has it; a `<` at the end takes the last line feed away.
-fn bytes_of(alloc: Global, text: &str) -> Result<Vec<u8>, AllocError> {
+pub(crate) fn bytes_of(alloc: Global, text: &str) -> Result<Vec<u8>, AllocError> {
     let text = expanded(alloc, text)?;
     let mut bytes = Vec::new(alloc);
     for b in text.strip_suffix("<\n").unwrap_or(text.as_str()).as_bytes() {

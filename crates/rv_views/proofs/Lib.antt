@@ -1,0 +1,7 @@
+pub mod XmlTexts
+pub mod Ranks
+pub mod Names
+pub mod Laws
+pub mod Cases
+pub mod XmlCharacters
+pub mod Documents

@@ -1,0 +1,7 @@
+pub mod Xml
+pub mod Junit
+pub mod ByName
+pub mod ByNameInside
+pub mod Differences
+pub mod Diff
+pub mod Show
