@@ -169,7 +169,8 @@ const LIST: &str = "job = [
 { name = 'n3', image = 'y', budget = 1, same_as = 'n2' },
 { name = 'n4', image = 'b', budget = 1, signature = ['s', 's'], expect_signature = 'a' }]";
 
-// The jobs of a choice, each path that was read, and what is kept of each job's image, reference and console.
+// The jobs of a choice, each path that was read, and what is kept of each job's image, reference and console. `x.x.x` and `.x.x.`
+// are the two shards of the list.
 const CHOICES: &str = "\
 plan ..... | '' 5 faults: n0 unreadable unreadable none, n1 unreadable none unreadable, n2 unreadable none none, \
     n3 unreadable none none, n4 unreadable unreadable none
@@ -181,10 +182,14 @@ plan ...x. | 'yl' 6 faults: n0 unreadable unreadable none, n1 unreadable none un
     n3 unreadable none none, n4 unreadable unreadable none
 plan .x..x | 'axb' 6 faults: n0 b unreadable none, n1 a none unreadable, n2 unreadable none none, \
     n3 unreadable none none, n4 b a none
+plan x.x.x | 'brla' 5 faults: n0 b r none, n1 a none unreadable, n2 long none none, \
+    n3 unreadable none none, n4 b a none
+plan .x.x. | 'axyl' 7 faults: n0 unreadable unreadable none, n1 a none unreadable, n2 long none none, \
+    n3 unreadable none none, n4 unreadable a none
 plan xxxxx | 'braxly' 7 faults: n0 b r none, n1 a none unreadable, n2 long none none, \
     n3 unreadable none none, n4 b a none";
 
 #[test]
 fn reads_what_the_rows_need(rt: HostRuntime) -> Result<(), Fail> {
-    check(&rt, rt.alloc(), OWN, LIST, CHOICES, 6)
+    check(&rt, rt.alloc(), OWN, LIST, CHOICES, 8)
 }
