@@ -73,8 +73,8 @@ fn push_address(bytes: &mut Vec<u8>, offset: i32, base: u8) -> Result<(), AllocE
     push(bytes, ")")
 }
 
-// The name of a register in the calling convention of the RISC-V ABIs.
-fn register_name(number: u8) -> &'static str
+/// The name of a register in the calling convention of the RISC-V ABIs.
+pub fn register_name(number: u8) -> &'static str
     requires { number < 32 }
     ensures { result.now ≡ register_name number }
 {

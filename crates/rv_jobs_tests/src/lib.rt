@@ -1,6 +1,8 @@
-//! Tests of job lists, stores and plans, by what `rv_jobs` shows its callers. The crate has nothing else, so that no
-//! code is proved twice.
+//! Tests of images (headers, segments, symbols) and of job lists, stores and plans, by what `rv_elf` and `rv_jobs` show
+//! their callers. The crate has nothing else, so that no code is proved twice.
 #![tactic(auto)]
 
 #[cfg(test)]
-mod tests;
+mod elf;
+#[cfg(test)]
+mod lists;

@@ -15,11 +15,14 @@ use Rattle.rv_lines.specs.Shown.{shown}
 abbrev pub hexadecimal : ℕ → List ℕ
 hexadecimal number = digits 16 false number
 
--- a place in code, by the name of a symbol and the bytes past it, where there is a symbol
+-- a place by the name of a symbol and the bytes past it
+unfoldable pub symbol_text : List ℕ × ℕ → List ℕ
+symbol_text place = shown place.0 ++ codes "+0x" ++ hexadecimal place.1
+
+-- that of a place in code, where there is a symbol
 abbrev pub place_text : Option (List ℕ × ℕ) → List ℕ
 place_text None = []
-place_text (Some place) =
-    codes " (" ++ shown place.0 ++ codes "+0x" ++ hexadecimal place.1 ++ codes ")"
+place_text (Some place) = codes " (" ++ symbol_text place ++ codes ")"
 
 -- why there is no run, in more than a word, where that is known
 abbrev pub reason_text : Option (List ℕ) → List ℕ

@@ -15,9 +15,9 @@ mod tally;
 mod ways;
 
 pub use console_tail::{TAIL_BYTES, TAIL_LINES, push_console_tail};
-pub use parts::{push_number, push_text, push_word};
+pub use parts::{push_hexadecimal, push_number, push_text, push_word};
 pub use passing::{Rule, has_passed};
-pub use result_line::push_result;
+pub use result_line::{push_place, push_result, push_symbol};
 pub use shown::{VALUE_ROOM, push_shown, push_shown_value};
 pub use slices::behind;
 pub use tally::{Tally, push_last_line};

@@ -24,11 +24,7 @@ pub fn push_number(bytes: &mut Vec<u8>, number: u64) -> Result<(), AllocError>
 }
 
 /// Appends a number's lower-case hexadecimal digits, without zeros in front.
-pub(crate) fn push_hexadecimal(
-    alloc: Global,
-    bytes: &mut Vec<u8>,
-    number: u32,
-) -> Result<(), AllocError>
+pub fn push_hexadecimal(alloc: Global, bytes: &mut Vec<u8>, number: u32) -> Result<(), AllocError>
     ensures { OnOk result (bytes.new.items ≡ bytes.old.items ++ hexadecimal number) }
 {
     let text = format!(in alloc; "{number:x}")?;

@@ -4,7 +4,7 @@ ghost use Rattle.std.specs.Prelude.{◌≡◌, ◌++◌, OnOk, codes, option_map
 ghost use Rattle.rv_machine.specs.Faults.{fault_name};
 ghost use Rattle.rv_rows.specs.Report.{refusal_name, word_digits};
 ghost use Rattle.rv_lines.specs.ResultLine.{ending_text, passing_word, place_text, reason_text};
-ghost use Rattle.rv_lines.specs.ResultLine.{result_line, steps_text};
+ghost use Rattle.rv_lines.specs.ResultLine.{result_line, steps_text, symbol_text};
 
 use crate::parts::{push_hexadecimal, push_number, push_word};
 use crate::passing::{Rule, has_passed};
@@ -96,7 +96,8 @@ fn push_fault(
     push_place(alloc, bytes, place)
 }
 
-fn push_place(
+/// Appends a place in brackets behind a space, where there is a symbol.
+pub fn push_place(
     alloc: Global,
     bytes: &mut Vec<u8>,
     place: Option<SymbolAt<'_>>,
@@ -108,10 +109,23 @@ fn push_place(
         return Ok(());
     };
     bytes.extend_from_slice(b" (")?;
+    push_symbol(alloc, bytes, symbol)?;
+    bytes.extend_from_slice(b")")
+}
+
+/// Appends a place by the name of a symbol, shown as [`push_shown`] does, and the bytes past it: `main+0x1c`.
+#[tactic(auto, unfolding(crate::specs::ResultLine::symbol_text))]
+pub fn push_symbol(
+    alloc: Global,
+    bytes: &mut Vec<u8>,
+    symbol: SymbolAt<'_>,
+) -> Result<(), AllocError>
+    ensures { OnOk result (bytes.new.items ≡ bytes.old.items
+        ++ symbol_text (symbol.entry.name.now, symbol.entry.offset)) }
+{
     push_shown(bytes, symbol.name)?;
     bytes.extend_from_slice(b"+0x")?;
-    push_hexadecimal(alloc, bytes, symbol.offset)?;
-    bytes.extend_from_slice(b")")
+    push_hexadecimal(alloc, bytes, symbol.offset)
 }
 
 fn push_steps(bytes: &mut Vec<u8>, steps: u32) -> Result<(), AllocError>

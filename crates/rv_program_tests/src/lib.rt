@@ -9,6 +9,8 @@ mod expectation_tests;
 #[cfg(test)]
 mod failing_tests;
 #[cfg(test)]
+mod file_sink_tests;
+#[cfg(test)]
 mod file_tests;
 #[cfg(test)]
 mod hostile_tests;

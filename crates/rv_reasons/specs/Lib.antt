@@ -1,2 +1,3 @@
 pub mod UnmetLines
+pub mod MetLines
 pub mod ImageReasons

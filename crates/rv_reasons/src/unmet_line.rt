@@ -85,8 +85,9 @@ fn push_expectation(bytes: &mut Vec<u8>, sides: &Sides<'_>, unmet: Unmet) -> Res
     }
 }
 
+/// Appends the end with an exit code.
 #[tactic(auto, unfolding(crate::specs::UnmetLines::exit_text))]
-fn push_exit(bytes: &mut Vec<u8>, expected: Option<u32>) -> Result<(), AllocError>
+pub(crate) fn push_exit(bytes: &mut Vec<u8>, expected: Option<u32>) -> Result<(), AllocError>
     ensures { OnOk result (bytes.new.items ≡ bytes.old.items ++ exit_text expected) }
 {
     match expected {
@@ -98,8 +99,9 @@ fn push_exit(bytes: &mut Vec<u8>, expected: Option<u32>) -> Result<(), AllocErro
     }
 }
 
+/// Appends another end.
 #[tactic(auto, unfolding(crate::specs::UnmetLines::end_text))]
-fn push_end(bytes: &mut Vec<u8>, expected: Option<ExpectedEnd>) -> Result<(), AllocError>
+pub(crate) fn push_end(bytes: &mut Vec<u8>, expected: Option<ExpectedEnd>) -> Result<(), AllocError>
     ensures { OnOk result (bytes.new.items ≡ bytes.old.items ++ end_text expected) }
 {
     match expected {

@@ -9,3 +9,4 @@ pub mod Loops
 pub mod Told
 pub mod Compared
 pub mod Wholes
+pub mod Public

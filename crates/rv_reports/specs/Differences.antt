@@ -57,6 +57,10 @@ difference line met (t ∷ ts) (b ∷ bs) =
     if b == t then difference (line_past line b) (past met b) ts bs
     else difference_at line met t (b ∷ bs)
 
+-- the same of a whole text, whose first line is line 1
+abbrev pub first_difference : List ℕ → List ℕ → ReadError
+first_difference text bytes = difference 1 word.Ahead text bytes
+
 -- the bytes begin as the text does: up to the line, or up to their last line feed
 abbrev pub Tells : ReadError → List ℕ → List ℕ → Type 0
 Tells OutOfMemory text bytes = Unit {0}

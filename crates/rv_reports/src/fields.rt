@@ -154,8 +154,9 @@ pub(crate) fn name_or_dash(alloc: Global, text: &[u8]) -> Result<String, AllocEr
     }
 }
 
+/// Whether a text is a name, as a job or a run may have one: 1 to 64 ASCII letters, digits, `.`, `_` and `-`.
 #[tactic(auto, unfolding(rv_lists::specs::JobList::is_name))]
-pub(crate) fn is_name(text: &[u8]) -> bool
+pub fn is_name(text: &[u8]) -> bool
     ensures { result ≡ is_name text.now }
 {
     1 <= text.len() && text.len() <= 64 && has_name_bytes(text)

@@ -15,6 +15,7 @@ mod saved;
 mod text;
 mod write;
 
+pub use fields::is_name;
 pub use law::{one_text_one_report, whole_text_is_report_text};
 pub use read::{ReadError, read_report};
 pub use saved::{Extent, Numbers, SavedReport, Shard};

@@ -147,3 +147,18 @@ outcome_if_there job (Err why) = refused_outcome why
 -- file that its console is expected to hold
 unfoldable pub outcome_of : Job → Kept → Option Kept → Option Kept → Outcome
 outcome_of job image reference console = outcome_if_there job (file_of image reference console)
+
+-- ---- the state in which a run begins
+
+-- that of an image that is loaded, or its refusal
+abbrev pub start_if_loadable : Job → List ℕ → Result Loadable ImageError → Result State Refusal
+start_if_loadable job file (Ok loadable) = Ok (loaded_state job file loadable.image)
+start_if_loadable job file (Err why) = Err (refusal.Image why)
+
+abbrev pub start_if_there : Job → Result (List ℕ) Refusal → Result State Refusal
+start_if_there job (Ok file) = start_if_loadable job file (loadable_of job file)
+start_if_there job (Err why) = Err why
+
+-- that of a job over what is kept of the same paths, or why it does not run
+unfoldable pub start_of : Job → Kept → Option Kept → Option Kept → Result State Refusal
+start_of job image reference console = start_if_there job (file_of image reference console)

@@ -1,5 +1,5 @@
 -- The rows of a plan: one a job, in list order.
-use Rattle.std.specs.Prelude.{ℕ, List, Option, Some, None, map, option_and_then, option_map}
+use Rattle.std.specs.Prelude.{ℕ, List, Option, Some, None, map, option_and_then, option_map, Result}
 use Rattle.std.specs.Prelude.{[], slice_get, slice_index_or}
 use Rattle.rv_jobs.specs.declared.answers.Answer.{Answer}
 use Rattle.rv_lists.specs.declared.job.Job.{Job}
@@ -8,15 +8,23 @@ use Rattle.rv_jobs.specs.declared.store.Kept.TheVariants as kept
 use Rattle.rv_lists.specs.Jobs.{console_path, single_job}
 use Rattle.rv_jobs.specs.Plans.{Planned, kept_for}
 use Rattle.rv_rows.specs.declared.outcome.Outcome.{Outcome}
+use Rattle.rv_machine.specs.State.{State}
+use Rattle.rv_rows.specs.declared.row.Refusal.{Refusal}
 use Rattle.rv_rows.specs.declared.row.Row.{Row}
 use Rattle.rv_rows.specs.declared.row.Verdict.{Verdict}
-use Rattle.rv_rows.specs.Outcome.{outcome_of}
+use Rattle.rv_rows.specs.Outcome.{outcome_of, start_of}
 use Rattle.rv_rows.specs.Verdict.{verdict_of}
 
 -- the outcome of a job over a plan's answers
 abbrev pub outcome_in : List Answer → Job → Outcome
 outcome_in answers job =
     outcome_of job (kept_for answers job.image) (option_map (kept_for answers) job.expect_signature)
+    (option_map (kept_for answers) (console_path job.expect_console))
+
+-- the state in which the run of a job begins, over a plan's answers, or why there is none
+abbrev pub start_in : List Answer → Job → Result State Refusal
+start_in answers job =
+    start_of job (kept_for answers job.image) (option_map (kept_for answers) job.expect_signature)
     (option_map (kept_for answers) (console_path job.expect_console))
 
 -- the bytes of a reference, if it was read

@@ -11,6 +11,7 @@ ghost use Rattle.rv_machine.specs.Machine.{state_of};
 ghost use Rattle.rv_rows.specs.Attempt.{HasSignature, IsReadable, outcome_in_bus, outcome_of_attempt};
 ghost use Rattle.rv_rows.specs.Outcome.{end_of, end_of_signature, file_of, file_outcome_of, loadable_of, loaded_state};
 ghost use Rattle.rv_rows.specs.Outcome.{outcome_of, outcome_of_run, range_of, reference_of, refusal_in};
+ghost use Rattle.rv_rows.specs.Outcome.{start_if_loadable, start_of};
 
 use crate::outcome::{Attempt, EndedRun, Loadable, SignatureRange};
 use crate::row::{Refusal, RowEnd};
@@ -99,6 +100,48 @@ fn file_refusal(alloc: Global, job: &Job, file: &[u8]) -> Result<Option<Refusal>
         Ok(_) => Ok(None),
         Err(ImageError::OutOfMemory) => Err(AllocError),
         Err(error) => Ok(Some(Refusal::Image(error))),
+    }
+}
+
+/// The machine in which a job runs over the same, or why the job is refused. Nothing is run.
+#[tactic(auto, unfolding(crate::specs::Outcome::start_of))]
+pub(crate) fn machine_of(
+    alloc: Global,
+    job: &Job,
+    image: &Kept,
+    reference: Option<&Kept>,
+    console: Option<&Kept>,
+) -> Result<Result<Machine, Refusal>, AllocError>
+    requires script { length job.now.script ≤ most_script }
+    requires named { IfSome job.now.signature (λ names. (0 < length names.begin)
+        × (0 < length names.end)) }
+    ensures { let start = start_of job.now image.now (option_map (λ kept. kept.now) reference.entry)
+        (option_map (λ kept. kept.now) console.entry) in
+        IfOk result (λ found. MatchResult found (λ machine. start ≡ Ok (state_of machine))
+        (λ why. start ≡ Err why)) }
+{
+    match file(image, reference, console) {
+        Ok(file) => file_machine(alloc, job, file),
+        Err(why) => Ok(Err(why)),
+    }
+}
+
+fn file_machine(
+    alloc: Global,
+    job: &Job,
+    file: &[u8],
+) -> Result<Result<Machine, Refusal>, AllocError>
+    requires script { length job.now.script ≤ most_script }
+    requires named { IfSome job.now.signature (λ names. (0 < length names.begin)
+        × (0 < length names.end)) }
+    ensures { let start = start_if_loadable job.now file.now (loadable_of job.now file.now) in
+        IfOk result (λ found. MatchResult found (λ machine. start ≡ Ok (state_of machine))
+        (λ why. start ≡ Err why)) }
+{
+    match loadable_of(alloc, job, file) {
+        Ok(loadable) => Ok(Ok(loaded_machine(alloc, job, file, &loadable, &mut Spare::new())?)),
+        Err(ImageError::OutOfMemory) => Err(AllocError),
+        Err(error) => Ok(Err(Refusal::Image(error))),
     }
 }
 

@@ -1,16 +1,17 @@
 //! The rows of a plan: one a job, in list order.
 
-ghost use Rattle.std.specs.Prelude.{◌≡◌, ◌<◌, ◌≤◌, IfOk, IfSome, OnOk, Some, length, map, option_map, option_and_then};
-ghost use Rattle.std.specs.Prelude.{slice_index_or};
+ghost use Rattle.std.specs.Prelude.{◌≡◌, ◌<◌, ◌≤◌, IfOk, IfSome, MatchResult, OnOk, Some, Ok, Err, length, map};
+ghost use Rattle.std.specs.Prelude.{option_map, option_and_then, slice_index_or};
 ghost use Rattle.rv_lists.specs.declared.job.Job.{Job as AJob};
+ghost use Rattle.rv_machine.specs.Machine.{state_of};
 ghost use Rattle.rv_rows.specs.Attempt.{IsReadable, outcome_of_attempt};
 ghost use Rattle.rv_rows.specs.Outcome.{refusal_in};
 ghost use Rattle.rv_rows.specs.Recent.{AreOutcomes, outcome_at};
 ghost use Rattle.rv_rows.specs.Rows.{bytes_in, console_in, other_in, outcome_in, reference_in, row_of, row_with};
-ghost use Rattle.rv_rows.specs.Rows.{rows_of};
+ghost use Rattle.rv_rows.specs.Rows.{rows_of, start_in};
 ghost use Rattle.rv_rows.specs.Verdict.{are_same, holds_same};
 
-use crate::attempt::{attempt_of, refusal_of};
+use crate::attempt::{attempt_of, machine_of, refusal_of};
 use crate::outcome::{Attempt, Outcome};
 use crate::recent::{MOST, Recent};
 use crate::report::{Report, Rows};
@@ -18,6 +19,7 @@ use crate::row::{Refusal, Row, Verdict};
 use crate::spare::Spare;
 use crate::verdict::{are_same, is_same, verdict};
 use rv_jobs::{Job, Kept, Plan, Text};
+use rv_machine::Machine;
 use std::alloc::{AllocError, Global};
 
 /// The row of the job at a place, counted from 0.
@@ -106,6 +108,28 @@ pub fn refusal_at(alloc: Global, plan: &Plan, i: usize) -> Result<Option<Refusal
         ≡ refusal_in (outcome_in plan.now.answers (slice_index_or plan.now.jobs i d)).ending) }
 {
     refusal_of(
+        alloc,
+        plan.job(i),
+        plan.image(i),
+        plan.reference(i),
+        plan.console_reference(i),
+    )
+}
+
+/// The machine in which the job at a place runs, as it stands before the first step, or why the job is refused. Nothing
+/// is run.
+pub fn machine_at(
+    alloc: Global,
+    plan: &Plan,
+    i: usize,
+) -> Result<Result<Machine, Refusal>, AllocError>
+    requires { i < length plan.now.jobs }
+    ensures { IfOk result (λ found. (d : AJob) → MatchResult found
+        (λ machine. start_in plan.now.answers (slice_index_or plan.now.jobs i d)
+        ≡ Ok (state_of machine))
+        (λ why. start_in plan.now.answers (slice_index_or plan.now.jobs i d) ≡ Err why)) }
+{
+    machine_of(
         alloc,
         plan.job(i),
         plan.image(i),

@@ -1,4 +1,5 @@
 pub mod Files
 pub mod UnreadFiles
 pub mod Reasons
+pub mod Ways
 pub mod Telling

@@ -10,6 +10,7 @@ mod reasons;
 mod row_telling;
 mod unread_files;
 mod verbosity;
+mod way;
 
 pub use reasons::reason_of;
 pub use row_telling::RowTelling;

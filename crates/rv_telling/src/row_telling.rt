@@ -2,18 +2,20 @@
 
 ghost use Rattle.std.specs.Prelude.{◌≡◌, ◌<◌, ◌++◌, OnOk, length, slice_index_or};
 ghost use Rattle.rv_lists.specs.declared.job.Job.{Job as AJob};
-ghost use Rattle.rv_explain.specs.Planned.{unmet_in};
-ghost use Rattle.rv_reasons.specs.UnmetLines.{unmet_lines};
-ghost use Rattle.rv_telling.specs.Telling.{comparison_in, line_of_row, lines_behind, run_lines, told_at, told_of_row};
+ghost use Rattle.rv_lines.specs.ConsoleTail.{console_tail};
+ghost use Rattle.rv_reasons.specs.UnmetLines.{comparison_of};
+ghost use Rattle.rv_telling.specs.Telling.{compared_lines, expectation_lines, explained, explained_if_run, line_of_row};
+ghost use Rattle.rv_telling.specs.Telling.{lines_behind, run_lines, told_at, told_of_row, way_if_asked};
 
 use crate::files::{fault_symbol, image_bytes, signature_begin};
 use crate::reasons::reason_of;
 use crate::verbosity::{Verbosity, is_told};
-use rv_explain::{named_row, unmet_expectations};
+use crate::way::push_way;
+use rv_explain::{Unmet, named_row, unmet_expectations};
 use rv_files::Unread;
 use rv_jobs::Plan;
 use rv_lines::{Rule, has_passed, push_console_tail, push_result};
-use rv_reasons::{Sides, push_all_unmet};
+use rv_reasons::{Sides, push_all_met, push_all_unmet};
 use rv_rows::{Row, console_bytes, is_run, reference_bytes};
 use rv_stream::Telling;
 use std::alloc::{AllocError, Global};
@@ -26,13 +28,15 @@ pub struct RowTelling<'a> {
     pub unread: &'a [Unread],
     pub rule: Rule,
     pub verbosity: Verbosity,
+    /// How many of the last instructions of a job that failed are told, where they are.
+    pub last: Option<u32>,
 }
 
 impl<'a> Telling for RowTelling<'a> {
     ghost use Rattle.rv_telling.specs.Telling.{told_at};
 
     ghost line = { λ told place row. told_at told.plan.now told.unread.now told.rule
-        told.verbosity place row };
+        told.verbosity told.last place row };
 
     fn push(
         &self,
@@ -56,7 +60,7 @@ impl<'a> RowTelling<'a> {
     ) -> Result<(), AllocError>
         ensures { OnOk result (text.new.items ≡ text.old.items
             ++ told_at self.now.plan.now self.now.unread.now self.now.rule self.now.verbosity
-            place row.now) }
+            self.now.last place row.now) }
     {
         if place < self.plan.jobs() {
             return self.push_row(alloc, place, row, text);
@@ -75,7 +79,8 @@ impl<'a> RowTelling<'a> {
         requires { place < length self.now.plan.now.jobs }
         ensures { OnOk result ((d : AJob) → text.new.items ≡ text.old.items
             ++ told_of_row self.now.plan.now self.now.unread.now self.now.rule
-            self.now.verbosity (slice_index_or self.now.plan.now.jobs place d) row.now) }
+            self.now.verbosity self.now.last (slice_index_or self.now.plan.now.jobs place d)
+            row.now) }
     {
         let passed = has_passed(self.rule, row);
         if !is_told(self.verbosity, passed) {
@@ -85,7 +90,28 @@ impl<'a> RowTelling<'a> {
         if passed {
             return Ok(());
         }
-        push_behind(alloc, self.plan, place, row, text)
+        push_behind(alloc, self.plan, place, row, self.last, text)
+    }
+
+    /// Appends what explains the row of the job at a place, whatever the verbosity: its line, and where the job ran every
+    /// expectation, those that it does not meet first, and how it came to its end: the registers there, and so many of its
+    /// last instructions.
+    #[tactic(auto, unfolding(crate::specs::Telling::explained))]
+    pub fn push_explained(
+        &self,
+        alloc: Global,
+        place: usize,
+        row: &Row,
+        last: u32,
+        text: &mut Vec<u8>,
+    ) -> Result<(), AllocError>
+        requires { place < length self.now.plan.now.jobs }
+        ensures { OnOk result ((d : AJob) → text.new.items ≡ text.old.items
+            ++ explained self.now.plan.now self.now.unread.now self.now.rule
+            (slice_index_or self.now.plan.now.jobs place d) row.now last) }
+    {
+        push_line(alloc, self.plan, self.unread, self.rule, place, row, text)?;
+        push_explained_run(alloc, self.plan, place, row, last, text)
     }
 }
 
@@ -120,48 +146,90 @@ fn push_behind(
     plan: &Plan,
     place: usize,
     row: &Row,
+    last: Option<u32>,
     text: &mut Vec<u8>,
 ) -> Result<(), AllocError>
     requires { place < length plan.now.jobs }
     ensures { OnOk result ((d : AJob) → text.new.items ≡ text.old.items
-        ++ lines_behind plan.now (slice_index_or plan.now.jobs place d) row.now) }
+        ++ lines_behind plan.now (slice_index_or plan.now.jobs place d) row.now last) }
 {
     if is_run(row.ending) {
-        return push_run(alloc, plan, place, row, text);
+        return push_run(alloc, plan, place, row, last, text);
     }
     Ok(())
 }
 
-// Appends the expectations that a run doesn't meet, and the end of its console.
+// Appends the expectations that a run doesn't meet, the end of its console, and how it came to its end.
 #[tactic(auto, unfolding(crate::specs::Telling::run_lines))]
 fn push_run(
     alloc: Global,
     plan: &Plan,
     place: usize,
     row: &Row,
+    last: Option<u32>,
     text: &mut Vec<u8>,
 ) -> Result<(), AllocError>
     requires { place < length plan.now.jobs }
     ensures { OnOk result ((d : AJob) → text.new.items ≡ text.old.items
-        ++ run_lines plan.now (slice_index_or plan.now.jobs place d) row.now) }
+        ++ run_lines plan.now (slice_index_or plan.now.jobs place d) row.now last) }
 {
-    push_unmet(alloc, plan, place, row, text)?;
-    push_console_tail(text, row.console.as_slice())
+    push_expectations(alloc, plan, place, row, false, text)?;
+    push_console_and_way(alloc, plan, place, row, last, text)
 }
 
-// Appends the expectations that a run doesn't meet.
+fn push_console_and_way(
+    alloc: Global,
+    plan: &Plan,
+    place: usize,
+    row: &Row,
+    last: Option<u32>,
+    text: &mut Vec<u8>,
+) -> Result<(), AllocError>
+    requires { place < length plan.now.jobs }
+    ensures { OnOk result ((d : AJob) → text.new.items ≡ text.old.items ++ (console_tail row.now.console
+        ++ way_if_asked plan.now (slice_index_or plan.now.jobs place d) row.now last)) }
+{
+    push_console_tail(text, row.console.as_slice())?;
+    match last {
+        Some(last) => push_way(alloc, plan, place, row, last, text),
+        None => Ok(()),
+    }
+}
+
+// Appends every expectation of a run, and how it came to its end: nothing where the job didn't run.
+#[tactic(auto, unfolding(crate::specs::Telling::explained_run))]
+fn push_explained_run(
+    alloc: Global,
+    plan: &Plan,
+    place: usize,
+    row: &Row,
+    last: u32,
+    text: &mut Vec<u8>,
+) -> Result<(), AllocError>
+    requires { place < length plan.now.jobs }
+    ensures { OnOk result ((d : AJob) → text.new.items ≡ text.old.items
+        ++ explained_if_run plan.now (slice_index_or plan.now.jobs place d) row.now last) }
+{
+    if !is_run(row.ending) {
+        return Ok(());
+    }
+    push_expectations(alloc, plan, place, row, true, text)?;
+    push_way(alloc, plan, place, row, last, text)
+}
+
+// Appends the expectations that a run doesn't meet, and behind them, where all are told, those that it does.
 #[tactic(auto, unfolding(crate::specs::Telling::comparison_in))]
-fn push_unmet<'x>(
+fn push_expectations<'x>(
     alloc: Global,
     plan: &'x Plan,
     place: usize,
     row: &'x Row,
+    all: bool,
     text: &mut Vec<u8>,
 ) -> Result<(), AllocError>
     requires { place < length plan.now.jobs }
     ensures { OnOk result ((d : AJob) → text.new.items ≡ text.old.items
-        ++ unmet_lines (comparison_in plan.now (slice_index_or plan.now.jobs place d) row.now)
-        (unmet_in plan.now (slice_index_or plan.now.jobs place d) row.now)) }
+        ++ expectation_lines all plan.now (slice_index_or plan.now.jobs place d) row.now) }
 {
     let job = plan.job(place);
     let console = console_bytes(plan, place);
@@ -178,5 +246,21 @@ fn push_unmet<'x>(
         other,
         address,
     };
-    push_all_unmet(text, &sides, unmet.as_slice())
+    push_sides(&sides, unmet.as_slice(), all, text)
+}
+
+fn push_sides(
+    sides: &Sides<'_>,
+    unmet: &[Unmet],
+    all: bool,
+    text: &mut Vec<u8>,
+) -> Result<(), AllocError>
+    ensures { OnOk result (text.new.items ≡ text.old.items
+        ++ compared_lines all (comparison_of sides.now) unmet.now) }
+{
+    push_all_unmet(text, sides, unmet)?;
+    if all {
+        return push_all_met(text, sides, unmet);
+    }
+    Ok(())
 }

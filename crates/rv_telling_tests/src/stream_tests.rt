@@ -59,6 +59,7 @@ fn a_list_over_files(rt: HostRuntime) -> Result<(), Fail> {
         unread: store.unread(),
         rule: Rule::Strict,
         verbosity: Verbosity::Failures,
+        last: None,
     };
     let found = told(&rt, alloc, &plan, &telling)?;
     let found = str::from_utf8(found.as_slice()).ok().ok_or("text")?;

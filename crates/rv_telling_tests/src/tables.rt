@@ -10,8 +10,8 @@ use std::alloc::Global;
 use std::process::Abort;
 use std::test::Fail;
 
-// The plan of two jobs, of which the second has the keys. Where these have no budget, it has one of 99.
-fn plan_of(alloc: Global, keys: &str) -> Result<Plan, Fail> {
+/// The plan of two jobs, of which the second has the keys. Where these have no budget, it has one of 99.
+pub(crate) fn plan_of(alloc: Global, keys: &str) -> Result<Plan, Fail> {
     let budget = if keys.contains("budget = ") {
         ""
     } else {
@@ -44,6 +44,7 @@ fn told(alloc: Global, keys: &str, rule: Rule, verbosity: Verbosity) -> Result<V
         unread: notes.as_slice(),
         rule,
         verbosity,
+        last: None,
     };
     let row = row_at(alloc, &plan, 1)?;
     let mut text = b"> ".to_vec(alloc)?;

@@ -77,7 +77,8 @@ fn check_names(alloc: Global, asked: &RunAsked<'_>, jobs: &[Job]) -> Result<(), 
     }
 }
 
-fn told_of_name(
+/// That no job of a list has a name, and which name is nearest.
+pub(crate) fn told_of_name(
     alloc: Global,
     list: &str,
     jobs: &[Job],

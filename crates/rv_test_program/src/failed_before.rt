@@ -1,10 +1,14 @@
 //! The jobs that failed in a report.
 
+ghost use Rattle.std.specs.Prelude.{◌≤◌, IfOk, length};
+ghost use Rattle.rv_lists.specs.Jobs.{most_jobs};
+
 use crate::files::read_file;
 use crate::messages::{say, told_of};
 use crate::stop::Stop;
 use crate::streams::Streams;
 use rv_jobs::Job;
+use rv_jobs::limits::MOST_JOBS;
 use rv_lines::{Rule, has_passed, push_number, push_shown, push_text};
 use rv_reports::{ReadError, SavedReport, read_report};
 use rv_rows::Row;
@@ -16,10 +20,14 @@ pub(crate) fn read_saved<R: Files>(
     files: &R,
     alloc: Global,
     path: &str,
-) -> Result<SavedReport, Stop> {
+) -> Result<SavedReport, Stop>
+    ensures { IfOk result (λ report. length report.rows ≤ most_jobs) }
+{
     let text = read_file(files, alloc, path, usize::MAX)?;
     match read_report(alloc, text.as_slice()) {
-        Ok(report) => Ok(report),
+        Ok(report) if report.rows.as_slice().len() <= MOST_JOBS => Ok(report),
+        // No report is read with more rows than a list has jobs.
+        Ok(_) => Err(Stop::Refused(told_of(alloc, path, "more rows than jobs")?)),
         Err(ReadError::OutOfMemory) => Err(Stop::OutOfMemory),
         Err(ReadError::CutOff) => Err(Stop::Refused(told_of(
             alloc,

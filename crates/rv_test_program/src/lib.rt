@@ -8,13 +8,20 @@
 
 mod check;
 mod choosing;
+mod diff;
+mod explain;
 mod failed_before;
 mod files;
 mod list;
+mod merge;
 mod messages;
+mod outputs;
 mod program;
 mod report;
+mod rules;
 mod run;
+mod shard;
+mod show;
 mod stop;
 mod streams;
 

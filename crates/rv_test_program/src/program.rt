@@ -3,8 +3,12 @@
 ghost use Rattle.std.specs.Prelude.{◌≤◌, IfOk};
 
 use crate::check::check;
+use crate::diff::diff;
+use crate::explain::explain;
+use crate::merge::merge;
 use crate::messages::{FAILED, REFUSED, say, stopped};
 use crate::run::run;
+use crate::show::show;
 use crate::stop::Stop;
 use crate::streams::Streams;
 use rv_test_words::{Asked, read_words};
@@ -41,7 +45,11 @@ fn answer<'a, R: Threads + Wait + Sync + Files + Clock, T: AsStr, S: Streams>(
 {
     match read_words(alloc, words) {
         Ok(Some(Asked::Run(asked))) => run(rt, alloc, streams, &asked),
+        Ok(Some(Asked::Explain(asked))) => explain(rt, alloc, streams, asked),
         Ok(Some(Asked::Check(asked))) => check(rt, alloc, streams, asked),
+        Ok(Some(Asked::Merge(asked))) => merge(rt, alloc, streams, &asked),
+        Ok(Some(Asked::Diff(asked))) => diff(rt, alloc, streams, asked),
+        Ok(Some(Asked::Show(asked))) => show(rt, alloc, streams, asked),
         Ok(None) => Ok(REFUSED),
         Err(error) => Err(Stop::Words(error)),
     }

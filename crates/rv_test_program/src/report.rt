@@ -1,4 +1,4 @@
-//! Where the report of a run goes.
+//! Where a text of rows goes: a report, or JUnit's XML.
 
 ghost use Rattle.std.specs.Prelude.{◌≡◌, ◌≤◌, ◌<◌, length};
 ghost use Rattle.std.specs.List.{All};
@@ -10,12 +10,16 @@ use crate::messages::told_of;
 use crate::stop::Stop;
 use crate::streams::Streams;
 use rv_files::{FileError, FileSink, StreamSink};
-use rv_fleet::{Rows, Sink, WriteError};
+use rv_fleet::{Report, Row, Rows, Sink, WriteError, write_report};
+use rv_lines::Rule;
+use rv_reports::Shard;
+use rv_stream::Telling;
 use rv_test_run::write_rows;
+use rv_views::{FailedLines, write_junit};
 use std::alloc::Global;
 use std::rt::Files;
 
-/// Where the report of a run goes.
+/// Where a text of rows goes.
 #[derive(Drop)]
 pub(crate) enum ReportTo<'a, R: Files> {
     Nowhere,
@@ -42,7 +46,7 @@ impl<'a, R: Files> ReportTo<'a, R> {
         }
     }
 
-    /// Whether the report goes to standard output.
+    /// Whether the text goes to standard output.
     pub(crate) fn is_out(&self) -> bool {
         matches!(self, ReportTo::Out)
     }
@@ -61,6 +65,7 @@ impl<'a, R: Files> ReportTo<'a, R> {
         streams: &S,
         jobs: usize,
         places: &[usize],
+        shard: Option<Shard>,
         rows: Rows,
     ) -> Result<(), Stop>
         requires few { jobs ≤ most_jobs }
@@ -72,32 +77,102 @@ impl<'a, R: Files> ReportTo<'a, R> {
             ReportTo::Nowhere => Ok(()),
             ReportTo::Out => {
                 let mut out = StreamSink::new(streams.out());
-                match write_rows(alloc, jobs, places, rows, &mut out) {
-                    Ok(()) => Ok(()),
-                    Err(WriteError::OutOfMemory) => Err(Stop::OutOfMemory),
-                    Err(WriteError::Failed) => Err(Stop::WriteFailed),
-                }
+                out_end(write_rows(alloc, jobs, places, shard, rows, &mut out))
             }
-            ReportTo::File(path, file) => write_file(alloc, path, file, jobs, places, rows),
+            ReportTo::File(path, mut file) => {
+                let written = write_rows(alloc, jobs, places, shard, rows, &mut file);
+                file_end(alloc, path, file, written)
+            }
+        }
+    }
+
+    /// Writes rows as JUnit's XML, each with the lines that are told of it.
+    pub(crate) fn write_junit<S: Streams, T: Telling>(
+        self,
+        alloc: Global,
+        streams: &S,
+        class: &[u8],
+        rule: Rule,
+        telling: &T,
+        places: &[usize],
+        rows: &[Row],
+    ) -> Result<(), Stop>
+        requires { length rows.now ≤ length places.now }
+    {
+        match self {
+            ReportTo::Nowhere => Ok(()),
+            ReportTo::Out => {
+                let mut out = StreamSink::new(streams.out());
+                out_end(write_junit(alloc, class, rule, telling, places, rows, &mut out))
+            }
+            ReportTo::File(path, mut file) => {
+                let written = write_junit(alloc, class, rule, telling, places, rows, &mut file);
+                file_end(alloc, path, file, written)
+            }
         }
     }
 }
 
-fn write_file<R: Files>(
+impl<'a, R: Files> ReportTo<'a, R> {
+    /// Writes the report of all rows of a list.
+    pub(crate) fn write_whole<S: Streams>(
+        self,
+        alloc: Global,
+        streams: &S,
+        rows: Rows,
+    ) -> Result<(), Stop> {
+        match self {
+            ReportTo::Nowhere => Ok(()),
+            ReportTo::Out => {
+                let mut out = StreamSink::new(streams.out());
+                out_end(write_report(alloc, &Report { rows }, &mut out))
+            }
+            ReportTo::File(path, mut file) => {
+                let written = write_report(alloc, &Report { rows }, &mut file);
+                file_end(alloc, path, file, written)
+            }
+        }
+    }
+
+    /// Writes the rows of a report as JUnit's XML, of which no more is known.
+    pub(crate) fn write_rows_as_junit<S: Streams>(
+        self,
+        alloc: Global,
+        streams: &S,
+        class: &[u8],
+        told: &FailedLines,
+        rows: &[Row],
+    ) -> Result<(), Stop> {
+        let places = vec![in alloc; 0usize; rows.len()]?;
+        self.write_junit(
+            alloc,
+            streams,
+            class,
+            told.rule,
+            told,
+            places.as_slice(),
+            rows,
+        )
+    }
+}
+
+// What a text that was written to standard output came to.
+fn out_end(written: Result<(), WriteError>) -> Result<(), Stop> {
+    match written {
+        Ok(()) => Ok(()),
+        Err(WriteError::OutOfMemory) => Err(Stop::OutOfMemory),
+        Err(WriteError::Failed) => Err(Stop::WriteFailed),
+    }
+}
+
+// What a text that was written to a file came to: the file is put in its place where it is whole.
+fn file_end<R: Files>(
     alloc: Global,
     path: &str,
     file: FileSink<'_, R>,
-    jobs: usize,
-    places: &[usize],
-    rows: Rows,
-) -> Result<(), Stop>
-    requires few { jobs ≤ most_jobs }
-    requires within { All (λ place. place < jobs) places.now }
-    requires rising { IsStrictlyIncreasing places.now }
-    requires counted { length rows ≡ length places.now }
-{
-    let mut file = file;
-    match write_rows(alloc, jobs, places, rows, &mut file) {
+    written: Result<(), WriteError>,
+) -> Result<(), Stop> {
+    match written {
         Ok(()) => finish_file(alloc, path, file),
         Err(WriteError::OutOfMemory) => {
             file.abandon();

@@ -9,14 +9,18 @@ ghost use Rattle.rv_test_program.specs.Runs.{IsStatusOf};
 
 use crate::choosing::marks_asked;
 use crate::list::{jobs_of, read_text};
-use crate::report::ReportTo;
+use crate::outputs::{Outputs, class_of};
+use crate::rules::rule_of;
+use crate::shard::shard_asked;
 use crate::stop::Stop;
 use crate::streams::Streams;
 use rv_files::{NotingStore, StreamSink};
 use rv_fleet::Rows;
 use rv_jobs::{JobList, Plan, gather_places, marked_places};
 use rv_lines::Rule;
+use rv_merge::shard_marks;
 use rv_progress::{CountingTelling, Progress, TerminalSink};
+use rv_reports::Shard;
 use rv_telling::{RowTelling, Verbosity};
 use rv_test_run::{DONE, show_run, status_of};
 use rv_test_words::RunAsked;
@@ -36,28 +40,39 @@ pub(crate) fn run<R: Threads + Wait + Sync + Files + Clock, S: Streams>(
 ) -> Result<u8, Stop>
     ensures { IfOk result (λ status. status ≤ 1) }
 {
-    let rule = if asked.lenient {
-        Rule::Lenient
-    } else {
-        Rule::Strict
-    };
+    let rule = rule_of(asked.lenient);
     let text = read_text(rt, alloc, asked.list)?;
     let jobs = jobs_of(alloc, asked.list, text.as_slice())?;
-    match marks_asked(rt, alloc, streams, asked, rule, jobs.as_slice())? {
-        Some(marks) => run_marked(rt, alloc, streams, asked, rule, jobs, marks.as_slice()),
+    let shard = shard_asked(alloc, asked, text.as_slice(), jobs.as_slice().len())?;
+    let marks = match &shard {
+        Some(shard) => Some(shard_marks(alloc, jobs.as_slice().len(), shard.number, shard.shards)?),
+        None => marks_asked(rt, alloc, streams, asked, rule, jobs.as_slice())?,
+    };
+    match marks {
+        Some(marks) => run_marked(
+            rt,
+            alloc,
+            streams,
+            asked,
+            rule,
+            jobs,
+            marks.as_slice(),
+            shard,
+        ),
         None => Ok(DONE),
     }
 }
 
 // Runs the jobs that are marked. The files are read, and the report is opened, before the first of them runs.
-fn run_marked<R: Threads + Wait + Sync + Files + Clock, S: Streams>(
-    rt: &R,
+fn run_marked<'x, R: Threads + Wait + Sync + Files + Clock, S: Streams>(
+    rt: &'x R,
     alloc: Global,
     streams: &S,
-    asked: &RunAsked<'_>,
+    asked: &RunAsked<'x>,
     rule: Rule,
     jobs: JobList,
     marks: &[bool],
+    shard: Option<Shard>,
 ) -> Result<u8, Stop>
     requires { length marks.now ≡ length jobs }
     ensures { IfOk result (IsStatusOf rule jobs marks.now) }
@@ -71,9 +86,10 @@ fn run_marked<R: Threads + Wait + Sync + Files + Clock, S: Streams>(
         unread: store.unread(),
         rule,
         verbosity: verbosity_of(asked),
+        last: asked.last,
     };
-    let report = ReportTo::open(rt, alloc, asked.report)?;
-    let is_beside = report.is_out();
+    let outputs = Outputs::open(rt, alloc, asked.report, asked.junit)?;
+    let is_beside = outputs.is_out();
     let rows = match show(
         rt,
         alloc,
@@ -85,13 +101,62 @@ fn run_marked<R: Threads + Wait + Sync + Files + Clock, S: Streams>(
     ) {
         Ok(rows) => rows,
         Err(stop) => {
-            report.abandon();
+            outputs.abandon();
             return Err(stop);
         }
     };
     let status = status_of(rule, rows.as_slice());
-    report.write(alloc, streams, plan.jobs(), places.as_slice(), rows)?;
+    let told = RowTelling {
+        plan: &plan,
+        unread: store.unread(),
+        rule,
+        verbosity: Verbosity::Failures,
+        last: asked.last,
+    };
+    write(
+        alloc,
+        streams,
+        asked,
+        outputs,
+        &told,
+        places.as_slice(),
+        shard,
+        rows,
+    )?;
     Ok(status)
+}
+
+// Writes the two files of the rows of the jobs at some places; without the first the second is not there either.
+fn write<R: Files, S: Streams>(
+    alloc: Global,
+    streams: &S,
+    asked: &RunAsked<'_>,
+    outputs: Outputs<'_, R>,
+    telling: &RowTelling<'_>,
+    places: &[usize],
+    shard: Option<Shard>,
+    rows: Rows,
+) -> Result<(), Stop>
+    requires within { AreWithin telling.now.plan.now places.now }
+    requires rising { IsStrictlyIncreasing places.now }
+    requires counted { length rows ≡ length places.now }
+{
+    let Outputs { report, junit } = outputs;
+    let class = class_of(asked.list).as_bytes();
+    let rule = telling.rule;
+    if let Err(stop) = junit.write_junit(
+        alloc,
+        streams,
+        class,
+        rule,
+        telling,
+        places,
+        rows.as_slice(),
+    ) {
+        report.abandon();
+        return Err(stop);
+    }
+    report.write(alloc, streams, telling.plan.jobs(), places, shard, rows)
 }
 
 fn verbosity_of(asked: &RunAsked<'_>) -> Verbosity {

@@ -1,7 +1,8 @@
-//! `rv_reports`, `rv_views`, `rv_choice`, `rv_headers` and `rv_test_words`: whether each line of their tables is
-//! answered as it says.
+//! `rv_reports`, `rv_merge`, `rv_views`, `rv_choice`, `rv_headers` and `rv_test_words`: whether each line of their tables
+//! is answered as it says.
 use crate::choice::{self, CHOICES, UNKNOWN};
 use crate::headers::{self, TEXTS};
+use crate::merging::{self, MERGED, ORDERS};
 use crate::reports::limits::{COUNTS, NAMES};
 use crate::reports::texts::{CUT_OFF, OTHER, READ, STRANGE, WRONG};
 use crate::views::texts::{
@@ -20,6 +21,8 @@ fn check_line(alloc: Global, ask: &str, line: &str) -> Result<(), Fail> {
         "choice" => choice::check(alloc, line),
         "unknown" => choice::check_unknown(alloc, line),
         "headers" => headers::check(alloc, line),
+        "merging" => merging::check(alloc, line),
+        "orders" => merging::check_orders(alloc, line),
         "report" | "cuts" | "counts" => reports::check(alloc, ask, line),
         "words" | "bad words" | "shown" => words::check(alloc, ask, line),
         _ => views::check(alloc, ask, line),
@@ -31,6 +34,8 @@ const TABLES: &str = "\
 choice | choices | 11
 unknown | unknown | 6
 headers | texts | 27
+merging | merged | 22
+orders | orders | 5
 report | read | 13
 cuts | read | 13
 report | cut off | 29
@@ -46,8 +51,8 @@ show leniently | shown leniently | 1
 junit | suites | 7
 junit leniently | lenient suites | 2
 console | consoles | 16
-words | good words | 9
-bad words | bad words | 33
+words | good words | 22
+bad words | bad words | 47
 shown | shown | 7";
 
 fn table_of(name: &str) -> &'static str {
@@ -55,6 +60,8 @@ fn table_of(name: &str) -> &'static str {
         "choices" => CHOICES,
         "unknown" => UNKNOWN,
         "texts" => TEXTS,
+        "merged" => MERGED,
+        "orders" => ORDERS,
         "read" => READ,
         "cut off" => CUT_OFF,
         "wrong" => WRONG,

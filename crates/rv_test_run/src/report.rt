@@ -1,20 +1,45 @@
 //! The report of the rows of chosen jobs.
 
-ghost use Rattle.std.specs.Prelude.{◌≡◌, ◌+◌, ◌<◌, ◌≤◌, ◌^◌, IfOk, OnErr, OnOk, length, map};
+ghost use Rattle.std.specs.Prelude.{◌≡◌, ◌+◌, ◌<◌, ◌≤◌, ◌^◌, IfOk, None, OnErr, OnOk, length, map};
 ghost use Rattle.std.specs.Io.KnownBytes.{Appends};
 ghost use Rattle.std.specs.List.{All};
 ghost use Rattle.std.specs.List.Sorted.{IsStrictlyIncreasing};
 ghost use Rattle.rv_lists.specs.Jobs.{most_jobs};
 ghost use Rattle.rv_rows.specs.Sending.{AppendsBeginning};
-ghost use Rattle.rv_test_run.specs.Shown.{numbers_of, report_of};
+ghost use Rattle.rv_test_run.specs.Shown.{numbers_of, part_text, report_of};
 
 use rv_fleet::{Report, Rows, Sink, WriteError, write_report};
-use rv_reports::{Extent, Numbers, SavedReport, write_saved};
+use rv_reports::{Extent, Numbers, SavedReport, Shard, write_saved};
 use std::alloc::{AllocError, Global};
 
-/// Appends the report of the rows of the jobs at some places of a list of so many jobs: the whole report where these are
-/// all, else that of a choice. After an error a beginning of it is out.
+/// Appends the report of the rows of the jobs at some places of a list of so many jobs: that of a shard, where these are
+/// its jobs; else the whole report where they are all, else that of a choice. After an error a beginning of it is out.
 pub fn write_rows<W: Sink>(
+    alloc: Global,
+    jobs: usize,
+    places: &[usize],
+    shard: Option<Shard>,
+    rows: Rows,
+    out: &mut W,
+) -> Result<(), WriteError>
+    requires few { jobs ≤ most_jobs }
+    requires within { All (λ place. place < jobs) places.now }
+    requires rising { IsStrictlyIncreasing places.now }
+    requires counted { length rows ≡ length places.now }
+    ensures all { OnOk result (Appends (W.taken out.old) (W.taken out.new)
+        (report_of jobs places.now shard rows)) }
+    ensures counted { OnOk result (W.failed out.new ≡ W.failed out.old) }
+    ensures part { OnErr result (AppendsBeginning (W.taken out.old) (W.taken out.new)
+        (report_of jobs places.now shard rows)) }
+{
+    match shard {
+        Some(shard) => write_part(alloc, Extent::Shard(shard), jobs, places, rows, out),
+        None => write_chosen(alloc, jobs, places, rows, out),
+    }
+}
+
+// The report of the rows of chosen jobs.
+fn write_chosen<W: Sink>(
     alloc: Global,
     jobs: usize,
     places: &[usize],
@@ -25,17 +50,39 @@ pub fn write_rows<W: Sink>(
     requires within { All (λ place. place < jobs) places.now }
     requires rising { IsStrictlyIncreasing places.now }
     requires counted { length rows ≡ length places.now }
-    ensures all { OnOk result
-        (Appends (W.taken out.old) (W.taken out.new) (report_of jobs places.now rows)) }
+    ensures all { OnOk result (Appends (W.taken out.old) (W.taken out.new)
+        (report_of jobs places.now None rows)) }
     ensures counted { OnOk result (W.failed out.new ≡ W.failed out.old) }
-    ensures part { OnErr result
-        (AppendsBeginning (W.taken out.old) (W.taken out.new) (report_of jobs places.now rows)) }
+    ensures part { OnErr result (AppendsBeginning (W.taken out.old) (W.taken out.new)
+        (report_of jobs places.now None rows)) }
 {
     if places.len() == jobs {
         return write_report(alloc, &Report { rows }, out);
     }
+    write_part(alloc, Extent::Choice(jobs as u32), jobs, places, rows, out)
+}
+
+// The report of a part of a list of so many jobs.
+fn write_part<W: Sink>(
+    alloc: Global,
+    extent: Extent,
+    jobs: usize,
+    places: &[usize],
+    rows: Rows,
+    out: &mut W,
+) -> Result<(), WriteError>
+    requires few { jobs ≤ most_jobs }
+    requires within { All (λ place. place < jobs) places.now }
+    requires rising { IsStrictlyIncreasing places.now }
+    requires counted { length rows ≡ length places.now }
+    ensures all { OnOk result (Appends (W.taken out.old) (W.taken out.new)
+        (part_text extent places.now rows)) }
+    ensures counted { OnOk result (W.failed out.new ≡ W.failed out.old) }
+    ensures part { OnErr result (AppendsBeginning (W.taken out.old) (W.taken out.new)
+        (part_text extent places.now rows)) }
+{
     let report = SavedReport {
-        extent: Extent::Choice(jobs as u32),
+        extent,
         numbers: Numbers::new(numbers_of(alloc, places)?),
         rows,
     };

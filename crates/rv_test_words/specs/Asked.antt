@@ -1,31 +1,65 @@
 -- What the program's own value of what is asked for stands for.
-use Rattle.std.specs.Prelude.{◌≤◌, IfSome, map, option_map}
+use Rattle.std.specs.Prelude.{◌≤◌, IfSome, Option, map, option_map}
 use Rattle.rv_test_words.specs.declared.asked.Asked.{Asked}
 use Rattle.rv_test_words.specs.declared.asked.Asked.TheVariants as asked
 use Rattle.rv_test_words.specs.declared.asked.RunAsked.{RunAsked}
-use Rattle.rv_test_words.specs.Words.{Words, RunWords, run, check}
+use Rattle.rv_test_words.specs.declared.asked.ExplainAsked.{ExplainAsked}
+use Rattle.rv_test_words.specs.declared.asked.MergeAsked.{MergeAsked}
+use Rattle.clap.specs.Words.{Text}
+use Rattle.rv_test_words.specs.Words.{Words, RunWords, ExplainWords, MergeWords, most_last}
+use Rattle.rv_test_words.specs.Words.{run, explain, check, merge, diff, show}
+use Rattle.std.specs.Borrow.{Bor}
+
+-- the text behind a reference, where there is one
+abbrev pub text_of : Option (Bor Text) → Option Text
+text_of text = option_map (λ t. t.now) text
 
 abbrev pub run_asked : RunAsked → RunWords
 run_asked value = record {
   list = value.list.now;
   only = map (λ name. name.now) value.only.items;
-  pattern = option_map (λ text. text.now) value.pattern;
-  failed = option_map (λ path. path.now) value.failed;
+  pattern = text_of value.pattern;
+  failed = text_of value.failed;
+  shard = text_of value.shard;
+  stamp = text_of value.stamp;
   workers = value.workers;
   group = value.group;
-  root = option_map (λ path. path.now) value.root;
-  report = option_map (λ path. path.now) value.report;
+  root = text_of value.root;
+  report = text_of value.report;
+  junit = text_of value.junit;
   lenient = value.lenient;
   verbose = value.verbose;
   quiet = value.quiet;
+  last = value.last;
+}
+
+abbrev pub explain_asked : ExplainAsked → ExplainWords
+explain_asked value = record {
+  list = value.list.now;
+  name = value.name.now;
+  last = value.last;
+  root = text_of value.root;
+}
+
+abbrev pub merge_asked : MergeAsked → MergeWords
+merge_asked value = record {
+  parts = map (λ path. path.now) value.parts.items;
+  report = text_of value.report;
+  junit = text_of value.junit;
+  lenient = value.lenient;
 }
 
 abbrev pub words_asked : Asked → Words
 words_asked (asked.Run value) = run (run_asked value)
-words_asked (asked.Check value) = check value.list.now (option_map (λ path. path.now) value.root)
+words_asked (asked.Explain value) = explain (explain_asked value)
+words_asked (asked.Check value) = check value.list.now (text_of value.root)
+words_asked (asked.Merge value) = merge (merge_asked value)
+words_asked (asked.Diff value) = diff value.old.now value.new.now value.steps
+words_asked (asked.Show value) = show value.report.now (text_of value.junit) value.lenient
 
 -- each number is within the range of its argument
 abbrev pub AreWithin : Asked → Type 0
 AreWithin (asked.Run value) = IfSome value.workers (λ number. (1 ≤ number) × (number ≤ 64))
-    × (1 ≤ value.group) × (value.group ≤ 4096)
-AreWithin (asked.Check value) = Unit {0}
+    × (1 ≤ value.group) × (value.group ≤ 4096) × IfSome value.last (λ number. number ≤ most_last)
+AreWithin (asked.Explain value) = value.last ≤ most_last
+AreWithin _ = Unit {0}

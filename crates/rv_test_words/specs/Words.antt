@@ -1,6 +1,7 @@
 -- The command line of rvtest: the rules that `clap` reads words by, and what words ask for.
-use Rattle.std.specs.Prelude.{◌&&◌, ℕ, Bool, true, false, List, [], ◌∷◌, Option, Some, None, pos}
-use Rattle.std.specs.Prelude.{codes, option_map, option_and_then, unwrap_or, if◌then◌else◌}
+use Rattle.std.specs.Prelude.{◌&&◌, ◌||◌, ℕ, Bool, true, false, not, List, [], ◌∷◌, Option, Some, None}
+use Rattle.std.specs.Prelude.{codes, is_some, option_map, option_and_then, pos, unwrap_or}
+use Rattle.std.specs.Prelude.{if◌then◌else◌}
 use Rattle.std.specs.Option.{option_map_or}
 use Rattle.std.specs.Str.{bytes_eq}
 use Rattle.clap.specs.Kinds.{or_else}
@@ -9,13 +10,19 @@ use Rattle.clap.specs.Words.{new_rule, subcommand_of, with_rule, with_subcommand
 use Rattle.clap.specs.declared.builder.action.ArgAction.TheVariants.{Append, SetTrue}
 use Rattle.clap.specs.declared.builder.value_parser.ValueParser.TheVariants as value_parser
 use Rattle.clap.specs.declared.error.kind.ErrorKind.TheVariants as kind
+use Rattle.rv_test_words.specs.declared.refusals.Misuse.{Misuse}
+use Rattle.rv_test_words.specs.declared.refusals.Misuse.TheVariants as misuse
 use Rattle.rv_words.specs.Values.{number_in}
 
 -- ---- the rules
 
--- a word that stands for itself: <LIST>, required
-abbrev pub list_rule : Rule
-list_rule = record (new_rule (codes "list")) { required = true; value_names = 1 }
+-- a word that stands for itself, as <LIST>, required
+abbrev pub word_rule : Text → Rule
+word_rule name = record (new_rule name) { required = true; value_names = 1 }
+
+-- one or more such words: <PART>..
+abbrev pub parts_rule : Rule
+parts_rule = record (word_rule (codes "part")) { action = Some Append }
 
 -- an option with one value
 abbrev pub option_rule : Text → Rule
@@ -25,11 +32,15 @@ option_rule name = record (new_rule name) { long = Some name; value_names = 1 }
 abbrev pub again_rule : Text → Rule
 again_rule name = record (option_rule name) { action = Some Append }
 
+-- an option with a number from one to another
+abbrev pub range_rule : Text → ℕ → ℕ → Rule
+range_rule name least most = record (option_rule name) {
+  parser = Some (value_parser.Signed (pos least) (pos most));
+}
+
 -- an option with a number from 1 on, up to another
 abbrev pub number_rule : Text → ℕ → Rule
-number_rule name most = record (option_rule name) {
-  parser = Some (value_parser.Signed (pos 1) (pos most));
-}
+number_rule name most = range_rule name 1 most
 
 -- an option without a value
 abbrev pub flag_rule : Text → Rule
@@ -38,27 +49,70 @@ flag_rule name = record (new_rule name) { long = Some name; action = Some SetTru
 abbrev pub group_rule : Rule
 group_rule = record (number_rule (codes "group") 4096) { defaults = codes "1" ∷ [] }
 
+-- the most of the last instructions that are shown
+abbrev pub most_last : ℕ
+most_last = 100000
+
+abbrev pub last_rule : Rule
+last_rule = range_rule (codes "last") 0 most_last
+
+abbrev pub shown_rule : Rule
+shown_rule = record last_rule { defaults = codes "16" ∷ [] }
+
 -- [--only <NAME>].. [--match <REGEX>] [--failed <REPORT>]
 abbrev pub with_choice : App → App
 with_choice app = with_rule (with_rule (with_rule app (again_rule (codes "only")))
     (option_rule (codes "match"))) (option_rule (codes "failed"))
+
+-- [--shard <K/N>] [--stamp <TEXT>]
+abbrev pub with_shard : App → App
+with_shard app = with_rule (with_rule app (option_rule (codes "shard")))
+    (option_rule (codes "stamp"))
 
 -- [--workers <N>] [--group <N>] [--root <DIR>]
 abbrev pub with_machine : App → App
 with_machine app = with_rule (with_rule (with_rule app (number_rule (codes "workers") 64))
     group_rule) (option_rule (codes "root"))
 
--- [--report <FILE>] [--lenient] [--verbose | --quiet]
+-- [--report <FILE>] [--junit <FILE>] [--lenient]
+abbrev pub with_files : App → App
+with_files app = with_rule (with_rule (with_rule app (option_rule (codes "report")))
+    (option_rule (codes "junit"))) (flag_rule (codes "lenient"))
+
+-- [--verbose | --quiet] [--last <N>]
 abbrev pub with_results : App → App
-with_results app = with_rule (with_rule (with_rule (with_rule app (option_rule (codes "report")))
-    (flag_rule (codes "lenient"))) (flag_rule (codes "verbose"))) (flag_rule (codes "quiet"))
+with_results app = with_rule (with_rule (with_rule app (flag_rule (codes "verbose")))
+    (flag_rule (codes "quiet"))) last_rule
+
+abbrev pub list_app : Text → App
+list_app name = with_rule (new_app name) (word_rule (codes "list"))
 
 abbrev pub run_app : App
-run_app = with_results (with_machine (with_choice (with_rule (new_app (codes "run")) list_rule)))
+run_app =
+    with_results (with_files (with_machine (with_shard (with_choice (list_app (codes "run"))))))
+
+-- explain <LIST> <NAME> [--last <N>] [--root <DIR>]
+abbrev pub explain_app : App
+explain_app = with_rule (with_rule (with_rule (list_app (codes "explain"))
+    (word_rule (codes "name"))) shown_rule) (option_rule (codes "root"))
 
 -- check <LIST> [--root <DIR>]
 abbrev pub check_app : App
-check_app = with_rule (with_rule (new_app (codes "check")) list_rule) (option_rule (codes "root"))
+check_app = with_rule (list_app (codes "check")) (option_rule (codes "root"))
+
+-- merge <PART>.. [--report <FILE>] [--junit <FILE>] [--lenient]
+abbrev pub merge_app : App
+merge_app = with_files (with_rule (new_app (codes "merge")) parts_rule)
+
+-- diff <OLD> <NEW> [--steps]
+abbrev pub diff_app : App
+diff_app = with_rule (with_rule (with_rule (new_app (codes "diff")) (word_rule (codes "old")))
+    (word_rule (codes "new"))) (flag_rule (codes "steps"))
+
+-- show <REPORT> [--junit <FILE>] [--lenient]
+abbrev pub show_app : App
+show_app = with_rule (with_rule (with_rule (new_app (codes "show")) (word_rule (codes "report")))
+    (option_rule (codes "junit"))) (flag_rule (codes "lenient"))
 
 -- a subcommand is required, none is called help, and there is a version
 abbrev pub top_app : App
@@ -71,9 +125,18 @@ top_app = let app = new_app (codes "rvtest") in
       };
     }
 
+-- the commands that run jobs, and then those that read reports
+abbrev pub with_runs : App → App
+with_runs app = with_subcommand (with_subcommand (with_subcommand app run_app.top)
+    explain_app.top) check_app.top
+
+abbrev pub with_reports : App → App
+with_reports app = with_subcommand (with_subcommand (with_subcommand app merge_app.top)
+    diff_app.top) show_app.top
+
 -- the whole command
 abbrev pub test_app : App
-test_app = with_subcommand (with_subcommand top_app run_app.top) check_app.top
+test_app = with_reports (with_runs top_app)
 
 -- ---- what words ask for
 
@@ -83,18 +146,42 @@ pub record RunWords : Type 0 where
   pub only : List Text
   pub pattern : Option Text
   pub failed : Option Text
+  pub shard : Option Text
+  pub stamp : Option Text
   pub workers : Option ℕ
   pub group : ℕ
   pub root : Option Text
   pub report : Option Text
+  pub junit : Option Text
   pub lenient : Bool
   pub verbose : Bool
   pub quiet : Bool
+  pub last : Option ℕ
 
--- to run jobs; to say all that is wrong with a list, whose paths are taken from a folder
+-- the job of a list whose end is to be explained
+pub record ExplainWords : Type 0 where
+  pub list : Text
+  pub name : Text
+  pub last : ℕ
+  pub root : Option Text
+
+-- the parts whose whole report is to be made
+pub record MergeWords : Type 0 where
+  pub parts : List Text
+  pub report : Option Text
+  pub junit : Option Text
+  pub lenient : Bool
+
+-- to run jobs; to explain one; to say all that is wrong with a list, whose paths are taken from a
+-- folder; to merge parts; to compare two reports, with their steps or without; to show one, with
+-- the path of a JUnit file, by the lenient rule or the strict one
 pub data Words : Type 0 where
   run : RunWords → Words
+  explain : ExplainWords → Words
   check : Text → Option Text → Words
+  merge : MergeWords → Words
+  diff : Text → Text → Bool → Words
+  show : Text → Option Text → Bool → Words
 
 abbrev pub is_true : Text → Bool
 is_true text = bytes_eq text (codes "true")
@@ -114,27 +201,64 @@ run_words list group rows = record {
   only = all_in (codes "only") rows;
   pattern = first_of (codes "match") rows;
   failed = first_of (codes "failed") rows;
+  shard = first_of (codes "shard") rows;
+  stamp = first_of (codes "stamp") rows;
   workers = number_in (codes "workers") 1 64 rows;
   group = group;
   root = first_of (codes "root") rows;
   report = first_of (codes "report") rows;
+  junit = first_of (codes "junit") rows;
   lenient = flag_in (codes "lenient") rows;
   verbose = flag_in (codes "verbose") rows;
   quiet = flag_in (codes "quiet") rows;
+  last = number_in (codes "last") 0 most_last rows;
 }
 
 abbrev pub run_in : List Row → Option Words
 run_in rows = option_and_then (λ list. option_map (λ group. run (run_words list group rows))
     (number_in (codes "group") 1 4096 rows)) (first_of (codes "list") rows)
 
+abbrev pub explain_words : Text → Text → List Row → ℕ → Words
+explain_words list name rows last = explain (record {
+  list = list;
+  name = name;
+  last = last;
+  root = first_of (codes "root") rows;
+})
+
+abbrev pub explain_in : List Row → Option Words
+explain_in rows = option_and_then (λ list. option_and_then (λ name.
+    option_map (explain_words list name rows) (number_in (codes "last") 0 most_last rows))
+    (first_of (codes "name") rows)) (first_of (codes "list") rows)
+
 abbrev pub check_in : List Row → Option Words
 check_in rows = option_map (λ list. check list (first_of (codes "root") rows))
     (first_of (codes "list") rows)
 
+abbrev pub merge_in : List Row → Words
+merge_in rows = merge (record {
+  parts = all_in (codes "part") rows;
+  report = first_of (codes "report") rows;
+  junit = first_of (codes "junit") rows;
+  lenient = flag_in (codes "lenient") rows;
+})
+
+abbrev pub diff_in : List Row → Option Words
+diff_in rows = option_and_then (λ old. option_map (λ new. diff old new
+    (flag_in (codes "steps") rows)) (first_of (codes "new") rows)) (first_of (codes "old") rows)
+
+abbrev pub show_in : List Row → Option Words
+show_in rows = option_map (λ report. show report (first_of (codes "junit") rows)
+    (flag_in (codes "lenient") rows)) (first_of (codes "report") rows)
+
 -- what a subcommand with these values asks for
 abbrev pub words_in : Text → List Row → Option Words
 words_in name rows = if bytes_eq name (codes "run") then run_in rows
+    else if bytes_eq name (codes "explain") then explain_in rows
     else if bytes_eq name (codes "check") then check_in rows
+    else if bytes_eq name (codes "merge") then Some (merge_in rows)
+    else if bytes_eq name (codes "diff") then diff_in rows
+    else if bytes_eq name (codes "show") then show_in rows
     else None
 
 -- what words ask for: the subcommand and the values are the matches that `clap` defines for them
@@ -143,16 +267,46 @@ asked_of words = option_and_then (λ found. words_in found.0 found.1) (subcomman
 
 -- ---- what is wrong with words
 
--- --verbose and --quiet do not stand beside one another
-abbrev pub conflict_in : List Row → Kinds
-conflict_in rows = if flag_in (codes "verbose") rows && flag_in (codes "quiet") rows
-    then kind.ArgumentConflict ∷ [] else []
+-- an option with a value is there
+abbrev pub is_given : Text → List Row → Bool
+is_given id rows = is_some (first_of id rows)
+
+-- an option names standard output
+abbrev pub is_out : Text → List Row → Bool
+is_out id rows = option_map_or (λ path. bytes_eq path (codes "-")) (first_of id rows) false
+
+-- jobs are chosen by their names or by a report
+abbrev pub is_choice : List Row → Bool
+is_choice rows = is_given (codes "only") rows
+    || (is_given (codes "match") rows || is_given (codes "failed") rows)
+
+-- both files are standard output
+abbrev pub twice_out : List Row → Option Misuse
+twice_out rows = if is_out (codes "report") rows && is_out (codes "junit") rows
+    then Some misuse.TwiceOut else None
+
+-- the first of the rules that options of `run` break: --verbose and --quiet do not stand beside
+-- one another, nor a shard beside a choice; a stamp is a shard's; one file is standard output
+abbrev pub misuse_in : List Row → Option Misuse
+misuse_in rows = if flag_in (codes "verbose") rows && flag_in (codes "quiet") rows
+    then Some misuse.VerboseAndQuiet
+    else if is_given (codes "shard") rows && is_choice rows then Some misuse.ShardAndChoice
+    else if is_given (codes "stamp") rows && not (is_given (codes "shard") rows)
+    then Some misuse.StampAlone
+    else twice_out rows
+
+abbrev pub kinds_of : Option Misuse → Kinds
+kinds_of None = []
+kinds_of (Some misuse.StampAlone) = kind.MissingRequiredArgument ∷ []
+kinds_of (Some _) = kind.ArgumentConflict ∷ []
 
 -- the faults of a subcommand with these values that `clap` does not look for
 abbrev pub faults_in : Text → List Row → Kinds
-faults_in name rows = if bytes_eq name (codes "run") then conflict_in rows else []
+faults_in name rows = if bytes_eq name (codes "run") then kinds_of (misuse_in rows)
+    else if bytes_eq name (codes "merge") then kinds_of (twice_out rows)
+    else []
 
--- the faults of words: those that `clap` finds, else two options that exclude one another
+-- the faults of words: those that `clap` finds, else options that do not go together
 abbrev pub faults_of : List Text → Kinds
 faults_of words = or_else (fault_of test_app words)
     (option_map_or (λ found. faults_in found.0 found.1) (subcommand_of test_app words) [])

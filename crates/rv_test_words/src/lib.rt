@@ -10,7 +10,7 @@ mod command;
 mod read;
 mod refusals;
 
-pub use asked::{Asked, CheckAsked, RunAsked};
-pub use command::run_command;
+pub use asked::{Asked, CheckAsked, DiffAsked, ExplainAsked, MergeAsked, RunAsked, ShowAsked};
+pub use command::{merge_command, run_command};
 pub use read::read_words;
 pub use refusals::refusal;

@@ -1,22 +1,24 @@
 //! From words to what they ask for.
 
-ghost use Rattle.std.specs.Prelude.{◌≡◌, ◌≤◌, [], ◌∷◌, IfOk, IfSome, map, option_map};
-ghost use Rattle.clap.specs.Words.{FailsBy, HasKind, found_of, rows_of};
-ghost use Rattle.rv_test_words.specs.Asked.{AreWithin, run_asked, words_asked};
-ghost use Rattle.rv_test_words.specs.Words.{all_in, asked_of, check_in, conflict_in, faults_in};
-ghost use Rattle.rv_test_words.specs.Words.{faults_of, flag_in, run_in, run_words, words_in};
+ghost use Rattle.std.specs.Prelude.{◌≡◌, ◌≤◌, IfOk, IfSome, Some, map, option_map};
+ghost use Rattle.clap.specs.Words.{FailsBy, found_of, rows_of};
+ghost use Rattle.rv_test_words.specs.Asked.{AreWithin, merge_asked, run_asked, words_asked};
+ghost use Rattle.rv_test_words.specs.Words.{all_in, asked_of, check_in, diff_in, explain_in};
+ghost use Rattle.rv_test_words.specs.Words.{faults_in, faults_of, flag_in, is_choice, is_given};
+ghost use Rattle.rv_test_words.specs.Words.{is_out, kinds_of, merge, merge_in, misuse_in};
+ghost use Rattle.rv_test_words.specs.Words.{most_last};
+ghost use Rattle.rv_test_words.specs.Words.{run_in, run_words, show_in, twice_out, words_in};
 
-use crate::asked::{Asked, CheckAsked, RunAsked};
-use crate::command::{run_command, test_command};
-use crate::refusals::refusal;
-use clap::error::ErrorKind;
+use crate::asked::{Asked, CheckAsked, DiffAsked, ExplainAsked, MergeAsked, RunAsked, ShowAsked};
+use crate::command::{merge_command, run_command, test_command};
+use crate::refusals::Misuse;
 use clap::{ArgMatches, Error};
 use rv_words::{number, text};
 use std::alloc::{AllocError, Global};
 use std::convert::AsStr;
 
 /// Reads words, the first of which is the program's name. `None` stands where words ask for nothing. An error is `clap`'s
-/// own, but for `--verbose` beside `--quiet`. Help and the version are errors, too: DisplayHelp and DisplayVersion.
+/// own, but for options that do not go together. Help and the version are errors, too: DisplayHelp and DisplayVersion.
 pub fn read_words<'a, T: AsStr>(alloc: Global, words: &'a [T]) -> Result<Option<Asked<'a>>, Error>
     // What is read is what the words ask for.
     ensures value { IfOk result
@@ -44,12 +46,14 @@ fn subcommand_asked<'a>(
     ensures within { IfOk result (λ asked. IfSome asked AreWithin) }
     ensures kinds { FailsBy (faults_in name.now (rows_of (found_of values.now))) result }
 {
-    if name == "run" {
-        run_asked(alloc, values)
-    } else if name == "check" {
-        Ok(check_asked(values))
-    } else {
-        Ok(None)
+    match name {
+        "run" => run_asked(alloc, values),
+        "explain" => Ok(explain_asked(values)),
+        "check" => Ok(check_asked(values)),
+        "merge" => merge_asked(alloc, values),
+        "diff" => Ok(diff_asked(values)),
+        "show" => Ok(show_asked(values)),
+        _ => Ok(None),
     }
 }
 
@@ -57,10 +61,10 @@ fn run_asked<'a>(alloc: Global, values: &ArgMatches<'a>) -> Result<Option<Asked<
     ensures value { IfOk result (λ asked.
         option_map words_asked asked ≡ run_in (rows_of (found_of values.now))) }
     ensures within { IfOk result (λ asked. IfSome asked AreWithin) }
-    ensures kinds { FailsBy (conflict_in (rows_of (found_of values.now))) result }
+    ensures kinds { FailsBy (kinds_of (misuse_in (rows_of (found_of values.now)))) result }
 {
-    if flag(values, "verbose") && flag(values, "quiet") {
-        return Err(conflict(alloc));
+    if let Some(misuse) = misuse_of_run(values) {
+        return Err(misuse.error(run_command(alloc)));
     }
     let Some(list) = text(values, "list") else {
         return Ok(None);
@@ -71,13 +75,49 @@ fn run_asked<'a>(alloc: Global, values: &ArgMatches<'a>) -> Result<Option<Asked<
     Ok(Some(Asked::Run(run_values(alloc, list, group, values)?)))
 }
 
-fn conflict(alloc: Global) -> Error
-    ensures { HasKind (ErrorKind.ArgumentConflict ∷ []) result }
+// The first rule that the options of `run` break.
+fn misuse_of_run(values: &ArgMatches<'_>) -> Option<Misuse>
+    ensures { result ≡ misuse_in (rows_of (found_of values.now)) }
 {
-    let text = "the argument '--verbose' cannot be used with '--quiet'";
-    match run_command(alloc) {
-        Ok(command) => refusal(command, ErrorKind::ArgumentConflict, text),
-        Err(error) => Error::from(error),
+    if flag(values, "verbose") && flag(values, "quiet") {
+        Some(Misuse::VerboseAndQuiet)
+    } else if is_given(values, "shard") && is_choice(values) {
+        Some(Misuse::ShardAndChoice)
+    } else if is_given(values, "stamp") && !is_given(values, "shard") {
+        Some(Misuse::StampAlone)
+    } else {
+        twice_out(values)
+    }
+}
+
+fn is_choice(values: &ArgMatches<'_>) -> bool
+    ensures { result ≡ is_choice (rows_of (found_of values.now)) }
+{
+    is_given(values, "only") || is_given(values, "match") || is_given(values, "failed")
+}
+
+fn twice_out(values: &ArgMatches<'_>) -> Option<Misuse>
+    ensures { result ≡ twice_out (rows_of (found_of values.now)) }
+{
+    if is_out(values, "report") && is_out(values, "junit") {
+        Some(Misuse::TwiceOut)
+    } else {
+        None
+    }
+}
+
+fn is_given(values: &ArgMatches<'_>, id: &str) -> bool
+    ensures { result ≡ is_given id.now (rows_of (found_of values.now)) }
+{
+    text(values, id).is_some()
+}
+
+fn is_out(values: &ArgMatches<'_>, id: &str) -> bool
+    ensures { result ≡ is_out id.now (rows_of (found_of values.now)) }
+{
+    match text(values, id) {
+        Some(path) => path == "-",
+        None => false,
     }
 }
 
@@ -93,20 +133,41 @@ fn run_values<'a>(
     ensures workers { IfOk result (λ asked.
         IfSome asked.workers (λ number. (1 ≤ number) × (number ≤ 64))) }
     ensures group { IfOk result (λ asked. asked.group ≡ group) }
+    ensures last { IfOk result (λ asked. IfSome asked.last (λ number. number ≤ most_last)) }
 {
     Ok(RunAsked {
         list,
         only: all(alloc, values, "only")?,
         pattern: text(values, "match"),
         failed: text(values, "failed"),
+        shard: text(values, "shard"),
+        stamp: text(values, "stamp"),
         workers: number(values, "workers", 1, 64),
         group,
         root: text(values, "root"),
         report: text(values, "report"),
+        junit: text(values, "junit"),
         lenient: flag(values, "lenient"),
         verbose: flag(values, "verbose"),
         quiet: flag(values, "quiet"),
+        last: number(values, "last", 0, 100_000),
     })
+}
+
+fn explain_asked<'a>(values: &ArgMatches<'a>) -> Option<Asked<'a>>
+    ensures value { option_map words_asked result ≡ explain_in (rows_of (found_of values.now)) }
+    ensures within { IfSome result AreWithin }
+{
+    let list = text(values, "list")?;
+    let name = text(values, "name")?;
+    let last = number(values, "last", 0, 100_000)?;
+    let root = text(values, "root");
+    Some(Asked::Explain(ExplainAsked {
+        list,
+        name,
+        last,
+        root,
+    }))
 }
 
 fn check_asked<'a>(values: &ArgMatches<'a>) -> Option<Asked<'a>>
@@ -116,6 +177,54 @@ fn check_asked<'a>(values: &ArgMatches<'a>) -> Option<Asked<'a>>
     let list = text(values, "list")?;
     let root = text(values, "root");
     Some(Asked::Check(CheckAsked { list, root }))
+}
+
+fn merge_asked<'a>(alloc: Global, values: &ArgMatches<'a>) -> Result<Option<Asked<'a>>, Error>
+    ensures value { IfOk result (λ asked.
+        option_map words_asked asked ≡ Some (merge_in (rows_of (found_of values.now)))) }
+    ensures within { IfOk result (λ asked. IfSome asked AreWithin) }
+    ensures kinds { FailsBy (kinds_of (twice_out (rows_of (found_of values.now)))) result }
+{
+    if let Some(misuse) = twice_out(values) {
+        return Err(misuse.error(merge_command(alloc)));
+    }
+    Ok(Some(Asked::Merge(merge_values(alloc, values)?)))
+}
+
+fn merge_values<'a>(alloc: Global, values: &ArgMatches<'a>) -> Result<MergeAsked<'a>, AllocError>
+    ensures { IfOk result
+        (λ asked. merge (merge_asked asked) ≡ merge_in (rows_of (found_of values.now))) }
+{
+    Ok(MergeAsked {
+        parts: all(alloc, values, "part")?,
+        report: text(values, "report"),
+        junit: text(values, "junit"),
+        lenient: flag(values, "lenient"),
+    })
+}
+
+fn diff_asked<'a>(values: &ArgMatches<'a>) -> Option<Asked<'a>>
+    ensures value { option_map words_asked result ≡ diff_in (rows_of (found_of values.now)) }
+    ensures within { IfSome result AreWithin }
+{
+    let old = text(values, "old")?;
+    let new = text(values, "new")?;
+    let steps = flag(values, "steps");
+    Some(Asked::Diff(DiffAsked { old, new, steps }))
+}
+
+fn show_asked<'a>(values: &ArgMatches<'a>) -> Option<Asked<'a>>
+    ensures value { option_map words_asked result ≡ show_in (rows_of (found_of values.now)) }
+    ensures within { IfSome result AreWithin }
+{
+    let report = text(values, "report")?;
+    let junit = text(values, "junit");
+    let lenient = flag(values, "lenient");
+    Some(Asked::Show(ShowAsked {
+        report,
+        junit,
+        lenient,
+    }))
 }
 
 fn flag(values: &ArgMatches<'_>, id: &str) -> bool

@@ -1,10 +1,63 @@
 //! Refusals of words in which `clap` finds no fault.
 
-ghost use Rattle.std.specs.Prelude.{◌≡◌, [], ◌∷◌};
+ghost use Rattle.std.specs.Prelude.{◌≡◌, [], ◌∷◌, Some};
 ghost use Rattle.clap.specs.Words.{HasKind};
+ghost use Rattle.rv_test_words.specs.Words.{kinds_of};
 
 use clap::error::ErrorKind;
 use clap::{Command, Error};
+use std::alloc::AllocError;
+
+/// Options that do not go together.
+#[derive(Clone, Copy, Debug)]
+pub(crate) enum Misuse {
+    /// `--verbose` beside `--quiet`.
+    VerboseAndQuiet,
+    /// A shard beside a choice of jobs.
+    ShardAndChoice,
+    /// A stamp without a shard.
+    StampAlone,
+    /// Two files that are both standard output.
+    TwiceOut,
+}
+
+impl Misuse {
+    /// The error that says so, with the usage of the command.
+    pub(crate) fn error(self, command: Result<Command<'_>, AllocError>) -> Error
+        ensures { HasKind (kinds_of (Some self)) result }
+    {
+        match command {
+            Ok(command) => refusal(command, self.kind(), self.text()),
+            Err(error) => Error::from(error),
+        }
+    }
+
+    fn kind(self) -> ErrorKind
+        ensures { kinds_of (Some self) ≡ result ∷ [] }
+    {
+        match self {
+            Misuse::StampAlone => ErrorKind::MissingRequiredArgument,
+            Misuse::VerboseAndQuiet | Misuse::ShardAndChoice | Misuse::TwiceOut => {
+                ErrorKind::ArgumentConflict
+            }
+        }
+    }
+
+    fn text(self) -> &'static str {
+        match self {
+            Misuse::VerboseAndQuiet => "the argument '--verbose' cannot be used with '--quiet'",
+            Misuse::ShardAndChoice => {
+                "the argument '--shard <K/N>' cannot be used with '--only <NAME>', '--match <REGEX>' or '--failed <REPORT>'"
+            }
+            Misuse::StampAlone => {
+                "the argument '--stamp <TEXT>' cannot be used without '--shard <K/N>'"
+            }
+            Misuse::TwiceOut => {
+                "the argument '--report -' cannot be used with '--junit -': standard output is one file"
+            }
+        }
+    }
+}
 
 /// An error in the form of `clap`'s own: `error: ` and the text, the usage of the command, and where help is. The text has
 /// no line feed at its end.

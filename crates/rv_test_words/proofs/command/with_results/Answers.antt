@@ -1,20 +1,17 @@
 use Rattle.std.proofs.Common.{refl, codes, Ok}
 use Rattle.clap.specs.Words.{app_of, with_rule}
-use Rattle.rv_test_words.specs.Words.{flag_rule, option_rule}
+use Rattle.rv_test_words.specs.Words.{flag_rule, last_rule}
 use Rattle.rv_words.proofs.Public.{with_argument}
 use Rattle.rv_test_words.proofs.command.with_results.Goals as goal
 
 pub returns : goal.returns
 returns c =
     let app = app_of c.args.command in
-    let report = option_rule (codes "report") in
-    let lenient = flag_rule (codes "lenient") in
     let verbose = flag_rule (codes "verbose") in
-    let first = with_argument c.args.command _ app report (Ok c.in_ok-arg.field-0) c.in_ok-arg.ensures
-    (refl, c.requires) c.report_argument.ensures in
-    let second = with_argument c.in_ok-arg.field-0 _ (with_rule app report) lenient (Ok c.in_ok-arg-2.field-0)
-    c.in_ok-arg-2.ensures first c.lenient_argument.ensures in
-    let third = with_argument c.in_ok-arg-2.field-0 _ (with_rule (with_rule app report) lenient) verbose
-    (Ok c.in_ok-arg-3.field-0) c.in_ok-arg-3.ensures second c.verbose_argument.ensures in
-    with_argument c.in_ok-arg-3.field-0 _ (with_rule (with_rule (with_rule app report) lenient) verbose)
-    (flag_rule (codes "quiet")) c.arg-4.result c.arg-4.ensures third c.quiet_argument.ensures
+    let quiet = flag_rule (codes "quiet") in
+    let first = with_argument c.args.command _ app verbose (Ok c.in_ok-arg.field-0) c.in_ok-arg.ensures
+    (refl, c.requires) c.verbose_argument.ensures in
+    let second = with_argument c.in_ok-arg.field-0 _ (with_rule app verbose) quiet (Ok c.in_ok-arg-2.field-0)
+    c.in_ok-arg-2.ensures first c.quiet_argument.ensures in
+    with_argument c.in_ok-arg-2.field-0 _ (with_rule (with_rule app verbose) quiet) last_rule
+    c.arg-3.result c.arg-3.ensures second c.last_argument.ensures

@@ -1,0 +1,10 @@
+pub mod Stepping
+pub mod Slots
+pub mod Named
+pub mod OneList
+pub mod Never
+pub mod Gathering
+pub mod Texts
+pub mod Ends
+pub mod Sharing
+pub mod Sharded

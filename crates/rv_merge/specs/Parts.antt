@@ -1,0 +1,66 @@
+-- The parts of a run: which rows each has, and which texts are all of them.
+use Rattle.std.specs.Prelude.{◌≡◌, ◌-◌, ◌<◌, ◌≤◌, ℕ, true, List, [], length, map, Some, Any}
+use Rattle.std.specs.Prelude.{slice_get, slice_index_or}
+use Rattle.std.specs.Borrow.{Bor}
+use Rattle.std.specs.List.{All, AllByRecursion}
+use Rattle.rv_lists.specs.Jobs.{most_jobs}
+use Rattle.rv_rows.specs.declared.row.Row.{Row}
+use Rattle.rv_reports.specs.declared.saved.Extent.{Extent}
+use Rattle.rv_reports.specs.declared.saved.Extent.TheVariants as extent
+use Rattle.rv_reports.specs.declared.saved.Shard.{Shard}
+use Rattle.rv_reports.specs.declared.saved.SavedReport.{SavedReport}
+use Rattle.rv_reports.specs.Saved.{IsRow, IsSaved, are_new, names_of, saved_text}
+
+-- the bytes of texts, as a caller hands them over
+abbrev pub bytes_of : List (Bor (List ℕ)) → List (List ℕ)
+bytes_of texts = map (λ (text : Bor (List ℕ)). text.now) texts
+
+-- the text at a place
+abbrev pub text_at : List (List ℕ) → ℕ → List ℕ
+text_at texts at = slice_index_or texts at []
+
+-- a list of so many jobs that is run in so many shards, under a stamp
+pub record Run : Type 0 where
+  pub jobs : ℕ
+  pub shards : ℕ
+  pub stamp : List ℕ
+
+abbrev pub run_of : Shard → Run
+run_of shard = record { jobs = shard.jobs; shards = shard.shards; stamp = shard.stamp }
+
+-- the shard of a number in a run
+abbrev pub shard_in : Run → ℕ → Shard
+shard_in run n =
+    record { jobs = run.jobs; number = n; shards = run.shards; stamp = run.stamp }
+
+-- the text is that of a report that can be, of these jobs
+pub record IsOf (jobs : Extent) (bytes : List ℕ) : Type 0 where
+  pub report : SavedReport
+  pub saved : IsSaved report
+  pub text : saved_text report ≡ bytes
+  pub extent : report.extent ≡ jobs
+
+-- the text is that of the shard of a number, which has under each number the row of that job
+pub record IsPart (rows : List Row) (run : Run) (n : ℕ) (bytes : List ℕ) : Type 0 where
+  pub of : IsOf (extent.Shard (shard_in run n)) bytes
+  pub has : map (λ m. slice_get rows (m - 1)) of.report.numbers ≡ map Some of.report.rows
+
+-- each text is a part of a run of these rows, and each of its shards is among them, whatever their
+-- order
+pub record ArePartsIn (run : Run) (rows : List Row) (texts : List (List ℕ)) : Type 0 where
+  pub jobs : run.jobs ≡ length rows
+  pub some : 0 < run.shards
+  pub each : All (λ bytes. (n : ℕ) × IsPart rows run n bytes) texts
+  pub all : (n : ℕ) → 0 < n → n ≤ run.shards → Any (IsPart rows run n) texts
+
+-- rows of a list: up to 4,096, with names that are all different
+pub record AreListed (rows : List Row) : Type 0 where
+  pub few : length rows ≤ most_jobs
+  pub good : AllByRecursion IsRow rows
+  pub new : are_new [] (names_of rows) ≡ true
+
+-- the texts are the parts of one run of these rows
+pub record AreParts (rows : List Row) (texts : List (List ℕ)) : Type 0 where
+  pub listed : AreListed rows
+  pub run : Run
+  pub parts : ArePartsIn run rows texts

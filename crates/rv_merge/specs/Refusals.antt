@@ -1,0 +1,96 @@
+-- What merging answers, and what is so of the texts that it refuses.
+use Rattle.std.specs.Prelude.{◌≡◌, ◌-◌, ◌<◌, ◌≤◌, ℕ, true, List, [], length, take, Some, Result}
+use Rattle.std.specs.Prelude.{Ok, Err, is_some, slice_get}
+use Rattle.std.specs.List.{All}
+use Rattle.rv_lists.specs.JobList.{place_in}
+use Rattle.rv_rows.specs.declared.row.Row.{Row}
+use Rattle.rv_reports.specs.declared.read.ReadError.{ReadError}
+use Rattle.rv_reports.specs.declared.read.ReadError.TheVariants as read
+use Rattle.rv_reports.specs.declared.saved.Extent.TheVariants as extent
+use Rattle.rv_reports.specs.declared.saved.Shard.{Shard}
+use Rattle.rv_reports.specs.declared.saved.SavedReport.{SavedReport}
+use Rattle.rv_reports.specs.Differences.{IsPlace, Tells, first_difference}
+use Rattle.rv_reports.specs.Said.{said}
+use Rattle.rv_reports.specs.Saved.{IsSaved, names_of, saved_text}
+use Rattle.rv_merge.specs.declared.error.Flaw.{Flaw}
+use Rattle.rv_merge.specs.declared.error.Flaw.TheVariants as flaw
+use Rattle.rv_merge.specs.declared.error.MergeError.{MergeError}
+use Rattle.rv_merge.specs.declared.error.MergeError.TheVariants as error
+use Rattle.rv_merge.specs.Parts.{ArePartsIn, IsOf, Run, shard_in, text_at}
+
+-- the answer is these rows, unless memory ran out
+abbrev pub Gives : List Row → Result (List Row) MergeError → Type 0
+Gives rows (Ok found) = found ≡ rows
+Gives rows (Err e) = e ≡ error.OutOfMemory
+
+-- no report has the text, which begins as one does up to the place that reading names
+pub record IsUnread (place : ReadError) (bytes : List ℕ) : Type 0 where
+  pub none : (report : SavedReport) → IsSaved report → saved_text report ≡ bytes → ⊥
+  pub begins : (report : SavedReport) × IsSaved report × Tells place (saved_text report) bytes
+  pub told : IsPlace place (first_difference (saved_text (said bytes)) bytes)
+
+-- two texts are those of shards that differ in something
+pub record Differ {X : Type 0} (what : Shard → X) (bytes others : List ℕ) : Type 0 where
+  pub shard : Shard
+  pub other : Shard
+  pub is : IsOf (extent.Shard shard) bytes
+  pub of : IsOf (extent.Shard other) others
+  pub differ : what shard ≡ what other → ⊥
+
+-- two texts are those of one shard, and are not the same
+pub record AreTwo (bytes others : List ℕ) : Type 0 where
+  pub shard : Shard
+  pub is : IsOf (extent.Shard shard) bytes
+  pub of : IsOf (extent.Shard shard) others
+  pub differ : bytes ≡ others → ⊥
+
+-- the name of the row at a place is that of a row before it
+pub record IsNameTwice (rows : List Row) (place : ℕ) : Type 0 where
+  pub row : Row
+  pub at : slice_get rows place ≡ Some row
+  pub twice : is_some (place_in (names_of (take place rows)) row.name) ≡ true
+
+-- the texts are the parts of a run of some rows, where the name of a job is that of one before it,
+-- and the text has its row
+pub record HasNameTwice (texts : List (List ℕ)) (bytes : List ℕ) (n : ℕ) : Type 0 where
+  pub rows : List Row
+  pub run : Run
+  pub shard : Shard
+  pub parts : ArePartsIn run rows texts
+  pub twice : IsNameTwice rows (n - 1)
+  pub of : IsOf (extent.Shard shard) bytes
+  pub place : ℕ
+  pub there : slice_get of.report.numbers place ≡ Some n
+
+-- the text at a place has a flaw
+abbrev pub HasFlaw : List (List ℕ) → ℕ → Flaw → Type 0
+HasFlaw texts at (flaw.Line line) = IsUnread (read.Line line) (text_at texts at)
+HasFlaw texts at flaw.CutOff = IsUnread read.CutOff (text_at texts at)
+HasFlaw texts at flaw.Whole = IsOf extent.Whole (text_at texts at)
+HasFlaw texts at flaw.Choice = (jobs : ℕ) × IsOf (extent.Choice jobs) (text_at texts at)
+HasFlaw texts at flaw.OtherShards =
+    Differ (λ (s : Shard). s.shards) (text_at texts 0) (text_at texts at)
+HasFlaw texts at flaw.OtherJobs =
+    Differ (λ (s : Shard). s.jobs) (text_at texts 0) (text_at texts at)
+HasFlaw texts at flaw.OtherStamp =
+    Differ (λ (s : Shard). s.stamp) (text_at texts 0) (text_at texts at)
+HasFlaw texts at (flaw.OtherText earlier) =
+    (earlier < at) × AreTwo (text_at texts earlier) (text_at texts at)
+HasFlaw texts at (flaw.NameTwice n) = HasNameTwice texts (text_at texts at) n
+
+-- each text is that of a shard of one run, and none is that of the shard of a number
+pub record IsMissing (n : ℕ) (texts : List (List ℕ)) : Type 0 where
+  pub run : Run
+  pub low : 0 < n
+  pub high : n ≤ run.shards
+  pub each :
+      All (λ bytes. (other : ℕ) × IsOf (extent.Shard (shard_in run other)) bytes × (other ≡ n → ⊥))
+      texts
+  pub some : 0 < length texts
+
+-- what an error says is so
+abbrev pub IsRefused : List (List ℕ) → MergeError → Type 0
+IsRefused texts error.OutOfMemory = Unit {0}
+IsRefused texts error.NoTexts = texts ≡ []
+IsRefused texts (error.Text at why) = (at < length texts) × HasFlaw texts at why
+IsRefused texts (error.Missing n) = IsMissing n texts

@@ -1,0 +1,58 @@
+-- The jobs of a shard, and the texts of a run whose shards ran apart.
+use Rattle.std.specs.Prelude.{◌≡◌, ◌==◌, ◌+◌, ◌-◌, ◌%◌, ◌<◌, ◌≤◌, ℕ, Bool, true, List, length}
+use Rattle.std.specs.Prelude.{map, Any}
+use Rattle.std.specs.List.{All, filter, range_with_len}
+use Rattle.rv_lists.specs.declared.job.Job.{Job}
+use Rattle.rv_lists.specs.JobList.{is_name}
+use Rattle.rv_lists.specs.Jobs.{most_jobs}
+use Rattle.rv_jobs.specs.declared.answers.Answer.{Answer}
+use Rattle.rv_jobs.specs.Plans.{Planned, needed_for}
+use Rattle.rv_rows.specs.Rows.{rows_at}
+use Rattle.rv_rows.specs.Wholes.{KeepSame, planned}
+use Rattle.rv_reports.specs.declared.saved.Extent.TheVariants as extent
+use Rattle.rv_reports.specs.declared.saved.SavedReport.{SavedReport}
+use Rattle.rv_reports.specs.Saved.{saved_text}
+use Rattle.rv_merge.specs.Parts.{Run, shard_in}
+
+-- of so many shards the one of a number has the job at a place, counted from 0
+abbrev pub is_in_shard : ℕ → ℕ → ℕ → Bool
+is_in_shard shards n place = place % shards == n - 1
+
+-- a mark for each of so many jobs, set for those of the shard
+abbrev pub shard_marks : ℕ → ℕ → ℕ → List Bool
+shard_marks shards n jobs = map (is_in_shard shards n) (range_with_len 0 jobs)
+
+-- the places of its jobs, of so many
+abbrev pub shard_places : ℕ → ℕ → ℕ → List ℕ
+shard_places shards n jobs = filter (is_in_shard shards n) (range_with_len 0 jobs)
+
+-- the report of a shard that ran over a plan
+abbrev pub shard_report : Run → ℕ → Planned → SavedReport
+shard_report run n plan = record {
+  extent = extent.Shard (shard_in run n);
+  numbers = map (λ place. place + 1) (shard_places run.shards n run.jobs);
+  rows = rows_at plan (shard_places run.shards n run.jobs);
+}
+
+-- a run of the jobs, in up to 4,096 shards, under a name
+pub record IsRunOf (list : List Job) (run : Run) : Type 0 where
+  pub jobs : run.jobs ≡ length list
+  pub some : 0 < run.shards
+  pub few : run.shards ≤ most_jobs
+  pub stamp : is_name run.stamp ≡ true
+
+-- the text is the report of the shard of a number, which ran where the same is kept of each path
+-- that its jobs need
+pub record IsTextFrom (list : List Job) (answers : List Answer) (run : Run) (n : ℕ)
+    (bytes : List ℕ) : Type 0 where
+  pub low : 0 < n
+  pub high : n ≤ run.shards
+  pub kept : List Answer
+  pub same : All (KeepSame kept answers) (needed_for list (shard_places run.shards n run.jobs))
+  pub text : bytes ≡ saved_text (shard_report run n (planned list kept))
+
+-- each text is that of a shard, and each shard's is among them
+pub record AreTextsFrom (list : List Job) (answers : List Answer) (run : Run)
+    (texts : List (List ℕ)) : Type 0 where
+  pub each : All (λ bytes. (n : ℕ) × IsTextFrom list answers run n bytes) texts
+  pub all : (n : ℕ) → 0 < n → n ≤ run.shards → Any (IsTextFrom list answers run n) texts

@@ -1,0 +1,22 @@
+//! A law of parts, with nothing to run.
+
+ghost use Rattle.std.specs.Prelude.{ℕ, List};
+ghost use Rattle.rv_jobs.specs.declared.answers.Answer.{Answer};
+ghost use Rattle.rv_lists.specs.declared.job.Job.{Job};
+ghost use Rattle.rv_rows.specs.Rows.{rows_of};
+ghost use Rattle.rv_rows.specs.Wholes.{planned};
+ghost use Rattle.rv_merge.specs.Parts.{AreListed, AreParts, Run};
+ghost use Rattle.rv_merge.specs.Shards.{AreTextsFrom, IsRunOf};
+
+use rv_rows::parts_have_the_rows_of_the_whole;
+
+/// Where a list's shards ran apart, and each kept the same of the paths that its jobs need as one machine keeps for the
+/// whole list, the texts of their reports are the parts of the rows that this machine gives: so these are what
+/// [`merge_parts`](crate::merge_parts) answers.
+pub fn shards_give_the_parts_of_the_whole()
+    ensures { (list : List Job) (answers : List Answer) (run : Run) (texts : List (List ℕ))
+        → AreListed (rows_of (planned list answers)) → IsRunOf list run
+        → AreTextsFrom list answers run texts → AreParts (rows_of (planned list answers)) texts }
+{
+    parts_have_the_rows_of_the_whole();
+}

@@ -1,0 +1,107 @@
+//! Merging: the rows of the texts that are the parts of one run.
+
+ghost use Rattle.std.specs.Prelude.{◌≡◌, ◌<◌, ◌+◌, ◌%◌, List, IfOk, IfErr, MatchOption, None, length};
+ghost use Rattle.std.specs.Prelude.{slice_index_or};
+ghost use Rattle.rv_rows.specs.declared.row.Row.{Row};
+ghost use Rattle.rv_merge.specs.Parts.{AreParts, bytes_of};
+ghost use Rattle.rv_merge.specs.Refusals.{Gives, IsRefused};
+ghost use Rattle.rv_merge.specs.GatheredInside.{HaveSources, HoldsIn, IsComplete};
+ghost use Rattle.rv_merge.specs.GatheredInside.{IsUnfinished, present};
+
+use crate::error::{Flaw, MergeError};
+use crate::gathered::{Gathered, add, nothing};
+use crate::names::name_twice;
+use crate::part::part_at;
+use rv_rows::{Row, Rows};
+use std::alloc::{AllocError, Global};
+
+/// The rows of the list whose parts these texts are, in any order, of which one may come again. Takes memory for the
+/// rows, and for reading one text after the other.
+pub fn merge_parts(alloc: Global, texts: &[&[u8]]) -> Result<Rows, MergeError>
+    // The texts are the parts of one run of these rows.
+    ensures found { IfOk result (λ rows. AreParts rows (bytes_of texts.now)) }
+    // Where they are the parts of one run of some rows, these are answered.
+    ensures only { (rows : List Row) → AreParts rows (bytes_of texts.now) → Gives rows result }
+    // What an error says is so.
+    ensures err { IfErr result (IsRefused (bytes_of texts.now)) }
+{
+    if texts.is_empty() {
+        return Err(MergeError::NoTexts);
+    }
+    let gathered = gathered(alloc, texts)?;
+    merged(alloc, gathered)
+}
+
+// What is gathered of all texts.
+fn gathered(alloc: Global, texts: &[&[u8]]) -> Result<Gathered, MergeError>
+    requires { 0 < length texts.now }
+    ensures holds { IfOk result (λ g. HoldsIn (bytes_of texts.now) (length texts.now) g) }
+    ensures err { IfErr result (IsRefused (bytes_of texts.now)) }
+{
+    let part = part_at(alloc, texts, 0)?;
+    let mut gathered = nothing(alloc, &part.shard)?;
+    add(&mut gathered, texts, 0, part)?;
+    for at in 1..texts.len() {
+        let part = part_at(alloc, texts, at)?;
+        add(&mut gathered, texts, at, part)?;
+    }
+    Ok(gathered)
+}
+
+// The rows that were gathered, where none is missing and each has a name of its own.
+fn merged(alloc: Global, gathered: Gathered) -> Result<Rows, MergeError>
+    requires { 0 < length gathered.sources.items }
+    ensures rows { IfOk result (λ rows. IsComplete gathered.sources.items gathered.slots.items
+        rows) }
+    ensures err { IfErr result (IsUnfinished gathered.sources.items gathered.slots.items) }
+{
+    if let Some(shard) = first_missing(&gathered.sources) {
+        return Err(MergeError::Missing(shard + 1));
+    }
+    let rows = rows_in(alloc, gathered.slots)?;
+    match name_twice(alloc, &rows)? {
+        None => Ok(Rows::new(rows)),
+        Some(place) => Err(name_error(&gathered.sources, place)),
+    }
+}
+
+// The first place where nothing stands.
+fn first_missing(sources: &[Option<usize>]) -> Option<usize>
+    ensures { MatchOption result (HaveSources sources.now)
+        (λ at. (at < length sources.now) × (slice_index_or sources.now at None ≡ None)) }
+{
+    for (at, source) in sources.iter().enumerate() {
+        if source.is_none() {
+            return Some(at);
+        }
+    }
+    None
+}
+
+// The name of the row at a place is that of a row before it.
+fn name_error(sources: &[Option<usize>], place: usize) -> MergeError
+    requires some { 0 < length sources.now }
+    requires place { place < usize.MAX }
+    ensures { MatchOption (slice_index_or sources.now (place % length sources.now) None)
+        (result ≡ MergeError.Missing (place % length sources.now + 1))
+        (λ text. result ≡ MergeError.Text text (Flaw.NameTwice (place + 1))) }
+{
+    let shard = place % sources.len();
+    match sources[shard] {
+        Some(text) => MergeError::Text(text, Flaw::NameTwice(place + 1)),
+        None => MergeError::Missing(shard + 1),
+    }
+}
+
+// The rows that stand in slots.
+fn rows_in(alloc: Global, slots: Vec<Option<Row>>) -> Result<Vec<Row>, AllocError>
+    ensures { IfOk result (λ rows. rows.items ≡ present slots.items) }
+{
+    let mut rows = Vec::new(alloc);
+    for slot in slots {
+        if let Some(row) = slot {
+            rows.push(row)?;
+        }
+    }
+    Ok(rows)
+}

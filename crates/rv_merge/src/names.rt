@@ -1,0 +1,26 @@
+//! Names that stand in two rows.
+
+ghost use Rattle.std.specs.Prelude.{◌≡◌, ◌<◌, [], true, IfOk, IfSome, MatchOption};
+ghost use Rattle.rv_reports.specs.Saved.{are_new, names_of};
+ghost use Rattle.rv_merge.specs.Refusals.{IsNameTwice};
+
+use rv_rows::Row;
+use std::alloc::{AllocError, Global};
+use std::collections::BTreeMap;
+
+/// The place of a row whose name is that of a row before it, the first if there are any.
+pub(crate) fn name_twice(alloc: Global, rows: &[Row]) -> Result<Option<usize>, AllocError>
+    ensures twice { IfOk result (λ place. MatchOption place (are_new [] (names_of rows.now) ≡ true)
+        (IsNameTwice rows.now)) }
+    ensures low { IfOk result (λ place. IfSome place (λ at. at < usize.MAX)) }
+{
+    let mut places: BTreeMap<&str, usize> = BTreeMap::new(alloc);
+    for (at, row) in rows.iter().enumerate() {
+        let name = row.name.as_str();
+        if places.contains_key(name) {
+            return Ok(Some(at));
+        }
+        places.insert(name, at)?;
+    }
+    Ok(None)
+}

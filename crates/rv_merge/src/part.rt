@@ -1,0 +1,58 @@
+//! A text as the part of a run that it is.
+
+ghost use Rattle.std.specs.Prelude.{◌≡◌, ◌<◌, IfOk, IfErr, length};
+ghost use Rattle.rv_merge.specs.Parts.{bytes_of, text_at};
+ghost use Rattle.rv_merge.specs.Refusals.{IsRefused, HasFlaw};
+ghost use Rattle.rv_merge.specs.GatheredInside.{IsTextOf, IsOtherKind, report_of};
+
+use crate::error::{Flaw, MergeError};
+use rv_reports::{Extent, Numbers, ReadError, SavedReport, Shard, read_report};
+use rv_rows::Rows;
+use std::alloc::Global;
+
+/// The rows of a shard, under the numbers of their jobs.
+#[derive(Drop)]
+pub(crate) struct Part {
+    pub(crate) shard: Shard,
+    pub(crate) numbers: Numbers,
+    pub(crate) rows: Rows,
+}
+
+/// The part whose text stands at a place.
+pub(crate) fn part_at(alloc: Global, texts: &[&[u8]], at: usize) -> Result<Part, MergeError>
+    requires { at < length texts.now }
+    ensures found { IfOk result (λ part. IsTextOf (report_of part)
+        (text_at (bytes_of texts.now) at)) }
+    ensures err { IfErr result (IsRefused (bytes_of texts.now)) }
+{
+    match read_report(alloc, texts[at]) {
+        Ok(report) => match part_of(report) {
+            Ok(part) => Ok(part),
+            Err(flaw) => Err(MergeError::Text(at, flaw)),
+        },
+        Err(ReadError::OutOfMemory) => Err(MergeError::OutOfMemory),
+        Err(ReadError::Line(line)) => Err(MergeError::Text(at, Flaw::Line(line))),
+        Err(ReadError::CutOff) => Err(MergeError::Text(at, Flaw::CutOff)),
+    }
+}
+
+// A report as a part, where it is that of a shard.
+fn part_of(report: SavedReport) -> Result<Part, Flaw>
+    ensures part { IfOk result (λ part. report_of part ≡ report) }
+    ensures other { IfErr result (λ flaw. IsOtherKind flaw report.extent) }
+{
+    let SavedReport {
+        extent,
+        numbers,
+        rows,
+    } = report;
+    match extent {
+        Extent::Shard(shard) => Ok(Part {
+            shard,
+            numbers,
+            rows,
+        }),
+        Extent::Whole => Err(Flaw::Whole),
+        Extent::Choice(_) => Err(Flaw::Choice),
+    }
+}

@@ -1,0 +1,29 @@
+//! The jobs of a shard.
+
+ghost use Rattle.std.specs.Prelude.{◌≡◌, ◌<◌, ◌≤◌, IfOk, length};
+ghost use Rattle.rv_jobs.specs.Choices.{marked};
+ghost use Rattle.rv_merge.specs.Shards.{shard_marks, shard_places};
+
+use std::alloc::{AllocError, Global};
+
+/// A mark for each of so many jobs, which is set where the job is of the shard of a number: where its place, from 0,
+/// leaves one less when it is divided by how many shards there are.
+pub fn shard_marks(
+    alloc: Global,
+    jobs: usize,
+    number: u32,
+    shards: u32,
+) -> Result<Vec<bool>, AllocError>
+    requires low { 0 < number }
+    requires high { number ≤ shards }
+    ensures marks { IfOk result (λ marks. marks.items ≡ shard_marks shards number jobs) }
+    ensures counted { IfOk result (λ marks. length marks.items ≡ jobs) }
+    ensures places { IfOk result
+        (λ marks. marked marks.items jobs ≡ shard_places shards number jobs) }
+{
+    let mut marks = Vec::new(alloc);
+    for place in 0..jobs {
+        marks.push(place % shards as usize == number as usize - 1)?;
+    }
+    Ok(marks)
+}

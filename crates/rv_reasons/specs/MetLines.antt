@@ -1,0 +1,67 @@
+-- The line that a person sees of an expectation that a run meets.
+use Rattle.std.specs.Prelude.{◌&&◌, ℕ, Bool, true, false, not, List, [], ◌∷◌, ◌++◌, Option, Some, None, codes}
+use Rattle.std.specs.Prelude.{if◌then◌else◌, is_some}
+use Rattle.std.specs.List.{list_any}
+use Rattle.rv_explain.specs.declared.unmet.Unmet.{Unmet}
+use Rattle.rv_explain.specs.declared.unmet.Unmet.TheVariants as unmet
+use Rattle.rv_lists.specs.declared.job.Job.{Job}
+use Rattle.rv_lists.specs.Jobs.{console_path}
+use Rattle.rv_lines.specs.Shown.{shown}
+use Rattle.rv_reasons.specs.declared.met_line.Expectation.{Expectation}
+use Rattle.rv_reasons.specs.declared.met_line.Expectation.TheVariants as expectation
+use Rattle.rv_reasons.specs.UnmetLines.{Comparison, end_text, exit_text}
+use Rattle.rv_rows.specs.declared.row.Row.{Row}
+use Rattle.rv_rows.specs.Report.{line}
+use Rattle.rv_rows.specs.Verdict.{is_asked}
+
+-- a job has an expectation; one that has no other expects exit code 0
+unfoldable pub has : Job → Expectation → Bool
+has job expectation.Exit = is_some job.expect_exit
+has job expectation.End = is_some job.expect_end
+has job expectation.Console = is_some job.expect_console
+has job expectation.Signature = is_some job.expect_signature
+has job expectation.Same = is_some job.same_as
+has job expectation.Nothing = not (is_asked job)
+
+-- it is the one that is not met
+unfoldable pub is_of : Expectation → Unmet → Bool
+is_of expectation.Exit unmet.Exit = true
+is_of expectation.End unmet.End = true
+is_of expectation.Console (unmet.Console difference) = true
+is_of expectation.Signature (unmet.Signature difference) = true
+is_of expectation.Same (unmet.Same difference) = true
+is_of expectation.Nothing unmet.Nothing = true
+is_of _ _ = false
+
+abbrev pub is_met : Job → List Unmet → Expectation → Bool
+is_met job unmet one = has job one && not (list_any (is_of one) unmet)
+
+abbrev pub path_text : Option (List ℕ) → List ℕ
+path_text None = []
+path_text (Some path) = codes " of " ++ shown path
+
+unfoldable pub named_text : Option Row → List ℕ
+named_text None = codes "the same as another job"
+named_text (Some other) = codes "the same as " ++ shown other.name
+
+unfoldable pub met_text : Comparison → Expectation → List ℕ
+met_text sides expectation.Exit = exit_text sides.job.expect_exit
+met_text sides expectation.End = end_text sides.job.expect_end
+met_text sides expectation.Console =
+    codes "the console" ++ path_text (console_path sides.job.expect_console)
+met_text sides expectation.Signature =
+    codes "the signature" ++ path_text sides.job.expect_signature
+met_text sides expectation.Same = named_text sides.other
+met_text sides expectation.Nothing = codes "exit 0, since it expects nothing else"
+
+-- behind five spaces, where it is met
+unfoldable pub met_line : Comparison → List Unmet → Expectation → List ℕ
+met_line sides unmet one =
+    if is_met sides.job unmet one then line (codes "     met: " ++ met_text sides one) else []
+
+-- in their order
+unfoldable pub met_lines : Comparison → List Unmet → List ℕ
+met_lines sides unmet =
+    met_line sides unmet expectation.Exit ++ met_line sides unmet expectation.End
+    ++ met_line sides unmet expectation.Console ++ met_line sides unmet expectation.Signature
+    ++ met_line sides unmet expectation.Same ++ met_line sides unmet expectation.Nothing

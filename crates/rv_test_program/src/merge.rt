@@ -1,0 +1,209 @@
+//! The command `merge`.
+
+ghost use Rattle.std.specs.Prelude.{◌≡◌, ◌≤◌, IfOk, length};
+ghost use Rattle.rv_lists.specs.Jobs.{most_jobs};
+ghost use Rattle.rv_test_run.specs.Shown.{status_of};
+
+use crate::files::read_file;
+use crate::messages::{put_out, say};
+use crate::outputs::{Outputs, class_of};
+use crate::rules::rule_of;
+use crate::stop::Stop;
+use crate::streams::Streams;
+use rv_fleet::Rows;
+use rv_lines::{Rule, push_last_line, push_number, push_shown, push_text};
+use rv_merge::{Flaw, MergeError, merge_parts};
+use rv_test_run::status_of;
+use rv_test_words::MergeAsked;
+use rv_views::FailedLines;
+use std::alloc::{AllocError, Global};
+use std::rt::Files;
+
+/// Makes the whole report of the parts of one run. The status is 1 where a job of it failed.
+pub(crate) fn merge<R: Files, S: Streams>(
+    files: &R,
+    alloc: Global,
+    streams: &S,
+    asked: &MergeAsked<'_>,
+) -> Result<u8, Stop>
+    ensures { IfOk result (λ status. status ≤ 1) }
+{
+    let rows = merged_rows(files, alloc, asked)?;
+    let outputs = Outputs::open(files, alloc, report_path(asked), asked.junit)?;
+    write(alloc, streams, asked, outputs, rows)
+}
+
+// Standard output has the report where nothing else is asked for.
+fn report_path<'a>(asked: &MergeAsked<'a>) -> Option<&'a str> {
+    match (asked.report, asked.junit) {
+        (None, Some("-")) => None,
+        (None, _) => Some("-"),
+        (path, _) => path,
+    }
+}
+
+// The rows of the whole list.
+fn merged_rows<R: Files>(files: &R, alloc: Global, asked: &MergeAsked<'_>) -> Result<Rows, Stop>
+    ensures { IfOk result (λ rows. length rows ≤ most_jobs) }
+{
+    let texts = texts_of(files, alloc, asked)?;
+    let parts = slices_of(alloc, texts.as_slice())?;
+    match merge_parts(alloc, parts.as_slice()) {
+        Ok(rows) => Ok(rows),
+        Err(error) => Err(refused(alloc, asked, error)?),
+    }
+}
+
+// What the parts' files have.
+fn texts_of<R: Files>(
+    files: &R,
+    alloc: Global,
+    asked: &MergeAsked<'_>,
+) -> Result<Vec<Vec<u8>>, Stop> {
+    let mut texts = Vec::new(alloc);
+    for path in &asked.parts {
+        let text = read_file(files, alloc, path, usize::MAX)?;
+        add(&mut texts, text)?;
+    }
+    Ok(texts)
+}
+
+fn add(texts: &mut Vec<Vec<u8>>, text: Vec<u8>) -> Result<(), AllocError> {
+    texts.push(text)?;
+    Ok(())
+}
+
+fn slices_of(alloc: Global, texts: &[Vec<u8>]) -> Result<Vec<&[u8]>, AllocError> {
+    let mut slices = Vec::new(alloc);
+    for text in texts {
+        slices.push(text.as_slice())?;
+    }
+    Ok(slices)
+}
+
+// Writes what is asked for, and shows the last line.
+fn write<R: Files, S: Streams>(
+    alloc: Global,
+    streams: &S,
+    asked: &MergeAsked<'_>,
+    outputs: Outputs<'_, R>,
+    rows: Rows,
+) -> Result<u8, Stop>
+    requires { length rows ≤ most_jobs }
+    ensures { IfOk result (λ status. status ≤ 1) }
+{
+    let rule = rule_of(asked.lenient);
+    let status = status_of(rule, rows.as_slice());
+    if let Err(stop) = show(alloc, streams, rule, &rows, outputs.is_out()) {
+        outputs.abandon();
+        return Err(stop);
+    }
+    write_files(alloc, streams, asked, rule, outputs, rows)?;
+    Ok(status)
+}
+
+// Shows the line that counts the rows: on standard error where a file goes to standard output.
+fn show<S: Streams>(
+    alloc: Global,
+    streams: &S,
+    rule: Rule,
+    rows: &Rows,
+    is_beside: bool,
+) -> Result<(), Stop>
+    requires { length rows.now ≤ most_jobs }
+{
+    let mut line = Vec::new(alloc);
+    push_last_line(&mut line, rule, rows.as_slice())?;
+    if is_beside {
+        say(streams, line.as_slice());
+        return Ok(());
+    }
+    put_out(streams, line.as_slice())
+}
+
+fn write_files<R: Files, S: Streams>(
+    alloc: Global,
+    streams: &S,
+    asked: &MergeAsked<'_>,
+    rule: Rule,
+    outputs: Outputs<'_, R>,
+    rows: Rows,
+) -> Result<(), Stop>
+    requires { length rows ≤ most_jobs }
+{
+    let Outputs { report, junit } = outputs;
+    let class = class_of(asked.report.unwrap_or("merged")).as_bytes();
+    let told = FailedLines { rule };
+    if let Err(stop) = junit.write_rows_as_junit(alloc, streams, class, &told, rows.as_slice()) {
+        report.abandon();
+        return Err(stop);
+    }
+    report.write_whole(alloc, streams, rows)
+}
+
+// Why the parts are not those of one run.
+fn refused(alloc: Global, asked: &MergeAsked<'_>, error: MergeError) -> Result<Stop, AllocError> {
+    let mut text = Vec::new(alloc);
+    push_text(&mut text, "rvtest: ")?;
+    match error {
+        MergeError::OutOfMemory => return Err(AllocError),
+        MergeError::NoTexts => push_text(&mut text, "there is no part")?,
+        MergeError::Text(at, flaw) => push_flaw(&mut text, asked, at, flaw)?,
+        MergeError::Missing(number) => {
+            push_text(&mut text, "no part is that of shard ")?;
+            push_number(&mut text, number as u64)?;
+        }
+    }
+    push_text(&mut text, "\n")?;
+    Ok(Stop::Refused(text))
+}
+
+fn push_path(text: &mut Vec<u8>, asked: &MergeAsked<'_>, at: usize) -> Result<(), AllocError> {
+    match asked.parts.get(at) {
+        Some(path) => push_shown(text, path.as_bytes()),
+        None => push_text(text, "a part"),
+    }
+}
+
+// What is wrong with the part at a place.
+fn push_flaw(
+    text: &mut Vec<u8>,
+    asked: &MergeAsked<'_>,
+    at: usize,
+    flaw: Flaw,
+) -> Result<(), AllocError> {
+    push_path(text, asked, at)?;
+    match flaw {
+        Flaw::Line(line) => {
+            push_text(text, ":")?;
+            push_number(text, line as u64)?;
+            push_text(text, ": no part has this line here")
+        }
+        Flaw::CutOff => push_text(text, ": the part is cut off"),
+        Flaw::Whole => push_text(text, ": a whole report, which is no part of a run"),
+        Flaw::Choice => push_text(
+            text,
+            ": the report of a choice of jobs, which is no shard's",
+        ),
+        Flaw::OtherShards => push_other(text, asked, "another number of shards than "),
+        Flaw::OtherJobs => push_other(text, asked, "a list of another number of jobs than "),
+        Flaw::OtherStamp => push_other(text, asked, "another stamp than "),
+        Flaw::OtherText(earlier) => {
+            push_text(text, ": the same shard as ")?;
+            push_path(text, asked, earlier)?;
+            push_text(text, ", and another text")
+        }
+        Flaw::NameTwice(number) => {
+            push_text(text, ": job ")?;
+            push_number(text, number as u64)?;
+            push_text(text, " has the name of a job before it")
+        }
+    }
+}
+
+// That it is of another run than the first part.
+fn push_other(text: &mut Vec<u8>, asked: &MergeAsked<'_>, what: &str) -> Result<(), AllocError> {
+    push_text(text, ": ")?;
+    push_text(text, what)?;
+    push_path(text, asked, 0)
+}

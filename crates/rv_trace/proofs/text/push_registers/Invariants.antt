@@ -1,0 +1,7 @@
+use Rattle.std.proofs.Common.{◌≡◌, ◌++◌, drop}
+use Rattle.rv_trace.specs.Text.{register_lines}
+use Rattle.rv_trace.proofs.text.push_registers.Given as goal
+
+abbrev pub invariant-loop-n : goal.invariant-loop-n
+invariant-loop-n l = l.bytes.items ++ register_lines l.image l.file l.n (drop l.n l.values)
+    ≡ l.initial.bytes.items ++ register_lines l.image l.file 0 l.values

@@ -1,0 +1,5 @@
+pub mod Code
+pub mod Steps
+pub mod Trace
+pub mod Showing
+pub mod Text

@@ -1,0 +1,36 @@
+-- What a trace shows of a run.
+use Rattle.std.specs.Prelude.{◌≡◌, ℕ, ◌+◌, ◌-◌, ◌<◌, ◌⊎◌, length, min, slice_index, slice_index_or, Some, Ok, Err}
+use Rattle.rv_isa.specs.declared.instruction.Instr.{Instr}
+use Rattle.rv_machine.specs.declared.ending.Ending.TheVariants.{Budget}
+use Rattle.rv_machine.specs.Run.{Ran, step_of}
+use Rattle.rv_machine.specs.State.{State, register}
+use Rattle.rv_trace.specs.declared.code.Code.{Code}
+use Rattle.rv_trace.specs.declared.step.TracedStep.{TracedStep}
+use Rattle.rv_trace.specs.declared.trace.Trace.{Trace}
+use Rattle.rv_trace.specs.Code.{code_at, size_of_code}
+use Rattle.rv_trace.specs.Steps.{instr_at, traced}
+use Rattle.rv_trace.specs.Trace.{after}
+
+-- a trace shows a run from a state on, and of its instructions the last ones, so many or all: where it
+-- ended, with the registers there, and each of these instructions, which completed, by the states in front
+-- of it and behind it
+pub record ShowsTheEnd (trace : Trace) (last : ℕ) (ran : Ran) (s : State) : Type 0 where
+  pub pc : trace.pc ≡ ran.state.pc
+  pub code : trace.code ≡ code_at ran.state.bus ran.state.pc
+  pub registers : (n : ℕ) → n < 32 → slice_index trace.registers n ≡ register ran.state n
+  pub count : length trace.steps ≡ min ran.steps last
+  pub lines : (k : ℕ) (d : TracedStep) → k < min ran.steps last
+      → let place = ran.steps - min ran.steps last + k in
+      slice_index_or trace.steps k d ≡ traced (after place s) (after (place + 1) s)
+
+-- the instructions in front of the end of a run are those that completed, and the one at its end did
+-- not, unless the budget was used up in front of it
+pub record EndsThere (ran : Ran) (s : State) : Type 0 where
+  pub completed : (k : ℕ) → k < ran.steps → step_of (after k s) ≡ Ok (after (k + 1) s)
+  pub ended : (ran.ending ≡ Budget) ⊎ (step_of ran.state ≡ Err ran.ending)
+
+-- the code at a state is that of the instruction which a fetch gives there, with its length
+pub record IsCodeOf (s : State) (i : Instr) (size : ℕ) (code : Code) : Type 0 where
+  pub there : code_at s.bus s.pc ≡ Some code
+  pub same : instr_at s ≡ Some i
+  pub long : size_of_code code ≡ size

@@ -1,0 +1,85 @@
+-- What is shown of an instruction that completed: where it stood, its code, and what it wrote.
+use Rattle.std.specs.Prelude.{ℕ, ◌<◌, ◌%◌, ◌^◌, ◌*◌, ◌==◌, if◌then◌else◌, List, [], ◌∷◌, Option, Some, None}
+use Rattle.std.specs.Prelude.{zero, suc, Result, Ok, Err, option_and_then}
+use Rattle.rv_isa.specs.declared.instruction.Instr.{Instr}
+use Rattle.rv_isa.specs.declared.instruction.Op.{Op}
+use Rattle.rv_isa.specs.declared.instruction.Op.TheVariants as op
+use Rattle.rv_memory.specs.Bus.{size_of}
+use Rattle.rv_memory.specs.declared.access.Width.TheVariants as width
+use Rattle.rv_machine.specs.declared.ending.Ending.{Ending}
+use Rattle.rv_machine.specs.Effect.{address, rs2}
+use Rattle.rv_machine.specs.Run.{step_of}
+use Rattle.rv_machine.specs.State.{State, register}
+use Rattle.rv_trace.specs.declared.aim.Access.{Access}
+use Rattle.rv_trace.specs.declared.aim.Access.TheVariants as access
+use Rattle.rv_trace.specs.declared.aim.Aim.{Aim}
+use Rattle.rv_trace.specs.declared.aim.Aim.TheVariants as aim
+use Rattle.rv_trace.specs.declared.step.TracedStep.{TracedStep}
+use Rattle.rv_trace.specs.declared.step.Wrote.{Wrote}
+use Rattle.rv_trace.specs.declared.step.Wrote.TheVariants as wrote
+use Rattle.rv_trace.specs.Code.{code_at, instr_of}
+
+-- ---- what an instruction is about to write, and where
+
+-- how an instruction reaches memory (ISA manual, 2.6)
+abbrev pub access_of : Op → Access
+access_of op.Lb = access.Load
+access_of op.Lh = access.Load
+access_of op.Lw = access.Load
+access_of op.Lbu = access.Load
+access_of op.Lhu = access.Load
+access_of op.Sb = access.Store width.Byte
+access_of op.Sh = access.Store width.Half
+access_of op.Sw = access.Store width.Word
+access_of _ = access.Neither
+
+-- a load takes its address into a register, and a store the low bytes of rs2 to its address; every
+-- other instruction writes a register, of which x0 is none
+abbrev pub aim_by : Access → Instr → State → Aim
+aim_by access.Load i s = aim.Load i.rd (address s i)
+aim_by (access.Store width) i s =
+    aim.Store (address s i) width (rs2 s i % 2 ^ (8 * size_of width))
+aim_by access.Neither i s = if i.rd == 0 then aim.Nothing else aim.Register i.rd
+
+abbrev pub aim_of : Option Instr → State → Aim
+aim_of None s = aim.Nothing
+aim_of (Some i) s = aim_by (access_of i.op) i s
+
+-- the number of a register that is aimed at is that of one
+abbrev pub HasRegister : Aim → Type 0
+HasRegister (aim.Register number) = number < 32
+HasRegister (aim.Load number address) = number < 32
+HasRegister _ = Unit {0}
+
+-- ---- what it wrote
+
+-- the same with the values that stand in the state behind it
+abbrev pub wrote_in : Aim → State → Wrote
+wrote_in aim.Nothing t = wrote.Nothing
+wrote_in (aim.Register number) t = wrote.Register number (register t number)
+wrote_in (aim.Load number address) t = wrote.Loaded number (register t number) address
+wrote_in (aim.Store address width value) t = wrote.Stored address width value
+
+-- the instruction at the pc of a state, in RV32IMC
+abbrev pub instr_at : State → Option Instr
+instr_at s = option_and_then instr_of (code_at s.bus s.pc)
+
+-- the instruction that led from a state to the next
+abbrev pub traced : State → State → TracedStep
+traced s t = record {
+  pc = s.pc;
+  code = code_at s.bus s.pc;
+  wrote = wrote_in (aim_of (instr_at s) s) t;
+}
+
+-- ---- one after another
+
+-- the instruction at a state, where it completes, and those behind it
+abbrev pub traced_and_more : Result State Ending → State → (State → List TracedStep) → List TracedStep
+traced_and_more (Ok t) s rest = traced s t ∷ rest t
+traced_and_more (Err e) s rest = []
+
+-- those of at most n steps from a state on, up to the first that does not complete
+unfoldable pub steps_from : ℕ → State → List TracedStep
+steps_from zero s = []
+steps_from (suc n) s = traced_and_more (step_of s) s (λ t. steps_from n t)

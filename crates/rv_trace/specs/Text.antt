@@ -1,0 +1,159 @@
+-- The text of a trace: where the run ended, the registers there, and a line an instruction.
+use Rattle.std.specs.Prelude.{◌==◌, ◌+◌, ◌-◌, ℕ, Bool, true, false, List, [], ◌∷◌, ◌++◌, codes, drop}
+use Rattle.std.specs.Prelude.{if◌then◌else◌, length, replicate, Option, Some, None}
+use Rattle.std.specs.Fmt.{decimal}
+use Rattle.std.specs.List.{flat_map}
+use Rattle.rv_asm.specs.Assembly.{no_instruction, text16, text32}
+use Rattle.rv_asm.specs.Operands.{register_name}
+use Rattle.rv_elf.specs.declared.image.Image.{Image}
+use Rattle.rv_elf.specs.Nearest.{symbol_at, symbol_of_value}
+use Rattle.rv_lines.specs.ResultLine.{place_text, symbol_text}
+use Rattle.rv_machine.specs.declared.ending.FaultKind.{FaultKind}
+use Rattle.rv_machine.specs.declared.ending.FaultKind.TheVariants as fault
+use Rattle.rv_machine.specs.Faults.{fault_name}
+use Rattle.rv_memory.specs.declared.access.Width.{Width}
+use Rattle.rv_memory.specs.declared.access.Width.TheVariants as width
+use Rattle.rv_rows.specs.declared.row.RowEnd.{RowEnd}
+use Rattle.rv_rows.specs.declared.row.RowEnd.TheVariants as ending
+use Rattle.rv_rows.specs.Report.{line, refusal_name, word_digits}
+use Rattle.rv_trace.specs.declared.code.Code.{Code}
+use Rattle.rv_trace.specs.declared.code.Code.TheVariants.{Half, Word}
+use Rattle.rv_trace.specs.declared.step.TracedStep.{TracedStep}
+use Rattle.rv_trace.specs.declared.step.Wrote.{Wrote}
+use Rattle.rv_trace.specs.declared.step.Wrote.TheVariants as wrote
+use Rattle.rv_trace.specs.declared.trace.Trace.{Trace}
+
+-- ---- columns
+
+-- a text with spaces behind it, up to a width
+unfoldable pub padded : ℕ → List ℕ → List ℕ
+padded width text = text ++ replicate (width - length text) 32
+
+abbrev pub gap : List ℕ
+gap = codes "  "
+
+-- what each line begins with
+abbrev pub margin : List ℕ
+margin = codes "     "
+
+-- a place by its symbol, nothing where there is none
+abbrev pub symbol_or_none : Option (List ℕ × ℕ) → List ℕ
+symbol_or_none None = []
+symbol_or_none (Some place) = symbol_text place
+
+-- ---- an instruction
+
+-- four digits of a halfword, eight of a word
+unfoldable pub code_text : Code → List ℕ
+code_text (Half half) = drop 4 (word_digits half)
+code_text (Word word) = word_digits word
+
+unfoldable pub assembly : ℕ → Code → List ℕ
+assembly pc (Half half) = text16 half pc
+assembly pc (Word word) = text32 word pc
+
+-- two digits a byte
+unfoldable pub value_text : Width → ℕ → List ℕ
+value_text width.Byte value = drop 6 (word_digits value)
+value_text width.Half value = drop 4 (word_digits value)
+value_text width.Word value = word_digits value
+
+abbrev pub register_text : ℕ → ℕ → List ℕ
+register_text number value = register_name number ++ codes " <- " ++ word_digits value
+
+-- of a load into x0 the address alone
+abbrev pub loaded_text : ℕ → ℕ → List ℕ
+loaded_text number value = if number == 0 then [] else register_text number value ++ codes " "
+
+-- what an instruction wrote
+unfoldable pub wrote_text : Wrote → List ℕ
+wrote_text wrote.Nothing = []
+wrote_text (wrote.Register number value) = register_text number value
+wrote_text (wrote.Loaded number value address) =
+    loaded_text number value ++ codes "from " ++ word_digits address
+wrote_text (wrote.Stored address width value) =
+    word_digits address ++ codes " <- " ++ value_text width value
+
+-- a text, and behind it what is told, where that is anything
+abbrev pub text_and_more : List ℕ → List ℕ → List ℕ
+text_and_more text told = if length told == 0 then text else padded 24 text ++ gap ++ told
+
+-- the code, the text of it, and what became of it, where there is something to say
+unfoldable pub columns : Option Code → List ℕ → List ℕ → List ℕ
+columns None text told = told
+columns (Some code) text told = padded 8 (code_text code) ++ gap ++ text_and_more text told
+
+-- the line of an instruction at an address
+unfoldable pub instruction_line :
+    Option (List ℕ × ℕ) → ℕ → Option Code → List ℕ → List ℕ → List ℕ
+instruction_line symbol pc code text told =
+    line (margin ++ word_digits pc ++ gap ++ padded 20 (symbol_or_none symbol) ++ gap
+    ++ columns code text told)
+
+abbrev pub assembly_or_none : ℕ → Option Code → List ℕ
+assembly_or_none pc None = []
+assembly_or_none pc (Some code) = assembly pc code
+
+-- that of one which completed
+unfoldable pub step_line : Image → List ℕ → TracedStep → List ℕ
+step_line image file step =
+    instruction_line (symbol_at image file step.pc) step.pc step.code
+    (assembly_or_none step.pc step.code) (wrote_text step.wrote)
+
+-- ---- the end
+
+-- what a fault met: of most an address
+unfoldable pub met_text : FaultKind → ℕ → List ℕ
+met_text fault.Illegal value = []
+met_text fault.Breakpoint value = []
+met_text fault.UnknownCall value = codes ", value " ++ word_digits value
+met_text fault.ConsoleFull value = codes ", value " ++ word_digits value
+met_text _ value = codes " at " ++ word_digits value
+
+-- what became of the instruction at the end
+unfoldable pub end_text : RowEnd → List ℕ
+end_text (ending.Exit code) = codes "exit " ++ decimal code
+end_text (ending.Fault kind pc value) = fault_name kind ++ met_text kind value
+end_text ending.Budget = codes "not run: the budget is used up"
+end_text (ending.Refused why) = refusal_name why
+
+-- it has no row in the set of the job, which may be a narrower one than the text is of
+abbrev pub is_illegal : RowEnd → Bool
+is_illegal (ending.Fault fault.Illegal pc value) = true
+is_illegal _ = false
+
+abbrev pub end_assembly : RowEnd → ℕ → Option Code → List ℕ
+end_assembly end pc code = if is_illegal end then no_instruction else assembly_or_none pc code
+
+unfoldable pub end_line : Image → List ℕ → ℕ → Option Code → RowEnd → List ℕ
+end_line image file pc code end =
+    instruction_line (symbol_at image file pc) pc code (end_assembly end pc code) (end_text end)
+
+unfoldable pub place_line : Image → List ℕ → ℕ → List ℕ
+place_line image file pc =
+    line (codes "     ended at " ++ word_digits pc ++ place_text (symbol_at image file pc))
+
+-- ---- the registers
+
+-- what a value points to, behind it
+abbrev pub behind_value : Option (List ℕ × ℕ) → List ℕ
+behind_value None = []
+behind_value (Some place) = gap ++ symbol_text place
+
+unfoldable pub register_line : Image → List ℕ → ℕ → ℕ → List ℕ
+register_line image file number value =
+    line (margin ++ padded 4 (register_name number) ++ gap ++ word_digits value
+    ++ behind_value (symbol_of_value image file value))
+
+-- those of registers from a number on
+unfoldable pub register_lines : Image → List ℕ → ℕ → List ℕ → List ℕ
+register_lines image file number [] = []
+register_lines image file number (value ∷ values) =
+    register_line image file number value ++ register_lines image file (number + 1) values
+
+-- ---- all of it
+
+unfoldable pub trace_text : Image → List ℕ → Trace → RowEnd → List ℕ
+trace_text image file trace end =
+    place_line image file trace.pc ++ register_lines image file 0 trace.registers
+    ++ flat_map (step_line image file) trace.steps ++ end_line image file trace.pc trace.code end

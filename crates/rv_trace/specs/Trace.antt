@@ -1,0 +1,42 @@
+-- The last instructions of a run, and the state in which it ended.
+use Rattle.std.specs.Prelude.{ℕ, ◌-◌, List, Option, option_map, map, min}
+use Rattle.std.specs.List.{range_with_len}
+use Rattle.std.specs.Result.{result_ok}
+use Rattle.rv_jobs.specs.Plans.{Planned}
+use Rattle.rv_lists.specs.declared.job.Job.{Job}
+use Rattle.rv_machine.specs.Run.{run_of}
+use Rattle.rv_machine.specs.State.{State, register}
+use Rattle.rv_rows.specs.Rows.{start_in}
+use Rattle.rv_trace.specs.declared.step.TracedStep.{TracedStep}
+use Rattle.rv_trace.specs.declared.trace.Trace.{Trace}
+use Rattle.rv_trace.specs.Code.{code_at}
+use Rattle.rv_trace.specs.Steps.{steps_from}
+
+-- the state after at most n steps of a run
+abbrev pub after : ℕ → State → State
+after n s = (run_of n s).state
+
+unfoldable pub registers_of : State → List ℕ
+registers_of s = map (register s) (range_with_len 0 32)
+
+-- some steps, and the state behind them
+abbrev pub trace_to : List TracedStep → State → Trace
+trace_to steps s = record {
+  steps = steps;
+  pc = s.pc;
+  code = code_at s.bus s.pc;
+  registers = registers_of s;
+}
+
+-- of a run that completes so many steps from a state on, the last ones, or all where there are fewer:
+-- what is shown of them, and the state behind the last
+unfoldable pub trace_of : ℕ → ℕ → State → Trace
+trace_of steps last s =
+    let shown = min steps last in
+    let t = after (steps - shown) s in
+    trace_to (steps_from shown t) (after shown t)
+
+-- that of the run of a job of a plan, where it is not refused
+unfoldable pub trace_in : Planned → Job → ℕ → ℕ → Option Trace
+trace_in plan job steps last =
+    option_map (trace_of steps last) (result_ok (start_in plan.answers job))

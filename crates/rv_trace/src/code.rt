@@ -1,0 +1,39 @@
+//! What is fetched at an address.
+
+ghost use Rattle.std.specs.Prelude.{◌≡◌, IfSome};
+ghost use Rattle.rv_isa.specs.Words.{IsWellFormed};
+ghost use Rattle.rv_trace.specs.Code.{code_at, instr_of};
+
+use rv_isa::{Instr, Isa, decode16, decode32, is_long};
+use rv_memory::Bus;
+
+/// The code of an instruction: a halfword, or a word.
+#[derive(Clone, Copy, Debug, PartialEq, Eq)]
+pub enum Code {
+    Half(u16),
+    Word(u32),
+}
+
+/// The code that a fetch at an address reads, where it is not refused.
+#[tactic(auto, unfolding(crate::specs::Code::code_at))]
+pub fn code_at(bus: &Bus, pc: u32) -> Option<Code>
+    ensures { result ≡ code_at bus.now pc }
+{
+    let low = bus.fetch_half(pc).ok()?;
+    if !is_long(low) {
+        return Some(Code::Half(low));
+    }
+    let high = bus.fetch_half(pc.wrapping_add(2)).ok()?;
+    Some(Code::Word(u32::from(low) + 0x1_0000 * u32::from(high)))
+}
+
+/// The instruction of a code in RV32IMC, if it has one there.
+pub(crate) fn instr_of(code: Code) -> Option<Instr>
+    ensures value { result ≡ instr_of code }
+    ensures well_formed { IfSome result IsWellFormed }
+{
+    match code {
+        Code::Half(half) => decode16(half, Isa::Imc),
+        Code::Word(word) => decode32(word, Isa::Imc),
+    }
+}

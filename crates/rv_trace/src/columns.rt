@@ -1,0 +1,142 @@
+//! The columns of the line of an instruction.
+
+ghost use Rattle.std.specs.Prelude.{◌≡◌, ◌++◌, OnOk, drop, option_map, replicate};
+ghost use Rattle.rv_rows.specs.Report.{word_digits};
+ghost use Rattle.rv_trace.specs.Text.{code_text, columns, instruction_line, padded, symbol_or_none, text_and_more};
+
+use crate::code::Code;
+use rv_elf::SymbolAt;
+use rv_lines::{behind, push_symbol, push_text, push_word};
+use std::alloc::{AllocError, Global};
+
+/// What separates two columns.
+pub(crate) const GAP: &str = "  ";
+
+/// What each line begins with.
+pub(crate) const MARGIN: &str = "     ";
+
+/// Where an instruction stands, and what is told of it.
+#[derive(Clone, Copy)]
+pub(crate) struct Instruction<'a> {
+    pub symbol: Option<SymbolAt<'a>>,
+    pub pc: u32,
+    pub code: Option<Code>,
+    /// Its assembly text.
+    pub text: &'a [u8],
+    /// What became of it.
+    pub told: &'a [u8],
+}
+
+/// Appends the line of an instruction.
+#[tactic(auto, unfolding(crate::specs::Text::instruction_line))]
+pub(crate) fn push_instruction(
+    alloc: Global,
+    bytes: &mut Vec<u8>,
+    shown: &Instruction<'_>,
+) -> Result<(), AllocError>
+    ensures { OnOk result (bytes.new.items ≡ bytes.old.items
+        ++ instruction_line (option_map (λ s. (s.name.now, s.offset)) shown.now.symbol)
+        shown.now.pc shown.now.code shown.now.text.now shown.now.told.now) }
+{
+    push_text(bytes, MARGIN)?;
+    push_word(bytes, shown.pc)?;
+    push_text(bytes, GAP)?;
+    push_place(alloc, bytes, shown.symbol)?;
+    push_text(bytes, GAP)?;
+    push_columns(alloc, bytes, shown.code, shown.text, shown.told)?;
+    push_text(bytes, "\n")
+}
+
+fn push_place(
+    alloc: Global,
+    bytes: &mut Vec<u8>,
+    symbol: Option<SymbolAt<'_>>,
+) -> Result<(), AllocError>
+    ensures { OnOk result (bytes.new.items ≡ bytes.old.items
+        ++ padded 20 (symbol_or_none (option_map (λ s. (s.name.now, s.offset)) symbol.entry))) }
+{
+    let mut text = Vec::new(alloc);
+    if let Some(symbol) = symbol {
+        push_symbol(alloc, &mut text, symbol)?;
+    }
+    push_padded(bytes, 20, &text)
+}
+
+#[tactic(auto, unfolding(crate::specs::Text::columns))]
+fn push_columns(
+    alloc: Global,
+    bytes: &mut Vec<u8>,
+    code: Option<Code>,
+    text: &[u8],
+    told: &[u8],
+) -> Result<(), AllocError>
+    ensures { OnOk result (bytes.new.items ≡ bytes.old.items ++ columns code text.now told.now) }
+{
+    let Some(code) = code else {
+        return bytes.extend_from_slice(told);
+    };
+    push_code(alloc, bytes, code)?;
+    push_text(bytes, GAP)?;
+    push_text_and_more(bytes, text, told)
+}
+
+fn push_text_and_more(bytes: &mut Vec<u8>, text: &[u8], told: &[u8]) -> Result<(), AllocError>
+    ensures { OnOk result (bytes.new.items ≡ bytes.old.items ++ text_and_more text.now told.now) }
+{
+    if told.is_empty() {
+        return bytes.extend_from_slice(text);
+    }
+    push_padded(bytes, 24, text)?;
+    push_text(bytes, GAP)?;
+    bytes.extend_from_slice(told)
+}
+
+fn push_code(alloc: Global, bytes: &mut Vec<u8>, code: Code) -> Result<(), AllocError>
+    ensures { OnOk result (bytes.new.items ≡ bytes.old.items ++ padded 8 (code_text code)) }
+{
+    let mut digits = Vec::new(alloc);
+    push_code_digits(alloc, &mut digits, code)?;
+    push_padded(bytes, 8, &digits)
+}
+
+#[tactic(auto, unfolding(crate::specs::Text::code_text))]
+fn push_code_digits(alloc: Global, bytes: &mut Vec<u8>, code: Code) -> Result<(), AllocError>
+    ensures { OnOk result (bytes.new.items ≡ bytes.old.items ++ code_text code) }
+{
+    match code {
+        Code::Half(half) => push_digits_behind(alloc, bytes, u32::from(half), 4),
+        Code::Word(word) => push_word(bytes, word),
+    }
+}
+
+/// Appends the digits of a word but for the first ones, so many.
+pub(crate) fn push_digits_behind(
+    alloc: Global,
+    bytes: &mut Vec<u8>,
+    word: u32,
+    count: usize,
+) -> Result<(), AllocError>
+    ensures { OnOk result (bytes.new.items ≡ bytes.old.items ++ drop count (word_digits word)) }
+{
+    let mut digits = Vec::new(alloc);
+    push_word(&mut digits, word)?;
+    bytes.extend_from_slice(behind(&digits, count))
+}
+
+/// Appends a text with spaces behind it, up to a width.
+#[tactic(auto, unfolding(crate::specs::Text::padded))]
+pub(crate) fn push_padded(bytes: &mut Vec<u8>, width: usize, text: &[u8]) -> Result<(), AllocError>
+    ensures { OnOk result (bytes.new.items ≡ bytes.old.items ++ padded width text.now) }
+{
+    bytes.extend_from_slice(text)?;
+    push_spaces(bytes, width.saturating_sub(text.len()))
+}
+
+fn push_spaces(bytes: &mut Vec<u8>, count: usize) -> Result<(), AllocError>
+    ensures { OnOk result (bytes.new.items ≡ bytes.old.items ++ replicate count 32) }
+{
+    for _ in 0..count {
+        bytes.push(b' ')?;
+    }
+    Ok(())
+}

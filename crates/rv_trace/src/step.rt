@@ -1,0 +1,56 @@
+//! One instruction of a machine.
+
+ghost use Rattle.std.specs.Prelude.{◌≡◌, MatchOption, Ok, false, is_ok};
+ghost use Rattle.rv_machine.specs.Machine.{state_of};
+ghost use Rattle.rv_machine.specs.Run.{step_of};
+ghost use Rattle.rv_trace.specs.Steps.{traced};
+
+use crate::aim::aim_of;
+use crate::code::{Code, code_at};
+use rv_machine::Machine;
+use rv_memory::Width;
+use rv_sequence::Sequence;
+
+/// What an instruction wrote.
+#[derive(Clone, Copy, Debug, PartialEq, Eq)]
+pub enum Wrote {
+    Nothing,
+    /// A register that is not x0, and its value afterwards.
+    Register(u8, u32),
+    /// A register, which may be x0, its value afterwards, and the address that was loaded from.
+    Loaded(u8, u32, u32),
+    /// An address, the width of a store, and the value that it stored there.
+    Stored(u32, Width, u32),
+}
+
+/// An instruction that completed.
+#[derive(Clone, Copy, Debug, PartialEq, Eq)]
+pub struct TracedStep {
+    pub pc: u32,
+    /// What was fetched there: there is some, since the instruction completed.
+    pub code: Option<Code>,
+    pub wrote: Wrote,
+}
+
+/// Instructions in the order in which they completed, of which contracts see their list.
+pub type TracedSteps = Sequence<TracedStep>;
+
+/// The next instruction of a machine, which is done, if it completes.
+pub(crate) fn next_step(machine: &mut Machine) -> Option<TracedStep>
+    ensures { MatchOption result
+        ((is_ok (step_of (state_of machine.old)) ≡ false) × (state_of machine.new ≡ state_of machine.old))
+        (λ step. (step_of (state_of machine.old) ≡ Ok (state_of machine.new))
+        × (step ≡ traced (state_of machine.old) (state_of machine.new))) }
+{
+    let pc = machine.pc();
+    let code = code_at(machine.bus(), pc);
+    let aim = aim_of(machine, code);
+    match machine.step() {
+        Some(_) => None,
+        None => Some(TracedStep {
+            pc,
+            code,
+            wrote: aim.wrote(machine),
+        }),
+    }
+}

@@ -1,0 +1,100 @@
+//! The last instructions of a run, and where it ended.
+
+ghost use Rattle.std.specs.Prelude.{◌≡◌, ◌<◌, IfOk, OnOk, length, slice_index_or};
+ghost use Rattle.rv_lists.specs.declared.job.Job.{Job as AJob};
+ghost use Rattle.rv_machine.specs.Machine.{state_of};
+ghost use Rattle.rv_trace.specs.Steps.{steps_from};
+ghost use Rattle.rv_trace.specs.Trace.{after, registers_of, trace_in, trace_of};
+
+use crate::code::{Code, code_at};
+use crate::step::{TracedStep, TracedSteps, next_step};
+use rv_jobs::Plan;
+use rv_machine::Machine;
+use rv_rows::machine_at;
+use std::alloc::{AllocError, Global};
+
+/// The last instructions of a run, and where it ended.
+#[derive(Debug, Drop)]
+pub struct Trace {
+    /// Those that completed, the oldest first.
+    pub steps: TracedSteps,
+    /// The pc at the end.
+    pub pc: u32,
+    /// What a fetch reads there, where it is not refused.
+    pub code: Option<Code>,
+    /// The registers x0 to x31 at the end.
+    pub registers: [u32; 32],
+}
+
+/// The last instructions of a run that completes so many steps, or all where there are fewer, and where it ends. It takes
+/// the time of that run, and memory for each instruction that is shown.
+#[tactic(auto, unfolding(crate::specs::Trace::trace_of))]
+pub fn trace_run(
+    alloc: Global,
+    machine: Machine,
+    steps: u32,
+    last: u32,
+) -> Result<Trace, AllocError>
+    ensures { IfOk result (λ trace. trace ≡ trace_of steps last (state_of machine)) }
+{
+    let mut machine = machine;
+    let shown = steps.min(last);
+    let _ = machine.run(steps - shown);
+    let steps = steps_from(alloc, &mut machine, shown)?;
+    let pc = machine.pc();
+    Ok(Trace {
+        steps: TracedSteps::new(steps),
+        pc,
+        code: code_at(machine.bus(), pc),
+        registers: registers_of(&machine),
+    })
+}
+
+/// The same of the job at a place, counted from 0, whose row has so many steps; nothing where the job is refused.
+#[tactic(auto, unfolding(crate::specs::Trace::trace_in))]
+pub fn trace_at(
+    alloc: Global,
+    plan: &Plan,
+    place: usize,
+    steps: u32,
+    last: u32,
+) -> Result<Option<Trace>, AllocError>
+    requires { place < length plan.now.jobs }
+    ensures { IfOk result (λ trace. (d : AJob) → trace
+        ≡ trace_in plan.now (slice_index_or plan.now.jobs place d) steps last) }
+{
+    match machine_at(alloc, plan, place)? {
+        Ok(machine) => Ok(Some(trace_run(alloc, machine, steps, last)?)),
+        Err(_) => Ok(None),
+    }
+}
+
+// The next instructions, as far as they complete.
+fn steps_from(
+    alloc: Global,
+    machine: &mut Machine,
+    count: u32,
+) -> Result<Vec<TracedStep>, AllocError>
+    ensures steps { IfOk result
+        (λ steps. steps.items ≡ steps_from count (state_of machine.old)) }
+    ensures after { OnOk result (state_of machine.new ≡ after count (state_of machine.old)) }
+{
+    let mut steps = Vec::new(alloc);
+    for _ in 0..count {
+        let Some(step) = next_step(machine) else {
+            break;
+        };
+        steps.push(step)?;
+    }
+    Ok(steps)
+}
+
+fn registers_of(machine: &Machine) -> [u32; 32]
+    ensures { result ≡ registers_of (state_of machine.now) }
+{
+    let mut registers = [0; 32];
+    for n in 0..32u8 {
+        registers[n as usize] = machine.reg(n);
+    }
+    registers
+}
