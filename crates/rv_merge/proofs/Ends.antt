@@ -17,7 +17,7 @@ use Rattle.rv_merge.specs.declared.error.MergeError.{MergeError}
 use Rattle.rv_merge.specs.declared.error.MergeError.TheVariants as error
 use Rattle.rv_merge.specs.GatheredInside.{HaveSources, Holds, IsComplete, IsTaken, IsUnfinished, IsWithout}
 use Rattle.rv_merge.specs.GatheredInside.{present}
-use Rattle.rv_merge.specs.Parts.{AreListed, AreParts, ArePartsIn, IsOf, IsPart, Run, run_of, shard_in, text_at}
+use Rattle.rv_merge.specs.Parts.{AreListed, AreParts, ArePartsIn, IsReportOf, IsPart, Run, run_of, shard_in, text_at}
 use Rattle.rv_merge.specs.Refusals.{HasNameTwice, IsMissing, IsNameTwice, IsRefused}
 use Rattle.rv_merge.proofs.OneList.{job_in, numbers_of_shard, one_shard_of, row_in, some_part}
 use Rattle.rv_merge.proofs.Slots.{get_or-some, map_agree, present_all, under}
@@ -42,7 +42,7 @@ module _ (texts : List (List ℕ)) (shard : Shard) (sources : List (Option ℕ))
         false≢true
         (sym (ap is_some w.none) ∙ sym (ap (λ (k : ℕ). is_some (get_or sources (k - 1) None)) e) ∙ t.noted) in (
           t.n,
-          subst (λ (b : List ℕ). IsOf (extent.Shard (shard_in (run_of shard) t.n)) b)
+          subst (λ (b : List ℕ). IsReportOf (extent.Shard (shard_in (run_of shard) t.n)) b)
               (get_or_default texts at [] d within) t.of,
           differ,
         );

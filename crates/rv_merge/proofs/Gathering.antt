@@ -20,7 +20,7 @@ use Rattle.rv_reports.specs.Said.{said}
 use Rattle.rv_merge.specs.declared.error.Flaw.{Flaw}
 use Rattle.rv_merge.specs.declared.error.Flaw.TheVariants as flaw
 use Rattle.rv_merge.specs.GatheredInside.{Holds, IsOtherKind, IsOtherRun, IsSource, IsTaken, IsTextOf, filled}
-use Rattle.rv_merge.specs.Parts.{IsOf, Run, run_of, shard_in, text_at}
+use Rattle.rv_merge.specs.Parts.{IsReportOf, Run, run_of, shard_in, text_at}
 use Rattle.rv_merge.specs.Refusals.{AreTwo, HasFlaw, IsUnread}
 use Rattle.rv_merge.proofs.OneList.{HasNumbers, numbers_of_shard}
 use Rattle.rv_merge.proofs.Slots.{filled_has, filled_other, length-filled, map_agree}
@@ -34,10 +34,10 @@ none_at X (suc count) zero = refl
 none_at X (suc count) (suc k) = none_at X count k
 
 pub holds_none : (texts : List (List ℕ)) (shard first : Shard) (sources : List (Option ℕ)) (slots : List (Option Row))
-    → IsOf (extent.Shard first) (text_at texts 0) → shard ≡ first → sources ≡ replicate first.shards None
+    → IsReportOf (extent.Shard first) (text_at texts 0) → shard ≡ first → sources ≡ replicate first.shards None
     → slots ≡ replicate first.jobs None → Holds texts 0 shard sources slots
 holds_none texts shard first sources slots of same a b = record {
-  first = subst (λ (s : Shard). IsOf (extent.Shard s) (text_at texts 0)) (sym same) of;
+  first = subst (λ (s : Shard). IsReportOf (extent.Shard s) (text_at texts 0)) (sym same) of;
   sources_long = ap length a ∙ length-replicate first.shards None ∙ sym (ap (λ (s : Shard). s.shards) same);
   slots_long = ap length b ∙ length-replicate first.jobs None ∙ sym (ap (λ (s : Shard). s.jobs) same);
   from = λ k at e.
@@ -73,7 +73,7 @@ module _ (texts : List (List ℕ)) (at : ℕ) (shard : Shard) (sources : List (O
   module _ (part : Shard) (numbers : List ℕ) (rows : List Row)
       (is : IsTextOf (record { extent = extent.Shard part; numbers = numbers; rows = rows }) (text_at texts at))
       (same : run_of part ≡ run_of shard) where
-    of : IsOf (extent.Shard (shard_in (run_of shard) part.number)) (text_at texts at)
+    of : IsReportOf (extent.Shard (shard_in (run_of shard) part.number)) (text_at texts at)
     of = record {
       report = record { extent = extent.Shard part; numbers = numbers; rows = rows };
       saved = is.saved;
@@ -171,8 +171,8 @@ module _ (texts : List (List ℕ)) (at : ℕ) (shard : Shard) (sources : List (O
             let mine = shard_in (run_of shard) part.number in
             record {
               within = omega arith;
-              of = subst (λ (j : ℕ). IsOf (extent.Shard (shard_in (run_of shard) j)) (text_at texts a)) number
-                  (subst (λ (j : ℕ). IsOf (extent.Shard mine) (text_at texts j)) found of);
+              of = subst (λ (j : ℕ). IsReportOf (extent.Shard (shard_in (run_of shard) j)) (text_at texts a)) number
+                  (subst (λ (j : ℕ). IsReportOf (extent.Shard mine) (text_at texts j)) found of);
             }
         | inr other ↦
             later k a
@@ -205,7 +205,7 @@ module _ (texts : List (List ℕ)) (at : ℕ) (shard : Shard) (sources : List (O
           source.within,
           record {
             shard = shard_in (run_of shard) part.number;
-            is = subst (λ (j : ℕ). IsOf (extent.Shard (shard_in (run_of shard) j)) (text_at texts earlier)) number
+            is = subst (λ (j : ℕ). IsReportOf (extent.Shard (shard_in (run_of shard) j)) (text_at texts earlier)) number
                 source.of;
             of = of;
             differ = differ;
@@ -223,7 +223,7 @@ read_some xs k o x within read is = get_or_default xs k None o within ∙ sym re
 
 -- a part of another run
 pub has_other_run : (texts : List (List ℕ)) (at : ℕ) (first part : Shard) (why : Flaw)
-    → IsOf (extent.Shard first) (text_at texts 0) → IsOf (extent.Shard part) (text_at texts at)
+    → IsReportOf (extent.Shard first) (text_at texts 0) → IsReportOf (extent.Shard part) (text_at texts at)
     → IsOtherRun why first part → HasFlaw texts at why
 has_other_run texts at first part flaw.OtherShards a b h =
     record { shard = first; other = part; is = a; of = b; differ = h }

@@ -15,7 +15,7 @@ use Rattle.rv_reports.specs.declared.saved.Shard.{Shard}
 use Rattle.rv_reports.specs.declared.saved.SavedReport.{SavedReport}
 use Rattle.rv_reports.specs.Saved.{IsSaved, are_stepped, fits, is_shard}
 use Rattle.rv_reports.proofs.Public.{same_reports}
-use Rattle.rv_merge.specs.Parts.{ArePartsIn, IsOf, IsPart, Run, run_of, shard_in, text_at}
+use Rattle.rv_merge.specs.Parts.{ArePartsIn, IsReportOf, IsPart, Run, run_of, shard_in, text_at}
 use Rattle.rv_merge.proofs.Slots.{same_by_get, under}
 use Rattle.rv_merge.proofs.Stepping.{shard_at, stepped_has}
 
@@ -63,18 +63,20 @@ numbers_of_shard s r saved is =
 
 -- ---- one text is that of one report
 
-pub one_report : (jobs others : Extent) (bytes : List ℕ) (x : IsOf jobs bytes) (y : IsOf others bytes)
+pub one_report : (jobs others : Extent) (bytes : List ℕ) (x : IsReportOf jobs bytes) (y : IsReportOf others bytes)
     → x.report ≡ y.report
 one_report jobs others bytes x y = same_reports x.report y.report x.saved y.saved (x.text ∙ sym y.text)
 
-pub one_extent : (jobs others : Extent) (bytes : List ℕ) → IsOf jobs bytes → IsOf others bytes → jobs ≡ others
+pub one_extent : (jobs others : Extent) (bytes : List ℕ) → IsReportOf jobs bytes → IsReportOf others bytes
+    → jobs ≡ others
 one_extent jobs others bytes x y =
     sym x.extent ∙ ap (λ (r : SavedReport). r.extent) (one_report jobs others bytes x y) ∙ y.extent
 
 same_shard : (s t : Shard) → extent.Shard s ≡ extent.Shard t → s ≡ t
 same_shard s t e = cc
 
-pub one_shard_of : (s t : Shard) (bytes : List ℕ) → IsOf (extent.Shard s) bytes → IsOf (extent.Shard t) bytes → s ≡ t
+pub one_shard_of : (s t : Shard) (bytes : List ℕ) → IsReportOf (extent.Shard s) bytes
+    → IsReportOf (extent.Shard t) bytes → s ≡ t
 one_shard_of s t bytes x y = same_shard s t (one_extent (extent.Shard s) (extent.Shard t) bytes x y)
 
 -- ---- the text that has a job

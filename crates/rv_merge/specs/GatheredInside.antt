@@ -13,7 +13,7 @@ use Rattle.rv_merge.specs.declared.error.MergeError.{MergeError}
 use Rattle.rv_merge.specs.declared.error.MergeError.TheVariants as error
 use Rattle.rv_merge.specs.declared.gathered.Gathered.{Gathered}
 use Rattle.rv_merge.specs.declared.part.Part.{Part}
-use Rattle.rv_merge.specs.Parts.{IsOf, Run, run_of, shard_in, text_at}
+use Rattle.rv_merge.specs.Parts.{IsReportOf, Run, run_of, shard_in, text_at}
 use Rattle.rv_merge.specs.Refusals.{IsNameTwice}
 
 -- ---- a part
@@ -62,7 +62,7 @@ present (Some row ∷ slots) = row ∷ present slots
 pub record IsTaken (run : Run) (sources : List (Option ℕ)) (slots : List (Option Row))
     (bytes : List ℕ) : Type 0 where
   pub n : ℕ
-  pub of : IsOf (extent.Shard (shard_in run n)) bytes
+  pub of : IsReportOf (extent.Shard (shard_in run n)) bytes
   pub noted : is_some (slice_index_or sources (n - 1) None) ≡ true
   pub has :
       map (λ m. slice_index_or slots (m - 1) None) of.report.numbers ≡ map Some of.report.rows
@@ -70,12 +70,12 @@ pub record IsTaken (run : Run) (sources : List (Option ℕ)) (slots : List (Opti
 -- the source of a shard is one of the texts so far, and that of the shard
 pub record IsSource (run : Run) (texts : List (List ℕ)) (count k at : ℕ) : Type 0 where
   pub within : at < count
-  pub of : IsOf (extent.Shard (shard_in run (k + 1))) (text_at texts at)
+  pub of : IsReportOf (extent.Shard (shard_in run (k + 1))) (text_at texts at)
 
 -- so many of the texts are taken; all are of the run of the first one's shard
 pub record Holds (texts : List (List ℕ)) (count : ℕ) (shard : Shard)
     (sources : List (Option ℕ)) (slots : List (Option Row)) : Type 0 where
-  pub first : IsOf (extent.Shard shard) (text_at texts 0)
+  pub first : IsReportOf (extent.Shard shard) (text_at texts 0)
   pub sources_long : length sources ≡ shard.shards
   pub slots_long : length slots ≡ shard.jobs
   pub from :

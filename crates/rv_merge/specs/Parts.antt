@@ -34,7 +34,7 @@ shard_in run n =
     record { jobs = run.jobs; number = n; shards = run.shards; stamp = run.stamp }
 
 -- the text is that of a report that can be, of these jobs
-pub record IsOf (jobs : Extent) (bytes : List ℕ) : Type 0 where
+pub record IsReportOf (jobs : Extent) (bytes : List ℕ) : Type 0 where
   pub report : SavedReport
   pub saved : IsSaved report
   pub text : saved_text report ≡ bytes
@@ -42,7 +42,7 @@ pub record IsOf (jobs : Extent) (bytes : List ℕ) : Type 0 where
 
 -- the text is that of the shard of a number, which has under each number the row of that job
 pub record IsPart (rows : List Row) (run : Run) (n : ℕ) (bytes : List ℕ) : Type 0 where
-  pub of : IsOf (extent.Shard (shard_in run n)) bytes
+  pub of : IsReportOf (extent.Shard (shard_in run n)) bytes
   pub has : map (λ m. slice_get rows (m - 1)) of.report.numbers ≡ map Some of.report.rows
 
 -- each text is a part of a run of these rows, and each of its shards is among them, whatever their

@@ -16,7 +16,7 @@ use Rattle.rv_merge.specs.declared.error.Flaw.{Flaw}
 use Rattle.rv_merge.specs.declared.error.Flaw.TheVariants as flaw
 use Rattle.rv_merge.specs.declared.error.MergeError.{MergeError}
 use Rattle.rv_merge.specs.declared.error.MergeError.TheVariants as error
-use Rattle.rv_merge.specs.Parts.{ArePartsIn, IsOf, Run, shard_in, text_at}
+use Rattle.rv_merge.specs.Parts.{ArePartsIn, IsReportOf, Run, shard_in, text_at}
 
 -- the answer is these rows, unless memory ran out
 abbrev pub Gives : List Row → Result (List Row) MergeError → Type 0
@@ -33,15 +33,15 @@ pub record IsUnread (place : ReadError) (bytes : List ℕ) : Type 0 where
 pub record Differ {X : Type 0} (what : Shard → X) (bytes others : List ℕ) : Type 0 where
   pub shard : Shard
   pub other : Shard
-  pub is : IsOf (extent.Shard shard) bytes
-  pub of : IsOf (extent.Shard other) others
+  pub is : IsReportOf (extent.Shard shard) bytes
+  pub of : IsReportOf (extent.Shard other) others
   pub differ : what shard ≡ what other → ⊥
 
 -- two texts are those of one shard, and are not the same
 pub record AreTwo (bytes others : List ℕ) : Type 0 where
   pub shard : Shard
-  pub is : IsOf (extent.Shard shard) bytes
-  pub of : IsOf (extent.Shard shard) others
+  pub is : IsReportOf (extent.Shard shard) bytes
+  pub of : IsReportOf (extent.Shard shard) others
   pub differ : bytes ≡ others → ⊥
 
 -- the name of the row at a place is that of a row before it
@@ -58,7 +58,7 @@ pub record HasNameTwice (texts : List (List ℕ)) (bytes : List ℕ) (n : ℕ) :
   pub shard : Shard
   pub parts : ArePartsIn run rows texts
   pub twice : IsNameTwice rows (n - 1)
-  pub of : IsOf (extent.Shard shard) bytes
+  pub of : IsReportOf (extent.Shard shard) bytes
   pub place : ℕ
   pub there : slice_get of.report.numbers place ≡ Some n
 
@@ -66,8 +66,8 @@ pub record HasNameTwice (texts : List (List ℕ)) (bytes : List ℕ) (n : ℕ) :
 abbrev pub HasFlaw : List (List ℕ) → ℕ → Flaw → Type 0
 HasFlaw texts at (flaw.Line line) = IsUnread (read.Line line) (text_at texts at)
 HasFlaw texts at flaw.CutOff = IsUnread read.CutOff (text_at texts at)
-HasFlaw texts at flaw.Whole = IsOf extent.Whole (text_at texts at)
-HasFlaw texts at flaw.Choice = (jobs : ℕ) × IsOf (extent.Choice jobs) (text_at texts at)
+HasFlaw texts at flaw.Whole = IsReportOf extent.Whole (text_at texts at)
+HasFlaw texts at flaw.Choice = (jobs : ℕ) × IsReportOf (extent.Choice jobs) (text_at texts at)
 HasFlaw texts at flaw.OtherShards =
     Differ (λ (s : Shard). s.shards) (text_at texts 0) (text_at texts at)
 HasFlaw texts at flaw.OtherJobs =
@@ -78,14 +78,17 @@ HasFlaw texts at (flaw.OtherText earlier) =
     (earlier < at) × AreTwo (text_at texts earlier) (text_at texts at)
 HasFlaw texts at (flaw.NameTwice n) = HasNameTwice texts (text_at texts at) n
 
+-- the text is that of a shard of a run, but not of the shard of a number
+abbrev pub IsOtherPart : Run → ℕ → List ℕ → Type 0
+IsOtherPart run n bytes =
+    (other : ℕ) × IsReportOf (extent.Shard (shard_in run other)) bytes × (other ≡ n → ⊥)
+
 -- each text is that of a shard of one run, and none is that of the shard of a number
 pub record IsMissing (n : ℕ) (texts : List (List ℕ)) : Type 0 where
   pub run : Run
   pub low : 0 < n
   pub high : n ≤ run.shards
-  pub each :
-      All (λ bytes. (other : ℕ) × IsOf (extent.Shard (shard_in run other)) bytes × (other ≡ n → ⊥))
-      texts
+  pub each : All (IsOtherPart run n) texts
   pub some : 0 < length texts
 
 -- what an error says is so
