@@ -2,8 +2,12 @@
 # What bash offers behind `rvtest` and `rvfleet`: their commands, the options of each, and files where a path stands.
 _rvfleet_options() {
     case "$1 $2" in
-        'rvtest run') echo '--only --match --failed --workers --group --root --report --lenient --verbose --quiet --help' ;;
+        'rvtest run') echo '--only --match --failed --shard --stamp --workers --group --root --report --junit --lenient --verbose --quiet --last --help' ;;
+        'rvtest explain') echo '--last --root --help' ;;
         'rvtest check') echo '--root --help' ;;
+        'rvtest merge') echo '--report --junit --lenient --help' ;;
+        'rvtest diff') echo '--steps --help' ;;
+        'rvtest show') echo '--junit --lenient --help' ;;
         'rvfleet run') echo '--workers --group --help' ;;
         'rvfleet one') echo '--budget --input-hex --help' ;;
         'rvfleet raw') echo '--budget --help' ;;
@@ -11,7 +15,7 @@ _rvfleet_options() {
 }
 
 _rvfleet() {
-    local word=$2 before=$3 commands='run check --version --help'
+    local word=$2 before=$3 commands='run explain check merge diff show --version --help'
     COMPREPLY=()
     [ "${1##*/}" = rvtest ] || commands='run one raw --help'
     if [ "$COMP_CWORD" = 1 ]; then
@@ -20,7 +24,7 @@ _rvfleet() {
         mapfile -t COMPREPLY < <(compgen -W "$(_rvfleet_options "${1##*/}" "${COMP_WORDS[1]}")" -- "$word")
     elif [ "$before" = --root ]; then
         mapfile -t COMPREPLY < <(compgen -d -- "$word")
-    elif [[ " --only --match --workers --group --budget --input-hex " != *" $before "* ]]; then
+    elif [[ " --only --match --shard --stamp --workers --group --last --budget --input-hex " != *" $before "* ]]; then
         mapfile -t COMPREPLY < <(compgen -f -- "$word")
     fi
 }
