@@ -145,7 +145,7 @@ build() {
         not_had "$log cannot be written"
     fi
     mapfile -t names < <(crates)
-    echo "$asked: builds and proves the ${#names[@]} crates of both programs, once for these sources: about 25 minutes on four cores; $log has what the build says" >&2
+    echo "$asked: builds and proves the ${#names[@]} crates of both programs, once for these sources: some 40 minutes on four cores; $log has what the build says" >&2
     for signal in INT TERM HUP PIPE; do
         # shellcheck disable=SC2064 # the signal's name now
         trap "end_build $signal" "$signal"
