@@ -2,7 +2,7 @@
 """Merges a part that is cut at each byte, a part of which each byte is changed in turn, and parts of 16 MB, and compares with what
 a reader of the text's form says, which is written anew here.
 
-    checks/merge.py RVTEST FIRST SECOND [--quick]
+    checks/merge.py RVTEST FIRST SECOND
 """
 import os
 import re
@@ -146,10 +146,9 @@ def check_long(rvtest):
 
 
 def main():
-    rvtest, first, second, *more = sys.argv[1:]
+    rvtest, first, second = sys.argv[1:]
     check_each_byte(rvtest, first, second)
-    if more != ["--quick"]:
-        check_long(rvtest)
+    check_long(rvtest)
 
 
 main()
