@@ -1,7 +1,7 @@
 //! `rv_views`: JUnit's XML of reports, the differences of two, and what is shown of one, by the lines of tables. The
 //! texts of reports are those of `reports`, and so are bars and `$`.
 
-ghost use Rattle.std.specs.Prelude.{◌≡◌, IfOk, length};
+ghost use Rattle.std.specs.Prelude.{◌<◌, ◌^◌, IfOk, length};
 
 use crate::reports::bytes_of;
 use rv_files::StreamSink;
@@ -15,11 +15,13 @@ use std::test::Fail;
 
 pub(crate) mod texts;
 
-fn report(alloc: Global, text: &str) -> Result<SavedReport, Fail> {
+fn report(alloc: Global, text: &str) -> Result<SavedReport, Fail>
+    ensures { IfOk result (λ report. length report.rows < 2 ^ 32) }
+{
     let bytes = bytes_of(alloc, text)?;
     match read_report(alloc, bytes.as_slice()) {
-        Ok(report) => Ok(report),
-        Err(_) => Err(Fail::new(format_args!("{text}: is no report"))),
+        Ok(report) if report.rows.as_slice().len() <= 4_096 => Ok(report),
+        _ => Err(Fail::new(format_args!("{text}: is no report"))),
     }
 }
 
@@ -52,19 +54,10 @@ fn shown(alloc: Global, rule: Rule, text: &str) -> Result<Vec<u8>, Fail> {
 const HEAD: &str = "\
 <?xml version=\"1.0\" encoding=\"UTF-8\"?>\n<testsuites>\n<testsuite name=\"&lt;&quot;&#9;\" ";
 
-fn first_places(alloc: Global, count: usize) -> Result<Vec<usize>, AllocError>
-    ensures { IfOk result (λ places. length places.items ≡ count) }
-{
-    let mut places = Vec::new(alloc);
-    for place in 0..count {
-        places.push(place)?;
-    }
-    Ok(places)
-}
-
 fn junit_of(alloc: Global, rule: Rule, report: &SavedReport) -> Result<Vec<u8>, WriteError> {
     let rows = report.rows.as_slice();
-    let places = first_places(alloc, rows.len())?;
+    // Failed lines are the same at every place.
+    let places = vec![in alloc; 0usize; rows.len()]?;
     let mut out = StreamSink::new(Vec::new(alloc));
     let telling = FailedLines { rule };
     write_junit(

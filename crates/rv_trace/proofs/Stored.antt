@@ -1,6 +1,6 @@
 -- What a store is said to have written stands in memory behind it.
-use Rattle.std.proofs.Common.{◌≡◌, ◌≢◌, ◌∙◌, ◌+◌, ◌*◌, ◌/◌, ◌%◌, ◌^◌, ◌==◌, ◌<◌, ℕ, Bool, true, false, cond, sym, ap, refl}
-use Rattle.std.proofs.Common.{arith, eqb, unwrap_or, Option, Some, None, Result, Ok, Err}
+use Rattle.std.proofs.Common.{◌≡◌, ◌≢◌, ◌∙◌, ◌+◌, ◌*◌, ◌/◌, ◌%◌, ◌^◌, ◌==◌, ℕ, Bool, true, false, cond, sym, ap, refl}
+use Rattle.std.proofs.Common.{arith, eqb, unwrap_or, Some, Result, Ok, Err}
 use Rattle.std.proofs.lemmas.Bool.{eq-eqb, ne_eqb}
 use Rattle.std.specs.Cmp.{nat_cmp_total, unsigned_tied}
 use Rattle.std.specs.Ordering.{nat_cmp}
@@ -23,7 +23,7 @@ use Rattle.rv_trace.specs.declared.aim.Access.{Access}
 use Rattle.rv_trace.specs.declared.aim.Access.TheVariants as access
 use Rattle.rv_trace.specs.declared.aim.Aim.TheVariants as aim
 use Rattle.rv_trace.specs.declared.step.Wrote.TheVariants as wrote
-use Rattle.rv_trace.specs.Steps.{access_of, aim_by, aim_of, instr_at, traced, wrote_in}
+use Rattle.rv_trace.specs.Steps.{access_of, aim_by, aim_of, traced, wrote_in}
 use Rattle.rv_trace.proofs.Fetched.{code_is_fetched}
 
 -- ---- memory
