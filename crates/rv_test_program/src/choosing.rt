@@ -104,7 +104,8 @@ fn pattern_of(alloc: Global, text: &str) -> Result<Regex, Stop> {
         Err(error) => {
             let what = format!(in alloc; "invalid value '{text}' for '--match <REGEX>': {error}")?;
             let command = run_command(alloc)?;
-            Err(Stop::Words(refusal(command, ErrorKind::ValueValidation, what.as_str())))
+            let error = refusal(command, ErrorKind::ValueValidation, what.as_str());
+            Err(Stop::of_words(alloc, &error))
         }
     }
 }

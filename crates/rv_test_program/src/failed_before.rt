@@ -8,7 +8,6 @@ use crate::messages::{say, told_of};
 use crate::stop::Stop;
 use crate::streams::Streams;
 use rv_jobs::Job;
-use rv_jobs::limits::MOST_JOBS;
 use rv_lines::{Rule, has_passed, push_number, push_shown, push_text};
 use rv_reports::{ReadError, SavedReport, read_report};
 use rv_rows::Row;
@@ -25,9 +24,7 @@ pub(crate) fn read_saved<R: Files>(
 {
     let text = read_file(files, alloc, path, usize::MAX)?;
     match read_report(alloc, text.as_slice()) {
-        Ok(report) if report.rows.as_slice().len() <= MOST_JOBS => Ok(report),
-        // No report is read with more rows than a list has jobs.
-        Ok(_) => Err(Stop::Refused(told_of(alloc, path, "more rows than jobs")?)),
+        Ok(report) => Ok(report),
         Err(ReadError::OutOfMemory) => Err(Stop::OutOfMemory),
         Err(ReadError::CutOff) => Err(Stop::Refused(told_of(
             alloc,

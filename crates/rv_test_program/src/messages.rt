@@ -4,8 +4,6 @@ ghost use Rattle.std.specs.Prelude.{◌≡◌, ◌≤◌};
 
 use crate::stop::Stop;
 use crate::streams::Streams;
-use clap::Error;
-use clap::error::ErrorKind;
 use rv_files::StreamSink;
 use rv_fleet::put_all;
 use rv_lines::{push_shown, push_text};
@@ -43,11 +41,11 @@ pub(crate) fn put_out<S: Streams>(streams: &S, text: &[u8]) -> Result<(), Stop> 
 }
 
 /// Says why a command ended before its work was done, and gives the status.
-pub(crate) fn stopped<S: Streams>(alloc: Global, streams: &S, stop: Stop) -> u8
+pub(crate) fn stopped<S: Streams>(streams: &S, stop: Stop) -> u8
     ensures { result ≤ 3 }
 {
     match stop {
-        Stop::Words(error) => words_status(alloc, streams, &error),
+        Stop::Shown(text) => shown(streams, text.as_slice()),
         Stop::Refused(text) => {
             say(streams, text.as_slice());
             REFUSED
@@ -55,7 +53,7 @@ pub(crate) fn stopped<S: Streams>(alloc: Global, streams: &S, stop: Stop) -> u8
         Stop::Failed(text) => failed(streams, text.as_slice()),
         Stop::OutOfMemory => failed(streams, b"rvtest: out of memory\n"),
         Stop::NoWorker => failed(streams, b"rvtest: no thread could be started\n"),
-        Stop::WriteFailed => failed(streams, b"rvtest: the results: write failed\n"),
+        Stop::WriteFailed => write_failed(streams),
     }
 }
 
@@ -66,22 +64,18 @@ fn failed<S: Streams>(streams: &S, text: &[u8]) -> u8
     FAILED
 }
 
-// Help and the version go to standard output, and are no refusals.
-fn words_status<S: Streams>(alloc: Global, streams: &S, error: &Error) -> u8
+// Help and the version go to standard output.
+fn shown<S: Streams>(streams: &S, text: &[u8]) -> u8
     ensures { result ≤ 3 }
 {
-    if error.kind() == ErrorKind::OutOfMemory {
-        return failed(streams, b"rvtest: out of memory\n");
-    }
-    let Ok(text) = error.to_string(alloc) else {
-        return failed(streams, b"rvtest: out of memory\n");
-    };
-    if error.use_stderr() {
-        say(streams, text.as_bytes());
-        return REFUSED;
-    }
-    match put_out(streams, text.as_bytes()) {
+    match put_out(streams, text) {
         Ok(()) => DONE,
-        Err(_) => failed(streams, b"rvtest: the results: write failed\n"),
+        Err(_) => write_failed(streams),
     }
+}
+
+fn write_failed<S: Streams>(streams: &S) -> u8
+    ensures { result ≡ FAILED }
+{
+    failed(streams, b"rvtest: the results: write failed\n")
 }

@@ -31,7 +31,7 @@ pub fn run_test_words<'a, R: Threads + Wait + Sync + Files + Clock, T: AsStr, S:
 {
     match answer(rt, alloc, words, streams) {
         Ok(status) => status,
-        Err(stop) => stopped(alloc, streams, stop),
+        Err(stop) => stopped(streams, stop),
     }
 }
 
@@ -51,7 +51,7 @@ fn answer<'a, R: Threads + Wait + Sync + Files + Clock, T: AsStr, S: Streams>(
         Ok(Some(Asked::Diff(asked))) => diff(rt, alloc, streams, asked),
         Ok(Some(Asked::Show(asked))) => show(rt, alloc, streams, asked),
         Ok(None) => Ok(REFUSED),
-        Err(error) => Err(Stop::Words(error)),
+        Err(error) => Err(Stop::of_words(alloc, &error)),
     }
 }
 

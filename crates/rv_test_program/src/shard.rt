@@ -87,5 +87,6 @@ fn bad_stamp(alloc: Global, stamp: &str) -> Result<Stop, AllocError> {
 
 fn refused(alloc: Global, what: &str) -> Result<Stop, AllocError> {
     let command = run_command(alloc)?;
-    Ok(Stop::Words(refusal(command, ErrorKind::ValueValidation, what)))
+    let error = refusal(command, ErrorKind::ValueValidation, what);
+    Ok(Stop::of_words(alloc, &error))
 }

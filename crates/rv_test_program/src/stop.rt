@@ -1,14 +1,15 @@
 //! Why a command ends before its work is done.
 
 use clap::Error;
+use clap::error::ErrorKind;
 use rv_stream::StreamError;
-use std::alloc::AllocError;
+use std::alloc::{AllocError, Global};
 
 /// Why a command ends before its work is done.
 #[derive(Drop)]
 pub(crate) enum Stop {
-    /// The words are refused: an error of `clap`, or of its form. Help and the version are such errors, too.
-    Words(Error),
+    /// Help or the version is asked for: these lines.
+    Shown(Vec<u8>),
     /// What is asked for is refused, as these lines say.
     Refused(Vec<u8>),
     /// The system failed, as these lines say.
@@ -19,6 +20,23 @@ pub(crate) enum Stop {
     NoWorker,
     /// A put to the stream of results failed.
     WriteFailed,
+}
+
+impl Stop {
+    /// What an error of `clap`, or of its form, comes to. Help and the version are such errors, too.
+    pub(crate) fn of_words(alloc: Global, error: &Error) -> Stop {
+        if error.kind() == ErrorKind::OutOfMemory {
+            return Stop::OutOfMemory;
+        }
+        let Ok(text) = error.to_string(alloc) else {
+            return Stop::OutOfMemory;
+        };
+        if error.use_stderr() {
+            Stop::Refused(text.into_bytes())
+        } else {
+            Stop::Shown(text.into_bytes())
+        }
+    }
 }
 
 impl From<AllocError> for Stop {

@@ -1,7 +1,7 @@
 //! The command line of `rvtest`, for `clap`.
 
-ghost use Rattle.std.specs.Prelude.{◌≡◌, IfOk, codes, false};
-ghost use Rattle.clap.specs.Words.{app_of, new_app};
+ghost use Rattle.std.specs.Prelude.{◌≡◌, IfOk, IsOkAnd, codes, false};
+ghost use Rattle.clap.specs.Words.{app_of, new_app, with_subcommand};
 ghost use Rattle.clap.specs.declared.builder.command.Command.TheViews.{out-Command};
 ghost use Rattle.rv_test_words.specs.Words.{check_app, diff_app, explain_app, list_app, merge_app};
 ghost use Rattle.rv_test_words.specs.Words.{run_app, show_app, test_app, top_app, with_choice};
@@ -9,10 +9,7 @@ ghost use Rattle.rv_test_words.specs.Words.{with_files, with_machine, with_repor
 ghost use Rattle.rv_test_words.specs.Words.{with_runs, with_shard};
 
 use crate::arguments::{
-    failed_argument, group_argument, junit_argument, last_argument, lenient_argument,
-    list_argument, match_argument, name_argument, new_argument, old_argument, only_argument,
-    parts_argument, quiet_argument, report_argument, root_argument, saved_argument, shard_argument,
-    shown_argument, stamp_argument, steps_argument, verbose_argument, workers_argument,
+    again, flag, group, junit, last, lenient, option, parts, root, shown, word, workers,
 };
 use clap::Command;
 use std::alloc::{AllocError, Global};
@@ -40,20 +37,29 @@ fn top_command<'a>(alloc: Global) -> Result<Command<'a>, AllocError>
 fn with_runs<'a>(alloc: Global, command: Command<'a>) -> Result<Command<'a>, AllocError>
     ensures { IfOk result (λ more. app_of more ≡ with_runs (app_of command.entry)) }
 {
-    command
-        .subcommand(run_command(alloc)?)?
-        .subcommand(explain_command(alloc)?)?
-        .subcommand(check_command(alloc)?)
+    let command = with_sub(command, run_command(alloc))?;
+    let command = with_sub(command, explain_command(alloc))?;
+    with_sub(command, check_command(alloc))
 }
 
 // The commands that read reports.
 fn with_reports<'a>(alloc: Global, command: Command<'a>) -> Result<Command<'a>, AllocError>
     ensures { IfOk result (λ more. app_of more ≡ with_reports (app_of command.entry)) }
 {
-    command
-        .subcommand(merge_command(alloc)?)?
-        .subcommand(diff_command(alloc)?)?
-        .subcommand(show_command(alloc)?)
+    let command = with_sub(command, merge_command(alloc))?;
+    let command = with_sub(command, diff_command(alloc))?;
+    with_sub(command, show_command(alloc))
+}
+
+// A command with one more below it.
+fn with_sub<'a>(
+    command: Command<'a>,
+    below: Result<Command<'a>, AllocError>,
+) -> Result<Command<'a>, AllocError>
+    ensures { IfOk result (λ more. IsOkAnd below.entry (λ sub. (out-Command sub).has_globals ≡ false
+        → app_of more ≡ with_subcommand (app_of command.entry) (app_of sub).top)) }
+{
+    command.subcommand(below?)
 }
 
 // A command of a job list.
@@ -63,7 +69,7 @@ fn list_command<'a>(alloc: Global, name: &'a str, about: &'a str) -> Result<Comm
 {
     Command::new(alloc, name)
         .about(about)
-        .arg(list_argument(alloc))
+        .arg(word(alloc, "list", "LIST", "Path of the job list"))
 }
 
 /// The command `rvtest run`, whose usage a refusal of its words shows.
@@ -84,9 +90,9 @@ fn explain_command<'a>(alloc: Global) -> Result<Command<'a>, AllocError>
 {
     let about = "Runs one job, and shows how it ended and came there";
     list_command(alloc, "explain", about)?
-        .arg(name_argument(alloc))?
-        .arg(shown_argument(alloc))?
-        .arg(root_argument(alloc))
+        .arg(word(alloc, "name", "NAME", "Name of the job"))?
+        .arg(shown(alloc))?
+        .arg(root(alloc))
 }
 
 fn check_command<'a>(alloc: Global) -> Result<Command<'a>, AllocError>
@@ -94,7 +100,7 @@ fn check_command<'a>(alloc: Global) -> Result<Command<'a>, AllocError>
         (app_of command ≡ check_app) × ((out-Command command).has_globals ≡ false)) }
 {
     let about = "Says all that is wrong with a list and its files, and runs nothing";
-    list_command(alloc, "check", about)?.arg(root_argument(alloc))
+    list_command(alloc, "check", about)?.arg(root(alloc))
 }
 
 /// The command `rvtest merge`, whose usage a refusal of its words shows.
@@ -105,7 +111,7 @@ pub fn merge_command<'a>(alloc: Global) -> Result<Command<'a>, AllocError>
     let command = Command::new(alloc, "merge")
         .about("Makes the whole report of the parts of one run")
         .bin_name("rvtest merge")?
-        .arg(parts_argument(alloc))?;
+        .arg(parts(alloc))?;
     with_files(alloc, command)
 }
 
@@ -115,9 +121,9 @@ fn diff_command<'a>(alloc: Global) -> Result<Command<'a>, AllocError>
 {
     Command::new(alloc, "diff")
         .about("Says in which jobs two reports differ")
-        .arg(old_argument(alloc))?
-        .arg(new_argument(alloc))?
-        .arg(steps_argument(alloc))
+        .arg(word(alloc, "old", "OLD", "Path of the report that is compared with"))?
+        .arg(word(alloc, "new", "NEW", "Path of the report that is compared"))?
+        .arg(flag(alloc, "steps", "Compares steps too, and where faults were"))
 }
 
 fn show_command<'a>(alloc: Global) -> Result<Command<'a>, AllocError>
@@ -126,9 +132,9 @@ fn show_command<'a>(alloc: Global) -> Result<Command<'a>, AllocError>
 {
     Command::new(alloc, "show")
         .about("Shows what failed in a report")
-        .arg(saved_argument(alloc))?
-        .arg(junit_argument(alloc))?
-        .arg(lenient_argument(alloc))
+        .arg(word(alloc, "report", "REPORT", "Path of a report"))?
+        .arg(junit(alloc))?
+        .arg(lenient(alloc))
 }
 
 // The arguments that choose jobs.
@@ -138,9 +144,9 @@ fn with_choice<'a>(alloc: Global, command: Command<'a>) -> Result<Command<'a>, A
         × ((out-Command more).has_globals ≡ false)) }
 {
     command
-        .arg(only_argument(alloc))?
-        .arg(match_argument(alloc))?
-        .arg(failed_argument(alloc))
+        .arg(again(alloc, "only", "NAME", "Chooses the job of this name; may come again"))?
+        .arg(option(alloc, "match", "REGEX", "Chooses the jobs in whose names it is found"))?
+        .arg(option(alloc, "failed", "REPORT", "Chooses the jobs that failed in a report"))
 }
 
 // The arguments of one part of a list.
@@ -150,8 +156,8 @@ fn with_shard<'a>(alloc: Global, command: Command<'a>) -> Result<Command<'a>, Al
         × ((out-Command more).has_globals ≡ false)) }
 {
     command
-        .arg(shard_argument(alloc))?
-        .arg(stamp_argument(alloc))
+        .arg(option(alloc, "shard", "K/N", "Runs the K-th of N parts of the list"))?
+        .arg(option(alloc, "stamp", "TEXT", "Says which run the part is of; else a digest of the list"))
 }
 
 // The arguments of threads and folders.
@@ -161,9 +167,9 @@ fn with_machine<'a>(alloc: Global, command: Command<'a>) -> Result<Command<'a>, 
         × ((out-Command more).has_globals ≡ false)) }
 {
     command
-        .arg(workers_argument(alloc))?
-        .arg(group_argument(alloc))?
-        .arg(root_argument(alloc))
+        .arg(workers(alloc))?
+        .arg(group(alloc))?
+        .arg(root(alloc))
 }
 
 // The arguments of what is written, and by which rule jobs fail.
@@ -173,9 +179,9 @@ fn with_files<'a>(alloc: Global, command: Command<'a>) -> Result<Command<'a>, Al
         × ((out-Command more).has_globals ≡ false)) }
 {
     command
-        .arg(report_argument(alloc))?
-        .arg(junit_argument(alloc))?
-        .arg(lenient_argument(alloc))
+        .arg(option(alloc, "report", "FILE", "Writes the report to this file; - is standard output"))?
+        .arg(junit(alloc))?
+        .arg(lenient(alloc))
 }
 
 // The arguments of what is shown.
@@ -185,7 +191,7 @@ fn with_results<'a>(alloc: Global, command: Command<'a>) -> Result<Command<'a>, 
         × ((out-Command more).has_globals ≡ false)) }
 {
     command
-        .arg(verbose_argument(alloc))?
-        .arg(quiet_argument(alloc))?
-        .arg(last_argument(alloc))
+        .arg(flag(alloc, "verbose", "Shows the jobs that pass, too; not beside --quiet"))?
+        .arg(flag(alloc, "quiet", "Shows the last line alone; not beside --verbose"))?
+        .arg(last(alloc))
 }

@@ -10,8 +10,8 @@ returns c =
     let only = again_rule (codes "only") in
     let pattern = option_rule (codes "match") in
     let first = with_argument c.args.command _ app only (Ok c.in_ok-arg.field-0) c.in_ok-arg.ensures (refl, c.requires)
-    c.only_argument.ensures in
+    c.again.ensures in
     let second = with_argument c.in_ok-arg.field-0 _ (with_rule app only) pattern (Ok c.in_ok-arg-2.field-0)
-    c.in_ok-arg-2.ensures first c.match_argument.ensures in
+    c.in_ok-arg-2.ensures first c.option.ensures in
     with_argument c.in_ok-arg-2.field-0 _ (with_rule (with_rule app only) pattern) (option_rule (codes "failed"))
-    c.arg-3.result c.arg-3.ensures second c.failed_argument.ensures
+    c.arg-3.result c.arg-3.ensures second c.option-2.ensures

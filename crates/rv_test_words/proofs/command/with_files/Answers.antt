@@ -10,8 +10,8 @@ returns c =
     let report = option_rule (codes "report") in
     let junit = option_rule (codes "junit") in
     let first = with_argument c.args.command _ app report (Ok c.in_ok-arg.field-0) c.in_ok-arg.ensures
-    (refl, c.requires) c.report_argument.ensures in
+    (refl, c.requires) c.option.ensures in
     let second = with_argument c.in_ok-arg.field-0 _ (with_rule app report) junit (Ok c.in_ok-arg-2.field-0)
-    c.in_ok-arg-2.ensures first c.junit_argument.ensures in
+    c.in_ok-arg-2.ensures first c.junit.ensures in
     with_argument c.in_ok-arg-2.field-0 _ (with_rule (with_rule app report) junit) (flag_rule (codes "lenient"))
-    c.arg-3.result c.arg-3.ensures second c.lenient_argument.ensures
+    c.arg-3.result c.arg-3.ensures second c.lenient.ensures

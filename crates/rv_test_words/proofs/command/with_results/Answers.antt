@@ -10,8 +10,8 @@ returns c =
     let verbose = flag_rule (codes "verbose") in
     let quiet = flag_rule (codes "quiet") in
     let first = with_argument c.args.command _ app verbose (Ok c.in_ok-arg.field-0) c.in_ok-arg.ensures
-    (refl, c.requires) c.verbose_argument.ensures in
+    (refl, c.requires) c.flag.ensures in
     let second = with_argument c.in_ok-arg.field-0 _ (with_rule app verbose) quiet (Ok c.in_ok-arg-2.field-0)
-    c.in_ok-arg-2.ensures first c.quiet_argument.ensures in
+    c.in_ok-arg-2.ensures first c.flag-2.ensures in
     with_argument c.in_ok-arg-2.field-0 _ (with_rule (with_rule app verbose) quiet) last_rule
-    c.arg-3.result c.arg-3.ensures second c.last_argument.ensures
+    c.arg-3.result c.arg-3.ensures second c.last.ensures
