@@ -9,7 +9,10 @@ use crate::views::texts::{
     CONSOLES, DIFFERENCES, DIFFERENCES_WITH_STEPS, LENIENT_SUITES, SHOWN_LENIENTLY, SHOWN_REPORTS,
     SUITES,
 };
-use crate::words::{self, BAD_WORDS, GOOD_WORDS, SHOWN};
+use crate::words::good::GOOD_WORDS;
+use crate::words::refused::BAD_WORDS;
+use crate::words::shown::SHOWN;
+use crate::words;
 use crate::{reports, views};
 use samples::cell_of;
 use std::alloc::Global;

@@ -1,11 +1,13 @@
 //! The parts of JUnit's XML.
 
 ghost use Rattle.std.specs.Prelude.{◌≡◌, ◌++◌, OnOk, count_by, position, string_bytes};
+ghost use Rattle.std.specs.Fmt.{decimal};
 ghost use Rattle.rv_lines.specs.ConsoleTail.{is_feed};
 ghost use Rattle.rv_views.specs.Junit.{attribute, begin_text, case_text, end_text, first_line, is_error, is_failure};
 ghost use Rattle.rv_views.specs.Junit.{number_attribute, output_text, problem_name, problem_or_none, problem_text};
 
 use crate::xml::{Within, push_escaped};
+use itoa::Buffer;
 use rv_lines::{Rule, has_passed};
 use rv_rows::{Row, is_run};
 use std::alloc::{AllocError, Global};
@@ -36,7 +38,18 @@ fn push_number(text: &mut String, name: &str, number: usize) -> Result<(), Alloc
     ensures { OnOk result (string_bytes text.new
         ≡ string_bytes text.old ++ number_attribute name.now number) }
 {
-    write!(text, " {name}=\"{number}\"")
+    text.push_str(" ")?;
+    text.push_str(name)?;
+    text.push_str("=\"")?;
+    push_decimal(text, number as u64)?;
+    text.push_str("\"")
+}
+
+fn push_decimal(text: &mut String, number: u64) -> Result<(), AllocError>
+    ensures { OnOk result (string_bytes text.new ≡ string_bytes text.old ++ decimal number) }
+{
+    let mut buffer = Buffer::new();
+    text.push_str(buffer.format(number))
 }
 
 fn failure_count(rule: Rule, rows: &[Row]) -> usize
@@ -127,11 +140,14 @@ fn push_problem(alloc: Global, text: &mut String, row: &Row, lines: &[u8]) -> Re
         ≡ string_bytes text.old ++ problem_text row.now lines.now) }
 {
     let name = problem_name(row);
-    write!(text, "<{name}")?;
+    text.push_str("<")?;
+    text.push_str(name)?;
     push_attribute(alloc, text, "message", first_line(lines))?;
     text.push_str(">")?;
     push_escaped(alloc, text, Within::Element, lines)?;
-    write!(text, "</{name}>\n")
+    text.push_str("</")?;
+    text.push_str(name)?;
+    text.push_str(">\n")
 }
 
 fn problem_name(row: &Row) -> &'static str
@@ -163,9 +179,9 @@ fn feed_place(text: &[u8]) -> Option<usize>
 fn push_output(alloc: Global, text: &mut String, row: &Row) -> Result<(), AllocError>
     ensures { OnOk result (string_bytes text.new ≡ string_bytes text.old ++ output_text row.now) }
 {
-    let steps = row.steps;
     text.push_str("<system-out>")?;
-    write!(text, "{steps} steps\n")?;
+    push_decimal(text, u64::from(row.steps))?;
+    text.push_str(" steps\n")?;
     push_escaped(alloc, text, Within::Element, row.console.as_slice())?;
     text.push_str("</system-out>\n")
 }
