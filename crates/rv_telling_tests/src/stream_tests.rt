@@ -62,6 +62,8 @@ fn a_list_over_files(rt: HostRuntime) -> Result<(), Fail> {
         last: None,
     };
     let found = told(&rt, alloc, &plan, &telling)?;
+    fs::remove_file(&rt, "kept.elf")?;
+    fs::remove_dir(&rt, "shelf")?;
     let found = str::from_utf8(found.as_slice()).ok().ok_or("text")?;
     assert_eq!(rt; found, TOLD);
     Ok(())

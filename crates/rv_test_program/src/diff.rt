@@ -38,9 +38,5 @@ pub(crate) fn diff<R: Files, S: Streams>(
 fn status_of(counts: Differing) -> u8
     ensures { result ≤ 1 }
 {
-    if counts.gone == 0 && counts.added == 0 && counts.changed == 0 {
-        DONE
-    } else {
-        SOME_FAIL
-    }
+    if counts.is_any() { SOME_FAIL } else { DONE }
 }
