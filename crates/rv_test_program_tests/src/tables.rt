@@ -12,8 +12,7 @@ use crate::views::texts::{
 use crate::words::good::GOOD_WORDS;
 use crate::words::refused::BAD_WORDS;
 use crate::words::shown::SHOWN;
-use crate::words;
-use crate::{reports, views};
+use crate::{reports, views, words};
 use samples::cell_of;
 use std::alloc::Global;
 use std::test::Fail;

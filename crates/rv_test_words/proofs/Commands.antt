@@ -10,7 +10,7 @@ use Rattle.rv_words.proofs.Public.{Is}
 pub with_below : (old : Command) (below : Result Command AllocError) (app under : App)
     (answer : Result Command AllocError)
     → IfOk answer (λ new. IsOkAnd below (λ sub. (out-Command sub).has_globals ≡ false
-        → app_of new ≡ with_subcommand (app_of old) (app_of sub).top))
+    → app_of new ≡ with_subcommand (app_of old) (app_of sub).top))
     → app_of old ≡ app → IfOk below (λ sub. Is under sub)
     → IfOk answer (λ new. app_of new ≡ with_subcommand app under.top)
 with_below old (Ok sub) app under (Ok new) adds is are =

@@ -22,8 +22,13 @@ pub(crate) fn word<'a>(alloc: Global, name: &'a str, value: &'a str, help: &'a s
 pub(crate) fn parts<'a>(alloc: Global) -> Arg<'a>
     ensures { (rule_of result ≡ parts_rule) × (result.global ≡ false) }
 {
-    word(alloc, "part", "PART", "Paths of the parts of one run, in any order")
-        .action(ArgAction::Append)
+    word(
+        alloc,
+        "part",
+        "PART",
+        "Paths of the parts of one run, in any order",
+    )
+    .action(ArgAction::Append)
 }
 
 /// An option with a value.

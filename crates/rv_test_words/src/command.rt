@@ -121,7 +121,12 @@ fn diff_command<'a>(alloc: Global) -> Result<Command<'a>, AllocError>
 {
     Command::new(alloc, "diff")
         .about("Says in which jobs two reports differ")
-        .arg(word(alloc, "old", "OLD", "Path of the report that is compared with"))?
+        .arg(word(
+            alloc,
+            "old",
+            "OLD",
+            "Path of the report that is compared with",
+        ))?
         .arg(word(alloc, "new", "NEW", "Path of the report that is compared"))?
         .arg(flag(alloc, "steps", "Compares steps too, and where faults were"))
 }
@@ -144,9 +149,24 @@ fn with_choice<'a>(alloc: Global, command: Command<'a>) -> Result<Command<'a>, A
         × ((out-Command more).has_globals ≡ false)) }
 {
     command
-        .arg(again(alloc, "only", "NAME", "Chooses the job of this name; may come again"))?
-        .arg(option(alloc, "match", "REGEX", "Chooses the jobs in whose names it is found"))?
-        .arg(option(alloc, "failed", "REPORT", "Chooses the jobs that failed in a report"))
+        .arg(again(
+            alloc,
+            "only",
+            "NAME",
+            "Chooses the job of this name; may come again",
+        ))?
+        .arg(option(
+            alloc,
+            "match",
+            "REGEX",
+            "Chooses the jobs in whose names it is found",
+        ))?
+        .arg(option(
+            alloc,
+            "failed",
+            "REPORT",
+            "Chooses the jobs that failed in a report",
+        ))
 }
 
 // The arguments of one part of a list.
@@ -156,8 +176,18 @@ fn with_shard<'a>(alloc: Global, command: Command<'a>) -> Result<Command<'a>, Al
         × ((out-Command more).has_globals ≡ false)) }
 {
     command
-        .arg(option(alloc, "shard", "K/N", "Runs the K-th of N parts of the list"))?
-        .arg(option(alloc, "stamp", "TEXT", "Says which run the part is of; else a digest of the list"))
+        .arg(option(
+            alloc,
+            "shard",
+            "K/N",
+            "Runs the K-th of N parts of the list",
+        ))?
+        .arg(option(
+            alloc,
+            "stamp",
+            "TEXT",
+            "Says which run the part is of; else a digest of the list",
+        ))
 }
 
 // The arguments of threads and folders.
@@ -179,7 +209,12 @@ fn with_files<'a>(alloc: Global, command: Command<'a>) -> Result<Command<'a>, Al
         × ((out-Command more).has_globals ≡ false)) }
 {
     command
-        .arg(option(alloc, "report", "FILE", "Writes the report to this file; - is standard output"))?
+        .arg(option(
+            alloc,
+            "report",
+            "FILE",
+            "Writes the report to this file; - is standard output",
+        ))?
         .arg(junit(alloc))?
         .arg(lenient(alloc))
 }
@@ -191,7 +226,15 @@ fn with_results<'a>(alloc: Global, command: Command<'a>) -> Result<Command<'a>, 
         × ((out-Command more).has_globals ≡ false)) }
 {
     command
-        .arg(flag(alloc, "verbose", "Shows the jobs that pass, too; not beside --quiet"))?
-        .arg(flag(alloc, "quiet", "Shows the last line alone; not beside --verbose"))?
+        .arg(flag(
+            alloc,
+            "verbose",
+            "Shows the jobs that pass, too; not beside --quiet",
+        ))?
+        .arg(flag(
+            alloc,
+            "quiet",
+            "Shows the last line alone; not beside --verbose",
+        ))?
         .arg(last(alloc))
 }
