@@ -24,17 +24,11 @@ pub(crate) enum Stop {
 
 impl Stop {
     /// What an error of `clap`, or of its form, comes to. Help and the version are such errors, too.
-    pub(crate) fn of_words(alloc: Global, error: &Error) -> Stop {
-        if error.kind() == ErrorKind::OutOfMemory {
-            return Stop::OutOfMemory;
-        }
-        let Ok(text) = error.to_string(alloc) else {
-            return Stop::OutOfMemory;
-        };
-        if error.use_stderr() {
-            Stop::Refused(text.into_bytes())
-        } else {
-            Stop::Shown(text.into_bytes())
+    pub(crate) fn of_words(alloc: Global, error: &Error) -> Result<Stop, AllocError> {
+        match error.kind() {
+            ErrorKind::OutOfMemory => Ok(Stop::OutOfMemory),
+            _ if error.use_stderr() => Ok(Stop::Refused(error.to_string(alloc)?.into_bytes())),
+            _ => Ok(Stop::Shown(error.to_string(alloc)?.into_bytes())),
         }
     }
 }
