@@ -140,7 +140,8 @@ fn push_path(bytes: &mut Vec<u8>, path: Option<&str>) -> Result<(), AllocError>
 }
 
 fn push_reference(bytes: &mut Vec<u8>, job: &Job) -> Result<(), AllocError>
-    ensures { OnOk result (bytes.new.items ≡ bytes.old.items ++ path_text job.now.expect_signature) }
+    ensures { OnOk result (bytes.new.items
+        ≡ bytes.old.items ++ path_text job.now.expect_signature) }
 {
     match &job.expect_signature {
         Some(path) => push_path(bytes, Some(path.as_str())),

@@ -186,7 +186,8 @@ fn push_console_and_way(
     text: &mut Vec<u8>,
 ) -> Result<(), AllocError>
     requires { place < length plan.now.jobs }
-    ensures { OnOk result ((d : AJob) → text.new.items ≡ text.old.items ++ (console_tail row.now.console
+    ensures { OnOk result ((d : AJob) → text.new.items
+        ≡ text.old.items ++ (console_tail row.now.console
         ++ way_if_asked plan.now (slice_index_or plan.now.jobs place d) row.now last)) }
 {
     push_console_tail(text, row.console.as_slice())?;

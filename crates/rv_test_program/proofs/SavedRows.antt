@@ -8,7 +8,7 @@ use Rattle.rv_reports.specs.Saved.{IsSaved, are_rising}
 rising_few : (before last : ℕ) (ns : List ℕ) → are_rising before last ns ≡ true → before ≤ last →
     length ns + before ≤ last
 unfolding are_rising
-rising_few before last [] rising within = within
+rising_few before last [] rising within = omega (arith, within)
 rising_few before last (n ∷ ns) rising within =
     let parts = and_parts _ _ rising in
     let more = and_parts _ _ parts.1 in

@@ -6,6 +6,7 @@ ghost use Rattle.rv_fleet.specs.Choices.{AreWithin};
 ghost use Rattle.rv_jobs.specs.Choices.{marked};
 ghost use Rattle.rv_rows.specs.Rows.{rows_at};
 ghost use Rattle.rv_test_program.specs.Runs.{IsStatusOf};
+ghost use Rattle.rv_test_run.specs.Shown.{status_of};
 
 use crate::choosing::marks_asked;
 use crate::list::{jobs_of, read_text};
@@ -63,7 +64,7 @@ pub(crate) fn run<R: Threads + Wait + Sync + Files + Clock, S: Streams>(
     }
 }
 
-// Runs the jobs that are marked. The files are read, and the report is opened, before the first of them runs.
+// Runs the jobs that are marked, once the files that they need are read.
 fn run_marked<'x, R: Threads + Wait + Sync + Files + Clock, S: Streams>(
     rt: &'x R,
     alloc: Global,
@@ -88,41 +89,39 @@ fn run_marked<'x, R: Threads + Wait + Sync + Files + Clock, S: Streams>(
         verbosity: verbosity_of(asked),
         last: asked.last,
     };
+    run_planned(rt, alloc, streams, asked, telling, places.as_slice(), shard)
+}
+
+// Runs the jobs at some places of a plan. Both files are opened before the first of them runs.
+fn run_planned<'x, R: Threads + Wait + Sync + Files + Clock, S: Streams>(
+    rt: &'x R,
+    alloc: Global,
+    streams: &S,
+    asked: &RunAsked<'x>,
+    telling: RowTelling<'_>,
+    places: &[usize],
+    shard: Option<Shard>,
+) -> Result<u8, Stop>
+    requires within { AreWithin telling.plan.now places.now }
+    requires rising { IsStrictlyIncreasing places.now }
+    ensures { IfOk result (λ status. status
+        ≡ status_of telling.rule (rows_at telling.plan.now places.now)) }
+{
     let outputs = Outputs::open(rt, alloc, asked.report, asked.junit)?;
     let is_beside = outputs.is_out();
-    let rows = match show(
-        rt,
-        alloc,
-        streams,
-        asked,
-        &telling,
-        places.as_slice(),
-        is_beside,
-    ) {
+    let rows = match show(rt, alloc, streams, asked, &telling, places, is_beside) {
         Ok(rows) => rows,
         Err(stop) => {
             outputs.abandon();
             return Err(stop);
         }
     };
-    let status = status_of(rule, rows.as_slice());
+    let status = status_of(telling.rule, rows.as_slice());
     let told = RowTelling {
-        plan: &plan,
-        unread: store.unread(),
-        rule,
         verbosity: Verbosity::Failures,
-        last: asked.last,
+        ..telling
     };
-    write(
-        alloc,
-        streams,
-        asked,
-        outputs,
-        &told,
-        places.as_slice(),
-        shard,
-        rows,
-    )?;
+    write(alloc, streams, asked, outputs, &told, places, shard, rows)?;
     Ok(status)
 }
 

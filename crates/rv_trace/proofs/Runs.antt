@@ -1,5 +1,6 @@
 -- Runs with smaller budgets: their states are those on the way of the whole run.
-use Rattle.std.proofs.Common.{◌≡◌, ◌∙◌, ◌≤◌, ◌<◌, ◌+◌, ◌-◌, ℕ, zero, suc, List, [], ◌∷◌, refl, sym, ap, arith, zero-add, add-one}
+use Rattle.std.proofs.Common.{◌≡◌, ◌∙◌, ◌≤◌, ◌<◌, ◌+◌, ◌-◌, ℕ, zero, suc, List, [], ◌∷◌}
+use Rattle.std.proofs.Common.{refl, sym, ap, arith, zero-add, add-one}
 use Rattle.std.proofs.Common.{Ok, Err, inl, inr, get_or, length, ◌++◌, append_assoc, false}
 use Rattle.std.proofs.lemmas.List.{append-nil}
 use Rattle.std.specs.Prelude.{◌⊎◌, is_ok}

@@ -38,7 +38,8 @@ pub type TracedSteps = Sequence<TracedStep>;
 /// The next instruction of a machine, which is done, if it completes.
 pub(crate) fn next_step(machine: &mut Machine) -> Option<TracedStep>
     ensures { MatchOption result
-        ((is_ok (step_of (state_of machine.old)) ≡ false) × (state_of machine.new ≡ state_of machine.old))
+        ((is_ok (step_of (state_of machine.old)) ≡ false)
+        × (state_of machine.new ≡ state_of machine.old))
         (λ step. (step_of (state_of machine.old) ≡ Ok (state_of machine.new))
         × (step ≡ traced (state_of machine.old) (state_of machine.new))) }
 {

@@ -42,5 +42,6 @@ pub fn rows_agree_where_no_line_is_due()
 /// Of two reports a line is due exactly where some job differs.
 pub fn jobs_differ_where_a_line_is_due()
     ensures { (steps : Bool) (old new : List Row)
-        → (length (difference_lines steps old new) == 0) ≡ (differing_count (differing steps old new) == 0) }
+        → (length (difference_lines steps old new) == 0)
+        ≡ (differing_count (differing steps old new) == 0) }
 {}

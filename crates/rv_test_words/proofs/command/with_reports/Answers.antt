@@ -9,8 +9,8 @@ returns c =
     let app = app_of c.args.command in
     let first = with_below c.args.command c.merge_command.result app merge_app (Ok c.in_ok-command.command)
     c.in_ok-command.ensures refl c.merge_command.ensures in
-    let second = with_below c.in_ok-command.command c.diff_command.result (with_subcommand app merge_app.top) diff_app
-    (Ok c.in_ok-command-2.command) c.in_ok-command-2.ensures first c.diff_command.ensures in
-    with_below c.in_ok-command-2.command c.show_command.result
-    (with_subcommand (with_subcommand app merge_app.top) diff_app.top) show_app c.with_sub-3.result c.with_sub-3.ensures
-    second c.show_command.ensures
+    let one = with_subcommand app merge_app.top in
+    let second = with_below c.in_ok-command.command c.diff_command.result one diff_app (Ok c.in_ok-command-2.command)
+    c.in_ok-command-2.ensures first c.diff_command.ensures in
+    with_below c.in_ok-command-2.command c.show_command.result (with_subcommand one diff_app.top) show_app
+    c.with_sub-3.result c.with_sub-3.ensures second c.show_command.ensures

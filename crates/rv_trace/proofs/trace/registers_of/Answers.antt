@@ -1,4 +1,5 @@
-use Rattle.std.proofs.Common.{◌<◌, ◌≢◌, ◌∙◌, sym, arith, length, get_or-set_other, get_or-set_same, below_more, length-set}
+use Rattle.std.proofs.Common.{◌<◌, ◌≢◌, ◌∙◌, sym, arith, length}
+use Rattle.std.proofs.Common.{get_or-set_other, get_or-set_same, below_more, length-set}
 use Rattle.std.proofs.lemmas.Grind.{same_number_lists}
 use Rattle.rv_machine.specs.Machine.{state_of}
 use Rattle.rv_trace.specs.Trace.{registers_of}
