@@ -89,7 +89,15 @@ fn run_marked<'x, R: Threads + Wait + Sync + Files + Clock, S: Streams>(
         verbosity: verbosity_of(asked),
         last: asked.last,
     };
-    run_planned(rt, alloc, streams, asked, telling, places.as_slice(), shard)
+    run_planned(
+        rt,
+        alloc,
+        streams,
+        asked,
+        &telling,
+        places.as_slice(),
+        shard,
+    )
 }
 
 // Runs the jobs at some places of a plan. Both files are opened before the first of them runs.
@@ -98,18 +106,18 @@ fn run_planned<'x, R: Threads + Wait + Sync + Files + Clock, S: Streams>(
     alloc: Global,
     streams: &S,
     asked: &RunAsked<'x>,
-    telling: RowTelling<'_>,
+    telling: &RowTelling<'_>,
     places: &[usize],
     shard: Option<Shard>,
 ) -> Result<u8, Stop>
-    requires within { AreWithin telling.plan.now places.now }
+    requires within { AreWithin telling.now.plan.now places.now }
     requires rising { IsStrictlyIncreasing places.now }
     ensures { IfOk result (λ status. status
-        ≡ status_of telling.rule (rows_at telling.plan.now places.now)) }
+        ≡ status_of telling.now.rule (rows_at telling.now.plan.now places.now)) }
 {
     let outputs = Outputs::open(rt, alloc, asked.report, asked.junit)?;
     let is_beside = outputs.is_out();
-    let rows = match show(rt, alloc, streams, asked, &telling, places, is_beside) {
+    let rows = match show(rt, alloc, streams, asked, telling, places, is_beside) {
         Ok(rows) => rows,
         Err(stop) => {
             outputs.abandon();
@@ -118,8 +126,11 @@ fn run_planned<'x, R: Threads + Wait + Sync + Files + Clock, S: Streams>(
     };
     let status = status_of(telling.rule, rows.as_slice());
     let told = RowTelling {
+        plan: telling.plan,
+        unread: telling.unread,
+        rule: telling.rule,
         verbosity: Verbosity::Failures,
-        ..telling
+        last: telling.last,
     };
     write(alloc, streams, asked, outputs, &told, places, shard, rows)?;
     Ok(status)
