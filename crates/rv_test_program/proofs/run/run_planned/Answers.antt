@@ -1,8 +1,7 @@
-use Rattle.std.proofs.Common.{◌∙◌, ap, length, sym}
+use Rattle.std.proofs.Common.{◌∙◌, ap, length}
 use Rattle.rv_fleet.proofs.Public.{rows_count}
 use Rattle.rv_test_program.proofs.run.run_planned.Goals as goal
 
 pub write-requires-clause-counted : goal.write-requires-clause-counted
 write-requires-clause-counted g c lifetimes bounds =
-    ap length c.in-Ok.ensures ∙ rows_count _ c.as_slice.result.now
-    ∙ ap length (c.as_slice.ensures.value ∙ sym c.as_slice-3.ensures.value)
+    ap length c.in-Ok.ensures ∙ rows_count _ c.args.places.now
