@@ -15,6 +15,7 @@ mod execute;
 mod fetch;
 mod hart;
 mod kept;
+mod kinds;
 mod last_instruction;
 mod limits;
 mod machine;

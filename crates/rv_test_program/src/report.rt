@@ -143,7 +143,13 @@ impl<'a, R: Files> ReportTo<'a, R> {
         told: &FailedLines,
         rows: &[Row],
     ) -> Result<(), Stop> {
-        let places = vec![in alloc; 0usize; rows.len()]?;
+        let places = match vec![in alloc; 0usize; rows.len()] {
+            Ok(places) => places,
+            Err(error) => {
+                self.abandon();
+                return Err(Stop::from(error));
+            }
+        };
         self.write_junit(
             alloc,
             streams,
