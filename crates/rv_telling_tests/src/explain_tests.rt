@@ -7,15 +7,12 @@ use rv_lines::Rule;
 use rv_rows::row_at;
 use rv_stream::Telling;
 use rv_telling::{RowTelling, Verbosity};
+use samples::agree;
 use std::alloc::{AllocError, Global};
-use std::process::Abort;
 use std::test::Fail;
 
 // What is told of the second of two jobs with so many of its last instructions: as `explain` shows it, or as `run` does.
 fn told(alloc: Global, plan: &Plan, how: &str, last: u32) -> Result<Vec<u8>, Fail> {
-    if plan.jobs() != 2 {
-        return Err("two jobs".into());
-    }
     let notes = notes(alloc)?;
     let telling = RowTelling {
         plan,
@@ -24,7 +21,14 @@ fn told(alloc: Global, plan: &Plan, how: &str, last: u32) -> Result<Vec<u8>, Fai
         verbosity: Verbosity::Failures,
         last: Some(last),
     };
-    let row = row_at(alloc, plan, 1)?;
+    told_by(alloc, &telling, how, last)
+}
+
+fn told_by(alloc: Global, telling: &RowTelling<'_>, how: &str, last: u32) -> Result<Vec<u8>, Fail> {
+    if telling.plan.jobs() != 2 {
+        return Err("two jobs".into());
+    }
+    let row = row_at(alloc, telling.plan, 1)?;
     let mut text = Vec::new(alloc);
     match how {
         "explain" => telling.push_explained(alloc, 1, &row, last, &mut text)?,
@@ -66,23 +70,29 @@ fn is_plain_register(line: &str) -> bool {
     line.starts_with("     ") && line.len() == 19
 }
 
-fn expect_line(rt: &impl Abort, alloc: Global, line: &str) -> Result<(), Fail> {
+// The same, squeezed, of the job with the keys.
+fn squeezed_of(alloc: Global, keys: &str, how: &str, last: u32) -> Result<String, Fail> {
+    let plan = plan_of(alloc, keys)?;
+    let text = told(alloc, &plan, how, last)?;
+    Ok(squeezed(alloc, str::from_utf8(&text).ok().ok_or("text")?)?)
+}
+
+fn expect_line(alloc: Global, line: &str) -> Result<(), Fail> {
     let mut parts = line.split(" #");
     let (how, last) = parts
         .next()
         .and_then(|how| how.split_once(' '))
         .ok_or("how, and a number")?;
-    let plan = plan_of(alloc, parts.next().ok_or("keys")?.trim())?;
-    let wanted = lines_of(alloc, parts.next().ok_or("what is told")?.trim())?;
-    let text = told(alloc, &plan, how, last.parse::<u32>()?)?;
-    let found = squeezed(alloc, str::from_utf8(&text).ok().ok_or("text")?)?;
-    assert_eq!(rt; found.as_str(), wanted.as_str(), "{line}");
-    Ok(())
+    let last = last.parse::<u32>()?;
+    let keys = parts.next().ok_or("keys")?.trim();
+    let wanted = parts.next().ok_or("what is told")?.trim();
+    let found = squeezed_of(alloc, keys, how, last)?;
+    agree(line, found.as_str(), lines_of(alloc, wanted)?.as_str())
 }
 
-fn check(rt: &impl Abort, alloc: Global, table: &str) -> Result<(), Fail> {
+fn check(alloc: Global, table: &str) -> Result<(), Fail> {
     for line in table.lines() {
-        expect_line(rt, alloc, line)?;
+        expect_line(alloc, line)?;
     }
     Ok(())
 }
@@ -166,22 +176,22 @@ run 1 # image = 'one', expect_exit = 5 #";
 
 #[test]
 fn endings(rt: HostRuntime) -> Result<(), Fail> {
-    check(&rt, rt.alloc(), ENDINGS)
+    check(rt.alloc(), ENDINGS)
 }
 
 #[test]
 fn wrote(rt: HostRuntime) -> Result<(), Fail> {
-    check(&rt, rt.alloc(), WROTE)
+    check(rt.alloc(), WROTE)
 }
 
 #[test]
 fn expectations(rt: HostRuntime) -> Result<(), Fail> {
-    check(&rt, rt.alloc(), EXPECTATIONS)
+    check(rt.alloc(), EXPECTATIONS)
 }
 
 #[test]
 fn runs(rt: HostRuntime) -> Result<(), Fail> {
-    check(&rt, rt.alloc(), RUNS)
+    check(rt.alloc(), RUNS)
 }
 
 const REGISTERS: [&str; 30] = [
@@ -189,33 +199,44 @@ const REGISTERS: [&str; 30] = [
     "s2", "s3", "s4", "s5", "s6", "s7", "s8", "s9", "s10", "s11", "t3", "t4", "t5", "t6",
 ];
 
-// The whole text of a run whose ra points to a symbol.
+// The text of a run whose ra points to a symbol, in front of its other registers and behind them.
+const IN_FRONT: &str = "\
+FAIL b: fault load-access at 80000004 (main+0x4), value 00000010, after 1 steps
+     expected exit 0, since it expects nothing else
+     ended at 80000004 (main+0x4)
+     zero  00000000
+     ra    80000000  main+0x0
+";
+
+const BEHIND: &str = "     \
+80000000  main+0x0              800000b7  lui ra, 0x80000           ra <- 80000000
+     80000004  main+0x4              01002503  lw a0, 16(zero)           load-access at 00000010
+";
+
+// The whole of it.
 fn whole(alloc: Global) -> Result<String, AllocError> {
-    let mut text = String::from_str(
-        alloc,
-        "FAIL b: fault load-access at 80000004 (main+0x4), value 00000010, after 1 steps\n     \
-         expected exit 0, since it expects nothing else\n     ended at 80000004 (main+0x4)\n     \
-         zero  00000000\n     ra    80000000  main+0x0\n",
-    )?;
+    let mut text = String::from_str(alloc, IN_FRONT)?;
+    push_registers(&mut text)?;
+    text.push_str(BEHIND)?;
+    Ok(text)
+}
+
+fn push_registers(text: &mut String) -> Result<(), AllocError> {
     for name in REGISTERS {
         write!(text, "     {name:4}  00000000\n")?;
     }
-    text.push_str(
-        "     80000000  main+0x0              800000b7  lui ra, 0x80000           ra <- 80000000\n",
-    )?;
-    text.push_str(
-        "     80000004  main+0x4              01002503  lw a0, 16(zero)           load-access at 00000010\n",
-    )?;
-    Ok(text)
+    Ok(())
 }
 
 #[test]
 fn whole_text(rt: HostRuntime) -> Result<(), Fail> {
     let alloc = rt.alloc();
-    let keys = "image = '800000b7 01002503 @ main=80000000/02/0001'";
-    let plan = plan_of(alloc, keys)?;
-    let text = told(alloc, &plan, "explain", 16)?;
+    let text = told_of(alloc, "image = '800000b7 01002503 @ main=80000000/02/0001'")?;
     let found = str::from_utf8(&text).ok().ok_or("text")?;
-    assert_eq!(rt; found, whole(alloc)?.as_str());
-    Ok(())
+    agree("the whole text", found, whole(alloc)?.as_str())
+}
+
+fn told_of(alloc: Global, keys: &str) -> Result<Vec<u8>, Fail> {
+    let plan = plan_of(alloc, keys)?;
+    told(alloc, &plan, "explain", 16)
 }

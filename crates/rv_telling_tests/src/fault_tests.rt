@@ -1,9 +1,8 @@
 //! What is told of lists, by the lines of tables.
 use rv_list_faults::push_faults;
 use rv_lists::read_faults;
-use samples::cell_of;
+use samples::{agree, cell_of, has_lines};
 use std::alloc::{AllocError, Global};
-use std::process::Abort;
 use std::test::Fail;
 
 /// What is told of all faults of a list, whose file has this name.
@@ -26,37 +25,51 @@ pub(crate) fn with_feeds(alloc: Global, cell: &str) -> Result<String, AllocError
     Ok(text)
 }
 
-// Whether of each list what is told is what its line says. A slash ends a line.
-fn check(rt: &impl Abort, alloc: Global, table: &str, lines: usize) -> Result<(), Fail> {
-    assert_eq!(rt; table.lines().count(), lines);
+fn told_of_cell(alloc: Global, cell: &str) -> Result<String, Fail> {
+    let list = with_feeds(alloc, cell)?;
+    told(alloc, "f.toml", list.as_bytes())
+}
+
+// Whether of a list what is told is what its line says. A slash ends a line.
+fn check_line(alloc: Global, line: &str) -> Result<(), Fail> {
+    let told = told_of_cell(alloc, cell_of(line, 0))?;
+    let wanted = with_feeds(alloc, cell_of(line, 1))?;
+    agree(line, told.as_str().trim_end(), wanted.as_str())
+}
+
+fn check(alloc: Global, table: &str, lines: usize) -> Result<(), Fail> {
+    has_lines(table, lines)?;
     for line in table.lines() {
-        let list = with_feeds(alloc, cell_of(line, 0))?;
-        let wanted = with_feeds(alloc, cell_of(line, 1))?;
-        let told = told(alloc, "f.toml", list.as_bytes())?;
-        assert_eq!(rt; told.as_str().trim_end(), wanted.as_str(), "{line}");
+        check_line(alloc, line)?;
     }
     Ok(())
+}
+
+// What is told of a list that is a form with keys in place of `$`.
+fn told_of_keys(alloc: Global, form: &str, keys: &str) -> Result<String, Fail> {
+    let (before, after) = form.split_once('$').ok_or("a form")?;
+    let list = format!(in alloc; "{before}{keys}{after}")?;
+    told(alloc, "f.toml", list.as_bytes())
 }
 
 /// Whether of each list, which is a form with the keys of a line in place of `$`, what is told is what the line says behind
 /// a front.
 pub(crate) fn check_keys(
-    rt: &impl Abort,
     alloc: Global,
     form: &str,
     front: &str,
     table: &str,
     lines: usize,
 ) -> Result<(), Fail> {
-    assert_eq!(rt; table.lines().count(), lines);
-    let (before, after) = form.split_once('$').ok_or("a form")?;
+    has_lines(table, lines)?;
     for line in table.lines() {
-        let keys = cell_of(line, 0);
-        let list = format!(in alloc; "{before}{keys}{after}")?;
-        let wanted = cell_of(line, 1);
-        let wanted = format!(in alloc; "{front}{wanted}\n")?;
-        let told = told(alloc, "f.toml", list.as_bytes())?;
-        assert_eq!(rt; told.as_str(), wanted.as_str(), "{line}");
+        let told = told_of_keys(alloc, form, cell_of(line, 0))?;
+        let told = told.as_str().strip_suffix('\n').ok_or("a line")?;
+        agree(
+            line,
+            told.strip_prefix(front).ok_or("a front")?,
+            cell_of(line, 1),
+        )?;
     }
     Ok(())
 }
@@ -107,13 +120,13 @@ job = [{ name = 'alpha', image = 'i', budget = 3 }, { name = 'beta', image = 'i'
 
 #[test]
 fn lists(rt: HostRuntime) -> Result<(), Fail> {
-    check(&rt, rt.alloc(), LISTS, 9)?;
-    check(&rt, rt.alloc(), JOBS, 8)
+    check(rt.alloc(), LISTS, 9)?;
+    check(rt.alloc(), JOBS, 8)
 }
 
 #[test]
 fn same_names(rt: HostRuntime) -> Result<(), Fail> {
-    check_keys(&rt, rt.alloc(), EARLIER, "f.toml:3: job 4 (d): ", SAME, 4)
+    check_keys(rt.alloc(), EARLIER, "f.toml:3: job 4 (d): ", SAME, 4)
 }
 
 // The first job has no job before it.
@@ -121,27 +134,32 @@ fn same_names(rt: HostRuntime) -> Result<(), Fail> {
 fn first_job(rt: HostRuntime) -> Result<(), Fail> {
     let form = "job = [{ name = 'a', image = 'i', budget = 3, $ }]";
     let table = "same_as = 'b' | same_as = \"b\": the name of an earlier job is wanted";
-    check_keys(&rt, rt.alloc(), form, "f.toml:1: job 1 (a): ", table, 1)
+    check_keys(rt.alloc(), form, "f.toml:1: job 1 (a): ", table, 1)
 }
 
 #[test]
 fn too_many_jobs(rt: HostRuntime) -> Result<(), Fail> {
-    let mut list = String::from_str(rt.alloc(), "job = [")?;
-    for _ in 0..4097 {
+    let list = empty_jobs(rt.alloc(), 4097)?;
+    let told = told(rt.alloc(), "a\n.toml", list.as_bytes())?;
+    let wanted = "a\\x0a.toml: 4097 jobs: at most 4096 are taken\n";
+    agree("too many", told.as_str(), wanted)
+}
+
+fn empty_jobs(alloc: Global, count: u32) -> Result<String, AllocError> {
+    let mut list = String::from_str(alloc, "job = [")?;
+    for _ in 0..count {
         list.push_str("{},")?;
     }
     list.push_str("]")?;
-    let told = told(rt.alloc(), "a\n.toml", list.as_bytes())?;
-    assert_eq!(&rt;
-        told.as_str(),
-        "a\\x0a.toml: 4097 jobs: at most 4096 are taken\n"
-    );
-    Ok(())
+    Ok(list)
 }
 
 #[test]
 fn no_text(rt: HostRuntime) -> Result<(), Fail> {
     let told = told(rt.alloc(), "f.toml", b"job = [\n'\xff']")?;
-    assert_eq!(&rt; told.as_str(), "f.toml:2:2: not TOML: invalid UTF-8\n");
-    Ok(())
+    agree(
+        "no text",
+        told.as_str(),
+        "f.toml:2:2: not TOML: invalid UTF-8\n",
+    )
 }

@@ -1,8 +1,7 @@
 //! What is told of the keys of a job, by the lines of tables.
 use crate::fault_tests::{check_keys, told};
-use samples::cell_of;
+use samples::{agree, cell_of};
 use std::alloc::Global;
-use std::process::Abort;
 use std::test::Fail;
 
 const FORM: &str = "job = [\n{ name = 'a', image = 'i', budget = 3, $ }]";
@@ -72,9 +71,9 @@ expect_end = 'load_access' | expect_end = \"load_access\": \"budget\" or the kin
 
 #[test]
 fn keys(rt: HostRuntime) -> Result<(), Fail> {
-    check_keys(&rt, rt.alloc(), FORM, FRONT, KEYS, 24)?;
-    check_keys(&rt, rt.alloc(), FORM, FRONT, REGIONS, 13)?;
-    check_keys(&rt, rt.alloc(), FORM, FRONT, EXPECTED, 9)
+    check_keys(rt.alloc(), FORM, FRONT, KEYS, 24)?;
+    check_keys(rt.alloc(), FORM, FRONT, REGIONS, 13)?;
+    check_keys(rt.alloc(), FORM, FRONT, EXPECTED, 9)
 }
 
 // a key | how often `a` stands in its text | what is told behind the text
@@ -92,24 +91,37 @@ fn repeated(alloc: Global, count: u32) -> Result<String, Fail> {
     Ok(text)
 }
 
-// Of a long text 80 characters are shown.
-fn check_long(rt: &impl Abort, alloc: Global, line: &str) -> Result<(), Fail> {
-    let (key, wanted) = (cell_of(line, 0), cell_of(line, 2));
-    let text = repeated(alloc, cell_of(line, 1).parse::<u32>()?)?;
-    let list = format!(in alloc;
-        "job = [{{ name = 'a', image = 'i', budget = 3, {key} = '{text}' }}]"
-    )?;
+// A list whose job has so long a text under a key.
+fn long_list(alloc: Global, key: &str, count: u32) -> Result<String, Fail> {
+    let text = repeated(alloc, count)?;
+    Ok(format!(in alloc; "job = [{{ name = 'a', image = 'i', budget = 3, {key} = '{text}' }}]")?)
+}
+
+// What is told of it: 80 characters are shown.
+fn long_line(alloc: Global, key: &str, told: &str) -> Result<String, Fail> {
     let shown = repeated(alloc, 80)?;
-    let wanted = format!(in alloc; "f.toml:1: job 1 (a): {key} = \"{shown}\" {wanted}\n")?;
-    let told = told(alloc, "f.toml", list.as_bytes())?;
-    assert_eq!(rt; told.as_str(), wanted.as_str(), "{line}");
-    Ok(())
+    Ok(format!(in alloc; "f.toml:1: job 1 (a): {key} = \"{shown}\" {told}\n")?)
+}
+
+fn told_of_long(alloc: Global, key: &str, count: u32) -> Result<String, Fail> {
+    let list = long_list(alloc, key, count)?;
+    told(alloc, "f.toml", list.as_bytes())
+}
+
+fn check_long(alloc: Global, line: &str) -> Result<(), Fail> {
+    let key = cell_of(line, 0);
+    let told = told_of_long(alloc, key, cell_of(line, 1).parse::<u32>()?)?;
+    agree(
+        line,
+        told.as_str(),
+        long_line(alloc, key, cell_of(line, 2))?.as_str(),
+    )
 }
 
 #[test]
 fn long_texts(rt: HostRuntime) -> Result<(), Fail> {
     for line in LONG.lines() {
-        check_long(&rt, rt.alloc(), line)?;
+        check_long(rt.alloc(), line)?;
     }
     Ok(())
 }

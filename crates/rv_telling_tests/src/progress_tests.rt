@@ -8,8 +8,8 @@ use rv_jobs::{Plan, ReadError, Store, gather, marked_places, read_jobs};
 use rv_lines::Rule;
 use rv_progress::{CountingTelling, Progress, TerminalSink};
 use rv_stream::stream_places;
-use samples::file;
-use std::alloc::Global;
+use samples::{agree, file};
+use std::alloc::{AllocError, Global};
 use std::sync::atomic::AtomicU64;
 use std::sync::{Mutex, Wait};
 use std::test::Fail;
@@ -103,8 +103,8 @@ const ONE_WORKER: &str = "\
 fn one_worker(rt: HostRuntime) -> Result<(), Fail> {
     let alloc = rt.alloc();
     let bytes = stream(&rt, alloc, 2, 1)?;
-    assert_eq!(rt; table_form(alloc, bytes.as_slice())?.as_str(), ONE_WORKER);
-    Ok(())
+    let screen = table_form(alloc, bytes.as_slice())?;
+    agree("one worker", screen.as_str(), ONE_WORKER)
 }
 
 // What is left of each line: what stands behind its last erasing.
@@ -122,11 +122,15 @@ fn results_of_four_workers_are_whole(rt: HostRuntime) -> Result<(), Fail> {
     let alloc = rt.alloc();
     let bytes = stream(&rt, alloc, 40, 4)?;
     let screen = table_form(alloc, bytes.as_slice())?;
-    let mut wanted = String::new(alloc);
+    let left = left_of(alloc, screen.as_str())?;
+    agree("four workers", left.as_str(), forty_names(alloc)?.as_str())
+}
+
+fn forty_names(alloc: Global) -> Result<String, AllocError> {
+    let mut names = String::new(alloc);
     for place in 0..40u32 {
-        write!(wanted, "j{place}/")?;
+        write!(names, "j{place}/")?;
     }
-    wanted.push_str("/")?;
-    assert_eq!(rt; left_of(alloc, screen.as_str())?.as_str(), wanted.as_str());
-    Ok(())
+    names.push_str("/")?;
+    Ok(names)
 }

@@ -2,9 +2,8 @@
 use rv_jobs::read_jobs;
 use rv_reasons::push_reason_of_image;
 use rv_rows::Refusal;
-use samples::file;
+use samples::{agree, file};
 use std::alloc::Global;
-use std::process::Abort;
 use std::test::Fail;
 
 // What is told of a file that was refused with a word, for a job with these keys.
@@ -22,18 +21,18 @@ fn told(alloc: Global, keys: &str, words: &str, why: &str) -> Result<Vec<u8>, Fa
 }
 
 // Each line has what is told, the job's keys, the file and the refusal.
-fn expect(rt: &impl Abort, alloc: Global, table: &str) -> Result<(), Fail> {
-    for line in table.lines() {
-        let mut parts = line.split(" | ");
-        let wanted = parts.next().ok_or("what is told")?;
-        let keys = parts.next().ok_or("the keys")?;
-        let words = parts.next().ok_or("the file")?;
-        let why = parts.next().ok_or("the refusal")?;
-        let found = told(alloc, keys, words, why)?;
-        let found = str::from_utf8(found.as_slice()).ok().ok_or("text")?;
-        assert_eq!(rt; found, wanted, "{line}");
-    }
-    Ok(())
+fn expect_line(alloc: Global, line: &str) -> Result<(), Fail> {
+    let mut parts = line.split(" | ");
+    let wanted = parts.next().ok_or("what is told")?;
+    let keys = parts.next().ok_or("the keys")?;
+    let words = parts.next().ok_or("the file")?;
+    let why = parts.next().ok_or("the refusal")?;
+    let found = told(alloc, keys, words, why)?;
+    agree(
+        line,
+        str::from_utf8(found.as_slice()).ok().ok_or("text")?,
+        wanted,
+    )
 }
 
 const REASONS: &str = "\
@@ -57,5 +56,8 @@ the file has no symbol table | signature = ['x', 'y'] | one | no-symbols";
 
 #[test]
 fn reasons(rt: HostRuntime) -> Result<(), Fail> {
-    expect(&rt, rt.alloc(), REASONS)
+    for line in REASONS.lines() {
+        expect_line(rt.alloc(), line)?;
+    }
+    Ok(())
 }

@@ -94,16 +94,16 @@ words of one region: [80000000 to 800fffff]";
 
 #[test]
 fn rules(rt: HostRuntime) -> Result<(), Fail> {
-    check(&rt, rt.alloc(), RULES)
+    check(rt.alloc(), RULES)
 }
 
 #[test]
 fn files_that_were_not_read(rt: HostRuntime) -> Result<(), Fail> {
-    check(&rt, rt.alloc(), UNREAD)?;
-    check(&rt, rt.alloc(), FILES)
+    check(rt.alloc(), UNREAD)?;
+    check(rt.alloc(), FILES)
 }
 
 #[test]
 fn images(rt: HostRuntime) -> Result<(), Fail> {
-    check(&rt, rt.alloc(), IMAGES)
+    check(rt.alloc(), IMAGES)
 }

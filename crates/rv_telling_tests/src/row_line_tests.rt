@@ -1,10 +1,14 @@
 //! The lines of rows, and the last one.
+
+ghost use Rattle.std.specs.Prelude.{◌<◌, length};
+
 use rv_elf::SymbolAt;
 use rv_jobs::{Bytes, Text};
 use rv_lines::{Rule, push_last_line, push_result};
 use rv_machine::FaultKind;
 use rv_rows::{Refusal, Row, RowEnd, Verdict};
-use std::alloc::Global;
+use samples::agree;
+use std::alloc::{AllocError, Global};
 use std::test::Fail;
 
 fn ending_of(word: &str) -> Result<RowEnd, Fail> {
@@ -87,28 +91,40 @@ fn bytes_of(alloc: Global, word: &str) -> Result<Option<Vec<u8>>, Fail> {
 
 #[test]
 fn results(rt: HostRuntime) -> Result<(), Fail> {
-    let alloc = rt.alloc();
     for line in RESULTS.lines() {
-        let mut parts = line.split(" | ");
-        let wanted = parts.next().ok_or("a line")?;
-        let rule = rule_of(parts.next().ok_or("a rule")?);
-        let row = row_of(alloc, parts.next().ok_or("a row")?)?;
-        let symbol = bytes_of(alloc, parts.next().ok_or("a symbol")?)?;
-        let reason = bytes_of(alloc, parts.next().ok_or("a reason")?)?;
-        let place = match &symbol {
-            Some(name) => Some(SymbolAt {
-                name: name.as_slice(),
-                offset: 0x1a4,
-            }),
-            None => None,
-        };
-        let reason = reason.as_ref().map(|reason| reason.as_slice());
-        let mut bytes = Vec::new(alloc);
-        push_result(alloc, &mut bytes, rule, &row, place, reason)?;
-        let wanted = format!(in alloc; "{wanted}\n")?;
-        assert_eq!(rt; bytes.as_slice(), wanted.as_bytes(), "{line}");
+        expect_result(rt.alloc(), line)?;
     }
     Ok(())
+}
+
+// Whether the bytes are one line, this one.
+fn agree_with_line(row: &str, bytes: &[u8], wanted: &str) -> Result<(), Fail> {
+    let text = str::from_utf8(bytes).ok().ok_or("text")?;
+    agree(row, text.strip_suffix('\n').ok_or("a line")?, wanted)
+}
+
+fn expect_result(alloc: Global, line: &str) -> Result<(), Fail> {
+    let mut parts = line.split(" | ");
+    let wanted = parts.next().ok_or("a line")?;
+    let rule = rule_of(parts.next().ok_or("a rule")?);
+    let row = row_of(alloc, parts.next().ok_or("a row")?)?;
+    let symbol = parts.next().ok_or("a symbol")?;
+    let reason = parts.next().ok_or("a reason")?;
+    let told = told(alloc, rule, &row, symbol, reason)?;
+    agree_with_line(line, told.as_slice(), wanted)
+}
+
+fn told(alloc: Global, rule: Rule, row: &Row, symbol: &str, reason: &str) -> Result<Vec<u8>, Fail> {
+    let symbol = bytes_of(alloc, symbol)?;
+    let reason = bytes_of(alloc, reason)?;
+    let place = symbol.as_ref().map(|name| SymbolAt {
+        name: name.as_slice(),
+        offset: 0x1a4,
+    });
+    let reason = reason.as_ref().map(|reason| reason.as_slice());
+    let mut bytes = Vec::new(alloc);
+    push_result(alloc, &mut bytes, rule, row, place, reason)?;
+    Ok(bytes)
 }
 
 // The last line, the rule and the rows.
@@ -128,20 +144,36 @@ breakpoint/none/1 illegal/none/1 stale-code/none/1 fetch-access/none/1 budget/no
 
 #[test]
 fn last_lines(rt: HostRuntime) -> Result<(), Fail> {
-    let alloc = rt.alloc();
     for line in LAST.lines() {
-        let mut parts = line.split(" |");
-        let wanted = parts.next().ok_or("a line")?;
-        let rule = rule_of(parts.next().ok_or("a rule")?.trim_start());
-        let mut rows = Vec::new(alloc);
-        for row in parts.next().ok_or("rows")?.split_whitespace() {
-            rows.push(row_of(alloc, row)?)?;
-        }
-        let mut bytes = Vec::new(alloc);
-        assert!(rt; rows.len() < 100);
-        push_last_line(&mut bytes, rule, rows.as_slice())?;
-        let wanted = format!(in alloc; "{wanted}\n")?;
-        assert_eq!(rt; bytes.as_slice(), wanted.as_bytes(), "{line}");
+        expect_last_line(rt.alloc(), line)?;
     }
     Ok(())
+}
+
+fn expect_last_line(alloc: Global, line: &str) -> Result<(), Fail> {
+    let mut parts = line.split(" |");
+    let wanted = parts.next().ok_or("a line")?;
+    let rule = rule_of(parts.next().ok_or("a rule")?.trim_start());
+    let rows = rows_of(alloc, parts.next().ok_or("rows")?)?;
+    if rows.len() >= 100 {
+        return Err("fewer rows".into());
+    }
+    let told = last_line(alloc, rule, rows.as_slice())?;
+    agree_with_line(line, told.as_slice(), wanted)
+}
+
+fn rows_of(alloc: Global, texts: &str) -> Result<Vec<Row>, Fail> {
+    let mut rows = Vec::new(alloc);
+    for text in texts.split_whitespace() {
+        rows.push(row_of(alloc, text)?)?;
+    }
+    Ok(rows)
+}
+
+fn last_line(alloc: Global, rule: Rule, rows: &[Row]) -> Result<Vec<u8>, AllocError>
+    requires { length rows.now < 100 }
+{
+    let mut bytes = Vec::new(alloc);
+    push_last_line(&mut bytes, rule, rows)?;
+    Ok(bytes)
 }

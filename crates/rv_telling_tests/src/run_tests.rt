@@ -96,25 +96,25 @@ some strict # image = 'code 100002b7 06100313 0062a023 00000000' \
 
 #[test]
 fn endings(rt: HostRuntime) -> Result<(), Fail> {
-    check(&rt, rt.alloc(), ENDINGS)
+    check(rt.alloc(), ENDINGS)
 }
 
 #[test]
 fn met(rt: HostRuntime) -> Result<(), Fail> {
-    check(&rt, rt.alloc(), MET)
+    check(rt.alloc(), MET)
 }
 
 #[test]
 fn unmet(rt: HostRuntime) -> Result<(), Fail> {
-    check(&rt, rt.alloc(), UNMET)
+    check(rt.alloc(), UNMET)
 }
 
 #[test]
 fn unmet_beside(rt: HostRuntime) -> Result<(), Fail> {
-    check(&rt, rt.alloc(), UNMET_BESIDE)
+    check(rt.alloc(), UNMET_BESIDE)
 }
 
 #[test]
 fn consoles(rt: HostRuntime) -> Result<(), Fail> {
-    check(&rt, rt.alloc(), CONSOLES)
+    check(rt.alloc(), CONSOLES)
 }

@@ -1,7 +1,7 @@
 //! How text from files is shown.
 use rv_lines::{push_console_tail, push_shown, push_shown_value};
+use samples::agree;
 use std::alloc::Global;
-use std::process::Abort;
 use std::test::Fail;
 
 fn text_of(bytes: &[u8]) -> Result<&str, Fail> {
@@ -40,19 +40,18 @@ f4908080 | \\xf4\\x90\\x80\\x80";
 
 #[test]
 fn texts(rt: HostRuntime) -> Result<(), Fail> {
-    let alloc = rt.alloc();
     for line in SHOWN.lines() {
-        let (digits, wanted) = line.split_once(" |").ok_or("two parts")?;
-        let wanted = wanted.strip_prefix(' ').unwrap_or("");
-        let mut bytes = b"> ".to_vec(alloc)?;
-        push_shown(&mut bytes, hex::decode(alloc, digits)?.as_slice())?;
-        assert_eq!(rt;
-            text_of(bytes.as_slice())?,
-            format!(in alloc; "> {wanted}")?.as_str(),
-            "{line}"
-        );
+        expect_text(rt.alloc(), line)?;
     }
     Ok(())
+}
+
+fn expect_text(alloc: Global, line: &str) -> Result<(), Fail> {
+    let (digits, wanted) = line.split_once(" |").ok_or("two parts")?;
+    let mut bytes = b"> ".to_vec(alloc)?;
+    push_shown(&mut bytes, hex::decode(alloc, digits)?.as_slice())?;
+    let shown = text_of(bytes.as_slice())?.strip_prefix("> ").ok_or("> ")?;
+    agree(line, shown, wanted.strip_prefix(' ').unwrap_or(""))
 }
 
 // Words one behind the other, of which each may stand several times: `3*ab` is three of `ab`. `/` is a line feed, `^`
@@ -79,16 +78,9 @@ fn bytes_of(alloc: Global, words: &str) -> Result<Vec<u8>, Fail> {
     Ok(bytes)
 }
 
-fn expect_shown(
-    rt: &impl Abort,
-    alloc: Global,
-    line: &str,
-    bytes: &[u8],
-    words: &str,
-) -> Result<(), Fail> {
+fn expect_shown(alloc: Global, line: &str, bytes: &[u8], words: &str) -> Result<(), Fail> {
     let wanted = bytes_of(alloc, words)?;
-    assert_eq!(rt; text_of(bytes)?, text_of(wanted.as_slice())?, "{line}");
-    Ok(())
+    agree(line, text_of(bytes)?, text_of(wanted.as_slice())?)
 }
 
 // A value, and what is shown of it in 80 characters.
@@ -109,7 +101,7 @@ fn values(rt: HostRuntime) -> Result<(), Fail> {
         let (value, wanted) = line.split_once(" | ").ok_or("two parts")?;
         let mut bytes = Vec::new(alloc);
         push_shown_value(&mut bytes, bytes_of(alloc, value)?.as_slice())?;
-        expect_shown(&rt, alloc, line, bytes.as_slice(), wanted)?;
+        expect_shown(alloc, line, bytes.as_slice(), wanted)?;
     }
     Ok(())
 }
@@ -138,7 +130,7 @@ fn consoles(rt: HostRuntime) -> Result<(), Fail> {
         let (console, wanted) = line.split_once(" |").ok_or("two parts")?;
         let mut bytes = Vec::new(alloc);
         push_console_tail(&mut bytes, bytes_of(alloc, console)?.as_slice())?;
-        expect_shown(&rt, alloc, line, bytes.as_slice(), wanted.trim_start())?;
+        expect_shown(alloc, line, bytes.as_slice(), wanted.trim_start())?;
     }
     Ok(())
 }

@@ -3,37 +3,52 @@
 ghost use Rattle.std.specs.Prelude.{None};
 
 use crate::rows::{bytes_of, file_of, jobs_of, other_of, row_of};
-use rv_explain::{unmet_at, unmet_expectations};
-use rv_jobs::{ReadError, Store, gather, read_jobs};
-use samples::file;
-use std::alloc::Global;
-use std::process::Abort;
+use rv_explain::{Unmet, unmet_at, unmet_expectations};
+use rv_jobs::{Job, Plan, ReadError, Store, gather, read_jobs};
+use rv_rows::Row;
+use samples::{agree, file};
+use std::alloc::{AllocError, Global};
 use std::test::Fail;
 
 // What is told of a row; a dash stands for a file, or a row, that is not there.
 fn told(alloc: Global, keys: &str, row: &str, file: &str, other: &str) -> Result<String, Fail> {
     let jobs = jobs_of(alloc, keys)?;
     let job = jobs.as_slice().last().ok_or("two jobs")?;
-    let row = row_of(alloc, "b", row)?;
+    told_of_row(alloc, job, &row_of(alloc, "b", row)?, file, other)
+}
+
+fn told_of_row(
+    alloc: Global,
+    job: &Job,
+    row: &Row,
+    file: &str,
+    other: &str,
+) -> Result<String, Fail> {
     let file = file_of(alloc, file)?;
     let other = other_of(alloc, other)?;
     let bytes = file.as_ref().map(|file| file.as_slice());
-    let unmet = unmet_expectations(alloc, job, &row, bytes, bytes, other.as_ref())?;
-    let unmet = unmet.as_slice();
-    Ok(format!(in alloc; "{unmet:?}")?)
+    let unmet = unmet_expectations(alloc, job, row, bytes, bytes, other.as_ref())?;
+    Ok(shown(alloc, unmet.as_slice())?)
+}
+
+fn shown(alloc: Global, unmet: &[Unmet]) -> Result<String, AllocError> {
+    format!(in alloc; "{unmet:?}")
+}
+
+fn expect_line(alloc: Global, line: &str) -> Result<(), Fail> {
+    let mut parts = line.split(" | ");
+    let wanted = parts.next().ok_or("what is told")?;
+    let keys = parts.next().ok_or("the keys")?;
+    let row = parts.next().ok_or("the row")?;
+    let file = parts.next().unwrap_or("-");
+    let other = parts.next().unwrap_or("-");
+    agree(line, told(alloc, keys, row, file, other)?.as_str(), wanted)
 }
 
 // Each line has what is told, the job's keys, its row, the file and the row of the named job.
-fn expect(rt: &impl Abort, alloc: Global, table: &str) -> Result<(), Fail> {
+fn expect(alloc: Global, table: &str) -> Result<(), Fail> {
     for line in table.lines() {
-        let mut parts = line.split(" | ");
-        let wanted = parts.next().ok_or("what is told")?;
-        let keys = parts.next().ok_or("the keys")?;
-        let row = parts.next().ok_or("the row")?;
-        let file = parts.next().unwrap_or("-");
-        let other = parts.next().unwrap_or("-");
-        let found = told(alloc, keys, row, file, other)?;
-        assert_eq!(rt; found.as_str(), wanted, "{line}");
+        expect_line(alloc, line)?;
     }
     Ok(())
 }
@@ -56,7 +71,7 @@ const ENDINGS: &str = "\
 
 #[test]
 fn endings(rt: HostRuntime) -> Result<(), Fail> {
-    expect(&rt, rt.alloc(), ENDINGS)
+    expect(rt.alloc(), ENDINGS)
 }
 
 const CONSOLES: &str = "\
@@ -75,7 +90,7 @@ expect_exit = 1, expect_end = 'budget', expect_console = 'a', expect_signature =
 
 #[test]
 fn consoles(rt: HostRuntime) -> Result<(), Fail> {
-    expect(&rt, rt.alloc(), CONSOLES)
+    expect(rt.alloc(), CONSOLES)
 }
 
 const SIGNATURES: &str = "\
@@ -102,7 +117,7 @@ const SIGNATURES: &str = "\
 
 #[test]
 fn signatures(rt: HostRuntime) -> Result<(), Fail> {
-    expect(&rt, rt.alloc(), SIGNATURES)
+    expect(rt.alloc(), SIGNATURES)
 }
 
 const SAME: &str = "\
@@ -121,7 +136,7 @@ const SAME: &str = "\
 
 #[test]
 fn same_as_another(rt: HostRuntime) -> Result<(), Fail> {
-    expect(&rt, rt.alloc(), SAME)
+    expect(rt.alloc(), SAME)
 }
 
 /// The two files that jobs name, and at every other path an image that ends by an exit with code 5 after two steps.
@@ -150,20 +165,32 @@ impl Store for Samples {
     }
 }
 
-// What is told of a row of the second of three jobs, which has the keys.
-fn told_of_a_plan(alloc: Global, keys: &str, row: &str) -> Result<String, Fail> {
+// The plan of three jobs, of which the second has the keys.
+fn plan_of(alloc: Global, keys: &str) -> Result<Plan, Fail> {
     let text = format!(in alloc;
         "job = [{{name = 'a', image = 'one', budget = 9}}, {{name = 'b', image = 'one', budget = 9, {keys}}}, \
          {{name = 'c', image = 'one', budget = 9, expect_exit = 77}}]"
     )?;
     let jobs = read_jobs(alloc, text.as_bytes())?;
-    let plan = gather(alloc, jobs, &mut Samples)?;
+    Ok(gather(alloc, jobs, &mut Samples)?)
+}
+
+// What is told of a row of the second of three jobs.
+fn told_of_a_plan(alloc: Global, plan: &Plan, row: &str) -> Result<String, Fail> {
     if plan.jobs() != 3 {
         return Err("three jobs".into());
     }
-    let unmet = unmet_at(alloc, &plan, 1, &row_of(alloc, "b", row)?)?;
-    let unmet = unmet.as_slice();
-    Ok(format!(in alloc; "{unmet:?}")?)
+    let row = row_of(alloc, "b", row)?;
+    let unmet = unmet_at(alloc, plan, 1, &row)?;
+    Ok(shown(alloc, unmet.as_slice())?)
+}
+
+fn expect_line_of_a_plan(alloc: Global, line: &str) -> Result<(), Fail> {
+    let mut parts = line.split(" | ");
+    let wanted = parts.next().ok_or("what is told")?;
+    let plan = plan_of(alloc, parts.next().ok_or("the keys")?)?;
+    let row = parts.next().ok_or("the row")?;
+    agree(line, told_of_a_plan(alloc, &plan, row)?.as_str(), wanted)
 }
 
 const OF_A_PLAN: &str = "\
@@ -180,12 +207,7 @@ const OF_A_PLAN: &str = "\
 #[test]
 fn plans(rt: HostRuntime) -> Result<(), Fail> {
     for line in OF_A_PLAN.lines() {
-        let mut parts = line.split(" | ");
-        let wanted = parts.next().ok_or("what is told")?;
-        let keys = parts.next().ok_or("the keys")?;
-        let row = parts.next().ok_or("the row")?;
-        let found = told_of_a_plan(rt.alloc(), keys, row)?;
-        assert_eq!(&rt; found.as_str(), wanted, "{line}");
+        expect_line_of_a_plan(rt.alloc(), line)?;
     }
     Ok(())
 }
