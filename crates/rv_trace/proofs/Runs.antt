@@ -1,9 +1,9 @@
 -- Runs with smaller budgets: their states are those on the way of the whole run.
 use Rattle.std.proofs.Common.{◌≡◌, ◌∙◌, ◌≤◌, ◌<◌, ◌+◌, ◌-◌, ℕ, zero, suc, List, [], ◌∷◌}
 use Rattle.std.proofs.Common.{refl, sym, ap, arith, zero-add, add-one}
-use Rattle.std.proofs.Common.{Ok, Err, inl, inr, get_or, length, ◌++◌, append_assoc, false}
+use Rattle.std.proofs.Common.{Ok, Err, Result, inl, inr, get_or, length, ◌++◌, append_assoc, false, subst}
 use Rattle.std.proofs.lemmas.List.{append-nil}
-use Rattle.std.specs.Prelude.{◌⊎◌, is_ok}
+use Rattle.std.specs.Prelude.{◌⊎◌, ◌==◌, MatchBool, is_ok, not}
 use Rattle.rv_machine.specs.declared.ending.Ending.{Ending}
 use Rattle.rv_machine.specs.declared.ending.Ending.TheVariants.{Budget}
 use Rattle.rv_machine.specs.State.{State}
@@ -192,3 +192,19 @@ arrived (suc n) s end h so_far = elim h [
   | inr ended ↦ by_step s (s ≡ end) (λ t e. let ok = ap is_ok e in cc)
       (λ e is. sym (after_end n s e is) ∙ so_far)
 ]
+
+-- ---- a run of one step
+
+-- what so many steps of it tell: where there are any, the step completed with the state at the end, and else it did not
+abbrev Told : ℕ → State → Result State Ending → State → Type 0
+Told n s r t = MatchBool (not (n == 0)) (r ≡ Ok t) ((is_ok r ≡ false) × (t ≡ s))
+
+told_by : (s : State) (r : Result State Ending) → step_of s ≡ r → Told (run_of 1 s).steps s r (after 1 s)
+told_by s (Ok u) e = subst (λ k. Told k s (Ok u) (after 1 s)) (sym (steps_first 0 s u e ∙ ap suc (steps_none u)))
+    (ap (λ v. Ok v) (sym (after_first 0 s u e ∙ after_none u)))
+told_by s (Err x) e = subst (λ k. Told k s (Err x) (after 1 s)) (sym (steps_end 0 s x e)) (refl, after_end 0 s x e)
+
+pub one_step : (s t : State) (n : ℕ) (e : Ending) → run_of 1 s ≡ record { ending = e; steps = n; state = t }
+    → Told n s (step_of s) t
+one_step s t n e ran = subst (λ k. Told k s (step_of s) t) (ap (λ r. r.steps) ran)
+    (subst (λ u. Told (run_of 1 s).steps s (step_of s) u) (ap (λ r. r.state) ran) (told_by s (step_of s) refl))

@@ -1,6 +1,6 @@
 //! One instruction of a machine.
 
-ghost use Rattle.std.specs.Prelude.{◌≡◌, MatchOption, Ok, false, is_ok};
+ghost use Rattle.std.specs.Prelude.{◌≡◌, MatchBool, MatchOption, Ok, false, is_ok};
 ghost use Rattle.rv_machine.specs.Machine.{state_of};
 ghost use Rattle.rv_machine.specs.Run.{step_of};
 ghost use Rattle.rv_trace.specs.Steps.{traced};
@@ -46,12 +46,22 @@ pub(crate) fn next_step(machine: &mut Machine) -> Option<TracedStep>
     let pc = machine.pc();
     let code = code_at(machine.bus(), pc);
     let aim = aim_of(machine, code);
-    match machine.step() {
-        Some(_) => None,
-        None => Some(TracedStep {
-            pc,
-            code,
-            wrote: aim.wrote(machine),
-        }),
+    if !steps_once(machine) {
+        return None;
     }
+    Some(TracedStep {
+        pc,
+        code,
+        wrote: aim.wrote(machine),
+    })
+}
+
+// Does the next instruction of a machine, and tells whether it completed. It is a run of one step: so what an
+// instruction does has one caller in this program, too, the loop of a run, and the compiler joins the two.
+fn steps_once(machine: &mut Machine) -> bool
+    ensures { MatchBool result (step_of (state_of machine.old) ≡ Ok (state_of machine.new))
+        ((is_ok (step_of (state_of machine.old)) ≡ false)
+        × (state_of machine.new ≡ state_of machine.old)) }
+{
+    machine.run(1).steps != 0
 }

@@ -7,7 +7,8 @@ pub symbol_tables-requires : goal.symbol_tables-requires
 symbol_tables-requires c = header_there c.args.file.now c.args.image.now c.requires.image
 
 pub returns-in_default : goal.returns-in_default
-returns-in_default c = no_tables c.args.sought c.args.image.now c.args.file.now c.args.addr _ c.in_default.ensures.checked
+returns-in_default c =
+    no_tables c.args.sought c.args.image.now c.args.file.now c.args.addr _ c.in_default.ensures.checked
 
 pub returns-in_err-symbol : goal.returns-in_err-symbol
 returns-in_err-symbol c = rw c.from_residual.ensures
