@@ -1,8 +1,8 @@
 use Rattle.std.proofs.Common.{refl, Ok}
 use Rattle.clap.specs.Words.{app_of, with_subcommand}
-use Rattle.rv_test_words.specs.Words.{diff_app, merge_app, show_app}
-use Rattle.rv_test_words.proofs.Commands.{with_below}
-use Rattle.rv_test_words.proofs.command.with_reports.Goals as goal
+use Rattle.rv_test_command.specs.CommandLine.{diff_app, merge_app, show_app}
+use Rattle.rv_test_command.proofs.Commands.{with_below}
+use Rattle.rv_test_command.proofs.command.with_reports.Goals as goal
 
 pub returns : goal.returns
 returns c =

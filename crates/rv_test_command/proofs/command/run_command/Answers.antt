@@ -1,8 +1,8 @@
 use Rattle.std.proofs.Common.{codes, rules, Ok}
-use Rattle.rv_test_words.specs.Words.{list_app, with_choice, with_files, with_machine, with_results, with_shard}
-use Rattle.rv_test_words.proofs.Commands.{with_more}
+use Rattle.rv_test_command.specs.CommandLine.{list_app, with_choice, with_files, with_machine, with_results, with_shard}
+use Rattle.rv_test_command.proofs.Commands.{with_more}
 use Rattle.rv_words.proofs.Public.{Is}
-use Rattle.rv_test_words.proofs.command.run_command.Goals as goal
+use Rattle.rv_test_command.proofs.command.run_command.Goals as goal
 
 pub returns : goal.returns
 returns c =

@@ -2,8 +2,9 @@
 
 ghost use Rattle.std.specs.Prelude.{◌≡◌, codes, false};
 ghost use Rattle.clap.specs.Words.{rule_of};
-ghost use Rattle.rv_test_words.specs.Words.{again_rule, flag_rule, group_rule, last_rule, number_rule};
-ghost use Rattle.rv_test_words.specs.Words.{option_rule, parts_rule, shown_rule, word_rule};
+ghost use Rattle.rv_test_command.specs.CommandLine.{again_rule, flag_rule, group_rule, last_rule};
+ghost use Rattle.rv_test_command.specs.CommandLine.{number_rule, option_rule, parts_rule};
+ghost use Rattle.rv_test_command.specs.CommandLine.{shown_rule, word_rule};
 
 use clap::{Arg, ArgAction, value_parser};
 use std::alloc::Global;

@@ -1,9 +1,9 @@
 use Rattle.std.proofs.Common.{codes, rules, Ok}
 use Rattle.clap.specs.Words.{new_app, with_rule}
-use Rattle.rv_test_words.specs.Words.{parts_rule, with_files}
-use Rattle.rv_test_words.proofs.Commands.{with_more}
+use Rattle.rv_test_command.specs.CommandLine.{parts_rule, with_files}
+use Rattle.rv_test_command.proofs.Commands.{with_more}
 use Rattle.rv_words.proofs.Public.{Is, with_argument}
-use Rattle.rv_test_words.proofs.command.merge_command.Goals as goal
+use Rattle.rv_test_command.proofs.command.merge_command.Goals as goal
 
 pub returns : goal.returns
 returns c =

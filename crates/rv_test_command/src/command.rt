@@ -3,10 +3,11 @@
 ghost use Rattle.std.specs.Prelude.{◌≡◌, IfOk, IsOkAnd, codes, false};
 ghost use Rattle.clap.specs.Words.{app_of, new_app, with_subcommand};
 ghost use Rattle.clap.specs.declared.builder.command.Command.TheViews.{out-Command};
-ghost use Rattle.rv_test_words.specs.Words.{check_app, diff_app, explain_app, list_app, merge_app};
-ghost use Rattle.rv_test_words.specs.Words.{run_app, show_app, test_app, top_app, with_choice};
-ghost use Rattle.rv_test_words.specs.Words.{with_files, with_machine, with_reports, with_results};
-ghost use Rattle.rv_test_words.specs.Words.{with_runs, with_shard};
+ghost use Rattle.rv_test_command.specs.CommandLine.{check_app, diff_app, explain_app, list_app};
+ghost use Rattle.rv_test_command.specs.CommandLine.{merge_app, run_app, show_app, test_app};
+ghost use Rattle.rv_test_command.specs.CommandLine.{top_app, with_choice, with_files};
+ghost use Rattle.rv_test_command.specs.CommandLine.{with_machine, with_reports, with_results};
+ghost use Rattle.rv_test_command.specs.CommandLine.{with_runs, with_shard};
 
 use crate::arguments::{
     again, flag, group, junit, last, lenient, option, parts, root, shown, word, workers,
@@ -15,7 +16,7 @@ use clap::Command;
 use std::alloc::{AllocError, Global};
 
 /// The whole command.
-pub(crate) fn test_command<'a>(alloc: Global) -> Result<Command<'a>, AllocError>
+pub fn test_command<'a>(alloc: Global) -> Result<Command<'a>, AllocError>
     ensures { IfOk result (λ command. app_of command ≡ test_app) }
 {
     with_reports(alloc, with_runs(alloc, top_command(alloc)?)?)

@@ -1,8 +1,8 @@
 use Rattle.std.proofs.Common.{codes, rules, Ok}
 use Rattle.clap.specs.Words.{new_app, with_rule}
-use Rattle.rv_test_words.specs.Words.{flag_rule, option_rule, word_rule}
+use Rattle.rv_test_command.specs.CommandLine.{flag_rule, option_rule, word_rule}
 use Rattle.rv_words.proofs.Public.{Is, with_argument}
-use Rattle.rv_test_words.proofs.command.show_command.Goals as goal
+use Rattle.rv_test_command.proofs.command.show_command.Goals as goal
 
 pub returns : goal.returns
 returns c =

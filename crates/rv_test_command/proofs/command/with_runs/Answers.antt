@@ -1,8 +1,8 @@
 use Rattle.std.proofs.Common.{refl, Ok}
 use Rattle.clap.specs.Words.{app_of, with_subcommand}
-use Rattle.rv_test_words.specs.Words.{check_app, explain_app, run_app}
-use Rattle.rv_test_words.proofs.Commands.{with_below}
-use Rattle.rv_test_words.proofs.command.with_runs.Goals as goal
+use Rattle.rv_test_command.specs.CommandLine.{check_app, explain_app, run_app}
+use Rattle.rv_test_command.proofs.Commands.{with_below}
+use Rattle.rv_test_command.proofs.command.with_runs.Goals as goal
 
 pub returns : goal.returns
 returns c =

@@ -1,8 +1,8 @@
 use Rattle.std.proofs.Common.{codes, Ok}
 use Rattle.clap.specs.Words.{with_rule}
-use Rattle.rv_test_words.specs.Words.{list_app, option_rule, shown_rule, word_rule}
+use Rattle.rv_test_command.specs.CommandLine.{list_app, option_rule, shown_rule, word_rule}
 use Rattle.rv_words.proofs.Public.{with_argument}
-use Rattle.rv_test_words.proofs.command.explain_command.Goals as goal
+use Rattle.rv_test_command.proofs.command.explain_command.Goals as goal
 
 pub returns : goal.returns
 returns c =

@@ -1,8 +1,8 @@
 use Rattle.std.proofs.Common.{refl, codes, Ok}
 use Rattle.clap.specs.Words.{app_of, with_rule}
-use Rattle.rv_test_words.specs.Words.{flag_rule, last_rule}
+use Rattle.rv_test_command.specs.CommandLine.{flag_rule, last_rule}
 use Rattle.rv_words.proofs.Public.{with_argument}
-use Rattle.rv_test_words.proofs.command.with_results.Goals as goal
+use Rattle.rv_test_command.proofs.command.with_results.Goals as goal
 
 pub returns : goal.returns
 returns c =
