@@ -1,30 +1,32 @@
 //! The command line of `rvtest`, for `clap`.
 
-ghost use Rattle.std.specs.Prelude.{◌≡◌, IfOk, IsOkAnd, codes, false};
-ghost use Rattle.clap.specs.Words.{app_of, new_app, with_subcommand};
+ghost use Rattle.std.specs.Prelude.{◌≡◌, IfOk, false};
+ghost use Rattle.clap.specs.Words.{App, Rule, app_of, rule_of, with_rule, with_subcommand};
 ghost use Rattle.clap.specs.declared.builder.command.Command.TheViews.{out-Command};
+ghost use Rattle.rv_test_command.specs.Building.{HasApp, IsBuilt};
 ghost use Rattle.rv_test_command.specs.CommandLine.{check_app, diff_app, explain_app, list_app};
-ghost use Rattle.rv_test_command.specs.CommandLine.{merge_app, run_app, show_app, test_app};
-ghost use Rattle.rv_test_command.specs.CommandLine.{top_app, with_choice, with_files};
-ghost use Rattle.rv_test_command.specs.CommandLine.{with_machine, with_reports, with_results};
-ghost use Rattle.rv_test_command.specs.CommandLine.{with_runs, with_shard};
+ghost use Rattle.rv_test_command.specs.CommandLine.{merge_app, run_app, show_app, test_app, top_app};
+ghost use Rattle.rv_test_command.specs.CommandLine.{with_choice, with_files, with_machine};
+ghost use Rattle.rv_test_command.specs.CommandLine.{with_reports, with_results, with_runs, with_shard};
 
 use crate::arguments::{
     again, flag, group, junit, last, lenient, option, parts, root, shown, word, workers,
 };
-use clap::Command;
+use clap::{Arg, Command};
 use std::alloc::{AllocError, Global};
+
+// A command on its way. It goes through all calls as it is, since each `?` beside a command costs the prover ten seconds.
+type Built<'a> = Result<Command<'a>, AllocError>;
 
 /// The whole command.
 pub fn test_command<'a>(alloc: Global) -> Result<Command<'a>, AllocError>
     ensures { IfOk result (λ command. app_of command ≡ test_app) }
 {
-    with_reports(alloc, with_runs(alloc, top_command(alloc)?)?)
+    with_reports(alloc, with_runs(alloc, top_command(alloc)))
 }
 
-fn top_command<'a>(alloc: Global) -> Result<Command<'a>, AllocError>
-    ensures { IfOk result (λ command.
-        (app_of command ≡ top_app) × ((out-Command command).has_globals ≡ false)) }
+fn top_command<'a>(alloc: Global) -> Built<'a>
+    ensures { IsBuilt top_app result }
 {
     Command::new(alloc, "rvtest")
         .subcommand_required(true)
@@ -35,38 +37,51 @@ fn top_command<'a>(alloc: Global) -> Result<Command<'a>, AllocError>
 }
 
 // The commands that run jobs.
-fn with_runs<'a>(alloc: Global, command: Command<'a>) -> Result<Command<'a>, AllocError>
-    ensures { IfOk result (λ more. app_of more ≡ with_runs (app_of command.entry)) }
+fn with_runs<'a>(alloc: Global, command: Built<'a>) -> Built<'a>
+    ensures { (app : App) → HasApp app command.entry → HasApp (with_runs app) result }
 {
-    let command = with_sub(command, run_command(alloc))?;
-    let command = with_sub(command, explain_command(alloc))?;
-    with_sub(command, check_command(alloc))
+    let command = with_command(command, run_command(alloc));
+    let command = with_command(command, explain_command(alloc));
+    with_command(command, check_command(alloc))
 }
 
 // The commands that read reports.
-fn with_reports<'a>(alloc: Global, command: Command<'a>) -> Result<Command<'a>, AllocError>
-    ensures { IfOk result (λ more. app_of more ≡ with_reports (app_of command.entry)) }
+fn with_reports<'a>(alloc: Global, command: Built<'a>) -> Built<'a>
+    ensures { (app : App) → HasApp app command.entry → HasApp (with_reports app) result }
 {
-    let command = with_sub(command, merge_command(alloc))?;
-    let command = with_sub(command, diff_command(alloc))?;
-    with_sub(command, show_command(alloc))
+    let command = with_command(command, merge_command(alloc));
+    let command = with_command(command, diff_command(alloc));
+    with_command(command, show_command(alloc))
 }
 
 // A command with one more below it.
-fn with_sub<'a>(
-    command: Command<'a>,
-    below: Result<Command<'a>, AllocError>,
-) -> Result<Command<'a>, AllocError>
-    ensures { IfOk result (λ more. IsOkAnd below.entry (λ sub. (out-Command sub).has_globals ≡ false
-        → app_of more ≡ with_subcommand (app_of command.entry) (app_of sub).top)) }
+fn with_command<'a>(command: Built<'a>, below: Built<'a>) -> Built<'a>
+    ensures { (app : App) → (under : App) → HasApp app command.entry → IsBuilt under below.entry
+        → HasApp (with_subcommand app under.top) result }
 {
+    let command = command?;
     command.subcommand(below?)
 }
 
+// A command with one more argument.
+fn with_argument<'a>(command: Built<'a>, argument: Arg<'a>) -> Built<'a>
+    ensures { (app : App) → (rule : Rule)
+        → (rule_of argument.entry ≡ rule) × (argument.entry.global ≡ false)
+        → IsBuilt app command.entry → IsBuilt (with_rule app rule) result }
+{
+    command?.arg(argument)
+}
+
+// A command whose usage begins with a name.
+fn named<'a>(command: Built<'a>, name: &'a str) -> Built<'a>
+    ensures { (app : App) → IsBuilt app command.entry → IsBuilt app result }
+{
+    command?.bin_name(name)
+}
+
 // A command of a job list.
-fn list_command<'a>(alloc: Global, name: &'a str, about: &'a str) -> Result<Command<'a>, AllocError>
-    ensures { IfOk result (λ command. (app_of command ≡ list_app name.entry.now)
-        × ((out-Command command).has_globals ≡ false)) }
+fn list_command<'a>(alloc: Global, name: &'a str, about: &'a str) -> Built<'a>
+    ensures { IsBuilt (list_app name.entry.now) result }
 {
     Command::new(alloc, name)
         .about(about)
@@ -79,29 +94,27 @@ pub fn run_command<'a>(alloc: Global) -> Result<Command<'a>, AllocError>
         (app_of command ≡ run_app) × ((out-Command command).has_globals ≡ false)) }
 {
     let about = "Runs the jobs of a list, and shows each that fails";
-    let command = list_command(alloc, "run", about)?.bin_name("rvtest run")?;
-    let command = with_shard(alloc, with_choice(alloc, command)?)?;
-    let command = with_files(alloc, with_machine(alloc, command)?)?;
+    let command = named(list_command(alloc, "run", about), "rvtest run");
+    let command = with_shard(alloc, with_choice(alloc, command));
+    let command = with_files(alloc, with_machine(alloc, command));
     with_results(alloc, command)
 }
 
-fn explain_command<'a>(alloc: Global) -> Result<Command<'a>, AllocError>
-    ensures { IfOk result (λ command.
-        (app_of command ≡ explain_app) × ((out-Command command).has_globals ≡ false)) }
+fn explain_command<'a>(alloc: Global) -> Built<'a>
+    ensures { IsBuilt explain_app result }
 {
     let about = "Runs one job, and shows how it ended and came there";
-    list_command(alloc, "explain", about)?
-        .arg(word(alloc, "name", "NAME", "Name of the job"))?
-        .arg(shown(alloc))?
-        .arg(root(alloc))
+    let command = list_command(alloc, "explain", about);
+    let command = with_argument(command, word(alloc, "name", "NAME", "Name of the job"));
+    let command = with_argument(command, shown(alloc));
+    with_argument(command, root(alloc))
 }
 
-fn check_command<'a>(alloc: Global) -> Result<Command<'a>, AllocError>
-    ensures { IfOk result (λ command.
-        (app_of command ≡ check_app) × ((out-Command command).has_globals ≡ false)) }
+fn check_command<'a>(alloc: Global) -> Built<'a>
+    ensures { IsBuilt check_app result }
 {
     let about = "Says all that is wrong with a list and its files, and runs nothing";
-    list_command(alloc, "check", about)?.arg(root(alloc))
+    with_argument(list_command(alloc, "check", about), root(alloc))
 }
 
 /// The command `rvtest merge`, whose usage a refusal of its words shows.
@@ -109,133 +122,83 @@ pub fn merge_command<'a>(alloc: Global) -> Result<Command<'a>, AllocError>
     ensures { IfOk result (λ command.
         (app_of command ≡ merge_app) × ((out-Command command).has_globals ≡ false)) }
 {
-    let command = Command::new(alloc, "merge")
-        .about("Makes the whole report of the parts of one run")
-        .bin_name("rvtest merge")?
-        .arg(parts(alloc))?;
-    with_files(alloc, command)
+    let about = "Makes the whole report of the parts of one run";
+    let command = named(
+        Ok(Command::new(alloc, "merge").about(about)),
+        "rvtest merge",
+    );
+    with_files(alloc, with_argument(command, parts(alloc)))
 }
 
-fn diff_command<'a>(alloc: Global) -> Result<Command<'a>, AllocError>
-    ensures { IfOk result (λ command.
-        (app_of command ≡ diff_app) × ((out-Command command).has_globals ≡ false)) }
+fn diff_command<'a>(alloc: Global) -> Built<'a>
+    ensures { IsBuilt diff_app result }
 {
-    Command::new(alloc, "diff")
-        .about("Says in which jobs two reports differ")
-        .arg(word(
-            alloc,
-            "old",
-            "OLD",
-            "Path of the report that is compared with",
-        ))?
-        .arg(word(alloc, "new", "NEW", "Path of the report that is compared"))?
-        .arg(flag(alloc, "steps", "Compares steps too, and where faults were"))
+    let command = Ok(Command::new(alloc, "diff").about("Says in which jobs two reports differ"));
+    let old = "Path of the report that is compared with";
+    let command = with_argument(command, word(alloc, "old", "OLD", old));
+    let new = "Path of the report that is compared";
+    let command = with_argument(command, word(alloc, "new", "NEW", new));
+    let steps = "Compares steps too, and where faults were";
+    with_argument(command, flag(alloc, "steps", steps))
 }
 
-fn show_command<'a>(alloc: Global) -> Result<Command<'a>, AllocError>
-    ensures { IfOk result (λ command.
-        (app_of command ≡ show_app) × ((out-Command command).has_globals ≡ false)) }
+fn show_command<'a>(alloc: Global) -> Built<'a>
+    ensures { IsBuilt show_app result }
 {
-    Command::new(alloc, "show")
-        .about("Shows what failed in a report")
-        .arg(word(alloc, "report", "REPORT", "Path of a report"))?
-        .arg(junit(alloc))?
-        .arg(lenient(alloc))
+    let command = Ok(Command::new(alloc, "show").about("Shows what failed in a report"));
+    let command = with_argument(command, word(alloc, "report", "REPORT", "Path of a report"));
+    let command = with_argument(command, junit(alloc));
+    with_argument(command, lenient(alloc))
 }
 
 // The arguments that choose jobs.
-fn with_choice<'a>(alloc: Global, command: Command<'a>) -> Result<Command<'a>, AllocError>
-    requires { (out-Command command).has_globals ≡ false }
-    ensures { IfOk result (λ more. (app_of more ≡ with_choice (app_of command.entry))
-        × ((out-Command more).has_globals ≡ false)) }
+fn with_choice<'a>(alloc: Global, command: Built<'a>) -> Built<'a>
+    ensures { (app : App) → IsBuilt app command.entry → IsBuilt (with_choice app) result }
 {
-    command
-        .arg(again(
-            alloc,
-            "only",
-            "NAME",
-            "Chooses the job of this name; may come again",
-        ))?
-        .arg(option(
-            alloc,
-            "match",
-            "REGEX",
-            "Chooses the jobs in whose names it is found",
-        ))?
-        .arg(option(
-            alloc,
-            "failed",
-            "REPORT",
-            "Chooses the jobs that failed in a report",
-        ))
+    let only = "Chooses the job of this name; may come again";
+    let command = with_argument(command, again(alloc, "only", "NAME", only));
+    let pattern = "Chooses the jobs in whose names it is found";
+    let command = with_argument(command, option(alloc, "match", "REGEX", pattern));
+    let failed = "Chooses the jobs that failed in a report";
+    with_argument(command, option(alloc, "failed", "REPORT", failed))
 }
 
 // The arguments of one part of a list.
-fn with_shard<'a>(alloc: Global, command: Command<'a>) -> Result<Command<'a>, AllocError>
-    requires { (out-Command command).has_globals ≡ false }
-    ensures { IfOk result (λ more. (app_of more ≡ with_shard (app_of command.entry))
-        × ((out-Command more).has_globals ≡ false)) }
+fn with_shard<'a>(alloc: Global, command: Built<'a>) -> Built<'a>
+    ensures { (app : App) → IsBuilt app command.entry → IsBuilt (with_shard app) result }
 {
-    command
-        .arg(option(
-            alloc,
-            "shard",
-            "K/N",
-            "Runs the K-th of N parts of the list",
-        ))?
-        .arg(option(
-            alloc,
-            "stamp",
-            "TEXT",
-            "Says which run the part is of; else a digest of the list",
-        ))
+    let shard = "Runs the K-th of N parts of the list";
+    let command = with_argument(command, option(alloc, "shard", "K/N", shard));
+    let stamp = "Says which run the part is of; else a digest of the list";
+    with_argument(command, option(alloc, "stamp", "TEXT", stamp))
 }
 
 // The arguments of threads and folders.
-fn with_machine<'a>(alloc: Global, command: Command<'a>) -> Result<Command<'a>, AllocError>
-    requires { (out-Command command).has_globals ≡ false }
-    ensures { IfOk result (λ more. (app_of more ≡ with_machine (app_of command.entry))
-        × ((out-Command more).has_globals ≡ false)) }
+fn with_machine<'a>(alloc: Global, command: Built<'a>) -> Built<'a>
+    ensures { (app : App) → IsBuilt app command.entry → IsBuilt (with_machine app) result }
 {
-    command
-        .arg(workers(alloc))?
-        .arg(group(alloc))?
-        .arg(root(alloc))
+    let command = with_argument(command, workers(alloc));
+    let command = with_argument(command, group(alloc));
+    with_argument(command, root(alloc))
 }
 
 // The arguments of what is written, and by which rule jobs fail.
-fn with_files<'a>(alloc: Global, command: Command<'a>) -> Result<Command<'a>, AllocError>
-    requires { (out-Command command).has_globals ≡ false }
-    ensures { IfOk result (λ more. (app_of more ≡ with_files (app_of command.entry))
-        × ((out-Command more).has_globals ≡ false)) }
+fn with_files<'a>(alloc: Global, command: Built<'a>) -> Built<'a>
+    ensures { (app : App) → IsBuilt app command.entry → IsBuilt (with_files app) result }
 {
-    command
-        .arg(option(
-            alloc,
-            "report",
-            "FILE",
-            "Writes the report to this file; - is standard output",
-        ))?
-        .arg(junit(alloc))?
-        .arg(lenient(alloc))
+    let report = "Writes the report to this file; - is standard output";
+    let command = with_argument(command, option(alloc, "report", "FILE", report));
+    let command = with_argument(command, junit(alloc));
+    with_argument(command, lenient(alloc))
 }
 
 // The arguments of what is shown.
-fn with_results<'a>(alloc: Global, command: Command<'a>) -> Result<Command<'a>, AllocError>
-    requires { (out-Command command).has_globals ≡ false }
-    ensures { IfOk result (λ more. (app_of more ≡ with_results (app_of command.entry))
-        × ((out-Command more).has_globals ≡ false)) }
+fn with_results<'a>(alloc: Global, command: Built<'a>) -> Built<'a>
+    ensures { (app : App) → IsBuilt app command.entry → IsBuilt (with_results app) result }
 {
-    command
-        .arg(flag(
-            alloc,
-            "verbose",
-            "Shows the jobs that pass, too; not beside --quiet",
-        ))?
-        .arg(flag(
-            alloc,
-            "quiet",
-            "Shows the last line alone; not beside --verbose",
-        ))?
-        .arg(last(alloc))
+    let verbose = "Shows the jobs that pass, too; not beside --quiet";
+    let command = with_argument(command, flag(alloc, "verbose", verbose));
+    let quiet = "Shows the last line alone; not beside --verbose";
+    let command = with_argument(command, flag(alloc, "quiet", quiet));
+    with_argument(command, last(alloc))
 }

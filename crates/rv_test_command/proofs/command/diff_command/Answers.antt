@@ -1,18 +1,11 @@
-use Rattle.std.proofs.Common.{codes, rules, Ok}
-use Rattle.clap.specs.Words.{new_app, with_rule}
-use Rattle.rv_test_command.specs.CommandLine.{flag_rule, word_rule}
-use Rattle.rv_words.proofs.Public.{Is, with_argument}
+use Rattle.std.proofs.Common.{codes, rules}
+use Rattle.clap.specs.Words.{new_app}
+use Rattle.rv_words.proofs.Public.{Is}
 use Rattle.rv_test_command.proofs.command.diff_command.Goals as goal
 
 pub returns : goal.returns
 returns c =
-    let app = new_app (codes "diff") in
-    let begun : Is app c.about.result = search rules in
-    let old = word_rule (codes "old") in
-    let new = word_rule (codes "new") in
-    let first = with_argument c.about.result _ app old (Ok c.in_ok-arg.field-0) c.in_ok-arg.ensures begun
-    c.word.ensures in
-    let second = with_argument c.in_ok-arg.field-0 _ (with_rule app old) new (Ok c.in_ok-arg-2.field-0)
-    c.in_ok-arg-2.ensures first c.word-2.ensures in
-    with_argument c.in_ok-arg-2.field-0 _ (with_rule (with_rule app old) new) (flag_rule (codes "steps"))
-    c.arg-3.result c.arg-3.ensures second c.flag.ensures
+    let begun : Is (new_app (codes "diff")) c.about.result = search rules in
+    let first = c.with_argument-command.ensures _ _ c.word.ensures begun in
+    let second = c.with_argument-command-2.ensures _ _ c.word-2.ensures first in
+    c.with_argument.ensures _ _ c.flag.ensures second
