@@ -4,19 +4,13 @@ ghost use Rattle.std.specs.Prelude.{None};
 
 use rv_files::Unread;
 use rv_jobs::{ReadError, Store, Text};
-use samples::{BadSample, file, program, with_symbols};
+use samples::file;
 use std::alloc::{AllocError, Global};
 use std::io::ErrorKind;
 
 // What the system says of the paths that are unreadable; of a path `?` nothing is noted.
-const UNREAD: [(&str, ErrorKind); 17] = [
+const UNREAD: [(&str, ErrorKind); 10] = [
     ("missing", ErrorKind::NotFound),
-    ("folder", ErrorKind::IsADirectory),
-    ("secret", ErrorKind::PermissionDenied),
-    ("a/b", ErrorKind::NotADirectory),
-    ("a\u{1b}b", ErrorKind::NotFound),
-    ("loop", ErrorKind::FilesystemLoop),
-    ("name", ErrorKind::InvalidFilename),
     ("input", ErrorKind::InvalidInput),
     ("stale", ErrorKind::StaleNetworkFileHandle),
     ("busy", ErrorKind::ResourceBusy),
@@ -25,28 +19,16 @@ const UNREAD: [(&str, ErrorKind); 17] = [
     ("late", ErrorKind::TimedOut),
     ("socket", ErrorKind::Unsupported),
     ("memory", ErrorKind::OutOfMemory),
-    ("failed", ErrorKind::Uncategorized),
     // A second note of one path is not told.
     ("missing", ErrorKind::TimedOut),
 ];
 
-/// Files by their paths: `words`, `second`, `three` and `text`; `long`, which is too long; those of [`notes`], which
-/// are unreadable; and at every other path the image of the sample that the path names, with the symbols that stand
-/// behind an `@`.
+/// Files by their paths: those of [`notes`], which are unreadable, and at every other path the image of the sample that
+/// the path names.
 #[derive(Drop)]
 pub(crate) struct Samples {
     /// How many paths were unreadable.
     pub(crate) faults: u64,
-}
-
-fn image_of(alloc: Global, path: &str) -> Result<Vec<u8>, BadSample> {
-    match path.split_once(" @ ") {
-        Some((code, symbols)) => {
-            let image = program(alloc, code)?;
-            with_symbols(alloc, image.as_slice(), symbols)
-        }
-        None => file(alloc, path),
-    }
 }
 
 fn is_unread(path: &str) -> bool {
@@ -63,16 +45,8 @@ impl Store for Samples {
             self.faults = self.faults.saturating_add(1);
             return Err(ReadError::Unreadable);
         }
-        let bytes = match path {
-            "long" => return Err(ReadError::TooLong),
-            "words" => b"0000000a\n".to_vec(alloc).ok(),
-            "second" => b"80000000\n00000000\n".to_vec(alloc).ok(),
-            "three" => b"80000000\nffffffff\n00000000\n".to_vec(alloc).ok(),
-            "text" => b"ab".to_vec(alloc).ok(),
-            _ => image_of(alloc, path).ok(),
-        };
-        match bytes {
-            Some(bytes) if bytes.len() <= 0x100_0000 => Ok(bytes),
+        match file(alloc, path) {
+            Ok(bytes) if bytes.len() <= 0x100_0000 => Ok(bytes),
             _ => Err(ReadError::OutOfMemory),
         }
     }

@@ -1,15 +1,10 @@
-//! Tests of what a person is told of lists, jobs and rows, by what `rv_explain`, `rv_lines`, `rv_reasons`, `rv_telling`,
-//! `rv_progress` and `rv_list_faults` show their callers. The crate has nothing else, so that no code is proved twice.
+//! Tests of what a person is told of jobs and rows, by what `rv_explain`, `rv_lines`, `rv_reasons`, `rv_telling` and `rv_progress` show
+//! their callers, and that the built program can't show: rows that no run has, errors that no file of a check gives, and a clock that tests
+//! move on. All else that is told stands in the tables of `checks/tables`. The crate has nothing else, so that no code is proved twice.
 #![tactic(auto)]
 
 #[cfg(test)]
-mod explain_tests;
-#[cfg(test)]
-mod fault_tests;
-#[cfg(test)]
 mod files;
-#[cfg(test)]
-mod key_tests;
 #[cfg(test)]
 mod line_tests;
 #[cfg(test)]
@@ -23,13 +18,7 @@ mod row_line_tests;
 #[cfg(test)]
 mod rows;
 #[cfg(test)]
-mod run_tests;
-#[cfg(test)]
 mod screen;
-#[cfg(test)]
-mod shown_tests;
-#[cfg(test)]
-mod stream_tests;
 #[cfg(test)]
 mod tables;
 #[cfg(test)]

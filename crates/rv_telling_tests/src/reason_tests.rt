@@ -35,23 +35,9 @@ fn expect_line(alloc: Global, line: &str) -> Result<(), Fail> {
     )
 }
 
+// Refusals that their files do not have: of a segment where none is found, and of a symbol table where the section headers are bad.
 const REASONS: &str = "\
-the file is no ELF file | input = '' | one 0=00 | bad-magic
-the file is shorter than an ELF header | input = '' | one 51 | short-header
-the entry is odd | input = '' | one 24=80000001 | entry-odd
-a segment's bytes in memory, 80000000 to 801fffff, do not lie in one region: [80000000 to 800fffff] \
-| input = '' | one 72=00200000 | segment-map
-a segment's bytes from the file, 90000000 to 9000000b, do not lie in one region: [80000000 to 800fffff] \
-| input = '' | one 64=90000000 | segment-map
-a segment's bytes in memory, fffffff8 to past ffffffff, do not lie in one region: [80000000 to 800fffff] \
-| input = '' | one 60=fffffff8 | segment-map
 a segment does not lie in one region | input = '' | one 51 | segment-map
-the file bytes of two segments share addresses: 80000000 to 8000000f and 80000008 to 8000000b \
-| input = '' | two 96=80000008 | segment-overlap
-no symbol x is defined | signature = ['x', 'end_signature'] | sign | no-begin
-no symbol a\\x01 is defined | signature = ['begin_signature', \"a\\u0001\"] | sign | no-end
-the signature from end_signature at 80000030 to begin_signature at 80000028 is not up to 65536 whole words of one \
-region: [80000000 to 800fffff] | signature = ['end_signature', 'begin_signature'] | sign | signature-range
 the file has no symbol table | signature = ['x', 'y'] | one | no-symbols";
 
 #[test]

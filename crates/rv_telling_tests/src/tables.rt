@@ -10,8 +10,8 @@ use samples::agree;
 use std::alloc::{AllocError, Global};
 use std::test::Fail;
 
-/// The plan of two jobs, of which the second has the keys. Where these have no budget, it has one of 99.
-pub(crate) fn plan_of(alloc: Global, keys: &str) -> Result<Plan, Fail> {
+// The plan of two jobs, of which the second has the keys. Where these have no budget, it has one of 99.
+fn plan_of(alloc: Global, keys: &str) -> Result<Plan, Fail> {
     let budget = if keys.contains("budget = ") {
         ""
     } else {
@@ -24,7 +24,7 @@ pub(crate) fn plan_of(alloc: Global, keys: &str) -> Result<Plan, Fail> {
     Ok(gather(alloc, jobs, &mut Samples { faults: 0 })?)
 }
 
-pub(crate) fn verbosity_of(word: &str) -> Verbosity {
+fn verbosity_of(word: &str) -> Verbosity {
     match word {
         "quiet" => Verbosity::Quiet,
         "all" => Verbosity::All,
