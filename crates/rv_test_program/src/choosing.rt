@@ -131,8 +131,8 @@ fn told_of_pattern(alloc: Global, asked: &RunAsked<'_>) -> Result<Vec<u8>, Alloc
     let mut text = Vec::new(alloc);
     push_text(&mut text, "rvtest: ")?;
     push_shown(&mut text, asked.list.as_bytes())?;
-    push_text(&mut text, ": no job has a name in which ")?;
+    push_text(&mut text, ": no job's name matches '")?;
     push_shown_value(&mut text, asked.pattern.unwrap_or("").as_bytes())?;
-    push_text(&mut text, " is found\n")?;
+    push_text(&mut text, "'\n")?;
     Ok(text)
 }

@@ -1,20 +1,27 @@
 //! The command `explain`.
 
-ghost use Rattle.std.specs.Prelude.{◌≤◌, ◌<◌, IfOk, IfSome, length};
+ghost use Rattle.std.specs.Prelude.{◌≡◌, ◌≤◌, ◌<◌, IfOk, IfSome, length, position, slice_index_or};
+ghost use Rattle.std.specs.Str.{bytes_eq};
+ghost use Rattle.rv_lists.specs.declared.job.Job.{Job as AJob};
+ghost use Rattle.rv_lines.specs.declared.passing.Rule.TheVariants.{Strict};
+ghost use Rattle.rv_lines.specs.Passing.{has_passed};
+ghost use Rattle.rv_rows.specs.Rows.{row_of};
+ghost use Rattle.rv_telling.specs.Telling.{explained};
+ghost use Rattle.rv_test_program.specs.Commands.{passing_status};
 
 use crate::choosing::told_of_name;
 use crate::list::{jobs_of, read_text};
 use crate::messages::put_out;
 use crate::stop::Stop;
 use crate::streams::Streams;
-use rv_files::NotingStore;
-use rv_jobs::{Job, JobList, gather_places};
+use rv_files::{NotingStore, Unread};
+use rv_jobs::{Job, JobList, Plan, gather_places};
 use rv_lines::{Rule, has_passed};
 use rv_rows::row_at;
 use rv_telling::{RowTelling, Verbosity};
 use rv_test_run::{DONE, SOME_FAIL};
 use rv_test_words::ExplainAsked;
-use std::alloc::Global;
+use std::alloc::{AllocError, Global};
 use std::rt::Files;
 
 /// Runs the job of a name, and shows how it ended and came there. The status is 1 where it failed.
@@ -38,7 +45,8 @@ pub(crate) fn explain<R: Files, S: Streams>(
 }
 
 fn place_of(jobs: &[Job], name: &str) -> Option<usize>
-    ensures { IfSome result (λ place. place < length jobs.now) }
+    ensures within { IfSome result (λ place. place < length jobs.now) }
+    ensures named { result ≡ position (λ job. bytes_eq job.name name.now) jobs.now }
 {
     jobs.iter().position(|job| job.name.as_str() == name)
 }
@@ -58,22 +66,43 @@ fn explain_at<R: Files, S: Streams>(
     let places = vec![in alloc; place; 1]?;
     let mut store = NotingStore::new(files, alloc, asked.root);
     let plan = gather_places(alloc, jobs, places, &mut store)?;
-    let row = row_at(alloc, &plan, place)?;
+    let (told, status) = explained(alloc, &plan, store.unread(), place, asked.last)?;
+    put_out(streams, told.as_slice())?;
+    Ok(status)
+}
+
+// What explains the row of the job at a place, and the status.
+fn explained(
+    alloc: Global,
+    plan: &Plan,
+    unread: &[Unread],
+    place: usize,
+    last: u32,
+) -> Result<(Vec<u8>, u8), AllocError>
+    requires { place < length plan.now.jobs }
+    ensures text { IfOk result (λ found. (d : AJob) → found.0.items
+        ≡ explained plan.now unread.now Strict (slice_index_or plan.now.jobs place d)
+        (row_of plan.now (slice_index_or plan.now.jobs place d)) last) }
+    ensures status { IfOk result (λ found. (d : AJob) → found.1
+        ≡ passing_status (has_passed Strict (row_of plan.now (slice_index_or plan.now.jobs place d)))) }
+    ensures low { IfOk result (λ found. found.1 ≤ 1) }
+{
+    let row = row_at(alloc, plan, place)?;
     let telling = RowTelling {
-        plan: &plan,
-        unread: store.unread(),
+        plan,
+        unread,
         rule: Rule::Strict,
         verbosity: Verbosity::All,
         last: None,
     };
     let mut told = Vec::new(alloc);
-    telling.push_explained(alloc, place, &row, asked.last, &mut told)?;
-    put_out(streams, told.as_slice())?;
-    Ok(status_of(has_passed(Rule::Strict, &row)))
+    telling.push_explained(alloc, place, &row, last, &mut told)?;
+    Ok((told, status_of(has_passed(Rule::Strict, &row))))
 }
 
 fn status_of(passed: bool) -> u8
-    ensures { result ≤ 1 }
+    ensures value { result ≡ passing_status passed }
+    ensures low { result ≤ 1 }
 {
     if passed { DONE } else { SOME_FAIL }
 }

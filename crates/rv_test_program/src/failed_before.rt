@@ -1,6 +1,7 @@
 //! The jobs that failed in a report.
 
-ghost use Rattle.std.specs.Prelude.{◌≤◌, IfOk, length};
+ghost use Rattle.std.specs.Prelude.{◌≡◌, ◌≤◌, IfOk, length, map};
+ghost use Rattle.rv_test_program.specs.Commands.{failed_in};
 ghost use Rattle.rv_lists.specs.Jobs.{most_jobs};
 
 use crate::files::read_file;
@@ -46,11 +47,9 @@ fn told_of_line(alloc: Global, path: &str, line: usize) -> Result<Vec<u8>, Alloc
 }
 
 /// The names of the jobs that failed.
-pub(crate) fn failed_names(
-    alloc: Global,
-    rule: Rule,
-    rows: &[Row],
-) -> Result<Vec<&str>, AllocError> {
+pub(crate) fn failed_names(alloc: Global, rule: Rule, rows: &[Row]) -> Result<Vec<&str>, AllocError>
+    ensures { IfOk result (λ names. map (λ name. name.now) names.items ≡ failed_in rule rows.now) }
+{
     let mut names = Vec::new(alloc);
     for row in rows {
         if !has_passed(rule, row) {

@@ -2,6 +2,7 @@
 
 ghost use Rattle.std.specs.Prelude.{◌≡◌, ◌≤◌, IfOk, length};
 ghost use Rattle.rv_lists.specs.Jobs.{most_jobs};
+ghost use Rattle.rv_test_program.specs.Commands.{rule_for};
 ghost use Rattle.rv_test_run.specs.Shown.{status_of};
 
 use crate::files::read_file;
@@ -90,7 +91,9 @@ fn write<R: Files, S: Streams>(
     rows: Rows,
 ) -> Result<u8, Stop>
     requires { length rows ≤ most_jobs }
-    ensures { IfOk result (λ status. status ≤ 1) }
+    ensures low { IfOk result (λ status. status ≤ 1) }
+    ensures judged { IfOk result
+        (λ status. status ≡ status_of (rule_for asked.now.lenient) rows) }
 {
     let rule = rule_of(asked.lenient);
     let status = status_of(rule, rows.as_slice());

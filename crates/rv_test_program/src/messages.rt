@@ -1,6 +1,7 @@
 //! What goes to standard error, and the statuses.
 
-ghost use Rattle.std.specs.Prelude.{◌≡◌, ◌≤◌};
+ghost use Rattle.std.specs.Prelude.{◌≡◌, ◌≤◌, ◌⊎◌};
+ghost use Rattle.rv_test_program.specs.Commands.{IsStopStatus};
 
 use crate::stop::Stop;
 use crate::streams::Streams;
@@ -42,7 +43,8 @@ pub(crate) fn put_out<S: Streams>(streams: &S, text: &[u8]) -> Result<(), Stop> 
 
 /// Says why a command ended before its work was done, and gives the status.
 pub(crate) fn stopped<S: Streams>(streams: &S, stop: Stop) -> u8
-    ensures { result ≤ 3 }
+    ensures low { result ≤ 3 }
+    ensures told { IsStopStatus stop result }
 {
     match stop {
         Stop::Shown(text) => shown(streams, text.as_slice()),
@@ -66,7 +68,7 @@ fn failed<S: Streams>(streams: &S, text: &[u8]) -> u8
 
 // Help and the version go to standard output.
 fn shown<S: Streams>(streams: &S, text: &[u8]) -> u8
-    ensures { result ≤ 3 }
+    ensures { (result ≡ DONE) ⊎ (result ≡ FAILED) }
 {
     match put_out(streams, text) {
         Ok(()) => DONE,

@@ -1,9 +1,14 @@
 //! Which rows are failures.
 
+ghost use Rattle.std.specs.Prelude.{◌≡◌};
+ghost use Rattle.rv_test_program.specs.Commands.{rule_for};
+
 use rv_lines::Rule;
 
 /// The rule that words ask for.
-pub(crate) fn rule_of(is_lenient: bool) -> Rule {
+pub(crate) fn rule_of(is_lenient: bool) -> Rule
+    ensures { result ≡ rule_for is_lenient }
+{
     if is_lenient {
         Rule::Lenient
     } else {

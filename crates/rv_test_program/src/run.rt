@@ -6,6 +6,7 @@ ghost use Rattle.rv_fleet.specs.Choices.{AreWithin};
 ghost use Rattle.rv_jobs.specs.Choices.{marked};
 ghost use Rattle.rv_rows.specs.Rows.{rows_at};
 ghost use Rattle.rv_test_program.specs.Runs.{IsStatusOf};
+ghost use Rattle.rv_test_program.specs.Commands.{verbosity_for};
 ghost use Rattle.rv_test_run.specs.Shown.{status_of};
 
 use crate::choosing::marks_asked;
@@ -169,7 +170,9 @@ fn write<R: Files, S: Streams>(
     report.write(alloc, streams, telling.plan.jobs(), places, shard, rows)
 }
 
-fn verbosity_of(asked: &RunAsked<'_>) -> Verbosity {
+fn verbosity_of(asked: &RunAsked<'_>) -> Verbosity
+    ensures { result ≡ verbosity_for asked.now.verbose asked.now.quiet }
+{
     match (asked.verbose, asked.quiet) {
         (_, true) => Verbosity::Quiet,
         (true, false) => Verbosity::All,

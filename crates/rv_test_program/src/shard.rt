@@ -1,6 +1,8 @@
 //! The part of a list that words ask for, and its stamp.
 
-ghost use Rattle.std.specs.Prelude.{◌≡◌, ◌≤◌, ◌<◌, IfOk, IfSome};
+ghost use Rattle.std.specs.Prelude.{◌≡◌, ◌≤◌, ◌<◌, IfOk, IfSome, string_bytes, take};
+ghost use Rattle.hex.specs.Hex.{encode_lower};
+ghost use Rattle.sha2.specs.Sha256.{sha256};
 ghost use Rattle.rv_lists.specs.Jobs.{most_jobs};
 
 use crate::stop::Stop;
@@ -66,7 +68,9 @@ fn number_of(words: &str) -> Option<u32> {
     }
 }
 
-fn digest_of(alloc: Global, text: &[u8]) -> Result<String, AllocError> {
+fn digest_of(alloc: Global, text: &[u8]) -> Result<String, AllocError>
+    ensures { IfOk result (λ digits. string_bytes digits ≡ encode_lower (take 8 (sha256 text.now))) }
+{
     let digest = Sha256::digest(text);
     hex::encode(alloc, &digest[..8])
 }

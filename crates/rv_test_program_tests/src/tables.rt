@@ -54,7 +54,7 @@ junit | suites | 7
 junit leniently | lenient suites | 2
 console | consoles | 16
 words | good words | 22
-bad words | bad words | 47
+bad words | bad words | 48
 shown | shown | 7";
 
 fn table_of(name: &str) -> &'static str {

@@ -1,11 +1,11 @@
 //! The report of the rows of chosen jobs.
 
-ghost use Rattle.std.specs.Prelude.{◌≡◌, ◌+◌, ◌<◌, ◌≤◌, ◌^◌, IfOk, None, OnErr, OnOk, length, map};
+ghost use Rattle.std.specs.Prelude.{◌≡◌, ◌+◌, ◌<◌, ◌≤◌, ◌^◌, IfErr, IfOk, None, OnErr, OnOk, length, map};
 ghost use Rattle.std.specs.Io.KnownBytes.{Appends};
 ghost use Rattle.std.specs.List.{All};
 ghost use Rattle.std.specs.List.Sorted.{IsStrictlyIncreasing};
 ghost use Rattle.rv_lists.specs.Jobs.{most_jobs};
-ghost use Rattle.rv_rows.specs.Sending.{AppendsBeginning};
+ghost use Rattle.rv_rows.specs.Sending.{AppendsBeginning, Rose};
 ghost use Rattle.rv_test_run.specs.Shown.{numbers_of, part_text, report_of};
 
 use rv_fleet::{Report, Rows, Sink, WriteError, write_report};
@@ -31,6 +31,8 @@ pub fn write_rows<W: Sink>(
     ensures counted { OnOk result (W.failed out.new ≡ W.failed out.old) }
     ensures part { OnErr result (AppendsBeginning (W.taken out.old) (W.taken out.new)
         (report_of jobs places.now shard rows)) }
+    ensures failed { IfErr result (λ error. error ≡ WriteError.Failed
+        → Rose (W.failed out.old) (W.failed out.new)) }
 {
     match shard {
         Some(shard) => write_part(alloc, Extent::Shard(shard), jobs, places, rows, out),
@@ -55,6 +57,8 @@ fn write_chosen<W: Sink>(
     ensures counted { OnOk result (W.failed out.new ≡ W.failed out.old) }
     ensures part { OnErr result (AppendsBeginning (W.taken out.old) (W.taken out.new)
         (report_of jobs places.now None rows)) }
+    ensures failed { IfErr result (λ error. error ≡ WriteError.Failed
+        → Rose (W.failed out.old) (W.failed out.new)) }
 {
     if places.len() == jobs {
         return write_report(alloc, &Report { rows }, out);
@@ -80,6 +84,8 @@ fn write_part<W: Sink>(
     ensures counted { OnOk result (W.failed out.new ≡ W.failed out.old) }
     ensures part { OnErr result (AppendsBeginning (W.taken out.old) (W.taken out.new)
         (part_text extent places.now rows)) }
+    ensures failed { IfErr result (λ error. error ≡ WriteError.Failed
+        → Rose (W.failed out.old) (W.failed out.new)) }
 {
     let report = SavedReport {
         extent,

@@ -145,29 +145,30 @@ asked_of words = option_and_then (λ found. words_in found.0 found.1) (subcomman
 abbrev pub is_given : Text → List Row → Bool
 is_given id rows = is_some (first_of id rows)
 
--- an option names standard output
-abbrev pub is_out : Text → List Row → Bool
-is_out id rows = option_map_or (λ path. bytes_eq path (codes "-")) (first_of id rows) false
+-- the report goes to a path
+abbrev pub is_report : Text → List Row → Bool
+is_report path rows = option_map_or (bytes_eq path) (first_of (codes "report") rows) false
 
 -- jobs are chosen by their names or by a report
 abbrev pub is_choice : List Row → Bool
 is_choice rows = is_given (codes "only") rows
     || (is_given (codes "match") rows || is_given (codes "failed") rows)
 
--- both files are standard output
-abbrev pub twice_out : List Row → Option Misuse
-twice_out rows = if is_out (codes "report") rows && is_out (codes "junit") rows
-    then Some misuse.TwiceOut else None
+-- JUnit's XML goes where the report goes, be that a file or standard output
+abbrev pub one_file : List Row → Option Misuse
+one_file rows =
+    if option_map_or (λ path. is_report path rows) (first_of (codes "junit") rows) false
+    then Some misuse.OneFile else None
 
 -- the first of the rules that options of `run` break: --verbose and --quiet do not stand beside
--- one another, nor a shard beside a choice; a stamp is a shard's; one file is standard output
+-- one another, nor a shard beside a choice; a stamp is a shard's; the two files are not one
 abbrev pub misuse_in : List Row → Option Misuse
 misuse_in rows = if flag_in (codes "verbose") rows && flag_in (codes "quiet") rows
     then Some misuse.VerboseAndQuiet
     else if is_given (codes "shard") rows && is_choice rows then Some misuse.ShardAndChoice
     else if is_given (codes "stamp") rows && not (is_given (codes "shard") rows)
     then Some misuse.StampAlone
-    else twice_out rows
+    else one_file rows
 
 abbrev pub kinds_of : Option Misuse → Kinds
 kinds_of None = []
@@ -177,7 +178,7 @@ kinds_of (Some _) = kind.ArgumentConflict ∷ []
 -- the faults of a subcommand with these values that `clap` does not look for
 abbrev pub faults_in : Text → List Row → Kinds
 faults_in name rows = if bytes_eq name (codes "run") then kinds_of (misuse_in rows)
-    else if bytes_eq name (codes "merge") then kinds_of (twice_out rows)
+    else if bytes_eq name (codes "merge") then kinds_of (one_file rows)
     else []
 
 -- the faults of words: those that `clap` finds, else options that do not go together

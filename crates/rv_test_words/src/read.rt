@@ -6,8 +6,8 @@ ghost use Rattle.rv_test_command.specs.CommandLine.{most_last};
 ghost use Rattle.rv_test_words.specs.Asked.{AreWithin, merge_asked, run_asked, words_asked};
 ghost use Rattle.rv_test_words.specs.Words.{all_in, asked_of, check_in, diff_in, explain_in};
 ghost use Rattle.rv_test_words.specs.Words.{faults_in, faults_of, flag_in, is_choice, is_given};
-ghost use Rattle.rv_test_words.specs.Words.{is_out, kinds_of, merge, merge_in, misuse_in};
-ghost use Rattle.rv_test_words.specs.Words.{run_in, run_words, show_in, twice_out, words_in};
+ghost use Rattle.rv_test_words.specs.Words.{is_report, kinds_of, merge, merge_in, misuse_in};
+ghost use Rattle.rv_test_words.specs.Words.{one_file, run_in, run_words, show_in, words_in};
 
 use crate::asked::{Asked, CheckAsked, DiffAsked, ExplainAsked, MergeAsked, RunAsked, ShowAsked};
 use crate::refusals::Misuse;
@@ -86,7 +86,7 @@ fn misuse_of_run(values: &ArgMatches<'_>) -> Option<Misuse>
     } else if is_given(values, "stamp") && !is_given(values, "shard") {
         Some(Misuse::StampAlone)
     } else {
-        twice_out(values)
+        one_file(values)
     }
 }
 
@@ -96,13 +96,21 @@ fn is_choice(values: &ArgMatches<'_>) -> bool
     is_given(values, "only") || is_given(values, "match") || is_given(values, "failed")
 }
 
-fn twice_out(values: &ArgMatches<'_>) -> Option<Misuse>
-    ensures { result ≡ twice_out (rows_of (found_of values.now)) }
+fn one_file(values: &ArgMatches<'_>) -> Option<Misuse>
+    ensures { result ≡ one_file (rows_of (found_of values.now)) }
 {
-    if is_out(values, "report") && is_out(values, "junit") {
-        Some(Misuse::TwiceOut)
-    } else {
-        None
+    match text(values, "junit") {
+        Some(path) if is_report(values, path) => Some(Misuse::OneFile),
+        _ => None,
+    }
+}
+
+fn is_report(values: &ArgMatches<'_>, path: &str) -> bool
+    ensures { result ≡ is_report path.now (rows_of (found_of values.now)) }
+{
+    match text(values, "report") {
+        Some(report) => path == report,
+        None => false,
     }
 }
 
@@ -110,15 +118,6 @@ fn is_given(values: &ArgMatches<'_>, id: &str) -> bool
     ensures { result ≡ is_given id.now (rows_of (found_of values.now)) }
 {
     text(values, id).is_some()
-}
-
-fn is_out(values: &ArgMatches<'_>, id: &str) -> bool
-    ensures { result ≡ is_out id.now (rows_of (found_of values.now)) }
-{
-    match text(values, id) {
-        Some(path) => path == "-",
-        None => false,
-    }
 }
 
 #[tactic(auto, unfolding(crate::specs::Words::run_words))]
@@ -183,9 +182,9 @@ fn merge_asked<'a>(alloc: Global, values: &ArgMatches<'a>) -> Result<Option<Aske
     ensures value { IfOk result (λ asked.
         option_map words_asked asked ≡ Some (merge_in (rows_of (found_of values.now)))) }
     ensures within { IfOk result (λ asked. IfSome asked AreWithin) }
-    ensures kinds { FailsBy (kinds_of (twice_out (rows_of (found_of values.now)))) result }
+    ensures kinds { FailsBy (kinds_of (one_file (rows_of (found_of values.now)))) result }
 {
-    if let Some(misuse) = twice_out(values) {
+    if let Some(misuse) = one_file(values) {
         return Err(misuse.error(merge_command(alloc)));
     }
     Ok(Some(Asked::Merge(merge_values(alloc, values)?)))

@@ -17,8 +17,8 @@ pub(crate) enum Misuse {
     ShardAndChoice,
     /// A stamp without a shard.
     StampAlone,
-    /// Two files that are both standard output.
-    TwiceOut,
+    /// A report and JUnit's XML that go to one file.
+    OneFile,
 }
 
 impl Misuse {
@@ -37,7 +37,7 @@ impl Misuse {
     {
         match self {
             Misuse::StampAlone => ErrorKind::MissingRequiredArgument,
-            Misuse::VerboseAndQuiet | Misuse::ShardAndChoice | Misuse::TwiceOut => {
+            Misuse::VerboseAndQuiet | Misuse::ShardAndChoice | Misuse::OneFile => {
                 ErrorKind::ArgumentConflict
             }
         }
@@ -52,8 +52,8 @@ impl Misuse {
             Misuse::StampAlone => {
                 "the argument '--stamp <TEXT>' cannot be used without '--shard <K/N>'"
             }
-            Misuse::TwiceOut => {
-                "the argument '--report -' cannot be used with '--junit -': standard output is one file"
+            Misuse::OneFile => {
+                "the argument '--report <FILE>' cannot be used with '--junit <FILE>' of the same name: it is one file"
             }
         }
     }

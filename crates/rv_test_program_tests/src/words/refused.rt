@@ -41,10 +41,11 @@ run a.toml --stamp x | MissingRequiredArgument | '--stamp <TEXT>' cannot be used
 run a.toml --shard 1/2 --only x | ArgumentConflict | '--shard <K/N>' cannot be used with '--only <NAME>'
 run a.toml --shard 1/2 --match x | ArgumentConflict | '--shard <K/N>'
 run a.toml --failed x --shard 1/2 | ArgumentConflict | '--shard <K/N>'
-run a.toml --report - --junit - | ArgumentConflict | '--report -' cannot be used with '--junit -' \
+run a.toml --report - --junit - | ArgumentConflict | '--report <FILE>' cannot be used with '--junit <FILE>' of the same name \
 | Usage: rvtest run [OPTIONS] <LIST>
+run a.toml --junit x --report x | ArgumentConflict | '--report <FILE>' | it is one file
 merge | MissingRequiredArgument | <PART>... | Usage: rvtest merge
-merge a --report - --junit=- | ArgumentConflict | '--report -' | Usage: rvtest merge [OPTIONS] <PART>...
+merge a --report - --junit=- | ArgumentConflict | '--report <FILE>' | Usage: rvtest merge [OPTIONS] <PART>...
 merge a --shard 1/2 | UnknownArgument | '--shard'
 explain a.toml | MissingRequiredArgument | <NAME> | Usage: rvtest explain
 explain a.toml x --last many | ValueValidation | 'many' | '--last <N>'

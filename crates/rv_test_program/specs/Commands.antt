@@ -1,0 +1,47 @@
+-- What words ask of commands, and the statuses.
+use Rattle.std.specs.Prelude.{◌≡◌, ◌==◌, ◌⊎◌, ℕ, Bool, true, false, not, List, map, if◌then◌else◌}
+use Rattle.std.specs.List.{filter}
+use Rattle.rv_lines.specs.declared.passing.Rule.{Rule}
+use Rattle.rv_lines.specs.declared.passing.Rule.TheVariants.{Strict, Lenient}
+use Rattle.rv_lines.specs.Passing.{has_passed}
+use Rattle.rv_rows.specs.declared.row.Row.{Row}
+use Rattle.rv_telling.specs.declared.verbosity.Verbosity.{Verbosity}
+use Rattle.rv_telling.specs.declared.verbosity.Verbosity.TheVariants.{Quiet, Failures, All}
+use Rattle.rv_test_program.specs.declared.stop.Stop.{Stop}
+use Rattle.rv_test_program.specs.declared.stop.Stop.TheVariants as stop
+use Rattle.rv_views.specs.Diff.{differing_count}
+use Rattle.rv_views.specs.declared.diff.Differing.{Differing}
+
+-- the rule by which jobs fail, with --lenient or without
+abbrev pub rule_for : Bool → Rule
+rule_for true = Lenient
+rule_for false = Strict
+
+-- what is shown of jobs, with --verbose or without, and with --quiet or without
+abbrev pub verbosity_for : Bool → Bool → Verbosity
+verbosity_for verbose true = Quiet
+verbosity_for true false = All
+verbosity_for false false = Failures
+
+-- the names of the rows that failed, in their order
+abbrev pub failed_in : Rule → List Row → List (List ℕ)
+failed_in rule rows =
+    map (λ (row : Row). row.name) (filter (λ (row : Row). not (has_passed rule row)) rows)
+
+-- the status of two reports: 0 where no job differs, else 1
+abbrev pub diff_status : Differing → ℕ
+diff_status counts = if differing_count counts == 0 then 0 else 1
+
+-- the status of one job
+abbrev pub passing_status : Bool → ℕ
+passing_status passed = if passed then 0 else 1
+
+-- The statuses of a command that ends before its work is done. Help and the version are 0, where
+-- standard output takes them.
+abbrev pub IsStopStatus : Stop → ℕ → Type 0
+IsStopStatus (stop.Shown text) status = (status ≡ 0) ⊎ (status ≡ 3)
+IsStopStatus (stop.Refused text) status = status ≡ 2
+IsStopStatus (stop.Failed text) status = status ≡ 3
+IsStopStatus stop.OutOfMemory status = status ≡ 3
+IsStopStatus stop.NoWorker status = status ≡ 3
+IsStopStatus stop.WriteFailed status = status ≡ 3
