@@ -1,10 +1,15 @@
 -- What words ask of commands, and the statuses.
-use Rattle.std.specs.Prelude.{◌≡◌, ◌==◌, ◌⊎◌, ℕ, Bool, true, false, not, List, map, if◌then◌else◌}
+use Rattle.std.specs.Prelude.{◌≡◌, ◌==◌, ◌⊎◌, ℕ, Bool, true, false, not, List, length, map}
+use Rattle.std.specs.Prelude.{if◌then◌else◌, is_some}
 use Rattle.std.specs.List.{filter}
 use Rattle.rv_lines.specs.declared.passing.Rule.{Rule}
 use Rattle.rv_lines.specs.declared.passing.Rule.TheVariants.{Strict, Lenient}
 use Rattle.rv_lines.specs.Passing.{has_passed}
+use Rattle.rv_jobs.specs.Plans.{Planned}
+use Rattle.rv_lists.specs.declared.job.Job.{Job}
 use Rattle.rv_rows.specs.declared.row.Row.{Row}
+use Rattle.rv_rows.specs.Outcome.{refusal_in}
+use Rattle.rv_rows.specs.Rows.{outcome_in}
 use Rattle.rv_telling.specs.declared.verbosity.Verbosity.{Verbosity}
 use Rattle.rv_telling.specs.declared.verbosity.Verbosity.TheVariants.{Quiet, Failures, All}
 use Rattle.rv_test_program.specs.declared.stop.Stop.{Stop}
@@ -31,6 +36,18 @@ failed_in rule rows =
 -- the status of two reports: 0 where no job differs, else 1
 abbrev pub diff_status : Differing → ℕ
 diff_status counts = if differing_count counts == 0 then 0 else 1
+
+-- a job of a plan is refused before it runs
+abbrev pub is_refused : Planned → Job → Bool
+is_refused plan job = is_some (refusal_in (outcome_in plan.answers job).ending)
+
+-- how many jobs of a plan are refused
+abbrev pub refused_in : Planned → ℕ
+refused_in plan = length (filter (is_refused plan) plan.jobs)
+
+-- the status of a plan whose files were looked at: 2 where a job is refused, else 0
+abbrev pub check_status : ℕ → ℕ
+check_status refused = if refused == 0 then 0 else 2
 
 -- the status of one job
 abbrev pub passing_status : Bool → ℕ

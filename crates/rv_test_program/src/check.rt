@@ -1,6 +1,7 @@
 //! The command `check`.
 
-ghost use Rattle.std.specs.Prelude.{◌≤◌, ◌<◌, IfOk, length};
+ghost use Rattle.std.specs.Prelude.{◌≡◌, ◌≤◌, ◌<◌, IfOk, length};
+ghost use Rattle.rv_test_program.specs.Commands.{check_status, refused_in};
 
 use crate::list::{jobs_of, read_text, told_of_faults};
 use crate::messages::{REFUSED, put_out};
@@ -51,17 +52,30 @@ fn check_files<R: Files, S: Streams>(
     let mut store = NotingStore::new(files, alloc, asked.root);
     let plan = gather(alloc, jobs, &mut store)?;
     let lines = lines_of(alloc, text)?;
-    let mut told = Vec::new(alloc);
     let list = Listed {
         path: asked.list,
         lines: lines.as_slice(),
         plan: &plan,
         unread: store.unread(),
     };
-    let refused = list.push_refused(alloc, &mut told)?;
-    push_counts(&mut told, plan.jobs(), refused)?;
+    check_plan(alloc, streams, list)
+}
+
+// The same of a list whose files were read.
+fn check_plan<S: Streams>(alloc: Global, streams: &S, list: Listed<'_>) -> Result<u8, Stop>
+    ensures low { IfOk result (λ status. status ≤ 2) }
+    ensures judged { IfOk result
+        (λ status. status ≡ check_status (refused_in list.entry.plan.now)) }
+{
+    let (told, refused) = list.told(alloc)?;
     put_out(streams, told.as_slice())?;
-    Ok(if refused == 0 { DONE } else { REFUSED })
+    Ok(status_of(refused))
+}
+
+fn status_of(refused: usize) -> u8
+    ensures { result ≡ check_status refused }
+{
+    if refused == 0 { DONE } else { REFUSED }
 }
 
 fn lines_of(alloc: Global, text: &[u8]) -> Result<Vec<usize>, AllocError> {
@@ -81,13 +95,25 @@ struct Listed<'a> {
 }
 
 impl<'a> Listed<'a> {
+    // A line for each job that is refused, the line that counts them, and how many they are.
+    fn told(&self, alloc: Global) -> Result<(Vec<u8>, usize), AllocError>
+        ensures { IfOk result (λ found. found.1 ≡ refused_in self.now.plan.now) }
+    {
+        let mut told = Vec::new(alloc);
+        let refused = self.push_refused(alloc, &mut told)?;
+        push_counts(&mut told, self.plan.jobs(), refused)?;
+        Ok((told, refused))
+    }
+
     // Appends a line for each job that is refused, and gives their number.
-    fn push_refused(&self, alloc: Global, told: &mut Vec<u8>) -> Result<usize, AllocError> {
-        let mut refused = 0usize;
+    fn push_refused(&self, alloc: Global, told: &mut Vec<u8>) -> Result<usize, AllocError>
+        ensures { IfOk result (λ refused. refused ≡ refused_in self.now.plan.now) }
+    {
+        let mut refused = 0;
         for place in 0..self.plan.jobs() {
             if let Some(why) = refusal_at(alloc, self.plan, place)? {
                 self.push_refusal(alloc, told, place, why)?;
-                refused = refused.saturating_add(1);
+                refused += 1;
             }
         }
         Ok(refused)
