@@ -3,8 +3,4 @@
 #![tactic(auto)]
 
 #[cfg(test)]
-mod stream_tests;
-#[cfg(test)]
-mod testing;
-#[cfg(test)]
 mod tests;

@@ -73,6 +73,51 @@ fn judges_outcomes(rt: HostRuntime) -> Result<(), Fail> {
     check(&rt, rt.alloc(), VERDICT, "$2", VERDICTS, 24)
 }
 
+// Jobs that name others: `falls` and `zeros` print 65,536 bytes, each less by one than the one before, or all zero.
+const NAMING: &str = "\
+verdict|run jobs --workers 2 --group $3|job = [$1]|
+falls = code 100002b7 00010337 0062a023 fff30313 fe031ce3 X
+zeros = code 100002b7 00010337 0002a023 fff30313 fe031ce3 X
+";
+
+// label | jobs | the status and the verdicts
+const NAMED: &str = "\
+named by many | {name = '0', image = 'one', budget = 3}, {name = '1', image = 'one', budget = 4, same_as = '0'}, \
+{name = '2', image = 'one', budget = 2, same_as = '0'}, {name = '3', image = 'one', budget = 3, same_as = '0'} | 1 \
+none pass fail pass done 4
+each the one before | {name = '0', image = 'one', budget = 3}, {name = '1', image = 'one', budget = 3, same_as = \
+'0'}, {name = '2', image = 'one', budget = 2, same_as = '1'}, {name = '3', image = 'one', budget = 1, same_as = \
+'2'}, {name = '4', image = 'one', budget = 3, same_as = '3'} | 1 none pass fail pass fail done 5
+two by turns | {name = '0', image = 'one', budget = 3}, {name = '1', image = 'one', budget = 1}, {name = '2', \
+image = 'one', budget = 3, same_as = '0'}, {name = '3', image = 'one', budget = 1, same_as = '1'}, {name = '4', \
+image = 'one', budget = 1, same_as = '0'}, {name = '5', image = 'one', budget = 3, same_as = '1'} | 1 none none \
+pass pass fail fail done 6
+refused | {name = '0', image = 'one 83', budget = 3}, {name = '1', image = 'one 83', budget = 3, same_as = '0'}, \
+{name = '2', image = 'one', budget = 3, same_as = '0'}, {name = '3', image = 'one', budget = 3, same_as = '2'} | 1 \
+none fail fail pass done 4
+full consoles | {name = '0', image = 'falls', budget = 200000}, {name = '1', image = 'falls', budget = 200000, \
+same_as = '0'}, {name = '2', image = 'zeros', budget = 200000, same_as = '0'}, {name = '3', image = 'falls', \
+budget = 200000, same_as = '0'} | 1 none pass fail pass done 4
+more than are kept | {name = '0', image = 'one', budget = 3}, {name = '1', image = 'one', budget = 1}, {name = \
+'2', image = 'one', budget = 3, same_as = '0'}, {name = '3', image = 'one', budget = 3, same_as = '2'}, {name = \
+'4', image = 'one', budget = 3, same_as = '3'}, {name = '5', image = 'one', budget = 3, same_as = '4'}, {name = \
+'6', image = 'one', budget = 3, same_as = '5'}, {name = '7', image = 'one', budget = 3, same_as = '6'}, {name = \
+'8', image = 'one', budget = 3, same_as = '7'}, {name = '9', image = 'one', budget = 3, same_as = '8'}, {name = \
+'10', image = 'one', budget = 3, same_as = '9'}, {name = '11', image = 'one', budget = 1, same_as = '0'}, {name = \
+'12', image = 'one', budget = 1, same_as = '1'} | 1 none none pass pass pass pass pass pass pass pass pass fail \
+pass done 13
+";
+
+#[test]
+fn judges_jobs_that_name_others(rt: HostRuntime) -> Result<(), Fail> {
+    let alloc = rt.alloc();
+    for group in ["1", "2", "4096"] {
+        let naming = NAMING.replace(alloc, "$3", group)?;
+        check(&rt, alloc, naming.as_str(), "$2", NAMED, 6)?;
+    }
+    Ok(())
+}
+
 // Jobs by the files that they name; the list is told in full.
 const TOLD: &str = "\
 all|run jobs|job = [$_]|

@@ -1,9 +1,9 @@
 //! Draws by one pass and by several, in one thread and in four.
 ghost use Rattle.std.specs.Prelude.{◌≡◌, IfOk};
 
-use super::check;
+use super::last_cell;
 use rv_fleet::{Claims, Pass, SplitError};
-use samples::cell_of;
+use samples::{agree, cell_of, has_lines};
 use std::alloc::{AllocError, Global};
 use std::test::Fail;
 use std::thread;
@@ -142,7 +142,7 @@ fn between(text: &mut String, claims: &Claims, pass: Pass, line: &str) -> Result
 }
 
 // What the passes of a shared draw answer.
-pub(super) fn told(alloc: Global, line: &str) -> Result<String, Fail> {
+fn told(alloc: Global, line: &str) -> Result<String, Fail> {
     let pieces = cell_of(line, 1).parse::<u64>()?;
     if pieces > 4096 {
         return Err("at most 4,096 pieces".into());
@@ -171,7 +171,15 @@ places run out | 1 | p | | fill | p? p | 0 63 splits false none true";
 
 #[test]
 fn passes_draw(rt: HostRuntime) -> Result<(), Fail> {
-    check(&rt, rt.alloc(), "draws", DRAWS, 6)
+    has_lines(DRAWS, 6)?;
+    for line in DRAWS.lines() {
+        agree(
+            line,
+            told(rt.alloc(), line)?.as_str().trim(),
+            last_cell(line),
+        )?;
+    }
+    Ok(())
 }
 
 const PIECES: u64 = 1000;
@@ -271,7 +279,7 @@ fn are_in_order(numbers: &[u64]) -> bool {
 }
 
 // How many numbers four threads draw; whether these are in order then, the passes ended, and hold every place.
-pub(super) fn told_of_four<R: Threads + Sync>(rt: &R, alloc: Global) -> Result<String, Fail> {
+fn told_of_four<R: Threads + Sync>(rt: &R, alloc: Global) -> Result<String, Fail> {
     let (claims, pass) = Claims::new(alloc, PIECES)?;
     let (pass, mut numbers) = take_all_in_four(rt, alloc, &claims, pass)?;
     let ended = pass.ended();
@@ -283,5 +291,6 @@ pub(super) fn told_of_four<R: Threads + Sync>(rt: &R, alloc: Global) -> Result<S
 
 #[test]
 fn four_threads_draw_each_number_once(rt: HostRuntime) -> Result<(), Fail> {
-    check(&rt, rt.alloc(), "four threads", "| 1000 true true true", 1)
+    let told = told_of_four(&rt, rt.alloc())?;
+    agree("four threads", told.as_str(), "1000 true true true")
 }

@@ -1,8 +1,8 @@
 //! Fleets of small jobs, behind gates that show which pieces were under way at the same time.
-use super::{check, rows_told};
+use super::{last_cell, plan_of, rows_told};
 use rv_fleet::{Gate, run_fleet};
 use rv_jobs::Plan;
-use samples::cell_of;
+use samples::{agree, cell_of, has_lines};
 use std::alloc::Global;
 use std::sync::Wait;
 use std::sync::atomic::{AtomicBool, AtomicU64, Ordering};
@@ -87,36 +87,40 @@ fn rows_of<R: Threads + Wait>(
 }
 
 // The rows of so many workers, one job a piece, and whether the pieces passed their gate.
-pub(super) fn told<R: Threads + Wait>(
-    rt: &R,
-    alloc: Global,
-    plan: &Plan,
-    line: &str,
-) -> Result<String, Fail> {
+fn told<R: Threads + Wait>(rt: &R, alloc: Global, line: &str) -> Result<String, Fail> {
+    let plan = plan_of(alloc, cell_of(line, 1))?;
     let workers = cell_of(line, 2).parse::<u32>()?;
     let held = cell_of(line, 3).parse::<u64>()?;
     let awaited = cell_of(line, 4).parse::<usize>()?;
     let gate = HoldingGate::new(held, awaited);
-    let mut text = rows_of(rt, alloc, plan, workers, &gate)?;
+    let mut text = rows_of(rt, alloc, &plan, workers, &gate)?;
     let passed = gate.was_passed(plan.jobs());
     write!(text, " {passed}")?;
     Ok(text)
 }
 
-// label | jobs | workers | the pieces that are held | and that are awaited | the rows, and whether the gate was passed
+// label | budgets | workers | the pieces that are held | and that are awaited | the rows, and whether the gate was passed
 const FLEETS: &str = "\
-the first waits for the second | 2*five 3 | 2 | 1 | 2 | \
-    j0 Exit(5) 2 Unasked [] false, j1 Exit(5) 2 Unasked [] false, true
-for all others, which the other worker draws one after the other | 4*five 3 | 2 | 1 | 4 | \
-    j0 Exit(5) 2 Unasked [] false, j1 Exit(5) 2 Unasked [] false, \
-    j2 Exit(5) 2 Unasked [] false, j3 Exit(5) 2 Unasked [] false, true
-each of two waits for all | 2*five 3 | 2 | 2 | 2 | \
-    j0 Exit(5) 2 Unasked [] false, j1 Exit(5) 2 Unasked [] false, true
-each of four waits for all | 4*five 3 | 4 | 4 | 4 | \
-    j0 Exit(5) 2 Unasked [] false, j1 Exit(5) 2 Unasked [] false, \
-    j2 Exit(5) 2 Unasked [] false, j3 Exit(5) 2 Unasked [] false, true";
+the first waits for the second | 3 3 | 2 | 1 | 2 | \
+    j0 Exit(5) 2, j1 Exit(5) 2, true
+for all others, which the other worker draws one after the other | 3 3 3 3 | 2 | 1 | 4 | \
+    j0 Exit(5) 2, j1 Exit(5) 2, \
+    j2 Exit(5) 2, j3 Exit(5) 2, true
+each of two waits for all | 3 3 | 2 | 2 | 2 | \
+    j0 Exit(5) 2, j1 Exit(5) 2, true
+each of four waits for all | 3 3 3 3 | 4 | 4 | 4 | \
+    j0 Exit(5) 2, j1 Exit(5) 2, \
+    j2 Exit(5) 2, j3 Exit(5) 2, true";
 
 #[test]
 fn pieces_run_at_the_same_time(rt: HostRuntime) -> Result<(), Fail> {
-    check(&rt, rt.alloc(), "held", FLEETS, 4)
+    has_lines(FLEETS, 4)?;
+    for line in FLEETS.lines() {
+        agree(
+            line,
+            told(&rt, rt.alloc(), line)?.as_str().trim(),
+            last_cell(line),
+        )?;
+    }
+    Ok(())
 }

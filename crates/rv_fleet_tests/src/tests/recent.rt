@@ -1,11 +1,11 @@
 //! Which outcomes a worker keeps of its last jobs, by the sizes of their consoles and signatures.
 ghost use Rattle.std.specs.Prelude.{◌<◌, length};
 
-use super::check;
+use super::{last_cell, plan_in};
 use rv_fleet::{Outcome, RowEnd, Words};
 use rv_jobs::{Bytes, Plan};
 use rv_rows::{Recent, Spare, next_row};
-use samples::cell_of;
+use samples::{agree, cell_of, has_lines};
 use std::alloc::{AllocError, Global};
 use std::test::Fail;
 
@@ -46,7 +46,7 @@ fn kept(alloc: Global, recent: &Recent, places: usize) -> Result<String, AllocEr
 }
 
 // Which are kept of outcomes of some sizes, the first of the job at place 0 and so on.
-pub(super) fn told(alloc: Global, line: &str) -> Result<String, Fail> {
+fn told(alloc: Global, line: &str) -> Result<String, Fail> {
     let sizes = cell_of(line, 1);
     let mut recent = Recent::new(alloc);
     for (place, size) in sizes.split(' ').enumerate() {
@@ -69,7 +69,15 @@ a signature of a word more | 1 w16001 2 | 0 2";
 
 #[test]
 fn keeps_the_last_few(rt: HostRuntime) -> Result<(), Fail> {
-    check(&rt, rt.alloc(), "sizes", KEPT, 9)
+    has_lines(KEPT, 9)?;
+    for line in KEPT.lines() {
+        agree(
+            line,
+            told(rt.alloc(), line)?.as_str().trim(),
+            last_cell(line),
+        )?;
+    }
+    Ok(())
 }
 
 // The row of the second job, and whether the outcome of the first, which is run for its sake, is kept.
@@ -81,21 +89,30 @@ fn keeps_named(alloc: Global, plan: &Plan) -> Result<bool, AllocError>
     Ok(recent.find(0).is_some())
 }
 
-// Whether the outcome of a job that is run for another's sake is kept.
-pub(super) fn told_named(alloc: Global, plan: &Plan) -> Result<String, Fail> {
+// Whether the outcome of a job with a signature, which is run for another's sake, is kept.
+fn told_named(alloc: Global, image: &str) -> Result<&'static str, Fail> {
+    let list = format!(in alloc;
+        "[[job]]\nname = 'j0'\nimage = '{image}'\nbudget = 100\nsignature = ['begin_signature', 'end_signature']\n\
+         [[job]]\nname = 'j1'\nimage = '{image}'\nbudget = 100\nsame_as = 'j0'\n"
+    )?;
+    let plan = plan_in(alloc, list.as_str())?;
     if plan.jobs() < 2 {
         return Err("two jobs".into());
     }
-    let kept = keeps_named(alloc, plan)?;
-    Ok(String::from_str(alloc, if kept { "kept" } else { "not kept" })?)
+    Ok(if keeps_named(alloc, &plan)? {
+        "kept"
+    } else {
+        "not kept"
+    })
 }
 
-// The signature of a run counts before its words are copied: label | jobs | whether it is kept
-const NAMED: &str = "\
-16,000 words | most-words 100 signed, most-words 100 0 | kept
-one more | more-words 100 signed, more-words 100 0 | not kept";
-
+// The signature of a run, of 16,000 words or one more, counts before its words are copied.
 #[test]
 fn counts_the_signature_of_a_run(rt: HostRuntime) -> Result<(), Fail> {
-    check(&rt, rt.alloc(), "named", NAMED, 2)
+    agree("16,000", told_named(rt.alloc(), "most-words")?, "kept")?;
+    agree(
+        "one more",
+        told_named(rt.alloc(), "more-words")?,
+        "not kept",
+    )
 }

@@ -4,9 +4,10 @@ ghost use Rattle.rv_fleet.specs.Pieces.{pieces_of};
 
 use super::draws::halves;
 use super::fleets::HoldingGate;
-use super::{check, push_names, push_rows};
+use super::{last_cell, plan_of, push_names, push_rows};
 use rv_fleet::{Claims, Gate, Pass, Piece, work};
 use rv_jobs::Plan;
+use samples::{agree, cell_of};
 use std::alloc::{AllocError, Global};
 use std::sync::atomic::{AtomicU64, Ordering};
 use std::test::Fail;
@@ -112,21 +113,26 @@ fn made_by_two<R: Threads>(
     Ok((pieces, ended, claims.finish(all)))
 }
 
-pub(super) fn told_of_two<R: Threads>(rt: &R, alloc: Global, plan: &Plan) -> Result<String, Fail> {
+fn told_of_two<R: Threads>(rt: &R, alloc: Global, line: &str) -> Result<String, Fail> {
+    let plan = plan_of(alloc, cell_of(line, 1))?;
     let gate = HoldingGate::new(1, 2);
-    let (pieces, ended, finished) = made_by_two(rt, alloc, plan, &gate)?;
+    let (pieces, ended, finished) = made_by_two(rt, alloc, &plan, &gate)?;
     let passed = gate.was_passed(plan.jobs());
     Ok(by_number(alloc, pieces.as_slice(), (ended, finished, passed))?)
 }
 
-// label | jobs | the pieces of two workers, and whether they ended, held all places at the end, and passed their gate.
+// label | budgets | the pieces of two workers, and whether they ended, held all places at the end, and passed their gate.
 const TWO: &str = "\
-two workers | 4*five 3 | 4 pieces 0: j0 Exit(5) 2 Unasked [] false, 1: j1 Exit(5) 2 Unasked [] false, \
-    2: j2 Exit(5) 2 Unasked [] false, 3: j3 Exit(5) 2 Unasked [] false, true true true";
+two workers | 3 3 3 3 | 4 pieces 0: j0 Exit(5) 2, 1: j1 Exit(5) 2, \
+    2: j2 Exit(5) 2, 3: j3 Exit(5) 2, true true true";
 
 #[test]
 fn two_passes_make_each_piece_once(rt: HostRuntime) -> Result<(), Fail> {
-    check(&rt, rt.alloc(), "two workers", TWO, 1)
+    agree(
+        TWO,
+        told_of_two(&rt, rt.alloc(), TWO)?.as_str(),
+        last_cell(TWO),
+    )
 }
 
 /// Notes the numbers with which it was entered, in order.
@@ -176,19 +182,20 @@ fn in_order(alloc: Global, pieces: &[Piece], gate: &NotingGate) -> Result<String
     Ok(text)
 }
 
-pub(super) fn told(alloc: Global, plan: &Plan) -> Result<String, Fail> {
+fn told(alloc: Global, line: &str) -> Result<String, Fail> {
+    let plan = plan_of(alloc, cell_of(line, 1))?;
     let gate = NotingGate {
         entered: AtomicU64::new(0),
         numbers: [AtomicU64::new(9), AtomicU64::new(9), AtomicU64::new(9)],
     };
-    let pieces = made_by_one(alloc, plan, &gate)?;
+    let pieces = made_by_one(alloc, &plan, &gate)?;
     Ok(in_order(alloc, pieces.as_slice(), &gate)?)
 }
 
 // Two jobs a piece, and one in the last. The gate has each piece's number once, when its rows are made.
-const ONE: &str = "a worker | 5*five 3 | 0: j0 j1 1: j2 j3 2: j4 3 entries 0 1 2";
+const ONE: &str = "a worker | 3 3 3 3 3 | 0: j0 j1 1: j2 j3 2: j4 3 entries 0 1 2";
 
 #[test]
 fn gate_has_the_number_of_the_piece(rt: HostRuntime) -> Result<(), Fail> {
-    check(&rt, rt.alloc(), "a worker", ONE, 1)
+    agree(ONE, told(rt.alloc(), ONE)?.as_str().trim(), last_cell(ONE))
 }

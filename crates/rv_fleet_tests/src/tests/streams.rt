@@ -1,15 +1,102 @@
-//! Streams of small jobs by the lines of tables: which jobs, by how many workers, which put fails, and what went out.
+//! Streams of small jobs: which jobs, by how many workers, which put fails, and what went out.
+ghost use Rattle.std.specs.Prelude.{Some};
 
-use crate::testing::{Names, NotingSink, marks_of, plan_of};
-use rv_fleet::Rows;
+use super::plan_of;
+use rv_fleet::{Row, Rows, Sink, SinkFailed};
 use rv_jobs::marked_places;
-use rv_stream::{StreamError, stream_places};
+use rv_stream::{StreamError, Telling, stream_places};
+use samples::{agree, cell_of, has_lines};
 use std::alloc::{AllocError, Global};
 use std::process::Abort;
 use std::sync::Wait;
 use std::sync::atomic::{AtomicU64, Ordering};
 use std::test::Fail;
 use std::thread::Threads;
+
+/// Tells the name of each row of two steps or more, and nothing of others; and counts the rows that it is asked for.
+#[derive(Drop)]
+struct Names<'a> {
+    asked: &'a AtomicU64,
+}
+
+impl<'a> Telling for Names<'a> {
+    ghost use Rattle.std.specs.Prelude.{if◌then◌else◌, nat_lt, ◌++◌, ◌∷◌, []};
+
+    ghost line = { λ _ _ row. if nat_lt row.steps 2 then [] else (row.name ++ (59 ∷ [])) };
+
+    fn push(
+        &self,
+        _alloc: Global,
+        _place: usize,
+        row: &Row,
+        text: &mut Vec<u8>,
+    ) -> Result<(), AllocError> {
+        self.asked.fetch_add(1, Ordering::SeqCst);
+        if row.steps < 2 {
+            return Ok(());
+        }
+        text.extend_from_slice(row.name.as_str().as_bytes())?;
+        text.extend_from_slice(b";")
+    }
+}
+
+/// A sink over memory, which takes so many bytes a put, fails at one put, counted from 1, and notes at each put how
+/// many rows were asked for until then.
+#[derive(Drop)]
+struct NotingSink<'a> {
+    bytes: Vec<u8>,
+    most: usize,
+    fails_at: u64,
+    puts: u64,
+    failures: u64,
+    asked: &'a AtomicU64,
+    notes: String,
+}
+
+impl<'a> NotingSink<'a> {
+    fn new(alloc: Global, most: usize, fails_at: u64, asked: &'a AtomicU64) -> NotingSink<'a> {
+        NotingSink {
+            bytes: Vec::new(alloc),
+            most,
+            fails_at,
+            puts: 0,
+            failures: 0,
+            asked,
+            notes: String::new(alloc),
+        }
+    }
+}
+
+impl<'a> Sink for NotingSink<'a> {
+    ghost taken = { λ sink. Some sink.bytes.items };
+
+    ghost failed = { λ sink. sink.failures };
+
+    fn put(&mut self, bytes: &[u8]) -> Result<usize, SinkFailed> {
+        let asked = self.asked.load(Ordering::SeqCst);
+        let _ = write!(self.notes, " {asked}");
+        self.puts = self.puts.saturating_add(1);
+        let count = bytes.len().min(self.most.max(1));
+        if self.puts != self.fails_at && self.bytes.extend_from_slice(&bytes[..count]).is_ok() {
+            return Ok(count);
+        }
+        self.failures = self.failures.saturating_add(1);
+        Err(SinkFailed)
+    }
+
+    fn failures(&self) -> u64 {
+        self.failures
+    }
+}
+
+// A mark for each letter, set for `x`.
+fn marks_of(alloc: Global, choice: &str) -> Result<Vec<bool>, AllocError> {
+    let mut marks = Vec::new(alloc);
+    for mark in choice.bytes() {
+        marks.push(mark == b'x')?;
+    }
+    Ok(marks)
+}
 
 // label | the jobs' budgets | a choice of them | workers | group | what goes out
 const STREAMS: &str = "\
@@ -37,10 +124,6 @@ the first fails | 3 3 3 | xxx | 1 | 1 | 1 | at 1 of 1: write failed
 the second, and no job is run behind it | 3 3 3 3 | xxxx | 1 | 1 | 2 | j0; at 1 2 of 2: write failed
 the last | 3 3 | xx | 1 | 1 | 2 | j0; at 1 2 of 2: write failed
 the only one | 3 3 | xx | 1 | 2 | 1 | at 2 of 2: write failed";
-
-fn cell_of(line: &str, place: usize) -> &str {
-    line.split('|').nth(place).unwrap_or("").trim()
-}
 
 fn number_in(line: &str, place: usize) -> Result<u32, Fail> {
     Ok(cell_of(line, place).parse::<u32>()?)
@@ -109,7 +192,7 @@ fn check_each_put<R: Abort + Threads + Wait + Sync>(
 
 #[test]
 fn beginnings_go_out(rt: HostRuntime) -> Result<(), Fail> {
-    assert_eq!(rt; STREAMS.lines().count(), 11);
+    has_lines(STREAMS, 11)?;
     for line in STREAMS.lines() {
         check_each_put(&rt, rt.alloc(), line)?;
     }
@@ -118,10 +201,13 @@ fn beginnings_go_out(rt: HostRuntime) -> Result<(), Fail> {
 
 #[test]
 fn texts_go_out_before_the_next_row_is_made(rt: HostRuntime) -> Result<(), Fail> {
-    assert_eq!(rt; PUTS.lines().count(), 9);
+    has_lines(PUTS, 9)?;
     for line in PUTS.lines() {
-        let told = told(&rt, rt.alloc(), line)?;
-        assert_eq!(rt; told.as_str().trim(), cell_of(line, 6), "{line}");
+        agree(
+            line,
+            told(&rt, rt.alloc(), line)?.as_str().trim(),
+            cell_of(line, 6),
+        )?;
     }
     Ok(())
 }
