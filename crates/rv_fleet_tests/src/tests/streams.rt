@@ -1,13 +1,14 @@
 //! Streams of small jobs: which jobs, by how many workers, which put fails, and what went out.
-ghost use Rattle.std.specs.Prelude.{Some};
+ghost use Rattle.std.specs.Prelude.{◌<◌, ◌≤◌, IfOk, Some};
+ghost use Rattle.std.specs.List.Sorted.{IsStrictlyIncreasing};
+ghost use Rattle.rv_fleet.specs.Choices.{AreWithin};
 
 use super::plan_of;
 use rv_fleet::{Row, Rows, Sink, SinkFailed};
-use rv_jobs::marked_places;
+use rv_jobs::{Plan, marked_places};
 use rv_stream::{StreamError, Telling, stream_places};
 use samples::{agree, cell_of, has_lines};
 use std::alloc::{AllocError, Global};
-use std::process::Abort;
 use std::sync::Wait;
 use std::sync::atomic::{AtomicU64, Ordering};
 use std::test::Fail;
@@ -129,72 +130,93 @@ fn number_in(line: &str, place: usize) -> Result<u32, Fail> {
     Ok(cell_of(line, place).parse::<u32>()?)
 }
 
-// Streams the jobs of a line.
-fn stream_of<'a, R: Threads + Wait + Sync>(
-    rt: &R,
-    alloc: Global,
-    line: &str,
-    out: NotingSink<'a>,
-) -> Result<(NotingSink<'a>, Result<Rows, StreamError>), Fail> {
-    let plan = plan_of(alloc, cell_of(line, 1))?;
+// The workers and the group of a line.
+fn crew_of(line: &str) -> Result<(u32, u32), Fail>
+    ensures workers { IfOk result (λ crew. (0 < crew.0) × (crew.0 ≤ 64)) }
+    ensures group { IfOk result (λ crew. (0 < crew.1) × (crew.1 ≤ 4096)) }
+{
+    let workers = number_in(line, 3)?.clamp(1, 64);
+    let group = number_in(line, 4)?.clamp(1, 4096);
+    Ok((workers, group))
+}
+
+// The plan of a line, and the places of the jobs that are chosen of it.
+fn chosen(alloc: Global, line: &str) -> Result<(Plan, Vec<usize>), Fail>
+    ensures within { IfOk result (λ chosen. AreWithin chosen.0 chosen.1) }
+    ensures rising { IfOk result (λ chosen. IsStrictlyIncreasing chosen.1) }
+{
     let marks = marks_of(alloc, cell_of(line, 2))?;
+    let places = marked_places(alloc, marks.as_slice())?;
+    let plan = plan_of(alloc, cell_of(line, 1))?;
     if marks.len() != plan.jobs() {
         return Err("a mark for each job".into());
     }
-    let places = marked_places(alloc, marks.as_slice())?;
-    let places = places.as_slice();
-    let workers = number_in(line, 3)?.clamp(1, 64);
-    let group = number_in(line, 4)?.clamp(1, 4096);
-    let names = Names { asked: out.asked };
-    Ok(stream_places(rt, alloc, &plan, places, workers, group, &names, out))
+    Ok((plan, places))
 }
 
-fn push_end(text: &mut String, ran: &Result<Rows, StreamError>) -> Result<(), AllocError> {
-    match ran {
+// What went out; how many rows were asked for at each put, and in all; and how the call ended.
+fn text_of(
+    alloc: Global,
+    out: &NotingSink<'_>,
+    ran: &Result<Rows, StreamError>,
+) -> Result<String, Fail> {
+    let sent = std::str::from_utf8(out.bytes.as_slice())?;
+    let (notes, asked) = (out.notes.as_str(), out.asked.load(Ordering::SeqCst));
+    let text = match ran {
         Ok(rows) => {
             let count = rows.as_slice().len();
-            write!(text, ": {count} rows")
+            format!(in alloc; "{sent} at{notes} of {asked}: {count} rows")
         }
-        Err(error) => write!(text, ": {error}"),
-    }
+        Err(error) => format!(in alloc; "{sent} at{notes} of {asked}: {error}"),
+    };
+    Ok(text?)
 }
 
-fn told<R: Threads + Wait + Sync>(rt: &R, alloc: Global, line: &str) -> Result<String, Fail> {
-    let asked = AtomicU64::new(0);
-    let out = NotingSink::new(alloc, usize::MAX, u64::from(number_in(line, 5)?), &asked);
-    let (out, ran) = stream_of(rt, alloc, line, out)?;
-    let mut text = String::from_str(alloc, std::str::from_utf8(out.bytes.as_slice())?)?;
-    let notes = out.notes.as_str();
-    let asked = asked.load(Ordering::SeqCst);
-    write!(text, " at{notes} of {asked}")?;
-    push_end(&mut text, &ran)?;
-    Ok(text)
-}
-
-// A put takes one byte, and each put fails in turn: then the bytes before it are out, and no other.
-fn check_each_put<R: Abort + Threads + Wait + Sync>(
+// What comes of streaming the jobs of a line into puts of so many bytes, of which one may fail.
+fn told<R: Threads + Wait + Sync>(
     rt: &R,
     alloc: Global,
     line: &str,
+    most: usize,
+    fails_at: u64,
+) -> Result<String, Fail> {
+    let (workers, group) = crew_of(line)?;
+    let (plan, places) = chosen(alloc, line)?;
+    let asked = AtomicU64::new(0);
+    let names = Names { asked: &asked };
+    let out = NotingSink::new(alloc, most, fails_at, &asked);
+    let places = places.as_slice();
+    let (out, ran) = stream_places(rt, alloc, &plan, places, workers, group, &names, out);
+    text_of(alloc, &out, &ran)
+}
+
+// A put takes one byte, and one put fails: then the bytes before it are out, and no other.
+fn check_put<R: Threads + Wait + Sync>(
+    rt: &R,
+    alloc: Global,
+    line: &str,
+    whole: &str,
+    sent: usize,
 ) -> Result<(), Fail> {
-    let whole = cell_of(line, 5).as_bytes();
-    for sent in 0..whole.len() + 1 {
-        let asked = AtomicU64::new(0);
-        let out = NotingSink::new(alloc, 1, (sent as u64).saturating_add(1), &asked);
-        let (out, ran) = stream_of(rt, alloc, line, out)?;
-        assert_eq!(rt; out.bytes.as_slice(), &whole[..sent], "{line}");
-        let failed = matches!(ran, Err(StreamError::Failed));
-        assert_eq!(rt; failed, sent < whole.len(), "{line}");
-        assert_eq!(rt; ran.is_ok(), sent == whole.len(), "{line}");
-    }
-    Ok(())
+    let text = told(rt, alloc, line, 1, (sent as u64).saturating_add(1))?;
+    let (out, notes) = text.as_str().split_once(" at").unwrap_or(("", ""));
+    agree(line, out, whole.get(..sent).unwrap_or("a text"))?;
+    let has_failed = notes.ends_with("write failed");
+    agree(
+        line,
+        if has_failed { "cut" } else { "whole" },
+        if sent < whole.len() { "cut" } else { "whole" },
+    )
 }
 
 #[test]
 fn beginnings_go_out(rt: HostRuntime) -> Result<(), Fail> {
     has_lines(STREAMS, 11)?;
     for line in STREAMS.lines() {
-        check_each_put(&rt, rt.alloc(), line)?;
+        let whole = cell_of(line, 5);
+        for sent in 0..whole.len() + 1 {
+            check_put(&rt, rt.alloc(), line, whole, sent)?;
+        }
     }
     Ok(())
 }
@@ -203,11 +225,9 @@ fn beginnings_go_out(rt: HostRuntime) -> Result<(), Fail> {
 fn texts_go_out_before_the_next_row_is_made(rt: HostRuntime) -> Result<(), Fail> {
     has_lines(PUTS, 9)?;
     for line in PUTS.lines() {
-        agree(
-            line,
-            told(&rt, rt.alloc(), line)?.as_str().trim(),
-            cell_of(line, 6),
-        )?;
+        let fails_at = u64::from(number_in(line, 5)?);
+        let text = told(&rt, rt.alloc(), line, usize::MAX, fails_at)?;
+        agree(line, text.as_str().trim(), cell_of(line, 6))?;
     }
     Ok(())
 }
