@@ -1,9 +1,10 @@
 #!/usr/bin/env python3
 """Merges a part that is cut at each byte, a part of which each byte is changed in turn, and parts of 16 MB, and compares with what
-a reader of the text's form says, which is written anew here.
+a reader of the text's form says, which is written anew here. Then merges the parts of a report in each order.
 
-    checks/merge.py RVTEST FIRST SECOND
+    checks/merge.py RVTEST FIRST SECOND REPORT PART..
 """
+import itertools
 import os
 import re
 import subprocess
@@ -145,10 +146,22 @@ def check_long(rvtest):
     print(f"two parts of {size} bytes: status 0")
 
 
+def check_orders(rvtest, report, parts):
+    """Merges parts in each order: all give the one report, whose rows miss no expectation."""
+    with open(report, "rb") as file:
+        wanted = file.read()
+    for order in itertools.permutations(parts):
+        status, text, told = run(rvtest, *order)
+        if status != 0 or text != wanted:
+            sys.exit(f"merge.py: {' '.join(order)}: status {status}, {told}")
+    print(f"{len(parts)} parts in each order: status 0")
+
+
 def main():
-    rvtest, first, second = sys.argv[1:]
+    rvtest, first, second, report, *parts = sys.argv[1:]
     check_each_byte(rvtest, first, second)
     check_long(rvtest)
+    check_orders(rvtest, report, parts)
 
 
 main()

@@ -10,66 +10,23 @@ and `\\u{e9}` is the character of that number. Each row has a folder of its own,
 it names are made.
 """
 import concurrent.futures
-import dataclasses
 import functools
 import os
 import pathlib
 import re
-import subprocess
 import sys
 import tempfile
 
+import asked
 import images
+import saved
+from rows import RULES, Row, Wrong, cut, last_line, lines, many, squeezed, status_of, told_lines, with_bytes
 
 TABLES = pathlib.Path(__file__).resolve().parent / "tables"
 SETTINGS = ("list", "front", "file", "words", "status", "told")
 UNEXPECTED = "expected exit 0, since it expects nothing else"
 # Of how many rows that are not told as they must be the difference is shown.
 MOST_SHOWN = 20
-# The user whom file modes bind: another one, where this is root.
-USER = {"user": 65534, "group": 65534, "extra_groups": []} if os.getuid() == 0 else {}
-
-
-class Wrong(Exception):
-    """What a row wants, and what was found."""
-
-
-@dataclasses.dataclass
-class Row:
-    table: str
-    text: str
-    settings: dict
-    rvtest: str
-    folder: pathlib.Path
-
-    def cells(self, sign):
-        """What a sign parts, without the spaces around it."""
-        return [cell.strip(" ") for cell in self.text.split(sign)]
-
-    def write(self, name, data):
-        """Makes a file."""
-        (self.folder / name).write_bytes(data if isinstance(data, bytes) else data.encode())
-
-    def wants(self, words, status, out, errors="", shape=bytes):
-        """Runs the program, and compares its output in a shape, what it says beside that, and its status."""
-        done = subprocess.run(
-            [self.rvtest, *words], cwd=self.folder, stdin=subprocess.DEVNULL, capture_output=True, check=False, **USER
-        )
-        found = done.returncode, shape(done.stdout), done.stderr
-        wanted = status, out.encode(), errors.encode()
-        if found != wanted:
-            raise Wrong(
-                f"{self.table} {cut(self.text)}\n  of rvtest {cut(' '.join(words))}\n"
-                f"  wanted is {told_of(*wanted)}\n  found was {told_of(*found)}"
-            )
-
-
-def cut(text):
-    return text if len(text) <= 2000 else f"{text[:2000]}.."
-
-
-def told_of(status, out, errors):
-    return f"status {status}, output {cut(repr(out))}, standard error {cut(repr(errors))}"
 
 
 # ---- the files that rows name
@@ -113,36 +70,7 @@ def with_files(row, keys):
     return IMAGE.sub(made, keys)
 
 
-# ---- lines
-
-LINE = re.compile(r"(PASS|FAIL) \S+: (exit|fault|budget|refused)(?: (\S+).*?)?(?: after ([0-9]+) steps)?")
-
-
-def last_line(out):
-    """The last line of a run of one job, by what is told of that job."""
-    line = out.partition("\n")[0]
-    found = LINE.fullmatch(line)
-    if found is None:
-        raise ValueError(f"no line of a job: {line}")
-    word, end, kind, steps = found.groups()
-    passed = word == "PASS"
-    way = "" if passed else f" (1 {kind if end == 'fault' else end})"
-    return f"1 jobs: {int(passed)} passed, {int(not passed)} failed{way}, {steps or 0} steps"
-
-
-def status_of(last):
-    """The status that goes with a last line."""
-    return 0 if " 0 failed" in last else 1
-
-
-def lines(*texts):
-    return "".join(f"{text}\n" for text in texts)
-
-
-def told_lines(first, *others):
-    """The line of a job, and behind five spaces what stands behind it."""
-    return lines(first, *(f"     {other}" for other in others))
-
+# ---- the forms of rows
 
 def wants_run(row, words, out, *lasts, shape=bytes):
     """Runs a list, of which so much is shown and then the last line: the one that goes with the first, where none is given."""
@@ -150,10 +78,7 @@ def wants_run(row, words, out, *lasts, shape=bytes):
     row.wants(["run", "list.toml", *words], status_of(last), out + lines(last), shape=shape)
 
 
-# ---- the forms of rows
-
 VERBOSITIES = {"some": [], "all": ["--verbose"], "quiet": ["--quiet"]}
-RULES = {"strict": [[]], "lenient": [["--lenient"]], "both": [[], ["--lenient"]]}
 
 
 def write_second(row, keys):
@@ -172,12 +97,6 @@ def check_told(row):
     name = write_second(row, keys)
     for words in RULES[rule]:
         wants_run(row, ["--only", name, *VERBOSITIES[verbosity], *words], told_lines(*text.split(" / ")) if text else "", *last)
-
-
-def squeezed(out):
-    """Without the lines of registers that have no symbol, and with one space between words."""
-    kept = [line for line in out.split(b"\n") if not re.fullmatch(rb"     \w{2,4} +[0-9a-f]{8}", line)]
-    return b"\n".join(b" ".join(line.split()) for line in kept)
 
 
 def check_explained(row):
@@ -210,12 +129,7 @@ def check_reason(row):
 
 def list_bytes(text):
     """A list's bytes: a slash is a line feed, `<ff>` the byte ff, and `3*(a)` three times `a`."""
-    data = many(text.replace("/", "\n")).encode()
-    return re.sub(rb"<([0-9a-f]{2})>", lambda byte: bytes.fromhex(byte[1].decode()), data)
-
-
-def many(text):
-    return re.sub(r"([0-9]+)\*\((.*?)\)", lambda part: int(part[1]) * part[2], text)
+    return with_bytes(many(text.replace("/", "\n")))
 
 
 def check_fault(row):
@@ -320,44 +234,6 @@ def check_unmet(row):
     wants_run(row, ["--verbose", "--only", "b"], out)
 
 
-# ---- rows of reports
-
-REFUSED = {"image-unreadable", "bad-magic", "segment-map"}
-KINDS = {
-    "fetch-access", "fetch-misaligned", "stale-code", "illegal", "breakpoint", "load-misaligned", "load-access", "store-misaligned",
-    "store-access", "console-full", "unknown-call",
-}
-
-
-def report_row(number, name, text):
-    """The lines of a row in a report, by how it ended, its verdict and its steps."""
-    end, verdict, steps = text.split("/")
-    if end in KINDS:
-        end = f"fault {end} pc=80000088 value=000000ab"
-    elif end in REFUSED:
-        end = f"refused {end}"
-    elif end != "budget":
-        end = f"exit {end}"
-    return lines(f"job {number} {name}", f"end {end}", f"steps {steps}", "console -", "signature -", f"verdict {verdict}")
-
-
-def check_saved(row):
-    """The line of a row, the rule, and the row in a report."""
-    line, rule, text = row.cells(" | ")
-    row.write("report", report_row(1, "uart_rx", text) + "done 1\n")
-    last = last_line(line)
-    most = f"  {text.split('/')[2]} uart_rx"
-    row.wants(["show", "report", *RULES[rule][0]], status_of(last), lines(line, last, "most steps:", most))
-
-
-def check_last(row):
-    """The last line, the rule, and the rows of a part."""
-    last, rule, texts = row.cells(" |")
-    rows = [report_row(number, f"job{number}", text) for number, text in enumerate(texts.split(), 1)]
-    row.write("part", "".join(rows) + f"part {len(rows)} of {len(rows)} shard 1/1 stamp one\n")
-    row.wants(["merge", "part", "--report", "/dev/null", *RULES[rule][0]], status_of(last), lines(last))
-
-
 FORMS = {
     "refused": check_told,
     "run": check_told,
@@ -369,8 +245,8 @@ FORMS = {
     "values": check_value,
     "consoles": check_console,
     "unmet": check_unmet,
-    "saved": check_saved,
-    "last": check_last,
+    **asked.FORMS,
+    **saved.FORMS,
 }
 
 

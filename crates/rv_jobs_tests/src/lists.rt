@@ -1,4 +1,5 @@
 //! Lists of jobs by the lines of tables: which list is made, what it is asked, and what it answers.
+use rv_headers::job_lines;
 use rv_jobs::{JobList, read_jobs};
 use rv_lists::read_faults;
 use samples::cell_of;
@@ -9,6 +10,7 @@ use std::test::Fail;
 mod faults;
 mod jobs;
 mod limits;
+mod lines;
 mod plans;
 
 // The ask of tables whose lines say what is asked.
@@ -91,13 +93,21 @@ fn count(alloc: Global, list: &str) -> Result<String, Fail> {
     Ok(format!(in alloc; "{count} jobs")?)
 }
 
-// What a list answers to `fault`, `faults`, `count`, `job PLACE` or `plan CHOICE`.
+// The lines on which its jobs begin.
+fn begins_of(alloc: Global, list: &str) -> Result<String, AllocError> {
+    let lines = job_lines(alloc, list)?;
+    let lines = lines.as_slice();
+    format!(in alloc; "{lines:?}")
+}
+
+// What a list answers to `fault`, `faults`, `count`, `lines`, `job PLACE` or `plan CHOICE`.
 fn answer(alloc: Global, ask: &str, list: &str) -> Result<String, Fail> {
     let (verb, rest) = ask.split_once(' ').unwrap_or((ask, ""));
     match verb {
         "fault" => Ok(fault(alloc, list.as_bytes())?),
         "faults" => all_faults(alloc, list),
         "count" => count(alloc, list),
+        "lines" => Ok(begins_of(alloc, list)?),
         "job" => jobs::told_at(alloc, list, rest.parse::<usize>()?),
         "plan" => plans::told_of(alloc, list, rest),
         _ => Err("a verb".into()),
