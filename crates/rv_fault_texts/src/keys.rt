@@ -1,77 +1,84 @@
 //! Keys that the format does not have.
 
-use crate::message::push_quoted;
-use crate::names::Nearest;
-use crate::regions::{push_region_number, regions_of};
-use rv_lines::push_text;
+use crate::message::Message;
+use crate::names::push_nearest;
+use crate::regions::push_region_number;
+use crate::values::elements_of;
 use rv_lists::JOB_KEYS;
-use std::alloc::{AllocError, Global};
-use toml::{Table, Value};
+use toml::Table;
 
-/// Appends the first key of a job, or of one of its regions, that the format does not have, and those that it has: of the
-/// keys of a job the nearest.
-pub(crate) fn push_unknown_key(
-    alloc: Global,
-    message: &mut Vec<u8>,
-    table: &Table,
-) -> Result<(), AllocError> {
-    if let Some(key) = unknown_job_key(table) {
-        push_unknown(message, key)?;
-        return push_near_key(alloc, message, key);
-    }
-    for (at, region) in regions_of(table).iter().enumerate() {
-        if let Some(key) = unknown_region_key(region) {
-            push_region_number(message, at)?;
-            push_text(message, ": ")?;
-            push_unknown(message, key)?;
-            return push_text(message, ": the keys of a region are base, size and write");
-        }
-    }
-    push_text(message, "unknown key")
+/// Whose keys they are.
+#[derive(Clone, Copy)]
+pub(crate) enum Owner {
+    List,
+    Job,
+    Region,
 }
 
-/// Appends that a key is not known.
-pub(crate) fn push_unknown(message: &mut Vec<u8>, key: &str) -> Result<(), AllocError> {
-    push_text(message, "unknown key ")?;
-    push_quoted(message, key)
-}
-
-fn unknown_job_key(table: &Table) -> Option<&str> {
+/// The first key of a table that its owner does not have.
+pub(crate) fn unknown_key(table: &Table, owner: Owner) -> Option<&str> {
     for key in table.keys() {
-        if !is_job_key(key.as_str()) {
+        if !is_known(key.as_str(), owner) {
             return Some(key.as_str());
         }
     }
     None
+}
+
+fn is_known(key: &str, owner: Owner) -> bool {
+    match owner {
+        Owner::List => key == "job",
+        Owner::Job => is_job_key(key),
+        Owner::Region => matches!(key, "base" | "size" | "write"),
+    }
 }
 
 fn is_job_key(key: &str) -> bool {
-    JOB_KEYS.iter().any(|known| known.0 == key)
-}
-
-fn unknown_region_key(region: &Value) -> Option<&str> {
-    let Some(table) = region.as_table() else {
-        return None;
-    };
-    for key in table.keys() {
-        if !matches!(key.as_str(), "base" | "size" | "write") {
-            return Some(key.as_str());
+    for known in &JOB_KEYS {
+        if known.0 == key {
+            return true;
         }
     }
-    None
+    false
+}
+
+/// Appends that a key is not known.
+pub(crate) fn push_unknown(message: &mut Message, key: &str) {
+    message.push("unknown key ");
+    message.push_quoted(key);
+}
+
+/// Appends the first key of a job, or of one of its regions, that the format does not have, and those that it has: of the
+/// keys of a job the nearest.
+pub(crate) fn push_unknown_key(message: &mut Message, table: &Table) {
+    match unknown_key(table, Owner::Job) {
+        Some(key) => {
+            push_unknown(message, key);
+            push_near_key(message, key);
+        }
+        None => push_unknown_region_key(message, table),
+    }
 }
 
 // Appends the key of a job that is nearest to a text.
-fn push_near_key(alloc: Global, message: &mut Vec<u8>, text: &str) -> Result<(), AllocError> {
-    let mut nearest = Nearest::to(text);
-    for known in &JOB_KEYS {
-        nearest.look_at(alloc, known.0)?;
+fn push_near_key(message: &mut Message, text: &str) {
+    let mut names = [None; 16];
+    for at in 0..names.len() {
+        names[at] = Some(JOB_KEYS[at].0);
     }
-    match nearest.name() {
-        Some(key) => {
-            push_text(message, ": the nearest key is ")?;
-            push_quoted(message, key)
+    push_nearest(message, &names, text, ": the nearest key is ");
+}
+
+fn push_unknown_region_key(message: &mut Message, table: &Table) {
+    for (at, region) in elements_of(table, "region").iter().enumerate() {
+        if let Some(region) = region.as_table()
+            && let Some(key) = unknown_key(region, Owner::Region)
+        {
+            push_region_number(message, at);
+            message.push(": ");
+            push_unknown(message, key);
+            return message.push(": the keys of a region are base, size and write");
         }
-        None => Ok(()),
     }
+    message.push("unknown key");
 }

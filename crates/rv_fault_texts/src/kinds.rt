@@ -1,29 +1,25 @@
 //! Values of another TOML kind than their key has.
 
-use crate::message::{push_value, push_wanted};
-use crate::regions::{push_region_number, regions_of};
-use rv_lines::push_text;
+use crate::message::Message;
+use crate::regions::push_region_number;
+use crate::values::{elements_of, push_wanted, value_of};
 use rv_lists::{JOB_KEYS, Kind};
-use std::alloc::{AllocError, Global};
 use toml::{Table, Value};
 
 /// Appends the first key of a job, in the order of the format, whose value is of another kind, and the kind that is wanted.
-pub(crate) fn push_wrong_kind(
-    alloc: Global,
-    message: &mut Vec<u8>,
-    table: &Table,
-) -> Result<(), AllocError> {
+pub(crate) fn push_wrong_kind(message: &mut Message, table: &Table) {
     for known in &JOB_KEYS {
         let (key, kind) = *known;
-        if has_wrong_kind(table, key, kind) {
-            return push_wrong_value(alloc, message, table, key, kind);
+        if is_other(table, key, kind) {
+            return push_wrong_value(message, table, key, kind);
         }
     }
-    push_text(message, "a value of another kind")
+    message.push("a value of another kind");
 }
 
-fn has_wrong_kind(table: &Table, key: &str, kind: Kind) -> bool {
-    match table.get(key) {
+// Whether the value at a key is of another kind.
+fn is_other(table: &Table, key: &str, kind: Kind) -> bool {
+    match value_of(table, key) {
         Some(value) => !is_of(kind, value),
         None => false,
     }
@@ -33,105 +29,86 @@ fn is_of(kind: Kind, value: &Value) -> bool {
     match kind {
         Kind::Text => value.is_str(),
         Kind::Number => value.is_integer(),
-        Kind::Texts => is_texts(value),
-        Kind::Regions => is_regions(value),
+        Kind::Texts => are_texts(value),
+        Kind::Regions => are_regions(value),
     }
 }
 
-fn is_texts(value: &Value) -> bool {
-    match value.as_array() {
-        Some(texts) => texts.iter().all(|text| text.is_str()),
-        None => false,
+fn are_texts(value: &Value) -> bool {
+    let Value::Array(texts) = value else {
+        return false;
+    };
+    for text in texts {
+        if !text.is_str() {
+            return false;
+        }
     }
+    true
 }
 
-fn is_regions(value: &Value) -> bool {
-    match value.as_array() {
-        Some(regions) => regions.iter().all(|region| is_region(region)),
-        None => false,
+fn are_regions(value: &Value) -> bool {
+    let Value::Array(regions) = value else {
+        return false;
+    };
+    for region in regions {
+        if !is_region(region) {
+            return false;
+        }
     }
+    true
 }
 
 fn is_region(value: &Value) -> bool {
-    match value.as_table() {
-        Some(table) => wrong_region_key(table).is_none(),
-        None => false,
+    match value {
+        Value::Table(table) => wrong_region_key(table).is_none(),
+        _ => false,
     }
 }
 
 // The first key of a region whose value is of another kind, and what is wanted of it.
 fn wrong_region_key(table: &Table) -> Option<(&'static str, &'static str)> {
-    if is_other_than_number(table.get("base")) {
+    if !matches!(value_of(table, "base"), None | Some(Value::Integer(_))) {
         Some(("base", NUMBER))
-    } else if is_other_than_number(table.get("size")) {
+    } else if !matches!(value_of(table, "size"), None | Some(Value::Integer(_))) {
         Some(("size", NUMBER))
-    } else if is_other_than_truth(table.get("write")) {
+    } else if !matches!(value_of(table, "write"), None | Some(Value::Boolean(_))) {
         Some(("write", "true or false is wanted"))
     } else {
         None
     }
 }
 
-fn is_other_than_number(value: Option<&Value>) -> bool {
-    match value {
-        Some(value) => !value.is_integer(),
-        None => false,
-    }
-}
-
-fn is_other_than_truth(value: Option<&Value>) -> bool {
-    match value {
-        Some(value) => !value.is_bool(),
-        None => false,
-    }
-}
-
 const NUMBER: &str = "a whole number is wanted";
 
 // Appends the value of a key, which is of another kind than this.
-fn push_wrong_value(
-    alloc: Global,
-    message: &mut Vec<u8>,
-    table: &Table,
-    key: &str,
-    kind: Kind,
-) -> Result<(), AllocError> {
+fn push_wrong_value(message: &mut Message, table: &Table, key: &str, kind: Kind) {
     match kind {
-        Kind::Text => push_wanted(alloc, message, table, key, "a text is wanted"),
-        Kind::Number => push_wanted(alloc, message, table, key, NUMBER),
-        Kind::Texts => push_wanted(alloc, message, table, key, "an array of texts is wanted"),
-        Kind::Regions => push_wrong_regions(alloc, message, table, key),
+        Kind::Text => push_wanted(message, table, key, "a text is wanted"),
+        Kind::Number => push_wanted(message, table, key, NUMBER),
+        Kind::Texts => push_wanted(message, table, key, "an array of texts is wanted"),
+        Kind::Regions => push_wrong_regions(message, table, key),
     }
 }
 
-fn push_wrong_regions(
-    alloc: Global,
-    message: &mut Vec<u8>,
-    table: &Table,
-    key: &str,
-) -> Result<(), AllocError> {
-    for (at, region) in regions_of(table).iter().enumerate() {
+fn push_wrong_regions(message: &mut Message, table: &Table, key: &str) {
+    for (at, region) in elements_of(table, key).iter().enumerate() {
         if !is_region(region) {
-            push_region_number(message, at)?;
-            return push_wrong_region(alloc, message, region);
+            push_region_number(message, at);
+            return push_wrong_region(message, region);
         }
     }
-    push_wanted(alloc, message, table, key, "an array of tables is wanted")
+    push_wanted(message, table, key, "an array of tables is wanted");
 }
 
-fn push_wrong_region(
-    alloc: Global,
-    message: &mut Vec<u8>,
-    region: &Value,
-) -> Result<(), AllocError> {
-    let Some(table) = region.as_table() else {
-        push_text(message, " = ")?;
-        push_value(alloc, message, region)?;
-        return push_text(message, ": a table is wanted");
+fn push_wrong_region(message: &mut Message, region: &Value) {
+    let Value::Table(table) = region else {
+        message.push(" = ");
+        message.push_value(region);
+        return message.push(": a table is wanted");
     };
-    push_text(message, ": ")?;
+    message.push(": ");
     match wrong_region_key(table) {
-        Some((key, wanted)) => push_wanted(alloc, message, table, key, wanted),
-        None => push_text(message, "a value of another kind"),
+        Some((key, wanted)) => push_wanted(message, table, key, wanted),
+        None => message.push("a value of another kind"),
     }
 }

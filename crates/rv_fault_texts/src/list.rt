@@ -1,5 +1,6 @@
 //! A list whose faults are told, as a look at its text finds it.
 
+use crate::values::{elements_of, text_of};
 use rv_headers::job_lines;
 use std::alloc::{AllocError, Global};
 use toml::{Table, Value};
@@ -19,81 +20,37 @@ pub struct List<'a> {
 impl<'a> List<'a> {
     /// The list of a text and its table.
     pub fn of(alloc: Global, text: &[u8], table: &'a Table) -> Result<List<'a>, AllocError> {
-        let jobs = jobs_of(table);
+        let jobs = elements_of(table, "job");
         Ok(List {
             table,
             jobs,
             names: names_of(alloc, jobs)?,
-            lines: lines_of(alloc, text)?,
+            lines: job_lines(alloc, str::from_utf8(text).unwrap_or(""))?,
         })
-    }
-
-    /// The table of the job at a place, counted from 0.
-    pub(crate) fn table_of(&self, place: usize) -> Option<&'a Table> {
-        match self.jobs.get(place) {
-            Some(job) => job.as_table(),
-            None => None,
-        }
-    }
-
-    /// The name of the job at a place, where it has a text as its name.
-    pub(crate) fn name_of(&self, place: usize) -> Option<&'a str> {
-        match self.names.as_slice().get(place) {
-            Some(name) => *name,
-            None => None,
-        }
     }
 
     /// The number, counted from 1, of the first job that has a name.
     pub(crate) fn number_of(&self, name: Option<&str>) -> Option<u64> {
-        let name = name?;
         for (place, other) in self.names.iter().enumerate() {
-            if *other == Some(name) {
+            if other.is_some() && *other == name {
                 return Some(place as u64 + 1);
             }
         }
         None
-    }
-
-    /// The names of the jobs that stand before a place.
-    pub(crate) fn names_before(&self, place: usize) -> &[Option<&'a str>] {
-        &self.names.as_slice()[..place.min(self.names.len())]
-    }
-}
-
-fn jobs_of(table: &Table) -> &[Value] {
-    let array = match table.get("job") {
-        Some(value) => value.as_array(),
-        None => None,
-    };
-    match array {
-        Some(jobs) => jobs.as_slice(),
-        None => &[],
     }
 }
 
 fn names_of(alloc: Global, jobs: &[Value]) -> Result<Vec<Option<&str>>, AllocError> {
     let mut names = Vec::new(alloc);
     for job in jobs {
-        names.push(text_of_name(job))?;
+        names.push(name_in(job))?;
     }
     Ok(names)
 }
 
-fn text_of_name(job: &Value) -> Option<&str> {
-    let name = match job.as_table() {
-        Some(table) => table.get("name"),
-        None => None,
-    };
-    match name {
-        Some(value) => value.as_str(),
-        None => None,
-    }
-}
-
-fn lines_of(alloc: Global, text: &[u8]) -> Result<Vec<usize>, AllocError> {
-    match str::from_utf8(text) {
-        Ok(text) => job_lines(alloc, text),
-        Err(_) => Ok(Vec::new(alloc)),
+fn name_in(job: &Value) -> Option<&str> {
+    match job {
+        Value::Table(table) => text_of(table, "name"),
+        _ => None,
     }
 }

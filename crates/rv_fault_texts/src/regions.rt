@@ -1,10 +1,9 @@
 //! Regions that are no map.
 
-use crate::message::{push_wanted, word_of};
-use rv_lines::{push_number, push_text, push_word};
+use crate::message::Message;
+use crate::values::{elements_of, push_wanted, word_of};
 use rv_lists::What;
 use rv_memory::{Map, MapError, Region};
-use std::alloc::{AllocError, Global};
 use toml::{Table, Value};
 
 const BASE: &str = "a multiple of 4 from 0 to 0xfffffffc is wanted";
@@ -18,139 +17,138 @@ const CONSOLE: Region = Region {
     writable: true,
 };
 
-/// The elements of `region`; none where it is no array.
-pub(crate) fn regions_of(table: &Table) -> &[Value] {
-    let array = match table.get("region") {
-        Some(value) => value.as_array(),
-        None => None,
-    };
-    match array {
-        Some(regions) => regions.as_slice(),
-        None => &[],
-    }
-}
-
 /// Appends which region it is, counted from 1.
-pub(crate) fn push_region_number(message: &mut Vec<u8>, at: usize) -> Result<(), AllocError> {
-    push_text(message, "region ")?;
-    push_number(message, (at as u64).saturating_add(1))
+pub(crate) fn push_region_number(message: &mut Message, at: usize) {
+    message.push_between("region ", (at as u64).saturating_add(1), "");
 }
 
 /// Appends why the regions of a job are no map.
-pub(crate) fn push_region(
-    alloc: Global,
-    message: &mut Vec<u8>,
-    table: &Table,
-) -> Result<(), AllocError> {
-    let mut regions = Vec::new(alloc);
-    for (at, element) in regions_of(table).iter().enumerate() {
-        match region_of(element) {
-            Some(region) => regions.push(region)?,
-            None => return push_no_region(alloc, message, at, element),
+pub(crate) fn push_region(message: &mut Message, table: &Table) {
+    let elements = elements_of(table, "region");
+    for (at, element) in elements.iter().enumerate() {
+        if region_of(element).is_none() {
+            return push_no_region(message, at, element);
         }
     }
-    match Map::of(regions.as_slice()) {
-        Ok(_) => push_text(message, What::Region.name()),
-        Err(error) => push_no_map(message, regions.as_slice(), error),
+    let regions = [
+        region_at(elements, 0),
+        region_at(elements, 1),
+        region_at(elements, 2),
+        region_at(elements, 3),
+    ];
+    if elements.len() <= regions.len() {
+        push_no_map(message, &regions[..elements.len()]);
+    } else {
+        push_count(message, elements.len());
     }
 }
 
-// The region of an element, where its base and its size are 32-bit numbers.
-fn region_of(element: &Value) -> Option<Region> {
-    let table = element.as_table()?;
-    Some(Region {
-        base: word_of(table, "base")?,
-        size: word_of(table, "size")?,
+// The region at a place; an empty one where there is none.
+fn region_at(elements: &[Value], at: usize) -> Region {
+    let region = match elements.get(at) {
+        Some(element) => region_of(element),
+        None => None,
+    };
+    region.unwrap_or(Region {
+        base: 0,
+        size: 0,
         writable: true,
     })
 }
 
-// Appends the base or the size of a region that is no 32-bit number.
-fn push_no_region(
-    alloc: Global,
-    message: &mut Vec<u8>,
-    at: usize,
-    element: &Value,
-) -> Result<(), AllocError> {
-    push_region_number(message, at)?;
-    push_text(message, ": ")?;
-    match element.as_table() {
-        Some(table) => match word_of(table, "base") {
-            Some(_) => push_wanted(alloc, message, table, "size", SIZE),
-            None => push_wanted(alloc, message, table, "base", BASE),
-        },
-        None => push_text(message, "a table is wanted"),
+// The region of an element, where its base and its size are 32-bit numbers.
+fn region_of(element: &Value) -> Option<Region> {
+    let Value::Table(table) = element else {
+        return None;
+    };
+    match (word_of(table, "base"), word_of(table, "size")) {
+        (Some(base), Some(size)) => Some(Region {
+            base,
+            size,
+            writable: true,
+        }),
+        _ => None,
     }
 }
 
-fn push_no_map(
-    message: &mut Vec<u8>,
-    regions: &[Region],
-    error: MapError,
-) -> Result<(), AllocError> {
-    match error {
-        MapError::Count => {
-            push_text(message, "region has ")?;
-            push_number(message, regions.len() as u64)?;
-            push_text(message, " tables: 1 to 4 are wanted")
+// Appends the base or the size of a region that is no 32-bit number.
+fn push_no_region(message: &mut Message, at: usize, element: &Value) {
+    push_region_number(message, at);
+    message.push(": ");
+    match element {
+        Value::Table(table) if word_of(table, "base").is_some() => {
+            push_wanted(message, table, "size", SIZE)
         }
-        MapError::Align => push_unaligned(message, regions),
-        MapError::Size => push_unsized(message, regions),
-        MapError::Overlap => push_overlap(message, regions),
-        MapError::Console => push_console(message, regions),
+        Value::Table(table) => push_wanted(message, table, "base", BASE),
+        _ => message.push("a table is wanted"),
     }
+}
+
+// Appends why regions are no map.
+fn push_no_map(message: &mut Message, regions: &[Region]) {
+    match Map::of(regions) {
+        Ok(_) => message.push(What::Region.name()),
+        Err(MapError::Count) => push_count(message, regions.len()),
+        Err(MapError::Align) => push_unaligned(message, regions),
+        Err(MapError::Size) => push_unsized(message, regions),
+        Err(MapError::Overlap) => push_overlap(message, regions),
+        Err(MapError::Console) => push_console(message, regions),
+    }
+}
+
+fn push_count(message: &mut Message, count: usize) {
+    message.push_between("region has ", count as u64, " tables: 1 to 4 are wanted");
 }
 
 // Appends the first base or size that is no multiple of 4.
-fn push_unaligned(message: &mut Vec<u8>, regions: &[Region]) -> Result<(), AllocError> {
+fn push_unaligned(message: &mut Message, regions: &[Region]) {
     for (at, region) in regions.iter().enumerate() {
         if region.base % 4 != 0 {
-            push_base(message, at, region.base)?;
-            push_text(message, ": ")?;
-            return push_text(message, BASE);
+            push_base(message, at, region.base);
+            message.push(": ");
+            return message.push(BASE);
         }
         if region.size % 4 != 0 {
             return push_size(message, at, region.size);
         }
     }
-    Ok(())
 }
 
 // Appends the first region that is too small or goes past the address space, or that all of them are too much.
-fn push_unsized(message: &mut Vec<u8>, regions: &[Region]) -> Result<(), AllocError> {
+fn push_unsized(message: &mut Message, regions: &[Region]) {
     let mut total = 0u64;
     for (at, region) in regions.iter().enumerate() {
         if region.size < 4 {
             return push_size(message, at, region.size);
         }
         if end_of(region) > 0x1_0000_0000 {
-            push_base(message, at, region.base)?;
-            push_text(message, ", size = ")?;
-            push_number(message, u64::from(region.size))?;
-            return push_text(
-                message,
-                ": a region that ends at 0xffffffff at most is wanted",
-            );
+            return push_past(message, at, region);
         }
         total = total.saturating_add(u64::from(region.size));
     }
-    push_text(message, "the sizes of the regions add up to ")?;
-    push_number(message, total)?;
-    push_text(message, ": at most 16777216 is taken")
+    message.push_between(
+        "the sizes of the regions add up to ",
+        total,
+        ": at most 16777216 is taken",
+    );
 }
 
-fn push_base(message: &mut Vec<u8>, at: usize, base: u32) -> Result<(), AllocError> {
-    push_region_number(message, at)?;
-    push_text(message, ": base = 0x")?;
-    push_word(message, base)
+fn push_past(message: &mut Message, at: usize, region: &Region) {
+    push_base(message, at, region.base);
+    let wanted = ": a region that ends at 0xffffffff at most is wanted";
+    message.push_between(", size = ", u64::from(region.size), wanted);
 }
 
-fn push_size(message: &mut Vec<u8>, at: usize, size: u32) -> Result<(), AllocError> {
-    push_region_number(message, at)?;
-    push_text(message, ": size = ")?;
-    push_number(message, u64::from(size))?;
-    push_text(message, ": ")?;
-    push_text(message, SIZE)
+fn push_base(message: &mut Message, at: usize, base: u32) {
+    push_region_number(message, at);
+    message.push(": base = 0x");
+    message.push_word(base);
+}
+
+fn push_size(message: &mut Message, at: usize, size: u32) {
+    push_region_number(message, at);
+    message.push_between(": size = ", u64::from(size), ": ");
+    message.push(SIZE);
 }
 
 // The address past the last byte of a region.
@@ -169,31 +167,29 @@ fn shared(region: &Region, other: &Region) -> Option<u32> {
 }
 
 // Appends the first two regions that share an address.
-fn push_overlap(message: &mut Vec<u8>, regions: &[Region]) -> Result<(), AllocError> {
+fn push_overlap(message: &mut Message, regions: &[Region]) {
     for at in 0..regions.len() {
         for later in at + 1..regions.len() {
             if let Some(address) = shared(&regions[at], &regions[later]) {
-                push_region_number(message, at)?;
-                push_text(message, " and ")?;
-                push_region_number(message, later)?;
-                push_text(message, " both have 0x")?;
-                push_word(message, address)?;
-                return push_text(message, ": regions that share no address are wanted");
+                push_region_number(message, at);
+                message.push(" and ");
+                push_region_number(message, later);
+                message.push(" both have 0x");
+                message.push_word(address);
+                return message.push(": regions that share no address are wanted");
             }
         }
     }
-    Ok(())
 }
 
 // Appends the first region that has an address of the console.
-fn push_console(message: &mut Vec<u8>, regions: &[Region]) -> Result<(), AllocError> {
+fn push_console(message: &mut Message, regions: &[Region]) {
     for (at, region) in regions.iter().enumerate() {
         if let Some(address) = shared(region, &CONSOLE) {
-            push_region_number(message, at)?;
-            push_text(message, " has 0x")?;
-            push_word(message, address)?;
-            return push_text(message, ": 0x10000000 to 0x1000000f are the console's");
+            push_region_number(message, at);
+            message.push(" has 0x");
+            message.push_word(address);
+            return message.push(": 0x10000000 to 0x1000000f are the console's");
         }
     }
-    Ok(())
 }

@@ -3,7 +3,7 @@
 ghost use Rattle.std.specs.Prelude.{OnOk, length};
 ghost use Rattle.rv_list_faults.specs.Lines.{PutsLines};
 
-use rv_fault_texts::{List, Look, push_message};
+use rv_fault_texts::{List, Look, message_of};
 use rv_lines::{push_shown, push_text};
 use rv_lists::JobError;
 use std::alloc::{AllocError, Global};
@@ -59,8 +59,7 @@ fn push_each(
     ensures { OnOk result (PutsLines (length faults.now) bytes.old.items bytes.new.items) }
 {
     for (at, fault) in faults.iter().enumerate() {
-        let mut message = Vec::new(alloc);
-        push_message(alloc, &mut message, file, look, *fault, at < NEAR_TOLD)?;
+        let message = message_of(alloc, file, look, *fault, at < NEAR_TOLD)?;
         push_shown(bytes, message.as_slice())?;
         push_text(bytes, "\n")?;
     }

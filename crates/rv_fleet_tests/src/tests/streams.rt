@@ -142,8 +142,8 @@ fn crew_of(line: &str) -> Result<(u32, u32), Fail>
 
 // The plan of a line, and the places of the jobs that are chosen of it.
 fn chosen(alloc: Global, line: &str) -> Result<(Plan, Vec<usize>), Fail>
-    ensures within { IfOk result (λ chosen. AreWithin chosen.0 chosen.1) }
-    ensures rising { IfOk result (λ chosen. IsStrictlyIncreasing chosen.1) }
+    ensures within { IfOk result (λ chosen. AreWithin chosen.0 chosen.1.items) }
+    ensures rising { IfOk result (λ chosen. IsStrictlyIncreasing chosen.1.items) }
 {
     let marks = marks_of(alloc, cell_of(line, 2))?;
     let places = marked_places(alloc, marks.as_slice())?;

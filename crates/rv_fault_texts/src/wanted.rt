@@ -1,0 +1,198 @@
+//! What is wanted of the values of keys.
+
+use crate::message::Message;
+use crate::values::{push_key, text_of};
+use rv_lists::limits::{MOST_BUDGET, MOST_CONSOLE, MOST_NAME, MOST_PATH, MOST_SCRIPT, MOST_SYMBOL};
+use toml::Table;
+
+/// What is told of one key, or of two.
+#[derive(Clone, Copy)]
+pub(crate) enum Told {
+    Wanted(&'static Wanted),
+    Text(&'static str),
+}
+
+/// What is wanted of the value of a key: words, or the words around the most that is taken.
+pub(crate) struct Wanted {
+    key: &'static str,
+    before: &'static str,
+    most: Option<u64>,
+    behind: &'static str,
+    bytes: Bytes,
+}
+
+/// Whether a text's bytes are told where they are more than the most that is taken.
+#[derive(Clone, Copy)]
+enum Bytes {
+    Untold,
+    Each,
+    /// Two characters are a byte's digits.
+    Pairs,
+}
+
+pub(crate) const NAME: Wanted = Wanted {
+    key: "name",
+    before: "1 to ",
+    most: Some(MOST_NAME as u64),
+    behind: " ASCII letters, digits, \".\", \"_\" and \"-\" are wanted",
+    bytes: Bytes::Untold,
+};
+
+pub(crate) const IMAGE: Wanted = Wanted {
+    key: "image",
+    before: "a path of 1 to ",
+    most: Some(MOST_PATH as u64),
+    behind: " bytes is wanted",
+    bytes: Bytes::Each,
+};
+
+pub(crate) const BUDGET: Wanted = Wanted {
+    key: "budget",
+    before: "a whole number from 1 to ",
+    most: Some(MOST_BUDGET as u64),
+    behind: " is wanted",
+    bytes: Bytes::Untold,
+};
+
+pub(crate) const INPUT: Wanted = Wanted {
+    key: "input",
+    before: "at most ",
+    most: Some(MOST_SCRIPT as u64),
+    behind: " bytes are taken",
+    bytes: Bytes::Each,
+};
+
+pub(crate) const INPUT_HEX: Wanted = Wanted {
+    key: "input_hex",
+    before: "at most ",
+    most: Some(MOST_SCRIPT as u64),
+    behind: " bytes are taken",
+    bytes: Bytes::Pairs,
+};
+
+pub(crate) const PAIRS: Wanted = Wanted {
+    key: "input_hex",
+    before: "pairs of hexadecimal digits are wanted",
+    most: None,
+    behind: "",
+    bytes: Bytes::Untold,
+};
+
+pub(crate) const LOAD: Wanted = Wanted {
+    key: "load",
+    before: "\"physical\" or \"virtual\" is wanted",
+    most: None,
+    behind: "",
+    bytes: Bytes::Untold,
+};
+
+pub(crate) const SIGNATURE: Wanted = Wanted {
+    key: "signature",
+    before: "the names of two symbols are wanted, 1 to ",
+    most: Some(MOST_SYMBOL as u64),
+    behind: " bytes each and no zero byte",
+    bytes: Bytes::Untold,
+};
+
+pub(crate) const EXPECT_EXIT: Wanted = Wanted {
+    key: "expect_exit",
+    before: "a whole number from 0 to ",
+    most: Some(u32::MAX as u64),
+    behind: " is wanted",
+    bytes: Bytes::Untold,
+};
+
+pub(crate) const UNASKED: Wanted = Wanted {
+    key: "expect_signature",
+    before: "a signature is expected only where the key signature names its two symbols",
+    most: None,
+    behind: "",
+    bytes: Bytes::Untold,
+};
+
+pub(crate) const EXPECT_SIGNATURE: Wanted = Wanted {
+    key: "expect_signature",
+    before: "a path of 1 to ",
+    most: Some(MOST_PATH as u64),
+    behind: " bytes is wanted",
+    bytes: Bytes::Each,
+};
+
+pub(crate) const EXPECT_CONSOLE: Wanted = Wanted {
+    key: "expect_console",
+    before: "at most ",
+    most: Some(MOST_CONSOLE as u64),
+    behind: " bytes are taken",
+    bytes: Bytes::Each,
+};
+
+pub(crate) const EXPECT_CONSOLE_FILE: Wanted = Wanted {
+    key: "expect_console_file",
+    before: "a path of 1 to ",
+    most: Some(MOST_PATH as u64),
+    behind: " bytes is wanted",
+    bytes: Bytes::Each,
+};
+
+pub(crate) const EXPECT_END: Wanted = Wanted {
+    key: "expect_end",
+    before: "\"budget\" or the kind of a fault is wanted: \"fetch-access\", \"stale-code\", \"illegal\", \
+\"breakpoint\", \"load-misaligned\", \"load-access\", \"store-misaligned\", \"store-access\", \"console-full\", \
+\"unknown-call\" or \"fetch-misaligned\"",
+    most: None,
+    behind: "",
+    bytes: Bytes::Untold,
+};
+
+pub(crate) const ISA: Wanted = Wanted {
+    key: "isa",
+    before: "\"rv32i\", \"rv32im\", \"rv32ic\" or \"rv32imc\" is wanted",
+    most: None,
+    behind: "",
+    bytes: Bytes::Untold,
+};
+
+pub(crate) const MISALIGNED: Wanted = Wanted {
+    key: "misaligned",
+    before: "\"fault\" or \"allow\" is wanted",
+    most: None,
+    behind: "",
+    bytes: Bytes::Untold,
+};
+
+/// Appends what is told.
+pub(crate) fn push_told(message: &mut Message, table: &Table, told: Told) {
+    match told {
+        Told::Text(text) => message.push(text),
+        Told::Wanted(wanted) => {
+            push_key(message, table, wanted.key);
+            push_most(message, bytes_of(table, wanted), wanted);
+        }
+    }
+}
+
+// Appends what is wanted, behind the bytes that there are where they are too many.
+fn push_most(message: &mut Message, bytes: u64, wanted: &Wanted) {
+    let Some(most) = wanted.most else {
+        message.push(": ");
+        return message.push(wanted.before);
+    };
+    if most < bytes {
+        message.push_between(" (", bytes, " bytes)");
+    }
+    message.push(": ");
+    message.push_between(wanted.before, most, wanted.behind);
+}
+
+// The bytes of the text at a key, where they are told.
+fn bytes_of(table: &Table, wanted: &Wanted) -> u64 {
+    let len = match text_of(table, wanted.key) {
+        Some(text) => text.len() as u64,
+        None => 0,
+    };
+    match wanted.bytes {
+        Bytes::Untold => 0,
+        Bytes::Each => len,
+        Bytes::Pairs => len / 2,
+    }
+}
