@@ -10,6 +10,7 @@ use std::test::Fail;
 
 mod draws;
 mod fleets;
+mod places;
 mod recent;
 mod streams;
 mod workers;
@@ -91,4 +92,13 @@ fn rows_told(alloc: Global, rows: &[Row]) -> Result<String, AllocError> {
 // What the last cell of a line says.
 fn last_cell(line: &str) -> &str {
     line.rsplit_once('|').unwrap_or(("", line)).1.trim()
+}
+
+// A mark for each letter, set for `x`.
+fn marks_of(alloc: Global, choice: &str) -> Result<Vec<bool>, AllocError> {
+    let mut marks = Vec::new(alloc);
+    for mark in choice.bytes() {
+        marks.push(mark == b'x')?;
+    }
+    Ok(marks)
 }

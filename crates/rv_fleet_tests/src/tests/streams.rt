@@ -3,7 +3,7 @@ ghost use Rattle.std.specs.Prelude.{◌<◌, ◌≤◌, IfOk, Some};
 ghost use Rattle.std.specs.List.Sorted.{IsStrictlyIncreasing};
 ghost use Rattle.rv_fleet.specs.Choices.{AreWithin};
 
-use super::plan_of;
+use super::{marks_of, plan_of};
 use rv_fleet::{Row, Rows, Sink, SinkFailed};
 use rv_jobs::{Plan, marked_places};
 use rv_stream::{StreamError, Telling, stream_places};
@@ -88,15 +88,6 @@ impl<'a> Sink for NotingSink<'a> {
     fn failures(&self) -> u64 {
         self.failures
     }
-}
-
-// A mark for each letter, set for `x`.
-fn marks_of(alloc: Global, choice: &str) -> Result<Vec<bool>, AllocError> {
-    let mut marks = Vec::new(alloc);
-    for mark in choice.bytes() {
-        marks.push(mark == b'x')?;
-    }
-    Ok(marks)
 }
 
 // label | the jobs' budgets | a choice of them | workers | group | what goes out
