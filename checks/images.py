@@ -136,3 +136,19 @@ def with_signature(code, words):
     data = program(code.ljust(room, b"\0") + words_of(words))
     ends = [(b"x", SIGNATURE), (b"y", SIGNATURE + 4 * len(words))]
     return with_symbols(data, [(name, value, 0x10, 0xfff1) for name, value in ends])
+
+
+def elf(entry, parts):
+    """The file with this entry and a segment for each part, which is an address and the bytes there."""
+    data = changed(IMAGES["one"][:52], f"24={entry:08x} 44={len(parts):04x}")
+    place = len(data) + 32 * len(parts)
+    for address, code in parts:
+        data += struct.pack("<8I", 1, place, address, address, len(code), len(code), 7, 4)
+        place += len(code)
+    return data + b"".join(code for _, code in parts)
+
+
+def loading(register, value):
+    """LUI and ADDI that give a register a value."""
+    upper, lower = (value + 0x800) >> 12 & 0xfffff, value & 0xfff
+    return [upper << 12 | register << 7 | 0x37, lower << 20 | register << 15 | register << 7 | 0x13]

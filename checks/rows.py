@@ -51,7 +51,7 @@ class Row:
     def fails(self, words, wanted, found):
         """Says what a run was to come to, and what it came to."""
         raise Wrong(
-            f"{self.table} {cut(self.text)}\n  of rvtest {cut(' '.join(words))}\n"
+            f"{self.table} {cut(self.text)}\n  of {os.path.basename(self.rvtest)} {cut(' '.join(words))}\n"
             f"  wanted is {told_of(*wanted)}\n  found was {told_of(*found)}"
         )
 

@@ -1,6 +1,6 @@
 #!/usr/bin/env python3
-"""Runs the built rvtest over each row of the tables in checks/tables: what it tells must be what the row says, byte for byte, and
-its status the one that goes with that.
+"""Runs the built rvtest, or rvfleet, which lies beside it, over each row of the tables in checks/tables: what it tells must be what
+the row says, byte for byte, and its status the one that goes with that.
 
     checks/runner.py RVTEST
 
@@ -18,12 +18,14 @@ import sys
 import tempfile
 
 import asked
+import codes
 import images
+import machines
 import saved
 from rows import RULES, Row, Wrong, cut, last_line, lines, many, squeezed, status_of, told_lines, with_bytes
 
 TABLES = pathlib.Path(__file__).resolve().parent / "tables"
-SETTINGS = ("list", "front", "file", "words", "status", "told")
+SETTINGS = ("list", "front", "file", "words", "status", "told", "form")
 UNEXPECTED = "expected exit 0, since it expects nothing else"
 # Of how many rows that are not told as they must be the difference is shown.
 MOST_SHOWN = 20
@@ -247,6 +249,8 @@ FORMS = {
     "unmet": check_unmet,
     **asked.FORMS,
     **saved.FORMS,
+    **codes.FORMS,
+    **machines.FORMS,
 }
 
 

@@ -1,10 +1,6 @@
-//! Tests of a machine and of what it stands on: the decoder, memory, and runs of small programs, by what `rv_isa`,
-//! `rv_memory` and `rv_machine` show their callers. The crate has nothing else, so that no code is proved twice.
+//! Tests of what no program shows of a machine: which instructions it keeps, single steps, and whether code is clean. All
+//! else that `rv_isa`, `rv_memory` and `rv_machine` do `checks/tables` ask of the built programs.
 #![tactic(auto)]
 
 #[cfg(test)]
-mod isa;
-#[cfg(test)]
-mod machine;
-#[cfg(test)]
-mod memory;
+mod kept;

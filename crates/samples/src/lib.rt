@@ -11,4 +11,4 @@ pub use digits::{BadSample, file_bytes, numbers};
 pub use files::{changed, file, program};
 pub use images::{CHECKSUM, ONE_SEGMENT, SIGNATURE, TWO_SEGMENTS, UPPER, UPPER_STRIPPED};
 pub use symbols::with_symbols;
-pub use tables::{agree, cell_of, filled, has_lines, hex_of, word_of};
+pub use tables::{agree, cell_of, has_lines, hex_of};

@@ -1,0 +1,132 @@
+//! `rv_machine`: what is kept, by the lines of a table: an image, what its machine is asked, and what it answers.
+use rv_isa::Isa;
+use rv_machine::Machine;
+use rv_memory::{Bus, Map, Misaligned, Region};
+use samples::{agree, cell_of, has_lines, hex_of, numbers};
+use std::alloc::{AllocError, Global};
+use std::test::Fail;
+
+// AUIPC, a store over itself, and FENCE.I. C.LI at the first halfword of the address space; an entry in the middle of a
+// word; an instruction whose halves are the last and the first halfword of the address space. Steps behind an ending end
+// too, and a run within no budget does nothing. Last, in each of 70,000 rounds the immediate of the loop's first
+// instruction is stored anew, and FENCE.I follows; the first store is over the image's first instruction: label | entry |
+// parts of the image | dialogue.
+const KEPT: &str = "\
+fallen asleep | 80000000 | 80000000: 00000297 0052a223 0000100f | kept 80000000 = nothing; step = goes on; kept 80000000 = Auipc 5 0 0 0, 4 bytes; kept 80000001 = nothing; kept 80000002 = nothing; kept 80000004 = nothing; kept 80002000 = nothing; clean 80000004 = yes; step = goes on; kept 80000004 = Sw 0 5 5 4, 4 bytes; clean 80000004 = no; step = goes on; kept 80000000 = Auipc 5 0 0 0, 4 bytes; kept 80000004 = nothing; clean 80000004 = yes
+first halfword | 0 | 0: 4515 9002 | run 10 = 1; kept 0 = Addi 10 0 0 5, 2 bytes
+middle of a word | 80000002 | 80000002: 00500513 X | run 10 = 2; kept 80000002 = Addi 10 0 0 5, 4 bytes
+last halfword | fffffffe | 0: 0055; fffffffe: 0513 | step = goes on; kept fffffffe = Addi 10 10 0 5, 4 bytes
+behind an ending | 80000000 | 80000000: 00700293 01002003 | step = goes on; step = ends; step = ends; run 5 = 0
+no budget | 80000000 | 80000000: 00500513 X | run 0 = 0; kept 80000000 = nothing
+many rounds | 80000000 | 80000000: 00000297 00028023 00011337 17030313 00000513 00a40433 01038393 00729923 0000100f fff30313 fe0314e3 00040513 X | run 2 = 2; kept 80000000 = Auipc 5 0 0 0, 4 bytes; run 1000000 = 490004; kept 80000000 = nothing
+";
+
+fn region(base: u32, size: u32) -> Region {
+    Region {
+        base,
+        size,
+        writable: true,
+    }
+}
+
+// Places a part `ADDRESS: NUMBERS` of an image.
+fn place(alloc: Global, bus: &mut Bus, part: &str) -> Result<(), Fail> {
+    let (addr, code) = part.split_once(": ").ok_or("an address and numbers")?;
+    let addr = hex_of(addr)?;
+    let bytes = numbers(alloc, code)?;
+    if bytes.len() > 0x1000 || !bus.map().in_one(addr, bytes.len() as u32) {
+        return Err("a place".into());
+    }
+    bus.place(addr, &bytes);
+    Ok(())
+}
+
+fn load(alloc: Global, bus: &mut Bus, image: &str) -> Result<(), Fail> {
+    for part in image.split("; ") {
+        place(alloc, bus, part)?;
+    }
+    Ok(())
+}
+
+// A machine of all instructions over memory at both ends and in the middle of the address space.
+fn machine_of(alloc: Global, entry: u32, image: &str) -> Result<Machine, Fail> {
+    if entry % 2 != 0 {
+        return Err("an entry".into());
+    }
+    let map = Map::of(&[
+        region(0, 4),
+        region(0x8000_0000, 0x1000),
+        region(0xffff_fffc, 4),
+    ])?;
+    let mut bus = Bus::new(alloc, map, Vec::new(alloc), Misaligned::Fault)?;
+    load(alloc, &mut bus, image)?;
+    Ok(Machine::new(alloc, bus, entry, Isa::Imc)?)
+}
+
+fn kept_at(alloc: Global, machine: &Machine, addr: u32) -> Result<String, AllocError> {
+    let Some((instr, length)) = machine.kept(addr) else {
+        return String::from_str(alloc, "nothing");
+    };
+    let (op, imm) = (instr.op, instr.imm);
+    let (rd, rs1, rs2) = (instr.rd, instr.rs1, instr.rs2);
+    format!(in alloc; "{op:?} {rd} {rs1} {rs2} {imm}, {length} bytes")
+}
+
+fn step(machine: &mut Machine) -> &'static str {
+    if machine.step().is_none() {
+        "goes on"
+    } else {
+        "ends"
+    }
+}
+
+fn clean(machine: &Machine, addr: u32) -> &'static str {
+    if machine.bus().clean(addr, 4) {
+        "yes"
+    } else {
+        "no"
+    }
+}
+
+// How many steps of a run complete.
+fn run(alloc: Global, machine: &mut Machine, budget: u32) -> Result<String, AllocError> {
+    let steps = machine.run(budget).steps;
+    format!(in alloc; "{steps}")
+}
+
+// Whether a machine answers `ASK = ANSWER` so, which asks `run BUDGET`, `step`, `kept ADDRESS` or `clean ADDRESS`.
+fn ask(alloc: Global, machine: &mut Machine, line: &str, exchange: &str) -> Result<(), Fail> {
+    let (ask, wanted) = exchange.split_once(" = ").unwrap_or((exchange, ""));
+    let (verb, number) = ask.split_once(' ').unwrap_or((ask, "0"));
+    match verb {
+        "run" => {
+            let budget = number.parse::<u32>()?;
+            agree(line, &run(alloc, machine, budget)?, wanted)
+        }
+        "step" => agree(line, step(machine), wanted),
+        "kept" => agree(line, &kept_at(alloc, machine, hex_of(number)?)?, wanted),
+        "clean" => agree(line, clean(machine, hex_of(number)?), wanted),
+        _ => Err("a verb".into()),
+    }
+}
+
+fn dialogue(alloc: Global, machine: &mut Machine, line: &str) -> Result<(), Fail> {
+    for exchange in cell_of(line, 3).split("; ") {
+        ask(alloc, machine, line, exchange)?;
+    }
+    Ok(())
+}
+
+fn check(alloc: Global, line: &str) -> Result<(), Fail> {
+    let mut machine = machine_of(alloc, hex_of(cell_of(line, 1))?, cell_of(line, 2))?;
+    dialogue(alloc, &mut machine, line)
+}
+
+#[test]
+fn machines_keep_instructions(rt: HostRuntime) -> Result<(), Fail> {
+    has_lines(KEPT, 7)?;
+    for line in KEPT.lines() {
+        check(rt.alloc(), line)?;
+    }
+    Ok(())
+}
