@@ -1,4 +1,5 @@
 pub mod Shown
+pub mod Spans
 pub mod ConsoleTail
 pub mod Passing
 pub mod ResultLine

@@ -4,8 +4,8 @@ ghost use Rattle.std.specs.Prelude.{◌≡◌, ◌≤◌, ◌<◌, ◌++◌, IfS
 ghost use Rattle.std.specs.List.{flat_map, position_or_len};
 ghost use Rattle.rv_lines.specs.ConsoleTail.{console_line_shown, console_tail, is_feed, lines_of};
 
-use crate::shown::push_shown;
 use crate::slices::{behind, last_of};
+use crate::spans::{Span, push_spans};
 use std::alloc::AllocError;
 
 /// How many lines of a console are shown at most.
@@ -15,7 +15,7 @@ pub const TAIL_LINES: usize = 10;
 pub const TAIL_BYTES: usize = 1_024;
 
 /// Appends the last lines of a console, at most [`TAIL_LINES`] of its last [`TAIL_BYTES`] bytes. Each is shown as
-/// [`push_shown`] does, behind a margin, and has a line feed; the last one need have none in the console.
+/// [`push_shown`](crate::push_shown) does, behind a margin, and has a line feed; the last one need have none in the console.
 #[tactic(auto, unfolding(crate::specs::ConsoleTail::console_tail))]
 pub fn push_console_tail(bytes: &mut Vec<u8>, console: &[u8]) -> Result<(), AllocError>
     ensures { OnOk result (bytes.new.items ≡ bytes.old.items ++ console_tail console.now) }
@@ -46,9 +46,10 @@ fn push_lines_behind(bytes: &mut Vec<u8>, text: &[u8], earlier: usize) -> Result
 fn push_console_line(bytes: &mut Vec<u8>, line: &[u8]) -> Result<(), AllocError>
     ensures { OnOk result (bytes.new.items ≡ bytes.old.items ++ console_line_shown line.now) }
 {
-    bytes.extend_from_slice(b"     | ")?;
-    push_shown(bytes, line)?;
-    bytes.extend_from_slice(b"\n")
+    push_spans(
+        bytes,
+        &[Span::Text("     | "), Span::Shown(line), Span::Text("\n")],
+    )
 }
 
 // How many lines a text has.

@@ -1,7 +1,7 @@
 //! The lines that a person sees of rows.
 //!
 //! [`push_result`] appends the line of a row, [`push_console_tail`] the end of its console, and [`push_last_line`] the
-//! counts of all. [`push_shown`] shows text that comes from files, so that a terminal takes it as text:
+//! counts of all. [`push_spans`] appends what a line is put together from. [`push_shown`] shows text that comes from files, so that a terminal takes it as text:
 //! control characters and bytes of no character as `\xNN`.
 #![tactic(auto)]
 
@@ -11,6 +11,7 @@ mod passing;
 mod result_line;
 mod shown;
 mod slices;
+mod spans;
 mod tally;
 mod ways;
 
@@ -20,4 +21,5 @@ pub use passing::{Rule, has_passed};
 pub use result_line::{push_place, push_result, push_symbol};
 pub use shown::{VALUE_ROOM, push_shown, push_shown_value};
 pub use slices::behind;
+pub use spans::{Span, push_spans, text_of};
 pub use tally::{Tally, push_last_line};

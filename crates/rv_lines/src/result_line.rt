@@ -1,14 +1,16 @@
 //! The line that says how a job ended.
 
 ghost use Rattle.std.specs.Prelude.{◌≡◌, ◌++◌, OnOk, codes, option_map};
+ghost use Rattle.std.specs.Fmt.{decimal};
 ghost use Rattle.rv_machine.specs.Faults.{fault_name};
 ghost use Rattle.rv_rows.specs.Report.{refusal_name, word_digits};
 ghost use Rattle.rv_lines.specs.ResultLine.{ending_text, passing_word, place_text, reason_text};
 ghost use Rattle.rv_lines.specs.ResultLine.{result_line, steps_text, symbol_text};
 
-use crate::parts::{push_hexadecimal, push_number, push_word};
+use crate::parts::{push_hexadecimal, push_text};
 use crate::passing::{Rule, has_passed};
 use crate::shown::push_shown;
+use crate::spans::{Span, push_spans};
 use rv_elf::SymbolAt;
 use rv_machine::FaultKind;
 use rv_rows::{Refusal, Row, RowEnd};
@@ -30,11 +32,17 @@ pub fn push_result(
         ++ result_line rule row.now (option_map (λ s. (s.name.now, s.offset)) place.entry)
         (option_map (λ text. text.now) reason.entry)) }
 {
-    bytes.extend_from_slice(passing_word(has_passed(rule, row)).as_bytes())?;
-    bytes.extend_from_slice(row.name.as_str().as_bytes())?;
-    bytes.extend_from_slice(b": ")?;
+    let word = passing_word(has_passed(rule, row));
+    push_spans(
+        bytes,
+        &[
+            Span::Text(word),
+            Span::Text(row.name.as_str()),
+            Span::Text(": "),
+        ],
+    )?;
     push_ending(alloc, bytes, row, place, reason)?;
-    bytes.extend_from_slice(b"\n")
+    push_text(bytes, "\n")
 }
 
 fn passing_word(passed: bool) -> &'static str
@@ -56,44 +64,80 @@ fn push_ending(
         (option_map (λ s. (s.name.now, s.offset)) place.entry)
         (option_map (λ text. text.now) reason.entry)) }
 {
+    let steps = row.steps;
     match row.ending {
-        RowEnd::Exit(code) => {
-            bytes.extend_from_slice(b"exit ")?;
-            push_number(bytes, u64::from(code))?;
-            push_steps(bytes, row.steps)
-        }
+        RowEnd::Exit(code) => push_exit(bytes, code, steps),
         RowEnd::Fault(kind, pc, value) => {
-            push_fault(alloc, bytes, kind, pc, place)?;
-            bytes.extend_from_slice(b", value ")?;
-            push_word(bytes, value)?;
-            bytes.extend_from_slice(b",")?;
-            push_steps(bytes, row.steps)
+            push_fault(bytes, kind, pc)?;
+            push_place(alloc, bytes, place)?;
+            push_value(bytes, value, steps)
         }
-        RowEnd::Budget => {
-            bytes.extend_from_slice(b"budget used up")?;
-            push_steps(bytes, row.steps)
-        }
+        RowEnd::Budget => push_budget(bytes, steps),
         RowEnd::Refused(why) => push_refusal(bytes, why, reason),
     }
 }
 
-// Appends the kind of a fault and its place.
-fn push_fault(
-    alloc: Global,
-    bytes: &mut Vec<u8>,
-    kind: FaultKind,
-    pc: u32,
-    place: Option<SymbolAt<'_>>,
-) -> Result<(), AllocError>
+fn push_exit(bytes: &mut Vec<u8>, code: u32, steps: u32) -> Result<(), AllocError>
     ensures { OnOk result (bytes.new.items ≡ bytes.old.items
-        ++ (codes "fault " ++ fault_name kind ++ codes " at " ++ word_digits pc
-        ++ place_text (option_map (λ s. (s.name.now, s.offset)) place.entry))) }
+        ++ (codes "exit " ++ decimal code ++ steps_text steps)) }
 {
-    bytes.extend_from_slice(b"fault ")?;
-    bytes.extend_from_slice(kind.name().as_bytes())?;
-    bytes.extend_from_slice(b" at ")?;
-    push_word(bytes, pc)?;
-    push_place(alloc, bytes, place)
+    push_spans(
+        bytes,
+        &[
+            Span::Text("exit "),
+            Span::Number(u64::from(code)),
+            Span::Text(" after "),
+            Span::Number(u64::from(steps)),
+            Span::Text(" steps"),
+        ],
+    )
+}
+
+// Appends the kind of a fault and its address.
+fn push_fault(bytes: &mut Vec<u8>, kind: FaultKind, pc: u32) -> Result<(), AllocError>
+    ensures { OnOk result (bytes.new.items ≡ bytes.old.items
+        ++ (codes "fault " ++ fault_name kind ++ codes " at " ++ word_digits pc)) }
+{
+    push_spans(
+        bytes,
+        &[
+            Span::Text("fault "),
+            Span::Text(kind.name()),
+            Span::Text(" at "),
+            Span::Word(pc),
+        ],
+    )
+}
+
+// Appends what a fault met, and after how many steps.
+fn push_value(bytes: &mut Vec<u8>, value: u32, steps: u32) -> Result<(), AllocError>
+    ensures { OnOk result (bytes.new.items ≡ bytes.old.items
+        ++ (codes ", value " ++ word_digits value ++ codes "," ++ steps_text steps)) }
+{
+    push_spans(
+        bytes,
+        &[
+            Span::Text(", value "),
+            Span::Word(value),
+            Span::Text(", after "),
+            Span::Number(u64::from(steps)),
+            Span::Text(" steps"),
+        ],
+    )
+}
+
+fn push_budget(bytes: &mut Vec<u8>, steps: u32) -> Result<(), AllocError>
+    ensures { OnOk result (bytes.new.items ≡ bytes.old.items
+        ++ (codes "budget used up" ++ steps_text steps)) }
+{
+    push_spans(
+        bytes,
+        &[
+            Span::Text("budget used up after "),
+            Span::Number(u64::from(steps)),
+            Span::Text(" steps"),
+        ],
+    )
 }
 
 /// Appends a place in brackets behind a space, where there is a symbol.
@@ -108,9 +152,9 @@ pub fn push_place(
     let Some(symbol) = place else {
         return Ok(());
     };
-    bytes.extend_from_slice(b" (")?;
+    push_text(bytes, " (")?;
     push_symbol(alloc, bytes, symbol)?;
-    bytes.extend_from_slice(b")")
+    push_text(bytes, ")")
 }
 
 /// Appends a place by the name of a symbol, shown as [`push_shown`] does, and the bytes past it: `main+0x1c`.
@@ -124,16 +168,8 @@ pub fn push_symbol(
         ++ symbol_text (symbol.entry.name.now, symbol.entry.offset)) }
 {
     push_shown(bytes, symbol.name)?;
-    bytes.extend_from_slice(b"+0x")?;
+    push_text(bytes, "+0x")?;
     push_hexadecimal(alloc, bytes, symbol.offset)
-}
-
-fn push_steps(bytes: &mut Vec<u8>, steps: u32) -> Result<(), AllocError>
-    ensures { OnOk result (bytes.new.items ≡ bytes.old.items ++ steps_text steps) }
-{
-    bytes.extend_from_slice(b" after ")?;
-    push_number(bytes, u64::from(steps))?;
-    bytes.extend_from_slice(b" steps")
 }
 
 fn push_refusal(bytes: &mut Vec<u8>, why: Refusal, reason: Option<&[u8]>) -> Result<(), AllocError>
@@ -141,11 +177,16 @@ fn push_refusal(bytes: &mut Vec<u8>, why: Refusal, reason: Option<&[u8]>) -> Res
         ++ (codes "refused " ++ refusal_name why
         ++ reason_text (option_map (λ text. text.now) reason.entry))) }
 {
-    bytes.extend_from_slice(b"refused ")?;
-    bytes.extend_from_slice(why.name().as_bytes())?;
     let Some(reason) = reason else {
-        return Ok(());
+        return push_spans(bytes, &[Span::Text("refused "), Span::Text(why.name())]);
     };
-    bytes.extend_from_slice(b": ")?;
-    push_shown(bytes, reason)
+    push_spans(
+        bytes,
+        &[
+            Span::Text("refused "),
+            Span::Text(why.name()),
+            Span::Text(": "),
+            Span::Shown(reason),
+        ],
+    )
 }

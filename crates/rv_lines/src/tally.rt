@@ -1,11 +1,12 @@
 //! Counts of rows, and the last line, which tells them.
 
-ghost use Rattle.std.specs.Prelude.{◌≡◌, ◌≤◌, ◌<◌, ◌*◌, ◌-◌, ◌^◌, ◌++◌, [], ◌∷◌, ℕ, List, OnOk, length, slice_index};
+ghost use Rattle.std.specs.Prelude.{◌≡◌, ◌≤◌, ◌<◌, ◌*◌, ◌-◌, ◌^◌, ◌++◌, [], ◌∷◌, ℕ, List, OnOk, codes, length, slice_index};
+ghost use Rattle.std.specs.Fmt.{decimal};
 ghost use Rattle.rv_rows.specs.declared.row.Row.{Row};
 ghost use Rattle.rv_lines.specs.LastLine.{counts_line, failures_below, last_line, numbers_text, ways};
 
-use crate::parts::push_number;
 use crate::passing::{Rule, has_passed};
+use crate::spans::{Span, push_spans};
 use crate::ways::{WAYS, push_bracket, way_of};
 use rv_rows::Row;
 use std::alloc::AllocError;
@@ -73,10 +74,7 @@ impl Tally {
     {
         push_numbers(bytes, self.jobs, self.passed)?;
         push_bracket(bytes, &self.failed)?;
-        bytes.extend_from_slice(b", ")?;
-        push_number(bytes, self.steps)?;
-        bytes.extend_from_slice(b" steps")?;
-        bytes.extend_from_slice(b"\n")
+        push_steps(bytes, self.steps)
     }
 }
 
@@ -85,12 +83,32 @@ fn push_numbers(bytes: &mut Vec<u8>, jobs: u64, passed: u64) -> Result<(), Alloc
     requires { passed ≤ jobs }
     ensures { OnOk result (bytes.new.items ≡ bytes.old.items ++ numbers_text jobs passed) }
 {
-    push_number(bytes, jobs)?;
-    bytes.extend_from_slice(b" jobs: ")?;
-    push_number(bytes, passed)?;
-    bytes.extend_from_slice(b" passed, ")?;
-    push_number(bytes, jobs - passed)?;
-    bytes.extend_from_slice(b" failed")
+    push_spans(
+        bytes,
+        &[
+            Span::Number(jobs),
+            Span::Text(" jobs: "),
+            Span::Number(passed),
+            Span::Text(" passed, "),
+            Span::Number(jobs - passed),
+            Span::Text(" failed"),
+        ],
+    )
+}
+
+// Appends the steps of all jobs, and the end of the line.
+fn push_steps(bytes: &mut Vec<u8>, steps: u64) -> Result<(), AllocError>
+    ensures { OnOk result (bytes.new.items ≡ bytes.old.items
+        ++ (codes ", " ++ decimal steps ++ codes " steps\n")) }
+{
+    push_spans(
+        bytes,
+        &[
+            Span::Text(", "),
+            Span::Number(steps),
+            Span::Text(" steps\n"),
+        ],
+    )
 }
 
 // The steps of a row, of which there are no more than a budget allows.

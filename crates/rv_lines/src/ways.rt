@@ -5,7 +5,7 @@ ghost use Rattle.std.specs.Fmt.{decimal};
 ghost use Rattle.rv_rows.specs.Verdict.{fault_number};
 ghost use Rattle.rv_lines.specs.LastLine.{bracket, failures_below, way_name, way_of, ways};
 
-use crate::parts::push_number;
+use crate::spans::{Span, push_spans};
 use rv_machine::FaultKind;
 use rv_rows::RowEnd;
 use std::alloc::AllocError;
@@ -96,8 +96,14 @@ fn push_failures(
         ++ ((if is_open then codes ", " else codes " (")
         ++ (decimal count ++ codes " " ++ way_name way))) }
 {
-    bytes.extend_from_slice(if is_open { b", " } else { b" (" })?;
-    push_number(bytes, count)?;
-    bytes.extend_from_slice(b" ")?;
-    bytes.extend_from_slice(way_name(way).as_bytes())
+    let begin = if is_open { ", " } else { " (" };
+    push_spans(
+        bytes,
+        &[
+            Span::Text(begin),
+            Span::Number(count),
+            Span::Text(" "),
+            Span::Text(way_name(way)),
+        ],
+    )
 }

@@ -1,13 +1,14 @@
 //! What differs first between what was met and what is expected, as text.
 
-ghost use Rattle.std.specs.Prelude.{◌≡◌, ◌++◌, ◌+◌, ◌*◌, ◌%◌, ◌^◌, [], OnOk, option_map, unwrap_or};
+ghost use Rattle.std.specs.Prelude.{◌≡◌, ◌++◌, ◌+◌, ◌*◌, ◌%◌, ◌^◌, [], OnOk, codes, option_map, unwrap_or};
 ghost use Rattle.rv_reasons.specs.UnmetLines.{absent_text, bad_line_text, byte_text, bytes_text, console_text, count_text};
-ghost use Rattle.rv_reasons.specs.UnmetLines.{digits_at, expected_text, place_text, quoted, reference_text, signature_text};
+ghost use Rattle.rv_lines.specs.Shown.{shown};
+ghost use Rattle.rv_reasons.specs.UnmetLines.{digits_at, expected_text, place_text, reference_text, signature_text};
 ghost use Rattle.rv_reasons.specs.UnmetLines.{signatures_text, word_at};
 
 use rv_explain::{Difference, SignatureDifference, words_or_none};
 use rv_jobs::{ExpectedConsole, Text};
-use rv_lines::{behind, push_number, push_shown, push_shown_value, push_text, push_word};
+use rv_lines::{Span, behind, push_shown, push_spans, push_text, push_word};
 use rv_rows::{LINE, Words};
 use std::alloc::AllocError;
 
@@ -48,12 +49,25 @@ fn push_expected(
             push_bytes(bytes, met, text.as_slice(), difference)
         }
         ExpectedConsole::File(path) => {
-            push_text(bytes, "the console of ")?;
-            push_shown(bytes, path.as_str().as_bytes())?;
-            push_text(bytes, ": ")?;
+            push_of(bytes, "the console of ", path.as_str().as_bytes())?;
             push_bytes(bytes, met, bytes_or_none(file), difference)
         }
     }
+}
+
+/// Says what something is, and the file or the job that it is of, which is shown.
+pub(crate) fn push_of<'a>(
+    bytes: &mut Vec<u8>,
+    what: &'a str,
+    of: &'a [u8],
+) -> Result<(), AllocError>
+    ensures { OnOk result (bytes.new.items
+        ≡ bytes.old.items ++ (what.now ++ shown of.now ++ codes ": ")) }
+{
+    push_spans(
+        bytes,
+        &[Span::Text(what), Span::Shown(of), Span::Text(": ")],
+    )
 }
 
 fn bytes_or_none(file: Option<&[u8]>) -> &[u8]
@@ -84,24 +98,27 @@ pub(crate) fn push_bytes(
 }
 
 #[tactic(auto, unfolding(crate::specs::UnmetLines::byte_text))]
-fn push_byte(bytes: &mut Vec<u8>, place: usize, met: &[u8], wanted: &[u8]) -> Result<(), AllocError>
+fn push_byte<'a>(
+    bytes: &mut Vec<u8>,
+    place: usize,
+    met: &'a [u8],
+    wanted: &'a [u8],
+) -> Result<(), AllocError>
     ensures { OnOk result (bytes.new.items
         ≡ bytes.old.items ++ byte_text place met.now wanted.now) }
 {
-    push_text(bytes, "byte ")?;
-    push_number(bytes, place as u64)?;
-    push_text(bytes, " is ")?;
-    push_quoted(bytes, behind(met, place))?;
-    push_text(bytes, ", expected ")?;
-    push_quoted(bytes, behind(wanted, place))
-}
-
-fn push_quoted(bytes: &mut Vec<u8>, value: &[u8]) -> Result<(), AllocError>
-    ensures { OnOk result (bytes.new.items ≡ bytes.old.items ++ quoted value.now) }
-{
-    push_text(bytes, "\"")?;
-    push_shown_value(bytes, value)?;
-    push_text(bytes, "\"")
+    push_spans(
+        bytes,
+        &[
+            Span::Text("byte "),
+            Span::Number(place as u64),
+            Span::Text(" is \""),
+            Span::Value(behind(met, place)),
+            Span::Text("\", expected \""),
+            Span::Value(behind(wanted, place)),
+            Span::Text("\""),
+        ],
+    )
 }
 
 #[tactic(auto, unfolding(crate::specs::UnmetLines::count_text))]
@@ -109,11 +126,16 @@ fn push_count(bytes: &mut Vec<u8>, met: usize, what: &str, wanted: usize) -> Res
     ensures { OnOk result (bytes.new.items
         ≡ bytes.old.items ++ count_text met what.now wanted) }
 {
-    push_text(bytes, "it has ")?;
-    push_number(bytes, met as u64)?;
-    push_text(bytes, what)?;
-    push_text(bytes, ", expected ")?;
-    push_number(bytes, wanted as u64)
+    push_spans(
+        bytes,
+        &[
+            Span::Text("it has "),
+            Span::Number(met as u64),
+            Span::Text(what),
+            Span::Text(", expected "),
+            Span::Number(wanted as u64),
+        ],
+    )
 }
 
 /// What differs from the signature that is expected.
@@ -132,19 +154,11 @@ pub(crate) fn push_signature(
 {
     match expected {
         Some(path) => {
-            let path = path.as_str().as_bytes();
             let text = bytes_or_none(reference);
-            push_text(bytes, "the signature of ")?;
-            push_shown(bytes, path)?;
-            push_text(bytes, ": ")?;
-            push_reference(
-                bytes,
-                first,
-                path,
-                words_or_none(signature),
-                text,
-                difference,
-            )
+            let words = words_or_none(signature);
+            let path = path.as_str().as_bytes();
+            push_of(bytes, "the signature of ", path)?;
+            push_reference(bytes, first, path, words, text, difference)
         }
         None => push_text(bytes, "no signature"),
     }
@@ -180,10 +194,15 @@ fn push_reference(
 fn push_bad_line(bytes: &mut Vec<u8>, number: usize, path: &[u8]) -> Result<(), AllocError>
     ensures { OnOk result (bytes.new.items ≡ bytes.old.items ++ bad_line_text number path.now) }
 {
-    push_text(bytes, "line ")?;
-    push_number(bytes, number as u64)?;
-    push_text(bytes, " of ")?;
-    push_shown(bytes, path)?;
+    push_spans(
+        bytes,
+        &[
+            Span::Text("line "),
+            Span::Number(number as u64),
+            Span::Text(" of "),
+            Span::Shown(path),
+        ],
+    )?;
     push_text(bytes, " is not eight lower-case digits and a line feed")
 }
 
@@ -228,14 +247,26 @@ fn absent(words: &Option<Words>) -> &'static str
 fn push_place(bytes: &mut Vec<u8>, first: Option<u32>, place: usize) -> Result<(), AllocError>
     ensures { OnOk result (bytes.new.items ≡ bytes.old.items ++ place_text first place) }
 {
-    push_text(bytes, "word ")?;
-    push_number(bytes, place as u64)?;
-    if let Some(first) = first {
-        push_text(bytes, " (at ")?;
-        push_word(bytes, word_address(first, place))?;
-        push_text(bytes, ")")?;
-    }
-    push_text(bytes, " is ")
+    let Some(first) = first else {
+        return push_spans(
+            bytes,
+            &[
+                Span::Text("word "),
+                Span::Number(place as u64),
+                Span::Text(" is "),
+            ],
+        );
+    };
+    push_spans(
+        bytes,
+        &[
+            Span::Text("word "),
+            Span::Number(place as u64),
+            Span::Text(" (at "),
+            Span::Word(word_address(first, place)),
+            Span::Text(") is "),
+        ],
+    )
 }
 
 fn word_address(first: u32, place: usize) -> u32

@@ -8,7 +8,7 @@ ghost use Rattle.rv_reasons.specs.ImageReasons.{signature_range_text, symbol_tex
 use crate::segment_reason::{push_overlap, push_regions, push_unfit, unfit_segment};
 use rv_elf::{Image, ImageError, find_symbol, read_image};
 use rv_jobs::{Job, Symbols};
-use rv_lines::{push_shown, push_text, push_word};
+use rv_lines::{Span, push_shown, push_spans, push_text};
 use rv_memory::Region;
 use std::alloc::{AllocError, Global};
 
@@ -120,11 +120,14 @@ fn push_missing(bytes: &mut Vec<u8>, name: Option<&[u8]>) -> Result<(), AllocErr
         ++ missing_text (option_map (λ name. name.now) name.entry)) }
 {
     match name {
-        Some(name) => {
-            push_text(bytes, "no symbol ")?;
-            push_shown(bytes, name)?;
-            push_text(bytes, " is defined")
-        }
+        Some(name) => push_spans(
+            bytes,
+            &[
+                Span::Text("no symbol "),
+                Span::Shown(name),
+                Span::Text(" is defined"),
+            ],
+        ),
         None => push_text(bytes, "a symbol of the signature is not defined"),
     }
 }
@@ -183,12 +186,11 @@ fn push_symbol(
     requires named { 0 < length name.now }
     ensures { OnOk result (bytes.new.items ≡ bytes.old.items ++ symbol_text file.now name.now) }
 {
-    push_shown(bytes, name)?;
     match find_symbol(image, file, name) {
-        Ok(address) => {
-            push_text(bytes, " at ")?;
-            push_word(bytes, address)
-        }
-        Err(_) => Ok(()),
+        Ok(address) => push_spans(
+            bytes,
+            &[Span::Shown(name), Span::Text(" at "), Span::Word(address)],
+        ),
+        Err(_) => push_shown(bytes, name),
     }
 }

@@ -3,7 +3,7 @@
 ghost use Rattle.std.specs.Prelude.{◌≡◌, ◌+◌, ◌++◌, OnOk, option_map};
 ghost use Rattle.std.specs.List.{find};
 ghost use Rattle.rv_elf.specs.Loading.{fits, load_address, share};
-ghost use Rattle.rv_reasons.specs.ImageReasons.{last_text, map_text, outside_text, overlap_text, pair_text, range_text};
+ghost use Rattle.rv_reasons.specs.ImageReasons.{last_text, map_text, outside_text, overlap_text, pair_text, range_text, region_text};
 ghost use Rattle.rv_reasons.specs.ImageReasons.{regions_text, sharing_segments, unfit_segment};
 ghost use Rattle.rv_memory.specs.Regions.{in_one};
 
@@ -90,11 +90,17 @@ pub(crate) fn push_regions(bytes: &mut Vec<u8>, regions: &[Region]) -> Result<()
     ensures { OnOk result (bytes.new.items ≡ bytes.old.items ++ regions_text regions.now) }
 {
     for region in regions {
-        push_text(bytes, " [")?;
-        push_range(bytes, region.base, region.size)?;
-        push_text(bytes, "]")?;
+        push_region(bytes, region)?;
     }
     Ok(())
+}
+
+fn push_region(bytes: &mut Vec<u8>, region: &Region) -> Result<(), AllocError>
+    ensures { OnOk result (bytes.new.items ≡ bytes.old.items ++ region_text region.now) }
+{
+    push_text(bytes, " [")?;
+    push_range(bytes, region.base, region.size)?;
+    push_text(bytes, "]")
 }
 
 // So many addresses from one on.

@@ -5,10 +5,10 @@ ghost use Rattle.rv_reasons.specs.UnmetLines.{comparison_of, end_text, ended_tex
 ghost use Rattle.rv_reasons.specs.UnmetLines.{unmet_line, unmet_lines, unmet_text};
 ghost use Rattle.std.specs.Prelude.{option_map};
 
-use crate::difference_text::{push_bytes, push_console, push_signature, push_signatures};
+use crate::difference_text::{push_bytes, push_console, push_of, push_signature, push_signatures};
 use rv_explain::{SameDifference, Unmet};
 use rv_jobs::{ExpectedEnd, Job};
-use rv_lines::{push_number, push_shown, push_text};
+use rv_lines::{push_number, push_text};
 use rv_rows::{Row, RowEnd};
 use std::alloc::AllocError;
 
@@ -125,9 +125,7 @@ fn push_same(
 {
     match other {
         Some(other) => {
-            push_text(bytes, "the same as ")?;
-            push_shown(bytes, other.name.as_str().as_bytes())?;
-            push_text(bytes, ": ")?;
+            push_of(bytes, "the same as ", other.name.as_str().as_bytes())?;
             push_rows(bytes, first, row, other, difference)
         }
         None => push_text(bytes, "the same as another job, which was not run"),

@@ -5,7 +5,7 @@ ghost use Rattle.rv_telling.specs.UnreadFiles.{kind_text, long_text, noted_of_pa
 
 use rv_files::Unread;
 use rv_jobs::limits::MOST_BYTES;
-use rv_lines::{push_number, push_text};
+use rv_lines::{Span, text_of};
 use std::alloc::{AllocError, Global};
 use std::io::ErrorKind;
 
@@ -18,11 +18,11 @@ pub(crate) fn unread_text(
 ) -> Result<Vec<u8>, AllocError>
     ensures { IfOk result (λ text. text.items ≡ unread_text unread.now path.now) }
 {
-    let mut text = Vec::new(alloc);
-    push_text(&mut text, path)?;
-    push_text(&mut text, ": ")?;
-    push_text(&mut text, noted_text(noted_of_path(unread, path)))?;
-    Ok(text)
+    let why = noted_text(noted_of_path(unread, path));
+    text_of(
+        alloc,
+        &[Span::Text(path), Span::Text(": "), Span::Text(why)],
+    )
 }
 
 /// A path, and that its file is too long.
@@ -30,12 +30,15 @@ pub(crate) fn unread_text(
 pub(crate) fn long_text(alloc: Global, path: &str) -> Result<Vec<u8>, AllocError>
     ensures { IfOk result (λ text. text.items ≡ long_text path.now) }
 {
-    let mut text = Vec::new(alloc);
-    push_text(&mut text, path)?;
-    push_text(&mut text, ": the file has more than ")?;
-    push_number(&mut text, MOST_BYTES as u64)?;
-    push_text(&mut text, " bytes")?;
-    Ok(text)
+    text_of(
+        alloc,
+        &[
+            Span::Text(path),
+            Span::Text(": the file has more than "),
+            Span::Number(MOST_BYTES as u64),
+            Span::Text(" bytes"),
+        ],
+    )
 }
 
 // The first that was noted of a path.

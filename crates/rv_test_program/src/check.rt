@@ -10,7 +10,7 @@ use crate::streams::Streams;
 use rv_files::{NotingStore, Unread};
 use rv_headers::job_lines;
 use rv_jobs::{Plan, gather};
-use rv_lines::{push_number, push_shown, push_text};
+use rv_lines::{Span, push_spans, push_text};
 use rv_lists::read_faults;
 use rv_rows::{Refusal, RowEnd, refusal_at};
 use rv_telling::reason_of;
@@ -128,32 +128,58 @@ impl<'a> Listed<'a> {
     ) -> Result<(), AllocError>
         requires { place < length self.now.plan.now.jobs }
     {
-        push_shown(told, self.path.as_bytes())?;
-        if let Some(line) = self.lines.get(place) {
-            push_text(told, ":")?;
-            push_number(told, *line as u64)?;
-        }
-        push_text(told, ": job ")?;
-        push_number(told, (place as u64).saturating_add(1))?;
-        push_text(told, " (")?;
-        push_text(told, self.plan.job(place).name.as_str())?;
-        push_text(told, "): refused ")?;
-        push_text(told, why.name())?;
+        self.push_job(told, place, why)?;
         let ending = RowEnd::Refused(why);
-        if let Some(reason) = reason_of(alloc, self.plan, self.unread, place, ending)? {
-            push_text(told, ": ")?;
-            push_shown(told, reason.as_slice())?;
+        match reason_of(alloc, self.plan, self.unread, place, ending)? {
+            Some(reason) => push_reason(told, reason.as_slice()),
+            None => push_text(told, "\n"),
         }
-        push_text(told, "\n")
+    }
+
+    // Appends where the job stands, its name, and what its refusal is called.
+    fn push_job(&self, told: &mut Vec<u8>, place: usize, why: Refusal) -> Result<(), AllocError>
+        requires { place < length self.now.plan.now.jobs }
+    {
+        let path = Span::Shown(self.path.as_bytes());
+        let number = Span::Number((place as u64).saturating_add(1));
+        let name = Span::Text(self.plan.job(place).name.as_str());
+        let why = Span::Text(why.name());
+        let job = Span::Text(": job ");
+        let open = Span::Text(" (");
+        let close = Span::Text("): refused ");
+        match self.lines.get(place) {
+            Some(line) => {
+                let colon = Span::Text(":");
+                let line = Span::Number(*line as u64);
+                push_spans(
+                    told,
+                    &[path, colon, line, job, number, open, name, close, why],
+                )
+            }
+            None => push_spans(told, &[path, job, number, open, name, close, why]),
+        }
     }
 }
 
+fn push_reason(told: &mut Vec<u8>, reason: &[u8]) -> Result<(), AllocError> {
+    push_spans(
+        told,
+        &[Span::Text(": "), Span::Shown(reason), Span::Text("\n")],
+    )
+}
+
 fn push_counts(told: &mut Vec<u8>, jobs: usize, refused: usize) -> Result<(), AllocError> {
-    push_number(told, jobs as u64)?;
-    push_text(told, " jobs, ")?;
+    let jobs = Span::Number(jobs as u64);
     if refused == 0 {
-        return push_text(told, "none refused\n");
+        return push_spans(told, &[jobs, Span::Text(" jobs, none refused\n")]);
     }
-    push_number(told, refused as u64)?;
-    push_text(told, " refused\n")
+    push_spans(
+        told,
+        &[
+            jobs,
+            Span::Text(" jobs, "),
+            Span::Number(refused as u64),
+            Span::Text(" refused\n"),
+        ],
+    )
 }

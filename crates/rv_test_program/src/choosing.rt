@@ -10,7 +10,7 @@ use clap::error::ErrorKind;
 use regex::Regex;
 use rv_choice::{Wanted, chosen_marks, first_unknown, nearest};
 use rv_jobs::Job;
-use rv_lines::{Rule, push_shown, push_shown_value, push_text};
+use rv_lines::{Rule, Span, text_of};
 use rv_test_words::{RunAsked, refusal, run_command};
 use std::alloc::{AllocError, Global};
 use std::rt::Files;
@@ -84,17 +84,34 @@ pub(crate) fn told_of_name(
     jobs: &[Job],
     name: &str,
 ) -> Result<Vec<u8>, AllocError> {
-    let mut text = Vec::new(alloc);
-    push_text(&mut text, "rvtest: ")?;
-    push_shown(&mut text, list.as_bytes())?;
-    push_text(&mut text, ": no job is called ")?;
-    push_shown_value(&mut text, name.as_bytes())?;
-    if let Some(place) = nearest(alloc, jobs, name)? {
-        push_text(&mut text, "; the nearest name is ")?;
-        push_text(&mut text, jobs[place].name.as_str())?;
+    match nearest(alloc, jobs, name)? {
+        Some(place) => {
+            let near = jobs[place].name.as_str();
+            told_of_unknown(alloc, list, name, "; the nearest name is ", near)
+        }
+        None => told_of_unknown(alloc, list, name, "", ""),
     }
-    push_text(&mut text, "\n")?;
-    Ok(text)
+}
+
+fn told_of_unknown<'a>(
+    alloc: Global,
+    list: &'a str,
+    name: &'a str,
+    but: &'a str,
+    near: &'a str,
+) -> Result<Vec<u8>, AllocError> {
+    text_of(
+        alloc,
+        &[
+            Span::Text("rvtest: "),
+            Span::Shown(list.as_bytes()),
+            Span::Text(": no job is called "),
+            Span::Value(name.as_bytes()),
+            Span::Text(but),
+            Span::Text(near),
+            Span::Text("\n"),
+        ],
+    )
 }
 
 fn pattern_of(alloc: Global, text: &str) -> Result<Regex, Stop> {
@@ -124,15 +141,23 @@ fn check_pattern(
     if jobs.iter().any(|job| matcher.is_match(job.name.as_str())) {
         return Ok(());
     }
-    Err(Stop::Refused(told_of_pattern(alloc, asked)?))
+    let text = asked.pattern.unwrap_or("");
+    Err(Stop::Refused(told_of_pattern(alloc, asked.list, text)?))
 }
 
-fn told_of_pattern(alloc: Global, asked: &RunAsked<'_>) -> Result<Vec<u8>, AllocError> {
-    let mut text = Vec::new(alloc);
-    push_text(&mut text, "rvtest: ")?;
-    push_shown(&mut text, asked.list.as_bytes())?;
-    push_text(&mut text, ": no job's name matches '")?;
-    push_shown_value(&mut text, asked.pattern.unwrap_or("").as_bytes())?;
-    push_text(&mut text, "'\n")?;
-    Ok(text)
+fn told_of_pattern<'a>(
+    alloc: Global,
+    list: &'a str,
+    pattern: &'a str,
+) -> Result<Vec<u8>, AllocError> {
+    text_of(
+        alloc,
+        &[
+            Span::Text("rvtest: "),
+            Span::Shown(list.as_bytes()),
+            Span::Text(": no job's name matches '"),
+            Span::Value(pattern.as_bytes()),
+            Span::Text("'\n"),
+        ],
+    )
 }

@@ -9,7 +9,7 @@ use crate::messages::{say, told_of};
 use crate::stop::Stop;
 use crate::streams::Streams;
 use rv_jobs::Job;
-use rv_lines::{Rule, has_passed, push_number, push_shown, push_text};
+use rv_lines::{Rule, Span, has_passed, text_of};
 use rv_reports::{ReadError, SavedReport, read_report};
 use rv_rows::Row;
 use std::alloc::{AllocError, Global};
@@ -37,13 +37,16 @@ pub(crate) fn read_saved<R: Files>(
 }
 
 fn told_of_line(alloc: Global, path: &str, line: usize) -> Result<Vec<u8>, AllocError> {
-    let mut text = Vec::new(alloc);
-    push_text(&mut text, "rvtest: ")?;
-    push_shown(&mut text, path.as_bytes())?;
-    push_text(&mut text, ":")?;
-    push_number(&mut text, line as u64)?;
-    push_text(&mut text, ": no report has this line here\n")?;
-    Ok(text)
+    text_of(
+        alloc,
+        &[
+            Span::Text("rvtest: "),
+            Span::Shown(path.as_bytes()),
+            Span::Text(":"),
+            Span::Number(line as u64),
+            Span::Text(": no report has this line here\n"),
+        ],
+    )
 }
 
 /// The names of the jobs that failed.
@@ -69,19 +72,23 @@ pub(crate) fn say_gone<S: Streams>(
 ) -> Result<(), AllocError> {
     for name in names {
         if !has_job(jobs, name) {
-            let mut text = Vec::new(alloc);
-            push_text(&mut text, "rvtest: ")?;
-            push_shown(&mut text, path.as_bytes())?;
-            push_text(&mut text, ": job ")?;
-            push_text(&mut text, name)?;
-            push_text(
-                &mut text,
-                " failed there, and is no job of the list any more\n",
-            )?;
-            say(streams, text.as_slice());
+            say(streams, told_of_gone(alloc, path, name)?.as_slice());
         }
     }
     Ok(())
+}
+
+fn told_of_gone<'a>(alloc: Global, path: &'a str, name: &'a str) -> Result<Vec<u8>, AllocError> {
+    text_of(
+        alloc,
+        &[
+            Span::Text("rvtest: "),
+            Span::Shown(path.as_bytes()),
+            Span::Text(": job "),
+            Span::Text(name),
+            Span::Text(" failed there, and is no job of the list any more\n"),
+        ],
+    )
 }
 
 fn has_job(jobs: &[Job], name: &str) -> bool {

@@ -6,13 +6,13 @@ ghost use Rattle.rv_test_program.specs.Commands.{rule_for};
 ghost use Rattle.rv_test_run.specs.Shown.{status_of};
 
 use crate::files::read_file;
-use crate::messages::{put_out, say};
+use crate::messages::{put_out, say, told_of};
 use crate::outputs::{Outputs, class_of};
 use crate::rules::rule_of;
 use crate::stop::Stop;
 use crate::streams::Streams;
 use rv_fleet::Rows;
-use rv_lines::{Rule, push_last_line, push_number, push_shown, push_text};
+use rv_lines::{Rule, Span, push_last_line, text_of};
 use rv_merge::{Flaw, MergeError, merge_parts};
 use rv_test_run::status_of;
 use rv_test_words::MergeAsked;
@@ -146,67 +146,109 @@ fn write_files<R: Files, S: Streams>(
 
 // Why the parts are not those of one run.
 fn refused(alloc: Global, asked: &MergeAsked<'_>, error: MergeError) -> Result<Stop, AllocError> {
-    let mut text = Vec::new(alloc);
-    push_text(&mut text, "rvtest: ")?;
-    match error {
+    let text = match error {
         MergeError::OutOfMemory => return Err(AllocError),
-        MergeError::NoTexts => push_text(&mut text, "there is no part")?,
-        MergeError::Text(at, flaw) => push_flaw(&mut text, asked, at, flaw)?,
-        MergeError::Missing(number) => {
-            push_text(&mut text, "no part is that of shard ")?;
-            push_number(&mut text, number as u64)?;
-        }
-    }
-    push_text(&mut text, "\n")?;
-    Ok(Stop::Refused(text))
-}
-
-fn push_path(text: &mut Vec<u8>, asked: &MergeAsked<'_>, at: usize) -> Result<(), AllocError> {
-    match asked.parts.get(at) {
-        Some(path) => push_shown(text, path.as_bytes()),
-        None => push_text(text, "a part"),
-    }
-}
-
-// What is wrong with the part at a place.
-fn push_flaw(
-    text: &mut Vec<u8>,
-    asked: &MergeAsked<'_>,
-    at: usize,
-    flaw: Flaw,
-) -> Result<(), AllocError> {
-    push_path(text, asked, at)?;
-    match flaw {
-        Flaw::Line(line) => {
-            push_text(text, ":")?;
-            push_number(text, line as u64)?;
-            push_text(text, ": no part has this line here")
-        }
-        Flaw::CutOff => push_text(text, ": the part is cut off"),
-        Flaw::Whole => push_text(text, ": a whole report, which is no part of a run"),
-        Flaw::Choice => push_text(
-            text,
-            ": the report of a choice of jobs, which is no shard's",
+        MergeError::NoTexts => text_of(alloc, &[Span::Text("rvtest: there is no part\n")]),
+        MergeError::Text(at, flaw) => told_of_flaw(alloc, asked, path_of(asked, at), flaw),
+        MergeError::Missing(number) => text_of(
+            alloc,
+            &[
+                Span::Text("rvtest: no part is that of shard "),
+                Span::Number(number as u64),
+                Span::Text("\n"),
+            ],
         ),
-        Flaw::OtherShards => push_other(text, asked, "another number of shards than "),
-        Flaw::OtherJobs => push_other(text, asked, "a list of another number of jobs than "),
-        Flaw::OtherStamp => push_other(text, asked, "another stamp than "),
-        Flaw::OtherText(earlier) => {
-            push_text(text, ": the same shard as ")?;
-            push_path(text, asked, earlier)?;
-            push_text(text, ", and another text")
-        }
-        Flaw::NameTwice(number) => {
-            push_text(text, ": job ")?;
-            push_number(text, number as u64)?;
-            push_text(text, " has the name of a job before it")
-        }
+    };
+    Ok(Stop::Refused(text?))
+}
+
+fn path_of<'a>(asked: &MergeAsked<'a>, at: usize) -> &'a str {
+    match asked.parts.get(at) {
+        Some(path) => path,
+        None => "a part",
+    }
+}
+
+// What is wrong with a part.
+fn told_of_flaw(
+    alloc: Global,
+    asked: &MergeAsked<'_>,
+    path: &str,
+    flaw: Flaw,
+) -> Result<Vec<u8>, AllocError> {
+    match flaw {
+        Flaw::Line(line) => text_of(
+            alloc,
+            &[
+                Span::Text("rvtest: "),
+                Span::Shown(path.as_bytes()),
+                Span::Text(":"),
+                Span::Number(line as u64),
+                Span::Text(": no part has this line here\n"),
+            ],
+        ),
+        Flaw::CutOff => told_of(alloc, path, "the part is cut off"),
+        Flaw::Whole => told_of(alloc, path, "a whole report, which is no part of a run"),
+        Flaw::Choice => told_of(
+            alloc,
+            path,
+            "the report of a choice of jobs, which is no shard's",
+        ),
+        Flaw::OtherShards => told_of_other(alloc, asked, path, "another number of shards than "),
+        Flaw::OtherJobs => told_of_other(
+            alloc,
+            asked,
+            path,
+            "a list of another number of jobs than ",
+        ),
+        Flaw::OtherStamp => told_of_other(alloc, asked, path, "another stamp than "),
+        Flaw::OtherText(earlier) => told_of_two(
+            alloc,
+            path,
+            "the same shard as ",
+            path_of(asked, earlier),
+            ", and another text\n",
+        ),
+        Flaw::NameTwice(number) => text_of(
+            alloc,
+            &[
+                Span::Text("rvtest: "),
+                Span::Shown(path.as_bytes()),
+                Span::Text(": job "),
+                Span::Number(number as u64),
+                Span::Text(" has the name of a job before it\n"),
+            ],
+        ),
     }
 }
 
 // That it is of another run than the first part.
-fn push_other(text: &mut Vec<u8>, asked: &MergeAsked<'_>, what: &str) -> Result<(), AllocError> {
-    push_text(text, ": ")?;
-    push_text(text, what)?;
-    push_path(text, asked, 0)
+fn told_of_other(
+    alloc: Global,
+    asked: &MergeAsked<'_>,
+    path: &str,
+    what: &str,
+) -> Result<Vec<u8>, AllocError> {
+    told_of_two(alloc, path, what, path_of(asked, 0), "\n")
+}
+
+// What one part is beside another.
+fn told_of_two<'a>(
+    alloc: Global,
+    path: &'a str,
+    what: &'a str,
+    other: &'a str,
+    end: &'a str,
+) -> Result<Vec<u8>, AllocError> {
+    text_of(
+        alloc,
+        &[
+            Span::Text("rvtest: "),
+            Span::Shown(path.as_bytes()),
+            Span::Text(": "),
+            Span::Text(what),
+            Span::Shown(other.as_bytes()),
+            Span::Text(end),
+        ],
+    )
 }

@@ -7,7 +7,7 @@ use crate::stop::Stop;
 use crate::streams::Streams;
 use rv_files::StreamSink;
 use rv_fleet::put_all;
-use rv_lines::{push_shown, push_text};
+use rv_lines::{Span, text_of};
 use rv_test_run::DONE;
 use std::alloc::{AllocError, Global};
 
@@ -18,14 +18,21 @@ pub(crate) const REFUSED: u8 = 2;
 pub(crate) const FAILED: u8 = 3;
 
 /// A line that says what is wrong with what stands at a path.
-pub(crate) fn told_of(alloc: Global, path: &str, what: &str) -> Result<Vec<u8>, AllocError> {
-    let mut line = Vec::new(alloc);
-    push_text(&mut line, "rvtest: ")?;
-    push_shown(&mut line, path.as_bytes())?;
-    push_text(&mut line, ": ")?;
-    push_text(&mut line, what)?;
-    push_text(&mut line, "\n")?;
-    Ok(line)
+pub(crate) fn told_of<'a>(
+    alloc: Global,
+    path: &'a str,
+    what: &'a str,
+) -> Result<Vec<u8>, AllocError> {
+    text_of(
+        alloc,
+        &[
+            Span::Text("rvtest: "),
+            Span::Shown(path.as_bytes()),
+            Span::Text(": "),
+            Span::Text(what),
+            Span::Text("\n"),
+        ],
+    )
 }
 
 /// Puts a text to standard error. Where that fails nothing changes.

@@ -6,7 +6,7 @@ ghost use Rattle.rv_trace.specs.Text.{code_text, columns, instruction_line, padd
 
 use crate::code::Code;
 use rv_elf::SymbolAt;
-use rv_lines::{behind, push_symbol, push_text, push_word};
+use rv_lines::{Span, behind, push_spans, push_symbol, push_text, push_word};
 use std::alloc::{AllocError, Global};
 
 /// What separates two columns.
@@ -38,9 +38,10 @@ pub(crate) fn push_instruction(
         ++ instruction_line (option_map (λ s. (s.name.now, s.offset)) shown.now.symbol)
         shown.now.pc shown.now.code shown.now.text.now shown.now.told.now) }
 {
-    push_text(bytes, MARGIN)?;
-    push_word(bytes, shown.pc)?;
-    push_text(bytes, GAP)?;
+    push_spans(
+        bytes,
+        &[Span::Text(MARGIN), Span::Word(shown.pc), Span::Text(GAP)],
+    )?;
     push_place(alloc, bytes, shown.symbol)?;
     push_text(bytes, GAP)?;
     push_columns(alloc, bytes, shown.code, shown.text, shown.told)?;

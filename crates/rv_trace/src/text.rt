@@ -14,7 +14,7 @@ use crate::step::TracedStep;
 use crate::told::{name_of, push_assembly, push_end, push_end_assembly, push_wrote};
 use crate::trace::Trace;
 use rv_elf::{Image, SymbolAt};
-use rv_lines::{push_place, push_symbol, push_text, push_word};
+use rv_lines::{Span, push_place, push_spans, push_symbol, push_text};
 use rv_rows::RowEnd;
 use std::alloc::{AllocError, Global};
 
@@ -52,8 +52,7 @@ fn push_place_line(
     ensures { OnOk result (bytes.new.items ≡ bytes.old.items
         ++ place_line image.now file.now pc) }
 {
-    push_text(bytes, "     ended at ")?;
-    push_word(bytes, pc)?;
+    push_spans(bytes, &[Span::Text("     ended at "), Span::Word(pc)])?;
     push_code_place(alloc, bytes, image, file, pc)?;
     push_text(bytes, "\n")
 }
@@ -106,8 +105,7 @@ fn push_register_line(
 {
     push_text(bytes, MARGIN)?;
     push_padded(bytes, 4, name_of(number).as_bytes())?;
-    push_text(bytes, GAP)?;
-    push_word(bytes, value)?;
+    push_spans(bytes, &[Span::Text(GAP), Span::Word(value)])?;
     push_value_place(alloc, bytes, image, file, value)?;
     push_text(bytes, "\n")
 }

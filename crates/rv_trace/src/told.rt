@@ -9,7 +9,7 @@ use crate::code::Code;
 use crate::columns::push_digits_behind;
 use crate::step::Wrote;
 use rv_asm::{push_text16, push_text32};
-use rv_lines::{push_number, push_text, push_word};
+use rv_lines::{Span, push_spans, push_text, push_word};
 use rv_machine::FaultKind;
 use rv_memory::Width;
 use rv_rows::RowEnd;
@@ -50,12 +50,10 @@ pub(crate) fn push_wrote(alloc: Global, bytes: &mut Vec<u8>, wrote: Wrote) -> Re
         Wrote::Register(number, value) => push_register(bytes, number, value),
         Wrote::Loaded(number, value, address) => {
             push_loaded(bytes, number, value)?;
-            push_text(bytes, "from ")?;
-            push_word(bytes, address)
+            push_spans(bytes, &[Span::Text("from "), Span::Word(address)])
         }
         Wrote::Stored(address, width, value) => {
-            push_word(bytes, address)?;
-            push_text(bytes, " <- ")?;
+            push_spans(bytes, &[Span::Word(address), Span::Text(" <- ")])?;
             push_value(alloc, bytes, width, value)
         }
     }
@@ -64,9 +62,14 @@ pub(crate) fn push_wrote(alloc: Global, bytes: &mut Vec<u8>, wrote: Wrote) -> Re
 fn push_register(bytes: &mut Vec<u8>, number: u8, value: u32) -> Result<(), AllocError>
     ensures { OnOk result (bytes.new.items ≡ bytes.old.items ++ register_text number value) }
 {
-    push_text(bytes, name_of(number))?;
-    push_text(bytes, " <- ")?;
-    push_word(bytes, value)
+    push_spans(
+        bytes,
+        &[
+            Span::Text(name_of(number)),
+            Span::Text(" <- "),
+            Span::Word(value),
+        ],
+    )
 }
 
 fn push_loaded(bytes: &mut Vec<u8>, number: u8, value: u32) -> Result<(), AllocError>
@@ -137,10 +140,10 @@ pub(crate) fn push_end(bytes: &mut Vec<u8>, end: RowEnd) -> Result<(), AllocErro
     ensures { OnOk result (bytes.new.items ≡ bytes.old.items ++ end_text end) }
 {
     match end {
-        RowEnd::Exit(code) => {
-            push_text(bytes, "exit ")?;
-            push_number(bytes, u64::from(code))
-        }
+        RowEnd::Exit(code) => push_spans(
+            bytes,
+            &[Span::Text("exit "), Span::Number(u64::from(code))],
+        ),
         RowEnd::Fault(kind, _, value) => {
             push_text(bytes, kind.name())?;
             push_met(bytes, kind, value)
@@ -159,6 +162,5 @@ fn push_met(bytes: &mut Vec<u8>, kind: FaultKind, value: u32) -> Result<(), Allo
         FaultKind::UnknownCall | FaultKind::ConsoleFull => ", value ",
         _ => " at ",
     };
-    push_text(bytes, before)?;
-    push_word(bytes, value)
+    push_spans(bytes, &[Span::Text(before), Span::Word(value)])
 }

@@ -51,9 +51,13 @@ counts_words counts = decimal counts.gone ++ codes " gone, " ++ decimal counts.a
     ++ codes " new, " ++ decimal counts.changed ++ codes " changed\n"
 
 -- how many of so many jobs
+-- so many of so many jobs
+unfoldable pub differing_words : ℕ → ℕ → List ℕ
+differing_words count jobs = decimal count ++ codes " of " ++ decimal jobs
+    ++ codes " jobs differ: "
+
 unfoldable pub count_line : ℕ → Differing → List ℕ
-count_line jobs counts = decimal (differing_count counts) ++ codes " of " ++ decimal jobs
-    ++ codes " jobs differ: " ++ counts_words counts
+count_line jobs counts = differing_words (differing_count counts) jobs ++ counts_words counts
 
 -- the jobs are those that are in either report
 unfoldable pub diff_text : Bool → List Row → List Row → List ℕ

@@ -3,10 +3,10 @@
 ghost use Rattle.std.specs.Prelude.{◌≡◌, ◌++◌, OnOk, slice_index};
 ghost use Rattle.rv_rows.specs.Report.{verdict_name};
 ghost use Rattle.rv_views.specs.Differences.{becomes, bytes_words, console_words, count_words, ending_words};
-ghost use Rattle.rv_views.specs.Differences.{first_place, quoted, signature_words, signatures_words, size_words};
+ghost use Rattle.rv_views.specs.Differences.{first_place, signature_words, signatures_words, size_words};
 ghost use Rattle.rv_views.specs.Differences.{words_words};
 
-use rv_lines::{behind, push_number, push_shown_value, push_text, push_word};
+use rv_lines::{Span, behind, push_spans, push_text};
 use rv_rows::{RowEnd, Verdict, Words};
 use std::alloc::AllocError;
 
@@ -16,22 +16,24 @@ pub(crate) fn push_ending_words(text: &mut Vec<u8>, ending: RowEnd) -> Result<()
     ensures { OnOk result (text.new.items ≡ text.old.items ++ ending_words ending) }
 {
     match ending {
-        RowEnd::Exit(code) => {
-            push_text(text, "exit ")?;
-            push_number(text, u64::from(code))
-        }
-        RowEnd::Fault(kind, pc, value) => {
-            push_text(text, "fault ")?;
-            push_text(text, kind.name())?;
-            push_text(text, " pc=")?;
-            push_word(text, pc)?;
-            push_text(text, " value=")?;
-            push_word(text, value)
-        }
+        RowEnd::Exit(code) => push_spans(
+            text,
+            &[Span::Text("exit "), Span::Number(u64::from(code))],
+        ),
+        RowEnd::Fault(kind, pc, value) => push_spans(
+            text,
+            &[
+                Span::Text("fault "),
+                Span::Text(kind.name()),
+                Span::Text(" pc="),
+                Span::Word(pc),
+                Span::Text(" value="),
+                Span::Word(value),
+            ],
+        ),
         RowEnd::Budget => push_text(text, "budget"),
         RowEnd::Refused(why) => {
-            push_text(text, "refused ")?;
-            push_text(text, why.name())
+            push_spans(text, &[Span::Text("refused "), Span::Text(why.name())])
         }
     }
 }
@@ -55,48 +57,60 @@ fn first_byte(old: &[u8], new: &[u8]) -> Option<usize>
     old.iter().zip(new).position(|(x, y)| x != y)
 }
 
-fn push_bytes_words(
+fn push_bytes_words<'a>(
     text: &mut Vec<u8>,
     place: Option<usize>,
-    old: &[u8],
-    new: &[u8],
+    old: &'a [u8],
+    new: &'a [u8],
 ) -> Result<(), AllocError>
     ensures { OnOk result (text.new.items ≡ text.old.items ++ bytes_words place old.now new.now) }
 {
     let Some(place) = place else {
         return push_counts(text, old.len(), new.len(), "bytes");
     };
-    push_text(text, "byte ")?;
-    push_number(text, place as u64)?;
-    push_text(text, ": ")?;
-    push_quoted(text, behind(old, place))?;
-    push_text(text, " -> ")?;
-    push_quoted(text, behind(new, place))
-}
-
-fn push_quoted(text: &mut Vec<u8>, value: &[u8]) -> Result<(), AllocError>
-    ensures { OnOk result (text.new.items ≡ text.old.items ++ quoted value.now) }
-{
-    push_text(text, "\"")?;
-    push_shown_value(text, value)?;
-    push_text(text, "\"")
+    push_spans(
+        text,
+        &[
+            Span::Text("byte "),
+            Span::Number(place as u64),
+            Span::Text(": \""),
+            Span::Value(behind(old, place)),
+            Span::Text("\" -> \""),
+            Span::Value(behind(new, place)),
+            Span::Text("\""),
+        ],
+    )
 }
 
 fn push_counts(text: &mut Vec<u8>, old: usize, new: usize, what: &str) -> Result<(), AllocError>
     ensures { OnOk result (text.new.items
         ≡ text.old.items ++ becomes (count_words old what.now) (count_words new what.now)) }
 {
-    push_count(text, old, what)?;
-    push_text(text, " -> ")?;
-    push_count(text, new, what)
+    push_spans(
+        text,
+        &[
+            Span::Number(old as u64),
+            Span::Text(" "),
+            Span::Text(what),
+            Span::Text(" -> "),
+            Span::Number(new as u64),
+            Span::Text(" "),
+            Span::Text(what),
+        ],
+    )
 }
 
 fn push_count(text: &mut Vec<u8>, count: usize, what: &str) -> Result<(), AllocError>
     ensures { OnOk result (text.new.items ≡ text.old.items ++ count_words count what.now) }
 {
-    push_number(text, count as u64)?;
-    push_text(text, " ")?;
-    push_text(text, what)
+    push_spans(
+        text,
+        &[
+            Span::Number(count as u64),
+            Span::Text(" "),
+            Span::Text(what),
+        ],
+    )
 }
 
 /// Appends in which word two signatures differ first, or their sizes where they do in those.
@@ -146,12 +160,17 @@ fn push_words_words(
     let Some(place) = place else {
         return push_counts(text, old.len(), new.len(), "words");
     };
-    push_text(text, "word ")?;
-    push_number(text, place as u64)?;
-    push_text(text, ": ")?;
-    push_word(text, word_at(old, place))?;
-    push_text(text, " -> ")?;
-    push_word(text, word_at(new, place))
+    push_spans(
+        text,
+        &[
+            Span::Text("word "),
+            Span::Number(place as u64),
+            Span::Text(": "),
+            Span::Word(word_at(old, place)),
+            Span::Text(" -> "),
+            Span::Word(word_at(new, place)),
+        ],
+    )
 }
 
 fn word_at(words: &[u32], place: usize) -> u32

@@ -5,11 +5,11 @@ ghost use Rattle.std.specs.List.{flat_map};
 ghost use Rattle.rv_rows.specs.Report.{line};
 ghost use Rattle.rv_views.specs.ByName.{row_named};
 ghost use Rattle.rv_views.specs.Diff.{count_line, counts_words, diff_text, differing, differing_count, gone_line, is_alone_in};
-ghost use Rattle.rv_views.specs.Diff.{is_changed, lines_of_new};
+ghost use Rattle.rv_views.specs.Diff.{differing_words, is_changed, lines_of_new};
 
 use crate::by_name::ByName;
 use crate::differences::{push_change_lines, rows_agree};
-use rv_lines::{push_number, push_text};
+use rv_lines::{Span, push_spans};
 use rv_rows::Row;
 use std::alloc::{AllocError, Global};
 
@@ -166,13 +166,18 @@ fn push_lines_of_new(
 }
 
 // Appends a line of a sign and the name of a job.
-fn push_sign(text: &mut Vec<u8>, sign: &str, row: &Row) -> Result<(), AllocError>
+fn push_sign<'a>(text: &mut Vec<u8>, sign: &'a str, row: &'a Row) -> Result<(), AllocError>
     ensures { OnOk result
         (text.new.items ≡ text.old.items ++ line (sign.now ++ row.now.name)) }
 {
-    push_text(text, sign)?;
-    push_text(text, row.name.as_str())?;
-    push_text(text, "\n")
+    push_spans(
+        text,
+        &[
+            Span::Text(sign),
+            Span::Text(row.name.as_str()),
+            Span::Text("\n"),
+        ],
+    )
 }
 
 // Appends how many of so many jobs differ.
@@ -181,22 +186,38 @@ fn push_count_line(text: &mut Vec<u8>, jobs: usize, counts: Differing) -> Result
     requires { differing_count counts < 2 ^ 64 }
     ensures { OnOk result (text.new.items ≡ text.old.items ++ count_line jobs counts) }
 {
-    let count = counts.gone + counts.added + counts.changed;
-    push_number(text, count as u64)?;
-    push_text(text, " of ")?;
-    push_number(text, jobs as u64)?;
-    push_text(text, " jobs differ: ")?;
+    push_differing(text, counts.gone + counts.added + counts.changed, jobs)?;
     push_counts(text, counts)
+}
+
+#[tactic(auto, unfolding(crate::specs::Diff::differing_words))]
+fn push_differing(text: &mut Vec<u8>, count: usize, jobs: usize) -> Result<(), AllocError>
+    ensures { OnOk result (text.new.items ≡ text.old.items ++ differing_words count jobs) }
+{
+    push_spans(
+        text,
+        &[
+            Span::Number(count as u64),
+            Span::Text(" of "),
+            Span::Number(jobs as u64),
+            Span::Text(" jobs differ: "),
+        ],
+    )
 }
 
 #[tactic(auto, unfolding(crate::specs::Diff::counts_words))]
 fn push_counts(text: &mut Vec<u8>, counts: Differing) -> Result<(), AllocError>
     ensures { OnOk result (text.new.items ≡ text.old.items ++ counts_words counts) }
 {
-    push_number(text, counts.gone as u64)?;
-    push_text(text, " gone, ")?;
-    push_number(text, counts.added as u64)?;
-    push_text(text, " new, ")?;
-    push_number(text, counts.changed as u64)?;
-    push_text(text, " changed\n")
+    push_spans(
+        text,
+        &[
+            Span::Number(counts.gone as u64),
+            Span::Text(" gone, "),
+            Span::Number(counts.added as u64),
+            Span::Text(" new, "),
+            Span::Number(counts.changed as u64),
+            Span::Text(" changed\n"),
+        ],
+    )
 }

@@ -10,7 +10,7 @@ ghost use Rattle.rv_views.specs.Differences.{same_verdict, signature_words, step
 use crate::change_words::{
     push_console_words, push_ending_words, push_signature_words, verdict_text,
 };
-use rv_lines::{push_number, push_text};
+use rv_lines::{Span, push_spans, push_text};
 use rv_rows::{Row, RowEnd, Verdict, Words, are_alike};
 use std::alloc::AllocError;
 
@@ -121,9 +121,14 @@ fn push_ending_change(
 fn push_name(text: &mut Vec<u8>, row: &Row) -> Result<(), AllocError>
     ensures { OnOk result (text.new.items ≡ text.old.items ++ change_begin row.now.name) }
 {
-    push_text(text, "! ")?;
-    push_text(text, row.name.as_str())?;
-    push_text(text, ": ")
+    push_spans(
+        text,
+        &[
+            Span::Text("! "),
+            Span::Text(row.name.as_str()),
+            Span::Text(": "),
+        ],
+    )
 }
 
 fn push_steps_change(
@@ -141,12 +146,18 @@ fn push_steps_change(
     }
     let before = old.steps;
     let after = new.steps;
-    push_name(text, new)?;
-    push_text(text, "steps ")?;
-    push_number(text, u64::from(before))?;
-    push_text(text, " -> ")?;
-    push_number(text, u64::from(after))?;
-    push_text(text, "\n")
+    push_spans(
+        text,
+        &[
+            Span::Text("! "),
+            Span::Text(new.name.as_str()),
+            Span::Text(": steps "),
+            Span::Number(u64::from(before)),
+            Span::Text(" -> "),
+            Span::Number(u64::from(after)),
+            Span::Text("\n"),
+        ],
+    )
 }
 
 fn push_console_change(text: &mut Vec<u8>, old: &Row, new: &Row) -> Result<(), AllocError>
@@ -183,10 +194,16 @@ fn push_verdict_change(text: &mut Vec<u8>, old: &Row, new: &Row) -> Result<(), A
     if same_verdict(old.verdict, new.verdict) {
         return Ok(());
     }
-    push_name(text, new)?;
-    push_text(text, "verdict ")?;
-    push_text(text, verdict_text(old.verdict))?;
-    push_text(text, " -> ")?;
-    push_text(text, verdict_text(new.verdict))?;
-    push_text(text, "\n")
+    push_spans(
+        text,
+        &[
+            Span::Text("! "),
+            Span::Text(new.name.as_str()),
+            Span::Text(": verdict "),
+            Span::Text(verdict_text(old.verdict)),
+            Span::Text(" -> "),
+            Span::Text(verdict_text(new.verdict)),
+            Span::Text("\n"),
+        ],
+    )
 }

@@ -1,16 +1,15 @@
 //! The parts of JUnit's XML.
 
-ghost use Rattle.std.specs.Prelude.{◌≡◌, ◌++◌, OnOk, count_by, position, string_bytes};
-ghost use Rattle.std.specs.Fmt.{decimal};
+ghost use Rattle.std.specs.Prelude.{◌≡◌, ◌++◌, OnOk, codes, count_by, position, string_bytes};
 ghost use Rattle.rv_lines.specs.ConsoleTail.{is_feed};
 ghost use Rattle.rv_views.specs.Junit.{attribute, begin_text, case_text, end_text, first_line, is_error, is_failure};
 ghost use Rattle.rv_views.specs.Junit.{number_attribute, output_text, problem_name, problem_or_none, problem_text};
 
 use crate::xml::{Within, push_escaped};
-use itoa::Buffer;
 use rv_lines::{Rule, has_passed};
 use rv_rows::{Row, is_run};
 use std::alloc::{AllocError, Global};
+use std::fmt::Write;
 
 /// Appends what stands before the cases: the declaration, and the suite's name and counts.
 #[tactic(auto, unfolding(crate::specs::Junit::begin_text))]
@@ -26,30 +25,27 @@ pub(crate) fn push_begin(
 {
     text.push_str("<?xml version=\"1.0\" encoding=\"UTF-8\"?>\n<testsuites>\n<testsuite")?;
     push_attribute(alloc, text, "name", class)?;
-    push_number(text, "tests", rows.len())?;
-    push_number(text, "failures", failure_count(rule, rows))?;
-    push_number(text, "errors", error_count(rule, rows))?;
-    text.push_str(">\n")?;
-    Ok(())
+    let failures = failure_count(rule, rows);
+    let errors = error_count(rule, rows);
+    push_counts(text, rows.len(), failures, errors)
 }
 
+// Appends how many cases there are, and how many of them are failures and errors, and the end of the suite's tag.
 #[tactic(auto, unfolding(crate::specs::Junit::number_attribute))]
-fn push_number(text: &mut String, name: &str, number: usize) -> Result<(), AllocError>
-    ensures { OnOk result (string_bytes text.new
-        ≡ string_bytes text.old ++ number_attribute name.now number) }
+fn push_counts(
+    text: &mut String,
+    tests: usize,
+    failures: usize,
+    errors: usize,
+) -> Result<(), AllocError>
+    ensures { OnOk result (string_bytes text.new ≡ string_bytes text.old
+        ++ (number_attribute (codes "tests") tests ++ number_attribute (codes "failures") failures
+        ++ number_attribute (codes "errors") errors ++ codes ">\n")) }
 {
-    text.push_str(" ")?;
-    text.push_str(name)?;
-    text.push_str("=\"")?;
-    push_decimal(text, number as u64)?;
-    text.push_str("\"")
-}
-
-fn push_decimal(text: &mut String, number: u64) -> Result<(), AllocError>
-    ensures { OnOk result (string_bytes text.new ≡ string_bytes text.old ++ decimal number) }
-{
-    let mut buffer = Buffer::new();
-    text.push_str(buffer.format(number))
+    writeln!(
+        text,
+        " tests=\"{tests}\" failures=\"{failures}\" errors=\"{errors}\">"
+    )
 }
 
 fn failure_count(rule: Rule, rows: &[Row]) -> usize
@@ -88,9 +84,7 @@ fn push_attribute(
     ensures { OnOk result (string_bytes text.new
         ≡ string_bytes text.old ++ attribute name.now value.now) }
 {
-    text.push_str(" ")?;
-    text.push_str(name)?;
-    text.push_str("=\"")?;
+    write!(text, " {name}=\"")?;
     push_escaped(alloc, text, Within::Attribute, value)?;
     text.push_str("\"")
 }
@@ -140,14 +134,11 @@ fn push_problem(alloc: Global, text: &mut String, row: &Row, lines: &[u8]) -> Re
         ≡ string_bytes text.old ++ problem_text row.now lines.now) }
 {
     let name = problem_name(row);
-    text.push_str("<")?;
-    text.push_str(name)?;
+    write!(text, "<{name}")?;
     push_attribute(alloc, text, "message", first_line(lines))?;
     text.push_str(">")?;
     push_escaped(alloc, text, Within::Element, lines)?;
-    text.push_str("</")?;
-    text.push_str(name)?;
-    text.push_str(">\n")
+    writeln!(text, "</{name}>")
 }
 
 fn problem_name(row: &Row) -> &'static str
@@ -179,9 +170,8 @@ fn feed_place(text: &[u8]) -> Option<usize>
 fn push_output(alloc: Global, text: &mut String, row: &Row) -> Result<(), AllocError>
     ensures { OnOk result (string_bytes text.new ≡ string_bytes text.old ++ output_text row.now) }
 {
-    text.push_str("<system-out>")?;
-    push_decimal(text, u64::from(row.steps))?;
-    text.push_str(" steps\n")?;
+    let steps = row.steps;
+    writeln!(text, "<system-out>{steps} steps")?;
     push_escaped(alloc, text, Within::Element, row.console.as_slice())?;
     text.push_str("</system-out>\n")
 }

@@ -6,7 +6,7 @@ ghost use Rattle.rv_views.specs.Show.{failed_line, most_text, show_text, steps_l
 
 use crate::failed_lines::push_failed_line;
 use crate::most_steps::most_steps;
-use rv_lines::{Rule, push_last_line, push_number, push_text};
+use rv_lines::{Rule, Span, push_last_line, push_spans, push_text};
 use rv_rows::Row;
 use std::alloc::{AllocError, Global};
 
@@ -66,9 +66,14 @@ fn push_steps_line(text: &mut Vec<u8>, row: &Row) -> Result<(), AllocError>
     ensures { OnOk result (text.new.items ≡ text.old.items ++ steps_line row.now) }
 {
     let steps = row.steps;
-    push_text(text, "  ")?;
-    push_number(text, u64::from(steps))?;
-    push_text(text, " ")?;
-    push_text(text, row.name.as_str())?;
-    push_text(text, "\n")
+    push_spans(
+        text,
+        &[
+            Span::Text("  "),
+            Span::Number(u64::from(steps)),
+            Span::Text(" "),
+            Span::Text(row.name.as_str()),
+            Span::Text("\n"),
+        ],
+    )
 }

@@ -6,13 +6,10 @@ pub returns : goal.returns
 unfolding begin_text
 returns c =
     simp append_assoc (simp (
-      c.in_ok-push_number-3.ensures,
-      c.error_count.ensures,
-      c.in_ok-push_number-2.ensures,
-      c.failure_count.ensures,
-      c.in_ok-push_number.ensures,
+      c.error_count-errors.ensures,
+      c.failure_count-failures.ensures,
       c.in_ok-push_attribute.ensures,
       c.in_ok-push_str.ensures.bytes,
       append_assoc,
     ) at
-    c.in_ok-push_str-2.ensures.bytes)
+    c.push_counts.ensures)
