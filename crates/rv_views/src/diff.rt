@@ -186,20 +186,21 @@ fn push_count_line(text: &mut Vec<u8>, jobs: usize, counts: Differing) -> Result
     requires { differing_count counts < 2 ^ 64 }
     ensures { OnOk result (text.new.items ≡ text.old.items ++ count_line jobs counts) }
 {
-    push_differing(text, counts.gone + counts.added + counts.changed, jobs)?;
+    let count = counts.gone + counts.added + counts.changed;
+    push_differing(text, count as u64, jobs as u64)?;
     push_counts(text, counts)
 }
 
 #[tactic(auto, unfolding(crate::specs::Diff::differing_words))]
-fn push_differing(text: &mut Vec<u8>, count: usize, jobs: usize) -> Result<(), AllocError>
+fn push_differing(text: &mut Vec<u8>, count: u64, jobs: u64) -> Result<(), AllocError>
     ensures { OnOk result (text.new.items ≡ text.old.items ++ differing_words count jobs) }
 {
     push_spans(
         text,
         &[
-            Span::Number(count as u64),
+            Span::Number(count),
             Span::Text(" of "),
-            Span::Number(jobs as u64),
+            Span::Number(jobs),
             Span::Text(" jobs differ: "),
         ],
     )
