@@ -1,7 +1,7 @@
 //! What a person is told of a row: which expectations of its job the run does not meet, and what differs first.
 //!
-//! [`unmet_at`] answers them of a job of a plan, [`unmet_expectations`] over given bytes, in the order exit, end,
-//! console, signature, other job. Each is told exactly where it does not hold by the definitions of the verdict
+//! [`unmet_expectations`] answers them over the bytes of a job's files and the row of the job that it names, which
+//! [`named_row`] makes, in the order exit, end, console, signature, other job. Each is told exactly where it does not hold by the definitions of the verdict
 //! ([`unmet_is_what_does_not_hold`], [`unmet_of_a_plan_is_what_does_not_hold`]), and none exactly where the job passes
 //! ([`nothing_is_unmet_where_a_job_passes`]). What is said to differ is the first that does ([`differences_are_first`]),
 //! and a reference is words exactly where it is their lines ([`references_are_lines_of_words`]).
@@ -18,6 +18,6 @@ pub use law::{
     differences_are_first, nothing_is_unmet_where_a_job_passes, references_are_lines_of_words,
     unmet_is_what_does_not_hold, unmet_of_a_plan_is_what_does_not_hold,
 };
-pub use planned::{named_row, unmet_at};
+pub use planned::named_row;
 pub use reference::words_or_none;
 pub use unmet::{Unmet, unmet_expectations};

@@ -5,9 +5,9 @@ use rv_files::StreamSink;
 use rv_jobs::{Bytes, Text};
 use rv_lines::Rule;
 use rv_progress::{CountingTelling, Progress, TerminalSink};
-use rv_rows::{Row, RowEnd, Verdict, put_all};
+use rv_rows::{Row, RowEnd, Sink, Verdict, put_all};
 use rv_stream::Telling;
-use samples::cell_of;
+use samples::{agree, cell_of};
 use std::alloc::Global;
 use std::sync::atomic::AtomicU64;
 use std::sync::{Mutex, Wait};
@@ -56,62 +56,106 @@ fn is_row(word: &str) -> bool {
     word == "+" || word == "-" || word == "5"
 }
 
-// Answers the telling's text.
+// What a word of the table stands for comes: a row is told, results are put.
+fn send<T: Telling, W: Sink>(
+    alloc: Global,
+    word: &str,
+    telling: &T,
+    out: &mut W,
+    text: &mut Vec<u8>,
+) -> Result<(), Fail> {
+    if is_row(word) {
+        let row = row_of(alloc, word)?;
+        telling.push(alloc, 0, &row, text)?;
+        return Ok(());
+    }
+    let results = word.replace(alloc, "/", "\n")?;
+    put_all(out, results.as_bytes()).ok().ok_or("a put")?;
+    Ok(())
+}
+
+fn send_all<T: Telling, W: Sink>(
+    alloc: Global,
+    words: &str,
+    telling: &T,
+    out: &mut W,
+    text: &mut Vec<u8>,
+) -> Result<(), Fail> {
+    for word in words.split(' ') {
+        send(alloc, word, telling, out, text)?;
+    }
+    Ok(())
+}
+
+fn row_count(line: &str) -> usize {
+    let words = cell_of(line, 5);
+    words.split(' ').filter(|word| is_row(word)).count()
+}
+
+fn rule_of(line: &str) -> Rule {
+    match cell_of(line, 2) {
+        "lenient" => Rule::Lenient,
+        _ => Rule::Strict,
+    }
+}
+
+fn most_of(line: &str) -> Result<usize, Fail> {
+    Ok(cell_of(line, 4).parse::<usize>()?)
+}
+
+// Plays a line of the table, whose puts take so many bytes. Answers the telling's text.
 fn play<R: Wait>(
     rt: &R,
     alloc: Global,
     line: &str,
+    most: usize,
     clock: &Ticking,
     bytes: &Mutex<Vec<u8>>,
 ) -> Result<Vec<u8>, Fail> {
-    let words = cell_of(line, 5);
-    let jobs = words.split(' ').filter(|word| is_row(word)).count();
-    let rule = match cell_of(line, 2) {
-        "lenient" => Rule::Lenient,
-        _ => Rule::Strict,
-    };
     let terminals = cell_of(line, 3);
-    let most = usize::MAX;
-    let errors = Screen { rt, most, bytes };
-    let progress = Progress::new(clock, jobs, rule, errors, terminals.contains("line"));
+    let errors = Screen {
+        rt,
+        most: usize::MAX,
+        bytes,
+    };
+    let is_shown = terminals.contains("line");
+    let progress = Progress::new(clock, row_count(line), rule_of(line), errors, is_shown);
     let telling = CountingTelling::new(clock, &Names, &progress);
-    let most = cell_of(line, 4).parse::<usize>()?;
     let out = StreamSink::new(Screen { rt, most, bytes });
     let is_terminal = terminals.contains("results");
     let mut out = TerminalSink::new(rt, alloc, out, is_terminal, &progress);
     let mut text = Vec::new(alloc);
-    for word in words.split(' ') {
-        if is_row(word) {
-            telling.push(alloc, 0, &row_of(alloc, word)?, &mut text)?;
-        } else {
-            let results = word.replace(alloc, "/", "\n")?;
-            put_all(&mut out, results.as_bytes()).ok().ok_or("a put")?;
-        }
-    }
+    let sent = send_all(alloc, cell_of(line, 5), &telling, &mut out, &mut text);
     drop(out);
     drop(telling);
     progress.finish();
-    Ok(text)
+    sent.map(|()| text)
+}
+
+// What stands on the terminal behind a line of the table, and how many bytes were told.
+fn shown<R: Wait>(rt: &R, alloc: Global, line: &str) -> Result<(String, usize), Fail> {
+    let clock = Ticking {
+        step: cell_of(line, 1).parse::<u64>()?,
+        read: AtomicU64::new(0),
+    };
+    let bytes = Mutex::new(Vec::new(alloc));
+    let text = play(rt, alloc, line, most_of(line)?, &clock, &bytes)?;
+    let bytes = bytes.into_inner();
+    Ok((table_form(alloc, bytes.as_slice())?, text.len()))
+}
+
+fn check<R: Wait>(rt: &R, alloc: Global, line: &str) -> Result<(), Fail> {
+    let (screen, told) = shown(rt, alloc, line)?;
+    if told != row_count(line).saturating_mul(2) {
+        return Err(Fail::from("each row is told once"));
+    }
+    agree(line, screen.as_str(), cell_of(line, 6))
 }
 
 #[test]
 fn lines(rt: HostRuntime) -> Result<(), Fail> {
-    let alloc = rt.alloc();
     for line in LINES.lines() {
-        let clock = Ticking {
-            step: cell_of(line, 1).parse::<u64>()?,
-            read: AtomicU64::new(0),
-        };
-        let bytes = Mutex::new(Vec::new(alloc));
-        let text = play(&rt, alloc, line, &clock, &bytes)?;
-        let bytes = bytes.into_inner();
-        let found = table_form(alloc, bytes.as_slice())?;
-        assert_eq!(rt; found.as_str(), cell_of(line, 6), "{line}");
-        let rows = cell_of(line, 5)
-            .split(' ')
-            .filter(|word| is_row(word))
-            .count();
-        assert_eq!(rt; text.len(), rows.saturating_mul(2), "{line}");
+        check(&rt, rt.alloc(), line)?;
     }
     Ok(())
 }
