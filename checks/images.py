@@ -1,9 +1,10 @@
 """Images for checks, by lines of words, as the crate `samples` makes them for tests, and by what their runs come to.
 
-`one` or `two` segments, or `sign` for the image with a signature, and then changes: `24=90000000` puts the number at byte 24,
-little-endian, and `51` keeps the first 51 bytes. Behind `code`, or alone, stand numbers, which are the bytes of the one segment.
-Behind an `@` stand symbols, as `main=80000010/12/0001`: a name, in which `\\x1b` is that byte, its value, `st_info` and the index
-of its section; and behind a `!` changes of all that.
+`one` or `two` segments, `sign` for the image with a signature, or the example firmware, `checksum`, `upper` or `stripped`, which is
+`upper` without symbols; and then changes: `24=90000000` puts the number at byte 24, little-endian, and `51` keeps the first 51
+bytes. Behind `code`, or alone, stand numbers, which are the bytes of the one segment. Behind an `@` stand symbols, as
+`main=80000010/12/0001`: a name, in which `\\x1b` is that byte, its value, `st_info` and the index of its section; and behind a `!`
+changes of all that.
 """
 import pathlib
 import re
@@ -34,7 +35,11 @@ def samples():
     digits = re.findall(r'pub const (\w+): &str = "\\\n(.*?)";', text, re.S)
     images = {name: bytes.fromhex("".join(re.findall("0x(..)", array))) for name, array in arrays}
     images.update((name, bytes.fromhex(re.sub(r"[\\\s]", "", text))) for name, text in digits)
-    return {"one": images["ONE_SEGMENT"], "two": images["TWO_SEGMENTS"], "sign": images["SIGNATURE"]}
+    names = {
+        "one": "ONE_SEGMENT", "two": "TWO_SEGMENTS", "sign": "SIGNATURE",
+        "checksum": "CHECKSUM", "upper": "UPPER", "stripped": "UPPER_STRIPPED",
+    }
+    return {word: images[name] for word, name in names.items()}
 
 
 IMAGES = samples()

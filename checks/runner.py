@@ -20,6 +20,7 @@ import tempfile
 import asked
 import codes
 import images
+import lists
 import machines
 import saved
 from rows import RULES, Row, Wrong, cut, last_line, lines, many, squeezed, status_of, told_lines, with_bytes
@@ -251,6 +252,7 @@ FORMS = {
     **saved.FORMS,
     **codes.FORMS,
     **machines.FORMS,
+    **lists.FORMS,
 }
 
 

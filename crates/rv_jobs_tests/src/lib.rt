@@ -1,8 +1,9 @@
-//! Tests of images (headers, segments, symbols) and of job lists, stores and plans, by what `rv_elf` and `rv_jobs` show
-//! their callers, and `rv_headers` of texts that are no lists. The crate has nothing else, so that no code is proved twice.
+//! Tests of what no program shows of plans and of the lines of lists: which paths are read, in which order and how often, and
+//! where jobs begin in a text that is no TOML. All else that `rv_elf`, `rv_lists` and `rv_jobs` do `checks/tables` ask of the
+//! built programs. The crate has nothing else, so that no code is proved twice.
 #![tactic(auto)]
 
 #[cfg(test)]
-mod elf;
+mod lines;
 #[cfg(test)]
-mod lists;
+mod plans;

@@ -1,10 +1,15 @@
 //! Plans for all jobs and for a choice: which paths are read, and what is kept of each job's.
 ghost use Rattle.std.specs.Prelude.{◌<◌, ◌≤◌, None, length};
 
-use super::{OWN, check, jobs_of};
-use rv_jobs::{JobList, Kept, Plan, ReadError, Store, gather, gather_places, marked_places};
+use rv_jobs::{
+    JobList, Kept, Plan, ReadError, Store, What, gather, gather_places, marked_places, read_jobs,
+};
+use samples::{agree, cell_of, has_lines};
 use std::alloc::{AllocError, Global};
 use std::test::Fail;
+
+// The numbers of the first fault of lists and of the last.
+const _: () = prove!(What::NotToml as u8 == 1 && What::Misaligned as u8 == 18);
 
 /// A store with the files `a`, `b` and `r` of one byte and `A`, `B` and `C` of many, each full of its own name, and one
 /// `l` that is too long. It lists the paths that it was read at.
@@ -70,7 +75,7 @@ fn chosen(alloc: Global, jobs: JobList, marks: &[bool], store: &mut Files) -> Re
 }
 
 fn plan_of(alloc: Global, list: &str, choice: &str, store: &mut Files) -> Result<Plan, Fail> {
-    let jobs = jobs_of(alloc, list)?;
+    let jobs = read_jobs(alloc, list.as_bytes())?;
     if choice == "all" {
         return Ok(gather(alloc, jobs, store)?);
     }
@@ -119,13 +124,23 @@ fn told(alloc: Global, plan: &Plan, store: &Files) -> Result<String, AllocError>
 }
 
 // The plan for `all` jobs of a list, or for those that are marked by `x`.
-pub(super) fn told_of(alloc: Global, list: &str, choice: &str) -> Result<String, Fail> {
+fn told_of(alloc: Global, list: &str, choice: &str) -> Result<String, Fail> {
     let mut store = Files {
         log: String::new(alloc),
         faults: 5,
     };
     let plan = plan_of(alloc, list, choice, &mut store)?;
     Ok(told(alloc, &plan, &store)?)
+}
+
+// Whether the plan of a list for each choice is what the line says.
+fn check(alloc: Global, list: &str, table: &str, lines: usize) -> Result<(), Fail> {
+    has_lines(table, lines)?;
+    for row in table.lines() {
+        let told = told_of(alloc, list, cell_of(row, 0))?;
+        agree(row, told.as_str(), cell_of(row, 1))?;
+    }
+    Ok(())
 }
 
 const PATHS: &str = "job = [
@@ -138,13 +153,8 @@ const PATHS: &str = "job = [
 { name = 'n6', image = 'y', budget = 1, signature = ['s', 's'], expect_signature = 'z', expect_console_file = 'l' }]";
 
 const ALL_PATHS: &str = "\
-plan all | 'bralxyz' 8 faults: n0 b r none, n1 a b none, n2 b none none, n3 long unreadable none, \
+all | 'bralxyz' 8 faults: n0 b r none, n1 a b none, n2 b none none, n3 long unreadable none, \
     n4 r long none, n5 unreadable none a, n6 unreadable unreadable long";
-
-#[test]
-fn paths(rt: HostRuntime) -> Result<(), Fail> {
-    check(&rt, rt.alloc(), OWN, PATHS, ALL_PATHS, 1)
-}
 
 const LONG_PATHS: &str = "job = [
 { name = 'n0', image = 'A', budget = 1, signature = ['s', 's'], expect_signature = 'C' },
@@ -154,13 +164,8 @@ const LONG_PATHS: &str = "job = [
 { name = 'n4', image = 'C', budget = 1 }]";
 
 const LONG_KEPT: &str = "\
-plan all | 'ACB' 5 faults: n0 65537A 16777216C none, n1 16777216C 65537A none, n2 65537A 1000000B none, \
+all | 'ACB' 5 faults: n0 65537A 16777216C none, n1 16777216C 65537A none, n2 65537A 1000000B none, \
     n3 1000000B 1000000B none, n4 16777216C none none";
-
-#[test]
-fn long_files_are_read_once(rt: HostRuntime) -> Result<(), Fail> {
-    check(&rt, rt.alloc(), OWN, LONG_PATHS, LONG_KEPT, 1)
-}
 
 const LIST: &str = "job = [
 { name = 'n0', image = 'b', budget = 1, signature = ['s', 's'], expect_signature = 'r' },
@@ -172,24 +177,26 @@ const LIST: &str = "job = [
 // The jobs of a choice, each path that was read, and what is kept of each job's image, reference and console. `x.x.x` and `.x.x.`
 // are the two shards of the list.
 const CHOICES: &str = "\
-plan ..... | '' 5 faults: n0 unreadable unreadable none, n1 unreadable none unreadable, n2 unreadable none none, \
+..... | '' 5 faults: n0 unreadable unreadable none, n1 unreadable none unreadable, n2 unreadable none none, \
     n3 unreadable none none, n4 unreadable unreadable none
-plan x.... | 'br' 5 faults: n0 b r none, n1 unreadable none unreadable, n2 unreadable none none, \
+x.... | 'br' 5 faults: n0 b r none, n1 unreadable none unreadable, n2 unreadable none none, \
     n3 unreadable none none, n4 b unreadable none
-plan ..x.. | 'lbr' 5 faults: n0 b r none, n1 unreadable none unreadable, n2 long none none, \
+..x.. | 'lbr' 5 faults: n0 b r none, n1 unreadable none unreadable, n2 long none none, \
     n3 unreadable none none, n4 b unreadable none
-plan ...x. | 'yl' 6 faults: n0 unreadable unreadable none, n1 unreadable none unreadable, n2 long none none, \
+...x. | 'yl' 6 faults: n0 unreadable unreadable none, n1 unreadable none unreadable, n2 long none none, \
     n3 unreadable none none, n4 unreadable unreadable none
-plan .x..x | 'axb' 6 faults: n0 b unreadable none, n1 a none unreadable, n2 unreadable none none, \
+.x..x | 'axb' 6 faults: n0 b unreadable none, n1 a none unreadable, n2 unreadable none none, \
     n3 unreadable none none, n4 b a none
-plan x.x.x | 'brla' 5 faults: n0 b r none, n1 a none unreadable, n2 long none none, \
+x.x.x | 'brla' 5 faults: n0 b r none, n1 a none unreadable, n2 long none none, \
     n3 unreadable none none, n4 b a none
-plan .x.x. | 'axyl' 7 faults: n0 unreadable unreadable none, n1 a none unreadable, n2 long none none, \
+.x.x. | 'axyl' 7 faults: n0 unreadable unreadable none, n1 a none unreadable, n2 long none none, \
     n3 unreadable none none, n4 unreadable a none
-plan xxxxx | 'braxly' 7 faults: n0 b r none, n1 a none unreadable, n2 long none none, \
+xxxxx | 'braxly' 7 faults: n0 b r none, n1 a none unreadable, n2 long none none, \
     n3 unreadable none none, n4 b a none";
 
 #[test]
-fn reads_what_the_rows_need(rt: HostRuntime) -> Result<(), Fail> {
-    check(&rt, rt.alloc(), OWN, LIST, CHOICES, 8)
+fn paths_are_read_once_where_they_are_needed(rt: HostRuntime) -> Result<(), Fail> {
+    check(rt.alloc(), PATHS, ALL_PATHS, 1)?;
+    check(rt.alloc(), LONG_PATHS, LONG_KEPT, 1)?;
+    check(rt.alloc(), LIST, CHOICES, 8)
 }

@@ -1,0 +1,42 @@
+//! Where jobs begin in texts that are no TOML: those up to there are noted. No run of a program asks for them.
+use rv_headers::job_lines;
+use samples::agree;
+use std::alloc::{AllocError, Global};
+use std::test::Fail;
+
+// Texts, and the lines on which their jobs begin. A bar alone parts them.
+const TEXTS: &str = "\
+[[job]]
+= 3
+[[job]] = [1]
+|
+[[job]]
+[[job]
+[[job]] = [1]
+|
+[[job]]
+[[job]] [[job]]
+[[job]] = [1, 2]
+|
+[[job]]
+input = '
+[[job]] = [1]
+|
+job = [{}, {} = [1, 1]
+|
+job = [{}, , {}] = [1]";
+
+fn begins_of(alloc: Global, text: &str) -> Result<String, AllocError> {
+    let lines = job_lines(alloc, text)?;
+    format!(in alloc; "{:?}", lines.as_slice())
+}
+
+#[test]
+fn texts_that_are_no_toml(rt: HostRuntime) -> Result<(), Fail> {
+    for case in TEXTS.split("\n|\n") {
+        let (text, wanted) = case.rsplit_once(" = ").unwrap_or((case, ""));
+        let begins = begins_of(rt.alloc(), text)?;
+        agree(case, begins.as_str(), wanted)?;
+    }
+    Ok(())
+}
