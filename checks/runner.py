@@ -21,6 +21,7 @@ import asked
 import codes
 import images
 import machines
+import placed
 import saved
 from rows import RULES, Row, Wrong, cut, last_line, lines, many, squeezed, status_of, told_lines, with_bytes
 
@@ -251,6 +252,7 @@ FORMS = {
     **saved.FORMS,
     **codes.FORMS,
     **machines.FORMS,
+    **placed.FORMS,
 }
 
 
