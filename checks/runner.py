@@ -22,6 +22,7 @@ import codes
 import images
 import lists
 import machines
+import placed
 import saved
 from rows import RULES, Row, Wrong, cut, last_line, lines, many, squeezed, status_of, told_lines, with_bytes
 
@@ -253,6 +254,7 @@ FORMS = {
     **codes.FORMS,
     **machines.FORMS,
     **lists.FORMS,
+    **placed.FORMS,
 }
 
 

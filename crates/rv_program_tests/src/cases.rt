@@ -1,144 +1,39 @@
-//! The program asked by the lines of tables: a form has what it is given, another what it answers, and a line fills
-//! both.
+//! The program asked by tables.
 //!
-//! What is given has these parts, with a bar between two: what is compared of the answer, the words, the job list, the
-//! files, what fails, and numbers for the bytes of standard input. Parts that follow may be left out.
+//! A table has three parts, with a line `====` between two: the form of what is given, that of what it answers, and
+//! rows that fill both. A row that begins with `3 rows: ` stands for three, with their numbers from 0 for `%`; `$S`
+//! stands for the names of the signature.
+//!
+//! What is given has these parts, with a bar between two: the number of lines that have rows; what is compared; the
+//! words; the job list; the files; what fails; and numbers for the bytes of the input. Parts that follow may be left
+//! out. What is compared is all that is told (`0`), all but the puts (`1`), the status and what is told and goes out
+//! alone (`2`), or a summary, by the words of which a report's lines are told.
 
-use crate::sample_store::{SampleStore, told};
-use crate::testing::{MemoryReader, MemorySink, cell};
-use samples::numbers;
+use crate::forms::{numbered, part, written};
+use crate::sample_store::SampleStore;
+use crate::testing::Streams;
+use samples::{agree, cell_of, has_lines, numbers};
 use std::alloc::{AllocError, Global};
-use std::process::Abort;
 use std::sync::Wait;
 use std::test::Fail;
 use std::thread::Threads;
 
-fn part(case: &str, place: usize) -> &str {
-    case.split('|').nth(place).unwrap_or("")
-}
-
-// What a cell stands for, and how often: `0*3` stands for 000, and a cell with a space for itself.
-fn counted(cell: &str) -> (&str, usize) {
-    if cell.contains(' ') {
-        return (cell, 1);
-    }
-    let (part, count) = cell.split_once('*').unwrap_or((cell, "1"));
-    (part, count.parse::<usize>().unwrap_or(0))
-}
-
-fn put(text: &mut String, cell: &str) -> Result<(), AllocError> {
-    let (part, count) = counted(cell);
-    for _ in 0..count {
-        text.push_str(part)?;
-    }
-    Ok(())
-}
-
-// The cell of a line that a part of a form begins with, by its place, and the rest of the part; `_` is the line.
-fn cell_and_rest<'a>(line: &'a str, part: &'a str) -> (&'a str, &'a str) {
-    let rest = part.get(1..).unwrap_or("");
-    match part.get(..1).unwrap_or("").parse::<usize>() {
-        Ok(place) => (cell(line, place), rest),
-        Err(_) => (line, rest),
-    }
-}
-
-// A form with the cells of a line in place of `$0`, `$1` and so on, and with the line in place of `$_`.
-fn filled(alloc: Global, form: &str, line: &str) -> Result<String, AllocError> {
-    let mut text = String::new(alloc);
-    for (nth, part) in form.split('$').enumerate() {
-        let (cell, rest) = if nth == 0 {
-            ("", part)
-        } else {
-            cell_and_rest(line, part)
-        };
-        put(&mut text, cell)?;
-        text.push_str(rest)?;
-    }
-    Ok(text)
-}
-
-fn put_numbered(text: &mut String, form: &str, number: u32) -> Result<(), AllocError> {
-    for (nth, part) in form.split('%').enumerate() {
-        if nth > 0 {
-            write!(text, "{number}")?;
-        }
-        text.push_str(part)?;
-    }
-    Ok(())
-}
-
-fn put_times(text: &mut String, part: &str) -> Result<(), AllocError> {
-    let (count, form) = part.split_once(" times ").unwrap_or(("1", part));
-    for number in 0..count.parse::<u32>().unwrap_or(0) {
-        put_numbered(text, form, number.saturating_add(1))?;
-    }
-    Ok(())
-}
-
-// A text by parts that ` + ` parts: of `3 times TEXT` each TEXT has its number, from 1, for `%`. A slash ends a line.
-fn expanded(alloc: Global, text: &str) -> Result<String, AllocError> {
-    let text = text.replace(alloc, "/", "\n")?;
-    let mut whole = String::new(alloc);
-    for part in text.as_str().split(" + ") {
-        put_times(&mut whole, part)?;
-    }
-    Ok(whole)
-}
-
-// A job list, in which ` S` stands for the names of the signature.
-fn list_of(alloc: Global, text: &str) -> Result<String, AllocError> {
-    let names = " signature = ['begin_signature', 'end_signature']";
-    let text = text.replace(alloc, " S", names)?;
-    expanded(alloc, text.as_str())
-}
-
-// A number of what fails, as 3 of `put_fails=3`, or 0.
-fn number(faults: &str, name: &str) -> u64 {
-    for word in faults.split(' ') {
-        if let Some(number) = word.strip_prefix(name) {
-            return number.parse::<u64>().unwrap_or(0);
-        }
-    }
-    0
-}
-
-fn most(faults: &str, name: &str) -> usize {
-    match number(faults, name) {
-        0 => usize::MAX,
-        count => count as usize,
-    }
-}
-
-// What is told of a case over a list.
-fn told_of_list(
+// What is told of a case, with these bytes as its input.
+fn told_of(
     rt: &(impl Threads + Wait),
     alloc: Global,
     case: &str,
-    list: &[u8],
+    bytes: &[u8],
 ) -> Result<String, Fail> {
-    let faults = part(case, 4);
-    let input = numbers(alloc, part(case, 5))?;
-    let mut input = MemoryReader {
-        bytes: &input,
-        most: most(faults, "read_most="),
-        fails: number(faults, "read_fails=") > 0,
-    };
-    let fails_at = (number(faults, "no_file="), number(faults, "no_memory="));
-    let mut store = SampleStore::failing(alloc, list, part(case, 3), fails_at);
-    let (most, fails_at) = (most(faults, "put_most="), number(faults, "put_fails="));
-    let mut out = MemorySink::failing(alloc, most, fails_at);
-    let words = part(case, 1);
-    told(rt, alloc, words, &mut store, &mut input, &mut out)
+    let mut streams = Streams::new(alloc, part(case, 5), bytes);
+    let mut store = SampleStore::new(alloc, case);
+    let status = streams.run(rt, alloc, part(case, 2), &mut store)?;
+    streams.told(alloc, store.faults, store.log.as_str(), status)
 }
 
-fn told_of_case(rt: &(impl Threads + Wait), alloc: Global, case: &str) -> Result<String, Fail> {
-    let list = list_of(alloc, part(case, 2))?;
-    told_of_list(rt, alloc, case, list.as_bytes())
-}
-
-fn behind_bar(text: &str) -> &str {
-    text.split_once('|').unwrap_or(("", "")).1
+fn told(rt: &(impl Threads + Wait), alloc: Global, case: &str) -> Result<String, Fail> {
+    let bytes = numbers(alloc, part(case, 6))?;
+    told_of(rt, alloc, case, &bytes)
 }
 
 fn put_word(text: &mut String, word: &str) -> Result<(), AllocError> {
@@ -162,73 +57,104 @@ fn kept<'a>(view: &str, line: &'a str) -> &'a str {
 fn summary(alloc: Global, view: &str, told: &str) -> Result<String, AllocError> {
     let mut text = String::new(alloc);
     if view.contains("reads") {
-        put_word(&mut text, cell(told, 1))?;
+        put_word(&mut text, cell_of(told, 1))?;
     }
-    put_word(&mut text, cell(told, 2))?;
-    put_word(&mut text, cell(told, 3))?;
-    for line in cell(told, 4).lines() {
+    put_word(&mut text, cell_of(told, 2))?;
+    put_word(&mut text, cell_of(told, 3))?;
+    for line in part(told, 4).lines() {
         put_word(&mut text, kept(view, line))?;
     }
     Ok(text)
 }
 
-// What is compared of what is told: all, as `told` has it; without the puts and the failures of the sink; the answer
-// alone; or a summary.
 fn shown(alloc: Global, view: &str, told: &str) -> Result<String, AllocError> {
-    match view {
-        "puts" => String::from_str(alloc, told),
-        "all" => String::from_str(alloc, behind_bar(told)),
-        "answer" => String::from_str(alloc, behind_bar(behind_bar(told))),
-        _ => summary(alloc, view, told),
+    match view.parse::<usize>() {
+        Ok(bars) => {
+            let mut parts = told.splitn(bars.saturating_add(1), '|');
+            String::from_str(alloc, parts.nth(bars).unwrap_or(""))
+        }
+        Err(_) => summary(alloc, view, told),
     }
 }
 
-/// What is compared of the answer to what a form gives, filled with a line.
-pub(crate) fn answered(
+fn answer(rt: &(impl Threads + Wait), alloc: Global, ask: &str, row: &str) -> Result<String, Fail> {
+    let case = written(alloc, ask, row)?;
+    let told = told(rt, alloc, case.as_str())?;
+    Ok(shown(alloc, part(case.as_str(), 1), told.as_str())?)
+}
+
+fn check_row(
     rt: &(impl Threads + Wait),
     alloc: Global,
     ask: &str,
-    line: &str,
-) -> Result<String, Fail> {
-    let case = filled(alloc, ask, line)?;
-    let told = told_of_case(rt, alloc, case.as_str())?;
-    Ok(shown(alloc, part(case.as_str(), 0), told.as_str())?)
+    wanted: &str,
+    row: &str,
+) -> Result<(), Fail> {
+    let wanted = written(alloc, wanted, row)?;
+    let answer = answer(rt, alloc, ask, row)?;
+    agree(row, answer.as_str(), wanted.as_str())
 }
 
-fn wanted(alloc: Global, answer: &str, line: &str) -> Result<String, AllocError> {
-    let text = filled(alloc, answer, line)?;
-    expanded(alloc, text.as_str())
-}
-
-fn compare(rt: &impl Abort, line: &str, found: &str, wanted: &str) {
-    assert_eq!(rt; found, wanted, "{line}");
+fn check_numbered(
+    rt: &(impl Threads + Wait),
+    alloc: Global,
+    ask: &str,
+    wanted: &str,
+    row: &str,
+    number: usize,
+) -> Result<(), Fail> {
+    let row = numbered(alloc, row, number)?;
+    check_row(rt, alloc, ask, wanted, row.as_str())
 }
 
 fn check_line(
-    rt: &(impl Abort + Threads + Wait),
+    rt: &(impl Threads + Wait),
     alloc: Global,
     ask: &str,
-    answer: &str,
+    wanted: &str,
     line: &str,
 ) -> Result<(), Fail> {
-    let wanted = wanted(alloc, answer, line)?;
-    let found = answered(rt, alloc, ask, line)?;
-    compare(rt, line, found.as_str(), wanted.as_str());
+    let (count, row) = line.split_once(" rows: ").unwrap_or(("1", line));
+    for number in 0..count.parse::<usize>()? {
+        check_numbered(rt, alloc, ask, wanted, row, number)?;
+    }
     Ok(())
 }
 
-/// Whether the program, asked by a form, answers by another, for each of so many lines that fill both.
-pub(crate) fn check(
-    rt: &(impl Abort + Threads + Wait),
+fn check_parts(
+    rt: &(impl Threads + Wait),
     alloc: Global,
     ask: &str,
-    answer: &str,
-    table: &str,
-    lines: usize,
+    wanted: &str,
+    rows: &str,
 ) -> Result<(), Fail> {
-    assert_eq!(rt; table.lines().count(), lines);
-    for line in table.lines() {
-        check_line(rt, alloc, ask, answer, line)?;
+    has_lines(rows, part(ask, 0).parse::<usize>()?)?;
+    for line in rows.lines() {
+        check_line(rt, alloc, ask, wanted, line)?;
+    }
+    Ok(())
+}
+
+fn part_of_table(table: &str, place: usize) -> &str {
+    table.split("\n====\n").nth(place).unwrap_or("")
+}
+
+const SIGNATURE: &str = "signature = ['begin_signature', 'end_signature']";
+
+fn check_table(rt: &(impl Threads + Wait), alloc: Global, table: &str) -> Result<(), Fail> {
+    let table = table.replace(alloc, "$S", SIGNATURE)?;
+    let (ask, wanted) = (part_of_table(&table, 0), part_of_table(&table, 1));
+    check_parts(rt, alloc, ask, wanted, part_of_table(&table, 2))
+}
+
+/// Whether the program answers each row of some tables as it says.
+pub(crate) fn check(
+    rt: &(impl Threads + Wait),
+    alloc: Global,
+    tables: &[&str],
+) -> Result<(), Fail> {
+    for table in tables {
+        check_table(rt, alloc, table)?;
     }
     Ok(())
 }

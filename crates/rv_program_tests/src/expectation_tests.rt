@@ -3,11 +3,13 @@
 use crate::cases::check;
 use std::test::Fail;
 
-const JUDGED: &str = "verdict|run jobs|job = [{name = 'a', budget = 100, $1}]";
-
 // label | keys of a job beside its name and its budget of 100; an image prints by 100002b7 (the console's address), a
 // byte into x10, and 00a2a023 | the status and its verdict
 const RUNS: &str = "\
+45|verdict|rvfleet run jobs|job = [{name = 'a', budget = 100, $1}]
+====
+$2 done 1
+====
 nothing is printed | image = 'one', expect_console = '' | 0 pass
 something is expected | image = 'one', expect_console = 'A' | 1 fail
 a text | image = 'code 100002b7 04100513 00a2a023 X', expect_console = 'A' | 0 pass
@@ -51,44 +53,36 @@ a refused image and a text | image = 'one 51', expect_console = '' | 1 fail
 a refused image and a file | image = 'one 51', expect_console_file = 'bytes' | 1 fail
 a refused image and a budget | image = 'one 51', expect_end = 'budget' | 1 fail
 a refused image and a fault | image = 'one 51', expect_end = 'illegal' | 1 fail
-both references | image = 'sign', S, expect_signature = 'bytes 38 30*7 0a 66*8 0a', expect_console_file = 'bytes' | \
+both references | image = 'sign', $S, expect_signature = 'bytes 38 30*7 0a 66*8 0a', expect_console_file = 'bytes' | \
 0 pass
-all six but one | image = 'sign', S, expect_signature = 'bytes 38 30*7 0a 66*8 0a', expect_console_file = 'bytes 00', \
+all six but one | image = 'sign', $S, expect_signature = 'bytes 38 30*7 0a 66*8 0a', expect_console_file = 'bytes 00', \
 expect_exit = 0 | 1 fail
 ";
 
-#[test]
-fn judges_consoles_and_endings(rt: HostRuntime) -> Result<(), Fail> {
-    check(&rt, rt.alloc(), JUDGED, "$2 done 1", RUNS, 45)
-}
-
-// An image that prints 65,536 times `A`, and exits or prints once more.
-const FILLED: &str = "\
-verdict|run jobs|job = [{name = 'a', budget = 200000, \
-image = 'code 100002b7 00010337 04100513 00a2a023 fff30313 fe031ce3 $0', $1 = '$2'}]";
-
-// what follows in the image | a key | its value | the answer
+// An image that prints 65,536 times `A`, and exits or prints once more: what follows in the image | a key | its value |
+// the answer
 const FULL_CONSOLES: &str = "\
-X | expect_console | A*65536 | 0 pass done 1
-X | expect_console | A*65535 | 1 fail done 1
-X | expect_console | A*65537 | 2 rvfleet: job 1: expect
+6|verdict|rvfleet run jobs|job = [{name = 'a', budget = 200000, \
+image = 'code 100002b7 00010337 04100513 00a2a023 fff30313 fe031ce3 $0', $1 = ' + $2 + '}]
+====
+$3
+====
+X | expect_console | 65536 times A | 0 pass done 1
+X | expect_console | 65535 times A | 1 fail done 1
+X | expect_console | 65537 times A | 2 rvfleet: job 1: expect
 X | expect_console_file | bytes 41*65536 | 0 pass done 1
 X | expect_console_file | bytes 41*65537 | 1 fail done 1
 00a2a023 | expect_end | console-full | 0 pass done 1
 ";
 
-#[test]
-fn compares_a_full_console(rt: HostRuntime) -> Result<(), Fail> {
-    check(&rt, rt.alloc(), FILLED, "$3", FULL_CONSOLES, 6)
-}
-
-// A job with both references.
+// The reference and the console's file | the ending, and the steps | the files that are not found, and what is read.
+// The reference comes first.
 const REFERRING: &str = "\
-reads end steps|run jobs|job = [{name = 'a', budget = 100, image = 'sign', S, \
-expect_signature = '$0', expect_console_file = '$1'}]";
-
-// the reference and the console's file | the ending, and the steps | the files that are not found, and what is read
-const READS: &str = "\
+9|reads end steps|rvfleet run jobs|job = [{name = 'a', budget = 100, image = 'sign', $S, \
+expect_signature = '$0', expect_console_file = '$1'}]
+====
+$3 1 $2 done 1
+====
 bytes 00 | bytes 01 | exit 0 9 | 0;jobs;sign;bytes 00;bytes 01;
 missing | bytes 01 | refused reference-unreadable 0 | 1;jobs;sign;missing;bytes 01;
 long | bytes 01 | refused reference-too-long 0 | 0;jobs;sign;long;bytes 01;
@@ -100,15 +94,10 @@ missing | missing | refused reference-unreadable 0 | 1;jobs;sign;missing;
 bytes 00 | sign | exit 0 9 | 0;jobs;sign;bytes 00;
 ";
 
-#[test]
-fn reads_the_reference_before_the_console(rt: HostRuntime) -> Result<(), Fail> {
-    check(&rt, rt.alloc(), REFERRING, "$3 1 $2 done 1", READS, 9)
-}
-
-// A job that names one with expectations of its own is judged by its outcome alone; both have both files.
+// A job that names one with expectations of its own is judged by its outcome alone; both have both files. Each file is
+// read once, and none is missing.
 const NAMING: &str = "\
-reads verdict|$_|
-[[job]]
+3|reads verdict|$_|[[job]]
 name = 'a'
 image = 'one'
 budget = 100
@@ -136,18 +125,15 @@ image = 'code 9002'
 budget = 100
 expect_end = 'breakpoint'
 same_as = 'd'
-";
-
-// Each file is read once, and none is missing.
-const NAMED: &str = "0;jobs;one;bytes 41;code 9002; 1 fail pass pass fail pass done 5";
-
-const WORDS: &str = "\
-run jobs --workers 1
-run jobs --workers 4
-run jobs --workers 64
+====
+0;jobs;one;bytes 41;code 9002; 1 fail pass pass fail pass done 5
+====
+rvfleet run jobs --workers 1
+rvfleet run jobs --workers 4
+rvfleet run jobs --workers 64
 ";
 
 #[test]
-fn judges_alike_for_all_workers(rt: HostRuntime) -> Result<(), Fail> {
-    check(&rt, rt.alloc(), NAMING, NAMED, WORDS, 3)
+fn judges_consoles_and_endings(rt: HostRuntime) -> Result<(), Fail> {
+    check(&rt, rt.alloc(), &[RUNS, FULL_CONSOLES, REFERRING, NAMING])
 }

@@ -1,15 +1,14 @@
 //! Files and lists that are cut, and fields at their ends, through the whole program.
 
-use crate::cases::{answered, check};
-use crate::image_tests::{ONE, ONE_REPORT};
-use crate::list_tests::{JOB, JOB_REPORT};
-use std::alloc::Global;
-use std::sync::Wait;
+use crate::cases::check;
 use std::test::Fail;
-use std::thread::Threads;
 
 // label | file | budget | ending | steps | console
 const FIELDS: &str = "\
+56|1|rvfleet one image --budget $2||image = $1
+====
+0;image;|0||job 1 one/end $3/steps $4/console $5/signature -/verdict none/done 1/
+====
 magic byte 0 at 0 | one 0=00 | 3 | refused bad-magic | 0 | -
 magic byte 0 at its greatest | one 0=ff | 3 | refused bad-magic | 0 | -
 magic byte 1 at 0 | one 1=00 | 3 | refused bad-magic | 0 | -
@@ -68,97 +67,104 @@ memory size at 0 | one 72=00000000 | 3 | refused segment-sizes | 0 | -
 memory size at its greatest | one 72=ffffffff | 3 | refused segment-map | 0 | -
 ";
 
-#[test]
-fn reads_fields_at_their_ends(rt: HostRuntime) -> Result<(), Fail> {
-    check(&rt, rt.alloc(), ONE, ONE_REPORT, FIELDS, 56)
-}
-
 // label | file | budget | keys | ending | steps | signature
 const SIGNATURE_FIELDS: &str = "\
-section header offset at 0 | sign 32=00000000 | 100 | S | refused no-symbols | 0 | -
-section header offset at its greatest | sign 32=ffffffff | 100 | S | refused section-table | 0 | -
-section count at 0 | sign 48=0000 | 100 | S | refused section-table | 0 | -
-section count at its greatest | sign 48=ffff | 100 | S | refused section-table | 0 | -
-no symbol table | sign 256=00000000 | 100 | S | refused no-symbols | 0 | -
-symbol size 0 | sign 288=00000000 | 100 | S | refused symbol-table | 0 | -
-part of a symbol | sign 272=00000031 | 100 | S | refused symbol-table | 0 | -
-symbols past the file | sign 268=ffffffff | 100 | S | refused symbol-table | 0 | -
-no symbols in the table | sign 272=00000000 | 100 | S | refused no-begin | 0 | -
-link past the sections | sign 276=ffffffff | 100 | S | refused string-table | 0 | -
-no string table | sign 296=00000000 | 100 | S | refused string-table | 0 | -
-empty string table | sign 312=00000000 | 100 | S | refused no-begin | 0 | -
-begin between two words | sign 152=80000029 | 100 | S | refused signature-range | 0 | -
+13|2|rvfleet run jobs|job = [{name = 'a.b-c_9', image = 'image', budget = $2, $3}]|image = $1
+====
+0||job 1 a.b-c_9/end $4/steps $5/console -/signature $6/verdict none/done 1/
+====
+section header offset at 0 | sign 32=00000000 | 100 | $S | refused no-symbols | 0 | -
+section header offset at its greatest | sign 32=ffffffff | 100 | $S | refused section-table | 0 | -
+section count at 0 | sign 48=0000 | 100 | $S | refused section-table | 0 | -
+section count at its greatest | sign 48=ffff | 100 | $S | refused section-table | 0 | -
+no symbol table | sign 256=00000000 | 100 | $S | refused no-symbols | 0 | -
+symbol size 0 | sign 288=00000000 | 100 | $S | refused symbol-table | 0 | -
+part of a symbol | sign 272=00000031 | 100 | $S | refused symbol-table | 0 | -
+symbols past the file | sign 268=ffffffff | 100 | $S | refused symbol-table | 0 | -
+no symbols in the table | sign 272=00000000 | 100 | $S | refused no-begin | 0 | -
+link past the sections | sign 276=ffffffff | 100 | $S | refused string-table | 0 | -
+no string table | sign 296=00000000 | 100 | $S | refused string-table | 0 | -
+empty string table | sign 312=00000000 | 100 | $S | refused no-begin | 0 | -
+begin between two words | sign 152=80000029 | 100 | $S | refused signature-range | 0 | -
 ";
 
-#[test]
-fn reads_fields_of_signatures(rt: HostRuntime) -> Result<(), Fail> {
-    check(&rt, rt.alloc(), JOB, JOB_REPORT, SIGNATURE_FIELDS, 13)
-}
-
-// A job for each number of bytes, from 1, that may be left of the image's 332, and behind them one for none.
-const CUTS: &str = "\
-end steps|run jobs --workers 2 --group 3|\
-332 times [[job]]/name = '%'/image = 'sign %'/budget = 100/$0/ + \
-[[job]]/name = '0'/image = 'sign 0'/budget = 100/$0/";
-
-// How each ends, and its steps: cut in the header, in its table, in the segment, behind it, and not at all.
-const CUT_ENDS: &str = "\
-0 + \
-51 times  refused short-header 0 + \
-32 times  refused program-table 0 + \
-48 times  refused segment-file 0 + \
-200 times  $1 +  exit 0 9 refused short-header 0 done 333";
-
-// the signature | how the image ends without its sections, and its steps
-const SIGNATURES: &str = "\
-signature = ['begin_signature', 'end_signature'] | refused section-table 0
+// A job for each number of bytes, from 1, that may be left of the image's 332, and behind them one for none. How each
+// ends, and its steps: cut in the header, in its table, in the segment, behind it, and not at all. The signature | how
+// the image ends without its sections, and its steps.
+const CUT_IMAGES: &str = "\
+2|end steps|rvfleet run jobs --workers 2 --group 3| + 332 times [[job]]/name = '%'/image = 'sign %'/budget = 100/$0/ \
++ [[job]]/name = '0'/image = 'sign 0'/budget = 100/$0/
+====
+0 + 51 times  refused short-header 0 + 32 times  refused program-table 0 + 48 times  refused segment-file 0 + \
+200 times  $1 +  exit 0 9 refused short-header 0 done 333
+====
+$S | refused section-table 0
  | exit 0 9
 ";
 
+// How many bytes of a list are left | what is told of it
+const CUT_LISTS: &str = "\
+41|1|rvfleet run jobs| + $0 bytes of [[job]]/name = \"a\"/image = \"b\"/budget = 3/
+====
+0;jobs;|2|rvfleet: $1/|
+====
+0 | job 0: no-jobs
+1 | job 0: not-toml
+2 | job 0: not-toml
+3 | job 0: not-toml
+4 | job 0: not-toml
+5 | job 0: not-toml
+6 | job 0: not-toml
+7 | job 1: name
+8 | job 1: name
+9 | job 0: not-toml
+10 | job 0: not-toml
+11 | job 0: not-toml
+12 | job 0: not-toml
+13 | job 0: not-toml
+14 | job 0: not-toml
+15 | job 0: not-toml
+16 | job 0: not-toml
+17 | job 0: not-toml
+18 | job 1: image
+19 | job 1: image
+20 | job 0: not-toml
+21 | job 0: not-toml
+22 | job 0: not-toml
+23 | job 0: not-toml
+24 | job 0: not-toml
+25 | job 0: not-toml
+26 | job 0: not-toml
+27 | job 0: not-toml
+28 | job 0: not-toml
+29 | job 0: not-toml
+30 | job 1: budget
+31 | job 1: budget
+32 | job 0: not-toml
+33 | job 0: not-toml
+34 | job 0: not-toml
+35 | job 0: not-toml
+36 | job 0: not-toml
+37 | job 0: not-toml
+38 | job 0: not-toml
+39 | job 0: not-toml
+40 | job 0: not-toml
+";
+
+const WHOLE_LISTS: &str = "\
+2|1|rvfleet run jobs| + $0 bytes of [[job]]/name = \"a\"/image = \"b\"/budget = 3/
+====
+1;jobs;b;|0||job 1 a/end refused image-unreadable/steps 0/console -/signature -/verdict none/done 1/
+====
+41
+42
+";
+
 #[test]
-fn refuses_cut_images(rt: HostRuntime) -> Result<(), Fail> {
-    check(&rt, rt.alloc(), CUTS, CUT_ENDS, SIGNATURES, 2)
-}
-
-const LIST: &str = "[[job]]\nname = \"a\"\nimage = \"b\"\nbudget = 3\n";
-
-// What is told of a list of which so many bytes are left; nothing, where it is read.
-fn cut_fault(left: usize) -> Option<&'static str> {
-    match left {
-        0 => Some("job 0: no-jobs"),
-        7 | 8 => Some("job 1: name"),
-        18 | 19 => Some("job 1: image"),
-        30 | 31 => Some("job 1: budget"),
-        41 | 42 => None,
-        _ => Some("job 0: not-toml"),
-    }
-}
-
-// Whether a list is refused by this fault, or is read and its image is unreadable.
-fn is_told(told: &str, fault: Option<&str>) -> bool {
-    match fault {
-        Some(fault) => {
-            let found = told.strip_prefix("0;jobs;|2|rvfleet: ").unwrap_or("");
-            found.strip_suffix("\n|") == Some(fault)
-        }
-        None => {
-            let (_, report) = told.split_once(";|0||").unwrap_or(("", ""));
-            report.contains("end refused image-unreadable\n")
-        }
-    }
-}
-
-fn reads_cut_list(rt: &(impl Threads + Wait), alloc: Global, left: usize) -> Result<bool, Fail> {
-    let list = LIST.get(..left).ok_or("42 bytes")?;
-    let told = answered(rt, alloc, "all|run jobs|$_", list)?;
-    Ok(is_told(told.as_str(), cut_fault(left)))
-}
-
-#[test]
-fn reads_cut_lists(rt: HostRuntime) -> Result<(), Fail> {
-    assert_eq!(rt; LIST.len(), 42);
-    for left in 0..43 {
-        assert!(rt; reads_cut_list(&rt, rt.alloc(), left)?, "{left}");
-    }
-    Ok(())
+fn reads_what_is_cut_or_at_its_ends(rt: HostRuntime) -> Result<(), Fail> {
+    check(
+        &rt,
+        rt.alloc(),
+        &[FIELDS, SIGNATURE_FIELDS, CUT_IMAGES, CUT_LISTS, WHOLE_LISTS],
+    )
 }

@@ -3,21 +3,12 @@
 use crate::cases::check;
 use std::test::Fail;
 
-// The image of a line of these tables, on standard input.
-const FLAT: &str = "answer|raw --budget $2||||$1";
-
-const FLAT_REPORT: &str = "\
-0||job 1 raw
-end $3
-steps $4
-console $5
-signature -
-verdict none
-done 1
-";
-
-// label | numbers | budget | ending | steps | console
+// label | numbers on standard input | budget | ending | steps | console
 const FLAT_RUNS: &str = "\
+57|2|rvfleet raw --budget $2||||$1
+====
+0||job 1 raw/end $3/steps $4/console  + $5 + /signature -/verdict none/done 1/
+====
 exit | 00500513 X | 3 | exit 5 | 2 | -
 budget | 00500513 X | 2 | budget | 2 | -
 a plus before the budget | 00500513 00500513 00500513 X | +3 | budget | 3 | -
@@ -75,31 +66,18 @@ fault stale-code pc=80000008 value=8000000a | 8 | -
 a store of what was there | 00000297 05000313 00500513 00039a63 00100393 00629523 00000013 fedff06f X | 100 | \
 fault stale-code pc=80000008 value=8000000a | 8 | -
 a byte of the console | 100002b7 00028503 | 10 | fault load-access pc=80000004 value=10000000 | 1 | -
-a full console | 100002b7 0002a023 ffdff06f | 200000 | fault console-full pc=80000004 value=00000000 | 131073 | 0*131072
-the console but for a byte | 100002b7 0002a023 ffdff06f | 131070 | budget | 131070 | 0*131070
+a full console | 100002b7 0002a023 ffdff06f | 200000 | fault console-full pc=80000004 value=00000000 | 131073 | \
+131072 times 0
+the console but for a byte | 100002b7 0002a023 ffdff06f | 131070 | budget | 131070 | 131070 times 0
 one byte of the console | 100002b7 04100513 00a2a023 | 10 | fault illegal pc=8000000c value=00000000 | 3 | 41
-";
-
-#[test]
-fn runs_flat_images(rt: HostRuntime) -> Result<(), Fail> {
-    check(&rt, rt.alloc(), FLAT, FLAT_REPORT, FLAT_RUNS, 57)
-}
-
-/// The image of a line of these tables, whose path is read once.
-pub(crate) const ONE: &str = "all|one image --budget $2||image = $1";
-
-pub(crate) const ONE_REPORT: &str = "\
-0;image;|0||job 1 one
-end $3
-steps $4
-console $5
-signature -
-verdict none
-done 1
 ";
 
 // label | file | budget, and the input where there is some | ending | steps | console
 const ONE_RUNS: &str = "\
+32|1|rvfleet one image --budget $2||image = $1
+====
+0;image;|0||job 1 one/end $3/steps $4/console $5/signature -/verdict none/done 1/
+====
 exit | one | 10 | exit 5 | 2 | -
 no byte | one 0 | 3 | refused short-header | 0 | -
 a header cut | one 51 | 3 | refused short-header | 0 | -
@@ -132,29 +110,43 @@ echo to the end | code 100002b7 0002a503 00a2a023 0002a503 00a2a023 0002a503 X |
 exit 4294967295 | 7 | 4142
 bytes left | code 100002b7 0042a503 X | 100 --input-hex 4142 | exit 2 | 3 | -
 upper case digits | code 100002b7 0002a503 X | 100 --input-hex aF | exit 175 | 3 | -
+both cases of digits | code 100002b7 0002a503 00a2a023 0002a503 00a2a023 0002a503 X | 100 --input-hex 4fE0 | \
+exit 4294967295 | 7 | 4fe0
 ";
-
-#[test]
-fn runs_elf_images(rt: HostRuntime) -> Result<(), Fail> {
-    check(&rt, rt.alloc(), ONE, ONE_REPORT, ONE_RUNS, 31)
-}
-
-const FIRMWARE: &str = "end console|one image --budget 100000 --input-hex $1||image = $0";
 
 // firmware | input | ending | console; what the programs print is worked out from their source.
 const FIRMWARE_RUNS: &str = "\
+2|end console|rvfleet one image --budget 100000 --input-hex $1||image = $0
+====
+0 $2 $3 done 1
+====
 upper | 48692c207276333221 | exit 3 | 232048492c2052563332210a
 checksum | 313233343536373839 | exit 0 | 63626634333932360a
 ";
 
+// the file | how many are not found | the refusal
+const UNREAD_FILES: &str = "\
+2|1|rvfleet one image --budget 10||image = $0
+====
+$1;image;|0||job 1 one/end refused $2/steps 0/console -/signature -/verdict none/done 1/
+====
+none | 1 | image-unreadable
+bytes 00*16777217 | 0 | image-too-long
+";
+
+const NO_MEMORY: &str = "\
+1|1|rvfleet one image --budget 10||image = $0|no_memory=1
+====
+0;image;|3|rvfleet: out of memory/|
+====
+none
+";
+
 #[test]
-fn runs_example_firmware(rt: HostRuntime) -> Result<(), Fail> {
+fn runs_images(rt: HostRuntime) -> Result<(), Fail> {
     check(
         &rt,
         rt.alloc(),
-        FIRMWARE,
-        "0 $2 $3 done 1",
-        FIRMWARE_RUNS,
-        2,
+        &[FLAT_RUNS, ONE_RUNS, FIRMWARE_RUNS, UNREAD_FILES, NO_MEMORY],
     )
 }

@@ -2,9 +2,9 @@
 
 ghost use Rattle.std.specs.Prelude.{Some};
 
-use crate::testing::{MemorySink, answer};
+use crate::testing::told_over;
 use rv_jobs::{ReadError, Store};
-use samples::ONE_SEGMENT;
+use samples::{ONE_SEGMENT, agree};
 use std::alloc::Global;
 use std::sync::Wait;
 use std::test::Fail;
@@ -33,34 +33,48 @@ impl<'a> Store for KnownStore<'a> {
     }
 }
 
-const LIST: &str = "[[job]]\nname = 'j'\nimage = 'i'\nbudget = 3\n";
+const IMAGE_REPORT: &str = "\
+1 0 0 0|0;|0||job 1 one
+end exit 5
+steps 2
+console -
+signature -
+verdict none
+done 1
+";
 
-fn answers<R: Threads + Wait>(
-    rt: &R,
+const LIST: &[u8] = b"[[job]]\nname = 'j'\nimage = 'i'\nbudget = 3\n";
+
+// The list is no image.
+const LIST_REPORT: &str = "\
+1 0 0 0|0;|0||job 1 j
+end refused short-header
+steps 0
+console -
+signature -
+verdict none
+done 1
+";
+
+fn answers(
+    rt: &(impl Threads + Wait),
     alloc: Global,
     line: &str,
     bytes: &[u8],
-    end: &str,
-) -> Result<bool, Fail> {
-    let mut store = KnownStore { bytes };
-    let mut input: &[u8] = &[];
-    let mut out = MemorySink::new(alloc);
-    let text = answer(rt, alloc, line, &mut store, &mut input, &mut out)?;
-    Ok(text.starts_with("0||") && text.contains(end))
+    wanted: &str,
+) -> Result<(), Fail> {
+    let told = told_over(rt, alloc, line, &mut KnownStore { bytes })?;
+    agree(line, told.as_str(), wanted)
 }
 
 #[test]
 fn files_are_known(rt: HostRuntime) -> Result<(), Fail> {
-    let alloc = rt.alloc();
-    assert!(&rt; answers(&rt, alloc, "one i --budget 3", &ONE_SEGMENT, "end exit 5")?);
-    assert!(&rt;
-        answers(
-            &rt,
-            alloc,
-            "run jobs",
-            LIST.as_bytes(),
-            "end refused short-header"
-        )?
-    );
-    Ok(())
+    answers(
+        &rt,
+        rt.alloc(),
+        "rvfleet one i --budget 3",
+        &ONE_SEGMENT,
+        IMAGE_REPORT,
+    )?;
+    answers(&rt, rt.alloc(), "rvfleet run jobs", LIST, LIST_REPORT)
 }

@@ -7,11 +7,9 @@ mod cases;
 #[cfg(test)]
 mod expectation_tests;
 #[cfg(test)]
-mod failing_tests;
-#[cfg(test)]
-mod file_sink_tests;
-#[cfg(test)]
 mod file_tests;
+#[cfg(test)]
+mod forms;
 #[cfg(test)]
 mod hostile_tests;
 #[cfg(test)]

@@ -3,22 +3,12 @@
 use crate::cases::check;
 use std::test::Fail;
 
-/// The list of one job by a line of these tables.
-pub(crate) const JOB: &str = "\
-answer|run jobs|job = [{name = 'a.b-c_9', image = 'image', budget = $2, $3}]|image = $1";
-
-pub(crate) const JOB_REPORT: &str = "\
-0||job 1 a.b-c_9
-end $4
-steps $5
-console -
-signature $6
-verdict none
-done 1
-";
-
-// label | file | budget | other keys, ` S` for the signature's names | ending | steps | signature
+// label | file | budget | other keys | ending | steps | signature
 const JOB_RUNS: &str = "\
+47|2|rvfleet run jobs|job = [{name = 'a.b-c_9', image = 'image', budget = $2, $3}]|image = $1
+====
+0||job 1 a.b-c_9/end $4/steps $5/console -/signature $6/verdict none/done 1/
+====
 load physical | two | 10 | load = 'physical' | exit 0 | 3 | -
 load absent | two | 10 |  | exit 0 | 3 | -
 load virtual | two | 10 | load = 'virtual' | exit 42 | 3 | -
@@ -32,12 +22,12 @@ four regions | one | 10 | region = [{base = 0, size = 4}, {base = 8, size = 4}, 
 {base = 0x80000000, size = 12}] | exit 5 | 2 | -
 script as text | code 100002b7 0042a503 X | 100 | input = 'AB' | exit 2 | 3 | -
 script as digits | code 100002b7 0002a503 X | 100 | input_hex = 'aF' | exit 175 | 3 | -
-signature | sign | 100 | S | exit 0 | 9 | 2/80000000/ffffffff
+signature | sign | 100 | $S | exit 0 | 9 | 2/80000000/ffffffff
 empty signature | sign | 100 | signature = ['end_signature', 'end_signature'] | exit 0 | 9 | 0
-signature of the last state | sign | 5 | S | budget | 5 | 2/80000000/00000000
-signature before the stores | sign | 4 | S | budget | 4 | 2/00000000/00000000
+signature of the last state | sign | 5 | $S | budget | 5 | 2/80000000/00000000
+signature before the stores | sign | 4 | $S | budget | 4 | 2/00000000/00000000
 names exchanged | sign | 100 | signature = ['end_signature', 'begin_signature'] | refused signature-range | 0 | -
-no sections | one | 100 | S | refused section-table | 0 | -
+no sections | one | 100 | $S | refused section-table | 0 | -
 first name missing | sign | 100 | signature = ['begin', 'end'] | refused no-begin | 0 | -
 second name missing | sign | 100 | signature = ['begin_signature', 'end'] | refused no-end | 0 | -
 no file | none | 10 |  | refused image-unreadable | 0 | -
@@ -90,16 +80,12 @@ jump to the second stored word, refused | code 00000297 0002a723 0080006f 000000
 fault store-misaligned pc=80000004 value=8000000e | 1 | -
 ";
 
-#[test]
-fn runs_jobs(rt: HostRuntime) -> Result<(), Fail> {
-    check(&rt, rt.alloc(), JOB, JOB_REPORT, JOB_RUNS, 47)
-}
-
-/// What is told of a list that is refused: no file of its jobs is read.
-pub(crate) const REFUSED: &str = "0;jobs;|2|rvfleet: $1\n|";
-
-// list, `/` for the end of a line | what is told of it
+// list, `/` for the end of a line | what is told of it: no file of its jobs is read
 const REFUSED_LISTS: &str = "\
+33|1|rvfleet run jobs|$0
+====
+0;jobs;|2|rvfleet: $1/|
+====
 x = 1 | job 0: no-jobs
  | job 0: no-jobs
 job = [] | job 0: no-jobs
@@ -135,27 +121,20 @@ x = 1/[[job]]/name = 'a'/image = 'b'/budget = 3 | job 0: unknown-key
 [[job]]/name = 'a'/image = 'b'/budget = 3/misaligned = true | job 1: wrong-type
 ";
 
-#[test]
-fn refuses_lists(rt: HostRuntime) -> Result<(), Fail> {
-    let alloc = rt.alloc();
-    check(&rt, alloc, "all|run jobs|$0", REFUSED, REFUSED_LISTS, 33)?;
-    let no_text = "6a ff | job 0: not-toml";
-    check(
-        &rt,
-        alloc,
-        "all|run jobs||jobs = bytes $0",
-        REFUSED,
-        no_text,
-        1,
-    )
-}
-
-// The first line, so many jobs of one image and budget 10 behind it, and what stands behind them.
-const LONG: &str = "\
-all|run jobs|$0 + $2 times [[job]]/name = '%'/image = 'image'/budget = 10/ + $3";
+const NO_TEXT: &str = "\
+1|1|rvfleet run jobs||jobs = bytes $0
+====
+0;jobs;|2|rvfleet: $1/|
+====
+6a ff | job 0: not-toml
+";
 
 // the first line | what is told | the number of good jobs | what stands behind them
 const LONG_LISTS: &str = "\
+5|1|rvfleet run jobs|$0 + $2 times [[job]]/name = '%'/image = 'image'/budget = 10/ + $3
+====
+0;jobs;|2|rvfleet: $1/|
+====
  | job 0: too-many | 4097 |
 x = 1/ | job 0: too-many | 4097 |
  | job 10: budget | 9 | [[job]]/name = 'last'/image = 'image'/budget = 0/
@@ -163,47 +142,53 @@ x = 1/ | job 0: too-many | 4097 |
  | job 4096: budget | 4095 | [[job]]/name = 'last'/image = 'image'/budget = 0/
 ";
 
-#[test]
-fn counts_jobs_and_numbers_the_refused_one(rt: HostRuntime) -> Result<(), Fail> {
-    check(&rt, rt.alloc(), LONG, REFUSED, LONG_LISTS, 5)
-}
-
-// A list of 4,096 jobs of an image that is cut.
-const LONGEST: &str = "\
-all|$_|4096 times [[job]]/name = '%'/image = 'image'/budget = 10/|image = one 51";
-
-// Each is refused, and the image is read once.
-const REFUSED_EACH: &str = "\
-0;jobs;image;|0|| + \
-4096 times job % %/end refused short-header/steps 0/console -/signature -/verdict none/ + \
-done 4096/";
-
-const WORDS: &str = "\
-run jobs --workers 64 --group 1
-run jobs --workers 64 --group 4096
-";
-
-#[test]
-fn runs_the_longest_list(rt: HostRuntime) -> Result<(), Fail> {
-    check(&rt, rt.alloc(), LONGEST, REFUSED_EACH, WORDS, 2)
-}
-
-// What the list is | the files that are not found | what is told
+// The list is read through the store too: what it is | the files that are not found | what is told
 const UNREAD_LISTS: &str = "\
+2|1|rvfleet run jobs||jobs = $0
+====
+$1;jobs;|3|rvfleet: $2/|
+====
 none | 1 | list unreadable
 bytes 20*16777217 | 0 | list too long
 ";
 
-// The list is read through the store too.
+// A row that has all that a row may have: keys | the status | the signature | the verdict. The image prints 41, 00
+// and ff.
+const FULL_ROWS: &str = "\
+2|2|rvfleet run jobs|job = [{name = 'a.b_c-d', image = 'i', budget = 100, $0}]|i = sign 84=100002b7 88=04100513 \
+92=00a2a023 \
+96=0002a023 100=0ff00513 104=00a2a023 108=00000013 116=00500513 124=80000000 128=0000001f
+====
+$1||job 1 a.b_c-d/end exit 5/steps 9/console 4100ff/signature $2/verdict $3/done 1/
+====
+signature = ['end_signature', 'end_signature'], expect_exit = 5 | 0 | 0 | pass
+$S, expect_exit = 6 | 1 | 2/80000000/0000001f | fail
+";
+
+// A list of 4,096 jobs of an image that is cut, which is read once. The rows go out together, some 32,768 bytes a put.
+const LONGEST_LIST: &str = "\
+2|0|$_| + 4096 times [[job]]/name = '%'/image = 'image'/budget = 10/ + |image = one 51
+====
+11 0 0 0|0;jobs;image;|0|| + 4096 times job % %/end refused short-header/steps 0/console -/signature -/verdict none/ \
++ done 4096/
+====
+rvfleet run jobs --workers 64 --group 1
+rvfleet run jobs --workers 64 --group 4096
+";
+
 #[test]
-fn reads_the_list(rt: HostRuntime) -> Result<(), Fail> {
-    let unread = "$1;jobs;|3|rvfleet: $2\n|";
+fn runs_lists(rt: HostRuntime) -> Result<(), Fail> {
     check(
         &rt,
         rt.alloc(),
-        "all|run jobs||jobs = $0",
-        unread,
-        UNREAD_LISTS,
-        2,
+        &[
+            JOB_RUNS,
+            FULL_ROWS,
+            REFUSED_LISTS,
+            NO_TEXT,
+            LONG_LISTS,
+            UNREAD_LISTS,
+            LONGEST_LIST,
+        ],
     )
 }

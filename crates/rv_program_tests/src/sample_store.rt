@@ -2,60 +2,46 @@
 
 ghost use Rattle.std.specs.Prelude.{None};
 
-use crate::testing::{MemorySink, answer};
+use crate::forms::part;
+use crate::testing::number;
 use rv_jobs::{ReadError, Store};
 use samples::{BadSample, CHECKSUM, UPPER, file, file_bytes, numbers};
 use std::alloc::Global;
-use std::io::Read;
-use std::sync::Wait;
-use std::test::Fail;
-use std::thread::Threads;
 
-/// A store that makes each file when it is read. A line of `files`, as `image = one 51`, tells what stands at a path;
-/// where none does, the list stands at `jobs`, and another path tells it itself: `bytes` and numbers, `upper` or
-/// `checksum` for the example firmware, or an image by a line of words. What stands behind a `#` tells nothing. Nothing
-/// is at `missing`, and `long` is too long.
+/// A store that makes each file of a case when it is read. A line of its files, as `image = one 51`, tells what
+/// stands at a path; where none does, the list stands at `jobs`, and another path tells it itself: `bytes` and
+/// numbers, `upper` or `checksum` for the example firmware, or an image by a line of words. What stands behind a `#`
+/// tells nothing. Nothing is at `missing`, and `long` is too long.
 #[derive(Drop)]
 pub(crate) struct SampleStore<'a> {
-    list: &'a [u8],
-    files: &'a str,
+    case: &'a str,
     /// The paths that were read, each with a semicolon behind it.
-    log: String,
-    reads: u64,
-    faults: u64,
-    // The numbers of the read that finds no file and of that which has no memory, from 1.
-    fails_at: u64,
-    wants_at: u64,
+    pub(crate) log: String,
+    reads: usize,
+    pub(crate) faults: u64,
 }
 
 impl<'a> SampleStore<'a> {
-    /// A store of a list and files, and the numbers of the reads that find no file and no memory.
-    pub(crate) fn failing(
-        alloc: Global,
-        list: &'a [u8],
-        files: &'a str,
-        (fails_at, wants_at): (u64, u64),
-    ) -> SampleStore<'a> {
+    pub(crate) fn new(alloc: Global, case: &'a str) -> SampleStore<'a> {
         SampleStore {
-            list,
-            files,
+            case,
             log: String::new(alloc),
             reads: 0,
             faults: 0,
-            fails_at,
-            wants_at,
         }
     }
 
+    // What stands at a path, where this read is none of those that fail.
     fn bytes(&self, alloc: Global, path: &str) -> Result<Vec<u8>, BadSample> {
-        if self.reads == self.wants_at {
+        let faults = part(self.case, 5);
+        if self.reads == number(faults, "no_memory=") {
             return Err(BadSample::OutOfMemory);
         }
-        if self.reads == self.fails_at {
+        if self.reads == number(faults, "no_file=") {
             return Err(BadSample::Name);
         }
-        match sample_at(self.files, path) {
-            "jobs" => Ok(self.list.to_vec(alloc)?),
+        match sample_at(part(self.case, 4), path) {
+            "jobs" => Ok(part(self.case, 3).as_bytes().to_vec(alloc)?),
             sample => bytes_of(alloc, sample),
         }
     }
@@ -68,16 +54,13 @@ fn sample_at<'a>(files: &'a str, path: &'a str) -> &'a str {
             return sample;
         }
     }
-    path.split_once('#').unwrap_or((path, "")).0
+    path.split('#').next().unwrap_or("")
 }
-
-const ONE_TOO_MANY: usize = 16_777_217;
 
 fn bytes_of(alloc: Global, sample: &str) -> Result<Vec<u8>, BadSample> {
     let (kind, text) = sample.split_once(' ').unwrap_or((sample, ""));
     match kind {
-        "long" => Ok(vec![in alloc; 0x30; ONE_TOO_MANY]?),
-        "bytes" if text.is_empty() => Ok(Vec::new(alloc)),
+        "long" => Ok(vec![in alloc; 0x30; 16_777_217]?),
         "bytes" => numbers(alloc, text),
         "upper" => file_bytes(alloc, UPPER),
         "checksum" => file_bytes(alloc, CHECKSUM),
@@ -109,20 +92,4 @@ impl<'a> Store for SampleStore<'a> {
     fn faults(&self) -> u64 {
         self.faults
     }
-}
-
-/// The puts into the sink and its failures, a bar, the number of faults and the paths that are read, each with a
-/// semicolon behind it, a bar, and the program's answer.
-pub(crate) fn told<I: Read>(
-    rt: &(impl Threads + Wait),
-    alloc: Global,
-    words: &str,
-    store: &mut SampleStore<'_>,
-    input: &mut I,
-    out: &mut MemorySink,
-) -> Result<String, Fail> {
-    let text = answer(rt, alloc, words, store, input, out)?;
-    let (puts, failures) = (out.puts, out.failures);
-    let (faults, paths) = (store.faults, store.log.as_str());
-    Ok(format!(in alloc; "{puts} {failures}|{faults};{paths}|{text}")?)
 }

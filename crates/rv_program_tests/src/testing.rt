@@ -11,33 +11,38 @@ use std::sync::Wait;
 use std::test::Fail;
 use std::thread::Threads;
 
-/// A sink over memory, which takes so many bytes a put, and may fail at one put, counted from 1.
+/// A number that is given to a name in a text of words, as 3 to `put_most=`; else the greatest.
+pub(crate) fn number(faults: &str, name: &str) -> usize {
+    let (_, rest) = faults.split_once(name).unwrap_or(("", ""));
+    let number = rest.split(' ').next().unwrap_or("");
+    number.parse::<usize>().unwrap_or(usize::MAX)
+}
+
+/// A sink over memory, which takes so many bytes a put, and fails once, behind so many puts that went well.
 #[derive(Drop)]
 pub(crate) struct MemorySink {
     bytes: Vec<u8>,
     most: usize,
-    pub(crate) puts: u64,
-    fails_at: u64,
-    pub(crate) failures: u64,
+    fails_behind: usize,
+    puts: usize,
+    failures: u64,
 }
 
 impl MemorySink {
-    pub(crate) fn new(alloc: Global) -> MemorySink {
-        MemorySink::failing(alloc, usize::MAX, 0)
-    }
-
-    pub(crate) fn failing(alloc: Global, most: usize, fails_at: u64) -> MemorySink {
+    pub(crate) fn new(alloc: Global, most: usize, fails_behind: usize) -> MemorySink {
         MemorySink {
             bytes: Vec::new(alloc),
             most,
+            fails_behind,
             puts: 0,
-            fails_at,
             failures: 0,
         }
     }
 
-    pub(crate) fn text(&self) -> Result<&str, Fail> {
-        Ok(std::str::from_utf8(self.bytes.as_slice())?)
+    /// The sink's text, and how many puts went well and failed.
+    pub(crate) fn taken(&self) -> Result<(&str, usize, u64), Fail> {
+        let text = std::str::from_utf8(self.bytes.as_slice())?;
+        Ok((text, self.puts, self.failures))
     }
 }
 
@@ -47,9 +52,10 @@ impl Sink for MemorySink {
     ghost failed = { λ sink. sink.failures };
 
     fn put(&mut self, bytes: &[u8]) -> Result<usize, SinkFailed> {
-        self.puts = self.puts.saturating_add(1);
         let count = bytes.len().min(self.most.max(1));
-        if self.puts != self.fails_at && self.bytes.extend_from_slice(&bytes[..count]).is_ok() {
+        let fails = self.puts == self.fails_behind && self.failures == 0;
+        if !fails && self.bytes.extend_from_slice(&bytes[..count]).is_ok() {
+            self.puts = self.puts.saturating_add(1);
             return Ok(count);
         }
         self.failures = self.failures.saturating_add(1);
@@ -61,12 +67,12 @@ impl Sink for MemorySink {
     }
 }
 
-/// A reader that gives so many bytes a read at most, and fails at its end where it is told to.
+// A reader that gives so many bytes a read at most, and fails at its end where it is told to.
 #[derive(Drop)]
-pub(crate) struct MemoryReader<'a> {
-    pub(crate) bytes: &'a [u8],
-    pub(crate) most: usize,
-    pub(crate) fails: bool,
+struct MemoryReader<'a> {
+    bytes: &'a [u8],
+    most: usize,
+    fails: bool,
 }
 
 impl<'a> Read for MemoryReader<'a> {
@@ -82,56 +88,76 @@ impl<'a> Read for MemoryReader<'a> {
     }
 }
 
-/// A cell of a line of a table, from 0, without the spaces around it.
-pub(crate) fn cell(line: &str, place: usize) -> &str {
-    line.split('|').nth(place).unwrap_or("").trim()
+/// The streams of a run.
+#[derive(Drop)]
+pub(crate) struct Streams<'a> {
+    input: MemoryReader<'a>,
+    out: MemorySink,
+    errors: MemorySink,
 }
 
-/// The program's status for its words.
-pub(crate) fn status_of<S: Store, I: Read>(
-    rt: &(impl Threads + Wait),
-    alloc: Global,
-    words: &[&str],
-    store: &mut S,
-    input: &mut I,
-    out: &mut MemorySink,
-    errors: &mut MemorySink,
-) -> u8 {
-    run_words(rt, alloc, words, store, input, out, errors, &FreeGate)
+impl<'a> Streams<'a> {
+    /// Streams of which the input has these bytes, and which fail as this says.
+    pub(crate) fn new(alloc: Global, faults: &str, bytes: &'a [u8]) -> Streams<'a> {
+        Streams {
+            input: MemoryReader {
+                bytes,
+                most: number(faults, "read_most="),
+                fails: faults.contains("read_fails"),
+            },
+            out: MemorySink::new(alloc, number(faults, "put_most="), number(faults, "puts=")),
+            errors: MemorySink::new(alloc, 10, number(faults, "line=")),
+        }
+    }
+
+    /// The program's status for the words of a command line, of which the first is the program's name.
+    pub(crate) fn run<S: Store>(
+        &mut self,
+        rt: &(impl Threads + Wait),
+        alloc: Global,
+        line: &str,
+        store: &mut S,
+    ) -> Result<u8, AllocError> {
+        let words = words_of(alloc, line)?;
+        let (input, out, errors) = (&mut self.input, &mut self.out, &mut self.errors);
+        Ok(run_words(rt, alloc, &words, store, input, out, errors, &FreeGate))
+    }
+
+    /// How many puts went well, how many failed, how many failed of the line on errors, and how many bytes of the
+    /// input are left; a bar; the number of files that were not found, a semicolon, and the paths that were read; a
+    /// bar; the status; a bar; what was told; a bar; and what went out.
+    pub(crate) fn told(
+        &self,
+        alloc: Global,
+        faults: u64,
+        paths: &str,
+        status: u8,
+    ) -> Result<String, Fail> {
+        let (out, puts, failures) = self.out.taken()?;
+        let (errors, _, lines) = self.errors.taken()?;
+        let left = self.input.bytes.len();
+        Ok(format!(in alloc;
+            "{puts} {failures} {lines} {left}|{faults};{paths}|{status}|{errors}|{out}"
+        )?)
+    }
 }
 
-// The words of a command line, and the program's name before them.
 fn words_of(alloc: Global, line: &str) -> Result<Vec<&str>, AllocError> {
     let mut words = Vec::new(alloc);
-    words.push("rvfleet")?;
     for word in line.split(' ') {
         words.push(word)?;
     }
     Ok(words)
 }
 
-fn text_of(
-    alloc: Global,
-    status: u8,
-    out: &MemorySink,
-    errors: &MemorySink,
-) -> Result<String, Fail> {
-    let (out, errors) = (out.text()?, errors.text()?);
-    Ok(format!(in alloc; "{status}|{errors}|{out}")?)
-}
-
-/// The program's answer to the words of a command line, without its name: the status, a bar, what it told, a bar, and
-/// what went to the sink.
-pub(crate) fn answer<S: Store, I: Read>(
+/// What is told of a run over a store that notes no path, without input.
+pub(crate) fn told_over<S: Store>(
     rt: &(impl Threads + Wait),
     alloc: Global,
     line: &str,
     store: &mut S,
-    input: &mut I,
-    out: &mut MemorySink,
 ) -> Result<String, Fail> {
-    let words = words_of(alloc, line)?;
-    let mut errors = MemorySink::new(alloc);
-    let status = status_of(rt, alloc, &words, store, input, out, &mut errors);
-    text_of(alloc, status, out, &errors)
+    let mut streams = Streams::new(alloc, "", &[]);
+    let status = streams.run(rt, alloc, line, store)?;
+    streams.told(alloc, store.faults(), "", status)
 }

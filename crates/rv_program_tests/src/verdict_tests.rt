@@ -3,10 +3,9 @@
 use crate::cases::check;
 use std::test::Fail;
 
-// Jobs by the files that they name: `lines` holds the signature, and `long` is too long.
-const VERDICT: &str = "\
-verdict|run jobs --workers 2|job = [$1]|
-a.elf = one
+// label | jobs | the status and the verdicts. `lines` holds the signature.
+const VERDICTS: &str = "\
+24|verdict|rvfleet run jobs --workers 2|job = [$1]|a.elf = one
 f.elf = code 9002
 cut.elf = one 51
 s.elf = sign
@@ -19,19 +18,18 @@ late break = code 0001 9002
 illegal = code 0000
 put A = code 100002b7 04100513 00a2a023 00000513 X
 put B = code 100002b7 04200513 00a2a023 00000513 X
-";
-
-// label | jobs, ` S` for the signature's names | the status and the verdicts
-const VERDICTS: &str = "\
-reference | {name = '0', image = 's.elf', budget = 100, S, expect_signature = 'lines'} | 0 pass done 1
-reference without its last line feed | {name = '0', image = 's.elf', budget = 100, S, \
+====
+$2
+====
+reference | {name = '0', image = 's.elf', budget = 100, $S, expect_signature = 'lines'} | 0 pass done 1
+reference without its last line feed | {name = '0', image = 's.elf', budget = 100, $S, \
 expect_signature = 'cut lines'} | 1 fail done 1
-another word | {name = '0', image = 's.elf', budget = 5, S, expect_signature = 'lines'} | 1 fail done 1
-no reference | {name = '0', image = 's.elf', budget = 100, S, expect_signature = 'none', expect_exit = 0} | \
+another word | {name = '0', image = 's.elf', budget = 5, $S, expect_signature = 'lines'} | 1 fail done 1
+no reference | {name = '0', image = 's.elf', budget = 100, $S, expect_signature = 'none', expect_exit = 0} | \
 1 fail done 1
 no lines | {name = '0', image = 's.elf', budget = 100, signature = ['end_signature', 'end_signature'], \
 expect_signature = 'empty'} | 0 pass done 1
-refused, and an empty reference | {name = '0', image = 'cut.elf', budget = 100, S, expect_signature = 'empty'} | \
+refused, and an empty reference | {name = '0', image = 'cut.elf', budget = 100, $S, expect_signature = 'empty'} | \
 1 fail done 1
 two refused alike | {name = '0', image = 'cut.elf', budget = 3}, {name = '1', image = 'cut.elf', budget = 3, \
 same_as = '0'} | 1 none fail done 2
@@ -49,8 +47,8 @@ consoles | {name = '0', image = 'put A', budget = 9}, {name = '1', image = 'put 
 1 none fail done 2
 equal consoles | {name = '0', image = 'put A', budget = 9}, {name = '1', image = 'put A', budget = 8, \
 same_as = '0'} | 0 none pass done 2
-as a job whose reference is missing | {name = '0', image = 's.elf', budget = 100, S, expect_signature = 'none'}, \
-{name = '1', image = 's.elf', budget = 100, S, same_as = '0'} | 1 fail fail done 2
+as a job whose reference is missing | {name = '0', image = 's.elf', budget = 100, $S, expect_signature = 'none'}, \
+{name = '1', image = 's.elf', budget = 100, $S, same_as = '0'} | 1 fail fail done 2
 without a signature, and an empty one | {name = '0', image = 's.elf', budget = 100}, {name = '1', image = 's.elf', \
 budget = 100, signature = ['end_signature', 'end_signature'], same_as = '0'} | 1 none fail done 2
 the outcome, and not the verdict | {name = '0', image = 'a.elf', budget = 3, expect_exit = 6}, {name = '1', \
@@ -58,81 +56,22 @@ image = 'a.elf', budget = 3, same_as = '0'} | 1 fail pass done 2
 exit code | {name = '0', image = 'a.elf', budget = 3, expect_exit = 5} | 0 pass done 1
 no exit | {name = '0', image = 'a.elf', budget = 2, expect_exit = 5} | 1 fail done 1
 the greatest exit code | {name = '0', image = 'greatest', budget = 3, expect_exit = 4294967295} | 0 pass done 1
-all three | {name = '0', image = 's.elf', budget = 100, S}, {name = '1', image = 's.elf', budget = 100, S, \
+all three | {name = '0', image = 's.elf', budget = 100, $S}, {name = '1', image = 's.elf', budget = 100, $S, \
 expect_exit = 0, expect_signature = 'lines', same_as = '0'} | 0 none pass done 2
-all three but the exit | {name = '0', image = 's.elf', budget = 100, S}, {name = '1', image = 's.elf', budget = 100, \
-S, expect_exit = 1, expect_signature = 'lines', same_as = '0'} | 1 none fail done 2
-all three but the reference | {name = '0', image = 's.elf', budget = 100, S}, {name = '1', image = 's.elf', \
-budget = 100, S, expect_exit = 0, expect_signature = 'cut lines', same_as = '0'} | 1 none fail done 2
-all three but the other job | {name = '0', image = 's.elf', budget = 5, S}, {name = '1', image = 's.elf', \
-budget = 100, S, expect_exit = 0, expect_signature = 'lines', same_as = '0'} | 1 none fail done 2
+all three but the exit | {name = '0', image = 's.elf', budget = 100, $S}, {name = '1', image = 's.elf', budget = 100, \
+$S, expect_exit = 1, expect_signature = 'lines', same_as = '0'} | 1 none fail done 2
+all three but the reference | {name = '0', image = 's.elf', budget = 100, $S}, {name = '1', image = 's.elf', \
+budget = 100, $S, expect_exit = 0, expect_signature = 'cut lines', same_as = '0'} | 1 none fail done 2
+all three but the other job | {name = '0', image = 's.elf', budget = 5, $S}, {name = '1', image = 's.elf', \
+budget = 100, $S, expect_exit = 0, expect_signature = 'lines', same_as = '0'} | 1 none fail done 2
 ";
 
-#[test]
-fn judges_outcomes(rt: HostRuntime) -> Result<(), Fail> {
-    check(&rt, rt.alloc(), VERDICT, "$2", VERDICTS, 24)
-}
-
-// Jobs that name others: `falls` and `zeros` print 65,536 bytes, each less by one than the one before, or all zero.
-const NAMING: &str = "\
-verdict|run jobs --workers 2 --group $3|job = [$1]|
-falls = code 100002b7 00010337 0062a023 fff30313 fe031ce3 X
-zeros = code 100002b7 00010337 0002a023 fff30313 fe031ce3 X
-";
-
-// label | jobs | the status and the verdicts
-const NAMED: &str = "\
-named by many | {name = '0', image = 'one', budget = 3}, {name = '1', image = 'one', budget = 4, same_as = '0'}, \
-{name = '2', image = 'one', budget = 2, same_as = '0'}, {name = '3', image = 'one', budget = 3, same_as = '0'} | 1 \
-none pass fail pass done 4
-each the one before | {name = '0', image = 'one', budget = 3}, {name = '1', image = 'one', budget = 3, same_as = \
-'0'}, {name = '2', image = 'one', budget = 2, same_as = '1'}, {name = '3', image = 'one', budget = 1, same_as = \
-'2'}, {name = '4', image = 'one', budget = 3, same_as = '3'} | 1 none pass fail pass fail done 5
-two by turns | {name = '0', image = 'one', budget = 3}, {name = '1', image = 'one', budget = 1}, {name = '2', \
-image = 'one', budget = 3, same_as = '0'}, {name = '3', image = 'one', budget = 1, same_as = '1'}, {name = '4', \
-image = 'one', budget = 1, same_as = '0'}, {name = '5', image = 'one', budget = 3, same_as = '1'} | 1 none none \
-pass pass fail fail done 6
-refused | {name = '0', image = 'one 83', budget = 3}, {name = '1', image = 'one 83', budget = 3, same_as = '0'}, \
-{name = '2', image = 'one', budget = 3, same_as = '0'}, {name = '3', image = 'one', budget = 3, same_as = '2'} | 1 \
-none fail fail pass done 4
-full consoles | {name = '0', image = 'falls', budget = 200000}, {name = '1', image = 'falls', budget = 200000, \
-same_as = '0'}, {name = '2', image = 'zeros', budget = 200000, same_as = '0'}, {name = '3', image = 'falls', \
-budget = 200000, same_as = '0'} | 1 none pass fail pass done 4
-more than are kept | {name = '0', image = 'one', budget = 3}, {name = '1', image = 'one', budget = 1}, {name = \
-'2', image = 'one', budget = 3, same_as = '0'}, {name = '3', image = 'one', budget = 3, same_as = '2'}, {name = \
-'4', image = 'one', budget = 3, same_as = '3'}, {name = '5', image = 'one', budget = 3, same_as = '4'}, {name = \
-'6', image = 'one', budget = 3, same_as = '5'}, {name = '7', image = 'one', budget = 3, same_as = '6'}, {name = \
-'8', image = 'one', budget = 3, same_as = '7'}, {name = '9', image = 'one', budget = 3, same_as = '8'}, {name = \
-'10', image = 'one', budget = 3, same_as = '9'}, {name = '11', image = 'one', budget = 1, same_as = '0'}, {name = \
-'12', image = 'one', budget = 1, same_as = '1'} | 1 none none pass pass pass pass pass pass pass pass pass fail \
-pass done 13
-";
-
-#[test]
-fn judges_jobs_that_name_others(rt: HostRuntime) -> Result<(), Fail> {
-    let alloc = rt.alloc();
-    for group in ["1", "2", "4096"] {
-        let naming = NAMING.replace(alloc, "$3", group)?;
-        check(&rt, alloc, naming.as_str(), "$2", NAMED, 6)?;
-    }
-    Ok(())
-}
-
-// Jobs by the files that they name; the list is told in full.
-const TOLD: &str = "\
-all|run jobs|job = [$_]|
-s.elf = sign
-cut.elf = one 51
-";
-
-const TWO: &str = "\
-{name = '0', image = 's.elf', budget = 9, S, expect_signature = 'none'}, \
-{name = '1', image = 'cut.elf', budget = 9, S, expect_signature = 'long'}";
-
-const ONE: &str = "\
-{name = '0', image = 's.elf', budget = 100, S, expect_signature = 'none', expect_exit = 0}";
-
+// The refusal of a job whose reference was not read comes before its image is looked at. The exit code that the last
+// job expects is the one that its image would have, if it was run.
 const TWO_REFUSED: &str = "\
+1|1|rvfleet run jobs|job = [$_]|s.elf = sign
+cut.elf = one 51
+====
 1;jobs;s.elf;none;cut.elf;long;|1||job 1 0
 end refused reference-unreadable
 steps 0
@@ -145,23 +84,161 @@ steps 0
 console -
 signature -
 verdict fail
-done 2
+done 2/
+====
+{name = '0', image = 's.elf', budget = 9, $S, expect_signature = 'none'}, \
+{name = '1', image = 'cut.elf', budget = 9, $S, expect_signature = 'long'}
 ";
 
 const ONE_REFUSED: &str = "\
+1|1|rvfleet run jobs|job = [$_]|s.elf = sign
+cut.elf = one 51
+====
 1;jobs;s.elf;none;|1||job 1 0
 end refused reference-unreadable
 steps 0
 console -
 signature -
 verdict fail
-done 1
+done 1/
+====
+{name = '0', image = 's.elf', budget = 100, $S, expect_signature = 'none', expect_exit = 0}
 ";
 
-// The refusal of a job whose reference was not read comes before its image is looked at. The exit code that the last
-// job expects is the one that its image would have, if it was run.
+// Each kind of fault behind an instruction more, and all kinds as jobs that name it: its name | its image | a key |
+// verdicts
+const KINDS: &str = "\
+11|verdict|rvfleet run jobs|job = [{name = '0', image = '$1', budget = 300000$2}, \
+{name = 'fetch-access', image = 'code ffdff06f', budget = 200000, same_as = '0'}, \
+{name = 'stale-code', image = 'code 00000297 0002a423 00000013', budget = 200000, same_as = '0'}, \
+{name = 'illegal', image = 'code 0000', budget = 200000, same_as = '0'}, \
+{name = 'breakpoint', image = 'code 9002', budget = 200000, same_as = '0'}, \
+{name = 'load-misaligned', image = 'code 00000297 0022a503', budget = 200000, same_as = '0'}, \
+{name = 'load-access', image = 'code 00002003', budget = 200000, same_as = '0'}, \
+{name = 'store-misaligned', image = 'code 00000297 0002a0a3', budget = 200000, same_as = '0'}, \
+{name = 'store-access', image = 'code 00002023', budget = 200000, same_as = '0'}, \
+{name = 'console-full', image = 'code 100002b7 0002a023 ffdff06f', budget = 200000, same_as = '0'}, \
+{name = 'unknown-call', image = 'code 04000893 00000073', budget = 200000, same_as = '0'}, \
+{name = 'fetch-misaligned', image = 'code 0020006f', budget = 200000, isa = 'rv32im', same_as = '0'}]
+====
+1 none $3 done 12
+====
+fetch-access | code 00000013 ff9ff06f |  | pass fail fail fail fail fail fail fail fail fail fail
+stale-code | code 00000013 00000297 0002a423 00000013 |  | fail pass fail fail fail fail fail fail fail fail fail
+illegal | code 00000013 0000 |  | fail fail pass fail fail fail fail fail fail fail fail
+breakpoint | code 00000013 9002 |  | fail fail fail pass fail fail fail fail fail fail fail
+load-misaligned | code 00000013 00000297 0022a503 |  | fail fail fail fail pass fail fail fail fail fail fail
+load-access | code 00000013 00002003 |  | fail fail fail fail fail pass fail fail fail fail fail
+store-misaligned | code 00000013 00000297 0002a0a3 |  | fail fail fail fail fail fail pass fail fail fail fail
+store-access | code 00000013 00002023 |  | fail fail fail fail fail fail fail pass fail fail fail
+console-full | code 00000013 100002b7 0002a023 ffdff06f |  | fail fail fail fail fail fail fail fail pass fail fail
+unknown-call | code 00000013 04000893 00000073 |  | fail fail fail fail fail fail fail fail fail pass fail
+fetch-misaligned | code 00000013 0020006f | , isa = 'rv32im' | fail fail fail fail fail fail fail fail fail fail pass
+";
+
+// Jobs that name others, for groups of some lengths: one is named by many.
+const NAMED_BY_MANY: &str = "\
+3|verdict|rvfleet run jobs --workers 2 --group $0|job = [{name = '0', image = 'one', budget = 3}, {name = '1', image \
+= 'one', budget = 4, same_as = '0'}, \
+{name = '2', image = 'one', budget = 2, same_as = '0'}, {name = '3', image = 'one', budget = 3, same_as = '0'}]
+====
+1 none pass fail pass done 4
+====
+1
+2
+4096
+";
+
+// Each names the one before.
+const NAMED_THE_ONE_BEFORE: &str = "\
+3|verdict|rvfleet run jobs --workers 2 --group $0|job = [{name = '0', image = 'one', budget = 3}, {name = '1', image \
+= 'one', budget = 3, same_as = \
+'0'}, {name = '2', image = 'one', budget = 2, same_as = '1'}, {name = '3', image = 'one', budget = 1, same_as = \
+'2'}, {name = '4', image = 'one', budget = 3, same_as = '3'}]
+====
+1 none pass fail pass fail done 5
+====
+1
+2
+4096
+";
+
+// Two are named by turns.
+const NAMED_BY_TURNS: &str = "\
+3|verdict|rvfleet run jobs --workers 2 --group $0|job = [{name = '0', image = 'one', budget = 3}, {name = '1', image \
+= 'one', budget = 1}, {name = '2', \
+image = 'one', budget = 3, same_as = '0'}, {name = '3', image = 'one', budget = 1, same_as = '1'}, {name = '4', \
+image = 'one', budget = 1, same_as = '0'}, {name = '5', image = 'one', budget = 3, same_as = '1'}]
+====
+1 none none pass pass fail fail done 6
+====
+1
+2
+4096
+";
+
+// One that is refused is named.
+const NAMED_REFUSED: &str = "\
+3|verdict|rvfleet run jobs --workers 2 --group $0|job = [{name = '0', image = 'one 83', budget = 3}, {name = '1', \
+image = 'one 83', budget = 3, same_as = '0'}, \
+{name = '2', image = 'one', budget = 3, same_as = '0'}, {name = '3', image = 'one', budget = 3, same_as = '2'}]
+====
+1 none fail fail pass done 4
+====
+1
+2
+4096
+";
+
+// `falls` and `zeros` print 65,536 bytes, each less by one than the one before, or all zero.
+const NAMED_FULL_CONSOLES: &str = "\
+3|verdict|rvfleet run jobs --workers 2 --group $0|job = [{name = '0', image = 'falls', budget = 200000}, {name = \
+'1', image = 'falls', budget = 200000, \
+same_as = '0'}, {name = '2', image = 'zeros', budget = 200000, same_as = '0'}, {name = '3', image = 'falls', \
+budget = 200000, same_as = '0'}]|falls = code 100002b7 00010337 0062a023 fff30313 fe031ce3 X
+zeros = code 100002b7 00010337 0002a023 fff30313 fe031ce3 X
+====
+1 none pass fail pass done 4
+====
+1
+2
+4096
+";
+
+// More are named than are kept.
+const NAMED_MORE_THAN_KEPT: &str = "\
+3|verdict|rvfleet run jobs --workers 2 --group $0|job = [{name = '0', image = 'one', budget = 3}, {name = '1', image \
+= 'one', budget = 1}, {name = \
+'2', image = 'one', budget = 3, same_as = '0'}, {name = '3', image = 'one', budget = 3, same_as = '2'}, {name = \
+'4', image = 'one', budget = 3, same_as = '3'}, {name = '5', image = 'one', budget = 3, same_as = '4'}, {name = \
+'6', image = 'one', budget = 3, same_as = '5'}, {name = '7', image = 'one', budget = 3, same_as = '6'}, {name = \
+'8', image = 'one', budget = 3, same_as = '7'}, {name = '9', image = 'one', budget = 3, same_as = '8'}, {name = \
+'10', image = 'one', budget = 3, same_as = '9'}, {name = '11', image = 'one', budget = 1, same_as = '0'}, {name = \
+'12', image = 'one', budget = 1, same_as = '1'}]
+====
+1 none none pass pass pass pass pass pass pass pass pass fail pass done 13
+====
+1
+2
+4096
+";
+
 #[test]
-fn refuses_references(rt: HostRuntime) -> Result<(), Fail> {
-    check(&rt, rt.alloc(), TOLD, TWO_REFUSED, TWO, 1)?;
-    check(&rt, rt.alloc(), TOLD, ONE_REFUSED, ONE, 1)
+fn judges_outcomes(rt: HostRuntime) -> Result<(), Fail> {
+    check(
+        &rt,
+        rt.alloc(),
+        &[
+            VERDICTS,
+            TWO_REFUSED,
+            ONE_REFUSED,
+            KINDS,
+            NAMED_BY_MANY,
+            NAMED_THE_ONE_BEFORE,
+            NAMED_BY_TURNS,
+            NAMED_REFUSED,
+            NAMED_FULL_CONSOLES,
+            NAMED_MORE_THAN_KEPT,
+        ],
+    )
 }

@@ -3,8 +3,13 @@
 use crate::cases::check;
 use std::test::Fail;
 
-// Words that are refused, a line each; the first has none.
-const BAD_WORDS: &str = "
+// Words that are refused, a line each; no path is read. The first has none.
+const BAD_WORDS: &str = "\
+31|1|rvfleet $_
+====
+0;|2|rvfleet: bad words/|
+====
+
 walk
 help
 --version
@@ -37,42 +42,50 @@ run jobs --group 4097
 run jobs --group x
 ";
 
-// What is told of words that are refused; no path is read.
-const REFUSED: &str = "0;|2|rvfleet: bad words\n|";
-
-#[test]
-fn refuses_bad_words(rt: HostRuntime) -> Result<(), Fail> {
-    check(&rt, rt.alloc(), "all|$_", REFUSED, BAD_WORDS, 31)
-}
-
-// An image at a path, with a script.
-const SCRIPT: &str = "all|one $0 --budget 10 --input-hex $1||$0 = code 100002b7 0042a503 X";
-
-const LONGEST_SCRIPT: &str = "\
-0;$0;|0||job 1 one
+// An image at a path, with a script: the length of the path, and the number of bytes of the script.
+const LONGEST_WORDS: &str = "\
+1|1|rvfleet one  + $0 times a +  --budget 10 --input-hex  + $1 times 4f + || + $0 times a +  = code 100002b7 0042a503 X
+====
+0; + $0 times a + ;|0||job 1 one
 end exit 65536
 steps 3
 console -
 signature -
 verdict none
-done 1
+done 1/
+====
+4096 | 65536
 ";
 
-// A list at a path where no file is.
-const NO_LIST: &str = "all|run $0";
+const LONGER_WORDS: &str = "\
+2|1|rvfleet one  + $0 times a +  --budget 10 --input-hex  + $1 times 4f + || + $0 times a +  = code 100002b7 0042a503 X
+====
+0;|2|rvfleet: bad words/|
+====
+5 | 65537
+4097 |
+";
 
-const UNREADABLE: &str = "1;$0;|3|rvfleet: list unreadable\n|";
+// A list at a path of this length where no file is.
+const LONGEST_PATH: &str = "\
+1|1|rvfleet run  + $0 times a
+====
+1; + $0 times a + ;|3|rvfleet: list unreadable/|
+====
+4096
+";
 
-#[test]
-fn takes_the_longest_words(rt: HostRuntime) -> Result<(), Fail> {
-    let alloc = rt.alloc();
-    check(&rt, alloc, SCRIPT, LONGEST_SCRIPT, "a*4096 | 4f*65536", 1)?;
-    check(&rt, alloc, SCRIPT, REFUSED, "a*5 | 4f*65537\na*4097 |", 2)?;
-    check(&rt, alloc, NO_LIST, UNREADABLE, "a*4096", 1)?;
-    check(&rt, alloc, NO_LIST, REFUSED, "a*4097", 1)
-}
+const LONGER_PATH: &str = "\
+1|1|rvfleet run  + $0 times a
+====
+0;|2|rvfleet: bad words/|
+====
+4097
+";
 
 const HELP: &str = "\
+2|1|rvfleet $_
+====
 0;|0||Runs RV32IMC firmware images and reports how each run ended
 
 Usage: rvfleet <COMMAND>
@@ -83,20 +96,29 @@ Commands:
   run  Runs the jobs of a list, and reports one row a job
 
 Options:
-  -h, --help  Print help
+  -h, --help  Print help/
+====
+--help
+-h
 ";
 
 const RAW_HELP: &str = "\
+1|1|rvfleet $_
+====
 0;|0||Runs the flat image on standard input, placed at 0x80000000
 
 Usage: rvfleet raw --budget <N>
 
 Options:
       --budget <N>  Steps at most, from 1 to 1000000000
-  -h, --help        Print help
+  -h, --help        Print help/
+====
+raw --help
 ";
 
 const ONE_HELP: &str = "\
+1|1|rvfleet $_
+====
 0;|0||Runs one ELF image, placed at its physical addresses
 
 Usage: rvfleet one [OPTIONS] --budget <N> <IMAGE>
@@ -107,10 +129,14 @@ Arguments:
 Options:
       --budget <N>     Steps at most, from 1 to 1000000000
       --input-hex <H>  The console's input, as hexadecimal digits
-  -h, --help           Print help
+  -h, --help           Print help/
+====
+one --help
 ";
 
 const RUN_HELP: &str = "\
+1|1|rvfleet $_
+====
 0;|0||Runs the jobs of a list, and reports one row a job
 
 Usage: rvfleet run [OPTIONS] <JOBS>
@@ -121,14 +147,26 @@ Arguments:
 Options:
       --workers <N>  Threads, from 1 to 64 [default: 1]
       --group <N>    Jobs that a thread takes at once, from 1 to 4096 [default: 1]
-  -h, --help         Print help
+  -h, --help         Print help/
+====
+run --help
 ";
 
 #[test]
-fn shows_help(rt: HostRuntime) -> Result<(), Fail> {
-    let alloc = rt.alloc();
-    check(&rt, alloc, "all|$_", HELP, "--help\n-h", 2)?;
-    check(&rt, alloc, "all|$_", RAW_HELP, "raw --help", 1)?;
-    check(&rt, alloc, "all|$_", ONE_HELP, "one --help", 1)?;
-    check(&rt, alloc, "all|$_", RUN_HELP, "run --help", 1)
+fn takes_words(rt: HostRuntime) -> Result<(), Fail> {
+    check(
+        &rt,
+        rt.alloc(),
+        &[
+            BAD_WORDS,
+            LONGEST_WORDS,
+            LONGER_WORDS,
+            LONGEST_PATH,
+            LONGER_PATH,
+            HELP,
+            RAW_HELP,
+            ONE_HELP,
+            RUN_HELP,
+        ],
+    )
 }

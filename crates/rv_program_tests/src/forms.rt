@@ -1,0 +1,91 @@
+//! Forms of texts, which rows fill.
+//!
+//! In a form `$0`, `$1` and so on stand for the cells of a row, and `$_` for the row. A slash ends a line, and ` + `
+//! parts what stands one behind the other: `3 times TEXT` is three times that text, in each of which `%` is its
+//! number, from 1, and `3 bytes of TEXT` the text's first three bytes.
+
+use samples::cell_of;
+use std::alloc::{AllocError, Global};
+
+const CELLS: [&str; 10] = ["$0", "$1", "$2", "$3", "$4", "$5", "$6", "$7", "$8", "$9"];
+
+/// The part of a text with this number, from 0; bars part them.
+pub(crate) fn part(text: &str, place: usize) -> &str {
+    text.split('|').nth(place).unwrap_or("")
+}
+
+fn filled(alloc: Global, form: &str, row: &str) -> Result<String, AllocError> {
+    let mut text = form.replace(alloc, "$_", row)?;
+    for (place, name) in CELLS.iter().enumerate() {
+        text = text.as_str().replace(alloc, *name, cell_of(row, place))?;
+    }
+    text.as_str().replace(alloc, "/", "\n")
+}
+
+/// A text with a number in place of each `%`.
+pub(crate) fn numbered(alloc: Global, form: &str, number: usize) -> Result<String, AllocError> {
+    let mut text = String::new(alloc);
+    put_numbered(&mut text, form, number)?;
+    Ok(text)
+}
+
+fn put_numbered(text: &mut String, form: &str, number: usize) -> Result<(), AllocError> {
+    for (nth, part) in form.split('%').enumerate() {
+        if nth > 0 {
+            write!(text, "{number}")?;
+        }
+        text.push_str(part)?;
+    }
+    Ok(())
+}
+
+fn put_each(text: &mut String, form: &str, count: usize) -> Result<(), AllocError> {
+    for number in 0..count {
+        put_numbered(text, form, number.saturating_add(1))?;
+    }
+    Ok(())
+}
+
+// Quickly, since it is often millions of times.
+fn put_same(text: &mut String, form: &str, count: usize) -> Result<(), AllocError> {
+    for _ in 0..count {
+        text.push_str(form)?;
+    }
+    Ok(())
+}
+
+fn put_times(text: &mut String, part: &str) -> Result<(), AllocError> {
+    let (count, form) = part.split_once(" times ").unwrap_or(("1", part));
+    let count = count.parse::<usize>().unwrap_or(0);
+    if form.contains('%') {
+        put_each(text, form, count)
+    } else {
+        put_same(text, form, count)
+    }
+}
+
+fn first_bytes<'a>(count: &str, text: &'a str) -> &'a str {
+    let count = count.parse::<usize>().unwrap_or(usize::MAX);
+    text.get(..count).unwrap_or("more than there are")
+}
+
+fn put_part(text: &mut String, part: &str) -> Result<(), AllocError> {
+    match part.split_once(" bytes of ") {
+        Some((count, whole)) => text.push_str(first_bytes(count, whole)),
+        None => put_times(text, part),
+    }
+}
+
+fn expanded(alloc: Global, form: &str) -> Result<String, AllocError> {
+    let mut text = String::new(alloc);
+    for part in form.split(" + ") {
+        put_part(&mut text, part)?;
+    }
+    Ok(text)
+}
+
+/// The text of a form and a row.
+pub(crate) fn written(alloc: Global, form: &str, row: &str) -> Result<String, AllocError> {
+    let text = filled(alloc, form, row)?;
+    expanded(alloc, text.as_str())
+}
