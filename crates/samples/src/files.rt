@@ -25,8 +25,8 @@ pub fn file(alloc: Global, text: &str) -> Result<Vec<u8>, BadSample> {
     }
 }
 
-/// The file of one segment with these numbers as its bytes.
-pub fn program(alloc: Global, text: &str) -> Result<Vec<u8>, BadSample> {
+// The file of one segment with these numbers as its bytes.
+fn program(alloc: Global, text: &str) -> Result<Vec<u8>, BadSample> {
     let code = numbers(alloc, text)?;
     let Ok(size) = u32::try_from(code.len()) else {
         return Err(BadSample::Count);
@@ -38,8 +38,8 @@ pub fn program(alloc: Global, text: &str) -> Result<Vec<u8>, BadSample> {
     Ok(bytes)
 }
 
-/// A file with changes, as [`file`] tells them.
-pub fn changed(alloc: Global, file: &[u8], changes: &str) -> Result<Vec<u8>, BadSample> {
+// A file with changes, as `file` tells them.
+fn changed(alloc: Global, file: &[u8], changes: &str) -> Result<Vec<u8>, BadSample> {
     let mut bytes = file.to_vec(alloc)?;
     for change in changes.split(' ') {
         if let Some((at, number)) = change.split_once('=') {

@@ -4,11 +4,9 @@
 mod digits;
 mod files;
 mod images;
-mod symbols;
 mod tables;
 
 pub use digits::{BadSample, file_bytes, numbers};
-pub use files::{changed, file, program};
-pub use images::{CHECKSUM, ONE_SEGMENT, SIGNATURE, TWO_SEGMENTS, UPPER, UPPER_STRIPPED};
-pub use symbols::with_symbols;
+pub use files::file;
+pub use images::{CHECKSUM, ONE_SEGMENT, UPPER};
 pub use tables::{agree, cell_of, has_lines, hex_of};
