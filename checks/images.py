@@ -31,8 +31,8 @@ VALUES = {"illegal": 0, "load-access": 0x10}
 def samples():
     """The images of the crate's own: arrays of bytes, and texts of hexadecimal digits."""
     text = SAMPLES.read_text(encoding="ascii")
-    arrays = re.findall(r"pub const (\w+): \[u8; \d+\] = \[(.*?)\];", text, re.S)
-    digits = re.findall(r'pub const (\w+): &str = "\\\n(.*?)";', text, re.S)
+    arrays = re.findall(r"pub(?:\(crate\))? const (\w+): \[u8; \d+\] = \[(.*?)\];", text, re.S)
+    digits = re.findall(r'pub(?:\(crate\))? const (\w+): &str = "\\\n(.*?)";', text, re.S)
     images = {name: bytes.fromhex("".join(re.findall("0x(..)", array))) for name, array in arrays}
     images.update((name, bytes.fromhex(re.sub(r"[\\\s]", "", text))) for name, text in digits)
     names = {
