@@ -1,6 +1,6 @@
 //! What is told of a file that was not read.
 
-ghost use Rattle.std.specs.Prelude.{◌≡◌, ◌++◌, IfOk, OnOk, option_map};
+ghost use Rattle.std.specs.Prelude.{◌≡◌, IfOk, option_map};
 ghost use Rattle.rv_telling.specs.UnreadFiles.{kind_text, long_text, noted_of_path, noted_text, unread_text};
 
 use rv_files::Unread;
