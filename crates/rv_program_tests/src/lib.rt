@@ -7,6 +7,8 @@ mod cases;
 #[cfg(test)]
 mod expectation_tests;
 #[cfg(test)]
+mod failing_tests;
+#[cfg(test)]
 mod file_tests;
 #[cfg(test)]
 mod forms;

@@ -84,7 +84,8 @@ fn explained(
         ≡ explained plan.now unread.now Strict (slice_index_or plan.now.jobs place d)
         (row_of plan.now (slice_index_or plan.now.jobs place d)) last) }
     ensures status { IfOk result (λ found. (d : AJob) → found.1
-        ≡ passing_status (has_passed Strict (row_of plan.now (slice_index_or plan.now.jobs place d)))) }
+        ≡ passing_status (has_passed Strict
+        (row_of plan.now (slice_index_or plan.now.jobs place d)))) }
     ensures low { IfOk result (λ found. found.1 ≤ 1) }
 {
     let row = row_at(alloc, plan, place)?;

@@ -69,7 +69,8 @@ fn number_of(words: &str) -> Option<u32> {
 }
 
 fn digest_of(alloc: Global, text: &[u8]) -> Result<String, AllocError>
-    ensures { IfOk result (λ digits. string_bytes digits ≡ encode_lower (take 8 (sha256 text.now))) }
+    ensures { IfOk result (λ digits. string_bytes digits
+        ≡ encode_lower (take 8 (sha256 text.now))) }
 {
     let digest = Sha256::digest(text);
     hex::encode(alloc, &digest[..8])

@@ -43,7 +43,8 @@ fn show_rows<R: Files, S: Streams>(
 ) -> Result<u8, Stop>
     requires { length rows.now < 2 ^ 32 }
     ensures low { IfOk result (λ status. status ≤ 1) }
-    ensures judged { IfOk result (λ status. status ≡ status_of (rule_for asked.entry.lenient) rows.now) }
+    ensures judged { IfOk result
+        (λ status. status ≡ status_of (rule_for asked.entry.lenient) rows.now) }
 {
     let rule = rule_of(asked.lenient);
     let text = text_of(alloc, rule, rows)?;
