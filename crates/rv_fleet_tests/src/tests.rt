@@ -1,16 +1,20 @@
 //! Draws, kept outcomes, fleets and streams by the lines of tables: what is made, what it is asked, and what it answers,
 //! which is the last cell.
-ghost use Rattle.std.specs.Prelude.{None};
+ghost use Rattle.std.specs.Prelude.{◌<◌, ◌≤◌, IfOk, None};
+ghost use Rattle.std.specs.List.Sorted.{IsStrictlyIncreasing};
+ghost use Rattle.rv_fleet.specs.Choices.{AreWithin};
 
 use rv_fleet::Row;
-use rv_jobs::{Plan, ReadError, Store, gather, read_jobs};
-use samples::file;
+use rv_jobs::{Plan, ReadError, Store, gather, marked_places, read_jobs};
+use samples::{agree, cell_of, file, has_lines};
 use std::alloc::{AllocError, Global};
+use std::sync::Wait;
 use std::test::Fail;
+use std::thread::Threads;
 
 mod draws;
 mod fleets;
-mod places;
+mod gate;
 mod recent;
 mod streams;
 mod workers;
@@ -62,31 +66,13 @@ fn plan_of(alloc: Global, budgets: &str) -> Result<Plan, Fail> {
     plan_in(alloc, list.as_str())
 }
 
-// A row's name, how it ended and its steps.
-fn push_row(text: &mut String, row: &Row) -> Result<(), AllocError> {
-    let (name, ending, steps) = (row.name.as_str(), row.ending, row.steps);
-    write!(text, " {name} {ending:?} {steps},")
-}
-
+// Each row's name, how it ended and its steps.
 fn push_rows(text: &mut String, rows: &[Row]) -> Result<(), AllocError> {
     for row in rows {
-        push_row(text, row)?;
+        let (name, ending, steps) = (row.name.as_str(), row.ending, row.steps);
+        write!(text, " {name} {ending:?} {steps},")?;
     }
     Ok(())
-}
-
-fn push_names(text: &mut String, rows: &[Row]) -> Result<(), AllocError> {
-    for row in rows {
-        let name = row.name.as_str();
-        write!(text, " {name}")?;
-    }
-    Ok(())
-}
-
-fn rows_told(alloc: Global, rows: &[Row]) -> Result<String, AllocError> {
-    let mut text = String::new(alloc);
-    push_rows(&mut text, rows)?;
-    Ok(text)
 }
 
 // What the last cell of a line says.
@@ -101,4 +87,90 @@ fn marks_of(alloc: Global, choice: &str) -> Result<Vec<bool>, AllocError> {
         marks.push(mark == b'x')?;
     }
     Ok(marks)
+}
+
+// The number in a cell, and 0 where there is none.
+fn number_in(line: &str, place: usize) -> u64 {
+    cell_of(line, place).parse::<u64>().unwrap_or(0)
+}
+
+// The workers and the group of a line.
+fn crew_of(line: &str) -> (u32, u32)
+    ensures workers { (0 < result.0) × (result.0 ≤ 64) }
+    ensures group { (0 < result.1) × (result.1 ≤ 4096) }
+{
+    let workers = number_in(line, 3).clamp(1, 64);
+    let group = number_in(line, 4).clamp(1, 4096);
+    (workers as u32, group as u32)
+}
+
+// The plan of a line, and the places of the jobs that are chosen of it.
+fn chosen(alloc: Global, line: &str) -> Result<(Plan, Vec<usize>), Fail>
+    ensures within { IfOk result (λ chosen. AreWithin chosen.0 chosen.1.items) }
+    ensures rising { IfOk result (λ chosen. IsStrictlyIncreasing chosen.1.items) }
+{
+    let marks = marks_of(alloc, cell_of(line, 2))?;
+    let places = marked_places(alloc, marks.as_slice())?;
+    let plan = plan_of(alloc, cell_of(line, 1))?;
+    if marks.len() != plan.jobs() {
+        return Err("a mark for each job".into());
+    }
+    Ok((plan, places))
+}
+
+/// Which table a line is of.
+#[derive(Clone, Copy)]
+enum Table {
+    Draws,
+    FourThreads,
+    Kept,
+    Named,
+    Runs,
+    Puts,
+    Workers,
+}
+
+fn told<R: Threads + Wait + Sync>(
+    rt: &R,
+    alloc: Global,
+    table: Table,
+    line: &str,
+) -> Result<String, Fail> {
+    match table {
+        Table::Draws => draws::told(alloc, line),
+        Table::FourThreads => draws::told_of_four(rt, alloc),
+        Table::Kept => recent::told(alloc, line),
+        Table::Named => recent::told_of_named(alloc, line),
+        Table::Runs => fleets::told(rt, alloc, line),
+        Table::Puts => streams::told_of_put(rt, alloc, line),
+        Table::Workers => workers::told(rt, alloc, line),
+    }
+}
+
+// Each line of a table is told as its last cell says.
+fn hold<R: Threads + Wait + Sync>(
+    rt: &R,
+    alloc: Global,
+    table: Table,
+    lines: &str,
+    count: usize,
+) -> Result<(), Fail> {
+    has_lines(lines, count)?;
+    for line in lines.lines() {
+        let text = told(rt, alloc, table, line)?;
+        agree(line, text.as_str().trim(), last_cell(line))?;
+    }
+    Ok(())
+}
+
+#[test]
+fn lines_hold(rt: HostRuntime) -> Result<(), Fail> {
+    let alloc = rt.alloc();
+    hold(&rt, alloc, Table::Draws, draws::DRAWS, 6)?;
+    hold(&rt, alloc, Table::FourThreads, draws::FOUR_THREADS, 1)?;
+    hold(&rt, alloc, Table::Kept, recent::KEPT, 9)?;
+    hold(&rt, alloc, Table::Named, recent::NAMED, 2)?;
+    hold(&rt, alloc, Table::Runs, fleets::RUNS, 12)?;
+    hold(&rt, alloc, Table::Puts, streams::PUTS, 9)?;
+    hold(&rt, alloc, Table::Workers, workers::WORKERS, 2)
 }

@@ -1,23 +1,23 @@
 //! Draws by one pass and by several, in one thread and in four.
-ghost use Rattle.std.specs.Prelude.{◌≡◌, IfOk};
+ghost use Rattle.std.specs.Prelude.{◌≡◌, IfOk, IfSome};
 
-use super::last_cell;
+use super::number_in;
 use rv_fleet::{Claims, Pass, SplitError};
-use samples::{agree, cell_of, has_lines};
+use samples::cell_of;
 use std::alloc::{AllocError, Global};
 use std::test::Fail;
 use std::thread;
 use std::thread::Threads;
 
-// Two passes of one.
-pub(super) fn halves(claims: &Claims, pass: Pass) -> Result<(Pass, Pass), &'static str>
+// Two passes of one, where a place is free.
+pub(super) fn halves(claims: &Claims, pass: Pass) -> Option<(Pass, Pass)>
     requires { pass.draw ≡ claims.now }
-    ensures first { IfOk result (λ passes. passes.0.draw ≡ claims.now) }
-    ensures second { IfOk result (λ passes. passes.1.draw ≡ claims.now) }
+    ensures first { IfSome result (λ passes. passes.0.draw ≡ claims.now) }
+    ensures second { IfSome result (λ passes. passes.1.draw ≡ claims.now) }
 {
     match claims.split(pass) {
-        Ok(passes) => Ok(passes),
-        Err(SplitError::Full(_)) => Err("no place is free"),
+        Ok(passes) => Some(passes),
+        Err(SplitError::Full(_)) => None,
     }
 }
 
@@ -108,7 +108,9 @@ fn split(
     requires { pass.draw ≡ claims.now }
     ensures { IfOk result (λ pass. pass.draw ≡ claims.now) }
 {
-    let (mut first, mut second) = halves(claims, pass)?;
+    let Some((mut first, mut second)) = halves(claims, pass) else {
+        return Err("no place is free".into());
+    };
     push_answers_of_both(text, claims, &mut first, &mut second, asks)?;
     Ok(one_of(claims, first, second, end))
 }
@@ -141,19 +143,24 @@ fn between(text: &mut String, claims: &Claims, pass: Pass, line: &str) -> Result
     }
 }
 
-// What the passes of a shared draw answer.
-fn told(alloc: Global, line: &str) -> Result<String, Fail> {
-    let pieces = cell_of(line, 1).parse::<u64>()?;
-    if pieces > 4096 {
-        return Err("at most 4,096 pieces".into());
-    }
+// What the passes of a line answer, and the pass that is left.
+fn push_all(text: &mut String, claims: &Claims, mut pass: Pass, line: &str) -> Result<Pass, Fail>
+    requires { pass.draw ≡ claims.now }
+    ensures { IfOk result (λ pass. pass.draw ≡ claims.now) }
+{
+    push_answers(text, claims, &mut pass, cell_of(line, 2))?;
+    let mut pass = between(text, claims, pass, line)?;
+    push_answers(text, claims, &mut pass, cell_of(line, 5))?;
+    Ok(pass)
+}
+
+// What the passes of a shared draw answer, of at most 4,096 pieces.
+pub(super) fn told(alloc: Global, line: &str) -> Result<String, Fail> {
+    let (claims, pass) = Claims::new(alloc, number_in(line, 1).min(4096))?;
     let mut text = String::new(alloc);
-    let (claims, mut pass) = Claims::new(alloc, pieces)?;
-    push_answers(&mut text, &claims, &mut pass, cell_of(line, 2))?;
-    let mut pass = between(&mut text, &claims, pass, line)?;
-    push_answers(&mut text, &claims, &mut pass, cell_of(line, 5))?;
+    let pass = push_all(&mut text, &claims, pass, line)?;
     let finished = claims.finish(pass);
-    write!(text, " {finished}")?;
+    text.push_str(if finished { " true" } else { " false" })?;
     Ok(text)
 }
 
@@ -161,7 +168,7 @@ fn told(alloc: Global, line: &str) -> Result<String, Fail> {
 // asks of that one | the answers, and whether it holds every place at the end. `p?` asks whether a pass has ended. A
 // pass that has ended is split as any other: the new one has a place of its own and no draws, and ends by its own
 // draw. 64 places are given, and a further split gives its pass back.
-const DRAWS: &str = "\
+pub(super) const DRAWS: &str = "\
 two passes draw three pieces | 3 | | p q p p? q p | join | p? p | 0 1 2 false none none true none true
 no piece ends the first pass | 0 | p p? | | alone | | none true true
 a dropped pass is lacking at the end | 3 | | p | meet, drop | | 0 false
@@ -169,50 +176,42 @@ an ended pass is split | 1 | p p | p? q? q q? | meet, join | | 0 none true false
 one of an ended pass is dropped | 1 | p p | p? q? q q? | meet, drop | | 0 none true false none true false
 places run out | 1 | p | | fill | p? p | 0 63 splits false none true";
 
-#[test]
-fn passes_draw(rt: HostRuntime) -> Result<(), Fail> {
-    has_lines(DRAWS, 6)?;
-    for line in DRAWS.lines() {
-        agree(
-            line,
-            told(rt.alloc(), line)?.as_str().trim(),
-            last_cell(line),
-        )?;
-    }
-    Ok(())
-}
-
 const PIECES: u64 = 1000;
 
-/// Takes until none is left: the pass, and what was drawn.
-fn take_all(alloc: Global, claims: &Claims, mut pass: Pass) -> Result<(Pass, Vec<u64>), AllocError>
+/// Takes until none is left: the pass, and what was drawn. Here and below there is no answer where memory or a place is
+/// lacking.
+fn take_all(alloc: Global, claims: &Claims, mut pass: Pass) -> Option<(Pass, Vec<u64>)>
     requires { pass.draw ≡ claims.now }
-    ensures { IfOk result (λ taken. taken.0.draw ≡ claims.now) }
+    ensures { IfSome result (λ taken. taken.0.draw ≡ claims.now) }
 {
     let mut numbers = Vec::new(alloc);
     for _ in 0..=PIECES {
         let Some(number) = claims.take(&mut pass) else {
             break;
         };
-        numbers.push(number)?;
+        if numbers.push(number).is_err() {
+            return None;
+        }
     }
-    Ok((pass, numbers))
+    Some((pass, numbers))
 }
 
 // One pass of two, and what both drew.
 fn both_taken(
     claims: &Claims,
-    one: (Pass, Vec<u64>),
-    other: (Pass, Vec<u64>),
-) -> Result<(Pass, Vec<u64>), AllocError>
-    requires one { one.0.draw ≡ claims.now }
-    requires other { other.0.draw ≡ claims.now }
-    ensures { IfOk result (λ taken. taken.0.draw ≡ claims.now) }
+    one: Option<(Pass, Vec<u64>)>,
+    other: Option<(Pass, Vec<u64>)>,
+) -> Option<(Pass, Vec<u64>)>
+    requires one { IfSome one (λ taken. taken.0.draw ≡ claims.now) }
+    requires other { IfSome other (λ taken. taken.0.draw ≡ claims.now) }
+    ensures { IfSome result (λ taken. taken.0.draw ≡ claims.now) }
 {
-    let (first, mut numbers) = one;
-    let (second, others) = other;
-    numbers.extend_from_slice(&others)?;
-    Ok((claims.join(first, second), numbers))
+    let (first, mut numbers) = one?;
+    let (second, others) = other?;
+    if numbers.extend_from_slice(&others).is_err() {
+        return None;
+    }
+    Some((claims.join(first, second), numbers))
 }
 
 /// The same in two threads, joined.
@@ -220,25 +219,24 @@ fn take_all_in_two<R: Threads + Sync>(
     rt: &R,
     alloc: Global,
     claims: &Claims,
-    first: Pass,
-    second: Pass,
-) -> Result<(Pass, Vec<u64>), AllocError>
-    requires first { first.draw ≡ claims.now }
-    requires second { second.draw ≡ claims.now }
-    ensures { IfOk result (λ taken. taken.0.draw ≡ claims.now) }
+    pass: Pass,
+) -> Option<(Pass, Vec<u64>)>
+    requires { pass.draw ≡ claims.now }
+    ensures { IfSome result (λ taken. taken.0.draw ≡ claims.now) }
 {
-    let (first, second) = thread::join(
+    let (first, second) = halves(claims, pass)?;
+    let (one, other) = thread::join(
         rt,
-        move || -> Result<(Pass, Vec<u64>), AllocError>
+        move || -> Option<(Pass, Vec<u64>)>
             requires { first.draw ≡ claims.now }
-            ensures { IfOk result (λ taken. taken.0.draw ≡ claims.entry.now) }
+            ensures { IfSome result (λ taken. taken.0.draw ≡ claims.entry.now) }
         { take_all(alloc, claims, first) },
-        move || -> Result<(Pass, Vec<u64>), AllocError>
+        move || -> Option<(Pass, Vec<u64>)>
             requires { second.draw ≡ claims.now }
-            ensures { IfOk result (λ taken. taken.0.draw ≡ claims.entry.now) }
+            ensures { IfSome result (λ taken. taken.0.draw ≡ claims.entry.now) }
         { take_all(alloc, claims, second) },
     );
-    both_taken(claims, first?, second?)
+    both_taken(claims, one, other)
 }
 
 // The same in four.
@@ -247,29 +245,30 @@ fn take_all_in_four<R: Threads + Sync>(
     alloc: Global,
     claims: &Claims,
     pass: Pass,
-) -> Result<(Pass, Vec<u64>), Fail>
+) -> Option<(Pass, Vec<u64>)>
     requires { pass.draw ≡ claims.now }
-    ensures { IfOk result (λ taken. taken.0.draw ≡ claims.now) }
+    ensures { IfSome result (λ taken. taken.0.draw ≡ claims.now) }
 {
-    let (p, q) = halves(claims, pass)?;
-    let (a, b) = halves(claims, p)?;
-    let (c, d) = halves(claims, q)?;
-    let (one, two) = thread::join(
+    let (first, second) = halves(claims, pass)?;
+    let (one, other) = thread::join(
         rt,
-        move || -> Result<(Pass, Vec<u64>), AllocError>
-            requires { (a.draw ≡ claims.now) × (b.draw ≡ claims.now) }
-            ensures { IfOk result (λ taken. taken.0.draw ≡ claims.entry.now) }
-        { take_all_in_two(rt, alloc, claims, a, b) },
-        move || -> Result<(Pass, Vec<u64>), AllocError>
-            requires { (c.draw ≡ claims.now) × (d.draw ≡ claims.now) }
-            ensures { IfOk result (λ taken. taken.0.draw ≡ claims.entry.now) }
-        { take_all_in_two(rt, alloc, claims, c, d) },
+        move || -> Option<(Pass, Vec<u64>)>
+            requires { first.draw ≡ claims.now }
+            ensures { IfSome result (λ taken. taken.0.draw ≡ claims.entry.now) }
+        { take_all_in_two(rt, alloc, claims, first) },
+        move || -> Option<(Pass, Vec<u64>)>
+            requires { second.draw ≡ claims.now }
+            ensures { IfSome result (λ taken. taken.0.draw ≡ claims.entry.now) }
+        { take_all_in_two(rt, alloc, claims, second) },
     );
-    Ok(both_taken(claims, one?, two?)?)
+    both_taken(claims, one, other)
 }
 
-// Whether each number stands at its place.
-fn are_in_order(numbers: &[u64]) -> bool {
+// Whether each number below their count is there once.
+fn are_each_once(mut numbers: Vec<u64>) -> bool {
+    if numbers.sort().is_err() {
+        return false;
+    }
     for (place, number) in numbers.iter().enumerate() {
         if *number != place as u64 {
             return false;
@@ -278,19 +277,17 @@ fn are_in_order(numbers: &[u64]) -> bool {
     true
 }
 
-// How many numbers four threads draw; whether these are in order then, the passes ended, and hold every place.
-fn told_of_four<R: Threads + Sync>(rt: &R, alloc: Global) -> Result<String, Fail> {
+// label | how many numbers four threads draw; whether each is there once, the passes ended, and hold every place
+pub(super) const FOUR_THREADS: &str = "four threads | 1000 true true true";
+
+pub(super) fn told_of_four<R: Threads + Sync>(rt: &R, alloc: Global) -> Result<String, Fail> {
     let (claims, pass) = Claims::new(alloc, PIECES)?;
-    let (pass, mut numbers) = take_all_in_four(rt, alloc, &claims, pass)?;
+    let Some((pass, numbers)) = take_all_in_four(rt, alloc, &claims, pass) else {
+        return Err("no memory, or no place is free".into());
+    };
     let ended = pass.ended();
     let finished = claims.finish(pass);
-    numbers.sort()?;
-    let (count, sorted) = (numbers.len(), are_in_order(numbers.as_slice()));
-    Ok(format!(in alloc; "{count} {sorted} {ended} {finished}")?)
-}
-
-#[test]
-fn four_threads_draw_each_number_once(rt: HostRuntime) -> Result<(), Fail> {
-    let told = told_of_four(&rt, rt.alloc())?;
-    agree("four threads", told.as_str(), "1000 true true true")
+    let count = numbers.len();
+    let once = are_each_once(numbers);
+    Ok(format!(in alloc; "{count} {once} {ended} {finished}")?)
 }

@@ -1,11 +1,11 @@
 //! Which outcomes a worker keeps of its last jobs, by the sizes of their consoles and signatures.
 ghost use Rattle.std.specs.Prelude.{◌<◌, length};
 
-use super::{last_cell, plan_in};
+use super::{number_in, plan_in};
 use rv_fleet::{Outcome, RowEnd, Words};
 use rv_jobs::{Bytes, Plan};
 use rv_rows::{Recent, Spare, next_row};
-use samples::{agree, cell_of, has_lines};
+use samples::cell_of;
 use std::alloc::{AllocError, Global};
 use std::test::Fail;
 
@@ -27,15 +27,17 @@ fn outcome_of(alloc: Global, size: &str) -> Result<Outcome, Fail> {
     })
 }
 
-fn keep(recent: &mut Recent, place: usize, outcome: Outcome) -> Result<(), AllocError> {
+// Keeps an outcome of a size where there is room for it.
+fn keep(alloc: Global, recent: &mut Recent, place: usize, size: &str) -> Result<(), Fail> {
+    let outcome = outcome_of(alloc, size)?;
     if recent.make_room(outcome.size()) {
-        return recent.keep(place, outcome);
+        recent.keep(place, outcome)?;
     }
     Ok(())
 }
 
 // The places below a number whose outcomes are kept.
-fn kept(alloc: Global, recent: &Recent, places: usize) -> Result<String, AllocError> {
+fn kept(alloc: Global, recent: &Recent, places: usize) -> Result<String, Fail> {
     let mut found = String::new(alloc);
     for place in 0..places {
         if recent.find(place).is_some() {
@@ -46,17 +48,17 @@ fn kept(alloc: Global, recent: &Recent, places: usize) -> Result<String, AllocEr
 }
 
 // Which are kept of outcomes of some sizes, the first of the job at place 0 and so on.
-fn told(alloc: Global, line: &str) -> Result<String, Fail> {
+pub(super) fn told(alloc: Global, line: &str) -> Result<String, Fail> {
     let sizes = cell_of(line, 1);
     let mut recent = Recent::new(alloc);
     for (place, size) in sizes.split(' ').enumerate() {
-        keep(&mut recent, place, outcome_of(alloc, size)?)?;
+        keep(alloc, &mut recent, place, size)?;
     }
-    Ok(kept(alloc, &recent, sizes.split(' ').count())?)
+    kept(alloc, &recent, sizes.split(' ').count())
 }
 
 // label | sizes | places
-const KEPT: &str = "\
+pub(super) const KEPT: &str = "\
 few | 1 2 3 | 0 1 2
 one more than the most | 1 1 1 1 1 1 1 1 1 | 1 2 3 4 5 6 7 8
 no bytes | 0 0 0 0 0 0 0 0 0 0 | 2 3 4 5 6 7 8 9
@@ -67,52 +69,54 @@ too great | 1 64001 2 | 0 2
 a signature of all the room | 1 w16000 | 1
 a signature of a word more | 1 w16001 2 | 0 2";
 
-#[test]
-fn keeps_the_last_few(rt: HostRuntime) -> Result<(), Fail> {
-    has_lines(KEPT, 9)?;
-    for line in KEPT.lines() {
-        agree(
-            line,
-            told(rt.alloc(), line)?.as_str().trim(),
-            last_cell(line),
-        )?;
-    }
-    Ok(())
-}
+// Two jobs with a signature, of 16,000 words and of one more, and behind each a job that is compared with it.
+const NAMING: &str = "\
+[[job]]
+name = 'j0'
+image = 'most-words'
+budget = 100
+signature = ['begin_signature', 'end_signature']
+[[job]]
+name = 'j1'
+image = 'most-words'
+budget = 100
+same_as = 'j0'
+[[job]]
+name = 'j2'
+image = 'more-words'
+budget = 100
+signature = ['begin_signature', 'end_signature']
+[[job]]
+name = 'j3'
+image = 'more-words'
+budget = 100
+same_as = 'j2'
+";
 
-// The row of the second job, and whether the outcome of the first, which is run for its sake, is kept.
-fn keeps_named(alloc: Global, plan: &Plan) -> Result<bool, AllocError>
-    requires { 1 < length plan.now.jobs }
+// Makes the row of the job at a place. Whether the outcome of the job before it, which is run for its sake, is kept.
+fn keeps_named(alloc: Global, plan: &Plan, place: usize) -> Result<bool, Fail>
+    requires { place < length plan.now.jobs }
 {
     let mut recent = Recent::new(alloc);
-    next_row(alloc, plan, 1, &mut Spare::new(), &mut recent)?;
-    Ok(recent.find(0).is_some())
+    next_row(alloc, plan, place, &mut Spare::new(), &mut recent)?;
+    Ok(recent.find(place.saturating_sub(1)).is_some())
 }
 
-// Whether the outcome of a job with a signature, which is run for another's sake, is kept.
-fn told_named(alloc: Global, image: &str) -> Result<&'static str, Fail> {
-    let list = format!(in alloc;
-        "[[job]]\nname = 'j0'\nimage = '{image}'\nbudget = 100\nsignature = ['begin_signature', 'end_signature']\n\
-         [[job]]\nname = 'j1'\nimage = '{image}'\nbudget = 100\nsame_as = 'j0'\n"
-    )?;
-    let plan = plan_in(alloc, list.as_str())?;
-    if plan.jobs() < 2 {
-        return Err("two jobs".into());
+fn is_named_kept(alloc: Global, place: usize) -> Result<bool, Fail> {
+    let plan = plan_in(alloc, NAMING)?;
+    if plan.jobs() <= place {
+        return Err("a place of a job".into());
     }
-    Ok(if keeps_named(alloc, &plan)? {
-        "kept"
-    } else {
-        "not kept"
-    })
+    keeps_named(alloc, &plan, place)
 }
 
-// The signature of a run, of 16,000 words or one more, counts before its words are copied.
-#[test]
-fn counts_the_signature_of_a_run(rt: HostRuntime) -> Result<(), Fail> {
-    agree("16,000", told_named(rt.alloc(), "most-words")?, "kept")?;
-    agree(
-        "one more",
-        told_named(rt.alloc(), "more-words")?,
-        "not kept",
-    )
+// label | the place of a job of `NAMING` | whether the outcome of the job that it names is kept: the signature of a run
+// counts before its words are copied
+pub(super) const NAMED: &str = "\
+16,000 words | 1 | true
+one more | 3 | false";
+
+pub(super) fn told_of_named(alloc: Global, line: &str) -> Result<String, Fail> {
+    let kept = is_named_kept(alloc, number_in(line, 1) as usize)?;
+    Ok(format!(in alloc; "{kept}")?)
 }

@@ -1,11 +1,8 @@
 //! Streams of small jobs: which jobs, by how many workers, which put fails, and what went out.
-ghost use Rattle.std.specs.Prelude.{◌<◌, ◌≤◌, IfOk, Some};
-ghost use Rattle.std.specs.List.Sorted.{IsStrictlyIncreasing};
-ghost use Rattle.rv_fleet.specs.Choices.{AreWithin};
+ghost use Rattle.std.specs.Prelude.{None};
 
-use super::{marks_of, plan_of};
+use super::{chosen, crew_of, number_in};
 use rv_fleet::{Row, Rows, Sink, SinkFailed};
-use rv_jobs::{Plan, marked_places};
 use rv_stream::{StreamError, Telling, stream_places};
 use samples::{agree, cell_of, has_lines};
 use std::alloc::{AllocError, Global};
@@ -69,7 +66,7 @@ impl<'a> NotingSink<'a> {
 }
 
 impl<'a> Sink for NotingSink<'a> {
-    ghost taken = { λ sink. Some sink.bytes.items };
+    ghost taken = { λ _. None };
 
     ghost failed = { λ sink. sink.failures };
 
@@ -106,7 +103,7 @@ one behind the other | 3 3 3 3 3 3 3 3 | xxxxxxxx | 4 | 1 | j0;j1;j2;j3;j4;j5;j6
 
 // label | budgets | choice | workers | group | the put that fails, or 0 | what went out; how many rows were asked for
 // at each put, and in all; and how the call ended
-const PUTS: &str = "\
+pub(super) const PUTS: &str = "\
 each text at once | 3 3 3 | xxx | 1 | 1 | 0 | j0;j1;j2; at 1 2 3 of 3: 3 rows
 pieces of two | 3 3 3 | xxx | 1 | 2 | 0 | j0;j1;j2; at 2 3 of 3: 3 rows
 one piece | 3 3 3 | xxx | 1 | 4096 | 0 | j0;j1;j2; at 3 of 3: 3 rows
@@ -117,50 +114,33 @@ the second, and no job is run behind it | 3 3 3 3 | xxxx | 1 | 1 | 2 | j0; at 1 
 the last | 3 3 | xx | 1 | 1 | 2 | j0; at 1 2 of 2: write failed
 the only one | 3 3 | xx | 1 | 2 | 1 | at 2 of 2: write failed";
 
-fn number_in(line: &str, place: usize) -> Result<u32, Fail> {
-    Ok(cell_of(line, place).parse::<u32>()?)
+// What went out, and how many rows were asked for at each put, and in all.
+fn push_out(text: &mut String, out: &NotingSink<'_>) -> Result<(), AllocError> {
+    let sent = std::str::from_utf8(out.bytes.as_slice()).unwrap_or("no text");
+    let (notes, asked) = (out.notes.as_str(), out.asked.load(Ordering::SeqCst));
+    write!(text, "{sent} at{notes} of {asked}: ")
 }
 
-// The workers and the group of a line.
-fn crew_of(line: &str) -> Result<(u32, u32), Fail>
-    ensures workers { IfOk result (λ crew. (0 < crew.0) × (crew.0 ≤ 64)) }
-    ensures group { IfOk result (λ crew. (0 < crew.1) × (crew.1 ≤ 4096)) }
-{
-    let workers = number_in(line, 3)?.clamp(1, 64);
-    let group = number_in(line, 4)?.clamp(1, 4096);
-    Ok((workers, group))
-}
-
-// The plan of a line, and the places of the jobs that are chosen of it.
-fn chosen(alloc: Global, line: &str) -> Result<(Plan, Vec<usize>), Fail>
-    ensures within { IfOk result (λ chosen. AreWithin chosen.0 chosen.1.items) }
-    ensures rising { IfOk result (λ chosen. IsStrictlyIncreasing chosen.1.items) }
-{
-    let marks = marks_of(alloc, cell_of(line, 2))?;
-    let places = marked_places(alloc, marks.as_slice())?;
-    let plan = plan_of(alloc, cell_of(line, 1))?;
-    if marks.len() != plan.jobs() {
-        return Err("a mark for each job".into());
+// How the call ended.
+fn push_end(text: &mut String, ran: &Result<Rows, StreamError>) -> Result<(), AllocError> {
+    match ran {
+        Ok(rows) => {
+            let count = rows.as_slice().len();
+            write!(text, "{count} rows")
+        }
+        Err(error) => write!(text, "{error}"),
     }
-    Ok((plan, places))
 }
 
-// What went out; how many rows were asked for at each put, and in all; and how the call ended.
 fn text_of(
     alloc: Global,
     out: &NotingSink<'_>,
     ran: &Result<Rows, StreamError>,
 ) -> Result<String, Fail> {
-    let sent = std::str::from_utf8(out.bytes.as_slice())?;
-    let (notes, asked) = (out.notes.as_str(), out.asked.load(Ordering::SeqCst));
-    let text = match ran {
-        Ok(rows) => {
-            let count = rows.as_slice().len();
-            format!(in alloc; "{sent} at{notes} of {asked}: {count} rows")
-        }
-        Err(error) => format!(in alloc; "{sent} at{notes} of {asked}: {error}"),
-    };
-    Ok(text?)
+    let mut text = String::new(alloc);
+    push_out(&mut text, out)?;
+    push_end(&mut text, ran)?;
+    Ok(text)
 }
 
 // What comes of streaming the jobs of a line into puts of so many bytes, of which one may fail.
@@ -171,7 +151,7 @@ fn told<R: Threads + Wait + Sync>(
     most: usize,
     fails_at: u64,
 ) -> Result<String, Fail> {
-    let (workers, group) = crew_of(line)?;
+    let (workers, group) = crew_of(line);
     let (plan, places) = chosen(alloc, line)?;
     let asked = AtomicU64::new(0);
     let names = Names { asked: &asked };
@@ -181,44 +161,38 @@ fn told<R: Threads + Wait + Sync>(
     text_of(alloc, &out, &ran)
 }
 
-// A put takes one byte, and one put fails: then the bytes before it are out, and no other.
-fn check_put<R: Threads + Wait + Sync>(
+// The same of a line that names the put that fails.
+pub(super) fn told_of_put<R: Threads + Wait + Sync>(
     rt: &R,
     alloc: Global,
     line: &str,
-    whole: &str,
-    sent: usize,
-) -> Result<(), Fail> {
-    let text = told(rt, alloc, line, 1, (sent as u64).saturating_add(1))?;
-    let (out, notes) = text.as_str().split_once(" at").unwrap_or(("", ""));
-    agree(line, out, whole.get(..sent).unwrap_or("a text"))?;
-    let has_failed = notes.ends_with("write failed");
-    agree(
-        line,
-        if has_failed { "cut" } else { "whole" },
-        if sent < whole.len() { "cut" } else { "whole" },
-    )
+) -> Result<String, Fail> {
+    told(rt, alloc, line, usize::MAX, number_in(line, 5))
 }
 
-#[test]
-fn beginnings_go_out(rt: HostRuntime) -> Result<(), Fail> {
-    has_lines(STREAMS, 11)?;
-    for line in STREAMS.lines() {
-        let whole = cell_of(line, 5);
-        for sent in 0..whole.len() + 1 {
-            check_put(&rt, rt.alloc(), line, whole, sent)?;
+// Whether so many bytes of a whole went out, and the call failed where these aren't all.
+fn is_cut(told: &str, whole: &str, sent: usize) -> bool {
+    let (out, notes) = told.split_once(" at").unwrap_or(("", ""));
+    whole.get(..sent) == Some(out) && notes.ends_with("write failed") == (sent < whole.len())
+}
+
+// A put takes one byte, and one put fails: then the bytes before it are out, and no other.
+fn check_puts<R: Threads + Wait + Sync>(rt: &R, alloc: Global, line: &str) -> Result<(), Fail> {
+    let whole = cell_of(line, 5);
+    for sent in 0..whole.len() + 1 {
+        let text = told(rt, alloc, line, 1, (sent as u64).saturating_add(1))?;
+        if !is_cut(text.as_str(), whole, sent) {
+            return agree(line, text.as_str(), whole);
         }
     }
     Ok(())
 }
 
 #[test]
-fn texts_go_out_before_the_next_row_is_made(rt: HostRuntime) -> Result<(), Fail> {
-    has_lines(PUTS, 9)?;
-    for line in PUTS.lines() {
-        let fails_at = u64::from(number_in(line, 5)?);
-        let text = told(&rt, rt.alloc(), line, usize::MAX, fails_at)?;
-        agree(line, text.as_str().trim(), cell_of(line, 6))?;
+fn beginnings_go_out(rt: HostRuntime) -> Result<(), Fail> {
+    has_lines(STREAMS, 11)?;
+    for line in STREAMS.lines() {
+        check_puts(&rt, rt.alloc(), line)?;
     }
     Ok(())
 }
