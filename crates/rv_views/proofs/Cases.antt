@@ -4,7 +4,7 @@ use Rattle.std.proofs.Common.{add-one, append-nil, append_assoc, arith, drop, ge
 use Rattle.std.proofs.KnownBytes.{Appends-nil}
 use Rattle.rv_rows.specs.declared.row.Row.{Row}
 use Rattle.rv_rows.specs.Sending.{AppendsBeginning}
-use Rattle.rv_lines.specs.declared.passing.Rule.{Rule}
+use Rattle.rv_explain.specs.declared.passing.Rule.{Rule}
 use Rattle.rv_stream.specs.Streams.{texts_of}
 use Rattle.rv_views.specs.Junit.{begin_text, case_text, cases_text, end_text, junit_text}
 

@@ -5,9 +5,9 @@ use Rattle.std.specs.Fmt.{decimal}
 use Rattle.hex.specs.Hex.{IsBytes}
 use Rattle.rv_rows.specs.declared.row.Row.{Row}
 use Rattle.rv_rows.specs.Verdict.{is_run}
-use Rattle.rv_lines.specs.declared.passing.Rule.{Rule}
+use Rattle.rv_explain.specs.declared.passing.Rule.{Rule}
 use Rattle.rv_lines.specs.ConsoleTail.{is_feed}
-use Rattle.rv_lines.specs.Passing.{has_passed}
+use Rattle.rv_explain.specs.Passing.{has_passed}
 use Rattle.rv_views.specs.declared.xml.Within.TheVariants.{Attribute, Element}
 use Rattle.rv_views.specs.Xml.{escaped}
 

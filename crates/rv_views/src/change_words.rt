@@ -6,7 +6,8 @@ ghost use Rattle.rv_views.specs.Differences.{becomes, bytes_words, console_words
 ghost use Rattle.rv_views.specs.Differences.{first_place, signature_words, signatures_words, size_words};
 ghost use Rattle.rv_views.specs.Differences.{words_words};
 
-use rv_lines::{Span, behind, push_spans, push_text};
+use rv_explain::sides_from;
+use rv_lines::{Span, push_spans, push_text};
 use rv_rows::{RowEnd, Verdict, Words};
 use std::alloc::AllocError;
 
@@ -68,15 +69,16 @@ fn push_bytes_words<'a>(
     let Some(place) = place else {
         return push_counts(text, old.len(), new.len(), "bytes");
     };
+    let (old, new) = sides_from(place, old, new);
     push_spans(
         text,
         &[
             Span::Text("byte "),
             Span::Number(place as u64),
             Span::Text(": \""),
-            Span::Value(behind(old, place)),
+            Span::Value(old),
             Span::Text("\" -> \""),
-            Span::Value(behind(new, place)),
+            Span::Value(new),
             Span::Text("\""),
         ],
     )

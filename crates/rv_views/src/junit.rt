@@ -6,7 +6,7 @@ ghost use Rattle.rv_views.specs.Junit.{attribute, begin_text, case_text, end_tex
 ghost use Rattle.rv_views.specs.Junit.{number_attribute, output_text, problem_name, problem_or_none, problem_text};
 
 use crate::xml::{Within, push_escaped};
-use rv_lines::{Rule, has_passed};
+use rv_explain::{Rule, has_passed};
 use rv_rows::{Row, is_run};
 use std::alloc::{AllocError, Global};
 use std::fmt::Write;

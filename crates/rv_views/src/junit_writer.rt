@@ -8,7 +8,7 @@ ghost use Rattle.rv_stream.specs.Streams.{texts_of};
 ghost use Rattle.rv_views.specs.Junit.{case_text, cases_text, junit_text};
 
 use crate::junit::{push_begin, push_case, push_end};
-use rv_lines::Rule;
+use rv_explain::Rule;
 use rv_rows::{Row, Sink, WriteError, put_if_enough, put_text};
 use rv_stream::Telling;
 use std::alloc::{AllocError, Global};

@@ -4,7 +4,7 @@ ghost use Rattle.std.specs.Prelude.{◌≡◌, ◌==◌, ◌+◌, ◌<◌, ◌^�
 ghost use Rattle.std.specs.List.{AllByRecursion};
 ghost use Rattle.hex.specs.Hex.{IsBytes};
 ghost use Rattle.rv_rows.specs.declared.row.Row.{Row};
-ghost use Rattle.rv_lines.specs.declared.passing.Rule.{Rule};
+ghost use Rattle.rv_explain.specs.declared.passing.Rule.{Rule};
 ghost use Rattle.rv_lines.specs.LastLine.{passed_count};
 ghost use Rattle.rv_views.specs.declared.xml.Within.{Within};
 ghost use Rattle.rv_views.specs.Diff.{difference_lines, differing, differing_count};

@@ -5,7 +5,7 @@ ghost use Rattle.std.specs.Str.{continuation_len};
 ghost use Rattle.rv_views.specs.Xml.{behind_front, character_text, escape, escaped, front_character, front_of};
 ghost use Rattle.rv_views.specs.Xml.{front_text, is_xml_character, reference, xml_only};
 
-use rv_lines::behind;
+use rv_explain::behind;
 use std::alloc::{AllocError, Global};
 
 /// Where in a document a text stands.
