@@ -3,3 +3,4 @@ pub mod Reference
 pub mod Unmet
 pub mod Telling
 pub mod Planned
+pub mod Change

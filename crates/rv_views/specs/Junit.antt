@@ -8,8 +8,8 @@ use Rattle.rv_rows.specs.Verdict.{is_run}
 use Rattle.rv_lines.specs.declared.passing.Rule.{Rule}
 use Rattle.rv_lines.specs.ConsoleTail.{is_feed}
 use Rattle.rv_lines.specs.Passing.{has_passed}
-use Rattle.rv_views.specs.declared.xml.Within.TheVariants.{Attribute, Element}
-use Rattle.rv_views.specs.Xml.{escaped}
+use Rattle.rv_xml.specs.declared.xml.Within.TheVariants.{Attribute, Element}
+use Rattle.rv_xml.specs.Xml.{escaped}
 
 -- ---- counts
 
