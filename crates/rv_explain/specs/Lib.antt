@@ -3,4 +3,9 @@ pub mod Reference
 pub mod Unmet
 pub mod Telling
 pub mod Planned
+pub mod Passing
+pub mod Ways
+pub mod Met
+pub mod Refusal
 pub mod Change
+pub mod Problem

@@ -10,9 +10,15 @@
 mod change;
 mod difference;
 mod law;
+mod met;
+mod passing;
 mod planned;
+mod problem;
 mod reference;
+mod refusal;
+mod sides;
 mod unmet;
+mod ways;
 
 pub use change::{
     Change, change_of, same_console, same_ending, same_signature, same_steps, same_verdict,
@@ -23,6 +29,12 @@ pub use law::{
     differences_are_first, nothing_is_unmet_where_a_job_passes, references_are_lines_of_words,
     unmet_is_what_does_not_hold, unmet_of_a_plan_is_what_does_not_hold,
 };
+pub use met::{Expectation, is_met};
+pub use passing::{Rule, has_passed, have_passed};
 pub use planned::named_row;
+pub use problem::{is_error, is_failure};
 pub use reference::words_or_none;
+pub use refusal::{is_file_inside, load_address, unfit_segment};
+pub use sides::{behind, sides_from};
 pub use unmet::{Unmet, unmet_expectations};
+pub use ways::{WAYS, fails_by};

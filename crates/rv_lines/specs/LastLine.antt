@@ -1,16 +1,14 @@
 -- The last line: how many jobs there were, how many of them passed, and how the others ended.
-use Rattle.std.specs.Prelude.{◌==◌, ◌&&◌, ◌+◌, ◌-◌, ℕ, zero, suc, Bool, not, List, [], ◌∷◌, ◌++◌}
+use Rattle.std.specs.Prelude.{◌==◌, ◌-◌, ℕ, zero, suc, List, [], ◌∷◌, ◌++◌}
 use Rattle.std.specs.Prelude.{codes, if◌then◌else◌, length, map, slice_index_or, sum_by, count_by}
 use Rattle.std.specs.List.{flat_map}
 use Rattle.std.specs.Fmt.{decimal}
 use Rattle.rv_machine.specs.Faults.{fault_kinds, fault_name}
 use Rattle.rv_rows.specs.declared.row.Row.{Row}
-use Rattle.rv_rows.specs.declared.row.RowEnd.{RowEnd}
-use Rattle.rv_rows.specs.declared.row.RowEnd.TheVariants as ending
 use Rattle.rv_rows.specs.Report.{line}
-use Rattle.rv_rows.specs.Verdict.{fault_number}
-use Rattle.rv_lines.specs.declared.passing.Rule.{Rule}
-use Rattle.rv_lines.specs.Passing.{has_passed}
+use Rattle.rv_explain.specs.declared.passing.Rule.{Rule}
+use Rattle.rv_explain.specs.Passing.{has_passed}
+use Rattle.rv_explain.specs.Ways.{fails_by, ways}
 
 -- ---- ways to end
 
@@ -18,27 +16,13 @@ use Rattle.rv_lines.specs.Passing.{has_passed}
 abbrev pub way_names : List (List ℕ)
 way_names = codes "exit" ∷ codes "budget" ∷ map fault_name fault_kinds ++ codes "refused" ∷ []
 
-abbrev pub ways : ℕ
-ways = 14
-
 abbrev pub way_name : ℕ → List ℕ
 way_name way = slice_index_or way_names way []
-
--- the place of a row's way among them
-abbrev pub way_of : RowEnd → ℕ
-way_of (ending.Exit code) = 0
-way_of ending.Budget = 1
-way_of (ending.Fault kind pc value) = fault_number kind + 1
-way_of (ending.Refused why) = 13
 
 -- ---- counts
 
 abbrev pub passed_count : Rule → List Row → ℕ
 passed_count rule rows = count_by (has_passed rule) rows
-
--- a job failed, and ended so
-abbrev pub fails_by : Rule → ℕ → Row → Bool
-fails_by rule way row = not (has_passed rule row) && way_of row.ending == way
 
 abbrev pub failed_count : Rule → List Row → ℕ → ℕ
 failed_count rule rows way = count_by (fails_by rule way) rows
@@ -71,12 +55,8 @@ abbrev pub numbers_text : ℕ → ℕ → List ℕ
 numbers_text jobs passed = decimal jobs ++ codes " jobs: " ++ decimal passed ++ codes " passed, "
     ++ decimal (jobs - passed) ++ codes " failed"
 
--- the line of such numbers, with the ways of the jobs that failed, and of so many steps
-unfoldable pub counts_line : ℕ → ℕ → List (List ℕ) → ℕ → List ℕ
-counts_line jobs passed failures steps = line (numbers_text jobs passed ++ bracket failures
-    ++ codes ", " ++ decimal steps ++ codes " steps")
-
 -- the last line of what a person sees of rows
-abbrev pub last_line : Rule → List Row → List ℕ
-last_line rule rows = counts_line (length rows) (passed_count rule rows)
-    (failures_below (failed_count rule rows) ways) (steps_count rows)
+unfoldable pub last_line : Rule → List Row → List ℕ
+last_line rule rows = line (numbers_text (length rows) (passed_count rule rows)
+    ++ bracket (failures_below (failed_count rule rows) ways)
+    ++ codes ", " ++ decimal (steps_count rows) ++ codes " steps")

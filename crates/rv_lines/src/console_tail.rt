@@ -4,8 +4,9 @@ ghost use Rattle.std.specs.Prelude.{◌≡◌, ◌≤◌, ◌<◌, ◌++◌, IfS
 ghost use Rattle.std.specs.List.{flat_map, position_or_len};
 ghost use Rattle.rv_lines.specs.ConsoleTail.{console_line_shown, console_tail, is_feed, lines_of};
 
-use crate::slices::{behind, last_of};
+use crate::slices::last_of;
 use crate::spans::{Span, push_spans};
+use rv_explain::behind;
 use std::alloc::AllocError;
 
 /// How many lines of a console are shown at most.

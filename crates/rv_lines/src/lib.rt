@@ -6,20 +6,17 @@
 #![tactic(auto)]
 
 mod console_tail;
+mod last_line;
 mod parts;
-mod passing;
 mod result_line;
 mod shown;
 mod slices;
 mod spans;
-mod tally;
 mod ways;
 
 pub use console_tail::{TAIL_BYTES, TAIL_LINES, push_console_tail};
+pub use last_line::push_last_line;
 pub use parts::{push_hexadecimal, push_number, push_text, push_word};
-pub use passing::{Rule, has_passed};
 pub use result_line::{push_place, push_result, push_symbol};
 pub use shown::{VALUE_ROOM, push_shown, push_shown_value};
-pub use slices::behind;
 pub use spans::{Span, push_spans, text_of};
-pub use tally::{Tally, push_last_line};

@@ -8,10 +8,10 @@ ghost use Rattle.rv_lines.specs.ResultLine.{ending_text, passing_word, place_tex
 ghost use Rattle.rv_lines.specs.ResultLine.{result_line, steps_text, symbol_text};
 
 use crate::parts::{push_hexadecimal, push_text};
-use crate::passing::{Rule, has_passed};
 use crate::shown::push_shown;
 use crate::spans::{Span, push_spans};
 use rv_elf::SymbolAt;
+use rv_explain::{Rule, has_passed};
 use rv_machine::FaultKind;
 use rv_rows::{Refusal, Row, RowEnd};
 use std::alloc::{AllocError, Global};

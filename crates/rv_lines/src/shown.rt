@@ -5,7 +5,8 @@ ghost use Rattle.std.specs.Str.{continuation_len, is_utf8};
 ghost use Rattle.rv_lines.specs.Shown.{behind_front, escape, first_width, front_of, front_shown, is_control};
 ghost use Rattle.rv_lines.specs.Shown.{plain_len, shown, shown_value};
 
-use crate::slices::{behind, byte_at};
+use crate::slices::byte_at;
+use rv_explain::behind;
 use std::alloc::AllocError;
 
 /// Appends a text as it is shown: characters as they are, and each byte of a control character and of what is no

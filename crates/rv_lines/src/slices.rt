@@ -1,24 +1,15 @@
 //! Parts of texts.
 
-ghost use Rattle.std.specs.Prelude.{◌≡◌, ◌≤◌, drop, length, slice_index};
+ghost use Rattle.std.specs.Prelude.{◌≡◌, slice_index};
 ghost use Rattle.rv_lines.specs.ConsoleTail.{last_of};
+
+use rv_explain::behind;
 
 /// The byte at a place, or 0 behind the end.
 pub(crate) fn byte_at(text: &[u8], place: usize) -> u8
     ensures { result ≡ slice_index text.now place }
 {
     if place < text.len() { text[place] } else { 0 }
-}
-
-/// What stands behind the first bytes: nothing where there are no more.
-pub fn behind(text: &[u8], count: usize) -> &[u8]
-    ensures { result.now ≡ drop count text.now }
-{
-    if count < text.len() {
-        &text[count..]
-    } else {
-        &text[text.len()..]
-    }
 }
 
 /// The last bytes: so many, or all where there are fewer.

@@ -1,48 +1,61 @@
-//! The ways in which jobs end, as the last line tells them.
+//! The ways in which jobs failed, as the last line tells them.
 
-ghost use Rattle.std.specs.Prelude.{◌≡◌, ◌<◌, ◌+◌, ◌++◌, OnOk, codes, if◌then◌else◌, slice_index};
+ghost use Rattle.std.specs.Prelude.{◌≡◌, ◌≤◌, ◌<◌, ◌++◌, OnOk, codes, if◌then◌else◌, length};
 ghost use Rattle.std.specs.Fmt.{decimal};
-ghost use Rattle.rv_rows.specs.Verdict.{fault_number};
-ghost use Rattle.rv_lines.specs.LastLine.{bracket, failures_below, way_name, way_of, ways};
+ghost use Rattle.rv_explain.specs.Ways.{ways};
+ghost use Rattle.rv_lines.specs.LastLine.{bracket, failed_count, failures_below, way_name};
 
 use crate::spans::{Span, push_spans};
-use rv_machine::FaultKind;
-use rv_rows::RowEnd;
+use rv_explain::{Rule, WAYS, fails_by};
+use rv_rows::Row;
 use std::alloc::AllocError;
 
-/// How many ways there are: exit, budget, each kind of fault, refused.
-pub(crate) const WAYS: usize = 14;
-
-/// The place of an ending among the ways.
-pub(crate) fn way_of(ending: RowEnd) -> usize
-    ensures value { result ≡ way_of ending }
-    ensures within { result < ways }
+/// Appends in brackets the ways in which jobs failed, and how many; nothing where none did.
+pub(crate) fn push_bracket(bytes: &mut Vec<u8>, rule: Rule, rows: &[Row]) -> Result<(), AllocError>
+    ensures { OnOk result (bytes.new.items ≡ bytes.old.items
+        ++ bracket (failures_below (failed_count rule rows.now) ways)) }
 {
-    match ending {
-        RowEnd::Exit(_) => 0,
-        RowEnd::Budget => 1,
-        RowEnd::Fault(kind, _, _) => fault_way(kind),
-        RowEnd::Refused(_) => 13,
+    let mut is_open = false;
+    for way in 0..WAYS {
+        let count = failed_count(rule, rows, way);
+        if count > 0 {
+            push_failures(bytes, is_open, count, way)?;
+            is_open = true;
+        }
     }
+    if is_open {
+        bytes.extend_from_slice(b")")?;
+    }
+    Ok(())
 }
 
-fn fault_way(kind: FaultKind) -> usize
-    ensures value { result ≡ fault_number kind + 1 }
-    ensures within { result < ways }
+fn failed_count(rule: Rule, rows: &[Row], way: usize) -> usize
+    ensures { result ≡ failed_count rule rows.now way }
 {
-    match kind {
-        FaultKind::FetchAccess => 2,
-        FaultKind::StaleCode => 3,
-        FaultKind::Illegal => 4,
-        FaultKind::Breakpoint => 5,
-        FaultKind::LoadMisaligned => 6,
-        FaultKind::LoadAccess => 7,
-        FaultKind::StoreMisaligned => 8,
-        FaultKind::StoreAccess => 9,
-        FaultKind::ConsoleFull => 10,
-        FaultKind::UnknownCall => 11,
-        FaultKind::FetchMisaligned => 12,
-    }
+    rows.iter().filter(|row| fails_by(rule, way, row)).count()
+}
+
+fn push_failures(
+    bytes: &mut Vec<u8>,
+    is_open: bool,
+    count: usize,
+    way: usize,
+) -> Result<(), AllocError>
+    requires { way < ways }
+    ensures { OnOk result (bytes.new.items ≡ bytes.old.items
+        ++ ((if is_open then codes ", " else codes " (")
+        ++ (decimal count ++ codes " " ++ way_name way))) }
+{
+    let begin = if is_open { ", " } else { " (" };
+    push_spans(
+        bytes,
+        &[
+            Span::Text(begin),
+            Span::Number(count as u64),
+            Span::Text(" "),
+            Span::Text(way_name(way)),
+        ],
+    )
 }
 
 fn way_name(way: usize) -> &'static str
@@ -65,45 +78,4 @@ fn way_name(way: usize) -> &'static str
         12 => "fetch-misaligned",
         _ => "refused",
     }
-}
-
-/// Appends in brackets the ways in which jobs failed, and how many; nothing where none did.
-pub(crate) fn push_bracket(bytes: &mut Vec<u8>, failed: &[u64; WAYS]) -> Result<(), AllocError>
-    ensures { OnOk result (bytes.new.items ≡ bytes.old.items
-        ++ bracket (failures_below (λ way. slice_index failed.now way) ways)) }
-{
-    let mut is_open = false;
-    for way in 0..WAYS {
-        if failed[way] > 0 {
-            push_failures(bytes, is_open, failed[way], way)?;
-            is_open = true;
-        }
-    }
-    if is_open {
-        bytes.extend_from_slice(b")")?;
-    }
-    Ok(())
-}
-
-fn push_failures(
-    bytes: &mut Vec<u8>,
-    is_open: bool,
-    count: u64,
-    way: usize,
-) -> Result<(), AllocError>
-    requires { way < ways }
-    ensures { OnOk result (bytes.new.items ≡ bytes.old.items
-        ++ ((if is_open then codes ", " else codes " (")
-        ++ (decimal count ++ codes " " ++ way_name way))) }
-{
-    let begin = if is_open { ", " } else { " (" };
-    push_spans(
-        bytes,
-        &[
-            Span::Text(begin),
-            Span::Number(count),
-            Span::Text(" "),
-            Span::Text(way_name(way)),
-        ],
-    )
 }

@@ -1,9 +1,9 @@
 //! What stands on a terminal, by the lines of a table.
 
 use crate::screen::{Names, Screen, Ticking, table_form};
+use rv_explain::Rule;
 use rv_files::StreamSink;
 use rv_jobs::{Bytes, Text};
-use rv_lines::Rule;
 use rv_progress::{CountingTelling, Progress, TerminalSink};
 use rv_rows::{Row, RowEnd, Sink, Verdict, put_all};
 use rv_stream::Telling;

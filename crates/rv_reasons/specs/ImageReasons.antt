@@ -2,7 +2,6 @@
 -- regions, the names of symbols, and a sentence for each other refusal.
 use Rattle.std.specs.Prelude.{◌+◌, ◌-◌, ◌^◌, ℕ, List, [], ◌∷◌, ◌++◌, codes, Option, Some, None}
 use Rattle.std.specs.Prelude.{option_map, Result, Ok, Err, Bool, true, false, if◌then◌else◌, nat_lt}
-use Rattle.std.specs.Prelude.{not}
 use Rattle.std.specs.List.{find, flat_map}
 use Rattle.std.specs.Option.{option_or}
 use Rattle.rv_elf.specs.declared.error.ImageError.{ImageError}
@@ -11,8 +10,9 @@ use Rattle.rv_elf.specs.declared.image.Image.{Image}
 use Rattle.rv_elf.specs.declared.image.Segment.{Segment}
 use Rattle.rv_elf.specs.declared.loading.LoadAt.{LoadAt}
 use Rattle.rv_elf.specs.Image.{image_of}
-use Rattle.rv_elf.specs.Loading.{fits, load_address, share}
+use Rattle.rv_elf.specs.Loading.{load_address, share}
 use Rattle.rv_elf.specs.Symbols.{symbol_of}
+use Rattle.rv_explain.specs.Refusal.{unfit_segment}
 use Rattle.rv_lists.specs.declared.job.Job.{Job}
 use Rattle.rv_lists.specs.declared.job.Symbols.{Symbols}
 use Rattle.rv_lines.specs.Shown.{shown}
@@ -28,7 +28,7 @@ last_text from count =
     if nat_lt (from + (count - 1)) (2 ^ 32) then word_digits (from + (count - 1))
     else codes "past ffffffff"
 
-unfoldable pub range_text : ℕ → ℕ → List ℕ
+abbrev pub range_text : ℕ → ℕ → List ℕ
 range_text from count = word_digits from ++ codes " to " ++ last_text from count
 
 abbrev pub region_text : Region → List ℕ
@@ -46,10 +46,6 @@ outside_text true at segment =
     codes "a segment's bytes in memory, " ++ range_text segment.vaddr segment.memsz
 outside_text false at segment =
     codes "a segment's bytes from the file, " ++ range_text (load_address at segment) segment.filesz
-
--- the first segment that does not fit a job's regions
-abbrev pub unfit_segment : Job → List Segment → Option Segment
-unfit_segment job segments = find (λ segment. not (fits job.regions job.load segment)) segments
 
 unfoldable pub map_text : Job → Option Segment → List ℕ
 map_text job None = codes "a segment does not lie in one region"

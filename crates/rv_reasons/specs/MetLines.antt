@@ -1,40 +1,15 @@
 -- The line that a person sees of an expectation that a run meets.
-use Rattle.std.specs.Prelude.{◌&&◌, ℕ, Bool, true, false, not, List, [], ◌∷◌, ◌++◌, Option, Some, None, codes}
-use Rattle.std.specs.Prelude.{if◌then◌else◌, is_some}
-use Rattle.std.specs.List.{list_any}
+use Rattle.std.specs.Prelude.{ℕ, List, [], ◌∷◌, ◌++◌, Option, Some, None, codes}
+use Rattle.std.specs.Prelude.{if◌then◌else◌}
 use Rattle.rv_explain.specs.declared.unmet.Unmet.{Unmet}
-use Rattle.rv_explain.specs.declared.unmet.Unmet.TheVariants as unmet
-use Rattle.rv_lists.specs.declared.job.Job.{Job}
+use Rattle.rv_explain.specs.Met.{is_met}
 use Rattle.rv_lists.specs.Jobs.{console_path}
 use Rattle.rv_lines.specs.Shown.{shown}
-use Rattle.rv_reasons.specs.declared.met_line.Expectation.{Expectation}
-use Rattle.rv_reasons.specs.declared.met_line.Expectation.TheVariants as expectation
+use Rattle.rv_explain.specs.declared.met.Expectation.{Expectation}
+use Rattle.rv_explain.specs.declared.met.Expectation.TheVariants as expectation
 use Rattle.rv_reasons.specs.UnmetLines.{Comparison, end_text, exit_text}
 use Rattle.rv_rows.specs.declared.row.Row.{Row}
 use Rattle.rv_rows.specs.Report.{line}
-use Rattle.rv_rows.specs.Verdict.{is_asked}
-
--- a job has an expectation; one that has no other expects exit code 0
-unfoldable pub has : Job → Expectation → Bool
-has job expectation.Exit = is_some job.expect_exit
-has job expectation.End = is_some job.expect_end
-has job expectation.Console = is_some job.expect_console
-has job expectation.Signature = is_some job.expect_signature
-has job expectation.Same = is_some job.same_as
-has job expectation.Nothing = not (is_asked job)
-
--- it is the one that is not met
-unfoldable pub is_of : Expectation → Unmet → Bool
-is_of expectation.Exit unmet.Exit = true
-is_of expectation.End unmet.End = true
-is_of expectation.Console (unmet.Console difference) = true
-is_of expectation.Signature (unmet.Signature difference) = true
-is_of expectation.Same (unmet.Same difference) = true
-is_of expectation.Nothing unmet.Nothing = true
-is_of _ _ = false
-
-abbrev pub is_met : Job → List Unmet → Expectation → Bool
-is_met job unmet one = has job one && not (list_any (is_of one) unmet)
 
 abbrev pub path_text : Option (List ℕ) → List ℕ
 path_text None = []

@@ -6,9 +6,9 @@ ghost use Rattle.rv_lines.specs.Shown.{shown};
 ghost use Rattle.rv_reasons.specs.UnmetLines.{digits_at, expected_text, place_text, reference_text, signature_text};
 ghost use Rattle.rv_reasons.specs.UnmetLines.{signatures_text, word_at};
 
-use rv_explain::{Difference, SignatureDifference, words_or_none};
+use rv_explain::{Difference, SignatureDifference, sides_from, words_or_none};
 use rv_jobs::{ExpectedConsole, Text};
-use rv_lines::{Span, behind, push_shown, push_spans, push_text, push_word};
+use rv_lines::{Span, push_shown, push_spans, push_text, push_word};
 use rv_rows::{LINE, Words};
 use std::alloc::AllocError;
 
@@ -107,15 +107,16 @@ fn push_byte<'a>(
     ensures { OnOk result (bytes.new.items
         ≡ bytes.old.items ++ byte_text place met.now wanted.now) }
 {
+    let (met, wanted) = sides_from(place, met, wanted);
     push_spans(
         bytes,
         &[
             Span::Text("byte "),
             Span::Number(place as u64),
             Span::Text(" is \""),
-            Span::Value(behind(met, place)),
+            Span::Value(met),
             Span::Text("\", expected \""),
-            Span::Value(behind(wanted, place)),
+            Span::Value(wanted),
             Span::Text("\""),
         ],
     )

@@ -5,8 +5,9 @@ ghost use Rattle.rv_elf.specs.Image.{IsImageOf};
 ghost use Rattle.rv_reasons.specs.ImageReasons.{ends_text, image_reason, image_text, missing_text, sentence};
 ghost use Rattle.rv_reasons.specs.ImageReasons.{signature_range_text, symbol_text};
 
-use crate::segment_reason::{push_overlap, push_regions, push_unfit, unfit_segment};
+use crate::segment_reason::{push_overlap, push_regions, push_unfit};
 use rv_elf::{Image, ImageError, find_symbol, read_image};
+use rv_explain::unfit_segment;
 use rv_jobs::{Job, Symbols};
 use rv_lines::{Span, push_shown, push_spans, push_text};
 use rv_memory::Region;

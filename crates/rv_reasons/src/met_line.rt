@@ -1,29 +1,16 @@
 //! The line of an expectation that a run meets.
 
 ghost use Rattle.std.specs.Prelude.{◌≡◌, ◌++◌, OnOk, option_map};
-ghost use Rattle.std.specs.List.{list_any};
-ghost use Rattle.rv_reasons.specs.MetLines.{has, is_met, is_of, met_line, met_lines, met_text, named_text, path_text};
+ghost use Rattle.rv_reasons.specs.MetLines.{met_line, met_lines, met_text, named_text, path_text};
 ghost use Rattle.rv_reasons.specs.UnmetLines.{comparison_of};
 ghost use Rattle.rv_lists.specs.Jobs.{console_path};
 
 use crate::unmet_line::{Sides, push_end, push_exit};
-use rv_explain::Unmet;
+use rv_explain::{Expectation, Unmet, is_met};
 use rv_jobs::Job;
 use rv_lines::{push_shown, push_text};
-use rv_rows::{Row, is_asked};
+use rv_rows::Row;
 use std::alloc::AllocError;
-
-/// What a job may expect.
-#[derive(Clone, Copy)]
-pub(crate) enum Expectation {
-    Exit,
-    End,
-    Console,
-    Signature,
-    Same,
-    /// Exit code 0, where it expects nothing else.
-    Nothing,
-}
 
 /// Appends a line for each expectation of a job that its run meets, behind five spaces: for those that are not among the
 /// unmet ones.
@@ -60,47 +47,6 @@ fn push_met(
     push_text(bytes, "     met: ")?;
     push_expectation(bytes, sides, one)?;
     push_text(bytes, "\n")
-}
-
-fn is_met(job: &Job, unmet: &[Unmet], one: Expectation) -> bool
-    ensures { result ≡ is_met job.now unmet.now one }
-{
-    has(job, one) && !is_unmet(unmet, one)
-}
-
-fn is_unmet(unmet: &[Unmet], one: Expectation) -> bool
-    ensures { result ≡ list_any (is_of one) unmet.now }
-{
-    unmet.iter().any(|other| is_of(one, *other))
-}
-
-#[tactic(auto, unfolding(crate::specs::MetLines::has))]
-fn has(job: &Job, one: Expectation) -> bool
-    ensures { result ≡ has job.now one }
-{
-    match one {
-        Expectation::Exit => job.expect_exit.is_some(),
-        Expectation::End => job.expect_end.is_some(),
-        Expectation::Console => job.expect_console.is_some(),
-        Expectation::Signature => job.expect_signature.is_some(),
-        Expectation::Same => job.same_as.is_some(),
-        Expectation::Nothing => !is_asked(job),
-    }
-}
-
-#[tactic(auto, unfolding(crate::specs::MetLines::is_of))]
-fn is_of(one: Expectation, unmet: Unmet) -> bool
-    ensures { result ≡ is_of one unmet }
-{
-    match (one, unmet) {
-        (Expectation::Exit, Unmet::Exit)
-        | (Expectation::End, Unmet::End)
-        | (Expectation::Console, Unmet::Console(_))
-        | (Expectation::Signature, Unmet::Signature(_))
-        | (Expectation::Same, Unmet::Same(_))
-        | (Expectation::Nothing, Unmet::Nothing) => true,
-        _ => false,
-    }
 }
 
 #[tactic(auto, unfolding(crate::specs::MetLines::met_text))]

@@ -1,15 +1,16 @@
 //! The addresses of segments that a map refuses, as a person is told them.
 
-ghost use Rattle.std.specs.Prelude.{◌≡◌, ◌+◌, ◌++◌, OnOk, option_map};
+ghost use Rattle.std.specs.Prelude.{◌≡◌, ◌+◌, ◌++◌, OnOk, codes, option_map};
 ghost use Rattle.std.specs.List.{find};
-ghost use Rattle.rv_elf.specs.Loading.{fits, load_address, share};
+ghost use Rattle.rv_elf.specs.Loading.{load_address, share};
+ghost use Rattle.rv_lines.specs.Spans.{span_text};
 ghost use Rattle.rv_reasons.specs.ImageReasons.{last_text, map_text, outside_text, overlap_text, pair_text, range_text, region_text};
-ghost use Rattle.rv_reasons.specs.ImageReasons.{regions_text, sharing_segments, unfit_segment};
-ghost use Rattle.rv_memory.specs.Regions.{in_one};
+ghost use Rattle.rv_reasons.specs.ImageReasons.{regions_text, sharing_segments};
 
 use rv_elf::{LoadAt, Segment};
+use rv_explain::{is_file_inside, load_address};
 use rv_jobs::Job;
-use rv_lines::{push_text, push_word};
+use rv_lines::{Span, push_spans, push_text};
 use rv_memory::Region;
 use std::alloc::AllocError;
 
@@ -33,38 +34,6 @@ pub(crate) fn push_unfit(
     }
 }
 
-/// The first segment that doesn't fit the job's regions.
-pub(crate) fn unfit_segment<'a>(job: &Job, segments: &'a [Segment]) -> Option<&'a Segment>
-    ensures { option_map (λ segment. segment.now) result ≡ unfit_segment job.now segments.now }
-{
-    segments.iter().find(|segment| !fits(job, segment))
-}
-
-fn fits(job: &Job, segment: &Segment) -> bool
-    ensures { result ≡ fits job.now.regions job.now.load segment.now }
-{
-    is_file_inside(job, segment) && job.regions.in_one(segment.vaddr, segment.memsz)
-}
-
-// Whether the segment's file bytes lie in one region.
-fn is_file_inside(job: &Job, segment: &Segment) -> bool
-    ensures { result ≡ in_one job.now.regions (load_address job.now.load segment.now)
-        segment.now.filesz }
-{
-    job.regions
-        .in_one(load_address(job.load, segment), segment.filesz)
-}
-
-// Where the segment's file bytes go.
-fn load_address(at: LoadAt, segment: &Segment) -> u32
-    ensures { result ≡ load_address at segment.now }
-{
-    match at {
-        LoadAt::Physical => segment.paddr,
-        LoadAt::Virtual => segment.vaddr,
-    }
-}
-
 // What of a segment is outside: its memory where its bytes from the file are inside, else these.
 #[tactic(auto, unfolding(crate::specs::ImageReasons::outside_text))]
 fn push_outside(
@@ -77,11 +46,11 @@ fn push_outside(
         ≡ bytes.old.items ++ outside_text is_file_inside at segment.now) }
 {
     if is_file_inside {
-        push_text(bytes, "a segment's bytes in memory, ")?;
-        push_range(bytes, segment.vaddr, segment.memsz)
+        let what = "a segment's bytes in memory, ";
+        push_range(bytes, what, segment.vaddr, segment.memsz)
     } else {
-        push_text(bytes, "a segment's bytes from the file, ")?;
-        push_range(bytes, load_address(at, segment), segment.filesz)
+        let what = "a segment's bytes from the file, ";
+        push_range(bytes, what, load_address(at, segment), segment.filesz)
     }
 }
 
@@ -98,28 +67,39 @@ pub(crate) fn push_regions(bytes: &mut Vec<u8>, regions: &[Region]) -> Result<()
 fn push_region(bytes: &mut Vec<u8>, region: &Region) -> Result<(), AllocError>
     ensures { OnOk result (bytes.new.items ≡ bytes.old.items ++ region_text region.now) }
 {
-    push_text(bytes, " [")?;
-    push_range(bytes, region.base, region.size)?;
+    push_range(bytes, " [", region.base, region.size)?;
     push_text(bytes, "]")
 }
 
-// So many addresses from one on.
-#[tactic(auto, unfolding(crate::specs::ImageReasons::range_text))]
-fn push_range(bytes: &mut Vec<u8>, from: u32, count: u32) -> Result<(), AllocError>
-    ensures { OnOk result (bytes.new.items ≡ bytes.old.items ++ range_text from count) }
+// So many addresses from one on, behind a text.
+fn push_range(
+    bytes: &mut Vec<u8>,
+    what: &'static str,
+    from: u32,
+    count: u32,
+) -> Result<(), AllocError>
+    ensures { OnOk result
+        (bytes.new.items ≡ bytes.old.items ++ (what.now ++ range_text from count)) }
 {
-    push_word(bytes, from)?;
-    push_text(bytes, " to ")?;
-    push_last(bytes, from, count)
+    push_spans(
+        bytes,
+        &[
+            Span::Text(what),
+            Span::Word(from),
+            Span::Text(" to "),
+            last_of(from, count),
+        ],
+    )
 }
 
+// The last of so many addresses from one on.
 #[tactic(auto, unfolding(crate::specs::ImageReasons::last_text))]
-fn push_last(bytes: &mut Vec<u8>, from: u32, count: u32) -> Result<(), AllocError>
-    ensures { OnOk result (bytes.new.items ≡ bytes.old.items ++ last_text from count) }
+fn last_of(from: u32, count: u32) -> Span<'static>
+    ensures { span_text result ≡ last_text from count }
 {
     match from.checked_add(count.saturating_sub(1)) {
-        Some(last) => push_word(bytes, last),
-        None => push_text(bytes, "past ffffffff"),
+        Some(last) => Span::Word(last),
+        None => Span::Text("past ffffffff"),
     }
 }
 
@@ -133,30 +113,26 @@ pub(crate) fn push_overlap(
         ≡ bytes.old.items ++ overlap_text at (sharing_segments at segments.now)) }
 {
     match sharing_segments(at, segments) {
-        Some((one, other)) => {
-            let what = "the file bytes of two segments share addresses: ";
-            push_pair(bytes, what, at, &one, &other)
-        }
+        Some((one, other)) => push_pair(bytes, at, &one, &other),
         None => push_text(bytes, "the file bytes of two segments share addresses"),
     }
 }
 
-// Says where the file bytes of two segments are loaded, behind a text.
+// Says where the file bytes of two segments are loaded.
 #[tactic(auto, unfolding(crate::specs::ImageReasons::pair_text))]
 fn push_pair(
     bytes: &mut Vec<u8>,
-    what: &str,
     at: LoadAt,
     one: &Segment,
     other: &Segment,
 ) -> Result<(), AllocError>
-    ensures { OnOk result (bytes.new.items
-        ≡ bytes.old.items ++ (what.now ++ pair_text at one.now other.now)) }
+    ensures { OnOk result (bytes.new.items ≡ bytes.old.items
+        ++ (codes "the file bytes of two segments share addresses: "
+        ++ pair_text at one.now other.now)) }
 {
-    push_text(bytes, what)?;
-    push_range(bytes, load_address(at, one), one.filesz)?;
-    push_text(bytes, " and ")?;
-    push_range(bytes, load_address(at, other), other.filesz)
+    let what = "the file bytes of two segments share addresses: ";
+    push_range(bytes, what, load_address(at, one), one.filesz)?;
+    push_range(bytes, " and ", load_address(at, other), other.filesz)
 }
 
 // The first segment that shares an address with a later one, and the first of those.

@@ -60,7 +60,8 @@ fn push_shard(text: &mut String, shard: &Shard, count: usize) -> Result<(), Allo
     let number = shard.number;
     let shards = shard.shards;
     let stamp = shard.stamp.as_str();
-    write!(text, "part {count} of {jobs}")?;
-    write!(text, " shard {number}/{shards}")?;
-    write!(text, " stamp {stamp}\n")
+    writeln!(
+        text,
+        "part {count} of {jobs} shard {number}/{shards} stamp {stamp}"
+    )
 }

@@ -6,9 +6,9 @@ use Rattle.rv_explain.specs.Planned.{named_row, unmet_in}
 use Rattle.rv_files.specs.declared.noting.Unread.{Unread}
 use Rattle.rv_lists.specs.declared.job.Job.{Job}
 use Rattle.rv_jobs.specs.Plans.{Planned, kept_for}
-use Rattle.rv_lines.specs.declared.passing.Rule.{Rule}
+use Rattle.rv_explain.specs.declared.passing.Rule.{Rule}
 use Rattle.rv_lines.specs.ConsoleTail.{console_tail}
-use Rattle.rv_lines.specs.Passing.{has_passed}
+use Rattle.rv_explain.specs.Passing.{has_passed}
 use Rattle.rv_lines.specs.ResultLine.{result_line}
 use Rattle.rv_reasons.specs.MetLines.{met_lines}
 use Rattle.rv_reasons.specs.UnmetLines.{Comparison, unmet_lines}

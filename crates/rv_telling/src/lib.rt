@@ -2,7 +2,7 @@
 //! that its run does not meet and the end of its console.
 //!
 //! [`RowTelling`] is a [`Telling`](rv_stream::Telling) over a plan, and over what a store noted of the paths that it
-//! could not read. How much is told is a [`Verbosity`], and which rows pass a [`Rule`](rv_lines::Rule).
+//! could not read. How much is told is a [`Verbosity`], and which rows pass a [`Rule`](rv_explain::Rule).
 #![tactic(auto)]
 
 mod files;

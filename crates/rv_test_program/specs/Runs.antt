@@ -2,7 +2,7 @@
 use Rattle.std.specs.Prelude.{◌≡◌, ℕ, Bool, List, length}
 use Rattle.rv_jobs.specs.Choices.{marked}
 use Rattle.rv_jobs.specs.Plans.{Planned, needed_for, paths_of, paths_used}
-use Rattle.rv_lines.specs.declared.passing.Rule.{Rule}
+use Rattle.rv_explain.specs.declared.passing.Rule.{Rule}
 use Rattle.rv_lists.specs.declared.job.Job.{Job}
 use Rattle.rv_rows.specs.Rows.{rows_at}
 use Rattle.rv_test_run.specs.Shown.{status_of}

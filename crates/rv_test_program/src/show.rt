@@ -12,7 +12,7 @@ use crate::report::ReportTo;
 use crate::rules::rule_of;
 use crate::stop::Stop;
 use crate::streams::Streams;
-use rv_lines::Rule;
+use rv_explain::Rule;
 use rv_rows::Row;
 use rv_test_run::status_of;
 use rv_test_words::ShowAsked;

@@ -9,10 +9,11 @@ ghost use Rattle.rv_rows.specs.Rows.{rows_at};
 ghost use Rattle.rv_rows.specs.Sending.{AppendsBeginning};
 ghost use Rattle.rv_test_run.specs.Shown.{shown};
 
+use rv_explain::Rule;
 use rv_fleet::{Row, Rows, Sink, put_all};
 use rv_jobs::Plan;
 use rv_jobs::limits::MOST_JOBS;
-use rv_lines::{Rule, push_last_line};
+use rv_lines::push_last_line;
 use rv_stream::{StreamError, Telling, stream_places};
 use std::alloc::Global;
 use std::sync::Wait;

@@ -1,11 +1,9 @@
 //! The status of rows.
 
 ghost use Rattle.std.specs.Prelude.{◌≡◌};
-ghost use Rattle.std.specs.List.{list_all};
-ghost use Rattle.rv_lines.specs.Passing.{has_passed};
 ghost use Rattle.rv_test_run.specs.Shown.{status_of};
 
-use rv_lines::{Rule, has_passed};
+use rv_explain::{Rule, have_passed};
 use rv_rows::Row;
 
 /// The status where no job failed.
@@ -23,10 +21,4 @@ pub fn status_of(rule: Rule, rows: &[Row]) -> u8
     } else {
         SOME_FAIL
     }
-}
-
-fn have_passed(rule: Rule, rows: &[Row]) -> bool
-    ensures { result ≡ list_all (has_passed rule) rows.now }
-{
-    rows.iter().all(|row| has_passed(rule, row))
 }

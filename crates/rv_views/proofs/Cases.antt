@@ -3,7 +3,7 @@ use Rattle.std.proofs.Common.{◌≡◌, ◌∙◌, refl, sym, ap, ℕ, List, []
 use Rattle.std.proofs.KnownBytes.{Appends-nil}
 use Rattle.rv_rows.specs.declared.row.Row.{Row}
 use Rattle.rv_rows.specs.Sending.{AppendsBeginning}
-use Rattle.rv_lines.specs.declared.passing.Rule.{Rule}
+use Rattle.rv_explain.specs.declared.passing.Rule.{Rule}
 use Rattle.rv_stream.specs.Streams.{texts_of, told}
 use Rattle.rv_views.specs.Junit.{begin_text, case_text, cases_text, end_text, junit_text}
 

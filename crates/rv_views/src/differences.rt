@@ -9,9 +9,9 @@ ghost use Rattle.rv_views.specs.Differences.{ending_words, first_place, signatur
 ghost use Rattle.rv_views.specs.Differences.{words_words};
 
 use rv_explain::{
-    same_console, same_ending, same_signature, same_steps, same_verdict, verdict_text,
+    behind, same_console, same_ending, same_signature, same_steps, same_verdict, verdict_text,
 };
-use rv_lines::{Span, behind, push_spans};
+use rv_lines::{Span, push_spans};
 use rv_rows::{Row, RowEnd};
 use std::alloc::AllocError;
 

@@ -2,11 +2,12 @@
 
 ghost use Rattle.std.specs.Prelude.{◌≡◌, ◌++◌, OnOk, count_by, position, string_bytes};
 ghost use Rattle.rv_lines.specs.ConsoleTail.{is_feed};
-ghost use Rattle.rv_views.specs.Junit.{begin_text, case_text, first_line, is_error, is_failure};
+ghost use Rattle.rv_explain.specs.Problem.{is_error, is_failure};
+ghost use Rattle.rv_views.specs.Junit.{begin_text, case_text, first_line};
 ghost use Rattle.rv_views.specs.Junit.{problem_name, problem_or_none};
 
 use crate::pieces::{Piece, push_pieces};
-use rv_lines::{Rule, has_passed};
+use rv_explain::{Rule, has_passed, is_error, is_failure};
 use rv_rows::{Row, is_run};
 use std::alloc::{AllocError, Global};
 
@@ -49,24 +50,10 @@ fn failure_count(rule: Rule, rows: &[Row]) -> usize
     rows.iter().filter(|row| is_failure(rule, row)).count()
 }
 
-// Whether a job ran and failed.
-fn is_failure(rule: Rule, row: &Row) -> bool
-    ensures { result ≡ is_failure rule row.now }
-{
-    !has_passed(rule, row) && is_run(row.ending)
-}
-
 fn error_count(rule: Rule, rows: &[Row]) -> usize
     ensures { result ≡ count_by (is_error rule) rows.now }
 {
     rows.iter().filter(|row| is_error(rule, row)).count()
-}
-
-// Whether a job was refused, and fails by that.
-fn is_error(rule: Rule, row: &Row) -> bool
-    ensures { result ≡ is_error rule row.now }
-{
-    !has_passed(rule, row) && !is_run(row.ending)
 }
 
 /// Appends the case of a row, with the lines that the row is given.

@@ -1,11 +1,11 @@
-use Rattle.std.proofs.Common.{◌∙◌, ◌++◌, ◌==◌, ℕ, ap, append-nil, append_assoc, arith, cond, get_or, length}
+use Rattle.std.proofs.Common.{◌∙◌, ◌++◌, ◌==◌, ℕ, ap, append-nil, append_assoc, arith, cond, length}
 use Rattle.std.proofs.Common.{refl, sym}
 use Rattle.std.specs.Fmt.{decimal}
 use Rattle.std.specs.Prelude.{codes, not}
-use Rattle.rv_lines.specs.LastLine.{failures_below, opened, way_name}
+use Rattle.rv_lines.specs.LastLine.{failed_count, failures_below, opened, way_name}
 use Rattle.rv_lines.proofs.Counts.{failures_below-none, failures_below-some, is_begun, opened-more}
 use Rattle.rv_lines.proofs.ways.push_bracket.Goals as goal
-use Rattle.rv_lines.proofs.ways.push_bracket.Goals.{else-failed-way-gt0, then-failed-way-gt0+in_ok-push_failures}
+use Rattle.rv_lines.proofs.ways.push_bracket.Goals.{else-count-gt0, then-count-gt0+in_ok-push_failures}
 
 pub loop-way-init : goal.loop-way-init
 unfolding failures_below
@@ -13,17 +13,18 @@ loop-way-init c = record { begun = refl; text = sym (append-nil c.args.bytes.now
 
 pub loop-way-preserved : goal.loop-way-preserved
 loop-way-preserved c =
-    let count : ℕ → ℕ = λ way. get_or c.args.failed.now way 0 in
+    let count : ℕ → ℕ = failed_count c.args.rule c.args.rows.now in
     let way = c.loop-way.way in
     let texts = failures_below count way in
     let text = decimal (count way) ++ codes " " ++ way_name way in
-    elim c.if-failed-way-gt0.branch [
-      | then-failed-way-gt0+in_ok-push_failures w ↦
-          let more = failures_below-some count way (omega (arith, w.if-failed-way-gt0.true)) in
+    elim c.if-count-gt0.branch [
+      | then-count-gt0+in_ok-push_failures w ↦
+          let more = failures_below-some count way (omega (arith, c.failed_count.ensures, w.if-count-gt0.true)) in
           record {
             begun = w.is_open-is ∙ is_begun texts text ∙ ap (λ xs. not (length xs == 0)) (sym more);
             text = rw w.bytes-is (cc (
               w.in_ok-push_failures.ensures,
+              c.failed_count.ensures,
               more,
               opened-more texts text,
               c.loop-way.invariant.text,
@@ -32,8 +33,8 @@ loop-way-preserved c =
                   (cond (not (length texts == 0)) (codes ", ") (codes " (") ++ text),
             ));
           }
-      | else-failed-way-gt0 w ↦
-          let same = failures_below-none count way (omega (arith, w.if-failed-way-gt0.false)) in
+      | else-count-gt0 w ↦
+          let same = failures_below-none count way (omega (arith, c.failed_count.ensures, w.if-count-gt0.false)) in
           record {
             begun = w.is_open-is ∙ c.loop-way.invariant.begun ∙ ap (λ xs. not (length xs == 0)) (sym same);
             text = rw w.bytes-is (c.loop-way.invariant.text

@@ -1,5 +1,5 @@
 use Rattle.std.proofs.Common.{◌≡◌, ◌∙◌, ap, true, false, sym}
-use Rattle.rv_lines.specs.Passing.{has_passed}
+use Rattle.rv_explain.specs.Passing.{has_passed}
 use Rattle.rv_telling.specs.Telling.{is_told, told_of_row}
 use Rattle.rv_telling.proofs.Chains.{ended}
 use Rattle.rv_telling.proofs.row_telling.RowTelling.push_row.Goals as goal

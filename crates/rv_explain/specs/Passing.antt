@@ -4,8 +4,8 @@ use Rattle.rv_rows.specs.declared.row.Row.{Row}
 use Rattle.rv_rows.specs.declared.row.Verdict.{Verdict}
 use Rattle.rv_rows.specs.declared.row.Verdict.TheVariants as verdict
 use Rattle.rv_explain.specs.Telling.{passes}
-use Rattle.rv_lines.specs.declared.passing.Rule.{Rule}
-use Rattle.rv_lines.specs.declared.passing.Rule.TheVariants.{Strict, Lenient}
+use Rattle.rv_explain.specs.declared.passing.Rule.{Rule}
+use Rattle.rv_explain.specs.declared.passing.Rule.TheVariants.{Strict, Lenient}
 
 abbrev pub is_no_fail : Verdict → Bool
 is_no_fail verdict.Unasked = true

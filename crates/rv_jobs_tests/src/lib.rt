@@ -1,9 +1,0 @@
-//! Tests of what no program shows of plans and of the lines of lists: which paths are read, in which order and how often, and
-//! where jobs begin in a text that is no TOML. All else that `rv_elf`, `rv_lists` and `rv_jobs` do `checks/tables` ask of the
-//! built programs. The crate has nothing else, so that no code is proved twice.
-#![tactic(auto)]
-
-#[cfg(test)]
-mod lines;
-#[cfg(test)]
-mod plans;
