@@ -7,17 +7,23 @@
 //! and a reference is words exactly where it is their lines ([`references_are_lines_of_words`]).
 #![tactic(auto)]
 
+mod change;
 mod difference;
 mod law;
 mod met;
 mod passing;
 mod planned;
+mod problem;
 mod reference;
 mod refusal;
 mod sides;
 mod unmet;
 mod ways;
 
+pub use change::{
+    Change, change_of, same_console, same_ending, same_signature, same_steps, same_verdict,
+    verdict_text,
+};
 pub use difference::{Difference, SameDifference, SignatureDifference};
 pub use law::{
     differences_are_first, nothing_is_unmet_where_a_job_passes, references_are_lines_of_words,
@@ -26,6 +32,7 @@ pub use law::{
 pub use met::{Expectation, is_met};
 pub use passing::{Rule, has_passed, have_passed};
 pub use planned::named_row;
+pub use problem::{is_error, is_failure};
 pub use reference::words_or_none;
 pub use refusal::{is_file_inside, load_address, unfit_segment};
 pub use sides::{behind, sides_from};

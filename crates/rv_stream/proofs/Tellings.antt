@@ -8,6 +8,7 @@ use Rattle.std.proofs.lemmas.List.{length-take, take_all}
 use Rattle.rv_rows.specs.declared.row.Row.{Row}
 use Rattle.rv_fleet.proofs.Public.{chunk_inside}
 use Rattle.rv_stream.specs.Streams.{CanBeTold, texts_of, told}
+use Rattle.rv_stream.proofs.Streaming.{parts_of_all}
 
 module _ (line : ℕ → Row → List ℕ) where
   -- no texts of no rows
@@ -65,6 +66,30 @@ module _ (line : ℕ → Row → List ℕ) where
   told_more places rows i p r in' low =
       let e : i + 1 ≡ suc i = omega arith in
       ap (λ n. told line places (take n rows)) e ∙ told_next places rows i p r in' low
+
+  -- nothing is told of no rows, behind a text
+  pub told_none : (text places : List ℕ) (rows : List Row) → text ≡ text ++ told line places (take 0 rows)
+  told_none text places rows = sym (ap (λ l. text ++ concat l) (texts_none places) ∙ append-nil text)
+
+  -- the text of one row more, behind a text
+  pub told_behind : (text places : List ℕ) (rows : List Row) (i p : ℕ) (row : Row) → i < length places
+      → i < length rows → row ≡ get_or rows i row
+      → text ++ told line places (take (i + 1) rows)
+      ≡ text ++ told line places (take i rows) ++ line (get_or places i p) row
+  told_behind text places rows i p row in' low is =
+      ap (λ l. text ++ l) (told_more places rows i p row in' low)
+      ∙ sym (append_assoc text (told line places (take i rows)) (line (get_or places i p) (get_or rows i row)))
+      ∙ ap (λ r. text ++ told line places (take i rows) ++ line (get_or places i p) r) (sym is)
+
+  -- what is told of the first rows behind a text, and the rest
+  pub told_rest : (text places : List ℕ) (rows : List Row) (n : ℕ)
+      → text ++ told line places rows
+      ≡ text ++ told line places (take n rows) ++ concat (drop n (texts_of line places rows))
+  told_rest text places rows n =
+      let rest : List ℕ = concat (drop n (texts_of line places rows)) in
+      ap (λ l. text ++ l) (parts_of_all (texts_of line places rows) n
+      ∙ ap (λ l. concat l ++ rest) (sym (texts-take n places rows)))
+      ∙ sym (append_assoc text (told line places (take n rows)) rest)
 
   -- a piece's rows are told as the piece's texts
   pub piece_told : (texts : List (List ℕ)) (size : ℕ) (places : List ℕ) (rows : List Row) (group k : ℕ)

@@ -1,7 +1,5 @@
-pub mod XmlTexts
 pub mod Ranks
 pub mod Names
 pub mod Laws
 pub mod Cases
-pub mod XmlCharacters
 pub mod Documents

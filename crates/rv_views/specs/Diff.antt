@@ -7,7 +7,8 @@ use Rattle.rv_rows.specs.declared.row.Row.{Row}
 use Rattle.rv_rows.specs.Report.{line}
 use Rattle.rv_views.specs.declared.diff.Differing.{Differing}
 use Rattle.rv_views.specs.ByName.{row_named}
-use Rattle.rv_views.specs.Differences.{change_lines, rows_agree}
+use Rattle.rv_explain.specs.Change.{rows_agree}
+use Rattle.rv_views.specs.Differences.{change_lines}
 
 -- ---- a row, beside the one of its name in the other report, if there is one
 
@@ -50,7 +51,6 @@ unfoldable pub counts_words : Differing → List ℕ
 counts_words counts = decimal counts.gone ++ codes " gone, " ++ decimal counts.added
     ++ codes " new, " ++ decimal counts.changed ++ codes " changed\n"
 
--- how many of so many jobs
 -- so many of so many jobs
 unfoldable pub differing_words : ℕ → ℕ → List ℕ
 differing_words count jobs = decimal count ++ codes " of " ++ decimal jobs

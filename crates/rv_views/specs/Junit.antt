@@ -1,5 +1,5 @@
 -- Rows as JUnit's XML: one suite, and one case a row, in order.
-use Rattle.std.specs.Prelude.{◌&&◌, ◌^◌, ◌<◌, ℕ, Bool, not, List, [], ◌∷◌, ◌++◌, Option, Some, None, codes}
+use Rattle.std.specs.Prelude.{◌^◌, ◌<◌, ℕ, List, [], ◌∷◌, ◌++◌, Option, Some, None, codes}
 use Rattle.std.specs.Prelude.{count_by, if◌then◌else◌, length, position, take}
 use Rattle.std.specs.Fmt.{decimal}
 use Rattle.hex.specs.Hex.{IsBytes}
@@ -8,17 +8,9 @@ use Rattle.rv_rows.specs.Verdict.{is_run}
 use Rattle.rv_explain.specs.declared.passing.Rule.{Rule}
 use Rattle.rv_lines.specs.ConsoleTail.{is_feed}
 use Rattle.rv_explain.specs.Passing.{has_passed}
-use Rattle.rv_views.specs.declared.xml.Within.TheVariants.{Attribute, Element}
-use Rattle.rv_views.specs.Xml.{escaped}
-
--- ---- counts
-
--- a failure is of a job that ran, an error of one that was refused
-abbrev pub is_failure : Rule → Row → Bool
-is_failure rule row = not (has_passed rule row) && is_run row.ending
-
-abbrev pub is_error : Rule → Row → Bool
-is_error rule row = not (has_passed rule row) && not (is_run row.ending)
+use Rattle.rv_explain.specs.Problem.{is_error, is_failure}
+use Rattle.rv_xml.specs.declared.xml.Within.TheVariants.{Attribute, Element}
+use Rattle.rv_xml.specs.Xml.{escaped}
 
 -- ---- a case
 

@@ -1,4 +1,4 @@
-pub mod Xml
+pub mod Pieces
 pub mod Junit
 pub mod ByName
 pub mod ByNameInside

@@ -4,17 +4,18 @@ ghost use Rattle.std.specs.Prelude.{◌≡◌, ◌==◌, ◌≤◌, ◌<◌, ◌
 ghost use Rattle.std.specs.List.{flat_map};
 ghost use Rattle.rv_rows.specs.Report.{line};
 ghost use Rattle.rv_views.specs.ByName.{row_named};
-ghost use Rattle.rv_views.specs.Diff.{count_line, counts_words, diff_text, differing, differing_count, gone_line, is_alone_in};
-ghost use Rattle.rv_views.specs.Diff.{differing_words, is_changed, lines_of_new};
+ghost use Rattle.rv_views.specs.Diff.{count_line, diff_text, differing, differing_count, gone_line, is_alone_in};
+ghost use Rattle.rv_views.specs.Diff.{is_changed, lines_of_new};
 
 use crate::by_name::ByName;
-use crate::differences::{push_change_lines, rows_agree};
+use crate::differences::push_change_lines;
+use rv_explain::{Change, change_of};
 use rv_lines::{Span, push_spans};
 use rv_rows::Row;
 use std::alloc::{AllocError, Global};
 
 /// How many jobs of two reports differ.
-#[derive(Clone, Copy, Debug, PartialEq, Eq)]
+#[derive(Clone, Copy)]
 pub struct Differing {
     /// Those that only the old report has.
     pub gone: usize,
@@ -53,101 +54,65 @@ pub fn push_diff(
 {
     let before = ByName::new(alloc, old)?;
     let after = ByName::new(alloc, new)?;
-    push_gone(text, &after, old)?;
-    push_new(text, steps, &before, new)?;
-    let counts = counts_of(steps, &before, &after, old, new);
-    push_count_line(text, new.len() + counts.gone, counts)?;
+    let gone = push_gone(text, steps, &after, old)?;
+    let (added, changed) = push_new(text, steps, &before, new)?;
+    let counts = Differing {
+        gone,
+        added,
+        changed,
+    };
+    push_count_line(text, new.len() + gone, counts)?;
     Ok(counts)
 }
 
-fn counts_of(
+// Appends the lines of the jobs that are gone, and counts these.
+fn push_gone(
+    text: &mut Vec<u8>,
     steps: bool,
-    before: &ByName<'_>,
     after: &ByName<'_>,
     old: &[Row],
-    new: &[Row],
-) -> Differing
-    requires before { before.now ≡ old.now }
-    requires after { after.now ≡ new.now }
-    ensures counts { result ≡ differing steps old.now new.now }
-    ensures gone { result.gone ≤ length old.now }
-    ensures added { result.added ≤ length new.now }
-    ensures changed { result.changed ≤ length new.now }
-{
-    Differing {
-        gone: alone_count(after, old),
-        added: alone_count(before, new),
-        changed: changed_count(steps, before, new),
-    }
-}
-
-fn alone_count(others: &ByName<'_>, rows: &[Row]) -> usize
-    ensures count { result ≡ count_by (is_alone_in others.now) rows.now }
-    ensures within { result ≤ length rows.now }
-{
-    rows.iter().filter(|row| is_alone(others, row)).count()
-}
-
-fn is_alone(others: &ByName<'_>, row: &Row) -> bool
-    ensures { result ≡ is_alone_in others.now row.now }
-{
-    others.find(row.name.as_str()).is_none()
-}
-
-fn changed_count(steps: bool, before: &ByName<'_>, rows: &[Row]) -> usize
-    ensures count { result
-        ≡ count_by (λ row. is_changed steps (row_named before.now row.name) row) rows.now }
-    ensures within { result ≤ length rows.now }
-{
-    rows.iter()
-        .filter(|row| is_changed(steps, before.find(row.name.as_str()), row))
-        .count()
-}
-
-fn is_changed(steps: bool, old: Option<&Row>, new: &Row) -> bool
-    ensures { result ≡ is_changed steps (option_map (λ row. row.now) old.entry) new.now }
-{
-    match old {
-        Some(old) => !rows_agree(steps, old, new),
-        None => false,
-    }
-}
-
-// Appends the lines of the jobs that are gone.
-fn push_gone(text: &mut Vec<u8>, after: &ByName<'_>, old: &[Row]) -> Result<(), AllocError>
-    ensures { OnOk result (text.new.items ≡ text.old.items
+) -> Result<usize, AllocError>
+    ensures text { OnOk result (text.new.items ≡ text.old.items
         ++ flat_map (λ row. gone_line (row_named after.now row.name) row) old.now) }
+    ensures count { IfOk result (λ gone. gone ≡ count_by (is_alone_in after.now) old.now) }
+    ensures within { IfOk result (λ gone. gone ≤ length old.now) }
 {
+    let mut gone = 0;
     for row in old {
-        push_gone_line(text, after.find(row.name.as_str()), row)?;
+        if let Change::Gone = change_of(steps, Some(row), after.find(row.name.as_str())) {
+            push_sign(text, "- ", row)?;
+            gone += 1;
+        }
     }
-    Ok(())
+    Ok(gone)
 }
 
-fn push_gone_line(text: &mut Vec<u8>, new: Option<&Row>, old: &Row) -> Result<(), AllocError>
-    ensures { OnOk result (text.new.items ≡ text.old.items
-        ++ gone_line (option_map (λ row. row.now) new.entry) old.now) }
-{
-    match new {
-        Some(_) => Ok(()),
-        None => push_sign(text, "- ", old),
-    }
-}
-
-// Appends the lines of the jobs of the new report.
+// Appends the lines of the jobs of the new report, and counts those that only it has and those that changed.
 fn push_new(
     text: &mut Vec<u8>,
     steps: bool,
     before: &ByName<'_>,
     new: &[Row],
-) -> Result<(), AllocError>
-    ensures { OnOk result (text.new.items ≡ text.old.items
+) -> Result<(usize, usize), AllocError>
+    ensures text { OnOk result (text.new.items ≡ text.old.items
         ++ flat_map (λ row. lines_of_new steps (row_named before.now row.name) row) new.now) }
+    ensures added { IfOk result (λ counts. counts.0 ≡ count_by (is_alone_in before.now) new.now) }
+    ensures changed { IfOk result (λ counts. counts.1
+        ≡ count_by (λ row. is_changed steps (row_named before.now row.name) row) new.now) }
+    ensures within { IfOk result (λ counts. counts.0 + counts.1 ≤ length new.now) }
 {
+    let mut added = 0;
+    let mut changed = 0;
     for row in new {
-        push_lines_of_new(text, steps, before.find(row.name.as_str()), row)?;
+        let old = before.find(row.name.as_str());
+        push_lines_of_new(text, steps, old, row)?;
+        match change_of(steps, old, Some(row)) {
+            Change::Added => added += 1,
+            Change::Changed => changed += 1,
+            _ => {}
+        }
     }
-    Ok(())
+    Ok((added, changed))
 }
 
 fn push_lines_of_new(
@@ -181,38 +146,19 @@ fn push_sign<'a>(text: &mut Vec<u8>, sign: &'a str, row: &'a Row) -> Result<(), 
 }
 
 // Appends how many of so many jobs differ.
-#[tactic(auto, unfolding(crate::specs::Diff::count_line))]
+#[tactic(auto, unfolding(crate::specs::Diff::count_line, crate::specs::Diff::counts_words, crate::specs::Diff::differing_words))]
 fn push_count_line(text: &mut Vec<u8>, jobs: usize, counts: Differing) -> Result<(), AllocError>
     requires { differing_count counts < 2 ^ 64 }
     ensures { OnOk result (text.new.items ≡ text.old.items ++ count_line jobs counts) }
 {
     let count = counts.gone + counts.added + counts.changed;
-    push_differing(text, count as u64, jobs as u64)?;
-    push_counts(text, counts)
-}
-
-#[tactic(auto, unfolding(crate::specs::Diff::differing_words))]
-fn push_differing(text: &mut Vec<u8>, count: u64, jobs: u64) -> Result<(), AllocError>
-    ensures { OnOk result (text.new.items ≡ text.old.items ++ differing_words count jobs) }
-{
     push_spans(
         text,
         &[
-            Span::Number(count),
+            Span::Number(count as u64),
             Span::Text(" of "),
-            Span::Number(jobs),
+            Span::Number(jobs as u64),
             Span::Text(" jobs differ: "),
-        ],
-    )
-}
-
-#[tactic(auto, unfolding(crate::specs::Diff::counts_words))]
-fn push_counts(text: &mut Vec<u8>, counts: Differing) -> Result<(), AllocError>
-    ensures { OnOk result (text.new.items ≡ text.old.items ++ counts_words counts) }
-{
-    push_spans(
-        text,
-        &[
             Span::Number(counts.gone as u64),
             Span::Text(" gone, "),
             Span::Number(counts.added as u64),

@@ -1,83 +1,19 @@
-//! Whether two rows of one name differ, and the lines that say in what.
+//! The lines that say in what two rows of one name differ.
 
-ghost use Rattle.std.specs.Prelude.{◌≡◌, ◌++◌, OnOk};
+ghost use Rattle.std.specs.Prelude.{◌≡◌, ◌++◌, OnOk, codes, slice_index};
+ghost use Rattle.rv_rows.specs.Report.{line};
 ghost use Rattle.rv_rows.specs.Verdict.{same_signature};
-ghost use Rattle.rv_views.specs.Differences.{becomes, change_begin, change_line, change_lines};
-ghost use Rattle.rv_views.specs.Differences.{console_words, ending_words};
-ghost use Rattle.rv_views.specs.Differences.{rows_agree, same_console, same_ending, same_kind, same_place, same_steps};
-ghost use Rattle.rv_views.specs.Differences.{same_verdict, signature_words, steps_words, verdict_words};
+ghost use Rattle.rv_explain.specs.Change.{same_console, same_ending, same_steps, same_verdict};
+ghost use Rattle.rv_views.specs.Differences.{becomes, change_begin, change_line, change_lines, console_words};
+ghost use Rattle.rv_views.specs.Differences.{ending_words, first_place, signature_words, steps_words, verdict_words};
+ghost use Rattle.rv_views.specs.Differences.{words_words};
 
-use crate::change_words::{
-    push_console_words, push_ending_words, push_signature_words, verdict_text,
+use rv_explain::{
+    behind, same_console, same_ending, same_signature, same_steps, same_verdict, verdict_text,
 };
-use rv_lines::{Span, push_spans, push_text};
-use rv_rows::{Row, RowEnd, Verdict, Words, are_alike};
+use rv_lines::{Span, push_spans};
+use rv_rows::{Row, RowEnd};
 use std::alloc::AllocError;
-
-/// Whether two rows agree: in how they ended, in their consoles, their signatures and their verdicts, and where steps are
-/// compared in these and in the addresses and the values of faults.
-#[tactic(auto, unfolding(crate::specs::Differences::rows_agree))]
-pub(crate) fn rows_agree(steps: bool, old: &Row, new: &Row) -> bool
-    ensures { result ≡ rows_agree steps old.now new.now }
-{
-    same_ending(steps, old.ending, new.ending)
-        && same_steps(steps, old, new)
-        && same_console(old, new)
-        && same_signature(&old.signature, &new.signature)
-        && same_verdict(old.verdict, new.verdict)
-}
-
-fn same_ending(steps: bool, old: RowEnd, new: RowEnd) -> bool
-    ensures { result ≡ same_ending steps old new }
-{
-    same_kind(old, new) && (!steps || same_place(old, new))
-}
-
-fn same_kind(old: RowEnd, new: RowEnd) -> bool
-    ensures { result ≡ same_kind old new }
-{
-    match (old, new) {
-        (RowEnd::Refused(why), RowEnd::Refused(because)) => why.name() == because.name(),
-        _ => are_alike(old, new),
-    }
-}
-
-fn same_place(old: RowEnd, new: RowEnd) -> bool
-    ensures { result ≡ same_place old new }
-{
-    match (old, new) {
-        (RowEnd::Fault(_, pc, value), RowEnd::Fault(_, at, met)) => pc == at && value == met,
-        _ => true,
-    }
-}
-
-fn same_steps(steps: bool, old: &Row, new: &Row) -> bool
-    ensures { result ≡ same_steps steps old.now new.now }
-{
-    !steps || old.steps == new.steps
-}
-
-fn same_console(old: &Row, new: &Row) -> bool
-    ensures { result ≡ same_console old.now new.now }
-{
-    old.console.as_slice() == new.console.as_slice()
-}
-
-fn same_signature(old: &Option<Words>, new: &Option<Words>) -> bool
-    ensures { result ≡ same_signature old.now new.now }
-{
-    match (old, new) {
-        (Some(old), Some(new)) => old.as_slice() == new.as_slice(),
-        (None, None) => true,
-        _ => false,
-    }
-}
-
-fn same_verdict(old: Verdict, new: Verdict) -> bool
-    ensures { result ≡ same_verdict old new }
-{
-    verdict_text(old) == verdict_text(new)
-}
 
 /// Appends a line for each part in which two rows do not agree.
 #[tactic(auto, unfolding(crate::specs::Differences::change_lines))]
@@ -110,25 +46,55 @@ fn push_ending_change(
     if same_ending(steps, old.ending, new.ending) {
         return Ok(());
     }
-    push_name(text, new)?;
-    push_ending_words(text, old.ending)?;
-    push_text(text, " -> ")?;
-    push_ending_words(text, new.ending)?;
-    push_text(text, "\n")
-}
-
-// Appends what the line of a change begins with.
-fn push_name(text: &mut Vec<u8>, row: &Row) -> Result<(), AllocError>
-    ensures { OnOk result (text.new.items ≡ text.old.items ++ change_begin row.now.name) }
-{
     push_spans(
         text,
         &[
             Span::Text("! "),
-            Span::Text(row.name.as_str()),
+            Span::Text(new.name.as_str()),
             Span::Text(": "),
         ],
-    )
+    )?;
+    push_ending(text, old.ending, " -> ")?;
+    push_ending(text, new.ending, "\n")
+}
+
+// Appends how a row ended, as a report has it, and what stands behind it.
+#[tactic(auto, unfolding(crate::specs::Differences::ending_words))]
+fn push_ending<'a>(text: &mut Vec<u8>, ending: RowEnd, end: &'a str) -> Result<(), AllocError>
+    ensures { OnOk result (text.new.items
+        ≡ text.old.items ++ (ending_words ending ++ end.now)) }
+{
+    match ending {
+        RowEnd::Exit(code) => push_spans(
+            text,
+            &[
+                Span::Text("exit "),
+                Span::Number(u64::from(code)),
+                Span::Text(end),
+            ],
+        ),
+        RowEnd::Fault(kind, pc, value) => push_spans(
+            text,
+            &[
+                Span::Text("fault "),
+                Span::Text(kind.name()),
+                Span::Text(" pc="),
+                Span::Word(pc),
+                Span::Text(" value="),
+                Span::Word(value),
+                Span::Text(end),
+            ],
+        ),
+        RowEnd::Budget => push_spans(text, &[Span::Text("budget"), Span::Text(end)]),
+        RowEnd::Refused(why) => push_spans(
+            text,
+            &[
+                Span::Text("refused "),
+                Span::Text(why.name()),
+                Span::Text(end),
+            ],
+        ),
+    }
 }
 
 fn push_steps_change(
@@ -160,6 +126,8 @@ fn push_steps_change(
     )
 }
 
+// The line tells from which byte on two consoles differ, or their lengths where one is the beginning of the other.
+#[tactic(auto, unfolding(crate::specs::Differences::console_words))]
 fn push_console_change(text: &mut Vec<u8>, old: &Row, new: &Row) -> Result<(), AllocError>
     ensures { OnOk result (text.new.items ≡ text.old.items
         ++ change_line new.now.name (same_console old.now new.now)
@@ -168,11 +136,46 @@ fn push_console_change(text: &mut Vec<u8>, old: &Row, new: &Row) -> Result<(), A
     if same_console(old, new) {
         return Ok(());
     }
-    push_name(text, new)?;
-    push_console_words(text, old.console.as_slice(), new.console.as_slice())?;
-    push_text(text, "\n")
+    let before = old.console.as_slice();
+    let after = new.console.as_slice();
+    match first_byte(before, after) {
+        Some(place) => push_spans(
+            text,
+            &[
+                Span::Text("! "),
+                Span::Text(new.name.as_str()),
+                Span::Text(": console byte "),
+                Span::Number(place as u64),
+                Span::Text(": \""),
+                Span::Value(behind(before, place)),
+                Span::Text("\" -> \""),
+                Span::Value(behind(after, place)),
+                Span::Text("\"\n"),
+            ],
+        ),
+        None => push_spans(
+            text,
+            &[
+                Span::Text("! "),
+                Span::Text(new.name.as_str()),
+                Span::Text(": console "),
+                Span::Number(before.len() as u64),
+                Span::Text(" bytes -> "),
+                Span::Number(after.len() as u64),
+                Span::Text(" bytes\n"),
+            ],
+        ),
+    }
 }
 
+fn first_byte(old: &[u8], new: &[u8]) -> Option<usize>
+    ensures { result ≡ first_place old.now new.now }
+{
+    old.iter().zip(new).position(|(x, y)| x != y)
+}
+
+// The line tells in which word two signatures differ first, or their sizes where they do in those.
+#[tactic(auto, unfolding(crate::specs::Differences::signature_words))]
 fn push_signature_change(text: &mut Vec<u8>, old: &Row, new: &Row) -> Result<(), AllocError>
     ensures { OnOk result (text.new.items ≡ text.old.items
         ++ change_line new.now.name (same_signature old.now.signature new.now.signature)
@@ -181,9 +184,84 @@ fn push_signature_change(text: &mut Vec<u8>, old: &Row, new: &Row) -> Result<(),
     if same_signature(&old.signature, &new.signature) {
         return Ok(());
     }
-    push_name(text, new)?;
-    push_signature_words(text, &old.signature, &new.signature)?;
-    push_text(text, "\n")
+    let name = new.name.as_str();
+    match (&old.signature, &new.signature) {
+        (Some(before), Some(after)) => {
+            push_words_change(text, name, before.as_slice(), after.as_slice())
+        }
+        (Some(before), None) => push_spans(
+            text,
+            &[
+                Span::Text("! "),
+                Span::Text(name),
+                Span::Text(": signature "),
+                Span::Number(before.as_slice().len() as u64),
+                Span::Text(" words -> none\n"),
+            ],
+        ),
+        (None, Some(after)) => push_spans(
+            text,
+            &[
+                Span::Text("! "),
+                Span::Text(name),
+                Span::Text(": signature none -> "),
+                Span::Number(after.as_slice().len() as u64),
+                Span::Text(" words\n"),
+            ],
+        ),
+        (None, None) => Ok(()),
+    }
+}
+
+fn push_words_change<'a>(
+    text: &mut Vec<u8>,
+    name: &'a str,
+    old: &[u32],
+    new: &[u32],
+) -> Result<(), AllocError>
+    ensures { OnOk result (text.new.items ≡ text.old.items ++ line (change_begin name.now
+        ++ (codes "signature " ++ words_words (first_place old.now new.now) old.now new.now))) }
+{
+    match first_word(old, new) {
+        Some(place) => push_spans(
+            text,
+            &[
+                Span::Text("! "),
+                Span::Text(name),
+                Span::Text(": signature word "),
+                Span::Number(place as u64),
+                Span::Text(": "),
+                Span::Word(word_at(old, place)),
+                Span::Text(" -> "),
+                Span::Word(word_at(new, place)),
+                Span::Text("\n"),
+            ],
+        ),
+        None => push_spans(
+            text,
+            &[
+                Span::Text("! "),
+                Span::Text(name),
+                Span::Text(": signature "),
+                Span::Number(old.len() as u64),
+                Span::Text(" words -> "),
+                Span::Number(new.len() as u64),
+                Span::Text(" words\n"),
+            ],
+        ),
+    }
+}
+
+fn first_word(old: &[u32], new: &[u32]) -> Option<usize>
+    ensures { result ≡ first_place old.now new.now }
+{
+    old.iter().zip(new).position(|(x, y)| x != y)
+}
+
+fn word_at(words: &[u32], place: usize) -> u32
+    ensures { result ≡ slice_index words.now place }
+{
+    if place < words.len() { words[place] } else { 0 }
 }
 
 fn push_verdict_change(text: &mut Vec<u8>, old: &Row, new: &Row) -> Result<(), AllocError>

@@ -10,7 +10,7 @@ use rv_stream::Telling;
 use std::alloc::{AllocError, Global};
 
 /// Tells of a row that failed its line, with no symbol and no reason, and of any other nothing.
-#[derive(Clone, Copy, Debug)]
+#[derive(Clone, Copy)]
 pub struct FailedLines {
     pub rule: Rule,
 }

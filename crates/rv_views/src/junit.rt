@@ -1,18 +1,18 @@
 //! The parts of JUnit's XML.
 
-ghost use Rattle.std.specs.Prelude.{◌≡◌, ◌++◌, OnOk, codes, count_by, position, string_bytes};
+ghost use Rattle.std.specs.Prelude.{◌≡◌, ◌++◌, OnOk, count_by, position, string_bytes};
 ghost use Rattle.rv_lines.specs.ConsoleTail.{is_feed};
-ghost use Rattle.rv_views.specs.Junit.{attribute, begin_text, case_text, end_text, first_line, is_error, is_failure};
-ghost use Rattle.rv_views.specs.Junit.{number_attribute, output_text, problem_name, problem_or_none, problem_text};
+ghost use Rattle.rv_explain.specs.Problem.{is_error, is_failure};
+ghost use Rattle.rv_views.specs.Junit.{begin_text, case_text, first_line};
+ghost use Rattle.rv_views.specs.Junit.{problem_name, problem_or_none};
 
-use crate::xml::{Within, push_escaped};
-use rv_explain::{Rule, has_passed};
+use crate::pieces::{Piece, push_pieces};
+use rv_explain::{Rule, has_passed, is_error, is_failure};
 use rv_rows::{Row, is_run};
 use std::alloc::{AllocError, Global};
-use std::fmt::Write;
 
 /// Appends what stands before the cases: the declaration, and the suite's name and counts.
-#[tactic(auto, unfolding(crate::specs::Junit::begin_text))]
+#[tactic(auto, unfolding(crate::specs::Junit::begin_text, crate::specs::Junit::attribute, crate::specs::Junit::number_attribute))]
 pub(crate) fn push_begin(
     alloc: Global,
     text: &mut String,
@@ -23,28 +23,24 @@ pub(crate) fn push_begin(
     ensures { OnOk result (string_bytes text.new
         ≡ string_bytes text.old ++ begin_text class.now rule rows.now) }
 {
-    text.push_str("<?xml version=\"1.0\" encoding=\"UTF-8\"?>\n<testsuites>\n<testsuite")?;
-    push_attribute(alloc, text, "name", class)?;
     let failures = failure_count(rule, rows);
     let errors = error_count(rule, rows);
-    push_counts(text, rows.len(), failures, errors)
-}
-
-// Appends how many cases there are, and how many of them are failures and errors, and the end of the suite's tag.
-#[tactic(auto, unfolding(crate::specs::Junit::number_attribute))]
-fn push_counts(
-    text: &mut String,
-    tests: usize,
-    failures: usize,
-    errors: usize,
-) -> Result<(), AllocError>
-    ensures { OnOk result (string_bytes text.new ≡ string_bytes text.old
-        ++ (number_attribute (codes "tests") tests ++ number_attribute (codes "failures") failures
-        ++ number_attribute (codes "errors") errors ++ codes ">\n")) }
-{
-    writeln!(
+    push_pieces(
+        alloc,
         text,
-        " tests=\"{tests}\" failures=\"{failures}\" errors=\"{errors}\">"
+        &[
+            Piece::Text(
+                "<?xml version=\"1.0\" encoding=\"UTF-8\"?>\n<testsuites>\n<testsuite name=\"",
+            ),
+            Piece::Attribute(class),
+            Piece::Text("\" tests=\""),
+            Piece::Number(rows.len() as u64),
+            Piece::Text("\" failures=\""),
+            Piece::Number(failures as u64),
+            Piece::Text("\" errors=\""),
+            Piece::Number(errors as u64),
+            Piece::Text("\">\n"),
+        ],
     )
 }
 
@@ -54,43 +50,14 @@ fn failure_count(rule: Rule, rows: &[Row]) -> usize
     rows.iter().filter(|row| is_failure(rule, row)).count()
 }
 
-// Whether a job ran and failed.
-fn is_failure(rule: Rule, row: &Row) -> bool
-    ensures { result ≡ is_failure rule row.now }
-{
-    !has_passed(rule, row) && is_run(row.ending)
-}
-
 fn error_count(rule: Rule, rows: &[Row]) -> usize
     ensures { result ≡ count_by (is_error rule) rows.now }
 {
     rows.iter().filter(|row| is_error(rule, row)).count()
 }
 
-// Whether a job was refused, and fails by that.
-fn is_error(rule: Rule, row: &Row) -> bool
-    ensures { result ≡ is_error rule row.now }
-{
-    !has_passed(rule, row) && !is_run(row.ending)
-}
-
-#[tactic(auto, unfolding(crate::specs::Junit::attribute))]
-fn push_attribute(
-    alloc: Global,
-    text: &mut String,
-    name: &str,
-    value: &[u8],
-) -> Result<(), AllocError>
-    ensures { OnOk result (string_bytes text.new
-        ≡ string_bytes text.old ++ attribute name.now value.now) }
-{
-    write!(text, " {name}=\"")?;
-    push_escaped(alloc, text, Within::Attribute, value)?;
-    text.push_str("\"")
-}
-
 /// Appends the case of a row, with the lines that the row is given.
-#[tactic(auto, unfolding(crate::specs::Junit::case_text))]
+#[tactic(auto, unfolding(crate::specs::Junit::case_text, crate::specs::Junit::attribute, crate::specs::Junit::output_text))]
 pub(crate) fn push_case(
     alloc: Global,
     text: &mut String,
@@ -102,16 +69,33 @@ pub(crate) fn push_case(
     ensures { OnOk result (string_bytes text.new
         ≡ string_bytes text.old ++ case_text class.now rule row.now lines.now) }
 {
-    text.push_str("<testcase")?;
-    push_attribute(alloc, text, "classname", class)?;
-    push_attribute(alloc, text, "name", row.name.as_str().as_bytes())?;
-    text.push_str(">\n")?;
+    push_pieces(
+        alloc,
+        text,
+        &[
+            Piece::Text("<testcase classname=\""),
+            Piece::Attribute(class),
+            Piece::Text("\" name=\""),
+            Piece::Attribute(row.name.as_str().as_bytes()),
+            Piece::Text("\">\n"),
+        ],
+    )?;
     push_problem_or_none(alloc, text, rule, row, lines)?;
-    push_output(alloc, text, row)?;
-    text.push_str("</testcase>\n")?;
-    Ok(())
+    let steps = row.steps;
+    push_pieces(
+        alloc,
+        text,
+        &[
+            Piece::Text("<system-out>"),
+            Piece::Number(u64::from(steps)),
+            Piece::Text(" steps\n"),
+            Piece::Element(row.console.as_slice()),
+            Piece::Text("</system-out>\n</testcase>\n"),
+        ],
+    )
 }
 
+#[tactic(auto, unfolding(crate::specs::Junit::problem_text, crate::specs::Junit::attribute))]
 fn push_problem_or_none(
     alloc: Global,
     text: &mut String,
@@ -125,20 +109,22 @@ fn push_problem_or_none(
     if has_passed(rule, row) {
         return Ok(());
     }
-    push_problem(alloc, text, row, lines)
-}
-
-#[tactic(auto, unfolding(crate::specs::Junit::problem_text))]
-fn push_problem(alloc: Global, text: &mut String, row: &Row, lines: &[u8]) -> Result<(), AllocError>
-    ensures { OnOk result (string_bytes text.new
-        ≡ string_bytes text.old ++ problem_text row.now lines.now) }
-{
     let name = problem_name(row);
-    write!(text, "<{name}")?;
-    push_attribute(alloc, text, "message", first_line(lines))?;
-    text.push_str(">")?;
-    push_escaped(alloc, text, Within::Element, lines)?;
-    writeln!(text, "</{name}>")
+    push_pieces(
+        alloc,
+        text,
+        &[
+            Piece::Text("<"),
+            Piece::Text(name),
+            Piece::Text(" message=\""),
+            Piece::Attribute(first_line(lines)),
+            Piece::Text("\">"),
+            Piece::Element(lines),
+            Piece::Text("</"),
+            Piece::Text(name),
+            Piece::Text(">\n"),
+        ],
+    )
 }
 
 fn problem_name(row: &Row) -> &'static str
@@ -164,21 +150,4 @@ fn feed_place(text: &[u8]) -> Option<usize>
     ensures { result ≡ position is_feed text.now }
 {
     text.iter().position(|byte| *byte == b'\n')
-}
-
-#[tactic(auto, unfolding(crate::specs::Junit::output_text))]
-fn push_output(alloc: Global, text: &mut String, row: &Row) -> Result<(), AllocError>
-    ensures { OnOk result (string_bytes text.new ≡ string_bytes text.old ++ output_text row.now) }
-{
-    let steps = row.steps;
-    writeln!(text, "<system-out>{steps} steps")?;
-    push_escaped(alloc, text, Within::Element, row.console.as_slice())?;
-    text.push_str("</system-out>\n")
-}
-
-/// Appends what stands behind the cases.
-pub(crate) fn push_end(text: &mut String) -> Result<(), AllocError>
-    ensures { OnOk result (string_bytes text.new ≡ string_bytes text.old ++ end_text) }
-{
-    text.push_str("</testsuite>\n</testsuites>\n")
 }

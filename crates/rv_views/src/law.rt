@@ -6,18 +6,12 @@ ghost use Rattle.hex.specs.Hex.{IsBytes};
 ghost use Rattle.rv_rows.specs.declared.row.Row.{Row};
 ghost use Rattle.rv_explain.specs.declared.passing.Rule.{Rule};
 ghost use Rattle.rv_lines.specs.LastLine.{passed_count};
-ghost use Rattle.rv_views.specs.declared.xml.Within.{Within};
 ghost use Rattle.rv_views.specs.Diff.{difference_lines, differing, differing_count};
-ghost use Rattle.rv_views.specs.Differences.{change_lines, rows_agree};
-ghost use Rattle.rv_views.specs.Junit.{IsWrittenRow, is_error, is_failure, junit_text};
-ghost use Rattle.rv_views.specs.Xml.{IsXmlCharacters, IsXmlText, escaped};
-
-/// What is written for bytes is characters of XML 1.0 alone, and none of them is markup: each is there by its reference,
-/// where it has one, and else as it is in UTF-8.
-pub fn escaped_bytes_are_xml()
-    ensures { (within : Within) (bytes : List ℕ) → IsBytes bytes
-        → IsXmlText within (escaped within bytes) }
-{}
+ghost use Rattle.rv_explain.specs.Change.{rows_agree};
+ghost use Rattle.rv_views.specs.Differences.{change_lines};
+ghost use Rattle.rv_explain.specs.Problem.{is_error, is_failure};
+ghost use Rattle.rv_views.specs.Junit.{IsWrittenRow, junit_text};
+ghost use Rattle.rv_xml.specs.Xml.{IsXmlCharacters};
 
 /// A whole document is the UTF-8 of characters of XML 1.0, whatever bytes stand in names, lines and consoles.
 pub fn documents_are_xml_characters()

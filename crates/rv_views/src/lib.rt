@@ -8,7 +8,6 @@
 #![tactic(auto)]
 
 mod by_name;
-mod change_words;
 mod diff;
 mod differences;
 mod failed_lines;
@@ -16,14 +15,14 @@ mod junit;
 mod junit_writer;
 mod law;
 mod most_steps;
+mod pieces;
 mod show;
-mod xml;
 
 pub use diff::{Differing, push_diff};
 pub use failed_lines::FailedLines;
 pub use junit_writer::write_junit;
 pub use law::{
-    documents_are_xml_characters, escaped_bytes_are_xml, failures_and_errors_are_what_did_not_pass,
+    documents_are_xml_characters, failures_and_errors_are_what_did_not_pass,
     jobs_differ_where_a_line_is_due, rows_agree_where_no_line_is_due,
 };
 pub use most_steps::MOST_SHOWN;

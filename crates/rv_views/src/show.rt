@@ -52,29 +52,23 @@ fn push_most(alloc: Global, text: &mut Vec<u8>, rows: &[Row]) -> Result<(), Allo
     push_steps_lines(text, most.as_slice())
 }
 
+#[tactic(auto, unfolding(crate::specs::Show::steps_line))]
 fn push_steps_lines(text: &mut Vec<u8>, rows: &[&Row]) -> Result<(), AllocError>
     ensures { OnOk result (text.new.items
         ≡ text.old.items ++ flat_map (λ row. steps_line row.now) rows.now) }
 {
     for row in rows {
-        push_steps_line(text, row)?;
+        let steps = row.steps;
+        push_spans(
+            text,
+            &[
+                Span::Text("  "),
+                Span::Number(u64::from(steps)),
+                Span::Text(" "),
+                Span::Text(row.name.as_str()),
+                Span::Text("\n"),
+            ],
+        )?;
     }
     Ok(())
-}
-
-#[tactic(auto, unfolding(crate::specs::Show::steps_line))]
-fn push_steps_line(text: &mut Vec<u8>, row: &Row) -> Result<(), AllocError>
-    ensures { OnOk result (text.new.items ≡ text.old.items ++ steps_line row.now) }
-{
-    let steps = row.steps;
-    push_spans(
-        text,
-        &[
-            Span::Text("  "),
-            Span::Number(u64::from(steps)),
-            Span::Text(" "),
-            Span::Text(row.name.as_str()),
-            Span::Text("\n"),
-        ],
-    )
 }

@@ -1,0 +1,3 @@
+pub mod XmlTexts
+pub mod XmlCharacters
+pub mod Public
