@@ -1,9 +1,10 @@
 //! The lines of a list's faults.
 
 ghost use Rattle.std.specs.Prelude.{OnOk, length};
-ghost use Rattle.rv_list_faults.specs.Lines.{PutsLines};
+ghost use Rattle.rv_fault_texts.specs.Lines.{PutsLines};
 
-use rv_fault_texts::{List, Look, message_of};
+use crate::list::List;
+use crate::texts::{Look, message_of};
 use rv_lines::{push_shown, push_text};
 use rv_lists::JobError;
 use std::alloc::{AllocError, Global};

@@ -1,5 +1,5 @@
-use Rattle.rv_list_faults.proofs.OneMore.{one_line_more}
-use Rattle.rv_list_faults.proofs.faults.push_each.Goals as goal
+use Rattle.rv_fault_texts.proofs.OneMore.{one_line_more}
+use Rattle.rv_fault_texts.proofs.faults.push_each.Goals as goal
 
 pub loop-at-preserved : goal.loop-at-preserved
 loop-at-preserved c =

@@ -3,7 +3,7 @@ use Rattle.std.proofs.Common.{◌≡◌, ◌+◌, ℕ, List, [], ◌∷◌, ◌+
 use Rattle.std.proofs.Common.{refl, sym}
 use Rattle.std.proofs.lemmas.List.Concat.{flat_map-append}
 use Rattle.rv_lines.specs.Shown.{shown}
-use Rattle.rv_list_faults.specs.Lines.{PutsLines, line_of}
+use Rattle.rv_fault_texts.specs.Lines.{PutsLines, line_of}
 
 -- no line
 pub no_lines : (bytes : List ℕ) → PutsLines 0 bytes bytes
