@@ -19,12 +19,12 @@ loop-way-preserved c =
     let text = decimal (count way) ++ codes " " ++ way_name way in
     elim c.if-count-gt0.branch [
       | then-count-gt0+in_ok-push_failures w ↦
-          let more = failures_below-some count way (omega (arith, c.failed_count.ensures, w.if-count-gt0.true)) in
+          let more = failures_below-some count way (omega (arith, c.failed_count-count.ensures, w.if-count-gt0.true)) in
           record {
             begun = w.is_open-is ∙ is_begun texts text ∙ ap (λ xs. not (length xs == 0)) (sym more);
             text = rw w.bytes-is (cc (
               w.in_ok-push_failures.ensures,
-              c.failed_count.ensures,
+              c.failed_count-count.ensures,
               more,
               opened-more texts text,
               c.loop-way.invariant.text,
@@ -34,7 +34,7 @@ loop-way-preserved c =
             ));
           }
       | else-count-gt0 w ↦
-          let same = failures_below-none count way (omega (arith, c.failed_count.ensures, w.if-count-gt0.false)) in
+          let same = failures_below-none count way (omega (arith, c.failed_count-count.ensures, w.if-count-gt0.false)) in
           record {
             begun = w.is_open-is ∙ c.loop-way.invariant.begun ∙ ap (λ xs. not (length xs == 0)) (sym same);
             text = rw w.bytes-is (c.loop-way.invariant.text
