@@ -8,7 +8,7 @@ use rv_jobs::ExpectedConsole;
 use rv_rows::{Row, Words, are_alike};
 
 /// What differs first between two sequences.
-#[derive(Clone, Copy, Debug, PartialEq, Eq)]
+#[derive(Clone, Copy)]
 pub enum Difference {
     /// The elements at this place, counted from 0: the first place where both have one and they differ.
     At(usize),
@@ -19,7 +19,7 @@ pub enum Difference {
 }
 
 /// What differs first between a reference and a signature.
-#[derive(Clone, Copy, Debug, PartialEq, Eq)]
+#[derive(Clone, Copy)]
 pub enum SignatureDifference {
     /// The first line of the reference, counted from 1, that is not eight lower-case hexadecimal digits and a line
     /// feed, so that no words are compared.
@@ -33,7 +33,7 @@ pub enum SignatureDifference {
 }
 
 /// What differs first between a run and that of the job that it is expected to be the same as.
-#[derive(Clone, Copy, Debug, PartialEq, Eq)]
+#[derive(Clone, Copy)]
 pub enum SameDifference {
     /// How they ended.
     Ending,

@@ -7,7 +7,7 @@ ghost use Rattle.rv_explain.specs.Passing.{has_passed};
 use rv_rows::{Row, Verdict, holds_exit};
 
 /// What counts as a failure.
-#[derive(Clone, Copy, Debug, PartialEq, Eq)]
+#[derive(Clone, Copy)]
 pub enum Rule {
     /// All but a job that meets what is expected of it, and one that expects nothing and ends with exit code 0: also a
     /// refused image, and a fault or a used-up budget that nobody expected.

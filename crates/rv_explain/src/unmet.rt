@@ -13,7 +13,7 @@ use rv_rows::{Row, RowEnd, holds_end, holds_exit, is_asked, is_run};
 use std::alloc::{AllocError, Global};
 
 /// An expectation of a job that its run does not meet, and what differs first.
-#[derive(Clone, Copy, Debug, PartialEq, Eq)]
+#[derive(Clone, Copy)]
 pub enum Unmet {
     /// The exit code: the run ended with another one, or by no exit call.
     Exit,

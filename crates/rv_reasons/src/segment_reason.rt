@@ -1,6 +1,6 @@
 //! The addresses of segments that a map refuses, as a person is told them.
 
-ghost use Rattle.std.specs.Prelude.{◌≡◌, ◌+◌, ◌++◌, OnOk, codes, option_map};
+ghost use Rattle.std.specs.Prelude.{◌≡◌, ◌+◌, ◌++◌, OnOk, option_map};
 ghost use Rattle.std.specs.List.{find};
 ghost use Rattle.rv_elf.specs.Loading.{load_address, share};
 ghost use Rattle.rv_lines.specs.Spans.{span_text};
@@ -113,24 +113,26 @@ pub(crate) fn push_overlap(
         ≡ bytes.old.items ++ overlap_text at (sharing_segments at segments.now)) }
 {
     match sharing_segments(at, segments) {
-        Some((one, other)) => push_pair(bytes, at, &one, &other),
+        Some((one, other)) => {
+            let what = "the file bytes of two segments share addresses: ";
+            push_pair(bytes, what, at, &one, &other)
+        }
         None => push_text(bytes, "the file bytes of two segments share addresses"),
     }
 }
 
-// Says where the file bytes of two segments are loaded.
+// Says where the file bytes of two segments are loaded, behind a text.
 #[tactic(auto, unfolding(crate::specs::ImageReasons::pair_text))]
 fn push_pair(
     bytes: &mut Vec<u8>,
+    what: &'static str,
     at: LoadAt,
     one: &Segment,
     other: &Segment,
 ) -> Result<(), AllocError>
-    ensures { OnOk result (bytes.new.items ≡ bytes.old.items
-        ++ (codes "the file bytes of two segments share addresses: "
-        ++ pair_text at one.now other.now)) }
+    ensures { OnOk result
+        (bytes.new.items ≡ bytes.old.items ++ (what.now ++ pair_text at one.now other.now)) }
 {
-    let what = "the file bytes of two segments share addresses: ";
     push_range(bytes, what, load_address(at, one), one.filesz)?;
     push_range(bytes, " and ", load_address(at, other), other.filesz)
 }

@@ -17,7 +17,7 @@ use std::alloc::{AllocError, Global};
 use thiserror::Error;
 
 /// Why a text was not read.
-#[derive(Clone, Copy, Debug, Error, PartialEq, Eq)]
+#[derive(Clone, Copy, Debug, Error)]
 pub enum ReadError {
     /// A growth was refused.
     #[error("out of memory")]

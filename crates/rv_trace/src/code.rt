@@ -8,7 +8,7 @@ use rv_isa::{Instr, Isa, decode16, decode32, is_long};
 use rv_memory::Bus;
 
 /// The code of an instruction: a halfword, or a word.
-#[derive(Clone, Copy, Debug, PartialEq, Eq)]
+#[derive(Clone, Copy)]
 pub enum Code {
     Half(u16),
     Word(u32),

@@ -12,7 +12,7 @@ use rv_memory::Width;
 use rv_sequence::Sequence;
 
 /// What an instruction wrote.
-#[derive(Clone, Copy, Debug, PartialEq, Eq)]
+#[derive(Clone, Copy)]
 pub enum Wrote {
     Nothing,
     /// A register that is not x0, and its value afterwards.
@@ -24,7 +24,7 @@ pub enum Wrote {
 }
 
 /// An instruction that completed.
-#[derive(Clone, Copy, Debug, PartialEq, Eq)]
+#[derive(Clone, Copy)]
 pub struct TracedStep {
     pub pc: u32,
     /// What was fetched there: there is some, since the instruction completed.

@@ -14,7 +14,7 @@ use rv_rows::machine_at;
 use std::alloc::{AllocError, Global};
 
 /// The last instructions of a run, and where it ended.
-#[derive(Debug, Drop)]
+#[derive(Drop)]
 pub struct Trace {
     /// Those that completed, the oldest first.
     pub steps: TracedSteps,
