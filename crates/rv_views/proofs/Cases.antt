@@ -1,11 +1,33 @@
 -- The cases of rows, with the lines that are told of them.
-use Rattle.std.proofs.Common.{◌≡◌, ◌∙◌, refl, sym, ap, ℕ, List, [], ◌∷◌, ◌++◌, Option}
+use Rattle.std.proofs.Common.{◌≡◌, ◌∙◌, refl, sym, ap, append_assoc, ℕ, List, [], ◌∷◌, ◌++◌, Option}
+use Rattle.std.specs.Prelude.{codes}
+use Rattle.std.specs.Fmt.{decimal}
 use Rattle.std.proofs.KnownBytes.{Appends-nil}
 use Rattle.rv_rows.specs.declared.row.Row.{Row}
 use Rattle.rv_rows.specs.Sending.{AppendsBeginning}
 use Rattle.rv_explain.specs.declared.passing.Rule.{Rule}
 use Rattle.rv_stream.specs.Streams.{texts_of, told}
-use Rattle.rv_views.specs.Junit.{begin_text, case_text, cases_text, end_text, junit_text}
+use Rattle.rv_xml.specs.declared.xml.Within.TheVariants.{Element}
+use Rattle.rv_xml.specs.Xml.{escaped}
+use Rattle.rv_views.specs.Pieces.{attribute}
+use Rattle.rv_views.specs.Junit.{begin_text, case_text, cases_text, end_text, junit_text, output_text, problem_or_none}
+
+joined : (a b c d p o s m x y z : List ℕ) →
+    a ++ b ++ c ++ d ++ p ++ (o ++ s ++ m ++ x ++ y) ++ z
+    ≡ a ++ (b ++ (c ++ (d ++ (p ++ (o ++ (s ++ (m ++ (x ++ (y ++ z)))))))))
+joined a b c d p o s m x y z = simp append_assoc refl
+
+-- the case of a row, piece behind piece
+pub case_whole : (class : List ℕ) (rule : Rule) (row : Row) (lines : List ℕ) →
+    case_text class rule row lines
+    ≡ codes "<testcase" ++ (attribute (codes "classname") class ++ (attribute (codes "name") row.name
+    ++ (codes ">\n" ++ (problem_or_none rule row lines ++ (codes "<system-out>" ++ (decimal row.steps
+    ++ (codes " steps\n" ++ (escaped Element row.console ++ (codes "</system-out>\n" ++ codes "</testcase>\n")))))))))
+unfolding case_text output_text
+case_whole class rule row lines =
+    joined (codes "<testcase") (attribute (codes "classname") class) (attribute (codes "name") row.name) (codes ">\n")
+    (problem_or_none rule row lines) (codes "<system-out>") (decimal row.steps) (codes " steps\n")
+    (escaped Element row.console) (codes "</system-out>\n") (codes "</testcase>\n")
 
 -- nothing went out yet
 pub nothing_out : (a : Option (List ℕ)) (text : List ℕ) → AppendsBeginning a a text

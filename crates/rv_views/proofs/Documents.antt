@@ -10,9 +10,10 @@ use Rattle.rv_explain.specs.declared.passing.Rule.{Rule}
 use Rattle.rv_lines.specs.ConsoleTail.{is_feed}
 use Rattle.rv_explain.specs.Passing.{has_passed}
 use Rattle.rv_xml.specs.declared.xml.Within.TheVariants.{Attribute, Element}
-use Rattle.rv_views.specs.Junit.{IsWrittenRow, attribute, begin_text, case_text, cases_text, end_text, first_line}
+use Rattle.rv_views.specs.Pieces.{attribute, number_attribute}
+use Rattle.rv_views.specs.Junit.{IsWrittenRow, begin_text, case_text, cases_text, end_text, first_line}
 use Rattle.rv_explain.specs.Problem.{is_error, is_failure}
-use Rattle.rv_views.specs.Junit.{junit_text, number_attribute, output_text, problem_name}
+use Rattle.rv_views.specs.Junit.{junit_text, output_text, problem_name}
 use Rattle.rv_views.specs.Junit.{problem_text, up_to}
 use Rattle.rv_xml.specs.Xml.{IsXmlCharacters}
 use Rattle.rv_views.proofs.Laws.{all_are_counted}

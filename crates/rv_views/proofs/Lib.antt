@@ -3,3 +3,4 @@ pub mod Names
 pub mod Laws
 pub mod Cases
 pub mod Documents
+pub mod Signatures

@@ -9,16 +9,11 @@ use Rattle.rv_explain.specs.declared.passing.Rule.{Rule}
 use Rattle.rv_lines.specs.ConsoleTail.{is_feed}
 use Rattle.rv_explain.specs.Passing.{has_passed}
 use Rattle.rv_explain.specs.Problem.{is_error, is_failure}
-use Rattle.rv_xml.specs.declared.xml.Within.TheVariants.{Attribute, Element}
+use Rattle.rv_xml.specs.declared.xml.Within.TheVariants.{Element}
 use Rattle.rv_xml.specs.Xml.{escaped}
+use Rattle.rv_views.specs.Pieces.{attribute, number_attribute}
 
 -- ---- a case
-
-unfoldable pub attribute : List ℕ → List ℕ → List ℕ
-attribute name value = codes " " ++ name ++ codes "=\"" ++ escaped Attribute value ++ codes "\""
-
-unfoldable pub number_attribute : List ℕ → ℕ → List ℕ
-number_attribute name number = codes " " ++ name ++ codes "=\"" ++ decimal number ++ codes "\""
 
 -- what stands before the first line feed, or all
 abbrev pub up_to : Option ℕ → List ℕ → List ℕ

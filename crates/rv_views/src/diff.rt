@@ -146,7 +146,6 @@ fn push_sign<'a>(text: &mut Vec<u8>, sign: &'a str, row: &'a Row) -> Result<(), 
 }
 
 // Appends how many of so many jobs differ.
-#[tactic(auto, unfolding(crate::specs::Diff::count_line, crate::specs::Diff::counts_words, crate::specs::Diff::differing_words))]
 fn push_count_line(text: &mut Vec<u8>, jobs: usize, counts: Differing) -> Result<(), AllocError>
     requires { differing_count counts < 2 ^ 64 }
     ensures { OnOk result (text.new.items ≡ text.old.items ++ count_line jobs counts) }

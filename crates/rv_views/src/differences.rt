@@ -12,7 +12,7 @@ use rv_explain::{
     behind, same_console, same_ending, same_signature, same_steps, same_verdict, verdict_text,
 };
 use rv_lines::{Span, push_spans};
-use rv_rows::{Row, RowEnd};
+use rv_rows::{Row, RowEnd, Words};
 use std::alloc::AllocError;
 
 /// Appends a line for each part in which two rows do not agree.
@@ -128,7 +128,7 @@ fn push_steps_change(
 
 // The line tells from which byte on two consoles differ, or their lengths where one is the beginning of the other.
 #[tactic(auto, unfolding(crate::specs::Differences::console_words))]
-fn push_console_change(text: &mut Vec<u8>, old: &Row, new: &Row) -> Result<(), AllocError>
+fn push_console_change<'a>(text: &mut Vec<u8>, old: &'a Row, new: &'a Row) -> Result<(), AllocError>
     ensures { OnOk result (text.new.items ≡ text.old.items
         ++ change_line new.now.name (same_console old.now new.now)
         (console_words old.now.console new.now.console)) }
@@ -175,7 +175,6 @@ fn first_byte(old: &[u8], new: &[u8]) -> Option<usize>
 }
 
 // The line tells in which word two signatures differ first, or their sizes where they do in those.
-#[tactic(auto, unfolding(crate::specs::Differences::signature_words))]
 fn push_signature_change(text: &mut Vec<u8>, old: &Row, new: &Row) -> Result<(), AllocError>
     ensures { OnOk result (text.new.items ≡ text.old.items
         ++ change_line new.now.name (same_signature old.now.signature new.now.signature)
@@ -184,8 +183,20 @@ fn push_signature_change(text: &mut Vec<u8>, old: &Row, new: &Row) -> Result<(),
     if same_signature(&old.signature, &new.signature) {
         return Ok(());
     }
-    let name = new.name.as_str();
-    match (&old.signature, &new.signature) {
+    push_signature_line(text, new.name.as_str(), &old.signature, &new.signature)
+}
+
+#[tactic(auto, unfolding(crate::specs::Differences::signature_words))]
+fn push_signature_line<'a>(
+    text: &mut Vec<u8>,
+    name: &'a str,
+    old: &Option<Words>,
+    new: &Option<Words>,
+) -> Result<(), AllocError>
+    ensures { OnOk result (text.new.items ≡ text.old.items
+        ++ line (change_begin name.now ++ signature_words old.now new.now)) }
+{
+    match (old, new) {
         (Some(before), Some(after)) => {
             push_words_change(text, name, before.as_slice(), after.as_slice())
         }
@@ -209,7 +220,14 @@ fn push_signature_change(text: &mut Vec<u8>, old: &Row, new: &Row) -> Result<(),
                 Span::Text(" words\n"),
             ],
         ),
-        (None, None) => Ok(()),
+        (None, None) => push_spans(
+            text,
+            &[
+                Span::Text("! "),
+                Span::Text(name),
+                Span::Text(": signature none -> none\n"),
+            ],
+        ),
     }
 }
 

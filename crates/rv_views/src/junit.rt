@@ -12,7 +12,6 @@ use rv_rows::{Row, is_run};
 use std::alloc::{AllocError, Global};
 
 /// Appends what stands before the cases: the declaration, and the suite's name and counts.
-#[tactic(auto, unfolding(crate::specs::Junit::begin_text, crate::specs::Junit::attribute, crate::specs::Junit::number_attribute))]
 pub(crate) fn push_begin(
     alloc: Global,
     text: &mut String,
@@ -29,17 +28,12 @@ pub(crate) fn push_begin(
         alloc,
         text,
         &[
-            Piece::Text(
-                "<?xml version=\"1.0\" encoding=\"UTF-8\"?>\n<testsuites>\n<testsuite name=\"",
-            ),
-            Piece::Attribute(class),
-            Piece::Text("\" tests=\""),
-            Piece::Number(rows.len() as u64),
-            Piece::Text("\" failures=\""),
-            Piece::Number(failures as u64),
-            Piece::Text("\" errors=\""),
-            Piece::Number(errors as u64),
-            Piece::Text("\">\n"),
+            Piece::Text("<?xml version=\"1.0\" encoding=\"UTF-8\"?>\n<testsuites>\n<testsuite"),
+            Piece::Attribute("name", class),
+            Piece::NumberAttribute("tests", rows.len() as u64),
+            Piece::NumberAttribute("failures", failures as u64),
+            Piece::NumberAttribute("errors", errors as u64),
+            Piece::Text(">\n"),
         ],
     )
 }
@@ -57,13 +51,12 @@ fn error_count(rule: Rule, rows: &[Row]) -> usize
 }
 
 /// Appends the case of a row, with the lines that the row is given.
-#[tactic(auto, unfolding(crate::specs::Junit::case_text, crate::specs::Junit::attribute, crate::specs::Junit::output_text))]
-pub(crate) fn push_case(
+pub(crate) fn push_case<'a>(
     alloc: Global,
     text: &mut String,
-    class: &[u8],
+    class: &'a [u8],
     rule: Rule,
-    row: &Row,
+    row: &'a Row,
     lines: &[u8],
 ) -> Result<(), AllocError>
     ensures { OnOk result (string_bytes text.new
@@ -73,11 +66,10 @@ pub(crate) fn push_case(
         alloc,
         text,
         &[
-            Piece::Text("<testcase classname=\""),
-            Piece::Attribute(class),
-            Piece::Text("\" name=\""),
-            Piece::Attribute(row.name.as_str().as_bytes()),
-            Piece::Text("\">\n"),
+            Piece::Text("<testcase"),
+            Piece::Attribute("classname", class),
+            Piece::Attribute("name", row.name.as_str().as_bytes()),
+            Piece::Text(">\n"),
         ],
     )?;
     push_problem_or_none(alloc, text, rule, row, lines)?;
@@ -95,7 +87,7 @@ pub(crate) fn push_case(
     )
 }
 
-#[tactic(auto, unfolding(crate::specs::Junit::problem_text, crate::specs::Junit::attribute))]
+#[tactic(auto, unfolding(crate::specs::Junit::problem_text))]
 fn push_problem_or_none(
     alloc: Global,
     text: &mut String,
@@ -116,9 +108,8 @@ fn push_problem_or_none(
         &[
             Piece::Text("<"),
             Piece::Text(name),
-            Piece::Text(" message=\""),
-            Piece::Attribute(first_line(lines)),
-            Piece::Text("\">"),
+            Piece::Attribute("message", first_line(lines)),
+            Piece::Text(">"),
             Piece::Element(lines),
             Piece::Text("</"),
             Piece::Text(name),

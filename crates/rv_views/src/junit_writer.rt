@@ -72,7 +72,14 @@ impl<'a, T: Telling> Telling for Cases<'a, T> {
         let mut lines = Vec::new(alloc);
         self.telling.push(alloc, place, row, &mut lines)?;
         let mut case = String::new(alloc);
-        push_case(alloc, &mut case, self.class, self.rule, row, lines.as_slice())?;
+        push_case(
+            alloc,
+            &mut case,
+            self.class,
+            self.rule,
+            row,
+            lines.as_slice(),
+        )?;
         text.extend_from_slice(case.as_bytes())
     }
 }

@@ -18,17 +18,28 @@ returns-clause-text c =
     let last = count_line (length new + counts.gone) counts in
     let after_gone = c.in_ok-gone.ensures.text
     ∙ ap (λ rows. begun ++ flat_map (λ row. gone_line (row_named rows row.name) row) old) c.in_ok-after.ensures in
-    let after_others = c.in_ok-push_new.ensures.text
-    ∙ ap (λ rows. c.push_gone-gone.new.text.items
+    let after_others = c.in_ok-added.ensures.text
+    ∙ ap (λ rows. c.push_gone.new.text.items
     ++ flat_map (λ row. lines_of_new steps (row_named rows row.name) row) new) c.in_ok-before.ensures
     ∙ ap (λ xs. xs ++ others) after_gone
     ∙ append_assoc begun gone others in
     let counted = c.in_ok-gone.ensures.count ∙ ap (λ rows. count_by (is_alone_in rows) old) c.in_ok-after.ensures in
-    let added = c.in_ok-push_new.ensures.added ∙ ap (λ rows. count_by (is_alone_in rows) new) c.in_ok-before.ensures in
-    let changed = c.in_ok-push_new.ensures.changed
+    let added = c.in_ok-added.ensures.added ∙ ap (λ rows. count_by (is_alone_in rows) new) c.in_ok-before.ensures in
+    let changed = c.in_ok-added.ensures.changed
     ∙ ap (λ rows. count_by (λ row. is_changed steps (row_named rows row.name) row) new) c.in_ok-before.ensures in
     c.in_ok-push_count_line.ensures
     ∙ (λ i. c.push_new.new.text.items
     ++ count_line (length new + counted i) (record { gone = counted i; added = added i; changed = changed i }))
     ∙ ap (λ xs. xs ++ last) after_others
     ∙ append_assoc begun (gone ++ others) last
+
+pub returns-clause-counts : goal.returns-clause-counts
+returns-clause-counts c =
+    let old = c.args.old.now in
+    let new = c.args.new.now in
+    let steps = c.args.steps in
+    let counted = c.in_ok-gone.ensures.count ∙ ap (λ rows. count_by (is_alone_in rows) old) c.in_ok-after.ensures in
+    let added = c.in_ok-added.ensures.added ∙ ap (λ rows. count_by (is_alone_in rows) new) c.in_ok-before.ensures in
+    let changed = c.in_ok-added.ensures.changed
+    ∙ ap (λ rows. count_by (λ row. is_changed steps (row_named rows row.name) row) new) c.in_ok-before.ensures in
+    λ i. record { gone = counted i; added = added i; changed = changed i }

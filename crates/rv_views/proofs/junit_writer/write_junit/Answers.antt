@@ -15,7 +15,7 @@ returns-in_err-put_told-clause-part g c =
     let class = c.args.class.now in
     let rule = c.args.rule in
     let rows = c.args.rows.now in
-    let begun = c.into_bytes-text.ensures ∙ c.in_ok-push_begin.ensures
+    let begun = ap (λ v. v.items) c.into_bytes-text.ensures.value ∙ c.in_ok-push_begin.ensures
     ∙ ap (λ xs. xs ++ begin_text class rule rows) c.new-begin.ensures.bytes in
     let error = err_from_is_err_and c.from_residual-in_err-put_told.result
     c.from_residual-in_err-put_told.ensures.1 in
@@ -28,7 +28,7 @@ returns-in_err-push_text-clause-part g c =
     let class = c.args.class.now in
     let rule = c.args.rule in
     let rows = c.args.rows.now in
-    let begun = c.into_bytes-text.ensures ∙ c.in_ok-push_begin.ensures
+    let begun = ap (λ v. v.items) c.into_bytes-text.ensures.value ∙ c.in_ok-push_begin.ensures
     ∙ ap (λ xs. xs ++ begin_text class rule rows) c.new-begin.ensures.bytes in
     let error = err_from_is_err_and c.from_residual-in_err-push_text.result
     c.from_residual-in_err-push_text.ensures.1 in
@@ -41,12 +41,12 @@ returns-in_err-put_all-clause-part g c =
     let class = c.args.class.now in
     let rule = c.args.rule in
     let rows = c.args.rows.now in
-    let begun = c.into_bytes-text.ensures ∙ c.in_ok-push_begin.ensures
+    let begun = ap (λ v. v.items) c.into_bytes-text.ensures.value ∙ c.in_ok-push_begin.ensures
     ∙ ap (λ xs. xs ++ begin_text class rule rows) c.new-begin.ensures.bytes in
     let error = err_from_is_err_and c.from_residual-in_err-put_all.result
     c.from_residual-in_err-put_all.ensures.1 in
     rw error.1 (failed_under_way _ _ _ _ end_text _ _ _ c.in_ok-put_told.ensures.under_way
-    c.in_ok-push_text.ensures c.in_err-put_all.ensures.part
+    c.in_ok-push_text.ensures (rw c.as_slice.ensures.value at c.in_err-put_all.ensures.part)
     (junit_begun class rule (g.T.Telling.line c.args.telling.now) c.args.places.now rows
     c.into_bytes-text.result.items begun))
 
@@ -55,9 +55,9 @@ returns-clause-appended g c =
     let class = c.args.class.now in
     let rule = c.args.rule in
     let rows = c.args.rows.now in
-    let begun = c.into_bytes-text.ensures ∙ c.in_ok-push_begin.ensures
+    let begun = ap (λ v. v.items) c.into_bytes-text.ensures.value ∙ c.in_ok-push_begin.ensures
     ∙ ap (λ xs. xs ++ begin_text class rule rows) c.new-begin.ensures.bytes in
     rw (junit_begun class rule (g.T.Telling.line c.args.telling.now) c.args.places.now rows
     c.into_bytes-text.result.items begun)
     (ended_under_way _ _ _ _ end_text _ _ c.in_ok-put_told.ensures.under_way
-    c.in_ok-push_text.ensures c.in_ok-put_all.ensures.appended)
+    c.in_ok-push_text.ensures (rw c.as_slice.ensures.value at c.in_ok-put_all.ensures.appended))
