@@ -8,6 +8,12 @@ use Rattle.rv_rows.proofs.flat.flat_bus.Goals as goal
 pub place-requires : goal.place-requires
 place-requires c = image_fits _ _ (rw (c.default_map.ensures, c.new.ensures.items) at c.in_ok-bus.ensures) c.requires
 
+pub returns-clause-contents : goal.returns-clause-contents
+returns-clause-contents c =
+    let new : c.in_ok-bus.bus ≡ new_bus default_regions [] Fault =
+    rw (c.default_map.ensures, c.new.ensures.items) at c.in_ok-bus.ensures in
+    c.place.ensures ∙ ap (λ bus. with_bytes bus 0x8000_0000 c.args.bytes.now) new
+
 pub returns-clause-memory : goal.returns-clause-memory
 returns-clause-memory c =
     let new : c.in_ok-bus.bus ≡ new_bus default_regions [] Fault =

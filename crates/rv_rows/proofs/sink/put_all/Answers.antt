@@ -1,4 +1,5 @@
-use Rattle.std.proofs.Common.{◌∙◌, ℕ, arith, length-take, length-drop}
+use Rattle.std.proofs.Common.{◌∙◌, ℕ, ap, arith, length-take, length-drop}
+use Rattle.rv_jobs.specs.Stores.{one_more}
 use Rattle.rv_rows.proofs.Outgoing.{first_bytes, next_taken}
 use Rattle.rv_rows.proofs.sink.put_all.Goals as goal
 
@@ -13,3 +14,6 @@ loop-at-preserved g c = record {
 pub returns-in-Err-clause-part : goal.returns-in-Err-clause-part
 returns-in-Err-clause-part g c =
     first_bytes _ _ _ c.args.bytes.now c.loop-at.at c.loop-at.invariant.appended c.in-Err.ensures.kept
+
+pub returns-in-Err-clause-failure : goal.returns-in-Err-clause-failure
+returns-in-Err-clause-failure g c = c.in-Err.ensures.failure ∙ ap one_more c.loop-at.invariant.counted
