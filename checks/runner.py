@@ -23,6 +23,7 @@ import images
 import lists
 import machines
 import placed
+import progress
 import saved
 from rows import RULES, Row, Wrong, cut, last_line, lines, many, squeezed, status_of, told_lines, with_bytes
 
@@ -255,6 +256,7 @@ FORMS = {
     **machines.FORMS,
     **lists.FORMS,
     **placed.FORMS,
+    **progress.FORMS,
 }
 
 

@@ -1,3 +1,4 @@
+pub mod Counts
 pub mod Files
 pub mod UnreadFiles
 pub mod Reasons

@@ -1,9 +1,9 @@
 //! A line on a terminal.
 
-ghost use Rattle.std.specs.Prelude.{◌≡◌, ◌++◌, OnOk};
-ghost use Rattle.rv_progress.specs.Counts.{counts_text, rest_text};
+ghost use Rattle.std.specs.Prelude.{◌≡◌, ◌++◌, ◌∷◌, ◌-◌, IsTrue, OnOk, length, slice_get};
+ghost use Rattle.rv_telling.specs.Counts.{counts_text, is_held_by};
 
-use rv_lines::{push_number, push_text};
+use rv_lines::{Span, push_spans};
 use std::alloc::{AllocError, Global};
 use std::io::Write;
 
@@ -41,12 +41,15 @@ impl<W: Write + Drop> Line<W> {
     }
 
     /// Writes the counts over those that stand there. They never have fewer digits.
-    pub(crate) fn show(&mut self, alloc: Global, counts: Counts) {
+    pub(crate) fn show(&mut self, alloc: Global, counts: Counts)
+        // In the middle of a line of other text nothing is written.
+        ensures { IsTrue self.old.is_held → self.new ≡ self.old }
+    {
         if self.is_held {
             return;
         }
         let mut text = Vec::new(alloc);
-        if push_line(&mut text, counts).is_ok() {
+        if push_counts(&mut text, counts).is_ok() {
             self.write(text.as_slice());
             self.is_shown = true;
         }
@@ -63,7 +66,10 @@ impl<W: Write + Drop> Line<W> {
     }
 
     /// Other text went to the terminal. Until it ends with a line feed nothing is shown.
-    pub(crate) fn note(&mut self, text: &[u8]) {
+    pub(crate) fn note(&mut self, text: &[u8])
+        ensures { self.new.is_held
+            ≡ is_held_by self.old.is_held (slice_get text.now (length text.now - 1)) }
+    {
         if let Some(last) = text.last() {
             self.is_held = *last != b'\n';
         }
@@ -76,25 +82,20 @@ impl<W: Write + Drop> Line<W> {
 }
 
 // Appends the counts, in the place of what stands on the line.
-fn push_line(text: &mut Vec<u8>, counts: Counts) -> Result<(), AllocError> {
-    push_text(text, "\r")?;
-    push_counts(text, counts)
-}
-
 fn push_counts(text: &mut Vec<u8>, counts: Counts) -> Result<(), AllocError>
     ensures { OnOk result (text.new.items
-        ≡ text.old.items ++ counts_text counts.done counts.jobs counts.failed) }
+        ≡ text.old.items ++ 13 ∷ counts_text counts.done counts.jobs counts.failed) }
 {
-    push_number(text, counts.done)?;
-    push_text(text, " of ")?;
-    push_rest(text, counts.jobs, counts.failed)
-}
-
-fn push_rest(text: &mut Vec<u8>, jobs: u64, failed: u64) -> Result<(), AllocError>
-    ensures { OnOk result (text.new.items ≡ text.old.items ++ rest_text jobs failed) }
-{
-    push_number(text, jobs)?;
-    push_text(text, " jobs done, ")?;
-    push_number(text, failed)?;
-    push_text(text, " failed")
+    push_spans(
+        text,
+        &[
+            Span::Text("\r"),
+            Span::Number(counts.done),
+            Span::Text(" of "),
+            Span::Number(counts.jobs),
+            Span::Text(" jobs done, "),
+            Span::Number(counts.failed),
+            Span::Text(" failed"),
+        ],
+    )
 }

@@ -1,0 +1,36 @@
+/* Preloaded into a process, makes of its streams and its clock what a check asks for: the streams whose numbers stand in
+   TERMINALS are terminals, and no others, the clock that only goes on is at 0 when it is read first and CLOCK_STEP milliseconds
+   further at each reading, and standard output takes MOST_PUT bytes at once. */
+#include <stdatomic.h>
+#include <stdlib.h>
+#include <string.h>
+#include <sys/syscall.h>
+#include <time.h>
+#include <unistd.h>
+
+static atomic_long read_times;
+
+static long number_of(const char *name) {
+    const char *number = getenv(name);
+    return number ? strtol(number, NULL, 10) : 0;
+}
+
+int isatty(int stream) {
+    const char *streams = getenv("TERMINALS");
+    return streams && strchr(streams, '0' + stream) != NULL;
+}
+
+int clock_gettime(clockid_t clock, struct timespec *now) {
+    if (clock != CLOCK_MONOTONIC) {
+        return (int)syscall(SYS_clock_gettime, clock, now);
+    }
+    long at = number_of("CLOCK_STEP") * atomic_fetch_add(&read_times, 1);
+    now->tv_sec = at / 1000;
+    now->tv_nsec = at % 1000 * 1000000;
+    return 0;
+}
+
+ssize_t write(int stream, const void *bytes, size_t count) {
+    size_t most = (size_t)number_of("MOST_PUT");
+    return syscall(SYS_write, stream, bytes, stream == STDOUT_FILENO && most < count ? most : count);
+}
