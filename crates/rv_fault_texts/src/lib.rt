@@ -1,10 +1,12 @@
-//! What a person is told of a fault of a job list, as bytes, without the end of its line: the file and the line where the job
-//! begins, the job's number and name, the key with the value that was met, and what is taken instead.
+//! What a person is told of a job list that is refused.
 //!
-//! [`message_of`] tells it over a [`Look`] at the list's text. No contract says what it tells: the texts are tested.
+//! [`push_faults`] appends a line for each fault, in the manner of compilers: the file and the line where the job begins, the job's
+//! number and name, the key with the value that was met, and what is taken instead. No contract says what a line tells: the texts
+//! are tested.
 #![tactic(auto)]
 
 mod expected;
+mod faults;
 mod job_fault;
 mod keys;
 mod kinds;
@@ -17,5 +19,4 @@ mod texts;
 mod values;
 mod wanted;
 
-pub use list::List;
-pub use texts::{Look, message_of};
+pub use faults::push_faults;

@@ -7,7 +7,7 @@ use toml::{Table, Value};
 
 /// A list that is a document.
 #[derive(Drop)]
-pub struct List<'a> {
+pub(crate) struct List<'a> {
     pub(crate) table: &'a Table,
     /// The elements of `job`; none where that is no array.
     pub(crate) jobs: &'a [Value],
@@ -19,7 +19,7 @@ pub struct List<'a> {
 
 impl<'a> List<'a> {
     /// The list of a text and its table.
-    pub fn of(alloc: Global, text: &[u8], table: &'a Table) -> Result<List<'a>, AllocError> {
+    pub(crate) fn of(alloc: Global, text: &[u8], table: &'a Table) -> Result<List<'a>, AllocError> {
         let jobs = elements_of(table, "job");
         Ok(List {
             table,

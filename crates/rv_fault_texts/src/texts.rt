@@ -10,7 +10,7 @@ use toml::de::Error;
 
 /// What a second look at a list's text finds.
 #[derive(Drop)]
-pub enum Look<'a> {
+pub(crate) enum Look<'a> {
     /// It is a document.
     List(List<'a>),
     /// It is no TOML document, for this reason.
@@ -19,7 +19,7 @@ pub enum Look<'a> {
 
 /// What is told of a fault, without the end of its line. `file` is the path of the list as the person wrote it; the name that is
 /// nearest to one which no job has is told where that is asked.
-pub fn message_of(
+pub(crate) fn message_of(
     alloc: Global,
     file: &str,
     look: &Look<'_>,

@@ -55,7 +55,7 @@ impl<'a> Lines<'a> {
 }
 
 /// A place in a text, as people count: from 1.
-#[derive(Clone, Copy, Debug, PartialEq, Eq)]
+#[derive(Clone, Copy)]
 pub struct Place {
     pub line: usize,
     /// In characters.
@@ -77,8 +77,15 @@ pub fn place_of(text: &[u8], count: usize) -> Place
 fn characters_of_last_line(text: &[u8]) -> usize
     ensures { result ≤ length text.now }
 {
-    let last = text.iter().rev().take_while(|byte| **byte != b'\n');
-    last.filter(|byte| **byte & 0xc0 != 0x80).count()
+    let mut count = 0;
+    for byte in text {
+        if *byte == b'\n' {
+            count = 0;
+        } else if *byte & 0xc0 != 0x80 {
+            count += 1;
+        }
+    }
+    count
 }
 
 // How many line feeds a text has.

@@ -10,7 +10,7 @@ use crate::lines::Lines;
 use crate::values::behind_value;
 use std::alloc::{AllocError, Global};
 use toml_parser::text::{byte_at, first, skip, skip_blank, skip_ws};
-use toml_parser::{ErrorKind, Key, ParseError, dotted_key};
+use toml_parser::{ErrorKind, ParseError, dotted_key};
 
 /// The line, counted from 1, on which each job of a list begins: that of its header, or where the list is an array that of
 /// the element. A text that is no TOML is walked over up to where the readers stop.
@@ -61,13 +61,13 @@ fn behind_header<'a>(
 {
     let inside = skip(text, 1);
     if first(inside) != b'[' {
-        let (_, rest) = dotted_key(alloc, skip_ws(inside))?;
+        let (_, rest) = behind_key(alloc, skip_ws(inside))?;
         return behind_sign(b']', ErrorKind::UnclosedTable, rest);
     }
-    let (key, rest) = dotted_key(alloc, skip_ws(skip(inside, 1)))?;
+    let (is_job, rest) = behind_key(alloc, skip_ws(skip(inside, 1)))?;
     let rest = behind_sign(b']', ErrorKind::UnclosedTable, rest)?;
     let rest = behind_sign(b']', ErrorKind::UnclosedArrayTable, rest)?;
-    if is_job(&key) {
+    if is_job {
         lines.note(text.len())?;
     }
     Ok(rest)
@@ -83,9 +83,9 @@ fn behind_entry<'a>(
     ensures shorter { IfOk result (λ rest. length rest.now < length text.now) }
     ensures text { lines.new.text.now ≡ lines.old.text.now }
 {
-    let (key, rest) = dotted_key(alloc, text)?;
+    let (is_job, rest) = behind_key(alloc, text)?;
     let value = skip_ws(behind_sign(b'=', ErrorKind::MissingEquals, rest)?);
-    if is_top && is_job(&key) && first(value) == b'[' {
+    if is_top && is_job && first(value) == b'[' {
         behind_elements(alloc, skip(value, 1), lines)
     } else {
         behind_value(alloc, value)
@@ -147,6 +147,10 @@ fn behind_line(text: &str) -> Result<&str, ParseError>
     }
 }
 
-fn is_job(key: &Key) -> bool {
-    key.path.is_empty() && key.last.as_str() == "job"
+// Whether a key is `job`, and the text behind it. The key itself ends here, so that it is alive at no other way out.
+fn behind_key(alloc: Global, text: &str) -> Result<(bool, &str), ParseError>
+    ensures { IfOk result (λ found. length found.1.now < length text.now) }
+{
+    let (key, rest) = dotted_key(alloc, text)?;
+    Ok((key.path.is_empty() && key.last.as_str() == "job", rest))
 }

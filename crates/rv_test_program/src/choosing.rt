@@ -121,7 +121,7 @@ fn pattern_of(alloc: Global, text: &str) -> Result<Regex, Stop> {
         Err(regex::Error::OutOfMemory) => Err(Stop::OutOfMemory),
         Err(error) => {
             let what = format!(in alloc; "invalid value '{text}' for '--match <REGEX>': {error}")?;
-            let command = run_command(alloc)?;
+            let command = run_command(alloc);
             let error = refusal(command, ErrorKind::ValueValidation, what.as_str());
             Err(Stop::of_words(alloc, &error)?)
         }

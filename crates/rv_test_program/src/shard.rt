@@ -91,7 +91,7 @@ fn bad_stamp(alloc: Global, stamp: &str) -> Result<Stop, AllocError> {
 }
 
 fn refused(alloc: Global, what: &str) -> Result<Stop, AllocError> {
-    let command = run_command(alloc)?;
+    let command = run_command(alloc);
     let error = refusal(command, ErrorKind::ValueValidation, what);
     Stop::of_words(alloc, &error)
 }

@@ -11,7 +11,7 @@ use Rattle.clap.specs.declared.error.Error.{Error}
 use Rattle.clap.specs.declared.parser.matches.ArgMatches.{ArgMatches}
 use Rattle.clap.specs.declared.parser.matches.ArgMatches.TheViews.{out-SubCommand}
 use Rattle.clap.specs.declared.parser.matches.SubCommand.{SubCommand}
-use Rattle.rv_test_command.specs.CommandLine.{test_app}
+use Rattle.rv_test_words.specs.CommandLine.{test_app}
 use Rattle.rv_test_words.specs.Words.{asked_of, faults_in, faults_of, words_in}
 
 module _ {Z : Type 0} where

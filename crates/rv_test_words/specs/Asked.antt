@@ -6,7 +6,7 @@ use Rattle.rv_test_words.specs.declared.asked.RunAsked.{RunAsked}
 use Rattle.rv_test_words.specs.declared.asked.ExplainAsked.{ExplainAsked}
 use Rattle.rv_test_words.specs.declared.asked.MergeAsked.{MergeAsked}
 use Rattle.clap.specs.Words.{Text}
-use Rattle.rv_test_command.specs.CommandLine.{most_last}
+use Rattle.rv_test_words.specs.CommandLine.{most_last}
 use Rattle.rv_test_words.specs.Words.{Words, RunWords, ExplainWords, MergeWords}
 use Rattle.rv_test_words.specs.Words.{run, explain, check, merge, diff, show}
 use Rattle.std.specs.Borrow.{Bor}

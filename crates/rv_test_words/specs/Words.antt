@@ -7,7 +7,7 @@ use Rattle.std.specs.Str.{bytes_eq}
 use Rattle.clap.specs.Kinds.{or_else}
 use Rattle.clap.specs.Words.{Kinds, Row, Text, all_of, fault_of, first_of, subcommand_of}
 use Rattle.clap.specs.declared.error.kind.ErrorKind.TheVariants as kind
-use Rattle.rv_test_command.specs.CommandLine.{most_last, test_app}
+use Rattle.rv_test_words.specs.CommandLine.{most_last, test_app}
 use Rattle.rv_test_words.specs.declared.refusals.Misuse.{Misuse}
 use Rattle.rv_test_words.specs.declared.refusals.Misuse.TheVariants as misuse
 use Rattle.rv_words.specs.Values.{number_in}

@@ -1,7 +1,7 @@
 //! What words ask `rvtest` for.
 
 /// What words ask for.
-#[derive(Debug, Drop)]
+#[derive(Drop)]
 pub enum Asked<'a> {
     /// To run jobs of a list.
     Run(RunAsked<'a>),
@@ -18,7 +18,7 @@ pub enum Asked<'a> {
 }
 
 /// The jobs of a list that are to run, and how.
-#[derive(Debug, Drop)]
+#[derive(Drop)]
 pub struct RunAsked<'a> {
     /// Path of the job list.
     pub list: &'a str,
@@ -53,7 +53,7 @@ pub struct RunAsked<'a> {
 }
 
 /// The job whose end is to be explained.
-#[derive(Clone, Copy, Debug)]
+#[derive(Clone, Copy)]
 pub struct ExplainAsked<'a> {
     /// Path of the job list.
     pub list: &'a str,
@@ -66,7 +66,7 @@ pub struct ExplainAsked<'a> {
 }
 
 /// The list of which all that is wrong is to be said.
-#[derive(Clone, Copy, Debug)]
+#[derive(Clone, Copy)]
 pub struct CheckAsked<'a> {
     /// Path of the job list.
     pub list: &'a str,
@@ -75,7 +75,7 @@ pub struct CheckAsked<'a> {
 }
 
 /// The parts of one run whose whole report is to be made.
-#[derive(Debug, Drop)]
+#[derive(Drop)]
 pub struct MergeAsked<'a> {
     /// Paths of the parts.
     pub parts: Vec<&'a str>,
@@ -88,7 +88,7 @@ pub struct MergeAsked<'a> {
 }
 
 /// Two reports that are to be compared.
-#[derive(Clone, Copy, Debug)]
+#[derive(Clone, Copy)]
 pub struct DiffAsked<'a> {
     /// Path of the report that is compared with.
     pub old: &'a str,
@@ -99,7 +99,7 @@ pub struct DiffAsked<'a> {
 }
 
 /// A report that is to be shown.
-#[derive(Clone, Copy, Debug)]
+#[derive(Clone, Copy)]
 pub struct ShowAsked<'a> {
     /// Path of the report.
     pub report: &'a str,

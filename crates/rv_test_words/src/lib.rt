@@ -4,11 +4,13 @@
 //! are errors, too. [`refusal`] makes an error of that form for what `clap` does not find, as a bad regular expression.
 #![tactic(auto)]
 
+mod arguments;
 mod asked;
+mod command;
 mod read;
 mod refusals;
 
 pub use asked::{Asked, CheckAsked, DiffAsked, ExplainAsked, MergeAsked, RunAsked, ShowAsked};
+pub use command::{merge_command, run_command};
 pub use read::read_words;
 pub use refusals::refusal;
-pub use rv_test_command::{merge_command, run_command};

@@ -2,7 +2,7 @@
 
 ghost use Rattle.std.specs.Prelude.{◌≡◌, ◌≤◌, IfOk, IfSome, Some, map, option_map};
 ghost use Rattle.clap.specs.Words.{FailsBy, found_of, rows_of};
-ghost use Rattle.rv_test_command.specs.CommandLine.{most_last};
+ghost use Rattle.rv_test_words.specs.CommandLine.{most_last};
 ghost use Rattle.rv_test_words.specs.Asked.{AreWithin, merge_asked, run_asked, words_asked};
 ghost use Rattle.rv_test_words.specs.Words.{all_in, asked_of, check_in, diff_in, explain_in};
 ghost use Rattle.rv_test_words.specs.Words.{faults_in, faults_of, flag_in, is_choice, is_given};
@@ -10,9 +10,9 @@ ghost use Rattle.rv_test_words.specs.Words.{is_report, kinds_of, merge, merge_in
 ghost use Rattle.rv_test_words.specs.Words.{one_file, run_in, run_words, show_in, words_in};
 
 use crate::asked::{Asked, CheckAsked, DiffAsked, ExplainAsked, MergeAsked, RunAsked, ShowAsked};
+use crate::command::{merge_command, run_command, test_command};
 use crate::refusals::Misuse;
 use clap::{ArgMatches, Error};
-use rv_test_command::{merge_command, run_command, test_command};
 use rv_words::{number, text};
 use std::alloc::{AllocError, Global};
 use std::convert::AsStr;

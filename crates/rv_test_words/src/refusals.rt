@@ -1,6 +1,6 @@
 //! Refusals of words in which `clap` finds no fault.
 
-ghost use Rattle.std.specs.Prelude.{◌≡◌, [], ◌∷◌, Some};
+ghost use Rattle.std.specs.Prelude.{◌≡◌, [], ◌∷◌, IfOk, Some};
 ghost use Rattle.clap.specs.Words.{HasKind};
 ghost use Rattle.rv_test_words.specs.Words.{kinds_of};
 
@@ -9,7 +9,7 @@ use clap::{Command, Error};
 use std::alloc::AllocError;
 
 /// Options that do not go together.
-#[derive(Clone, Copy, Debug)]
+#[derive(Clone, Copy)]
 pub(crate) enum Misuse {
     /// `--verbose` beside `--quiet`.
     VerboseAndQuiet,
@@ -26,10 +26,7 @@ impl Misuse {
     pub(crate) fn error(self, command: Result<Command<'_>, AllocError>) -> Error
         ensures { HasKind (kinds_of (Some self)) result }
     {
-        match command {
-            Ok(command) => refusal(command, self.kind(), self.text()),
-            Err(error) => Error::from(error),
-        }
+        refusal(command, self.kind(), self.text())
     }
 
     fn kind(self) -> ErrorKind
@@ -59,14 +56,24 @@ impl Misuse {
     }
 }
 
-/// An error in the form of `clap`'s own: `error: ` and the text, the usage of the command, and where help is. The text has
-/// no line feed at its end.
-pub fn refusal(mut command: Command<'_>, kind: ErrorKind, text: &str) -> Error
+/// An error in the form of `clap`'s own: `error: ` and the text, the usage of the command, and where help is; or want of memory,
+/// where there is no command for that. The text has no line feed at its end.
+pub fn refusal(command: Result<Command<'_>, AllocError>, kind: ErrorKind, text: &str) -> Error
     // It is of that kind, or memory ran out while it was made.
     ensures { HasKind (kind ∷ []) result }
 {
-    match command.error(kind, text) {
+    match refused(command, kind, text) {
         Ok(error) => error,
         Err(error) => Error::from(error),
     }
+}
+
+fn refused(
+    command: Result<Command<'_>, AllocError>,
+    kind: ErrorKind,
+    text: &str,
+) -> Result<Error, AllocError>
+    ensures { IfOk result (HasKind (kind ∷ [])) }
+{
+    command?.error(kind, text)
 }

@@ -5,6 +5,7 @@ use Rattle.clap.specs.Words.{AddsArg, AddsSubcommand, App, Rule, app_of, rule_of
 use Rattle.clap.specs.declared.builder.arg.Arg.{Arg}
 use Rattle.clap.specs.declared.builder.command.Command.{Command}
 use Rattle.clap.specs.declared.builder.command.Command.TheViews.{out-Command}
+use Rattle.rv_words.specs.Building.{HasApp, IsBuilt}
 
 -- this shape, and no argument that subcommands have too
 abbrev pub Is : App → Command → Type 0
@@ -23,3 +24,7 @@ pub with_command : (old sub : Command) (app below : App) (answer : Result Comman
 with_command old sub app below (Ok new) adds is added =
     adds.shape added.1 ∙ (λ i. with_subcommand (is i) (added.0 i).top)
 with_command old sub app below (Err e) adds is added = tt
+
+pub its_app : (app : App) (built : Result Command AllocError) → IsBuilt app built → HasApp app built
+its_app app (Ok command) is = is.0
+its_app app (Err e) is = tt

@@ -1,3 +1,4 @@
+pub mod Building
 pub mod CommandLine
 pub mod Requests
 pub mod Values

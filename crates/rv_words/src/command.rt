@@ -1,17 +1,18 @@
 //! The command line.
 
-ghost use Rattle.std.specs.Prelude.{◌≡◌, ◌≤◌, [], IfOk, IfErr, IfSome, is_some, true, false, map};
+ghost use Rattle.std.specs.Prelude.{◌≡◌, ◌≤◌, IfOk, IfErr, IfSome, is_some, true, false, map};
 ghost use Rattle.std.specs.Prelude.{option_map};
 ghost use Rattle.clap.specs.Words.{FailsBy, app_of, fault_of, first_of, found_of, kind_of, rows_of};
 ghost use Rattle.clap.specs.Words.{rule_of};
-ghost use Rattle.clap.specs.declared.builder.command.Command.TheViews.{out-Command};
-ghost use Rattle.rv_words.specs.CommandLine.{budget_rule, image_rule, input_rule, jobs_rule};
-ghost use Rattle.rv_words.specs.CommandLine.{workers_rule, group_rule, raw_app, one_app, run_app};
+ghost use Rattle.rv_words.specs.Building.{IsBuilt};
+ghost use Rattle.rv_words.specs.CommandLine.{budget_rule, workers_rule, raw_app, one_app, run_app};
 ghost use Rattle.rv_words.specs.CommandLine.{top_app, fleet_app, budget_in};
 ghost use Rattle.rv_words.specs.CommandLine.{raw_in, one_in, run_in, request_in};
 ghost use Rattle.rv_words.specs.CommandLine.{request_of, is_taken};
 ghost use Rattle.rv_words.specs.Requests.{AreWithin, request};
 
+use crate::arguments::{group, option, word};
+use crate::building::{Built, with_argument, with_command};
 use crate::values::{number, text};
 use clap::error::ErrorKind;
 use clap::{Arg, ArgMatches, Command, Error, value_parser};
@@ -20,7 +21,7 @@ use std::alloc::{AllocError, Global};
 use std::convert::AsStr;
 
 /// What words ask for.
-#[derive(Clone, Copy, Debug, PartialEq, Eq)]
+#[derive(Clone, Copy)]
 pub enum Request<'a> {
     /// The flat image on the input, with a budget of 1 to 1,000,000,000 steps.
     Raw {
@@ -68,15 +69,13 @@ pub fn read_words<'a, T: AsStr>(alloc: Global, words: &'a [T]) -> Result<Option<
 fn fleet_command<'a>(alloc: Global) -> Result<Command<'a>, AllocError>
     ensures { IfOk result (λ command. app_of command ≡ fleet_app) }
 {
-    top_command(alloc)?
-        .subcommand(raw_command(alloc)?)?
-        .subcommand(one_command(alloc)?)?
-        .subcommand(run_command(alloc)?)
+    let command = with_command(top_command(alloc), raw_command(alloc));
+    let command = with_command(command, one_command(alloc));
+    with_command(command, run_command(alloc))
 }
 
-fn top_command<'a>(alloc: Global) -> Result<Command<'a>, AllocError>
-    ensures { IfOk result (λ command.
-        (app_of command ≡ top_app) × ((out-Command command).has_globals ≡ false)) }
+fn top_command<'a>(alloc: Global) -> Built<'a>
+    ensures { IsBuilt top_app result }
 {
     Command::new(alloc, "rvfleet")
         .subcommand_required(true)
@@ -85,117 +84,51 @@ fn top_command<'a>(alloc: Global) -> Result<Command<'a>, AllocError>
         .bin_name("rvfleet")
 }
 
-fn raw_command<'a>(alloc: Global) -> Result<Command<'a>, AllocError>
-    ensures { IfOk result (λ command.
-        (app_of command ≡ raw_app) × ((out-Command command).has_globals ≡ false)) }
+fn raw_command<'a>(alloc: Global) -> Built<'a>
+    ensures { IsBuilt raw_app result }
 {
-    Command::new(alloc, "raw")
-        .about("Runs the flat image on standard input, placed at 0x80000000")
-        .arg(budget_argument(alloc))
+    let about = "Runs the flat image on standard input, placed at 0x80000000";
+    with_argument(Ok(Command::new(alloc, "raw").about(about)), budget(alloc))
 }
 
-fn one_command<'a>(alloc: Global) -> Result<Command<'a>, AllocError>
-    ensures { IfOk result (λ command.
-        (app_of command ≡ one_app) × ((out-Command command).has_globals ≡ false)) }
+fn one_command<'a>(alloc: Global) -> Built<'a>
+    ensures { IsBuilt one_app result }
 {
-    Command::new(alloc, "one")
-        .about("Runs one ELF image, placed at its physical addresses")
-        .arg(image_argument(alloc))?
-        .arg(budget_argument(alloc))?
-        .arg(input_argument(alloc))
+    let command = Ok(Command::new(alloc, "one").about(
+        "Runs one ELF image, placed at its physical addresses",
+    ));
+    let command = with_argument(command, word(alloc, "image", "IMAGE", "Path of the image"));
+    let command = with_argument(command, budget(alloc));
+    let input = "The console's input, as hexadecimal digits";
+    with_argument(command, option(alloc, "input-hex", "H", input))
 }
 
-fn run_command<'a>(alloc: Global) -> Result<Command<'a>, AllocError>
-    ensures { IfOk result (λ command.
-        (app_of command ≡ run_app) × ((out-Command command).has_globals ≡ false)) }
+fn run_command<'a>(alloc: Global) -> Built<'a>
+    ensures { IsBuilt run_app result }
 {
-    Command::new(alloc, "run")
-        .about("Runs the jobs of a list, and reports one row a job")
-        .arg(jobs_argument(alloc))?
-        .arg(workers_argument(alloc))?
-        .arg(group_argument(alloc))
+    let command = Ok(Command::new(alloc, "run").about(
+        "Runs the jobs of a list, and reports one row a job",
+    ));
+    let command = with_argument(command, word(alloc, "jobs", "JOBS", "Path of the job list"));
+    let command = with_argument(command, workers(alloc));
+    with_argument(command, group(alloc))
 }
 
-fn image_argument<'a>(alloc: Global) -> Arg<'a>
-    ensures { (rule_of result ≡ image_rule) × (result.global ≡ false) }
-{
-    Arg::new(alloc, "image")
-        .value_name("IMAGE")
-        .required(true)
-        .help("Path of the image")
-}
-
-fn budget_argument<'a>(alloc: Global) -> Arg<'a>
+fn budget<'a>(alloc: Global) -> Arg<'a>
     ensures { (rule_of result ≡ budget_rule) × (result.global ≡ false) }
 {
-    budget_option(alloc).help("Steps at most, from 1 to 1000000000")
-}
-
-fn budget_option<'a>(alloc: Global) -> Arg<'a>
-    ensures { (rule_of result ≡ budget_rule) × (result.global ≡ false) }
-{
-    Arg::new(alloc, "budget")
-        .long("budget")
-        .value_name("N")
+    let help = "Steps at most, from 1 to 1000000000";
+    option(alloc, "budget", "N", help)
         .required(true)
         .value_parser(value_parser!(u32).range(1..=1_000_000_000))
 }
 
-fn input_argument<'a>(alloc: Global) -> Arg<'a>
-    ensures { (rule_of result ≡ input_rule) × (result.global ≡ false) }
-{
-    input_option(alloc).help("The console's input, as hexadecimal digits")
-}
-
-fn input_option<'a>(alloc: Global) -> Arg<'a>
-    ensures { (rule_of result ≡ input_rule) × (result.global ≡ false) }
-{
-    Arg::new(alloc, "input-hex")
-        .long("input-hex")
-        .value_name("H")
-}
-
-fn jobs_argument<'a>(alloc: Global) -> Arg<'a>
-    ensures { (rule_of result ≡ jobs_rule) × (result.global ≡ false) }
-{
-    Arg::new(alloc, "jobs")
-        .value_name("JOBS")
-        .required(true)
-        .help("Path of the job list")
-}
-
-fn workers_argument<'a>(alloc: Global) -> Arg<'a>
+fn workers<'a>(alloc: Global) -> Arg<'a>
     ensures { (rule_of result ≡ workers_rule) × (result.global ≡ false) }
 {
-    workers_option(alloc)
-        .default_value("1")
-        .help("Threads, from 1 to 64")
-}
-
-fn workers_option<'a>(alloc: Global) -> Arg<'a>
-    ensures { (rule_of result ≡ record workers_rule { defaults = [] }) × (result.global ≡ false) }
-{
-    Arg::new(alloc, "workers")
-        .long("workers")
-        .value_name("N")
+    option(alloc, "workers", "N", "Threads, from 1 to 64")
         .value_parser(value_parser!(u32).range(1..=64))
-}
-
-fn group_argument<'a>(alloc: Global) -> Arg<'a>
-    ensures { (rule_of result ≡ group_rule) × (result.global ≡ false) }
-{
-    group_option(alloc)
         .default_value("1")
-        .help("Jobs that a thread takes at once, from 1 to 4096")
-}
-
-fn group_option<'a>(alloc: Global) -> Arg<'a>
-    ensures { (rule_of result ≡ record group_rule { defaults = [] }) × (result.global ≡ false) }
-{
-    Arg::new(alloc, "group")
-        .long("group")
-        .value_name("N")
-        .value_parser(value_parser!(u32).range(1..=4_096))
 }
 
 fn subcommand_asked<'a>(name: &str, values: &ArgMatches<'a>) -> Option<Request<'a>>
@@ -218,7 +151,7 @@ fn raw_asked<'a>(values: &ArgMatches<'a>) -> Option<Request<'a>>
     ensures value { option_map request result ≡ raw_in (rows_of (found_of values.now)) }
     ensures within { IfSome result AreWithin }
 {
-    let budget = budget(values)?;
+    let budget = budget_asked(values)?;
     Some(Request::Raw { budget })
 }
 
@@ -227,7 +160,7 @@ fn one_asked<'a>(values: &ArgMatches<'a>) -> Option<Request<'a>>
     ensures within { IfSome result AreWithin }
 {
     let image = text(values, "image")?;
-    let budget = budget(values)?;
+    let budget = budget_asked(values)?;
     let input_hex = text(values, "input-hex");
     Some(Request::One {
         image,
@@ -250,7 +183,7 @@ fn run_asked<'a>(values: &ArgMatches<'a>) -> Option<Request<'a>>
     })
 }
 
-fn budget(values: &ArgMatches<'_>) -> Option<u32>
+fn budget_asked(values: &ArgMatches<'_>) -> Option<u32>
     ensures value { result ≡ budget_in (rows_of (found_of values.now)) }
     ensures within { IfSome result (λ number. (1 ≤ number) × (number ≤ MOST_BUDGET)) }
 {

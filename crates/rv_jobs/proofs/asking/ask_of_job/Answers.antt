@@ -1,4 +1,5 @@
-use Rattle.rv_jobs.specs.Plans.{paths_of}
+use Rattle.std.proofs.Common.{◌≡◌, ◌∙◌, ap}
+use Rattle.rv_jobs.specs.Plans.{paths_of, with_path, with_path_if}
 use Rattle.rv_jobs.proofs.Answering.{placed_all}
 use Rattle.rv_jobs.proofs.asking.ask_of_job.Goals as goal
 
@@ -9,3 +10,13 @@ returns-clause-places g c =
     _ _ c.as_str.ensures c.reference_path.ensures c.console_path.ensures c.in_ok-first.ensures.place
     c.in_ok-second.ensures.paths c.in_ok-second.ensures.place
     c.in_ok-third.ensures.paths c.in_ok-third.ensures.place
+
+pub returns-clause-paths : goal.returns-clause-paths
+returns-clause-paths g c =
+    let asked = paths_of c.args.asked in
+    let job = c.args.job.now in
+    let first : paths_of c.in_ok-first.first ≡ with_path asked job.image =
+    c.in_ok-first.ensures.paths ∙ ap (with_path asked) c.as_str.ensures in
+    let second : paths_of c.in_ok-second.second ≡ with_path_if (with_path asked job.image) job.expect_signature =
+    c.in_ok-second.ensures.paths ∙ (λ i. with_path_if (first i) (c.reference_path.ensures i)) in
+    c.in_ok-third.ensures.paths ∙ (λ i. with_path_if (second i) (c.console_path.ensures i))

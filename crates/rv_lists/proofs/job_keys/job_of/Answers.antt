@@ -1,7 +1,7 @@
-use Rattle.std.proofs.Common.{◌∙◌, ap, sym, subst, is_some}
+use Rattle.std.proofs.Common.{◌∙◌, ap, sym, subst, is_some, rules}
 use Rattle.toml.specs.View.{table_view}
 use Rattle.rv_lists.specs.Reading.{Gives}
-use Rattle.rv_lists.specs.JobList.{names_of}
+use Rattle.rv_lists.specs.JobList.{job_in, names_of}
 use Rattle.rv_lists.proofs.JobStages.{job_described}
 use Rattle.rv_lists.proofs.job_keys.job_of.Goals as goal
 
@@ -14,3 +14,8 @@ returns-clause-value c =
     (sym c.has_wrong_kind.ensures ∙ c.if-has_wrong_kind.false) c.in_ok-name.ensures fresh c.in_ok-image.ensures
     (sym c.budget_of.ensures ∙ c.in_ok-budget.was) in
     subst (λ read. Gives c.described.result read) (sym same) c.described.ensures.value
+
+pub returns-then-has_wrong_kind-clause-value : goal.returns-then-has_wrong_kind-clause-value
+unfolding job_in
+returns-then-has_wrong_kind-clause-value c =
+    rw (sym c.has_wrong_kind.ensures ∙ c.if-has_wrong_kind.true) (search rules)

@@ -1,8 +1,0 @@
-use Rattle.rv_test_command.proofs.command.with_files.Goals as goal
-
-pub returns : goal.returns
-returns c =
-    λ app built.
-    let first = c.with_argument-command.ensures _ _ c.option.ensures built in
-    let second = c.with_argument-command-2.ensures _ _ c.junit.ensures first in
-    c.with_argument.ensures _ _ c.lenient.ensures second

@@ -1,2 +1,0 @@
-pub mod Building
-pub mod CommandLine

@@ -1,0 +1,23 @@
+-- What a call has come to that builds a command, and the rules of arguments that both programs have.
+use Rattle.std.specs.Prelude.{◌≡◌, true, false, IfOk, Result, Some}
+use Rattle.std.specs.declared.alloc.AllocError.{AllocError}
+use Rattle.clap.specs.Words.{App, Rule, Text, app_of, new_rule}
+use Rattle.clap.specs.declared.builder.command.Command.{Command}
+use Rattle.clap.specs.declared.builder.command.Command.TheViews.{out-Command}
+
+-- a command of these rules, or none for want of memory
+abbrev pub HasApp : App → Result Command AllocError → Type 0
+HasApp app built = IfOk built (λ command. app_of command ≡ app)
+
+-- the same, and no argument of it is one of the commands below it too
+abbrev pub IsBuilt : App → Result Command AllocError → Type 0
+IsBuilt app built =
+    IfOk built (λ command. (app_of command ≡ app) × ((out-Command command).has_globals ≡ false))
+
+-- a word that stands for itself, as <LIST>, required
+abbrev pub word_rule : Text → Rule
+word_rule name = record (new_rule name) { required = true; value_names = 1 }
+
+-- an option with one value
+abbrev pub option_rule : Text → Rule
+option_rule name = record (new_rule name) { long = Some name; value_names = 1 }
