@@ -17,6 +17,7 @@ mod law;
 mod most_steps;
 mod pieces;
 mod show;
+mod signature_line;
 
 pub use diff::{Differing, push_diff};
 pub use failed_lines::FailedLines;

@@ -1,6 +1,6 @@
 use Rattle.std.proofs.Common.{append_assoc, append-nil}
 use Rattle.rv_views.proofs.Signatures.{gone_whole}
-use Rattle.rv_views.proofs.differences.push_signature_line.Goals as goal
+use Rattle.rv_views.proofs.signature_line.push_signature_line.Goals as goal
 
 pub returns-in-Some-None : goal.returns-in-Some-None
 returns-in-Some-None c =
