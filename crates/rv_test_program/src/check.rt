@@ -4,7 +4,7 @@ ghost use Rattle.std.specs.Prelude.{◌≡◌, ◌≤◌, ◌<◌, IfOk, length}
 ghost use Rattle.rv_test_program.specs.Commands.{check_status, refused_in};
 
 use crate::list::{jobs_of, read_text, told_of_faults};
-use crate::messages::{REFUSED, put_out};
+use crate::messages::{REFUSED, put_out, put_told};
 use crate::stop::Stop;
 use crate::streams::Streams;
 use rv_files::{NotingStore, Unread};
@@ -30,12 +30,12 @@ pub(crate) fn check<R: Files, S: Streams>(
 {
     let text = read_text(files, alloc, asked.list)?;
     let faults = read_faults(alloc, text.as_slice())?;
-    if !faults.is_empty() {
-        let told = told_of_faults(alloc, asked.list, text.as_slice(), faults.as_slice())?;
-        put_out(streams, told.as_slice())?;
-        return Ok(REFUSED);
+    if faults.is_empty() {
+        return check_files(files, alloc, streams, asked, text.as_slice());
     }
-    check_files(files, alloc, streams, asked, text.as_slice())
+    let told = told_of_faults(alloc, asked.list, text.as_slice(), faults.as_slice());
+    put_told(streams, told)?;
+    Ok(REFUSED)
 }
 
 // Says which jobs of a list are refused for their files.
@@ -48,10 +48,10 @@ fn check_files<R: Files, S: Streams>(
 ) -> Result<u8, Stop>
     ensures { IfOk result (λ status. status ≤ 2) }
 {
+    let lines = lines_of(alloc, text)?;
     let jobs = jobs_of(alloc, asked.list, text)?;
     let mut store = NotingStore::new(files, alloc, asked.root);
     let plan = gather(alloc, jobs, &mut store)?;
-    let lines = lines_of(alloc, text)?;
     let list = Listed {
         path: asked.list,
         lines: lines.as_slice(),

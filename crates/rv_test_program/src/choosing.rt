@@ -3,16 +3,16 @@
 ghost use Rattle.std.specs.Prelude.{◌≡◌, IfOk, IfSome, length};
 
 use crate::failed_before::{failed_names, read_saved, say_gone};
-use crate::messages::{say, told_of};
+use crate::messages::{say_told, told_of};
+use crate::shard::refused;
 use crate::stop::Stop;
 use crate::streams::Streams;
-use clap::error::ErrorKind;
 use regex::Regex;
 use rv_choice::{Wanted, chosen_marks, first_unknown, nearest};
 use rv_explain::Rule;
 use rv_jobs::Job;
 use rv_lines::{Span, text_of};
-use rv_test_words::{RunAsked, refusal, run_command};
+use rv_test_words::RunAsked;
 use std::alloc::{AllocError, Global};
 use std::rt::Files;
 
@@ -29,28 +29,62 @@ pub(crate) fn marks_asked<R: Files, S: Streams>(
     ensures { IfOk result (λ marks. IfSome marks (λ marks. length marks.items ≡ length jobs.now)) }
 {
     check_names(alloc, asked, jobs)?;
-    let pattern = match asked.pattern {
-        Some(text) => Some(pattern_of(alloc, text)?),
-        None => None,
+    let Some(text) = asked.pattern else {
+        return marks_by(files, alloc, streams, asked, rule, None, jobs);
     };
-    check_pattern(alloc, asked, pattern.as_ref(), jobs)?;
+    let pattern = pattern_of(alloc, text)?;
+    check_pattern(alloc, asked, text, &pattern, jobs)?;
+    marks_by(files, alloc, streams, asked, rule, Some(&pattern), jobs)
+}
+
+// The same by a pattern, or by none, that the jobs' names were asked for.
+fn marks_by<R: Files, S: Streams>(
+    files: &R,
+    alloc: Global,
+    streams: &S,
+    asked: &RunAsked<'_>,
+    rule: Rule,
+    pattern: Option<&Regex>,
+    jobs: &[Job],
+) -> Result<Option<Vec<bool>>, Stop>
+    ensures { IfOk result (λ marks. IfSome marks (λ marks. length marks.items ≡ length jobs.now)) }
+{
     let Some(path) = asked.failed else {
-        return Ok(Some(marks(alloc, asked, pattern.as_ref(), None, jobs)?));
+        return marks(alloc, asked, pattern, None, jobs);
     };
     let report = read_saved(files, alloc, path)?;
     let failed = failed_names(alloc, rule, report.rows.as_slice())?;
+    marks_among(
+        alloc,
+        streams,
+        asked,
+        path,
+        pattern,
+        failed.as_slice(),
+        jobs,
+    )
+}
+
+// The same among the jobs that failed in the report at a path.
+fn marks_among<S: Streams>(
+    alloc: Global,
+    streams: &S,
+    asked: &RunAsked<'_>,
+    path: &str,
+    pattern: Option<&Regex>,
+    failed: &[&str],
+    jobs: &[Job],
+) -> Result<Option<Vec<bool>>, Stop>
+    ensures { IfOk result (λ marks. IfSome marks (λ marks. length marks.items ≡ length jobs.now)) }
+{
     if failed.is_empty() {
-        say(
-            streams,
-            told_of(alloc, path, "no job failed there")?.as_slice(),
-        );
+        say_told(streams, told_of(alloc, path, "no job failed there"))?;
         if asked.only.is_empty() && pattern.is_none() {
             return Ok(None);
         }
     }
-    say_gone(alloc, streams, path, jobs, failed.as_slice())?;
-    let names = Some(failed.as_slice());
-    Ok(Some(marks(alloc, asked, pattern.as_ref(), names, jobs)?))
+    say_gone(alloc, streams, path, jobs, failed)?;
+    marks(alloc, asked, pattern, Some(failed), jobs)
 }
 
 fn marks(
@@ -59,21 +93,24 @@ fn marks(
     pattern: Option<&Regex>,
     failed: Option<&[&str]>,
     jobs: &[Job],
-) -> Result<Vec<bool>, AllocError>
-    ensures { IfOk result (λ marks. length marks.items ≡ length jobs.now) }
+) -> Result<Option<Vec<bool>>, Stop>
+    ensures { IfOk result (λ marks. IfSome marks (λ marks. length marks.items ≡ length jobs.now)) }
 {
     let wanted = Wanted {
         only: asked.only.as_slice(),
         pattern,
         failed,
     };
-    chosen_marks(alloc, jobs, wanted)
+    match chosen_marks(alloc, jobs, wanted) {
+        Ok(marks) => Ok(Some(marks)),
+        Err(error) => Err(Stop::from(error)),
+    }
 }
 
 // Each exact name is one of the list's.
 fn check_names(alloc: Global, asked: &RunAsked<'_>, jobs: &[Job]) -> Result<(), Stop> {
     match first_unknown(jobs, asked.only.as_slice()) {
-        Some(name) => Err(Stop::Refused(told_of_name(alloc, asked.list, jobs, name)?)),
+        Some(name) => Err(Stop::refused(told_of_name(alloc, asked.list, jobs, name))),
         None => Ok(()),
     }
 }
@@ -119,12 +156,10 @@ fn pattern_of(alloc: Global, text: &str) -> Result<Regex, Stop> {
     match Regex::new(alloc, text) {
         Ok(pattern) => Ok(pattern),
         Err(regex::Error::OutOfMemory) => Err(Stop::OutOfMemory),
-        Err(error) => {
-            let what = format!(in alloc; "invalid value '{text}' for '--match <REGEX>': {error}")?;
-            let command = run_command(alloc);
-            let error = refusal(command, ErrorKind::ValueValidation, what.as_str());
-            Err(Stop::of_words(alloc, &error)?)
-        }
+        Err(error) => Err(refused(
+            alloc,
+            format!(in alloc; "invalid value '{text}' for '--match <REGEX>': {error}"),
+        )),
     }
 }
 
@@ -132,18 +167,17 @@ fn pattern_of(alloc: Global, text: &str) -> Result<Regex, Stop> {
 fn check_pattern(
     alloc: Global,
     asked: &RunAsked<'_>,
-    pattern: Option<&Regex>,
+    text: &str,
+    pattern: &Regex,
     jobs: &[Job],
 ) -> Result<(), Stop> {
-    let Some(pattern) = pattern else {
-        return Ok(());
-    };
     let mut matcher = pattern.matcher(alloc)?;
-    if jobs.iter().any(|job| matcher.is_match(job.name.as_str())) {
-        return Ok(());
+    for job in jobs {
+        if matcher.is_match(job.name.as_str()) {
+            return Ok(());
+        }
     }
-    let text = asked.pattern.unwrap_or("");
-    Err(Stop::Refused(told_of_pattern(alloc, asked.list, text)?))
+    Err(Stop::refused(told_of_pattern(alloc, asked.list, text)))
 }
 
 fn told_of_pattern<'a>(

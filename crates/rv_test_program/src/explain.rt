@@ -38,8 +38,8 @@ pub(crate) fn explain<R: Files, S: Streams>(
     match place_of(jobs.as_slice(), asked.name) {
         Some(place) => explain_at(files, alloc, streams, asked, jobs, place),
         None => {
-            let told = told_of_name(alloc, asked.list, jobs.as_slice(), asked.name)?;
-            Err(Stop::Refused(told))
+            let told = told_of_name(alloc, asked.list, jobs.as_slice(), asked.name);
+            Err(Stop::refused(told))
         }
     }
 }
@@ -66,7 +66,22 @@ fn explain_at<R: Files, S: Streams>(
     let places = vec![in alloc; place; 1]?;
     let mut store = NotingStore::new(files, alloc, asked.root);
     let plan = gather_places(alloc, jobs, places, &mut store)?;
-    let (told, status) = explained(alloc, &plan, store.unread(), place, asked.last)?;
+    explain_row(alloc, streams, &plan, store.unread(), place, asked.last)
+}
+
+// The same of a plan.
+fn explain_row<S: Streams>(
+    alloc: Global,
+    streams: &S,
+    plan: &Plan,
+    unread: &[Unread],
+    place: usize,
+    last: u32,
+) -> Result<u8, Stop>
+    requires { place < length plan.now.jobs }
+    ensures { IfOk result (λ status. status ≤ 1) }
+{
+    let (told, status) = explained(alloc, plan, unread, place, last)?;
     put_out(streams, told.as_slice())?;
     Ok(status)
 }

@@ -5,7 +5,7 @@ ghost use Rattle.rv_test_program.specs.Commands.{failed_in};
 ghost use Rattle.rv_lists.specs.Jobs.{most_jobs};
 
 use crate::files::read_file;
-use crate::messages::{say, told_of};
+use crate::messages::{say_told, told_of};
 use crate::stop::Stop;
 use crate::streams::Streams;
 use rv_explain::{Rule, has_passed};
@@ -28,12 +28,11 @@ pub(crate) fn read_saved<R: Files>(
     match read_report(alloc, text.as_slice()) {
         Ok(report) => Ok(report),
         Err(ReadError::OutOfMemory) => Err(Stop::OutOfMemory),
-        Err(ReadError::CutOff) => Err(Stop::Refused(told_of(
-            alloc,
-            path,
-            "the report is cut off",
-        )?)),
-        Err(ReadError::Line(line)) => Err(Stop::Refused(told_of_line(alloc, path, line)?)),
+        Err(ReadError::CutOff) => {
+            let told = told_of(alloc, path, "the report is cut off");
+            Err(Stop::refused(told))
+        }
+        Err(ReadError::Line(line)) => Err(Stop::refused(told_of_line(alloc, path, line))),
     }
 }
 
@@ -73,7 +72,7 @@ pub(crate) fn say_gone<S: Streams>(
 ) -> Result<(), AllocError> {
     for name in names {
         if !has_job(jobs, name) {
-            say(streams, told_of_gone(alloc, path, name)?.as_slice());
+            say_told(streams, told_of_gone(alloc, path, name))?;
         }
     }
     Ok(())

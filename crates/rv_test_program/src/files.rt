@@ -29,8 +29,5 @@ pub(crate) fn read_file<R: Files>(
 
 /// A path cannot be read or written, for a reason of the system's.
 pub(crate) fn unreadable(alloc: Global, path: &str, reason: ErrorKind) -> Stop {
-    match told_of(alloc, path, kind_text(reason)) {
-        Ok(text) => Stop::Failed(text),
-        Err(error) => Stop::from(error),
-    }
+    Stop::failed(told_of(alloc, path, kind_text(reason)))
 }

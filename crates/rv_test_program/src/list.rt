@@ -14,7 +14,7 @@ pub(crate) fn read_text<R: Files>(files: &R, alloc: Global, path: &str) -> Resul
     let text = read_file(files, alloc, path, MOST_BYTES + 1)?;
     if text.len() > MOST_BYTES {
         let what = "the file has more than 16777216 bytes";
-        return Err(Stop::Failed(told_of(alloc, path, what)?));
+        return Err(Stop::failed(told_of(alloc, path, what)));
     }
     Ok(text)
 }
@@ -29,7 +29,7 @@ pub(crate) fn jobs_of(alloc: Global, path: &str, text: &[u8]) -> Result<JobList,
                 what: What::OutOfMemory,
             },
         ) => Err(Stop::OutOfMemory),
-        Err(error) => Err(Stop::Refused(told_of_faults(alloc, path, text, &[error])?)),
+        Err(error) => Err(Stop::refused(told_of_faults(alloc, path, text, &[error]))),
     }
 }
 

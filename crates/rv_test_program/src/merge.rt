@@ -52,7 +52,7 @@ fn merged_rows<R: Files>(files: &R, alloc: Global, asked: &MergeAsked<'_>) -> Re
     let parts = slices_of(alloc, texts.as_slice())?;
     match merge_parts(alloc, parts.as_slice()) {
         Ok(rows) => Ok(rows),
-        Err(error) => Err(refused(alloc, asked, error)?),
+        Err(error) => Err(refused(alloc, asked, error)),
     }
 }
 
@@ -146,9 +146,9 @@ fn write_files<R: Files, S: Streams>(
 }
 
 // Why the parts are not those of one run.
-fn refused(alloc: Global, asked: &MergeAsked<'_>, error: MergeError) -> Result<Stop, AllocError> {
-    let text = match error {
-        MergeError::OutOfMemory => return Err(AllocError),
+fn refused(alloc: Global, asked: &MergeAsked<'_>, error: MergeError) -> Stop {
+    Stop::refused(match error {
+        MergeError::OutOfMemory => return Stop::OutOfMemory,
         MergeError::NoTexts => text_of(alloc, &[Span::Text("rvtest: there is no part\n")]),
         MergeError::Text(at, flaw) => told_of_flaw(alloc, asked, path_of(asked, at), flaw),
         MergeError::Missing(number) => text_of(
@@ -159,8 +159,7 @@ fn refused(alloc: Global, asked: &MergeAsked<'_>, error: MergeError) -> Result<S
                 Span::Text("\n"),
             ],
         ),
-    };
-    Ok(Stop::Refused(text?))
+    })
 }
 
 fn path_of<'a>(asked: &MergeAsked<'a>, at: usize) -> &'a str {

@@ -40,6 +40,23 @@ pub(crate) fn say<S: Streams>(streams: &S, text: &[u8]) {
     let _ = put_all(&mut StreamSink::new(streams.errors()), text);
 }
 
+/// Puts what is told to standard error, where there was memory for it.
+pub(crate) fn say_told<S: Streams>(
+    streams: &S,
+    told: Result<Vec<u8>, AllocError>,
+) -> Result<(), AllocError> {
+    say(streams, told?.as_slice());
+    Ok(())
+}
+
+/// Puts what is told to standard output, where there was memory for it.
+pub(crate) fn put_told<S: Streams>(
+    streams: &S,
+    told: Result<Vec<u8>, AllocError>,
+) -> Result<(), Stop> {
+    put_out(streams, told?.as_slice())
+}
+
 /// Puts a text to standard output.
 pub(crate) fn put_out<S: Streams>(streams: &S, text: &[u8]) -> Result<(), Stop> {
     match put_all(&mut StreamSink::new(streams.out()), text) {

@@ -51,7 +51,7 @@ fn answer<'a, R: Threads + Wait + Sync + Files + Clock, T: AsStr, S: Streams>(
         Ok(Some(Asked::Diff(asked))) => diff(rt, alloc, streams, asked),
         Ok(Some(Asked::Show(asked))) => show(rt, alloc, streams, asked),
         Ok(None) => Ok(REFUSED),
-        Err(error) => Err(Stop::of_words(alloc, &error)?),
+        Err(error) => Err(Stop::of_words(alloc, &error)),
     }
 }
 

@@ -186,7 +186,7 @@ fn file_end<R: Files>(
         }
         Err(WriteError::Failed) => {
             file.abandon();
-            Err(Stop::Failed(told_of(alloc, path, "write failed")?))
+            Err(Stop::failed(told_of(alloc, path, "write failed")))
         }
     }
 }
@@ -195,7 +195,7 @@ fn file_end<R: Files>(
 fn finish_file<R: Files>(alloc: Global, path: &str, file: FileSink<'_, R>) -> Result<(), Stop> {
     if file.failures() != 0 {
         file.abandon();
-        return Err(Stop::Failed(told_of(alloc, path, "write failed")?));
+        return Err(Stop::failed(told_of(alloc, path, "write failed")));
     }
     match file.finish() {
         Ok(()) => Ok(()),

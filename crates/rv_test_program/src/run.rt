@@ -1,6 +1,6 @@
 //! The command `run`.
 
-ghost use Rattle.std.specs.Prelude.{◌≡◌, ◌≤◌, ◌<◌, IfOk, length};
+ghost use Rattle.std.specs.Prelude.{◌≡◌, ◌≤◌, ◌<◌, IfOk, IfSome, length};
 ghost use Rattle.std.specs.List.Sorted.{IsStrictlyIncreasing};
 ghost use Rattle.rv_fleet.specs.Choices.{AreWithin};
 ghost use Rattle.rv_jobs.specs.Choices.{marked};
@@ -19,7 +19,7 @@ use crate::streams::Streams;
 use rv_explain::Rule;
 use rv_files::{NotingStore, StreamSink};
 use rv_fleet::Rows;
-use rv_jobs::{JobList, Plan, gather_places, marked_places};
+use rv_jobs::{Job, JobList, Plan, gather_places, marked_places};
 use rv_merge::shard_marks;
 use rv_reports::Shard;
 use rv_telling::{CountingTelling, Progress, RowTelling, TerminalSink, Verbosity};
@@ -45,11 +45,7 @@ pub(crate) fn run<R: Threads + Wait + Sync + Files + Clock, S: Streams>(
     let text = read_text(rt, alloc, asked.list)?;
     let jobs = jobs_of(alloc, asked.list, text.as_slice())?;
     let shard = shard_asked(alloc, asked, text.as_slice(), jobs.as_slice().len())?;
-    let marks = match &shard {
-        Some(shard) => Some(shard_marks(alloc, jobs.as_slice().len(), shard.number, shard.shards)?),
-        None => marks_asked(rt, alloc, streams, asked, rule, jobs.as_slice())?,
-    };
-    match marks {
+    match marks_of(rt, alloc, streams, asked, rule, &shard, jobs.as_slice())? {
         Some(marks) => run_marked(
             rt,
             alloc,
@@ -61,6 +57,28 @@ pub(crate) fn run<R: Threads + Wait + Sync + Files + Clock, S: Streams>(
             shard,
         ),
         None => Ok(DONE),
+    }
+}
+
+// A mark for each job of the shard, or for each that is asked for.
+fn marks_of<R: Files, S: Streams>(
+    files: &R,
+    alloc: Global,
+    streams: &S,
+    asked: &RunAsked<'_>,
+    rule: Rule,
+    shard: &Option<Shard>,
+    jobs: &[Job],
+) -> Result<Option<Vec<bool>>, Stop>
+    requires { IfSome shard.now (λ s. (0 < s.number) × (s.number ≤ s.shards)) }
+    ensures { IfOk result (λ marks. IfSome marks (λ marks. length marks.items ≡ length jobs.now)) }
+{
+    let Some(shard) = shard else {
+        return marks_asked(files, alloc, streams, asked, rule, jobs);
+    };
+    match shard_marks(alloc, jobs.len(), shard.number, shard.shards) {
+        Ok(marks) => Ok(Some(marks)),
+        Err(error) => Err(Stop::from(error)),
     }
 }
 

@@ -30,11 +30,11 @@ pub(crate) fn shard_asked(
         return Ok(None);
     };
     let Some((number, shards)) = numbers_of(words) else {
-        return Err(bad_shard(alloc, words)?);
+        return Err(bad_shard(alloc, words));
     };
     let stamp = match asked.stamp {
         Some(stamp) if is_name(stamp.as_bytes()) => String::from_str(alloc, stamp)?,
-        Some(stamp) => return Err(bad_stamp(alloc, stamp)?),
+        Some(stamp) => return Err(bad_stamp(alloc, stamp)),
         None => digest_of(alloc, text)?,
     };
     Ok(Some(Shard {
@@ -76,22 +76,31 @@ fn digest_of(alloc: Global, text: &[u8]) -> Result<String, AllocError>
     hex::encode(alloc, &digest[..8])
 }
 
-fn bad_shard(alloc: Global, words: &str) -> Result<Stop, AllocError> {
-    let what = format!(in alloc;
-        "invalid value '{words}' for '--shard <K/N>': K and N are numbers, 1 <= K <= N <= 4096"
-    )?;
-    refused(alloc, what.as_str())
+fn bad_shard(alloc: Global, words: &str) -> Stop {
+    refused(
+        alloc,
+        format!(in alloc;
+            "invalid value '{words}' for '--shard <K/N>': K and N are numbers, 1 <= K <= N <= 4096"
+        ),
+    )
 }
 
-fn bad_stamp(alloc: Global, stamp: &str) -> Result<Stop, AllocError> {
-    let what = format!(in alloc;
-        "invalid value '{stamp}' for '--stamp <TEXT>': 1 to 64 letters, digits, '.', '_' and '-'"
-    )?;
-    refused(alloc, what.as_str())
+fn bad_stamp(alloc: Global, stamp: &str) -> Stop {
+    refused(
+        alloc,
+        format!(in alloc;
+            "invalid value '{stamp}' for '--stamp <TEXT>': 1 to 64 letters, digits, '.', '_' and '-'"
+        ),
+    )
 }
 
-fn refused(alloc: Global, what: &str) -> Result<Stop, AllocError> {
-    let command = run_command(alloc);
-    let error = refusal(command, ErrorKind::ValueValidation, what);
-    Stop::of_words(alloc, &error)
+/// That a value of `run` is none, as these words say, where there was memory for them.
+pub(crate) fn refused(alloc: Global, what: Result<String, AllocError>) -> Stop {
+    match what {
+        Ok(what) => {
+            let kind = ErrorKind::ValueValidation;
+            Stop::of_words(alloc, &refusal(run_command(alloc), kind, what.as_str()))
+        }
+        Err(error) => Stop::from(error),
+    }
 }

@@ -24,11 +24,30 @@ pub(crate) enum Stop {
 
 impl Stop {
     /// What an error of `clap`, or of its form, comes to. Help and the version are such errors, too.
-    pub(crate) fn of_words(alloc: Global, error: &Error) -> Result<Stop, AllocError> {
+    pub(crate) fn of_words(alloc: Global, error: &Error) -> Stop {
         match error.kind() {
-            ErrorKind::OutOfMemory => Ok(Stop::OutOfMemory),
-            _ if error.use_stderr() => Ok(Stop::Refused(error.to_string(alloc)?.into_bytes())),
-            _ => Ok(Stop::Shown(error.to_string(alloc)?.into_bytes())),
+            ErrorKind::OutOfMemory => Stop::OutOfMemory,
+            _ => match error.to_string(alloc) {
+                Ok(text) if error.use_stderr() => Stop::Refused(text.into_bytes()),
+                Ok(text) => Stop::Shown(text.into_bytes()),
+                Err(error) => Stop::from(error),
+            },
+        }
+    }
+
+    /// What is asked for is refused, as these lines say, where there was memory for them.
+    pub(crate) fn refused(told: Result<Vec<u8>, AllocError>) -> Stop {
+        match told {
+            Ok(text) => Stop::Refused(text),
+            Err(error) => Stop::from(error),
+        }
+    }
+
+    /// The system failed, as these lines say, where there was memory for them.
+    pub(crate) fn failed(told: Result<Vec<u8>, AllocError>) -> Stop {
+        match told {
+            Ok(text) => Stop::Failed(text),
+            Err(error) => Stop::from(error),
         }
     }
 }
