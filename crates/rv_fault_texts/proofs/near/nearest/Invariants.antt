@@ -1,6 +1,6 @@
 use Rattle.std.proofs.Common.{◌≡◌, ◌≤◌, ◌<◌, ℕ}
-use Rattle.rv_choice.specs.Nearest.{distance}
-use Rattle.rv_choice.proofs.near.nearest.Given as goal
+use Rattle.rv_fault_texts.specs.Nearest.{distance}
+use Rattle.rv_fault_texts.proofs.near.nearest.Given as goal
 
 abbrev pub invariant-loop-place : goal.invariant-loop-place
 invariant-loop-place l = record {

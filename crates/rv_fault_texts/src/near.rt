@@ -1,9 +1,9 @@
 //! The job whose name is nearest to a text: the one that a person probably meant.
 
 ghost use Rattle.std.specs.Prelude.{◌≡◌, ◌<◌, IfOk, MatchOption, length};
-ghost use Rattle.rv_choice.specs.Nearest.{IsNearest, distance};
+ghost use Rattle.rv_fault_texts.specs.Nearest.{IsNearest, distance};
 
-use rv_jobs::Job;
+use rv_lists::Job;
 use std::alloc::{AllocError, Global};
 use strsim::levenshtein;
 
