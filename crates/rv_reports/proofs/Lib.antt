@@ -1,3 +1,4 @@
 pub mod Loops
 pub mod Told
 pub mod Compared
+pub mod Public

@@ -9,9 +9,8 @@ mod law;
 mod read;
 mod said;
 mod text;
-mod write;
 
 pub use law::{one_text_one_report, whole_text_is_report_text};
 pub use read::{ReadError, read_report};
 pub use rv_report_lines::{Extent, Numbers, SavedReport, Shard, is_name};
-pub use write::write_saved;
+pub use text::push_last;

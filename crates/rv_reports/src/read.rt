@@ -54,11 +54,12 @@ pub fn read_report(alloc: Global, bytes: &[u8]) -> Result<SavedReport, ReadError
         (difference 1 word.Ahead (saved_text (said bytes.now)) bytes.now)) }
 {
     let report = said(alloc, bytes)?;
-    let text = text_of(alloc, &report)?;
-    if text.as_bytes() == bytes {
+    let written = text_of(alloc, &report)?;
+    let text = written.as_bytes();
+    if text == bytes {
         Ok(report)
     } else {
-        Err(difference(text.as_bytes(), bytes))
+        Err(difference(text, bytes))
     }
 }
 

@@ -40,7 +40,7 @@ fn push_rows(
 
 /// Appends the line below so many rows.
 #[tactic(auto, unfolding(rv_report_lines::specs::Saved::last_line))]
-pub(crate) fn push_last(text: &mut String, extent: &Extent, count: usize) -> Result<(), AllocError>
+pub fn push_last(text: &mut String, extent: &Extent, count: usize) -> Result<(), AllocError>
     ensures { OnOk result (string_bytes text.new
         ≡ string_bytes text.old ++ last_line extent.now count) }
 {

@@ -1,8 +1,11 @@
-use Rattle.std.proofs.Common.{◌∙◌, ◌+◌, ◌++◌, drop, get_or, refl, take, arith}
+use Rattle.std.proofs.Common.{◌∙◌, ◌+◌, ◌++◌, List, drop, get_or, refl, subst, take, arith}
+use Rattle.std.proofs.lemmas.List.{take_all}
 use Rattle.std.proofs.lemmas.Result.{err_from_is_err_and}
 use Rattle.std.specs.List.{concat}
 use Rattle.rv_rows.proofs.Public.{beginning_of_longer, failed_under_way, more_under_way, nothing_under_way}
 use Rattle.rv_rows.proofs.Public.{stopped_under_way}
+use Rattle.rv_rows.specs.Sending.{IsUnderWay}
+use Rattle.rv_rows.specs.declared.row.Row.{Row}
 use Rattle.rv_stream.proofs.Tellings.{told_behind, told_none, told_rest}
 use Rattle.rv_stream.specs.Streams.{texts_of, told}
 use Rattle.rv_stream.proofs.gathered.put_told.Goals as goal
@@ -70,3 +73,11 @@ loop-i-preserved g c =
           (told_behind line text places rows i 0 row (omega arith) (omega arith) c.index-rows-i.is);
       counted = c.in_ok-put_if_enough.ensures.counted ∙ c.loop-i.invariant.counted;
     }
+
+pub returns-clause-under_way : goal.returns-clause-under_way
+returns-clause-under_way g c =
+    let line = g.T.Telling.line c.args.telling.now in
+    let text = c.args.text.now.items in
+    subst (λ (rows : List Row). IsUnderWay (g.W.Sink.taken c.args.out.now) (g.W.Sink.taken c.loop-i.out)
+    c.loop-i.text.items (text ++ told line c.args.places.now rows))
+    (take_all c.loop-i.i c.args.rows.now (omega arith)) c.loop-i.invariant.under_way

@@ -5,8 +5,8 @@ use Rattle.rv_rows.specs.Report.{row_text}
 use Rattle.rv_rows.proofs.Public.{beginning_of_longer, failed_under_way, more_under_way, nothing_under_way}
 use Rattle.rv_rows.proofs.Public.{stopped_under_way}
 use Rattle.rv_report_lines.specs.Saved.{numbered_text}
-use Rattle.rv_reports.proofs.Loops.{above, numbered_more, numbered_split}
-use Rattle.rv_reports.proofs.write.put_rows.Goals as goal
+use Rattle.rv_reports.proofs.Public.{above, numbered_more, numbered_split}
+use Rattle.rv_test_run.proofs.write.put_rows.Goals as goal
 
 pub loop-at-init : goal.loop-at-init
 unfolding numbered_text
