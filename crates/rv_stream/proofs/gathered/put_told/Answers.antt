@@ -81,3 +81,9 @@ returns-clause-under_way g c =
     subst (λ (rows : List Row). IsUnderWay (g.W.Sink.taken c.args.out.now) (g.W.Sink.taken c.loop-i.out)
     c.loop-i.text.items (text ++ told line c.args.places.now rows))
     (take_all c.loop-i.i c.args.rows.now (omega arith)) c.loop-i.invariant.under_way
+
+pub bounds-rows-i : goal.bounds-rows-i
+bounds-rows-i g c = omega arith
+
+pub bounds-places-i : goal.bounds-places-i
+bounds-places-i g c = omega arith
