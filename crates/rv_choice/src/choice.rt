@@ -72,7 +72,7 @@ fn is_unasked(wanted: Wanted<'_>) -> bool
 fn is_among(names: &[&str], name: &str) -> bool
     ensures { result ≡ is_among names.now name.now }
 {
-    names.iter().any(|other| *other == name)
+    names.contains(&name)
 }
 
 fn is_among_failed(names: Option<&[&str]>, name: &str) -> bool

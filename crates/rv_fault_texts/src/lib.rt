@@ -2,7 +2,7 @@
 //!
 //! [`push_faults`] appends a line for each fault, in the manner of compilers: the file and the line where the job begins, the job's
 //! number and name, the key with the value that was met, and what is taken instead. No contract says what a line tells: the texts
-//! are tested.
+//! are tested. [`nearest`] is the job that is probably meant by a name that no job has.
 #![tactic(auto)]
 
 mod expected;
@@ -14,9 +14,11 @@ mod list;
 mod list_fault;
 mod message;
 mod names;
+mod near;
 mod regions;
 mod texts;
 mod values;
 mod wanted;
 
 pub use faults::push_faults;
+pub use near::nearest;

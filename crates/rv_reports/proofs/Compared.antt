@@ -1,5 +1,5 @@
 -- Reading: take what a text says, write it, and compare.
-use Rattle.std.proofs.Common.{◌≡◌, ◌∙◌, ℕ, true, false, List, sym, ap, subst, arith}
+use Rattle.std.proofs.Common.{◌≡◌, ◌∙◌, ℕ, true, false, List, sym, ap, subst}
 use Rattle.std.proofs.lemmas.Bool.{false≢true}
 use Rattle.std.proofs.lemmas.Slice.Eq.{bytes_eq-Decides}
 use Rattle.std.specs.Str.{bytes_eq}
@@ -8,24 +8,12 @@ use Rattle.std.specs.Result.{IsErrAnd}
 use Rattle.rv_reports.specs.declared.read.FirstWord.TheVariants as word
 use Rattle.rv_reports.specs.declared.read.ReadError.{ReadError}
 use Rattle.rv_reports.specs.declared.read.ReadError.TheVariants.{OutOfMemory, Line, CutOff}
-use Rattle.rv_reports.specs.declared.saved.SavedReport.{SavedReport}
-use Rattle.rv_reports.specs.Said.{said}
-use Rattle.rv_reports.specs.Saved.{IsSaved, saved_text}
+use Rattle.rv_report_lines.specs.declared.saved.SavedReport.{SavedReport}
+use Rattle.rv_report_lines.specs.Said.{said}
+use Rattle.rv_report_lines.specs.Saved.{IsSaved, saved_text}
 use Rattle.rv_reports.specs.Differences.{Tells, IsPlace, difference}
-use Rattle.rv_reports.proofs.Cut.{said_can_be, few_numbers}
 use Rattle.rv_reports.proofs.Told.{tells}
-use Rattle.rv_reports.proofs.Parts.{has_numbers}
-use Rattle.rv_reports.proofs.Reports.{said-saved}
-
--- a report that can be says itself
-pub says_itself : (r : SavedReport) → IsSaved r → said (saved_text r) ≡ r
-says_itself r h =
-    let counted = h.listed.counted in
-    let few = few_numbers r.numbers h.listed.rising in
-    said-saved r h (has_numbers r.extent r.numbers h.listed.fits) (omega arith)
-
-pub same_reports : (r other : SavedReport) → IsSaved r → IsSaved other → saved_text r ≡ saved_text other → r ≡ other
-same_reports r other h k e = sym (says_itself r h) ∙ ap said e ∙ says_itself other k
+use Rattle.rv_report_lines.proofs.Public.{said_can_be, says_itself}
 
 pub can_be : (bytes : List ℕ) (r : SavedReport) → r ≡ said bytes → IsSaved r
 can_be bytes r s = subst (λ (x : SavedReport). IsSaved x) (sym s) (said_can_be bytes)

@@ -1,12 +1,4 @@
-pub mod Pieces
-pub mod Words
-pub mod Spelled
-pub mod Parts
-pub mod Reports
-pub mod Drafts
-pub mod Cut
 pub mod Loops
 pub mod Told
 pub mod Compared
-pub mod Wholes
 pub mod Public

@@ -1,2 +1,2 @@
 -- What other crates may cite of the proofs of this one.
-pub use Rattle.rv_reports.proofs.Compared.{same_reports}
+pub use Rattle.rv_reports.proofs.Loops.{above, numbered_more, numbered_split}

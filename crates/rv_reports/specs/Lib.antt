@@ -1,4 +1,1 @@
-pub mod Saved
-pub mod Said
-pub mod View
 pub mod Differences

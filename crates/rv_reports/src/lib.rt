@@ -5,18 +5,12 @@
 //! what it answers has exactly this text, by one comparison. [`one_text_one_report`] is a law of reports.
 #![tactic(auto)]
 
-mod fields;
-mod gathering;
 mod law;
-mod lines;
 mod read;
 mod said;
-mod saved;
 mod text;
-mod write;
 
-pub use fields::is_name;
 pub use law::{one_text_one_report, whole_text_is_report_text};
 pub use read::{ReadError, read_report};
-pub use saved::{Extent, Numbers, SavedReport, Shard};
-pub use write::write_saved;
+pub use rv_report_lines::{Extent, Numbers, SavedReport, Shard, is_name};
+pub use text::push_last;

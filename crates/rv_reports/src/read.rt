@@ -1,33 +1,28 @@
 //! Reading: a text is taken for what it says, that is written, and both are compared.
 
 ghost use Rattle.std.specs.Prelude.{◌≡◌, ◌==◌, ◌≤◌, ◌^◌, ◌<◌, IfOk, IfErr, string_bytes, length, not};
-ghost use Rattle.rv_reports.specs.declared.saved.SavedReport.{SavedReport as Saved};
-ghost use Rattle.rv_reports.specs.Saved.{IsSaved, saved_text};
+ghost use Rattle.rv_report_lines.specs.declared.saved.SavedReport.{SavedReport as Saved};
+ghost use Rattle.rv_report_lines.specs.Saved.{IsSaved, saved_text};
 ghost use Rattle.rv_reports.specs.Differences.{feeds, past, begun, is_last, begins_row, may_go_on, difference};
 ghost use Rattle.rv_reports.specs.Differences.{difference_at, Tells, Gives, IsPlace};
-ghost use Rattle.rv_reports.specs.Said.{said};
+ghost use Rattle.rv_report_lines.specs.Said.{said};
 ghost use Rattle.rv_reports.specs.declared.read.ReadError.TheVariants.{OutOfMemory};
 ghost use Rattle.rv_reports.specs.declared.read.FirstWord.TheVariants as word;
 
-use crate::fields::front;
 use crate::said::said;
-use crate::saved::SavedReport;
 use crate::text::text_of;
+use rv_report_lines::{SavedReport, front};
 use std::alloc::{AllocError, Global};
-use thiserror::Error;
 
 /// Why a text was not read.
-#[derive(Clone, Copy, Debug, Error)]
+#[derive(Clone, Copy)]
 pub enum ReadError {
     /// A growth was refused.
-    #[error("out of memory")]
     OutOfMemory,
     /// The first line, from 1, that no report has there.
-    #[error("line {0} is not a report's")]
     Line(usize),
     /// The text ends before its report does: its whole lines are those of some report, and the first word of a line
     /// behind them can be, as far as it goes.
-    #[error("the report is cut off")]
     CutOff,
 }
 
@@ -55,11 +50,12 @@ pub fn read_report(alloc: Global, bytes: &[u8]) -> Result<SavedReport, ReadError
         (difference 1 word.Ahead (saved_text (said bytes.now)) bytes.now)) }
 {
     let report = said(alloc, bytes)?;
-    let text = text_of(alloc, &report)?;
-    if text.as_bytes() == bytes {
+    let written = text_of(alloc, &report)?;
+    let text = written.as_bytes();
+    if text == bytes {
         Ok(report)
     } else {
-        Err(difference(text.as_bytes(), bytes))
+        Err(difference(text, bytes))
     }
 }
 

@@ -1,19 +1,17 @@
 //! What a text says: its lines, up to the first row that can't stand where it does.
 
-ghost use Rattle.std.specs.Prelude.{◌≡◌, ◌≤◌, [], IfOk, length};
-ghost use Rattle.rv_reports.specs.Said.{rising_count, new_count, fitting, said};
+ghost use Rattle.std.specs.Prelude.{◌≡◌, ◌≤◌, IfOk, length};
+ghost use Rattle.rv_report_lines.specs.Said.{rising_count, fitting, said};
 ghost use Rattle.rv_lists.specs.Jobs.{most_jobs};
-ghost use Rattle.rv_reports.specs.Saved.{names_of, IsSaved};
+ghost use Rattle.rv_report_lines.specs.Saved.{IsSaved};
 
-use crate::gathering::gathered;
-use crate::saved::{Extent, Numbers, SavedReport};
 use rv_jobs::limits::MOST_JOBS;
-use rv_rows::{Row, Rows};
+use rv_report_lines::{Extent, Numbers, SavedReport, gathered, new_count};
+use rv_rows::Rows;
 use std::alloc::{AllocError, Global};
-use std::collections::BTreeMap;
 
 /// What a text says.
-#[tactic(auto, unfolding(crate::specs::Said::said))]
+#[tactic(auto, unfolding(rv_report_lines::specs::Said::said))]
 pub(crate) fn said(alloc: Global, text: &[u8]) -> Result<SavedReport, AllocError>
     ensures value { IfOk result (λ report. report ≡ said text.now) }
     ensures good { IfOk result (λ report. IsSaved report) }
@@ -34,7 +32,7 @@ pub(crate) fn said(alloc: Global, text: &[u8]) -> Result<SavedReport, AllocError
 }
 
 // Any extent that these numbers fit, where they don't fit the given one.
-#[tactic(auto, unfolding(crate::specs::Said::fitting))]
+#[tactic(auto, unfolding(rv_report_lines::specs::Said::fitting))]
 fn fitting(extent: Extent, numbers: &[u32]) -> Extent
     requires { length numbers.now ≤ most_jobs }
     ensures { result ≡ fitting extent numbers.now }
@@ -61,19 +59,4 @@ fn rising_count(numbers: &[u32]) -> usize
         before = *number;
     }
     numbers.len()
-}
-
-// How many rows stand before the first whose name is there already.
-fn new_count(alloc: Global, rows: &[Row]) -> Result<usize, AllocError>
-    ensures { IfOk result (λ count. count ≡ new_count [] (names_of rows.now)) }
-{
-    let mut places: BTreeMap<&str, usize> = BTreeMap::new(alloc);
-    for (at, row) in rows.iter().enumerate() {
-        let name = row.name.as_str();
-        if places.contains_key(name) {
-            return Ok(at);
-        }
-        places.insert(name, at)?;
-    }
-    Ok(rows.len())
 }

@@ -1,7 +1,9 @@
 -- Texts that go out in order: what each step of a stream keeps.
-use Rattle.std.proofs.Common.{◌≡◌, ◌∙◌, ℕ, ◌+◌, ◌*◌, ◌≤◌, false, min, List, [], ◌++◌, length, take, drop, Option, Some}
+use Rattle.std.proofs.Common.{◌≡◌, ◌∙◌, ℕ, zero, suc, ◌∷◌, ◌+◌, ◌*◌, ◌≤◌, false, min, List, [], ◌++◌, length, take, drop, Option, Some}
 use Rattle.std.proofs.Common.{None, is_some, refl, sym, ap, subst, arith, append_assoc, append-nil, take-append-drop}
 use Rattle.std.specs.Fork.{slice_chunk}
+use Rattle.std.specs.Prelude.{IfSome, slice_index_or}
+use Rattle.std.proofs.Math.ListN.{set}
 use Rattle.std.specs.Io.KnownBytes.{Appends}
 use Rattle.std.specs.List.{concat}
 use Rattle.std.proofs.KnownBytes.{Appends-trans}
@@ -33,6 +35,16 @@ one_more_told texts group next had text more now so piece pushed =
     next_texts texts group next
     ∙ ((λ i. so i ++ sym piece i) ∙ (append_assoc had text more ∙ ap (λ l. had ++ l) (sym pushed)))
 
+-- a text that is so at its place, among others that are so at theirs
+pub set_some : {X : Type 0} (P : ℕ → X → Type 0) (xs : List (Option X)) (k : ℕ) (x : X)
+    → ((j : ℕ) → IfSome (slice_index_or xs j None) (P j)) → P k x → (j : ℕ)
+    → IfSome (slice_index_or (set xs k (Some x)) j None) (P j)
+set_some P [] k x all here j = all j
+set_some P (y ∷ ys) zero x all here zero = here
+set_some P (y ∷ ys) zero x all here (suc j) = all (suc j)
+set_some P (y ∷ ys) (suc k) x all here zero = all zero
+set_some P (y ∷ ys) (suc k) x all here (suc j) = set_some (λ n. P (suc n)) ys k x (λ n. all (suc n)) here j
+
 -- what went out, and then a beginning of what comes next, is a beginning of all
 pub begun_on : (before now after : Option (List ℕ)) (had text rest all : List ℕ) → all ≡ (had ++ text) ++ rest
     → Appends before now had → AppendsBeginning now after text → AppendsBeginning before after all
@@ -63,6 +75,15 @@ module _ (texts : List (List ℕ)) (group : ℕ) (before now : Option (List ℕ)
       → Appends before now (told_before texts group next)
   unfailed None is sent = sent
   unfailed (Some error) is sent = cc
+
+  -- the texts that were due went out
+  pub sent_on : (after : Option (List ℕ)) (text : List ℕ) (then : ℕ) (failed : Option StreamError)
+      → is_some failed ≡ false → IsOut texts group before now next failed
+      → told_before texts group then ≡ told_before texts group next ++ text → Appends now after text
+      → IsOut texts group before after then failed
+  sent_on after text then None is sent these more = subst (Appends before after) (sym these)
+      (Appends-trans before now after (told_before texts group next) text sent more)
+  sent_on after text then (Some error) is sent these more = cc
 
   -- a beginning of the texts that were due went out
   pub stopped : (after : Option (List ℕ)) (text : List ℕ) (then : ℕ) (failed : Option StreamError)

@@ -10,6 +10,10 @@ use Rattle.rv_fleet.proofs.Public.{chunk_inside}
 use Rattle.rv_stream.specs.Streams.{CanBeTold, texts_of, told}
 use Rattle.rv_stream.proofs.Streaming.{parts_of_all}
 
+-- rows that are others are as many
+pub same_length : (rows all : List Row) (n : ℕ) → rows ≡ all → length all ≡ n → length rows ≡ n
+same_length rows all n same count = ap length same ∙ count
+
 module _ (line : ℕ → Row → List ℕ) where
   -- no texts of no rows
   pub texts_none : (places : List ℕ) → texts_of line places [] ≡ []
@@ -42,11 +46,20 @@ module _ (line : ℕ → Row → List ℕ) where
       (λ i. told line (a i) (b i)) ∙ ap concat (texts-drop from places rows)
 
   -- a text for each row
-  pub texts-length : (places : List ℕ) (rows : List Row) → length rows ≡ length places
+  texts-length : (places : List ℕ) (rows : List Row) → length rows ≡ length places
       → length (texts_of line places rows) ≡ length places
   texts-length [] rows same = refl
   texts-length (p ∷ places) [] same = same
   texts-length (p ∷ places) (r ∷ rows) same = ap suc (texts-length places rows (omega (arith, same)))
+
+  -- the texts of rows that are others
+  pub same_texts : (places : List ℕ) (rows all : List Row) (texts : List (List ℕ)) → rows ≡ all
+      → texts ≡ texts_of line places all → texts_of line places rows ≡ texts
+  same_texts places rows all texts same told = ap (texts_of line places) same ∙ sym told
+
+  pub told_length : (places : List ℕ) (all : List Row) (texts : List (List ℕ)) → texts ≡ texts_of line places all
+      → length all ≡ length places → length texts ≡ length places
+  told_length places all texts told count = ap length told ∙ texts-length places all count
 
   told_next : (places : List ℕ) (rows : List Row) (i p : ℕ) (r : Row) → i < length places → i < length rows
       → told line places (take (suc i) rows)
@@ -66,6 +79,15 @@ module _ (line : ℕ → Row → List ℕ) where
   told_more places rows i p r in' low =
       let e : i + 1 ≡ suc i = omega arith in
       ap (λ n. told line places (take n rows)) e ∙ told_next places rows i p r in' low
+
+  -- a text that one row more was told of
+  pub told_on : (places : List ℕ) (rows : List Row) (i p : ℕ) (row : Row) (text more : List ℕ) → i < length places
+      → i < length rows → row ≡ get_or rows i row → text ≡ told line places (take i rows)
+      → more ≡ text ++ line (get_or places i p) row → more ≡ told line places (take (i + 1) rows)
+  told_on places rows i p row text more in' low is before pushed =
+      pushed ∙ ap (λ l. l ++ line (get_or places i p) row) before
+      ∙ ap (λ r. told line places (take i rows) ++ line (get_or places i p) r) is
+      ∙ sym (told_more places rows i p row in' low)
 
   -- nothing is told of no rows, behind a text
   pub told_none : (text places : List ℕ) (rows : List Row) → text ≡ text ++ told line places (take 0 rows)

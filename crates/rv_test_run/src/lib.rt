@@ -7,6 +7,7 @@
 mod report;
 mod show;
 mod status;
+mod write;
 
 pub use report::write_rows;
 pub use show::show_run;

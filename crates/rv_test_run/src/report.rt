@@ -8,8 +8,9 @@ ghost use Rattle.rv_lists.specs.Jobs.{most_jobs};
 ghost use Rattle.rv_rows.specs.Sending.{AppendsBeginning, Rose};
 ghost use Rattle.rv_test_run.specs.Shown.{numbers_of, part_text, report_of};
 
+use crate::write::write_saved;
 use rv_fleet::{Report, Rows, Sink, WriteError, write_report};
-use rv_reports::{Extent, Numbers, SavedReport, Shard, write_saved};
+use rv_reports::{Extent, Numbers, SavedReport, Shard};
 use std::alloc::{AllocError, Global};
 
 /// Appends the report of the rows of the jobs at some places of a list of so many jobs: that of a shard, where these are

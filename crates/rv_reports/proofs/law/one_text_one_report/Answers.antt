@@ -1,4 +1,4 @@
-use Rattle.rv_reports.proofs.Compared.{same_reports}
+use Rattle.rv_report_lines.proofs.Public.{same_reports}
 use Rattle.rv_reports.proofs.law.one_text_one_report.Goals as goal
 
 pub returns : goal.returns

@@ -7,14 +7,14 @@ returns-in_err-report-clause-err c = err_of c.args.bytes.now c.from_residual.res
 
 pub returns-then-eq-clause-found : goal.returns-then-eq-clause-found
 returns-then-eq-clause-found c =
-    let written = c.as_bytes.ensures.value ∙ c.in_ok-text.ensures in
-    found_is c.args.bytes.now c.as_bytes.result.now c.in_ok-report.report c.in_ok-report.ensures.value written
+    let written = c.as_bytes-text.ensures.value ∙ c.in_ok-written.ensures in
+    found_is c.args.bytes.now c.as_bytes-text.result.now c.in_ok-report.report c.in_ok-report.ensures.value written
     c.if-eq.ensures
 
 pub returns-else-eq-clause-place : goal.returns-else-eq-clause-place
 returns-else-eq-clause-place c =
-    let written = c.as_bytes-else-eq.ensures.value ∙ c.in_ok-text.ensures in
-    place_is c.args.bytes.now c.as_bytes-else-eq.result.now c.in_ok-report.report c.difference.result
+    let written = c.as_bytes-text.ensures.value ∙ c.in_ok-written.ensures in
+    place_is c.args.bytes.now c.as_bytes-text.result.now c.in_ok-report.report c.difference.result
     c.in_ok-report.ensures.value written c.difference.ensures
 
 pub returns-then-eq-clause-only : goal.returns-then-eq-clause-only
@@ -22,13 +22,13 @@ returns-then-eq-clause-only c = only_is c.args.bytes.now c.in_ok-report.report c
 
 pub returns-else-eq-clause-only : goal.returns-else-eq-clause-only
 returns-else-eq-clause-only c = λ r h e.
-    let written = c.as_bytes.ensures.value ∙ c.in_ok-text.ensures in
-    absurd (never c.args.bytes.now c.as_bytes.result.now c.in_ok-report.report c.in_ok-report.ensures.value written
+    let written = c.as_bytes-text.ensures.value ∙ c.in_ok-written.ensures in
+    absurd (never c.args.bytes.now c.as_bytes-text.result.now c.in_ok-report.report c.in_ok-report.ensures.value written
     c.if-eq.ensures r h e)
 
 pub returns-else-eq-clause-err : goal.returns-else-eq-clause-err
 returns-else-eq-clause-err c =
-    let written = c.as_bytes-else-eq.ensures.value ∙ c.in_ok-text.ensures in
-    err_is c.args.bytes.now c.as_bytes-else-eq.result.now c.in_ok-report.report c.difference.result
+    let written = c.as_bytes-text.ensures.value ∙ c.in_ok-written.ensures in
+    err_is c.args.bytes.now c.as_bytes-text.result.now c.in_ok-report.report c.difference.result
     c.in_ok-report.ensures.value
     written c.difference.ensures

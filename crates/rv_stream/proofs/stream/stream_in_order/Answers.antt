@@ -1,24 +1,25 @@
-use Rattle.std.proofs.Common.{◌∙◌, ◌*◌, ◌-◌, ◌^◌, ℕ, List, length, drop, sym, ap, subst, arith}
+use Rattle.std.proofs.Common.{◌∙◌, ◌*◌, ◌-◌, ◌^◌, ℕ, List, length, drop, subst, arith}
 use Rattle.std.specs.Io.KnownBytes.{Appends}
 use Rattle.std.specs.List.{concat}
 use Rattle.rv_rows.specs.Rows.{rows_at}
 use Rattle.rv_rows.specs.Sending.{AppendsBeginning}
 use Rattle.rv_fleet.proofs.Public.{rows_count}
 use Rattle.rv_stream.proofs.Streaming.{all_sent, part_sent, sent_to}
-use Rattle.rv_stream.proofs.Tellings.{texts-length}
-use Rattle.rv_stream.specs.Streams.{texts_of}
+use Rattle.rv_stream.proofs.Tellings.{same_length, same_texts, told_length}
 use Rattle.rv_stream.proofs.stream.stream_in_order.Goals as goal
 
 pub send_from-requires-clause-from : goal.send_from-requires-clause-from
 send_from-requires-clause-from g c =
-    let rows = rw c.in-Ok.is at c.run_in_order-out.ensures.rows in
-    let count = ap length (c.as_slice.ensures ∙ rows) ∙ rows_count c.args.plan.now c.args.places.now in
+    let count = same_length c.as_slice.result.now (rows_at c.args.plan.now c.args.places.now)
+    (length c.args.places.now) (c.as_slice.ensures ∙ rw c.in-Ok.is at c.run_in_order-out.ensures.rows)
+    (rows_count c.args.plan.now c.args.places.now) in
     omega (arith, count, c.min-from.ensures)
 
 pub send_from-requires-clause-rows : goal.send_from-requires-clause-rows
 send_from-requires-clause-rows g c =
-    let rows = rw c.in-Ok.is at c.run_in_order-out.ensures.rows in
-    ap length (c.as_slice.ensures ∙ rows) ∙ rows_count c.args.plan.now c.args.places.now
+    same_length c.as_slice.result.now (rows_at c.args.plan.now c.args.places.now) (length c.args.places.now)
+    (c.as_slice.ensures ∙ rw c.in-Ok.is at c.run_in_order-out.ensures.rows)
+    (rows_count c.args.plan.now c.args.places.now)
 
 pub returns-in-Ok-send_from-clause-all : goal.returns-in-Ok-send_from-clause-all
 returns-in-Ok-send_from-clause-all g c =
@@ -27,12 +28,12 @@ returns-in-Ok-send_from-clause-all g c =
     let all = rows_at c.args.plan.now c.args.places.now in
     let count = rows_count c.args.plan.now c.args.places.now in
     let is = c.as_slice.ensures ∙ rw c.in-Ok.is at c.run_in_order-out.ensures.rows in
-    let few = ap length is ∙ count in
-    let told = ap (texts_of line c.args.places.now) is ∙ sym c.requires.run.texts_told in
+    let few = same_length c.as_slice.result.now all (length c.args.places.now) is count in
+    let told = same_texts line c.args.places.now c.as_slice.result.now all texts is c.requires.run.texts_told in
     let out = g.W.Sink.taken c.run_in_order-out.result.0 in
     let same = sent_to texts c.in-Ok.ran.1 g.J.Streamed.group c.args.group (2 ^ 64 - 1) c.saturating_mul.result
     c.min-from.result (length c.args.places.now) c.requires.run.size_given
-    (ap length c.requires.run.texts_told ∙ texts-length line c.args.places.now all count)
+    (told_length line c.args.places.now all texts c.requires.run.texts_told count)
     (omega (arith, few, c.as_slice.type_inv.0)) c.saturating_mul.ensures c.min-from.ensures in
     all_sent g.J.Streamed.before out (g.W.Sink.taken c.send_from.new.out) texts (c.in-Ok.ran.1 * g.J.Streamed.group)
     c.min-from.result same (rw c.in-Ok.is at c.run_in_order-out.ensures.sent)
@@ -46,12 +47,12 @@ returns-in-Err-send_from-clause-part g c =
     let all = rows_at c.args.plan.now c.args.places.now in
     let count = rows_count c.args.plan.now c.args.places.now in
     let is = c.as_slice.ensures ∙ rw c.in-Ok.is at c.run_in_order-out.ensures.rows in
-    let few = ap length is ∙ count in
-    let told = ap (texts_of line c.args.places.now) is ∙ sym c.requires.run.texts_told in
+    let few = same_length c.as_slice.result.now all (length c.args.places.now) is count in
+    let told = same_texts line c.args.places.now c.as_slice.result.now all texts is c.requires.run.texts_told in
     let out = g.W.Sink.taken c.run_in_order-out.result.0 in
     let same = sent_to texts c.in-Ok.ran.1 g.J.Streamed.group c.args.group (2 ^ 64 - 1) c.saturating_mul.result
     c.min-from.result (length c.args.places.now) c.requires.run.size_given
-    (ap length c.requires.run.texts_told ∙ texts-length line c.args.places.now all count)
+    (told_length line c.args.places.now all texts c.requires.run.texts_told count)
     (omega (arith, few, c.as_slice.type_inv.0)) c.saturating_mul.ensures c.min-from.ensures in
     part_sent g.J.Streamed.before out (g.W.Sink.taken c.send_from.new.out) texts (c.in-Ok.ran.1 * g.J.Streamed.group)
     c.min-from.result same (rw c.in-Ok.is at c.run_in_order-out.ensures.sent)

@@ -1,6 +1,8 @@
 use Rattle.std.proofs.Common.{◌∙◌, sym, ap, arith}
+use Rattle.std.proofs.lemmas.List.{take_all}
 use Rattle.std.specs.List.{concat}
-use Rattle.rv_stream.proofs.Tellings.{texts_none, told_more}
+use Rattle.rv_stream.proofs.Tellings.{texts_none, told_on}
+use Rattle.rv_stream.specs.Streams.{told}
 use Rattle.rv_stream.proofs.telling.text_of.Goals as goal
 
 pub loop-i-init : goal.loop-i-init
@@ -10,6 +12,12 @@ loop-i-init g c =
 
 pub loop-i-preserved : goal.loop-i-preserved
 loop-i-preserved g c =
-    let more = told_more (g.T.Telling.line c.args.telling.now) c.args.places.now c.args.rows.now c.loop-i.i 0
-    c.index-rows-i.result (omega arith) (omega arith) in
-    cc (more, c.in_ok-push.ensures, c.loop-i.invariant, c.index-rows-i.is)
+    told_on (g.T.Telling.line c.args.telling.now) c.args.places.now c.args.rows.now c.loop-i.i 0 c.index-rows-i.result
+    c.loop-i.text.items c.push.new.text.items (omega arith) (omega arith) c.index-rows-i.is c.loop-i.invariant
+    c.in_ok-push.ensures
+
+pub returns : goal.returns
+returns g c =
+    c.loop-i.invariant
+    ∙ ap (told (g.T.Telling.line c.args.telling.now) c.args.places.now)
+    (take_all c.loop-i.i c.args.rows.now (omega arith))

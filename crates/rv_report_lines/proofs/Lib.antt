@@ -1,0 +1,10 @@
+pub mod Pieces
+pub mod Words
+pub mod Spelled
+pub mod Parts
+pub mod Reports
+pub mod Drafts
+pub mod Cut
+pub mod Loops
+pub mod Wholes
+pub mod Public
