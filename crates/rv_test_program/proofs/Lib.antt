@@ -1,1 +1,3 @@
+mod Numbers
 pub mod SavedRows
+mod Sent

@@ -54,9 +54,10 @@ abbrev pub passing_status : Bool → ℕ
 passing_status passed = if passed then 0 else 1
 
 -- The statuses of a command that ends before its work is done. Help and the version are 0, where
--- standard output takes them.
+-- standard output takes them, and so is a run without a job.
 abbrev pub IsStopStatus : Stop → ℕ → Type 0
 IsStopStatus (stop.Shown text) status = (status ≡ 0) ⊎ (status ≡ 3)
+IsStopStatus stop.NoJob status = status ≡ 0
 IsStopStatus (stop.Refused text) status = status ≡ 2
 IsStopStatus (stop.Failed text) status = status ≡ 3
 IsStopStatus stop.OutOfMemory status = status ≡ 3

@@ -5,7 +5,7 @@ use Rattle.rv_jobs.specs.Plans.{Planned, needed_for, paths_of, paths_used}
 use Rattle.rv_explain.specs.declared.passing.Rule.{Rule}
 use Rattle.rv_lists.specs.declared.job.Job.{Job}
 use Rattle.rv_rows.specs.Rows.{rows_at}
-use Rattle.rv_test_run.specs.Shown.{status_of}
+use Rattle.rv_test_program.specs.Shown.{status_of}
 
 -- the places of the jobs that are marked
 abbrev pub places_of : List Bool → List ℕ

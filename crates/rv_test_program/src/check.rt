@@ -3,10 +3,11 @@
 ghost use Rattle.std.specs.Prelude.{◌≡◌, ◌≤◌, ◌<◌, IfOk, length};
 ghost use Rattle.rv_test_program.specs.Commands.{check_status, refused_in};
 
+use crate::found::Found;
 use crate::list::{jobs_of, read_text, told_of_faults};
-use crate::messages::{REFUSED, put_out, put_told};
+use crate::messages::REFUSED;
+use crate::status::DONE;
 use crate::stop::Stop;
-use crate::streams::Streams;
 use rv_files::{NotingStore, Unread};
 use rv_headers::job_lines;
 use rv_jobs::{Plan, gather};
@@ -14,66 +15,75 @@ use rv_lines::{Span, push_spans, push_text};
 use rv_lists::read_faults;
 use rv_rows::{Refusal, RowEnd, refusal_at};
 use rv_telling::reason_of;
-use rv_test_run::DONE;
 use rv_test_words::CheckAsked;
 use std::alloc::{AllocError, Global};
 use std::rt::Files;
 
-/// Says all that is wrong with a list, or with the files of its jobs, and runs nothing. The status is 2 where anything is.
-pub(crate) fn check<R: Files, S: Streams>(
+/// All that is wrong with a list, or with the files of its jobs; nothing is run. The status is 2 where anything is.
+pub(crate) fn check<R: Files>(
     files: &R,
     alloc: Global,
-    streams: &S,
     asked: CheckAsked<'_>,
-) -> Result<u8, Stop>
-    ensures { IfOk result (λ status. status ≤ 2) }
+) -> Result<Found, Stop>
+    ensures { IfOk result (λ found. found.status ≤ 2) }
 {
     let text = read_text(files, alloc, asked.list)?;
     let faults = read_faults(alloc, text.as_slice())?;
     if faults.is_empty() {
-        return check_files(files, alloc, streams, asked, text.as_slice());
+        return check_files(files, alloc, asked, text.as_slice());
     }
-    let told = told_of_faults(alloc, asked.list, text.as_slice(), faults.as_slice());
-    put_told(streams, told)?;
-    Ok(REFUSED)
+    let text = told_of_faults(alloc, asked.list, text.as_slice(), faults.as_slice())?;
+    Ok(Found {
+        text,
+        status: REFUSED,
+    })
 }
 
-// Says which jobs of a list are refused for their files.
-fn check_files<R: Files, S: Streams>(
+// Which jobs of a list are refused for their files.
+fn check_files<R: Files>(
     files: &R,
     alloc: Global,
-    streams: &S,
     asked: CheckAsked<'_>,
     text: &[u8],
-) -> Result<u8, Stop>
-    ensures { IfOk result (λ status. status ≤ 2) }
+) -> Result<Found, Stop>
+    ensures { IfOk result (λ found. found.status ≤ 2) }
 {
-    let lines = lines_of(alloc, text)?;
     let jobs = jobs_of(alloc, asked.list, text)?;
     let mut store = NotingStore::new(files, alloc, asked.root);
     let plan = gather(alloc, jobs, &mut store)?;
-    let list = Listed {
-        path: asked.list,
-        lines: lines.as_slice(),
-        plan: &plan,
-        unread: store.unread(),
-    };
-    check_plan(alloc, streams, list)
+    check_plan(alloc, asked.list, text, &plan, store.unread())
 }
 
 // The same of a list whose files were read.
-fn check_plan<S: Streams>(alloc: Global, streams: &S, list: Listed<'_>) -> Result<u8, Stop>
-    ensures low { IfOk result (λ status. status ≤ 2) }
-    ensures judged { IfOk result
-        (λ status. status ≡ check_status (refused_in list.entry.plan.now)) }
+fn check_plan(
+    alloc: Global,
+    path: &str,
+    text: &[u8],
+    plan: &Plan,
+    unread: &[Unread],
+) -> Result<Found, Stop>
+    ensures low { IfOk result (λ found. found.status ≤ 2) }
+    ensures judged { IfOk result (λ found. found.status ≡ check_status (refused_in plan.now)) }
 {
-    let (told, refused) = list.told(alloc)?;
-    put_out(streams, told.as_slice())?;
-    Ok(status_of(refused))
+    let lines = lines_of(alloc, text)?;
+    let list = Listed {
+        path,
+        lines: lines.as_slice(),
+        plan,
+        unread,
+    };
+    let mut text = Vec::new(alloc);
+    let refused = list.push_refused(alloc, &mut text)?;
+    push_counts(&mut text, plan.jobs(), refused)?;
+    Ok(Found {
+        text,
+        status: status_of(refused),
+    })
 }
 
 fn status_of(refused: usize) -> u8
-    ensures { result ≡ check_status refused }
+    ensures value { result ≡ check_status refused }
+    ensures low { result ≤ 2 }
 {
     if refused == 0 { DONE } else { REFUSED }
 }
@@ -95,16 +105,6 @@ struct Listed<'a> {
 }
 
 impl<'a> Listed<'a> {
-    // A line for each job that is refused, the line that counts them, and how many they are.
-    fn told(&self, alloc: Global) -> Result<(Vec<u8>, usize), AllocError>
-        ensures { IfOk result (λ found. found.1 ≡ refused_in self.now.plan.now) }
-    {
-        let mut told = Vec::new(alloc);
-        let refused = self.push_refused(alloc, &mut told)?;
-        push_counts(&mut told, self.plan.jobs(), refused)?;
-        Ok((told, refused))
-    }
-
     // Appends a line for each job that is refused, and gives their number.
     fn push_refused(&self, alloc: Global, told: &mut Vec<u8>) -> Result<usize, AllocError>
         ensures { IfOk result (λ refused. refused ≡ refused_in self.now.plan.now) }
@@ -140,23 +140,26 @@ impl<'a> Listed<'a> {
     fn push_job(&self, told: &mut Vec<u8>, place: usize, why: Refusal) -> Result<(), AllocError>
         requires { place < length self.now.plan.now.jobs }
     {
+        self.push_place(told, place)?;
+        push_spans(
+            told,
+            &[
+                Span::Text(": job "),
+                Span::Number((place as u64).saturating_add(1)),
+                Span::Text(" ("),
+                Span::Text(self.plan.job(place).name.as_str()),
+                Span::Text("): refused "),
+                Span::Text(why.name()),
+            ],
+        )
+    }
+
+    // Appends the path of the list, and the line where the job begins, if that is known.
+    fn push_place(&self, told: &mut Vec<u8>, place: usize) -> Result<(), AllocError> {
         let path = Span::Shown(self.path.as_bytes());
-        let number = Span::Number((place as u64).saturating_add(1));
-        let name = Span::Text(self.plan.job(place).name.as_str());
-        let why = Span::Text(why.name());
-        let job = Span::Text(": job ");
-        let open = Span::Text(" (");
-        let close = Span::Text("): refused ");
         match self.lines.get(place) {
-            Some(line) => {
-                let colon = Span::Text(":");
-                let line = Span::Number(*line as u64);
-                push_spans(
-                    told,
-                    &[path, colon, line, job, number, open, name, close, why],
-                )
-            }
-            None => push_spans(told, &[path, job, number, open, name, close, why]),
+            Some(line) => push_spans(told, &[path, Span::Text(":"), Span::Number(*line as u64)]),
+            None => push_spans(told, &[path]),
         }
     }
 }

@@ -1,9 +1,8 @@
 //! The jobs that words choose.
 
-ghost use Rattle.std.specs.Prelude.{◌≡◌, IfOk, IfSome, length};
+ghost use Rattle.std.specs.Prelude.{◌≡◌, IfOk, length};
 
-use crate::failed_before::{failed_names, read_saved, say_gone};
-use crate::messages::{say_told, told_of};
+use crate::failed_before::{failed_names, read_saved, say_failed};
 use crate::shard::refused;
 use crate::stop::Stop;
 use crate::streams::Streams;
@@ -13,12 +12,13 @@ use rv_explain::Rule;
 use rv_fault_texts::nearest;
 use rv_jobs::Job;
 use rv_lines::{Span, text_of};
+use rv_rows::Row;
 use rv_test_words::RunAsked;
 use std::alloc::{AllocError, Global};
 use std::rt::Files;
 
-/// A mark for each job, which is set where the job is to run. None where the jobs that failed in a report are asked for, and there
-/// is none.
+/// A mark for each job, which is set where the job is to run. There is none where the jobs that failed in a report are asked for, and
+/// none failed.
 pub(crate) fn marks_asked<R: Files, S: Streams>(
     files: &R,
     alloc: Global,
@@ -26,16 +26,12 @@ pub(crate) fn marks_asked<R: Files, S: Streams>(
     asked: &RunAsked<'_>,
     rule: Rule,
     jobs: &[Job],
-) -> Result<Option<Vec<bool>>, Stop>
-    ensures { IfOk result (λ marks. IfSome marks (λ marks. length marks.items ≡ length jobs.now)) }
+) -> Result<Vec<bool>, Stop>
+    ensures { IfOk result (λ marks. length marks.items ≡ length jobs.now) }
 {
     check_names(alloc, asked, jobs)?;
-    let Some(text) = asked.pattern else {
-        return marks_by(files, alloc, streams, asked, rule, None, jobs);
-    };
-    let pattern = pattern_of(alloc, text)?;
-    check_pattern(alloc, asked, text, &pattern, jobs)?;
-    marks_by(files, alloc, streams, asked, rule, Some(&pattern), jobs)
+    let pattern = pattern_asked(alloc, asked, jobs)?;
+    marks_by(files, alloc, streams, asked, rule, pattern.as_ref(), jobs)
 }
 
 // The same by a pattern, or by none, that the jobs' names were asked for.
@@ -47,45 +43,36 @@ fn marks_by<R: Files, S: Streams>(
     rule: Rule,
     pattern: Option<&Regex>,
     jobs: &[Job],
-) -> Result<Option<Vec<bool>>, Stop>
-    ensures { IfOk result (λ marks. IfSome marks (λ marks. length marks.items ≡ length jobs.now)) }
+) -> Result<Vec<bool>, Stop>
+    ensures { IfOk result (λ marks. length marks.items ≡ length jobs.now) }
 {
     let Some(path) = asked.failed else {
         return marks(alloc, asked, pattern, None, jobs);
     };
     let report = read_saved(files, alloc, path)?;
-    let failed = failed_names(alloc, rule, report.rows.as_slice())?;
-    marks_among(
-        alloc,
-        streams,
-        asked,
-        path,
-        pattern,
-        failed.as_slice(),
-        jobs,
-    )
+    let rows = report.rows.as_slice();
+    marks_failed(alloc, streams, asked, path, rule, rows, pattern, jobs)
 }
 
-// The same among the jobs that failed in the report at a path.
-fn marks_among<S: Streams>(
+// The same among the jobs that failed in the rows of the report at a path.
+fn marks_failed<S: Streams>(
     alloc: Global,
     streams: &S,
     asked: &RunAsked<'_>,
     path: &str,
+    rule: Rule,
+    rows: &[Row],
     pattern: Option<&Regex>,
-    failed: &[&str],
     jobs: &[Job],
-) -> Result<Option<Vec<bool>>, Stop>
-    ensures { IfOk result (λ marks. IfSome marks (λ marks. length marks.items ≡ length jobs.now)) }
+) -> Result<Vec<bool>, Stop>
+    ensures { IfOk result (λ marks. length marks.items ≡ length jobs.now) }
 {
-    if failed.is_empty() {
-        say_told(streams, told_of(alloc, path, "no job failed there"))?;
-        if asked.only.is_empty() && pattern.is_none() {
-            return Ok(None);
-        }
+    let failed = failed_names(alloc, rule, rows)?;
+    say_failed(alloc, streams, path, jobs, failed.as_slice())?;
+    if failed.is_empty() && asked.only.is_empty() && pattern.is_none() {
+        return Err(Stop::NoJob);
     }
-    say_gone(alloc, streams, path, jobs, failed)?;
-    marks(alloc, asked, pattern, Some(failed), jobs)
+    marks(alloc, asked, pattern, Some(failed.as_slice()), jobs)
 }
 
 fn marks(
@@ -94,8 +81,8 @@ fn marks(
     pattern: Option<&Regex>,
     failed: Option<&[&str]>,
     jobs: &[Job],
-) -> Result<Option<Vec<bool>>, Stop>
-    ensures { IfOk result (λ marks. IfSome marks (λ marks. length marks.items ≡ length jobs.now)) }
+) -> Result<Vec<bool>, Stop>
+    ensures { IfOk result (λ marks. length marks.items ≡ length jobs.now) }
 {
     let wanted = Wanted {
         only: asked.only.as_slice(),
@@ -103,7 +90,7 @@ fn marks(
         failed,
     };
     match chosen_marks(alloc, jobs, wanted) {
-        Ok(marks) => Ok(Some(marks)),
+        Ok(marks) => Ok(marks),
         Err(error) => Err(Stop::from(error)),
     }
 }
@@ -111,13 +98,17 @@ fn marks(
 // Each exact name is one of the list's.
 fn check_names(alloc: Global, asked: &RunAsked<'_>, jobs: &[Job]) -> Result<(), Stop> {
     match first_unknown(jobs, asked.only.as_slice()) {
-        Some(name) => Err(Stop::refused(told_of_name(alloc, asked.list, jobs, name))),
+        Some(name) => Err(unknown_name(alloc, asked.list, jobs, name)),
         None => Ok(()),
     }
 }
 
 /// That no job of a list has a name, and which name is nearest.
-pub(crate) fn told_of_name(
+pub(crate) fn unknown_name(alloc: Global, list: &str, jobs: &[Job], name: &str) -> Stop {
+    Stop::refused(told_of_name(alloc, list, jobs, name))
+}
+
+fn told_of_name(
     alloc: Global,
     list: &str,
     jobs: &[Job],
@@ -153,6 +144,19 @@ fn told_of_unknown<'a>(
     )
 }
 
+// The pattern that jobs' names are asked for, which is found in the name of some job.
+fn pattern_asked(alloc: Global, asked: &RunAsked<'_>, jobs: &[Job]) -> Result<Option<Regex>, Stop> {
+    let Some(text) = asked.pattern else {
+        return Ok(None);
+    };
+    let pattern = pattern_of(alloc, text)?;
+    if is_found(alloc, &pattern, jobs)? {
+        Ok(Some(pattern))
+    } else {
+        Err(Stop::refused(told_of_pattern(alloc, asked.list, text)))
+    }
+}
+
 fn pattern_of(alloc: Global, text: &str) -> Result<Regex, Stop> {
     match Regex::new(alloc, text) {
         Ok(pattern) => Ok(pattern),
@@ -165,20 +169,14 @@ fn pattern_of(alloc: Global, text: &str) -> Result<Regex, Stop> {
 }
 
 // A pattern is found in the name of some job.
-fn check_pattern(
-    alloc: Global,
-    asked: &RunAsked<'_>,
-    text: &str,
-    pattern: &Regex,
-    jobs: &[Job],
-) -> Result<(), Stop> {
+fn is_found(alloc: Global, pattern: &Regex, jobs: &[Job]) -> Result<bool, AllocError> {
     let mut matcher = pattern.matcher(alloc)?;
     for job in jobs {
         if matcher.is_match(job.name.as_str()) {
-            return Ok(());
+            return Ok(true);
         }
     }
-    Err(Stop::refused(told_of_pattern(alloc, asked.list, text)))
+    Ok(false)
 }
 
 fn told_of_pattern<'a>(

@@ -9,38 +9,32 @@ ghost use Rattle.rv_rows.specs.Rows.{row_of};
 ghost use Rattle.rv_telling.specs.Telling.{explained};
 ghost use Rattle.rv_test_program.specs.Commands.{passing_status};
 
-use crate::choosing::told_of_name;
-use crate::list::{jobs_of, read_text};
-use crate::messages::put_out;
+use crate::choosing::unknown_name;
+use crate::found::Found;
+use crate::list::read_list;
+use crate::status::{DONE, SOME_FAIL};
 use crate::stop::Stop;
-use crate::streams::Streams;
 use rv_explain::{Rule, has_passed};
 use rv_files::{NotingStore, Unread};
 use rv_jobs::{Job, JobList, Plan, gather_places};
 use rv_rows::row_at;
 use rv_telling::{RowTelling, Verbosity};
-use rv_test_run::{DONE, SOME_FAIL};
 use rv_test_words::ExplainAsked;
-use std::alloc::{AllocError, Global};
+use std::alloc::Global;
 use std::rt::Files;
 
-/// Runs the job of a name, and shows how it ended and came there. The status is 1 where it failed.
-pub(crate) fn explain<R: Files, S: Streams>(
+/// How the job of a name ends and comes there, which is run for that. The status is 1 where it failed.
+pub(crate) fn explain<R: Files>(
     files: &R,
     alloc: Global,
-    streams: &S,
     asked: ExplainAsked<'_>,
-) -> Result<u8, Stop>
-    ensures { IfOk result (λ status. status ≤ 1) }
+) -> Result<Found, Stop>
+    ensures { IfOk result (λ found. found.status ≤ 1) }
 {
-    let text = read_text(files, alloc, asked.list)?;
-    let jobs = jobs_of(alloc, asked.list, text.as_slice())?;
+    let jobs = read_list(files, alloc, asked.list)?;
     match place_of(jobs.as_slice(), asked.name) {
-        Some(place) => explain_at(files, alloc, streams, asked, jobs, place),
-        None => {
-            let told = told_of_name(alloc, asked.list, jobs.as_slice(), asked.name);
-            Err(Stop::refused(told))
-        }
+        Some(place) => explain_at(files, alloc, asked, jobs, place),
+        None => Err(unknown_name(alloc, asked.list, jobs.as_slice(), asked.name)),
     }
 }
 
@@ -52,56 +46,38 @@ fn place_of(jobs: &[Job], name: &str) -> Option<usize>
 }
 
 // The same of the job at a place.
-fn explain_at<R: Files, S: Streams>(
+fn explain_at<R: Files>(
     files: &R,
     alloc: Global,
-    streams: &S,
     asked: ExplainAsked<'_>,
     jobs: JobList,
     place: usize,
-) -> Result<u8, Stop>
+) -> Result<Found, Stop>
     requires { place < length jobs }
-    ensures { IfOk result (λ status. status ≤ 1) }
+    ensures { IfOk result (λ found. found.status ≤ 1) }
 {
     let places = vec![in alloc; place; 1]?;
     let mut store = NotingStore::new(files, alloc, asked.root);
     let plan = gather_places(alloc, jobs, places, &mut store)?;
-    explain_row(alloc, streams, &plan, store.unread(), place, asked.last)
+    explained(alloc, &plan, store.unread(), place, asked.last)
 }
 
 // The same of a plan.
-fn explain_row<S: Streams>(
-    alloc: Global,
-    streams: &S,
-    plan: &Plan,
-    unread: &[Unread],
-    place: usize,
-    last: u32,
-) -> Result<u8, Stop>
-    requires { place < length plan.now.jobs }
-    ensures { IfOk result (λ status. status ≤ 1) }
-{
-    let (told, status) = explained(alloc, plan, unread, place, last)?;
-    put_out(streams, told.as_slice())?;
-    Ok(status)
-}
-
-// What explains the row of the job at a place, and the status.
 fn explained(
     alloc: Global,
     plan: &Plan,
     unread: &[Unread],
     place: usize,
     last: u32,
-) -> Result<(Vec<u8>, u8), AllocError>
+) -> Result<Found, Stop>
     requires { place < length plan.now.jobs }
-    ensures text { IfOk result (λ found. (d : AJob) → found.0.items
+    ensures text { IfOk result (λ found. (d : AJob) → found.text.items
         ≡ explained plan.now unread.now Strict (slice_index_or plan.now.jobs place d)
         (row_of plan.now (slice_index_or plan.now.jobs place d)) last) }
-    ensures status { IfOk result (λ found. (d : AJob) → found.1
+    ensures status { IfOk result (λ found. (d : AJob) → found.status
         ≡ passing_status (has_passed Strict
         (row_of plan.now (slice_index_or plan.now.jobs place d)))) }
-    ensures low { IfOk result (λ found. found.1 ≤ 1) }
+    ensures low { IfOk result (λ found. found.status ≤ 1) }
 {
     let row = row_at(alloc, plan, place)?;
     let telling = RowTelling {
@@ -111,9 +87,10 @@ fn explained(
         verbosity: Verbosity::All,
         last: None,
     };
-    let mut told = Vec::new(alloc);
-    telling.push_explained(alloc, place, &row, last, &mut told)?;
-    Ok((told, status_of(has_passed(Rule::Strict, &row))))
+    let mut text = Vec::new(alloc);
+    telling.push_explained(alloc, place, &row, last, &mut text)?;
+    let status = status_of(has_passed(Rule::Strict, &row));
+    Ok(Found { text, status })
 }
 
 fn status_of(passed: bool) -> u8

@@ -5,7 +5,7 @@ ghost use Rattle.rv_test_program.specs.Commands.{failed_in};
 ghost use Rattle.rv_lists.specs.Jobs.{most_jobs};
 
 use crate::files::read_file;
-use crate::messages::{say_told, told_of};
+use crate::messages::{say_told, told_of, told_of_number};
 use crate::stop::Stop;
 use crate::streams::Streams;
 use rv_explain::{Rule, has_passed};
@@ -37,16 +37,7 @@ pub(crate) fn read_saved<R: Files>(
 }
 
 fn told_of_line(alloc: Global, path: &str, line: usize) -> Result<Vec<u8>, AllocError> {
-    text_of(
-        alloc,
-        &[
-            Span::Text("rvtest: "),
-            Span::Shown(path.as_bytes()),
-            Span::Text(":"),
-            Span::Number(line as u64),
-            Span::Text(": no report has this line here\n"),
-        ],
-    )
+    told_of_number(alloc, path, ":", line, ": no report has this line here\n")
 }
 
 /// The names of the jobs that failed.
@@ -62,8 +53,21 @@ pub(crate) fn failed_names(alloc: Global, rule: Rule, rows: &[Row]) -> Result<Ve
     Ok(names)
 }
 
-/// Says of each of these names that no job has it any more.
-pub(crate) fn say_gone<S: Streams>(
+/// Says of the jobs that failed in the report at a path that there are none, or of which no job has the name any more.
+pub(crate) fn say_failed<S: Streams>(
+    alloc: Global,
+    streams: &S,
+    path: &str,
+    jobs: &[Job],
+    names: &[&str],
+) -> Result<(), AllocError> {
+    if names.is_empty() {
+        return say_told(streams, told_of(alloc, path, "no job failed there"));
+    }
+    say_gone(alloc, streams, path, jobs, names)
+}
+
+fn say_gone<S: Streams>(
     alloc: Global,
     streams: &S,
     path: &str,

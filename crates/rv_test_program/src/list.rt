@@ -19,6 +19,12 @@ pub(crate) fn read_text<R: Files>(files: &R, alloc: Global, path: &str) -> Resul
     Ok(text)
 }
 
+/// The jobs of the list at a path.
+pub(crate) fn read_list<R: Files>(files: &R, alloc: Global, path: &str) -> Result<JobList, Stop> {
+    let text = read_text(files, alloc, path)?;
+    jobs_of(alloc, path, text.as_slice())
+}
+
 /// The jobs of a list's text, or what is wrong with the list.
 pub(crate) fn jobs_of(alloc: Global, path: &str, text: &[u8]) -> Result<JobList, Stop> {
     match read_jobs(alloc, text) {

@@ -3,19 +3,19 @@
 ghost use Rattle.std.specs.Prelude.{◌≡◌, ◌≤◌, IfOk, length};
 ghost use Rattle.rv_lists.specs.Jobs.{most_jobs};
 ghost use Rattle.rv_test_program.specs.Commands.{rule_for};
-ghost use Rattle.rv_test_run.specs.Shown.{status_of};
+ghost use Rattle.rv_test_program.specs.Shown.{status_of};
 
 use crate::files::read_file;
-use crate::messages::{put_out, say, told_of};
+use crate::messages::{put_beside, told_of, told_of_number};
 use crate::outputs::{Outputs, class_of};
 use crate::rules::rule_of;
+use crate::status::status_of;
 use crate::stop::Stop;
 use crate::streams::Streams;
 use rv_explain::Rule;
 use rv_fleet::Rows;
 use rv_lines::{Span, push_last_line, text_of};
 use rv_merge::{Flaw, MergeError, merge_parts};
-use rv_test_run::status_of;
 use rv_test_words::MergeAsked;
 use rv_views::FailedLines;
 use std::alloc::{AllocError, Global};
@@ -97,13 +97,10 @@ fn write<R: Files, S: Streams>(
         (λ status. status ≡ status_of (rule_for asked.now.lenient) rows) }
 {
     let rule = rule_of(asked.lenient);
-    let status = status_of(rule, rows.as_slice());
-    if let Err(stop) = show(alloc, streams, rule, &rows, outputs.is_out()) {
-        outputs.abandon();
-        return Err(stop);
+    match show(alloc, streams, rule, &rows, outputs.is_out()) {
+        Ok(()) => write_files(alloc, streams, asked, rule, outputs, rows),
+        Err(stop) => Err(outputs.abandoned(stop)),
     }
-    write_files(alloc, streams, asked, rule, outputs, rows)?;
-    Ok(status)
 }
 
 // Shows the line that counts the rows: on standard error where a file goes to standard output.
@@ -118,11 +115,7 @@ fn show<S: Streams>(
 {
     let mut line = Vec::new(alloc);
     push_last_line(&mut line, rule, rows.as_slice())?;
-    if is_beside {
-        say(streams, line.as_slice());
-        return Ok(());
-    }
-    put_out(streams, line.as_slice())
+    put_beside(streams, line.as_slice(), is_beside)
 }
 
 fn write_files<R: Files, S: Streams>(
@@ -132,17 +125,19 @@ fn write_files<R: Files, S: Streams>(
     rule: Rule,
     outputs: Outputs<'_, R>,
     rows: Rows,
-) -> Result<(), Stop>
+) -> Result<u8, Stop>
     requires { length rows ≤ most_jobs }
+    ensures { IfOk result (λ status. status ≡ status_of rule rows) }
 {
     let Outputs { report, junit } = outputs;
     let class = class_of(asked.report.unwrap_or("merged")).as_bytes();
     let told = FailedLines { rule };
+    let status = status_of(rule, rows.as_slice());
     if let Err(stop) = junit.write_rows_as_junit(alloc, streams, class, &told, rows.as_slice()) {
-        report.abandon();
-        return Err(stop);
+        return Err(report.abandoned(stop));
     }
-    report.write_whole(alloc, streams, rows)
+    report.write_whole(alloc, streams, rows)?;
+    Ok(status)
 }
 
 // Why the parts are not those of one run.
@@ -177,16 +172,9 @@ fn told_of_flaw(
     flaw: Flaw,
 ) -> Result<Vec<u8>, AllocError> {
     match flaw {
-        Flaw::Line(line) => text_of(
-            alloc,
-            &[
-                Span::Text("rvtest: "),
-                Span::Shown(path.as_bytes()),
-                Span::Text(":"),
-                Span::Number(line as u64),
-                Span::Text(": no part has this line here\n"),
-            ],
-        ),
+        Flaw::Line(line) => {
+            told_of_number(alloc, path, ":", line, ": no part has this line here\n")
+        }
         Flaw::CutOff => told_of(alloc, path, "the part is cut off"),
         Flaw::Whole => told_of(alloc, path, "a whole report, which is no part of a run"),
         Flaw::Choice => told_of(
@@ -209,16 +197,10 @@ fn told_of_flaw(
             path_of(asked, earlier),
             ", and another text\n",
         ),
-        Flaw::NameTwice(number) => text_of(
-            alloc,
-            &[
-                Span::Text("rvtest: "),
-                Span::Shown(path.as_bytes()),
-                Span::Text(": job "),
-                Span::Number(number as u64),
-                Span::Text(" has the name of a job before it\n"),
-            ],
-        ),
+        Flaw::NameTwice(number) => {
+            let what = " has the name of a job before it\n";
+            told_of_number(alloc, path, ": job ", number, what)
+        }
     }
 }
 

@@ -3,12 +3,12 @@
 ghost use Rattle.std.specs.Prelude.{◌≡◌, ◌≤◌, ◌⊎◌};
 ghost use Rattle.rv_test_program.specs.Commands.{IsStopStatus};
 
+use crate::status::DONE;
 use crate::stop::Stop;
 use crate::streams::Streams;
 use rv_files::StreamSink;
 use rv_fleet::put_all;
 use rv_lines::{Span, text_of};
-use rv_test_run::DONE;
 use std::alloc::{AllocError, Global};
 
 /// The status where words, a list or a report are refused.
@@ -35,6 +35,26 @@ pub(crate) fn told_of<'a>(
     )
 }
 
+/// A line that says what is wrong with the line or the job of a number in what stands at a path.
+pub(crate) fn told_of_number<'a>(
+    alloc: Global,
+    path: &'a str,
+    place: &'a str,
+    number: usize,
+    what: &'a str,
+) -> Result<Vec<u8>, AllocError> {
+    text_of(
+        alloc,
+        &[
+            Span::Text("rvtest: "),
+            Span::Shown(path.as_bytes()),
+            Span::Text(place),
+            Span::Number(number as u64),
+            Span::Text(what),
+        ],
+    )
+}
+
 /// Puts a text to standard error. Where that fails nothing changes.
 pub(crate) fn say<S: Streams>(streams: &S, text: &[u8]) {
     let _ = put_all(&mut StreamSink::new(streams.errors()), text);
@@ -49,20 +69,25 @@ pub(crate) fn say_told<S: Streams>(
     Ok(())
 }
 
-/// Puts what is told to standard output, where there was memory for it.
-pub(crate) fn put_told<S: Streams>(
-    streams: &S,
-    told: Result<Vec<u8>, AllocError>,
-) -> Result<(), Stop> {
-    put_out(streams, told?.as_slice())
-}
-
 /// Puts a text to standard output.
 pub(crate) fn put_out<S: Streams>(streams: &S, text: &[u8]) -> Result<(), Stop> {
     match put_all(&mut StreamSink::new(streams.out()), text) {
         Ok(()) => Ok(()),
         Err(_) => Err(Stop::WriteFailed),
     }
+}
+
+/// Puts a text to standard error where a file goes to standard output, else there.
+pub(crate) fn put_beside<S: Streams>(
+    streams: &S,
+    text: &[u8],
+    is_beside: bool,
+) -> Result<(), Stop> {
+    if is_beside {
+        say(streams, text);
+        return Ok(());
+    }
+    put_out(streams, text)
 }
 
 /// Says why a command ended before its work was done, and gives the status.
@@ -72,6 +97,7 @@ pub(crate) fn stopped<S: Streams>(streams: &S, stop: Stop) -> u8
 {
     match stop {
         Stop::Shown(text) => shown(streams, text.as_slice()),
+        Stop::NoJob => DONE,
         Stop::Refused(text) => {
             say(streams, text.as_slice());
             REFUSED

@@ -23,10 +23,7 @@ impl<'a, R: Files> Outputs<'a, R> {
         let report = ReportTo::open(files, alloc, report)?;
         match ReportTo::open(files, alloc, junit) {
             Ok(junit) => Ok(Outputs { report, junit }),
-            Err(stop) => {
-                report.abandon();
-                Err(stop)
-            }
+            Err(stop) => Err(report.abandoned(stop)),
         }
     }
 
@@ -35,10 +32,9 @@ impl<'a, R: Files> Outputs<'a, R> {
         self.report.is_out() || self.junit.is_out()
     }
 
-    /// Neither is written.
-    pub(crate) fn abandon(self) {
-        self.report.abandon();
-        self.junit.abandon();
+    /// Neither is written, for this reason.
+    pub(crate) fn abandoned(self, stop: Stop) -> Stop {
+        self.junit.abandoned(self.report.abandoned(stop))
     }
 }
 

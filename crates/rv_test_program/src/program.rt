@@ -5,6 +5,7 @@ ghost use Rattle.std.specs.Prelude.{◌≤◌, IfOk};
 use crate::check::check;
 use crate::diff::diff;
 use crate::explain::explain;
+use crate::found::put_found;
 use crate::merge::merge;
 use crate::messages::{FAILED, REFUSED, say, stopped};
 use crate::run::run;
@@ -45,10 +46,10 @@ fn answer<'a, R: Threads + Wait + Sync + Files + Clock, T: AsStr, S: Streams>(
 {
     match read_words(alloc, words) {
         Ok(Some(Asked::Run(asked))) => run(rt, alloc, streams, &asked),
-        Ok(Some(Asked::Explain(asked))) => explain(rt, alloc, streams, asked),
-        Ok(Some(Asked::Check(asked))) => check(rt, alloc, streams, asked),
+        Ok(Some(Asked::Explain(asked))) => put_found(streams, explain(rt, alloc, asked)),
+        Ok(Some(Asked::Check(asked))) => put_found(streams, check(rt, alloc, asked)),
         Ok(Some(Asked::Merge(asked))) => merge(rt, alloc, streams, &asked),
-        Ok(Some(Asked::Diff(asked))) => diff(rt, alloc, streams, asked),
+        Ok(Some(Asked::Diff(asked))) => put_found(streams, diff(rt, alloc, asked)),
         Ok(Some(Asked::Show(asked))) => show(rt, alloc, streams, asked),
         Ok(None) => Ok(REFUSED),
         Err(error) => Err(Stop::of_words(alloc, &error)),

@@ -7,6 +7,7 @@ ghost use Rattle.rv_lists.specs.Jobs.{most_jobs};
 
 use crate::files::unreadable;
 use crate::messages::told_of;
+use crate::rows_report::write_rows;
 use crate::stop::Stop;
 use crate::streams::Streams;
 use rv_explain::Rule;
@@ -14,7 +15,6 @@ use rv_files::{FileError, FileSink, StreamSink};
 use rv_fleet::{Report, Row, Rows, Sink, WriteError, write_report};
 use rv_reports::Shard;
 use rv_stream::Telling;
-use rv_test_run::write_rows;
 use rv_views::{FailedLines, write_junit};
 use std::alloc::Global;
 use std::rt::Files;
@@ -51,11 +51,12 @@ impl<'a, R: Files> ReportTo<'a, R> {
         matches!(self, ReportTo::Out)
     }
 
-    /// Nothing is written.
-    pub(crate) fn abandon(self) {
+    /// Nothing is written, for this reason.
+    pub(crate) fn abandoned(self, stop: Stop) -> Stop {
         if let ReportTo::File(_, file) = self {
             file.abandon();
         }
+        stop
     }
 
     /// Writes the report of the rows of the jobs at some places of a list of so many jobs.
@@ -145,10 +146,7 @@ impl<'a, R: Files> ReportTo<'a, R> {
     ) -> Result<(), Stop> {
         let places = match vec![in alloc; 0usize; rows.len()] {
             Ok(places) => places,
-            Err(error) => {
-                self.abandon();
-                return Err(Stop::from(error));
-            }
+            Err(error) => return Err(self.abandoned(Stop::from(error))),
         };
         self.write_junit(
             alloc,

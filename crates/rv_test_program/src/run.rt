@@ -7,13 +7,15 @@ ghost use Rattle.rv_jobs.specs.Choices.{marked};
 ghost use Rattle.rv_rows.specs.Rows.{rows_at};
 ghost use Rattle.rv_test_program.specs.Runs.{IsStatusOf};
 ghost use Rattle.rv_test_program.specs.Commands.{verbosity_for};
-ghost use Rattle.rv_test_run.specs.Shown.{status_of};
+ghost use Rattle.rv_test_program.specs.Shown.{status_of};
 
 use crate::choosing::marks_asked;
 use crate::list::{jobs_of, read_text};
 use crate::outputs::{Outputs, class_of};
 use crate::rules::rule_of;
 use crate::shard::shard_asked;
+use crate::shown_run::show_run;
+use crate::status::{DONE, status_of};
 use crate::stop::Stop;
 use crate::streams::Streams;
 use rv_explain::Rule;
@@ -23,7 +25,6 @@ use rv_jobs::{Job, JobList, Plan, gather_places, marked_places};
 use rv_merge::shard_marks;
 use rv_reports::Shard;
 use rv_telling::{CountingTelling, Progress, RowTelling, TerminalSink, Verbosity};
-use rv_test_run::{DONE, show_run, status_of};
 use rv_test_words::RunAsked;
 use std::alloc::Global;
 use std::io::Write;
@@ -45,19 +46,17 @@ pub(crate) fn run<R: Threads + Wait + Sync + Files + Clock, S: Streams>(
     let text = read_text(rt, alloc, asked.list)?;
     let jobs = jobs_of(alloc, asked.list, text.as_slice())?;
     let shard = shard_asked(alloc, asked, text.as_slice(), jobs.as_slice().len())?;
-    match marks_of(rt, alloc, streams, asked, rule, &shard, jobs.as_slice())? {
-        Some(marks) => run_marked(
-            rt,
-            alloc,
-            streams,
-            asked,
-            rule,
-            jobs,
-            marks.as_slice(),
-            shard,
-        ),
-        None => Ok(DONE),
-    }
+    let marks = marks_of(rt, alloc, streams, asked, rule, &shard, jobs.as_slice())?;
+    run_marked(
+        rt,
+        alloc,
+        streams,
+        asked,
+        rule,
+        jobs,
+        marks.as_slice(),
+        shard,
+    )
 }
 
 // A mark for each job of the shard, or for each that is asked for.
@@ -69,15 +68,15 @@ fn marks_of<R: Files, S: Streams>(
     rule: Rule,
     shard: &Option<Shard>,
     jobs: &[Job],
-) -> Result<Option<Vec<bool>>, Stop>
+) -> Result<Vec<bool>, Stop>
     requires { IfSome shard.now (λ s. (0 < s.number) × (s.number ≤ s.shards)) }
-    ensures { IfOk result (λ marks. IfSome marks (λ marks. length marks.items ≡ length jobs.now)) }
+    ensures { IfOk result (λ marks. length marks.items ≡ length jobs.now) }
 {
     let Some(shard) = shard else {
         return marks_asked(files, alloc, streams, asked, rule, jobs);
     };
     match shard_marks(alloc, jobs.len(), shard.number, shard.shards) {
-        Ok(marks) => Ok(Some(marks)),
+        Ok(marks) => Ok(marks),
         Err(error) => Err(Stop::from(error)),
     }
 }
@@ -134,24 +133,10 @@ fn run_planned<'x, R: Threads + Wait + Sync + Files + Clock, S: Streams>(
         ≡ status_of telling.now.rule (rows_at telling.now.plan.now places.now)) }
 {
     let outputs = Outputs::open(rt, alloc, asked.report, asked.junit)?;
-    let is_beside = outputs.is_out();
-    let rows = match show(rt, alloc, streams, asked, telling, places, is_beside) {
-        Ok(rows) => rows,
-        Err(stop) => {
-            outputs.abandon();
-            return Err(stop);
-        }
-    };
-    let status = status_of(telling.rule, rows.as_slice());
-    let told = RowTelling {
-        plan: telling.plan,
-        unread: telling.unread,
-        rule: telling.rule,
-        verbosity: Verbosity::Failures,
-        last: telling.last,
-    };
-    write(alloc, streams, asked, outputs, &told, places, shard, rows)?;
-    Ok(status)
+    match show(rt, alloc, streams, asked, telling, places, outputs.is_out()) {
+        Ok(rows) => write(alloc, streams, asked, outputs, telling, places, shard, rows),
+        Err(stop) => Err(outputs.abandoned(stop)),
+    }
 }
 
 // Writes the two files of the rows of the jobs at some places; without the first the second is not there either.
@@ -164,27 +149,29 @@ fn write<R: Files, S: Streams>(
     places: &[usize],
     shard: Option<Shard>,
     rows: Rows,
-) -> Result<(), Stop>
+) -> Result<u8, Stop>
     requires within { AreWithin telling.now.plan.now places.now }
     requires rising { IsStrictlyIncreasing places.now }
     requires counted { length rows ≡ length places.now }
+    ensures { IfOk result (λ status. status ≡ status_of telling.now.rule rows) }
 {
     let Outputs { report, junit } = outputs;
     let class = class_of(asked.list).as_bytes();
-    let rule = telling.rule;
-    if let Err(stop) = junit.write_junit(
-        alloc,
-        streams,
-        class,
-        rule,
-        telling,
-        places,
-        rows.as_slice(),
-    ) {
-        report.abandon();
-        return Err(stop);
+    let told = RowTelling {
+        plan: telling.plan,
+        unread: telling.unread,
+        rule: telling.rule,
+        verbosity: Verbosity::Failures,
+        last: telling.last,
+    };
+    let items = rows.as_slice();
+    let status = status_of(told.rule, items);
+    if let Err(stop) = junit.write_junit(alloc, streams, class, told.rule, &told, places, items) {
+        return Err(report.abandoned(stop));
     }
-    report.write(alloc, streams, telling.plan.jobs(), places, shard, rows)
+    let jobs = telling.plan.jobs();
+    report.write(alloc, streams, jobs, places, shard, rows)?;
+    Ok(status)
 }
 
 fn verbosity_of(asked: &RunAsked<'_>) -> Verbosity

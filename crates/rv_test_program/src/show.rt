@@ -2,19 +2,19 @@
 
 ghost use Rattle.std.specs.Prelude.{◌≡◌, ◌≤◌, ◌<◌, ◌^◌, IfOk, length};
 ghost use Rattle.rv_test_program.specs.Commands.{rule_for};
-ghost use Rattle.rv_test_run.specs.Shown.{status_of};
+ghost use Rattle.rv_test_program.specs.Shown.{status_of};
 ghost use Rattle.rv_views.specs.Show.{show_text};
 
 use crate::failed_before::read_saved;
-use crate::messages::{put_out, say};
+use crate::messages::put_beside;
 use crate::outputs::class_of;
 use crate::report::ReportTo;
 use crate::rules::rule_of;
+use crate::status::status_of;
 use crate::stop::Stop;
 use crate::streams::Streams;
 use rv_explain::Rule;
 use rv_rows::Row;
-use rv_test_run::status_of;
 use rv_test_words::ShowAsked;
 use rv_views::{FailedLines, push_show};
 use std::alloc::{AllocError, Global};
@@ -50,8 +50,7 @@ fn show_rows<R: Files, S: Streams>(
     let text = text_of(alloc, rule, rows)?;
     let junit = ReportTo::open(files, alloc, asked.junit)?;
     if let Err(stop) = put_beside(streams, text.as_slice(), junit.is_out()) {
-        junit.abandon();
-        return Err(stop);
+        return Err(junit.abandoned(stop));
     }
     let class = class_of(asked.report).as_bytes();
     junit.write_rows_as_junit(alloc, streams, class, &FailedLines { rule }, rows)?;
@@ -65,13 +64,4 @@ fn text_of(alloc: Global, rule: Rule, rows: &[Row]) -> Result<Vec<u8>, AllocErro
     let mut text = Vec::new(alloc);
     push_show(alloc, &mut text, rule, rows)?;
     Ok(text)
-}
-
-// On standard error where JUnit's XML goes to standard output.
-fn put_beside<S: Streams>(streams: &S, text: &[u8], is_beside: bool) -> Result<(), Stop> {
-    if is_beside {
-        say(streams, text);
-        return Ok(());
-    }
-    put_out(streams, text)
 }

@@ -10,6 +10,8 @@ use std::alloc::{AllocError, Global};
 pub(crate) enum Stop {
     /// Help or the version is asked for: these lines.
     Shown(Vec<u8>),
+    /// No job is left to run, as was said.
+    NoJob,
     /// What is asked for is refused, as these lines say.
     Refused(Vec<u8>),
     /// The system failed, as these lines say.

@@ -1,1 +1,2 @@
+mod OneMore
 mod Reading

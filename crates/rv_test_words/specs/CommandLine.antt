@@ -1,8 +1,10 @@
 -- The command line of rvtest: the rules that `clap` reads words by.
-use Rattle.std.specs.Prelude.{ℕ, true, [], ◌∷◌, Some, codes, pos}
+use Rattle.std.specs.Prelude.{ℕ, true, List, [], ◌∷◌, Some, codes, pos}
 use Rattle.clap.specs.Words.{App, Rule, Text, new_app, new_rule, with_rule, with_subcommand}
 use Rattle.clap.specs.declared.builder.action.ArgAction.TheVariants.{Append, SetTrue}
 use Rattle.clap.specs.declared.builder.value_parser.ValueParser.TheVariants as value_parser
+use Rattle.rv_test_words.specs.declared.arguments.Argument.{Argument}
+use Rattle.rv_test_words.specs.declared.arguments.Argument.TheVariants as argument
 use Rattle.rv_words.specs.Building.{option_rule, word_rule}
 use Rattle.rv_words.specs.CommandLine.{group_rule}
 
@@ -37,6 +39,23 @@ last_rule = range_rule (codes "last") 0 most_last
 
 abbrev pub shown_rule : Rule
 shown_rule = record last_rule { defaults = codes "16" ∷ [] }
+
+-- the rule of an argument
+abbrev pub rule_for : Argument → Rule
+rule_for (argument.Word name value help) = word_rule name.now
+rule_for (argument.Option name value help) = option_rule name.now
+rule_for (argument.Again name value help) = again_rule name.now
+rule_for (argument.Flag name help) = flag_rule name.now
+rule_for argument.Parts = parts_rule
+rule_for argument.Workers = number_rule (codes "workers") 64
+rule_for argument.Group = group_rule
+rule_for argument.Last = last_rule
+rule_for argument.Shown = shown_rule
+
+-- a command with these arguments more
+abbrev pub with_rules : App → List Argument → App
+with_rules app [] = app
+with_rules app (next ∷ more) = with_rules (with_rule app (rule_for next)) more
 
 -- [--only <NAME>].. [--match <REGEX>] [--failed <REPORT>]
 abbrev pub with_choice : App → App

@@ -4,14 +4,13 @@ ghost use Rattle.std.specs.Prelude.{◌≡◌, IfOk, false};
 ghost use Rattle.clap.specs.Words.{App, app_of, new_app};
 ghost use Rattle.clap.specs.declared.builder.command.Command.TheViews.{out-Command};
 ghost use Rattle.rv_words.specs.Building.{HasApp, IsBuilt};
-ghost use Rattle.rv_test_words.specs.CommandLine.{check_app, diff_app, explain_app, list_app};
-ghost use Rattle.rv_test_words.specs.CommandLine.{merge_app, run_app, show_app, test_app, top_app};
-ghost use Rattle.rv_test_words.specs.CommandLine.{with_choice, with_files, with_machine};
-ghost use Rattle.rv_test_words.specs.CommandLine.{with_reports, with_results, with_runs, with_shard};
+ghost use Rattle.rv_test_words.specs.CommandLine.{check_app, diff_app, explain_app, merge_app};
+ghost use Rattle.rv_test_words.specs.CommandLine.{run_app, show_app, test_app, top_app};
+ghost use Rattle.rv_test_words.specs.CommandLine.{with_reports, with_runs};
 
-use crate::arguments::{JUNIT, LENIENT, LIST, ROOT, again, flag, last, parts, shown, workers};
+use crate::arguments::{Argument, JUNIT, LENIENT, LIST, REPORT, ROOT, with_arguments};
 use clap::Command;
-use rv_words::{Built, group, option, with_argument, with_command, word};
+use rv_words::{Built, with_command};
 use std::alloc::{AllocError, Global};
 
 /// The whole command.
@@ -50,20 +49,17 @@ fn with_reports<'a>(alloc: Global, command: Built<'a>) -> Built<'a>
     with_command(command, show_command(alloc))
 }
 
+fn plain<'a>(alloc: Global, name: &'a str, about: &'a str) -> Built<'a>
+    ensures { IsBuilt (new_app name.entry.now) result }
+{
+    Ok(Command::new(alloc, name).about(about))
+}
+
 // A command whose usage begins with words of its own.
 fn named<'a>(alloc: Global, name: &'a str, about: &'a str, usage: &'a str) -> Built<'a>
     ensures { IsBuilt (new_app name.entry.now) result }
 {
     Command::new(alloc, name).about(about).bin_name(usage)
-}
-
-// A command of a job list.
-fn list_command<'a>(alloc: Global, name: &'a str, about: &'a str) -> Built<'a>
-    ensures { IsBuilt (list_app name.entry.now) result }
-{
-    Command::new(alloc, name)
-        .about(about)
-        .arg(word(alloc, "list", "LIST", LIST))
 }
 
 /// The command `rvtest run`, whose usage a refusal of its words shows.
@@ -72,31 +68,64 @@ pub fn run_command<'a>(alloc: Global) -> Result<Command<'a>, AllocError>
         (app_of command ≡ run_app) × ((out-Command command).has_globals ≡ false)) }
 {
     let about = "Runs the jobs of a list, and shows each that fails";
-    let command = named(alloc, "run", about, "rvtest run");
-    let command = with_argument(command, word(alloc, "list", "LIST", LIST));
-    let command = with_shard(alloc, with_choice(alloc, command));
-    let command = with_files(alloc, with_machine(alloc, command));
-    with_results(alloc, command)
+    let stamp = "Says which run the part is of; else a digest of the list";
+    let arguments = [
+        Argument::Word("list", "LIST", LIST),
+        Argument::Again(
+            "only",
+            "NAME",
+            "Chooses the job of this name; may come again",
+        ),
+        Argument::Option(
+            "match",
+            "REGEX",
+            "Chooses the jobs in whose names it is found",
+        ),
+        Argument::Option(
+            "failed",
+            "REPORT",
+            "Chooses the jobs that failed in a report",
+        ),
+        Argument::Option("shard", "K/N", "Runs the K-th of N parts of the list"),
+        Argument::Option("stamp", "TEXT", stamp),
+        Argument::Workers,
+        Argument::Group,
+        Argument::Option("root", "DIR", ROOT),
+        Argument::Option("report", "FILE", REPORT),
+        Argument::Option("junit", "FILE", JUNIT),
+        Argument::Flag("lenient", LENIENT),
+        Argument::Flag(
+            "verbose",
+            "Shows the jobs that pass, too; not beside --quiet",
+        ),
+        Argument::Flag("quiet", "Shows the last line alone; not beside --verbose"),
+        Argument::Last,
+    ];
+    with_arguments(alloc, named(alloc, "run", about, "rvtest run"), &arguments)
 }
 
 fn explain_command<'a>(alloc: Global) -> Built<'a>
     ensures { IsBuilt explain_app result }
 {
     let about = "Runs one job, and shows how it ended and came there";
-    let command = list_command(alloc, "explain", about);
-    let command = with_argument(command, word(alloc, "name", "NAME", "Name of the job"));
-    let command = with_argument(command, shown(alloc));
-    with_argument(command, option(alloc, "root", "DIR", ROOT))
+    let arguments = [
+        Argument::Word("list", "LIST", LIST),
+        Argument::Word("name", "NAME", "Name of the job"),
+        Argument::Shown,
+        Argument::Option("root", "DIR", ROOT),
+    ];
+    with_arguments(alloc, plain(alloc, "explain", about), &arguments)
 }
 
 fn check_command<'a>(alloc: Global) -> Built<'a>
     ensures { IsBuilt check_app result }
 {
     let about = "Says all that is wrong with a list and its files, and runs nothing";
-    with_argument(
-        list_command(alloc, "check", about),
-        option(alloc, "root", "DIR", ROOT),
-    )
+    let arguments = [
+        Argument::Word("list", "LIST", LIST),
+        Argument::Option("root", "DIR", ROOT),
+    ];
+    with_arguments(alloc, plain(alloc, "check", about), &arguments)
 }
 
 /// The command `rvtest merge`, whose usage a refusal of its words shows.
@@ -105,79 +134,39 @@ pub fn merge_command<'a>(alloc: Global) -> Result<Command<'a>, AllocError>
         (app_of command ≡ merge_app) × ((out-Command command).has_globals ≡ false)) }
 {
     let about = "Makes the whole report of the parts of one run";
-    let command = named(alloc, "merge", about, "rvtest merge");
-    with_files(alloc, with_argument(command, parts(alloc)))
+    let arguments = [
+        Argument::Parts,
+        Argument::Option("report", "FILE", REPORT),
+        Argument::Option("junit", "FILE", JUNIT),
+        Argument::Flag("lenient", LENIENT),
+    ];
+    with_arguments(
+        alloc,
+        named(alloc, "merge", about, "rvtest merge"),
+        &arguments,
+    )
 }
 
 fn diff_command<'a>(alloc: Global) -> Built<'a>
     ensures { IsBuilt diff_app result }
 {
-    let command = Ok(Command::new(alloc, "diff").about("Says in which jobs two reports differ"));
-    let old = "Path of the report that is compared with";
-    let command = with_argument(command, word(alloc, "old", "OLD", old));
-    let new = "Path of the report that is compared";
-    let command = with_argument(command, word(alloc, "new", "NEW", new));
-    let steps = "Compares steps too, and where faults were";
-    with_argument(command, flag(alloc, "steps", steps))
+    let about = "Says in which jobs two reports differ";
+    let arguments = [
+        Argument::Word("old", "OLD", "Path of the report that is compared with"),
+        Argument::Word("new", "NEW", "Path of the report that is compared"),
+        Argument::Flag("steps", "Compares steps too, and where faults were"),
+    ];
+    with_arguments(alloc, plain(alloc, "diff", about), &arguments)
 }
 
 fn show_command<'a>(alloc: Global) -> Built<'a>
     ensures { IsBuilt show_app result }
 {
-    let command = Ok(Command::new(alloc, "show").about("Shows what failed in a report"));
-    let command = with_argument(command, word(alloc, "report", "REPORT", "Path of a report"));
-    let command = with_argument(command, option(alloc, "junit", "FILE", JUNIT));
-    with_argument(command, flag(alloc, "lenient", LENIENT))
-}
-
-// The arguments that choose jobs.
-fn with_choice<'a>(alloc: Global, command: Built<'a>) -> Built<'a>
-    ensures { (app : App) → IsBuilt app command.entry → IsBuilt (with_choice app) result }
-{
-    let only = "Chooses the job of this name; may come again";
-    let command = with_argument(command, again(alloc, "only", "NAME", only));
-    let pattern = "Chooses the jobs in whose names it is found";
-    let command = with_argument(command, option(alloc, "match", "REGEX", pattern));
-    let failed = "Chooses the jobs that failed in a report";
-    with_argument(command, option(alloc, "failed", "REPORT", failed))
-}
-
-// The arguments of one part of a list.
-fn with_shard<'a>(alloc: Global, command: Built<'a>) -> Built<'a>
-    ensures { (app : App) → IsBuilt app command.entry → IsBuilt (with_shard app) result }
-{
-    let shard = "Runs the K-th of N parts of the list";
-    let command = with_argument(command, option(alloc, "shard", "K/N", shard));
-    let stamp = "Says which run the part is of; else a digest of the list";
-    with_argument(command, option(alloc, "stamp", "TEXT", stamp))
-}
-
-// The arguments of threads and folders.
-fn with_machine<'a>(alloc: Global, command: Built<'a>) -> Built<'a>
-    ensures { (app : App) → IsBuilt app command.entry → IsBuilt (with_machine app) result }
-{
-    let command = with_argument(command, workers(alloc));
-    let command = with_argument(command, group(alloc));
-    with_argument(command, option(alloc, "root", "DIR", ROOT))
-}
-
-// The arguments of what is written, and by which rule jobs fail.
-fn with_files<'a>(alloc: Global, command: Built<'a>) -> Built<'a>
-    ensures { (app : App) → IsBuilt app command.entry → IsBuilt (with_files app) result }
-{
-    let report = "Writes the report to this file; - is standard output";
-    let command = with_argument(command, option(alloc, "report", "FILE", report));
-    let command = with_argument(command, option(alloc, "junit", "FILE", JUNIT));
-    with_argument(command, flag(alloc, "lenient", LENIENT))
-}
-
-// The arguments of what is shown.
-fn with_results<'a>(alloc: Global, command: Built<'a>) -> Built<'a>
-    ensures { (app : App) → IsBuilt app command.entry → IsBuilt (with_results app) result }
-{
-    let verbose = "Shows the jobs that pass, too; not beside --quiet";
-    let command = with_argument(command, flag(alloc, "verbose", verbose));
-    let quiet = "Shows the last line alone; not beside --verbose";
-    let command = with_argument(command, flag(alloc, "quiet", quiet));
-    with_argument(command, last(alloc))
+    let about = "Shows what failed in a report";
+    let arguments = [
+        Argument::Word("report", "REPORT", "Path of a report"),
+        Argument::Option("junit", "FILE", JUNIT),
+        Argument::Flag("lenient", LENIENT),
+    ];
+    with_arguments(alloc, plain(alloc, "show", about), &arguments)
 }

@@ -75,5 +75,8 @@ fn refused(
 ) -> Result<Error, AllocError>
     ensures { IfOk result (HasKind (kind ∷ [])) }
 {
-    command?.error(kind, text)
+    match command {
+        Ok(mut command) => command.error(kind, text),
+        Err(error) => Err(error),
+    }
 }

@@ -7,7 +7,7 @@ ghost use Rattle.rv_fleet.specs.Choices.{AreWithin};
 ghost use Rattle.rv_lines.specs.LastLine.{last_line};
 ghost use Rattle.rv_rows.specs.Rows.{rows_at};
 ghost use Rattle.rv_rows.specs.Sending.{AppendsBeginning};
-ghost use Rattle.rv_test_run.specs.Shown.{shown};
+ghost use Rattle.rv_test_program.specs.Shown.{shown};
 
 use rv_explain::Rule;
 use rv_fleet::{Row, Rows, Sink, put_all};
@@ -22,7 +22,7 @@ use std::thread::Threads;
 /// Runs the jobs at some places by 1 to 64 workers that take 1 to 4,096 jobs at a time, and sends what is told of each in list
 /// order, as soon as that of all before it is out; and then the last line. The sink comes back: with the rows it took all of
 /// that, and with an error a beginning.
-pub fn show_run<R: Threads + Wait + Sync, T: Telling + Sync, W: Sink + Drop + Send>(
+pub(crate) fn show_run<R: Threads + Wait + Sync, T: Telling + Sync, W: Sink + Drop + Send>(
     rt: &R,
     alloc: Global,
     plan: &Plan,

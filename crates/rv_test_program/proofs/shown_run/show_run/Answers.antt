@@ -1,8 +1,8 @@
 use Rattle.std.proofs.Common.{◌∙◌, ap, arith, length}
 use Rattle.rv_fleet.proofs.Public.{rising_few, rows_count}
 use Rattle.rv_lines.specs.LastLine.{last_line}
-use Rattle.rv_test_run.proofs.Sent.{told_behind}
-use Rattle.rv_test_run.proofs.show.show_run.Goals as goal
+use Rattle.rv_test_program.proofs.Sent.{told_behind}
+use Rattle.rv_test_program.proofs.shown_run.show_run.Goals as goal
 
 pub put_last_line-requires : goal.put_last_line-requires
 put_last_line-requires g c =

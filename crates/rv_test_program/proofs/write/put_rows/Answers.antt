@@ -6,7 +6,7 @@ use Rattle.rv_rows.proofs.Public.{beginning_of_longer, failed_under_way, more_un
 use Rattle.rv_rows.proofs.Public.{stopped_under_way}
 use Rattle.rv_report_lines.specs.Saved.{numbered_text}
 use Rattle.rv_reports.proofs.Public.{above, numbered_more, numbered_split}
-use Rattle.rv_test_run.proofs.write.put_rows.Goals as goal
+use Rattle.rv_test_program.proofs.write.put_rows.Goals as goal
 
 pub loop-at-init : goal.loop-at-init
 unfolding numbered_text

@@ -7,7 +7,7 @@ use Rattle.std.specs.List.{All}
 use Rattle.std.specs.List.Sorted.{IsStrictlyIncreasing}
 use Rattle.rv_lists.specs.Jobs.{most_jobs}
 use Rattle.rv_report_lines.specs.Saved.{are_rising}
-use Rattle.rv_test_run.specs.Shown.{numbers_of}
+use Rattle.rv_test_program.specs.Shown.{numbers_of}
 
 behind : (p : ℕ) (ps : List ℕ) → IsStrictlyIncreasing (p ∷ ps) → IsStrictlyIncreasing ps
 behind p ps up k inside =

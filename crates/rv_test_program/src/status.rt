@@ -1,19 +1,19 @@
 //! The status of rows.
 
 ghost use Rattle.std.specs.Prelude.{◌≡◌};
-ghost use Rattle.rv_test_run.specs.Shown.{status_of};
+ghost use Rattle.rv_test_program.specs.Shown.{status_of};
 
 use rv_explain::{Rule, have_passed};
 use rv_rows::Row;
 
 /// The status where no job failed.
-pub const DONE: u8 = 0;
+pub(crate) const DONE: u8 = 0;
 
 /// The status where some job failed.
-pub const SOME_FAIL: u8 = 1;
+pub(crate) const SOME_FAIL: u8 = 1;
 
 /// [`SOME_FAIL`] where some job failed, else [`DONE`].
-pub fn status_of(rule: Rule, rows: &[Row]) -> u8
+pub(crate) fn status_of(rule: Rule, rows: &[Row]) -> u8
     ensures { result ≡ status_of rule rows.now }
 {
     if have_passed(rule, rows) {

@@ -1,7 +1,7 @@
 use Rattle.std.proofs.Common.{◌≡◌, take, string_bytes}
 use Rattle.rv_rows.specs.Sending.{IsUnderWay}
 use Rattle.rv_report_lines.specs.Saved.{numbered_text}
-use Rattle.rv_test_run.proofs.write.put_rows.Given as goal
+use Rattle.rv_test_program.proofs.write.put_rows.Given as goal
 
 abbrev pub invariant-loop-at : goal.invariant-loop-at
 invariant-loop-at g l = record {

@@ -6,7 +6,7 @@ ghost use Rattle.std.specs.List.{All};
 ghost use Rattle.std.specs.List.Sorted.{IsStrictlyIncreasing};
 ghost use Rattle.rv_lists.specs.Jobs.{most_jobs};
 ghost use Rattle.rv_rows.specs.Sending.{AppendsBeginning, Rose};
-ghost use Rattle.rv_test_run.specs.Shown.{numbers_of, part_text, report_of};
+ghost use Rattle.rv_test_program.specs.Shown.{numbers_of, part_text, report_of};
 
 use crate::write::write_saved;
 use rv_fleet::{Report, Rows, Sink, WriteError, write_report};
@@ -15,7 +15,7 @@ use std::alloc::{AllocError, Global};
 
 /// Appends the report of the rows of the jobs at some places of a list of so many jobs: that of a shard, where these are
 /// its jobs; else the whole report where they are all, else that of a choice. After an error a beginning of it is out.
-pub fn write_rows<W: Sink>(
+pub(crate) fn write_rows<W: Sink>(
     alloc: Global,
     jobs: usize,
     places: &[usize],

@@ -1,5 +1,5 @@
-use Rattle.rv_test_run.proofs.Numbers.{rising_numbers}
-use Rattle.rv_test_run.proofs.report.write_part.Goals as goal
+use Rattle.rv_test_program.proofs.Numbers.{rising_numbers}
+use Rattle.rv_test_program.proofs.rows_report.write_part.Goals as goal
 
 pub write_saved-requires-clause-rising : goal.write_saved-requires-clause-rising
 write_saved-requires-clause-rising g c = rw (c.new.ensures, c.in_ok-numbers_of.ensures)

@@ -1,8 +1,0 @@
-use Rattle.rv_test_words.proofs.command.with_machine.Goals as goal
-
-pub returns : goal.returns
-returns c =
-    λ app built.
-    let first = c.with_argument-command.ensures _ _ c.workers.ensures built in
-    let second = c.with_argument-command-2.ensures _ _ c.group.ensures first in
-    c.with_argument.ensures _ _ c.option.ensures second
