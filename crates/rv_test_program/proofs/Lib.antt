@@ -1,3 +1,4 @@
 mod Numbers
 pub mod SavedRows
 mod Sent
+mod Statuses

@@ -1,7 +1,7 @@
 use Rattle.std.proofs.Common.{◌∙◌, ap, arith, length}
 use Rattle.rv_fleet.proofs.Public.{rising_few, rows_count}
 use Rattle.rv_lines.specs.LastLine.{last_line}
-use Rattle.rv_test_program.proofs.Sent.{told_behind}
+use Rattle.rv_test_program.proofs.Sent.{begun_before, told_behind, told_whole}
 use Rattle.rv_test_program.proofs.shown_run.show_run.Goals as goal
 
 pub put_last_line-requires : goal.put_last_line-requires
@@ -21,3 +21,13 @@ returns-in-Err-put_last_line-clause-part g c =
     let rows = c.as_slice.ensures ∙ rw c.in-Ok.is at c.stream_places-out.ensures.rows in
     told_behind _ _ _ _ (last_line c.args.rule) _ _ rows (rw c.in-Ok.is at c.stream_places-out.ensures.all)
     c.in-Err-put_last_line.ensures.part
+
+pub returns-in-Err-clause-part : goal.returns-in-Err-clause-part
+returns-in-Err-clause-part g c =
+    begun_before _ _ _ (last_line c.args.rule _) (rw c.in-Err.is at c.stream_places-out.ensures.part)
+
+pub returns-in-Ok-put_last_line-clause-all : goal.returns-in-Ok-put_last_line-clause-all
+returns-in-Ok-put_last_line-clause-all g c =
+    let rows = c.as_slice.ensures ∙ rw c.in-Ok.is at c.stream_places-out.ensures.rows in
+    told_whole _ _ _ _ (last_line c.args.rule) _ _ rows (rw c.in-Ok.is at c.stream_places-out.ensures.all)
+    (rw c.in-Ok-put_last_line.is at c.put_last_line.ensures.all)
