@@ -92,5 +92,11 @@ fn characters_of_last_line(text: &[u8]) -> usize
 fn feeds(text: &[u8]) -> usize
     ensures { result ≡ count_by is_feed text.now }
 {
-    text.iter().filter(|byte| **byte == b'\n').count()
+    let mut count = 0;
+    for byte in text {
+        if *byte == b'\n' {
+            count += 1;
+        }
+    }
+    count
 }

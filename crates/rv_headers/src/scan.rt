@@ -13,7 +13,7 @@ use toml_parser::text::{byte_at, first, skip, skip_blank, skip_ws};
 use toml_parser::{ErrorKind, ParseError, dotted_key};
 
 /// The line, counted from 1, on which each job of a list begins: that of its header, or where the list is an array that of
-/// the element. A text that is no TOML is walked over up to where the readers stop.
+/// the element. A text that is no TOML is walked over up to where no header, entry or element stands.
 pub fn job_lines(alloc: Global, text: &str) -> Result<Vec<usize>, AllocError>
     ensures rising { IfOk result (λ lines. IsNonDecreasing lines.items) }
     ensures within { IfOk result (λ lines. All
@@ -31,119 +31,150 @@ fn behind_mark(text: &str) -> &str {
     text.strip_prefix('\u{feff}').unwrap_or(text)
 }
 
+// What comes next in a walk.
+#[derive(Clone, Copy)]
+enum Next {
+    // An entry of the whole list, or the first header.
+    Top,
+    // An element of the array that is the list, or its end.
+    Element,
+    // An entry of a table, or a header.
+    Table,
+}
+
+// A header, an entry or an element that is walked over.
+struct Step<'a> {
+    is_job: bool,
+    next: Next,
+    rest: &'a str,
+}
+
 fn note_jobs(alloc: Global, text: &str, lines: &mut Lines<'_>) -> Result<(), ParseError>
     ensures { lines.new.text.now ≡ lines.old.text.now }
 {
-    let mut rest = skip_blank(text, true);
-    // No header has come yet: a key is one of the whole list.
-    let mut is_top = true;
-    'lines: while !rest.is_empty() {
-        let behind = if first(rest) == b'[' {
-            is_top = false;
-            behind_header(alloc, rest, lines)?
-        } else {
-            behind_entry(alloc, rest, is_top, lines)?
-        };
-        rest = behind_line(behind)?;
+    let mut here = skip_blank(text, true);
+    let mut what = Next::Top;
+    'steps: while !here.is_empty() {
+        let Step { is_job, next, rest } = step_over(alloc, here, what)?;
+        if is_job {
+            lines.note(here.len())?;
+        }
+        what = next;
+        here = rest;
     }
     Ok(())
 }
 
-// The text behind a header.
-fn behind_header<'a>(
-    alloc: Global,
-    text: &'a str,
-    lines: &mut Lines<'_>,
-) -> Result<&'a str, ParseError>
+fn step_over(alloc: Global, text: &str, next: Next) -> Result<Step<'_>, ParseError>
+    ensures { IfOk result (λ step. length step.rest.now < length text.now) }
+{
+    match next {
+        Next::Element => over_element(alloc, text),
+        _ if first(text) == b'[' => over_header(alloc, text),
+        _ => over_entry(alloc, text, next),
+    }
+}
+
+// At an element, or at the bracket behind the last one.
+fn over_element(alloc: Global, text: &str) -> Result<Step<'_>, ParseError>
+    ensures { IfOk result (λ step. length step.rest.now < length text.now) }
+{
+    if first(text) == b']' {
+        return Ok(Step {
+            is_job: false,
+            next: Next::Top,
+            rest: behind_line(skip(text, 1)),
+        });
+    }
+    let rest = behind_value(alloc, text)?;
+    Ok(Step {
+        is_job: true,
+        next: Next::Element,
+        rest: behind_comma(rest),
+    })
+}
+
+fn over_header(alloc: Global, text: &str) -> Result<Step<'_>, ParseError>
     requires { slice_index text.now 0 ≡ left_bracket }
-    ensures shorter { IfOk result (λ rest. length rest.now < length text.now) }
-    ensures text { lines.new.text.now ≡ lines.old.text.now }
+    ensures { IfOk result (λ step. length step.rest.now < length text.now) }
 {
-    let inside = skip(text, 1);
-    if first(inside) != b'[' {
-        let (_, rest) = behind_key(alloc, skip_ws(inside))?;
-        return behind_sign(b']', ErrorKind::UnclosedTable, rest);
-    }
-    let (is_job, rest) = behind_key(alloc, skip_ws(skip(inside, 1)))?;
-    let rest = behind_sign(b']', ErrorKind::UnclosedTable, rest)?;
-    let rest = behind_sign(b']', ErrorKind::UnclosedArrayTable, rest)?;
-    if is_job {
-        lines.note(text.len())?;
-    }
-    Ok(rest)
+    let is_array = byte_at(text, 1) == b'[';
+    let inside = skip(text, if is_array { 2 } else { 1 });
+    let (is_job, rest) = behind_key(alloc, skip_ws(inside))?;
+    let rest = behind_closing(rest, is_array)?;
+    Ok(Step {
+        is_job: is_array && is_job,
+        next: Next::Table,
+        rest: behind_line(rest),
+    })
 }
 
-// The text behind an entry. At the top, an array of `job` is the list.
-fn behind_entry<'a>(
-    alloc: Global,
-    text: &'a str,
-    is_top: bool,
-    lines: &mut Lines<'_>,
-) -> Result<&'a str, ParseError>
-    ensures shorter { IfOk result (λ rest. length rest.now < length text.now) }
-    ensures text { lines.new.text.now ≡ lines.old.text.now }
-{
-    let (is_job, rest) = behind_key(alloc, text)?;
-    let value = skip_ws(behind_sign(b'=', ErrorKind::MissingEquals, rest)?);
-    if is_top && is_job && first(value) == b'[' {
-        behind_elements(alloc, skip(value, 1), lines)
-    } else {
-        behind_value(alloc, value)
-    }
-}
-
-// The text behind an array of jobs, whose bracket was opened.
-fn behind_elements<'a>(
-    alloc: Global,
-    text: &'a str,
-    lines: &mut Lines<'_>,
-) -> Result<&'a str, ParseError>
-    ensures shorter { IfOk result (λ rest. length rest.now < length text.now) }
-    ensures text { lines.new.text.now ≡ lines.old.text.now }
-{
-    let mut rest = skip_blank(text, true);
-    'elements: while first(rest) != b']' {
-        let behind = behind_value(alloc, rest)?;
-        lines.note(rest.len())?;
-        rest = behind_comma(behind)?;
-    }
-    Ok(skip(rest, 1))
-}
-
-// The text behind the comma that comes next, or from the bracket on that does.
-fn behind_comma(text: &str) -> Result<&str, ParseError>
-    ensures { IfOk result (λ rest. length rest.now ≤ length text.now) }
-{
-    let rest = skip_blank(text, true);
-    if first(rest) == b']' {
-        return Ok(rest);
-    }
-    let rest = behind_sign(b',', ErrorKind::Array, rest)?;
-    Ok(skip_blank(rest, true))
-}
-
-// The text behind a sign that is wanted.
-fn behind_sign(sign: u8, fault: ErrorKind, text: &str) -> Result<&str, ParseError>
-    requires some { 0 < sign }
-    requires ascii { sign < 128 }
+// The text behind the brackets that close a header.
+fn behind_closing(text: &str, is_array: bool) -> Result<&str, ParseError>
     ensures { IfOk result (λ rest. length rest.now < length text.now) }
 {
-    if first(text) == sign {
+    if first(text) == b']' && !is_array {
         Ok(skip(text, 1))
+    } else if first(text) == b']' && byte_at(text, 1) == b']' {
+        Ok(skip(text, 2))
     } else {
-        Err(ParseError::at(fault, text))
+        Err(ParseError::at(ErrorKind::UnclosedTable, text))
     }
 }
 
-// The next header or entry, where the line ends with a comment or nothing more.
-fn behind_line(text: &str) -> Result<&str, ParseError>
-    ensures { IfOk result (λ rest. length rest.now ≤ length text.now) }
+// At the top, an array of `job` is the list: its elements come next.
+fn over_entry(alloc: Global, text: &str, next: Next) -> Result<Step<'_>, ParseError>
+    ensures { IfOk result (λ step. length step.rest.now < length text.now) }
+{
+    let (is_job, rest) = behind_key(alloc, text)?;
+    let value = behind_equals(rest);
+    if is_job && matches!(next, Next::Top) && first(value) == b'[' {
+        return Ok(Step {
+            is_job: false,
+            next: Next::Element,
+            rest: skip_blank(skip(value, 1), true),
+        });
+    }
+    let rest = behind_value(alloc, value)?;
+    Ok(Step {
+        is_job: false,
+        next,
+        rest: behind_line(rest),
+    })
+}
+
+// The value of an entry; nothing where no sign parts it from the key.
+fn behind_equals(text: &str) -> &str
+    ensures { length result.now ≤ length text.now }
+{
+    if first(text) == b'=' {
+        skip_ws(skip(text, 1))
+    } else {
+        ""
+    }
+}
+
+// The next element, or the bracket behind the last one.
+fn behind_comma(text: &str) -> &str
+    ensures { length result.now ≤ length text.now }
+{
+    let rest = skip_blank(text, true);
+    if first(rest) == b',' {
+        skip_blank(skip(rest, 1), true)
+    } else {
+        rest
+    }
+}
+
+// The next header or entry; nothing where the line does not end with a comment or nothing more.
+fn behind_line(text: &str) -> &str
+    ensures { length result.now ≤ length text.now }
 {
     let end = skip_ws(text);
-    if end.is_empty() || matches!(first(end), b'#' | b'\n' | b'\r') {
-        Ok(skip_blank(end, true))
+    if matches!(first(end), b'#' | b'\n' | b'\r') {
+        skip_blank(end, true)
     } else {
-        Err(ParseError::at(ErrorKind::EndOfLine, end))
+        ""
     }
 }
 

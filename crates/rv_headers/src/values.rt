@@ -4,21 +4,17 @@ ghost use Rattle.std.specs.Prelude.{◌≡◌, ◌<◌, ◌≤◌, IfOk, IsTrue,
 
 use std::alloc::Global;
 use toml_parser::bytes::is_word;
-use toml_parser::text::{first, skip, skip_blank};
-use toml_parser::{ErrorKind, ParseError, quoted, starts_string, unquoted};
+use toml_parser::text::{byte_at, first, skip, skip_blank};
+use toml_parser::{ErrorKind, ParseError, quoted, starts_string};
 
 /// The text behind a value.
 pub(crate) fn behind_value(alloc: Global, text: &str) -> Result<&str, ParseError>
     ensures { IfOk result (λ rest. length rest.now < length text.now) }
 {
-    if starts_string(text) {
-        let (_, rest) = quoted(alloc, text)?;
-        Ok(rest)
-    } else if matches!(first(text), b'[' | b'{') {
+    if matches!(first(text), b'[' | b'{') {
         behind_brackets(alloc, text)
     } else {
-        let (_, rest) = unquoted(alloc, text)?;
-        Ok(rest)
+        behind_plain(alloc, text)
     }
 }
 
@@ -47,21 +43,30 @@ fn depth_behind(depth: usize, byte: u8) -> usize {
     }
 }
 
-// The text behind a string, a sign or a word.
+// The text behind a sign, a string or a word.
 fn behind_token(alloc: Global, text: &str) -> Result<&str, ParseError>
+    ensures { IfOk result (λ rest. length rest.now < length text.now) }
+{
+    if matches!(first(text), b'[' | b']' | b'{' | b'}' | b',' | b'=') {
+        Ok(skip(text, 1))
+    } else {
+        behind_plain(alloc, text)
+    }
+}
+
+// The text behind a string or a word.
+fn behind_plain(alloc: Global, text: &str) -> Result<&str, ParseError>
     ensures { IfOk result (λ rest. length rest.now < length text.now) }
 {
     if starts_string(text) {
         let (_, rest) = quoted(alloc, text)?;
-        return Ok(rest);
+        Ok(rest)
+    } else {
+        behind_word(text)
     }
-    if matches!(first(text), b'[' | b']' | b'{' | b'}' | b',' | b'=') {
-        return Ok(skip(text, 1));
-    }
-    behind_word(text)
 }
 
-// The text behind a key without quotes, or a value that is no text; a date and its time may be two.
+// The text behind a key without quotes, or a value that is no text.
 fn behind_word(text: &str) -> Result<&str, ParseError>
     ensures { IfOk result (λ rest. length rest.now < length text.now) }
 {
@@ -75,9 +80,10 @@ fn behind_word(text: &str) -> Result<&str, ParseError>
     Ok(rest)
 }
 
+// Whether a word begins or goes on: in that of a date and a time a space may part the two.
 fn starts_word(text: &str) -> bool
     ensures some { IsTrue result → 0 < slice_index text.now 0 }
     ensures ascii { IsTrue result → slice_index text.now 0 < 128 }
 {
-    is_word(first(text))
+    is_word(first(text)) || (first(text) == b' ' && byte_at(text, 1).is_ascii_digit())
 }

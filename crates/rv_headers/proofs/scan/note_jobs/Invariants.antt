@@ -3,8 +3,8 @@ use denote.Shadow.{shadow}
 use denote.Text.{Utf8}
 use Rattle.rv_headers.proofs.scan.note_jobs.Given as goal
 
-abbrev pub invariant-lines : goal.invariant-lines
-invariant-lines l = shadow (Utf8 l.rest) × (l.lines.text.now ≡ l.initial.lines.text.now)
+abbrev pub invariant-steps : goal.invariant-steps
+invariant-steps l = shadow (Utf8 l.here) × (l.lines.text.now ≡ l.initial.lines.text.now)
 
-abbrev pub decreases-lines : goal.decreases-lines
-decreases-lines l = length l.rest
+abbrev pub decreases-steps : goal.decreases-steps
+decreases-steps l = length l.here
