@@ -1,7 +1,7 @@
 use Rattle.std.proofs.Common.{◌≤◌, length}
 use denote.Shadow.{shadow}
 use denote.Text.{Utf8}
-use Rattle.rv_headers.proofs.values.behind_word.Given as goal
+use Rattle.rv_fault_texts.proofs.headers.values.behind_word.Given as goal
 
 abbrev pub invariant-letters : goal.invariant-letters
 invariant-letters l = shadow (Utf8 l.rest) × (length l.rest ≤ length l.text)

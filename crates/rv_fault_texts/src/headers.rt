@@ -2,7 +2,6 @@
 //!
 //! [`job_lines`] walks over the text with the readers of `toml_parser`: a header of `job` counts outside strings and
 //! comments, however it is spelt, and of an array each element. [`place_of`] counts lines and columns.
-#![tactic(auto)]
 
 mod lines;
 mod scan;

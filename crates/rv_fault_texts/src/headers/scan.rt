@@ -4,10 +4,10 @@ ghost use Rattle.std.specs.Prelude.{◌≡◌, ◌≤◌, ◌<◌, IfOk, length,
 ghost use Rattle.std.specs.List.{All};
 ghost use Rattle.std.specs.List.Sorted.{IsNonDecreasing};
 ghost use Rattle.toml_parser.specs.Lexical.{left_bracket};
-ghost use Rattle.rv_headers.specs.Lines.{lines_in};
+ghost use Rattle.rv_fault_texts.specs.Places.{lines_in};
 
-use crate::lines::Lines;
-use crate::values::behind_value;
+use crate::headers::lines::Lines;
+use crate::headers::values::behind_value;
 use std::alloc::{AllocError, Global};
 use toml_parser::text::{byte_at, first, skip, skip_blank, skip_ws};
 use toml_parser::{ErrorKind, ParseError, dotted_key};

@@ -3,7 +3,7 @@
 ghost use Rattle.std.specs.Prelude.{◌≡◌, ◌≤◌, ◌<◌, count_by, length};
 ghost use Rattle.std.specs.List.{All};
 ghost use Rattle.std.specs.List.Sorted.{IsNonDecreasing};
-ghost use Rattle.rv_headers.specs.Lines.{is_feed, line_at, lines_in};
+ghost use Rattle.rv_fault_texts.specs.Places.{is_feed, line_at, lines_in};
 
 use std::alloc::{AllocError, Global};
 

@@ -1,7 +1,7 @@
 use Rattle.std.proofs.Common.{◌≤◌, length}
 use denote.Shadow.{shadow}
 use denote.Text.{Utf8}
-use Rattle.rv_headers.proofs.values.behind_brackets.Given as goal
+use Rattle.rv_fault_texts.proofs.headers.values.behind_brackets.Given as goal
 
 abbrev pub invariant-tokens : goal.invariant-tokens
 invariant-tokens l = shadow (Utf8 l.rest) × (length l.rest ≤ length l.text)

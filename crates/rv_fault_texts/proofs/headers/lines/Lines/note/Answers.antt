@@ -1,7 +1,7 @@
 use Rattle.std.proofs.Common.{◌+◌, ◌≤◌, ◌∙◌, ap, arith, is_ok}
-use Rattle.rv_headers.specs.Lines.{line_at}
-use Rattle.rv_headers.proofs.Counting.{line_later, rising_noted, within_noted}
-use Rattle.rv_headers.proofs.lines.Lines.note.Goals as goal
+use Rattle.rv_fault_texts.specs.Places.{line_at}
+use Rattle.rv_fault_texts.proofs.Counting.{line_later, rising_noted, within_noted}
+use Rattle.rv_fault_texts.proofs.headers.lines.Lines.note.Goals as goal
 
 pub invariant_of-self : goal.invariant_of-self
 invariant_of-self c =

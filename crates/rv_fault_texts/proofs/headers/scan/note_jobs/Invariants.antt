@@ -1,7 +1,7 @@
 use Rattle.std.proofs.Common.{◌≡◌, length}
 use denote.Shadow.{shadow}
 use denote.Text.{Utf8}
-use Rattle.rv_headers.proofs.scan.note_jobs.Given as goal
+use Rattle.rv_fault_texts.proofs.headers.scan.note_jobs.Given as goal
 
 abbrev pub invariant-steps : goal.invariant-steps
 invariant-steps l = shadow (Utf8 l.here) × (l.lines.text.now ≡ l.initial.lines.text.now)
