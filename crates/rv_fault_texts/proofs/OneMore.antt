@@ -10,10 +10,10 @@ pub no_lines : (bytes : List ℕ) → PutsLines 0 bytes bytes
 no_lines bytes = ([], refl, sym (append-nil bytes))
 
 -- a message is shown, and its line ends
-pub one_line_more : (count : ℕ) (before bytes shown_bytes after message : List ℕ) → PutsLines count before bytes
-    → shown_bytes ≡ bytes ++ shown message → after ≡ shown_bytes ++ 10 ∷ [] → PutsLines (count + 1) before after
-one_line_more count before bytes shown_bytes after message (messages, counted, is) shows ends = (
+pub one_line_more : (count : ℕ) (before bytes after message : List ℕ) → PutsLines count before bytes
+    → after ≡ bytes ++ (shown message ++ 10 ∷ []) → PutsLines (count + 1) before after
+one_line_more count before bytes after message (messages, counted, is) shows = (
   messages ++ message ∷ [],
   omega (arith, length-append messages (message ∷ []), counted),
-  rw (ends, shows, is, flat_map-append line_of messages (message ∷ [])) (simp (append_assoc, append-nil)),
+  rw (shows, is, flat_map-append line_of messages (message ∷ [])) (simp (append_assoc, append-nil)),
 )

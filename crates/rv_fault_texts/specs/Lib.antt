@@ -1,2 +1,3 @@
+pub mod Places
 pub mod Lines
 pub mod Nearest

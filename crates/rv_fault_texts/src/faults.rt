@@ -5,7 +5,7 @@ ghost use Rattle.rv_fault_texts.specs.Lines.{PutsLines};
 
 use crate::list::List;
 use crate::texts::{Look, message_of};
-use rv_lines::{push_shown, push_text};
+use rv_lines::{Span, push_spans};
 use rv_lists::JobError;
 use std::alloc::{AllocError, Global};
 use toml::Table;
@@ -61,8 +61,7 @@ fn push_each(
 {
     for (at, fault) in faults.iter().enumerate() {
         let message = message_of(alloc, file, look, *fault, at < NEAR_TOLD)?;
-        push_shown(bytes, message.as_slice())?;
-        push_text(bytes, "\n")?;
+        push_spans(bytes, &[Span::Shown(message.as_slice()), Span::Text("\n")])?;
     }
     Ok(())
 }

@@ -5,7 +5,7 @@ use crate::names::push_nearest;
 use crate::regions::push_region_number;
 use crate::values::elements_of;
 use rv_lists::JOB_KEYS;
-use toml::Table;
+use toml::{Table, Value};
 
 /// Whose keys they are.
 #[derive(Clone, Copy)]
@@ -71,9 +71,7 @@ fn push_near_key(message: &mut Message, text: &str) {
 
 fn push_unknown_region_key(message: &mut Message, table: &Table) {
     for (at, region) in elements_of(table, "region").iter().enumerate() {
-        if let Some(region) = region.as_table()
-            && let Some(key) = unknown_key(region, Owner::Region)
-        {
+        if let Some(key) = unknown_region_key(region) {
             push_region_number(message, at);
             message.push(": ");
             push_unknown(message, key);
@@ -81,4 +79,11 @@ fn push_unknown_region_key(message: &mut Message, table: &Table) {
         }
     }
     message.push("unknown key");
+}
+
+fn unknown_region_key(region: &Value) -> Option<&str> {
+    match region {
+        Value::Table(table) => unknown_key(table, Owner::Region),
+        _ => None,
+    }
 }

@@ -67,14 +67,28 @@ fn is_region(value: &Value) -> bool {
 
 // The first key of a region whose value is of another kind, and what is wanted of it.
 fn wrong_region_key(table: &Table) -> Option<(&'static str, &'static str)> {
-    if !matches!(value_of(table, "base"), None | Some(Value::Integer(_))) {
+    if is_no_number(value_of(table, "base")) {
         Some(("base", NUMBER))
-    } else if !matches!(value_of(table, "size"), None | Some(Value::Integer(_))) {
+    } else if is_no_number(value_of(table, "size")) {
         Some(("size", NUMBER))
-    } else if !matches!(value_of(table, "write"), None | Some(Value::Boolean(_))) {
+    } else if is_no_boolean(value_of(table, "write")) {
         Some(("write", "true or false is wanted"))
     } else {
         None
+    }
+}
+
+fn is_no_number(value: Option<&Value>) -> bool {
+    match value {
+        Some(value) => !value.is_integer(),
+        None => false,
+    }
+}
+
+fn is_no_boolean(value: Option<&Value>) -> bool {
+    match value {
+        Some(value) => !value.is_bool(),
+        None => false,
     }
 }
 

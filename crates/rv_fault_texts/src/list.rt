@@ -1,7 +1,7 @@
 //! A list whose faults are told, as a look at its text finds it.
 
+use crate::headers::job_lines;
 use crate::values::{elements_of, text_of};
-use rv_headers::job_lines;
 use std::alloc::{AllocError, Global};
 use toml::{Table, Value};
 

@@ -1,10 +1,10 @@
 //! Faults of a whole list.
 
+use crate::headers::place_of;
 use crate::keys::{Owner, push_unknown, unknown_key};
 use crate::list::List;
 use crate::message::Message;
 use crate::values::push_wanted;
-use rv_headers::place_of;
 use rv_lists::What;
 use rv_lists::limits::MOST_JOBS;
 use toml::Table;

@@ -48,14 +48,20 @@ fn push_fault(message: &mut Message, list: &List<'_>, fault: JobError, is_near_t
 
 // Appends the line on which a job begins, its number, and its name where that is a text.
 fn push_job(message: &mut Message, list: &List<'_>, place: usize, number: u32) {
-    if let Some(line) = list.lines.get(place) {
-        message.push_between(":", *line as u64, "");
+    if place < list.lines.len() {
+        message.push_between(":", list.lines[place] as u64, "");
     }
     message.push_between(": job ", u64::from(number), "");
-    if let Some(Some(name)) = list.names.get(place) {
+    if place < list.names.len() {
+        push_name(message, list.names[place]);
+    }
+    message.push(": ");
+}
+
+fn push_name(message: &mut Message, name: Option<&str>) {
+    if let Some(name) = name {
         message.push(" (");
         message.push_shown(name);
         message.push(")");
     }
-    message.push(": ");
 }

@@ -1,3 +1,4 @@
 pub mod Pieces
 pub mod ConsoleLines
 pub mod Counts
+pub mod OneMore

@@ -44,7 +44,13 @@ fn passed_count(rule: Rule, rows: &[Row]) -> usize
     ensures count { result ≡ passed_count rule rows.now }
     ensures within { result ≤ length rows.now }
 {
-    rows.iter().filter(|row| has_passed(rule, row)).count()
+    let mut count = 0;
+    for row in rows {
+        if has_passed(rule, row) {
+            count += 1;
+        }
+    }
+    count
 }
 
 // The steps of all rows: no row has more than a budget allows, so the sum has room.

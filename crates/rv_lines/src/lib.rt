@@ -16,7 +16,7 @@ mod ways;
 
 pub use console_tail::{TAIL_BYTES, TAIL_LINES, push_console_tail};
 pub use last_line::push_last_line;
-pub use parts::{push_hexadecimal, push_number, push_text, push_word};
+pub use parts::{push_number, push_text, push_word};
 pub use result_line::{push_place, push_result, push_symbol};
 pub use shown::{VALUE_ROOM, push_shown, push_shown_value};
 pub use spans::{Span, push_spans, text_of};

@@ -3,10 +3,9 @@
 ghost use Rattle.std.specs.Prelude.{◌≡◌, ◌++◌, OnOk};
 ghost use Rattle.std.specs.Fmt.{decimal};
 ghost use Rattle.rv_rows.specs.Report.{word_digits};
-ghost use Rattle.rv_lines.specs.ResultLine.{hexadecimal};
 
 use itoa::Buffer;
-use std::alloc::{AllocError, Global};
+use std::alloc::AllocError;
 
 /// Appends a text as it stands.
 pub fn push_text(bytes: &mut Vec<u8>, text: &str) -> Result<(), AllocError>
@@ -21,14 +20,6 @@ pub fn push_number(bytes: &mut Vec<u8>, number: u64) -> Result<(), AllocError>
 {
     let mut buffer = Buffer::new();
     push_text(bytes, buffer.format(number))
-}
-
-/// Appends a number's lower-case hexadecimal digits, without zeros in front.
-pub fn push_hexadecimal(alloc: Global, bytes: &mut Vec<u8>, number: u32) -> Result<(), AllocError>
-    ensures { OnOk result (bytes.new.items ≡ bytes.old.items ++ hexadecimal number) }
-{
-    let text = format!(in alloc; "{number:x}")?;
-    bytes.extend_from_slice(text.as_bytes())
 }
 
 /// Appends a word's eight lower-case hexadecimal digits.

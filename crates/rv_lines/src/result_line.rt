@@ -7,8 +7,7 @@ ghost use Rattle.rv_rows.specs.Report.{refusal_name, word_digits};
 ghost use Rattle.rv_lines.specs.ResultLine.{ending_text, passing_word, place_text, reason_text};
 ghost use Rattle.rv_lines.specs.ResultLine.{result_line, steps_text, symbol_text};
 
-use crate::parts::{push_hexadecimal, push_text};
-use crate::shown::push_shown;
+use crate::parts::push_text;
 use crate::spans::{Span, push_spans};
 use rv_elf::SymbolAt;
 use rv_explain::{Rule, has_passed};
@@ -149,16 +148,13 @@ pub fn push_place(
     ensures { OnOk result (bytes.new.items ≡ bytes.old.items
         ++ place_text (option_map (λ s. (s.name.now, s.offset)) place.entry)) }
 {
-    let Some(symbol) = place else {
-        return Ok(());
-    };
-    push_text(bytes, " (")?;
-    push_symbol(alloc, bytes, symbol)?;
-    push_text(bytes, ")")
+    match place {
+        Some(symbol) => push_symbol_between(alloc, bytes, " (", symbol, ")"),
+        None => Ok(()),
+    }
 }
 
-/// Appends a place by the name of a symbol, shown as [`push_shown`] does, and the bytes past it: `main+0x1c`.
-#[tactic(auto, unfolding(crate::specs::ResultLine::symbol_text))]
+/// Appends a place by the name of a symbol, shown as [`push_shown`](crate::push_shown) does, and the bytes past it: `main+0x1c`.
 pub fn push_symbol(
     alloc: Global,
     bytes: &mut Vec<u8>,
@@ -167,9 +163,32 @@ pub fn push_symbol(
     ensures { OnOk result (bytes.new.items ≡ bytes.old.items
         ++ symbol_text (symbol.entry.name.now, symbol.entry.offset)) }
 {
-    push_shown(bytes, symbol.name)?;
-    push_text(bytes, "+0x")?;
-    push_hexadecimal(alloc, bytes, symbol.offset)
+    push_symbol_between(alloc, bytes, "", symbol, "")
+}
+
+#[tactic(auto, unfolding(crate::specs::ResultLine::symbol_text))]
+fn push_symbol_between<'a>(
+    alloc: Global,
+    bytes: &mut Vec<u8>,
+    before: &'a str,
+    symbol: SymbolAt<'a>,
+    behind: &'a str,
+) -> Result<(), AllocError>
+    ensures { OnOk result (bytes.new.items ≡ bytes.old.items
+        ++ (before.now ++ symbol_text (symbol.entry.name.now, symbol.entry.offset) ++ behind.now)) }
+{
+    let offset = symbol.offset;
+    let digits = format!(in alloc; "{offset:x}")?;
+    push_spans(
+        bytes,
+        &[
+            Span::Text(before),
+            Span::Shown(symbol.name),
+            Span::Text("+0x"),
+            Span::Text(digits.as_str()),
+            Span::Text(behind),
+        ],
+    )
 }
 
 fn push_refusal(bytes: &mut Vec<u8>, why: Refusal, reason: Option<&[u8]>) -> Result<(), AllocError>

@@ -32,7 +32,13 @@ pub(crate) fn push_bracket(bytes: &mut Vec<u8>, rule: Rule, rows: &[Row]) -> Res
 fn failed_count(rule: Rule, rows: &[Row], way: usize) -> usize
     ensures { result ≡ failed_count rule rows.now way }
 {
-    rows.iter().filter(|row| fails_by(rule, way, row)).count()
+    let mut count = 0;
+    for row in rows {
+        if fails_by(rule, way, row) {
+            count += 1;
+        }
+    }
+    count
 }
 
 fn push_failures(

@@ -8,7 +8,7 @@ use Rattle.rv_jobs.specs.declared.answers.Answer.{Answer}
 use Rattle.rv_jobs.specs.Plans.{kept_for}
 use Rattle.rv_lists.specs.declared.job.Job.{Job}
 use Rattle.rv_lists.specs.Jobs.{console_path}
-use Rattle.rv_reasons.specs.ImageReasons.{image_reason}
+use Rattle.rv_telling.specs.ImageReasons.{image_reason}
 use Rattle.rv_rows.specs.declared.row.Refusal.{Refusal}
 use Rattle.rv_rows.specs.declared.row.Refusal.TheVariants as refusal
 use Rattle.rv_rows.specs.declared.row.RowEnd.{RowEnd}

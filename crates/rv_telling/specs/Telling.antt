@@ -10,8 +10,8 @@ use Rattle.rv_explain.specs.declared.passing.Rule.{Rule}
 use Rattle.rv_lines.specs.ConsoleTail.{console_tail}
 use Rattle.rv_explain.specs.Passing.{has_passed}
 use Rattle.rv_lines.specs.ResultLine.{result_line}
-use Rattle.rv_reasons.specs.MetLines.{met_lines}
-use Rattle.rv_reasons.specs.UnmetLines.{Comparison, unmet_lines}
+use Rattle.rv_telling.specs.MetLines.{met_lines}
+use Rattle.rv_telling.specs.UnmetLines.{Comparison, unmet_lines}
 use Rattle.rv_rows.specs.declared.row.Row.{Row}
 use Rattle.rv_rows.specs.Rows.{bytes_in, console_in, reference_in}
 use Rattle.rv_rows.specs.Verdict.{is_run}

@@ -1,5 +1,6 @@
 //! What a person is told of a job's row: the line of the row, and behind that of a job that failed the expectations
-//! that its run does not meet and the end of its console.
+//! that its run does not meet and the end of its console. Of an expectation it is told what was expected and what was met, and
+//! of a refused image why, with the addresses of segments beside the regions and the names of symbols.
 //!
 //! [`RowTelling`] is a [`Telling`](rv_stream::Telling) over a plan, and over what a store noted of the paths that it
 //! could not read. How much is told is a [`Verbosity`], and which rows pass a [`Rule`](rv_explain::Rule).
@@ -11,12 +12,17 @@
 #![tactic(auto)]
 
 mod counting;
+mod difference_text;
 mod files;
+mod image_reason;
 mod line;
+mod met_line;
 mod progress;
 mod reasons;
 mod row_telling;
+mod segment_reason;
 mod terminal_sink;
+mod unmet_line;
 mod unread_files;
 mod verbosity;
 mod way;

@@ -8,11 +8,11 @@ ghost use Rattle.rv_telling.specs.Reasons.{refused_reference};
 ghost use Rattle.rv_telling.specs.UnreadFiles.{long_text, unread_text};
 
 use crate::files::image_bytes;
+use crate::image_reason::push_reason_of_image;
 use crate::unread_files::{long_text, unread_text};
 use rv_elf::ImageError;
 use rv_files::Unread;
 use rv_jobs::{Job, Plan};
-use rv_reasons::push_reason_of_image;
 use rv_rows::{Refusal, RowEnd, console_bytes, reference_bytes};
 use std::alloc::{AllocError, Global};
 
@@ -49,8 +49,8 @@ fn refusal_text(
 {
     let image = plan.job(place).image.as_str();
     match why {
-        Refusal::ImageUnreadable => Ok(Some(unread_text(alloc, unread, image)?)),
-        Refusal::ImageTooLong => Ok(Some(long_text(alloc, image)?)),
+        Refusal::ImageUnreadable => unread_if_named(alloc, unread, Some(image)),
+        Refusal::ImageTooLong => long_if_named(alloc, Some(image)),
         Refusal::ReferenceUnreadable => {
             unread_if_named(alloc, unread, refused_reference(plan, place))
         }

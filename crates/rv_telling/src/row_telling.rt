@@ -1,21 +1,23 @@
 //! What is told of rows, over a plan and what was noted of its paths.
 
-ghost use Rattle.std.specs.Prelude.{◌≡◌, ◌<◌, ◌++◌, OnOk, length, slice_index_or};
+ghost use Rattle.std.specs.Prelude.{◌≡◌, ◌<◌, ◌++◌, OnOk, length, option_map, slice_index_or};
+ghost use Rattle.rv_explain.specs.Planned.{named_row};
 ghost use Rattle.rv_lists.specs.declared.job.Job.{Job as AJob};
 ghost use Rattle.rv_lines.specs.ConsoleTail.{console_tail};
-ghost use Rattle.rv_reasons.specs.UnmetLines.{comparison_of};
+ghost use Rattle.rv_telling.specs.UnmetLines.{comparison_of};
 ghost use Rattle.rv_telling.specs.Telling.{compared_lines, expectation_lines, explained, explained_if_run, line_of_row};
 ghost use Rattle.rv_telling.specs.Telling.{lines_behind, run_lines, told_at, told_of_row, way_if_asked};
 
 use crate::files::{fault_symbol, image_bytes, signature_begin};
+use crate::met_line::push_all_met;
 use crate::reasons::reason_of;
+use crate::unmet_line::{Sides, push_all_unmet};
 use crate::verbosity::{Verbosity, is_told};
 use crate::way::push_way;
 use rv_explain::{Rule, Unmet, has_passed, named_row, unmet_expectations};
 use rv_files::Unread;
 use rv_jobs::Plan;
 use rv_lines::{push_console_tail, push_result};
-use rv_reasons::{Sides, push_all_met, push_all_unmet};
 use rv_rows::{Row, console_bytes, is_run, reference_bytes};
 use rv_stream::Telling;
 use std::alloc::{AllocError, Global};
@@ -133,11 +135,16 @@ fn push_line(
     let isa = plan.job(place).isa;
     let symbol = fault_symbol(alloc, isa, image_bytes(plan, place), row.ending)?;
     let reason = reason_of(alloc, plan, unread, place, row.ending)?;
-    let reason = match &reason {
-        Some(reason) => Some(reason.as_slice()),
+    push_result(alloc, text, rule, row, symbol, bytes_of(&reason))
+}
+
+fn bytes_of(reason: &Option<Vec<u8>>) -> Option<&[u8]>
+    ensures { option_map (λ bytes. bytes.now) result ≡ option_map (λ text. text.items) reason.now }
+{
+    match reason {
+        Some(text) => Some(text.as_slice()),
         None => None,
-    };
-    push_result(alloc, text, rule, row, symbol, reason)
+    }
 }
 
 // Appends what stands behind the line of a row that fails: nothing where the job didn't run.
@@ -219,12 +226,11 @@ fn push_explained_run(
 }
 
 // Appends the expectations that a run doesn't meet, and behind them, where all are told, those that it does.
-#[tactic(auto, unfolding(crate::specs::Telling::comparison_in))]
-fn push_expectations<'x>(
+fn push_expectations(
     alloc: Global,
-    plan: &'x Plan,
+    plan: &Plan,
     place: usize,
-    row: &'x Row,
+    row: &Row,
     all: bool,
     text: &mut Vec<u8>,
 ) -> Result<(), AllocError>
@@ -232,11 +238,30 @@ fn push_expectations<'x>(
     ensures { OnOk result ((d : AJob) → text.new.items ≡ text.old.items
         ++ expectation_lines all plan.now (slice_index_or plan.now.jobs place d) row.now) }
 {
+    let named = named_row(alloc, plan, plan.job(place))?;
+    push_compared(alloc, plan, place, row, named.as_ref(), all, text)
+}
+
+// The same, beside the row of the named job.
+#[tactic(auto, unfolding(crate::specs::Telling::comparison_in))]
+fn push_compared<'x>(
+    alloc: Global,
+    plan: &'x Plan,
+    place: usize,
+    row: &'x Row,
+    other: Option<&'x Row>,
+    all: bool,
+    text: &mut Vec<u8>,
+) -> Result<(), AllocError>
+    requires within { place < length plan.now.jobs }
+    requires named { (d : AJob) → option_map (λ row. row.now) other
+        ≡ named_row plan.now (slice_index_or plan.now.jobs place d) }
+    ensures { OnOk result ((d : AJob) → text.new.items ≡ text.old.items
+        ++ expectation_lines all plan.now (slice_index_or plan.now.jobs place d) row.now) }
+{
     let job = plan.job(place);
     let console = console_bytes(plan, place);
     let reference = reference_bytes(plan, place);
-    let named = named_row(alloc, plan, job)?;
-    let other = named.as_ref();
     let address = signature_begin(alloc, job.isa, image_bytes(plan, place), &job.signature)?;
     let unmet = unmet_expectations(alloc, job, row, console, reference, other)?;
     let sides = Sides {

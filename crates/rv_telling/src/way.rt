@@ -34,7 +34,7 @@ pub(crate) fn push_way(
         isa,
         image_bytes(plan, place),
         row.ending,
-        trace,
+        &trace,
         text,
     )
 }
@@ -46,17 +46,20 @@ fn push_way_of(
     isa: Isa,
     file: Option<&[u8]>,
     end: RowEnd,
-    trace: Option<Trace>,
+    trace: &Option<Trace>,
     text: &mut Vec<u8>,
 ) -> Result<(), AllocError>
     ensures { OnOk result (text.new.items ≡ text.old.items
-        ++ way_of isa (option_map (λ bytes. bytes.now) file.entry) end trace) }
+        ++ way_of isa (option_map (λ bytes. bytes.now) file.entry) end trace.now) }
 {
-    let (Some(trace), Some(file)) = (trace, file) else {
+    let Some(trace) = trace else {
+        return Ok(());
+    };
+    let Some(file) = file else {
         return Ok(());
     };
     match read_image(alloc, file, isa) {
-        Ok(image) => push_trace(alloc, text, &image, file, &trace, end),
+        Ok(image) => push_trace(alloc, text, &image, file, trace, end),
         Err(ImageError::OutOfMemory) => Err(AllocError),
         Err(_) => Ok(()),
     }

@@ -3,6 +3,5 @@ use Rattle.rv_fault_texts.proofs.faults.push_each.Goals as goal
 
 pub loop-at-preserved : goal.loop-at-preserved
 loop-at-preserved c =
-    one_line_more c.loop-at.at c.args.bytes.now.items c.loop-at.bytes.items c.push_shown.new.bytes.items
-    c.push_text.new.bytes.items c.as_slice.result.now c.loop-at.invariant c.in_ok-push_shown.ensures
-    c.in_ok-push_text.ensures
+    one_line_more c.loop-at.at c.args.bytes.now.items c.loop-at.bytes.items c.push_spans.new.bytes.items
+    c.as_slice.result.now c.loop-at.invariant c.in_ok-push_spans.ensures

@@ -1,0 +1,89 @@
+//! What stands behind a value.
+
+ghost use Rattle.std.specs.Prelude.{◌≡◌, ◌<◌, ◌≤◌, IfOk, IsTrue, length, slice_index};
+
+use std::alloc::Global;
+use toml_parser::bytes::is_word;
+use toml_parser::text::{byte_at, first, skip, skip_blank};
+use toml_parser::{ErrorKind, ParseError, quoted, starts_string};
+
+/// The text behind a value.
+pub(crate) fn behind_value(alloc: Global, text: &str) -> Result<&str, ParseError>
+    ensures { IfOk result (λ rest. length rest.now < length text.now) }
+{
+    if matches!(first(text), b'[' | b'{') {
+        behind_brackets(alloc, text)
+    } else {
+        behind_plain(alloc, text)
+    }
+}
+
+// The text behind an array or an inline table: behind the bracket that leaves none open.
+fn behind_brackets(alloc: Global, text: &str) -> Result<&str, ParseError>
+    ensures { IfOk result (λ rest. length rest.now < length text.now) }
+{
+    let mut rest = text;
+    let mut depth = 0usize;
+    'tokens: loop {
+        depth = depth_behind(depth, first(rest));
+        rest = behind_token(alloc, rest)?;
+        if depth == 0 {
+            return Ok(rest);
+        }
+        rest = skip_blank(rest, true);
+    }
+}
+
+// How many brackets are open behind a byte.
+fn depth_behind(depth: usize, byte: u8) -> usize {
+    match byte {
+        b'[' | b'{' => depth.saturating_add(1),
+        b']' | b'}' => depth.saturating_sub(1),
+        _ => depth,
+    }
+}
+
+// The text behind a sign, a string or a word.
+fn behind_token(alloc: Global, text: &str) -> Result<&str, ParseError>
+    ensures { IfOk result (λ rest. length rest.now < length text.now) }
+{
+    if matches!(first(text), b'[' | b']' | b'{' | b'}' | b',' | b'=') {
+        Ok(skip(text, 1))
+    } else {
+        behind_plain(alloc, text)
+    }
+}
+
+// The text behind a string or a word.
+fn behind_plain(alloc: Global, text: &str) -> Result<&str, ParseError>
+    ensures { IfOk result (λ rest. length rest.now < length text.now) }
+{
+    if starts_string(text) {
+        let (_, rest) = quoted(alloc, text)?;
+        Ok(rest)
+    } else {
+        behind_word(text)
+    }
+}
+
+// The text behind a key without quotes, or a value that is no text.
+fn behind_word(text: &str) -> Result<&str, ParseError>
+    ensures { IfOk result (λ rest. length rest.now < length text.now) }
+{
+    let mut rest = text;
+    'letters: while starts_word(rest) {
+        rest = skip(rest, 1);
+    }
+    if rest.len() == text.len() {
+        return Err(ParseError::at(ErrorKind::Value, text));
+    }
+    Ok(rest)
+}
+
+// Whether a word begins or goes on: in that of a date and a time a space may part the two.
+fn starts_word(text: &str) -> bool
+    ensures some { IsTrue result → 0 < slice_index text.now 0 }
+    ensures ascii { IsTrue result → slice_index text.now 0 < 128 }
+{
+    is_word(first(text)) || (first(text) == b' ' && byte_at(text, 1).is_ascii_digit())
+}

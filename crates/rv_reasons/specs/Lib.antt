@@ -1,3 +1,0 @@
-pub mod UnmetLines
-pub mod MetLines
-pub mod ImageReasons

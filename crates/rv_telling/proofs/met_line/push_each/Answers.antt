@@ -1,0 +1,10 @@
+use Rattle.std.proofs.Common.{arith}
+use Rattle.rv_telling.specs.MetLines.{met_line}
+use Rattle.rv_telling.specs.UnmetLines.{comparison_of}
+use Rattle.rv_telling.proofs.Pieces.{one_more}
+use Rattle.rv_telling.proofs.met_line.push_each.Goals as goal
+
+pub loop-one-preserved : goal.loop-one-preserved
+loop-one-preserved c =
+    one_more (met_line (comparison_of c.args.sides.now) c.args.unmet.now) c.args.expectations.now c.loop-one.one-index
+    _ _ _ _ (omega arith) c.loop-one.invariant c.in_ok-push_met.ensures

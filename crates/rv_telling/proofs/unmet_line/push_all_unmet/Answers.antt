@@ -1,0 +1,9 @@
+use Rattle.std.proofs.Common.{arith}
+use Rattle.rv_telling.specs.UnmetLines.{comparison_of, unmet_line}
+use Rattle.rv_telling.proofs.Pieces.{one_more}
+use Rattle.rv_telling.proofs.unmet_line.push_all_unmet.Goals as goal
+
+pub loop-one-preserved : goal.loop-one-preserved
+loop-one-preserved c =
+    one_more (unmet_line (comparison_of c.args.sides.now)) c.args.unmet.now c.loop-one.one-index _ _ _ _ (omega arith)
+    c.loop-one.invariant c.in_ok-push_unmet.ensures

@@ -1,0 +1,220 @@
+//! The line of an expectation that a run does not meet.
+
+ghost use Rattle.std.specs.Prelude.{◌≡◌, ◌++◌, OnOk, codes, option_map};
+ghost use Rattle.rv_lines.specs.Shown.{shown};
+ghost use Rattle.rv_lines.specs.Spans.{span_text};
+ghost use Rattle.rv_telling.specs.UnmetLines.{comparison_of, end_text, ended_text, exit_text, same_text, rows_text};
+ghost use Rattle.rv_telling.specs.UnmetLines.{topic_text, unmet_line, unmet_lines, unmet_text};
+
+use crate::difference_text::{
+    Topic, push_bytes, push_console, push_said, push_signature, push_signatures,
+};
+use rv_explain::{SameDifference, Unmet};
+use rv_jobs::{ExpectedEnd, Job};
+use rv_lines::{Span, push_spans, push_text};
+use rv_rows::{Row, RowEnd};
+use std::alloc::AllocError;
+
+/// What stands beside the expectations of a job: what `unmet_expectations` of `rv_explain` compared, and where the
+/// signature stands.
+#[derive(Clone, Copy)]
+pub(crate) struct Sides<'a> {
+    pub(crate) job: &'a Job,
+    /// The job's row.
+    pub(crate) row: &'a Row,
+    /// The bytes of the file that the console is compared with, where one was read.
+    pub(crate) console: Option<&'a [u8]>,
+    /// The bytes of the reference, where one was read.
+    pub(crate) reference: Option<&'a [u8]>,
+    /// The row of the job that this one names, where it was run.
+    pub(crate) other: Option<&'a Row>,
+    /// The address of the first word of the signature, where it is known.
+    pub(crate) address: Option<u32>,
+}
+
+/// Appends a line for each expectation that is not met, behind five spaces.
+pub(crate) fn push_all_unmet(
+    bytes: &mut Vec<u8>,
+    sides: &Sides<'_>,
+    unmet: &[Unmet],
+) -> Result<(), AllocError>
+    ensures { OnOk result (bytes.new.items
+        ≡ bytes.old.items ++ unmet_lines (comparison_of sides.now) unmet.now) }
+{
+    for one in unmet {
+        push_unmet(bytes, sides, *one)?;
+    }
+    Ok(())
+}
+
+// Appends the line of an expectation that is not met, behind five spaces.
+#[tactic(auto, unfolding(crate::specs::UnmetLines::unmet_line))]
+fn push_unmet(bytes: &mut Vec<u8>, sides: &Sides<'_>, unmet: Unmet) -> Result<(), AllocError>
+    ensures { OnOk result (bytes.new.items
+        ≡ bytes.old.items ++ unmet_line (comparison_of sides.now) unmet) }
+{
+    push_text(bytes, "     expected ")?;
+    push_expectation(bytes, sides, unmet)?;
+    push_text(bytes, "\n")
+}
+
+#[tactic(auto, unfolding(crate::specs::UnmetLines::unmet_text))]
+fn push_expectation(bytes: &mut Vec<u8>, sides: &Sides<'_>, unmet: Unmet) -> Result<(), AllocError>
+    ensures { OnOk result (bytes.new.items
+        ≡ bytes.old.items ++ unmet_text (comparison_of sides.now) unmet) }
+{
+    let job = sides.job;
+    let row = sides.row;
+    match unmet {
+        Unmet::Exit => push_exit(bytes, job.expect_exit),
+        Unmet::End => push_end(bytes, job.expect_end),
+        Unmet::Console(difference) => {
+            let met = row.console.as_slice();
+            push_console(bytes, &job.expect_console, sides.console, met, difference)
+        }
+        Unmet::Signature(difference) => {
+            let path = &job.expect_signature;
+            push_signature(
+                bytes,
+                sides.address,
+                path,
+                &row.signature,
+                sides.reference,
+                difference,
+            )
+        }
+        Unmet::Same(difference) => push_same(bytes, sides.address, row, sides.other, difference),
+        Unmet::Nothing => push_text(bytes, "exit 0, since it expects nothing else"),
+    }
+}
+
+/// Appends the end with an exit code.
+#[tactic(auto, unfolding(crate::specs::UnmetLines::exit_text))]
+pub(crate) fn push_exit(bytes: &mut Vec<u8>, expected: Option<u32>) -> Result<(), AllocError>
+    ensures { OnOk result (bytes.new.items ≡ bytes.old.items ++ exit_text expected) }
+{
+    match expected {
+        Some(code) => push_spans(bytes, &[Span::Text("exit "), Span::Number(u64::from(code))]),
+        None => push_text(bytes, "an exit"),
+    }
+}
+
+/// Appends another end.
+#[tactic(auto, unfolding(crate::specs::UnmetLines::end_text))]
+pub(crate) fn push_end(bytes: &mut Vec<u8>, expected: Option<ExpectedEnd>) -> Result<(), AllocError>
+    ensures { OnOk result (bytes.new.items ≡ bytes.old.items ++ end_text expected) }
+{
+    match expected {
+        Some(ExpectedEnd::Budget) => push_text(bytes, "the end budget"),
+        Some(ExpectedEnd::Fault(kind)) => {
+            push_spans(bytes, &[Span::Text("the end "), Span::Text(kind.name())])
+        }
+        None => push_text(bytes, "another end"),
+    }
+}
+
+// What differs from the job that this one names.
+#[tactic(auto, unfolding(crate::specs::UnmetLines::same_text))]
+fn push_same(
+    bytes: &mut Vec<u8>,
+    first: Option<u32>,
+    row: &Row,
+    other: Option<&Row>,
+    difference: SameDifference,
+) -> Result<(), AllocError>
+    ensures { OnOk result (bytes.new.items ≡ bytes.old.items
+        ++ same_text first row.now (option_map (λ row. row.now) other.entry) difference) }
+{
+    match other {
+        Some(other) => push_rows(bytes, first, row, other, difference),
+        None => push_text(bytes, "the same as another job, which was not run"),
+    }
+}
+
+#[tactic(auto, unfolding(crate::specs::UnmetLines::rows_text))]
+fn push_rows(
+    bytes: &mut Vec<u8>,
+    first: Option<u32>,
+    row: &Row,
+    other: &Row,
+    difference: SameDifference,
+) -> Result<(), AllocError>
+    ensures { OnOk result (bytes.new.items ≡ bytes.old.items
+        ++ (codes "the same as " ++ shown other.now.name ++ codes ": "
+        ++ rows_text first row.now other.now difference)) }
+{
+    match difference {
+        SameDifference::Ending => push_endings(bytes, row, other),
+        SameDifference::Console(difference) => {
+            let met = row.console.as_slice();
+            let wanted = other.console.as_slice();
+            push_bytes(
+                bytes,
+                topic_of(other, ": console: "),
+                met,
+                wanted,
+                difference,
+            )
+        }
+        SameDifference::Signature(difference) => {
+            let topic = topic_of(other, ": signature: ");
+            push_signatures(
+                bytes,
+                topic,
+                first,
+                &row.signature,
+                &other.signature,
+                difference,
+            )
+        }
+        SameDifference::Absent => push_said(bytes, topic_of(other, ": "), "it was not run"),
+    }
+}
+
+// What is compared with the row of another job.
+fn topic_of<'a>(other: &'a Row, behind: &'a str) -> Topic<'a>
+    ensures { topic_text result ≡ codes "the same as " ++ (shown other.now.name ++ behind.now) }
+{
+    Topic {
+        before: "the same as ",
+        name: other.name.as_str().as_bytes(),
+        behind,
+    }
+}
+
+// That two runs ended in other ways.
+fn push_endings(bytes: &mut Vec<u8>, row: &Row, other: &Row) -> Result<(), AllocError>
+    ensures { OnOk result (bytes.new.items ≡ bytes.old.items
+        ++ (codes "the same as " ++ shown other.now.name ++ codes ": "
+        ++ (codes "it ended with " ++ ended_text other.now.ending ++ codes ", this with "
+        ++ ended_text row.now.ending))) }
+{
+    let (wanted_kind, wanted) = ended(other.ending);
+    let (met_kind, met) = ended(row.ending);
+    push_spans(
+        bytes,
+        &[
+            Span::Text("the same as "),
+            Span::Shown(other.name.as_str().as_bytes()),
+            Span::Text(": it ended with "),
+            wanted_kind,
+            wanted,
+            Span::Text(", this with "),
+            met_kind,
+            met,
+        ],
+    )
+}
+
+// How a run ended: in which way, and with what.
+#[tactic(auto, unfolding(crate::specs::UnmetLines::ended_text))]
+fn ended(ending: RowEnd) -> (Span<'static>, Span<'static>)
+    ensures { span_text result.0 ++ span_text result.1 ≡ ended_text ending }
+{
+    match ending {
+        RowEnd::Exit(code) => (Span::Text("exit "), Span::Number(u64::from(code))),
+        RowEnd::Fault(kind, _, _) => (Span::Text("fault "), Span::Text(kind.name())),
+        RowEnd::Budget => (Span::Text("its budget used up"), Span::Text("")),
+        RowEnd::Refused(why) => (Span::Text("the refusal "), Span::Text(why.name())),
+    }
+}
