@@ -1,5 +1,5 @@
 -- What the unmet expectations say of the row of a plan's job.
-use Rattle.std.proofs.Common.{◌≡◌, ◌∙◌, ◌==◌, ℕ, true, List, length, refl, sym, ap, subst, Option, Some, None}
+use Rattle.std.proofs.Common.{◌≡◌, ◌==◌, true, length, refl, sym, ap, subst, Option, Some, None}
 use Rattle.std.specs.Prelude.{option_and_then, option_map, slice_get}
 use Rattle.std.specs.List.{AllByRecursion}
 use Rattle.rv_lists.specs.declared.job.Job.{Job}

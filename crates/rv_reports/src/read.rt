@@ -13,16 +13,20 @@ use crate::said::said;
 use crate::text::text_of;
 use rv_report_lines::{SavedReport, front};
 use std::alloc::{AllocError, Global};
+use thiserror::Error;
 
 /// Why a text was not read.
-#[derive(Clone, Copy)]
+#[derive(Clone, Copy, Debug, Error)]
 pub enum ReadError {
     /// A growth was refused.
+    #[error("out of memory")]
     OutOfMemory,
     /// The first line, from 1, that no report has there.
+    #[error("line {0} is not a report's")]
     Line(usize),
     /// The text ends before its report does: its whole lines are those of some report, and the first word of a line
     /// behind them can be, as far as it goes.
+    #[error("the report is cut off")]
     CutOff,
 }
 

@@ -1,5 +1,5 @@
 -- The line that a person sees of an expectation that a run meets.
-use Rattle.std.specs.Prelude.{ℕ, List, [], ◌∷◌, ◌++◌, Option, Some, None, codes}
+use Rattle.std.specs.Prelude.{ℕ, List, [], ◌++◌, Option, Some, None, codes}
 use Rattle.std.specs.Prelude.{if◌then◌else◌}
 use Rattle.rv_explain.specs.declared.unmet.Unmet.{Unmet}
 use Rattle.rv_explain.specs.Met.{is_met}

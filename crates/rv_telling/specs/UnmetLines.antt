@@ -1,6 +1,6 @@
 -- The line that a person sees of an expectation that a run does not meet: what is expected, what
 -- was met, and where the two differ first. Bytes and words are counted from 0, lines from 1.
-use Rattle.std.specs.Prelude.{◌+◌, ◌*◌, ◌/◌, ◌%◌, ◌^◌, ℕ, List, [], ◌∷◌, ◌++◌, length, drop}
+use Rattle.std.specs.Prelude.{◌+◌, ◌*◌, ◌/◌, ◌%◌, ◌^◌, ℕ, List, [], ◌++◌, length, drop}
 use Rattle.std.specs.Prelude.{slice_index, slice_range, Option, Some, None, option_map, unwrap_or}
 use Rattle.std.specs.Prelude.{if◌then◌else◌, nat_lt, codes}
 use Rattle.std.specs.Fmt.{decimal}
