@@ -1,6 +1,6 @@
 //! What a command found that runs no list.
 
-ghost use Rattle.std.specs.Prelude.{◌≤◌, IfOk};
+ghost use Rattle.std.specs.Prelude.{◌≡◌, ◌≤◌, IfOk};
 
 use crate::messages::put_out;
 use crate::stop::Stop;
@@ -13,10 +13,11 @@ pub(crate) struct Found {
     pub(crate) status: u8,
 }
 
-/// Puts the text to standard output, where the command came to one.
+/// Puts the text to standard output, where the command came to one, and hands the status on.
 pub(crate) fn put_found<S: Streams>(streams: &S, found: Result<Found, Stop>) -> Result<u8, Stop>
     requires { IfOk found (λ found. found.status ≤ 2) }
-    ensures { IfOk result (λ status. status ≤ 2) }
+    ensures low { IfOk result (λ status. status ≤ 2) }
+    ensures same { IfOk result (λ status. IfOk found (λ found. status ≡ found.status)) }
 {
     let found = found?;
     put_out(streams, found.text.as_slice())?;
