@@ -12,6 +12,8 @@ use Rattle.rv_rows.specs.Outcome.{refusal_in}
 use Rattle.rv_rows.specs.Rows.{outcome_in}
 use Rattle.rv_telling.specs.declared.verbosity.Verbosity.{Verbosity}
 use Rattle.rv_telling.specs.declared.verbosity.Verbosity.TheVariants.{Quiet, Failures, All}
+use Rattle.rv_test_program.specs.declared.stop.Lines.{Lines}
+use Rattle.rv_test_program.specs.declared.stop.Lines.TheVariants as lines
 use Rattle.rv_test_program.specs.declared.stop.Stop.{Stop}
 use Rattle.rv_test_program.specs.declared.stop.Stop.TheVariants as stop
 use Rattle.rv_views.specs.Diff.{differing_count}
@@ -53,13 +55,17 @@ check_status refused = if refused == 0 then 0 else 2
 abbrev pub passing_status : Bool → ℕ
 passing_status passed = if passed then 0 else 1
 
--- The statuses of a command that ends before its work is done. Help and the version are 0, where
--- standard output takes them, and so is a run without a job.
+-- The statuses of lines that end a command: 0 where help or the version is asked for and standard
+-- output takes it, 2 where what is asked for is refused, 3 where the system failed.
+abbrev pub IsStatusOfLines : Lines → ℕ → Type 0
+IsStatusOfLines lines.Help status = (status ≡ 0) ⊎ (status ≡ 3)
+IsStatusOfLines lines.Refusal status = status ≡ 2
+IsStatusOfLines lines.Failure status = status ≡ 3
+
+-- The statuses of a command that ends before its work is done. A run without a job is 0.
 abbrev pub IsStopStatus : Stop → ℕ → Type 0
-IsStopStatus (stop.Shown text) status = (status ≡ 0) ⊎ (status ≡ 3)
+IsStopStatus (stop.Told lines text) status = IsStatusOfLines lines status
 IsStopStatus stop.NoJob status = status ≡ 0
-IsStopStatus (stop.Refused text) status = status ≡ 2
-IsStopStatus (stop.Failed text) status = status ≡ 3
 IsStopStatus stop.OutOfMemory status = status ≡ 3
 IsStopStatus stop.NoWorker status = status ≡ 3
 IsStopStatus stop.WriteFailed status = status ≡ 3

@@ -1,10 +1,10 @@
 //! What goes to standard error, and the statuses.
 
 ghost use Rattle.std.specs.Prelude.{◌≡◌, ◌≤◌, ◌⊎◌};
-ghost use Rattle.rv_test_program.specs.Commands.{IsStopStatus};
+ghost use Rattle.rv_test_program.specs.Commands.{IsStatusOfLines, IsStopStatus};
 
 use crate::status::DONE;
-use crate::stop::Stop;
+use crate::stop::{Lines, Stop};
 use crate::streams::Streams;
 use rv_files::StreamSink;
 use rv_fleet::put_all;
@@ -96,16 +96,24 @@ pub(crate) fn stopped<S: Streams>(streams: &S, stop: Stop) -> u8
     ensures told { IsStopStatus stop result }
 {
     match stop {
-        Stop::Shown(text) => shown(streams, text.as_slice()),
+        Stop::Told(lines, text) => told(streams, lines, text.as_slice()),
         Stop::NoJob => DONE,
-        Stop::Refused(text) => {
-            say(streams, text.as_slice());
-            REFUSED
-        }
-        Stop::Failed(text) => failed(streams, text.as_slice()),
         Stop::OutOfMemory => failed(streams, b"rvtest: out of memory\n"),
         Stop::NoWorker => failed(streams, b"rvtest: no thread could be started\n"),
         Stop::WriteFailed => write_failed(streams),
+    }
+}
+
+fn told<S: Streams>(streams: &S, lines: Lines, text: &[u8]) -> u8
+    ensures { IsStatusOfLines lines result }
+{
+    match lines {
+        Lines::Help => shown(streams, text),
+        Lines::Refusal => {
+            say(streams, text);
+            REFUSED
+        }
+        Lines::Failure => failed(streams, text),
     }
 }
 

@@ -8,14 +8,10 @@ use std::alloc::{AllocError, Global};
 /// Why a command ends before its work is done.
 #[derive(Drop)]
 pub(crate) enum Stop {
-    /// Help or the version is asked for: these lines.
-    Shown(Vec<u8>),
+    /// As these lines say.
+    Told(Lines, Vec<u8>),
     /// No job is left to run, as was said.
     NoJob,
-    /// What is asked for is refused, as these lines say.
-    Refused(Vec<u8>),
-    /// The system failed, as these lines say.
-    Failed(Vec<u8>),
     /// A growth was refused.
     OutOfMemory,
     /// The start of a thread was refused.
@@ -24,14 +20,25 @@ pub(crate) enum Stop {
     WriteFailed,
 }
 
+/// What the lines say that end a command.
+#[derive(Clone, Copy)]
+pub(crate) enum Lines {
+    /// Help or the version, which was asked for.
+    Help,
+    /// Why what is asked for is refused.
+    Refusal,
+    /// How the system failed.
+    Failure,
+}
+
 impl Stop {
     /// What an error of `clap`, or of its form, comes to. Help and the version are such errors, too.
     pub(crate) fn of_words(alloc: Global, error: &Error) -> Stop {
         match error.kind() {
             ErrorKind::OutOfMemory => Stop::OutOfMemory,
             _ => match error.to_string(alloc) {
-                Ok(text) if error.use_stderr() => Stop::Refused(text.into_bytes()),
-                Ok(text) => Stop::Shown(text.into_bytes()),
+                Ok(text) if error.use_stderr() => Stop::Told(Lines::Refusal, text.into_bytes()),
+                Ok(text) => Stop::Told(Lines::Help, text.into_bytes()),
                 Err(error) => Stop::from(error),
             },
         }
@@ -39,16 +46,17 @@ impl Stop {
 
     /// What is asked for is refused, as these lines say, where there was memory for them.
     pub(crate) fn refused(told: Result<Vec<u8>, AllocError>) -> Stop {
-        match told {
-            Ok(text) => Stop::Refused(text),
-            Err(error) => Stop::from(error),
-        }
+        Stop::told(Lines::Refusal, told)
     }
 
     /// The system failed, as these lines say, where there was memory for them.
     pub(crate) fn failed(told: Result<Vec<u8>, AllocError>) -> Stop {
+        Stop::told(Lines::Failure, told)
+    }
+
+    fn told(lines: Lines, told: Result<Vec<u8>, AllocError>) -> Stop {
         match told {
-            Ok(text) => Stop::Failed(text),
+            Ok(text) => Stop::Told(lines, text),
             Err(error) => Stop::from(error),
         }
     }
