@@ -3,15 +3,17 @@
 //! [`stream_places`] runs the jobs at some places in threads. What is told of a row is a caller's [`Telling`], and goes
 //! out as soon as that of all rows before it is out. With `Ok` the sink took the texts of all rows, in order, for every
 //! number of workers and of jobs in a piece; with an error it took a beginning of them. [`put_told`] sends what is told of
-//! rows that are there already, in few large puts.
+//! rows that are there already, in few large puts. [`is_chosen`] says which jobs of a list a person chooses.
 #![tactic(auto)]
 
+mod choice;
 mod error;
 mod gathered;
 mod in_order;
 mod stream;
 mod telling;
 
+pub use choice::is_chosen;
 pub use error::StreamError;
 pub use gathered::put_told;
 pub use in_order::Streamed;

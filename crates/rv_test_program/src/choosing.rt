@@ -2,13 +2,13 @@
 
 ghost use Rattle.std.specs.Prelude.{◌≡◌, IfOk, length};
 
+use crate::choice::{Wanted, chosen_marks, first_unknown};
 use crate::failed_before::{failed_names, read_saved, say_failed};
+use crate::run::ListRun;
 use crate::shard::refused;
 use crate::stop::Stop;
 use crate::streams::Streams;
 use regex::Regex;
-use rv_choice::{Wanted, chosen_marks, first_unknown};
-use rv_explain::Rule;
 use rv_fault_texts::nearest;
 use rv_jobs::Job;
 use rv_lines::{Span, text_of};
@@ -17,89 +17,94 @@ use rv_test_words::RunAsked;
 use std::alloc::{AllocError, Global};
 use std::rt::Files;
 
-/// A mark for each job, which is set where the job is to run. There is none where the jobs that failed in a report are asked for, and
-/// none failed.
-pub(crate) fn marks_asked<R: Files, S: Streams>(
-    files: &R,
-    alloc: Global,
-    streams: &S,
-    asked: &RunAsked<'_>,
-    rule: Rule,
-    jobs: &[Job],
-) -> Result<Vec<bool>, Stop>
-    ensures { IfOk result (λ marks. length marks.items ≡ length jobs.now) }
-{
-    check_names(alloc, asked, jobs)?;
-    let pattern = pattern_asked(alloc, asked, jobs)?;
-    marks_by(files, alloc, streams, asked, rule, pattern.as_ref(), jobs)
-}
-
-// The same by a pattern, or by none, that the jobs' names were asked for.
-fn marks_by<R: Files, S: Streams>(
-    files: &R,
-    alloc: Global,
-    streams: &S,
-    asked: &RunAsked<'_>,
-    rule: Rule,
-    pattern: Option<&Regex>,
-    jobs: &[Job],
-) -> Result<Vec<bool>, Stop>
-    ensures { IfOk result (λ marks. length marks.items ≡ length jobs.now) }
-{
-    let Some(path) = asked.failed else {
-        return marks(alloc, asked, pattern, None, jobs);
-    };
-    let report = read_saved(files, alloc, path)?;
-    let rows = report.rows.as_slice();
-    marks_failed(alloc, streams, asked, path, rule, rows, pattern, jobs)
-}
-
-// The same among the jobs that failed in the rows of the report at a path.
-fn marks_failed<S: Streams>(
-    alloc: Global,
-    streams: &S,
-    asked: &RunAsked<'_>,
-    path: &str,
-    rule: Rule,
-    rows: &[Row],
-    pattern: Option<&Regex>,
-    jobs: &[Job],
-) -> Result<Vec<bool>, Stop>
-    ensures { IfOk result (λ marks. length marks.items ≡ length jobs.now) }
-{
-    let failed = failed_names(alloc, rule, rows)?;
-    say_failed(alloc, streams, path, jobs, failed.as_slice())?;
-    if failed.is_empty() && asked.only.is_empty() && pattern.is_none() {
-        return Err(Stop::NoJob);
+impl<'x, R: Files, S: Streams> ListRun<'x, R, S> {
+    /// A mark for each job, which is set where the job is to run. There is none where the jobs that failed in a report are asked
+    /// for, and none failed.
+    pub(crate) fn marks_asked(&self, jobs: &[Job]) -> Result<Vec<bool>, Stop>
+        ensures { IfOk result (λ marks. length marks.items ≡ length jobs.now) }
+    {
+        self.check_names(jobs)?;
+        let pattern = self.pattern_asked(jobs)?;
+        self.marks_by(pattern.as_ref(), jobs)
     }
-    marks(alloc, asked, pattern, Some(failed.as_slice()), jobs)
-}
 
-fn marks(
-    alloc: Global,
-    asked: &RunAsked<'_>,
-    pattern: Option<&Regex>,
-    failed: Option<&[&str]>,
-    jobs: &[Job],
-) -> Result<Vec<bool>, Stop>
-    ensures { IfOk result (λ marks. length marks.items ≡ length jobs.now) }
-{
-    let wanted = Wanted {
-        only: asked.only.as_slice(),
-        pattern,
-        failed,
-    };
-    match chosen_marks(alloc, jobs, wanted) {
-        Ok(marks) => Ok(marks),
-        Err(error) => Err(Stop::from(error)),
+    // Each exact name is one of the list's.
+    fn check_names(&self, jobs: &[Job]) -> Result<(), Stop> {
+        match first_unknown(jobs, self.asked.only.as_slice()) {
+            Some(name) => Err(unknown_name(self.alloc, self.asked.list, jobs, name)),
+            None => Ok(()),
+        }
+    }
+
+    // The pattern that jobs' names are asked for, which is found in the name of some job.
+    fn pattern_asked(&self, jobs: &[Job]) -> Result<Option<Regex>, Stop> {
+        let Some(text) = self.asked.pattern else {
+            return Ok(None);
+        };
+        let pattern = pattern_of(self.alloc, text)?;
+        if is_found(self.alloc, &pattern, jobs)? {
+            Ok(Some(pattern))
+        } else {
+            let told = told_of_pattern(self.alloc, self.asked.list, text);
+            Err(Stop::refused(told))
+        }
+    }
+
+    // The marks by a pattern, or by none, that the jobs' names were asked for.
+    fn marks_by(&self, pattern: Option<&Regex>, jobs: &[Job]) -> Result<Vec<bool>, Stop>
+        ensures { IfOk result (λ marks. length marks.items ≡ length jobs.now) }
+    {
+        let Some(path) = self.asked.failed else {
+            return self.marks_of(pattern, None, jobs);
+        };
+        let report = read_saved(self.rt, self.alloc, path)?;
+        self.marks_failed(path, report.rows.as_slice(), pattern, jobs)
+    }
+
+    // The same among the jobs that failed in the rows of the report at a path.
+    fn marks_failed(
+        &self,
+        path: &str,
+        rows: &[Row],
+        pattern: Option<&Regex>,
+        jobs: &[Job],
+    ) -> Result<Vec<bool>, Stop>
+        ensures { IfOk result (λ marks. length marks.items ≡ length jobs.now) }
+    {
+        let failed = failed_names(self.alloc, self.rule, rows)?;
+        say_failed(self.alloc, self.streams, path, jobs, failed.as_slice())?;
+        if failed.is_empty() && self.asked.only.is_empty() && pattern.is_none() {
+            return Err(Stop::NoJob);
+        }
+        self.marks_of(pattern, Some(failed.as_slice()), jobs)
+    }
+
+    fn marks_of(
+        &self,
+        pattern: Option<&Regex>,
+        failed: Option<&[&str]>,
+        jobs: &[Job],
+    ) -> Result<Vec<bool>, Stop>
+        ensures { IfOk result (λ marks. length marks.items ≡ length jobs.now) }
+    {
+        let wanted = Wanted {
+            only: only_asked(self.asked),
+            pattern,
+            failed,
+        };
+        match chosen_marks(self.alloc, jobs, wanted) {
+            Ok(marks) => Ok(marks),
+            Err(error) => Err(Stop::from(error)),
+        }
     }
 }
 
-// Each exact name is one of the list's.
-fn check_names(alloc: Global, asked: &RunAsked<'_>, jobs: &[Job]) -> Result<(), Stop> {
-    match first_unknown(jobs, asked.only.as_slice()) {
-        Some(name) => Err(unknown_name(alloc, asked.list, jobs, name)),
-        None => Ok(()),
+// The exact names, where there are any.
+fn only_asked<'a>(asked: &'a RunAsked<'_>) -> Option<&'a [&'a str]> {
+    if asked.only.is_empty() {
+        None
+    } else {
+        Some(asked.only.as_slice())
     }
 }
 
@@ -142,19 +147,6 @@ fn told_of_unknown<'a>(
             Span::Text("\n"),
         ],
     )
-}
-
-// The pattern that jobs' names are asked for, which is found in the name of some job.
-fn pattern_asked(alloc: Global, asked: &RunAsked<'_>, jobs: &[Job]) -> Result<Option<Regex>, Stop> {
-    let Some(text) = asked.pattern else {
-        return Ok(None);
-    };
-    let pattern = pattern_of(alloc, text)?;
-    if is_found(alloc, &pattern, jobs)? {
-        Ok(Some(pattern))
-    } else {
-        Err(Stop::refused(told_of_pattern(alloc, asked.list, text)))
-    }
 }
 
 fn pattern_of(alloc: Global, text: &str) -> Result<Regex, Stop> {

@@ -4,6 +4,7 @@ ghost use Rattle.std.specs.Prelude.{◌≡◌, ◌≤◌, IfOk, length, map};
 ghost use Rattle.rv_test_program.specs.Commands.{failed_in};
 ghost use Rattle.rv_lists.specs.Jobs.{most_jobs};
 
+use crate::choice::has_job;
 use crate::files::read_file;
 use crate::messages::{say_told, told_of, told_of_number};
 use crate::stop::Stop;
@@ -93,8 +94,4 @@ fn told_of_gone<'a>(alloc: Global, path: &'a str, name: &'a str) -> Result<Vec<u
             Span::Text(" failed there, and is no job of the list any more\n"),
         ],
     )
-}
-
-fn has_job(jobs: &[Job], name: &str) -> bool {
-    jobs.iter().any(|job| job.name.as_str() == name)
 }

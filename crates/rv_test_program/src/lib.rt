@@ -6,6 +6,7 @@
 #![tactic(auto)]
 
 mod check;
+mod choice;
 mod choosing;
 mod diff;
 mod explain;

@@ -45,14 +45,28 @@ fn answer<'a, R: Threads + Wait + Sync + Files + Clock, T: AsStr, S: Streams>(
     ensures { IfOk result (λ status. status ≤ 2) }
 {
     match read_words(alloc, words) {
-        Ok(Some(Asked::Run(asked))) => run(rt, alloc, streams, &asked),
-        Ok(Some(Asked::Explain(asked))) => put_found(streams, explain(rt, alloc, asked)),
-        Ok(Some(Asked::Check(asked))) => put_found(streams, check(rt, alloc, asked)),
-        Ok(Some(Asked::Merge(asked))) => merge(rt, alloc, streams, &asked),
-        Ok(Some(Asked::Diff(asked))) => put_found(streams, diff(rt, alloc, asked)),
-        Ok(Some(Asked::Show(asked))) => show(rt, alloc, streams, asked),
+        Ok(Some(asked)) => obey(rt, alloc, streams, asked),
         Ok(None) => Ok(REFUSED),
         Err(error) => Err(Stop::of_words(alloc, &error)),
+    }
+}
+
+// Does what words ask for.
+fn obey<R: Threads + Wait + Sync + Files + Clock, S: Streams>(
+    rt: &R,
+    alloc: Global,
+    streams: &S,
+    asked: Asked<'_>,
+) -> Result<u8, Stop>
+    ensures { IfOk result (λ status. status ≤ 2) }
+{
+    match asked {
+        Asked::Run(asked) => run(rt, alloc, streams, &asked),
+        Asked::Explain(asked) => put_found(streams, explain(rt, alloc, asked)),
+        Asked::Check(asked) => put_found(streams, check(rt, alloc, asked)),
+        Asked::Merge(asked) => merge(rt, alloc, streams, &asked),
+        Asked::Diff(asked) => put_found(streams, diff(rt, alloc, asked)),
+        Asked::Show(asked) => show(rt, alloc, streams, asked),
     }
 }
 
