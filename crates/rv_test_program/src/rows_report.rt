@@ -1,6 +1,6 @@
 //! The report of the rows of chosen jobs.
 
-ghost use Rattle.std.specs.Prelude.{◌≡◌, ◌+◌, ◌<◌, ◌≤◌, ◌^◌, IfErr, IfOk, None, OnErr, OnOk, length, map};
+ghost use Rattle.std.specs.Prelude.{◌≡◌, ◌+◌, ◌<◌, ◌≤◌, ◌^◌, IfErr, IfOk, OnErr, OnOk, length, map};
 ghost use Rattle.std.specs.Io.KnownBytes.{Appends};
 ghost use Rattle.std.specs.List.{All};
 ghost use Rattle.std.specs.List.Sorted.{IsStrictlyIncreasing};
@@ -35,36 +35,12 @@ pub(crate) fn write_rows<W: Sink>(
     ensures failed { IfErr result (λ error. error ≡ WriteError.Failed
         → Rose (W.failed out.old) (W.failed out.new)) }
 {
-    match shard {
-        Some(shard) => write_part(alloc, Extent::Shard(shard), jobs, places, rows, out),
-        None => write_chosen(alloc, jobs, places, rows, out),
-    }
-}
-
-// The report of the rows of chosen jobs.
-fn write_chosen<W: Sink>(
-    alloc: Global,
-    jobs: usize,
-    places: &[usize],
-    rows: Rows,
-    out: &mut W,
-) -> Result<(), WriteError>
-    requires few { jobs ≤ most_jobs }
-    requires within { All (λ place. place < jobs) places.now }
-    requires rising { IsStrictlyIncreasing places.now }
-    requires counted { length rows ≡ length places.now }
-    ensures all { OnOk result (Appends (W.taken out.old) (W.taken out.new)
-        (report_of jobs places.now None rows)) }
-    ensures counted { OnOk result (W.failed out.new ≡ W.failed out.old) }
-    ensures part { OnErr result (AppendsBeginning (W.taken out.old) (W.taken out.new)
-        (report_of jobs places.now None rows)) }
-    ensures failed { IfErr result (λ error. error ≡ WriteError.Failed
-        → Rose (W.failed out.old) (W.failed out.new)) }
-{
-    if places.len() == jobs {
-        return write_report(alloc, &Report { rows }, out);
-    }
-    write_part(alloc, Extent::Choice(jobs as u32), jobs, places, rows, out)
+    let extent = match shard {
+        Some(shard) => Extent::Shard(shard),
+        None if places.len() == jobs => return write_report(alloc, &Report { rows }, out),
+        None => Extent::Choice(jobs as u32),
+    };
+    write_part(alloc, extent, jobs, places, rows, out)
 }
 
 // The report of a part of a list of so many jobs.
