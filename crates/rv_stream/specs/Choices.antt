@@ -1,5 +1,5 @@
 -- The jobs of a list that are chosen.
-use Rattle.std.specs.Prelude.{◌||◌, Bool, true, false, Option, Some, None, unwrap_or}
+use Rattle.std.specs.Prelude.{◌||◌, Bool, true, false, Option, None, unwrap_or}
 
 -- a job is chosen where one way to choose says so, by exact names, by a pattern or by the failures
 -- of a report, and where none of them is asked

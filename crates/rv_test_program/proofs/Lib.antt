@@ -1,3 +1,4 @@
+mod Names
 mod Numbers
 pub mod SavedRows
 mod Sent

@@ -1,11 +1,16 @@
 -- The status of a run of some jobs of a list.
-use Rattle.std.specs.Prelude.{◌≡◌, ℕ, Bool, List, length}
+use Rattle.std.specs.Prelude.{◌≡◌, ℕ, Bool, List, Ok, Option, Some, None, is_some, length}
 use Rattle.rv_jobs.specs.Choices.{marked}
 use Rattle.rv_jobs.specs.Plans.{Planned, needed_for, paths_of, paths_used}
 use Rattle.rv_explain.specs.declared.passing.Rule.{Rule}
 use Rattle.rv_lists.specs.declared.job.Job.{Job}
+use Rattle.rv_lists.specs.JobList.{job_list_of}
+use Rattle.rv_merge.specs.Shards.{shard_marks}
+use Rattle.rv_report_lines.specs.declared.saved.Shard.{Shard}
 use Rattle.rv_rows.specs.Rows.{rows_at}
+use Rattle.rv_test_program.specs.Choice.{AreChosen}
 use Rattle.rv_test_program.specs.Shown.{status_of}
+use Rattle.rv_test_words.specs.declared.asked.RunAsked.{RunAsked}
 
 -- the places of the jobs that are marked
 abbrev pub places_of : List Bool → List ℕ
@@ -19,3 +24,19 @@ pub record IsStatusOf (rule : Rule) (jobs : List Job) (marks : List Bool)
   pub listed : plan.jobs ≡ jobs
   pub paths : paths_of plan.answers ≡ paths_used (needed_for jobs (places_of marks))
   pub judged : status ≡ status_of rule (rows_at plan (places_of marks))
+
+-- the marks of the jobs that words ask for: of those of a shard, else of those that are chosen
+abbrev pub AreAsked : Option Shard → RunAsked → Rule → List Job → List Bool → Type 0
+AreAsked (Some shard) words rule jobs marks =
+    marks ≡ shard_marks shard.shards shard.number (length jobs)
+AreAsked None words rule jobs marks = AreChosen words rule jobs marks
+
+-- a run of the list that a text is has a status by the rows of the jobs that words ask for
+pub record IsRun (words : RunAsked) (rule : Rule) (text : List ℕ) (status : ℕ) : Type 0 where
+  pub jobs : List Job
+  pub listed : job_list_of text ≡ Ok jobs
+  pub shard : Option Shard
+  pub sharded : is_some shard ≡ is_some words.shard
+  pub marks : List Bool
+  pub asked : AreAsked shard words rule jobs marks
+  pub judged : IsStatusOf rule jobs marks status

@@ -1,10 +1,10 @@
 //! The jobs that are chosen, by a mark for each.
 
-ghost use Rattle.std.specs.Prelude.{◌≡◌, IfOk, map, not, option_map};
+ghost use Rattle.std.specs.Prelude.{◌≡◌, IfOk, not, option_map};
 ghost use Rattle.std.specs.List.{find};
-ghost use Rattle.regex.specs.Strings.{matcher_pattern, regex_pattern};
+ghost use Rattle.regex.specs.Strings.{matcher_pattern};
 ghost use Rattle.rv_test_program.specs.Choice.{by_names, by_pattern, has_job, is_among, is_wanted};
-ghost use Rattle.rv_test_program.specs.Choice.{pattern_of};
+ghost use Rattle.rv_test_program.specs.Choice.{marks_for, names_of, pattern_of, texts_of};
 
 use regex::{Matcher, Regex};
 use rv_jobs::Job;
@@ -28,8 +28,8 @@ pub(crate) fn chosen_marks(
     jobs: &[Job],
     wanted: Wanted<'_>,
 ) -> Result<Vec<bool>, AllocError>
-    ensures { IfOk result (λ marks. marks.items ≡ map (λ job. is_wanted wanted.entry job.name)
-        jobs.now) }
+    ensures { IfOk result (λ marks. marks.items ≡ marks_for (texts_of wanted.entry.only)
+        (pattern_of wanted.entry.pattern) (texts_of wanted.entry.failed) jobs.now) }
 {
     let mut matcher = matcher_of(alloc, wanted.pattern)?;
     let mut marks = Vec::new(alloc);
@@ -40,8 +40,8 @@ pub(crate) fn chosen_marks(
 }
 
 fn matcher_of(alloc: Global, pattern: Option<&Regex>) -> Result<Option<Matcher<'_>>, AllocError>
-    ensures { IfOk result (λ matcher. option_map matcher_pattern matcher
-        ≡ option_map (λ regex. regex_pattern regex.now) pattern.entry) }
+    ensures { IfOk result
+        (λ matcher. option_map matcher_pattern matcher ≡ pattern_of pattern.entry) }
 {
     match pattern {
         Some(regex) => Ok(Some(regex.matcher(alloc)?)),
@@ -50,8 +50,9 @@ fn matcher_of(alloc: Global, pattern: Option<&Regex>) -> Result<Option<Matcher<'
 }
 
 fn is_wanted(wanted: Wanted<'_>, matcher: &mut Option<Matcher<'_>>, name: &str) -> bool
-    requires { option_map matcher_pattern matcher.old ≡ pattern_of wanted }
-    ensures chosen { result ≡ is_wanted wanted.entry name.now }
+    requires { option_map matcher_pattern matcher.old ≡ pattern_of wanted.pattern }
+    ensures chosen { result ≡ is_wanted (texts_of wanted.entry.only)
+        (pattern_of wanted.entry.pattern) (texts_of wanted.entry.failed) name.now }
     ensures same { option_map matcher_pattern matcher.new ≡ option_map matcher_pattern matcher.old }
 {
     is_chosen(
@@ -62,7 +63,7 @@ fn is_wanted(wanted: Wanted<'_>, matcher: &mut Option<Matcher<'_>>, name: &str) 
 }
 
 fn by_names(names: Option<&[&str]>, name: &str) -> Option<bool>
-    ensures { result ≡ by_names names.entry name.now }
+    ensures { result ≡ by_names (texts_of names.entry) name.now }
 {
     match names {
         Some(names) => Some(is_among(names, name)),
@@ -71,7 +72,7 @@ fn by_names(names: Option<&[&str]>, name: &str) -> Option<bool>
 }
 
 fn is_among(names: &[&str], name: &str) -> bool
-    ensures { result ≡ is_among names.now name.now }
+    ensures { result ≡ is_among (names_of names.now) name.now }
 {
     names.contains(&name)
 }

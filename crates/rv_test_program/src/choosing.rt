@@ -1,6 +1,11 @@
 //! The jobs that words choose.
 
-ghost use Rattle.std.specs.Prelude.{◌≡◌, IfOk, length};
+ghost use Rattle.std.specs.Prelude.{◌≡◌, IfOk, Some, option_map};
+ghost use Rattle.regex.specs.Strings.{regex_source};
+ghost use Rattle.rv_test_program.specs.Choice.{AreChosen, AreChosenBy, marks_for, names_asked};
+ghost use Rattle.rv_test_program.specs.Choice.{pattern_of, texts_of};
+ghost use Rattle.rv_test_program.specs.Commands.{failed_in};
+ghost use Rattle.rv_test_words.specs.Asked.{text_of};
 
 use crate::choice::{Wanted, chosen_marks, first_unknown};
 use crate::failed_before::{failed_names, read_saved, say_failed};
@@ -21,7 +26,8 @@ impl<'x, R: Files, S: Streams> ListRun<'x, R, S> {
     /// A mark for each job, which is set where the job is to run. There is none where the jobs that failed in a report are asked
     /// for, and none failed.
     pub(crate) fn marks_asked(&self, jobs: &[Job]) -> Result<Vec<bool>, Stop>
-        ensures { IfOk result (λ marks. length marks.items ≡ length jobs.now) }
+        ensures { IfOk result
+            (λ marks. AreChosen self.now.asked.now self.now.rule jobs.now marks.items) }
     {
         self.check_names(jobs)?;
         let pattern = self.pattern_asked(jobs)?;
@@ -37,7 +43,10 @@ impl<'x, R: Files, S: Streams> ListRun<'x, R, S> {
     }
 
     // The pattern that jobs' names are asked for, which is found in the name of some job.
-    fn pattern_asked(&self, jobs: &[Job]) -> Result<Option<Regex>, Stop> {
+    fn pattern_asked(&self, jobs: &[Job]) -> Result<Option<Regex>, Stop>
+        ensures { IfOk result (λ pattern.
+            option_map regex_source pattern ≡ text_of self.now.asked.now.pattern) }
+    {
         let Some(text) = self.asked.pattern else {
             return Ok(None);
         };
@@ -52,7 +61,8 @@ impl<'x, R: Files, S: Streams> ListRun<'x, R, S> {
 
     // The marks by a pattern, or by none, that the jobs' names were asked for.
     fn marks_by(&self, pattern: Option<&Regex>, jobs: &[Job]) -> Result<Vec<bool>, Stop>
-        ensures { IfOk result (λ marks. length marks.items ≡ length jobs.now) }
+        ensures { IfOk result (λ marks. AreChosenBy (pattern_of pattern.entry)
+            self.now.asked.now self.now.rule jobs.now marks.items) }
     {
         let Some(path) = self.asked.failed else {
             return self.marks_of(pattern, None, jobs);
@@ -69,7 +79,9 @@ impl<'x, R: Files, S: Streams> ListRun<'x, R, S> {
         pattern: Option<&Regex>,
         jobs: &[Job],
     ) -> Result<Vec<bool>, Stop>
-        ensures { IfOk result (λ marks. length marks.items ≡ length jobs.now) }
+        ensures { IfOk result (λ marks. marks.items
+            ≡ marks_for (names_asked self.now.asked.now.only.items) (pattern_of pattern.entry)
+            (Some (failed_in self.now.rule rows.now)) jobs.now) }
     {
         let failed = failed_names(self.alloc, self.rule, rows)?;
         say_failed(self.alloc, self.streams, path, jobs, failed.as_slice())?;
@@ -85,7 +97,9 @@ impl<'x, R: Files, S: Streams> ListRun<'x, R, S> {
         failed: Option<&[&str]>,
         jobs: &[Job],
     ) -> Result<Vec<bool>, Stop>
-        ensures { IfOk result (λ marks. length marks.items ≡ length jobs.now) }
+        ensures { IfOk result (λ marks. marks.items
+            ≡ marks_for (names_asked self.now.asked.now.only.items) (pattern_of pattern.entry)
+            (texts_of failed.entry) jobs.now) }
     {
         let wanted = Wanted {
             only: only_asked(self.asked),
@@ -100,7 +114,9 @@ impl<'x, R: Files, S: Streams> ListRun<'x, R, S> {
 }
 
 // The exact names, where there are any.
-fn only_asked<'a>(asked: &'a RunAsked<'_>) -> Option<&'a [&'a str]> {
+fn only_asked<'a>(asked: &'a RunAsked<'_>) -> Option<&'a [&'a str]>
+    ensures { texts_of result ≡ names_asked asked.now.only.items }
+{
     if asked.only.is_empty() {
         None
     } else {
@@ -149,7 +165,9 @@ fn told_of_unknown<'a>(
     )
 }
 
-fn pattern_of(alloc: Global, text: &str) -> Result<Regex, Stop> {
+fn pattern_of(alloc: Global, text: &str) -> Result<Regex, Stop>
+    ensures { IfOk result (λ pattern. regex_source pattern ≡ text.now) }
+{
     match Regex::new(alloc, text) {
         Ok(pattern) => Ok(pattern),
         Err(regex::Error::OutOfMemory) => Err(Stop::OutOfMemory),

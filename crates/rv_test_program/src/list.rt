@@ -1,5 +1,8 @@
 //! The list of jobs that a command is given.
 
+ghost use Rattle.std.specs.Prelude.{◌≡◌, IfOk, Ok};
+ghost use Rattle.rv_lists.specs.JobList.{job_list_of};
+
 use crate::files::read_file;
 use crate::messages::told_of;
 use crate::stop::Stop;
@@ -26,7 +29,9 @@ pub(crate) fn read_list<R: Files>(files: &R, alloc: Global, path: &str) -> Resul
 }
 
 /// The jobs of a list's text, or what is wrong with the list.
-pub(crate) fn jobs_of(alloc: Global, path: &str, text: &[u8]) -> Result<JobList, Stop> {
+pub(crate) fn jobs_of(alloc: Global, path: &str, text: &[u8]) -> Result<JobList, Stop>
+    ensures { IfOk result (λ jobs. job_list_of text.now ≡ Ok jobs) }
+{
     match read_jobs(alloc, text) {
         Ok(jobs) => Ok(jobs),
         Err(

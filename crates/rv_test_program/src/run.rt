@@ -5,7 +5,7 @@ ghost use Rattle.std.specs.List.Sorted.{IsStrictlyIncreasing};
 ghost use Rattle.rv_fleet.specs.Choices.{AreWithin};
 ghost use Rattle.rv_jobs.specs.Choices.{marked};
 ghost use Rattle.rv_rows.specs.Rows.{rows_at};
-ghost use Rattle.rv_test_program.specs.Runs.{IsStatusOf};
+ghost use Rattle.rv_test_program.specs.Runs.{AreAsked, IsRun, IsStatusOf};
 ghost use Rattle.rv_test_program.specs.Commands.{verbosity_for};
 ghost use Rattle.rv_test_program.specs.Shown.{status_of};
 
@@ -66,7 +66,9 @@ pub(crate) fn run<R: Threads + Wait + Sync + Files + Clock, S: Streams>(
 impl<'x, R: Threads + Wait + Sync + Files + Clock, S: Streams> ListRun<'x, R, S> {
     // The same of the list's text.
     fn run_list(&self, text: &[u8]) -> Result<u8, Stop>
-        ensures { IfOk result (λ status. status ≤ 1) }
+        ensures run { IfOk result
+            (λ status. IsRun self.now.asked.now self.now.rule text.now status) }
+        ensures low { IfOk result (λ status. status ≤ 1) }
     {
         let jobs = jobs_of(self.alloc, self.asked.list, text)?;
         let shard = shard_asked(self.alloc, self.asked, text, jobs.as_slice().len())?;
@@ -77,7 +79,9 @@ impl<'x, R: Threads + Wait + Sync + Files + Clock, S: Streams> ListRun<'x, R, S>
     // A mark for each job of the shard, or for each that is asked for.
     fn marks(&self, shard: &Option<Shard>, jobs: &[Job]) -> Result<Vec<bool>, Stop>
         requires { IfSome shard.now (λ s. (0 < s.number) × (s.number ≤ s.shards)) }
-        ensures { IfOk result (λ marks. length marks.items ≡ length jobs.now) }
+        ensures marks { IfOk result (λ marks.
+            AreAsked shard.now self.now.asked.now self.now.rule jobs.now marks.items) }
+        ensures counted { IfOk result (λ marks. length marks.items ≡ length jobs.now) }
     {
         let Some(shard) = shard else {
             return self.marks_asked(jobs);

@@ -1,6 +1,6 @@
 //! The part of a list that words ask for, and its stamp.
 
-ghost use Rattle.std.specs.Prelude.{◌≡◌, ◌≤◌, ◌<◌, IfOk, IfSome, string_bytes, take};
+ghost use Rattle.std.specs.Prelude.{◌≡◌, ◌≤◌, ◌<◌, IfOk, IfSome, is_some, string_bytes, take};
 ghost use Rattle.hex.specs.Hex.{encode_lower};
 ghost use Rattle.sha2.specs.Sha256.{sha256};
 ghost use Rattle.rv_lists.specs.Jobs.{most_jobs};
@@ -23,7 +23,8 @@ pub(crate) fn shard_asked(
     jobs: usize,
 ) -> Result<Option<Shard>, Stop>
     requires { jobs ≤ most_jobs }
-    ensures { IfOk result (λ shard. IfSome shard (λ s.
+    ensures asked { IfOk result (λ shard. is_some shard ≡ is_some asked.now.shard) }
+    ensures within { IfOk result (λ shard. IfSome shard (λ s.
         (s.jobs ≡ jobs) × (0 < s.number) × (s.number ≤ s.shards) × (s.shards ≤ most_jobs))) }
 {
     let Some(words) = asked.shard else {
