@@ -3,7 +3,7 @@
 ghost use Rattle.std.specs.Prelude.{◌≡◌, IfOk, Some, option_map};
 ghost use Rattle.regex.specs.Strings.{regex_source};
 ghost use Rattle.rv_test_program.specs.Choice.{AreChosen, AreChosenBy, marks_for, names_asked};
-ghost use Rattle.rv_test_program.specs.Choice.{pattern_of, texts_of};
+ghost use Rattle.rv_test_program.specs.Choice.{names_of, pattern_of, texts_of};
 ghost use Rattle.rv_test_program.specs.Commands.{failed_in};
 ghost use Rattle.rv_test_words.specs.Asked.{text_of};
 
@@ -84,11 +84,26 @@ impl<'x, R: Files, S: Streams> ListRun<'x, R, S> {
             (Some (failed_in self.now.rule rows.now)) jobs.now) }
     {
         let failed = failed_names(self.alloc, self.rule, rows)?;
-        say_failed(self.alloc, self.streams, path, jobs, failed.as_slice())?;
+        self.marks_named(path, failed.as_slice(), pattern, jobs)
+    }
+
+    // The same among the jobs of these names, which the report at a path has as failed.
+    fn marks_named(
+        &self,
+        path: &str,
+        failed: &[&str],
+        pattern: Option<&Regex>,
+        jobs: &[Job],
+    ) -> Result<Vec<bool>, Stop>
+        ensures { IfOk result (λ marks. marks.items
+            ≡ marks_for (names_asked self.now.asked.now.only.items) (pattern_of pattern.entry)
+            (Some (names_of failed.now)) jobs.now) }
+    {
+        say_failed(self.alloc, self.streams, path, jobs, failed)?;
         if failed.is_empty() && self.asked.only.is_empty() && pattern.is_none() {
             return Err(Stop::NoJob);
         }
-        self.marks_of(pattern, Some(failed.as_slice()), jobs)
+        self.marks_of(pattern, Some(failed), jobs)
     }
 
     fn marks_of(

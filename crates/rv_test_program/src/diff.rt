@@ -19,8 +19,21 @@ pub(crate) fn diff<R: Files>(files: &R, alloc: Global, asked: DiffAsked<'_>) -> 
     ensures { IfOk result (λ found. found.status ≤ 1) }
 {
     let old = read_saved(files, alloc, asked.old)?;
+    diff_from(files, alloc, asked, old.rows.as_slice())
+}
+
+// The same of the rows of the first, once the second is read.
+fn diff_from<R: Files>(
+    files: &R,
+    alloc: Global,
+    asked: DiffAsked<'_>,
+    old: &[Row],
+) -> Result<Found, Stop>
+    requires { length old.now < 2 ^ 32 }
+    ensures { IfOk result (λ found. found.status ≤ 1) }
+{
     let new = read_saved(files, alloc, asked.new)?;
-    compared(alloc, asked.steps, old.rows.as_slice(), new.rows.as_slice())
+    compared(alloc, asked.steps, old, new.rows.as_slice())
 }
 
 // The same of the rows of the two.
