@@ -3,7 +3,7 @@
 ghost use Rattle.std.specs.Prelude.{◌≡◌, ◌++◌, ◌∷◌, [], OnOk, IfOk, string_bytes};
 ghost use Rattle.rv_report_lines.specs.Said.{lines, whole, closed, over, between, at_ending, at_steps, at_console};
 ghost use Rattle.rv_report_lines.specs.Said.{at_signature};
-ghost use Rattle.rv_report_lines.specs.Said.{at_words, with_line, with_lines, padded, finished, gathered};
+ghost use Rattle.rv_report_lines.specs.Said.{at_words, with_line, with_lines, next_row, padded, finished, gathered};
 ghost use Rattle.rv_report_lines.specs.View.{view};
 
 use crate::fields::{behind, byte_at, bytes_of, front, is_word, number_of, place_of, word_of};
@@ -182,12 +182,13 @@ fn add_word(alloc: Global, gathering: &mut Gathering, line: &[u8]) -> Result<(),
 {
     if is_word(line) && gathering.words.len() < gathering.count as usize {
         gathering.words.push(word_of(line))?;
+        Ok(())
     } else if byte_at(line, 0) == b'v' && gathering.words.len() == gathering.count as usize {
-        close(alloc, gathering, verdict_of(line))?;
+        close(alloc, gathering, verdict_of(line))
     } else {
         gathering.stage = Stage::Over;
+        Ok(())
     }
-    Ok(())
 }
 
 // A row that isn't whole at the end is one too.
@@ -195,11 +196,11 @@ fn add_word(alloc: Global, gathering: &mut Gathering, line: &[u8]) -> Result<(),
 fn finish(alloc: Global, gathering: &mut Gathering) -> Result<(), AllocError>
     ensures { OnOk result (view gathering.new ≡ finished (view gathering.old)) }
 {
-    if gathering.begun {
-        pad(&mut gathering.words, gathering.count)?;
-        close(alloc, gathering, Verdict::Unasked)?;
+    if !gathering.begun {
+        return Ok(());
     }
-    Ok(())
+    pad(&mut gathering.words, gathering.count)?;
+    close(alloc, gathering, Verdict::Unasked)
 }
 
 // Missing words are zeros.
@@ -218,6 +219,19 @@ fn pad(words: &mut Vec<u32>, count: u32) -> Result<(), AllocError>
 fn close(alloc: Global, gathering: &mut Gathering, verdict: Verdict) -> Result<(), AllocError>
     ensures { OnOk result (view gathering.new ≡ closed verdict (view gathering.old)) }
 {
+    gathering.numbers.push(gathering.number)?;
+    let row = take_row(alloc, gathering, verdict)?;
+    gathering.rows.push(row)?;
+    Ok(())
+}
+
+// Takes the row that was begun, so that nothing is known of a next one.
+#[tactic(auto, unfolding(crate::specs::Said::whole, crate::specs::Said::next_row))]
+fn take_row(alloc: Global, gathering: &mut Gathering, verdict: Verdict) -> Result<Row, AllocError>
+    ensures row { IfOk result (λ row. row ≡ next_row verdict (view gathering.old)) }
+    ensures rest { OnOk result (view gathering.new ≡ whole (view gathering.old).numbers
+        (view gathering.old).rows (view gathering.old).extent) }
+{
     let dash = String::from_str(alloc, "-")?;
     let name = mem::replace(&mut gathering.name, dash);
     let console = mem::replace(&mut gathering.console, Vec::new(alloc));
@@ -235,8 +249,6 @@ fn close(alloc: Global, gathering: &mut Gathering, verdict: Verdict) -> Result<(
         signature,
         verdict,
     };
-    gathering.numbers.push(gathering.number)?;
-    gathering.rows.push(row)?;
     gathering.number = 0;
     gathering.ending = RowEnd::Budget;
     gathering.steps = 0;
@@ -244,5 +256,5 @@ fn close(alloc: Global, gathering: &mut Gathering, verdict: Verdict) -> Result<(
     gathering.count = 0;
     gathering.begun = false;
     gathering.stage = Stage::Between;
-    Ok(())
+    Ok(row)
 }

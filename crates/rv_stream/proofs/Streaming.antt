@@ -1,19 +1,23 @@
 -- Texts that go out in order: what each step of a stream keeps.
-use Rattle.std.proofs.Common.{◌≡◌, ◌∙◌, ℕ, zero, suc, ◌∷◌, ◌+◌, ◌*◌, ◌≤◌, false, min, List, [], ◌++◌, length, take, drop, Option, Some}
-use Rattle.std.proofs.Common.{None, is_some, refl, sym, ap, subst, arith, append_assoc, append-nil, take-append-drop}
+use Rattle.std.proofs.Common.{◌≡◌, ◌∙◌, ℕ, zero, suc, ◌∷◌, ◌+◌, ◌*◌, ◌<◌, ◌≤◌, false, get_or, min, List, [], ◌++◌, length, take, drop, Option, Some}
+use Rattle.std.proofs.Common.{◌-◌, None, is_some, length-drop, refl, sym, ap, subst, arith, append_assoc, append-nil, take-append-drop}
 use Rattle.std.specs.Fork.{slice_chunk}
-use Rattle.std.specs.Prelude.{IfSome, slice_index_or}
+use Rattle.std.specs.Prelude.{Err, IfOk, IfSome, Ok, OnErr, Result, slice_index_or}
 use Rattle.std.proofs.Math.ListN.{set}
 use Rattle.std.specs.Io.KnownBytes.{Appends}
 use Rattle.std.specs.List.{concat}
-use Rattle.std.proofs.KnownBytes.{Appends-trans}
+use Rattle.std.proofs.KnownBytes.{Appends-nil, Appends-trans}
 use Rattle.std.proofs.lemmas.Grind.{common_steps}
-use Rattle.std.proofs.lemmas.List.{take_min}
+use Rattle.std.proofs.lemmas.List.{take_all, take_min}
 use Rattle.std.proofs.lemmas.List.Folds.{concat-append}
 use Rattle.rv_rows.specs.Sending.{AppendsBeginning}
 use Rattle.rv_stream.specs.declared.error.StreamError.{StreamError}
 use Rattle.rv_stream.specs.Streams.{IsOut, told_before, told_in}
 use Rattle.rv_fleet.proofs.Public.{chunk_more}
+
+-- a slice that goes on to the end
+pub behind : {X : Type 0} (xs : List X) (k : ℕ) → take (length xs - k) (drop k xs) ≡ drop k xs
+behind xs k = take_all (length xs - k) (drop k xs) (omega (arith, length-drop k xs))
 
 -- the first texts, and those from there on, are all
 pub parts_of_all : (texts : List (List ℕ)) (n : ℕ) → concat texts ≡ concat (take n texts) ++ concat (drop n texts)
@@ -35,15 +39,30 @@ one_more_told texts group next had text more now so piece pushed =
     next_texts texts group next
     ∙ ((λ i. so i ++ sym piece i) ∙ (append_assoc had text more ∙ ap (λ l. had ++ l) (sym pushed)))
 
--- a text that is so at its place, among others that are so at theirs
-pub set_some : {X : Type 0} (P : ℕ → X → Type 0) (xs : List (Option X)) (k : ℕ) (x : X)
-    → ((j : ℕ) → IfSome (slice_index_or xs j None) (P j)) → P k x → (j : ℕ)
-    → IfSome (slice_index_or (set xs k (Some x)) j None) (P j)
-set_some P [] k x all here j = all j
-set_some P (y ∷ ys) zero x all here zero = here
-set_some P (y ∷ ys) zero x all here (suc j) = all (suc j)
-set_some P (y ∷ ys) (suc k) x all here zero = all zero
-set_some P (y ∷ ys) (suc k) x all here (suc j) = set_some (λ n. P (suc n)) ys k x (λ n. all (suc n)) here j
+-- a text, if there is one, that is so at its place, among others that are so at theirs
+pub set_so : {X : Type 0} (P : ℕ → X → Type 0) (xs : List (Option X)) (k : ℕ) (x : Option X)
+    → ((j : ℕ) → IfSome (slice_index_or xs j None) (P j)) → IfSome x (P k) → (j : ℕ)
+    → IfSome (slice_index_or (set xs k x) j None) (P j)
+set_so P [] k x all here j = all j
+set_so P (y ∷ ys) zero x all here zero = here
+set_so P (y ∷ ys) zero x all here (suc j) = all (suc j)
+set_so P (y ∷ ys) (suc k) x all here zero = all zero
+set_so P (y ∷ ys) (suc k) x all here (suc j) = set_so (λ n. P (suc n)) ys k x (λ n. all (suc n)) here j
+
+-- a place that nothing is left at
+pub taken_from : {X : Type 0} (P : ℕ → X → Type 0) (xs : List (Option X)) (k : ℕ) (x : Option X)
+    → ((j : ℕ) → IfSome (slice_index_or xs j None) (P j)) → x ≡ None → (j : ℕ)
+    → IfSome (slice_index_or (set xs k x) j None) (P j)
+taken_from P xs k x all none = set_so P xs k x all (subst (λ o. IfSome o (P k)) (sym none) tt)
+
+-- what is taken from its place is so there
+pub taken_so : {X : Type 0} (P : ℕ → X → Type 0) (xs : List (Option X)) (k : ℕ) (x taken : Option X)
+    → ((j : ℕ) → IfSome (slice_index_or xs j None) (P j)) → k < length xs → x ≡ get_or xs k x → taken ≡ x
+    → IfSome taken (P k)
+taken_so P [] k x taken all below is takes = absurd (omega arith)
+taken_so P (y ∷ ys) zero x taken all below is takes = subst (λ o. IfSome o (P zero)) (sym (takes ∙ is)) (all zero)
+taken_so P (y ∷ ys) (suc k) x taken all below is takes =
+    taken_so (λ n. P (suc n)) ys k x taken (λ n. all (suc n)) (omega arith) is takes
 
 -- what went out, and then a beginning of what comes next, is a beginning of all
 pub begun_on : (before now after : Option (List ℕ)) (had text rest all : List ℕ) → all ≡ (had ++ text) ++ rest
@@ -118,3 +137,29 @@ module _ (before now after : Option (List ℕ)) (texts : List (List ℕ)) (count
   pub part_sent : AppendsBeginning now after (concat (drop from texts)) → AppendsBeginning before after (concat texts)
   part_sent rest = begun_on before now after (concat (take count texts)) (concat (drop from texts)) [] (concat texts)
       (whole ∙ sym (append-nil (concat (take count texts) ++ concat (drop from texts)))) sent rest
+
+-- nothing is out yet
+pub nothing_out : (before now : Option (List ℕ)) (text : List ℕ) → before ≡ now → AppendsBeginning before now text
+nothing_out before now text same = record {
+  part = [];
+  rest = text;
+  whole = refl;
+  appended = subst (λ a. Appends before a []) same (Appends-nil before);
+}
+
+-- what is so in any case is so of an error
+pub after_error : {T E : Type 0} {A : Type 0} (r : Result T E) → A → OnErr r A
+after_error (Ok x) so = tt
+after_error (Err e) so = so
+
+-- what is known of each of two results is known where both are good
+module _ {A E F : Type 0} (rows : Result A F) (sent : Result ℕ E) (P : A → Type 0) (Q : ℕ → Type 0) where
+  pub first_of_both : (both : Result (A × ℕ) E) → IfOk both (λ b. (rows ≡ Ok b.0) × (sent ≡ Ok b.1)) → IfOk rows P
+      → IfOk both (λ b. P b.0)
+  first_of_both (Ok b) are so = rw are.0 at so
+  first_of_both (Err e) are so = tt
+
+  pub second_of_both : (both : Result (A × ℕ) E) → IfOk both (λ b. (rows ≡ Ok b.0) × (sent ≡ Ok b.1)) → IfOk sent Q
+      → IfOk both (λ b. Q b.1)
+  second_of_both (Ok b) are so = rw are.1 at so
+  second_of_both (Err e) are so = tt

@@ -1,5 +1,5 @@
 -- The cases of rows, with the lines that are told of them.
-use Rattle.std.proofs.Common.{◌≡◌, ◌∙◌, refl, sym, ap, append_assoc, ℕ, List, [], ◌∷◌, ◌++◌, Option}
+use Rattle.std.proofs.Common.{◌≡◌, ◌∙◌, refl, sym, ap, append_assoc, append-nil, ℕ, List, [], ◌∷◌, ◌++◌, Option}
 use Rattle.std.specs.Prelude.{codes}
 use Rattle.std.specs.Fmt.{decimal}
 use Rattle.std.proofs.KnownBytes.{Appends-nil}
@@ -12,17 +12,18 @@ use Rattle.rv_xml.specs.Xml.{escaped}
 use Rattle.rv_views.specs.Pieces.{attribute}
 use Rattle.rv_views.specs.Junit.{begin_text, case_text, cases_text, end_text, junit_text, output_text, problem_or_none}
 
-joined : (a b c d p o s m x y z : List ℕ) →
-    a ++ b ++ c ++ d ++ p ++ (o ++ s ++ m ++ x ++ y) ++ z
-    ≡ a ++ (b ++ (c ++ (d ++ (p ++ (o ++ (s ++ (m ++ (x ++ (y ++ z)))))))))
-joined a b c d p o s m x y z = simp append_assoc refl
+joined : (a b c d p o s m x y z : List ℕ)
+    → ((a ++ (b ++ (c ++ (d ++ [])))) ++ p) ++ (o ++ (s ++ (m ++ (x ++ ((y ++ z) ++ [])))))
+    ≡ a ++ b ++ c ++ d ++ p ++ (o ++ s ++ m ++ x ++ y) ++ z
+joined a b c d p o s m x y z = simp (append_assoc, append-nil)
 
--- the case of a row, piece behind piece
+-- the case of a row: its begin, its problem, and the rest, piece behind piece
 pub case_whole : (class : List ℕ) (rule : Rule) (row : Row) (lines : List ℕ) →
-    case_text class rule row lines
-    ≡ codes "<testcase" ++ (attribute (codes "classname") class ++ (attribute (codes "name") row.name
-    ++ (codes ">\n" ++ (problem_or_none rule row lines ++ (codes "<system-out>" ++ (decimal row.steps
-    ++ (codes " steps\n" ++ (escaped Element row.console ++ (codes "</system-out>\n" ++ codes "</testcase>\n")))))))))
+    ((codes "<testcase" ++ (attribute (codes "classname") class ++ (attribute (codes "name") row.name
+    ++ (codes ">\n" ++ [])))) ++ problem_or_none rule row lines)
+    ++ (codes "<system-out>" ++ (decimal row.steps ++ (codes " steps\n" ++ (escaped Element row.console
+    ++ (codes "</system-out>\n</testcase>\n" ++ [])))))
+    ≡ case_text class rule row lines
 unfolding case_text output_text
 case_whole class rule row lines =
     joined (codes "<testcase") (attribute (codes "classname") class) (attribute (codes "name") row.name) (codes ">\n")

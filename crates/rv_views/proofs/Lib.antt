@@ -3,4 +3,6 @@ pub mod Names
 pub mod Laws
 pub mod Cases
 pub mod Documents
-pub mod Signatures
+pub mod OneMore
+pub mod Changes
+pub mod Told

@@ -52,10 +52,8 @@ pub fn push_diff(
         (text.new.items ≡ text.old.items ++ diff_text steps old.now new.now) }
     ensures counts { IfOk result (λ counts. counts ≡ differing steps old.now new.now) }
 {
-    let before = ByName::new(alloc, old)?;
-    let after = ByName::new(alloc, new)?;
-    let gone = push_gone(text, steps, &after, old)?;
-    let (added, changed) = push_new(text, steps, &before, new)?;
+    let gone = push_gone(alloc, text, steps, old, new)?;
+    let (added, changed) = push_new(alloc, text, steps, old, new)?;
     let counts = Differing {
         gone,
         added,
@@ -67,16 +65,18 @@ pub fn push_diff(
 
 // Appends the lines of the jobs that are gone, and counts these.
 fn push_gone(
+    alloc: Global,
     text: &mut Vec<u8>,
     steps: bool,
-    after: &ByName<'_>,
     old: &[Row],
+    new: &[Row],
 ) -> Result<usize, AllocError>
     ensures text { OnOk result (text.new.items ≡ text.old.items
-        ++ flat_map (λ row. gone_line (row_named after.now row.name) row) old.now) }
-    ensures count { IfOk result (λ gone. gone ≡ count_by (is_alone_in after.now) old.now) }
+        ++ flat_map (λ row. gone_line (row_named new.now row.name) row) old.now) }
+    ensures count { IfOk result (λ gone. gone ≡ count_by (is_alone_in new.now) old.now) }
     ensures within { IfOk result (λ gone. gone ≤ length old.now) }
 {
+    let after = ByName::new(alloc, new)?;
     let mut gone = 0;
     for row in old {
         if let Change::Gone = change_of(steps, Some(row), after.find(row.name.as_str())) {
@@ -89,24 +89,26 @@ fn push_gone(
 
 // Appends the lines of the jobs of the new report, and counts those that only it has and those that changed.
 fn push_new(
+    alloc: Global,
     text: &mut Vec<u8>,
     steps: bool,
-    before: &ByName<'_>,
+    old: &[Row],
     new: &[Row],
 ) -> Result<(usize, usize), AllocError>
     ensures text { OnOk result (text.new.items ≡ text.old.items
-        ++ flat_map (λ row. lines_of_new steps (row_named before.now row.name) row) new.now) }
-    ensures added { IfOk result (λ counts. counts.0 ≡ count_by (is_alone_in before.now) new.now) }
+        ++ flat_map (λ row. lines_of_new steps (row_named old.now row.name) row) new.now) }
+    ensures added { IfOk result (λ counts. counts.0 ≡ count_by (is_alone_in old.now) new.now) }
     ensures changed { IfOk result (λ counts. counts.1
-        ≡ count_by (λ row. is_changed steps (row_named before.now row.name) row) new.now) }
+        ≡ count_by (λ row. is_changed steps (row_named old.now row.name) row) new.now) }
     ensures within { IfOk result (λ counts. counts.0 + counts.1 ≤ length new.now) }
 {
+    let before = ByName::new(alloc, old)?;
     let mut added = 0;
     let mut changed = 0;
     for row in new {
-        let old = before.find(row.name.as_str());
-        push_lines_of_new(text, steps, old, row)?;
-        match change_of(steps, old, Some(row)) {
+        let other = before.find(row.name.as_str());
+        push_lines_of_new(text, steps, other, row)?;
+        match change_of(steps, other, Some(row)) {
             Change::Added => added += 1,
             Change::Changed => changed += 1,
             _ => {}

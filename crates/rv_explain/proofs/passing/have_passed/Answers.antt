@@ -6,4 +6,4 @@ use Rattle.rv_explain.proofs.passing.have_passed.Goals as goal
 
 pub returns : goal.returns
 returns c = all_from_yields_List (has_passed c.args.rule) _ _ _ c.all.ensures.ran
-    (YieldsList-from_slice c.args.rows.now cc) (λ x b q k. search (rules, tests))
+    (YieldsList-from_slice c.args.rows.now c.iter.ensures.rest) (λ x b q k. search (rules, tests))

@@ -7,4 +7,4 @@ use Rattle.rv_explain.proofs.refusal.unfit_segment.Goals as goal
 pub returns : goal.returns
 returns c = find_from_yields_List
     (λ segment. not (fits c.args.job.now.regions c.args.job.now.load segment)) _ _ _ c.find.ensures.ran
-    (YieldsList-from_slice c.args.segments.now cc) (λ x b q k. search (rules, tests))
+    (YieldsList-from_slice c.args.segments.now c.iter.ensures.rest) (λ x b q k. search (rules, tests))

@@ -1,4 +1,4 @@
-use Rattle.std.proofs.Common.{◌≡◌, ◌∙◌, ◌<◌, length, sym, ap, arith}
+use Rattle.std.proofs.Common.{◌≡◌, ◌∙◌, ◌+◌, ◌<◌, ℕ, List, ap, arith, drop, length, length-drop, sym}
 use Rattle.std.proofs.lemmas.Bool.Decides.{nat_tests}
 use Rattle.rv_report_lines.specs.Said.{gathered, finished}
 use Rattle.rv_report_lines.specs.View.{view}
@@ -21,3 +21,12 @@ returns c =
     let none : length rest ≡ 0 = grind (arith, nat_tests) in
     c.in_ok-finish.ensures
     ∙ ap finished (sym (said_end rest (view c.loop-rest.gathering) none) ∙ c.loop-rest.invariant)
+
+shorter : (rest behind : List ℕ) (n : ℕ) → behind ≡ drop (n + 1) rest → 0 < length rest → length behind < length rest
+shorter rest behind n is some = omega (arith, length-drop (n + 1) rest, ap length is)
+
+pub loop-rest-smaller : goal.loop-rest-smaller
+loop-rest-smaller c =
+    let rest = c.loop-rest.rest.now in
+    let some : 0 < length rest = grind (arith, nat_tests) in
+    shorter rest c.behind-rest.result.now c.place_of-end.result c.behind-rest.ensures some

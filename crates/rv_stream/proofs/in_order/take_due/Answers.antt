@@ -1,4 +1,4 @@
-use Rattle.std.proofs.Common.{[], append-nil, refl, sym}
+use Rattle.std.proofs.Common.{◌≡◌, ◌∙◌, ◌++◌, [], ap, append-nil, arith, refl, sym}
 use Rattle.rv_stream.proofs.Streaming.{one_more_told}
 use Rattle.rv_stream.specs.Streams.{told_before}
 use Rattle.rv_stream.proofs.in_order.take_due.Goals as goal
@@ -18,5 +18,11 @@ loop-next-preserved g c = (
   one_more_told g.J.Streamed.texts g.J.Streamed.group c.loop-next.next
       (told_before g.J.Streamed.texts g.J.Streamed.group c.args.from) c.loop-next.text.items
       c.in-Some-take_text.more.items c.extend_from_slice.new.self.items c.loop-next.invariant.1
-      c.in-Some-take_text.ensures.text (cc (c.in_ok-extend_from_slice.ensures.items, c.as_slice.ensures.value)),
+      c.in-Some-take_text.ensures.text (c.in_ok-extend_from_slice.ensures.items
+      ∙ ap (λ l. c.loop-next.text.items ++ l) c.as_slice.ensures.value),
 )
+
+pub returns-clause-due : goal.returns-clause-due
+returns-clause-due g c =
+    let end : c.len-end.result ≡ c.loop-next.next = omega (arith, c.in-Some.ensures.inside) in
+    ap (λ n. told_before g.J.Streamed.texts g.J.Streamed.group n) end ∙ c.loop-next.invariant.1

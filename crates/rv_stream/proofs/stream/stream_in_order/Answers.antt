@@ -58,3 +58,6 @@ returns-in-Err-send_from-clause-part g c =
     c.min-from.result same (rw c.in-Ok.is at c.run_in_order-out.ensures.sent)
     (subst (λ (l : List (List ℕ)). AppendsBeginning out (g.W.Sink.taken c.send_from.new.out)
     (concat (drop c.min-from.result l))) told c.in-Err-send_from.ensures.part)
+
+pub returns-in-Ok-send_from-clause-rows : goal.returns-in-Ok-send_from-clause-rows
+returns-in-Ok-send_from-clause-rows g c = rw c.in-Ok.is at c.run_in_order-out.ensures.rows

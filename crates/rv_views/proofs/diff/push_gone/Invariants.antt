@@ -8,7 +8,7 @@ use Rattle.rv_views.proofs.diff.push_gone.Given as goal
 abbrev pub invariant-loop-row : goal.invariant-loop-row
 invariant-loop-row l = record {
   text : l.text.items ≡ l.fn.text.items
-      ++ flat_map (λ row. gone_line (row_named l.after row.name) row) (take l.row-index l.old);
-  count : l.gone ≡ count_by (is_alone_in l.after) (take l.row-index l.old);
+      ++ flat_map (λ row. gone_line (row_named l.new row.name) row) (take l.row-index l.old);
+  count : l.gone ≡ count_by (is_alone_in l.new) (take l.row-index l.old);
   within : l.gone ≤ l.row-index;
 }
