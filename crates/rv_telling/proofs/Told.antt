@@ -1,11 +1,5 @@
 -- Lines that are told at once, and the texts that they are put together from.
-use Rattle.std.proofs.Common.{◌≡◌, ◌++◌, ◌∙◌, ℕ, List, [], Result, Ok, Err, OnOk, ap, append_assoc, append-nil}
-
--- what a call appends where it succeeds, in other words
-pub told : {T E : Type 0} (r : Result T E) (old new a b : List ℕ) → a ≡ b → OnOk r (new ≡ old ++ a)
-    → OnOk r (new ≡ old ++ b)
-told (Ok x) old new a b same appends = appends ∙ ap (λ text. old ++ text) same
-told (Err e) old new a b same appends = appends
+use Rattle.std.proofs.Common.{◌≡◌, ◌++◌, ℕ, List, [], append_assoc, append-nil}
 
 -- ---- in the order of the spans: a topic, and what differs
 

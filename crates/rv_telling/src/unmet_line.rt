@@ -6,9 +6,8 @@ ghost use Rattle.rv_lines.specs.Spans.{span_text};
 ghost use Rattle.rv_telling.specs.UnmetLines.{comparison_of, end_text, ended_text, exit_text, same_text, rows_text};
 ghost use Rattle.rv_telling.specs.UnmetLines.{topic_text, unmet_line, unmet_lines, unmet_text};
 
-use crate::difference_text::{
-    Topic, push_bytes, push_console, push_said, push_signature, push_signatures,
-};
+use crate::difference_text::{Topic, push_bytes, push_console, push_said};
+use crate::signature_text::{push_signature, push_signatures};
 use rv_explain::{SameDifference, Unmet};
 use rv_jobs::{ExpectedEnd, Job};
 use rv_lines::{Span, push_spans, push_text};

@@ -1,7 +1,7 @@
 use Rattle.std.proofs.Common.{arith}
 use Rattle.rv_telling.specs.MetLines.{met_line}
 use Rattle.rv_telling.specs.UnmetLines.{comparison_of}
-use Rattle.rv_telling.proofs.Pieces.{one_more}
+use Rattle.rv_lines.proofs.Public.{one_more}
 use Rattle.rv_telling.proofs.met_line.push_each.Goals as goal
 
 pub loop-one-preserved : goal.loop-one-preserved

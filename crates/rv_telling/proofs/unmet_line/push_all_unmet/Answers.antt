@@ -1,6 +1,6 @@
 use Rattle.std.proofs.Common.{arith}
 use Rattle.rv_telling.specs.UnmetLines.{comparison_of, unmet_line}
-use Rattle.rv_telling.proofs.Pieces.{one_more}
+use Rattle.rv_lines.proofs.Public.{one_more}
 use Rattle.rv_telling.proofs.unmet_line.push_all_unmet.Goals as goal
 
 pub loop-one-preserved : goal.loop-one-preserved

@@ -1,7 +1,8 @@
 use Rattle.std.proofs.Common.{codes}
 use Rattle.rv_lines.specs.Shown.{shown}
 use Rattle.rv_lines.specs.Spans.{span_text}
-use Rattle.rv_telling.proofs.Told.{endings_told, told}
+use Rattle.rv_lines.proofs.Public.{told}
+use Rattle.rv_telling.proofs.Told.{endings_told}
 use Rattle.rv_telling.proofs.unmet_line.push_endings.Goals as goal
 
 pub returns : goal.returns

@@ -1,7 +1,8 @@
 use Rattle.std.proofs.Common.{codes}
 use Rattle.rv_lines.specs.Shown.{shown}
 use Rattle.rv_telling.specs.UnmetLines.{rows_text, signatures_text, topic_text}
-use Rattle.rv_telling.proofs.Told.{told, topic_told}
+use Rattle.rv_lines.proofs.Public.{told}
+use Rattle.rv_telling.proofs.Told.{topic_told}
 use Rattle.rv_telling.proofs.unmet_line.push_rows.Goals as goal
 
 pub returns-in-Ending : goal.returns-in-Ending

@@ -3,8 +3,9 @@ use Rattle.std.specs.Fmt.{decimal}
 use Rattle.rv_lines.specs.Shown.{shown}
 use Rattle.rv_lines.specs.Spans.{span_text}
 use Rattle.rv_telling.specs.UnmetLines.{place_text}
-use Rattle.rv_telling.proofs.Told.{told, words_told}
-use Rattle.rv_telling.proofs.difference_text.push_words.Goals as goal
+use Rattle.rv_lines.proofs.Public.{told}
+use Rattle.rv_telling.proofs.Told.{words_told}
+use Rattle.rv_telling.proofs.signature_text.push_words.Goals as goal
 
 pub returns : goal.returns
 unfolding place_text

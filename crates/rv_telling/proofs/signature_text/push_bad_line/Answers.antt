@@ -2,8 +2,9 @@ use Rattle.std.proofs.Common.{codes}
 use Rattle.std.specs.Fmt.{decimal}
 use Rattle.rv_lines.specs.Shown.{shown}
 use Rattle.rv_telling.specs.UnmetLines.{bad_line_text}
-use Rattle.rv_telling.proofs.Told.{bad_line_told, told}
-use Rattle.rv_telling.proofs.difference_text.push_bad_line.Goals as goal
+use Rattle.rv_lines.proofs.Public.{told}
+use Rattle.rv_telling.proofs.Told.{bad_line_told}
+use Rattle.rv_telling.proofs.signature_text.push_bad_line.Goals as goal
 
 pub returns : goal.returns
 unfolding bad_line_text
