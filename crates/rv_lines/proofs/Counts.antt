@@ -1,12 +1,40 @@
--- One text more in brackets.
-use Rattle.std.proofs.Common.{◌≡◌, ◌∙◌, sym, ap, ℕ, ◌+◌, ◌<◌, List, [], ◌∷◌, ◌++◌, length}
-use Rattle.std.proofs.Common.{true, false, cond, add-one, arith, ne_eqb, append-nil, append_assoc, ◌==◌}
+-- Rows are counted, and the ways of those that failed told in brackets.
+use Rattle.std.proofs.Common.{◌≡◌, ◌∙◌, sym, ap, ℕ, ◌+◌, ◌<◌, ◌≤◌, List, [], ◌∷◌, ◌++◌, get_or, length, take}
+use Rattle.std.proofs.Common.{Bool, true, false, cond, add-one, arith, ne_eqb, append-nil, append_assoc, ◌==◌}
 use Rattle.std.proofs.Common.{length-append}
-use Rattle.std.specs.Prelude.{codes, not}
+use Rattle.std.specs.Prelude.{codes, count_by, not}
 use Rattle.std.specs.List.{flat_map}
 use Rattle.std.specs.Fmt.{decimal}
+use Rattle.std.proofs.lemmas.Bool.{true≢false}
 use Rattle.std.proofs.lemmas.Grind.{flat_map-append}
-use Rattle.rv_lines.specs.LastLine.{failures_below, opened, way_name}
+use Rattle.std.proofs.lemmas.List.{length-take, take_all}
+use Rattle.std.proofs.lemmas.List.Sums.{count_by-le-length, count_by_more_no, count_by_more_yes}
+use Rattle.rv_lines.specs.LastLine.{bracket, failures_below, opened, way_name}
+use Rattle.rv_lines.proofs.Appended.{more}
+
+-- ---- the elements that pass a test, among so many
+
+module _ {X : Type 0} (p : X → Bool) (xs : List X) (i count : ℕ) (so_far : count ≡ count_by p (take i xs)) where
+  pub counted_few : count ≤ i
+  counted_few = omega (arith, count_by-le-length p (take i xs), length-take i xs)
+
+  pub counted_all : length xs ≤ i → count ≡ count_by p xs
+  counted_all past = so_far ∙ ap (count_by p) (take_all i xs past)
+
+  -- one more of them
+  module _ (x : X) (below : i < length xs) (is : x ≡ get_or xs i x) (passes : Bool) (tested : passes ≡ p x)
+      (next : ℕ) where
+    pub counted_more : passes ≡ true → next ≡ count + 1 → next ≡ count_by p (take (i + 1) xs)
+    counted_more passing one_up =
+        let here : p (get_or xs i x) ≡ true = ap p (sym is) ∙ (sym tested ∙ passing) in
+        one_up ∙ (ap (λ n. n + 1) so_far ∙ sym (count_by_more_yes p xs i x below here))
+
+    pub counted_same : passes ≡ false → next ≡ count → next ≡ count_by p (take (i + 1) xs)
+    counted_same failing same =
+        let here : p (get_or xs i x) ≡ false = ap p (sym is) ∙ (sym tested ∙ failing) in
+        same ∙ (so_far ∙ sym (count_by_more_no p xs i x below here))
+
+-- ---- brackets
 
 -- a text more in brackets
 pub opened-more : (texts : List (List ℕ)) (text : List ℕ) →
@@ -19,6 +47,23 @@ opened-more (first ∷ more) text =
     ∙ ap (λ xs. flat_map comma more ++ xs) (append-nil (comma text)))
     ∙ sym (append_assoc (codes " (" ++ first) (flat_map comma more) (comma text))
     ∙ ap (λ t. opened (first ∷ more) ++ (cond (not t) (codes ", ") (codes " (") ++ text)) (sym some)
+
+-- they are closed where there is a text
+pub bracket-closed : (texts : List (List ℕ)) (is_open : Bool) (old mid new : List ℕ) →
+    is_open ≡ not (length texts == 0) → is_open ≡ true → mid ≡ old ++ opened texts → new ≡ mid ++ codes ")" →
+    new ≡ old ++ bracket texts
+bracket-closed [] is_open old mid new begun some so_far last = cc
+bracket-closed (first ∷ others) is_open old mid new begun some so_far last =
+    let filled : (length (first ∷ others) == 0) ≡ false = ne_eqb (length (first ∷ others)) 0 (omega arith) in
+    rw filled (more old mid new (opened (first ∷ others)) (codes ")") so_far last)
+
+-- and there are none where there is none
+pub bracket-none : (texts : List (List ℕ)) (is_open : Bool) (old new : List ℕ) →
+    is_open ≡ not (length texts == 0) → is_open ≡ false → new ≡ old ++ opened texts → new ≡ old ++ bracket texts
+bracket-none [] is_open old new begun none so_far = so_far
+bracket-none (first ∷ others) is_open old new begun none so_far =
+    let filled : (length (first ∷ others) == 0) ≡ false = ne_eqb (length (first ∷ others)) 0 (omega arith) in
+    absurd (true≢false (ap not (sym filled) ∙ (sym begun ∙ none)))
 
 -- ---- the ways below one more
 

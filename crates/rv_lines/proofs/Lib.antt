@@ -1,4 +1,5 @@
 pub mod Pieces
 pub mod ConsoleLines
 pub mod Counts
-pub mod OneMore
+pub mod Appended
+pub mod Public

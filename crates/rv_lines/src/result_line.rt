@@ -84,9 +84,9 @@ fn push_exit(bytes: &mut Vec<u8>, code: u32, steps: u32) -> Result<(), AllocErro
         bytes,
         &[
             Span::Text("exit "),
-            Span::Number(u64::from(code)),
+            Span::Number(code as u64),
             Span::Text(" after "),
-            Span::Number(u64::from(steps)),
+            Span::Number(steps as u64),
             Span::Text(" steps"),
         ],
     )
@@ -119,7 +119,7 @@ fn push_value(bytes: &mut Vec<u8>, value: u32, steps: u32) -> Result<(), AllocEr
             Span::Text(", value "),
             Span::Word(value),
             Span::Text(", after "),
-            Span::Number(u64::from(steps)),
+            Span::Number(steps as u64),
             Span::Text(" steps"),
         ],
     )
@@ -133,7 +133,7 @@ fn push_budget(bytes: &mut Vec<u8>, steps: u32) -> Result<(), AllocError>
         bytes,
         &[
             Span::Text("budget used up after "),
-            Span::Number(u64::from(steps)),
+            Span::Number(steps as u64),
             Span::Text(" steps"),
         ],
     )

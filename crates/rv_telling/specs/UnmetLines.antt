@@ -19,7 +19,6 @@ use Rattle.rv_lists.specs.declared.job.ExpectedConsole.TheVariants as console
 use Rattle.rv_lists.specs.declared.job.ExpectedEnd.{ExpectedEnd}
 use Rattle.rv_lists.specs.declared.job.ExpectedEnd.TheVariants as expected
 use Rattle.rv_lists.specs.declared.job.Job.{Job}
-use Rattle.rv_telling.specs.declared.difference_text.Topic.{Topic}
 use Rattle.rv_telling.specs.declared.unmet_line.Sides.{Sides}
 use Rattle.rv_lines.specs.Shown.{shown, shown_value}
 use Rattle.rv_machine.specs.Faults.{fault_name}
@@ -61,10 +60,6 @@ end_text (Some expected.Budget) = codes "the end budget"
 end_text (Some (expected.Fault kind)) = codes "the end " ++ fault_name kind
 
 -- ---- bytes
-
--- what is said in front of what differs
-abbrev pub topic_text : Topic → List ℕ
-topic_text topic = topic.before.now ++ (shown topic.name.now ++ topic.behind.now)
 
 abbrev pub quoted : List ℕ → List ℕ
 quoted value = codes "\"" ++ shown_value value ++ codes "\""

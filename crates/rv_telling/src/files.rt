@@ -21,13 +21,7 @@ pub(crate) fn image_bytes(plan: &Plan, place: usize) -> Option<&[u8]>
     ensures { (d : AJob) → option_map (λ bytes. bytes.now) result
         ≡ bytes_in (Some (kept_for plan.now.answers (slice_index_or plan.now.jobs place d).image)) }
 {
-    bytes_of(plan.image(place))
-}
-
-fn bytes_of(kept: &Kept) -> Option<&[u8]>
-    ensures { option_map (λ bytes. bytes.now) result ≡ bytes_in (Some kept.now) }
-{
-    match kept {
+    match plan.image(place) {
         Kept::Content(bytes) => Some(bytes.as_slice()),
         Kept::Unreadable | Kept::TooLong => None,
     }

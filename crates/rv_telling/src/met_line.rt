@@ -4,11 +4,10 @@ ghost use Rattle.std.specs.Prelude.{◌≡◌, ◌++◌, OnOk, option_map};
 ghost use Rattle.std.specs.List.{flat_map};
 ghost use Rattle.rv_telling.specs.MetLines.{met_line, met_lines, met_text, named_text, path_text};
 ghost use Rattle.rv_telling.specs.UnmetLines.{comparison_of};
-ghost use Rattle.rv_lists.specs.Jobs.{console_path};
 
+use crate::paths::{console_path, reference_path};
 use crate::unmet_line::{Sides, push_end, push_exit};
 use rv_explain::{Expectation, Unmet, is_met};
-use rv_jobs::Job;
 use rv_lines::{Span, push_spans, push_text};
 use rv_rows::Row;
 use std::alloc::AllocError;
@@ -123,22 +122,4 @@ fn push_named(bytes: &mut Vec<u8>, other: Option<&Row>) -> Result<(), AllocError
     };
     let name = other.name.as_str().as_bytes();
     push_spans(bytes, &[Span::Text("the same as "), Span::Shown(name)])
-}
-
-fn reference_path(job: &Job) -> Option<&str>
-    ensures { option_map (λ path. path.now) result ≡ job.now.expect_signature }
-{
-    match &job.expect_signature {
-        Some(path) => Some(path.as_str()),
-        None => None,
-    }
-}
-
-fn console_path(job: &Job) -> Option<&str>
-    ensures { option_map (λ path. path.now) result ≡ console_path job.now.expect_console }
-{
-    match &job.expect_console {
-        Some(expected) => expected.path(),
-        None => None,
-    }
 }

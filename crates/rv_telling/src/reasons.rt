@@ -2,17 +2,17 @@
 
 ghost use Rattle.std.specs.Prelude.{◌≡◌, ◌<◌, IfOk, length, option_map, slice_index_or};
 ghost use Rattle.rv_lists.specs.declared.job.Job.{Job as AJob};
-ghost use Rattle.rv_lists.specs.Jobs.{console_path};
 ghost use Rattle.rv_telling.specs.Reasons.{image_refusal_text, path_without, reason_of, refusal_text};
 ghost use Rattle.rv_telling.specs.Reasons.{refused_reference};
 ghost use Rattle.rv_telling.specs.UnreadFiles.{long_text, unread_text};
 
 use crate::files::image_bytes;
 use crate::image_reason::push_reason_of_image;
+use crate::paths::{console_path, reference_path};
 use crate::unread_files::{long_text, unread_text};
 use rv_elf::ImageError;
 use rv_files::Unread;
-use rv_jobs::{Job, Plan};
+use rv_jobs::Plan;
 use rv_rows::{Refusal, RowEnd, console_bytes, reference_bytes};
 use std::alloc::{AllocError, Global};
 
@@ -123,23 +123,5 @@ fn path_without<'a>(bytes: Option<&[u8]>, path: Option<&'a str>) -> Option<&'a s
     match bytes {
         Some(_) => None,
         None => path,
-    }
-}
-
-fn reference_path(job: &Job) -> Option<&str>
-    ensures { option_map (λ path. path.now) result ≡ job.now.expect_signature }
-{
-    match &job.expect_signature {
-        Some(path) => Some(path.as_str()),
-        None => None,
-    }
-}
-
-fn console_path(job: &Job) -> Option<&str>
-    ensures { option_map (λ path. path.now) result ≡ console_path job.now.expect_console }
-{
-    match &job.expect_console {
-        Some(expected) => expected.path(),
-        None => None,
     }
 }

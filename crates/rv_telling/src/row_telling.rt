@@ -3,10 +3,9 @@
 ghost use Rattle.std.specs.Prelude.{◌≡◌, ◌<◌, ◌++◌, OnOk, length, option_map, slice_index_or};
 ghost use Rattle.rv_explain.specs.Planned.{named_row};
 ghost use Rattle.rv_lists.specs.declared.job.Job.{Job as AJob};
-ghost use Rattle.rv_lines.specs.ConsoleTail.{console_tail};
 ghost use Rattle.rv_telling.specs.UnmetLines.{comparison_of};
-ghost use Rattle.rv_telling.specs.Telling.{compared_lines, expectation_lines, explained, explained_if_run, line_of_row};
-ghost use Rattle.rv_telling.specs.Telling.{lines_behind, run_lines, told_at, told_of_row, way_if_asked};
+ghost use Rattle.rv_telling.specs.Telling.{compared_lines, expectation_lines, explained, line_of_row};
+ghost use Rattle.rv_telling.specs.Telling.{run_lines, told_of_row};
 
 use crate::files::{fault_symbol, image_bytes, signature_begin};
 use crate::met_line::push_all_met;
@@ -40,6 +39,7 @@ impl<'a> Telling for RowTelling<'a> {
     ghost line = { λ told place row. told_at told.plan.now told.unread.now told.rule
         told.verbosity told.last place row };
 
+    #[tactic(auto, unfolding(crate::specs::Telling::told_at))]
     fn push(
         &self,
         alloc: Global,
@@ -47,29 +47,14 @@ impl<'a> Telling for RowTelling<'a> {
         row: &Row,
         text: &mut Vec<u8>,
     ) -> Result<(), AllocError> {
-        self.push_at(alloc, place, row, text)
-    }
-}
-
-impl<'a> RowTelling<'a> {
-    #[tactic(auto, unfolding(crate::specs::Telling::told_at))]
-    fn push_at(
-        &self,
-        alloc: Global,
-        place: usize,
-        row: &Row,
-        text: &mut Vec<u8>,
-    ) -> Result<(), AllocError>
-        ensures { OnOk result (text.new.items ≡ text.old.items
-            ++ told_at self.now.plan.now self.now.unread.now self.now.rule self.now.verbosity
-            self.now.last place row.now) }
-    {
         if place < self.plan.jobs() {
             return self.push_row(alloc, place, row, text);
         }
         Ok(())
     }
+}
 
+impl<'a> RowTelling<'a> {
     #[tactic(auto, unfolding(crate::specs::Telling::told_of_row))]
     fn push_row(
         &self,
@@ -89,16 +74,16 @@ impl<'a> RowTelling<'a> {
             return Ok(());
         }
         push_line(alloc, self.plan, self.unread, self.rule, place, row, text)?;
-        if passed {
+        if passed || !is_run(row.ending) {
             return Ok(());
         }
-        push_behind(alloc, self.plan, place, row, self.last, text)
+        push_run(alloc, self.plan, place, row, self.last, text)
     }
 
     /// Appends what explains the row of the job at a place, whatever the verbosity: its line, and where the job ran every
     /// expectation, those that it does not meet first, and how it came to its end: the registers there, and so many of its
     /// last instructions.
-    #[tactic(auto, unfolding(crate::specs::Telling::explained))]
+    #[tactic(auto, unfolding(crate::specs::Telling::explained, crate::specs::Telling::explained_run))]
     pub fn push_explained(
         &self,
         alloc: Global,
@@ -113,7 +98,11 @@ impl<'a> RowTelling<'a> {
             (slice_index_or self.now.plan.now.jobs place d) row.now last) }
     {
         push_line(alloc, self.plan, self.unread, self.rule, place, row, text)?;
-        push_explained_run(alloc, self.plan, place, row, last, text)
+        if !is_run(row.ending) {
+            return Ok(());
+        }
+        push_expectations(alloc, self.plan, place, row, true, text)?;
+        push_way(alloc, self.plan, place, row, last, text)
     }
 }
 
@@ -147,25 +136,6 @@ fn bytes_of(reason: &Option<Vec<u8>>) -> Option<&[u8]>
     }
 }
 
-// Appends what stands behind the line of a row that fails: nothing where the job didn't run.
-fn push_behind(
-    alloc: Global,
-    plan: &Plan,
-    place: usize,
-    row: &Row,
-    last: Option<u32>,
-    text: &mut Vec<u8>,
-) -> Result<(), AllocError>
-    requires { place < length plan.now.jobs }
-    ensures { OnOk result ((d : AJob) → text.new.items ≡ text.old.items
-        ++ lines_behind plan.now (slice_index_or plan.now.jobs place d) row.now last) }
-{
-    if is_run(row.ending) {
-        return push_run(alloc, plan, place, row, last, text);
-    }
-    Ok(())
-}
-
 // Appends the expectations that a run doesn't meet, the end of its console, and how it came to its end.
 #[tactic(auto, unfolding(crate::specs::Telling::run_lines))]
 fn push_run(
@@ -181,48 +151,11 @@ fn push_run(
         ++ run_lines plan.now (slice_index_or plan.now.jobs place d) row.now last) }
 {
     push_expectations(alloc, plan, place, row, false, text)?;
-    push_console_and_way(alloc, plan, place, row, last, text)
-}
-
-fn push_console_and_way(
-    alloc: Global,
-    plan: &Plan,
-    place: usize,
-    row: &Row,
-    last: Option<u32>,
-    text: &mut Vec<u8>,
-) -> Result<(), AllocError>
-    requires { place < length plan.now.jobs }
-    ensures { OnOk result ((d : AJob) → text.new.items
-        ≡ text.old.items ++ (console_tail row.now.console
-        ++ way_if_asked plan.now (slice_index_or plan.now.jobs place d) row.now last)) }
-{
     push_console_tail(text, row.console.as_slice())?;
     match last {
         Some(last) => push_way(alloc, plan, place, row, last, text),
         None => Ok(()),
     }
-}
-
-// Appends every expectation of a run, and how it came to its end: nothing where the job didn't run.
-#[tactic(auto, unfolding(crate::specs::Telling::explained_run))]
-fn push_explained_run(
-    alloc: Global,
-    plan: &Plan,
-    place: usize,
-    row: &Row,
-    last: u32,
-    text: &mut Vec<u8>,
-) -> Result<(), AllocError>
-    requires { place < length plan.now.jobs }
-    ensures { OnOk result ((d : AJob) → text.new.items ≡ text.old.items
-        ++ explained_if_run plan.now (slice_index_or plan.now.jobs place d) row.now last) }
-{
-    if !is_run(row.ending) {
-        return Ok(());
-    }
-    push_expectations(alloc, plan, place, row, true, text)?;
-    push_way(alloc, plan, place, row, last, text)
 }
 
 // Appends the expectations that a run doesn't meet, and behind them, where all are told, those that it does.

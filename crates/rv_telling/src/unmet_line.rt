@@ -1,14 +1,11 @@
 //! The line of an expectation that a run does not meet.
 
-ghost use Rattle.std.specs.Prelude.{◌≡◌, ◌++◌, OnOk, codes, option_map};
-ghost use Rattle.rv_lines.specs.Shown.{shown};
-ghost use Rattle.rv_lines.specs.Spans.{span_text};
+ghost use Rattle.std.specs.Prelude.{◌≡◌, ◌++◌, OnOk, option_map};
 ghost use Rattle.rv_telling.specs.UnmetLines.{comparison_of, end_text, ended_text, exit_text, same_text, rows_text};
-ghost use Rattle.rv_telling.specs.UnmetLines.{topic_text, unmet_line, unmet_lines, unmet_text};
+ghost use Rattle.rv_telling.specs.UnmetLines.{unmet_line, unmet_lines, unmet_text};
 
-use crate::difference_text::{
-    Topic, push_bytes, push_console, push_said, push_signature, push_signatures,
-};
+use crate::difference_text::{push_bytes, push_console, push_topic};
+use crate::signature_text::{push_signature, push_signatures};
 use rv_explain::{SameDifference, Unmet};
 use rv_jobs::{ExpectedEnd, Job};
 use rv_lines::{Span, push_spans, push_text};
@@ -94,7 +91,7 @@ pub(crate) fn push_exit(bytes: &mut Vec<u8>, expected: Option<u32>) -> Result<()
     ensures { OnOk result (bytes.new.items ≡ bytes.old.items ++ exit_text expected) }
 {
     match expected {
-        Some(code) => push_spans(bytes, &[Span::Text("exit "), Span::Number(u64::from(code))]),
+        Some(code) => push_spans(bytes, &[Span::Text("exit "), Span::Number(code as u64)]),
         None => push_text(bytes, "an exit"),
     }
 }
@@ -125,10 +122,11 @@ fn push_same(
     ensures { OnOk result (bytes.new.items ≡ bytes.old.items
         ++ same_text first row.now (option_map (λ row. row.now) other.entry) difference) }
 {
-    match other {
-        Some(other) => push_rows(bytes, first, row, other, difference),
-        None => push_text(bytes, "the same as another job, which was not run"),
-    }
+    let Some(other) = other else {
+        return push_text(bytes, "the same as another job, which was not run");
+    };
+    push_topic(bytes, "the same as ", other.name.as_str())?;
+    push_rows(bytes, first, row, other, difference)
 }
 
 #[tactic(auto, unfolding(crate::specs::UnmetLines::rows_text))]
@@ -140,81 +138,49 @@ fn push_rows(
     difference: SameDifference,
 ) -> Result<(), AllocError>
     ensures { OnOk result (bytes.new.items ≡ bytes.old.items
-        ++ (codes "the same as " ++ shown other.now.name ++ codes ": "
-        ++ rows_text first row.now other.now difference)) }
+        ++ rows_text first row.now other.now difference) }
 {
     match difference {
-        SameDifference::Ending => push_endings(bytes, row, other),
+        SameDifference::Ending => {
+            push_ended(bytes, "it ended with ", other.ending)?;
+            push_ended(bytes, ", this with ", row.ending)
+        }
         SameDifference::Console(difference) => {
-            let met = row.console.as_slice();
-            let wanted = other.console.as_slice();
+            push_text(bytes, "console: ")?;
             push_bytes(
                 bytes,
-                topic_of(other, ": console: "),
-                met,
-                wanted,
+                row.console.as_slice(),
+                other.console.as_slice(),
                 difference,
             )
         }
         SameDifference::Signature(difference) => {
-            let topic = topic_of(other, ": signature: ");
-            push_signatures(
-                bytes,
-                topic,
-                first,
-                &row.signature,
-                &other.signature,
-                difference,
-            )
+            push_text(bytes, "signature: ")?;
+            push_signatures(bytes, first, &row.signature, &other.signature, difference)
         }
-        SameDifference::Absent => push_said(bytes, topic_of(other, ": "), "it was not run"),
+        SameDifference::Absent => push_text(bytes, "it was not run"),
     }
 }
 
-// What is compared with the row of another job.
-fn topic_of<'a>(other: &'a Row, behind: &'a str) -> Topic<'a>
-    ensures { topic_text result ≡ codes "the same as " ++ (shown other.now.name ++ behind.now) }
-{
-    Topic {
-        before: "the same as ",
-        name: other.name.as_str().as_bytes(),
-        behind,
-    }
-}
-
-// That two runs ended in other ways.
-fn push_endings(bytes: &mut Vec<u8>, row: &Row, other: &Row) -> Result<(), AllocError>
-    ensures { OnOk result (bytes.new.items ≡ bytes.old.items
-        ++ (codes "the same as " ++ shown other.now.name ++ codes ": "
-        ++ (codes "it ended with " ++ ended_text other.now.ending ++ codes ", this with "
-        ++ ended_text row.now.ending))) }
-{
-    let (wanted_kind, wanted) = ended(other.ending);
-    let (met_kind, met) = ended(row.ending);
-    push_spans(
-        bytes,
-        &[
-            Span::Text("the same as "),
-            Span::Shown(other.name.as_str().as_bytes()),
-            Span::Text(": it ended with "),
-            wanted_kind,
-            wanted,
-            Span::Text(", this with "),
-            met_kind,
-            met,
-        ],
-    )
-}
-
-// How a run ended: in which way, and with what.
+// How a run ended, behind a text: in which way, and with what.
 #[tactic(auto, unfolding(crate::specs::UnmetLines::ended_text))]
-fn ended(ending: RowEnd) -> (Span<'static>, Span<'static>)
-    ensures { span_text result.0 ++ span_text result.1 ≡ ended_text ending }
+fn push_ended(bytes: &mut Vec<u8>, before: &'static str, ending: RowEnd) -> Result<(), AllocError>
+    ensures { OnOk result (bytes.new.items ≡ bytes.old.items ++ (before.now ++ ended_text ending)) }
 {
+    let before = Span::Text(before);
     match ending {
-        RowEnd::Exit(code) => (Span::Text("exit "), Span::Number(u64::from(code))),
-        RowEnd::Fault(kind, _, _) => (Span::Text("fault "), Span::Text(kind.name())),
-        RowEnd::Budget => (Span::Text("its budget used up"), Span::Text("")),
-        RowEnd::Refused(why) => (Span::Text("the refusal "), Span::Text(why.name())),
+        RowEnd::Exit(code) => {
+            let code = Span::Number(code as u64);
+            push_spans(bytes, &[before, Span::Text("exit "), code])
+        }
+        RowEnd::Fault(kind, _, _) => {
+            let kind = Span::Text(kind.name());
+            push_spans(bytes, &[before, Span::Text("fault "), kind])
+        }
+        RowEnd::Budget => push_spans(bytes, &[before, Span::Text("its budget used up")]),
+        RowEnd::Refused(why) => {
+            let why = Span::Text(why.name());
+            push_spans(bytes, &[before, Span::Text("the refusal "), why])
+        }
     }
 }

@@ -1,9 +1,10 @@
-use Rattle.std.proofs.Common.{◌∙◌, ◌++◌, ◌==◌, ℕ, ap, append-nil, append_assoc, arith, cond, length}
+use Rattle.std.proofs.Common.{◌≡◌, ◌∙◌, ◌++◌, ◌==◌, ℕ, ap, append-nil, append_assoc, arith, cond, length}
 use Rattle.std.proofs.Common.{refl, sym}
 use Rattle.std.specs.Fmt.{decimal}
 use Rattle.std.specs.Prelude.{codes, not}
+use Rattle.rv_explain.specs.Ways.{ways}
 use Rattle.rv_lines.specs.LastLine.{failed_count, failures_below, opened, way_name}
-use Rattle.rv_lines.proofs.Counts.{failures_below-none, failures_below-some, is_begun, opened-more}
+use Rattle.rv_lines.proofs.Counts.{bracket-closed, bracket-none, failures_below-none, failures_below-some, is_begun, opened-more}
 use Rattle.rv_lines.proofs.ways.push_bracket.Goals as goal
 use Rattle.rv_lines.proofs.ways.push_bracket.Goals.{else-count-gt0, then-count-gt0+in_ok-push_failures}
 
@@ -41,3 +42,14 @@ loop-way-preserved c =
                 ∙ ap (λ xs. c.args.bytes.now.items ++ opened xs) (sym same));
           }
     ]
+
+pub returns-in_ok-extend_from_slice : goal.returns-in_ok-extend_from_slice
+returns-in_ok-extend_from_slice c =
+    let all : c.loop-way.way ≡ ways = omega arith in
+    rw (← all) (bracket-closed _ _ _ _ _ c.loop-way.invariant.begun c.if-is_open.true c.loop-way.invariant.text
+    c.in_ok-extend_from_slice.ensures.items)
+
+pub returns-else-is_open : goal.returns-else-is_open
+returns-else-is_open c =
+    let all : c.loop-way.way ≡ ways = omega arith in
+    rw (← all) (bracket-none _ _ _ _ c.loop-way.invariant.begun c.if-is_open.false c.loop-way.invariant.text)

@@ -1,7 +1,12 @@
-use Rattle.std.proofs.Common.{append_assoc, append-nil}
+use Rattle.std.proofs.Common.{codes}
+use Rattle.std.specs.Fmt.{decimal}
+use Rattle.rv_lines.proofs.Public.{told}
 use Rattle.rv_telling.specs.UnmetLines.{count_text}
+use Rattle.rv_telling.proofs.Told.{five_told}
 use Rattle.rv_telling.proofs.difference_text.push_count.Goals as goal
 
 pub returns : goal.returns
 unfolding count_text
-returns c = simp (append_assoc, append-nil) (simp (append_assoc, append-nil) at c.push_spans.ensures)
+returns c =
+    told _ _ _ _ _ (five_told (codes "it has ") (decimal c.args.met) c.args.what.now (codes ", expected ")
+    (decimal c.args.wanted)) c.push_spans.ensures

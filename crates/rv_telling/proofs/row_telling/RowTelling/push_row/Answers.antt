@@ -1,5 +1,6 @@
 use Rattle.std.proofs.Common.{◌≡◌, ◌∙◌, ap, true, false, sym}
 use Rattle.rv_explain.specs.Passing.{has_passed}
+use Rattle.rv_rows.specs.Verdict.{is_run}
 use Rattle.rv_telling.specs.Telling.{is_told, told_of_row}
 use Rattle.rv_telling.proofs.Chains.{ended}
 use Rattle.rv_telling.proofs.row_telling.RowTelling.push_row.Goals as goal
@@ -11,4 +12,5 @@ returns c =
     sym c.has_passed-passed.ensures ∙ c.if-passed.false in
     let told : is_told c.args.self.now.verbosity false ≡ true =
     ap (is_told c.args.self.now.verbosity) (sym c.if-passed.false) ∙ (sym c.is_told.ensures ∙ c.if-not-is_told.false) in
-    rw (failed, told) (ended _ _ _ _ _ _ c.in_ok-push_line.ensures c.push_behind.ensures)
+    let runs : is_run c.args.row.now.ending ≡ true = sym c.is_run.ensures ∙ c.if-not-is_run.false in
+    rw (failed, told, runs) (ended _ _ _ _ _ _ c.in_ok-push_line.ensures c.push_run.ensures)

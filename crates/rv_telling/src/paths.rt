@@ -1,0 +1,26 @@
+//! The paths of the files that a job's run is compared with.
+
+ghost use Rattle.std.specs.Prelude.{◌≡◌, option_map};
+ghost use Rattle.rv_lists.specs.Jobs.{console_path};
+
+use rv_jobs::Job;
+
+/// The path of the reference that a job expects.
+pub(crate) fn reference_path(job: &Job) -> Option<&str>
+    ensures { option_map (λ path. path.now) result ≡ job.now.expect_signature }
+{
+    match &job.expect_signature {
+        Some(path) => Some(path.as_str()),
+        None => None,
+    }
+}
+
+/// The path of the console that a job expects, where that stands in a file.
+pub(crate) fn console_path(job: &Job) -> Option<&str>
+    ensures { option_map (λ path. path.now) result ≡ console_path job.now.expect_console }
+{
+    match &job.expect_console {
+        Some(expected) => expected.path(),
+        None => None,
+    }
+}
