@@ -18,8 +18,9 @@ pub(crate) enum Owner {
 /// The first key of a table that its owner does not have.
 pub(crate) fn unknown_key(table: &Table, owner: Owner) -> Option<&str> {
     for key in table.keys() {
-        if !is_known(key.as_str(), owner) {
-            return Some(key.as_str());
+        let key = key.as_str();
+        if !is_known(key, owner) {
+            return Some(key);
         }
     }
     None

@@ -1,2 +1,1 @@
-mod OneMore
 mod Reading

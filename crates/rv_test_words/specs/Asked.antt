@@ -1,5 +1,7 @@
 -- What the program's own value of what is asked for stands for.
-use Rattle.std.specs.Prelude.{◌≤◌, IfSome, Option, map, option_map}
+use Rattle.std.specs.Prelude.{◌≡◌, ◌≤◌, IfOk, IfSome, Option, Result, map, option_map}
+use Rattle.clap.specs.Words.{FailsBy, Kinds}
+use Rattle.clap.specs.declared.error.Error.{Error}
 use Rattle.rv_test_words.specs.declared.asked.Asked.{Asked}
 use Rattle.rv_test_words.specs.declared.asked.Asked.TheVariants as asked
 use Rattle.rv_test_words.specs.declared.asked.RunAsked.{RunAsked}
@@ -64,3 +66,11 @@ AreWithin (asked.Run value) = IfSome value.workers (λ number. (1 ≤ number) ×
     × (1 ≤ value.group) × (value.group ≤ 4096) × IfSome value.last (λ number. number ≤ most_last)
 AreWithin (asked.Explain value) = value.last ≤ most_last
 AreWithin _ = Unit {0}
+
+-- what is asked for is what these words are, with numbers in their ranges
+abbrev pub AsksFor : Option Words → Option Asked → Type 0
+AsksFor words asked = (option_map words_asked asked ≡ words) × IfSome asked AreWithin
+
+-- and else an error is of one of these kinds, or of want of memory
+abbrev pub Reads : Option Words → Kinds → Result (Option Asked) Error → Type 0
+Reads words kinds result = IfOk result (AsksFor words) × FailsBy kinds result

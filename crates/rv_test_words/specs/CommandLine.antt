@@ -1,30 +1,25 @@
 -- The command line of rvtest: the rules that `clap` reads words by.
-use Rattle.std.specs.Prelude.{ℕ, true, List, [], ◌∷◌, Some, codes, pos}
+use Rattle.std.specs.Prelude.{ℕ, ℤ, true, List, [], ◌∷◌, Some, codes, fold, map, pos}
+use Rattle.std.specs.Borrow.{Bor}
 use Rattle.clap.specs.Words.{App, Rule, Text, new_app, new_rule, with_rule, with_subcommand}
 use Rattle.clap.specs.declared.builder.action.ArgAction.TheVariants.{Append, SetTrue}
 use Rattle.clap.specs.declared.builder.value_parser.ValueParser.TheVariants as value_parser
 use Rattle.rv_test_words.specs.declared.arguments.Argument.{Argument}
 use Rattle.rv_test_words.specs.declared.arguments.Argument.TheVariants as argument
+use Rattle.rv_test_words.specs.declared.command.Subcommand.{Subcommand}
 use Rattle.rv_words.specs.Building.{option_rule, word_rule}
 use Rattle.rv_words.specs.CommandLine.{group_rule}
 
--- one or more such words: <PART>..
-abbrev pub parts_rule : Rule
-parts_rule = record (word_rule (codes "part")) { action = Some Append }
+-- the same argument, of which each use adds a value
+abbrev pub again_rule : Rule → Rule
+again_rule rule = record rule { action = Some Append }
 
--- an option with one value, that may come again for more
-abbrev pub again_rule : Text → Rule
-again_rule name = record (option_rule name) { action = Some Append }
-
--- an option with a number from one to another
-abbrev pub range_rule : Text → ℕ → ℕ → Rule
-range_rule name least most = record (option_rule name) {
-  parser = Some (value_parser.Signed (pos least) (pos most));
+-- an option with a number from one to another, and what it has where it is not given
+abbrev pub number_rule : Text → ℤ → ℤ → List (Bor Text) → Rule
+number_rule name least most usual = record (option_rule name) {
+  parser = Some (value_parser.Signed least most);
+  defaults = map (λ text. text.now) usual;
 }
-
--- an option with a number from 1 on, up to another
-abbrev pub number_rule : Text → ℕ → Rule
-number_rule name most = range_rule name 1 most
 
 -- an option without a value
 abbrev pub flag_rule : Text → Rule
@@ -34,32 +29,58 @@ flag_rule name = record (new_rule name) { long = Some name; action = Some SetTru
 abbrev pub most_last : ℕ
 most_last = 100000
 
-abbrev pub last_rule : Rule
-last_rule = range_rule (codes "last") 0 most_last
-
-abbrev pub shown_rule : Rule
-shown_rule = record last_rule { defaults = codes "16" ∷ [] }
-
 -- the rule of an argument
 abbrev pub rule_for : Argument → Rule
 rule_for (argument.Word name value help) = word_rule name.now
+rule_for (argument.Words name value help) = again_rule (word_rule name.now)
 rule_for (argument.Option name value help) = option_rule name.now
-rule_for (argument.Again name value help) = again_rule name.now
+rule_for (argument.Again name value help) = again_rule (option_rule name.now)
 rule_for (argument.Flag name help) = flag_rule name.now
-rule_for argument.Parts = parts_rule
-rule_for argument.Workers = number_rule (codes "workers") 64
+rule_for (argument.Number name help least most usual) =
+    number_rule name.now least most usual.now
 rule_for argument.Group = group_rule
-rule_for argument.Last = last_rule
-rule_for argument.Shown = shown_rule
 
--- a command with these arguments more
-abbrev pub with_rules : App → List Argument → App
-with_rules app [] = app
-with_rules app (next ∷ more) = with_rules (with_rule app (rule_for next)) more
+-- <PART>..
+abbrev pub parts_rule : Rule
+parts_rule = again_rule (word_rule (codes "part"))
+
+-- --only <NAME>, which may come again
+abbrev pub only_rule : Rule
+only_rule = again_rule (option_rule (codes "only"))
+
+-- --workers <N>
+abbrev pub workers_rule : Rule
+workers_rule = number_rule (codes "workers") (pos 1) (pos 64) []
+
+-- --last <N>
+abbrev pub last_rule : Rule
+last_rule = number_rule (codes "last") (pos 0) (pos most_last) []
+
+-- the same, and 16 where it is not given
+abbrev pub shown_rule : Rule
+shown_rule = record last_rule { defaults = codes "16" ∷ [] }
+
+-- a command with an argument more, and with several in their order
+abbrev pub with_argument : App → Argument → App
+with_argument app argument = with_rule app (rule_for argument)
+
+abbrev pub with_arguments : App → List Argument → App
+with_arguments = fold with_argument
+
+-- a command as the table states it
+abbrev pub app_stated : Subcommand → App
+app_stated stated = with_arguments (new_app stated.name.now) stated.arguments.now
+
+-- a command with one of the table below it, and with several in their order
+abbrev pub with_stated : App → Subcommand → App
+with_stated app stated = with_subcommand app (app_stated stated).top
+
+abbrev pub with_commands : App → List Subcommand → App
+with_commands = fold with_stated
 
 -- [--only <NAME>].. [--match <REGEX>] [--failed <REPORT>]
 abbrev pub with_choice : App → App
-with_choice app = with_rule (with_rule (with_rule app (again_rule (codes "only")))
+with_choice app = with_rule (with_rule (with_rule app only_rule)
     (option_rule (codes "match"))) (option_rule (codes "failed"))
 
 -- [--shard <K/N>] [--stamp <TEXT>]
@@ -69,7 +90,7 @@ with_shard app = with_rule (with_rule app (option_rule (codes "shard")))
 
 -- [--workers <N>] [--group <N>] [--root <DIR>]
 abbrev pub with_machine : App → App
-with_machine app = with_rule (with_rule (with_rule app (number_rule (codes "workers") 64))
+with_machine app = with_rule (with_rule (with_rule app workers_rule)
     group_rule) (option_rule (codes "root"))
 
 -- [--report <FILE>] [--junit <FILE>] [--lenient]

@@ -135,9 +135,13 @@ words_in name rows = if bytes_eq name (codes "run") then run_in rows
     else if bytes_eq name (codes "show") then show_in rows
     else None
 
+-- what a subcommand that was met asks for, with its values
+abbrev pub words_found : Option (Text × List Row) → Option Words
+words_found = option_and_then (λ found. words_in found.0 found.1)
+
 -- what words ask for: the subcommand and the values are the matches that `clap` defines for them
 abbrev pub asked_of : List Text → Option Words
-asked_of words = option_and_then (λ found. words_in found.0 found.1) (subcommand_of test_app words)
+asked_of words = words_found (subcommand_of test_app words)
 
 -- ---- what is wrong with words
 
@@ -181,7 +185,10 @@ faults_in name rows = if bytes_eq name (codes "run") then kinds_of (misuse_in ro
     else if bytes_eq name (codes "merge") then kinds_of (one_file rows)
     else []
 
+-- those of the subcommand that was met
+abbrev pub faults_found : Option (Text × List Row) → Kinds
+faults_found found = option_map_or (λ met. faults_in met.0 met.1) found []
+
 -- the faults of words: those that `clap` finds, else options that do not go together
 abbrev pub faults_of : List Text → Kinds
-faults_of words = or_else (fault_of test_app words)
-    (option_map_or (λ found. faults_in found.0 found.1) (subcommand_of test_app words) [])
+faults_of words = or_else (fault_of test_app words) (faults_found (subcommand_of test_app words))

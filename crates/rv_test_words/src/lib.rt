@@ -9,6 +9,7 @@ mod asked;
 mod command;
 mod read;
 mod refusals;
+mod table;
 
 pub use asked::{Asked, CheckAsked, DiffAsked, ExplainAsked, MergeAsked, RunAsked, ShowAsked};
 pub use command::{merge_command, run_command};

@@ -1,13 +1,14 @@
 //! From words to what they ask for.
 
-ghost use Rattle.std.specs.Prelude.{◌≡◌, ◌≤◌, IfOk, IfSome, Some, map, option_map};
-ghost use Rattle.clap.specs.Words.{FailsBy, found_of, rows_of};
-ghost use Rattle.rv_test_words.specs.CommandLine.{most_last};
-ghost use Rattle.rv_test_words.specs.Asked.{AreWithin, merge_asked, run_asked, words_asked};
+ghost use Rattle.std.specs.Prelude.{◌≡◌, [], IfOk, IfSome, Some, map, option_map};
+ghost use Rattle.clap.specs.Words.{FailsBy, found_of, rows_of, subcommand_rows_of};
+ghost use Rattle.rv_test_words.specs.Asked.{AreWithin, AsksFor, Reads, run_asked};
+ghost use Rattle.rv_test_words.specs.Asked.{words_asked};
 ghost use Rattle.rv_test_words.specs.Words.{all_in, asked_of, check_in, diff_in, explain_in};
-ghost use Rattle.rv_test_words.specs.Words.{faults_in, faults_of, flag_in, is_choice, is_given};
-ghost use Rattle.rv_test_words.specs.Words.{is_report, kinds_of, merge, merge_in, misuse_in};
-ghost use Rattle.rv_test_words.specs.Words.{one_file, run_in, run_words, show_in, words_in};
+ghost use Rattle.rv_test_words.specs.Words.{faults_found, faults_in, faults_of, flag_in};
+ghost use Rattle.rv_test_words.specs.Words.{is_choice, is_given, is_report, kinds_of};
+ghost use Rattle.rv_test_words.specs.Words.{merge_in, misuse_in, one_file, run_in, run_words};
+ghost use Rattle.rv_test_words.specs.Words.{show_in, words_found, words_in};
 
 use crate::asked::{Asked, CheckAsked, DiffAsked, ExplainAsked, MergeAsked, RunAsked, ShowAsked};
 use crate::command::{merge_command, run_command, test_command};
@@ -30,6 +31,13 @@ pub fn read_words<'a, T: AsStr>(alloc: Global, words: &'a [T]) -> Result<Option<
 {
     let command = test_command(alloc)?;
     let matches = command.try_get_matches_from(words)?;
+    asked_in(alloc, &matches)
+}
+
+fn asked_in<'a>(alloc: Global, matches: &ArgMatches<'a>) -> Result<Option<Asked<'a>>, Error>
+    ensures { Reads (words_found (subcommand_rows_of matches.now))
+        (faults_found (subcommand_rows_of matches.now)) result }
+{
     match matches.subcommand() {
         Some((name, values)) => subcommand_asked(alloc, name, values),
         None => Ok(None),
@@ -41,10 +49,8 @@ fn subcommand_asked<'a>(
     name: &str,
     values: &ArgMatches<'a>,
 ) -> Result<Option<Asked<'a>>, Error>
-    ensures value { IfOk result (λ asked.
-        option_map words_asked asked ≡ words_in name.now (rows_of (found_of values.now))) }
-    ensures within { IfOk result (λ asked. IfSome asked AreWithin) }
-    ensures kinds { FailsBy (faults_in name.now (rows_of (found_of values.now))) result }
+    ensures { Reads (words_in name.now (rows_of (found_of values.now)))
+        (faults_in name.now (rows_of (found_of values.now))) result }
 {
     match name {
         "run" => run_asked(alloc, values),
@@ -58,21 +64,42 @@ fn subcommand_asked<'a>(
 }
 
 fn run_asked<'a>(alloc: Global, values: &ArgMatches<'a>) -> Result<Option<Asked<'a>>, Error>
-    ensures value { IfOk result (λ asked.
-        option_map words_asked asked ≡ run_in (rows_of (found_of values.now))) }
-    ensures within { IfOk result (λ asked. IfSome asked AreWithin) }
-    ensures kinds { FailsBy (kinds_of (misuse_in (rows_of (found_of values.now)))) result }
+    ensures { Reads (run_in (rows_of (found_of values.now)))
+        (kinds_of (misuse_in (rows_of (found_of values.now)))) result }
 {
-    if let Some(misuse) = misuse_of_run(values) {
-        return Err(misuse.error(run_command(alloc)));
+    match misuse_of_run(values) {
+        Some(misuse) => Err(misuse.error(run_command(alloc))),
+        None => run_read(alloc, values),
     }
+}
+
+#[tactic(auto, unfolding(crate::specs::Words::run_words))]
+fn run_read<'a>(alloc: Global, values: &ArgMatches<'a>) -> Result<Option<Asked<'a>>, Error>
+    ensures { Reads (run_in (rows_of (found_of values.now))) [] result }
+{
     let Some(list) = text(values, "list") else {
         return Ok(None);
     };
     let Some(group) = number(values, "group", 1, 4_096) else {
         return Ok(None);
     };
-    Ok(Some(Asked::Run(run_values(alloc, list, group, values)?)))
+    Ok(Some(Asked::Run(RunAsked {
+        list,
+        pattern: text(values, "match"),
+        failed: text(values, "failed"),
+        shard: text(values, "shard"),
+        stamp: text(values, "stamp"),
+        workers: number(values, "workers", 1, 64),
+        group,
+        root: text(values, "root"),
+        report: text(values, "report"),
+        junit: text(values, "junit"),
+        lenient: flag(values, "lenient"),
+        verbose: flag(values, "verbose"),
+        quiet: flag(values, "quiet"),
+        last: number(values, "last", 0, 100_000),
+        only: all(alloc, values, "only")?,
+    })))
 }
 
 // The first rule that the options of `run` break.
@@ -120,42 +147,8 @@ fn is_given(values: &ArgMatches<'_>, id: &str) -> bool
     text(values, id).is_some()
 }
 
-#[tactic(auto, unfolding(crate::specs::Words::run_words))]
-fn run_values<'a>(
-    alloc: Global,
-    list: &'a str,
-    group: u32,
-    values: &ArgMatches<'a>,
-) -> Result<RunAsked<'a>, AllocError>
-    ensures value { IfOk result (λ asked. run_asked asked
-        ≡ run_words list.entry.now group (rows_of (found_of values.now))) }
-    ensures workers { IfOk result (λ asked.
-        IfSome asked.workers (λ number. (1 ≤ number) × (number ≤ 64))) }
-    ensures group { IfOk result (λ asked. asked.group ≡ group) }
-    ensures last { IfOk result (λ asked. IfSome asked.last (λ number. number ≤ most_last)) }
-{
-    Ok(RunAsked {
-        list,
-        only: all(alloc, values, "only")?,
-        pattern: text(values, "match"),
-        failed: text(values, "failed"),
-        shard: text(values, "shard"),
-        stamp: text(values, "stamp"),
-        workers: number(values, "workers", 1, 64),
-        group,
-        root: text(values, "root"),
-        report: text(values, "report"),
-        junit: text(values, "junit"),
-        lenient: flag(values, "lenient"),
-        verbose: flag(values, "verbose"),
-        quiet: flag(values, "quiet"),
-        last: number(values, "last", 0, 100_000),
-    })
-}
-
 fn explain_asked<'a>(values: &ArgMatches<'a>) -> Option<Asked<'a>>
-    ensures value { option_map words_asked result ≡ explain_in (rows_of (found_of values.now)) }
-    ensures within { IfSome result AreWithin }
+    ensures { AsksFor (explain_in (rows_of (found_of values.now))) result }
 {
     let list = text(values, "list")?;
     let name = text(values, "name")?;
@@ -170,8 +163,7 @@ fn explain_asked<'a>(values: &ArgMatches<'a>) -> Option<Asked<'a>>
 }
 
 fn check_asked<'a>(values: &ArgMatches<'a>) -> Option<Asked<'a>>
-    ensures value { option_map words_asked result ≡ check_in (rows_of (found_of values.now)) }
-    ensures within { IfSome result AreWithin }
+    ensures { AsksFor (check_in (rows_of (found_of values.now))) result }
 {
     let list = text(values, "list")?;
     let root = text(values, "root");
@@ -179,32 +171,32 @@ fn check_asked<'a>(values: &ArgMatches<'a>) -> Option<Asked<'a>>
 }
 
 fn merge_asked<'a>(alloc: Global, values: &ArgMatches<'a>) -> Result<Option<Asked<'a>>, Error>
-    ensures value { IfOk result (λ asked.
-        option_map words_asked asked ≡ Some (merge_in (rows_of (found_of values.now)))) }
-    ensures within { IfOk result (λ asked. IfSome asked AreWithin) }
-    ensures kinds { FailsBy (kinds_of (one_file (rows_of (found_of values.now)))) result }
+    ensures { Reads (Some (merge_in (rows_of (found_of values.now))))
+        (kinds_of (one_file (rows_of (found_of values.now)))) result }
 {
-    if let Some(misuse) = one_file(values) {
-        return Err(misuse.error(merge_command(alloc)));
+    match one_file(values) {
+        Some(misuse) => Err(misuse.error(merge_command(alloc))),
+        None => merge_read(alloc, values),
     }
-    Ok(Some(Asked::Merge(merge_values(alloc, values)?)))
 }
 
-fn merge_values<'a>(alloc: Global, values: &ArgMatches<'a>) -> Result<MergeAsked<'a>, AllocError>
-    ensures { IfOk result
-        (λ asked. merge (merge_asked asked) ≡ merge_in (rows_of (found_of values.now))) }
+fn merge_read<'a>(alloc: Global, values: &ArgMatches<'a>) -> Result<Option<Asked<'a>>, Error>
+    ensures { Reads (Some (merge_in (rows_of (found_of values.now)))) [] result }
 {
-    Ok(MergeAsked {
-        parts: all(alloc, values, "part")?,
-        report: text(values, "report"),
-        junit: text(values, "junit"),
-        lenient: flag(values, "lenient"),
-    })
+    let report = text(values, "report");
+    let junit = text(values, "junit");
+    let lenient = flag(values, "lenient");
+    let parts = all(alloc, values, "part")?;
+    Ok(Some(Asked::Merge(MergeAsked {
+        parts,
+        report,
+        junit,
+        lenient,
+    })))
 }
 
 fn diff_asked<'a>(values: &ArgMatches<'a>) -> Option<Asked<'a>>
-    ensures value { option_map words_asked result ≡ diff_in (rows_of (found_of values.now)) }
-    ensures within { IfSome result AreWithin }
+    ensures { AsksFor (diff_in (rows_of (found_of values.now))) result }
 {
     let old = text(values, "old")?;
     let new = text(values, "new")?;
@@ -213,8 +205,7 @@ fn diff_asked<'a>(values: &ArgMatches<'a>) -> Option<Asked<'a>>
 }
 
 fn show_asked<'a>(values: &ArgMatches<'a>) -> Option<Asked<'a>>
-    ensures value { option_map words_asked result ≡ show_in (rows_of (found_of values.now)) }
-    ensures within { IfSome result AreWithin }
+    ensures { AsksFor (show_in (rows_of (found_of values.now))) result }
 {
     let report = text(values, "report")?;
     let junit = text(values, "junit");

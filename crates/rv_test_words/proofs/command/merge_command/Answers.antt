@@ -1,4 +1,4 @@
 use Rattle.rv_test_words.proofs.command.merge_command.Goals as goal
 
 pub returns : goal.returns
-returns c = c.with_arguments.ensures _ c.named.ensures
+returns c = c.built.ensures

@@ -2,4 +2,4 @@ use Rattle.rv_words.proofs.Public.{its_app}
 use Rattle.rv_test_words.proofs.command.test_command.Goals as goal
 
 pub returns : goal.returns
-returns c = c.with_reports.ensures _ (c.with_runs.ensures _ (its_app _ _ c.top_command.ensures))
+returns c = c.with_commands.ensures _ (its_app _ _ c.top_command.ensures)

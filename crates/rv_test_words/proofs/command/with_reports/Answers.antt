@@ -1,8 +1,0 @@
-use Rattle.rv_test_words.proofs.command.with_reports.Goals as goal
-
-pub returns : goal.returns
-returns c =
-    λ app has.
-    let first = c.with_command-command.ensures _ _ has c.merge_command.ensures in
-    let second = c.with_command-command-2.ensures _ _ first c.diff_command.ensures in
-    c.with_command.ensures _ _ second c.show_command.ensures
