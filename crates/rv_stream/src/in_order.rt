@@ -97,8 +97,8 @@ impl<J: Streamed, W: Sink + Drop> InOrder<J, W> {
                     false
                 }
             },
-            Err(AllocError) => {
-                self.failed = Some(StreamError::OutOfMemory);
+            Err(error) => {
+                self.failed = Some(StreamError::from(error));
                 false
             }
         }

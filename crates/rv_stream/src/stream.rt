@@ -14,7 +14,7 @@ use crate::in_order::{InOrder, Streamed, empty_texts};
 use crate::telling::{Telling, text_of};
 use rv_fleet::{Gate, PlacesError, Row, Rows, Sink, put_all, run_places};
 use rv_jobs::Plan;
-use std::alloc::{AllocError, Global};
+use std::alloc::Global;
 use std::marker::Brand;
 use std::sync::{Mutex, Wait};
 use std::thread::Threads;
@@ -53,8 +53,8 @@ impl<'a, J: Streamed + Send, R: Wait + Sync, T: Telling + Sync, W: Sink + Drop +
         let mut texts = self.texts.lock(self.rt);
         match text {
             Ok(text) => texts.put(piece, text),
-            Err(AllocError) => {
-                texts.give_up(StreamError::OutOfMemory);
+            Err(error) => {
+                texts.give_up(StreamError::from(error));
                 false
             }
         }
@@ -169,7 +169,7 @@ fn run_in_order<
 {
     let early = match empty_texts(alloc, places.len().div_ceil(group as usize)) {
         Ok(early) => early,
-        Err(AllocError) => return (out, Err(StreamError::OutOfMemory)),
+        Err(error) => return (out, Err(StreamError::from(error))),
     };
     let stream: Stream<'_, J, R, T, W> = Stream {
         rt,
