@@ -1,11 +1,11 @@
 -- The jobs of a list that a person chooses.
-use Rattle.std.specs.Prelude.{◌≡◌, ℕ, Bool, List, [], ◌∷◌, Option, Some, None, is_some, map}
+use Rattle.std.specs.Prelude.{◌≡◌, ℕ, Bool, IfSome, List, [], ◌∷◌, Option, Some, None, is_some, map}
 use Rattle.std.specs.Prelude.{option_map}
 use Rattle.std.specs.Borrow.{Bor}
 use Rattle.std.specs.List.{list_any}
 use Rattle.std.specs.Str.{bytes_eq}
-use Rattle.regex.specs.Patterns.{Re, find_str}
-use Rattle.regex.specs.Strings.{regex_pattern, regex_source}
+use Rattle.regex.specs.Patterns.{Re, default_config, find_str}
+use Rattle.regex.specs.Strings.{IsReadFromSource, regex_config, regex_pattern, regex_source}
 use Rattle.regex.specs.declared.string.regex.Regex.{Regex}
 use Rattle.rv_explain.specs.declared.passing.Rule.{Rule}
 use Rattle.rv_lists.specs.declared.job.Job.{Job}
@@ -50,6 +50,10 @@ texts_of names = option_map (λ names. names_of names.now) names
 abbrev pub pattern_of : Option (Bor Regex) → Option Re
 pattern_of pattern = option_map (λ regex. regex_pattern regex.now) pattern
 
+-- a pattern is what its text reads as, under the default options
+abbrev pub IsReadByDefault : Regex → Type 0
+IsReadByDefault regex = (regex_config regex ≡ default_config) × IsReadFromSource regex
+
 -- exact names are asked where there are any
 abbrev pub names_asked : List (Bor (List ℕ)) → Option Names
 names_asked [] = None
@@ -64,11 +68,13 @@ pub record AreChosenBy (pattern : Option Re) (words : RunAsked) (rule : Rule) (j
   pub chosen : marks ≡ marks_for (names_asked words.only.items) pattern
       (option_map (failed_in rule) rows) jobs
 
--- the marks of the jobs that words choose, with the pattern of their text where they have one
+-- the marks of the jobs that words choose, with the pattern that their text is read as where they have
+-- one
 pub record AreChosen (words : RunAsked) (rule : Rule) (jobs : List Job)
     (marks : List Bool) : Type 0 where
   pub pattern : Option Regex
   pub source : option_map regex_source pattern ≡ text_of words.pattern
+  pub read : IfSome pattern IsReadByDefault
   pub by : AreChosenBy (option_map regex_pattern pattern) words rule jobs marks
 
 -- a job has the name

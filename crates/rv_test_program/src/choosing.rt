@@ -1,8 +1,8 @@
 //! The jobs that words choose.
 
-ghost use Rattle.std.specs.Prelude.{◌≡◌, IfOk, Some, option_map};
+ghost use Rattle.std.specs.Prelude.{◌≡◌, IfOk, IfSome, Some, option_map};
 ghost use Rattle.regex.specs.Strings.{regex_source};
-ghost use Rattle.rv_test_program.specs.Choice.{AreChosen, AreChosenBy, marks_for, names_asked};
+ghost use Rattle.rv_test_program.specs.Choice.{AreChosen, AreChosenBy, IsReadByDefault, marks_for, names_asked};
 ghost use Rattle.rv_test_program.specs.Choice.{names_of, pattern_of, texts_of};
 ghost use Rattle.rv_test_program.specs.Commands.{failed_in};
 ghost use Rattle.rv_test_words.specs.Asked.{text_of};
@@ -44,8 +44,9 @@ impl<'x, R: Files, S: Streams> ListRun<'x, R, S> {
 
     // The pattern that jobs' names are asked for, which is found in the name of some job.
     fn pattern_asked(&self, jobs: &[Job]) -> Result<Option<Regex>, Stop>
-        ensures { IfOk result (λ pattern.
+        ensures source { IfOk result (λ pattern.
             option_map regex_source pattern ≡ text_of self.now.asked.now.pattern) }
+        ensures read { IfOk result (λ pattern. IfSome pattern IsReadByDefault) }
     {
         let Some(text) = self.asked.pattern else {
             return Ok(None);
@@ -181,7 +182,8 @@ fn told_of_unknown<'a>(
 }
 
 fn pattern_of(alloc: Global, text: &str) -> Result<Regex, Stop>
-    ensures { IfOk result (λ pattern. regex_source pattern ≡ text.now) }
+    ensures source { IfOk result (λ pattern. regex_source pattern ≡ text.now) }
+    ensures read { IfOk result IsReadByDefault }
 {
     match Regex::new(alloc, text) {
         Ok(pattern) => Ok(pattern),

@@ -76,22 +76,6 @@ impl<'x, R: Threads + Wait + Sync + Files + Clock, S: Streams> ListRun<'x, R, S>
         self.run_marked(jobs, marks.as_slice(), shard)
     }
 
-    // A mark for each job of the shard, or for each that is asked for.
-    fn marks(&self, shard: &Option<Shard>, jobs: &[Job]) -> Result<Vec<bool>, Stop>
-        requires { IfSome shard.now (λ s. (0 < s.number) × (s.number ≤ s.shards)) }
-        ensures marks { IfOk result (λ marks.
-            AreAsked shard.now self.now.asked.now self.now.rule jobs.now marks.items) }
-        ensures counted { IfOk result (λ marks. length marks.items ≡ length jobs.now) }
-    {
-        let Some(shard) = shard else {
-            return self.marks_asked(jobs);
-        };
-        match shard_marks(self.alloc, jobs.len(), shard.number, shard.shards) {
-            Ok(marks) => Ok(marks),
-            Err(error) => Err(Stop::from(error)),
-        }
-    }
-
     // Runs the jobs that are marked, once the files that they need are read.
     fn run_marked(&self, jobs: JobList, marks: &[bool], shard: Option<Shard>) -> Result<u8, Stop>
         requires { length marks.now ≡ length jobs }
@@ -130,40 +114,9 @@ impl<'x, R: Threads + Wait + Sync + Files + Clock, S: Streams> ListRun<'x, R, S>
             Err(stop) => Err(outputs.abandoned(stop)),
         }
     }
+}
 
-    // Writes the two files of the rows of the jobs at some places; without the first the second is not there either.
-    fn write(
-        &self,
-        outputs: Outputs<'_, R>,
-        telling: &RowTelling<'_>,
-        places: &[usize],
-        shard: Option<Shard>,
-        rows: Rows,
-    ) -> Result<u8, Stop>
-        requires within { AreWithin telling.now.plan.now places.now }
-        requires rising { IsStrictlyIncreasing places.now }
-        requires counted { length rows ≡ length places.now }
-        ensures { IfOk result (λ status. status ≡ status_of telling.now.rule rows) }
-    {
-        let (alloc, streams) = (self.alloc, self.streams);
-        let Outputs { report, junit } = outputs;
-        let class = class_of(self.asked.list).as_bytes();
-        let told = RowTelling {
-            verbosity: Verbosity::Failures,
-            ..*telling
-        };
-        let items = rows.as_slice();
-        let status = status_of(told.rule, items);
-        if let Err(stop) = junit.write_junit(
-            alloc, streams, class, told.rule, &told, places, items,
-        ) {
-            return Err(report.abandoned(stop));
-        }
-        let jobs = telling.plan.jobs();
-        report.write(alloc, streams, jobs, places, shard, rows)?;
-        Ok(status)
-    }
-
+impl<'x, R: Threads + Wait + Sync + Clock, S: Streams> ListRun<'x, R, S> {
     // Runs the jobs at some places, and shows them: on standard error where the report goes to standard output.
     fn show(
         &self,
@@ -219,6 +172,57 @@ impl<'x, R: Threads + Wait + Sync + Files + Clock, S: Streams> ListRun<'x, R, S>
         sink.into_inner();
         progress.finish();
         Ok(ran?)
+    }
+}
+
+impl<'x, R: Files, S: Streams> ListRun<'x, R, S> {
+    // A mark for each job of the shard, or for each that is asked for.
+    fn marks(&self, shard: &Option<Shard>, jobs: &[Job]) -> Result<Vec<bool>, Stop>
+        requires { IfSome shard.now (λ s. (0 < s.number) × (s.number ≤ s.shards)) }
+        ensures marks { IfOk result (λ marks.
+            AreAsked shard.now self.now.asked.now self.now.rule jobs.now marks.items) }
+        ensures counted { IfOk result (λ marks. length marks.items ≡ length jobs.now) }
+    {
+        let Some(shard) = shard else {
+            return self.marks_asked(jobs);
+        };
+        match shard_marks(self.alloc, jobs.len(), shard.number, shard.shards) {
+            Ok(marks) => Ok(marks),
+            Err(error) => Err(Stop::from(error)),
+        }
+    }
+
+    // Writes the two files of the rows of the jobs at some places; without the first the second is not there either.
+    fn write(
+        &self,
+        outputs: Outputs<'_, R>,
+        telling: &RowTelling<'_>,
+        places: &[usize],
+        shard: Option<Shard>,
+        rows: Rows,
+    ) -> Result<u8, Stop>
+        requires within { AreWithin telling.now.plan.now places.now }
+        requires rising { IsStrictlyIncreasing places.now }
+        requires counted { length rows ≡ length places.now }
+        ensures { IfOk result (λ status. status ≡ status_of telling.now.rule rows) }
+    {
+        let (alloc, streams) = (self.alloc, self.streams);
+        let Outputs { report, junit } = outputs;
+        let class = class_of(self.asked.list).as_bytes();
+        let told = RowTelling {
+            verbosity: Verbosity::Failures,
+            ..*telling
+        };
+        let items = rows.as_slice();
+        let status = status_of(told.rule, items);
+        if let Err(stop) = junit.write_junit(
+            alloc, streams, class, told.rule, &told, places, items,
+        ) {
+            return Err(report.abandoned(stop));
+        }
+        let jobs = telling.plan.jobs();
+        report.write(alloc, streams, jobs, places, shard, rows)?;
+        Ok(status)
     }
 }
 
