@@ -1,5 +1,8 @@
 -- The status of a run of some jobs of a list.
-use Rattle.std.specs.Prelude.{◌≡◌, ℕ, Bool, List, Ok, Option, Some, None, is_some, length}
+use Rattle.std.specs.Prelude.{◌≡◌, ◌==◌, ℕ, Bool, IfSome, List, Ok, Option, Some, None, is_some, length}
+use Rattle.std.specs.Borrow.{Bor}
+use Rattle.std.specs.List.{after_first, before_first}
+use Rattle.std.specs.Str.Parse.{digits_value}
 use Rattle.rv_jobs.specs.Choices.{marked}
 use Rattle.rv_jobs.specs.Plans.{Planned, needed_for, paths_of, paths_used}
 use Rattle.rv_explain.specs.declared.passing.Rule.{Rule}
@@ -25,6 +28,19 @@ pub record IsStatusOf (rule : Rule) (jobs : List Job) (marks : List Bool)
   pub paths : paths_of plan.answers ≡ paths_used (needed_for jobs (places_of marks))
   pub judged : status ≡ status_of rule (rows_at plan (places_of marks))
 
+-- the numbers around the first slash of K/N
+abbrev pub number_before_slash : List ℕ → ℕ
+number_before_slash text = digits_value 10 (before_first (λ byte. byte == 47) text)
+
+abbrev pub number_behind_slash : List ℕ → ℕ
+number_behind_slash text = digits_value 10 (after_first (λ byte. byte == 47) text)
+
+-- the shard that a text asks for, where there is one
+abbrev pub IsShardOf : Option (Bor (List ℕ)) → Option Shard → Type 0
+IsShardOf text shard = (is_some shard ≡ is_some text)
+    × IfSome text (λ text. IfSome shard (λ shard. (shard.number ≡ number_before_slash text.now)
+    × (shard.shards ≡ number_behind_slash text.now)))
+
 -- the marks of the jobs that words ask for: of those of a shard, else of those that are chosen
 abbrev pub AreAsked : Option Shard → RunAsked → Rule → List Job → List Bool → Type 0
 AreAsked (Some shard) words rule jobs marks =
@@ -36,7 +52,7 @@ pub record IsRun (words : RunAsked) (rule : Rule) (text : List ℕ) (status : �
   pub jobs : List Job
   pub listed : job_list_of text ≡ Ok jobs
   pub shard : Option Shard
-  pub sharded : is_some shard ≡ is_some words.shard
+  pub sharded : IsShardOf words.shard shard
   pub marks : List Bool
   pub asked : AreAsked shard words rule jobs marks
   pub judged : IsStatusOf rule jobs marks status

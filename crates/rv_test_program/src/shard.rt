@@ -1,9 +1,11 @@
 //! The part of a list that words ask for, and its stamp.
 
-ghost use Rattle.std.specs.Prelude.{◌≡◌, ◌≤◌, ◌<◌, IfOk, IfSome, is_some, string_bytes, take};
+ghost use Rattle.std.specs.Prelude.{◌≡◌, ◌≤◌, ◌<◌, IfOk, IfSome, string_bytes, take};
+ghost use Rattle.std.specs.Str.Parse.{digits_value};
 ghost use Rattle.hex.specs.Hex.{encode_lower};
 ghost use Rattle.sha2.specs.Sha256.{sha256};
 ghost use Rattle.rv_lists.specs.Jobs.{most_jobs};
+ghost use Rattle.rv_test_program.specs.Runs.{IsShardOf, number_before_slash, number_behind_slash};
 
 use crate::stop::Stop;
 use clap::error::ErrorKind;
@@ -23,7 +25,7 @@ pub(crate) fn shard_asked(
     jobs: usize,
 ) -> Result<Option<Shard>, Stop>
     requires { jobs ≤ most_jobs }
-    ensures asked { IfOk result (λ shard. is_some shard ≡ is_some asked.now.shard) }
+    ensures asked { IfOk result (IsShardOf asked.now.shard) }
     ensures within { IfOk result (λ shard. IfSome shard (λ s.
         (s.jobs ≡ jobs) × (0 < s.number) × (s.number ≤ s.shards) × (s.shards ≤ most_jobs))) }
 {
@@ -48,7 +50,9 @@ pub(crate) fn shard_asked(
 
 // K and N of `K/N`, where 1 <= K <= N <= 4096.
 fn numbers_of(words: &str) -> Option<(u32, u32)>
-    ensures { IfSome result (λ n. (0 < n.0) × (n.0 ≤ n.1) × (n.1 ≤ most_jobs)) }
+    ensures numbers { IfSome result (λ n. (n.0 ≡ number_before_slash words.now)
+        × (n.1 ≡ number_behind_slash words.now)) }
+    ensures within { IfSome result (λ n. (0 < n.0) × (n.0 ≤ n.1) × (n.1 ≤ most_jobs)) }
 {
     let (number, shards) = words.split_once('/')?;
     let number = number_of(number)?;
@@ -61,7 +65,9 @@ fn numbers_of(words: &str) -> Option<(u32, u32)>
 }
 
 // A number of digits alone.
-fn number_of(words: &str) -> Option<u32> {
+fn number_of(words: &str) -> Option<u32>
+    ensures { IfSome result (λ number. number ≡ digits_value 10 words.now) }
+{
     if words.as_bytes().iter().all(|byte| byte.is_ascii_digit()) {
         words.parse::<u32>().ok()
     } else {
