@@ -1,34 +1,28 @@
 # shellcheck shell=bash
-# What the two programs' scripts share, for them to source: a program is run with the arguments and the standard input given. Both
-# are built and proved first where one of them is not there, or was built of other sources than these. Beside a built program lies
-# `built`, the stamp that says of which sources it is: contents count, not times, so a program that was kept, by a cache of a
-# pipeline say, is used in a fresh checkout of the same sources. RVFLEET_BIN=DIR uses the programs in DIR as they are instead.
+# What the two programs' scripts share, for them to source: finds the program that is asked for, and runs it with the arguments
+# and the standard input given. The first of these is taken:
+#   1. the program in RVFLEET_BIN=DIR, as it is;
+#   2. crates/NAME/out/NAME, where the stamp beside it says that it was built of exactly these sources;
+#   3. programs/NAME, where programs/BUILT says the same, and this machine can run it;
+#   4. one that is built now: each crate is proved once for its sources.
+# Contents count, not times, so a program that a pipeline's cache kept is used in a fresh checkout of the same sources.
 # The status is 3 for every way in which a program cannot be had.
 root=$(dirname "$(readlink -f "${BASH_SOURCE[0]}")")
 programs=(rvfleet rvtest)
 log=$root/crates/rvfleet/out/build.log
 
-program() {
-    if [ -n "${RVFLEET_BIN:-}" ]; then
-        echo "$RVFLEET_BIN/$1"
-    else
-        echo "$root/crates/$1/out/$1"
-    fi
-}
+# ---- the sources that a program is of
 
-stamp() {
-    echo "$root/crates/$1/out/built"
-}
-
-# Which crates the programs stand on. crates.txt names each behind those that it stands on, and these before what tests alone use.
-crates() {
-    sed -n '/^#/d; /^samples:/q; s/:.*//p' "$root/crates.txt"
+# The lines of crates.txt of the crates that the programs stand on: each stands behind those that it stands on, and what tests
+# alone use comes behind them all.
+crate_lines() {
+    sed -n '/^samples:/q; /^[^#]/p' "$root/crates.txt"
 }
 
 # One line that stands for the sources of both programs: their code, definitions and proofs, and which crate uses which.
 sources() {
     local folders
-    mapfile -t folders < <(crates)
+    mapfile -t folders < <(crate_lines | sed 's/:.*//')
     (cd "$root" && {
         sed '/^samples:/,$d' crates.txt
         cat HANDLES
@@ -38,17 +32,24 @@ sources() {
     } | sha256sum | cut -d ' ' -f 1)
 }
 
+digest() {
+    sha256sum <"$1" | cut -d ' ' -f 1
+}
+
 # The toolchain's name, or nothing where it is not installed: a program that is there needs none.
 toolchain() {
     rt version 2>/dev/null || true
 }
 
-digest() {
-    sha256sum <"$1" | cut -d ' ' -f 1
+# ---- programs that are there
+
+stamp() {
+    echo "$root/crates/$1/out/built"
 }
 
-# Writes beside each program that it was built, by this toolchain, of these sources: what `sources` gave before the build, so that
-# one whose sources changed meanwhile is stale. The program's own digest is with it, since `rt` may put another in its place.
+# Writes beside each program that was built of which sources it is, and by which toolchain. The sources are given, as they were
+# before the build, so that a program whose sources changed meanwhile is stale. The program's own digest is there too, since `rt` may put
+# another program in its place.
 stamp_programs() {
     local name
     for name in "${programs[@]}"; do
@@ -56,23 +57,63 @@ stamp_programs() {
     done
 }
 
-# Whether a program is there and its stamp says that it was built of these sources, and by the toolchain that is installed, if any.
+# Whether crates/NAME/out/NAME was built of these sources, and by the toolchain that is installed, if any.
 is_built() {
-    local lines=() rt
-    [ -x "$(program "$1")" ] || return 1
-    [ -r "$(stamp "$1")" ] || return 1
+    local lines=() rt file=$root/crates/$1/out/$1
+    [ -x "$file" ] && [ -r "$(stamp "$1")" ] || return 1
     mapfile -t lines <"$(stamp "$1")"
-    [ "${lines[0]:-}" = "$2" ] || return 1
-    [ "${lines[1]:-}" = "$(digest "$(program "$1")")" ] || return 1
+    [ "${lines[0]:-}" = "$2" ] && [ "${lines[1]:-}" = "$(digest "$file")" ] || return 1
     rt=$(toolchain)
     [ -z "$rt" ] || [ "${lines[2]:-}" = "$rt" ]
 }
 
-are_built() {
-    local name
-    for name in "${programs[@]}"; do
-        is_built "$name" "$1" || return 1
-    done
+# Whether programs/NAME is of these sources, by programs/BUILT, and runs on this machine.
+is_stored() {
+    local file=$root/programs/$1 built=$root/programs/BUILT
+    [ -x "$file" ] && grep -qsx "sources $2" "$built" && grep -qsx "sha256 $(digest "$file") $1" "$built" || return 1
+    "$file" --help >/dev/null 2>&1
+}
+
+# The path of a program that is there: rvfleet or rvtest. Fails where there is none.
+program() {
+    local sources_now
+    if [ -n "${RVFLEET_BIN:-}" ]; then
+        echo "$RVFLEET_BIN/$1"
+        return
+    fi
+    sources_now=$(sources) || return 1
+    if is_built "$1" "$sources_now"; then
+        echo "$root/crates/$1/out/$1"
+    elif is_stored "$1" "$sources_now"; then
+        echo "$root/programs/$1"
+    else
+        return 1
+    fi
+}
+
+# Why programs/NAME is not taken, for a person.
+why_not_stored() {
+    local built=$root/programs/BUILT
+    if ! [ -x "$root/programs/$1" ] || ! [ -r "$built" ]; then
+        echo "programs/ has no $1"
+    elif ! grep -qx "sources $2" "$built"; then
+        echo 'programs/ is of other sources than these'
+    elif ! grep -qx "sha256 $(digest "$root/programs/$1") $1" "$built"; then
+        echo "programs/$1 was changed"
+    else
+        echo "programs/$1 does not run here: it is for x86-64 Linux with glibc $(sed -n 's/^glibc //p' "$built") or later"
+    fi
+}
+
+# ---- a build, of several crates side by side
+
+# How many checks run side by side: as many as there are processors, and 5 GB of memory for each.
+lanes() {
+    awk -v processors="$(nproc)" '/^MemAvailable:/ {
+        lanes = int($2 / 5000000)
+        if (processors < lanes) lanes = processors
+        print lanes < 1 ? 1 : lanes
+    }' /proc/meminfo
 }
 
 # Says why there is no program, and ends with status 3.
@@ -81,91 +122,116 @@ not_had() {
     exit 3
 }
 
-# Builds one crate. `rt run` also runs what it builds: asked for help, a program reads nothing and ends with status 0.
+# Proves and builds one crate. `rt run` also runs what it builds: asked for help, a program reads nothing and ends with status 0.
 build_crate() {
+    cd "$root/crates/$1" || return 1
     case " ${programs[*]} " in
-        *" $1 "*) cd "$root/crates/$1" && exec rt run -- --help ;;
-        *) cd "$root/crates/$1" && exec rt lib ;;
+        *" $1 "*) exec rt run --jobs 1 -- --help ;;
+        *) exec rt lib --jobs 1 ;;
     esac
 }
 
-# How many functions of the crate are proved so far, by the lines that the build has written since the one given.
-proved_since() {
-    tail -n "+$(($1 + 1))" "$log" | grep -c '^fn .*: proved' || true
-}
-
-# Waits for the build of a crate, and says now and then how many of its functions are proved.
-await_crate() {
-    local crate=$1 from=$2 seen=0 now ticks=0
-    while kill -0 "$building" 2>/dev/null; do
-        sleep 0.2
-        ticks=$((ticks + 1))
-        [ $((ticks % 150)) = 0 ] || continue
-        now=$(proved_since "$from")
-        [ "$now" = "$seen" ] || echo "$asked: $crate: $now functions proved, $((SECONDS - began)) s" >&2
-        seen=$now
+# Whether a crate waits, and each library that it stands on is built, or is the toolchain's own.
+is_startable() {
+    local library libraries
+    [ "${state[$1]}" = waiting ] || return 1
+    read -ra libraries <<<"${needs[$1]}"
+    for library in "${libraries[@]}"; do
+        [ "${state[$library]:-built}" = built ] || return 1
     done
-    wait "$building"
 }
 
-# Ends the build that runs, where one does, and then this script by the same signal. What `rt` started ends with it.
-end_build() {
-    if [ -n "${building:-}" ]; then
-        kill -TERM -- "-$building" 2>/dev/null || true
-        wait "$building" 2>/dev/null || true
+# Starts the crates that stand on built ones alone, in the order of crates.txt, while there is a lane.
+start_crates() {
+    local crate
+    for crate in "${names[@]}"; do
+        [ ${#running[@]} -lt "$most" ] || return 0
+        is_startable "$crate" || continue
+        # A process group of its own, for end_build to end whole.
+        set -m
+        build_crate "$crate" >"$log.$crate" 2>&1 </dev/null &
+        running[$!]=$crate
+        set +m
+        state[$crate]=running
+    done
+}
+
+# Waits for one of the crates, and says how far the build is.
+await_crate() {
+    local ended status=0 crate
+    wait -n -p ended "${!running[@]}" || status=$?
+    crate=${running[$ended]}
+    unset "running[$ended]"
+    cat "$log.$crate" >>"$log"
+    rm -f "$log.$crate"
+    if [ "$status" != 0 ]; then
+        end_crates
+        tail -n 20 "$log" >&2
+        not_had "$crate was not built; see $log"
     fi
+    state[$crate]=built
+    built=$((built + 1))
+    echo "$asked: $crate, $built of ${#names[@]} crates, $((SECONDS - began)) s" >&2
+}
+
+# Ends the crates that are being built. What `rt` started ends with it.
+end_crates() {
+    local id
+    for id in "${!running[@]}"; do
+        kill -TERM -- "-$id" 2>/dev/null || true
+        wait "$id" 2>/dev/null || true
+        rm -f "$log.${running[$id]}"
+    done
+}
+
+# Ends the build, and then this script by the same signal.
+end_build() {
+    end_crates
     trap - "$1"
     kill -s "$1" $$
 }
 
-build_crates() {
-    local crate done=0 from
-    for crate in "$@"; do
-        from=$(wc -l <"$log")
-        # A process group of its own, for end_build to end whole.
-        set -m
-        build_crate "$crate" >>"$log" 2>&1 </dev/null &
-        building=$!
-        set +m
-        if ! await_crate "$crate" "$from"; then
-            tail -n 20 "$log" >&2
-            not_had "$crate was not built; see $log"
-        fi
-        building=
-        done=$((done + 1))
-        echo "$asked: $crate, $done of $# crates, $(proved_since "$from") functions proved, $((SECONDS - began)) s" >&2
-    done
-}
-
 build() {
-    local names signal
-    began=$SECONDS
-    command -v rt >/dev/null || not_had "there is no program of these sources, and no rt to build one: install the Rattle kit, or set RVFLEET_BIN to a folder with the programs"
+    local began=$SECONDS built=0 most signal crate libraries names=()
+    local -A needs=() state=() running=()
+    command -v rt >/dev/null ||
+        not_had "$(why_not_stored "$asked" "$1"), and there is no rt to build one: install the Rattle kit, or set RVFLEET_BIN to a folder with the programs"
     if ! mkdir -p "$(dirname "$log")" || ! : >"$log"; then
         not_had "$log cannot be written"
     fi
-    mapfile -t names < <(crates)
-    echo "$asked: builds and proves the ${#names[@]} crates of both programs, once for these sources: some 40 minutes on four cores; $log has what the build says" >&2
+    while IFS=: read -r crate libraries; do
+        names+=("$crate")
+        needs[$crate]=$libraries
+        state[$crate]=waiting
+    done < <(crate_lines)
+    most=$(lanes)
+    echo "$asked: builds and proves the ${#names[@]} crates of both programs, once for these sources, $most at a time: some 20 minutes on four cores; $log has what the build says" >&2
     for signal in INT TERM HUP PIPE; do
         # shellcheck disable=SC2064 # the signal's name now
         trap "end_build $signal" "$signal"
     done
-    build_crates "${names[@]}"
+    while [ "$built" -lt ${#names[@]} ]; do
+        start_crates
+        await_crate
+    done
     stamp_programs "$1" || not_had "the programs' stamps cannot be written below $root/crates"
     trap - INT TERM HUP PIPE
 }
 
+# ---- the program that is asked for
+
 launch() {
+    local path
     asked=$1
     shift
     if [ -n "${RVFLEET_BIN:-}" ]; then
         if [ ! -f "$RVFLEET_BIN/$asked" ] || [ ! -x "$RVFLEET_BIN/$asked" ]; then
             not_had "RVFLEET_BIN=$RVFLEET_BIN has no program $asked"
         fi
-    else
+    elif ! path=$(program "$asked"); then
         local sources_now
         sources_now=$(sources) || not_had "the sources below $root cannot be read"
-        are_built "$sources_now" || build "$sources_now"
+        build "$sources_now"
     fi
-    exec "$(program "$asked")" "$@"
+    exec "${path:-$(program "$asked")}" "$@"
 }

@@ -15,9 +15,11 @@ work=$(mktemp -d)
 trap 'rm -rf "$work"' EXIT
 # shellcheck source=launch.bash
 source ./launch.bash
+# shellcheck source=checks/shims.bash
+source checks/shims.bash
 cp "$(program rvfleet)" "$(program rvtest)" "$work"
 shim=$work/refuse_growth.so
-"${CC:-cc}" -O2 -Wall -shared -fPIC -o "$shim" checks/refuse_growth.c || fail 'the shim was not compiled'
+take_shim refuse_growth "$shim" || fail 'there is no shim of checks/refuse_growth.c: it was not compiled, and programs/ has none of this source'
 
 # The bytes that hexadecimal digits stand for; blanks between them count for nothing.
 bytes() {
