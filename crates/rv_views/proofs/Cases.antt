@@ -7,8 +7,8 @@ use Rattle.rv_rows.specs.declared.row.Row.{Row}
 use Rattle.rv_rows.specs.Sending.{AppendsBeginning}
 use Rattle.rv_explain.specs.declared.passing.Rule.{Rule}
 use Rattle.rv_stream.specs.Streams.{texts_of, told}
-use Rattle.rv_xml.specs.declared.xml.Within.TheVariants.{Element}
-use Rattle.rv_xml.specs.Xml.{escaped}
+use Rattle.rv_text.specs.declared.xml.Within.TheVariants.{Element}
+use Rattle.rv_text.specs.Xml.{escaped}
 use Rattle.rv_views.specs.Pieces.{attribute}
 use Rattle.rv_views.specs.Junit.{begin_text, case_text, cases_text, end_text, junit_text, output_text, problem_or_none}
 

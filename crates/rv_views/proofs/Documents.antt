@@ -9,15 +9,15 @@ use Rattle.rv_rows.specs.Verdict.{is_run}
 use Rattle.rv_explain.specs.declared.passing.Rule.{Rule}
 use Rattle.rv_lines.specs.ConsoleTail.{is_feed}
 use Rattle.rv_explain.specs.Passing.{has_passed}
-use Rattle.rv_xml.specs.declared.xml.Within.TheVariants.{Attribute, Element}
+use Rattle.rv_text.specs.declared.xml.Within.TheVariants.{Attribute, Element}
 use Rattle.rv_views.specs.Pieces.{attribute, number_attribute}
 use Rattle.rv_views.specs.Junit.{IsWrittenRow, begin_text, case_text, cases_text, end_text, first_line}
 use Rattle.rv_explain.specs.Problem.{is_error, is_failure}
 use Rattle.rv_views.specs.Junit.{junit_text, output_text, problem_name}
 use Rattle.rv_views.specs.Junit.{problem_text, up_to}
-use Rattle.rv_xml.specs.Xml.{IsXmlCharacters}
+use Rattle.rv_text.specs.Xml.{IsXmlCharacters}
 use Rattle.rv_views.proofs.Laws.{all_are_counted}
-use Rattle.rv_xml.proofs.Public.{xml_append, xml_decimal, xml_escaped, xml_nil, xml_plain}
+use Rattle.rv_text.proofs.Public.{xml_append, xml_decimal, xml_escaped, xml_nil, xml_plain}
 
 bytes_take : (n : ℕ) (text : List ℕ) → IsBytes text → IsBytes (take n text)
 bytes_take zero text are = λ i. omega arith

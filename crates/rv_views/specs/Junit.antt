@@ -9,8 +9,8 @@ use Rattle.rv_explain.specs.declared.passing.Rule.{Rule}
 use Rattle.rv_lines.specs.ConsoleTail.{is_feed}
 use Rattle.rv_explain.specs.Passing.{has_passed}
 use Rattle.rv_explain.specs.Problem.{is_error, is_failure}
-use Rattle.rv_xml.specs.declared.xml.Within.TheVariants.{Element}
-use Rattle.rv_xml.specs.Xml.{escaped}
+use Rattle.rv_text.specs.declared.xml.Within.TheVariants.{Element}
+use Rattle.rv_text.specs.Xml.{escaped}
 use Rattle.rv_views.specs.Pieces.{attribute, number_attribute}
 
 -- ---- a case

@@ -3,8 +3,8 @@ use Rattle.std.specs.Prelude.{ℕ, List, ◌++◌, codes}
 use Rattle.std.specs.Fmt.{decimal}
 use Rattle.rv_views.specs.declared.pieces.Piece.{Piece}
 use Rattle.rv_views.specs.declared.pieces.Piece.TheVariants as piece
-use Rattle.rv_xml.specs.declared.xml.Within.TheVariants.{Attribute, Element}
-use Rattle.rv_xml.specs.Xml.{escaped}
+use Rattle.rv_text.specs.declared.xml.Within.TheVariants.{Attribute, Element}
+use Rattle.rv_text.specs.Xml.{escaped}
 
 unfoldable pub attribute : List ℕ → List ℕ → List ℕ
 attribute name value = codes " " ++ name ++ codes "=\"" ++ escaped Attribute value ++ codes "\""

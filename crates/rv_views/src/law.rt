@@ -11,7 +11,7 @@ ghost use Rattle.rv_explain.specs.Change.{rows_agree};
 ghost use Rattle.rv_views.specs.Differences.{change_lines};
 ghost use Rattle.rv_explain.specs.Problem.{is_error, is_failure};
 ghost use Rattle.rv_views.specs.Junit.{IsWrittenRow, junit_text};
-ghost use Rattle.rv_xml.specs.Xml.{IsXmlCharacters};
+ghost use Rattle.rv_text.specs.Xml.{IsXmlCharacters};
 
 /// A whole document is the UTF-8 of characters of XML 1.0, whatever bytes stand in names, lines and consoles.
 pub fn documents_are_xml_characters()

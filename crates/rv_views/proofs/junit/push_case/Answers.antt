@@ -1,7 +1,7 @@
 use Rattle.std.proofs.Common.{◌++◌, ℕ, List, [], codes, string_bytes}
 use Rattle.std.specs.Fmt.{decimal}
-use Rattle.rv_xml.specs.declared.xml.Within.TheVariants.{Element}
-use Rattle.rv_xml.specs.Xml.{escaped}
+use Rattle.rv_text.specs.declared.xml.Within.TheVariants.{Element}
+use Rattle.rv_text.specs.Xml.{escaped}
 use Rattle.rv_views.specs.Junit.{problem_or_none}
 use Rattle.rv_views.specs.Pieces.{attribute}
 use Rattle.rv_views.proofs.Cases.{case_whole}

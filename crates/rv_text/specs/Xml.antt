@@ -8,8 +8,8 @@ use Rattle.std.specs.Int.{is_in_range}
 use Rattle.std.specs.List.{flat_map, list_all}
 use Rattle.std.specs.Str.{chars, continuation_len, encode_utf8_all, is_utf8}
 use Rattle.hex.specs.Hex.{encode_lower}
-use Rattle.rv_xml.specs.declared.xml.Within.{Within}
-use Rattle.rv_xml.specs.declared.xml.Within.TheVariants.{Attribute, Element}
+use Rattle.rv_text.specs.declared.xml.Within.{Within}
+use Rattle.rv_text.specs.declared.xml.Within.TheVariants.{Attribute, Element}
 
 -- ---- characters
 

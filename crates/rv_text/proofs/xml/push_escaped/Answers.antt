@@ -1,8 +1,8 @@
 use Rattle.std.proofs.Common.{◌≡◌, arith, append_assoc, append-nil, length, string_bytes}
 use Rattle.std.proofs.lemmas.Grind.{common_steps}
-use Rattle.rv_xml.specs.Xml.{behind_front, escaped_from, front_text}
-use Rattle.rv_xml.proofs.XmlTexts.{escaped-empty, escaped-front}
-use Rattle.rv_xml.proofs.xml.push_escaped.Goals as goal
+use Rattle.rv_text.specs.Xml.{behind_front, escaped_from, front_text}
+use Rattle.rv_text.proofs.XmlTexts.{escaped-empty, escaped-front}
+use Rattle.rv_text.proofs.xml.push_escaped.Goals as goal
 
 pub loop-rest-preserved : goal.loop-rest-preserved
 loop-rest-preserved c =

@@ -1,6 +1,6 @@
 use Rattle.std.proofs.Common.{◌≡◌, ◌++◌, length, string_bytes}
-use Rattle.rv_xml.specs.Xml.{escaped}
-use Rattle.rv_xml.proofs.xml.push_escaped.Given as goal
+use Rattle.rv_text.specs.Xml.{escaped}
+use Rattle.rv_text.proofs.xml.push_escaped.Given as goal
 
 abbrev pub invariant-loop-rest : goal.invariant-loop-rest
 invariant-loop-rest l = string_bytes l.text ++ escaped l.within l.rest

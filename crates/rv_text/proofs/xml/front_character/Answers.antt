@@ -1,9 +1,9 @@
 use Rattle.std.proofs.Common.{◌≡◌, refl, true, false}
 use Rattle.std.proofs.lemmas.Str.{is_utf8-from_IsUtf8}
 use Rattle.std.specs.Str.{is_utf8}
-use Rattle.rv_xml.specs.Xml.{front_character}
-use Rattle.rv_xml.proofs.XmlTexts.{is_utf8-false}
-use Rattle.rv_xml.proofs.xml.front_character.Goals as goal
+use Rattle.rv_text.specs.Xml.{front_character}
+use Rattle.rv_text.proofs.XmlTexts.{is_utf8-false}
+use Rattle.rv_text.proofs.xml.front_character.Goals as goal
 
 pub returns-in-Ok : goal.returns-in-Ok
 unfolding front_character

@@ -14,10 +14,10 @@ use Rattle.std.proofs.lemmas.List.Folds.{list_all-append}
 use Rattle.std.proofs.lemmas.List.Sums.{AllPass-from_list_all}
 use Rattle.hex.specs.Hex.{IsBytes, encode_with, lower_digits}
 use Rattle.std.proofs.lemmas.Str.{IsUtf8-from_is_utf8, len_utf8_bounds}
-use Rattle.rv_xml.specs.declared.xml.Within.{Within}
-use Rattle.rv_xml.specs.declared.xml.Within.TheVariants.{Attribute, Element}
-use Rattle.rv_xml.specs.Xml.{IsXmlText, behind_front, character_or_escape, character_text, escape, escaped_from}
-use Rattle.rv_xml.specs.Xml.{front_character, front_of, front_text, is_xml_character, more_len, xml_only}
+use Rattle.rv_text.specs.declared.xml.Within.{Within}
+use Rattle.rv_text.specs.declared.xml.Within.TheVariants.{Attribute, Element}
+use Rattle.rv_text.specs.Xml.{IsXmlText, behind_front, character_or_escape, character_text, escape, escaped_from}
+use Rattle.rv_text.specs.Xml.{front_character, front_of, front_text, is_xml_character, more_len, xml_only}
 
 -- what is not UTF-8 is not by the test
 pub is_utf8-false : (bytes : List ℕ) → ¬ (IsUtf8 bytes) → is_utf8 bytes ≡ false

@@ -2,8 +2,8 @@
 
 ghost use Rattle.std.specs.Prelude.{◌≡◌, ◌<◌, ◌≤◌, ◌+◌, ◌++◌, IfOk, OnOk, drop, length, option_map, string_bytes};
 ghost use Rattle.std.specs.Str.{continuation_len};
-ghost use Rattle.rv_xml.specs.Xml.{behind_front, character_text, escape, escaped, front_character, front_of};
-ghost use Rattle.rv_xml.specs.Xml.{front_text, is_xml_character, reference, xml_only};
+ghost use Rattle.rv_text.specs.Xml.{behind_front, character_text, escape, escaped, front_character, front_of};
+ghost use Rattle.rv_text.specs.Xml.{front_text, is_xml_character, reference, xml_only};
 
 use std::alloc::{AllocError, Global};
 

@@ -2,8 +2,8 @@
 
 ghost use Rattle.std.specs.Prelude.{ℕ, List};
 ghost use Rattle.hex.specs.Hex.{IsBytes};
-ghost use Rattle.rv_xml.specs.declared.xml.Within.{Within};
-ghost use Rattle.rv_xml.specs.Xml.{IsXmlText, escaped};
+ghost use Rattle.rv_text.specs.declared.xml.Within.{Within};
+ghost use Rattle.rv_text.specs.Xml.{IsXmlText, escaped};
 
 /// What is written for bytes is characters of XML 1.0 alone, and none of them is markup: each is there by its reference,
 /// where it has one, and else as it is in UTF-8.

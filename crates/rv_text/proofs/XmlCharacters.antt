@@ -14,11 +14,11 @@ use Rattle.std.proofs.lemmas.List.FromFn.{get_or-range_with_len}
 use Rattle.std.proofs.lemmas.List.Sums.{AllPass-from_list_all}
 use Rattle.std.proofs.lemmas.Str.{encodes-IsAscii, encodes-append}
 use Rattle.hex.specs.Hex.{IsBytes}
-use Rattle.rv_xml.specs.declared.xml.Within.{Within}
-use Rattle.rv_xml.specs.declared.xml.Within.TheVariants.{Attribute, Element}
-use Rattle.rv_xml.specs.Xml.{IsXmlCharacters, by_reference, character_text, escaped, is_xml_character}
-use Rattle.rv_xml.specs.Xml.{reference, space_reference}
-use Rattle.rv_xml.proofs.XmlTexts.{text_escaped}
+use Rattle.rv_text.specs.declared.xml.Within.{Within}
+use Rattle.rv_text.specs.declared.xml.Within.TheVariants.{Attribute, Element}
+use Rattle.rv_text.specs.Xml.{IsXmlCharacters, by_reference, character_text, escaped, is_xml_character}
+use Rattle.rv_text.specs.Xml.{reference, space_reference}
+use Rattle.rv_text.proofs.XmlTexts.{text_escaped}
 
 pub xml_nil : IsXmlCharacters []
 xml_nil = record { characters = []; taken = refl; written = refl }
