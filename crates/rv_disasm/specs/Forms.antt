@@ -7,11 +7,11 @@ use Rattle.rv_isa.specs.Tables.{first_of}
 use Rattle.rv_isa.specs.declared.sets.Isa.TheVariants as set
 use Rattle.rv_isa.specs.declared.instruction.Op.{Op}
 use Rattle.rv_isa.specs.declared.instruction.Op.TheVariants as op
-use Rattle.rv_asm.specs.declared.form.Form.{Form as CodesForm}
-use Rattle.rv_asm.specs.declared.form.Operand.TheVariants.{Rd, Rs1, Rs2, Imm, Address, Upper}
-use Rattle.rv_asm.specs.declared.form.Operand.TheVariants.{Target, Predecessors, Successors}
-use Rattle.rv_asm.specs.declared.form.Operands.{Operands}
-use Rattle.rv_asm.specs.declared.form.Operands.TheVariants.{Absent, One, Two, Three}
+use Rattle.rv_disasm.specs.declared.form.Form.{Form as CodesForm}
+use Rattle.rv_disasm.specs.declared.form.Operand.TheVariants.{Rd, Rs1, Rs2, Imm, Address, Upper}
+use Rattle.rv_disasm.specs.declared.form.Operand.TheVariants.{Target, Predecessors, Successors}
+use Rattle.rv_disasm.specs.declared.form.Operands.{Operands}
+use Rattle.rv_disasm.specs.declared.form.Operands.TheVariants.{Absent, One, Two, Three}
 
 -- a name, and the operands behind it
 pub record Form : Type 0 where

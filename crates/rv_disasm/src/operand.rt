@@ -1,7 +1,7 @@
 //! The text of an operand.
 ghost use Rattle.std.specs.Prelude.{◌≡◌, ◌<◌, ◌++◌, OnOk};
 ghost use Rattle.rv_isa.specs.Words.{IsWellFormed};
-ghost use Rattle.rv_asm.specs.Operands.{address, hexadecimal, operand_text, register_name, set_name};
+ghost use Rattle.rv_disasm.specs.Operands.{address, hexadecimal, operand_text, register_name, set_name};
 ghost use Rattle.std.specs.Fmt.{signed_decimal};
 
 use crate::form::{Fetched, Operand};

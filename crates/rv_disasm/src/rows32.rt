@@ -1,6 +1,6 @@
 //! How the 32-bit rows are written.
 ghost use Rattle.std.specs.Prelude.{◌≡◌};
-ghost use Rattle.rv_asm.specs.Forms.{form32, form_seen};
+ghost use Rattle.rv_disasm.specs.Forms.{form32, form_seen};
 
 use crate::form::{
     BRANCH, FENCE, Form, IMMEDIATE, JUMP, LOAD, Operands, REGISTERS, STORE, UPPER_IMMEDIATE,

@@ -5,11 +5,11 @@ use Rattle.rv_isa.specs.Words.{meaning32}
 use Rattle.rv_isa.specs.Halfwords.{meaning16}
 use Rattle.rv_isa.specs.declared.instruction.Instr.{Instr}
 use Rattle.rv_isa.specs.declared.sets.Isa.TheVariants as set
-use Rattle.rv_asm.specs.declared.form.Fetched.{Fetched}
-use Rattle.rv_asm.specs.declared.form.Operands.{Operands}
-use Rattle.rv_asm.specs.declared.form.Operands.TheVariants.{Absent, One, Two, Three}
-use Rattle.rv_asm.specs.Operands.{operand_text}
-use Rattle.rv_asm.specs.Forms.{Form, form16, form32}
+use Rattle.rv_disasm.specs.declared.form.Fetched.{Fetched}
+use Rattle.rv_disasm.specs.declared.form.Operands.{Operands}
+use Rattle.rv_disasm.specs.declared.form.Operands.TheVariants.{Absent, One, Two, Three}
+use Rattle.rv_disasm.specs.Operands.{operand_text}
+use Rattle.rv_disasm.specs.Forms.{Form, form16, form32}
 
 -- behind a space, with commas between them
 unfoldable pub operands_text : Operands → Fetched → List ℕ

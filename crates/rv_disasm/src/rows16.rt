@@ -2,7 +2,7 @@
 ghost use Rattle.std.specs.Prelude.{◌≡◌, ◌≢◌, ◌↔◌, IsTrue, option_map};
 ghost use Rattle.rv_isa.specs.Bits.{field as bits_of};
 ghost use Rattle.rv_isa.specs.Halfwords.{immediate_ci};
-ghost use Rattle.rv_asm.specs.Forms.{form16, form_seen};
+ghost use Rattle.rv_disasm.specs.Forms.{form16, form_seen};
 
 use crate::form::{
     Form, IMMEDIATE, LOAD, Operand, Operands, REGISTER_IMMEDIATE, STORE, TEST_OF_ZERO,

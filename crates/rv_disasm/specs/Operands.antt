@@ -4,9 +4,9 @@ use Rattle.std.specs.Prelude.{ℕ, List, [], ◌∷◌, ◌++◌, codes, slice_i
 use Rattle.std.specs.Prelude.{◌/◌, ◌^◌, ◌==◌, if◌then◌else◌}
 use Rattle.std.specs.Fmt.{digits, signed_decimal}
 use Rattle.rv_isa.specs.Bits.{bit, field, wrap}
-use Rattle.rv_asm.specs.declared.form.Fetched.{Fetched}
-use Rattle.rv_asm.specs.declared.form.Operand.{Operand}
-use Rattle.rv_asm.specs.declared.form.Operand.TheVariants as operand
+use Rattle.rv_disasm.specs.declared.form.Fetched.{Fetched}
+use Rattle.rv_disasm.specs.declared.form.Operand.{Operand}
+use Rattle.rv_disasm.specs.declared.form.Operand.TheVariants as operand
 
 -- the registers from x0 to x31, by the names of the ABI
 abbrev pub register_names : List (List ℕ)

@@ -1,9 +1,9 @@
 //! The text of an instruction.
 ghost use Rattle.std.specs.Prelude.{◌≡◌, ◌++◌, OnOk};
 ghost use Rattle.rv_isa.specs.Words.{IsWellFormed};
-ghost use Rattle.rv_asm.specs.Assembly.{operands_text, text16, text32, written};
-ghost use Rattle.rv_asm.specs.Forms.{form_seen};
-ghost use Rattle.rv_asm.specs.Operands.{operand_text};
+ghost use Rattle.rv_disasm.specs.Assembly.{operands_text, text16, text32, written};
+ghost use Rattle.rv_disasm.specs.Forms.{form_seen};
+ghost use Rattle.rv_disasm.specs.Operands.{operand_text};
 
 use crate::form::{Fetched, Form, Operand, Operands};
 use crate::operand::{push, push_operand};

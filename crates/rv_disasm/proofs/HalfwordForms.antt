@@ -4,10 +4,10 @@ use Rattle.std.specs.Prelude.{codes}
 use Rattle.std.proofs.lemmas.Bool.{ne_eqb, cases_eq}
 use Rattle.rv_isa.specs.Bits.{field}
 use Rattle.rv_isa.specs.Halfwords.{rows16, immediate_ci, immediate_ciw, immediate_addi16sp, upper}
-use Rattle.rv_asm.specs.declared.form.Operand.TheVariants.{Rs1, Target, Imm}
-use Rattle.rv_asm.specs.declared.form.Operands.TheVariants.{Absent, One}
-use Rattle.rv_asm.specs.Forms.{form16, row, immediate, load, store, upper_immediate, register_immediate, two_registers}
-use Rattle.rv_asm.specs.Forms.{test_of_zero}
+use Rattle.rv_disasm.specs.declared.form.Operand.TheVariants.{Rs1, Target, Imm}
+use Rattle.rv_disasm.specs.declared.form.Operands.TheVariants.{Absent, One}
+use Rattle.rv_disasm.specs.Forms.{form16, row, immediate, load, store, upper_immediate, register_immediate, two_registers}
+use Rattle.rv_disasm.specs.Forms.{test_of_zero}
 
 pub c_addi4spn : (h : ℕ) → field h 1 0 ≡ 0 → field h 15 13 ≡ 0 → immediate_ciw h ≢ 0
     → form16 h ≡ Some (row (codes "c.addi4spn") immediate)
