@@ -6,9 +6,9 @@ use Rattle.std.specs.Fmt.{decimal}
 use Rattle.rv_machine.specs.Faults.{fault_kinds, fault_name}
 use Rattle.rv_rows.specs.declared.row.Row.{Row}
 use Rattle.rv_rows.specs.Report.{line}
-use Rattle.rv_explain.specs.declared.passing.Rule.{Rule}
-use Rattle.rv_explain.specs.Passing.{has_passed}
-use Rattle.rv_explain.specs.Ways.{fails_by, ways}
+use Rattle.rv_expect.specs.declared.passing.Rule.{Rule}
+use Rattle.rv_expect.specs.Passing.{has_passed}
+use Rattle.rv_expect.specs.Ways.{fails_by, ways}
 
 -- ---- ways to end
 

@@ -7,8 +7,8 @@ use Rattle.rv_rows.specs.declared.row.Row.{Row}
 use Rattle.rv_rows.specs.declared.row.RowEnd.{RowEnd}
 use Rattle.rv_rows.specs.declared.row.RowEnd.TheVariants as ending
 use Rattle.rv_rows.specs.Report.{line, refusal_name, word_digits}
-use Rattle.rv_explain.specs.declared.passing.Rule.{Rule}
-use Rattle.rv_explain.specs.Passing.{has_passed}
+use Rattle.rv_expect.specs.declared.passing.Rule.{Rule}
+use Rattle.rv_expect.specs.Passing.{has_passed}
 use Rattle.rv_lines.specs.Shown.{shown}
 
 -- lower-case hexadecimal digits, without zeros in front

@@ -6,7 +6,7 @@ ghost use Rattle.rv_lines.specs.ConsoleTail.{console_line_shown, console_tail, i
 
 use crate::slices::last_of;
 use crate::spans::{Span, push_spans};
-use rv_explain::behind;
+use rv_expect::behind;
 use std::alloc::AllocError;
 
 /// How many lines of a console are shown at most.

@@ -6,7 +6,7 @@ ghost use Rattle.rv_lines.specs.LastLine.{last_line, numbers_text, passed_count,
 
 use crate::spans::{Span, push_spans};
 use crate::ways::push_bracket;
-use rv_explain::{Rule, has_passed};
+use rv_expect::{Rule, has_passed};
 use rv_rows::Row;
 use std::alloc::AllocError;
 

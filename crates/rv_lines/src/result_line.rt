@@ -10,7 +10,7 @@ ghost use Rattle.rv_lines.specs.ResultLine.{result_line, steps_text, symbol_text
 use crate::parts::push_text;
 use crate::spans::{Span, push_spans};
 use rv_elf::SymbolAt;
-use rv_explain::{Rule, has_passed};
+use rv_expect::{Rule, has_passed};
 use rv_machine::FaultKind;
 use rv_rows::{Refusal, Row, RowEnd};
 use std::alloc::{AllocError, Global};

@@ -6,7 +6,7 @@ ghost use Rattle.rv_lines.specs.Shown.{behind_front, escape, first_width, front_
 ghost use Rattle.rv_lines.specs.Shown.{plain_len, shown, shown_value};
 
 use crate::slices::byte_at;
-use rv_explain::behind;
+use rv_expect::behind;
 use std::alloc::AllocError;
 
 /// Appends a text as it is shown: characters as they are, and each byte of a control character and of what is no

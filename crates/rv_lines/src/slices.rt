@@ -3,7 +3,7 @@
 ghost use Rattle.std.specs.Prelude.{◌≡◌, slice_index};
 ghost use Rattle.rv_lines.specs.ConsoleTail.{last_of};
 
-use rv_explain::behind;
+use rv_expect::behind;
 
 /// The byte at a place, or 0 behind the end.
 pub(crate) fn byte_at(text: &[u8], place: usize) -> u8

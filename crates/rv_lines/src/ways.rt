@@ -2,11 +2,11 @@
 
 ghost use Rattle.std.specs.Prelude.{◌≡◌, ◌≤◌, ◌<◌, ◌++◌, OnOk, codes, if◌then◌else◌, length};
 ghost use Rattle.std.specs.Fmt.{decimal};
-ghost use Rattle.rv_explain.specs.Ways.{ways};
+ghost use Rattle.rv_expect.specs.Ways.{ways};
 ghost use Rattle.rv_lines.specs.LastLine.{bracket, failed_count, failures_below, way_name};
 
 use crate::spans::{Span, push_spans};
-use rv_explain::{Rule, WAYS, fails_by};
+use rv_expect::{Rule, WAYS, fails_by};
 use rv_rows::Row;
 use std::alloc::AllocError;
 

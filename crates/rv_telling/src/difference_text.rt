@@ -4,7 +4,7 @@ ghost use Rattle.std.specs.Prelude.{◌≡◌, ◌++◌, [], OnOk, codes, option
 ghost use Rattle.rv_lines.specs.Shown.{shown};
 ghost use Rattle.rv_telling.specs.UnmetLines.{byte_text, bytes_text, console_text, count_text};
 
-use rv_explain::{Difference, sides_from};
+use rv_expect::{Difference, sides_from};
 use rv_jobs::ExpectedConsole;
 use rv_lines::{Span, push_spans, push_text};
 use std::alloc::AllocError;

@@ -9,7 +9,7 @@ ghost use Rattle.rv_telling.specs.ImageReasons.{signature_range_text};
 
 use crate::segment_reason::{push_overlap, push_regions, push_unfit};
 use rv_elf::{Image, ImageError, find_symbol, read_image};
-use rv_explain::unfit_segment;
+use rv_expect::unfit_segment;
 use rv_jobs::{Job, Symbols};
 use rv_lines::{Span, push_spans, push_text};
 use rv_memory::Region;

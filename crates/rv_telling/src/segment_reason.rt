@@ -8,7 +8,7 @@ ghost use Rattle.rv_telling.specs.ImageReasons.{last_text, map_text, outside_tex
 ghost use Rattle.rv_telling.specs.ImageReasons.{regions_text, sharing_segments};
 
 use rv_elf::{LoadAt, Segment};
-use rv_explain::{is_file_inside, load_address};
+use rv_expect::{is_file_inside, load_address};
 use rv_jobs::Job;
 use rv_lines::{Span, push_spans, push_text};
 use rv_memory::Region;

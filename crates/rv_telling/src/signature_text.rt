@@ -6,7 +6,7 @@ ghost use Rattle.rv_telling.specs.UnmetLines.{absent_text, bad_line_text, digits
 ghost use Rattle.rv_telling.specs.UnmetLines.{signature_text, signatures_text, word_at, word_text};
 
 use crate::difference_text::{bytes_or_none, push_count, push_topic};
-use rv_explain::{Difference, SignatureDifference, words_or_none};
+use rv_expect::{Difference, SignatureDifference, words_or_none};
 use rv_jobs::Text;
 use rv_lines::{Span, push_spans, push_text};
 use rv_rows::{LINE, Words};

@@ -1,8 +1,8 @@
 -- The status of a run is at most 1.
 use Rattle.std.proofs.Common.{◌≤◌, ℕ, Bool, true, false, List, arith, if◌then◌else◌}
 use Rattle.std.specs.List.{list_all}
-use Rattle.rv_explain.specs.Passing.{has_passed}
-use Rattle.rv_explain.specs.declared.passing.Rule.{Rule}
+use Rattle.rv_expect.specs.Passing.{has_passed}
+use Rattle.rv_expect.specs.declared.passing.Rule.{Rule}
 use Rattle.rv_lists.specs.declared.job.Job.{Job}
 use Rattle.rv_rows.specs.Rows.{rows_at}
 use Rattle.rv_test_program.specs.Runs.{IsStatusOf, places_of}

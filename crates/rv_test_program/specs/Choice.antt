@@ -7,7 +7,7 @@ use Rattle.std.specs.Str.{bytes_eq}
 use Rattle.regex.specs.Patterns.{Re, default_config, find_str}
 use Rattle.regex.specs.Strings.{IsReadFromSource, regex_config, regex_pattern, regex_source}
 use Rattle.regex.specs.declared.string.regex.Regex.{Regex}
-use Rattle.rv_explain.specs.declared.passing.Rule.{Rule}
+use Rattle.rv_expect.specs.declared.passing.Rule.{Rule}
 use Rattle.rv_lists.specs.declared.job.Job.{Job}
 use Rattle.rv_rows.specs.declared.row.Row.{Row}
 use Rattle.rv_stream.specs.Choices.{is_chosen}

@@ -2,9 +2,9 @@
 use Rattle.std.specs.Prelude.{◌≡◌, ◌==◌, ◌⊎◌, ℕ, Bool, true, false, not, List, length, map}
 use Rattle.std.specs.Prelude.{if◌then◌else◌, is_some}
 use Rattle.std.specs.List.{filter}
-use Rattle.rv_explain.specs.declared.passing.Rule.{Rule}
-use Rattle.rv_explain.specs.declared.passing.Rule.TheVariants.{Strict, Lenient}
-use Rattle.rv_explain.specs.Passing.{has_passed}
+use Rattle.rv_expect.specs.declared.passing.Rule.{Rule}
+use Rattle.rv_expect.specs.declared.passing.Rule.TheVariants.{Strict, Lenient}
+use Rattle.rv_expect.specs.Passing.{has_passed}
 use Rattle.rv_jobs.specs.Plans.{Planned}
 use Rattle.rv_lists.specs.declared.job.Job.{Job}
 use Rattle.rv_rows.specs.declared.row.Row.{Row}

@@ -5,7 +5,7 @@ use Rattle.std.specs.List.{after_first, before_first}
 use Rattle.std.specs.Str.Parse.{digits_value}
 use Rattle.rv_jobs.specs.Choices.{marked}
 use Rattle.rv_jobs.specs.Plans.{Planned, needed_for, paths_of, paths_used}
-use Rattle.rv_explain.specs.declared.passing.Rule.{Rule}
+use Rattle.rv_expect.specs.declared.passing.Rule.{Rule}
 use Rattle.rv_lists.specs.declared.job.Job.{Job}
 use Rattle.rv_lists.specs.JobList.{job_list_of}
 use Rattle.rv_merge.specs.Shards.{shard_marks}

@@ -9,7 +9,7 @@ use crate::files::read_file;
 use crate::messages::{say_told, told_of, told_of_number};
 use crate::stop::Stop;
 use crate::streams::Streams;
-use rv_explain::{Rule, has_passed};
+use rv_expect::{Rule, has_passed};
 use rv_jobs::Job;
 use rv_lines::{Span, text_of};
 use rv_reports::{ReadError, SavedReport, read_report};

@@ -12,7 +12,7 @@ use crate::rules::rule_of;
 use crate::status::status_of;
 use crate::stop::Stop;
 use crate::streams::Streams;
-use rv_explain::Rule;
+use rv_expect::Rule;
 use rv_fleet::Rows;
 use rv_lines::{Span, push_last_line, text_of};
 use rv_merge::{Flaw, MergeError, merge_parts};

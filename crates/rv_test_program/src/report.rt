@@ -10,7 +10,7 @@ use crate::messages::told_of;
 use crate::rows_report::write_rows;
 use crate::stop::Stop;
 use crate::streams::Streams;
-use rv_explain::Rule;
+use rv_expect::Rule;
 use rv_files::{FileError, FileSink, StreamSink};
 use rv_fleet::{Report, Row, Rows, Sink, WriteError, write_report};
 use rv_reports::Shard;

@@ -3,7 +3,7 @@
 ghost use Rattle.std.specs.Prelude.{◌≡◌};
 ghost use Rattle.rv_test_program.specs.Commands.{rule_for};
 
-use rv_explain::Rule;
+use rv_expect::Rule;
 
 /// The rule that words ask for.
 pub(crate) fn rule_of(is_lenient: bool) -> Rule

@@ -17,7 +17,7 @@ use crate::shown_run::show_run;
 use crate::status::{DONE, status_of};
 use crate::stop::Stop;
 use crate::streams::Streams;
-use rv_explain::Rule;
+use rv_expect::Rule;
 use rv_files::{NotingStore, StreamSink};
 use rv_fleet::Rows;
 use rv_jobs::{Job, JobList, Plan, gather_places, marked_places};

@@ -13,7 +13,7 @@ use crate::rules::rule_of;
 use crate::status::status_of;
 use crate::stop::Stop;
 use crate::streams::Streams;
-use rv_explain::Rule;
+use rv_expect::Rule;
 use rv_rows::Row;
 use rv_test_words::ShowAsked;
 use rv_views::{FailedLines, push_show};

@@ -9,7 +9,7 @@ ghost use Rattle.rv_rows.specs.Rows.{rows_at};
 ghost use Rattle.rv_rows.specs.Sending.{AppendsBeginning};
 ghost use Rattle.rv_test_program.specs.Shown.{shown};
 
-use rv_explain::Rule;
+use rv_expect::Rule;
 use rv_fleet::{Row, Rows, Sink, put_all};
 use rv_jobs::Plan;
 use rv_jobs::limits::MOST_JOBS;

@@ -3,7 +3,7 @@
 ghost use Rattle.std.specs.Prelude.{◌≡◌};
 ghost use Rattle.rv_test_program.specs.Shown.{status_of};
 
-use rv_explain::{Rule, have_passed};
+use rv_expect::{Rule, have_passed};
 use rv_rows::Row;
 
 /// The status where no job failed.

@@ -5,7 +5,7 @@ use Rattle.std.specs.Fmt.{decimal}
 use Rattle.std.proofs.KnownBytes.{Appends-nil}
 use Rattle.rv_rows.specs.declared.row.Row.{Row}
 use Rattle.rv_rows.specs.Sending.{AppendsBeginning}
-use Rattle.rv_explain.specs.declared.passing.Rule.{Rule}
+use Rattle.rv_expect.specs.declared.passing.Rule.{Rule}
 use Rattle.rv_stream.specs.Streams.{texts_of, told}
 use Rattle.rv_text.specs.declared.xml.Within.TheVariants.{Element}
 use Rattle.rv_text.specs.Xml.{escaped}

@@ -2,8 +2,8 @@
 use Rattle.std.proofs.Common.{◌≡◌, ◌+◌, ◌≤◌, refl, ℕ, Bool, true, false, cond, [], Option, Some, None, arith}
 use Rattle.std.specs.Prelude.{if◌then◌else◌, is_none, not}
 use Rattle.rv_rows.specs.declared.row.Row.{Row}
-use Rattle.rv_explain.specs.declared.change.Change.TheVariants.{Gone, Added, Changed, Same}
-use Rattle.rv_explain.specs.Change.{change_of, rows_agree}
+use Rattle.rv_expect.specs.declared.change.Change.TheVariants.{Gone, Added, Changed, Same}
+use Rattle.rv_expect.specs.Change.{change_of, rows_agree}
 use Rattle.rv_views.specs.Diff.{gone_line, is_changed}
 
 -- ---- a row of the old report

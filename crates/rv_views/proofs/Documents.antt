@@ -6,13 +6,13 @@ use Rattle.std.specs.List.{AllByRecursion}
 use Rattle.hex.specs.Hex.{IsBytes}
 use Rattle.rv_rows.specs.declared.row.Row.{Row}
 use Rattle.rv_rows.specs.Verdict.{is_run}
-use Rattle.rv_explain.specs.declared.passing.Rule.{Rule}
+use Rattle.rv_expect.specs.declared.passing.Rule.{Rule}
 use Rattle.rv_lines.specs.ConsoleTail.{is_feed}
-use Rattle.rv_explain.specs.Passing.{has_passed}
+use Rattle.rv_expect.specs.Passing.{has_passed}
 use Rattle.rv_text.specs.declared.xml.Within.TheVariants.{Attribute, Element}
 use Rattle.rv_views.specs.Pieces.{attribute, number_attribute}
 use Rattle.rv_views.specs.Junit.{IsWrittenRow, begin_text, case_text, cases_text, end_text, first_line}
-use Rattle.rv_explain.specs.Problem.{is_error, is_failure}
+use Rattle.rv_expect.specs.Problem.{is_error, is_failure}
 use Rattle.rv_views.specs.Junit.{junit_text, output_text, problem_name}
 use Rattle.rv_views.specs.Junit.{problem_text, up_to}
 use Rattle.rv_text.specs.Xml.{IsXmlCharacters}

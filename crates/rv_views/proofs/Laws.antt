@@ -7,15 +7,15 @@ use Rattle.std.proofs.lemmas.List.Sums.{sum_by-cons}
 use Rattle.rv_rows.specs.declared.row.Row.{Row}
 use Rattle.rv_rows.specs.Report.{line}
 use Rattle.rv_rows.specs.Verdict.{is_run, same_signature}
-use Rattle.rv_explain.specs.declared.passing.Rule.{Rule}
+use Rattle.rv_expect.specs.declared.passing.Rule.{Rule}
 use Rattle.rv_lines.specs.LastLine.{passed_count}
-use Rattle.rv_explain.specs.Passing.{has_passed}
-use Rattle.rv_explain.specs.Change.{rows_agree, same_console, same_ending, same_steps, same_verdict}
+use Rattle.rv_expect.specs.Passing.{has_passed}
+use Rattle.rv_expect.specs.Change.{rows_agree, same_console, same_ending, same_steps, same_verdict}
 use Rattle.rv_views.specs.ByName.{row_named}
 use Rattle.rv_views.specs.Diff.{difference_lines, differing, differing_count, gone_line, is_changed, lines_of_new}
 use Rattle.rv_views.specs.Differences.{becomes, change_begin, change_line, change_lines, console_words, ending_words}
 use Rattle.rv_views.specs.Differences.{signature_words, steps_words, verdict_words}
-use Rattle.rv_explain.specs.Problem.{is_error, is_failure}
+use Rattle.rv_expect.specs.Problem.{is_error, is_failure}
 
 -- ---- failures, errors and what passed
 

@@ -7,7 +7,7 @@ use Rattle.rv_rows.specs.declared.row.Row.{Row}
 use Rattle.rv_rows.specs.Report.{line}
 use Rattle.rv_views.specs.declared.diff.Differing.{Differing}
 use Rattle.rv_views.specs.ByName.{row_named}
-use Rattle.rv_explain.specs.Change.{rows_agree}
+use Rattle.rv_expect.specs.Change.{rows_agree}
 use Rattle.rv_views.specs.Differences.{change_lines}
 
 -- ---- a row, beside the one of its name in the other report, if there is one

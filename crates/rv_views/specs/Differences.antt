@@ -11,7 +11,7 @@ use Rattle.rv_rows.specs.declared.row.RowEnd.TheVariants as ending
 use Rattle.rv_rows.specs.declared.row.Verdict.{Verdict}
 use Rattle.rv_rows.specs.Report.{line, refusal_name, verdict_name, word_digits}
 use Rattle.rv_rows.specs.Verdict.{same_signature}
-use Rattle.rv_explain.specs.Change.{same_console, same_ending, same_steps, same_verdict}
+use Rattle.rv_expect.specs.Change.{same_console, same_ending, same_steps, same_verdict}
 
 -- ---- what changed
 

@@ -1,12 +1,12 @@
 //! The lines that say in what two rows of one name differ.
 
 ghost use Rattle.std.specs.Prelude.{◌≡◌, ◌++◌, OnOk};
-ghost use Rattle.rv_explain.specs.Change.{same_console, same_ending, same_steps, same_verdict};
+ghost use Rattle.rv_expect.specs.Change.{same_console, same_ending, same_steps, same_verdict};
 ghost use Rattle.rv_views.specs.Differences.{becomes, change_line, change_lines, console_words};
 ghost use Rattle.rv_views.specs.Differences.{ending_words, first_place, steps_words, verdict_words};
 
 use crate::signature_line::push_signature_change;
-use rv_explain::{behind, same_console, same_ending, same_steps, same_verdict, verdict_text};
+use rv_expect::{behind, same_console, same_ending, same_steps, same_verdict, verdict_text};
 use rv_lines::{Span, push_spans};
 use rv_rows::{Row, RowEnd};
 use std::alloc::AllocError;

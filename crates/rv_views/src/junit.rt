@@ -2,12 +2,12 @@
 
 ghost use Rattle.std.specs.Prelude.{◌≡◌, ◌++◌, OnOk, count_by, position, string_bytes};
 ghost use Rattle.rv_lines.specs.ConsoleTail.{is_feed};
-ghost use Rattle.rv_explain.specs.Problem.{is_error, is_failure};
+ghost use Rattle.rv_expect.specs.Problem.{is_error, is_failure};
 ghost use Rattle.rv_views.specs.Junit.{begin_text, case_text, first_line};
 ghost use Rattle.rv_views.specs.Junit.{problem_name, problem_or_none};
 
 use crate::pieces::{Piece, push_pieces};
-use rv_explain::{Rule, has_passed, is_error, is_failure};
+use rv_expect::{Rule, has_passed, is_error, is_failure};
 use rv_rows::{Row, is_run};
 use std::alloc::{AllocError, Global};
 

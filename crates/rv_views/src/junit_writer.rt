@@ -7,7 +7,7 @@ ghost use Rattle.rv_stream.specs.Streams.{texts_of};
 ghost use Rattle.rv_views.specs.Junit.{junit_text};
 
 use crate::junit::{push_begin, push_case};
-use rv_explain::Rule;
+use rv_expect::Rule;
 use rv_lines::push_text;
 use rv_rows::{Row, Sink, WriteError, put_all};
 use rv_stream::{Telling, put_told};

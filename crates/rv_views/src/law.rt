@@ -4,12 +4,12 @@ ghost use Rattle.std.specs.Prelude.{◌≡◌, ◌==◌, ◌+◌, ◌<◌, ◌^�
 ghost use Rattle.std.specs.List.{AllByRecursion};
 ghost use Rattle.hex.specs.Hex.{IsBytes};
 ghost use Rattle.rv_rows.specs.declared.row.Row.{Row};
-ghost use Rattle.rv_explain.specs.declared.passing.Rule.{Rule};
+ghost use Rattle.rv_expect.specs.declared.passing.Rule.{Rule};
 ghost use Rattle.rv_lines.specs.LastLine.{passed_count};
 ghost use Rattle.rv_views.specs.Diff.{difference_lines, differing, differing_count};
-ghost use Rattle.rv_explain.specs.Change.{rows_agree};
+ghost use Rattle.rv_expect.specs.Change.{rows_agree};
 ghost use Rattle.rv_views.specs.Differences.{change_lines};
-ghost use Rattle.rv_explain.specs.Problem.{is_error, is_failure};
+ghost use Rattle.rv_expect.specs.Problem.{is_error, is_failure};
 ghost use Rattle.rv_views.specs.Junit.{IsWrittenRow, junit_text};
 ghost use Rattle.rv_text.specs.Xml.{IsXmlCharacters};
 

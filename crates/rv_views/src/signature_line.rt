@@ -5,7 +5,7 @@ ghost use Rattle.rv_rows.specs.Report.{line};
 ghost use Rattle.rv_rows.specs.Verdict.{same_signature};
 ghost use Rattle.rv_views.specs.Differences.{change_begin, change_line, first_place, signature_words, words_words};
 
-use rv_explain::same_signature;
+use rv_expect::same_signature;
 use rv_lines::{Span, push_spans};
 use rv_rows::{Row, Words};
 use std::alloc::AllocError;

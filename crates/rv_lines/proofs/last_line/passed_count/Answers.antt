@@ -1,6 +1,6 @@
 use Rattle.std.proofs.Common.{arith}
 use Rattle.std.proofs.lemmas.List.Sums.{count_by-le-length}
-use Rattle.rv_explain.specs.Passing.{has_passed}
+use Rattle.rv_expect.specs.Passing.{has_passed}
 use Rattle.rv_lines.proofs.Counts.{counted_all, counted_few, counted_more, counted_same}
 use Rattle.rv_lines.proofs.last_line.passed_count.Goals as goal
 use Rattle.rv_lines.proofs.last_line.passed_count.Goals.{else-has_passed, then-has_passed}

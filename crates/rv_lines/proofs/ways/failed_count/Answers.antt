@@ -1,5 +1,5 @@
 use Rattle.std.proofs.Common.{arith}
-use Rattle.rv_explain.specs.Ways.{fails_by}
+use Rattle.rv_expect.specs.Ways.{fails_by}
 use Rattle.rv_lines.proofs.Counts.{counted_all, counted_few, counted_more, counted_same}
 use Rattle.rv_lines.proofs.ways.failed_count.Goals as goal
 use Rattle.rv_lines.proofs.ways.failed_count.Goals.{else-fails_by, then-fails_by}

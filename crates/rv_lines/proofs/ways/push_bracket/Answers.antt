@@ -2,7 +2,7 @@ use Rattle.std.proofs.Common.{◌≡◌, ◌∙◌, ◌++◌, ◌==◌, ℕ, ap,
 use Rattle.std.proofs.Common.{refl, sym}
 use Rattle.std.specs.Fmt.{decimal}
 use Rattle.std.specs.Prelude.{codes, not}
-use Rattle.rv_explain.specs.Ways.{ways}
+use Rattle.rv_expect.specs.Ways.{ways}
 use Rattle.rv_lines.specs.LastLine.{failed_count, failures_below, opened, way_name}
 use Rattle.rv_lines.proofs.Counts.{bracket-closed, bracket-none, failures_below-none, failures_below-some, is_begun, opened-more}
 use Rattle.rv_lines.proofs.ways.push_bracket.Goals as goal

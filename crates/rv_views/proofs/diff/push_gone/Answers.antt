@@ -1,6 +1,6 @@
 use Rattle.std.proofs.Common.{◌≡◌, ◌∙◌, ◌+◌, ◌++◌, ap, append-nil, cond, sym, Some}
 use Rattle.std.specs.Prelude.{is_none}
-use Rattle.rv_explain.specs.Change.{change_of}
+use Rattle.rv_expect.specs.Change.{change_of}
 use Rattle.rv_views.specs.ByName.{row_named}
 use Rattle.rv_views.specs.Diff.{gone_line, is_alone_in}
 use Rattle.rv_views.proofs.Changes.{gone_is_alone, stays_where_not_gone}

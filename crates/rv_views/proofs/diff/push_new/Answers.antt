@@ -1,6 +1,6 @@
 use Rattle.std.proofs.Common.{◌≡◌, ◌∙◌, ◌+◌, ◌++◌, ap, sym, Some}
 use Rattle.std.specs.Prelude.{is_none}
-use Rattle.rv_explain.specs.Change.{change_of}
+use Rattle.rv_expect.specs.Change.{change_of}
 use Rattle.rv_views.specs.ByName.{row_named}
 use Rattle.rv_views.specs.Diff.{is_alone_in, is_changed, lines_of_new}
 use Rattle.rv_views.proofs.Changes.{IsCounted, added_is, changed_is, counted_within, same_is}

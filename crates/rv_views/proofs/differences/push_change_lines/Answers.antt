@@ -1,6 +1,6 @@
 use Rattle.std.proofs.Common.{◌++◌, ℕ, List}
 use Rattle.rv_rows.specs.Verdict.{same_signature}
-use Rattle.rv_explain.specs.Change.{same_console, same_ending, same_steps, same_verdict}
+use Rattle.rv_expect.specs.Change.{same_console, same_ending, same_steps, same_verdict}
 use Rattle.rv_views.specs.Differences.{becomes, change_line, change_lines, console_words, ending_words}
 use Rattle.rv_views.specs.Differences.{signature_words, steps_words, verdict_words}
 use Rattle.rv_views.proofs.OneMore.{ended, more}
