@@ -6,9 +6,9 @@ ghost use Rattle.rv_lists.specs.JobList.{job_list_of};
 use crate::files::read_file;
 use crate::messages::told_of;
 use crate::stop::Stop;
-use rv_fault_texts::push_faults;
 use rv_jobs::limits::MOST_BYTES;
 use rv_jobs::{JobError, JobList, What, read_jobs};
+use rv_list_errors::push_faults;
 use std::alloc::{AllocError, Global};
 use std::rt::Files;
 
