@@ -5,7 +5,7 @@ ghost use Rattle.rv_list_errors.specs.Lines.{PutsLines};
 
 use crate::list::List;
 use crate::texts::{Look, message_of};
-use rv_lines::{Span, push_spans};
+use rv_job_text::{Span, push_spans};
 use rv_lists::JobError;
 use std::alloc::{AllocError, Global};
 use toml::Table;

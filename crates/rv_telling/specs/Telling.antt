@@ -7,9 +7,9 @@ use Rattle.rv_files.specs.declared.noting.Unread.{Unread}
 use Rattle.rv_lists.specs.declared.job.Job.{Job}
 use Rattle.rv_jobs.specs.Plans.{Planned, kept_for}
 use Rattle.rv_expect.specs.declared.passing.Rule.{Rule}
-use Rattle.rv_lines.specs.ConsoleTail.{console_tail}
+use Rattle.rv_job_text.specs.ConsoleTail.{console_tail}
 use Rattle.rv_expect.specs.Passing.{has_passed}
-use Rattle.rv_lines.specs.ResultLine.{result_line}
+use Rattle.rv_job_text.specs.ResultLine.{result_line}
 use Rattle.rv_telling.specs.MetLines.{met_lines}
 use Rattle.rv_telling.specs.UnmetLines.{Comparison, unmet_lines}
 use Rattle.rv_rows.specs.declared.row.Row.{Row}

@@ -20,7 +20,7 @@ use Rattle.rv_lists.specs.declared.job.ExpectedEnd.{ExpectedEnd}
 use Rattle.rv_lists.specs.declared.job.ExpectedEnd.TheVariants as expected
 use Rattle.rv_lists.specs.declared.job.Job.{Job}
 use Rattle.rv_telling.specs.declared.unmet_line.Sides.{Sides}
-use Rattle.rv_lines.specs.Shown.{shown, shown_value}
+use Rattle.rv_job_text.specs.Shown.{shown, shown_value}
 use Rattle.rv_machine.specs.Faults.{fault_name}
 use Rattle.rv_rows.specs.declared.row.Row.{Row}
 use Rattle.rv_rows.specs.declared.row.RowEnd.{RowEnd}

@@ -7,8 +7,8 @@ ghost use Rattle.rv_telling.specs.UnmetLines.{unmet_line, unmet_lines, unmet_tex
 use crate::difference_text::{push_bytes, push_console, push_topic};
 use crate::signature_text::{push_signature, push_signatures};
 use rv_expect::{SameDifference, Unmet};
+use rv_job_text::{Span, push_spans, push_text};
 use rv_jobs::{ExpectedEnd, Job};
-use rv_lines::{Span, push_spans, push_text};
 use rv_rows::{Row, RowEnd};
 use std::alloc::AllocError;
 

@@ -7,7 +7,7 @@ use Rattle.rv_disasm.specs.Assembly.{no_instruction, text16, text32}
 use Rattle.rv_disasm.specs.Operands.{register_name}
 use Rattle.rv_elf.specs.declared.image.Image.{Image}
 use Rattle.rv_elf.specs.Nearest.{symbol_at, symbol_of_value}
-use Rattle.rv_lines.specs.ResultLine.{place_text, symbol_text}
+use Rattle.rv_job_text.specs.ResultLine.{place_text, symbol_text}
 use Rattle.rv_machine.specs.declared.ending.FaultKind.{FaultKind}
 use Rattle.rv_machine.specs.declared.ending.FaultKind.TheVariants as fault
 use Rattle.rv_machine.specs.Faults.{fault_name}

@@ -8,7 +8,7 @@ use Rattle.rv_rows.specs.declared.row.Row.{Row}
 use Rattle.rv_rows.specs.Report.{line}
 use Rattle.rv_rows.specs.Verdict.{is_run, same_signature}
 use Rattle.rv_expect.specs.declared.passing.Rule.{Rule}
-use Rattle.rv_lines.specs.LastLine.{passed_count}
+use Rattle.rv_job_text.specs.LastLine.{passed_count}
 use Rattle.rv_expect.specs.Passing.{has_passed}
 use Rattle.rv_expect.specs.Change.{rows_agree, same_console, same_ending, same_steps, same_verdict}
 use Rattle.rv_views.specs.ByName.{row_named}

@@ -6,7 +6,7 @@ use Rattle.hex.specs.Hex.{IsBytes}
 use Rattle.rv_rows.specs.declared.row.Row.{Row}
 use Rattle.rv_rows.specs.Verdict.{is_run}
 use Rattle.rv_expect.specs.declared.passing.Rule.{Rule}
-use Rattle.rv_lines.specs.ConsoleTail.{is_feed}
+use Rattle.rv_job_text.specs.ConsoleTail.{is_feed}
 use Rattle.rv_expect.specs.Passing.{has_passed}
 use Rattle.rv_expect.specs.Problem.{is_error, is_failure}
 use Rattle.rv_text.specs.declared.xml.Within.TheVariants.{Element}

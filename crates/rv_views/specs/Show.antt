@@ -5,9 +5,9 @@ use Rattle.std.specs.List.{flat_map}
 use Rattle.rv_rows.specs.declared.row.Row.{Row}
 use Rattle.rv_rows.specs.Report.{line}
 use Rattle.rv_expect.specs.declared.passing.Rule.{Rule}
-use Rattle.rv_lines.specs.LastLine.{last_line}
+use Rattle.rv_job_text.specs.LastLine.{last_line}
 use Rattle.rv_expect.specs.Passing.{has_passed}
-use Rattle.rv_lines.specs.ResultLine.{result_line}
+use Rattle.rv_job_text.specs.ResultLine.{result_line}
 use Rattle.rv_views.specs.declared.most_steps.TheConstants.{MOST_SHOWN}
 
 -- the line of a row that failed, as far as a report knows it

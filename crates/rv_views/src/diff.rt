@@ -10,7 +10,7 @@ ghost use Rattle.rv_views.specs.Diff.{is_changed, lines_of_new};
 use crate::by_name::ByName;
 use crate::differences::push_change_lines;
 use rv_expect::{Change, change_of};
-use rv_lines::{Span, push_spans};
+use rv_job_text::{Span, push_spans};
 use rv_rows::Row;
 use std::alloc::{AllocError, Global};
 

@@ -7,7 +7,7 @@ ghost use Rattle.rv_views.specs.Differences.{ending_words, first_place, steps_wo
 
 use crate::signature_line::push_signature_change;
 use rv_expect::{behind, same_console, same_ending, same_steps, same_verdict, verdict_text};
-use rv_lines::{Span, push_spans};
+use rv_job_text::{Span, push_spans};
 use rv_rows::{Row, RowEnd};
 use std::alloc::AllocError;
 

@@ -4,7 +4,7 @@ ghost use Rattle.std.specs.Prelude.{◌≡◌, ◌++◌, OnOk};
 ghost use Rattle.rv_views.specs.Show.{failed_line};
 
 use rv_expect::{Rule, has_passed};
-use rv_lines::push_result;
+use rv_job_text::push_result;
 use rv_rows::Row;
 use rv_stream::Telling;
 use std::alloc::{AllocError, Global};

@@ -1,7 +1,7 @@
 //! The parts of JUnit's XML.
 
 ghost use Rattle.std.specs.Prelude.{◌≡◌, ◌++◌, OnOk, count_by, position, string_bytes};
-ghost use Rattle.rv_lines.specs.ConsoleTail.{is_feed};
+ghost use Rattle.rv_job_text.specs.ConsoleTail.{is_feed};
 ghost use Rattle.rv_expect.specs.Problem.{is_error, is_failure};
 ghost use Rattle.rv_views.specs.Junit.{begin_text, case_text, first_line};
 ghost use Rattle.rv_views.specs.Junit.{problem_name, problem_or_none};

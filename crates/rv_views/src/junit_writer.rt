@@ -8,7 +8,7 @@ ghost use Rattle.rv_views.specs.Junit.{junit_text};
 
 use crate::junit::{push_begin, push_case};
 use rv_expect::Rule;
-use rv_lines::push_text;
+use rv_job_text::push_text;
 use rv_rows::{Row, Sink, WriteError, put_all};
 use rv_stream::{Telling, put_told};
 use std::alloc::{AllocError, Global};

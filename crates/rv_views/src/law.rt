@@ -5,7 +5,7 @@ ghost use Rattle.std.specs.List.{AllByRecursion};
 ghost use Rattle.hex.specs.Hex.{IsBytes};
 ghost use Rattle.rv_rows.specs.declared.row.Row.{Row};
 ghost use Rattle.rv_expect.specs.declared.passing.Rule.{Rule};
-ghost use Rattle.rv_lines.specs.LastLine.{passed_count};
+ghost use Rattle.rv_job_text.specs.LastLine.{passed_count};
 ghost use Rattle.rv_views.specs.Diff.{difference_lines, differing, differing_count};
 ghost use Rattle.rv_expect.specs.Change.{rows_agree};
 ghost use Rattle.rv_views.specs.Differences.{change_lines};

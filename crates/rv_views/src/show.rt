@@ -7,7 +7,7 @@ ghost use Rattle.rv_views.specs.Show.{failed_line, most_text, show_text, steps_l
 use crate::failed_lines::push_failed_line;
 use crate::most_steps::most_steps;
 use rv_expect::Rule;
-use rv_lines::{Span, push_last_line, push_spans, push_text};
+use rv_job_text::{Span, push_last_line, push_spans, push_text};
 use rv_rows::Row;
 use std::alloc::{AllocError, Global};
 

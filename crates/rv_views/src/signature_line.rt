@@ -6,7 +6,7 @@ ghost use Rattle.rv_rows.specs.Verdict.{same_signature};
 ghost use Rattle.rv_views.specs.Differences.{change_begin, change_line, first_place, signature_words, words_words};
 
 use rv_expect::same_signature;
-use rv_lines::{Span, push_spans};
+use rv_job_text::{Span, push_spans};
 use rv_rows::{Row, Words};
 use std::alloc::AllocError;
 

@@ -3,7 +3,7 @@ use Rattle.std.specs.Prelude.{ℕ, List, ◌++◌, ◌+◌, ◌==◌, if◌then�
 use Rattle.std.specs.Prelude.{Option, Some, None}
 use Rattle.std.specs.List.{list_all}
 use Rattle.rv_expect.specs.declared.passing.Rule.{Rule}
-use Rattle.rv_lines.specs.LastLine.{last_line}
+use Rattle.rv_job_text.specs.LastLine.{last_line}
 use Rattle.rv_expect.specs.Passing.{has_passed}
 use Rattle.rv_report_lines.specs.declared.saved.Extent.{Extent}
 use Rattle.rv_report_lines.specs.declared.saved.Extent.TheVariants as extent

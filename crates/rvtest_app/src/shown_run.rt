@@ -4,16 +4,16 @@ ghost use Rattle.std.specs.Prelude.{◌≡◌, ◌<◌, ◌≤◌, ◌^◌, IfOk
 ghost use Rattle.std.specs.Io.KnownBytes.{Appends};
 ghost use Rattle.std.specs.List.Sorted.{IsStrictlyIncreasing};
 ghost use Rattle.rv_fleet.specs.Choices.{AreWithin};
-ghost use Rattle.rv_lines.specs.LastLine.{last_line};
+ghost use Rattle.rv_job_text.specs.LastLine.{last_line};
 ghost use Rattle.rv_rows.specs.Rows.{rows_at};
 ghost use Rattle.rv_rows.specs.Sending.{AppendsBeginning};
 ghost use Rattle.rvtest_app.specs.Shown.{shown};
 
 use rv_expect::Rule;
 use rv_fleet::{Row, Rows, Sink, put_all};
+use rv_job_text::push_last_line;
 use rv_jobs::Plan;
 use rv_jobs::limits::MOST_JOBS;
-use rv_lines::push_last_line;
 use rv_stream::{StreamError, Telling, stream_places};
 use std::alloc::Global;
 use std::sync::Wait;

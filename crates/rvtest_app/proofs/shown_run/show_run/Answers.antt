@@ -1,6 +1,6 @@
 use Rattle.std.proofs.Common.{◌∙◌, ap, arith, length}
 use Rattle.rv_fleet.proofs.Public.{rising_few, rows_count}
-use Rattle.rv_lines.specs.LastLine.{last_line}
+use Rattle.rv_job_text.specs.LastLine.{last_line}
 use Rattle.rv_rows.specs.Rows.{rows_at}
 use Rattle.rvtest_app.proofs.Sent.{begun_before, told_behind, told_whole}
 use Rattle.rvtest_app.proofs.shown_run.show_run.Goals as goal
