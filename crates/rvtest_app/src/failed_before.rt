@@ -12,7 +12,7 @@ use crate::streams::Streams;
 use rv_expect::{Rule, has_passed};
 use rv_job_text::{Span, text_of};
 use rv_jobs::Job;
-use rv_reports::{ReadError, SavedReport, read_report};
+use rv_report::{ReadError, SavedReport, read_report};
 use rv_rows::Row;
 use std::alloc::{AllocError, Global};
 use std::rt::Files;

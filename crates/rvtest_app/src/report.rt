@@ -13,7 +13,7 @@ use crate::streams::Streams;
 use rv_expect::Rule;
 use rv_files::{FileError, FileSink, StreamSink};
 use rv_fleet::{Report, Row, Rows, Sink, WriteError, write_report};
-use rv_reports::Shard;
+use rv_report::Shard;
 use rv_stream::Telling;
 use rv_views::{FailedLines, write_junit};
 use std::alloc::Global;

@@ -10,7 +10,7 @@ ghost use Rattle.rvtest_app.specs.Shown.{numbers_of, part_text, report_of};
 
 use crate::write::write_saved;
 use rv_fleet::{Report, Rows, Sink, WriteError, write_report};
-use rv_reports::{Extent, Numbers, SavedReport, Shard};
+use rv_report::{Extent, Numbers, SavedReport, Shard};
 use std::alloc::{AllocError, Global};
 
 /// Appends the report of the rows of the jobs at some places of a list of so many jobs: that of a shard, where these are

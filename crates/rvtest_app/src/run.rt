@@ -22,7 +22,7 @@ use rv_files::{NotingStore, StreamSink};
 use rv_fleet::Rows;
 use rv_jobs::{Job, JobList, Plan, gather_places, marked_places};
 use rv_merge::shard_marks;
-use rv_reports::Shard;
+use rv_report::Shard;
 use rv_telling::{CountingTelling, Progress, RowTelling, TerminalSink, Verbosity};
 use rv_test_words::RunAsked;
 use std::alloc::Global;

@@ -11,7 +11,7 @@ use crate::stop::Stop;
 use clap::error::ErrorKind;
 use rv_jobs::Text;
 use rv_jobs::limits::MOST_JOBS;
-use rv_reports::{Shard, is_name};
+use rv_report::{Shard, is_name};
 use rv_test_words::{RunAsked, refusal, run_command};
 use sha2::{Digest, Sha256};
 use std::alloc::{AllocError, Global};

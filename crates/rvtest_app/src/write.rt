@@ -7,12 +7,12 @@ ghost use Rattle.rv_jobs.specs.Stores.{one_more};
 ghost use Rattle.rv_rows.specs.Sending.{AppendsBeginning, IsUnderWay, Rose};
 ghost use Rattle.rv_report_lines.specs.Saved.{are_rising, numbered_text, saved_text};
 
-use rv_reports::{SavedReport, push_last};
+use rv_report::{SavedReport, push_last};
 use rv_rows::{Row, Sink, WriteError, push_row, put_if_enough, put_text};
 use std::alloc::Global;
 
 /// Appends the text of a report to the sink, or a beginning of it: the text that
-/// [`rv_reports::read_report`] reads, of a whole report, of a choice's and of a shard's.
+/// [`rv_report::read_report`] reads, of a whole report, of a choice's and of a shard's.
 pub(crate) fn write_saved<W: Sink>(
     alloc: Global,
     report: &SavedReport,

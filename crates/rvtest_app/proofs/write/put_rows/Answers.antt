@@ -5,7 +5,7 @@ use Rattle.rv_rows.specs.Report.{row_text}
 use Rattle.rv_rows.proofs.Public.{beginning_of_longer, failed_under_way, more_under_way, nothing_under_way}
 use Rattle.rv_rows.proofs.Public.{stopped_under_way}
 use Rattle.rv_report_lines.specs.Saved.{numbered_text}
-use Rattle.rv_reports.proofs.Public.{above, numbered_more, numbered_split}
+use Rattle.rv_report.proofs.Public.{above, numbered_more, numbered_split}
 use Rattle.rvtest_app.proofs.write.put_rows.Goals as goal
 
 pub loop-at-init : goal.loop-at-init
