@@ -13,9 +13,9 @@ use crate::streams::Streams;
 use rv_expect::Rule;
 use rv_files::{FileError, FileSink, StreamSink};
 use rv_fleet::{Report, Row, Rows, Sink, WriteError, write_report};
+use rv_junit::{FailedLines, write_junit};
 use rv_report::Shard;
 use rv_stream::Telling;
-use rv_views::{FailedLines, write_junit};
 use std::alloc::Global;
 use std::rt::Files;
 

@@ -3,7 +3,7 @@
 ghost use Rattle.std.specs.Prelude.{◌≡◌, ◌≤◌, ◌<◌, ◌^◌, IfOk, length};
 ghost use Rattle.rvtest_app.specs.Commands.{rule_for};
 ghost use Rattle.rvtest_app.specs.Shown.{status_of};
-ghost use Rattle.rv_views.specs.Show.{show_text};
+ghost use Rattle.rv_junit.specs.Show.{show_text};
 
 use crate::failed_before::read_saved;
 use crate::messages::put_beside;
@@ -14,9 +14,9 @@ use crate::status::status_of;
 use crate::stop::Stop;
 use crate::streams::Streams;
 use rv_expect::Rule;
+use rv_junit::{FailedLines, push_show};
 use rv_rows::Row;
 use rv_test_words::ShowAsked;
-use rv_views::{FailedLines, push_show};
 use std::alloc::{AllocError, Global};
 use std::rt::Files;
 
