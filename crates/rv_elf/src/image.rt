@@ -9,8 +9,8 @@ use crate::error::ImageError;
 use crate::fields::{E_ENTRY, word};
 use crate::header::check_header;
 use crate::program_headers::{check_entries, entries, kept_segments};
+use rv_base::Sequence;
 use rv_isa::Isa;
-use rv_sequence::Sequence;
 use std::alloc::Global;
 
 /// A part of the file that is loaded (System V ABI, "Program Header", PT_LOAD).

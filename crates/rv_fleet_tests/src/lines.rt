@@ -1,5 +1,5 @@
 //! Where jobs begin in texts that are no TOML: those up to there are noted. No run of a program asks for them.
-use rv_fault_texts::job_lines;
+use rv_list_errors::job_lines;
 use samples::agree;
 use std::alloc::{AllocError, Global};
 use std::test::Fail;

@@ -2,7 +2,7 @@
 
 ghost use Rattle.std.specs.Prelude.{◌≡◌, IfOk, string_bytes};
 
-use rv_sequence::Sequence;
+use rv_base::Sequence;
 use std::alloc::{AllocError, Global};
 use std::marker::Model;
 

@@ -13,9 +13,9 @@ use Rattle.rv_report_lines.specs.declared.saved.Extent.TheVariants as extent
 use Rattle.rv_report_lines.specs.declared.saved.Shard.{Shard}
 use Rattle.rv_report_lines.specs.declared.saved.SavedReport.{SavedReport}
 use Rattle.rv_report_lines.specs.Saved.{IsSaved, saved_text}
-use Rattle.rv_reports.specs.declared.read.ReadError.{ReadError}
-use Rattle.rv_reports.specs.declared.read.ReadError.TheVariants as read
-use Rattle.rv_reports.specs.Differences.{IsPlace, Tells, first_difference}
+use Rattle.rv_report.specs.declared.read.ReadError.{ReadError}
+use Rattle.rv_report.specs.declared.read.ReadError.TheVariants as read
+use Rattle.rv_report.specs.Differences.{IsPlace, Tells, first_difference}
 use Rattle.rv_report_lines.specs.Said.{said}
 use Rattle.rv_merge.specs.declared.error.Flaw.{Flaw}
 use Rattle.rv_merge.specs.declared.error.Flaw.TheVariants as flaw

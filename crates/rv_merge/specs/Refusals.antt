@@ -4,12 +4,12 @@ use Rattle.std.specs.Prelude.{Ok, Err, is_some, slice_get}
 use Rattle.std.specs.List.{All}
 use Rattle.rv_lists.specs.JobList.{place_in}
 use Rattle.rv_rows.specs.declared.row.Row.{Row}
-use Rattle.rv_reports.specs.declared.read.ReadError.{ReadError}
-use Rattle.rv_reports.specs.declared.read.ReadError.TheVariants as read
+use Rattle.rv_report.specs.declared.read.ReadError.{ReadError}
+use Rattle.rv_report.specs.declared.read.ReadError.TheVariants as read
 use Rattle.rv_report_lines.specs.declared.saved.Extent.TheVariants as extent
 use Rattle.rv_report_lines.specs.declared.saved.Shard.{Shard}
 use Rattle.rv_report_lines.specs.declared.saved.SavedReport.{SavedReport}
-use Rattle.rv_reports.specs.Differences.{IsPlace, Tells, first_difference}
+use Rattle.rv_report.specs.Differences.{IsPlace, Tells, first_difference}
 use Rattle.rv_report_lines.specs.Said.{said}
 use Rattle.rv_report_lines.specs.Saved.{IsSaved, names_of, saved_text}
 use Rattle.rv_merge.specs.declared.error.Flaw.{Flaw}

@@ -10,7 +10,7 @@ ghost use Rattle.rv_merge.specs.GatheredInside.{IsTextOf, IsOtherRun, HoldsIn, f
 use crate::error::{Flaw, MergeError};
 use crate::part::Part;
 use rv_jobs::Text;
-use rv_reports::Shard;
+use rv_report::Shard;
 use rv_rows::Row;
 use std::alloc::{AllocError, Global};
 

@@ -6,7 +6,7 @@ ghost use Rattle.rv_merge.specs.Refusals.{IsRefused, HasFlaw};
 ghost use Rattle.rv_merge.specs.GatheredInside.{IsTextOf, IsOtherKind, report_of};
 
 use crate::error::{Flaw, MergeError};
-use rv_reports::{Extent, Numbers, ReadError, SavedReport, Shard, read_report};
+use rv_report::{Extent, Numbers, ReadError, SavedReport, Shard, read_report};
 use rv_rows::Rows;
 use std::alloc::Global;
 

@@ -1,7 +1,7 @@
 //! What the lines of a saved report say.
 //!
 //! [`gathered`] takes each line of a text for what it seems to say, and answers the rows with the numbers of their jobs and what the
-//! last line says ([`Extent`]). Any text says something: whether it is a report, `rv_reports` sees by writing what it says.
+//! last line says ([`Extent`]). Any text says something: whether it is a report, `rv_report` sees by writing what it says.
 #![tactic(auto)]
 
 mod fields;

@@ -5,10 +5,10 @@ ghost use Rattle.rv_lists.specs.Jobs.{most_jobs};
 ghost use Rattle.rv_report_lines.specs.Saved.{are_rising, are_stepped, is_shard, fits};
 
 use crate::fields::is_name;
+use rv_base::Sequence;
 use rv_jobs::Text;
 use rv_jobs::limits::MOST_JOBS;
 use rv_rows::Rows;
-use rv_sequence::Sequence;
 
 /// Numbers of jobs, of which contracts see their list.
 pub type Numbers = Sequence<u32>;

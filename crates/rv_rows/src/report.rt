@@ -12,7 +12,7 @@ ghost use Rattle.rv_rows.specs.declared.report.WriteError.TheVariants.{Failed, O
 use crate::row::{Row, RowEnd, Verdict};
 use crate::signature_lines::{push_word, push_word_lines};
 use crate::sink::{Sink, SinkFailed, put_all};
-use rv_sequence::Sequence;
+use rv_base::Sequence;
 use std::alloc::{AllocError, Global};
 use thiserror::Error;
 

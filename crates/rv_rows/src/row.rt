@@ -5,10 +5,10 @@ ghost use Rattle.std.specs.List.{find};
 ghost use Rattle.std.specs.Str.{bytes_eq};
 ghost use Rattle.rv_rows.specs.Report.{refusal_name, refusal_named};
 
+use rv_base::Sequence;
 use rv_elf::ImageError;
 use rv_jobs::{Bytes, Text};
 use rv_machine::FaultKind;
-use rv_sequence::Sequence;
 
 /// Words of 32 bits, of which contracts see their list.
 pub type Words = Sequence<u32>;

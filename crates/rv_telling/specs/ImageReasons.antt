@@ -12,10 +12,10 @@ use Rattle.rv_elf.specs.declared.loading.LoadAt.{LoadAt}
 use Rattle.rv_elf.specs.Image.{image_of}
 use Rattle.rv_elf.specs.Loading.{load_address, share}
 use Rattle.rv_elf.specs.Symbols.{symbol_of}
-use Rattle.rv_explain.specs.Refusal.{unfit_segment}
+use Rattle.rv_expect.specs.Refusal.{unfit_segment}
 use Rattle.rv_lists.specs.declared.job.Job.{Job}
 use Rattle.rv_lists.specs.declared.job.Symbols.{Symbols}
-use Rattle.rv_lines.specs.Shown.{shown}
+use Rattle.rv_job_text.specs.Shown.{shown}
 use Rattle.rv_memory.specs.declared.map.Region.{Region}
 use Rattle.rv_memory.specs.Regions.{in_one}
 use Rattle.rv_rows.specs.Report.{word_digits}

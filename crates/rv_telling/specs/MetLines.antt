@@ -1,12 +1,12 @@
 -- The line that a person sees of an expectation that a run meets.
 use Rattle.std.specs.Prelude.{ℕ, List, [], ◌++◌, Option, Some, None, codes}
 use Rattle.std.specs.Prelude.{if◌then◌else◌}
-use Rattle.rv_explain.specs.declared.unmet.Unmet.{Unmet}
-use Rattle.rv_explain.specs.Met.{is_met}
+use Rattle.rv_expect.specs.declared.unmet.Unmet.{Unmet}
+use Rattle.rv_expect.specs.Met.{is_met}
 use Rattle.rv_lists.specs.Jobs.{console_path}
-use Rattle.rv_lines.specs.Shown.{shown}
-use Rattle.rv_explain.specs.declared.met.Expectation.{Expectation}
-use Rattle.rv_explain.specs.declared.met.Expectation.TheVariants as expectation
+use Rattle.rv_job_text.specs.Shown.{shown}
+use Rattle.rv_expect.specs.declared.met.Expectation.{Expectation}
+use Rattle.rv_expect.specs.declared.met.Expectation.TheVariants as expectation
 use Rattle.rv_telling.specs.UnmetLines.{Comparison, end_text, exit_text}
 use Rattle.rv_rows.specs.declared.row.Row.{Row}
 use Rattle.rv_rows.specs.Report.{line}

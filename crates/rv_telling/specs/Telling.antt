@@ -1,15 +1,15 @@
 -- What a person is told of a job's row.
 use Rattle.std.specs.Prelude.{ℕ, List, [], ◌++◌, Option, Some, None, Bool, true, false}
 use Rattle.std.specs.Prelude.{if◌then◌else◌, slice_get}
-use Rattle.rv_explain.specs.declared.unmet.Unmet.{Unmet}
-use Rattle.rv_explain.specs.Planned.{named_row, unmet_in}
+use Rattle.rv_expect.specs.declared.unmet.Unmet.{Unmet}
+use Rattle.rv_expect.specs.Planned.{named_row, unmet_in}
 use Rattle.rv_files.specs.declared.noting.Unread.{Unread}
 use Rattle.rv_lists.specs.declared.job.Job.{Job}
 use Rattle.rv_jobs.specs.Plans.{Planned, kept_for}
-use Rattle.rv_explain.specs.declared.passing.Rule.{Rule}
-use Rattle.rv_lines.specs.ConsoleTail.{console_tail}
-use Rattle.rv_explain.specs.Passing.{has_passed}
-use Rattle.rv_lines.specs.ResultLine.{result_line}
+use Rattle.rv_expect.specs.declared.passing.Rule.{Rule}
+use Rattle.rv_job_text.specs.ConsoleTail.{console_tail}
+use Rattle.rv_expect.specs.Passing.{has_passed}
+use Rattle.rv_job_text.specs.ResultLine.{result_line}
 use Rattle.rv_telling.specs.MetLines.{met_lines}
 use Rattle.rv_telling.specs.UnmetLines.{Comparison, unmet_lines}
 use Rattle.rv_rows.specs.declared.row.Row.{Row}

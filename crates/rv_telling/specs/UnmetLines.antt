@@ -5,22 +5,22 @@ use Rattle.std.specs.Prelude.{slice_index, slice_range, Option, Some, None, opti
 use Rattle.std.specs.Prelude.{if◌then◌else◌, nat_lt, codes}
 use Rattle.std.specs.Fmt.{decimal}
 use Rattle.std.specs.List.{flat_map}
-use Rattle.rv_explain.specs.declared.difference.Difference.{Difference}
-use Rattle.rv_explain.specs.declared.difference.Difference.TheVariants as difference
-use Rattle.rv_explain.specs.declared.difference.SameDifference.{SameDifference}
-use Rattle.rv_explain.specs.declared.difference.SameDifference.TheVariants as same
-use Rattle.rv_explain.specs.declared.difference.SignatureDifference.{SignatureDifference}
-use Rattle.rv_explain.specs.declared.difference.SignatureDifference.TheVariants as signature
-use Rattle.rv_explain.specs.declared.unmet.Unmet.{Unmet}
-use Rattle.rv_explain.specs.declared.unmet.Unmet.TheVariants as unmet
-use Rattle.rv_explain.specs.Reference.{words_or_none}
+use Rattle.rv_expect.specs.declared.difference.Difference.{Difference}
+use Rattle.rv_expect.specs.declared.difference.Difference.TheVariants as difference
+use Rattle.rv_expect.specs.declared.difference.SameDifference.{SameDifference}
+use Rattle.rv_expect.specs.declared.difference.SameDifference.TheVariants as same
+use Rattle.rv_expect.specs.declared.difference.SignatureDifference.{SignatureDifference}
+use Rattle.rv_expect.specs.declared.difference.SignatureDifference.TheVariants as signature
+use Rattle.rv_expect.specs.declared.unmet.Unmet.{Unmet}
+use Rattle.rv_expect.specs.declared.unmet.Unmet.TheVariants as unmet
+use Rattle.rv_expect.specs.Reference.{words_or_none}
 use Rattle.rv_lists.specs.declared.job.ExpectedConsole.{ExpectedConsole}
 use Rattle.rv_lists.specs.declared.job.ExpectedConsole.TheVariants as console
 use Rattle.rv_lists.specs.declared.job.ExpectedEnd.{ExpectedEnd}
 use Rattle.rv_lists.specs.declared.job.ExpectedEnd.TheVariants as expected
 use Rattle.rv_lists.specs.declared.job.Job.{Job}
 use Rattle.rv_telling.specs.declared.unmet_line.Sides.{Sides}
-use Rattle.rv_lines.specs.Shown.{shown, shown_value}
+use Rattle.rv_job_text.specs.Shown.{shown, shown_value}
 use Rattle.rv_machine.specs.Faults.{fault_name}
 use Rattle.rv_rows.specs.declared.row.Row.{Row}
 use Rattle.rv_rows.specs.declared.row.RowEnd.{RowEnd}

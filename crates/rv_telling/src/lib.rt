@@ -3,7 +3,7 @@
 //! of a refused image why, with the addresses of segments beside the regions and the names of symbols.
 //!
 //! [`RowTelling`] is a [`Telling`](rv_stream::Telling) over a plan, and over what a store noted of the paths that it
-//! could not read. How much is told is a [`Verbosity`], and which rows pass a [`Rule`](rv_explain::Rule).
+//! could not read. How much is told is a [`Verbosity`], and which rows pass a [`Rule`](rv_expect::Rule).
 //!
 //! [`CountingTelling`] tells what another `Telling` tells, and counts the rows; a [`Progress`] shows the counts in one
 //! line on a terminal, rewritten in place, at most once in a tenth of a second. [`TerminalSink`] is a sink to the same

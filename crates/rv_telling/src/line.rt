@@ -3,7 +3,7 @@
 ghost use Rattle.std.specs.Prelude.{◌≡◌, ◌++◌, ◌∷◌, ◌-◌, IsTrue, OnOk, length, slice_get};
 ghost use Rattle.rv_telling.specs.Counts.{counts_text, is_held_by};
 
-use rv_lines::{Span, push_spans};
+use rv_job_text::{Span, push_spans};
 use std::alloc::{AllocError, Global};
 use std::io::Write;
 

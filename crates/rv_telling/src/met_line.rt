@@ -7,8 +7,8 @@ ghost use Rattle.rv_telling.specs.UnmetLines.{comparison_of};
 
 use crate::paths::{console_path, reference_path};
 use crate::unmet_line::{Sides, push_end, push_exit};
-use rv_explain::{Expectation, Unmet, is_met};
-use rv_lines::{Span, push_spans, push_text};
+use rv_expect::{Expectation, Unmet, is_met};
+use rv_job_text::{Span, push_spans, push_text};
 use rv_rows::Row;
 use std::alloc::AllocError;
 

@@ -1,7 +1,7 @@
 //! How many jobs are done and failed, and the line that says so.
 
 use crate::line::{Counts, Line};
-use rv_explain::{Rule, has_passed};
+use rv_expect::{Rule, has_passed};
 use rv_rows::Row;
 use std::alloc::Global;
 use std::io::Write;

@@ -1,7 +1,7 @@
 //! What is told of rows, over a plan and what was noted of its paths.
 
 ghost use Rattle.std.specs.Prelude.{◌≡◌, ◌<◌, ◌++◌, OnOk, length, option_map, slice_index_or};
-ghost use Rattle.rv_explain.specs.Planned.{named_row};
+ghost use Rattle.rv_expect.specs.Planned.{named_row};
 ghost use Rattle.rv_lists.specs.declared.job.Job.{Job as AJob};
 ghost use Rattle.rv_telling.specs.UnmetLines.{comparison_of};
 ghost use Rattle.rv_telling.specs.Telling.{compared_lines, expectation_lines, explained, line_of_row};
@@ -13,10 +13,10 @@ use crate::reasons::reason_of;
 use crate::unmet_line::{Sides, push_all_unmet};
 use crate::verbosity::{Verbosity, is_told};
 use crate::way::push_way;
-use rv_explain::{Rule, Unmet, has_passed, named_row, unmet_expectations};
+use rv_expect::{Rule, Unmet, has_passed, named_row, unmet_expectations};
 use rv_files::Unread;
+use rv_job_text::{push_console_tail, push_result};
 use rv_jobs::Plan;
-use rv_lines::{push_console_tail, push_result};
 use rv_rows::{Row, console_bytes, is_run, reference_bytes};
 use rv_stream::Telling;
 use std::alloc::{AllocError, Global};

@@ -7,8 +7,8 @@ use Rattle.clap.specs.declared.builder.value_parser.ValueParser.TheVariants as v
 use Rattle.rv_test_words.specs.declared.arguments.Argument.{Argument}
 use Rattle.rv_test_words.specs.declared.arguments.Argument.TheVariants as argument
 use Rattle.rv_test_words.specs.declared.command.Subcommand.{Subcommand}
-use Rattle.rv_words.specs.Building.{option_rule, word_rule}
-use Rattle.rv_words.specs.CommandLine.{group_rule}
+use Rattle.rv_cli.specs.Building.{option_rule, word_rule}
+use Rattle.rv_cli.specs.CommandLine.{group_rule}
 
 -- the same argument, of which each use adds a value
 abbrev pub again_rule : Rule → Rule

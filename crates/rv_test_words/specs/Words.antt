@@ -10,7 +10,7 @@ use Rattle.clap.specs.declared.error.kind.ErrorKind.TheVariants as kind
 use Rattle.rv_test_words.specs.CommandLine.{most_last, test_app}
 use Rattle.rv_test_words.specs.declared.refusals.Misuse.{Misuse}
 use Rattle.rv_test_words.specs.declared.refusals.Misuse.TheVariants as misuse
-use Rattle.rv_words.specs.Values.{number_in}
+use Rattle.rv_cli.specs.Values.{number_in}
 
 -- ---- what words ask for
 

@@ -2,13 +2,13 @@
 
 ghost use Rattle.std.specs.Prelude.{◌≡◌, false};
 ghost use Rattle.clap.specs.Words.{App, rule_of};
-ghost use Rattle.rv_words.specs.Building.{IsBuilt};
+ghost use Rattle.rv_cli.specs.Building.{IsBuilt};
 ghost use Rattle.rv_test_words.specs.CommandLine.{flag_rule, number_rule, rule_for};
 ghost use Rattle.rv_test_words.specs.CommandLine.{with_arguments};
 
 use clap::builder::ValueParser;
 use clap::{Arg, ArgAction};
-use rv_words::{Built, group, option, with_argument, word};
+use rv_cli::{Built, group, option, with_argument, word};
 use std::alloc::Global;
 
 /// An argument of a command: its name, what a value is called in the usage where it is any text, and its help.

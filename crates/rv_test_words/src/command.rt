@@ -3,14 +3,14 @@
 ghost use Rattle.std.specs.Prelude.{◌≡◌, IfOk, false};
 ghost use Rattle.clap.specs.Words.{App, app_of, new_app};
 ghost use Rattle.clap.specs.declared.builder.command.Command.TheViews.{out-Command};
-ghost use Rattle.rv_words.specs.Building.{HasApp, IsBuilt};
+ghost use Rattle.rv_cli.specs.Building.{HasApp, IsBuilt};
 ghost use Rattle.rv_test_words.specs.CommandLine.{app_stated, merge_app, run_app, test_app};
 ghost use Rattle.rv_test_words.specs.CommandLine.{top_app, with_commands};
 
 use crate::arguments::{Argument, with_arguments};
 use crate::table::{COMMANDS, MERGE, RUN};
 use clap::Command;
-use rv_words::{Built, with_command};
+use rv_cli::{Built, with_command};
 use std::alloc::{AllocError, Global};
 
 /// A command of `rvtest`, as the table states it.

@@ -14,7 +14,7 @@ use crate::asked::{Asked, CheckAsked, DiffAsked, ExplainAsked, MergeAsked, RunAs
 use crate::command::{merge_command, run_command, test_command};
 use crate::refusals::Misuse;
 use clap::{ArgMatches, Error};
-use rv_words::{number, text};
+use rv_cli::{number, text};
 use std::alloc::{AllocError, Global};
 use std::convert::AsStr;
 

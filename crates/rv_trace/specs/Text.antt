@@ -3,11 +3,11 @@ use Rattle.std.specs.Prelude.{◌==◌, ◌+◌, ◌-◌, ℕ, Bool, true, false
 use Rattle.std.specs.Prelude.{if◌then◌else◌, length, replicate, Option, Some, None}
 use Rattle.std.specs.Fmt.{decimal}
 use Rattle.std.specs.List.{flat_map}
-use Rattle.rv_asm.specs.Assembly.{no_instruction, text16, text32}
-use Rattle.rv_asm.specs.Operands.{register_name}
+use Rattle.rv_disasm.specs.Assembly.{no_instruction, text16, text32}
+use Rattle.rv_disasm.specs.Operands.{register_name}
 use Rattle.rv_elf.specs.declared.image.Image.{Image}
 use Rattle.rv_elf.specs.Nearest.{symbol_at, symbol_of_value}
-use Rattle.rv_lines.specs.ResultLine.{place_text, symbol_text}
+use Rattle.rv_job_text.specs.ResultLine.{place_text, symbol_text}
 use Rattle.rv_machine.specs.declared.ending.FaultKind.{FaultKind}
 use Rattle.rv_machine.specs.declared.ending.FaultKind.TheVariants as fault
 use Rattle.rv_machine.specs.Faults.{fault_name}

@@ -6,8 +6,8 @@ ghost use Rattle.rv_trace.specs.Text.{code_text, columns, instruction_line, padd
 
 use crate::code::Code;
 use rv_elf::SymbolAt;
-use rv_explain::behind;
-use rv_lines::{Span, push_spans, push_symbol, push_text, push_word};
+use rv_expect::behind;
+use rv_job_text::{Span, push_spans, push_symbol, push_text, push_word};
 use std::alloc::{AllocError, Global};
 
 /// What separates two columns.

@@ -7,9 +7,9 @@ ghost use Rattle.rv_trace.specs.Steps.{traced};
 
 use crate::aim::aim_of;
 use crate::code::{Code, code_at};
+use rv_base::Sequence;
 use rv_machine::Machine;
 use rv_memory::Width;
-use rv_sequence::Sequence;
 
 /// What an instruction wrote.
 #[derive(Clone, Copy)]

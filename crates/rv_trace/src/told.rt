@@ -1,15 +1,15 @@
 //! What is told of an instruction: its assembly text, what it wrote, and how it ended the run.
 
 ghost use Rattle.std.specs.Prelude.{◌≡◌, ◌++◌, OnOk};
-ghost use Rattle.rv_asm.specs.Operands.{register_name};
+ghost use Rattle.rv_disasm.specs.Operands.{register_name};
 ghost use Rattle.rv_trace.specs.Text.{assembly, assembly_or_none, end_assembly, end_text, is_illegal, loaded_text};
 ghost use Rattle.rv_trace.specs.Text.{met_text, register_text, value_text, wrote_text};
 
 use crate::code::Code;
 use crate::columns::push_digits_behind;
 use crate::step::Wrote;
-use rv_asm::{push_text16, push_text32};
-use rv_lines::{Span, push_spans, push_text, push_word};
+use rv_disasm::{push_text16, push_text32};
+use rv_job_text::{Span, push_spans, push_text, push_word};
 use rv_machine::FaultKind;
 use rv_memory::Width;
 use rv_rows::RowEnd;
@@ -87,7 +87,7 @@ pub(crate) fn name_of(number: u8) -> &'static str
     ensures { result.now ≡ register_name number }
 {
     if number < 32 {
-        rv_asm::register_name(number)
+        rv_disasm::register_name(number)
     } else {
         ""
     }

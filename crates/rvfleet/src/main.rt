@@ -3,7 +3,7 @@
 
 use rv_files::{FileStore, StreamSink};
 use rv_fleet::FreeGate;
-use rv_program::{run_words, unread_status};
+use rvfleet_app::{run_words, unread_status};
 use std::env::Env;
 use std::process::ExitCode;
 use std::{env, io};

@@ -1,7 +1,7 @@
 //! The program `rvtest`: hands the process's own words, files and streams to the library, and ends with its status.
 #![tactic(auto)]
 
-use rv_test_program::{Streams, run_test_words, unread_status};
+use rvtest_app::{Streams, run_test_words, unread_status};
 use std::env::Env;
 use std::io::{IsTerminal, Stderr, Stdout};
 use std::process::ExitCode;

@@ -1,6 +1,6 @@
 use Rattle.std.proofs.Common.{subst, sym}
 use Rattle.std.proofs.lemmas.List.Sums.{fold_more}
-use Rattle.rv_words.specs.Building.{IsBuilt}
+use Rattle.rv_cli.specs.Building.{IsBuilt}
 use Rattle.rv_test_words.specs.CommandLine.{with_argument}
 use Rattle.rv_test_words.proofs.arguments.with_arguments.Goals as goal
 

@@ -1,6 +1,6 @@
 use Rattle.std.proofs.Common.{take}
 use Rattle.clap.specs.Words.{App}
-use Rattle.rv_words.specs.Building.{IsBuilt}
+use Rattle.rv_cli.specs.Building.{IsBuilt}
 use Rattle.rv_test_words.specs.CommandLine.{with_arguments}
 use Rattle.rv_test_words.proofs.arguments.with_arguments.Given as goal
 

@@ -1,4 +1,4 @@
-use Rattle.rv_words.proofs.Public.{its_app}
+use Rattle.rv_cli.proofs.Public.{its_app}
 use Rattle.rv_test_words.proofs.command.test_command.Goals as goal
 
 pub returns : goal.returns

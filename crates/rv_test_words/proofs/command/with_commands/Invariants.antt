@@ -1,6 +1,6 @@
 use Rattle.std.proofs.Common.{take}
 use Rattle.clap.specs.Words.{App}
-use Rattle.rv_words.specs.Building.{HasApp}
+use Rattle.rv_cli.specs.Building.{HasApp}
 use Rattle.rv_test_words.specs.CommandLine.{with_commands}
 use Rattle.rv_test_words.proofs.command.with_commands.Given as goal
 

@@ -1,5 +1,5 @@
 use Rattle.std.proofs.Common.{◌≡◌, ◌∙◌, ap, true, false, sym}
-use Rattle.rv_explain.specs.Passing.{has_passed}
+use Rattle.rv_expect.specs.Passing.{has_passed}
 use Rattle.rv_rows.specs.Verdict.{is_run}
 use Rattle.rv_telling.specs.Telling.{is_told, told_of_row}
 use Rattle.rv_telling.proofs.Chains.{ended}

@@ -1,0 +1,139 @@
+-- The command line: the rules that `clap` reads words by, and what words ask for.
+use Rattle.std.specs.Prelude.{◌≡◌, ◌⊎◌, is_some, ◌^◌, ℕ, Bool, true, List, [], ◌∷◌, Option, Some}
+use Rattle.std.specs.Prelude.{None, pos, codes, option_map, option_and_then, if◌then◌else◌, ◌&&◌}
+use Rattle.std.specs.Prelude.{nat_le, nat_lt}
+use Rattle.std.specs.Str.{bytes_eq}
+use Rattle.clap.specs.Words.{App, IsAmong, Kinds, Row, Rule, Text, fault_of, first_of, new_app}
+use Rattle.clap.specs.Words.{new_rule, one_of, subcommand_of, takes, with_rule, with_subcommand}
+use Rattle.clap.specs.declared.error.kind.ErrorKind.TheVariants as kind
+use Rattle.rv_lists.specs.declared.limits.TheConstants.{MOST_BUDGET}
+use Rattle.rv_cli.specs.Values.{number_in}
+use Rattle.clap.specs.declared.builder.value_parser.ValueParser.TheVariants as value_parser
+
+-- ---- the rules
+
+-- --budget <N>, required: from 1 to the greatest budget of a job
+abbrev pub budget_rule : Rule
+budget_rule = record (new_rule (codes "budget")) {
+  long = Some (codes "budget");
+  required = true;
+  value_names = 1;
+  parser = Some (value_parser.Signed (pos 1) (pos MOST_BUDGET));
+}
+
+-- <IMAGE>, required
+abbrev pub image_rule : Rule
+image_rule = record (new_rule (codes "image")) { required = true; value_names = 1 }
+
+-- --input-hex <H>
+abbrev pub input_rule : Rule
+input_rule = record (new_rule (codes "input-hex")) {
+  long = Some (codes "input-hex");
+  value_names = 1;
+}
+
+-- <JOBS>, required
+abbrev pub jobs_rule : Rule
+jobs_rule = record (new_rule (codes "jobs")) { required = true; value_names = 1 }
+
+-- --workers <N>: from 1 to 64, else 1
+abbrev pub workers_rule : Rule
+workers_rule = record (new_rule (codes "workers")) {
+  long = Some (codes "workers");
+  value_names = 1;
+  parser = Some (value_parser.Signed (pos 1) (pos 64));
+  defaults = codes "1" ∷ [];
+}
+
+-- --group <N>: from 1 to 4,096, else 1
+abbrev pub group_rule : Rule
+group_rule = record (new_rule (codes "group")) {
+  long = Some (codes "group");
+  value_names = 1;
+  parser = Some (value_parser.Signed (pos 1) (pos 4096));
+  defaults = codes "1" ∷ [];
+}
+
+-- raw --budget <N>
+abbrev pub raw_app : App
+raw_app = with_rule (new_app (codes "raw")) budget_rule
+
+-- one <IMAGE> --budget <N> [--input-hex <H>]
+abbrev pub one_app : App
+one_app =
+    with_rule (with_rule (with_rule (new_app (codes "one")) image_rule) budget_rule) input_rule
+
+-- run <JOBS> [--workers <N>] [--group <N>]
+abbrev pub run_app : App
+run_app =
+    with_rule (with_rule (with_rule (new_app (codes "run")) jobs_rule) workers_rule) group_rule
+
+-- a subcommand is required, and none is called help
+abbrev pub top_app : App
+top_app = let app = new_app (codes "rvfleet") in
+    record app {
+      top = record app.top { subcommand_required = true; disable_help_subcommand = true };
+    }
+
+-- the whole command
+abbrev pub fleet_app : App
+fleet_app =
+    with_subcommand (with_subcommand (with_subcommand top_app raw_app.top) one_app.top) run_app.top
+
+-- ---- what words ask for
+
+-- a flat image within a budget; an image at a path, within a budget, with the digits of its input;
+-- a list at a path, with the workers and the group
+pub data Request : Type 0 where
+  raw : ℕ → Request
+  one : Text → ℕ → Option Text → Request
+  run : Text → ℕ → ℕ → Request
+
+abbrev pub budget_in : List Row → Option ℕ
+budget_in rows = number_in (codes "budget") 1 MOST_BUDGET rows
+
+abbrev pub raw_in : List Row → Option Request
+raw_in rows = option_map raw (budget_in rows)
+
+abbrev pub one_in : List Row → Option Request
+one_in rows = option_and_then
+    (λ path. option_map (λ budget. one path budget (first_of (codes "input-hex") rows))
+    (budget_in rows)) (first_of (codes "image") rows)
+
+abbrev pub run_in : List Row → Option Request
+run_in rows = option_and_then (λ path. option_and_then
+    (λ workers. option_map (run path workers) (number_in (codes "group") 1 4096 rows))
+    (number_in (codes "workers") 1 64 rows)) (first_of (codes "jobs") rows)
+
+-- what a subcommand with these values asks for
+abbrev pub request_in : Text → List Row → Option Request
+request_in name rows = if bytes_eq name (codes "raw") then raw_in rows
+    else if bytes_eq name (codes "one") then one_in rows
+    else if bytes_eq name (codes "run") then run_in rows
+    else None
+
+-- the subcommand and the values are the matches that `clap` defines for the words
+abbrev pub request_of : List Text → Option Request
+request_of words =
+    option_and_then (λ found. request_in found.0 found.1) (subcommand_of fleet_app words)
+
+-- the command takes the words
+unfoldable pub is_taken : List Text → Bool
+is_taken words = takes fleet_app words
+
+-- what words ask for in which these faults are found: none, or nothing is asked for
+abbrev pub request_beside : Kinds → Option Request → Option Request
+request_beside [] request = request
+request_beside (fault ∷ more) request = None
+
+-- what words ask for in which the command finds no fault
+unfoldable pub asked_of : List Text → Option Request
+asked_of words = request_beside (fault_of fleet_app words) (request_of words)
+
+-- the command takes the words, or finds no fault in them and something is asked for
+abbrev pub IsToAnswer : List Text → Type 0
+IsToAnswer words = (is_taken words ≡ true) ⊎ (is_some (asked_of words) ≡ true)
+
+-- the words ask for help
+abbrev pub AsksHelp : List Text → Type 0
+AsksHelp words = IsAmong kind.DisplayHelp (fault_of fleet_app words)

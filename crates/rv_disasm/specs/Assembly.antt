@@ -1,0 +1,48 @@
+-- The assembly text of a code that was fetched at an address: the name of its row, and the operands
+-- that the instruction has there.
+use Rattle.std.specs.Prelude.{ℕ, List, [], ◌++◌, codes, Option, Some, None}
+use Rattle.rv_isa.specs.Words.{meaning32}
+use Rattle.rv_isa.specs.Halfwords.{meaning16}
+use Rattle.rv_isa.specs.declared.instruction.Instr.{Instr}
+use Rattle.rv_isa.specs.declared.sets.Isa.TheVariants as set
+use Rattle.rv_disasm.specs.declared.form.Fetched.{Fetched}
+use Rattle.rv_disasm.specs.declared.form.Operands.{Operands}
+use Rattle.rv_disasm.specs.declared.form.Operands.TheVariants.{Absent, One, Two, Three}
+use Rattle.rv_disasm.specs.Operands.{operand_text}
+use Rattle.rv_disasm.specs.Forms.{Form, form16, form32}
+
+-- behind a space, with commas between them
+unfoldable pub operands_text : Operands → Fetched → List ℕ
+operands_text Absent f = []
+operands_text (One a) f = codes " " ++ operand_text a f
+operands_text (Two a b) f = codes " " ++ operand_text a f ++ codes ", " ++ operand_text b f
+operands_text (Three a b c) f =
+    codes " " ++ operand_text a f ++ codes ", " ++ operand_text b f ++ codes ", "
+    ++ operand_text c f
+
+unfoldable pub written : Form → Fetched → List ℕ
+written form f = form.mnemonic ++ operands_text form.operands f
+
+-- where no row fits
+abbrev pub no_instruction : List ℕ
+no_instruction = codes "no instruction"
+
+abbrev pub fetched : Instr → ℕ → ℕ → Fetched
+fetched i code pc = record { instr = i; code = code; pc = pc }
+
+-- the text of a word's instruction, by the form of its name
+abbrev pub text_by_name : Option Instr → ℕ → ℕ → List ℕ
+text_by_name None word pc = no_instruction
+text_by_name (Some i) word pc = written (form32 i.op) (fetched i word pc)
+
+unfoldable pub text32 : ℕ → ℕ → List ℕ
+text32 word pc = text_by_name (meaning32 set.Imc word) word pc
+
+-- the text of a halfword's instruction, by the form of its row
+abbrev pub text_by_row : Option Form → Option Instr → ℕ → ℕ → List ℕ
+text_by_row None i half pc = no_instruction
+text_by_row (Some form) None half pc = no_instruction
+text_by_row (Some form) (Some i) half pc = written form (fetched i half pc)
+
+unfoldable pub text16 : ℕ → ℕ → List ℕ
+text16 half pc = text_by_row (form16 half) (meaning16 set.Imc half) half pc

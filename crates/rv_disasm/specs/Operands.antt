@@ -1,0 +1,49 @@
+-- How an operand of an instruction is written (RISC-V Unprivileged ISA 20191213, chapter 25): a
+-- register by its name, an immediate as a decimal number, an address as `offset(base)`.
+use Rattle.std.specs.Prelude.{ℕ, List, [], ◌∷◌, ◌++◌, codes, slice_index_or, false, pos, ◌+ℤ◌, ℤ}
+use Rattle.std.specs.Prelude.{◌/◌, ◌^◌, ◌==◌, if◌then◌else◌}
+use Rattle.std.specs.Fmt.{digits, signed_decimal}
+use Rattle.rv_isa.specs.Bits.{bit, field, wrap}
+use Rattle.rv_disasm.specs.declared.form.Fetched.{Fetched}
+use Rattle.rv_disasm.specs.declared.form.Operand.{Operand}
+use Rattle.rv_disasm.specs.declared.form.Operand.TheVariants as operand
+
+-- the registers from x0 to x31, by the names of the ABI
+abbrev pub register_names : List (List ℕ)
+register_names =
+    codes "zero" ∷ codes "ra" ∷ codes "sp" ∷ codes "gp" ∷ codes "tp" ∷ codes "t0" ∷ codes "t1"
+    ∷ codes "t2" ∷ codes "s0" ∷ codes "s1" ∷ codes "a0" ∷ codes "a1" ∷ codes "a2" ∷ codes "a3"
+    ∷ codes "a4" ∷ codes "a5" ∷ codes "a6" ∷ codes "a7" ∷ codes "s2" ∷ codes "s3" ∷ codes "s4"
+    ∷ codes "s5" ∷ codes "s6" ∷ codes "s7" ∷ codes "s8" ∷ codes "s9" ∷ codes "s10" ∷ codes "s11"
+    ∷ codes "t3" ∷ codes "t4" ∷ codes "t5" ∷ codes "t6" ∷ []
+
+-- the name of the register with this number
+abbrev pub register_name : ℕ → List ℕ
+register_name number = slice_index_or register_names number []
+
+-- a set of a FENCE (section 2.7): of its four bits, from the highest, the letter of each that is
+-- set; `0` where none is
+abbrev pub set_name : ℕ → List ℕ
+set_name bits = if bits == 0 then codes "0" else
+    (if bit bits 3 == 1 then codes "i" else []) ++ (if bit bits 2 == 1 then codes "o" else [])
+    ++ (if bit bits 1 == 1 then codes "r" else []) ++ (if bit bits 0 == 1 then codes "w" else [])
+
+-- lower-case digits, without zeros in front
+abbrev pub hexadecimal : ℕ → List ℕ
+hexadecimal number = codes "0x" ++ digits 16 false number
+
+-- a register and what is added to it
+unfoldable pub address : ℤ → ℕ → List ℕ
+address offset base = signed_decimal offset ++ codes "(" ++ register_name base ++ codes ")"
+
+-- an operand of an instruction
+unfoldable pub operand_text : Operand → Fetched → List ℕ
+operand_text operand.Rd f = register_name f.instr.rd
+operand_text operand.Rs1 f = register_name f.instr.rs1
+operand_text operand.Rs2 f = register_name f.instr.rs2
+operand_text operand.Imm f = signed_decimal f.instr.imm
+operand_text operand.Address f = address f.instr.imm f.instr.rs1
+operand_text operand.Upper f = hexadecimal (wrap f.instr.imm / 2 ^ 12)
+operand_text operand.Target f = hexadecimal (wrap (pos f.pc +ℤ f.instr.imm))
+operand_text operand.Predecessors f = set_name (field f.code 27 24)
+operand_text operand.Successors f = set_name (field f.code 23 20)

@@ -1,0 +1,130 @@
+//! How the 16-bit rows are written.
+ghost use Rattle.std.specs.Prelude.{◌≡◌, ◌≢◌, ◌↔◌, IsTrue, option_map};
+ghost use Rattle.rv_isa.specs.Bits.{field as bits_of};
+ghost use Rattle.rv_isa.specs.Halfwords.{immediate_ci};
+ghost use Rattle.rv_disasm.specs.Forms.{form16, form_seen};
+
+use crate::form::{
+    Form, IMMEDIATE, LOAD, Operand, Operands, REGISTER_IMMEDIATE, STORE, TEST_OF_ZERO,
+    TWO_REGISTERS, UPPER_IMMEDIATE,
+};
+use rv_isa::field;
+
+/// How the row of a halfword is written, or `None` where it has none.
+#[tactic(auto, using(crate::proofs::HalfwordForms::by_quadrant))]
+pub(crate) fn form16(half: u32) -> Option<Form>
+    ensures { option_map form_seen result ≡ form16 half }
+{
+    match field(half, 1, 0) {
+        0 => quadrant0(half),
+        1 => quadrant1(half),
+        2 => quadrant2(half),
+        _ => None, // begins a 32-bit instruction
+    }
+}
+
+#[tactic(auto, using(crate::proofs::HalfwordForms::by_quadrant))]
+fn quadrant0(half: u32) -> Option<Form>
+    requires { bits_of half 1 0 ≡ 0 }
+    ensures { option_map form_seen result ≡ form16 half }
+{
+    match field(half, 15, 13) {
+        0 if field(half, 12, 5) != 0 => Some(Form("c.addi4spn", IMMEDIATE)),
+        2 => Some(Form("c.lw", LOAD)),
+        6 => Some(Form("c.sw", STORE)),
+        _ => None,
+    }
+}
+
+#[tactic(auto, using(crate::proofs::HalfwordForms::by_quadrant))]
+fn quadrant1(half: u32) -> Option<Form>
+    requires { bits_of half 1 0 ≡ 1 }
+    ensures { option_map form_seen result ≡ form16 half }
+{
+    match field(half, 15, 13) {
+        0 if field(half, 11, 7) != 0 => Some(Form("c.addi", REGISTER_IMMEDIATE)),
+        0 if has_immediate(half) => Some(Form("c.nop", Operands::One(Operand::Imm))),
+        0 => Some(Form("c.nop", Operands::Absent)),
+        1 => Some(Form("c.jal", Operands::One(Operand::Target))),
+        2 => Some(Form("c.li", REGISTER_IMMEDIATE)),
+        3 => upper(half),
+        4 => arithmetic(half),
+        5 => Some(Form("c.j", Operands::One(Operand::Target))),
+        6 => Some(Form("c.beqz", TEST_OF_ZERO)),
+        _ => Some(Form("c.bnez", TEST_OF_ZERO)),
+    }
+}
+
+// Whether the immediate of a CI format is not 0. C.ADDI16SP and C.LUI take theirs from the same bits.
+fn has_immediate(half: u32) -> bool
+    ensures { IsTrue result ↔ (immediate_ci half ≢ 0) }
+{
+    field(half, 12, 12) != 0 || field(half, 6, 2) != 0
+}
+
+// C.ADDI16SP and C.LUI.
+#[tactic(auto, using(crate::proofs::HalfwordForms::by_quadrant))]
+fn upper(half: u32) -> Option<Form>
+    requires quadrant { bits_of half 1 0 ≡ 1 }
+    requires top { bits_of half 15 13 ≡ 3 }
+    ensures { option_map form_seen result ≡ form16 half }
+{
+    if !has_immediate(half) {
+        None
+    } else if field(half, 11, 7) == 2 {
+        Some(Form("c.addi16sp", REGISTER_IMMEDIATE))
+    } else {
+        Some(Form("c.lui", UPPER_IMMEDIATE))
+    }
+}
+
+#[tactic(auto, using(crate::proofs::HalfwordForms::by_quadrant))]
+fn arithmetic(half: u32) -> Option<Form>
+    requires quadrant { bits_of half 1 0 ≡ 1 }
+    requires top { bits_of half 15 13 ≡ 4 }
+    ensures { option_map form_seen result ≡ form16 half }
+{
+    match (field(half, 11, 10), field(half, 12, 12)) {
+        (0, 0) => Some(Form("c.srli", REGISTER_IMMEDIATE)),
+        (1, 0) => Some(Form("c.srai", REGISTER_IMMEDIATE)),
+        (2, _) => Some(Form("c.andi", REGISTER_IMMEDIATE)),
+        (3, 0) => Some(match field(half, 6, 5) {
+            0 => Form("c.sub", TWO_REGISTERS),
+            1 => Form("c.xor", TWO_REGISTERS),
+            2 => Form("c.or", TWO_REGISTERS),
+            _ => Form("c.and", TWO_REGISTERS),
+        }),
+        _ => None,
+    }
+}
+
+#[tactic(auto, using(crate::proofs::HalfwordForms::by_quadrant))]
+fn quadrant2(half: u32) -> Option<Form>
+    requires { bits_of half 1 0 ≡ 2 }
+    ensures { option_map form_seen result ≡ form16 half }
+{
+    match field(half, 15, 13) {
+        0 if field(half, 12, 12) == 0 => Some(Form("c.slli", REGISTER_IMMEDIATE)),
+        2 if field(half, 11, 7) != 0 => Some(Form("c.lwsp", LOAD)),
+        4 => registers(half),
+        6 => Some(Form("c.swsp", STORE)),
+        _ => None,
+    }
+}
+
+// C.JR, C.MV, C.EBREAK, C.JALR and C.ADD.
+#[tactic(auto, using(crate::proofs::HalfwordForms::by_quadrant))]
+fn registers(half: u32) -> Option<Form>
+    requires quadrant { bits_of half 1 0 ≡ 2 }
+    requires top { bits_of half 15 13 ≡ 4 }
+    ensures { option_map form_seen result ≡ form16 half }
+{
+    match (field(half, 12, 12), field(half, 11, 7), field(half, 6, 2)) {
+        (0, 0, 0) => None,
+        (0, _, 0) => Some(Form("c.jr", Operands::One(Operand::Rs1))),
+        (0, _, _) => Some(Form("c.mv", TWO_REGISTERS)),
+        (_, 0, 0) => Some(Form("c.ebreak", Operands::Absent)),
+        (_, _, 0) => Some(Form("c.jalr", Operands::One(Operand::Rs1))),
+        (_, _, _) => Some(Form("c.add", TWO_REGISTERS)),
+    }
+}

@@ -1,0 +1,58 @@
+-- What the unmet expectations say of the row of a plan's job.
+use Rattle.std.proofs.Common.{◌≡◌, ◌==◌, true, length, refl, sym, ap, subst, Option, Some, None}
+use Rattle.std.specs.Prelude.{option_and_then, option_map, slice_get}
+use Rattle.std.specs.List.{AllByRecursion}
+use Rattle.rv_lists.specs.declared.job.Job.{Job}
+use Rattle.rv_jobs.specs.Plans.{Planned}
+use Rattle.rv_rows.specs.declared.outcome.Outcome.{Outcome}
+use Rattle.rv_rows.specs.Rows.{console_in, other_in, outcome_in, reference_in, row_of}
+use Rattle.rv_rows.specs.Verdict.{is_run, verdict_of}
+use Rattle.rv_expect.specs.Planned.{named_row, unmet_in}
+use Rattle.rv_expect.specs.Reference.{IsWord, words_or_none}
+use Rattle.rv_expect.specs.Telling.{HasItsVerdict, TellsWhatDoesNotHold, named_outcome, outcome_in_row, passes}
+use Rattle.rv_expect.proofs.Tellings.{passes_where_empty, tells}
+
+outcome_of_row : (plan : Planned) (job : Job) → outcome_in_row (row_of plan job) ≡ outcome_in plan.answers job
+unfolding row_of
+outcome_of_row plan job = refl
+
+outcome_of_named : (plan : Planned) (o : Option Job)
+    → named_outcome (option_map (row_of plan) o) ≡ option_map (outcome_in plan.answers) o
+outcome_of_named plan None = refl
+outcome_of_named plan (Some job) = ap Some (outcome_of_row plan job)
+
+module _ (plan : Planned) (job : Job) where
+  named : Option Job
+  named = option_and_then (slice_get plan.jobs) job.same_as
+
+  has_its_verdict : HasItsVerdict job (row_of plan job) (console_in plan.answers job)
+      (reference_in plan.answers job) (named_row plan job)
+  unfolding row_of named
+  has_its_verdict =
+      let console = console_in plan.answers job in
+      let reference = reference_in plan.answers job in
+      ap (λ (o : Option Outcome). verdict_of job (outcome_in plan.answers job) reference console o)
+      (sym (outcome_of_named plan named))
+
+  pub tells_of_a_plan : is_run (row_of plan job).ending ≡ true
+      → AllByRecursion IsWord (words_or_none (row_of plan job).signature)
+      → TellsWhatDoesNotHold (unmet_in plan job (row_of plan job)) job (outcome_in plan.answers job)
+      (console_in plan.answers job) (reference_in plan.answers job) (other_in plan job)
+  unfolding named
+  tells_of_a_plan runs fit =
+      let told = unmet_in plan job (row_of plan job) in
+      let console = console_in plan.answers job in
+      let reference = reference_in plan.answers job in
+      let of_row = tells job (row_of plan job) console reference (named_row plan job) runs fit in
+      let of_outcome = subst (λ (o : Outcome). TellsWhatDoesNotHold told job o console reference
+      (named_outcome (named_row plan job))) (outcome_of_row plan job) of_row in
+      subst (λ (o : Option Outcome). TellsWhatDoesNotHold told job (outcome_in plan.answers job) console reference o)
+      (outcome_of_named plan named) of_outcome
+
+  pub passes_in_a_plan : is_run (row_of plan job).ending ≡ true
+      → AllByRecursion IsWord (words_or_none (row_of plan job).signature)
+      → (length (unmet_in plan job (row_of plan job)) == 0)
+      ≡ passes (row_of plan job).verdict (row_of plan job).ending
+  passes_in_a_plan runs fit =
+      passes_where_empty job (row_of plan job) (console_in plan.answers job) (reference_in plan.answers job)
+      (named_row plan job) runs fit has_its_verdict

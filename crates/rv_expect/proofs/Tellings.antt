@@ -1,0 +1,411 @@
+-- What the unmet expectations say of a row.
+use Rattle.std.proofs.Common.{◌≡◌, ◌∙◌, ◌==◌, ℕ, suc, Bool, true, false, cond, not, ◌&&◌, List, [], ◌∷◌, ◌++◌, length}
+use Rattle.std.proofs.Common.{refl, sym, ap, arith, Option, Some, None}
+use Rattle.std.specs.Option.{option_or}
+use Rattle.std.specs.Prelude.{is_some, option_map, option_to_list, ◌||◌}
+use Rattle.std.specs.List.{AllByRecursion, flat_map, list_any}
+use Rattle.rv_lists.specs.declared.job.ExpectedEnd.{ExpectedEnd}
+use Rattle.std.specs.Str.{bytes_eq}
+use Rattle.std.proofs.lemmas.Bool.{ne_eqb}
+use Rattle.std.proofs.lemmas.List.Folds.{list_any-append}
+use Rattle.std.proofs.lemmas.Slice.Eq.{bytes_eq-Decides}
+use Rattle.rv_lists.specs.declared.job.ExpectedConsole.{ExpectedConsole}
+use Rattle.rv_lists.specs.declared.job.ExpectedConsole.TheVariants.{Text, File}
+use Rattle.rv_lists.specs.declared.job.Job.{Job}
+use Rattle.rv_rows.specs.declared.outcome.Outcome.{Outcome}
+use Rattle.rv_rows.specs.declared.row.Row.{Row}
+use Rattle.rv_rows.specs.declared.row.RowEnd.{RowEnd}
+use Rattle.rv_rows.specs.declared.row.Verdict.{Verdict}
+use Rattle.rv_rows.specs.declared.row.Verdict.TheVariants as verdict
+use Rattle.rv_rows.specs.Report.{word_line}
+use Rattle.rv_rows.specs.Verdict.{are_alike, are_same, exits_with, holds_all, holds_console, holds_end, holds_exit}
+use Rattle.rv_rows.specs.Verdict.{holds_reference, holds_same, is_asked, is_run, lines_of, same_signature}
+use Rattle.rv_rows.specs.Verdict.{verdict_of}
+use Rattle.rv_expect.specs.declared.difference.SameDifference.TheVariants as same
+use Rattle.rv_expect.specs.declared.reference.Reference.{Reference}
+use Rattle.rv_expect.specs.declared.reference.Reference.TheVariants.{Words, BadLine}
+use Rattle.rv_expect.specs.declared.unmet.Unmet.{Unmet}
+use Rattle.rv_expect.specs.declared.unmet.Unmet.TheVariants.{Exit, End, Console, Signature, Same, Nothing}
+use Rattle.rv_expect.specs.Difference.{console_difference, difference_of_runs, difference_of_texts, first_difference}
+use Rattle.rv_expect.specs.Difference.{same_difference, signatures_difference}
+use Rattle.rv_expect.specs.Reference.{IsWord, difference_from_reference, reference_of}
+use Rattle.rv_expect.specs.Reference.{signature_difference, word_difference, words_or_none}
+use Rattle.rv_expect.specs.Telling.{HasItsVerdict, TellsWhatDoesNotHold, is_console, is_end, is_exit, is_nothing}
+use Rattle.rv_expect.specs.Telling.{is_same, is_signature, named_outcome, outcome_in_row, passes}
+use Rattle.rv_expect.specs.Unmet.{unmet_of, unmet_of_asked}
+use Rattle.rv_expect.proofs.Differences.{is_some-first_difference}
+use Rattle.rv_expect.proofs.References.{reads, written}
+
+-- ---- each difference is there exactly where its expectation does not hold
+
+is_some-map : {A B : Type 0} (f : A → B) (o : Option A) → is_some (option_map f o) ≡ is_some o
+is_some-map f None = refl
+is_some-map f (Some x) = refl
+
+is_some-or : {A : Type 0} (o p : Option A) → is_some (option_or o p) ≡ (is_some o || is_some p)
+is_some-or None p = refl
+is_some-or (Some x) p = refl
+
+not_same : (xs ys : List ℕ) → is_some (first_difference xs ys) ≡ not (bytes_eq xs ys)
+not_same xs ys = is_some-first_difference (bytes_eq xs ys) xs ys (bytes_eq-Decides xs ys)
+
+not_expected : (met expected : List ℕ) → is_some (first_difference met expected) ≡ not (bytes_eq expected met)
+not_expected met expected =
+    let decides = bytes_eq-Decides expected met in
+    is_some-first_difference (bytes_eq expected met) met expected (
+      λ equal. sym (decides.0 equal),
+      λ same. decides.1 (sym same),
+    )
+
+with_run : (t b : Bool) → t ≡ true → not b ≡ not (t && b)
+with_run true b runs = refl
+with_run false b runs = cc
+
+pub console_told : (expected : Option ExpectedConsole) (file : Option (List ℕ)) (outcome : Outcome)
+    → is_run outcome.ending ≡ true
+    → is_some (console_difference expected file outcome.console) ≡ not (holds_console expected file outcome)
+console_told None file outcome runs = refl
+console_told (Some (Text text)) file outcome runs =
+    not_expected outcome.console text ∙ with_run (is_run outcome.ending) (bytes_eq text outcome.console) runs
+console_told (Some (File path)) None outcome runs = refl
+console_told (Some (File path)) (Some bytes) outcome runs =
+    not_expected outcome.console bytes ∙ with_run (is_run outcome.ending) (bytes_eq bytes outcome.console) runs
+
+flat_lines : (signature : Option (List ℕ)) → lines_of signature ≡ flat_map word_line (words_or_none signature)
+flat_lines None = refl
+flat_lines (Some words) = refl
+
+-- the bytes of a reference are the lines of words exactly where they are read as these words
+reference_told : (r : Reference) (bytes words : List ℕ) → reference_of bytes ≡ r → AllByRecursion IsWord words
+    → is_some (difference_from_reference r words) ≡ not (bytes_eq bytes (flat_map word_line words))
+reference_told (Words expected) bytes words is fit =
+    let lines = flat_map word_line words in
+    let decides = bytes_eq-Decides bytes lines in
+    is_some-map word_difference (first_difference words expected)
+    ∙ is_some-first_difference (bytes_eq bytes lines) words expected (
+      λ equal.
+          let read = ap reference_of (decides.0 equal) ∙ written words fit in
+          let e : Words words ≡ Words expected = sym read ∙ is in
+          cc,
+      λ same. decides.1 (read_text bytes expected is ∙ ap (flat_map word_line) (sym same)),
+    )
+  where
+    read_text : (bytes expected : List ℕ) → reference_of bytes ≡ Words expected → bytes ≡ flat_map word_line expected
+    read_text bytes expected is = (rw is at (reads bytes)).1
+reference_told (BadLine line) bytes words is fit = go (bytes_eq bytes (flat_map word_line words)) refl
+  where
+    go : (b : Bool) → bytes_eq bytes (flat_map word_line words) ≡ b → true ≡ not b
+    go true equal =
+        let same : bytes ≡ flat_map word_line words = (bytes_eq-Decides bytes (flat_map word_line words)).0 equal in
+        let e : BadLine line ≡ Words words = sym is ∙ ap reference_of same ∙ written words fit in
+        cc
+    go false unequal = refl
+
+pub signature_told : (expected reference : Option (List ℕ)) (outcome : Outcome) → is_run outcome.ending ≡ true
+    → AllByRecursion IsWord (words_or_none outcome.signature)
+    → is_some (signature_difference expected reference outcome.signature)
+    ≡ not (holds_reference expected reference outcome)
+signature_told None reference outcome runs fit = refl
+signature_told (Some path) None outcome runs fit = refl
+signature_told (Some path) (Some bytes) outcome runs fit =
+    reference_told (reference_of bytes) bytes (words_or_none outcome.signature) refl fit
+    ∙ ap (λ (lines : List ℕ). not (bytes_eq bytes lines)) (sym (flat_lines outcome.signature))
+    ∙ with_run (is_run outcome.ending) (bytes_eq bytes (lines_of outcome.signature)) runs
+
+signatures_told : (signature other : Option (List ℕ))
+    → is_some (signatures_difference signature other) ≡ not (same_signature signature other)
+signatures_told None None = refl
+signatures_told (Some words) (Some others) = not_same words others
+signatures_told (Some words) None = refl
+signatures_told None (Some others) = refl
+
+not_both : (a b : Bool) → (not a || not b) ≡ not (a && b)
+not_both true b = refl
+not_both false b = refl
+
+texts_told : (row other : Row) → is_some (difference_of_texts row other)
+    ≡ not (bytes_eq row.console other.console && same_signature row.signature other.signature)
+texts_told row other =
+    let signatures = signatures_difference row.signature other.signature in
+    is_some-or (option_map same.Console (first_difference row.console other.console))
+    (option_map same.Signature signatures)
+    ∙ ap (λ (t : Bool). t || is_some (option_map same.Signature signatures))
+    (is_some-map same.Console (first_difference row.console other.console) ∙ not_same row.console other.console)
+    ∙ ap (λ (t : Bool). not (bytes_eq row.console other.console) || t)
+    (is_some-map same.Signature signatures ∙ signatures_told row.signature other.signature)
+    ∙ not_both (bytes_eq row.console other.console) (same_signature row.signature other.signature)
+
+runs_told : (row other : Row)
+    → is_some (difference_of_runs row other) ≡ not (are_same (outcome_in_row row) (outcome_in_row other))
+runs_told row other = go (are_alike row.ending other.ending) (texts_told row other)
+  where
+    go : (alike : Bool) → is_some (difference_of_texts row other)
+        ≡ not (bytes_eq row.console other.console && same_signature row.signature other.signature)
+        → is_some (cond alike (difference_of_texts row other) (Some same.Ending))
+        ≡ not (alike && (bytes_eq row.console other.console && same_signature row.signature other.signature))
+    go true h = h
+    go false h = refl
+
+pub same_told : (named : Option ℕ) (other : Option Row) (row : Row)
+    → is_some (same_difference named other row) ≡ not (holds_same named (named_outcome other) (outcome_in_row row))
+same_told None other row = refl
+same_told (Some place) None row = refl
+same_told (Some place) (Some other) row = runs_told row other
+
+-- ---- an unmet expectation among those that are told
+
+any_if : (p : Unmet → Bool) (u : Unmet) (t : Bool) → p u ≡ true
+    → list_any p (option_to_list (cond t None (Some u))) ≡ not t
+any_if p u true is = refl
+any_if p u false is = ap (λ (b : Bool). b || false) is
+
+none_if : (p : Unmet → Bool) (u : Unmet) (t : Bool) → p u ≡ false
+    → list_any p (option_to_list (cond t None (Some u))) ≡ false
+none_if p u true is = refl
+none_if p u false is = ap (λ (b : Bool). b || false) is
+
+any_map : {A : Type 0} (p : Unmet → Bool) (f : A → Unmet) (o : Option A) → ((x : A) → p (f x) ≡ true)
+    → list_any p (option_to_list (option_map f o)) ≡ is_some o
+any_map p f None is = refl
+any_map p f (Some x) is = ap (λ (b : Bool). b || false) (is x)
+
+none_map : {A : Type 0} (p : Unmet → Bool) (f : A → Unmet) (o : Option A) → ((x : A) → p (f x) ≡ false)
+    → list_any p (option_to_list (option_map f o)) ≡ false
+none_map p f None is = refl
+none_map p f (Some x) is = ap (λ (b : Bool). b || false) (is x)
+
+-- of five parts, by what each has
+any_of_five : (p : Unmet → Bool) (v w x y z : List Unmet) (a b c d e : Bool) → list_any p v ≡ a → list_any p w ≡ b
+    → list_any p x ≡ c → list_any p y ≡ d → list_any p z ≡ e
+    → list_any p (v ++ w ++ x ++ y ++ z) ≡ ((((a || b) || c) || d) || e)
+any_of_five p v w x y z a b c d e ha hb hc hd he =
+    list_any-append p (v ++ w ++ x ++ y) z
+    ∙ ap (λ (t : Bool). t || list_any p z) (list_any-append p (v ++ w ++ x) y)
+    ∙ ap (λ (t : Bool). (t || list_any p y) || list_any p z) (list_any-append p (v ++ w) x)
+    ∙ ap (λ (t : Bool). ((t || list_any p x) || list_any p y) || list_any p z) (list_any-append p v w)
+    ∙ cc
+
+or_false : (t : Bool) → (t || false) ≡ t
+or_false true = refl
+or_false false = refl
+
+-- a part that alone may have one, so many before the last
+alone-1 : (t : Bool) → (t || false) ≡ t
+alone-1 t = or_false t
+
+alone-2 : (t : Bool) → ((t || false) || false) ≡ t
+alone-2 t = or_false (t || false) ∙ alone-1 t
+
+alone-3 : (t : Bool) → (((t || false) || false) || false) ≡ t
+alone-3 t = or_false ((t || false) || false) ∙ alone-2 t
+
+alone-4 : (t : Bool) → ((((t || false) || false) || false) || false) ≡ t
+alone-4 t = or_false (((t || false) || false) || false) ∙ alone-3 t
+
+-- what each part of the list tells
+parts_of : (p : Unmet → Bool) (job : Job) (row : Row) (console reference : Option (List ℕ)) (other : Option Row)
+    (a b c d e : Bool)
+    → list_any p (option_to_list (cond (holds_exit job.expect_exit row.ending) None (Some Exit))) ≡ a
+    → list_any p (option_to_list (cond (holds_end job.expect_end row.ending) None (Some End))) ≡ b
+    → list_any p (option_to_list (option_map Console (console_difference job.expect_console console row.console))) ≡ c
+    → list_any p (option_to_list (option_map Signature
+    (signature_difference job.expect_signature reference row.signature))) ≡ d
+    → list_any p (option_to_list (option_map Same (same_difference job.same_as other row))) ≡ e
+    → list_any p (unmet_of_asked job row console reference other) ≡ ((((a || b) || c) || d) || e)
+parts_of p job row console reference other a b c d e ha hb hc hd he =
+    any_of_five p _ _ _ _ _ a b c d e ha hb hc hd he
+
+asked : (job : Job) (row : Row) (console reference : Option (List ℕ)) (other : Option Row)
+    → is_run row.ending ≡ true → is_asked job ≡ true → AllByRecursion IsWord (words_or_none row.signature)
+    → TellsWhatDoesNotHold (unmet_of_asked job row console reference other) job (outcome_in_row row) console reference
+    (named_outcome other)
+asked job row console reference other runs asks fit =
+    let outcome = outcome_in_row row in
+    let exit = holds_exit job.expect_exit row.ending in
+    let end = holds_end job.expect_end row.ending in
+    let c = console_difference job.expect_console console row.console in
+    let g = signature_difference job.expect_signature reference row.signature in
+    let s = same_difference job.same_as other row in
+    record {
+      exit = parts_of is_exit job row console reference other (not exit) false false false false
+          (any_if is_exit Exit exit refl) (none_if is_exit End end refl) (none_map is_exit Console c (λ x. refl))
+          (none_map is_exit Signature g (λ x. refl)) (none_map is_exit Same s (λ x. refl)) ∙ alone-4 (not exit);
+      end = parts_of is_end job row console reference other false (not end) false false false
+          (none_if is_end Exit exit refl) (any_if is_end End end refl) (none_map is_end Console c (λ x. refl))
+          (none_map is_end Signature g (λ x. refl)) (none_map is_end Same s (λ x. refl)) ∙ alone-3 (not end);
+      console = parts_of is_console job row console reference other false false (is_some c) false false
+          (none_if is_console Exit exit refl) (none_if is_console End end refl)
+          (any_map is_console Console c (λ x. refl)) (none_map is_console Signature g (λ x. refl))
+          (none_map is_console Same s (λ x. refl)) ∙ alone-2 (is_some c)
+          ∙ console_told job.expect_console console outcome runs;
+      signature = parts_of is_signature job row console reference other false false false (is_some g) false
+          (none_if is_signature Exit exit refl) (none_if is_signature End end refl)
+          (none_map is_signature Console c (λ x. refl)) (any_map is_signature Signature g (λ x. refl))
+          (none_map is_signature Same s (λ x. refl)) ∙ alone-1 (is_some g)
+          ∙ signature_told job.expect_signature reference outcome runs fit;
+      same = parts_of is_same job row console reference other false false false false (is_some s)
+          (none_if is_same Exit exit refl) (none_if is_same End end refl)
+          (none_map is_same Console c (λ x. refl)) (none_map is_same Signature g (λ x. refl))
+          (any_map is_same Same s (λ x. refl)) ∙ same_told job.same_as other row;
+      nothing = parts_of is_nothing job row console reference other false false false false false
+          (none_if is_nothing Exit exit refl) (none_if is_nothing End end refl)
+          (none_map is_nothing Console c (λ x. refl)) (none_map is_nothing Signature g (λ x. refl))
+          (none_map is_nothing Same s (λ x. refl))
+          ∙ sym (ap (λ (t : Bool). not t && not (exits_with 0 row.ending)) asks);
+    }
+
+-- ---- a job that expects nothing
+
+neither : (x y : Bool) → (x || y) ≡ false → (x ≡ false) × (y ≡ false)
+neither true y e = cc
+neither false y e = (refl, e)
+
+no_exit : (expected : Option ℕ) (end : RowEnd) → is_some expected ≡ false → holds_exit expected end ≡ true
+no_exit None end none = refl
+no_exit (Some code) end none = cc
+
+no_end : (expected : Option ExpectedEnd) (end : RowEnd) → is_some expected ≡ false → holds_end expected end ≡ true
+no_end None end none = refl
+no_end (Some how) end none = cc
+
+no_console : (expected : Option ExpectedConsole) (file : Option (List ℕ)) (outcome : Outcome)
+    → is_some expected ≡ false → holds_console expected file outcome ≡ true
+no_console None file outcome none = refl
+no_console (Some how) file outcome none = cc
+
+no_reference : (expected : Option (List ℕ)) (file : Option (List ℕ)) (outcome : Outcome)
+    → is_some expected ≡ false → holds_reference expected file outcome ≡ true
+no_reference None file outcome none = refl
+no_reference (Some path) file outcome none = cc
+
+no_same : (named : Option ℕ) (other : Option Outcome) (outcome : Outcome) → is_some named ≡ false
+    → holds_same named other outcome ≡ true
+no_same None other outcome none = refl
+no_same (Some place) other outcome none = cc
+
+unasked : (job : Job) (row : Row) (console reference : Option (List ℕ)) (other : Option Row)
+    → is_asked job ≡ false
+    → TellsWhatDoesNotHold (option_to_list (cond (holds_exit (Some 0) row.ending) None (Some Nothing))) job
+    (outcome_in_row row) console reference (named_outcome other)
+unasked job row console reference other none =
+    let outcome = outcome_in_row row in
+    let zero = holds_exit (Some 0) row.ending in
+    let p = neither _ _ none in
+    let q = neither _ _ p.1 in
+    let r = neither _ _ q.1 in
+    let s = neither _ _ r.1 in
+    record {
+      exit = none_if is_exit Nothing zero refl ∙ sym (ap not (no_exit job.expect_exit row.ending p.0));
+      end = none_if is_end Nothing zero refl ∙ sym (ap not (no_end job.expect_end row.ending q.0));
+      console = none_if is_console Nothing zero refl
+          ∙ sym (ap not (no_console job.expect_console console outcome r.0));
+      signature = none_if is_signature Nothing zero refl
+          ∙ sym (ap not (no_reference job.expect_signature reference outcome s.0));
+      same = none_if is_same Nothing zero refl
+          ∙ sym (ap not (no_same job.same_as (named_outcome other) outcome s.1));
+      nothing = any_if is_nothing Nothing zero refl
+          ∙ sym (ap (λ (t : Bool). not t && not (exits_with 0 row.ending)) none);
+    }
+
+-- ---- the laws
+
+by_asked : (job : Job) (row : Row) (console reference : Option (List ℕ)) (other : Option Row) (asks : Bool)
+    → is_asked job ≡ asks → is_run row.ending ≡ true → AllByRecursion IsWord (words_or_none row.signature)
+    → TellsWhatDoesNotHold (cond asks (unmet_of_asked job row console reference other)
+    (option_to_list (cond (holds_exit (Some 0) row.ending) None (Some Nothing)))) job (outcome_in_row row) console
+    reference (named_outcome other)
+by_asked job row console reference other true asks runs fit = asked job row console reference other runs asks fit
+by_asked job row console reference other false none runs fit = unasked job row console reference other none
+
+pub tells : (job : Job) (row : Row) (console reference : Option (List ℕ)) (other : Option Row)
+    → is_run row.ending ≡ true → AllByRecursion IsWord (words_or_none row.signature)
+    → TellsWhatDoesNotHold (unmet_of job row console reference other) job (outcome_in_row row) console reference
+    (named_outcome other)
+unfolding unmet_of
+tells job row console reference other runs fit =
+    rw runs (by_asked job row console reference other (is_asked job) refl runs fit)
+
+-- ---- nothing is told where a job passes
+
+not_zero : (n : ℕ) → (suc n == 0) ≡ false
+not_zero n = ne_eqb (suc n) 0 (λ e. absurd (omega arith))
+
+no_length : (xs ys : List Unmet) → (length (xs ++ ys) == 0) ≡ ((length xs == 0) && (length ys == 0))
+no_length [] ys = refl
+no_length (x ∷ xs) ys =
+    not_zero (length (xs ++ ys)) ∙ ap (λ (t : Bool). t && (length ys == 0)) (sym (not_zero (length xs)))
+
+empty_if : (u : Unmet) (t : Bool) → (length (option_to_list (cond t None (Some u))) == 0) ≡ t
+empty_if u true = refl
+empty_if u false = refl
+
+empty_map : {A : Type 0} (f : A → Unmet) (o : Option A) (t : Bool) → is_some o ≡ not t
+    → (length (option_to_list (option_map f o)) == 0) ≡ t
+empty_map f None true is = refl
+empty_map f None false is = cc
+empty_map f (Some x) true is = cc
+empty_map f (Some x) false is = refl
+
+no_length_of_five : (v w x y z : List Unmet) (a b c d e : Bool) → (length v == 0) ≡ a → (length w == 0) ≡ b
+    → (length x == 0) ≡ c → (length y == 0) ≡ d → (length z == 0) ≡ e
+    → (length (v ++ w ++ x ++ y ++ z) == 0) ≡ ((((a && b) && c) && d) && e)
+no_length_of_five v w x y z a b c d e ha hb hc hd he =
+    no_length (v ++ w ++ x ++ y) z
+    ∙ ap (λ (t : Bool). t && (length z == 0)) (no_length (v ++ w ++ x) y)
+    ∙ ap (λ (t : Bool). (t && (length y == 0)) && (length z == 0)) (no_length (v ++ w) x)
+    ∙ ap (λ (t : Bool). ((t && (length x == 0)) && (length y == 0)) && (length z == 0)) (no_length v w)
+    ∙ cc
+
+to_the_right : (a b c d e : Bool) → ((((a && b) && c) && d) && e) ≡ (a && (b && (c && (d && e))))
+to_the_right true b c d e = three b c d e
+  where
+    three : (b c d e : Bool) → (((b && c) && d) && e) ≡ (b && (c && (d && e)))
+    three true true d e = refl
+    three true false d e = refl
+    three false c d e = refl
+to_the_right false b c d e = refl
+
+asked_passes : (job : Job) (row : Row) (console reference : Option (List ℕ)) (other : Option Row)
+    → is_run row.ending ≡ true → AllByRecursion IsWord (words_or_none row.signature)
+    → (length (unmet_of_asked job row console reference other) == 0)
+    ≡ holds_all job (outcome_in_row row) reference console (named_outcome other)
+asked_passes job row console reference other runs fit =
+    let outcome = outcome_in_row row in
+    let exit = holds_exit job.expect_exit row.ending in
+    let end = holds_end job.expect_end row.ending in
+    let c = holds_console job.expect_console console outcome in
+    let g = holds_reference job.expect_signature reference outcome in
+    let s = holds_same job.same_as (named_outcome other) outcome in
+    no_length_of_five _ _ _ _ _ exit end c g s (empty_if Exit exit) (empty_if End end)
+    (empty_map Console _ c (console_told job.expect_console console outcome runs))
+    (empty_map Signature _ g (signature_told job.expect_signature reference outcome runs fit))
+    (empty_map Same _ s (same_told job.same_as other row))
+    ∙ to_the_right exit end c g s
+
+passes_if : (t : Bool) (end : RowEnd) → passes (cond t verdict.Pass verdict.Fail) end ≡ t
+passes_if true end = refl
+passes_if false end = refl
+
+by_verdict : (job : Job) (row : Row) (console reference : Option (List ℕ)) (other : Option Row) (asks : Bool)
+    → is_asked job ≡ asks → is_run row.ending ≡ true → AllByRecursion IsWord (words_or_none row.signature)
+    → (length (cond asks (unmet_of_asked job row console reference other)
+    (option_to_list (cond (holds_exit (Some 0) row.ending) None (Some Nothing)))) == 0)
+    ≡ passes (cond (not asks) verdict.Unasked
+    (cond (holds_all job (outcome_in_row row) reference console (named_outcome other)) verdict.Pass verdict.Fail))
+    row.ending
+by_verdict job row console reference other true asks runs fit =
+    asked_passes job row console reference other runs fit ∙ sym (passes_if _ row.ending)
+by_verdict job row console reference other false asks runs fit =
+    empty_if Nothing (holds_exit (Some 0) row.ending)
+
+pub passes_where_empty : (job : Job) (row : Row) (console reference : Option (List ℕ)) (other : Option Row)
+    → is_run row.ending ≡ true → AllByRecursion IsWord (words_or_none row.signature)
+    → HasItsVerdict job row console reference other
+    → (length (unmet_of job row console reference other) == 0) ≡ passes row.verdict row.ending
+unfolding unmet_of verdict_of
+passes_where_empty job row console reference other runs fit has =
+    let told = cond (is_asked job) (unmet_of_asked job row console reference other)
+    (option_to_list (cond (holds_exit (Some 0) row.ending) None (Some Nothing))) in
+    ap (λ (t : Bool). length (cond t told []) == 0) runs
+    ∙ by_verdict job row console reference other (is_asked job) refl runs fit
+    ∙ sym (ap (λ (v : Verdict). passes v row.ending) has)

@@ -1,0 +1,82 @@
+-- What differs first: between two lists, two consoles and two runs.
+use Rattle.std.specs.Prelude.{◌≡◌, ◌≢◌, ◌==◌, ◌+◌, ◌<◌, ℕ, List, [], ◌∷◌, length, take}
+use Rattle.std.specs.Prelude.{slice_index, Option, Some, None, option_map}
+use Rattle.std.specs.Prelude.{if◌then◌else◌}
+use Rattle.std.specs.Option.{option_or}
+use Rattle.rv_lists.specs.declared.job.ExpectedConsole.{ExpectedConsole}
+use Rattle.rv_lists.specs.declared.job.ExpectedConsole.TheVariants.{Text, File}
+use Rattle.rv_rows.specs.declared.row.Row.{Row}
+use Rattle.rv_rows.specs.Verdict.{are_alike}
+use Rattle.rv_expect.specs.declared.difference.Difference.{Difference}
+use Rattle.rv_expect.specs.declared.difference.Difference.TheVariants.{At, Lengths, Absent}
+use Rattle.rv_expect.specs.declared.difference.SameDifference.{SameDifference}
+use Rattle.rv_expect.specs.declared.difference.SameDifference.TheVariants as same
+
+-- ---- two lists
+
+-- what differs first, where the first elements stand at a place
+unfoldable pub difference_from : ℕ → List ℕ → List ℕ → Option Difference
+difference_from place [] [] = None
+difference_from place [] (y ∷ ys) = Some Lengths
+difference_from place (x ∷ xs) [] = Some Lengths
+difference_from place (x ∷ xs) (y ∷ ys) =
+    if x == y then difference_from (place + 1) xs ys else Some (At place)
+
+-- what differs first; nothing where the lists are equal
+abbrev pub first_difference : List ℕ → List ℕ → Option Difference
+first_difference xs ys = difference_from 0 xs ys
+
+-- both lists have an element at a place; these differ, and before them the lists are equal
+pub record DifferAt (place : ℕ) (xs ys : List ℕ) : Type 0 where
+  pub in_one : place < length xs
+  pub in_other : place < length ys
+  pub before : take place xs ≡ take place ys
+  pub there : slice_index xs place ≢ slice_index ys place
+
+-- as far as both lists go they are equal, and one goes further
+pub record DifferInLength (xs ys : List ℕ) : Type 0 where
+  pub before : take (length ys) xs ≡ take (length xs) ys
+  pub lengths : length xs ≢ length ys
+
+-- what a difference says of two lists, which are both there
+abbrev pub IsDifference : Difference → List ℕ → List ℕ → Type 0
+IsDifference (At place) xs ys = DifferAt place xs ys
+IsDifference Lengths xs ys = DifferInLength xs ys
+IsDifference Absent xs ys = ⊥
+
+-- ---- two consoles
+
+-- between a console and the one that is expected, if one is: text, or the bytes of a file
+abbrev pub console_difference :
+    Option ExpectedConsole → Option (List ℕ) → List ℕ → Option Difference
+console_difference None file console = None
+console_difference (Some (Text text)) file console = first_difference console text
+console_difference (Some (File path)) None console = Some Absent
+console_difference (Some (File path)) (Some bytes) console = first_difference console bytes
+
+-- ---- two runs
+
+-- between two signatures, of which one may be absent
+abbrev pub signatures_difference : Option (List ℕ) → Option (List ℕ) → Option Difference
+signatures_difference None None = None
+signatures_difference (Some words) (Some others) = first_difference words others
+signatures_difference (Some words) None = Some Absent
+signatures_difference None (Some others) = Some Absent
+
+-- between two rows that ended alike: the consoles come before the signatures
+abbrev pub difference_of_texts : Row → Row → Option SameDifference
+difference_of_texts row other =
+    option_or (option_map same.Console (first_difference row.console other.console))
+    (option_map same.Signature (signatures_difference row.signature other.signature))
+
+-- between two rows: how they ended comes first
+abbrev pub difference_of_runs : Row → Row → Option SameDifference
+difference_of_runs row other =
+    if are_alike row.ending other.ending then difference_of_texts row other
+    else Some same.Ending
+
+-- between a row and that of the job that its job names, if it names one
+abbrev pub same_difference : Option ℕ → Option Row → Row → Option SameDifference
+same_difference None other row = None
+same_difference (Some place) None row = Some same.Absent
+same_difference (Some place) (Some other) row = difference_of_runs row other

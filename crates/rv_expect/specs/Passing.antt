@@ -1,0 +1,19 @@
+-- Whether a job passed.
+use Rattle.std.specs.Prelude.{Bool, true, false}
+use Rattle.rv_rows.specs.declared.row.Row.{Row}
+use Rattle.rv_rows.specs.declared.row.Verdict.{Verdict}
+use Rattle.rv_rows.specs.declared.row.Verdict.TheVariants as verdict
+use Rattle.rv_expect.specs.Telling.{passes}
+use Rattle.rv_expect.specs.declared.passing.Rule.{Rule}
+use Rattle.rv_expect.specs.declared.passing.Rule.TheVariants.{Strict, Lenient}
+
+abbrev pub is_no_fail : Verdict → Bool
+is_no_fail verdict.Unasked = true
+is_no_fail verdict.Pass = true
+is_no_fail verdict.Fail = false
+
+-- strict: the verdict is pass, or the job expects nothing and ended with exit code 0; lenient: the
+-- verdict is not fail
+abbrev pub has_passed : Rule → Row → Bool
+has_passed Strict row = passes row.verdict row.ending
+has_passed Lenient row = is_no_fail row.verdict

@@ -1,0 +1,53 @@
+-- The expectations of a job that its run does not meet.
+use Rattle.std.specs.Prelude.{ℕ, List, [], ◌++◌, Option, Some, None, option_map, option_to_list}
+use Rattle.std.specs.Prelude.{if◌then◌else◌}
+use Rattle.rv_lists.specs.declared.job.Job.{Job}
+use Rattle.rv_rows.specs.declared.row.Row.{Row}
+use Rattle.rv_rows.specs.declared.row.RowEnd.{RowEnd}
+use Rattle.rv_rows.specs.Verdict.{holds_end, holds_exit, is_asked, is_run}
+use Rattle.rv_expect.specs.Difference.{console_difference, same_difference}
+use Rattle.rv_expect.specs.Reference.{signature_difference}
+use Rattle.rv_expect.specs.declared.difference.SignatureDifference.{SignatureDifference}
+use Rattle.rv_expect.specs.declared.unmet.Unmet.{Unmet}
+use Rattle.rv_expect.specs.declared.unmet.Unmet.TheVariants.{Exit, End, Console, Signature}
+use Rattle.rv_expect.specs.declared.unmet.Unmet.TheVariants.{Same, Nothing}
+
+abbrev pub unmet_exit : Job → RowEnd → Option Unmet
+unmet_exit job end = if holds_exit job.expect_exit end then None else Some Exit
+
+abbrev pub unmet_end : Job → RowEnd → Option Unmet
+unmet_end job end = if holds_end job.expect_end end then None else Some End
+
+abbrev pub unmet_console : Job → Option (List ℕ) → Row → Option Unmet
+unmet_console job file row =
+    option_map Console (console_difference job.expect_console file row.console)
+
+abbrev pub unmet_signature : Option SignatureDifference → Option Unmet
+unmet_signature difference = option_map Signature difference
+
+abbrev pub unmet_same : Job → Option Row → Row → Option Unmet
+unmet_same job other row = option_map Same (same_difference job.same_as other row)
+
+-- a job that expects nothing is to end with exit code 0
+abbrev pub unmet_nothing : RowEnd → Option Unmet
+unmet_nothing end = if holds_exit (Some 0) end then None else Some Nothing
+
+-- those of a job that expects something and ran
+abbrev pub unmet_of_asked :
+    Job → Row → Option (List ℕ) → Option (List ℕ) → Option Row → List Unmet
+unmet_of_asked job row console reference other =
+    option_to_list (unmet_exit job row.ending) ++ option_to_list (unmet_end job row.ending)
+    ++ option_to_list (unmet_console job console row)
+    ++ option_to_list (unmet_signature
+    (signature_difference job.expect_signature reference row.signature))
+    ++ option_to_list (unmet_same job other row)
+
+-- those of a row of a job, over the bytes of the console's file and of the reference that were
+-- read, and the row of the job that it names; a refused row has none
+unfoldable pub unmet_of :
+    Job → Row → Option (List ℕ) → Option (List ℕ) → Option Row → List Unmet
+unmet_of job row console reference other =
+    if is_run row.ending then
+    (if is_asked job then unmet_of_asked job row console reference other
+    else option_to_list (unmet_nothing row.ending))
+    else []

@@ -1,0 +1,141 @@
+//! What differs first.
+
+ghost use Rattle.std.specs.Prelude.{◌≡◌, option_map};
+ghost use Rattle.rv_expect.specs.Difference.{console_difference, difference_of_runs, first_difference};
+ghost use Rattle.rv_expect.specs.Difference.{same_difference, signatures_difference};
+
+use rv_jobs::ExpectedConsole;
+use rv_rows::{Row, Words, are_alike};
+
+/// What differs first between two sequences.
+#[derive(Clone, Copy)]
+pub enum Difference {
+    /// The elements at this place, counted from 0: the first place where both have one and they differ.
+    At(usize),
+    /// One is a proper beginning of the other.
+    Lengths,
+    /// One of the two is not there, as of a file that was not read.
+    Absent,
+}
+
+/// What differs first between a reference and a signature.
+#[derive(Clone, Copy)]
+pub enum SignatureDifference {
+    /// The first line of the reference, counted from 1, that is not eight lower-case hexadecimal digits and a line
+    /// feed, so that no words are compared.
+    Line(usize),
+    /// The words at this place, counted from 0: the first place where both have one and they differ.
+    Word(usize),
+    /// The numbers of words, where all that both have are the same.
+    Count,
+    /// The reference was not read.
+    Absent,
+}
+
+/// What differs first between a run and that of the job that it is expected to be the same as.
+#[derive(Clone, Copy)]
+pub enum SameDifference {
+    /// How they ended.
+    Ending,
+    /// The bytes of their consoles.
+    Console(Difference),
+    /// The words of their signatures, of which one may be absent.
+    Signature(Difference),
+    /// The row of the named job is not there.
+    Absent,
+}
+
+/// What differs first between bytes that were met and those that are expected.
+pub(crate) fn first_byte(met: &[u8], expected: &[u8]) -> Option<Difference>
+    ensures { result ≡ first_difference met.now expected.now }
+{
+    for (place, byte) in met.iter().enumerate() {
+        if place == expected.len() {
+            return Some(Difference::Lengths);
+        }
+        if *byte != expected[place] {
+            return Some(Difference::At(place));
+        }
+    }
+    if met.len() == expected.len() {
+        None
+    } else {
+        Some(Difference::Lengths)
+    }
+}
+
+/// What differs first between words that were met and those that are expected.
+pub(crate) fn first_word(met: &[u32], expected: &[u32]) -> Option<Difference>
+    ensures { result ≡ first_difference met.now expected.now }
+{
+    for (place, word) in met.iter().enumerate() {
+        if place == expected.len() {
+            return Some(Difference::Lengths);
+        }
+        if *word != expected[place] {
+            return Some(Difference::At(place));
+        }
+    }
+    if met.len() == expected.len() {
+        None
+    } else {
+        Some(Difference::Lengths)
+    }
+}
+
+/// What differs between a console and the one that is expected, if one is, over the bytes of the file that it names.
+pub(crate) fn console_difference(
+    expected: &Option<ExpectedConsole>,
+    file: Option<&[u8]>,
+    console: &[u8],
+) -> Option<Difference>
+    ensures { result ≡ console_difference expected.now (option_map (λ bytes. bytes.now) file.entry)
+        console.now }
+{
+    match (expected, file) {
+        (None, _) => None,
+        (Some(ExpectedConsole::Text(text)), _) => first_byte(console, text.as_slice()),
+        (Some(ExpectedConsole::File(_)), Some(bytes)) => first_byte(console, bytes),
+        (Some(ExpectedConsole::File(_)), None) => Some(Difference::Absent),
+    }
+}
+
+/// What differs between a row and that of the job that its job names, if it names one.
+pub(crate) fn same_difference(
+    named: Option<usize>,
+    other: Option<&Row>,
+    row: &Row,
+) -> Option<SameDifference>
+    ensures { result ≡ same_difference named (option_map (λ row. row.now) other.entry) row.now }
+{
+    match (named, other) {
+        (None, _) => None,
+        (Some(_), None) => Some(SameDifference::Absent),
+        (Some(_), Some(other)) => difference_of_runs(row, other),
+    }
+}
+
+fn difference_of_runs(row: &Row, other: &Row) -> Option<SameDifference>
+    ensures { result ≡ difference_of_runs row.now other.now }
+{
+    if !are_alike(row.ending, other.ending) {
+        return Some(SameDifference::Ending);
+    }
+    if let Some(difference) = first_byte(row.console.as_slice(), other.console.as_slice()) {
+        return Some(SameDifference::Console(difference));
+    }
+    match signatures_difference(&row.signature, &other.signature) {
+        Some(difference) => Some(SameDifference::Signature(difference)),
+        None => None,
+    }
+}
+
+fn signatures_difference(signature: &Option<Words>, other: &Option<Words>) -> Option<Difference>
+    ensures { result ≡ signatures_difference signature.now other.now }
+{
+    match (signature, other) {
+        (Some(words), Some(others)) => first_word(words.as_slice(), others.as_slice()),
+        (None, None) => None,
+        _ => Some(Difference::Absent),
+    }
+}

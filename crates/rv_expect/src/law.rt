@@ -1,0 +1,66 @@
+//! Laws of what is told, with nothing to run.
+
+ghost use Rattle.std.specs.Prelude.{◌≡◌, ◌==◌, ℕ, List, Option, IsTrue, MatchOption, length};
+ghost use Rattle.std.specs.List.{AllByRecursion, flat_map};
+ghost use Rattle.rv_lists.specs.declared.job.Job.{Job};
+ghost use Rattle.rv_rows.specs.declared.row.Row.{Row};
+ghost use Rattle.rv_jobs.specs.Plans.{Planned};
+ghost use Rattle.rv_rows.specs.Report.{word_line};
+ghost use Rattle.rv_rows.specs.Rows.{console_in, other_in, outcome_in, reference_in, row_of};
+ghost use Rattle.rv_rows.specs.Verdict.{is_run};
+ghost use Rattle.rv_expect.specs.declared.reference.Reference.TheVariants.{Words};
+ghost use Rattle.rv_expect.specs.Difference.{IsDifference, first_difference};
+ghost use Rattle.rv_expect.specs.Planned.{unmet_in};
+ghost use Rattle.rv_expect.specs.Reference.{IsReferenceOf, IsWord, reference_of, words_or_none};
+ghost use Rattle.rv_expect.specs.Telling.{HasItsVerdict, TellsWhatDoesNotHold, named_outcome, outcome_in_row, passes};
+ghost use Rattle.rv_expect.specs.Unmet.{unmet_of};
+
+/// What is said to differ between two lists differs, and at the first place: before it they are equal. Where nothing is
+/// said, they are equal.
+pub fn differences_are_first()
+    ensures { (xs ys : List ℕ)
+        → MatchOption (first_difference xs ys) (xs ≡ ys)
+        (λ difference. IsDifference difference xs ys) }
+{}
+
+/// A reference is read as words exactly where it is their lines. Else the first line is named that is not that of a
+/// word of 32 bits.
+pub fn references_are_lines_of_words()
+    ensures read { (text : List ℕ) → IsReferenceOf (reference_of text) text }
+    ensures written { (words : List ℕ) → AllByRecursion IsWord words
+        → reference_of (flat_map word_line words) ≡ Words words }
+{}
+
+/// Of a row that is not refused, with words of 32 bits in its signature, an expectation is told exactly where it does
+/// not hold by the definitions of the verdict.
+pub fn unmet_is_what_does_not_hold()
+    ensures { (job : Job) (row : Row) (console reference : Option (List ℕ)) (other : Option Row)
+        → IsTrue (is_run row.ending) → AllByRecursion IsWord (words_or_none row.signature)
+        → TellsWhatDoesNotHold (unmet_of job row console reference other) job (outcome_in_row row)
+        console reference (named_outcome other) }
+{}
+
+/// Of such a row with its verdict, nothing is told exactly where its job passes: where the verdict is pass, or nothing
+/// is expected and the run ended with exit code 0.
+pub fn nothing_is_unmet_where_a_job_passes()
+    ensures { (job : Job) (row : Row) (console reference : Option (List ℕ)) (other : Option Row)
+        → IsTrue (is_run row.ending) → AllByRecursion IsWord (words_or_none row.signature)
+        → HasItsVerdict job row console reference other
+        → (length (unmet_of job row console reference other) == 0) ≡ passes row.verdict row.ending }
+{}
+
+/// Of a plan's job whose row is not refused, with words of 32 bits in its signature, an expectation is told exactly
+/// where it does not hold by the definitions of the verdict, over what the plan keeps of the job's files and the outcome
+/// of the job that it names. Nothing is told exactly where the job passes.
+pub fn unmet_of_a_plan_is_what_does_not_hold()
+    ensures told { (plan : Planned) (job : Job)
+        → IsTrue (is_run (row_of plan job).ending)
+        → AllByRecursion IsWord (words_or_none (row_of plan job).signature)
+        → TellsWhatDoesNotHold (unmet_in plan job (row_of plan job)) job
+        (outcome_in plan.answers job) (console_in plan.answers job) (reference_in plan.answers job) (other_in plan job) }
+    ensures passes { (plan : Planned) (job : Job)
+        → IsTrue (is_run (row_of plan job).ending)
+        → AllByRecursion IsWord (words_or_none (row_of plan job).signature)
+        → (length (unmet_in plan job (row_of plan job)) == 0)
+        ≡ passes (row_of plan job).verdict (row_of plan job).ending }
+{}

@@ -1,0 +1,127 @@
+//! Which expectations a run does not meet.
+
+ghost use Rattle.std.specs.Prelude.{◌≡◌, ◌++◌, IfOk, OnOk, option_map, option_to_list};
+ghost use Rattle.rv_expect.specs.Unmet.{unmet_console, unmet_end, unmet_exit, unmet_nothing, unmet_of, unmet_same};
+ghost use Rattle.rv_expect.specs.Unmet.{unmet_signature};
+
+use crate::difference::{
+    Difference, SameDifference, SignatureDifference, console_difference, same_difference,
+};
+use crate::reference::signature_difference;
+use rv_jobs::Job;
+use rv_rows::{Row, RowEnd, holds_end, holds_exit, is_asked, is_run};
+use std::alloc::{AllocError, Global};
+
+/// An expectation of a job that its run does not meet, and what differs first.
+#[derive(Clone, Copy)]
+pub enum Unmet {
+    /// The exit code: the run ended with another one, or by no exit call.
+    Exit,
+    /// The end: the run did not use up its budget, or met no fault of the kind.
+    End,
+    Console(Difference),
+    Signature(SignatureDifference),
+    /// To be the same as the named job.
+    Same(SameDifference),
+    /// Exit code 0, of a job that expects nothing else.
+    Nothing,
+}
+
+/// The expectations of a job that the run of its row does not meet, in the order exit, end, console, signature, other
+/// job. It takes the bytes of the files that the console and the signature are compared with, where they were read, and
+/// the row of the job that this one names. A refused row has none: its reason says why nothing ran.
+#[tactic(auto, unfolding(crate::specs::Unmet::unmet_of))]
+pub fn unmet_expectations(
+    alloc: Global,
+    job: &Job,
+    row: &Row,
+    console: Option<&[u8]>,
+    reference: Option<&[u8]>,
+    other: Option<&Row>,
+) -> Result<Vec<Unmet>, AllocError>
+    ensures { IfOk result (λ found. found.items
+        ≡ unmet_of job.now row.now (option_map (λ bytes. bytes.now) console.entry)
+        (option_map (λ bytes. bytes.now) reference.entry) (option_map (λ row. row.now) other.entry)) }
+{
+    let mut found = Vec::new(alloc);
+    if !is_run(row.ending) {
+        return Ok(found);
+    }
+    if !is_asked(job) {
+        push_some(&mut found, unmet_nothing(row.ending))?;
+        return Ok(found);
+    }
+    let signature = signature_difference(alloc, &job.expect_signature, reference, &row.signature)?;
+    push_some(&mut found, unmet_exit(job, row.ending))?;
+    push_some(&mut found, unmet_end(job, row.ending))?;
+    push_some(&mut found, unmet_console(job, console, row))?;
+    push_some(&mut found, unmet_signature(signature))?;
+    push_some(&mut found, unmet_same(job, other, row))?;
+    Ok(found)
+}
+
+fn push_some(found: &mut Vec<Unmet>, unmet: Option<Unmet>) -> Result<(), AllocError>
+    ensures { OnOk result (found.new.items ≡ found.old.items ++ option_to_list unmet) }
+{
+    if let Some(unmet) = unmet {
+        found.push(unmet)?;
+    }
+    Ok(())
+}
+
+fn unmet_nothing(ending: RowEnd) -> Option<Unmet>
+    ensures { result ≡ unmet_nothing ending }
+{
+    if holds_exit(Some(0), ending) {
+        None
+    } else {
+        Some(Unmet::Nothing)
+    }
+}
+
+fn unmet_exit(job: &Job, ending: RowEnd) -> Option<Unmet>
+    ensures { result ≡ unmet_exit job.now ending }
+{
+    if holds_exit(job.expect_exit, ending) {
+        None
+    } else {
+        Some(Unmet::Exit)
+    }
+}
+
+fn unmet_end(job: &Job, ending: RowEnd) -> Option<Unmet>
+    ensures { result ≡ unmet_end job.now ending }
+{
+    if holds_end(job.expect_end, ending) {
+        None
+    } else {
+        Some(Unmet::End)
+    }
+}
+
+fn unmet_console(job: &Job, file: Option<&[u8]>, row: &Row) -> Option<Unmet>
+    ensures { result ≡ unmet_console job.now (option_map (λ bytes. bytes.now) file.entry) row.now }
+{
+    match console_difference(&job.expect_console, file, row.console.as_slice()) {
+        Some(difference) => Some(Unmet::Console(difference)),
+        None => None,
+    }
+}
+
+fn unmet_signature(difference: Option<SignatureDifference>) -> Option<Unmet>
+    ensures { result ≡ unmet_signature difference }
+{
+    match difference {
+        Some(difference) => Some(Unmet::Signature(difference)),
+        None => None,
+    }
+}
+
+fn unmet_same(job: &Job, other: Option<&Row>, row: &Row) -> Option<Unmet>
+    ensures { result ≡ unmet_same job.now (option_map (λ row. row.now) other.entry) row.now }
+{
+    match same_difference(job.same_as, other, row) {
+        Some(difference) => Some(Unmet::Same(difference)),
+        None => None,
+    }
+}

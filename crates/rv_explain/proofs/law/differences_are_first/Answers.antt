@@ -1,5 +1,0 @@
-use Rattle.rv_explain.proofs.Differences.{first_differs}
-use Rattle.rv_explain.proofs.law.differences_are_first.Goals as goal
-
-pub returns : goal.returns
-returns c = first_differs

@@ -1,0 +1,85 @@
+-- Rows are counted, and the ways of those that failed told in brackets.
+use Rattle.std.proofs.Common.{◌≡◌, ◌∙◌, sym, ap, ℕ, ◌+◌, ◌<◌, ◌≤◌, List, [], ◌∷◌, ◌++◌, get_or, length, take}
+use Rattle.std.proofs.Common.{Bool, true, false, cond, add-one, arith, ne_eqb, append-nil, append_assoc, ◌==◌}
+use Rattle.std.proofs.Common.{length-append}
+use Rattle.std.specs.Prelude.{codes, count_by, not}
+use Rattle.std.specs.List.{flat_map}
+use Rattle.std.specs.Fmt.{decimal}
+use Rattle.std.proofs.lemmas.Bool.{true≢false}
+use Rattle.std.proofs.lemmas.Grind.{flat_map-append}
+use Rattle.std.proofs.lemmas.List.{length-take, take_all}
+use Rattle.std.proofs.lemmas.List.Sums.{count_by-le-length, count_by_more_no, count_by_more_yes}
+use Rattle.rv_job_text.specs.LastLine.{bracket, failures_below, opened, way_name}
+use Rattle.rv_job_text.proofs.Appended.{more}
+
+-- ---- the elements that pass a test, among so many
+
+module _ {X : Type 0} (p : X → Bool) (xs : List X) (i count : ℕ) (so_far : count ≡ count_by p (take i xs)) where
+  pub counted_few : count ≤ i
+  counted_few = omega (arith, count_by-le-length p (take i xs), length-take i xs)
+
+  pub counted_all : length xs ≤ i → count ≡ count_by p xs
+  counted_all past = so_far ∙ ap (count_by p) (take_all i xs past)
+
+  -- one more of them
+  module _ (x : X) (below : i < length xs) (is : x ≡ get_or xs i x) (passes : Bool) (tested : passes ≡ p x)
+      (next : ℕ) where
+    pub counted_more : passes ≡ true → next ≡ count + 1 → next ≡ count_by p (take (i + 1) xs)
+    counted_more passing one_up =
+        let here : p (get_or xs i x) ≡ true = ap p (sym is) ∙ (sym tested ∙ passing) in
+        one_up ∙ (ap (λ n. n + 1) so_far ∙ sym (count_by_more_yes p xs i x below here))
+
+    pub counted_same : passes ≡ false → next ≡ count → next ≡ count_by p (take (i + 1) xs)
+    counted_same failing same =
+        let here : p (get_or xs i x) ≡ false = ap p (sym is) ∙ (sym tested ∙ failing) in
+        same ∙ (so_far ∙ sym (count_by_more_no p xs i x below here))
+
+-- ---- brackets
+
+-- a text more in brackets
+pub opened-more : (texts : List (List ℕ)) (text : List ℕ) →
+    opened (texts ++ text ∷ []) ≡ opened texts ++ (cond (not (length texts == 0)) (codes ", ") (codes " (") ++ text)
+opened-more [] text = append-nil (codes " (" ++ text)
+opened-more (first ∷ more) text =
+    let comma : List ℕ → List ℕ = λ one. codes ", " ++ one in
+    let some : (length (first ∷ more) == 0) ≡ false = ne_eqb (length (first ∷ more)) 0 (omega arith) in
+    ap (λ xs. codes " (" ++ first ++ xs) (flat_map-append comma more (text ∷ [])
+    ∙ ap (λ xs. flat_map comma more ++ xs) (append-nil (comma text)))
+    ∙ sym (append_assoc (codes " (" ++ first) (flat_map comma more) (comma text))
+    ∙ ap (λ t. opened (first ∷ more) ++ (cond (not t) (codes ", ") (codes " (") ++ text)) (sym some)
+
+-- they are closed where there is a text
+pub bracket-closed : (texts : List (List ℕ)) (is_open : Bool) (old mid new : List ℕ) →
+    is_open ≡ not (length texts == 0) → is_open ≡ true → mid ≡ old ++ opened texts → new ≡ mid ++ codes ")" →
+    new ≡ old ++ bracket texts
+bracket-closed [] is_open old mid new begun some so_far last = cc
+bracket-closed (first ∷ others) is_open old mid new begun some so_far last =
+    let filled : (length (first ∷ others) == 0) ≡ false = ne_eqb (length (first ∷ others)) 0 (omega arith) in
+    rw filled (more old mid new (opened (first ∷ others)) (codes ")") so_far last)
+
+-- and there are none where there is none
+pub bracket-none : (texts : List (List ℕ)) (is_open : Bool) (old new : List ℕ) →
+    is_open ≡ not (length texts == 0) → is_open ≡ false → new ≡ old ++ opened texts → new ≡ old ++ bracket texts
+bracket-none [] is_open old new begun none so_far = so_far
+bracket-none (first ∷ others) is_open old new begun none so_far =
+    let filled : (length (first ∷ others) == 0) ≡ false = ne_eqb (length (first ∷ others)) 0 (omega arith) in
+    absurd (true≢false (ap not (sym filled) ∙ (sym begun ∙ none)))
+
+-- ---- the ways below one more
+
+pub failures_below-none : (count : ℕ → ℕ) (way : ℕ) → count way ≡ 0 →
+    failures_below count (way + 1) ≡ failures_below count way
+unfolding failures_below
+failures_below-none count way none = rw (add-one way, none) (append-nil (failures_below count way))
+
+pub failures_below-some : (count : ℕ → ℕ) (way : ℕ) → 0 < count way →
+    failures_below count (way + 1) ≡ failures_below count way ++ (decimal (count way) ++ codes " " ++ way_name way) ∷ []
+unfolding failures_below
+failures_below-some count way some =
+    let other : (count way == 0) ≡ false = ne_eqb (count way) 0 (omega arith) in
+    rw add-one (ap (λ t. failures_below count way
+    ++ cond t [] ((decimal (count way) ++ codes " " ++ way_name way) ∷ [])) other)
+
+pub is_begun : (texts : List (List ℕ)) (text : List ℕ) → true ≡ not (length (texts ++ text ∷ []) == 0)
+is_begun texts text =
+    sym (ap not (ne_eqb (length (texts ++ text ∷ [])) 0 (omega (arith, length-append texts (text ∷ [])))))

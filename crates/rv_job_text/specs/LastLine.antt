@@ -1,0 +1,62 @@
+-- The last line: how many jobs there were, how many of them passed, and how the others ended.
+use Rattle.std.specs.Prelude.{◌==◌, ◌-◌, ℕ, zero, suc, List, [], ◌∷◌, ◌++◌}
+use Rattle.std.specs.Prelude.{codes, if◌then◌else◌, length, map, slice_index_or, sum_by, count_by}
+use Rattle.std.specs.List.{flat_map}
+use Rattle.std.specs.Fmt.{decimal}
+use Rattle.rv_machine.specs.Faults.{fault_kinds, fault_name}
+use Rattle.rv_rows.specs.declared.row.Row.{Row}
+use Rattle.rv_rows.specs.Report.{line}
+use Rattle.rv_expect.specs.declared.passing.Rule.{Rule}
+use Rattle.rv_expect.specs.Passing.{has_passed}
+use Rattle.rv_expect.specs.Ways.{fails_by, ways}
+
+-- ---- ways to end
+
+-- the words for them, in the order in which they are told
+abbrev pub way_names : List (List ℕ)
+way_names = codes "exit" ∷ codes "budget" ∷ map fault_name fault_kinds ++ codes "refused" ∷ []
+
+abbrev pub way_name : ℕ → List ℕ
+way_name way = slice_index_or way_names way []
+
+-- ---- counts
+
+abbrev pub passed_count : Rule → List Row → ℕ
+passed_count rule rows = count_by (has_passed rule) rows
+
+abbrev pub failed_count : Rule → List Row → ℕ → ℕ
+failed_count rule rows way = count_by (fails_by rule way) rows
+
+abbrev pub steps_count : List Row → ℕ
+steps_count rows = sum_by (λ row. row.steps) rows
+
+-- ---- the line
+
+-- a way in which jobs failed, and how many: told where there are any
+abbrev pub failures_in : (ℕ → ℕ) → ℕ → List (List ℕ)
+failures_in count way =
+    if count way == 0 then [] else (decimal (count way) ++ codes " " ++ way_name way) ∷ []
+
+-- of the ways below a number, in order
+unfoldable pub failures_below : (ℕ → ℕ) → ℕ → List (List ℕ)
+failures_below count zero = []
+failures_below count (suc way) = failures_below count way ++ failures_in count way
+
+-- in brackets, with commas between; nothing where there is nothing
+abbrev pub opened : List (List ℕ) → List ℕ
+opened [] = []
+opened (first ∷ more) = codes " (" ++ first ++ flat_map (λ text. codes ", " ++ text) more
+
+abbrev pub bracket : List (List ℕ) → List ℕ
+bracket texts = if length texts == 0 then [] else opened texts ++ codes ")"
+
+-- so many jobs, of which so many passed, and the others failed
+abbrev pub numbers_text : ℕ → ℕ → List ℕ
+numbers_text jobs passed = decimal jobs ++ codes " jobs: " ++ decimal passed ++ codes " passed, "
+    ++ decimal (jobs - passed) ++ codes " failed"
+
+-- the last line of what a person sees of rows
+unfoldable pub last_line : Rule → List Row → List ℕ
+last_line rule rows = line (numbers_text (length rows) (passed_count rule rows)
+    ++ bracket (failures_below (failed_count rule rows) ways)
+    ++ codes ", " ++ decimal (steps_count rows) ++ codes " steps")

@@ -1,0 +1,211 @@
+//! The line that says how a job ended.
+
+ghost use Rattle.std.specs.Prelude.{◌≡◌, ◌++◌, OnOk, codes, option_map};
+ghost use Rattle.std.specs.Fmt.{decimal};
+ghost use Rattle.rv_machine.specs.Faults.{fault_name};
+ghost use Rattle.rv_rows.specs.Report.{refusal_name, word_digits};
+ghost use Rattle.rv_job_text.specs.ResultLine.{ending_text, passing_word, place_text, reason_text};
+ghost use Rattle.rv_job_text.specs.ResultLine.{result_line, steps_text, symbol_text};
+
+use crate::parts::push_text;
+use crate::spans::{Span, push_spans};
+use rv_elf::SymbolAt;
+use rv_expect::{Rule, has_passed};
+use rv_machine::FaultKind;
+use rv_rows::{Refusal, Row, RowEnd};
+use std::alloc::{AllocError, Global};
+
+/// Appends the line of a row: `PASS` or `FAIL`, the job's name, and how it ended. A fault's address is told by a symbol
+/// too where one is given, and a refusal by its reason where that is given. The symbol's name and the reason are shown as
+/// [`push_shown`] does.
+#[tactic(auto, unfolding(crate::specs::ResultLine::result_line))]
+pub fn push_result(
+    alloc: Global,
+    bytes: &mut Vec<u8>,
+    rule: Rule,
+    row: &Row,
+    place: Option<SymbolAt<'_>>,
+    reason: Option<&[u8]>,
+) -> Result<(), AllocError>
+    ensures { OnOk result (bytes.new.items ≡ bytes.old.items
+        ++ result_line rule row.now (option_map (λ s. (s.name.now, s.offset)) place.entry)
+        (option_map (λ text. text.now) reason.entry)) }
+{
+    let word = passing_word(has_passed(rule, row));
+    push_spans(
+        bytes,
+        &[
+            Span::Text(word),
+            Span::Text(row.name.as_str()),
+            Span::Text(": "),
+        ],
+    )?;
+    push_ending(alloc, bytes, row, place, reason)?;
+    push_text(bytes, "\n")
+}
+
+fn passing_word(passed: bool) -> &'static str
+    ensures { result.now ≡ passing_word passed }
+{
+    if passed { "PASS " } else { "FAIL " }
+}
+
+#[tactic(auto, unfolding(crate::specs::ResultLine::ending_text))]
+fn push_ending(
+    alloc: Global,
+    bytes: &mut Vec<u8>,
+    row: &Row,
+    place: Option<SymbolAt<'_>>,
+    reason: Option<&[u8]>,
+) -> Result<(), AllocError>
+    ensures { OnOk result (bytes.new.items ≡ bytes.old.items
+        ++ ending_text row.now.ending row.now.steps
+        (option_map (λ s. (s.name.now, s.offset)) place.entry)
+        (option_map (λ text. text.now) reason.entry)) }
+{
+    let steps = row.steps;
+    match row.ending {
+        RowEnd::Exit(code) => push_exit(bytes, code, steps),
+        RowEnd::Fault(kind, pc, value) => {
+            push_fault(bytes, kind, pc)?;
+            push_place(alloc, bytes, place)?;
+            push_value(bytes, value, steps)
+        }
+        RowEnd::Budget => push_budget(bytes, steps),
+        RowEnd::Refused(why) => push_refusal(bytes, why, reason),
+    }
+}
+
+fn push_exit(bytes: &mut Vec<u8>, code: u32, steps: u32) -> Result<(), AllocError>
+    ensures { OnOk result (bytes.new.items ≡ bytes.old.items
+        ++ (codes "exit " ++ decimal code ++ steps_text steps)) }
+{
+    push_spans(
+        bytes,
+        &[
+            Span::Text("exit "),
+            Span::Number(code as u64),
+            Span::Text(" after "),
+            Span::Number(steps as u64),
+            Span::Text(" steps"),
+        ],
+    )
+}
+
+// Appends the kind of a fault and its address.
+fn push_fault(bytes: &mut Vec<u8>, kind: FaultKind, pc: u32) -> Result<(), AllocError>
+    ensures { OnOk result (bytes.new.items ≡ bytes.old.items
+        ++ (codes "fault " ++ fault_name kind ++ codes " at " ++ word_digits pc)) }
+{
+    push_spans(
+        bytes,
+        &[
+            Span::Text("fault "),
+            Span::Text(kind.name()),
+            Span::Text(" at "),
+            Span::Word(pc),
+        ],
+    )
+}
+
+// Appends what a fault met, and after how many steps.
+fn push_value(bytes: &mut Vec<u8>, value: u32, steps: u32) -> Result<(), AllocError>
+    ensures { OnOk result (bytes.new.items ≡ bytes.old.items
+        ++ (codes ", value " ++ word_digits value ++ codes "," ++ steps_text steps)) }
+{
+    push_spans(
+        bytes,
+        &[
+            Span::Text(", value "),
+            Span::Word(value),
+            Span::Text(", after "),
+            Span::Number(steps as u64),
+            Span::Text(" steps"),
+        ],
+    )
+}
+
+fn push_budget(bytes: &mut Vec<u8>, steps: u32) -> Result<(), AllocError>
+    ensures { OnOk result (bytes.new.items ≡ bytes.old.items
+        ++ (codes "budget used up" ++ steps_text steps)) }
+{
+    push_spans(
+        bytes,
+        &[
+            Span::Text("budget used up after "),
+            Span::Number(steps as u64),
+            Span::Text(" steps"),
+        ],
+    )
+}
+
+/// Appends a place in brackets behind a space, where there is a symbol.
+pub fn push_place(
+    alloc: Global,
+    bytes: &mut Vec<u8>,
+    place: Option<SymbolAt<'_>>,
+) -> Result<(), AllocError>
+    ensures { OnOk result (bytes.new.items ≡ bytes.old.items
+        ++ place_text (option_map (λ s. (s.name.now, s.offset)) place.entry)) }
+{
+    match place {
+        Some(symbol) => push_symbol_between(alloc, bytes, " (", symbol, ")"),
+        None => Ok(()),
+    }
+}
+
+/// Appends a place by the name of a symbol, shown as [`push_shown`](crate::push_shown) does, and the bytes past it: `main+0x1c`.
+pub fn push_symbol(
+    alloc: Global,
+    bytes: &mut Vec<u8>,
+    symbol: SymbolAt<'_>,
+) -> Result<(), AllocError>
+    ensures { OnOk result (bytes.new.items ≡ bytes.old.items
+        ++ symbol_text (symbol.entry.name.now, symbol.entry.offset)) }
+{
+    push_symbol_between(alloc, bytes, "", symbol, "")
+}
+
+#[tactic(auto, unfolding(crate::specs::ResultLine::symbol_text))]
+fn push_symbol_between<'a>(
+    alloc: Global,
+    bytes: &mut Vec<u8>,
+    before: &'a str,
+    symbol: SymbolAt<'a>,
+    behind: &'a str,
+) -> Result<(), AllocError>
+    ensures { OnOk result (bytes.new.items ≡ bytes.old.items
+        ++ (before.now ++ symbol_text (symbol.entry.name.now, symbol.entry.offset) ++ behind.now)) }
+{
+    let offset = symbol.offset;
+    let digits = format!(in alloc; "{offset:x}")?;
+    push_spans(
+        bytes,
+        &[
+            Span::Text(before),
+            Span::Shown(symbol.name),
+            Span::Text("+0x"),
+            Span::Text(digits.as_str()),
+            Span::Text(behind),
+        ],
+    )
+}
+
+fn push_refusal(bytes: &mut Vec<u8>, why: Refusal, reason: Option<&[u8]>) -> Result<(), AllocError>
+    ensures { OnOk result (bytes.new.items ≡ bytes.old.items
+        ++ (codes "refused " ++ refusal_name why
+        ++ reason_text (option_map (λ text. text.now) reason.entry))) }
+{
+    let Some(reason) = reason else {
+        return push_spans(bytes, &[Span::Text("refused "), Span::Text(why.name())]);
+    };
+    push_spans(
+        bytes,
+        &[
+            Span::Text("refused "),
+            Span::Text(why.name()),
+            Span::Text(": "),
+            Span::Shown(reason),
+        ],
+    )
+}

@@ -1,0 +1,87 @@
+//! The ways in which jobs failed, as the last line tells them.
+
+ghost use Rattle.std.specs.Prelude.{◌≡◌, ◌≤◌, ◌<◌, ◌++◌, OnOk, codes, if◌then◌else◌, length};
+ghost use Rattle.std.specs.Fmt.{decimal};
+ghost use Rattle.rv_expect.specs.Ways.{ways};
+ghost use Rattle.rv_job_text.specs.LastLine.{bracket, failed_count, failures_below, way_name};
+
+use crate::spans::{Span, push_spans};
+use rv_expect::{Rule, WAYS, fails_by};
+use rv_rows::Row;
+use std::alloc::AllocError;
+
+/// Appends in brackets the ways in which jobs failed, and how many; nothing where none did.
+pub(crate) fn push_bracket(bytes: &mut Vec<u8>, rule: Rule, rows: &[Row]) -> Result<(), AllocError>
+    ensures { OnOk result (bytes.new.items ≡ bytes.old.items
+        ++ bracket (failures_below (failed_count rule rows.now) ways)) }
+{
+    let mut is_open = false;
+    for way in 0..WAYS {
+        let count = failed_count(rule, rows, way);
+        if count > 0 {
+            push_failures(bytes, is_open, count, way)?;
+            is_open = true;
+        }
+    }
+    if is_open {
+        bytes.extend_from_slice(b")")?;
+    }
+    Ok(())
+}
+
+fn failed_count(rule: Rule, rows: &[Row], way: usize) -> usize
+    ensures { result ≡ failed_count rule rows.now way }
+{
+    let mut count = 0;
+    for row in rows {
+        if fails_by(rule, way, row) {
+            count += 1;
+        }
+    }
+    count
+}
+
+fn push_failures(
+    bytes: &mut Vec<u8>,
+    is_open: bool,
+    count: usize,
+    way: usize,
+) -> Result<(), AllocError>
+    requires { way < ways }
+    ensures { OnOk result (bytes.new.items ≡ bytes.old.items
+        ++ ((if is_open then codes ", " else codes " (")
+        ++ (decimal count ++ codes " " ++ way_name way))) }
+{
+    let begin = if is_open { ", " } else { " (" };
+    push_spans(
+        bytes,
+        &[
+            Span::Text(begin),
+            Span::Number(count as u64),
+            Span::Text(" "),
+            Span::Text(way_name(way)),
+        ],
+    )
+}
+
+fn way_name(way: usize) -> &'static str
+    requires { way < ways }
+    ensures { result.now ≡ way_name way }
+{
+    match way {
+        0 => "exit",
+        1 => "budget",
+        2 => "fetch-access",
+        3 => "stale-code",
+        4 => "illegal",
+        5 => "breakpoint",
+        6 => "load-misaligned",
+        7 => "load-access",
+        8 => "store-misaligned",
+        9 => "store-access",
+        10 => "console-full",
+        11 => "unknown-call",
+        12 => "fetch-misaligned",
+        _ => "refused",
+    }
+}

@@ -1,0 +1,56 @@
+-- The cases of rows, with the lines that are told of them.
+use Rattle.std.proofs.Common.{◌≡◌, ◌∙◌, refl, sym, ap, append_assoc, append-nil, ℕ, List, [], ◌∷◌, ◌++◌, Option}
+use Rattle.std.specs.Prelude.{codes}
+use Rattle.std.specs.Fmt.{decimal}
+use Rattle.std.proofs.KnownBytes.{Appends-nil}
+use Rattle.rv_rows.specs.declared.row.Row.{Row}
+use Rattle.rv_rows.specs.Sending.{AppendsBeginning}
+use Rattle.rv_expect.specs.declared.passing.Rule.{Rule}
+use Rattle.rv_stream.specs.Streams.{texts_of, told}
+use Rattle.rv_text.specs.declared.xml.Within.TheVariants.{Element}
+use Rattle.rv_text.specs.Xml.{escaped}
+use Rattle.rv_junit.specs.Pieces.{attribute}
+use Rattle.rv_junit.specs.Junit.{begin_text, case_text, cases_text, end_text, junit_text, output_text, problem_or_none}
+
+joined : (a b c d p o s m x y z : List ℕ)
+    → ((a ++ (b ++ (c ++ (d ++ [])))) ++ p) ++ (o ++ (s ++ (m ++ (x ++ ((y ++ z) ++ [])))))
+    ≡ a ++ b ++ c ++ d ++ p ++ (o ++ s ++ m ++ x ++ y) ++ z
+joined a b c d p o s m x y z = simp (append_assoc, append-nil)
+
+-- the case of a row: its begin, its problem, and the rest, piece behind piece
+pub case_whole : (class : List ℕ) (rule : Rule) (row : Row) (lines : List ℕ) →
+    ((codes "<testcase" ++ (attribute (codes "classname") class ++ (attribute (codes "name") row.name
+    ++ (codes ">\n" ++ [])))) ++ problem_or_none rule row lines)
+    ++ (codes "<system-out>" ++ (decimal row.steps ++ (codes " steps\n" ++ (escaped Element row.console
+    ++ (codes "</system-out>\n</testcase>\n" ++ [])))))
+    ≡ case_text class rule row lines
+unfolding case_text output_text
+case_whole class rule row lines =
+    joined (codes "<testcase") (attribute (codes "classname") class) (attribute (codes "name") row.name) (codes ">\n")
+    (problem_or_none rule row lines) (codes "<system-out>") (decimal row.steps) (codes " steps\n")
+    (escaped Element row.console) (codes "</system-out>\n") (codes "</testcase>\n")
+
+-- nothing went out yet
+pub nothing_out : (a : Option (List ℕ)) (text : List ℕ) → AppendsBeginning a a text
+nothing_out a text = record { part = []; rest = text; whole = refl; appended = Appends-nil a }
+
+module _ (class : List ℕ) (rule : Rule) (line : ℕ → Row → List ℕ) where
+  -- what is told of rows where each is told as its case
+  abbrev pub told_cases : List ℕ → List Row → List ℕ
+  told_cases places rows = told (λ place row. case_text class rule row (line place row)) places rows
+
+  cases_told : (places : List ℕ) (rows : List Row) →
+      cases_text class rule (texts_of line places rows) rows ≡ told_cases places rows
+  unfolding cases_text
+  cases_told [] rows = refl
+  cases_told (place ∷ places) [] = refl
+  cases_told (place ∷ places) (row ∷ rows) =
+      ap (λ xs. case_text class rule row (line place row) ++ xs) (cases_told places rows)
+
+  -- the document, once what stands before the cases is gathered
+  pub junit_begun : (places : List ℕ) (rows : List Row) (text : List ℕ) → text ≡ begin_text class rule rows →
+      junit_text class rule (texts_of line places rows) rows ≡ text ++ told_cases places rows ++ end_text
+  unfolding junit_text
+  junit_begun places rows text is =
+      ap (λ xs. begin_text class rule rows ++ xs ++ end_text) (cases_told places rows)
+      ∙ ap (λ xs. xs ++ told_cases places rows ++ end_text) (sym is)

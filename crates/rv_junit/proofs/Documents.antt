@@ -1,0 +1,118 @@
+-- Documents are characters of XML.
+use Rattle.std.proofs.Common.{refl, ℕ, zero, suc, ◌^◌, ◌<◌, List, [], ◌∷◌, Bool, true, false}
+use Rattle.std.proofs.Common.{cond, Option, Some, None, arith, get_or, length, take}
+use Rattle.std.specs.Prelude.{codes, count_by, position}
+use Rattle.std.specs.List.{AllByRecursion}
+use Rattle.hex.specs.Hex.{IsBytes}
+use Rattle.rv_rows.specs.declared.row.Row.{Row}
+use Rattle.rv_rows.specs.Verdict.{is_run}
+use Rattle.rv_expect.specs.declared.passing.Rule.{Rule}
+use Rattle.rv_job_text.specs.ConsoleTail.{is_feed}
+use Rattle.rv_expect.specs.Passing.{has_passed}
+use Rattle.rv_text.specs.declared.xml.Within.TheVariants.{Attribute, Element}
+use Rattle.rv_junit.specs.Pieces.{attribute, number_attribute}
+use Rattle.rv_junit.specs.Junit.{IsWrittenRow, begin_text, case_text, cases_text, end_text, first_line}
+use Rattle.rv_expect.specs.Problem.{is_error, is_failure}
+use Rattle.rv_junit.specs.Junit.{junit_text, output_text, problem_name}
+use Rattle.rv_junit.specs.Junit.{problem_text, up_to}
+use Rattle.rv_text.specs.Xml.{IsXmlCharacters}
+use Rattle.rv_junit.proofs.Laws.{all_are_counted}
+use Rattle.rv_text.proofs.Public.{xml_append, xml_decimal, xml_escaped, xml_nil, xml_plain}
+
+bytes_take : (n : ℕ) (text : List ℕ) → IsBytes text → IsBytes (take n text)
+bytes_take zero text are = λ i. omega arith
+bytes_take (suc n) [] are = are
+bytes_take (suc n) (byte ∷ rest) are = λ i. elim i as (λ k. get_or (byte ∷ take n rest) k 0 < 256) [
+  | zero ↦ are 0
+  | suc k ↦ bytes_take n rest (λ j. are (suc j)) k
+]
+
+bytes_up_to : (place : Option ℕ) (text : List ℕ) → IsBytes text → IsBytes (up_to place text)
+bytes_up_to (Some place) text are = bytes_take place text are
+bytes_up_to None text are = are
+
+xml_either : (here : Bool) (xs ys : List ℕ) → IsXmlCharacters xs → IsXmlCharacters ys →
+    IsXmlCharacters (cond here xs ys)
+xml_either true xs ys one other = one
+xml_either false xs ys one other = other
+
+xml_attribute : (name value : List ℕ) → IsXmlCharacters name → IsBytes value → IsXmlCharacters (attribute name value)
+unfolding attribute
+xml_attribute name value named are =
+    xml_append _ _ (xml_append _ _ (xml_append _ _ (xml_append _ _
+    (xml_plain (codes " ") refl) named) (xml_plain (codes "=\"") refl))
+    (xml_escaped Attribute value are)) (xml_plain (codes "\"") refl)
+
+xml_number : (name : List ℕ) (number : ℕ) → IsXmlCharacters name → number < 2 ^ 64 →
+    IsXmlCharacters (number_attribute name number)
+unfolding number_attribute
+xml_number name number named fits =
+    xml_append _ _ (xml_append _ _ (xml_append _ _ (xml_append _ _
+    (xml_plain (codes " ") refl) named) (xml_plain (codes "=\"") refl))
+    (xml_decimal number fits)) (xml_plain (codes "\"") refl)
+
+xml_problem_name : (row : Row) → IsXmlCharacters (problem_name row)
+xml_problem_name row =
+    xml_either (is_run row.ending) (codes "failure") (codes "error") (xml_plain (codes "failure") refl)
+    (xml_plain (codes "error") refl)
+
+xml_problem : (row : Row) (lines : List ℕ) → IsBytes lines → IsXmlCharacters (problem_text row lines)
+unfolding problem_text
+xml_problem row lines are =
+    xml_append _ _ (xml_append _ _ (xml_append _ _ (xml_append _ _ (xml_append _ _ (xml_append _ _ (xml_append _ _
+    (xml_plain (codes "<") refl) (xml_problem_name row))
+    (xml_attribute (codes "message") (first_line lines) (xml_plain (codes "message") refl)
+    (bytes_up_to (position is_feed lines) lines are)))
+    (xml_plain (codes ">") refl)) (xml_escaped Element lines are)) (xml_plain (codes "</") refl))
+    (xml_problem_name row)) (xml_plain (codes ">\n") refl)
+
+xml_output : (row : Row) → IsWrittenRow row → IsXmlCharacters (output_text row)
+unfolding output_text
+xml_output row is =
+    xml_append _ _ (xml_append _ _ (xml_append _ _ (xml_append _ _
+    (xml_plain (codes "<system-out>") refl) (xml_decimal row.steps is.steps))
+    (xml_plain (codes " steps\n") refl)) (xml_escaped Element row.console is.console))
+    (xml_plain (codes "</system-out>\n") refl)
+
+xml_case : (class : List ℕ) (rule : Rule) (row : Row) (lines : List ℕ) → IsBytes class → IsWrittenRow row →
+    IsBytes lines → IsXmlCharacters (case_text class rule row lines)
+unfolding case_text
+xml_case class rule row lines classed is are =
+    xml_append _ _ (xml_append _ _ (xml_append _ _ (xml_append _ _ (xml_append _ _ (xml_append _ _
+    (xml_plain (codes "<testcase") refl)
+    (xml_attribute (codes "classname") class (xml_plain (codes "classname") refl) classed))
+    (xml_attribute (codes "name") row.name (xml_plain (codes "name") refl) is.name))
+    (xml_plain (codes ">\n") refl))
+    (xml_either (has_passed rule row) [] (problem_text row lines) xml_nil (xml_problem row lines are)))
+    (xml_output row is)) (xml_plain (codes "</testcase>\n") refl)
+
+xml_cases : (class : List ℕ) (rule : Rule) (texts : List (List ℕ)) (rows : List Row) → IsBytes class →
+    AllByRecursion IsBytes texts → AllByRecursion IsWrittenRow rows → IsXmlCharacters (cases_text class rule texts rows)
+unfolding cases_text
+xml_cases class rule [] rows classed lines are = xml_nil
+xml_cases class rule (text ∷ texts) [] classed lines are = xml_nil
+xml_cases class rule (text ∷ texts) (row ∷ rows) classed lines are =
+    xml_append _ _ (xml_case class rule row text classed are.0 lines.0)
+    (xml_cases class rule texts rows classed lines.1 are.1)
+
+xml_begin : (class : List ℕ) (rule : Rule) (rows : List Row) → IsBytes class → length rows < 2 ^ 64 →
+    IsXmlCharacters (begin_text class rule rows)
+unfolding begin_text
+xml_begin class rule rows classed few =
+    let failures : count_by (is_failure rule) rows < 2 ^ 64 = omega (arith, all_are_counted rule rows) in
+    let errors : count_by (is_error rule) rows < 2 ^ 64 = omega (arith, all_are_counted rule rows) in
+    xml_append _ _ (xml_append _ _ (xml_append _ _ (xml_append _ _ (xml_append _ _
+    (xml_plain (codes "<?xml version=\"1.0\" encoding=\"UTF-8\"?>\n<testsuites>\n<testsuite") refl)
+    (xml_attribute (codes "name") class (xml_plain (codes "name") refl) classed))
+    (xml_number (codes "tests") (length rows) (xml_plain (codes "tests") refl) few))
+    (xml_number (codes "failures") (count_by (is_failure rule) rows) (xml_plain (codes "failures") refl) failures))
+    (xml_number (codes "errors") (count_by (is_error rule) rows) (xml_plain (codes "errors") refl) errors))
+    (xml_plain (codes ">\n") refl)
+
+pub xml_junit : (class : List ℕ) (rule : Rule) (texts : List (List ℕ)) (rows : List Row) → IsBytes class →
+    AllByRecursion IsBytes texts → AllByRecursion IsWrittenRow rows → length rows < 2 ^ 64 →
+    IsXmlCharacters (junit_text class rule texts rows)
+unfolding junit_text
+xml_junit class rule texts rows classed lines are few =
+    xml_append _ _ (xml_append _ _ (xml_begin class rule rows classed few)
+    (xml_cases class rule texts rows classed lines are)) (xml_plain end_text refl)

@@ -1,0 +1,20 @@
+-- Documents that are put together from pieces.
+use Rattle.std.specs.Prelude.{ℕ, List, ◌++◌, codes}
+use Rattle.std.specs.Fmt.{decimal}
+use Rattle.rv_junit.specs.declared.pieces.Piece.{Piece}
+use Rattle.rv_junit.specs.declared.pieces.Piece.TheVariants as piece
+use Rattle.rv_text.specs.declared.xml.Within.TheVariants.{Attribute, Element}
+use Rattle.rv_text.specs.Xml.{escaped}
+
+unfoldable pub attribute : List ℕ → List ℕ → List ℕ
+attribute name value = codes " " ++ name ++ codes "=\"" ++ escaped Attribute value ++ codes "\""
+
+unfoldable pub number_attribute : List ℕ → ℕ → List ℕ
+number_attribute name number = codes " " ++ name ++ codes "=\"" ++ decimal number ++ codes "\""
+
+abbrev pub piece_text : Piece → List ℕ
+piece_text (piece.Text text) = text.now
+piece_text (piece.Number number) = decimal number
+piece_text (piece.Attribute name value) = attribute name.now value.now
+piece_text (piece.NumberAttribute name number) = number_attribute name.now number
+piece_text (piece.Element text) = escaped Element text.now

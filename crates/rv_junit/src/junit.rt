@@ -1,0 +1,144 @@
+//! The parts of JUnit's XML.
+
+ghost use Rattle.std.specs.Prelude.{◌≡◌, ◌++◌, OnOk, count_by, position, string_bytes};
+ghost use Rattle.rv_job_text.specs.ConsoleTail.{is_feed};
+ghost use Rattle.rv_expect.specs.Problem.{is_error, is_failure};
+ghost use Rattle.rv_junit.specs.Junit.{begin_text, case_text, first_line};
+ghost use Rattle.rv_junit.specs.Junit.{problem_name, problem_or_none};
+
+use crate::pieces::{Piece, push_pieces};
+use rv_expect::{Rule, has_passed, is_error, is_failure};
+use rv_rows::{Row, is_run};
+use std::alloc::{AllocError, Global};
+
+/// Appends what stands before the cases: the declaration, and the suite's name and counts.
+pub(crate) fn push_begin(
+    alloc: Global,
+    text: &mut String,
+    class: &[u8],
+    rule: Rule,
+    rows: &[Row],
+) -> Result<(), AllocError>
+    ensures { OnOk result (string_bytes text.new
+        ≡ string_bytes text.old ++ begin_text class.now rule rows.now) }
+{
+    let failures = failure_count(rule, rows);
+    let errors = error_count(rule, rows);
+    push_pieces(
+        alloc,
+        text,
+        &[
+            Piece::Text("<?xml version=\"1.0\" encoding=\"UTF-8\"?>\n<testsuites>\n<testsuite"),
+            Piece::Attribute("name", class),
+            Piece::NumberAttribute("tests", rows.len() as u64),
+            Piece::NumberAttribute("failures", failures as u64),
+            Piece::NumberAttribute("errors", errors as u64),
+            Piece::Text(">\n"),
+        ],
+    )
+}
+
+fn failure_count(rule: Rule, rows: &[Row]) -> usize
+    ensures { result ≡ count_by (is_failure rule) rows.now }
+{
+    rows.iter().filter(|row| is_failure(rule, row)).count()
+}
+
+fn error_count(rule: Rule, rows: &[Row]) -> usize
+    ensures { result ≡ count_by (is_error rule) rows.now }
+{
+    rows.iter().filter(|row| is_error(rule, row)).count()
+}
+
+/// Appends the case of a row, with the lines that the row is given.
+pub(crate) fn push_case<'a>(
+    alloc: Global,
+    text: &mut String,
+    class: &'a [u8],
+    rule: Rule,
+    row: &'a Row,
+    lines: &[u8],
+) -> Result<(), AllocError>
+    ensures { OnOk result (string_bytes text.new
+        ≡ string_bytes text.old ++ case_text class.now rule row.now lines.now) }
+{
+    push_pieces(
+        alloc,
+        text,
+        &[
+            Piece::Text("<testcase"),
+            Piece::Attribute("classname", class),
+            Piece::Attribute("name", row.name.as_str().as_bytes()),
+            Piece::Text(">\n"),
+        ],
+    )?;
+    push_problem_or_none(alloc, text, rule, row, lines)?;
+    let steps = row.steps;
+    push_pieces(
+        alloc,
+        text,
+        &[
+            Piece::Text("<system-out>"),
+            Piece::Number(u64::from(steps)),
+            Piece::Text(" steps\n"),
+            Piece::Element(row.console.as_slice()),
+            Piece::Text("</system-out>\n</testcase>\n"),
+        ],
+    )
+}
+
+#[tactic(auto, unfolding(crate::specs::Junit::problem_text))]
+fn push_problem_or_none(
+    alloc: Global,
+    text: &mut String,
+    rule: Rule,
+    row: &Row,
+    lines: &[u8],
+) -> Result<(), AllocError>
+    ensures { OnOk result (string_bytes text.new
+        ≡ string_bytes text.old ++ problem_or_none rule row.now lines.now) }
+{
+    if has_passed(rule, row) {
+        return Ok(());
+    }
+    let name = problem_name(row);
+    push_pieces(
+        alloc,
+        text,
+        &[
+            Piece::Text("<"),
+            Piece::Text(name),
+            Piece::Attribute("message", first_line(lines)),
+            Piece::Text(">"),
+            Piece::Element(lines),
+            Piece::Text("</"),
+            Piece::Text(name),
+            Piece::Text(">\n"),
+        ],
+    )
+}
+
+fn problem_name(row: &Row) -> &'static str
+    ensures { result.now ≡ problem_name row.now }
+{
+    if is_run(row.ending) {
+        "failure"
+    } else {
+        "error"
+    }
+}
+
+fn first_line(text: &[u8]) -> &[u8]
+    ensures { result.now ≡ first_line text.now }
+{
+    match feed_place(text) {
+        Some(place) if place < text.len() => &text[..place],
+        _ => text,
+    }
+}
+
+fn feed_place(text: &[u8]) -> Option<usize>
+    ensures { result ≡ position is_feed text.now }
+{
+    text.iter().position(|byte| *byte == b'\n')
+}

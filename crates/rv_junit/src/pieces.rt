@@ -1,0 +1,75 @@
+//! Documents that are put together from pieces.
+
+ghost use Rattle.std.specs.Prelude.{◌≡◌, ◌++◌, OnOk, string_bytes};
+ghost use Rattle.std.specs.List.{flat_map};
+ghost use Rattle.rv_junit.specs.Pieces.{attribute, number_attribute, piece_text};
+
+use rv_text::{Within, push_escaped};
+use std::alloc::{AllocError, Global};
+use std::fmt::Write;
+
+/// A piece of a document.
+#[derive(Clone, Copy)]
+pub(crate) enum Piece<'a> {
+    /// Text as it stands, markup with it.
+    Text(&'a str),
+    /// A number's decimal digits.
+    Number(u64),
+    /// An attribute of a name and a value, as XML takes it.
+    Attribute(&'a str, &'a [u8]),
+    /// An attribute of a name whose value is a number.
+    NumberAttribute(&'a str, u64),
+    /// The text of an element, as XML takes it.
+    Element(&'a [u8]),
+}
+
+/// Appends pieces, one behind the other.
+pub(crate) fn push_pieces(
+    alloc: Global,
+    text: &mut String,
+    pieces: &[Piece<'_>],
+) -> Result<(), AllocError>
+    ensures { OnOk result (string_bytes text.new
+        ≡ string_bytes text.old ++ flat_map piece_text pieces.now) }
+{
+    for piece in pieces {
+        push_piece(alloc, text, *piece)?;
+    }
+    Ok(())
+}
+
+fn push_piece(alloc: Global, text: &mut String, piece: Piece<'_>) -> Result<(), AllocError>
+    ensures { OnOk result (string_bytes text.new
+        ≡ string_bytes text.old ++ piece_text piece.entry) }
+{
+    match piece {
+        Piece::Text(words) => text.push_str(words),
+        Piece::Number(number) => write!(text, "{number}"),
+        Piece::Attribute(name, value) => push_attribute(alloc, text, name, value),
+        Piece::NumberAttribute(name, number) => push_number_attribute(text, name, number),
+        Piece::Element(bytes) => push_escaped(alloc, text, Within::Element, bytes),
+    }
+}
+
+#[tactic(auto, unfolding(crate::specs::Pieces::attribute))]
+fn push_attribute(
+    alloc: Global,
+    text: &mut String,
+    name: &str,
+    value: &[u8],
+) -> Result<(), AllocError>
+    ensures { OnOk result (string_bytes text.new
+        ≡ string_bytes text.old ++ attribute name.now value.now) }
+{
+    write!(text, " {name}=\"")?;
+    push_escaped(alloc, text, Within::Attribute, value)?;
+    text.push_str("\"")
+}
+
+#[tactic(auto, unfolding(crate::specs::Pieces::number_attribute))]
+fn push_number_attribute(text: &mut String, name: &str, number: u64) -> Result<(), AllocError>
+    ensures { OnOk result (string_bytes text.new
+        ≡ string_bytes text.old ++ number_attribute name.now number) }
+{
+    write!(text, " {name}=\"{number}\"")
+}

@@ -1,0 +1,67 @@
+//! The lines of a list's faults.
+
+ghost use Rattle.std.specs.Prelude.{OnOk, length};
+ghost use Rattle.rv_list_errors.specs.Lines.{PutsLines};
+
+use crate::list::List;
+use crate::texts::{Look, message_of};
+use rv_job_text::{Span, push_spans};
+use rv_lists::JobError;
+use std::alloc::{AllocError, Global};
+use toml::Table;
+
+// Of how many faults the nearest name of a job is told: to look for it takes as long as there are earlier jobs.
+const NEAR_TOLD: usize = 64;
+
+/// Appends a line for each fault of a list, in their order. `file` is the path of the list as the person wrote it, and the
+/// faults are those that `read_jobs` or `read_faults` of `rv_lists` tells of its text. The text is read once more.
+pub fn push_faults(
+    alloc: Global,
+    bytes: &mut Vec<u8>,
+    file: &str,
+    text: &[u8],
+    faults: &[JobError],
+) -> Result<(), AllocError>
+    ensures { OnOk result (PutsLines (length faults.now) bytes.old.items bytes.new.items) }
+{
+    match toml::table_from_slice(alloc, text) {
+        Ok(table) => push_all(alloc, bytes, file, text, &table, faults),
+        Err(error) => {
+            if error.is_memory() {
+                return Err(AllocError);
+            }
+            push_each(alloc, bytes, file, &Look::NoToml(text, error), faults)
+        }
+    }
+}
+
+// Appends a line for each fault of a list that is a document.
+fn push_all(
+    alloc: Global,
+    bytes: &mut Vec<u8>,
+    file: &str,
+    text: &[u8],
+    table: &Table,
+    faults: &[JobError],
+) -> Result<(), AllocError>
+    ensures { OnOk result (PutsLines (length faults.now) bytes.old.items bytes.new.items) }
+{
+    let list = List::of(alloc, text, table)?;
+    push_each(alloc, bytes, file, &Look::List(list), faults)
+}
+
+fn push_each(
+    alloc: Global,
+    bytes: &mut Vec<u8>,
+    file: &str,
+    look: &Look<'_>,
+    faults: &[JobError],
+) -> Result<(), AllocError>
+    ensures { OnOk result (PutsLines (length faults.now) bytes.old.items bytes.new.items) }
+{
+    for (at, fault) in faults.iter().enumerate() {
+        let message = message_of(alloc, file, look, *fault, at < NEAR_TOLD)?;
+        push_spans(bytes, &[Span::Shown(message.as_slice()), Span::Text("\n")])?;
+    }
+    Ok(())
+}

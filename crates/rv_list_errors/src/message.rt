@@ -1,0 +1,98 @@
+//! A text that grows.
+
+use rv_job_text::{push_number, push_shown_value, push_text, push_word};
+use std::alloc::{AllocError, Global};
+use strsim::levenshtein;
+use toml::Value;
+
+/// What is told of a fault, as far as it is written. It keeps the first refused growth to itself and asks for none after it, so
+/// that who writes has one way out.
+#[derive(Drop)]
+pub(crate) struct Message {
+    alloc: Global,
+    bytes: Vec<u8>,
+    grown: Result<(), AllocError>,
+}
+
+impl Message {
+    pub(crate) fn new(alloc: Global) -> Message {
+        Message {
+            alloc,
+            bytes: Vec::new(alloc),
+            grown: Ok(()),
+        }
+    }
+
+    /// The whole text, if no growth was refused.
+    pub(crate) fn finish(self) -> Result<Vec<u8>, AllocError> {
+        self.grown?;
+        Ok(self.bytes)
+    }
+
+    pub(crate) fn push(&mut self, text: &str) {
+        if self.grown.is_ok() {
+            self.grown = push_text(&mut self.bytes, text);
+        }
+    }
+
+    pub(crate) fn push_number(&mut self, number: u64) {
+        if self.grown.is_ok() {
+            self.grown = push_number(&mut self.bytes, number);
+        }
+    }
+
+    /// Appends a number between texts.
+    pub(crate) fn push_between(&mut self, before: &str, number: u64, behind: &str) {
+        self.push(before);
+        self.push_number(number);
+        self.push(behind);
+    }
+
+    /// Appends a word's eight hexadecimal digits.
+    pub(crate) fn push_word(&mut self, word: u32) {
+        if self.grown.is_ok() {
+            self.grown = push_word(&mut self.bytes, word);
+        }
+    }
+
+    /// Appends a value: a text in quotes, with its control characters as `\xNN`, and another value as TOML writes it.
+    pub(crate) fn push_value(&mut self, value: &Value) {
+        if let Value::String(text) = value {
+            self.push_quoted(text.as_str());
+        } else if self.grown.is_ok() {
+            match format!(in self.alloc; "{value}") {
+                Ok(text) => self.push_shown(text.as_str()),
+                Err(error) => self.grown = Err(error),
+            }
+        }
+    }
+
+    /// Appends a text in quotes.
+    pub(crate) fn push_quoted(&mut self, text: &str) {
+        self.push("\"");
+        self.push_shown(text);
+        self.push("\"");
+    }
+
+    /// Appends a text without quotes.
+    pub(crate) fn push_shown(&mut self, text: &str) {
+        if self.grown.is_ok() {
+            self.grown = push_shown_value(&mut self.bytes, text.as_bytes());
+        }
+    }
+
+    /// How many characters must be put in, taken out or changed to make one text of another, for which memory is wanted; once a
+    /// growth was refused, more than any two texts differ by.
+    pub(crate) fn distance(&mut self, text: &str, other: &str) -> usize {
+        if self.grown.is_err() {
+            return usize::MAX;
+        }
+        match levenshtein(self.alloc, text, other) {
+            Ok(distance) => distance,
+            Err(error) => {
+                self.grown = Err(error);
+                usize::MAX
+            }
+        }
+    }
+}

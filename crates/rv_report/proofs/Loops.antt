@@ -1,0 +1,174 @@
+-- Steps of the loops over a text.
+use Rattle.std.proofs.Common.{◌≡◌, ◌∙◌, ◌==◌, ◌+◌, ◌-◌, ◌<◌, ◌≤◌, ℕ, zero, suc, Bool, true, false, ◌&&◌, cond}
+use Rattle.std.proofs.Common.{List, [], ◌∷◌, length, take, drop, get_or, refl, sym, ap, arith, ◌++◌}
+use Rattle.std.proofs.Common.{append-nil, append_assoc, nat_lt, nat_le}
+use Rattle.std.proofs.lemmas.List.{at_drop_more, at_drop_all, drop_more}
+use Rattle.std.proofs.lemmas.Bool.Decides.{nat_tests}
+use Rattle.rv_report.specs.declared.read.FirstWord.{FirstWord}
+use Rattle.rv_report.specs.declared.read.ReadError.TheVariants.{Line, CutOff}
+use Rattle.std.proofs.lemmas.Bool.{and_parts}
+use Rattle.rv_report.specs.Differences.{feeds, past, line_past, difference, difference_at}
+use Rattle.rv_lists.specs.Jobs.{most_jobs}
+use Rattle.rv_rows.specs.Report.{row_text}
+use Rattle.rv_rows.specs.declared.row.Row.{Row}
+use Rattle.rv_report_lines.specs.Said.{rising_count}
+use Rattle.rv_report_lines.specs.Saved.{are_rising, numbered_text}
+
+pub feeds_step : (xs : List ℕ) (i : ℕ) → i < length xs
+    → feeds (drop i xs) ≡ cond (get_or xs i 0 == 10) (feeds (drop (i + 1) xs) + 1) (feeds (drop (i + 1) xs))
+feeds_step xs i h = at_drop_more feeds xs i 0 h
+
+pub feeds_end : (xs : List ℕ) (i : ℕ) → length xs ≤ i → feeds (drop i xs) ≡ 0
+feeds_end xs i h = at_drop_all feeds xs i h
+
+pub feeds_here : (xs : List ℕ) (i : ℕ) → i < length xs → get_or xs i 0 ≡ 10 → 0 < feeds (drop i xs)
+feeds_here xs i h is =
+    let e : (get_or xs i 0 == 10) ≡ true = grind arith in
+    let s = feeds_step xs i h ∙ ap (λ (t : Bool). cond t (feeds (drop (i + 1) xs) + 1) (feeds (drop (i + 1) xs))) e in
+    omega arith
+
+pub feeds_later : (xs : List ℕ) (i : ℕ) → i < length xs → (get_or xs i 0 ≡ 10 → ⊥)
+    → feeds (drop i xs) ≡ feeds (drop (i + 1) xs)
+feeds_later xs i h other =
+    let e : (get_or xs i 0 == 10) ≡ false = grind arith in
+    feeds_step xs i h ∙ ap (λ (t : Bool). cond t (feeds (drop (i + 1) xs) + 1) (feeds (drop (i + 1) xs))) e
+
+-- ---- the first difference
+
+pub difference_end : (line : ℕ) (met : FirstWord) (text bytes : List ℕ) (i : ℕ) → length bytes ≤ i
+    → difference line met text (drop i bytes) ≡ CutOff
+unfolding difference
+difference_end line met [] bytes i h = at_drop_all (difference line met []) bytes i h
+difference_end line met (t ∷ ts) bytes i h = at_drop_all (difference line met (t ∷ ts)) bytes i h
+
+pub difference_past : (line : ℕ) (met : FirstWord) (text bytes : List ℕ) (i : ℕ) → length text ≤ i → i < length bytes
+    → difference line met (drop i text) (drop i bytes) ≡ Line line
+unfolding difference
+difference_past line met text bytes i h k =
+    at_drop_all (λ (xs : List ℕ). difference line met xs (drop i bytes)) text i h
+    ∙ at_drop_more (difference line met []) bytes i 0 k
+
+difference_step : (line : ℕ) (met : FirstWord) (text bytes : List ℕ) (i : ℕ) → i < length text → i < length bytes
+    → difference line met (drop i text) (drop i bytes)
+    ≡ cond (get_or bytes i 0 == get_or text i 0)
+    (difference (line_past line (get_or bytes i 0)) (past met (get_or bytes i 0)) (drop (i + 1) text)
+    (drop (i + 1) bytes))
+    (difference_at line met (get_or text i 0) (get_or bytes i 0 ∷ drop (i + 1) bytes))
+unfolding difference
+difference_step line met text bytes i h k =
+    at_drop_more (λ (xs : List ℕ). difference line met xs (drop i bytes)) text i 0 h
+    ∙ at_drop_more (difference line met (get_or text i 0 ∷ drop (i + 1) text)) bytes i 0 k
+
+pub difference_here : (line : ℕ) (met : FirstWord) (text bytes : List ℕ) (i : ℕ) → i < length text → i < length bytes
+    → (get_or bytes i 0 ≡ get_or text i 0 → ⊥)
+    → difference line met (drop i text) (drop i bytes) ≡ difference_at line met (get_or text i 0) (drop i bytes)
+difference_here line met text bytes i h k other =
+    let e : (get_or bytes i 0 == get_or text i 0) ≡ false = grind arith in
+    difference_step line met text bytes i h k
+    ∙ ap (λ (t : Bool). cond t
+    (difference (line_past line (get_or bytes i 0)) (past met (get_or bytes i 0)) (drop (i + 1) text)
+    (drop (i + 1) bytes))
+    (difference_at line met (get_or text i 0) (get_or bytes i 0 ∷ drop (i + 1) bytes))) e
+    ∙ ap (difference_at line met (get_or text i 0)) (sym (drop_more bytes i 0 k))
+
+pub difference_later : (line : ℕ) (met : FirstWord) (text bytes : List ℕ) (i : ℕ) → i < length text
+    → i < length bytes → get_or bytes i 0 ≡ get_or text i 0
+    → difference line met (drop i text) (drop i bytes)
+    ≡ difference (line_past line (get_or bytes i 0)) (past met (get_or bytes i 0)) (drop (i + 1) text)
+    (drop (i + 1) bytes)
+difference_later line met text bytes i h k same =
+    let e : (get_or bytes i 0 == get_or text i 0) ≡ true = grind arith in
+    difference_step line met text bytes i h k
+    ∙ ap (λ (t : Bool). cond t
+    (difference (line_past line (get_or bytes i 0)) (past met (get_or bytes i 0)) (drop (i + 1) text)
+    (drop (i + 1) bytes))
+    (difference_at line met (get_or text i 0) (get_or bytes i 0 ∷ drop (i + 1) bytes))) e
+
+pub line_fed : (b line : ℕ) → b ≡ 10 → line_past line b ≡ line + 1
+line_fed b line is = let e : (b == 10) ≡ true = grind arith in ap (λ (t : Bool). cond t (line + 1) line) e
+
+pub line_same : (b line : ℕ) → (b ≡ 10 → ⊥) → line_past line b ≡ line
+line_same b line other = let e : (b == 10) ≡ false = grind arith in ap (λ (t : Bool). cond t (line + 1) line) e
+
+-- ---- numbers of jobs
+
+both_false : (a b : Bool) → (a ≡ true → b ≡ true → ⊥) → (a && b) ≡ false
+both_false true true h = absurd (h refl refl)
+both_false true false h = refl
+both_false false b h = refl
+
+count_step : (before : ℕ) (xs : List ℕ) (i : ℕ) → i < length xs → rising_count before (drop i xs)
+    ≡ cond (nat_lt before (get_or xs i 0) && nat_le (get_or xs i 0) most_jobs)
+    (rising_count (get_or xs i 0) (drop (i + 1) xs) + 1) 0
+unfolding rising_count
+count_step before xs i h = at_drop_more (rising_count before) xs i 0 h
+
+pub count_end : (before : ℕ) (xs : List ℕ) (i : ℕ) → length xs ≤ i → rising_count before (drop i xs) ≡ 0
+unfolding rising_count
+count_end before xs i h = at_drop_all (rising_count before) xs i h
+
+pub count_no : (before : ℕ) (xs : List ℕ) (i : ℕ) → i < length xs
+    → (before < get_or xs i 0 → get_or xs i 0 ≤ most_jobs → ⊥) → rising_count before (drop i xs) ≡ 0
+count_no before xs i h never =
+    let x = get_or xs i 0 in
+    count_step before xs i h
+    ∙ ap (λ (t : Bool). cond t (rising_count x (drop (i + 1) xs) + 1) 0)
+    (both_false (nat_lt before x) (nat_le x most_jobs)
+    (λ low high. never (grind (arith, nat_tests)) (grind (arith, nat_tests))))
+
+pub count_on : (before : ℕ) (xs : List ℕ) (i : ℕ) → i < length xs → before < get_or xs i 0 → get_or xs i 0 ≤ most_jobs
+    → rising_count before (drop i xs) ≡ rising_count (get_or xs i 0) (drop (i + 1) xs) + 1
+count_on before xs i h low high =
+    let x = get_or xs i 0 in
+    let a : nat_lt before x ≡ true = grind (arith, nat_tests) in
+    let b : nat_le x most_jobs ≡ true = grind (arith, nat_tests) in
+    count_step before xs i h
+    ∙ ap (λ (t : Bool). cond (t && nat_le x most_jobs) (rising_count x (drop (i + 1) xs) + 1) 0) a
+    ∙ ap (λ (t : Bool). cond t (rising_count x (drop (i + 1) xs) + 1) 0) b
+
+-- ---- rows under their numbers
+
+-- one row more
+pub numbered_more : (numbers : List ℕ) (rows : List Row) (i n place : ℕ) (row : Row) → i < length rows
+    → length numbers ≡ length rows → get_or numbers i 0 ≡ n → place ≡ n - 1
+    → numbered_text (take (suc i) numbers) (take (suc i) rows)
+    ≡ numbered_text (take i numbers) (take i rows) ++ row_text place (get_or rows i row)
+unfolding numbered_text
+numbered_more [] [] i n place row h even at is = absurd (omega arith)
+numbered_more [] (r ∷ rows) i n place row h even at is = absurd (omega arith)
+numbered_more (k ∷ ks) [] i n place row h even at is = absurd (omega arith)
+numbered_more (k ∷ ks) (r ∷ rows) zero n place row h even at is =
+    append-nil (row_text (k - 1) r) ∙ ap (λ (p : ℕ). row_text p r) (ap (λ (m : ℕ). m - 1) at ∙ sym is)
+numbered_more (k ∷ ks) (r ∷ rows) (suc i) n place row h even at is =
+    ap (λ (t : List ℕ). row_text (k - 1) r ++ t) (numbered_more ks rows i n place row (omega arith) (omega arith) at is)
+    ∙ sym (append_assoc (row_text (k - 1) r) (numbered_text (take i ks) (take i rows))
+    (row_text place (get_or rows i row)))
+
+-- the first rows, and the rest
+pub numbered_split : (numbers : List ℕ) (rows : List Row) (i : ℕ) → length numbers ≡ length rows
+    → numbered_text numbers rows
+    ≡ numbered_text (take i numbers) (take i rows) ++ numbered_text (drop i numbers) (drop i rows)
+unfolding numbered_text
+numbered_split [] [] zero even = refl
+numbered_split [] [] (suc i) even = refl
+numbered_split [] (r ∷ rows) i even = absurd (omega arith)
+numbered_split (k ∷ ks) [] i even = absurd (omega arith)
+numbered_split (k ∷ ks) (r ∷ rows) zero even = refl
+numbered_split (k ∷ ks) (r ∷ rows) (suc i) even =
+    ap (λ (t : List ℕ). row_text (k - 1) r ++ t) (numbered_split ks rows i (omega arith))
+    ∙ sym (append_assoc (row_text (k - 1) r) (numbered_text (take i ks) (take i rows))
+    (numbered_text (drop i ks) (drop i rows)))
+
+-- numbers that rise from behind one are above it
+pub above : (before last : ℕ) (ns : List ℕ) (i : ℕ) → are_rising before last ns ≡ true → i < length ns
+    → before < get_or ns i 0
+unfolding are_rising
+above before last [] i h within = absurd (omega arith)
+above before last (n ∷ ns) zero h within =
+    let low = (and_parts (nat_lt before n) (nat_le n last && are_rising n last ns) h).0 in grind (arith, nat_tests)
+above before last (n ∷ ns) (suc i) h within =
+    let first = and_parts (nat_lt before n) (nat_le n last && are_rising n last ns) h in
+    let then = and_parts (nat_le n last) (are_rising n last ns) first.1 in
+    let low : before < n = grind (arith, nat_tests) in
+    let later = above n last ns i then.1 (omega arith) in
+    omega arith

@@ -1,0 +1,5 @@
+use Rattle.rv_report_lines.proofs.Public.{same_reports}
+use Rattle.rv_report.proofs.law.one_text_one_report.Goals as goal
+
+pub returns : goal.returns
+returns c = same_reports

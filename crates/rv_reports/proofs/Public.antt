@@ -1,2 +1,0 @@
--- What other crates may cite of the proofs of this one.
-pub use Rattle.rv_reports.proofs.Loops.{above, numbered_more, numbered_split}

@@ -1,5 +1,0 @@
-use Rattle.rv_report_lines.proofs.Public.{same_reports}
-use Rattle.rv_reports.proofs.law.one_text_one_report.Goals as goal
-
-pub returns : goal.returns
-returns c = same_reports

@@ -1,5 +1,0 @@
-use Rattle.rv_report_lines.proofs.Public.{whole_text}
-use Rattle.rv_reports.proofs.law.whole_text_is_report_text.Goals as goal
-
-pub returns : goal.returns
-returns c = whole_text

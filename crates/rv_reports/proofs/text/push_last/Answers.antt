@@ -1,7 +1,0 @@
-use Rattle.std.proofs.Common.{append_assoc}
-use Rattle.rv_report_lines.specs.Saved.{last_line}
-use Rattle.rv_reports.proofs.text.push_last.Goals as goal
-
-pub returns-in-Choice : goal.returns-in-Choice
-unfolding last_line
-returns-in-Choice c = rw c.in-Choice.is (simp append_assoc c.write.ensures.bytes)

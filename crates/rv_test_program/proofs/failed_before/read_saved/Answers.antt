@@ -1,5 +1,0 @@
-use Rattle.rv_test_program.proofs.SavedRows.{few_rows}
-use Rattle.rv_test_program.proofs.failed_before.read_saved.Goals as goal
-
-pub returns-in-Ok : goal.returns-in-Ok
-returns-in-Ok g c = few_rows c.in-Ok.report c.in-Ok.ensures.found.0

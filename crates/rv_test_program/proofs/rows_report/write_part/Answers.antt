@@ -1,6 +1,0 @@
-use Rattle.rv_test_program.proofs.Numbers.{rising_numbers}
-use Rattle.rv_test_program.proofs.rows_report.write_part.Goals as goal
-
-pub write_saved-requires-clause-rising : goal.write_saved-requires-clause-rising
-write_saved-requires-clause-rising g c = rw (c.new.ensures, c.in_ok-numbers_of.ensures)
-    (rising_numbers c.args.places.now c.args.jobs c.requires.few c.requires.rising c.requires.within)

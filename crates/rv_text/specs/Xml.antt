@@ -1,0 +1,104 @@
+-- Text as XML 1.0 takes it: its characters as they are, but for those that have a reference; bytes
+-- that are of no character of XML each as a backslash, an x and two lower-case hexadecimal digits.
+use Rattle.std.specs.Prelude.{◌≡◌, ◌==◌, ◌||◌, ◌+◌, ◌-◌, ℕ, zero, suc, Bool, true, List, [], ◌∷◌, ◌++◌}
+use Rattle.std.specs.Prelude.{if◌then◌else◌, codes, drop, take, Option, Some, None, slice_get}
+use Rattle.std.specs.Prelude.{slice_index}
+use Rattle.std.specs.Char.{encode_utf8, len_utf8}
+use Rattle.std.specs.Int.{is_in_range}
+use Rattle.std.specs.List.{flat_map, list_all}
+use Rattle.std.specs.Str.{chars, continuation_len, encode_utf8_all, is_utf8}
+use Rattle.hex.specs.Hex.{encode_lower}
+use Rattle.rv_text.specs.declared.xml.Within.{Within}
+use Rattle.rv_text.specs.declared.xml.Within.TheVariants.{Attribute, Element}
+
+-- ---- characters
+
+-- the characters of XML 1.0: production Char
+abbrev pub is_xml_character : ℕ → Bool
+is_xml_character c = c == 0x9 || (c == 0xA || (c == 0xD || (is_in_range 0x20 0xD7FF c
+    || (is_in_range 0xE000 0xFFFD c || is_in_range 0x1_0000 0x10_FFFF c))))
+
+-- in an attribute a reader takes a tab and a line feed for a space, unless they stand as references
+abbrev pub space_reference : Within → ℕ → Option (List ℕ)
+space_reference Attribute c =
+    if c == 0x9 then Some (codes "&#9;") else if c == 0xA then Some (codes "&#10;") else None
+space_reference Element c = None
+
+-- what stands for a character that is markup, or that a reader changes
+abbrev pub reference : Within → ℕ → Option (List ℕ)
+reference within c =
+    if c == 60 then Some (codes "&lt;") else if c == 62 then Some (codes "&gt;")
+    else if c == 38 then Some (codes "&amp;") else if c == 34 then Some (codes "&quot;")
+    else if c == 0xD then Some (codes "&#13;") else space_reference within c
+
+-- a character by its reference, or as it is
+abbrev pub by_reference : Option (List ℕ) → ℕ → List ℕ
+by_reference (Some text) c = text
+by_reference None c = encode_utf8 c
+
+abbrev pub character_text : Within → ℕ → List ℕ
+character_text within c = by_reference (reference within c) c
+
+-- ---- the character in front
+
+-- as many bytes as the character has which the first of them begins, or all where there are fewer
+abbrev pub front_of : List ℕ → List ℕ
+front_of [] = []
+front_of (byte ∷ rest) = take (continuation_len byte + 1) (byte ∷ rest)
+
+abbrev pub xml_only : Option ℕ → Option ℕ
+xml_only None = None
+xml_only (Some c) = if is_xml_character c then Some c else None
+
+-- the character of XML that bytes begin with, if they begin with one
+unfoldable pub front_character : List ℕ → Option ℕ
+front_character bytes = let front = front_of bytes in
+    if is_utf8 front then xml_only (slice_get (chars front) 0) else None
+
+-- a byte that is of none
+abbrev pub escape : ℕ → List ℕ
+escape byte = codes "\\x" ++ encode_lower (byte ∷ [])
+
+abbrev pub character_or_escape : Within → ℕ → Option ℕ → List ℕ
+character_or_escape within byte (Some c) = character_text within c
+character_or_escape within byte None = escape byte
+
+-- how many more bytes are of it
+abbrev pub more_len : Option ℕ → ℕ
+more_len (Some c) = len_utf8 c - 1
+more_len None = 0
+
+-- ---- the text
+
+-- the bytes of which so many are still of the character before them
+unfoldable pub escaped_from : Within → ℕ → List ℕ → List ℕ
+escaped_from within left [] = []
+escaped_from within zero (byte ∷ rest) = let front = front_character (byte ∷ rest) in
+    character_or_escape within byte front ++ escaped_from within (more_len front) rest
+escaped_from within (suc left) (byte ∷ rest) = escaped_from within left rest
+
+-- bytes as XML takes them
+abbrev pub escaped : Within → List ℕ → List ℕ
+escaped within bytes = escaped_from within 0 bytes
+
+-- ---- the piece in front: a character or one byte
+
+abbrev pub front_text : Within → List ℕ → List ℕ
+front_text within bytes = character_or_escape within (slice_index bytes 0) (front_character bytes)
+
+abbrev pub behind_front : List ℕ → List ℕ
+behind_front bytes = drop (more_len (front_character bytes) + 1) bytes
+
+-- ---- what can stand in a document
+
+-- characters of XML, each by its reference or as it is
+pub record IsXmlText (within : Within) (text : List ℕ) : Type 0 where
+  pub characters : List ℕ
+  pub taken : list_all is_xml_character characters ≡ true
+  pub written : text ≡ flat_map (character_text within) characters
+
+-- the UTF-8 of characters of XML
+pub record IsXmlCharacters (text : List ℕ) : Type 0 where
+  pub characters : List ℕ
+  pub taken : list_all is_xml_character characters ≡ true
+  pub written : text ≡ encode_utf8_all characters

@@ -1,3 +1,0 @@
--- What other crates may cite of the proofs of this one.
-pub use Rattle.rv_words.proofs.Asking.{taken_asks}
-pub use Rattle.rv_words.proofs.Commands.{Is, its_app}

@@ -1,2 +1,0 @@
--- What other crates may cite of the proofs of this one.
-pub use Rattle.rv_xml.proofs.XmlCharacters.{xml_append, xml_decimal, xml_escaped, xml_nil, xml_plain}

@@ -1,5 +1,0 @@
-use Rattle.rv_xml.proofs.XmlTexts.{text_escaped}
-use Rattle.rv_xml.proofs.law.escaped_bytes_are_xml.Goals as goal
-
-pub returns : goal.returns
-returns c = λ within bytes are. text_escaped within 0 bytes are

@@ -1,0 +1,147 @@
+-- What the program owes to words.
+use Rattle.std.specs.Prelude.{◌≡◌, ◌⊎◌, ℕ, Bool, true, false, List, Option, Some, None, Ok}
+use Rattle.std.specs.Prelude.{if◌then◌else◌}
+use Rattle.std.specs.List.{list_any}
+use Rattle.std.specs.Io.KnownBytes.{Appends, Keeps}
+use Rattle.rv_rows.specs.declared.row.Row.{Row}
+use Rattle.rv_rows.specs.declared.row.Verdict.{Verdict}
+use Rattle.rv_rows.specs.declared.row.Verdict.TheVariants as verdict
+use Rattle.rv_rows.specs.Report.{report_text}
+use Rattle.rv_rows.specs.Sending.{AppendsBeginning}
+use Rattle.rv_lists.specs.declared.error.JobError.{JobError}
+use Rattle.rv_lists.specs.declared.job.Job.{Job}
+use Rattle.rv_jobs.specs.Stores.{FileContents}
+use Rattle.rv_cli.specs.CommandLine.{Request, one, raw, run}
+use Rattle.rvfleet_app.specs.declared.error.Failure.{Failure}
+use Rattle.rvfleet_app.specs.Failures.{is_of_list, is_of_raw, is_of_sending}
+use Rattle.rvfleet_app.specs.Lines.{Told, bad_words_line, failure_line, fault_line}
+use Rattle.rvfleet_app.specs.One.{bytes_of, is_bad_one, is_bad_path, one_jobs}
+use Rattle.rvfleet_app.specs.Plans.{AreJobRows, MayFault, MayList, Stored}
+use Rattle.rvfleet_app.specs.Raw.{AreRawRows}
+
+-- ---- which words are refused
+
+-- nothing is asked for, or a path or digits are refused
+abbrev pub is_refused : Option Request → Bool
+is_refused (Some (raw budget)) = false
+is_refused (Some (one path budget digits)) = is_bad_one path digits
+is_refused (Some (run path workers group)) = is_bad_path path
+is_refused None = true
+
+-- the fault of a list that the store may hold for the request
+abbrev pub IsFaultOf : Option Request → Option FileContents → JobError → Type 0
+IsFaultOf (Some (raw budget)) known error = ⊥
+IsFaultOf (Some (one path budget digits)) known error = ⊥
+IsFaultOf (Some (run path workers group)) known error = MayFault known path error
+IsFaultOf None known error = ⊥
+
+-- a list that the store may hold for the request has a fault
+abbrev pub HasFault : Option Request → Stored → Type 0
+HasFault request store = (error : JobError) × IsFaultOf request store.known error
+
+-- ---- which rows are owed
+
+-- the words ask for a file
+abbrev pub reads_store : Option Request → Bool
+reads_store (Some (raw budget)) = false
+reads_store (Some (one path budget digits)) = true
+reads_store (Some (run path workers group)) = true
+reads_store None = false
+
+-- the words ask for the input
+abbrev pub reads_input : Option Request → Bool
+reads_input (Some (raw budget)) = true
+reads_input (Some (one path budget digits)) = false
+reads_input (Some (run path workers group)) = false
+reads_input None = false
+
+-- the rows of the one job of a path and the script that digits stand for
+abbrev pub AreOneRows : Stored → List ℕ → ℕ → Option (List ℕ) → List Row → Type 0
+AreOneRows store path budget digits rows = (script : List ℕ) × ((bytes_of digits ≡ Ok script)
+    × AreJobRows store (one_jobs path budget script) rows)
+
+-- the rows of the jobs of a list that the store may hold at a path
+abbrev pub AreListRows : Stored → List ℕ → List Row → Type 0
+AreListRows store path rows =
+    (jobs : List Job) × (MayList store.known path jobs × AreJobRows store jobs rows)
+
+-- the rows of a request, over what the input has and the store may answer
+abbrev pub AreRows : Option Request → Option (List ℕ) → Stored → List Row → Type 0
+AreRows (Some (raw budget)) input store rows = AreRawRows input budget rows
+AreRows (Some (one path budget digits)) input store rows = AreOneRows store path budget digits rows
+AreRows (Some (run path workers group)) input store rows = AreListRows store path rows
+AreRows None input store rows = ⊥
+
+-- ---- the report
+
+abbrev pub is_fail : Verdict → Bool
+is_fail verdict.Unasked = false
+is_fail verdict.Pass = false
+is_fail verdict.Fail = true
+
+abbrev pub has_fail : List Row → Bool
+has_fail rows = list_any (λ row. is_fail row.verdict) rows
+
+-- 1 where some verdict is fail, else 0
+abbrev pub status_of : List Row → ℕ
+status_of rows = if has_fail rows then 1 else 0
+
+-- the report of these rows went out, and the status is its own
+pub record Reported (before after : Option (List ℕ)) (status : ℕ) (rows : List Row) : Type 0 where
+  pub appended : Appends before after (report_text rows)
+  pub verdicts : status ≡ status_of rows
+
+-- a beginning of their report went out
+abbrev pub Began : Option (List ℕ) → Option (List ℕ) → List Row → Type 0
+Began before after rows = AppendsBeginning before after (report_text rows)
+
+-- ---- the answer
+
+-- the answer to words that ask for this: with status 0 or 1 there are rows of the request whose
+-- report went out; with 2 nothing did; with 3 nothing, or a beginning of the report of such rows
+pub record Answers (request : Option Request) (input : Option (List ℕ)) (store : Stored)
+    (before after : Option (List ℕ)) (status : ℕ) : Type 0 where
+  pub reported : status ≡ 0 ⊎ status ≡ 1
+      → (rows : List Row) × (AreRows request input store rows × Reported before after status rows)
+  pub accepted : status ≡ 0 ⊎ status ≡ 1 → is_refused request ≡ false
+  pub refused : status ≡ 2
+      → Keeps before after × (is_refused request ≡ true ⊎ HasFault request store)
+  pub failed : status ≡ 3 → Keeps before after
+      ⊎ ((rows : List Row) × (AreRows request input store rows × Began before after rows))
+
+-- ---- what standard error says
+
+-- the line of why a request is refused is told: bad words, or the fault of its list
+abbrev pub TellsRefusal : Option Request → Option FileContents
+    → Option (List ℕ) → Option (List ℕ) → ℕ → ℕ → Type 0
+TellsRefusal request known before after failures_before failures_after =
+    ((is_refused request ≡ true)
+    × Told before after failures_before failures_after bad_words_line)
+    ⊎ ((error : JobError) × (IsFaultOf request known error
+    × Told before after failures_before failures_after (fault_line error)))
+
+-- the request may fail so
+abbrev pub may_fail : Option Request → Failure → Bool
+may_fail (Some (raw budget)) failure = is_of_raw failure
+may_fail (Some (one path budget digits)) failure = is_of_sending failure
+may_fail (Some (run path workers group)) failure = is_of_list failure
+may_fail None failure = is_of_sending failure
+
+-- the line of a failure is told that the request may have
+abbrev pub TellsFailure : Option Request → Option (List ℕ) → Option (List ℕ) → ℕ → ℕ → Type 0
+TellsFailure request before after failures_before failures_after =
+    (failure : Failure) × ((may_fail request failure ≡ true)
+    × Told before after failures_before failures_after (failure_line failure))
+
+-- nothing is said, and no put failed
+abbrev pub IsQuiet : Option (List ℕ) → Option (List ℕ) → ℕ → ℕ → Type 0
+IsQuiet before after failures_before failures_after =
+    Keeps before after × (failures_after ≡ failures_before)
+
+-- why the status is 2 or 3; beside 0 and 1 nothing is said
+pub record Tells (request : Option Request) (known : Option FileContents)
+    (before after : Option (List ℕ)) (failures_before failures_after : ℕ) (status : ℕ)
+    : Type 0 where
+  pub quiet : status ≡ 0 ⊎ status ≡ 1 → IsQuiet before after failures_before failures_after
+  pub refused : status ≡ 2 → TellsRefusal request known before after failures_before failures_after
+  pub failed : status ≡ 3 → TellsFailure request before after failures_before failures_after

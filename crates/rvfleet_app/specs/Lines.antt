@@ -1,0 +1,43 @@
+-- The lines of standard error.
+use Rattle.std.specs.Prelude.{◌≡◌, ◌⊎◌, ℕ, List, ◌++◌, Option, codes}
+use Rattle.std.specs.Fmt.{decimal}
+use Rattle.std.specs.Io.KnownBytes.{Appends}
+use Rattle.rv_rows.specs.Report.{line}
+use Rattle.rv_rows.specs.Sending.{AppendsBeginning}
+use Rattle.rv_jobs.specs.Stores.{one_more}
+use Rattle.rv_lists.specs.Faults.{what_name}
+use Rattle.rv_lists.specs.declared.error.JobError.{JobError}
+use Rattle.rvfleet_app.specs.declared.error.Failure.{Failure}
+use Rattle.rvfleet_app.specs.declared.error.Failure.TheVariants as failure
+
+-- each line begins with the program's name
+abbrev pub program_line : List ℕ → List ℕ
+program_line text = line (codes "rvfleet: " ++ text)
+
+-- the line of words that are refused
+abbrev pub bad_words_line : List ℕ
+bad_words_line = program_line (codes "bad words")
+
+-- the line of a list's fault: the number of the job, or 0 for the whole list, and the fault's name
+abbrev pub fault_line : JobError → List ℕ
+fault_line error =
+    program_line (codes "job " ++ decimal error.job ++ codes ": " ++ what_name error.what)
+
+abbrev pub failure_name : Failure → List ℕ
+failure_name failure.OutOfMemory = codes "out of memory"
+failure_name failure.NoWorker = codes "no worker"
+failure_name failure.ListUnreadable = codes "list unreadable"
+failure_name failure.ListTooLong = codes "list too long"
+failure_name failure.ReadFailed = codes "read failed"
+failure_name failure.WriteFailed = codes "write failed"
+
+-- the line of what failed
+abbrev pub failure_line : Failure → List ℕ
+failure_line failure = program_line (failure_name failure)
+
+-- the whole line went out and no put failed; or one put failed, and a beginning of the line went
+-- out
+unfoldable pub Told : Option (List ℕ) → Option (List ℕ) → ℕ → ℕ → List ℕ → Type 0
+Told before after failures_before failures_after line =
+    (Appends before after line × (failures_after ≡ failures_before))
+    ⊎ (AppendsBeginning before after line × (failures_after ≡ one_more failures_before))

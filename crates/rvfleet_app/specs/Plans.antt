@@ -1,0 +1,48 @@
+-- What the store may answer to what the program asks of it.
+use Rattle.std.specs.Prelude.{◌≡◌, ℕ, List, Option, Ok, Err}
+use Rattle.rv_rows.specs.declared.row.Row.{Row}
+use Rattle.rv_rows.specs.Rows.{rows_of}
+use Rattle.rv_lists.specs.declared.error.JobError.{JobError}
+use Rattle.rv_lists.specs.declared.job.Job.{Job}
+use Rattle.rv_jobs.specs.declared.store.Kept.TheVariants.{Content}
+use Rattle.rv_lists.specs.JobList.{job_list_of}
+use Rattle.rv_jobs.specs.Plans.{AreKept, Planned, more, paths_of, paths_used, unreadables}
+use Rattle.rv_jobs.specs.Stores.{FileContents, IsKeptOf}
+use Rattle.rvfleet_app.specs.declared.error.ListError.{ListError}
+use Rattle.rvfleet_app.specs.declared.error.ListError.TheVariants.{Failed, Refused}
+
+-- a store's contents, where it tells them, and its count of unreadable files before and after
+pub record Stored : Type 0 where
+  pub known : Option FileContents
+  pub before : ℕ
+  pub after : ℕ
+
+abbrev pub stored : Option FileContents → ℕ → ℕ → Stored
+stored known before after = record { known = known; before = before; after = after }
+
+-- a plan of jobs over answers that the store may give: one for each of their paths, and one more
+-- fault for each that is unreadable
+pub record MayPlan (store : Stored) (list : List Job) (plan : Planned) : Type 0 where
+  pub jobs : plan.jobs ≡ list
+  pub paths : paths_of plan.answers ≡ paths_used list
+  pub kept : AreKept store.known plan.answers
+  pub faults : store.after ≡ more store.before (unreadables plan.answers)
+
+-- the rows of jobs, over answers that the store may give
+abbrev pub AreJobRows : Stored → List Job → List Row → Type 0
+AreJobRows store jobs rows = (plan : Planned) × (MayPlan store jobs plan × (rows ≡ rows_of plan))
+
+-- the jobs are those of a list that the store may hold at a path
+abbrev pub MayList : Option FileContents → List ℕ → List Job → Type 0
+MayList known path jobs =
+    (list : List ℕ) × (IsKeptOf known path (Content list) × (job_list_of list ≡ Ok jobs))
+
+-- a list that the store may hold at a path has this fault
+abbrev pub MayFault : Option FileContents → List ℕ → JobError → Type 0
+MayFault known path error =
+    (list : List ℕ) × (IsKeptOf known path (Content list) × (job_list_of list ≡ Err error))
+
+-- the fault of a list that was read; a list that wasn't read has none
+abbrev pub OfFault : Option FileContents → List ℕ → ListError → Type 0
+OfFault known path (Refused error) = MayFault known path error
+OfFault known path (Failed failure) = Unit {0}

@@ -1,0 +1,141 @@
+//! Why the program failed.
+
+ghost use Rattle.std.specs.Prelude.{◌≡◌};
+
+use rv_files::InputError;
+use rv_fleet::{FleetError, WriteError};
+use rv_jobs::JobError;
+use std::alloc::AllocError;
+use thiserror::Error;
+
+/// Why no report of a flat image went out, or not all of it.
+#[derive(Clone, Copy, Debug, Error, PartialEq, Eq)]
+pub enum RunError {
+    /// A growth was refused.
+    #[error("out of memory")]
+    OutOfMemory,
+    /// A read of the input failed, an interrupted one included.
+    #[error("read failed")]
+    ReadFailed,
+    /// A put of the sink failed.
+    #[error("write failed")]
+    WriteFailed,
+}
+
+/// Why the program has no report, or didn't send all of it.
+#[derive(Clone, Copy, Debug, Error, PartialEq, Eq)]
+pub enum Failure {
+    /// A growth was refused.
+    #[error("out of memory")]
+    OutOfMemory,
+    /// The start of a thread was refused.
+    #[error("no worker")]
+    NoWorker,
+    /// There is no file of the job list, or reading it failed.
+    #[error("list unreadable")]
+    ListUnreadable,
+    /// The job list has more than 16,777,216 bytes.
+    #[error("list too long")]
+    ListTooLong,
+    /// A read of the input failed.
+    #[error("read failed")]
+    ReadFailed,
+    /// A put of the sink failed.
+    #[error("write failed")]
+    WriteFailed,
+}
+
+/// Why there is no job list.
+#[derive(Clone, Copy, Debug, PartialEq, Eq)]
+pub enum ListError {
+    /// The list has a fault.
+    Refused(JobError),
+    /// It wasn't read, or memory was wanting.
+    Failed(Failure),
+}
+
+impl From<AllocError> for RunError {
+    ghost use Rattle.rvfleet_app.specs.declared.error.RunError.TheVariants.{OutOfMemory};
+
+    ghost from_gives = { λ _ run. run ≡ OutOfMemory };
+
+    fn from(_: AllocError) -> RunError {
+        RunError::OutOfMemory
+    }
+}
+
+impl From<InputError> for RunError {
+    ghost use Rattle.rvfleet_app.specs.Failures.{read_failure};
+
+    ghost from_gives = { λ error run. run ≡ read_failure error };
+
+    fn from(error: InputError) -> RunError {
+        match error {
+            InputError::OutOfMemory => RunError::OutOfMemory,
+            InputError::Failed(_) => RunError::ReadFailed,
+        }
+    }
+}
+
+impl From<WriteError> for RunError {
+    ghost use Rattle.rvfleet_app.specs.Failures.{write_failure};
+
+    ghost from_gives = { λ error run. run ≡ write_failure error };
+
+    fn from(error: WriteError) -> RunError {
+        match error {
+            WriteError::OutOfMemory => RunError::OutOfMemory,
+            WriteError::Failed => RunError::WriteFailed,
+        }
+    }
+}
+
+impl From<AllocError> for Failure {
+    ghost use Rattle.rvfleet_app.specs.declared.error.Failure.TheVariants.{OutOfMemory};
+
+    ghost from_gives = { λ _ failure. failure ≡ OutOfMemory };
+
+    fn from(_: AllocError) -> Failure {
+        Failure::OutOfMemory
+    }
+}
+
+impl From<FleetError> for Failure {
+    ghost use Rattle.rvfleet_app.specs.Failures.{fleet_failure};
+
+    ghost from_gives = { λ error failure. failure ≡ fleet_failure error };
+
+    fn from(error: FleetError) -> Failure {
+        match error {
+            FleetError::OutOfMemory => Failure::OutOfMemory,
+            FleetError::NoWorker => Failure::NoWorker,
+        }
+    }
+}
+
+impl From<RunError> for Failure {
+    ghost use Rattle.rvfleet_app.specs.Failures.{run_failure};
+
+    ghost from_gives = { λ error failure. failure ≡ run_failure error };
+
+    fn from(error: RunError) -> Failure {
+        match error {
+            RunError::OutOfMemory => Failure::OutOfMemory,
+            RunError::ReadFailed => Failure::ReadFailed,
+            RunError::WriteFailed => Failure::WriteFailed,
+        }
+    }
+}
+
+impl From<WriteError> for Failure {
+    ghost use Rattle.rvfleet_app.specs.Failures.{send_failure};
+
+    ghost from_gives = { λ error failure. failure ≡ send_failure error };
+
+    fn from(error: WriteError) -> Failure {
+        match error {
+            WriteError::OutOfMemory => Failure::OutOfMemory,
+            WriteError::Failed => Failure::WriteFailed,
+        }
+    }
+}

@@ -1,0 +1,91 @@
+//! The jobs of a list in a store.
+
+ghost use Rattle.std.specs.Prelude.{true, List, ◌≡◌, ◌≤◌, ◌⊎◌, IfErr, IfOk, OnErr, OnOk};
+ghost use Rattle.std.specs.Io.KnownBytes.{Keeps};
+ghost use Rattle.rv_rows.specs.declared.row.Row.{Row as ARow};
+ghost use Rattle.rv_rows.specs.Sending.{Rose};
+ghost use Rattle.rvfleet_app.specs.Answers.{Began, Reported};
+ghost use Rattle.rvfleet_app.specs.Failures.{IsListError, IsListFailure, is_of_list};
+ghost use Rattle.rvfleet_app.specs.Plans.{AreJobRows, MayList, OfFault, stored};
+
+use crate::error::{Failure, ListError};
+use crate::sending::send;
+use rv_fleet::{Gate, Sink, run_fleet};
+use rv_jobs::{JobError, JobList, ReadError, Store, What, gather, read_jobs};
+use std::alloc::Global;
+use std::sync::Wait;
+use std::thread::Threads;
+
+/// Reads the job list at a path of the store.
+pub fn read_list<S: Store>(alloc: Global, store: &mut S, path: &str) -> Result<JobList, ListError>
+    ensures same { S.contents store.new ≡ S.contents store.old }
+    ensures listed { IfOk result (MayList (S.contents store.old) path.now) }
+    ensures unfaulted { OnOk result (S.faulted store.new ≡ S.faulted store.old) }
+    ensures refused { IfErr result (OfFault (S.contents store.old) path.now) }
+    ensures why { IfErr result IsListFailure }
+{
+    let bytes = match store.read(alloc, path) {
+        Ok(bytes) => bytes,
+        Err(error) => return Err(ListError::Failed(unread_list(error))),
+    };
+    match read_jobs(alloc, bytes.as_slice()) {
+        Ok(jobs) => Ok(jobs),
+        Err(error) => Err(list_error(error)),
+    }
+}
+
+fn unread_list(error: ReadError) -> Failure
+    ensures { is_of_list result ≡ true }
+{
+    match error {
+        ReadError::Unreadable => Failure::ListUnreadable,
+        ReadError::TooLong => Failure::ListTooLong,
+        ReadError::OutOfMemory => Failure::OutOfMemory,
+    }
+}
+
+// Want of memory is no fault of the list.
+fn list_error(error: JobError) -> ListError
+    ensures { IsListError error result }
+{
+    match error.what {
+        What::OutOfMemory => ListError::Failed(Failure::OutOfMemory),
+        _ => ListError::Refused(error),
+    }
+}
+
+/// Runs jobs, over the answers of a store for their paths, which are each read once, by workers that take so many
+/// jobs at a time; and appends the report to the sink. The answer is the status of the report's verdicts.
+#[tactic(auto, using(crate::proofs::Failing::fleet_why, crate::proofs::Failing::list_why))]
+pub fn run_jobs<R: Threads + Wait, S: Store, O: Sink, G: Gate>(
+    rt: &R,
+    alloc: Global,
+    jobs: JobList,
+    workers: u32,
+    group: u32,
+    store: &mut S,
+    out: &mut O,
+    gate: &G,
+) -> Result<u8, Failure>
+    requires workers { (1 ≤ workers) × (workers ≤ 64) }
+    requires group { (1 ≤ group) × (group ≤ 4096) }
+    ensures reported { IfOk result (λ status. (rows : List ARow)
+        × (AreJobRows (stored (S.contents store.old) (S.faulted store.old) (S.faulted store.new))
+        jobs rows
+        × Reported (O.taken out.old) (O.taken out.new) status rows)) }
+    ensures range { IfOk result (λ status. status ≤ 1) }
+    ensures counted { OnOk result (O.failed out.new ≡ O.failed out.old) }
+    ensures why { IfErr result (λ failure. is_of_list failure ≡ true) }
+    ensures part { OnErr result (Keeps (O.taken out.old) (O.taken out.new)
+        ⊎ ((rows : List ARow)
+        × (AreJobRows (stored (S.contents store.old) (S.faulted store.old) (S.faulted store.new))
+        jobs rows
+        × Began (O.taken out.old) (O.taken out.new) rows))) }
+    ensures failed { IfErr result
+        (λ error. error ≡ Failure.WriteFailed → Rose (O.failed out.old) (O.failed out.new)) }
+    ensures same { S.contents store.new ≡ S.contents store.old }
+{
+    let plan = gather(alloc, jobs, store)?;
+    let report = run_fleet(rt, alloc, &plan, workers, group, gate)?;
+    send(alloc, &report, out)
+}

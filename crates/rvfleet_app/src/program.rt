@@ -1,0 +1,258 @@
+//! The whole program, over a store, a reader and sinks.
+
+ghost use Rattle.std.specs.Prelude.{◌≡◌, ◌⊎◌, ◌≤◌, List, Some, None, is_some, map, option_map};
+ghost use Rattle.std.specs.Prelude.{true, false};
+ghost use Rattle.std.specs.Io.KnownBytes.{Keeps};
+ghost use Rattle.clap.specs.Words.{kind_of};
+ghost use Rattle.rv_rows.specs.declared.row.Row.{Row};
+ghost use Rattle.rvfleet_app.specs.Answers.{Answers, Began, IsQuiet, Reported, Tells, TellsFailure};
+ghost use Rattle.rvfleet_app.specs.Answers.{reads_input, reads_store};
+ghost use Rattle.rv_cli.specs.CommandLine.{AsksHelp, IsToAnswer, asked_of, is_taken, one};
+ghost use Rattle.rv_cli.specs.CommandLine.{raw, request_of, run};
+ghost use Rattle.rvfleet_app.specs.Lines.{Told, bad_words_line};
+ghost use Rattle.rvfleet_app.specs.Plans.{stored};
+ghost use Rattle.rvfleet_app.specs.Raw.{AreRawRows};
+ghost use Rattle.rv_cli.specs.Requests.{AreWithin, request};
+
+use crate::error::{Failure, ListError};
+use crate::list::{read_list, run_jobs};
+use crate::one::{ScriptError, is_bad_path, read_script, run_image};
+use crate::raw::run_raw;
+use crate::status::{BAD_WORDS, DONE, FAILED, failed, refused, refused_list};
+use clap::Error;
+use clap::error::ErrorKind;
+use rv_cli::{Request, read_words};
+use rv_fleet::{Gate, Sink, put_all};
+use rv_jobs::Store;
+use std::alloc::Global;
+use std::convert::AsStr;
+use std::io::Read;
+use std::sync::Wait;
+use std::thread::Threads;
+
+/// Answers words, the first of which is the program's name, with the status of the program: 0 where a report or help
+/// went out, 1 where a report with a failed verdict did, 2 for words or a job list refused, 3 for want of memory or of
+/// a thread, a failed read or a failed write. A line on `errors` tells why a status is 2 or 3; where that line fails
+/// nothing changes.
+pub fn run_words<'a, R: Threads + Wait, T: AsStr, S: Store, I: Read, O: Sink, E: Sink, G: Gate>(
+    rt: &R,
+    alloc: Global,
+    words: &'a [T],
+    store: &mut S,
+    input: &mut I,
+    out: &mut O,
+    errors: &mut E,
+    gate: &G,
+) -> u8
+    // Words that the command takes ask for something.
+    ensures asked { is_taken (map T.text words.entry.now) ≡ true
+        → is_some (request_of (map T.text words.entry.now)) ≡ true }
+    // Words that it takes, or in which it finds no fault, are answered: a report of what they ask for
+    // went out whole, in part, or not at all, as the status says.
+    ensures answers { IsToAnswer (map T.text words.entry.now)
+        → Answers (request_of (map T.text words.entry.now)) (I.remaining input.old)
+        (stored (S.contents store.old) (S.faulted store.old) (S.faulted store.new))
+        (O.taken out.old) (O.taken out.new) result }
+    // No put of `out` failed where the status is 0 or 1.
+    ensures counted { result ≡ 0 ⊎ result ≡ 1 → O.failed out.new ≡ O.failed out.old }
+    // A line on `errors` says why the status is 2 or 3, for any words; else nothing is said there.
+    ensures told { Tells (asked_of (map T.text words.entry.now)) (S.contents store.old)
+        (E.taken errors.old) (E.taken errors.new)
+        (E.failed errors.old) (E.failed errors.new) result }
+    // Status 0 or 1 is for words that ask for something, or for help.
+    ensures helped { result ≡ 0 ⊎ result ≡ 1
+        → is_some (asked_of (map T.text words.entry.now)) ≡ true
+        ⊎ AsksHelp (map T.text words.entry.now) }
+    // Words that ask for no file have none read.
+    ensures unread { reads_store (asked_of (map T.text words.entry.now)) ≡ false
+        → S.faulted store.new ≡ S.faulted store.old }
+    // Words that don't ask for the input leave it as it is.
+    ensures untaken { reads_input (asked_of (map T.text words.entry.now)) ≡ false
+        → I.remaining input.new ≡ I.remaining input.old }
+    // The status is 0, 1, 2 or 3.
+    ensures range { result ≤ 3 }
+{
+    match read_words(alloc, words) {
+        Ok(Some(asked)) => asked_status(rt, alloc, asked, store, input, out, errors, gate),
+        Ok(None) => refused(errors),
+        Err(error) => error_status(alloc, &error, out, errors),
+    }
+}
+
+fn asked_status<R: Threads + Wait, S: Store, I: Read, O: Sink, E: Sink, G: Gate>(
+    rt: &R,
+    alloc: Global,
+    asked: Request<'_>,
+    store: &mut S,
+    input: &mut I,
+    out: &mut O,
+    errors: &mut E,
+    gate: &G,
+) -> u8
+    requires { AreWithin asked }
+    ensures answers { Answers (Some (request asked.entry)) (I.remaining input.old)
+        (stored (S.contents store.old) (S.faulted store.old) (S.faulted store.new))
+        (O.taken out.old) (O.taken out.new) result }
+    ensures told { Tells (Some (request asked.entry)) (S.contents store.old)
+        (E.taken errors.old) (E.taken errors.new)
+        (E.failed errors.old) (E.failed errors.new) result }
+    ensures counted { result ≡ 0 ⊎ result ≡ 1 → O.failed out.new ≡ O.failed out.old }
+    ensures unread { reads_store (Some (request asked.entry)) ≡ false
+        → S.faulted store.new ≡ S.faulted store.old }
+    ensures untaken { reads_input (Some (request asked.entry)) ≡ false
+        → I.remaining input.new ≡ I.remaining input.old }
+    ensures range { result ≤ 3 }
+{
+    match asked {
+        Request::Raw { budget } => raw_status(alloc, budget, input, out, errors),
+        Request::One {
+            image,
+            budget,
+            input_hex,
+        } => one_status(alloc, image, budget, input_hex, store, out, errors),
+        Request::Run {
+            jobs,
+            workers,
+            group,
+        } => run_status(rt, alloc, jobs, workers, group, store, out, errors, gate),
+    }
+}
+
+#[tactic(auto, using(crate::proofs::Failing::raw_why))]
+fn raw_status<I: Read, O: Sink, E: Sink>(
+    alloc: Global,
+    budget: u32,
+    input: &mut I,
+    out: &mut O,
+    errors: &mut E,
+) -> u8
+    ensures reported { result ≡ DONE
+        → (rows : List Row) × (AreRawRows (I.remaining input.old) budget rows
+        × Reported (O.taken out.old) (O.taken out.new) DONE rows) }
+    ensures counted { result ≡ DONE → O.failed out.new ≡ O.failed out.old }
+    ensures part { result ≡ FAILED → Keeps (O.taken out.old) (O.taken out.new)
+        ⊎ ((rows : List Row) × (AreRawRows (I.remaining input.old) budget rows
+        × Began (O.taken out.old) (O.taken out.new) rows)) }
+    ensures quiet { result ≡ DONE → IsQuiet (E.taken errors.old) (E.taken errors.new)
+        (E.failed errors.old) (E.failed errors.new) }
+    ensures told { result ≡ FAILED → TellsFailure (Some (raw budget))
+        (E.taken errors.old) (E.taken errors.new) (E.failed errors.old) (E.failed errors.new) }
+    ensures range { result ≡ DONE ⊎ result ≡ FAILED }
+{
+    match run_raw(alloc, input, out, budget) {
+        Ok(()) => DONE,
+        Err(error) => failed(errors, Failure::from(error)),
+    }
+}
+
+// Both the path and the digits are asked before the store is read.
+fn one_status<S: Store, O: Sink, E: Sink>(
+    alloc: Global,
+    image: &str,
+    budget: u32,
+    input_hex: Option<&str>,
+    store: &mut S,
+    out: &mut O,
+    errors: &mut E,
+) -> u8
+    requires { (1 ≤ budget) × (budget ≤ 1000000000) }
+    ensures answers { Answers
+        (Some (one image.now budget (option_map (λ text. text.now) input_hex.entry))) None
+        (stored (S.contents store.old) (S.faulted store.old) (S.faulted store.new))
+        (O.taken out.old) (O.taken out.new) result }
+    ensures told { Tells
+        (Some (one image.now budget (option_map (λ text. text.now) input_hex.entry)))
+        (S.contents store.old) (E.taken errors.old) (E.taken errors.new)
+        (E.failed errors.old) (E.failed errors.new) result }
+    ensures counted { result ≡ 0 ⊎ result ≡ 1 → O.failed out.new ≡ O.failed out.old }
+    ensures range { result ≤ 3 }
+{
+    if is_bad_path(image) {
+        return refused(errors);
+    }
+    let script = match read_script(alloc, input_hex) {
+        Ok(script) => script,
+        Err(ScriptError::Refused) => return refused(errors),
+        Err(ScriptError::OutOfMemory) => return failed(errors, Failure::OutOfMemory),
+    };
+    match run_image(alloc, store, image, budget, script, out) {
+        Ok(status) => status,
+        Err(failure) => failed(errors, failure),
+    }
+}
+
+// The list is read, and refused if it has a fault, before the files of its jobs are.
+fn run_status<R: Threads + Wait, S: Store, O: Sink, E: Sink, G: Gate>(
+    rt: &R,
+    alloc: Global,
+    path: &str,
+    workers: u32,
+    group: u32,
+    store: &mut S,
+    out: &mut O,
+    errors: &mut E,
+    gate: &G,
+) -> u8
+    requires workers { (1 ≤ workers) × (workers ≤ 64) }
+    requires group { (1 ≤ group) × (group ≤ 4096) }
+    ensures answers { Answers (Some (run path.now workers group)) None
+        (stored (S.contents store.old) (S.faulted store.old) (S.faulted store.new))
+        (O.taken out.old) (O.taken out.new) result }
+    ensures told { Tells (Some (run path.now workers group)) (S.contents store.old)
+        (E.taken errors.old) (E.taken errors.new)
+        (E.failed errors.old) (E.failed errors.new) result }
+    ensures counted { result ≡ 0 ⊎ result ≡ 1 → O.failed out.new ≡ O.failed out.old }
+    ensures range { result ≤ 3 }
+{
+    if is_bad_path(path) {
+        return refused(errors);
+    }
+    let jobs = match read_list(alloc, store, path) {
+        Ok(jobs) => jobs,
+        Err(ListError::Refused(error)) => return refused_list(alloc, errors, error),
+        Err(ListError::Failed(failure)) => return failed(errors, failure),
+    };
+    match run_jobs(rt, alloc, jobs, workers, group, store, out, gate) {
+        Ok(status) => status,
+        Err(failure) => failed(errors, failure),
+    }
+}
+
+// Help is an error of `clap`, and goes to `out`; any other but want of memory refuses the words.
+fn error_status<O: Sink, E: Sink>(alloc: Global, error: &Error, out: &mut O, errors: &mut E) -> u8
+    ensures memory { kind_of error.now ≡ ErrorKind.OutOfMemory → (result ≡ FAILED)
+        × Keeps (O.taken out.old) (O.taken out.new) }
+    ensures helped { result ≡ DONE → kind_of error.now ≡ ErrorKind.DisplayHelp }
+    ensures counted { result ≡ DONE → O.failed out.new ≡ O.failed out.old }
+    ensures quiet { result ≡ DONE → IsQuiet (E.taken errors.old) (E.taken errors.new)
+        (E.failed errors.old) (E.failed errors.new) }
+    ensures refused { result ≡ BAD_WORDS
+        → Told (E.taken errors.old) (E.taken errors.new)
+        (E.failed errors.old) (E.failed errors.new) bad_words_line }
+    ensures told { result ≡ FAILED → TellsFailure None (E.taken errors.old) (E.taken errors.new)
+        (E.failed errors.old) (E.failed errors.new) }
+    ensures range { result ≡ DONE ⊎ result ≡ BAD_WORDS ⊎ result ≡ FAILED }
+{
+    match error.kind() {
+        ErrorKind::OutOfMemory => failed(errors, Failure::OutOfMemory),
+        ErrorKind::DisplayHelp => help_status(alloc, error, out, errors),
+        _ => refused(errors),
+    }
+}
+
+fn help_status<O: Sink, E: Sink>(alloc: Global, help: &Error, out: &mut O, errors: &mut E) -> u8
+    ensures counted { result ≡ DONE → O.failed out.new ≡ O.failed out.old }
+    ensures quiet { result ≡ DONE → IsQuiet (E.taken errors.old) (E.taken errors.new)
+        (E.failed errors.old) (E.failed errors.new) }
+    ensures told { result ≡ FAILED → TellsFailure None (E.taken errors.old) (E.taken errors.new)
+        (E.failed errors.old) (E.failed errors.new) }
+    ensures range { result ≡ DONE ⊎ result ≡ FAILED }
+{
+    let Ok(help) = help.to_string(alloc) else {
+        return failed(errors, Failure::OutOfMemory);
+    };
+    match put_all(out, help.as_bytes()) {
+        Ok(()) => DONE,
+        Err(_) => failed(errors, Failure::WriteFailed),
+    }
+}

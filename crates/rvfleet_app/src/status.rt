@@ -1,0 +1,96 @@
+//! The statuses of the program, and the lines of standard error, each with the status that it tells of.
+
+ghost use Rattle.std.specs.Prelude.{◌≡◌, ◌⊎◌};
+ghost use Rattle.rvfleet_app.specs.Lines.{Told, bad_words_line, failure_line, fault_line};
+
+use crate::error::Failure;
+use rv_fleet::{Sink, put_all};
+use rv_jobs::JobError;
+use std::alloc::Global;
+use std::io::{self, ErrorKind};
+
+/// The status where a report with no failed verdict went out, or help.
+pub const DONE: u8 = 0;
+
+/// The status where a report with a failed verdict went out.
+pub const SOME_FAIL: u8 = 1;
+
+/// The status where words are refused.
+pub const BAD_WORDS: u8 = 2;
+
+/// The status where memory was wanting, or a read or a write failed.
+pub const FAILED: u8 = 3;
+
+/// Says that words are refused, and gives the status.
+pub fn refused<E: Sink>(errors: &mut E) -> u8
+    ensures status { result ≡ BAD_WORDS }
+    ensures told { Told (E.taken errors.old) (E.taken errors.new)
+        (E.failed errors.old) (E.failed errors.new) bad_words_line }
+{
+    say(errors, "rvfleet: bad words\n");
+    BAD_WORDS
+}
+
+/// Says what is wrong with a job list, and gives the status.
+pub fn refused_list<E: Sink>(alloc: Global, errors: &mut E, error: JobError) -> u8
+    ensures status { result ≡ BAD_WORDS ⊎ result ≡ FAILED }
+    ensures told { result ≡ BAD_WORDS
+        → Told (E.taken errors.old) (E.taken errors.new)
+        (E.failed errors.old) (E.failed errors.new) (fault_line error) }
+    ensures failed { result ≡ FAILED → Told (E.taken errors.old) (E.taken errors.new)
+        (E.failed errors.old) (E.failed errors.new) (failure_line Failure.OutOfMemory) }
+{
+    let JobError { job, what } = error;
+    let Ok(line) = format!(in alloc; "rvfleet: job {job}: {}\n", what.name()) else {
+        return failed(errors, Failure::OutOfMemory);
+    };
+    say(errors, line.as_str());
+    BAD_WORDS
+}
+
+/// Says why the program failed, and gives the status.
+pub fn failed<E: Sink>(errors: &mut E, failure: Failure) -> u8
+    ensures status { result ≡ FAILED }
+    ensures told { Told (E.taken errors.old) (E.taken errors.new)
+        (E.failed errors.old) (E.failed errors.new) (failure_line failure) }
+{
+    say(errors, line_of(failure));
+    FAILED
+}
+
+/// The same of words that the process doesn't give: words that aren't UTF-8 are bad words.
+pub fn unread_status<E: Sink>(error: &io::Error, errors: &mut E) -> u8
+    ensures status { result ≡ BAD_WORDS ⊎ result ≡ FAILED }
+    ensures refused { result ≡ BAD_WORDS
+        → Told (E.taken errors.old) (E.taken errors.new)
+        (E.failed errors.old) (E.failed errors.new) bad_words_line }
+    ensures failed { result ≡ FAILED
+        → Told (E.taken errors.old) (E.taken errors.new)
+        (E.failed errors.old) (E.failed errors.new) (failure_line Failure.OutOfMemory) }
+{
+    match error.kind() {
+        ErrorKind::OutOfMemory => failed(errors, Failure::OutOfMemory),
+        _ => refused(errors),
+    }
+}
+
+fn line_of(failure: Failure) -> &'static str
+    ensures { result.now ≡ failure_line failure }
+{
+    match failure {
+        Failure::OutOfMemory => "rvfleet: out of memory\n",
+        Failure::NoWorker => "rvfleet: no worker\n",
+        Failure::ListUnreadable => "rvfleet: list unreadable\n",
+        Failure::ListTooLong => "rvfleet: list too long\n",
+        Failure::ReadFailed => "rvfleet: read failed\n",
+        Failure::WriteFailed => "rvfleet: write failed\n",
+    }
+}
+
+// A failed put of the line changes no status.
+fn say<E: Sink>(errors: &mut E, line: &str)
+    ensures { Told (E.taken errors.old) (E.taken errors.new)
+        (E.failed errors.old) (E.failed errors.new) line.now }
+{
+    let _ = put_all(errors, line.as_bytes());
+}

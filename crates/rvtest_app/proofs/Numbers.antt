@@ -1,0 +1,39 @@
+-- The numbers of jobs at places that rise.
+use Rattle.std.proofs.Common.{◌≡◌, ◌+◌, ◌<◌, ◌≤◌, ℕ, zero, suc, true, List, [], ◌∷◌, length}
+use Rattle.std.proofs.Common.{get_or, nat_lt, nat_le, refl, arith, subst}
+use Rattle.std.proofs.lemmas.Bool.{and_from}
+use Rattle.std.proofs.lemmas.Bool.Decides.{nat_tests}
+use Rattle.std.specs.List.{All}
+use Rattle.std.specs.List.Sorted.{IsStrictlyIncreasing}
+use Rattle.rv_lists.specs.Jobs.{most_jobs}
+use Rattle.rv_report_lines.specs.Saved.{are_rising}
+use Rattle.rvtest_app.specs.Shown.{numbers_of}
+
+behind : (p : ℕ) (ps : List ℕ) → IsStrictlyIncreasing (p ∷ ps) → IsStrictlyIncreasing ps
+behind p ps up k inside =
+    let at : suc k + 1 ≡ suc (k + 1) = omega arith in
+    subst (λ n. get_or ps k 0 < get_or (p ∷ ps) n 0) at (up (suc k) (omega arith))
+
+next : (p : ℕ) (ps : List ℕ) → IsStrictlyIncreasing (p ∷ ps) → 0 < length ps → p < get_or ps 0 0
+next p ps up some =
+    let at : zero + 1 ≡ suc zero = omega arith in
+    subst (λ n. p < get_or (p ∷ ps) n 0) at (up zero (omega arith))
+
+rising_behind : (before last : ℕ) (places : List ℕ) → IsStrictlyIncreasing places
+    → All (λ place. place < last) places → (0 < length places → before ≤ get_or places 0 0)
+    → are_rising before last (numbers_of places) ≡ true
+unfolding are_rising
+rising_behind before last [] up within low = refl
+rising_behind before last (p ∷ ps) up within low =
+    let first : before ≤ p = low (omega arith) in
+    let below : p < last = within 0 0 (omega arith) in
+    let a : nat_lt before (p + 1) ≡ true = grind (arith, nat_tests) in
+    let b : nat_le (p + 1) last ≡ true = grind (arith, nat_tests) in
+    and_from _ _ a (and_from _ _ b (rising_behind (p + 1) last ps (behind p ps up)
+    (λ k d inside. within (suc k) d (omega arith)) (λ some. let n = next p ps up some in omega arith)))
+
+-- places of so many jobs that rise have numbers that rise, up to the greatest of a list
+pub rising_numbers : (places : List ℕ) (jobs : ℕ) → jobs ≤ most_jobs → IsStrictlyIncreasing places
+    → All (λ place. place < jobs) places → are_rising 0 most_jobs (numbers_of places) ≡ true
+rising_numbers places jobs few up within = rising_behind 0 most_jobs places up
+    (λ k d inside. let w = within k d inside in omega arith) (λ some. omega arith)

@@ -1,0 +1,71 @@
+-- What words ask of commands, and the statuses.
+use Rattle.std.specs.Prelude.{◌≡◌, ◌==◌, ◌⊎◌, ℕ, Bool, true, false, not, List, length, map}
+use Rattle.std.specs.Prelude.{if◌then◌else◌, is_some}
+use Rattle.std.specs.List.{filter}
+use Rattle.rv_expect.specs.declared.passing.Rule.{Rule}
+use Rattle.rv_expect.specs.declared.passing.Rule.TheVariants.{Strict, Lenient}
+use Rattle.rv_expect.specs.Passing.{has_passed}
+use Rattle.rv_jobs.specs.Plans.{Planned}
+use Rattle.rv_lists.specs.declared.job.Job.{Job}
+use Rattle.rv_rows.specs.declared.row.Row.{Row}
+use Rattle.rv_rows.specs.Outcome.{refusal_in}
+use Rattle.rv_rows.specs.Rows.{outcome_in}
+use Rattle.rv_telling.specs.declared.verbosity.Verbosity.{Verbosity}
+use Rattle.rv_telling.specs.declared.verbosity.Verbosity.TheVariants.{Quiet, Failures, All}
+use Rattle.rvtest_app.specs.declared.stop.Lines.{Lines}
+use Rattle.rvtest_app.specs.declared.stop.Lines.TheVariants as lines
+use Rattle.rvtest_app.specs.declared.stop.Stop.{Stop}
+use Rattle.rvtest_app.specs.declared.stop.Stop.TheVariants as stop
+use Rattle.rv_junit.specs.Diff.{differing_count}
+use Rattle.rv_junit.specs.declared.diff.Differing.{Differing}
+
+-- the rule by which jobs fail, with --lenient or without
+abbrev pub rule_for : Bool → Rule
+rule_for true = Lenient
+rule_for false = Strict
+
+-- what is shown of jobs, with --verbose or without, and with --quiet or without
+abbrev pub verbosity_for : Bool → Bool → Verbosity
+verbosity_for verbose true = Quiet
+verbosity_for true false = All
+verbosity_for false false = Failures
+
+-- the names of the rows that failed, in their order
+abbrev pub failed_in : Rule → List Row → List (List ℕ)
+failed_in rule rows =
+    map (λ (row : Row). row.name) (filter (λ (row : Row). not (has_passed rule row)) rows)
+
+-- the status of two reports: 0 where no job differs, else 1
+abbrev pub diff_status : Differing → ℕ
+diff_status counts = if differing_count counts == 0 then 0 else 1
+
+-- a job of a plan is refused before it runs
+abbrev pub is_refused : Planned → Job → Bool
+is_refused plan job = is_some (refusal_in (outcome_in plan.answers job).ending)
+
+-- how many jobs of a plan are refused
+abbrev pub refused_in : Planned → ℕ
+refused_in plan = length (filter (is_refused plan) plan.jobs)
+
+-- the status of a plan whose files were looked at: 2 where a job is refused, else 0
+abbrev pub check_status : ℕ → ℕ
+check_status refused = if refused == 0 then 0 else 2
+
+-- the status of one job
+abbrev pub passing_status : Bool → ℕ
+passing_status passed = if passed then 0 else 1
+
+-- The statuses of lines that end a command: 0 where help or the version is asked for and standard
+-- output takes it, 2 where what is asked for is refused, 3 where the system failed.
+abbrev pub IsStatusOfLines : Lines → ℕ → Type 0
+IsStatusOfLines lines.Help status = (status ≡ 0) ⊎ (status ≡ 3)
+IsStatusOfLines lines.Refusal status = status ≡ 2
+IsStatusOfLines lines.Failure status = status ≡ 3
+
+-- The statuses of a command that ends before its work is done. A run without a job is 0.
+abbrev pub IsStopStatus : Stop → ℕ → Type 0
+IsStopStatus (stop.Told lines text) status = IsStatusOfLines lines status
+IsStopStatus stop.NoJob status = status ≡ 0
+IsStopStatus stop.OutOfMemory status = status ≡ 3
+IsStopStatus stop.NoWorker status = status ≡ 3
+IsStopStatus stop.WriteFailed status = status ≡ 3

@@ -1,0 +1,188 @@
+//! The command `check`.
+
+ghost use Rattle.std.specs.Prelude.{◌≡◌, ◌≤◌, ◌<◌, IfOk, length};
+ghost use Rattle.rvtest_app.specs.Commands.{check_status, refused_in};
+
+use crate::found::Found;
+use crate::list::{jobs_of, read_text, told_of_faults};
+use crate::messages::REFUSED;
+use crate::status::DONE;
+use crate::stop::Stop;
+use rv_files::{NotingStore, Unread};
+use rv_job_text::{Span, push_spans, push_text};
+use rv_jobs::{Plan, gather};
+use rv_list_errors::job_lines;
+use rv_lists::read_faults;
+use rv_rows::{Refusal, RowEnd, refusal_at};
+use rv_telling::reason_of;
+use rv_test_words::CheckAsked;
+use std::alloc::{AllocError, Global};
+use std::rt::Files;
+
+/// All that is wrong with a list, or with the files of its jobs; nothing is run. The status is 2 where anything is.
+pub(crate) fn check<R: Files>(
+    files: &R,
+    alloc: Global,
+    asked: CheckAsked<'_>,
+) -> Result<Found, Stop>
+    ensures { IfOk result (λ found. found.status ≤ 2) }
+{
+    let text = read_text(files, alloc, asked.list)?;
+    let faults = read_faults(alloc, text.as_slice())?;
+    if faults.is_empty() {
+        return check_files(files, alloc, asked, text.as_slice());
+    }
+    let text = told_of_faults(alloc, asked.list, text.as_slice(), faults.as_slice())?;
+    Ok(Found {
+        text,
+        status: REFUSED,
+    })
+}
+
+// Which jobs of a list are refused for their files.
+fn check_files<R: Files>(
+    files: &R,
+    alloc: Global,
+    asked: CheckAsked<'_>,
+    text: &[u8],
+) -> Result<Found, Stop>
+    ensures { IfOk result (λ found. found.status ≤ 2) }
+{
+    let jobs = jobs_of(alloc, asked.list, text)?;
+    let mut store = NotingStore::new(files, alloc, asked.root);
+    let plan = gather(alloc, jobs, &mut store)?;
+    check_plan(alloc, asked.list, text, &plan, store.unread())
+}
+
+// The same of a list whose files were read.
+fn check_plan(
+    alloc: Global,
+    path: &str,
+    text: &[u8],
+    plan: &Plan,
+    unread: &[Unread],
+) -> Result<Found, Stop>
+    ensures low { IfOk result (λ found. found.status ≤ 2) }
+    ensures judged { IfOk result (λ found. found.status ≡ check_status (refused_in plan.now)) }
+{
+    let lines = lines_of(alloc, text)?;
+    let list = Listed {
+        path,
+        lines: lines.as_slice(),
+        plan,
+        unread,
+    };
+    let mut text = Vec::new(alloc);
+    let refused = list.push_refused(alloc, &mut text)?;
+    push_counts(&mut text, plan.jobs(), refused)?;
+    Ok(Found {
+        text,
+        status: status_of(refused),
+    })
+}
+
+fn status_of(refused: usize) -> u8
+    ensures value { result ≡ check_status refused }
+    ensures low { result ≤ 2 }
+{
+    if refused == 0 { DONE } else { REFUSED }
+}
+
+fn lines_of(alloc: Global, text: &[u8]) -> Result<Vec<usize>, AllocError> {
+    match str::from_utf8(text) {
+        Ok(text) => job_lines(alloc, text),
+        Err(_) => Ok(Vec::new(alloc)),
+    }
+}
+
+// A list whose files were read, with the lines on which its jobs begin.
+#[derive(Clone, Copy)]
+struct Listed<'a> {
+    path: &'a str,
+    lines: &'a [usize],
+    plan: &'a Plan,
+    unread: &'a [Unread],
+}
+
+impl<'a> Listed<'a> {
+    // Appends a line for each job that is refused, and gives their number.
+    fn push_refused(&self, alloc: Global, told: &mut Vec<u8>) -> Result<usize, AllocError>
+        ensures { IfOk result (λ refused. refused ≡ refused_in self.now.plan.now) }
+    {
+        let mut refused = 0;
+        for place in 0..self.plan.jobs() {
+            if let Some(why) = refusal_at(alloc, self.plan, place)? {
+                self.push_refusal(alloc, told, place, why)?;
+                refused += 1;
+            }
+        }
+        Ok(refused)
+    }
+
+    fn push_refusal(
+        &self,
+        alloc: Global,
+        told: &mut Vec<u8>,
+        place: usize,
+        why: Refusal,
+    ) -> Result<(), AllocError>
+        requires { place < length self.now.plan.now.jobs }
+    {
+        self.push_job(told, place, why)?;
+        let ending = RowEnd::Refused(why);
+        match reason_of(alloc, self.plan, self.unread, place, ending)? {
+            Some(reason) => push_reason(told, reason.as_slice()),
+            None => push_text(told, "\n"),
+        }
+    }
+
+    // Appends where the job stands, its name, and what its refusal is called.
+    fn push_job(&self, told: &mut Vec<u8>, place: usize, why: Refusal) -> Result<(), AllocError>
+        requires { place < length self.now.plan.now.jobs }
+    {
+        self.push_place(told, place)?;
+        push_spans(
+            told,
+            &[
+                Span::Text(": job "),
+                Span::Number((place as u64).saturating_add(1)),
+                Span::Text(" ("),
+                Span::Text(self.plan.job(place).name.as_str()),
+                Span::Text("): refused "),
+                Span::Text(why.name()),
+            ],
+        )
+    }
+
+    // Appends the path of the list, and the line where the job begins, if that is known.
+    fn push_place(&self, told: &mut Vec<u8>, place: usize) -> Result<(), AllocError> {
+        let path = Span::Shown(self.path.as_bytes());
+        match self.lines.get(place) {
+            Some(line) => push_spans(told, &[path, Span::Text(":"), Span::Number(*line as u64)]),
+            None => push_spans(told, &[path]),
+        }
+    }
+}
+
+fn push_reason(told: &mut Vec<u8>, reason: &[u8]) -> Result<(), AllocError> {
+    push_spans(
+        told,
+        &[Span::Text(": "), Span::Shown(reason), Span::Text("\n")],
+    )
+}
+
+fn push_counts(told: &mut Vec<u8>, jobs: usize, refused: usize) -> Result<(), AllocError> {
+    let jobs = Span::Number(jobs as u64);
+    if refused == 0 {
+        return push_spans(told, &[jobs, Span::Text(" jobs, none refused\n")]);
+    }
+    push_spans(
+        told,
+        &[
+            jobs,
+            Span::Text(" jobs, "),
+            Span::Number(refused as u64),
+            Span::Text(" refused\n"),
+        ],
+    )
+}

@@ -1,0 +1,57 @@
+//! The list of jobs that a command is given.
+
+ghost use Rattle.std.specs.Prelude.{◌≡◌, IfOk, Ok};
+ghost use Rattle.rv_lists.specs.JobList.{job_list_of};
+
+use crate::files::read_file;
+use crate::messages::told_of;
+use crate::stop::Stop;
+use rv_jobs::limits::MOST_BYTES;
+use rv_jobs::{JobError, JobList, What, read_jobs};
+use rv_list_errors::push_faults;
+use std::alloc::{AllocError, Global};
+use std::rt::Files;
+
+/// The text of the list at a path.
+pub(crate) fn read_text<R: Files>(files: &R, alloc: Global, path: &str) -> Result<Vec<u8>, Stop> {
+    let text = read_file(files, alloc, path, MOST_BYTES + 1)?;
+    if text.len() > MOST_BYTES {
+        let what = "the file has more than 16777216 bytes";
+        return Err(Stop::failed(told_of(alloc, path, what)));
+    }
+    Ok(text)
+}
+
+/// The jobs of the list at a path.
+pub(crate) fn read_list<R: Files>(files: &R, alloc: Global, path: &str) -> Result<JobList, Stop> {
+    let text = read_text(files, alloc, path)?;
+    jobs_of(alloc, path, text.as_slice())
+}
+
+/// The jobs of a list's text, or what is wrong with the list.
+pub(crate) fn jobs_of(alloc: Global, path: &str, text: &[u8]) -> Result<JobList, Stop>
+    ensures { IfOk result (λ jobs. job_list_of text.now ≡ Ok jobs) }
+{
+    match read_jobs(alloc, text) {
+        Ok(jobs) => Ok(jobs),
+        Err(
+            JobError {
+                job: _,
+                what: What::OutOfMemory,
+            },
+        ) => Err(Stop::OutOfMemory),
+        Err(error) => Err(Stop::refused(told_of_faults(alloc, path, text, &[error]))),
+    }
+}
+
+/// A line for each fault of a list.
+pub(crate) fn told_of_faults(
+    alloc: Global,
+    path: &str,
+    text: &[u8],
+    faults: &[JobError],
+) -> Result<Vec<u8>, AllocError> {
+    let mut told = Vec::new(alloc);
+    push_faults(alloc, &mut told, path, text, faults)?;
+    Ok(told)
+}

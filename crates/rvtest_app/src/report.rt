@@ -1,0 +1,209 @@
+//! Where a text of rows goes: a report, or JUnit's XML.
+
+ghost use Rattle.std.specs.Prelude.{◌≡◌, ◌≤◌, ◌<◌, length};
+ghost use Rattle.std.specs.List.{All};
+ghost use Rattle.std.specs.List.Sorted.{IsStrictlyIncreasing};
+ghost use Rattle.rv_lists.specs.Jobs.{most_jobs};
+
+use crate::files::unreadable;
+use crate::messages::told_of;
+use crate::rows_report::write_rows;
+use crate::stop::Stop;
+use crate::streams::Streams;
+use rv_expect::Rule;
+use rv_files::{FileError, FileSink, StreamSink};
+use rv_fleet::{Report, Row, Rows, Sink, WriteError, write_report};
+use rv_junit::{FailedLines, write_junit};
+use rv_report::Shard;
+use rv_stream::Telling;
+use std::alloc::Global;
+use std::rt::Files;
+
+/// Where a text of rows goes.
+#[derive(Drop)]
+pub(crate) enum ReportTo<'a, R: Files> {
+    Nowhere,
+    /// To standard output.
+    Out,
+    /// To the file at a path.
+    File(&'a str, FileSink<'a, R>),
+}
+
+impl<'a, R: Files> ReportTo<'a, R> {
+    /// What stands at the path is opened; `-` is standard output.
+    pub(crate) fn open(
+        files: &'a R,
+        alloc: Global,
+        path: Option<&'a str>,
+    ) -> Result<ReportTo<'a, R>, Stop> {
+        match path {
+            None => Ok(ReportTo::Nowhere),
+            Some("-") => Ok(ReportTo::Out),
+            Some(path) => match FileSink::open(files, alloc, path) {
+                Ok(file) => Ok(ReportTo::File(path, file)),
+                Err(error) => Err(file_stop(alloc, path, error)),
+            },
+        }
+    }
+
+    /// Whether the text goes to standard output.
+    pub(crate) fn is_out(&self) -> bool {
+        matches!(self, ReportTo::Out)
+    }
+
+    /// Nothing is written, for this reason.
+    pub(crate) fn abandoned(self, stop: Stop) -> Stop {
+        if let ReportTo::File(_, file) = self {
+            file.abandon();
+        }
+        stop
+    }
+
+    /// Writes the report of the rows of the jobs at some places of a list of so many jobs.
+    pub(crate) fn write<S: Streams>(
+        self,
+        alloc: Global,
+        streams: &S,
+        jobs: usize,
+        places: &[usize],
+        shard: Option<Shard>,
+        rows: Rows,
+    ) -> Result<(), Stop>
+        requires few { jobs ≤ most_jobs }
+        requires within { All (λ place. place < jobs) places.now }
+        requires rising { IsStrictlyIncreasing places.now }
+        requires counted { length rows ≡ length places.now }
+    {
+        match self {
+            ReportTo::Nowhere => Ok(()),
+            ReportTo::Out => {
+                let mut out = StreamSink::new(streams.out());
+                out_end(write_rows(alloc, jobs, places, shard, rows, &mut out))
+            }
+            ReportTo::File(path, mut file) => {
+                let written = write_rows(alloc, jobs, places, shard, rows, &mut file);
+                file_end(alloc, path, file, written)
+            }
+        }
+    }
+
+    /// Writes rows as JUnit's XML, each with the lines that are told of it.
+    pub(crate) fn write_junit<S: Streams, T: Telling>(
+        self,
+        alloc: Global,
+        streams: &S,
+        class: &[u8],
+        rule: Rule,
+        telling: &T,
+        places: &[usize],
+        rows: &[Row],
+    ) -> Result<(), Stop>
+        requires { length rows.now ≤ length places.now }
+    {
+        match self {
+            ReportTo::Nowhere => Ok(()),
+            ReportTo::Out => {
+                let mut out = StreamSink::new(streams.out());
+                out_end(write_junit(alloc, class, rule, telling, places, rows, &mut out))
+            }
+            ReportTo::File(path, mut file) => {
+                let written = write_junit(alloc, class, rule, telling, places, rows, &mut file);
+                file_end(alloc, path, file, written)
+            }
+        }
+    }
+}
+
+impl<'a, R: Files> ReportTo<'a, R> {
+    /// Writes the report of all rows of a list.
+    pub(crate) fn write_whole<S: Streams>(
+        self,
+        alloc: Global,
+        streams: &S,
+        rows: Rows,
+    ) -> Result<(), Stop> {
+        match self {
+            ReportTo::Nowhere => Ok(()),
+            ReportTo::Out => {
+                let mut out = StreamSink::new(streams.out());
+                out_end(write_report(alloc, &Report { rows }, &mut out))
+            }
+            ReportTo::File(path, mut file) => {
+                let written = write_report(alloc, &Report { rows }, &mut file);
+                file_end(alloc, path, file, written)
+            }
+        }
+    }
+
+    /// Writes the rows of a report as JUnit's XML, of which no more is known.
+    pub(crate) fn write_rows_as_junit<S: Streams>(
+        self,
+        alloc: Global,
+        streams: &S,
+        class: &[u8],
+        told: &FailedLines,
+        rows: &[Row],
+    ) -> Result<(), Stop> {
+        let places = match vec![in alloc; 0usize; rows.len()] {
+            Ok(places) => places,
+            Err(error) => return Err(self.abandoned(Stop::from(error))),
+        };
+        self.write_junit(
+            alloc,
+            streams,
+            class,
+            told.rule,
+            told,
+            places.as_slice(),
+            rows,
+        )
+    }
+}
+
+// What a text that was written to standard output came to.
+fn out_end(written: Result<(), WriteError>) -> Result<(), Stop> {
+    match written {
+        Ok(()) => Ok(()),
+        Err(WriteError::OutOfMemory) => Err(Stop::OutOfMemory),
+        Err(WriteError::Failed) => Err(Stop::WriteFailed),
+    }
+}
+
+// What a text that was written to a file came to: the file is put in its place where it is whole.
+fn file_end<R: Files>(
+    alloc: Global,
+    path: &str,
+    file: FileSink<'_, R>,
+    written: Result<(), WriteError>,
+) -> Result<(), Stop> {
+    match written {
+        Ok(()) => finish_file(alloc, path, file),
+        Err(WriteError::OutOfMemory) => {
+            file.abandon();
+            Err(Stop::OutOfMemory)
+        }
+        Err(WriteError::Failed) => {
+            file.abandon();
+            Err(Stop::failed(told_of(alloc, path, "write failed")))
+        }
+    }
+}
+
+// Puts the file in its place, where every put went well.
+fn finish_file<R: Files>(alloc: Global, path: &str, file: FileSink<'_, R>) -> Result<(), Stop> {
+    if file.failures() != 0 {
+        file.abandon();
+        return Err(Stop::failed(told_of(alloc, path, "write failed")));
+    }
+    match file.finish() {
+        Ok(()) => Ok(()),
+        Err(error) => Err(file_stop(alloc, path, error)),
+    }
+}
+
+fn file_stop(alloc: Global, path: &str, error: FileError) -> Stop {
+    match error {
+        FileError::OutOfMemory => Stop::OutOfMemory,
+        FileError::Failed(reason) => unreadable(alloc, path, reason),
+    }
+}

@@ -1,0 +1,250 @@
+//! The command `run`.
+
+ghost use Rattle.std.specs.Prelude.{◌≡◌, ◌≤◌, ◌<◌, IfOk, IfSome, length};
+ghost use Rattle.std.specs.List.Sorted.{IsStrictlyIncreasing};
+ghost use Rattle.rv_fleet.specs.Choices.{AreWithin};
+ghost use Rattle.rv_jobs.specs.Choices.{marked};
+ghost use Rattle.rv_rows.specs.Rows.{rows_at};
+ghost use Rattle.rvtest_app.specs.Runs.{AreAsked, IsRun, IsStatusOf};
+ghost use Rattle.rvtest_app.specs.Commands.{verbosity_for};
+ghost use Rattle.rvtest_app.specs.Shown.{status_of};
+
+use crate::list::{jobs_of, read_text};
+use crate::outputs::{Outputs, class_of};
+use crate::rules::rule_of;
+use crate::shard::shard_asked;
+use crate::shown_run::show_run;
+use crate::status::{DONE, status_of};
+use crate::stop::Stop;
+use crate::streams::Streams;
+use rv_expect::Rule;
+use rv_files::{NotingStore, StreamSink};
+use rv_fleet::Rows;
+use rv_jobs::{Job, JobList, Plan, gather_places, marked_places};
+use rv_merge::shard_marks;
+use rv_report::Shard;
+use rv_telling::{CountingTelling, Progress, RowTelling, TerminalSink, Verbosity};
+use rv_test_words::RunAsked;
+use std::alloc::Global;
+use std::io::Write;
+use std::rt::Files;
+use std::sync::Wait;
+use std::thread::{self, Threads};
+use std::time::Clock;
+
+/// A run of a list that words ask for, over a runtime and streams.
+#[derive(Drop)]
+pub(crate) struct ListRun<'x, R, S> {
+    pub(crate) rt: &'x R,
+    pub(crate) alloc: Global,
+    pub(crate) streams: &'x S,
+    pub(crate) asked: &'x RunAsked<'x>,
+    /// Which rows are failures.
+    pub(crate) rule: Rule,
+}
+
+/// Runs the jobs that are asked for, shows them, and writes their report. The status is 1 where one of them failed.
+pub(crate) fn run<R: Threads + Wait + Sync + Files + Clock, S: Streams>(
+    rt: &R,
+    alloc: Global,
+    streams: &S,
+    asked: &RunAsked<'_>,
+) -> Result<u8, Stop>
+    ensures { IfOk result (λ status. status ≤ 1) }
+{
+    let text = read_text(rt, alloc, asked.list)?;
+    let run = ListRun {
+        rt,
+        alloc,
+        streams,
+        asked,
+        rule: rule_of(asked.lenient),
+    };
+    run.run_list(text.as_slice())
+}
+
+impl<'x, R: Threads + Wait + Sync + Files + Clock, S: Streams> ListRun<'x, R, S> {
+    // The same of the list's text.
+    fn run_list(&self, text: &[u8]) -> Result<u8, Stop>
+        ensures run { IfOk result
+            (λ status. IsRun self.now.asked.now self.now.rule text.now status) }
+        ensures low { IfOk result (λ status. status ≤ 1) }
+    {
+        let jobs = jobs_of(self.alloc, self.asked.list, text)?;
+        let shard = shard_asked(self.alloc, self.asked, text, jobs.as_slice().len())?;
+        let marks = self.marks(&shard, jobs.as_slice())?;
+        self.run_marked(jobs, marks.as_slice(), shard)
+    }
+
+    // Runs the jobs that are marked, once the files that they need are read.
+    fn run_marked(&self, jobs: JobList, marks: &[bool], shard: Option<Shard>) -> Result<u8, Stop>
+        requires { length marks.now ≡ length jobs }
+        ensures { IfOk result (IsStatusOf self.now.rule jobs marks.now) }
+    {
+        let places = marked_places(self.alloc, marks)?;
+        let needed = marked_places(self.alloc, marks)?;
+        let mut store = NotingStore::new(self.rt, self.alloc, self.asked.root);
+        let plan = gather_places(self.alloc, jobs, needed, &mut store)?;
+        let telling = RowTelling {
+            plan: &plan,
+            unread: store.unread(),
+            rule: self.rule,
+            verbosity: verbosity_of(self.asked),
+            last: self.asked.last,
+        };
+        self.run_planned(&telling, places.as_slice(), shard)
+    }
+
+    // Runs the jobs at some places of a plan. Both files are opened before the first of them runs.
+    fn run_planned(
+        &self,
+        telling: &RowTelling<'_>,
+        places: &[usize],
+        shard: Option<Shard>,
+    ) -> Result<u8, Stop>
+        requires within { AreWithin telling.now.plan.now places.now }
+        requires rising { IsStrictlyIncreasing places.now }
+        ensures { IfOk result (λ status. status
+            ≡ status_of telling.now.rule (rows_at telling.now.plan.now places.now)) }
+    {
+        let asked = self.asked;
+        let outputs = Outputs::open(self.rt, self.alloc, asked.report, asked.junit)?;
+        match self.show(telling, places, outputs.is_out()) {
+            Ok(rows) => self.write(outputs, telling, places, shard, rows),
+            Err(stop) => Err(outputs.abandoned(stop)),
+        }
+    }
+}
+
+impl<'x, R: Threads + Wait + Sync + Clock, S: Streams> ListRun<'x, R, S> {
+    // Runs the jobs at some places, and shows them: on standard error where the report goes to standard output.
+    fn show(
+        &self,
+        telling: &RowTelling<'_>,
+        places: &[usize],
+        is_beside: bool,
+    ) -> Result<Rows, Stop>
+        requires within { AreWithin telling.now.plan.now places.now }
+        requires rising { IsStrictlyIncreasing places.now }
+        ensures { IfOk result (λ rows. rows ≡ rows_at telling.now.plan.now places.now) }
+    {
+        let streams = self.streams;
+        if is_beside {
+            let is_terminal = streams.is_errors_terminal();
+            self.show_on(telling, places, streams.errors(), is_terminal)
+        } else {
+            let is_terminal = streams.is_out_terminal();
+            self.show_on(telling, places, streams.out(), is_terminal)
+        }
+    }
+
+    // The same on a stream, and how far the run is on standard error.
+    fn show_on<W: Write + Drop + Send>(
+        &self,
+        telling: &RowTelling<'_>,
+        places: &[usize],
+        out: W,
+        is_terminal: bool,
+    ) -> Result<Rows, Stop>
+        requires within { AreWithin telling.now.plan.now places.now }
+        requires rising { IsStrictlyIncreasing places.now }
+        ensures { IfOk result (λ rows. rows ≡ rows_at telling.now.plan.now places.now) }
+    {
+        let (rt, alloc, rule) = (self.rt, self.alloc, telling.rule);
+        let errors = self.streams.errors();
+        let is_shown = self.streams.is_errors_terminal();
+        let progress = Progress::new(rt, places.len(), rule, errors, is_shown);
+        let counting = CountingTelling::new(rt, telling, &progress);
+        let sink = TerminalSink::new(rt, alloc, StreamSink::new(out), is_terminal, &progress);
+        let workers = workers_of(rt, self.asked);
+        let group = self.asked.group.clamp(1, 4_096);
+        let (sink, ran) = show_run(
+            rt,
+            alloc,
+            telling.plan,
+            places,
+            workers,
+            group,
+            rule,
+            &counting,
+            sink,
+        );
+        sink.into_inner();
+        progress.finish();
+        Ok(ran?)
+    }
+}
+
+impl<'x, R: Files, S: Streams> ListRun<'x, R, S> {
+    // A mark for each job of the shard, or for each that is asked for.
+    fn marks(&self, shard: &Option<Shard>, jobs: &[Job]) -> Result<Vec<bool>, Stop>
+        requires { IfSome shard.now (λ s. (0 < s.number) × (s.number ≤ s.shards)) }
+        ensures marks { IfOk result (λ marks.
+            AreAsked shard.now self.now.asked.now self.now.rule jobs.now marks.items) }
+        ensures counted { IfOk result (λ marks. length marks.items ≡ length jobs.now) }
+    {
+        let Some(shard) = shard else {
+            return self.marks_asked(jobs);
+        };
+        match shard_marks(self.alloc, jobs.len(), shard.number, shard.shards) {
+            Ok(marks) => Ok(marks),
+            Err(error) => Err(Stop::from(error)),
+        }
+    }
+
+    // Writes the two files of the rows of the jobs at some places; without the first the second is not there either.
+    fn write(
+        &self,
+        outputs: Outputs<'_, R>,
+        telling: &RowTelling<'_>,
+        places: &[usize],
+        shard: Option<Shard>,
+        rows: Rows,
+    ) -> Result<u8, Stop>
+        requires within { AreWithin telling.now.plan.now places.now }
+        requires rising { IsStrictlyIncreasing places.now }
+        requires counted { length rows ≡ length places.now }
+        ensures { IfOk result (λ status. status ≡ status_of telling.now.rule rows) }
+    {
+        let (alloc, streams) = (self.alloc, self.streams);
+        let Outputs { report, junit } = outputs;
+        let class = class_of(self.asked.list).as_bytes();
+        let told = RowTelling {
+            verbosity: Verbosity::Failures,
+            ..*telling
+        };
+        let items = rows.as_slice();
+        let status = status_of(told.rule, items);
+        if let Err(stop) = junit.write_junit(
+            alloc, streams, class, told.rule, &told, places, items,
+        ) {
+            return Err(report.abandoned(stop));
+        }
+        let jobs = telling.plan.jobs();
+        report.write(alloc, streams, jobs, places, shard, rows)?;
+        Ok(status)
+    }
+}
+
+fn verbosity_of(asked: &RunAsked<'_>) -> Verbosity
+    ensures { result ≡ verbosity_for asked.now.verbose asked.now.quiet }
+{
+    match (asked.verbose, asked.quiet) {
+        (_, true) => Verbosity::Quiet,
+        (true, false) => Verbosity::All,
+        (false, false) => Verbosity::Failures,
+    }
+}
+
+// As many threads as are asked for, or as there are processors: from 1 to 64.
+fn workers_of<R: Threads>(rt: &R, asked: &RunAsked<'_>) -> u32
+    ensures { (0 < result) × (result ≤ 64) }
+{
+    match asked.workers {
+        Some(workers) => workers.clamp(1, 64),
+        None => match thread::available_parallelism(rt) {
+            Ok(count) => count.get().clamp(1, 64) as u32,
+            Err(_) => 1,
+        },
+    }
+}
