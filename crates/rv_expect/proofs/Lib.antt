@@ -2,3 +2,4 @@ pub mod Differences
 pub mod References
 pub mod Tellings
 pub mod OfPlans
+pub mod TwoEnds

@@ -9,3 +9,4 @@ pub mod Met
 pub mod Refusal
 pub mod Change
 pub mod Problem
+pub mod TwoEnds

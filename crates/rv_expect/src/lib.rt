@@ -4,7 +4,8 @@
 //! [`named_row`] makes, in the order exit, end, console, signature, other job. Each is told exactly where it does not hold by the definitions of the verdict
 //! ([`unmet_is_what_does_not_hold`], [`unmet_of_a_plan_is_what_does_not_hold`]), and none exactly where the job passes
 //! ([`nothing_is_unmet_where_a_job_passes`]). What is said to differ is the first that does ([`differences_are_first`]),
-//! and a reference is words exactly where it is their lines ([`references_are_lines_of_words`]).
+//! and a reference is words exactly where it is their lines ([`references_are_lines_of_words`]). A job that
+//! [`expects_two_ends`] never passes ([`two_ends_fail`]).
 #![tactic(auto)]
 
 mod change;
@@ -17,6 +18,7 @@ mod problem;
 mod reference;
 mod refusal;
 mod sides;
+mod two_ends;
 mod unmet;
 mod ways;
 
@@ -36,5 +38,6 @@ pub use problem::{is_error, is_failure};
 pub use reference::words_or_none;
 pub use refusal::{is_file_inside, load_address, unfit_segment};
 pub use sides::{behind, sides_from};
+pub use two_ends::{expects_two_ends, two_ends_fail};
 pub use unmet::{Unmet, unmet_expectations};
 pub use ways::{WAYS, fails_by};

@@ -5,6 +5,7 @@ use Rattle.std.specs.List.{filter}
 use Rattle.rv_expect.specs.declared.passing.Rule.{Rule}
 use Rattle.rv_expect.specs.declared.passing.Rule.TheVariants.{Strict, Lenient}
 use Rattle.rv_expect.specs.Passing.{has_passed}
+use Rattle.rv_expect.specs.TwoEnds.{expects_two_ends}
 use Rattle.rv_jobs.specs.Plans.{Planned}
 use Rattle.rv_lists.specs.declared.job.Job.{Job}
 use Rattle.rv_rows.specs.declared.row.Row.{Row}
@@ -46,6 +47,10 @@ is_refused plan job = is_some (refusal_in (outcome_in plan.answers job).ending)
 -- how many jobs of a plan are refused
 abbrev pub refused_in : Planned → ℕ
 refused_in plan = length (filter (is_refused plan) plan.jobs)
+
+-- how many jobs of a plan expect two ends, so that they never pass
+abbrev pub warned_in : Planned → ℕ
+warned_in plan = length (filter expects_two_ends plan.jobs)
 
 -- the status of a plan whose files were looked at: 2 where a job is refused, else 0
 abbrev pub check_status : ℕ → ℕ

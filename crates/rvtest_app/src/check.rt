@@ -1,16 +1,17 @@
 //! The command `check`.
 
 ghost use Rattle.std.specs.Prelude.{◌≡◌, ◌≤◌, ◌<◌, IfOk, length};
-ghost use Rattle.rvtest_app.specs.Commands.{check_status, refused_in};
+ghost use Rattle.rvtest_app.specs.Commands.{check_status, refused_in, warned_in};
 
 use crate::found::Found;
 use crate::list::{jobs_of, read_text, told_of_faults};
 use crate::messages::REFUSED;
 use crate::status::DONE;
 use crate::stop::Stop;
+use rv_expect::expects_two_ends;
 use rv_files::{NotingStore, Unread};
 use rv_job_text::{Span, push_spans, push_text};
-use rv_jobs::{Plan, gather};
+use rv_jobs::{ExpectedEnd, Job, Plan, gather};
 use rv_list_errors::job_lines;
 use rv_lists::read_faults;
 use rv_rows::{Refusal, RowEnd, refusal_at};
@@ -74,7 +75,9 @@ fn check_plan(
     };
     let mut text = Vec::new(alloc);
     let refused = list.push_refused(alloc, &mut text)?;
+    let warned = list.push_warned(&mut text)?;
     push_counts(&mut text, plan.jobs(), refused)?;
+    push_warnings(&mut text, warned)?;
     Ok(Found {
         text,
         status: status_of(refused),
@@ -128,7 +131,8 @@ impl<'a> Listed<'a> {
     ) -> Result<(), AllocError>
         requires { place < length self.now.plan.now.jobs }
     {
-        self.push_job(told, place, why)?;
+        self.push_job(told, place)?;
+        push_spans(told, &[Span::Text("refused "), Span::Text(why.name())])?;
         let ending = RowEnd::Refused(why);
         match reason_of(alloc, self.plan, self.unread, place, ending)? {
             Some(reason) => push_reason(told, reason.as_slice()),
@@ -136,8 +140,39 @@ impl<'a> Listed<'a> {
         }
     }
 
-    // Appends where the job stands, its name, and what its refusal is called.
-    fn push_job(&self, told: &mut Vec<u8>, place: usize, why: Refusal) -> Result<(), AllocError>
+    // Appends a line for each job that expects two ends, and gives their number.
+    fn push_warned(&self, told: &mut Vec<u8>) -> Result<usize, AllocError>
+        ensures { IfOk result (λ warned. warned ≡ warned_in self.now.plan.now) }
+    {
+        let mut warned = 0;
+        for place in 0..self.plan.jobs() {
+            if expects_two_ends(self.plan.job(place)) {
+                self.push_two_ends(told, place)?;
+                warned += 1;
+            }
+        }
+        Ok(warned)
+    }
+
+    fn push_two_ends(&self, told: &mut Vec<u8>, place: usize) -> Result<(), AllocError>
+        requires { place < length self.now.plan.now.jobs }
+    {
+        let job = self.plan.job(place);
+        self.push_job(told, place)?;
+        push_spans(
+            told,
+            &[
+                Span::Text("warning: expect_exit = "),
+                Span::Number(job.expect_exit.unwrap_or(0) as u64),
+                Span::Text(" beside expect_end = \""),
+                Span::Text(end_name(job)),
+                Span::Text("\": a run ends in one way, so the job never passes\n"),
+            ],
+        )
+    }
+
+    // Appends where the job stands, and its name.
+    fn push_job(&self, told: &mut Vec<u8>, place: usize) -> Result<(), AllocError>
         requires { place < length self.now.plan.now.jobs }
     {
         self.push_place(told, place)?;
@@ -148,8 +183,7 @@ impl<'a> Listed<'a> {
                 Span::Number((place as u64).saturating_add(1)),
                 Span::Text(" ("),
                 Span::Text(self.plan.job(place).name.as_str()),
-                Span::Text("): refused "),
-                Span::Text(why.name()),
+                Span::Text("): "),
             ],
         )
     }
@@ -164,6 +198,14 @@ impl<'a> Listed<'a> {
     }
 }
 
+// What a list says for the end that a job expects.
+fn end_name(job: &Job) -> &'static str {
+    match job.expect_end {
+        Some(ExpectedEnd::Fault(kind)) => kind.name(),
+        _ => "budget",
+    }
+}
+
 fn push_reason(told: &mut Vec<u8>, reason: &[u8]) -> Result<(), AllocError> {
     push_spans(
         told,
@@ -171,18 +213,23 @@ fn push_reason(told: &mut Vec<u8>, reason: &[u8]) -> Result<(), AllocError> {
     )
 }
 
+// Appends how many jobs there are, and how many of them are refused.
 fn push_counts(told: &mut Vec<u8>, jobs: usize, refused: usize) -> Result<(), AllocError> {
-    let jobs = Span::Number(jobs as u64);
+    push_spans(told, &[Span::Number(jobs as u64), Span::Text(" jobs, ")])?;
     if refused == 0 {
-        return push_spans(told, &[jobs, Span::Text(" jobs, none refused\n")]);
+        return push_text(told, "none refused");
     }
     push_spans(
         told,
-        &[
-            jobs,
-            Span::Text(" jobs, "),
-            Span::Number(refused as u64),
-            Span::Text(" refused\n"),
-        ],
+        &[Span::Number(refused as u64), Span::Text(" refused")],
     )
+}
+
+// Appends how many warnings there are, where there are any, and ends the line.
+fn push_warnings(told: &mut Vec<u8>, warned: usize) -> Result<(), AllocError> {
+    if warned != 0 {
+        push_spans(told, &[Span::Text(", "), Span::Number(warned as u64)])?;
+        push_text(told, if warned == 1 { " warning" } else { " warnings" })?;
+    }
+    push_text(told, "\n")
 }

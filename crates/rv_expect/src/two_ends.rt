@@ -1,0 +1,24 @@
+//! Jobs that can never pass, since they expect two ends.
+
+ghost use Rattle.std.specs.Prelude.{◌≡◌, List, Option, IsTrue, ℕ};
+ghost use Rattle.rv_lists.specs.declared.job.Job.{Job};
+ghost use Rattle.rv_rows.specs.declared.outcome.Outcome.{Outcome};
+ghost use Rattle.rv_rows.specs.declared.row.Verdict.TheVariants.{Fail};
+ghost use Rattle.rv_rows.specs.Verdict.{verdict_of};
+ghost use Rattle.rv_expect.specs.TwoEnds.{expects_two_ends};
+
+use rv_jobs::Job;
+
+/// Whether a job expects an exit code, and an end by its budget or a fault too.
+pub fn expects_two_ends(job: &Job) -> bool
+    ensures { result ≡ expects_two_ends job.now }
+{
+    job.expect_exit.is_some() && job.expect_end.is_some()
+}
+
+/// A run ends in one way, so a job that expects two ends fails, whatever its run comes to.
+pub fn two_ends_fail()
+    ensures { (job : Job) (outcome : Outcome) (reference console : Option (List ℕ)) (other : Option Outcome)
+        → IsTrue (expects_two_ends job)
+        → verdict_of job outcome reference console other ≡ Fail }
+{}
