@@ -16,7 +16,7 @@ use Rattle.rv_lists.specs.JobList.{load_in, signature_in, exit_in, reference_in,
 use Rattle.rv_lists.specs.JobList.{misaligned_in, job_in, element_in, jobs_from, has_no_jobs, has_too_many, elements}
 use Rattle.rv_lists.specs.JobList.{elements_in, jobs_in}
 use Rattle.rv_lists.specs.JobList.{document_of, job_list_of}
-use Rattle.rv_report_lines.specs.Saved.{are_new}
+use Rattle.rv_report.specs.Saved.{are_new}
 
 -- a step that found no fault had a value, with which the next one found none
 taken : {F A B : Type 0} (r : Result A F) (f : A → Result B F) (y : B) → (r >>= f) ≡ Ok y

@@ -35,7 +35,7 @@ use Rattle.rv_machine.specs.declared.ending.Ending.TheVariants as machine
 use Rattle.rv_machine.specs.Run.{Ran, run_of}
 use Rattle.rv_memory.specs.Bus.{word_at}
 use Rattle.rv_memory.specs.SignatureWords.{words_of}
-use Rattle.rv_report_lines.specs.Saved.{most_words}
+use Rattle.rv_report.specs.Saved.{most_words}
 use Rattle.std.specs.FinMap as fin
 use Rattle.std.specs.List.{list_all}
 use Rattle.std.specs.Ordering.{nat_cmp}

@@ -18,7 +18,7 @@ use Rattle.rv_rows.specs.declared.row.RowEnd.{RowEnd}
 use Rattle.rv_rows.specs.declared.row.RowEnd.TheVariants as ending
 use Rattle.rv_rows.specs.Rows.{row_of, rows_of}
 use Rattle.rv_rows.specs.Wholes.{planned}
-use Rattle.rv_report_lines.specs.Saved.{AreWords, IsEnd, IsRow, most_words, are_new, names_of}
+use Rattle.rv_report.specs.Saved.{AreWords, IsEnd, IsRow, most_words, are_new, names_of}
 use Rattle.rv_merge.specs.Parts.{AreListed}
 use Rattle.rv_laws.specs.Numbers.{EndsInWords, HasNumbers, HasWords}
 use Rattle.rv_laws.proofs.Names.{are_read}

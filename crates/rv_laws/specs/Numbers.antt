@@ -5,7 +5,7 @@ use Rattle.hex.specs.Hex.{IsBytes}
 use Rattle.rv_rows.specs.declared.row.Row.{Row}
 use Rattle.rv_rows.specs.declared.row.RowEnd.{RowEnd}
 use Rattle.rv_rows.specs.declared.row.RowEnd.TheVariants as ending
-use Rattle.rv_report_lines.specs.Saved.{IsWord}
+use Rattle.rv_report.specs.Saved.{IsWord}
 
 -- the numbers of an ending have 32 bits
 abbrev pub EndsInWords : RowEnd → Type 0

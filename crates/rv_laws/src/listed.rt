@@ -7,7 +7,7 @@ ghost use Rattle.rv_jobs.specs.declared.answers.Answer.{Answer};
 ghost use Rattle.rv_lists.specs.declared.job.Job.{Job};
 ghost use Rattle.rv_lists.specs.JobList.{job_list_of};
 ghost use Rattle.rv_merge.specs.Parts.{AreListed};
-ghost use Rattle.rv_report_lines.specs.Saved.{IsWord};
+ghost use Rattle.rv_report.specs.Saved.{IsWord};
 ghost use Rattle.rv_rows.specs.Rows.{rows_of};
 ghost use Rattle.rv_rows.specs.Wholes.{planned};
 ghost use Rattle.rv_laws.specs.Numbers.{EndsInWords, HasNumbers, HasWords};
