@@ -1,4 +1,3 @@
-pub mod Counts
 pub mod Files
 pub mod UnreadFiles
 pub mod UnmetLines

@@ -4,35 +4,23 @@
 //!
 //! [`RowTelling`] is a [`Telling`](rv_stream::Telling) over a plan, and over what a store noted of the paths that it
 //! could not read. How much is told is a [`Verbosity`], and which rows pass a [`Rule`](rv_expect::Rule).
-//!
-//! [`CountingTelling`] tells what another `Telling` tells, and counts the rows; a [`Progress`] shows the counts in one
-//! line on a terminal, rewritten in place, at most once in a tenth of a second. [`TerminalSink`] is a sink to the same
-//! terminal: it takes the line away before each put. Of what stands on the terminal the contracts say the counts, and
-//! that they stand in the middle of no other line.
 #![tactic(auto)]
 
-mod counting;
 mod difference_text;
 mod files;
 mod image_reason;
-mod line;
 mod met_line;
 mod paths;
-mod progress;
 mod reasons;
 mod row_telling;
 mod segment_reason;
 mod signature_text;
-mod terminal_sink;
 mod unmet_line;
 mod unread_files;
 mod verbosity;
 mod way;
 
-pub use counting::CountingTelling;
-pub use progress::Progress;
 pub use reasons::reason_of;
 pub use row_telling::RowTelling;
-pub use terminal_sink::TerminalSink;
 pub use unread_files::kind_text;
 pub use verbosity::Verbosity;

@@ -1,7 +1,7 @@
 //! A line on a terminal.
 
 ghost use Rattle.std.specs.Prelude.{◌≡◌, ◌++◌, ◌∷◌, ◌-◌, IsTrue, OnOk, length, slice_get};
-ghost use Rattle.rv_telling.specs.Counts.{counts_text, is_held_by};
+ghost use Rattle.rvtest_app.specs.ProgressLine.{counts_text, is_held_by};
 
 use rv_job_text::{Span, push_spans};
 use std::alloc::{AllocError, Global};

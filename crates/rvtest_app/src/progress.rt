@@ -1,6 +1,6 @@
 //! How many jobs are done and failed, and the line that says so.
 
-use crate::line::{Counts, Line};
+use crate::terminal_line::{Counts, Line};
 use rv_expect::{Rule, has_passed};
 use rv_rows::Row;
 use std::alloc::Global;
