@@ -9,13 +9,13 @@ ghost use Rattle.rv_merge.specs.Shards.{AreTextsFrom, IsRunOf};
 ghost use Rattle.rv_rows.specs.Rows.{rows_of};
 ghost use Rattle.rv_rows.specs.Wholes.{planned};
 
+use crate::law::shards_give_the_parts_of_the_whole;
 use crate::listed::rows_are_those_of_a_list;
-use rv_merge::shards_give_the_parts_of_the_whole;
 use rv_rows::Row;
 
 /// Where a list that was read ran in shards, and each machine kept the same of the paths that its jobs need as one
 /// machine keeps for the whole list, the texts of their reports are the parts of the rows that this machine gives, as
-/// `run_fleet` does for every number of workers and every group: they are what [`merge_parts`](rv_merge::merge_parts)
+/// `run_fleet` does for every number of workers and every group: they are what [`merge_parts`](crate::merge::merge_parts)
 /// answers.
 pub fn shards_give_the_whole(rows: &[Row])
     ensures { (bytes : List ℕ) (list : List Job) (answers : List Answer) (run : Run)

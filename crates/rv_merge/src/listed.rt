@@ -10,7 +10,7 @@ ghost use Rattle.rv_merge.specs.Parts.{AreListed};
 ghost use Rattle.rv_report.specs.Saved.{IsWord};
 ghost use Rattle.rv_rows.specs.Rows.{rows_of};
 ghost use Rattle.rv_rows.specs.Wholes.{planned};
-ghost use Rattle.rv_laws.specs.Numbers.{EndsInWords, HasNumbers, HasWords};
+ghost use Rattle.rv_merge.specs.Numbers.{EndsInWords, HasNumbers, HasWords};
 
 use rv_jobs::Bytes;
 use rv_rows::{Row, RowEnd, Words};

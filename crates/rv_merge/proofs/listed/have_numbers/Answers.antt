@@ -1,6 +1,6 @@
 use Rattle.std.proofs.Common.{arith}
-use Rattle.rv_laws.proofs.RowsOfLists.{more}
-use Rattle.rv_laws.proofs.listed.have_numbers.Goals as goal
+use Rattle.rv_merge.proofs.RowsOfLists.{more}
+use Rattle.rv_merge.proofs.listed.have_numbers.Goals as goal
 
 pub loop-row-preserved : goal.loop-row-preserved
 loop-row-preserved c =

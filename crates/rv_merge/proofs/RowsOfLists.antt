@@ -20,9 +20,9 @@ use Rattle.rv_rows.specs.Rows.{row_of, rows_of}
 use Rattle.rv_rows.specs.Wholes.{planned}
 use Rattle.rv_report.specs.Saved.{AreWords, IsEnd, IsRow, most_words, are_new, names_of}
 use Rattle.rv_merge.specs.Parts.{AreListed}
-use Rattle.rv_laws.specs.Numbers.{EndsInWords, HasNumbers, HasWords}
-use Rattle.rv_laws.proofs.Names.{are_read}
-use Rattle.rv_laws.proofs.Outcomes.{IsLasting, fine}
+use Rattle.rv_merge.specs.Numbers.{EndsInWords, HasNumbers, HasWords}
+use Rattle.rv_merge.proofs.ListNames.{are_read}
+use Rattle.rv_merge.proofs.Outcomes.{IsLasting, fine}
 
 -- one more row has its numbers
 pub more : (rows : List Row) (i : ℕ) (row : Row) → row ≡ slice_index_or rows i row → i < length rows → HasNumbers row
