@@ -8,9 +8,9 @@ use crate::failed_before::read_saved;
 use crate::found::Found;
 use crate::status::{DONE, SOME_FAIL};
 use crate::stop::Stop;
+use rv_cli::rvtest::DiffAsked;
 use rv_junit::{Differing, push_diff};
 use rv_rows::Row;
-use rv_test_words::DiffAsked;
 use std::alloc::Global;
 use std::rt::Files;
 

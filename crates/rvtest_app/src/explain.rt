@@ -14,12 +14,12 @@ use crate::found::Found;
 use crate::list::read_list;
 use crate::status::{DONE, SOME_FAIL};
 use crate::stop::Stop;
+use rv_cli::rvtest::ExplainAsked;
 use rv_expect::{Rule, has_passed};
 use rv_files::{NotingStore, Unread};
 use rv_jobs::{Job, JobList, Plan, gather_places};
 use rv_rows::row_at;
 use rv_telling::{RowTelling, Verbosity};
-use rv_test_words::ExplainAsked;
 use std::alloc::Global;
 use std::rt::Files;
 

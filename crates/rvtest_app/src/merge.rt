@@ -12,12 +12,12 @@ use crate::rules::rule_of;
 use crate::status::status_of;
 use crate::stop::Stop;
 use crate::streams::Streams;
+use rv_cli::rvtest::MergeAsked;
 use rv_expect::Rule;
 use rv_fleet::Rows;
 use rv_job_text::{Span, push_last_line, text_of};
 use rv_junit::FailedLines;
 use rv_merge::{Flaw, MergeError, merge_parts};
-use rv_test_words::MergeAsked;
 use std::alloc::{AllocError, Global};
 use std::rt::Files;
 

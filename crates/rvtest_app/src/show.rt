@@ -13,10 +13,10 @@ use crate::rules::rule_of;
 use crate::status::status_of;
 use crate::stop::Stop;
 use crate::streams::Streams;
+use rv_cli::rvtest::ShowAsked;
 use rv_expect::Rule;
 use rv_junit::{FailedLines, push_show};
 use rv_rows::Row;
-use rv_test_words::ShowAsked;
 use std::alloc::{AllocError, Global};
 use std::rt::Files;
 
