@@ -7,5 +7,4 @@ pub mod Passing
 pub mod Ways
 pub mod Met
 pub mod Refusal
-pub mod Change
 pub mod Problem

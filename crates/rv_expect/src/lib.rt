@@ -7,7 +7,6 @@
 //! and a reference is words exactly where it is their lines ([`references_are_lines_of_words`]).
 #![tactic(auto)]
 
-mod change;
 mod difference;
 mod law;
 mod met;
@@ -20,10 +19,6 @@ mod sides;
 mod unmet;
 mod ways;
 
-pub use change::{
-    Change, change_of, same_console, same_ending, same_signature, same_steps, same_verdict,
-    verdict_text,
-};
 pub use difference::{Difference, SameDifference, SignatureDifference};
 pub use law::{
     differences_are_first, nothing_is_unmet_where_a_job_passes, references_are_lines_of_words,

@@ -16,8 +16,8 @@ use Rattle.rvtest_app.specs.declared.stop.Lines.{Lines}
 use Rattle.rvtest_app.specs.declared.stop.Lines.TheVariants as lines
 use Rattle.rvtest_app.specs.declared.stop.Stop.{Stop}
 use Rattle.rvtest_app.specs.declared.stop.Stop.TheVariants as stop
-use Rattle.rv_junit.specs.Diff.{differing_count}
-use Rattle.rv_junit.specs.declared.diff.Differing.{Differing}
+use Rattle.rv_diff.specs.Diff.{differing_count}
+use Rattle.rv_diff.specs.declared.diff.Differing.{Differing}
 
 -- the rule by which jobs fail, with --lenient or without
 abbrev pub rule_for : Bool → Rule
