@@ -10,8 +10,8 @@ ghost use Rattle.rv_diff.specs.Diff.{is_changed, lines_of_new};
 use crate::by_name::ByName;
 use crate::change::{Change, change_of};
 use crate::differences::push_change_lines;
-use rv_job_text::{Span, push_spans};
 use rv_rows::Row;
+use rv_text::{Span, push_spans};
 use std::alloc::{AllocError, Global};
 
 /// How many jobs of two reports differ.

@@ -7,9 +7,8 @@ ghost use Rattle.rv_diff.specs.Differences.{ending_words, first_place, steps_wor
 
 use crate::change::{same_console, same_ending, same_steps, same_verdict, verdict_text};
 use crate::signature_line::push_signature_change;
-use rv_expect::behind;
-use rv_job_text::{Span, push_spans};
 use rv_rows::{Row, RowEnd};
+use rv_text::{Span, behind, push_spans};
 use std::alloc::AllocError;
 
 /// Appends a line for each part in which two rows do not agree.

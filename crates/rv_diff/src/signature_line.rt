@@ -6,8 +6,8 @@ ghost use Rattle.rv_rows.specs.Verdict.{same_signature};
 ghost use Rattle.rv_diff.specs.Differences.{change_begin, change_line, first_place, signature_words, words_words};
 
 use crate::change::same_signature;
-use rv_job_text::{Span, push_spans};
 use rv_rows::{Row, Words};
+use rv_text::{Span, push_spans};
 use std::alloc::AllocError;
 
 /// Appends the line of two rows whose signatures differ: in which word they do first, or their sizes where they do in those.

@@ -15,7 +15,6 @@ mod planned;
 mod problem;
 mod reference;
 mod refusal;
-mod sides;
 mod unmet;
 mod ways;
 
@@ -30,6 +29,5 @@ pub use planned::named_row;
 pub use problem::{is_error, is_failure};
 pub use reference::words_or_none;
 pub use refusal::{is_file_inside, load_address, unfit_segment};
-pub use sides::{behind, sides_from};
 pub use unmet::{Unmet, unmet_expectations};
 pub use ways::{WAYS, fails_by};

@@ -19,7 +19,8 @@ use Rattle.rv_rows.specs.declared.row.RowEnd.{RowEnd}
 use Rattle.rv_rows.specs.declared.row.RowEnd.TheVariants as ending
 use Rattle.rv_rows.specs.declared.row.Verdict.{Verdict}
 use Rattle.rv_rows.specs.declared.row.Verdict.TheVariants as verdict
-use Rattle.rv_rows.specs.Report.{line, word_digits, word_line, refusal_name, refusal_named, verdict_name, end_line}
+use Rattle.rv_rows.specs.Report.{line, word_line, refusal_name, refusal_named, verdict_name, end_line}
+use Rattle.rv_text.specs.Words.{word_digits}
 use Rattle.rv_rows.specs.Report.{or_dash, console_line, signature_lines, row_text}
 use Rattle.rv_report.specs.declared.gathering.Stage.TheVariants as stage
 use Rattle.rv_report.specs.declared.saved.Extent.{Extent}

@@ -9,7 +9,7 @@ use Rattle.std.specs.Fmt.{decimal}
 use Rattle.std.specs.Int.{w32, to_be_bytes}
 use Rattle.hex.specs.Hex.{IsBytes, encode_lower, encode_with, lower_digits}
 use Rattle.hex.proofs.HexLemmas.{decode_of-encode_lower}
-use Rattle.rv_rows.specs.Report.{word_digits}
+use Rattle.rv_text.specs.Words.{word_digits}
 use Rattle.rv_report.specs.Said.{shifted, all_hex}
 use Rattle.rv_report.specs.Said.{number_on, number_of, digit_on, word_on, word_of, hex_digit, is_hex, is_word}
 use Rattle.rv_report.specs.Said.{bytes_of, decoded}

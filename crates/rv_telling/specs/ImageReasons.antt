@@ -15,10 +15,10 @@ use Rattle.rv_elf.specs.Symbols.{symbol_of}
 use Rattle.rv_expect.specs.Refusal.{unfit_segment}
 use Rattle.rv_lists.specs.declared.job.Job.{Job}
 use Rattle.rv_lists.specs.declared.job.Symbols.{Symbols}
-use Rattle.rv_job_text.specs.Shown.{shown}
+use Rattle.rv_text.specs.Shown.{shown}
 use Rattle.rv_memory.specs.declared.map.Region.{Region}
 use Rattle.rv_memory.specs.Regions.{in_one}
-use Rattle.rv_rows.specs.Report.{word_digits}
+use Rattle.rv_text.specs.Words.{word_digits}
 
 -- ---- addresses
 

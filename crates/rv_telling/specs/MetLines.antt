@@ -4,7 +4,7 @@ use Rattle.std.specs.Prelude.{if◌then◌else◌}
 use Rattle.rv_expect.specs.declared.unmet.Unmet.{Unmet}
 use Rattle.rv_expect.specs.Met.{is_met}
 use Rattle.rv_lists.specs.Jobs.{console_path}
-use Rattle.rv_job_text.specs.Shown.{shown}
+use Rattle.rv_text.specs.Shown.{shown}
 use Rattle.rv_expect.specs.declared.met.Expectation.{Expectation}
 use Rattle.rv_expect.specs.declared.met.Expectation.TheVariants as expectation
 use Rattle.rv_telling.specs.UnmetLines.{Comparison, end_text, exit_text}

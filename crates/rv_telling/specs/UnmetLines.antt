@@ -20,12 +20,13 @@ use Rattle.rv_lists.specs.declared.job.ExpectedEnd.{ExpectedEnd}
 use Rattle.rv_lists.specs.declared.job.ExpectedEnd.TheVariants as expected
 use Rattle.rv_lists.specs.declared.job.Job.{Job}
 use Rattle.rv_telling.specs.declared.unmet_line.Sides.{Sides}
-use Rattle.rv_job_text.specs.Shown.{shown, shown_value}
+use Rattle.rv_text.specs.Shown.{shown, shown_value}
 use Rattle.rv_machine.specs.Faults.{fault_name}
 use Rattle.rv_rows.specs.declared.row.Row.{Row}
 use Rattle.rv_rows.specs.declared.row.RowEnd.{RowEnd}
 use Rattle.rv_rows.specs.declared.row.RowEnd.TheVariants as ending
-use Rattle.rv_rows.specs.Report.{line, refusal_name, word_digits}
+use Rattle.rv_rows.specs.Report.{line, refusal_name}
+use Rattle.rv_text.specs.Words.{word_digits}
 
 -- what stands beside an expectation: the job and its row, the bytes that were read of the files
 -- that its console and its signature are compared with, the row of the job that it names, and the

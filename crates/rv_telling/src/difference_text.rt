@@ -1,12 +1,12 @@
 //! What differs first between the bytes that were met and those that are expected, as text.
 
 ghost use Rattle.std.specs.Prelude.{◌≡◌, ◌++◌, [], OnOk, codes, option_map, unwrap_or};
-ghost use Rattle.rv_job_text.specs.Shown.{shown};
+ghost use Rattle.rv_text.specs.Shown.{shown};
 ghost use Rattle.rv_telling.specs.UnmetLines.{byte_text, bytes_text, console_text, count_text};
 
-use rv_expect::{Difference, sides_from};
-use rv_job_text::{Span, push_spans, push_text};
+use rv_expect::Difference;
 use rv_jobs::ExpectedConsole;
+use rv_text::{Span, push_spans, push_text, sides_from};
 use std::alloc::AllocError;
 
 /// What differs from the console that is expected.

@@ -3,16 +3,16 @@
 ghost use Rattle.std.specs.Prelude.{◌≡◌, ◌<◌, ◌++◌, IfSome, OnOk, codes, length, option_map};
 ghost use Rattle.rv_elf.specs.Image.{IsImageOf};
 ghost use Rattle.rv_elf.specs.Symbols.{symbol_of};
-ghost use Rattle.rv_job_text.specs.Spans.{span_text};
+ghost use Rattle.rv_text.specs.Spans.{span_text};
 ghost use Rattle.rv_telling.specs.ImageReasons.{address_of_text, ends_text, image_reason, image_text, missing_text, sentence};
 ghost use Rattle.rv_telling.specs.ImageReasons.{signature_range_text};
 
 use crate::segment_reason::{push_overlap, push_regions, push_unfit};
 use rv_elf::{Image, ImageError, find_symbol, read_image};
 use rv_expect::unfit_segment;
-use rv_job_text::{Span, push_spans, push_text};
 use rv_jobs::{Job, Symbols};
 use rv_memory::Region;
+use rv_text::{Span, push_spans, push_text};
 use std::alloc::{AllocError, Global};
 
 /// Appends why the image of a file was refused for a job: for what the job's map refuses the addresses beside the

@@ -8,8 +8,8 @@ ghost use Rattle.rv_telling.specs.UnmetLines.{comparison_of};
 use crate::paths::{console_path, reference_path};
 use crate::unmet_line::{Sides, push_end, push_exit};
 use rv_expect::{Expectation, Unmet, is_met};
-use rv_job_text::{Span, push_spans, push_text};
 use rv_rows::Row;
+use rv_text::{Span, push_spans, push_text};
 use std::alloc::AllocError;
 
 /// Appends a line for each expectation of a job that its run meets, behind five spaces: for those that are not among the

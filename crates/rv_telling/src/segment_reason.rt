@@ -3,15 +3,15 @@
 ghost use Rattle.std.specs.Prelude.{◌≡◌, ◌+◌, ◌++◌, OnOk, codes, option_map};
 ghost use Rattle.std.specs.List.{find};
 ghost use Rattle.rv_elf.specs.Loading.{load_address, share};
-ghost use Rattle.rv_job_text.specs.Spans.{span_text};
+ghost use Rattle.rv_text.specs.Spans.{span_text};
 ghost use Rattle.rv_telling.specs.ImageReasons.{last_text, map_text, outside_text, overlap_text, pair_text, range_text};
 ghost use Rattle.rv_telling.specs.ImageReasons.{regions_text, sharing_segments};
 
 use rv_elf::{LoadAt, Segment};
 use rv_expect::{is_file_inside, load_address};
-use rv_job_text::{Span, push_spans, push_text};
 use rv_jobs::Job;
 use rv_memory::Region;
+use rv_text::{Span, push_spans, push_text};
 use std::alloc::AllocError;
 
 #[tactic(auto, unfolding(crate::specs::ImageReasons::map_text))]

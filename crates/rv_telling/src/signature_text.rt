@@ -1,15 +1,15 @@
 //! What differs first between the words of a signature and those that are expected, as text.
 
 ghost use Rattle.std.specs.Prelude.{◌≡◌, ◌++◌, ◌+◌, ◌*◌, ◌%◌, ◌^◌, OnOk, option_map};
-ghost use Rattle.rv_job_text.specs.Spans.{span_text};
+ghost use Rattle.rv_text.specs.Spans.{span_text};
 ghost use Rattle.rv_telling.specs.UnmetLines.{absent_text, bad_line_text, digits_at, place_text, reference_text};
 ghost use Rattle.rv_telling.specs.UnmetLines.{signature_text, signatures_text, word_at, word_text};
 
 use crate::difference_text::{bytes_or_none, push_count, push_topic};
 use rv_expect::{Difference, SignatureDifference, words_or_none};
-use rv_job_text::{Span, push_spans, push_text};
 use rv_jobs::Text;
 use rv_rows::{LINE, Words};
+use rv_text::{Span, push_spans, push_text};
 use std::alloc::AllocError;
 
 /// What differs from the signature that is expected.

@@ -7,9 +7,9 @@ ghost use Rattle.rv_telling.specs.UnmetLines.{unmet_line, unmet_lines, unmet_tex
 use crate::difference_text::{push_bytes, push_console, push_topic};
 use crate::signature_text::{push_signature, push_signatures};
 use rv_expect::{SameDifference, Unmet};
-use rv_job_text::{Span, push_spans, push_text};
 use rv_jobs::{ExpectedEnd, Job};
 use rv_rows::{Row, RowEnd};
+use rv_text::{Span, push_spans, push_text};
 use std::alloc::AllocError;
 
 /// What stands beside the expectations of a job: what `unmet_expectations` of `rv_expect` compared, and where the

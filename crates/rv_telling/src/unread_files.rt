@@ -4,8 +4,8 @@ ghost use Rattle.std.specs.Prelude.{◌≡◌, IfOk, option_map};
 ghost use Rattle.rv_telling.specs.UnreadFiles.{kind_text, long_text, noted_of_path, noted_text, unread_text};
 
 use rv_files::Unread;
-use rv_job_text::{Span, text_of};
 use rv_jobs::limits::MOST_BYTES;
+use rv_text::{Span, text_of};
 use std::alloc::{AllocError, Global};
 use std::io::ErrorKind;
 

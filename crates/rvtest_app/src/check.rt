@@ -10,12 +10,12 @@ use crate::status::DONE;
 use crate::stop::Stop;
 use rv_cli::rvtest::CheckAsked;
 use rv_files::{NotingStore, Unread};
-use rv_job_text::{Span, push_spans, push_text};
 use rv_jobs::{Plan, gather};
 use rv_list_errors::job_lines;
 use rv_lists::read_faults;
 use rv_rows::{Refusal, RowEnd, refusal_at};
 use rv_telling::reason_of;
+use rv_text::{Span, push_spans, push_text};
 use std::alloc::{AllocError, Global};
 use std::rt::Files;
 

@@ -15,10 +15,10 @@ use crate::stop::Stop;
 use crate::streams::Streams;
 use regex::Regex;
 use rv_cli::rvtest::RunAsked;
-use rv_job_text::{Span, text_of};
 use rv_jobs::Job;
 use rv_list_errors::nearest;
 use rv_rows::Row;
+use rv_text::{Span, text_of};
 use std::alloc::{AllocError, Global};
 use std::rt::Files;
 

@@ -16,8 +16,9 @@ use crate::streams::Streams;
 use rv_cli::rvtest::MergeAsked;
 use rv_expect::Rule;
 use rv_fleet::Rows;
-use rv_job_text::{Span, push_last_line, text_of};
+use rv_job_text::push_last_line;
 use rv_merge::{Flaw, MergeError, merge_parts};
+use rv_text::{Span, text_of};
 use std::alloc::{AllocError, Global};
 use std::rt::Files;
 

@@ -7,8 +7,9 @@ ghost use Rattle.rvtest_app.specs.ReportSummary.{failed_line, most_text, show_te
 use crate::failed_lines::push_failed_line;
 use crate::most_steps::most_steps;
 use rv_expect::Rule;
-use rv_job_text::{Span, push_last_line, push_spans, push_text};
+use rv_job_text::push_last_line;
 use rv_rows::Row;
+use rv_text::{Span, push_spans, push_text};
 use std::alloc::{AllocError, Global};
 
 /// Appends what is shown of a report's rows: the line of each that failed, the counts of all, and the jobs with the most

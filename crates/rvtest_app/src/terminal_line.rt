@@ -3,7 +3,7 @@
 ghost use Rattle.std.specs.Prelude.{◌≡◌, ◌++◌, ◌∷◌, ◌-◌, IsTrue, OnOk, length, slice_get};
 ghost use Rattle.rvtest_app.specs.ProgressLine.{counts_text, is_held_by};
 
-use rv_job_text::{Span, push_spans};
+use rv_text::{Span, push_spans};
 use std::alloc::{AllocError, Global};
 use std::io::Write;
 

@@ -1,7 +1,7 @@
 use Rattle.std.proofs.Common.{◌≡◌, ◌∙◌, ap, codes, drop, false, sym, Some}
 use Rattle.std.specs.Fmt.{decimal}
 use Rattle.rv_diff.specs.Change.{same_console}
-use Rattle.rv_job_text.specs.Shown.{shown_value}
+use Rattle.rv_text.specs.Shown.{shown_value}
 use Rattle.rv_diff.specs.Differences.{console_words, first_place}
 use Rattle.rv_diff.proofs.Told.{byte_told, told}
 use Rattle.rv_diff.proofs.differences.push_console_change.Goals as goal

@@ -1,7 +1,7 @@
 use Rattle.std.proofs.Common.{codes}
 use Rattle.std.specs.Fmt.{decimal}
-use Rattle.rv_job_text.specs.Shown.{shown_value}
-use Rattle.rv_job_text.proofs.Public.{told}
+use Rattle.rv_text.specs.Shown.{shown_value}
+use Rattle.rv_text.proofs.Public.{told}
 use Rattle.rv_telling.specs.UnmetLines.{byte_text}
 use Rattle.rv_telling.proofs.Told.{byte_told}
 use Rattle.rv_telling.proofs.difference_text.push_byte.Goals as goal

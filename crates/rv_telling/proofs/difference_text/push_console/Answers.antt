@@ -1,6 +1,6 @@
 use Rattle.std.proofs.Common.{◌++◌, codes, rules}
-use Rattle.rv_job_text.specs.Shown.{shown}
-use Rattle.rv_job_text.proofs.Public.{ended, told}
+use Rattle.rv_text.specs.Shown.{shown}
+use Rattle.rv_text.proofs.Public.{ended, told}
 use Rattle.rv_telling.specs.UnmetLines.{bytes_text, console_text, expected_text}
 use Rattle.rv_telling.proofs.difference_text.push_console.Goals as goal
 

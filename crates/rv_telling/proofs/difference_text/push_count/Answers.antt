@@ -1,6 +1,6 @@
 use Rattle.std.proofs.Common.{codes}
 use Rattle.std.specs.Fmt.{decimal}
-use Rattle.rv_job_text.proofs.Public.{told}
+use Rattle.rv_text.proofs.Public.{told}
 use Rattle.rv_telling.specs.UnmetLines.{count_text}
 use Rattle.rv_telling.proofs.Told.{five_told}
 use Rattle.rv_telling.proofs.difference_text.push_count.Goals as goal

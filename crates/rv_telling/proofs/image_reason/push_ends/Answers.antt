@@ -1,8 +1,8 @@
 use Rattle.std.proofs.Common.{codes}
-use Rattle.rv_job_text.specs.Shown.{shown}
-use Rattle.rv_job_text.specs.Spans.{span_text}
+use Rattle.rv_text.specs.Shown.{shown}
+use Rattle.rv_text.specs.Spans.{span_text}
 use Rattle.rv_telling.specs.ImageReasons.{ends_text, symbol_text}
-use Rattle.rv_job_text.proofs.Public.{told}
+use Rattle.rv_text.proofs.Public.{told}
 use Rattle.rv_telling.proofs.Told.{ends_told}
 use Rattle.rv_telling.proofs.image_reason.push_ends.Goals as goal
 

@@ -1,4 +1,4 @@
-use Rattle.rv_job_text.proofs.Public.{ended}
+use Rattle.rv_text.proofs.Public.{ended}
 use Rattle.rv_telling.specs.ImageReasons.{signature_range_text}
 use Rattle.rv_telling.proofs.image_reason.push_range_of.Goals as goal
 

@@ -1,6 +1,6 @@
 use Rattle.rv_telling.specs.MetLines.{met_line}
 use Rattle.rv_telling.specs.UnmetLines.{comparison_of}
-use Rattle.rv_job_text.proofs.Public.{all_told, one_more}
+use Rattle.rv_text.proofs.Public.{all_told, one_more}
 use Rattle.rv_telling.proofs.met_line.push_each.Goals as goal
 
 pub loop-one-preserved : goal.loop-one-preserved

@@ -1,6 +1,6 @@
 use Rattle.std.proofs.Common.{◌++◌, append-nil, false, get_or}
 use Rattle.rv_job_text.specs.ConsoleTail.{console_tail}
-use Rattle.rv_job_text.proofs.Public.{more}
+use Rattle.rv_text.proofs.Public.{more}
 use Rattle.rv_telling.specs.Telling.{expectation_lines, run_lines, way_lines}
 use Rattle.rv_telling.proofs.Chains.{ended}
 use Rattle.rv_telling.proofs.row_telling.push_run.Goals as goal

@@ -1,5 +1,5 @@
 use Rattle.rv_telling.specs.ImageReasons.{region_text, regions_text}
-use Rattle.rv_job_text.proofs.Public.{all_told, one_more}
+use Rattle.rv_text.proofs.Public.{all_told, one_more}
 use Rattle.rv_telling.proofs.segment_reason.push_regions.Goals as goal
 
 pub loop-region-preserved : goal.loop-region-preserved

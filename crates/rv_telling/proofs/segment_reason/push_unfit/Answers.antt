@@ -1,4 +1,4 @@
-use Rattle.rv_job_text.proofs.Public.{ended}
+use Rattle.rv_text.proofs.Public.{ended}
 use Rattle.rv_telling.specs.ImageReasons.{map_text}
 use Rattle.rv_telling.proofs.segment_reason.push_unfit.Goals as goal
 

@@ -1,7 +1,7 @@
 use Rattle.std.proofs.Common.{codes}
 use Rattle.std.specs.Fmt.{decimal}
-use Rattle.rv_job_text.specs.Shown.{shown}
-use Rattle.rv_job_text.proofs.Public.{told}
+use Rattle.rv_text.specs.Shown.{shown}
+use Rattle.rv_text.proofs.Public.{told}
 use Rattle.rv_telling.specs.UnmetLines.{bad_line_text}
 use Rattle.rv_telling.proofs.Told.{five_told}
 use Rattle.rv_telling.proofs.signature_text.push_bad_line.Goals as goal

@@ -1,4 +1,4 @@
-use Rattle.rv_job_text.proofs.Public.{ended}
+use Rattle.rv_text.proofs.Public.{ended}
 use Rattle.rv_telling.specs.UnmetLines.{signature_text}
 use Rattle.rv_telling.proofs.signature_text.push_signature.Goals as goal
 

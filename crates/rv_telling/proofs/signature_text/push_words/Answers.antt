@@ -1,6 +1,6 @@
 use Rattle.std.proofs.Common.{codes}
-use Rattle.rv_job_text.specs.Spans.{span_text}
-use Rattle.rv_job_text.proofs.Public.{ended, told}
+use Rattle.rv_text.specs.Spans.{span_text}
+use Rattle.rv_text.proofs.Public.{ended, told}
 use Rattle.rv_telling.specs.UnmetLines.{place_text}
 use Rattle.rv_telling.proofs.Told.{words_told}
 use Rattle.rv_telling.proofs.signature_text.push_words.Goals as goal

@@ -1,5 +1,5 @@
 use Rattle.rv_telling.specs.UnmetLines.{comparison_of, unmet_line}
-use Rattle.rv_job_text.proofs.Public.{all_told, one_more}
+use Rattle.rv_text.proofs.Public.{all_told, one_more}
 use Rattle.rv_telling.proofs.unmet_line.push_all_unmet.Goals as goal
 
 pub loop-one-preserved : goal.loop-one-preserved

@@ -1,5 +1,5 @@
 use Rattle.std.proofs.Common.{◌++◌, append_assoc, codes, sym}
-use Rattle.rv_job_text.proofs.Public.{ended, told}
+use Rattle.rv_text.proofs.Public.{ended, told}
 use Rattle.rv_telling.specs.UnmetLines.{bytes_text, ended_text, rows_text, signatures_text}
 use Rattle.rv_telling.proofs.unmet_line.push_rows.Goals as goal
 

@@ -1,6 +1,6 @@
 use Rattle.std.proofs.Common.{◌++◌, codes}
-use Rattle.rv_job_text.specs.Shown.{shown}
-use Rattle.rv_job_text.proofs.Public.{ended}
+use Rattle.rv_text.specs.Shown.{shown}
+use Rattle.rv_text.proofs.Public.{ended}
 use Rattle.rv_telling.specs.UnmetLines.{rows_text, same_text}
 use Rattle.rv_telling.proofs.unmet_line.push_same.Goals as goal
 

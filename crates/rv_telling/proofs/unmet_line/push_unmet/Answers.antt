@@ -1,6 +1,6 @@
 use Rattle.std.proofs.Common.{◌++◌, ℕ, List, codes}
 use Rattle.rv_telling.specs.UnmetLines.{comparison_of, unmet_line, unmet_text}
-use Rattle.rv_job_text.proofs.Public.{ended, more}
+use Rattle.rv_text.proofs.Public.{ended, more}
 use Rattle.rv_telling.proofs.unmet_line.push_unmet.Goals as goal
 
 pub returns : goal.returns

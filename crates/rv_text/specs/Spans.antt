@@ -1,10 +1,10 @@
 -- Lines that are put together from spans.
 use Rattle.std.specs.Prelude.{ℕ, List}
 use Rattle.std.specs.Fmt.{decimal}
-use Rattle.rv_rows.specs.Report.{word_digits}
-use Rattle.rv_job_text.specs.declared.spans.Span.{Span}
-use Rattle.rv_job_text.specs.declared.spans.Span.TheVariants as span
-use Rattle.rv_job_text.specs.Shown.{shown, shown_value}
+use Rattle.rv_text.specs.Words.{word_digits}
+use Rattle.rv_text.specs.declared.spans.Span.{Span}
+use Rattle.rv_text.specs.declared.spans.Span.TheVariants as span
+use Rattle.rv_text.specs.Shown.{shown, shown_value}
 
 abbrev pub span_text : Span → List ℕ
 span_text (span.Text text) = text.now

@@ -1,8 +1,8 @@
 use Rattle.std.proofs.Common.{◌≡◌, arith, append_assoc, append-nil, length}
 use Rattle.std.proofs.lemmas.Grind.{common_steps}
-use Rattle.rv_job_text.specs.Shown.{behind_front, front_shown, shown_from}
-use Rattle.rv_job_text.proofs.Pieces.{shown-empty, shown-front}
-use Rattle.rv_job_text.proofs.shown.push_shown.Goals as goal
+use Rattle.rv_text.specs.Shown.{behind_front, front_shown, shown_from}
+use Rattle.rv_text.proofs.Pieces.{shown-empty, shown-front}
+use Rattle.rv_text.proofs.shown.push_shown.Goals as goal
 
 pub loop-rest-preserved : goal.loop-rest-preserved
 loop-rest-preserved c =

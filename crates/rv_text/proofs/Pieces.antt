@@ -4,8 +4,8 @@ use Rattle.std.proofs.Common.{arith, ◌==◌, ne_eqb, false, cond}
 use Rattle.std.proofs.lemmas.Bool.{false_from_ne_true, le-ltb, lt-ltb}
 use Rattle.std.proofs.lemmas.Str.{IsUtf8-from_is_utf8}
 use Rattle.std.specs.Str.{IsUtf8, is_utf8}
-use Rattle.rv_job_text.specs.Shown.{behind_front, escape, first_width, front_shown, plain_len}
-use Rattle.rv_job_text.specs.Shown.{shown_from, shown_within}
+use Rattle.rv_text.specs.Shown.{behind_front, escape, first_width, front_shown, plain_len}
+use Rattle.rv_text.specs.Shown.{shown_from, shown_within}
 
 -- what is left of a character goes out as it is
 shown_from-left : (left : ℕ) (text : List ℕ) →

@@ -2,7 +2,7 @@
 
 ghost use Rattle.std.specs.Prelude.{◌≡◌, ◌++◌, OnOk};
 ghost use Rattle.std.specs.Fmt.{decimal};
-ghost use Rattle.rv_rows.specs.Report.{word_digits};
+ghost use Rattle.rv_text.specs.Words.{word_digits};
 
 use itoa::Buffer;
 use std::alloc::AllocError;
@@ -23,7 +23,7 @@ pub fn push_number(bytes: &mut Vec<u8>, number: u64) -> Result<(), AllocError>
 }
 
 /// Appends a word's eight lower-case hexadecimal digits.
-#[tactic(auto, unfolding(rv_rows::specs::Report::word_digits))]
+#[tactic(auto, unfolding(crate::specs::Words::word_digits))]
 pub fn push_word(bytes: &mut Vec<u8>, word: u32) -> Result<(), AllocError>
     ensures { OnOk result (bytes.new.items ≡ bytes.old.items ++ word_digits word) }
 {

@@ -3,7 +3,7 @@
 -- digits.
 use Rattle.std.specs.Prelude.{◌==◌, ◌&&◌, ◌||◌, ◌+◌, ◌-◌, ℕ, zero, suc, Bool, List, [], ◌∷◌, ◌++◌}
 use Rattle.std.specs.Prelude.{if◌then◌else◌, nat_lt, not, codes, drop, length, take, slice_index}
-use Rattle.rv_job_text.specs.declared.shown.TheConstants.{VALUE_ROOM}
+use Rattle.rv_text.specs.declared.shown.TheConstants.{VALUE_ROOM}
 use Rattle.std.specs.Str.{continuation_len, is_utf8}
 use Rattle.hex.specs.Hex.{encode_lower}
 

@@ -1,8 +1,8 @@
 use Rattle.std.proofs.Common.{◌≡◌, ◌-◌, arith, append_assoc, append-nil, length}
 use Rattle.std.proofs.lemmas.Grind.{common_steps}
-use Rattle.rv_job_text.specs.Shown.{behind_front, first_width, front_shown, shown_within}
-use Rattle.rv_job_text.proofs.Pieces.{shown_within-empty, shown_within-front, shown_within-full}
-use Rattle.rv_job_text.proofs.shown.push_shown_value.Goals as goal
+use Rattle.rv_text.specs.Shown.{behind_front, first_width, front_shown, shown_within}
+use Rattle.rv_text.proofs.Pieces.{shown_within-empty, shown_within-front, shown_within-full}
+use Rattle.rv_text.proofs.shown.push_shown_value.Goals as goal
 
 pub returns-then-room-width : goal.returns-then-room-width
 returns-then-room-width c =

@@ -1,6 +1,13 @@
-//! Two texts from where they differ on.
+//! Parts of texts.
 
-ghost use Rattle.std.specs.Prelude.{◌≡◌, drop};
+ghost use Rattle.std.specs.Prelude.{◌≡◌, drop, slice_index};
+
+/// The byte at a place, or 0 behind the end.
+pub(crate) fn byte_at(text: &[u8], place: usize) -> u8
+    ensures { result ≡ slice_index text.now place }
+{
+    if place < text.len() { text[place] } else { 0 }
+}
 
 /// What stands behind the first bytes: nothing where there are no more.
 pub fn behind(text: &[u8], count: usize) -> &[u8]

@@ -1,7 +1,7 @@
 use Rattle.std.proofs.Common.{sym}
 use Rattle.std.proofs.lemmas.Str.{is_utf8-from_IsUtf8}
-use Rattle.rv_job_text.proofs.Pieces.{is_utf8-false}
-use Rattle.rv_job_text.proofs.shown.is_utf8.Goals as goal
+use Rattle.rv_text.proofs.Pieces.{is_utf8-false}
+use Rattle.rv_text.proofs.shown.is_utf8.Goals as goal
 
 pub returns-in-Ok : goal.returns-in-Ok
 returns-in-Ok c = sym (is_utf8-from_IsUtf8 c.args.text.now c.in-Ok.ensures.cases.1)

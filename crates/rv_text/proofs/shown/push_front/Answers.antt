@@ -1,6 +1,6 @@
 use Rattle.std.proofs.Common.{◌≡◌, ◌∙◌, ◌==◌, arith, false, length-drop, ne_eqb, sym}
-use Rattle.rv_job_text.specs.Shown.{plain_len}
-use Rattle.rv_job_text.proofs.shown.push_front.Goals as goal
+use Rattle.rv_text.specs.Shown.{plain_len}
+use Rattle.rv_text.proofs.shown.push_front.Goals as goal
 
 pub returns-then-plain-eq0 : goal.returns-then-plain-eq0
 returns-then-plain-eq0 c =

@@ -1,6 +1,6 @@
-use Rattle.rv_job_text.specs.Spans.{span_text}
-use Rattle.rv_job_text.proofs.Appended.{all_told, one_more}
-use Rattle.rv_job_text.proofs.spans.push_spans.Goals as goal
+use Rattle.rv_text.specs.Spans.{span_text}
+use Rattle.rv_text.proofs.Appended.{all_told, one_more}
+use Rattle.rv_text.proofs.spans.push_spans.Goals as goal
 
 pub loop-span-preserved : goal.loop-span-preserved
 loop-span-preserved c =

@@ -2,11 +2,10 @@
 
 ghost use Rattle.std.specs.Prelude.{◌≡◌, ◌<◌, ◌≤◌, ◌+◌, ◌++◌, IfOk, OnOk, length};
 ghost use Rattle.std.specs.Str.{continuation_len, is_utf8};
-ghost use Rattle.rv_job_text.specs.Shown.{behind_front, escape, first_width, front_of, front_shown, is_control};
-ghost use Rattle.rv_job_text.specs.Shown.{plain_len, shown, shown_value};
+ghost use Rattle.rv_text.specs.Shown.{behind_front, escape, first_width, front_of, front_shown, is_control};
+ghost use Rattle.rv_text.specs.Shown.{plain_len, shown, shown_value};
 
-use crate::slices::byte_at;
-use rv_expect::behind;
+use crate::slices::{behind, byte_at};
 use std::alloc::AllocError;
 
 /// Appends a text as it is shown: characters as they are, and each byte of a control character and of what is no

@@ -2,7 +2,7 @@
 
 ghost use Rattle.std.specs.Prelude.{◌≡◌, ◌++◌, IfOk, OnOk};
 ghost use Rattle.std.specs.List.{flat_map};
-ghost use Rattle.rv_job_text.specs.Spans.{span_text};
+ghost use Rattle.rv_text.specs.Spans.{span_text};
 
 use crate::parts::{push_number, push_text, push_word};
 use crate::shown::{push_shown, push_shown_value};
