@@ -1,2 +1,4 @@
+pub mod Chains
+pub mod Told
 pub mod ConsoleLines
 pub mod Counts

@@ -10,8 +10,8 @@ use Rattle.rv_lists.specs.declared.job.Job.{Job}
 use Rattle.rv_rows.specs.declared.row.Row.{Row}
 use Rattle.rv_rows.specs.Outcome.{refusal_in}
 use Rattle.rv_rows.specs.Rows.{outcome_in}
-use Rattle.rv_telling.specs.declared.verbosity.Verbosity.{Verbosity}
-use Rattle.rv_telling.specs.declared.verbosity.Verbosity.TheVariants.{Quiet, Failures, All}
+use Rattle.rv_job_text.specs.declared.verbosity.Verbosity.{Verbosity}
+use Rattle.rv_job_text.specs.declared.verbosity.Verbosity.TheVariants.{Quiet, Failures, All}
 use Rattle.rvtest_app.specs.declared.stop.Lines.{Lines}
 use Rattle.rvtest_app.specs.declared.stop.Lines.TheVariants as lines
 use Rattle.rvtest_app.specs.declared.stop.Stop.{Stop}
