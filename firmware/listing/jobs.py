@@ -2,7 +2,7 @@
 import os
 
 from .files import WORD, Refused, bytes_of, content_of, number_of, text_of, word_of
-from .found import DEFAULTS, cases_of, not_a_name, NAME
+from .found import DEFAULTS, NAME, cases_of, not_a_name
 from .keys import keys_in, put
 
 ENDS = """budget fetch-access stale-code illegal breakpoint load-misaligned load-access store-misaligned store-access
@@ -82,9 +82,9 @@ def lines_of_job(name, image, keys):
     yield from (text for key, text in keys.items() if key not in ORDER)
 
 
-def arch_job(elves, name, references):
+def arch_job(image, name, references):
     """The lines of the job of one architecture test."""
-    image, reference = os.path.join(elves, f"{name}.elf"), os.path.join(references, f"{name}.reference_output")
+    reference = os.path.join(references, f"{name}.reference_output")
     if not NAME.fullmatch(name):
         raise Refused(not_a_name(name, image))
     if content_of(reference) is None:

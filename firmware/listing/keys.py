@@ -20,8 +20,8 @@ def keys_of(text, path):
     except tomllib.TOMLDecodeError as error:
         raise Refused(f"{path}: is no TOML: {error}") from None
     keys, lines = {}, []
-    for line in text.splitlines():
-        lines.append(line)
+    for line in text.split("\n"):
+        lines.append(line.removesuffix("\r"))
         read = read_part("\n".join(lines))
         if read is None:
             continue
