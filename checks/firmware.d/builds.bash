@@ -81,7 +81,7 @@ int main(void) { return CODE; }'
         git add -A
         git commit -qm "number $at"
     done
-    git bisect start -q HEAD HEAD~5 >/dev/null
+    git bisect start HEAD HEAD~5 >/dev/null
     ends 'git bisect' 0 'is the first bad commit' git bisect run make -f "$kit/Makefile" RVTEST="$top/rvtest" check TESTS=t
     shows 'number 4'
 }

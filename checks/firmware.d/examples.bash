@@ -15,7 +15,8 @@ case_committed_images() {
 case_examples() {
     local jobs
     cd "$kit" || return
-    jobs=$(mklist tests 2>/dev/null | grep -c '^name = ')
+    made list TESTS=tests >out 2>err || fail "the examples do not build: $(<err)"
+    jobs=$(mklist tests | grep -c '^name = ')
     ends 'the examples' 0 "$jobs jobs: $jobs passed, 0 failed" made check TESTS=tests
 }
 

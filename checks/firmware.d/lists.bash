@@ -22,7 +22,7 @@ budget = 6_000'
         fail "the nearest budget is not taken: $(<list.toml)"
     [ "$(grep -c '^expect_e' list.toml)" = 4 ] || fail "a job has two endings, or none: $(<list.toml)"
     put t/defaults.keys <<<'budget = 4'
-    check 'for all of a folder' 2 '4 jobs: 1 passed, 3 failed'
+    check 'for all but where a nearer one is' 2 '4 jobs: 2 passed, 2 failed'
 }
 
 case_cases() {
