@@ -125,8 +125,8 @@ case_one_does_not_compile() {
 }
 
 case_short_lines() {
-    exits t/uart/rx.c 0
-    ends 'a line an image' 0 'CC uart.rx' made list TESTS=t
+    exits t/rx.c 0
+    ends 'a line an image' 0 'CC rx' made list TESTS=t
     hides -march=rv32imc
     rm -r t/build
     ends 'whole lines' 0 -march=rv32imc made list TESTS=t V=1

@@ -90,18 +90,20 @@ case_no_c_library() {
     [ "$(grep -c '^image = ' t/build/t.toml)" -ge 5 ] || fail "tests are missing: $(<t/build/t.toml)"
 }
 
-# The first three commands of the page, but for the installation, for who has a clone alone; then those of a test of one's own.
+# The first three commands of the page, but for the installation, for who has a clone alone; then those of a test of one's own. Each
+# block goes on where the one before it stood.
 case_page() {
-    local block at
-    cp -r "$kit" firmware
-    ln -s "$top/rvtest" rvtest
-    awk '/^    / { if (!within) { block++; within = 1 } print substr($0, 5) >("block" block); next } { within = 0 }' firmware/README.md
+    local at
+    mkdir clone home
+    cp -r "$kit" clone/firmware
+    ln -s "$top/rvtest" clone/rvtest
+    awk '/^    / { if (!within) { block++; within = 1 } print substr($0, 5) >("block" block); next } { within = 0 }' "$kit/README.md"
     sed -i '/^sudo apt-get/d' block1
     [ "$(wc -l <block1)" = 2 ] || fail "the page does not begin with three commands: $(<block1)"
+    echo "$PWD/clone" >where
     for at in 1 2 3; do
-        block=$(<"block$at")
-        block=${block#cd firmware}
-        (cd firmware && bash -c "$block") >"out$at" 2>&1 || echo "status $?" >>"out$at"
+        HOME=$PWD/home bash -c "cd '$(<where)' && $(<"block$at")
+            status=\$?; pwd >'$PWD/where'; exit \$status" >"out$at" 2>&1 || echo "status $?" >>"out$at"
     done
     cat out1 out2 out3
     said 1 ' passed, 0 failed' 0
