@@ -72,7 +72,7 @@ class Facts:
 
     def has_code(self, text):
         """Whether some file of the crates has a text, whatever its spaces are."""
-        return any(collapsed(text) in code for code in self.code)
+        return any(collapsed(text).rstrip(",") in code for code in self.code)
 
     def words_of(self, crate):
         """The words of a crate's sources."""
