@@ -58,9 +58,10 @@ class Facts:
 
     @functools.cached_property
     def vocabulary(self):
-        """Every word of every file that is no page."""
+        """Every word of every file that is no page, and of the files' paths."""
         words = set()
         for path in self.files:
+            words.update(IDENTIFIER.findall(path))
             if not path.endswith((".md", ".elf", ".bin", ".so")):
                 words.update(IDENTIFIER.findall(self.read(path)))
         return words
