@@ -91,6 +91,7 @@ def swept(layers, beside):
         places = {item: place / max(1, len(done[-1]) - 1) for place, item in enumerate(done[-1])}
 
         def middle(item, places=places, layer=layer):
+            """Where the neighbours stand, between 0 and 1; without one, where the item stood."""
             near = [places[other] for other in beside.get(item, []) if other in places]
             return sum(near) / len(near) if near else layer.index(item) / max(1, len(layer) - 1)
 

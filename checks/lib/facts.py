@@ -10,7 +10,7 @@ import subprocess
 IDENTIFIER = re.compile(r"[A-Za-z_][A-Za-z0-9_]*")
 # What a build or a tool leaves.
 PASSED_OVER = {".git", "out", "__pycache__", "target"}
-DEFINES = r"\b(?:fn|struct|enum|trait|type|const|static|mod|record|data|abbrev pub|unfoldable pub)\s+{}\b"
+DEFINES = r"\b(?:fn|struct|enum|trait|type|const|mod) {0}\b"
 
 
 @dataclasses.dataclass
@@ -88,12 +88,10 @@ class Facts:
         return words
 
     def defines(self, crate, name):
-        """Whether a crate's sources define a name: a function, a type, a law or a definition."""
-        pattern = re.compile(DEFINES.format(re.escape(name)))
-        variant = re.compile(rf"^\s+{re.escape(name)}(?:\(|,| \{{)", re.MULTILINE)
-        return any(
-            pattern.search(text) or variant.search(text) for path, text in self.sources.items() if path.startswith(f"crates/{crate}/")
-        )
+        """Whether a crate's code defines a name: a function, a type, a constant, a module, or a variant of a type."""
+        pattern = DEFINES if name[0].islower() else rf"{DEFINES}|^\s+{{0}}(?:\(|,| \{{{{)"
+        found = re.compile(pattern.format(re.escape(name)), re.MULTILINE)
+        return any(found.search(text) for path, text in self.sources.items() if path.startswith(f"crates/{crate}/src/"))
 
     def exists(self, path, folders):
         """Whether a path, which may have stars, is there from the top or from one of some folders."""

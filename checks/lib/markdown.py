@@ -123,10 +123,12 @@ def sentences_in(text):
     codes = []
 
     def hide(found):
+        """A mark in the place of code."""
         codes.append(found[1])
         return f"\u0000{len(codes) - 1}\u0000"
 
     def show(sentence):
+        """The sentence with its code."""
         return re.sub("\u0000(\\d+)\u0000", lambda found: codes[int(found[1])], sentence)
 
     hidden = CODE.sub(hide, " ".join(shown(text).split()))
