@@ -88,9 +88,8 @@ class Facts:
         return words
 
     def defines(self, crate, name):
-        """Whether a crate's code defines a name: a function, a type, a constant, a module, or a variant of a type."""
-        pattern = DEFINES if name[0].islower() else rf"{DEFINES}|^\s+{{0}}(?:\(|,| \{{{{)"
-        found = re.compile(pattern.format(re.escape(name)), re.MULTILINE)
+        """Whether a crate's code defines a name: a function, a type, a constant or a module."""
+        found = re.compile(DEFINES.format(re.escape(name)))
         return any(found.search(text) for path, text in self.sources.items() if path.startswith(f"crates/{crate}/src/"))
 
     def exists(self, path, folders):
