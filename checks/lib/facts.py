@@ -96,18 +96,35 @@ class Facts:
         """Whether a path, which may have stars, is there from the top or from one of some folders."""
         return any(glob.glob(str(self.top / folder / path), include_hidden=True) for folder in ("", *folders))
 
+    @functools.cached_property
     def counts(self):
         """The numbers that a page may state of the repository, by their names."""
         names = list(self.crates)
-        tests = sum(text.count("#[test]") for text in self.sources.values())
+        tables = [path for path in self.files if re.fullmatch(r"checks/tables/\w+\.txt", path)]
+        commands = re.search(r"const COMMANDS: \[\w+[^;]*; (\d+)\]", self.sources.get("crates/rv_cli/src/rvtest/table.rt", ""))
         return {
             "crates": len(names),
             "program-crates": names.index("samples"),
             "externals": len(self.externals),
             "edits": sum(1 for path in self.files if re.fullmatch(r"crates/\w+/must-fail/\w+\.edit", path)),
-            "tests": tests,
-            "tables": sum(1 for path in self.files if path.startswith("checks/tables/")),
+            "tests": sum(text.count("#[test]") for text in self.sources.values()),
+            "tables": len(tables),
+            "rows": sum(rows_in(self.read(path)) for path in tables),
+            "commands": int(commands[1]) if commands else 0,
         }
+
+
+def rows_in(table):
+    """How many rows a file of tables has: lines between a line of dashes and an empty one, without those that go on with a row."""
+    rows, is_row = 0, False
+    for line in table.split("\n"):
+        if re.fullmatch(r"-{3,}", line):
+            is_row = True
+        elif not line:
+            is_row = False
+        elif is_row and not line.startswith("    "):
+            rows += 1
+    return rows
 
 
 def collapsed(text):
