@@ -7,7 +7,7 @@ import re
 CODE = re.compile(r"`([^`]+)`")
 LINK = re.compile(r"\[([^\]]*)\]\(([^()\s]+)\)")
 COMMENT = re.compile(r"<!--.*?-->", re.DOTALL)
-ITEM = re.compile(r"\s*(?:[-*]|\d+\.) ")
+ITEM = re.compile(r"^\s*(?:[-*]|\d+\.) ")
 WORD = re.compile(r"\S*\w\S*")
 # A sentence ends before what begins another one: a capital, a digit, a quotation, code or emphasis.
 END = re.compile(r"(?<=[.!?])[)\"*]*\s+(?=[A-Z0-9\"(*\[\u0000])")
@@ -131,7 +131,7 @@ def sentences_in(text):
         """The sentence with its code."""
         return re.sub("\u0000(\\d+)\u0000", lambda found: codes[int(found[1])], sentence)
 
-    hidden = CODE.sub(hide, " ".join(shown(text).split()))
+    hidden = CODE.sub(hide, " ".join(shown(ITEM.sub("", text, count=1)).split()))
     sentences = [WORD.findall(show(sentence)) for sentence in END.split(hidden)]
     return [sentence for sentence in sentences if sentence]
 
