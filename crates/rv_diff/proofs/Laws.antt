@@ -7,6 +7,7 @@ use Rattle.std.proofs.lemmas.List.Sums.{sum_by-cons}
 use Rattle.rv_rows.specs.declared.row.Row.{Row}
 use Rattle.rv_rows.specs.Report.{line}
 use Rattle.rv_rows.specs.Verdict.{same_signature}
+use Rattle.rv_diff.specs.declared.change.Compare.{Compare}
 use Rattle.rv_diff.specs.Change.{rows_agree, same_console, same_ending, same_steps, same_verdict}
 use Rattle.rv_diff.specs.ByName.{row_named}
 use Rattle.rv_diff.specs.Diff.{difference_lines, differing, differing_count, gone_line, is_changed, lines_of_new}
@@ -25,13 +26,13 @@ change_due : (name : List ℕ) (same : Bool) (words : List ℕ) → (length (cha
 change_due name true words = refl
 change_due name false words = ne_eqb (length (line (change_begin name ++ words))) 0 (omega arith)
 
-pub agree_where_none : (steps : Bool) (old new : Row) →
-    (length (change_lines steps old new) == 0) ≡ rows_agree steps old new
+pub agree_where_none : (compare : Compare) (old new : Row) →
+    (length (change_lines compare old new) == 0) ≡ rows_agree compare old new
 unfolding change_lines rows_agree
-agree_where_none steps old new =
-    let ending = change_line new.name (same_ending steps old.ending new.ending)
+agree_where_none compare old new =
+    let ending = change_line new.name (same_ending compare old.ending new.ending)
     (becomes (ending_words old.ending) (ending_words new.ending)) in
-    let counts = change_line new.name (same_steps steps old new) (steps_words old.steps new.steps) in
+    let counts = change_line new.name (same_steps compare old new) (steps_words old.steps new.steps) in
     let console = change_line new.name (same_console old new) (console_words old.console new.console) in
     let signature = change_line new.name (same_signature old.signature new.signature)
     (signature_words old.signature new.signature) in
@@ -41,9 +42,9 @@ agree_where_none steps old new =
     ∙ ap (λ b. b && (length verdict == 0)) (no_text (ending ++ counts ++ console) signature
     ∙ ap (λ b. b && (length signature == 0)) (no_text (ending ++ counts) console
     ∙ ap (λ b. b && (length console == 0)) (no_text ending counts)))
-    ∙ (λ i. change_due new.name (same_ending steps old.ending new.ending)
+    ∙ (λ i. change_due new.name (same_ending compare old.ending new.ending)
     (becomes (ending_words old.ending) (ending_words new.ending)) i
-    && change_due new.name (same_steps steps old new) (steps_words old.steps new.steps) i
+    && change_due new.name (same_steps compare old new) (steps_words old.steps new.steps) i
     && change_due new.name (same_console old new) (console_words old.console new.console) i
     && change_due new.name (same_signature old.signature new.signature)
     (signature_words old.signature new.signature) i
@@ -76,23 +77,23 @@ changed_due : (agree : Bool) → agree ≡ (0 + cond (not agree) 1 0 == 0)
 changed_due true = refl
 changed_due false = refl
 
-new_due : (steps : Bool) (other : Option Row) (row : Row) →
-    (length (lines_of_new steps other row) == 0)
-    ≡ (cond (is_none other) 1 0 + cond (is_changed steps other row) 1 0 == 0)
-new_due steps None row = ne_eqb (length (lines_of_new steps None row)) 0 (omega arith)
-new_due steps (Some old) row = agree_where_none steps old row ∙ changed_due (rows_agree steps old row)
+new_due : (compare : Compare) (other : Option Row) (row : Row) →
+    (length (lines_of_new compare other row) == 0)
+    ≡ (cond (is_none other) 1 0 + cond (is_changed compare other row) 1 0 == 0)
+new_due compare None row = ne_eqb (length (lines_of_new compare None row)) 0 (omega arith)
+new_due compare (Some old) row = agree_where_none compare old row ∙ changed_due (rows_agree compare old row)
 
-pub differ_where_due : (steps : Bool) (old new : List Row) →
-    (length (difference_lines steps old new) == 0) ≡ (differing_count (differing steps old new) == 0)
-differ_where_due steps old new =
+pub differ_where_due : (compare : Compare) (old new : List Row) →
+    (length (difference_lines compare old new) == 0) ≡ (differing_count (differing compare old new) == 0)
+differ_where_due compare old new =
     let gone : Row → ℕ = λ row. cond (is_none (row_named new row.name)) 1 0 in
     let added : Row → ℕ = λ row. cond (is_none (row_named old row.name)) 1 0 in
-    let changed : Row → ℕ = λ row. cond (is_changed steps (row_named old row.name) row) 1 0 in
+    let changed : Row → ℕ = λ row. cond (is_changed compare (row_named old row.name) row) 1 0 in
     no_text (flat_map (λ row. gone_line (row_named new row.name) row) old)
-    (flat_map (λ row. lines_of_new steps (row_named old row.name) row) new)
+    (flat_map (λ row. lines_of_new compare (row_named old row.name) row) new)
     ∙ (λ i. none_of_all (λ row. gone_line (row_named new row.name) row) gone
     (λ row. gone_due (row_named new row.name) row) old i
-    && none_of_all (λ row. lines_of_new steps (row_named old row.name) row) (λ row. added row + changed row)
-    (λ row. new_due steps (row_named old row.name) row) new i)
+    && none_of_all (λ row. lines_of_new compare (row_named old row.name) row) (λ row. added row + changed row)
+    (λ row. new_due compare (row_named old row.name) row) new i)
     ∙ sym (none_of_two (sum_by gone old) (sum_by (λ row. added row + changed row) new))
     ∙ ap (λ n. n == 0) (omega (arith, sum_of_two added changed new))

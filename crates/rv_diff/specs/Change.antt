@@ -1,5 +1,5 @@
 -- Whether two rows of one name agree, and what became of a job from one report to another.
-use Rattle.std.specs.Prelude.{◌==◌, ◌&&◌, ◌||◌, Bool, true, not, Option, Some, None, if◌then◌else◌}
+use Rattle.std.specs.Prelude.{◌==◌, ◌&&◌, Bool, true, Option, Some, None, if◌then◌else◌}
 use Rattle.std.specs.Str.{bytes_eq}
 use Rattle.rv_rows.specs.declared.row.Row.{Row}
 use Rattle.rv_rows.specs.declared.row.RowEnd.{RowEnd}
@@ -8,6 +8,8 @@ use Rattle.rv_rows.specs.declared.row.Verdict.{Verdict}
 use Rattle.rv_rows.specs.Report.{refusal_name, verdict_name}
 use Rattle.rv_rows.specs.Verdict.{are_alike, same_signature}
 use Rattle.rv_diff.specs.declared.change.Change.{Change}
+use Rattle.rv_diff.specs.declared.change.Compare.{Compare}
+use Rattle.rv_diff.specs.declared.change.Compare.TheVariants.{Outcomes, Steps}
 use Rattle.rv_diff.specs.declared.change.Change.TheVariants.{Gone, Added, Changed, Same}
 
 -- ---- which rows differ
@@ -25,11 +27,13 @@ same_place (ending.Fault kind pc value) (ending.Fault other at met) = pc == at &
 same_place old new = true
 
 -- where steps are not compared, nor are the addresses and the values of faults
-abbrev pub same_ending : Bool → RowEnd → RowEnd → Bool
-same_ending steps old new = same_kind old new && (not steps || same_place old new)
+abbrev pub same_ending : Compare → RowEnd → RowEnd → Bool
+same_ending Outcomes old new = same_kind old new
+same_ending Steps old new = same_kind old new && same_place old new
 
-abbrev pub same_steps : Bool → Row → Row → Bool
-same_steps steps old new = not steps || old.steps == new.steps
+abbrev pub same_steps : Compare → Row → Row → Bool
+same_steps Outcomes old new = true
+same_steps Steps old new = old.steps == new.steps
 
 abbrev pub same_console : Row → Row → Bool
 same_console old new = bytes_eq old.console new.console
@@ -38,16 +42,16 @@ abbrev pub same_verdict : Verdict → Verdict → Bool
 same_verdict old new = bytes_eq (verdict_name old) (verdict_name new)
 
 -- two rows agree, by all that is compared
-unfoldable pub rows_agree : Bool → Row → Row → Bool
-rows_agree steps old new = same_ending steps old.ending new.ending && same_steps steps old new
+unfoldable pub rows_agree : Compare → Row → Row → Bool
+rows_agree compare old new = same_ending compare old.ending new.ending && same_steps compare old new
     && same_console old new && same_signature old.signature new.signature
     && same_verdict old.verdict new.verdict
 
 -- ---- what became of a job
 
 -- by its row in the old report and in the new one
-abbrev pub change_of : Bool → Option Row → Option Row → Change
-change_of steps None None = Same
-change_of steps None (Some new) = Added
-change_of steps (Some old) None = Gone
-change_of steps (Some old) (Some new) = if rows_agree steps old new then Same else Changed
+abbrev pub change_of : Compare → Option Row → Option Row → Change
+change_of compare None None = Same
+change_of compare None (Some new) = Added
+change_of compare (Some old) None = Gone
+change_of compare (Some old) (Some new) = if rows_agree compare old new then Same else Changed

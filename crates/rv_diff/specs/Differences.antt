@@ -12,6 +12,7 @@ use Rattle.rv_rows.specs.declared.row.Verdict.{Verdict}
 use Rattle.rv_rows.specs.Report.{line, refusal_name, verdict_name}
 use Rattle.rv_text.specs.Words.{word_digits}
 use Rattle.rv_rows.specs.Verdict.{same_signature}
+use Rattle.rv_diff.specs.declared.change.Compare.{Compare}
 use Rattle.rv_diff.specs.Change.{same_console, same_ending, same_steps, same_verdict}
 
 -- ---- what changed
@@ -85,11 +86,11 @@ abbrev pub change_line : List ℕ → Bool → List ℕ → List ℕ
 change_line name same words = if same then [] else line (change_begin name ++ words)
 
 -- for each part that differs: the ending, the steps, the console, the signature, the verdict
-unfoldable pub change_lines : Bool → Row → Row → List ℕ
-change_lines steps old new =
-    change_line new.name (same_ending steps old.ending new.ending)
+unfoldable pub change_lines : Compare → Row → Row → List ℕ
+change_lines compare old new =
+    change_line new.name (same_ending compare old.ending new.ending)
     (becomes (ending_words old.ending) (ending_words new.ending))
-    ++ change_line new.name (same_steps steps old new) (steps_words old.steps new.steps)
+    ++ change_line new.name (same_steps compare old new) (steps_words old.steps new.steps)
     ++ change_line new.name (same_console old new) (console_words old.console new.console)
     ++ change_line new.name (same_signature old.signature new.signature)
     (signature_words old.signature new.signature)

@@ -21,28 +21,35 @@ pub enum Change {
     Same,
 }
 
-/// What became of a job, by its rows in two reports. Steps, and the addresses and values of faults, are compared where
-/// this is asked for.
-pub fn change_of(steps: bool, old: Option<&Row>, new: Option<&Row>) -> Change
-    ensures { result ≡ change_of steps (option_map (λ row. row.now) old.entry)
+/// What two rows of a job are compared by.
+#[derive(Clone, Copy)]
+pub enum Compare {
+    /// How they ended, their consoles, signatures and verdicts.
+    Outcomes,
+    /// Steps as well, and the addresses and values of faults.
+    Steps,
+}
+
+/// What became of a job, by its rows in two reports.
+pub fn change_of(compare: Compare, old: Option<&Row>, new: Option<&Row>) -> Change
+    ensures { result ≡ change_of compare (option_map (λ row. row.now) old.entry)
         (option_map (λ row. row.now) new.entry) }
 {
     match (old, new) {
         (Some(_), None) => Change::Gone,
         (None, Some(_)) => Change::Added,
-        (Some(old), Some(new)) if !rows_agree(steps, old, new) => Change::Changed,
+        (Some(old), Some(new)) if !rows_agree(compare, old, new) => Change::Changed,
         _ => Change::Same,
     }
 }
 
-// Whether two rows agree: in how they ended, in their consoles, their signatures and their verdicts, and where steps are
-// compared in these and in the addresses and the values of faults.
+// Whether two rows agree by all that is compared.
 #[tactic(auto, unfolding(crate::specs::Change::rows_agree))]
-fn rows_agree(steps: bool, old: &Row, new: &Row) -> bool
-    ensures { result ≡ rows_agree steps old.now new.now }
+fn rows_agree(compare: Compare, old: &Row, new: &Row) -> bool
+    ensures { result ≡ rows_agree compare old.now new.now }
 {
-    same_ending(steps, old.ending, new.ending)
-        && same_steps(steps, old, new)
+    same_ending(compare, old.ending, new.ending)
+        && same_steps(compare, old, new)
         && same_console(old, new)
         && same_signature(&old.signature, &new.signature)
         && same_verdict(old.verdict, new.verdict)
@@ -50,10 +57,13 @@ fn rows_agree(steps: bool, old: &Row, new: &Row) -> bool
 
 /// Whether two rows ended the same way: by the same code, the same kind of fault, their budgets, or the same refusal; and
 /// where steps are compared, a fault with the same address and value.
-pub fn same_ending(steps: bool, old: RowEnd, new: RowEnd) -> bool
-    ensures { result ≡ same_ending steps old new }
+pub fn same_ending(compare: Compare, old: RowEnd, new: RowEnd) -> bool
+    ensures { result ≡ same_ending compare old new }
 {
-    same_kind(old, new) && (!steps || same_place(old, new))
+    match compare {
+        Compare::Outcomes => same_kind(old, new),
+        Compare::Steps => same_kind(old, new) && same_place(old, new),
+    }
 }
 
 fn same_kind(old: RowEnd, new: RowEnd) -> bool
@@ -75,10 +85,13 @@ fn same_place(old: RowEnd, new: RowEnd) -> bool
 }
 
 /// Whether two rows have the same steps, where these are compared.
-pub fn same_steps(steps: bool, old: &Row, new: &Row) -> bool
-    ensures { result ≡ same_steps steps old.now new.now }
+pub fn same_steps(compare: Compare, old: &Row, new: &Row) -> bool
+    ensures { result ≡ same_steps compare old.now new.now }
 {
-    !steps || old.steps == new.steps
+    match compare {
+        Compare::Outcomes => true,
+        Compare::Steps => old.steps == new.steps,
+    }
 }
 
 /// Whether two rows have the same console.

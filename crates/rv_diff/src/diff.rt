@@ -8,7 +8,7 @@ ghost use Rattle.rv_diff.specs.Diff.{count_line, diff_text, differing, differing
 ghost use Rattle.rv_diff.specs.Diff.{is_changed, lines_of_new};
 
 use crate::by_name::ByName;
-use crate::change::{Change, change_of};
+use crate::change::{Change, Compare, change_of};
 use crate::differences::push_change_lines;
 use rv_rows::Row;
 use rv_text::{Span, push_spans};
@@ -36,24 +36,23 @@ impl Differing {
 
 /// Appends in what the rows of two reports differ: `- NAME` for a job that only the old one has, in its order, then in the
 /// order of the new one `+ NAME` for a job that only that has, and `! NAME: ` and what changed for one whose rows do not
-/// agree; and last how many jobs differ. Steps, and the addresses and values of faults, are compared where this is asked
-/// for. Of rows of one name the first counts; the reports that can be read have none.
+/// agree; and last how many jobs differ. Of rows of one name the first counts; the reports that can be read have none.
 #[tactic(auto, unfolding(crate::specs::Diff::diff_text))]
 pub fn push_diff(
     alloc: Global,
     text: &mut Vec<u8>,
-    steps: bool,
+    compare: Compare,
     old: &[Row],
     new: &[Row],
 ) -> Result<Differing, AllocError>
     requires old { length old.now < 2 ^ 32 }
     requires new { length new.now < 2 ^ 32 }
     ensures text { OnOk result
-        (text.new.items ≡ text.old.items ++ diff_text steps old.now new.now) }
-    ensures counts { IfOk result (λ counts. counts ≡ differing steps old.now new.now) }
+        (text.new.items ≡ text.old.items ++ diff_text compare old.now new.now) }
+    ensures counts { IfOk result (λ counts. counts ≡ differing compare old.now new.now) }
 {
-    let gone = push_gone(alloc, text, steps, old, new)?;
-    let (added, changed) = push_new(alloc, text, steps, old, new)?;
+    let gone = push_gone(alloc, text, compare, old, new)?;
+    let (added, changed) = push_new(alloc, text, compare, old, new)?;
     let counts = Differing {
         gone,
         added,
@@ -67,7 +66,7 @@ pub fn push_diff(
 fn push_gone(
     alloc: Global,
     text: &mut Vec<u8>,
-    steps: bool,
+    compare: Compare,
     old: &[Row],
     new: &[Row],
 ) -> Result<usize, AllocError>
@@ -79,7 +78,7 @@ fn push_gone(
     let after = ByName::new(alloc, new)?;
     let mut gone = 0;
     for row in old {
-        if let Change::Gone = change_of(steps, Some(row), after.find(row.name.as_str())) {
+        if let Change::Gone = change_of(compare, Some(row), after.find(row.name.as_str())) {
             push_sign(text, "- ", row)?;
             gone += 1;
         }
@@ -91,15 +90,15 @@ fn push_gone(
 fn push_new(
     alloc: Global,
     text: &mut Vec<u8>,
-    steps: bool,
+    compare: Compare,
     old: &[Row],
     new: &[Row],
 ) -> Result<(usize, usize), AllocError>
     ensures text { OnOk result (text.new.items ≡ text.old.items
-        ++ flat_map (λ row. lines_of_new steps (row_named old.now row.name) row) new.now) }
+        ++ flat_map (λ row. lines_of_new compare (row_named old.now row.name) row) new.now) }
     ensures added { IfOk result (λ counts. counts.0 ≡ count_by (is_alone_in old.now) new.now) }
     ensures changed { IfOk result (λ counts. counts.1
-        ≡ count_by (λ row. is_changed steps (row_named old.now row.name) row) new.now) }
+        ≡ count_by (λ row. is_changed compare (row_named old.now row.name) row) new.now) }
     ensures within { IfOk result (λ counts. counts.0 + counts.1 ≤ length new.now) }
 {
     let before = ByName::new(alloc, old)?;
@@ -107,8 +106,8 @@ fn push_new(
     let mut changed = 0;
     for row in new {
         let other = before.find(row.name.as_str());
-        push_lines_of_new(text, steps, other, row)?;
-        match change_of(steps, other, Some(row)) {
+        push_lines_of_new(text, compare, other, row)?;
+        match change_of(compare, other, Some(row)) {
             Change::Added => added += 1,
             Change::Changed => changed += 1,
             _ => {}
@@ -119,15 +118,15 @@ fn push_new(
 
 fn push_lines_of_new(
     text: &mut Vec<u8>,
-    steps: bool,
+    compare: Compare,
     old: Option<&Row>,
     new: &Row,
 ) -> Result<(), AllocError>
     ensures { OnOk result (text.new.items ≡ text.old.items
-        ++ lines_of_new steps (option_map (λ row. row.now) old.entry) new.now) }
+        ++ lines_of_new compare (option_map (λ row. row.now) old.entry) new.now) }
 {
     match old {
-        Some(old) => push_change_lines(text, steps, old, new),
+        Some(old) => push_change_lines(text, compare, old, new),
         None => push_sign(text, "+ ", new),
     }
 }

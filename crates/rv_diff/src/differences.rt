@@ -5,7 +5,7 @@ ghost use Rattle.rv_diff.specs.Change.{same_console, same_ending, same_steps, sa
 ghost use Rattle.rv_diff.specs.Differences.{becomes, change_line, change_lines, console_words};
 ghost use Rattle.rv_diff.specs.Differences.{ending_words, first_place, steps_words, verdict_words};
 
-use crate::change::{same_console, same_ending, same_steps, same_verdict, verdict_text};
+use crate::change::{Compare, same_console, same_ending, same_steps, same_verdict, verdict_text};
 use crate::signature_line::push_signature_change;
 use rv_rows::{Row, RowEnd};
 use rv_text::{Span, behind, push_spans};
@@ -15,15 +15,15 @@ use std::alloc::AllocError;
 #[tactic(auto, unfolding(crate::specs::Differences::change_lines))]
 pub(crate) fn push_change_lines(
     text: &mut Vec<u8>,
-    steps: bool,
+    compare: Compare,
     old: &Row,
     new: &Row,
 ) -> Result<(), AllocError>
     ensures { OnOk result (text.new.items
-        ≡ text.old.items ++ change_lines steps old.now new.now) }
+        ≡ text.old.items ++ change_lines compare old.now new.now) }
 {
-    push_ending_change(text, steps, old, new)?;
-    push_steps_change(text, steps, old, new)?;
+    push_ending_change(text, compare, old, new)?;
+    push_steps_change(text, compare, old, new)?;
     push_console_change(text, old, new)?;
     push_signature_change(text, old, new)?;
     push_verdict_change(text, old, new)
@@ -31,15 +31,15 @@ pub(crate) fn push_change_lines(
 
 fn push_ending_change(
     text: &mut Vec<u8>,
-    steps: bool,
+    compare: Compare,
     old: &Row,
     new: &Row,
 ) -> Result<(), AllocError>
     ensures { OnOk result (text.new.items ≡ text.old.items
-        ++ change_line new.now.name (same_ending steps old.now.ending new.now.ending)
+        ++ change_line new.now.name (same_ending compare old.now.ending new.now.ending)
         (becomes (ending_words old.now.ending) (ending_words new.now.ending))) }
 {
-    if same_ending(steps, old.ending, new.ending) {
+    if same_ending(compare, old.ending, new.ending) {
         return Ok(());
     }
     push_spans(
@@ -95,15 +95,15 @@ fn push_ending<'a>(text: &mut Vec<u8>, ending: RowEnd, end: &'a str) -> Result<(
 
 fn push_steps_change(
     text: &mut Vec<u8>,
-    steps: bool,
+    compare: Compare,
     old: &Row,
     new: &Row,
 ) -> Result<(), AllocError>
     ensures { OnOk result (text.new.items ≡ text.old.items
-        ++ change_line new.now.name (same_steps steps old.now new.now)
+        ++ change_line new.now.name (same_steps compare old.now new.now)
         (steps_words old.now.steps new.now.steps)) }
 {
-    if same_steps(steps, old, new) {
+    if same_steps(compare, old, new) {
         return Ok(());
     }
     let before = old.steps;

@@ -15,6 +15,8 @@ use Rattle.rv_job_text.specs.UnmetLines.{Comparison, unmet_lines}
 use Rattle.rv_rows.specs.declared.row.Row.{Row}
 use Rattle.rv_rows.specs.Rows.{bytes_in, console_in, reference_in}
 use Rattle.rv_rows.specs.Verdict.{is_run}
+use Rattle.rv_job_text.specs.declared.verbosity.Detail.{Detail}
+use Rattle.rv_job_text.specs.declared.verbosity.Detail.TheVariants as detail
 use Rattle.rv_job_text.specs.declared.verbosity.Verbosity.{Verbosity}
 use Rattle.rv_job_text.specs.declared.verbosity.Verbosity.TheVariants.{Quiet, Failures, All}
 use Rattle.rv_job_text.specs.Files.{signature_begin, fault_symbol}
@@ -53,19 +55,19 @@ way_if_asked plan job row None = []
 way_if_asked plan job row (Some last) = way_lines plan job row last
 
 -- the expectations that a run does not meet, and behind them, where all are told, those that it does
-abbrev pub compared_lines : Bool → Comparison → List Unmet → List ℕ
-compared_lines all sides unmet =
-    unmet_lines sides unmet ++ (if all then met_lines sides unmet else [])
+abbrev pub compared_lines : Detail → Comparison → List Unmet → List ℕ
+compared_lines detail.Unmet sides unmet = unmet_lines sides unmet
+compared_lines detail.All sides unmet = unmet_lines sides unmet ++ met_lines sides unmet
 
-abbrev pub expectation_lines : Bool → Planned → Job → Row → List ℕ
-expectation_lines all plan job row =
-    compared_lines all (comparison_in plan job row) (unmet_in plan job row)
+abbrev pub expectation_lines : Detail → Planned → Job → Row → List ℕ
+expectation_lines which plan job row =
+    compared_lines which (comparison_in plan job row) (unmet_in plan job row)
 
 -- the expectations that a run does not meet, the end of its console, and how it came to its end where
 -- that is asked for
 unfoldable pub run_lines : Planned → Job → Row → Option ℕ → List ℕ
 run_lines plan job row last =
-    expectation_lines false plan job row ++ (console_tail row.console
+    expectation_lines detail.Unmet plan job row ++ (console_tail row.console
     ++ way_if_asked plan job row last)
 
 -- what stands behind the line of a row that fails: nothing where the job did not run
@@ -103,7 +105,7 @@ told_at plan unread rule verbosity last place row =
 -- every expectation, and how the run came to its end
 unfoldable pub explained_run : Planned → Job → Row → ℕ → List ℕ
 explained_run plan job row last =
-    expectation_lines true plan job row ++ way_lines plan job row last
+    expectation_lines detail.All plan job row ++ way_lines plan job row last
 
 abbrev pub explained_if_run : Planned → Job → Row → ℕ → List ℕ
 explained_if_run plan job row last =

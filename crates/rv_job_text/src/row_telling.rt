@@ -13,7 +13,7 @@ use crate::met_line::push_all_met;
 use crate::reasons::reason_of;
 use crate::result_line::push_result;
 use crate::unmet_line::{Sides, push_all_unmet};
-use crate::verbosity::{Verbosity, is_told};
+use crate::verbosity::{Detail, Verbosity, is_told};
 use crate::way_to_end::push_way;
 use rv_expect::{Rule, Unmet, has_passed, named_row, unmet_expectations};
 use rv_files::Unread;
@@ -102,7 +102,7 @@ impl<'a> RowTelling<'a> {
         if !is_run(row.ending) {
             return Ok(());
         }
-        push_expectations(alloc, self.plan, place, row, true, text)?;
+        push_expectations(alloc, self.plan, place, row, Detail::All, text)?;
         push_way(alloc, self.plan, place, row, last, text)
     }
 }
@@ -151,7 +151,7 @@ fn push_run(
     ensures { OnOk result ((d : AJob) → text.new.items ≡ text.old.items
         ++ run_lines plan.now (slice_index_or plan.now.jobs place d) row.now last) }
 {
-    push_expectations(alloc, plan, place, row, false, text)?;
+    push_expectations(alloc, plan, place, row, Detail::Unmet, text)?;
     push_console_tail(text, row.console.as_slice())?;
     match last {
         Some(last) => push_way(alloc, plan, place, row, last, text),
@@ -159,21 +159,21 @@ fn push_run(
     }
 }
 
-// Appends the expectations that a run doesn't meet, and behind them, where all are told, those that it does.
+// Appends the expectations that are told of a run.
 fn push_expectations(
     alloc: Global,
     plan: &Plan,
     place: usize,
     row: &Row,
-    all: bool,
+    detail: Detail,
     text: &mut Vec<u8>,
 ) -> Result<(), AllocError>
     requires { place < length plan.now.jobs }
     ensures { OnOk result ((d : AJob) → text.new.items ≡ text.old.items
-        ++ expectation_lines all plan.now (slice_index_or plan.now.jobs place d) row.now) }
+        ++ expectation_lines detail plan.now (slice_index_or plan.now.jobs place d) row.now) }
 {
     let named = named_row(alloc, plan, plan.job(place))?;
-    push_compared(alloc, plan, place, row, named.as_ref(), all, text)
+    push_compared(alloc, plan, place, row, named.as_ref(), detail, text)
 }
 
 // The same, beside the row of the named job.
@@ -184,14 +184,14 @@ fn push_compared<'x>(
     place: usize,
     row: &'x Row,
     other: Option<&'x Row>,
-    all: bool,
+    detail: Detail,
     text: &mut Vec<u8>,
 ) -> Result<(), AllocError>
     requires within { place < length plan.now.jobs }
     requires named { (d : AJob) → option_map (λ row. row.now) other
         ≡ named_row plan.now (slice_index_or plan.now.jobs place d) }
     ensures { OnOk result ((d : AJob) → text.new.items ≡ text.old.items
-        ++ expectation_lines all plan.now (slice_index_or plan.now.jobs place d) row.now) }
+        ++ expectation_lines detail plan.now (slice_index_or plan.now.jobs place d) row.now) }
 {
     let job = plan.job(place);
     let console = console_bytes(plan, place);
@@ -206,21 +206,21 @@ fn push_compared<'x>(
         other,
         address,
     };
-    push_sides(&sides, unmet.as_slice(), all, text)
+    push_sides(&sides, unmet.as_slice(), detail, text)
 }
 
 fn push_sides(
     sides: &Sides<'_>,
     unmet: &[Unmet],
-    all: bool,
+    detail: Detail,
     text: &mut Vec<u8>,
 ) -> Result<(), AllocError>
     ensures { OnOk result (text.new.items ≡ text.old.items
-        ++ compared_lines all (comparison_of sides.now) unmet.now) }
+        ++ compared_lines detail (comparison_of sides.now) unmet.now) }
 {
     push_all_unmet(text, sides, unmet)?;
-    if all {
-        return push_all_met(text, sides, unmet);
+    match detail {
+        Detail::Unmet => Ok(()),
+        Detail::All => push_all_met(text, sides, unmet),
     }
-    Ok(())
 }

@@ -14,6 +14,15 @@ pub enum Verbosity {
     All,
 }
 
+/// Which expectations of a job are told.
+#[derive(Clone, Copy)]
+pub(crate) enum Detail {
+    /// Those that its run does not meet.
+    Unmet,
+    /// Behind them those that it meets, too.
+    All,
+}
+
 /// Whether anything is told of a job that passed, or failed.
 pub(crate) fn is_told(verbosity: Verbosity, passed: bool) -> bool
     ensures { result ≡ is_told verbosity passed }

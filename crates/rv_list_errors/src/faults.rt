@@ -4,6 +4,7 @@ ghost use Rattle.std.specs.Prelude.{OnOk, length};
 ghost use Rattle.rv_list_errors.specs.Lines.{PutsLines};
 
 use crate::list::List;
+use crate::names::Suggestion;
 use crate::texts::{Look, message_of};
 use rv_lists::JobError;
 use rv_text::{Span, push_spans};
@@ -60,8 +61,17 @@ fn push_each(
     ensures { OnOk result (PutsLines (length faults.now) bytes.old.items bytes.new.items) }
 {
     for (at, fault) in faults.iter().enumerate() {
-        let message = message_of(alloc, file, look, *fault, at < NEAR_TOLD)?;
+        let message = message_of(alloc, file, look, *fault, suggestion_at(at))?;
         push_spans(bytes, &[Span::Shown(message.as_slice()), Span::Text("\n")])?;
     }
     Ok(())
+}
+
+// What is told beside a name that no job has, in the fault at a place.
+fn suggestion_at(place: usize) -> Suggestion {
+    if place < NEAR_TOLD {
+        Suggestion::Nearest
+    } else {
+        Suggestion::Nothing
+    }
 }

@@ -5,7 +5,7 @@ use crate::keys::push_unknown_key;
 use crate::kinds::push_wrong_kind;
 use crate::list::List;
 use crate::message::Message;
-use crate::names::{push_owner, push_same_as};
+use crate::names::{Suggestion, push_owner, push_same_as};
 use crate::regions::push_region;
 use crate::values::text_of;
 use crate::wanted::{
@@ -14,18 +14,18 @@ use crate::wanted::{
 use rv_lists::What;
 use toml::{Table, Value};
 
-/// Appends a fault of the job at a place. `is_near_told` asks for the nearest name of a job where that may be meant.
+/// Appends a fault of the job at a place. The nearest name of a job is told where it may be meant and is asked for.
 pub(crate) fn push_job_fault(
     message: &mut Message,
     list: &List<'_>,
     place: usize,
     what: What,
-    is_near_told: bool,
+    suggestion: Suggestion,
 ) {
     match list.jobs.get(place) {
         Some(Value::Table(table)) => match what {
             What::Duplicate => push_owner(message, list, table, "name", FREE),
-            What::SameAs => push_same_as(message, list, table, place, is_near_told),
+            What::SameAs => push_same_as(message, list, table, place, suggestion),
             _ => push_own_fault(message, table, what),
         },
         Some(job) => {

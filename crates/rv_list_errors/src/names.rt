@@ -22,13 +22,21 @@ pub(crate) fn push_owner(
     message.push(wanted);
 }
 
-/// Appends that `same_as` of the job at a place is the name of no earlier one. `is_near_told` asks for the nearest.
+/// What is told beside a name that no job has.
+#[derive(Clone, Copy)]
+pub(crate) enum Suggestion {
+    /// The nearest name that there is. To look for it takes as long as there are earlier jobs.
+    Nearest,
+    Nothing,
+}
+
+/// Appends that `same_as` of the job at a place is the name of no earlier one. The nearest is told where it is asked for.
 pub(crate) fn push_same_as(
     message: &mut Message,
     list: &List<'_>,
     table: &Table,
     place: usize,
-    is_near_told: bool,
+    suggestion: Suggestion,
 ) {
     push_owner(
         message,
@@ -37,8 +45,15 @@ pub(crate) fn push_same_as(
         "same_as",
         "the name of an earlier job is wanted",
     );
-    let wanted = text_of(table, "same_as");
-    if is_near_told && list.number_of(wanted).is_none() {
+    match suggestion {
+        Suggestion::Nearest => push_nearest_job(message, list, text_of(table, "same_as"), place),
+        Suggestion::Nothing => {}
+    }
+}
+
+// Appends which of the jobs before a place has the name that is nearest to one that no job has.
+fn push_nearest_job(message: &mut Message, list: &List<'_>, wanted: Option<&str>, place: usize) {
+    if list.number_of(wanted).is_none() {
         let names = list.names.as_slice();
         let earlier = &names[..place.min(names.len())];
         push_nearest(message, earlier, wanted.unwrap_or(""), "; the nearest is ");

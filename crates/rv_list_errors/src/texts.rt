@@ -4,6 +4,7 @@ use crate::job_fault::push_job_fault;
 use crate::list::List;
 use crate::list_fault::{push_list_fault, push_no_toml};
 use crate::message::Message;
+use crate::names::Suggestion;
 use rv_lists::JobError;
 use std::alloc::{AllocError, Global};
 use toml::de::Error;
@@ -24,25 +25,25 @@ pub(crate) fn message_of(
     file: &str,
     look: &Look<'_>,
     fault: JobError,
-    is_near_told: bool,
+    suggestion: Suggestion,
 ) -> Result<Vec<u8>, AllocError> {
     let mut message = Message::new(alloc);
     message.push(file);
     match look {
         Look::NoToml(text, error) => push_no_toml(&mut message, text, error),
-        Look::List(list) => push_fault(&mut message, list, fault, is_near_told),
+        Look::List(list) => push_fault(&mut message, list, fault, suggestion),
     }
     message.finish()
 }
 
-fn push_fault(message: &mut Message, list: &List<'_>, fault: JobError, is_near_told: bool) {
+fn push_fault(message: &mut Message, list: &List<'_>, fault: JobError, suggestion: Suggestion) {
     if fault.job == 0 {
         message.push(": ");
         push_list_fault(message, list, fault.what);
     } else {
         let place = fault.job as usize - 1;
         push_job(message, list, place, fault.job);
-        push_job_fault(message, list, place, fault.what, is_near_told);
+        push_job_fault(message, list, place, fault.what, suggestion);
     }
 }
 

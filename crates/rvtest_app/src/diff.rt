@@ -9,7 +9,7 @@ use crate::found::Found;
 use crate::status::{DONE, SOME_FAIL};
 use crate::stop::Stop;
 use rv_cli::rvtest::DiffAsked;
-use rv_diff::{Differing, push_diff};
+use rv_diff::{Compare, Differing, push_diff};
 use rv_rows::Row;
 use std::alloc::Global;
 use std::rt::Files;
@@ -33,20 +33,29 @@ fn diff_from<R: Files>(
     ensures { IfOk result (λ found. found.status ≤ 1) }
 {
     let new = read_saved(files, alloc, asked.new)?;
-    compared(alloc, asked.steps, old, new.rows.as_slice())
+    comparison(alloc, compare_by(asked.steps), old, new.rows.as_slice())
+}
+
+// What `--steps` asks for.
+fn compare_by(steps: bool) -> Compare {
+    if steps {
+        Compare::Steps
+    } else {
+        Compare::Outcomes
+    }
 }
 
 // The same of the rows of the two.
-fn compared(alloc: Global, steps: bool, old: &[Row], new: &[Row]) -> Result<Found, Stop>
+fn comparison(alloc: Global, compare: Compare, old: &[Row], new: &[Row]) -> Result<Found, Stop>
     requires old { length old.now < 2 ^ 32 }
     requires new { length new.now < 2 ^ 32 }
     ensures low { IfOk result (λ found. found.status ≤ 1) }
-    ensures text { IfOk result (λ found. found.text.items ≡ diff_text steps old.now new.now) }
+    ensures text { IfOk result (λ found. found.text.items ≡ diff_text compare old.now new.now) }
     ensures judged { IfOk result
-        (λ found. found.status ≡ diff_status (differing steps old.now new.now)) }
+        (λ found. found.status ≡ diff_status (differing compare old.now new.now)) }
 {
     let mut text = Vec::new(alloc);
-    let counts = push_diff(alloc, &mut text, steps, old, new)?;
+    let counts = push_diff(alloc, &mut text, compare, old, new)?;
     Ok(Found {
         text,
         status: status_of(counts),

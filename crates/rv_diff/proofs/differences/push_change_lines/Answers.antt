@@ -9,12 +9,12 @@ use Rattle.rv_diff.proofs.differences.push_change_lines.Goals as goal
 pub returns : goal.returns
 unfolding change_lines
 returns c =
-    let steps = c.args.steps in
+    let compare = c.args.compare in
     let old = c.args.old.now in
     let new = c.args.new.now in
-    let ending : List ℕ = change_line new.name (same_ending steps old.ending new.ending)
+    let ending : List ℕ = change_line new.name (same_ending compare old.ending new.ending)
     (becomes (ending_words old.ending) (ending_words new.ending)) in
-    let counts : List ℕ = change_line new.name (same_steps steps old new) (steps_words old.steps new.steps) in
+    let counts : List ℕ = change_line new.name (same_steps compare old new) (steps_words old.steps new.steps) in
     let console : List ℕ = change_line new.name (same_console old new) (console_words old.console new.console) in
     let signature : List ℕ = change_line new.name (same_signature old.signature new.signature)
     (signature_words old.signature new.signature) in

@@ -1,6 +1,7 @@
 use Rattle.std.proofs.Common.{◌++◌, append-nil, false, get_or}
 use Rattle.rv_job_text.specs.ConsoleTail.{console_tail}
 use Rattle.rv_text.proofs.Public.{more}
+use Rattle.rv_job_text.specs.declared.verbosity.Detail.TheVariants as detail
 use Rattle.rv_job_text.specs.Telling.{expectation_lines, run_lines, way_lines}
 use Rattle.rv_job_text.proofs.Chains.{ended}
 use Rattle.rv_job_text.proofs.row_telling.push_run.Goals as goal
@@ -13,7 +14,7 @@ returns-in-Some c =
     let tail = console_tail row.console in
     let tail_told = rw c.as_slice.ensures at c.in_ok-push_console_tail.ensures in
     rw c.in-Some.is
-    (ended _ _ _ _ (λ d. expectation_lines false plan (get_or plan.jobs c.args.place d) row)
+    (ended _ _ _ _ (λ d. expectation_lines detail.Unmet plan (get_or plan.jobs c.args.place d) row)
     (λ d. tail ++ way_lines plan (get_or plan.jobs c.args.place d) row c.in-Some.last)
     c.in_ok-push_expectations.ensures
     (ended _ _ _ _ (λ d. tail) (λ d. way_lines plan (get_or plan.jobs c.args.place d) row c.in-Some.last)
@@ -26,5 +27,5 @@ returns-in-None c =
     let row = c.args.row.now in
     let tail_told = rw c.as_slice.ensures at c.in_ok-push_console_tail.ensures in
     rw (c.in-None.is, append-nil (console_tail row.console))
-    (λ d. more _ _ _ (expectation_lines false plan (get_or plan.jobs c.args.place d) row) (console_tail row.console)
+    (λ d. more _ _ _ (expectation_lines detail.Unmet plan (get_or plan.jobs c.args.place d) row) (console_tail row.console)
     (c.in_ok-push_expectations.ensures d) tail_told)
