@@ -54,6 +54,52 @@ int main(void) { return CODE; }'
     check 'options for all' 2 'FAIL a: exit 4' CFLAGS=-DCODE=4
 }
 
+# A header that is put in the place of another, with an older time.
+case_a_header_is_replaced() {
+    put t/a.c <<<'#include "a.h"
+int main(void) { return CODE; }'
+    put t/a.h <<<'#define CODE 0'
+    put new.h <<<'#define CODE 1'
+    touch -d '1 hour ago' new.h
+    check 'as it was' 0 '1 jobs: 1 passed, 0 failed'
+    mv new.h t/a.h
+    check 'an older header in its place' 2 'FAIL a: exit 1'
+    check 'nothing changed' 2 'FAIL a: exit 1'
+    hides 'CC a'
+}
+
+# Files that options name: a library that the linker looks for, a file of further options, a linker script of its own.
+case_files_of_options_change() {
+    put t/a.c <<<'int code(void);
+int main(void) { return code(); }'
+    library 0
+    echo '-L. -lcode' >t/a.flags
+    check 'with a library' 0 '1 jobs: 1 passed, 0 failed'
+    library 1
+    check 'the library changed' 2 'FAIL a: exit 1'
+    exits t/a.c CODE
+    echo '-DCODE=0' >options
+    echo '@options' >t/a.flags
+    check 'with a file of options' 0 '1 jobs: 1 passed, 0 failed'
+    echo '-DCODE=2' >options
+    check 'the file of options changed' 2 'FAIL a: exit 2'
+    put t/a.c <<<'extern char code[];
+int main(void) { return (int)code; }'
+    echo 'code = 0;' >code.ld
+    echo '-Wl,code.ld' >t/a.flags
+    check 'with a linker script' 0 '1 jobs: 1 passed, 0 failed'
+    echo 'code = 3;' >code.ld
+    check 'the linker script changed' 2 'FAIL a: exit 3'
+}
+
+# libcode.a, whose function gives a number.
+library() {
+    echo "int code(void) { return $1; }" >code.c
+    riscv64-unknown-elf-gcc -march=rv32imc -mabi=ilp32 -c code.c
+    rm -f libcode.a
+    riscv64-unknown-elf-ar rc libcode.a code.o
+}
+
 # A source whose time is older than the image's.
 case_a_test_is_renamed() {
     exits t/a.c 0

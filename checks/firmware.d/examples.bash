@@ -96,7 +96,7 @@ case_page() {
     local at
     mkdir clone home
     cp -r "$kit" clone/firmware
-    ln -s "$top/rvtest" clone/rvtest
+    ln -s "$top/rvtest" "$top/launch.bash" clone/
     awk '/^    / { if (!within) { block++; within = 1 } print substr($0, 5) >("block" block); next } { within = 0 }' "$kit/README.md"
     sed -i '/^sudo apt-get/d' block1
     [ "$(wc -l <block1)" = 2 ] || fail "the page does not begin with three commands: $(<block1)"

@@ -112,6 +112,8 @@ case_refused_keys_and_folders() {
     refused defaults.c '' 'a test has another name'
     refused good.cpp '' 'lies beside bad/good.c, and both would be the test good'
     refused good.flags '"' 'No closing quotation'
+    refused good.flags '-O2 # faster' "has '#'; options of the compiler and the linker are taken, and files"
+    refused good.flags '-O2; ls' "has ';'"
     refused good.flags bad/good.c 'belongs to bad/good.c, which is no test of its own, since a file of flags names it'
     refused good.cases/a.flags '' 'all cases have one image'
     refused uart/good.out x 'there is no'

@@ -63,7 +63,7 @@ def helpers_of(folders, faults):
     for folder, files in folders:
         for path in (os.path.join(folder, it) for it in files if it.endswith(".flags")):
             try:
-                words = shlex.split(text_at(path))
+                words = flags_of(path)
             except ValueError as error:
                 faults.append(f"{path}: {error}, as the shell reads it")
             except Refused as refused:
@@ -71,6 +71,15 @@ def helpers_of(folders, faults):
             else:
                 helpers.update(os.path.realpath(it) for it in words if os.path.isfile(it))
     return helpers
+
+
+def flags_of(path):
+    """The words of a file of flags, which a shell reads: a comment or a second command among them would cut the compiler's."""
+    text = text_at(path)
+    sign = re.search(r"[#;&|<>`]", text)
+    if sign:
+        raise Refused(f"{path}: has {sign[0]!r}; options of the compiler and the linker are taken, and files")
+    return shlex.split(text)
 
 
 def look_through(folder, files, place, helpers, found):
