@@ -2,7 +2,7 @@
 import re
 
 import images
-from rows import lines, many, squeezed, with_bytes
+from rows import Form, lines, lines_in, squeezed
 from saved import report_bytes
 
 # Images that exit by codes 5 and 6 after two steps, and two that never end.
@@ -26,22 +26,22 @@ def jobs(names):
 LIST = jobs(["uart"]) + job("uart2", "b.elf", 9, "expect_exit = 5") + jobs(["spi", "--x"]) + job("check", "a.elf", 9)
 LISTS = {"a.toml": LIST, "run": LIST, "-odd.toml": job("odd", "a.elf", 9), "loop.toml": job("uart", "loop.elf", 20)}
 REPORTS = {
-    "old.txt": "$1 spi, end exit 1 | done 1",
-    "one": "$1 a | part 1 of 1 shard 1/1 stamp r",
-    "half1": "$1 a | part 1 of 2 shard 1/2 stamp r",
-    "half2": "$2 b | part 1 of 2 shard 2/2 stamp r",
-    "third1": "$1 a | part 1 of 2 shard 1/3 stamp r",
-    "third2": "$2 b, end exit 1 | part 1 of 2 shard 2/3 stamp r",
+    "old.txt": "$1 spi, end exit 1\ndone 1",
+    "one": "$1 a\npart 1 of 1 shard 1/1 stamp r",
+    "half1": "$1 a\npart 1 of 2 shard 1/2 stamp r",
+    "half2": "$2 b\npart 1 of 2 shard 2/2 stamp r",
+    "third1": "$1 a\npart 1 of 2 shard 1/3 stamp r",
+    "third2": "$2 b, end exit 1\npart 1 of 2 shard 2/3 stamp r",
     "third3": "part 0 of 2 shard 3/3 stamp r",
-    "old": "$1 a, steps 6 | done 1",
-    "new": "$1 a | done 1",
-    "report": "$1 a, end exit 1 | done 1",
+    "old": "$1 a, steps 6\ndone 1",
+    "new": "$1 a\ndone 1",
+    "report": "$1 a, end exit 1\ndone 1",
 }
 
 
 def check_words(row):
-    """Words, the status, what goes out, what is said, and files that are written, each with its last line."""
-    words, status, out, said, files = (row.cells(" #") + ["", ""])[:5]
+    """The status of words, what goes out, what is said, and files that are written, each with its last line."""
+    words = row["words"]
     for folder in ("fw", "out"):
         (row.folder / folder).mkdir()
     for name, words_of_image in IMAGES.items():
@@ -50,9 +50,10 @@ def check_words(row):
         row.write(name, text)
     for name, text in REPORTS.items():
         row.write(name, report_bytes(text))
-    out = report_bytes(out).decode() if out else ""
-    row.wants(words.split(), int(status), out, lines(said) if said else "", squeezed if words.startswith("explain") else bytes)
-    for name, last in (file.split(": ") for file in files.split("; ") if file):
+    out = report_bytes(row["shown"]) if row["shown"] else ""
+    shape = squeezed if words.startswith("explain") else bytes
+    row.wants(words.split(), int(row["status"]), out, lines(*lines_in(row["said"])), shape)
+    for name, last in (file.split(": ") for file in lines_in(row["files"])):
         found = (row.folder / name).read_text(encoding="utf-8").splitlines()[-1]
         if found != last:
             raise ValueError(f"{name} ends with {found}, and not with {last}")
@@ -61,46 +62,44 @@ def check_words(row):
 # ---- words that are refused, and help
 
 def check_misused(row):
-    """Words, with what their refusal begins, and what it says among other things."""
-    words, begin, *others = row.cells(" |")
+    """With what the refusal of words begins, and what it says among other things."""
+    words, begin, others = row["words"].split(), row["begins"], lines_in(row["has"])
     row.write("list.toml", job("a", "a.elf", 9))
-    status, out, said = row.run(words.split())
+    status, out, said = row.run(words)
     told = said.decode()
     framed = told.startswith(f"error: {begin}") and told.endswith("\n\nFor more information, try '--help'.\n")
     if (status, out) != (2, b"") or not framed or not all(other in told for other in others):
-        row.fails(words.split(), (2, b"", f"error: {begin}.. {'.. '.join(others)}"), (status, out, said))
+        row.fails(words, (2, b"", f"error: {begin}.. {'.. '.join(others)}".encode()), (status, out, said))
 
 
 def check_help(row):
-    """Words of one meaning, and the lines that are shown."""
-    words, *shown = row.text.split(" |")
-    for one in words.split(", "):
-        row.wants(one.split(), 0, lines(*(line.removeprefix(" ") for line in shown)))
+    """The lines that are shown for words of one meaning."""
+    for words in lines_in(row["words"]):
+        row.wants(words.split(), 0, lines(row["shown"]))
 
 
 # ---- choices
 
 def check_choice(row):
-    """Words, the names of jobs that failed in a report, the status, the jobs that run, and what is said."""
-    words, failed, status, chosen, said = row.cells(" |")
+    """Which jobs words choose, where these failed in a report; the status, and what is said."""
     row.write("a.elf", images.image(EXIT))
-    row.write("list.toml", jobs(row.settings["list"].split()))
-    rows = [f"${number} {name}, end exit 1" for number, name in enumerate(failed.split(), 1)]
-    row.write("report", report_bytes(" | ".join([*rows, f"done {len(rows)}"])))
-    names = chosen.split()
+    row.write("list.toml", jobs(row["jobs"].split()))
+    rows = [f"${number} {name}, end exit 1" for number, name in enumerate(row["failed"].split(), 1)]
+    row.write("report", report_bytes("\n".join([*rows, f"done {len(rows)}"])))
+    names = row["chosen"].split()
     out = [f"PASS {name}: exit 5 after 2 steps" for name in names]
     out.append(f"{len(names)} jobs: {len(names)} passed, 0 failed, {2 * len(names)} steps")
-    told = lines(f"rvtest: {said}") if said else ""
-    row.wants(["run", "list.toml", "--verbose", *words.split()], int(status), lines(*out) if names else "", told)
+    said = lines(f"rvtest: {row['said']}") if row["said"] else ""
+    words = ["run", "list.toml", "--verbose", *row["words"].split()]
+    row.wants(words, int(row["status"]), lines(*out) if names else "", said)
 
 
 # ---- lines
 
 def check_lines(row):
-    """A list whose jobs are all refused, and the lines on which they begin."""
-    text, begins = row.cells("|")
-    row.write("f.toml", with_bytes(many(text.replace("/", "\n"))))
-    told = [f"f.toml:{line}: job {number}" for number, line in enumerate(begins.split(), 1)]
+    """The lines on which the jobs of a list begin, which are all refused."""
+    row.write("f.toml", row["list"])
+    told = [f"f.toml:{line}: job {number}" for number, line in enumerate(row["begins"].split(), 1)]
     row.wants(["check", "f.toml"], 2, "\n".join(told), shape=fronts)
 
 
@@ -110,9 +109,9 @@ def fronts(out):
 
 
 FORMS = {
-    "choices": check_choice,
-    "help": check_help,
-    "lines": check_lines,
-    "misused": check_misused,
-    "words": check_words,
+    "choices": Form(check_choice, "jobs words failed status chosen said"),
+    "help": Form(check_help, "words shown"),
+    "lines": Form(check_lines, "list begins"),
+    "misused": Form(check_misused, "words begins has"),
+    "words": Form(check_words, "words status shown said files"),
 }

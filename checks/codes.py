@@ -4,7 +4,7 @@ shows them.
 import re
 
 import images
-from rows import lines
+from rows import Form, lines
 
 REGISTERS = (
     "zero ra sp gp tp t0 t1 t2 s0 s1 a0 a1 a2 a3 a4 a5 a6 a7 s2 s3 s4 s5 s6 s7 s8 s9 s10 s11 t3 t4 t5 t6".split()
@@ -22,13 +22,12 @@ def text_at(address):
 
 
 def check_assembly(row):
-    """A code, its address and its text."""
-    code, address, text = row.cells(" | ")[:3]
-    address = int(address, 16)
-    row.write("code.elf", images.elf(address, [(address, images.numbers(code))]))
+    """The text of a code at an address."""
+    address = int(row["address"], 16)
+    row.write("code.elf", images.elf(address, [(address, images.numbers(row["code"]))]))
     region = f"region = [{{base = {address & -4}, size = 4}}]"
     row.write("list.toml", f"job = [{{name = 'a', image = 'code.elf', budget = 1, {region}}}]")
-    row.wants(["explain", "list.toml", "a"], 1, text, shape=text_at(address))
+    row.wants(["explain", "list.toml", "a"], 1, row["text"], shape=text_at(address))
 
 
 # ---- meanings
@@ -177,8 +176,8 @@ def without_texts(out):
 
 
 def check_encoding(row):
-    """A label, the sets that have the code, the code, and what it means, where any has it."""
-    _, sets, code, *meaning = row.cells(" | ")
+    """What a code means in the sets that have it."""
+    sets, code = row["sets"], row["code"]
     image = images.words_of(BEFORE) + images.numbers(code)
     for entry, steps, _ in STARTS:
         row.write(f"{steps}.elf", images.elf(entry, [(images.BASE, image)]))
@@ -190,10 +189,13 @@ def check_encoding(row):
             name = f"{isa}-{start[1]}"
             keys = f"image = '{start[1]}.elf', budget = {start[1] + 1}, isa = '{isa}', {MAKE}"
             jobs.append(f"{{name = '{name}', {keys}}}")
-            told += told_of(name, meaning[0] if has else "", code, letters, start)
+            told += told_of(name, row["meaning"] if has else "", code, letters, start)
     row.write("list.toml", f"job = [{', '.join(jobs)}]\n")
     words = ["run", "list.toml", "--last", "1", "--workers", "1"]
     row.wants(words, 1, lines(*told), shape=without_texts)
 
 
-FORMS = {"assembly": check_assembly, "encodings": check_encoding}
+FORMS = {
+    "assembly": Form(check_assembly, "code address text"),
+    "encodings": Form(check_encoding, "sets code meaning"),
+}

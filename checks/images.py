@@ -3,8 +3,7 @@
 `one` or `two` segments, `sign` for the image with a signature, or the example firmware, `checksum`, `upper` or `stripped`, which is
 `upper` without symbols; and then changes: `24=90000000` puts the number at byte 24, little-endian, and `51` keeps the first 51
 bytes. Behind `code`, or alone, stand numbers, which are the bytes of the one segment. Behind an `@` stand symbols, as
-`main=80000010/12/0001`: a name, in which `\\x1b` is that byte, its value, `st_info` and the index of its section; and behind a `!`
-changes of all that.
+`main=80000010/12/0001`: a name, its value, `st_info` and the index of its section; and behind a `!` changes of all that.
 """
 import pathlib
 import re
@@ -94,8 +93,7 @@ def with_symbols(data, symbols):
 def symbol(word):
     """A symbol's name and its fields, by a word."""
     name, _, fields = word.partition("=")
-    name = re.sub(rb"\\x([0-9a-f]{2})", lambda byte: bytes.fromhex(byte[1].decode()), name.encode())
-    return name, *(int(field, 16) for field in fields.split("/"))
+    return name.encode(), *(int(field, 16) for field in fields.split("/"))
 
 
 def image(words):

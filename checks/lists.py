@@ -1,30 +1,21 @@
 """The forms of rows of lists and of images: which lists are good and what is wrong with the others, which images are run and what
 is loaded of them, as the report of rvfleet has it; and where their symbols stand, as rvtest tells it.
 
-A table of images has lines in which `$0`, `$1` and so on stand for the cells of a row, as one of machines has them. A map is
-`default` or regions, as there.
+A map is `default` or regions, as of machines.
 """
 import re
 
 import images
-from machines import cases, fleet, keys_of_map
-from rows import lines, with_bytes
+from machines import fleet, keys_of_map
+from rows import Form, lines
 
 
 # ---- lists
 
-def repeated(text):
-    """A text in which `3*(a#,)` stands for a0,a1,a2, and `3*(a)` for aaa."""
-    def each(part):
-        return "".join(part[2].replace("#", str(number)) for number in range(int(part[1])))
-    return re.sub(r"([0-9]+)\*\((.*?)\)", each, text)
-
-
 def check_list(row):
-    """A list, or what stands in the list of its table; and which job is wrong in what, or the last line of its report."""
-    text, told = row.cells("|")
-    text = row.settings.get("list", "$").replace("$", text)
-    row.write("list.toml", with_bytes(repeated(text).replace("/", "\n")))
+    """Which job of a list is wrong in what, or the last line of its report."""
+    text, told = row["list"], row["told"]
+    row.write("list.toml", text)
     if told.startswith("done "):
         # No image is there, so that a job which expects something fails.
         status = int("expect_" in text or "same_as" in text)
@@ -60,10 +51,9 @@ def keys_of(regions, keys):
 
 
 def check_image(row):
-    """An image, the map and other keys of its job, and what it is refused for, or `good` where it is run."""
-    for image, regions, keys, answer in cases(row):
-        write_job(row, bytes_of(image), keys_of(regions, keys))
-        fleet(row).wants(["run", "list.toml"], 0, answer, shape=refusal)
+    """What an image is refused for beside a map and other keys of its job, or `good` where it is run."""
+    write_job(row, bytes_of(row["image"]), keys_of(row["map"], row["keys"]))
+    fleet(row).wants(["run", "list.toml"], 0, row["answer"], shape=refusal)
 
 
 def refusal(out):
@@ -72,18 +62,17 @@ def refusal(out):
 
 
 def check_loaded(row):
-    """An image, the map and other keys of its job, and `ADDRESS=WORD` of what memory has there, or `ADDRESS=FIRST..LAST` of
+    """`ADDRESS=WORD` of what memory has there of an image, beside a map and other keys of its job, or `ADDRESS=FIRST..LAST` of
     words that go up by one, where nothing is put to the console."""
-    for image, regions, keys, answer in cases(row):
-        place, words = answer.split("=")
-        first, _, last = words.partition("..")
-        words = range(int(first, 16), int(last or first, 16) + 1)
-        begin = int(place, 16)
-        ends = [(b"x", begin, 0x10, 0xfff1), (b"y", begin + 4 * len(words), 0x10, 0xfff1)]
-        keys = ", ".join(["signature = ['x', 'y']", *filter(None, [keys])])
-        write_job(row, images.with_symbols(bytes_of(image), ends), keys_of(regions, keys))
-        told = lines("console -", f"signature {len(words)}", *(f"{word:08x}" for word in words))
-        fleet(row).wants(["run", "list.toml"], 0, told, shape=memory)
+    place, words = row["memory"].split("=")
+    first, _, last = words.partition("..")
+    words = range(int(first, 16), int(last or first, 16) + 1)
+    begin = int(place, 16)
+    ends = [(b"x", begin, 0x10, 0xfff1), (b"y", begin + 4 * len(words), 0x10, 0xfff1)]
+    keys = ", ".join(["signature = ['x', 'y']", *filter(None, [row["keys"]])])
+    write_job(row, images.with_symbols(bytes_of(row["image"]), ends), keys_of(row["map"], keys))
+    told = lines("console -", f"signature {len(words)}", *(f"{word:08x}" for word in words))
+    fleet(row).wants(["run", "list.toml"], 0, told, shape=memory)
 
 
 def memory(out):
@@ -95,11 +84,10 @@ def memory(out):
 # ---- symbols
 
 def check_symbol(row):
-    """An image, the two symbols of a signature, which is none, and the values of both, or what the image is refused for."""
-    for image, names, answer in cases(row):
-        begin, end = names.split(" ")
-        write_job(row, bytes_of(image), f", signature = ['{begin}', '{end}']")
-        row.wants(["check", "list.toml"], 2, answer, shape=values)
+    """The values of the two symbols of a signature, which is none, or what the image is refused for."""
+    begin, end = row["names"].split(" ")
+    write_job(row, bytes_of(row["image"]), f", signature = ['{begin}', '{end}']")
+    row.wants(["check", "list.toml"], 2, row["values"], shape=values)
 
 
 def values(out):
@@ -115,10 +103,10 @@ MAP = "80000000+100000 fffffff0+10"
 
 
 def check_place(row):
-    """An image that has no instruction at an address, and the symbol that the address belongs to."""
-    for image, address, answer in cases(row):
-        write_job(row, images.changed(bytes_of(image), f"24={address}"), keys_of(MAP, ""))
-        row.wants(["run", "list.toml"], 1, f"{address} {answer}", shape=place)
+    """The symbol that an address belongs to, where the image has no instruction."""
+    address = row["address"]
+    write_job(row, images.changed(bytes_of(row["image"]), f"24={address}"), keys_of(MAP, ""))
+    row.wants(["run", "list.toml"], 1, f"{address} {row['symbol']}", shape=place)
 
 
 def place(out):
@@ -128,12 +116,12 @@ def place(out):
 
 
 def check_value(row):
-    """Symbols of an image, changes of it, and the symbol that a value points to."""
-    for symbols, changes, value, answer in cases(row):
-        code = images.words_of([*images.loading(5, int(value, 16)), 0])
-        image = images.with_symbols(images.program(code), map(images.symbol, symbols.split()))
-        write_job(row, images.changed(image, changes), "")
-        row.wants(["explain", "list.toml", "a", "--last", "0"], 1, f"{value} {answer}", shape=register)
+    """The symbol that a value points to, of the symbols of an image, of which some bytes are changed."""
+    value = row["value"]
+    code = images.words_of([*images.loading(5, int(value, 16)), 0])
+    image = images.with_symbols(images.program(code), map(images.symbol, row["symbols"].split()))
+    write_job(row, images.changed(image, row["changes"]), "")
+    row.wants(["explain", "list.toml", "a", "--last", "0"], 1, f"{value} {row['symbol']}", shape=register)
 
 
 def register(out):
@@ -143,10 +131,10 @@ def register(out):
 
 
 FORMS = {
-    "images": check_image,
-    "lists": check_list,
-    "loaded": check_loaded,
-    "places": check_place,
-    "pointers": check_value,
-    "symbols": check_symbol,
+    "images": Form(check_image, "image map keys answer"),
+    "lists": Form(check_list, "list told"),
+    "loaded": Form(check_loaded, "image map keys memory"),
+    "places": Form(check_place, "image address symbol"),
+    "pointers": Form(check_value, "symbols changes value symbol"),
+    "symbols": Form(check_symbol, "image names values"),
 }

@@ -1,24 +1,16 @@
 """The forms of rows of machines: how programs end in those of every make, and what their accesses of memory and the
 console answer, as the report of rvfleet has it; and which regions are maps, as rvtest says.
 
-A table has lines in which `$0`, `$1` and so on stand for the cells of a row: each is asked of each row. A number is in
-hexadecimal digits. A map is `default` or regions that spaces part, `BASE+SIZE`, or `BASE-SIZE` where they are not
-writable.
+A number is in hexadecimal digits. A map is `default` or regions that spaces part, `BASE+SIZE`, or `BASE-SIZE` where they are
+not writable.
 """
 import dataclasses
 import re
 
 import images
-from rows import lines
+from rows import Form, lines, lines_in
 
 CHOICES = {"allow": "allow", "refuse": "fault"}
-
-
-def cases(row):
-    """The cells of each form of a row's table, filled by the row."""
-    cells = row.cells(" |")
-    for form in re.sub(r"\n +", " ", row.settings["form"]).splitlines():
-        yield [cell.strip(" ") for cell in re.sub(r"\$(\d)", lambda sign: cells[int(sign[1])], form).split("|")]
 
 
 def fleet(row):
@@ -49,8 +41,8 @@ def end_of(text):
 # ---- maps
 
 def check_map(row):
-    """A label, regions, and what is told of them, or `good`."""
-    _, regions, told = row.cells(" |")
+    """What is told of regions, or `good`."""
+    regions, told = row["regions"], row["told"]
     base = int(regions.partition("+")[0] or "0", 16) & -2
     row.write("image.elf", images.elf(base, [(base, images.numbers("0001"))]))
     row.write("list.toml", f"job = [{{name = 'a', image = 'image.elf', budget = 1{keys_of_map(regions)}}}]\n")
@@ -63,16 +55,16 @@ def check_map(row):
 # ---- programs
 
 def check_run(row):
-    """A machine, its image, and what it comes to: `run BUDGET = ENDING after STEPS`, `exit BUDGET = CODE`, or another
+    """What the image of a machine comes to: `run BUDGET = ENDING after STEPS`, `exit BUDGET = CODE`, or another
     ending, and `reg NUMBER = VALUE` at the end of the run before."""
-    for machine, image, dialogue in cases(row):
-        isa, misaligned, *regions, entry = machine.split(" ")
-        parts = [part.split(": ") for part in image.split("; ")]
+    for ask in row.asks:
+        isa, misaligned, *regions, entry = ask["machine"].split(" ")
+        parts = [part.split(": ") for part in lines_in(ask["image"])]
         row.write("image.elf", images.elf(int(entry, 16), [(int(at, 16), images.numbers(code)) for at, code in parts]))
         keys = f"name = 'a', image = 'image.elf', isa = '{isa}', misaligned = '{CHOICES[misaligned]}'"
         keys += keys_of_map(" ".join(regions))
-        for ask, answer in (exchange.split(" = ") for exchange in dialogue.split("; ")):
-            verb, number = ask.split(" ")
+        for asked, answer in (exchange.split(" = ") for exchange in lines_in(ask["outcome"])):
+            verb, number = asked.split(" ")
             if verb == "reg":
                 wants_register(row, int(number), answer)
                 continue
@@ -143,7 +135,7 @@ def write_job(row, name, made, before, code, behind=b""):
     """Makes the image that does this code behind accesses, and gives the keys of its job."""
     misaligned, regions, script = made
     parts, words = [], []
-    for ask in before.split("; ") if before else []:
+    for ask in lines_in(before):
         if ask.startswith("place "):
             _, at, numbers = ask.split(" ", 2)
             parts.append((int(at, 16), images.numbers(numbers)))
@@ -156,18 +148,23 @@ def write_job(row, name, made, before, code, behind=b""):
     return f"name = '{name}', image = '{name}.elf', budget = 1000000, {keys}", CODE + 4 * len(words + code)
 
 
+def made_of(cells, front):
+    """What a bus is made of, by the columns with this front."""
+    return cells[f"{front}misaligned"], cells[f"{front}map"], cells.get(f"{front}script", "")
+
+
 def check_access(row):
-    """What a bus is made of: the choice, its map and the script; what is done before, an ask, and the answer; and of a
-    job that the same worker ran before it the first four, where there was one."""
-    for cells in cases(row):
-        made, (before, ask, answer), earlier = cells[:3], cells[3:6], cells[6:]
+    """What a bus answers that is made of a choice, a map and a script, behind what is done before; where the columns of an
+    earlier job are there, the same worker ran it before."""
+    for cells in row.asks:
+        made, before, (verb, _, rest) = made_of(cells, ""), cells.get("before", ""), cells["ask"].partition(" ")
         jobs = []
-        if earlier:
-            jobs.append(write_job(row, "earlier", earlier[:3], earlier[3], images.loading(10, 0), images.EXIT)[0])
-        verb, _, rest = ask.partition(" ")
-        more, told, shape = ASKS[verb](row, made, before, rest, answer)
+        if "earlier_map" in cells:
+            earlier = made_of(cells, "earlier_"), cells["earlier_before"]
+            jobs.append(write_job(row, "earlier", *earlier, images.loading(10, 0), images.EXIT)[0])
+        more, told, shape = ASKS[verb](row, made, before, rest, cells["answer"])
         row.write("list.toml", "job = [" + ", ".join("{" + keys + "}" for keys in jobs + more) + "]\n")
-        behind = b"job 2 " if earlier else b""
+        behind = b"job 2 " if jobs else b""
         fleet(row).wants(
             ["run", "list.toml", "--workers", "1"], 0, told, shape=lambda out, b=behind, s=shape: s(out[out.index(b):])
         )
@@ -253,4 +250,9 @@ ASKS = {
     "in": ask_in,
 }
 
-FORMS = {"machines": check_run, "accesses": check_access, "maps": check_map}
+BUS = "misaligned map script before"
+FORMS = {
+    "machines": Form(check_run, "machine image outcome"),
+    "accesses": Form(check_access, f"{BUS} ask answer earlier_{BUS.replace(' ', ' earlier_')}"),
+    "maps": Form(check_map, "regions told"),
+}

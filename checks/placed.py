@@ -7,10 +7,10 @@ import os
 import subprocess
 
 import images
-from rows import lines
+from rows import Form, lines
 from saved import report_bytes
 
-REPORT = report_bytes("$1 a, steps 2 | done 1")
+REPORT = report_bytes("$1 a, steps 2\ndone 1")
 SHOWN = "1 jobs: 1 passed, 0 failed, 2 steps"
 
 
@@ -46,11 +46,11 @@ def is_there(folder, word):
 
 
 def check_place(row):
-    """What is there, the report's path, what is told of it or how the run ends, and what is there then."""
-    there, path, told, then = row.cells("|")
+    """What is told of a report's path or how the run ends, by what is there, and what is there then."""
+    path, told = row["path"], row["told"]
     row.write("list.toml", "job = [{name = 'a', image = 'a.elf', budget = 9}]\n")
     row.write("a.elf", images.image("code 00000513 X"))
-    for word in there.split():
+    for word in row["there"].split():
         put_there(row.folder, word)
     words = ["run", "list.toml", "--quiet", "--report", path]
     if told == "done":
@@ -63,7 +63,7 @@ def check_place(row):
             raise ValueError(f"status {done.returncode}, {done.stderr}")
     else:
         row.wants(words, 3, lines(SHOWN) if path == "/dev/full" else "", lines(f"rvtest: {path}: {told}"))
-    for word in then.split():
+    for word in row["then"].split():
         if not is_there(row.folder, word):
             raise ValueError(f"not so: {word}")
 
@@ -73,8 +73,8 @@ ENDS = {"one": "code 00000513 X", "two": "one"}
 
 
 def check_root(row):
-    """The folder that paths are taken from, or none, an image's path, and which image is there, or why none is read."""
-    folder, path, told = row.cells("|")
+    """Which image is at a path, taken from a folder where one is given, or why none is read."""
+    folder, path, told = row["root"], row["path"], row["told"]
     row.write("list.toml", f"job = [{{name = 'a', image = '{path}', budget = 9}}]\n")
     (row.folder / "shelf").mkdir()
     row.write("kept", images.image(ENDS["one"]))
@@ -85,7 +85,10 @@ def check_root(row):
     line = out.decode().partition("\n")[0]
     is_told = line == wanted.get(told) or (line.startswith("FAIL a: refused image-unreadable: ") and line.endswith(f": {told}"))
     if status != int(told != "one") or said or not is_told:
-        row.fails(words, (int(told != "one"), told, b""), (status, out, said))
+        row.fails(words, (int(told != "one"), told.encode(), b""), (status, out, said))
 
 
-FORMS = {"outputs": check_place, "roots": check_root}
+FORMS = {
+    "outputs": Form(check_place, "there path told then"),
+    "roots": Form(check_root, "root path told"),
+}

@@ -6,38 +6,33 @@ import re
 import subprocess
 
 import images
-from rows import RULES
+from rows import RULES, Form
+from tables import raw
 
 # The lines of a job that fails, and the last line.
 SHORT = {r"FAIL .*\n(?:     .*\n)+": "FAIL/", r"[0-9]+ jobs: .*\n": "LAST/"}
-# Back to the line's beginning, and what stands behind it erased.
-SIGNS = {"\r": "<", "\x1b[K": "~"}
 # A job that passes, one that fails, and one that expects nothing and exits by 5.
 JOBS = {"+": "image = 'zero.elf'", "-": "image = 'five.elf', expect_exit = 6", "5": "image = 'five.elf'"}
 
 
-def table_form(data):
-    """Bytes as they stand in tables."""
-    text = data.decode()
+def shortened(data):
+    """Bytes with the short forms of lines."""
     for form, short in SHORT.items():
-        text = re.sub(form, short, text)
-    for sign, short in SIGNS.items():
-        text = text.replace(sign, short)
-    return text
+        data = re.sub(form.encode(), short.encode(), data)
+    return data
 
 
 def check_progress(row):
-    """The clock's step in milliseconds; the rule; which of `line` and `results` go to a terminal; how many bytes a put of results
-    takes; the jobs, which one worker runs; and what comes on both streams."""
-    step, rule, terminals, most, jobs, wanted = row.cells("|")
+    """What comes on both streams of jobs that one worker runs."""
+    rule, jobs, wanted = row["rule"], row["jobs"], raw(row["shown"])
     row.write("zero.elf", images.image("code 00000513 X"))
     row.write("five.elf", images.image("one"))
     tables = (f"{{name = 'j{at}', budget = 9, {JOBS[word]}}}" for at, word in enumerate(jobs.split()))
     row.write("list.toml", f"job = [{', '.join(tables)}]\n")
     streams = {"results": "1", "line": "2"}
     given = {
-        "LD_PRELOAD": os.environ["TERMINAL_SHIM"], "CLOCK_STEP": step, "MOST_PUT": most,
-        "TERMINALS": "".join(streams[word] for word in terminals.split()),
+        "LD_PRELOAD": os.environ["TERMINAL_SHIM"], "CLOCK_STEP": row["step"], "MOST_PUT": row["put"],
+        "TERMINALS": "".join(streams[word] for word in row["terminals"].split()),
     }
     words = ["run", "list.toml", "--workers", "1", *RULES[rule][0]]
     done = subprocess.run(
@@ -45,9 +40,9 @@ def check_progress(row):
         stdout=subprocess.PIPE, stderr=subprocess.STDOUT, check=False,
     )
     failed = "-" in jobs or (rule == "strict" and "5" in jobs)
-    found = done.returncode, table_form(done.stdout).encode(), b""
-    if found != (int(failed), wanted.encode(), b""):
-        row.fails(words, (int(failed), wanted.encode(), b""), found)
+    found = done.returncode, shortened(done.stdout), b""
+    if found != (int(failed), wanted, b""):
+        row.fails(words, (int(failed), wanted, b""), found)
 
 
-FORMS = {"progress": check_progress}
+FORMS = {"progress": Form(check_progress, "step rule terminals put jobs shown")}

@@ -5,31 +5,48 @@ import pathlib
 import re
 import subprocess
 
+from tables import raw
+
 # The user whom file modes bind: another one, where this is root.
 USER = {"user": 65534, "group": 65534, "extra_groups": []} if os.getuid() == 0 else {}
 
 RULES = {"strict": [[]], "lenient": [["--lenient"]], "both": [[], ["--lenient"]]}
 
 
+@dataclasses.dataclass
+class Form:
+    """How the rows of a file are checked, and the names of their columns."""
+    check: callable
+    columns: str
+
+
 class Wrong(Exception):
-    """What a row wants, and what was found."""
+    """A command whose status, output and errors are not those that a row wants."""
+
+    def __init__(self, command, wanted, found):
+        super().__init__(command)
+        self.command, self.wanted, self.found = command, wanted, found
 
 
 @dataclasses.dataclass
 class Row:
+    """A row of a table: its number in the file, its line's number and text, and its cells, for each time that it is asked."""
     table: str
+    title: str
+    number: int
+    line: int
     text: str
-    settings: dict
+    asks: list
     rvtest: str
     folder: pathlib.Path
 
-    def cells(self, sign):
-        """What a sign parts, without the spaces around it."""
-        return [cell.strip(" ") for cell in self.text.split(sign)]
+    def __getitem__(self, column):
+        """The cell of a column, which is empty where the table has none of the name."""
+        return self.asks[0].get(column, "")
 
     def write(self, name, data):
         """Makes a file."""
-        (self.folder / name).write_bytes(data if isinstance(data, bytes) else data.encode())
+        (self.folder / name).write_bytes(data if isinstance(data, bytes) else raw(data))
 
     def run(self, words):
         """Runs the program: its status, its output, and what it says beside that."""
@@ -44,24 +61,13 @@ class Row:
         """Runs the program, and compares its output in a shape, what it says beside that, and its status."""
         ended, shown, said = self.run(words)
         found = ended, shape(shown), said
-        wanted = status, out.encode(), errors.encode()
+        wanted = status, raw(out), raw(errors)
         if found != wanted:
             self.fails(words, wanted, found)
 
     def fails(self, words, wanted, found):
         """Says what a run was to come to, and what it came to."""
-        raise Wrong(
-            f"{self.table} {cut(self.text)}\n  of {os.path.basename(self.rvtest)} {cut(' '.join(words))}\n"
-            f"  wanted is {told_of(*wanted)}\n  found was {told_of(*found)}"
-        )
-
-
-def cut(text):
-    return text if len(text) <= 2000 else f"{text[:2000]}.."
-
-
-def told_of(status, out, errors):
-    return f"status {status}, output {cut(repr(out))}, standard error {cut(repr(errors))}"
+        raise Wrong([os.path.basename(self.rvtest), *words], wanted, found)
 
 
 # ---- lines
@@ -87,7 +93,13 @@ def status_of(last):
 
 
 def lines(*texts):
+    """Texts as lines."""
     return "".join(f"{text}\n" for text in texts)
+
+
+def lines_in(text):
+    """The lines of a cell, of which an empty one has none."""
+    return text.split("\n") if text else []
 
 
 def told_lines(first, *others):
@@ -99,13 +111,3 @@ def squeezed(out):
     """Without the lines of registers that have no symbol, and with one space between words."""
     kept = [line for line in out.split(b"\n") if not re.fullmatch(rb"     \w{2,4} +[0-9a-f]{8}", line)]
     return b"\n".join(b" ".join(line.split()) for line in kept)
-
-
-def many(text):
-    """A text in which `3*(a)` stands for three times `a`."""
-    return re.sub(r"([0-9]+)\*\((.*?)\)", lambda part: int(part[1]) * part[2], text)
-
-
-def with_bytes(text):
-    """The bytes of a text, in which `<ff>` stands for the byte ff."""
-    return re.sub(rb"<([0-9a-f]{2})>", lambda byte: bytes.fromhex(byte[1].decode()), text.encode())

@@ -1,14 +1,14 @@
 """The forms of rows of reports that were saved: what `show`, `diff`, `merge` and JUnit's XML make of them.
 
-A report's lines are parted by ` | `. `$1 a` stands for the six of job 1, a, which ended by exit 0 after 5 steps, and has no
-console, no signature and no verdict; `$1 a, end budget, console 41` for the same with other fields, and a signature's words stand
-behind their number. `$1-9 j` are the rows of j1 to j9. `3*(a)` is `a` three times, `<ff>` the byte ff, and a `<` at the end takes
-the last line feed away.
+In a report `$1 a` stands for the six lines of job 1, a, which ended by exit 0 after 5 steps, and has no console, no signature and no
+verdict; `$1 a, end budget, console 41` for the same with other fields, and a signature's words stand behind their number. `$1-9 j`
+are the rows of j1 to j9, and a `<` at the end takes the last line feed away.
 """
 import os
 import re
 
-from rows import RULES, last_line, lines, many, status_of, with_bytes
+from rows import RULES, Form, last_line, lines, lines_in, status_of
+from tables import raw
 
 FIELDS = {"end": "exit 0", "steps": "5", "console": "-", "signature": "-", "verdict": "none"}
 REFUSED = {"image-unreadable", "bad-magic", "segment-map"}
@@ -39,9 +39,8 @@ def rows_text(jobs):
 
 def report_bytes(text):
     """The bytes of a report."""
-    parts = many(text).split(" | ")
-    whole = "".join(rows_text(part[1:]) if part.startswith("$") else lines(part) for part in parts)
-    return with_bytes(whole.removesuffix("<\n"))
+    whole = "".join(rows_text(line[1:]) if line.startswith("$") else lines(line) for line in text.split("\n"))
+    return raw(whole.removesuffix("<\n"))
 
 
 def jobs_of(report):
@@ -52,21 +51,20 @@ def jobs_of(report):
 # ---- reports that are read
 
 def check_broken(row):
-    """Where a report goes wrong, and the report."""
-    where, text = row.text.split(" = ", 1)
-    row.write("report", report_bytes(text))
-    told = ": the report is cut off" if where == "cut off" else f":{where.removeprefix('line ')}: no report has this line here"
+    """Where a report goes wrong."""
+    row.write("report", report_bytes(row["report"]))
+    line = row["wrong"].removeprefix("line ")
+    told = ": the report is cut off" if row["wrong"] == "cut off" else f":{line}: no report has this line here"
     row.wants(["show", "report"], 2, "", f"rvtest: report{told}\n")
 
 
 def check_read(row):
-    """What merging says of a report, how it differs from that of the same jobs with no field given, and the report."""
-    merged, differences, text = row.text.split(" = ")
-    report = report_bytes(text)
+    """What merging says of a report, and how it differs from that of the same jobs with no field given."""
+    report = report_bytes(row["report"])
     row.write("report", report)
-    row.write("plain", "".join(row_text(job) for job in jobs_of(report)) + lines(text.split(" | ")[-1]))
-    wants_merged(row, merged, "report")
-    wants_differences(row, ["--steps"], differences, "plain", "report")
+    row.write("plain", "".join(row_text(job) for job in jobs_of(report)) + lines(row["report"].split("\n")[-1]))
+    wants_merged(row, row["merged"], "report")
+    wants_differences(row, ["--steps"], row["differs"], "plain", "report")
     for end in reversed(range(len(report))):
         os.truncate(row.folder / "report", end)
         row.wants(["show", "report"], 2, "", "rvtest: report: the report is cut off\n")
@@ -87,43 +85,40 @@ def report_row(number, name, text):
 
 
 def check_saved(row):
-    """The line of a row, the rule, and the row in a report."""
-    line, rule, text = row.cells(" | ")
-    row.write("report", report_row(1, "uart_rx", text) + "done 1\n")
-    last = last_line(line)
-    most = f"  {text.split('/')[2]} uart_rx"
-    row.wants(["show", "report", *RULES[rule][0]], status_of(last), lines(line, last, "most steps:", most))
+    """The line of a row in a report."""
+    row.write("report", report_row(1, "uart_rx", row["row"]) + "done 1\n")
+    last = last_line(row["told"])
+    most = f"  {row['row'].split('/')[2]} uart_rx"
+    row.wants(["show", "report", *RULES[row["rule"]][0]], status_of(last), lines(row["told"], last, "most steps:", most))
 
 
 def check_last(row):
-    """The last line, the rule, and the rows of a part."""
-    last, rule, texts = row.cells(" |")
-    rows = [report_row(number, f"job{number}", text) for number, text in enumerate(texts.split(), 1)]
+    """The last line of a part with these rows."""
+    rows = [report_row(number, f"job{number}", text) for number, text in enumerate(row["rows"].split(), 1)]
     row.write("part", "".join(rows) + f"part {len(rows)} of {len(rows)} shard 1/1 stamp one\n")
-    row.wants(["merge", "part", "--report", "/dev/null", *RULES[rule][0]], status_of(last), lines(last))
+    words = ["merge", "part", "--report", "/dev/null", *RULES[row["rule"]][0]]
+    row.wants(words, status_of(row["told"]), lines(row["told"]))
 
 
 def check_summary(row):
-    """The rule, what is shown, and the report."""
-    rule, shown, text = row.text.split(" = ")
-    row.write("report", report_bytes(text))
-    row.wants(["show", "report", *RULES[rule][0]], status_of(shown), lines(*shown.split(" | ")))
+    """What is shown of a report."""
+    row.write("report", report_bytes(row["report"]))
+    row.wants(["show", "report", *RULES[row["rule"]][0]], status_of(row["shown"]), lines(row["shown"]))
 
 
 # ---- what differs
 
 def check_difference(row):
-    """What differs, and the old report and the new one."""
-    differences, old, new = row.text.split(" = ")
-    row.write("old", report_bytes(old))
-    row.write("new", report_bytes(new))
-    wants_differences(row, row.settings.get("words", "").split(), differences, "old", "new")
+    """What differs between an old report and a new one."""
+    row.write("old", report_bytes(row["old"]))
+    row.write("new", report_bytes(row["new"]))
+    wants_differences(row, row["words"].split(), row["told"], "old", "new")
 
 
 def wants_differences(row, words, differences, *reports):
     """Compares reports, which differ in these lines: the status is 1 where a job differs."""
-    *_, last = told = differences.split(" | ")
-    row.wants(["diff", *words, *reports], 0 if last.startswith("0 of ") else 1, lines(*told))
+    last = differences.split("\n")[-1]
+    row.wants(["diff", *words, *reports], 0 if last.startswith("0 of ") else 1, lines(differences))
 
 
 # ---- JUnit's XML
@@ -133,18 +128,16 @@ NAME, WRITTEN = '<"\t', "&lt;&quot;&#9;"
 
 
 def check_suite(row):
-    """The rule, the document behind the name of its suite, and the report."""
-    rule, text, report = row.text.split(" = ")
-    row.write(NAME, report_bytes(report))
-    wants_suite(row, NAME, RULES[rule][0], WRITTEN, text.replace("$", WRITTEN))
+    """The document of a report, behind the name of its suite."""
+    row.write(NAME, report_bytes(row["report"]))
+    wants_suite(row, NAME, RULES[row["rule"]][0], WRITTEN, row["told"].replace("$", WRITTEN))
 
 
 def check_escaped(row):
-    """What stands for a console, and its bytes in hexadecimal digits."""
-    text, digits = row.text.split(" = ")
-    row.write("report", report_bytes(f"$1 a, console {digits} | done 1"))
-    case = f'<testcase classname="report" name="a"> | <system-out>5 steps | {text}</system-out> | </testcase>'
-    wants_suite(row, "report", [], "report", f'tests="1" failures="0" errors="0"> | {case}')
+    """What stands for the bytes of a console, which are in hexadecimal digits."""
+    row.write("report", report_bytes(f"$1 a, console {row['digits']}\ndone 1"))
+    case = f'<testcase classname="report" name="a">\n<system-out>5 steps\n{row["written"]}</system-out>\n</testcase>'
+    wants_suite(row, "report", [], "report", f'tests="1" failures="0" errors="0">\n{case}')
 
 
 def wants_suite(row, report, words, written, text):
@@ -153,18 +146,17 @@ def wants_suite(row, report, words, written, text):
     end = lines("</testsuite>", "</testsuites>")
     status = 0 if 'failures="0" errors="0"' in text else 1
     _, shown, _ = row.run(["show", report, *words])
-    row.wants(["show", report, *words, "--junit", "-"], status, begin + lines(*text.split(" | ")) + end, shown.decode())
+    row.wants(["show", report, *words, "--junit", "-"], status, begin + lines(text) + end, shown.decode())
 
 
 # ---- parts
 
 def check_merged(row):
-    """What the parts make, and the parts one, two and three."""
-    wanted, texts = row.text.split(" = ")
-    parts = dict(zip(("one", "two", "three"), texts.split(" & ")))
-    for name, text in parts.items():
-        row.write(name, report_bytes(text))
-    wants_merged(row, wanted, *parts)
+    """What the parts make that are given."""
+    parts = [name for name in ("one", "two", "three") if row[name]]
+    for name in parts:
+        row.write(name, report_bytes(row[name]))
+    wants_merged(row, row["told"], *parts)
 
 
 def wants_merged(row, wanted, *parts):
@@ -174,17 +166,17 @@ def wants_merged(row, wanted, *parts):
         return
     report = report_bytes(wanted)
     count = len(jobs_of(report))
-    row.wants(["merge", *parts], 0, report.decode(), f"{count} jobs: {count} passed, 0 failed, {5 * count} steps\n")
+    row.wants(["merge", *parts], 0, report, f"{count} jobs: {count} passed, 0 failed, {5 * count} steps\n")
 
 
 FORMS = {
-    "broken": check_broken,
-    "differences": check_difference,
-    "escaped": check_escaped,
-    "last": check_last,
-    "merged": check_merged,
-    "read": check_read,
-    "saved": check_saved,
-    "suites": check_suite,
-    "summaries": check_summary,
+    "broken": Form(check_broken, "wrong report"),
+    "differences": Form(check_difference, "words told old new"),
+    "escaped": Form(check_escaped, "written digits"),
+    "last": Form(check_last, "told rule rows"),
+    "merged": Form(check_merged, "told one two three"),
+    "read": Form(check_read, "merged differs report"),
+    "saved": Form(check_saved, "told rule row"),
+    "suites": Form(check_suite, "rule told report"),
+    "summaries": Form(check_summary, "rule shown report"),
 }
