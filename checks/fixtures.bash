@@ -21,59 +21,19 @@ cp "$(program rvfleet)" "$(program rvtest)" "$work"
 shim=$work/refuse_growth.so
 take_shim refuse_growth "$shim" || fail 'there is no shim of checks/refuse_growth.c: it was not compiled, and programs/ has none of this source'
 
-# The bytes that hexadecimal digits stand for; blanks between them count for nothing.
-bytes() {
-    printf '%b' "$(printf '%s' "$@" | tr -d '[:space:]' | sed 's/../\\x&/g')"
-}
-
-# The first 68 bytes of an ELF file of one segment, which is behind its program header. The segment stands at
-# 0x8000_0000, which is the entry.
-header='7f 45 4c 46 01 01 01 00 00 00 00 00 00 00 00 00
-        02 00 f3 00 01 00 00 00 00 00 00 80 34 00 00 00
-        00 00 00 00 00 00 00 00 34 00 20 00 01 00 28 00
-        00 00 00 00 01 00 00 00 54 00 00 00 00 00 00 80
-        00 00 00 80'
-
-# An ELF file whose one segment is the code given, of fewer than 256 bytes.
+# The maker of ELF files, which says what its words are.
+images=$PWD/checks/images.py
 image() {
-    local code=${*//[[:space:]]/} size
-    size=$(printf '%02x 00 00 00' $((${#code} / 2)))
-    bytes "$header" "$size" "$size" '07 00 00 00 04 00 00 00' "$code"
+    python3 "$images" "$@"
 }
 
-# An ELF file with symbols: its code stores two quotients between begin_signature and end_signature.
-signed_image() {
-    bytes '7f 45 4c 46 01 01 01 00 00 00 00 00 00 00 00 00
-           02 00 f3 00 01 00 00 00 00 00 00 80 34 00 00 00
-           d4 00 00 00 00 00 00 00 34 00 20 00 01 00 28 00
-           03 00 00 00 01 00 00 00 54 00 00 00 00 00 00 80
-           00 00 00 80 30 00 00 00 30 00 00 00 07 00 00 00
-           04 00 00 00 97 02 00 00 b7 05 00 80 13 06 f0 ff
-           33 c5 c5 02 23 a4 a2 02 33 c5 05 02 23 a6 a2 02
-           93 08 d0 05 13 05 00 00 73 00 00 00 00 00 00 00
-           00 00 00 00 00 00 00 00 00 00 00 00 00 00 00 00
-           00 00 00 00 01 00 00 00 28 00 00 80 00 00 00 00
-           10 00 f1 ff 11 00 00 00 30 00 00 80 00 00 00 00
-           10 00 f1 ff 00 62 65 67 69 6e 5f 73 69 67 6e 61
-           74 75 72 65 00 65 6e 64 5f 73 69 67 6e 61 74 75
-           72 65 00 00 00 00 00 00 00 00 00 00 00 00 00 00
-           00 00 00 00 00 00 00 00 00 00 00 00 00 00 00 00
-           00 00 00 00 00 00 00 00 00 00 00 00 00 00 00 00
-           02 00 00 00 00 00 00 00 00 00 00 00 84 00 00 00
-           30 00 00 00 02 00 00 00 01 00 00 00 04 00 00 00
-           10 00 00 00 00 00 00 00 03 00 00 00 00 00 00 00
-           00 00 00 00 b4 00 00 00 1f 00 00 00 00 00 00 00
-           00 00 00 00 01 00 00 00 00 00 00 00'
-}
-
-# Sets x10 to 5 and x17 to 93, then ECALL.
-add_and_exit='13 05 50 00 93 08 d0 05 73 00 00 00'
-ebreak='02 90'
-bytes "$add_and_exit" >"$work/first.bin"
-image "$add_and_exit" >"$work/a.elf"
-image "$ebreak" >"$work/f.elf"
-head -c 51 "$work/a.elf" >"$work/cut.elf"
-signed_image >"$work/s.elf"
+# Sets x10 to 5 and x17 to 93, then ECALL; the same as an image; one that ends at EBREAK, one that is cut off, and one with symbols, whose
+# code stores two quotients between begin_signature and end_signature.
+image --flat '00500513 X' >"$work/first.bin"
+image one >"$work/a.elf"
+image 9002 >"$work/f.elf"
+image 'one 51' >"$work/cut.elf"
+image sign >"$work/s.elf"
 
 cat >"$work/list.toml" <<'END'
 [[job]]

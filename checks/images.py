@@ -1,15 +1,26 @@
-"""Images for checks, by lines of words, as the crate `samples` makes them for tests, and by what their runs come to.
+#!/usr/bin/env python3
+"""Images for checks and measurements: ELF files by lines of words, and by what their runs come to.
 
-`one` or `two` segments, `sign` for the image with a signature, or the example firmware, `checksum`, `upper` or `stripped`, which is
-`upper` without symbols; and then changes: `24=90000000` puts the number at byte 24, little-endian, and `51` keeps the first 51
-bytes. Behind `code`, or alone, stand numbers, which are the bytes of the one segment. Behind an `@` stand symbols, as
+    checks/images.py WORDS >FILE           the file that the words stand for
+    checks/images.py --flat NUMBERS >FILE  the bytes of the numbers alone
+    checks/images.py --of FILE >FILE       the file whose one segment has the bytes of a flat image
+
+`one` or `two` segments, `sign` for the image with a signature (files of checks/images), or the example firmware, `checksum`, `upper` or
+`stripped`, which is `upper` without symbols; and then changes: `24=90000000` puts the number at byte 24, little-endian, and `51` keeps
+the first 51 bytes. Behind `code`, or alone, stand numbers, which are the bytes of the one segment. Behind an `@` stand symbols, as
 `main=80000010/12/0001`: a name, its value, `st_info` and the index of its section; and behind a `!` changes of all that.
 """
 import pathlib
 import re
 import struct
+import sys
 
-SAMPLES = pathlib.Path(__file__).resolve().parent.parent / "crates/samples/src/images.rt"
+HERE = pathlib.Path(__file__).resolve().parent
+FIRMWARE = HERE.parent / "examples/firmware"
+FILES = {
+    "one": HERE / "images/one.elf", "two": HERE / "images/two.elf", "sign": HERE / "images/sign.elf",
+    "stripped": HERE / "images/stripped.elf", "checksum": FIRMWARE / "checksum.elf", "upper": FIRMWARE / "upper.elf",
+}
 
 BASE = 0x8000_0000
 # Where the signature of a made image stands.
@@ -27,22 +38,33 @@ ENDS = {"budget": 0x0000006f, "illegal": 0, "breakpoint": 0x00100073, "load-acce
 VALUES = {"illegal": 0, "load-access": 0x10}
 
 
-def samples():
-    """The images of the crate's own: arrays of bytes, and texts of hexadecimal digits."""
-    text = SAMPLES.read_text(encoding="ascii")
-    arrays = re.findall(r"pub(?:\(crate\))? const (\w+): \[u8; \d+\] = \[(.*?)\];", text, re.S)
-    digits = re.findall(r'pub(?:\(crate\))? const (\w+): &str = "\\\n(.*?)";', text, re.S)
-    images = {name: bytes.fromhex("".join(re.findall("0x(..)", array))) for name, array in arrays}
-    images.update((name, bytes.fromhex(re.sub(r"[\\\s]", "", text))) for name, text in digits)
-    names = {
-        "one": "ONE_SEGMENT", "two": "TWO_SEGMENTS", "sign": "SIGNATURE",
-        "checksum": "CHECKSUM", "upper": "UPPER", "stripped": "UPPER_STRIPPED",
-    }
-    return {word: images[name] for word, name in names.items()}
+IMAGES = {word: path.read_bytes() for word, path in FILES.items()}
 
 
-IMAGES = samples()
+# ---- parts of files
 
+def header(entry, programs, segments, sections=0, count=0):
+    """The header of an executable: its entry, and of its program headers and its section headers the place and the number."""
+    fields = struct.pack("<HHIIIIIHHHHHH", 2, 243, 1, entry, programs, sections, 0, 52, 32, segments, 40, count, 0)
+    return b"\x7fELF\x01\x01\x01" + bytes(9) + fields
+
+
+def segment(offset, address, size):
+    """A program header of bytes that are loaded where they run."""
+    return struct.pack("<8I", 1, offset, address, address, size, size, 7, 4)
+
+
+def section(kind, offset, size, link=0, info=0, align=0, entsize=0):
+    """A section header, of a section at a place of the file."""
+    return struct.pack("<10I", 0, kind, 0, 0, offset, size, link, info, align, entsize)
+
+
+def entry_of(name_at, value, info=0, section_at=0):
+    """A symbol table's entry of a name at a place of the strings."""
+    return struct.pack("<IIIBBH", name_at, value, 0, info, 0, section_at)
+
+
+# ---- files
 
 def numbers(text):
     """The bytes of numbers that spaces part, each little-endian: `0001*3` is three times 0001, and `X` the exit call."""
@@ -72,20 +94,17 @@ def changed(data, changes):
 
 def program(code):
     """The file whose one segment has these bytes."""
-    size = struct.pack("<I", len(code))
-    return IMAGES["one"][:68] + size + size + IMAGES["one"][76:84] + code
+    return header(BASE, 52, 1) + segment(84, BASE, len(code)) + code
 
 
 def with_symbols(data, symbols):
     """A file with a symbol table, a string table and their section headers behind it, of names with their fields as numbers."""
     table, strings = bytes(16), b"\0"
-    for name, value, info, section in symbols:
-        table += struct.pack("<IIIBBH", len(strings), value, 0, info, 0, section)
+    for name, value, info, section_at in symbols:
+        table += entry_of(len(strings), value, info, section_at)
         strings += name + b"\0"
     names_at = len(data) + len(table)
-    headers = bytes(40)
-    headers += struct.pack("<10I", 0, 2, 0, 0, len(data), len(table), 2, 0, 4, 16)
-    headers += struct.pack("<10I", 0, 3, 0, 0, names_at, len(strings), 0, 0, 1, 0)
+    headers = bytes(40) + section(2, len(data), len(table), 2, 0, 4, 16) + section(3, names_at, len(strings), align=1)
     data = changed(data, f"32={names_at + len(strings):08x} 46=0028 48=0003")
     return data + table + strings + headers
 
@@ -143,10 +162,10 @@ def with_signature(code, words):
 
 def elf(entry, parts):
     """The file with this entry and a segment for each part, which is an address and the bytes there."""
-    data = changed(IMAGES["one"][:52], f"24={entry:08x} 44={len(parts):04x}")
+    data = header(entry, 52, len(parts))
     place = len(data) + 32 * len(parts)
     for address, code in parts:
-        data += struct.pack("<8I", 1, place, address, address, len(code), len(code), 7, 4)
+        data += segment(place, address, len(code))
         place += len(code)
     return data + b"".join(code for _, code in parts)
 
@@ -155,3 +174,21 @@ def loading(register, value):
     """LUI and ADDI that give a register a value."""
     upper, lower = (value + 0x800) >> 12 & 0xfffff, value & 0xfff
     return [upper << 12 | register << 7 | 0x37, lower << 20 | register << 15 | register << 7 | 0x13]
+
+
+# ---- the command
+
+def main(words):
+    if len(words) == 2 and words[0] == "--flat":
+        data = numbers(words[1])
+    elif len(words) == 2 and words[0] == "--of":
+        data = program(pathlib.Path(words[1]).read_bytes())
+    elif len(words) == 1 and not words[0].startswith("-"):
+        data = image(words[0])
+    else:
+        sys.exit("usage: images.py WORDS | --flat NUMBERS | --of FILE")
+    sys.stdout.buffer.write(data)
+
+
+if __name__ == "__main__":
+    main(sys.argv[1:])
