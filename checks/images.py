@@ -11,7 +11,6 @@ the first 51 bytes. Behind `code`, or alone, stand numbers, which are the bytes 
 `main=80000010/12/0001`: a name, its value, `st_info` and the index of its section; and behind a `!` changes of all that.
 """
 import pathlib
-import re
 import struct
 import sys
 

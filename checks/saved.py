@@ -7,7 +7,7 @@ are the rows of j1 to j9, and a `<` at the end takes the last line feed away.
 import os
 import re
 
-from rows import RULES, Form, last_line, lines, lines_in, status_of
+from rows import RULES, Form, last_line, lines, status_of
 from tables import raw
 
 FIELDS = {"end": "exit 0", "steps": "5", "console": "-", "signature": "-", "verdict": "none"}

@@ -30,6 +30,7 @@ SCRIPTS = {
     "merge": ([], True),
     "launch": ([], False),
     "streams": ([], True),
+    "lint": ([], False),
     "memory": ([], False),
     "doors": ([], False),
     "samples": ([], False),

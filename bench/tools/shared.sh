@@ -1,3 +1,4 @@
+# shellcheck shell=bash
 # What the benchmarks of fleets, job lists and hostile input share. Sourced at the repository's root by bash.
 
 # shellcheck disable=SC2034  # for the scripts that source this one
