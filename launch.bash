@@ -122,12 +122,13 @@ not_had() {
     exit 3
 }
 
-# Proves and builds one crate. `rt run` also runs what it builds: asked for help, a program reads nothing and ends with status 0.
+# Proves and builds one crate, by so many lanes. `rt run` also runs what it builds: asked for help, a program reads nothing and ends with
+# status 0.
 build_crate() {
     cd "$root/crates/$1" || return 1
     case " ${programs[*]} " in
-        *" $1 "*) exec rt run --jobs 1 -- --help ;;
-        *) exec rt lib --jobs 1 ;;
+        *" $1 "*) exec rt run --jobs "$2" -- --help ;;
+        *) exec rt lib --jobs "$2" ;;
     esac
 }
 
@@ -141,19 +142,29 @@ is_startable() {
     done
 }
 
-# Starts the crates that stand on built ones alone, in the order of crates.txt, while there is a lane.
+# Starts the crates that stand on built ones alone, in the order of crates.txt, while a lane is free. Where there are more lanes than
+# crates, each takes several.
 start_crates() {
-    local crate
+    local crate jobs startable=()
     for crate in "${names[@]}"; do
-        [ ${#running[@]} -lt "$most" ] || return 0
-        is_startable "$crate" || continue
-        # A process group of its own, for end_build to end whole.
-        set -m
-        build_crate "$crate" >"$log.$crate" 2>&1 </dev/null &
-        running[$!]=$crate
-        set +m
-        state[$crate]=running
+        ! is_startable "$crate" || startable+=("$crate")
     done
+    while [ ${#startable[@]} -gt 0 ] && [ "$free" -gt 0 ]; do
+        jobs=$((free / ${#startable[@]}))
+        start_crate "${startable[0]}" $((jobs > 0 ? jobs : 1))
+        startable=("${startable[@]:1}")
+    done
+}
+
+start_crate() {
+    # A process group of its own, for end_build to end whole.
+    set -m
+    build_crate "$1" "$2" >"$log.$1" 2>&1 </dev/null &
+    running[$!]=$1
+    set +m
+    state[$1]=running
+    taken[$1]=$2
+    free=$((free - $2))
 }
 
 # Waits for one of the crates, and says how far the build is.
@@ -171,6 +182,7 @@ await_crate() {
     fi
     state[$crate]=built
     built=$((built + 1))
+    free=$((free + taken[$crate]))
     echo "$asked: $crate, $built of ${#names[@]} crates, $((SECONDS - began)) s" >&2
 }
 
@@ -192,8 +204,8 @@ end_build() {
 }
 
 build() {
-    local began=$SECONDS built=0 most signal crate libraries names=()
-    local -A needs=() state=() running=()
+    local began=$SECONDS built=0 free signal crate libraries names=()
+    local -A needs=() state=() taken=() running=()
     command -v rt >/dev/null ||
         not_had "$(why_not_stored "$asked" "$1"), and there is no rt to build one: install the Rattle kit, or set RVFLEET_BIN to a folder with the programs"
     if ! mkdir -p "$(dirname "$log")" || ! : >"$log"; then
@@ -204,8 +216,8 @@ build() {
         needs[$crate]=$libraries
         state[$crate]=waiting
     done < <(crate_lines)
-    most=$(lanes)
-    echo "$asked: builds and proves the ${#names[@]} crates of both programs, once for these sources, $most at a time: some 20 minutes on four cores; $log has what the build says" >&2
+    free=$(lanes)
+    echo "$asked: builds and proves the ${#names[@]} crates of both programs, once for these sources, by $free lanes: some 20 minutes on four cores; $log has what the build says" >&2
     for signal in INT TERM HUP PIPE; do
         # shellcheck disable=SC2064 # the signal's name now
         trap "end_build $signal" "$signal"

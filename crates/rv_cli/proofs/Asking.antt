@@ -23,11 +23,11 @@ use Rattle.clap.proofs.WalkLemmas.{both}
 use Rattle.rv_cli.proofs.Matching.{AreGood, EachOf, IsRead, IsThere, found_of_each, help_good, level_read}
 use Rattle.rv_cli.proofs.Matching.{there_if_given, there_if_had, value_good, value_there}
 use Rattle.rv_cli.proofs.Numerals.{test_gives, test_holds}
-use Rattle.rv_cli.specs.declared.command.Request.{Request as Value}
-use Rattle.rv_cli.specs.Requests.{request}
-use Rattle.rv_cli.specs.CommandLine.{budget_rule, fleet_app, is_taken, one_in}
+use Rattle.rv_cli.specs.declared.rvfleet.Request.{Request as Value}
+use Rattle.rv_cli.specs.RvfleetRequests.{request}
+use Rattle.rv_cli.specs.RvfleetCommand.{budget_rule, fleet_app, is_taken, one_in}
 use Rattle.rv_cli.specs.Values.{number_in, number_of, number_within}
-use Rattle.rv_cli.specs.CommandLine.{raw_in, request_in, request_of, run_in}
+use Rattle.rv_cli.specs.RvfleetCommand.{raw_in, request_in, request_of, run_in}
 
 -- ---- numbers
 

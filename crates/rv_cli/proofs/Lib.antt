@@ -1,3 +1,4 @@
+mod RvtestReading
 pub mod Asking
 pub mod Commands
 pub mod Matching

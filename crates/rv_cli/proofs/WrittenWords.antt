@@ -3,7 +3,7 @@ use Rattle.std.proofs.Common.{◌≡◌, refl, true, false, [], ◌∷◌, None,
 use Rattle.clap.specs.Words.{fault_of, takes}
 use Rattle.clap.specs.declared.error.kind.ErrorKind.TheVariants as kind
 use Rattle.clap.proofs.OnLiterals.{clap_on_literals}
-use Rattle.rv_cli.specs.CommandLine.{fleet_app, one, raw, request_of, run}
+use Rattle.rv_cli.specs.RvfleetCommand.{fleet_app, one, raw, request_of, run}
 
 raw_is_taken : takes fleet_app (codes "rvfleet" ∷ codes "raw" ∷ codes "--budget" ∷ codes "3" ∷ []) ≡ true
 unfolding clap_on_literals

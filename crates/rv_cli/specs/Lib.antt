@@ -1,4 +1,7 @@
+pub mod RvtestAsked
+pub mod RvtestCommand
+pub mod RvtestWords
 pub mod Building
-pub mod CommandLine
-pub mod Requests
+pub mod RvfleetCommand
+pub mod RvfleetRequests
 pub mod Values

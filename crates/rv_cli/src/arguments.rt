@@ -3,7 +3,7 @@
 ghost use Rattle.std.specs.Prelude.{◌≡◌, false};
 ghost use Rattle.clap.specs.Words.{rule_of};
 ghost use Rattle.rv_cli.specs.Building.{option_rule, word_rule};
-ghost use Rattle.rv_cli.specs.CommandLine.{group_rule};
+ghost use Rattle.rv_cli.specs.RvfleetCommand.{group_rule};
 
 use clap::{Arg, value_parser};
 use std::alloc::Global;

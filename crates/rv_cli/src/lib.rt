@@ -1,15 +1,11 @@
-//! The words of `rvfleet`: what they ask for, read by `clap`; and, for other commands too, how a command is built and values that
-//! `clap` found.
+//! The words of both programs: what a person asks for, read by `clap`.
 //!
-//! [`read_words`] reads the words of a process. Its error is `clap`'s own; help is one.
+//! [`rvfleet::read_words`] and [`rvtest::read_words`] read the words of a process. Their error is `clap`'s own, or has the
+//! form of those; help and the version are errors, too.
 #![tactic(auto)]
 
 mod arguments;
 mod building;
-mod command;
+pub mod rvfleet;
+pub mod rvtest;
 mod values;
-
-pub use arguments::{group, option, word};
-pub use building::{Built, with_argument, with_command};
-pub use command::{Request, read_words};
-pub use values::{number, text};

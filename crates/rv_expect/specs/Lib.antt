@@ -7,6 +7,5 @@ pub mod Passing
 pub mod Ways
 pub mod Met
 pub mod Refusal
-pub mod Change
 pub mod Problem
 pub mod TwoEnds

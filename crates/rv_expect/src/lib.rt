@@ -8,7 +8,6 @@
 //! [`expects_two_ends`] never passes ([`two_ends_fail`]).
 #![tactic(auto)]
 
-mod change;
 mod difference;
 mod law;
 mod met;
@@ -17,15 +16,10 @@ mod planned;
 mod problem;
 mod reference;
 mod refusal;
-mod sides;
 mod two_ends;
 mod unmet;
 mod ways;
 
-pub use change::{
-    Change, change_of, same_console, same_ending, same_signature, same_steps, same_verdict,
-    verdict_text,
-};
 pub use difference::{Difference, SameDifference, SignatureDifference};
 pub use law::{
     differences_are_first, nothing_is_unmet_where_a_job_passes, references_are_lines_of_words,
@@ -37,7 +31,6 @@ pub use planned::named_row;
 pub use problem::{is_error, is_failure};
 pub use reference::words_or_none;
 pub use refusal::{is_file_inside, load_address, unfit_segment};
-pub use sides::{behind, sides_from};
 pub use two_ends::{expects_two_ends, two_ends_fail};
 pub use unmet::{Unmet, unmet_expectations};
 pub use ways::{WAYS, fails_by};

@@ -10,7 +10,7 @@ use Rattle.std.proofs.lemmas.Grind.{flat_map-append}
 use Rattle.std.proofs.lemmas.List.{length-take, take_all}
 use Rattle.std.proofs.lemmas.List.Sums.{count_by-le-length, count_by_more_no, count_by_more_yes}
 use Rattle.rv_job_text.specs.LastLine.{bracket, failures_below, opened, way_name}
-use Rattle.rv_job_text.proofs.Appended.{more}
+use Rattle.rv_text.proofs.Public.{more}
 
 -- ---- the elements that pass a test, among so many
 

@@ -1,5 +1,4 @@
-pub mod Pieces
+pub mod Chains
+pub mod Told
 pub mod ConsoleLines
 pub mod Counts
-pub mod Appended
-pub mod Public

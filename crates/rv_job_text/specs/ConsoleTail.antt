@@ -4,7 +4,7 @@ use Rattle.std.specs.Prelude.{length}
 use Rattle.std.specs.List.{flat_map, onto_first}
 use Rattle.rv_rows.specs.Report.{line}
 use Rattle.rv_job_text.specs.declared.console_tail.TheConstants.{TAIL_BYTES, TAIL_LINES}
-use Rattle.rv_job_text.specs.Shown.{shown}
+use Rattle.rv_text.specs.Shown.{shown}
 
 -- the last elements of a list: so many, or all where there are fewer
 abbrev pub last_of : {X : Type 0} → ℕ → List X → List X

@@ -1,5 +1,11 @@
-pub mod Shown
-pub mod Spans
+pub mod Files
+pub mod UnreadFiles
+pub mod UnmetLines
+pub mod MetLines
+pub mod ImageReasons
+pub mod Reasons
+pub mod WayToEnd
+pub mod Telling
 pub mod ConsoleTail
 pub mod ResultLine
 pub mod LastLine

@@ -1,28 +1,16 @@
 -- The line that says how a job ended.
 use Rattle.std.specs.Prelude.{ℕ, Bool, List, [], ◌++◌, Option, Some, None, codes, if◌then◌else◌}
-use Rattle.std.specs.Fmt.{decimal, digits}
-use Rattle.std.specs.Prelude.{false}
+use Rattle.std.specs.Fmt.{decimal}
 use Rattle.rv_machine.specs.Faults.{fault_name}
 use Rattle.rv_rows.specs.declared.row.Row.{Row}
 use Rattle.rv_rows.specs.declared.row.RowEnd.{RowEnd}
 use Rattle.rv_rows.specs.declared.row.RowEnd.TheVariants as ending
-use Rattle.rv_rows.specs.Report.{line, refusal_name, word_digits}
+use Rattle.rv_rows.specs.Report.{line, refusal_name}
+use Rattle.rv_text.specs.Words.{word_digits}
 use Rattle.rv_expect.specs.declared.passing.Rule.{Rule}
 use Rattle.rv_expect.specs.Passing.{has_passed}
-use Rattle.rv_job_text.specs.Shown.{shown}
-
--- lower-case hexadecimal digits, without zeros in front
-abbrev pub hexadecimal : ℕ → List ℕ
-hexadecimal number = digits 16 false number
-
--- a place by the name of a symbol and the bytes past it
-unfoldable pub symbol_text : List ℕ × ℕ → List ℕ
-symbol_text place = shown place.0 ++ codes "+0x" ++ hexadecimal place.1
-
--- that of a place in code, where there is a symbol
-abbrev pub place_text : Option (List ℕ × ℕ) → List ℕ
-place_text None = []
-place_text (Some place) = codes " (" ++ symbol_text place ++ codes ")"
+use Rattle.rv_text.specs.Shown.{shown}
+use Rattle.rv_text.specs.Symbol.{place_text}
 
 -- why there is no run, in more than a word, where that is known
 abbrev pub reason_text : Option (List ℕ) → List ℕ

@@ -2,11 +2,9 @@
 
 ghost use Rattle.std.specs.Prelude.{◌≡◌, ◌≤◌, ◌<◌, ◌++◌, IfSome, MatchOption, OnOk, [], ◌∷◌, drop, length};
 ghost use Rattle.std.specs.List.{flat_map, position_or_len};
-ghost use Rattle.rv_job_text.specs.ConsoleTail.{console_line_shown, console_tail, is_feed, lines_of};
+ghost use Rattle.rv_job_text.specs.ConsoleTail.{console_line_shown, console_tail, is_feed, last_of, lines_of};
 
-use crate::slices::last_of;
-use crate::spans::{Span, push_spans};
-use rv_expect::behind;
+use rv_text::{Span, behind, push_spans};
 use std::alloc::AllocError;
 
 /// How many lines of a console are shown at most.
@@ -16,7 +14,7 @@ pub const TAIL_LINES: usize = 10;
 pub const TAIL_BYTES: usize = 1_024;
 
 /// Appends the last lines of a console, at most [`TAIL_LINES`] of its last [`TAIL_BYTES`] bytes. Each is shown as
-/// [`push_shown`](crate::push_shown) does, behind a margin, and has a line feed; the last one need have none in the console.
+/// [`push_shown`](rv_text::push_shown) does, behind a margin, and has a line feed; the last one need have none in the console.
 #[tactic(auto, unfolding(crate::specs::ConsoleTail::console_tail))]
 pub fn push_console_tail(bytes: &mut Vec<u8>, console: &[u8]) -> Result<(), AllocError>
     ensures { OnOk result (bytes.new.items ≡ bytes.old.items ++ console_tail console.now) }
@@ -90,4 +88,11 @@ fn line_len(text: &[u8]) -> usize
         }
     }
     text.len()
+}
+
+// The last bytes: so many, or all where there are fewer.
+fn last_of(text: &[u8], count: usize) -> &[u8]
+    ensures { result.now ≡ last_of count text.now }
+{
+    behind(text, text.len().saturating_sub(count))
 }

@@ -4,10 +4,10 @@ ghost use Rattle.std.specs.Prelude.{◌≡◌, ◌≤◌, ◌<◌, ◌-◌, ◌^
 ghost use Rattle.std.specs.Fmt.{decimal};
 ghost use Rattle.rv_job_text.specs.LastLine.{last_line, numbers_text, passed_count, steps_count};
 
-use crate::spans::{Span, push_spans};
 use crate::ways::push_bracket;
 use rv_expect::{Rule, has_passed};
 use rv_rows::Row;
+use rv_text::{Span, push_spans};
 use std::alloc::AllocError;
 
 /// Appends the last line of rows: how many jobs there were, how many passed and failed, how those that failed ended, and

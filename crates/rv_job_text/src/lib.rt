@@ -1,22 +1,36 @@
-//! The lines that a person sees of rows.
+//! The lines that a person reads of a job: the line of its row, and behind that of a job that failed the expectations that
+//! its run does not meet and the end of its console. Of an expectation it is told what was expected and what was met, and of
+//! a refused image why, with the addresses of segments beside the regions and the names of symbols.
 //!
-//! [`push_result`] appends the line of a row, [`push_console_tail`] the end of its console, and [`push_last_line`] the
-//! counts of all. [`push_spans`] appends what a line is put together from. [`push_shown`] shows text that comes from files, so that a terminal takes it as text:
-//! control characters and bytes of no character as `\xNN`.
+//! [`RowTelling`] is a [`Telling`](rv_stream::Telling) over a plan, and over what a store noted of the paths that it
+//! could not read. How much is told is a [`Verbosity`], and which rows pass a [`Rule`](rv_expect::Rule).
+//!
+//! [`push_result`] appends the line of a row alone, [`push_console_tail`] the end of its console, and [`push_last_line`] the
+//! counts of all rows.
 #![tactic(auto)]
 
 mod console_tail;
+mod difference_text;
+mod files;
+mod image_reason;
 mod last_line;
-mod parts;
+mod met_line;
+mod paths;
+mod reasons;
 mod result_line;
-mod shown;
-mod slices;
-mod spans;
+mod row_telling;
+mod segment_reason;
+mod signature_text;
+mod unmet_line;
+mod unread_files;
+mod verbosity;
+mod way_to_end;
 mod ways;
 
 pub use console_tail::{TAIL_BYTES, TAIL_LINES, push_console_tail};
 pub use last_line::push_last_line;
-pub use parts::{push_number, push_text, push_word};
-pub use result_line::{push_place, push_result, push_symbol};
-pub use shown::{VALUE_ROOM, push_shown, push_shown_value};
-pub use spans::{Span, push_spans, text_of};
+pub use reasons::reason_of;
+pub use result_line::push_result;
+pub use row_telling::RowTelling;
+pub use unread_files::kind_text;
+pub use verbosity::Verbosity;

@@ -3,21 +3,23 @@
 ghost use Rattle.std.specs.Prelude.{◌≡◌, ◌++◌, OnOk, codes, option_map};
 ghost use Rattle.std.specs.Fmt.{decimal};
 ghost use Rattle.rv_machine.specs.Faults.{fault_name};
-ghost use Rattle.rv_rows.specs.Report.{refusal_name, word_digits};
-ghost use Rattle.rv_job_text.specs.ResultLine.{ending_text, passing_word, place_text, reason_text};
-ghost use Rattle.rv_job_text.specs.ResultLine.{result_line, steps_text, symbol_text};
+ghost use Rattle.rv_rows.specs.Report.{refusal_name};
+ghost use Rattle.rv_text.specs.Words.{word_digits};
+ghost use Rattle.rv_job_text.specs.ResultLine.{ending_text, passing_word, reason_text};
+ghost use Rattle.rv_text.specs.Symbol.{place_text};
+ghost use Rattle.rv_job_text.specs.ResultLine.{result_line, steps_text};
+ghost use Rattle.rv_text.specs.Symbol.{symbol_text};
 
-use crate::parts::push_text;
-use crate::spans::{Span, push_spans};
 use rv_elf::SymbolAt;
 use rv_expect::{Rule, has_passed};
 use rv_machine::FaultKind;
 use rv_rows::{Refusal, Row, RowEnd};
+use rv_text::{Span, push_place, push_spans, push_text};
 use std::alloc::{AllocError, Global};
 
 /// Appends the line of a row: `PASS` or `FAIL`, the job's name, and how it ended. A fault's address is told by a symbol
 /// too where one is given, and a refusal by its reason where that is given. The symbol's name and the reason are shown as
-/// [`push_shown`] does.
+/// [`push_shown`](rv_text::push_shown) does.
 #[tactic(auto, unfolding(crate::specs::ResultLine::result_line))]
 pub fn push_result(
     alloc: Global,
@@ -135,58 +137,6 @@ fn push_budget(bytes: &mut Vec<u8>, steps: u32) -> Result<(), AllocError>
             Span::Text("budget used up after "),
             Span::Number(steps as u64),
             Span::Text(" steps"),
-        ],
-    )
-}
-
-/// Appends a place in brackets behind a space, where there is a symbol.
-pub fn push_place(
-    alloc: Global,
-    bytes: &mut Vec<u8>,
-    place: Option<SymbolAt<'_>>,
-) -> Result<(), AllocError>
-    ensures { OnOk result (bytes.new.items ≡ bytes.old.items
-        ++ place_text (option_map (λ s. (s.name.now, s.offset)) place.entry)) }
-{
-    match place {
-        Some(symbol) => push_symbol_between(alloc, bytes, " (", symbol, ")"),
-        None => Ok(()),
-    }
-}
-
-/// Appends a place by the name of a symbol, shown as [`push_shown`](crate::push_shown) does, and the bytes past it: `main+0x1c`.
-pub fn push_symbol(
-    alloc: Global,
-    bytes: &mut Vec<u8>,
-    symbol: SymbolAt<'_>,
-) -> Result<(), AllocError>
-    ensures { OnOk result (bytes.new.items ≡ bytes.old.items
-        ++ symbol_text (symbol.entry.name.now, symbol.entry.offset)) }
-{
-    push_symbol_between(alloc, bytes, "", symbol, "")
-}
-
-#[tactic(auto, unfolding(crate::specs::ResultLine::symbol_text))]
-fn push_symbol_between<'a>(
-    alloc: Global,
-    bytes: &mut Vec<u8>,
-    before: &'a str,
-    symbol: SymbolAt<'a>,
-    behind: &'a str,
-) -> Result<(), AllocError>
-    ensures { OnOk result (bytes.new.items ≡ bytes.old.items
-        ++ (before.now ++ symbol_text (symbol.entry.name.now, symbol.entry.offset) ++ behind.now)) }
-{
-    let offset = symbol.offset;
-    let digits = format!(in alloc; "{offset:x}")?;
-    push_spans(
-        bytes,
-        &[
-            Span::Text(before),
-            Span::Shown(symbol.name),
-            Span::Text("+0x"),
-            Span::Text(digits.as_str()),
-            Span::Text(behind),
         ],
     )
 }

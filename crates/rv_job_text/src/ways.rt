@@ -5,9 +5,9 @@ ghost use Rattle.std.specs.Fmt.{decimal};
 ghost use Rattle.rv_expect.specs.Ways.{ways};
 ghost use Rattle.rv_job_text.specs.LastLine.{bracket, failed_count, failures_below, way_name};
 
-use crate::spans::{Span, push_spans};
 use rv_expect::{Rule, WAYS, fails_by};
 use rv_rows::Row;
+use rv_text::{Span, push_spans};
 use std::alloc::AllocError;
 
 /// Appends in brackets the ways in which jobs failed, and how many; nothing where none did.

@@ -1,23 +1,14 @@
--- Laws of views: what is counted, and where a line is due.
-use Rattle.std.proofs.Common.{◌≡◌, ◌∙◌, refl, sym, ap, ℕ, zero, suc, ◌+◌, ◌==◌, List, [], ◌∷◌, ◌++◌, length}
-use Rattle.std.proofs.Common.{Bool, true, false, cond, Option, Some, None, arith, length-append, ne_eqb}
-use Rattle.std.specs.Prelude.{◌&&◌, count_by, is_none, not}
-use Rattle.std.specs.List.{flat_map, sum_by}
+-- What is counted: failures, errors and what passed.
+use Rattle.std.proofs.Common.{◌≡◌, refl, ℕ, suc, ◌+◌, List, [], ◌∷◌, length}
+use Rattle.std.proofs.Common.{Bool, true, false, cond, arith}
+use Rattle.std.specs.Prelude.{◌&&◌, count_by, not}
 use Rattle.std.proofs.lemmas.List.Sums.{sum_by-cons}
 use Rattle.rv_rows.specs.declared.row.Row.{Row}
-use Rattle.rv_rows.specs.Report.{line}
-use Rattle.rv_rows.specs.Verdict.{is_run, same_signature}
+use Rattle.rv_rows.specs.Verdict.{is_run}
 use Rattle.rv_expect.specs.declared.passing.Rule.{Rule}
 use Rattle.rv_job_text.specs.LastLine.{passed_count}
 use Rattle.rv_expect.specs.Passing.{has_passed}
-use Rattle.rv_expect.specs.Change.{rows_agree, same_console, same_ending, same_steps, same_verdict}
-use Rattle.rv_junit.specs.ByName.{row_named}
-use Rattle.rv_junit.specs.Diff.{difference_lines, differing, differing_count, gone_line, is_changed, lines_of_new}
-use Rattle.rv_junit.specs.Differences.{becomes, change_begin, change_line, change_lines, console_words, ending_words}
-use Rattle.rv_junit.specs.Differences.{signature_words, steps_words, verdict_words}
 use Rattle.rv_expect.specs.Problem.{is_error, is_failure}
-
--- ---- failures, errors and what passed
 
 one_of_three : (passed ran : Bool) (failures errors passes count : ℕ) → failures + errors + passes ≡ count →
     (cond (not passed && ran) 1 0 + failures) + (cond (not passed && not ran) 1 0 + errors)
@@ -37,89 +28,3 @@ all_are_counted rule (row ∷ rows) =
     )
     (one_of_three (has_passed rule row) (is_run row.ending) (count_by (is_failure rule) rows)
     (count_by (is_error rule) rows) (passed_count rule rows) (length rows) (all_are_counted rule rows))
-
--- ---- where a line is due
-
-none_of_two : (m n : ℕ) → (m + n == 0) ≡ ((m == 0) && (n == 0))
-none_of_two zero n = ap (λ k. k == 0) (omega arith)
-none_of_two (suc m) n =
-    ne_eqb (suc m + n) 0 (omega arith) ∙ sym (ap (λ b. b && (n == 0)) (ne_eqb (suc m) 0 (omega arith)))
-
-pub no_text : (xs ys : List ℕ) → (length (xs ++ ys) == 0) ≡ ((length xs == 0) && (length ys == 0))
-no_text xs ys = ap (λ n. n == 0) (length-append xs ys) ∙ none_of_two (length xs) (length ys)
-
-change_due : (name : List ℕ) (same : Bool) (words : List ℕ) → (length (change_line name same words) == 0) ≡ same
-change_due name true words = refl
-change_due name false words = ne_eqb (length (line (change_begin name ++ words))) 0 (omega arith)
-
-pub agree_where_none : (steps : Bool) (old new : Row) →
-    (length (change_lines steps old new) == 0) ≡ rows_agree steps old new
-unfolding change_lines rows_agree
-agree_where_none steps old new =
-    let ending = change_line new.name (same_ending steps old.ending new.ending)
-    (becomes (ending_words old.ending) (ending_words new.ending)) in
-    let counts = change_line new.name (same_steps steps old new) (steps_words old.steps new.steps) in
-    let console = change_line new.name (same_console old new) (console_words old.console new.console) in
-    let signature = change_line new.name (same_signature old.signature new.signature)
-    (signature_words old.signature new.signature) in
-    let verdict = change_line new.name (same_verdict old.verdict new.verdict)
-    (verdict_words old.verdict new.verdict) in
-    no_text (ending ++ counts ++ console ++ signature) verdict
-    ∙ ap (λ b. b && (length verdict == 0)) (no_text (ending ++ counts ++ console) signature
-    ∙ ap (λ b. b && (length signature == 0)) (no_text (ending ++ counts) console
-    ∙ ap (λ b. b && (length console == 0)) (no_text ending counts)))
-    ∙ (λ i. change_due new.name (same_ending steps old.ending new.ending)
-    (becomes (ending_words old.ending) (ending_words new.ending)) i
-    && change_due new.name (same_steps steps old new) (steps_words old.steps new.steps) i
-    && change_due new.name (same_console old new) (console_words old.console new.console) i
-    && change_due new.name (same_signature old.signature new.signature)
-    (signature_words old.signature new.signature) i
-    && change_due new.name (same_verdict old.verdict new.verdict) (verdict_words old.verdict new.verdict) i)
-
--- texts of elements are nothing where all weigh nothing
-none_of_all : {X : Type 0} (text : X → List ℕ) (weight : X → ℕ) →
-    ((x : X) → (length (text x) == 0) ≡ (weight x == 0)) → (xs : List X) →
-    (length (flat_map text xs) == 0) ≡ (sum_by weight xs == 0)
-none_of_all text weight each [] = refl
-none_of_all text weight each (x ∷ xs) =
-    no_text (text x) (flat_map text xs)
-    ∙ (λ i. each x i && none_of_all text weight each xs i)
-    ∙ sym (none_of_two (weight x) (sum_by weight xs))
-    ∙ ap (λ n. n == 0) (sym (sum_by-cons weight x xs))
-
-sum_of_two : {X : Type 0} (f g : X → ℕ) (xs : List X) →
-    sum_by (λ x. f x + g x) xs ≡ sum_by f xs + sum_by g xs
-sum_of_two f g [] = refl
-sum_of_two f g (x ∷ xs) =
-    rw (sum_by-cons (λ y. f y + g y) x xs, sum_by-cons f x xs, sum_by-cons g x xs)
-    (omega (arith, sum_of_two f g xs))
-
-gone_due : (other : Option Row) (row : Row) →
-    (length (gone_line other row) == 0) ≡ (cond (is_none other) 1 0 == 0)
-gone_due None row = ne_eqb (length (gone_line None row)) 0 (omega arith)
-gone_due (Some other) row = refl
-
-changed_due : (agree : Bool) → agree ≡ (0 + cond (not agree) 1 0 == 0)
-changed_due true = refl
-changed_due false = refl
-
-new_due : (steps : Bool) (other : Option Row) (row : Row) →
-    (length (lines_of_new steps other row) == 0)
-    ≡ (cond (is_none other) 1 0 + cond (is_changed steps other row) 1 0 == 0)
-new_due steps None row = ne_eqb (length (lines_of_new steps None row)) 0 (omega arith)
-new_due steps (Some old) row = agree_where_none steps old row ∙ changed_due (rows_agree steps old row)
-
-pub differ_where_due : (steps : Bool) (old new : List Row) →
-    (length (difference_lines steps old new) == 0) ≡ (differing_count (differing steps old new) == 0)
-differ_where_due steps old new =
-    let gone : Row → ℕ = λ row. cond (is_none (row_named new row.name)) 1 0 in
-    let added : Row → ℕ = λ row. cond (is_none (row_named old row.name)) 1 0 in
-    let changed : Row → ℕ = λ row. cond (is_changed steps (row_named old row.name) row) 1 0 in
-    no_text (flat_map (λ row. gone_line (row_named new row.name) row) old)
-    (flat_map (λ row. lines_of_new steps (row_named old row.name) row) new)
-    ∙ (λ i. none_of_all (λ row. gone_line (row_named new row.name) row) gone
-    (λ row. gone_due (row_named new row.name) row) old i
-    && none_of_all (λ row. lines_of_new steps (row_named old row.name) row) (λ row. added row + changed row)
-    (λ row. new_due steps (row_named old row.name) row) new i)
-    ∙ sym (none_of_two (sum_by gone old) (sum_by (λ row. added row + changed row) new))
-    ∙ ap (λ n. n == 0) (omega (arith, sum_of_two added changed new))

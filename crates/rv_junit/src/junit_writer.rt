@@ -8,9 +8,9 @@ ghost use Rattle.rv_junit.specs.Junit.{junit_text};
 
 use crate::junit::{push_begin, push_case};
 use rv_expect::Rule;
-use rv_job_text::push_text;
 use rv_rows::{Row, Sink, WriteError, put_all};
 use rv_stream::{Telling, put_told};
+use rv_text::push_text;
 use std::alloc::{AllocError, Global};
 
 /// Writes rows as JUnit's XML: one suite of a name, and in order one case a row, with its steps and its console. A failed

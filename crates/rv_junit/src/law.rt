@@ -1,14 +1,11 @@
-//! Laws of views, with nothing to run.
+//! Laws of JUnit's XML, with nothing to run.
 
-ghost use Rattle.std.specs.Prelude.{◌≡◌, ◌==◌, ◌+◌, ◌<◌, ◌^◌, ℕ, Bool, List, count_by, length};
+ghost use Rattle.std.specs.Prelude.{◌≡◌, ◌+◌, ◌<◌, ◌^◌, ℕ, List, count_by, length};
 ghost use Rattle.std.specs.List.{AllByRecursion};
 ghost use Rattle.hex.specs.Hex.{IsBytes};
 ghost use Rattle.rv_rows.specs.declared.row.Row.{Row};
 ghost use Rattle.rv_expect.specs.declared.passing.Rule.{Rule};
 ghost use Rattle.rv_job_text.specs.LastLine.{passed_count};
-ghost use Rattle.rv_junit.specs.Diff.{difference_lines, differing, differing_count};
-ghost use Rattle.rv_expect.specs.Change.{rows_agree};
-ghost use Rattle.rv_junit.specs.Differences.{change_lines};
 ghost use Rattle.rv_expect.specs.Problem.{is_error, is_failure};
 ghost use Rattle.rv_junit.specs.Junit.{IsWrittenRow, junit_text};
 ghost use Rattle.rv_text.specs.Xml.{IsXmlCharacters};
@@ -25,17 +22,4 @@ pub fn failures_and_errors_are_what_did_not_pass()
     ensures { (rule : Rule) (rows : List Row)
         → count_by (is_failure rule) rows + count_by (is_error rule) rows + passed_count rule rows
         ≡ length rows }
-{}
-
-/// Of two rows of one name a line is due exactly where they do not agree.
-pub fn rows_agree_where_no_line_is_due()
-    ensures { (steps : Bool) (old new : Row)
-        → (length (change_lines steps old new) == 0) ≡ rows_agree steps old new }
-{}
-
-/// Of two reports a line is due exactly where some job differs.
-pub fn jobs_differ_where_a_line_is_due()
-    ensures { (steps : Bool) (old new : List Row)
-        → (length (difference_lines steps old new) == 0)
-        ≡ (differing_count (differing steps old new) == 0) }
 {}

@@ -2,7 +2,7 @@
 use Rattle.std.proofs.Common.{◌≡◌, ◌+◌, ℕ, List, [], ◌∷◌, ◌++◌, append-nil, append_assoc, arith, length-append}
 use Rattle.std.proofs.Common.{refl, sym}
 use Rattle.std.proofs.lemmas.List.Concat.{flat_map-append}
-use Rattle.rv_job_text.specs.Shown.{shown}
+use Rattle.rv_text.specs.Shown.{shown}
 use Rattle.rv_list_errors.specs.Lines.{PutsLines, line_of}
 
 -- no line

@@ -1,7 +1,7 @@
 -- The lines that tell faults.
 use Rattle.std.specs.Prelude.{◌≡◌, ◌++◌, ℕ, List, [], ◌∷◌, length}
 use Rattle.std.specs.List.{flat_map}
-use Rattle.rv_job_text.specs.Shown.{shown}
+use Rattle.rv_text.specs.Shown.{shown}
 
 -- a message as text that a terminal takes as text, and a line feed
 abbrev pub line_of : List ℕ → List ℕ

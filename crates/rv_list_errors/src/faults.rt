@@ -5,8 +5,8 @@ ghost use Rattle.rv_list_errors.specs.Lines.{PutsLines};
 
 use crate::list::List;
 use crate::texts::{Look, message_of};
-use rv_job_text::{Span, push_spans};
 use rv_lists::JobError;
+use rv_text::{Span, push_spans};
 use std::alloc::{AllocError, Global};
 use toml::Table;
 

@@ -1,6 +1,6 @@
 //! A text that grows.
 
-use rv_job_text::{push_number, push_shown_value, push_text, push_word};
+use rv_text::{push_number, push_shown_value, push_text, push_word};
 use std::alloc::{AllocError, Global};
 use strsim::levenshtein;
 use toml::Value;

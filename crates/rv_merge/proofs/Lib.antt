@@ -1,3 +1,6 @@
+pub mod ListNames
+pub mod Outcomes
+pub mod RowsOfLists
 pub mod Stepping
 pub mod Slots
 pub mod Named

@@ -7,7 +7,7 @@ use Rattle.std.proofs.lemmas.List.{append_assoc, append-nil, at_drop_all, at_dro
 use Rattle.std.proofs.lemmas.Option.{same_Some, none-some}
 use Rattle.rv_lists.specs.JobList.{place_in}
 use Rattle.rv_rows.specs.declared.row.Row.{Row}
-use Rattle.rv_report_lines.specs.Saved.{are_new, names_of}
+use Rattle.rv_report.specs.Saved.{are_new, names_of}
 
 not_true : (b : Bool) → not b ≡ true → b ≡ false
 not_true true e = sym e

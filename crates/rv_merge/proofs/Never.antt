@@ -8,11 +8,11 @@ use Rattle.std.proofs.lemmas.List.{take-map}
 use Rattle.std.proofs.lemmas.Option.{slice_get-map}
 use Rattle.rv_lists.specs.JobList.{place_in}
 use Rattle.rv_rows.specs.declared.row.Row.{Row}
-use Rattle.rv_report_lines.specs.declared.saved.Extent.{Extent}
-use Rattle.rv_report_lines.specs.declared.saved.Extent.TheVariants as extent
-use Rattle.rv_report_lines.specs.declared.saved.Shard.{Shard}
-use Rattle.rv_report_lines.specs.declared.saved.SavedReport.{SavedReport}
-use Rattle.rv_report_lines.specs.Saved.{are_new, are_stepped, names_of, saved_text}
+use Rattle.rv_report.specs.declared.saved.Extent.{Extent}
+use Rattle.rv_report.specs.declared.saved.Extent.TheVariants as extent
+use Rattle.rv_report.specs.declared.saved.Shard.{Shard}
+use Rattle.rv_report.specs.declared.saved.SavedReport.{SavedReport}
+use Rattle.rv_report.specs.Saved.{are_new, are_stepped, names_of, saved_text}
 use Rattle.rv_merge.specs.declared.error.Flaw.{Flaw}
 use Rattle.rv_merge.specs.declared.error.Flaw.TheVariants as flaw
 use Rattle.rv_merge.specs.declared.error.MergeError.{MergeError}

@@ -9,12 +9,12 @@ use Rattle.std.proofs.lemmas.List.{get_or_default}
 use Rattle.rv_lists.specs.JobList.{is_name}
 use Rattle.rv_lists.specs.Jobs.{most_jobs}
 use Rattle.rv_rows.specs.declared.row.Row.{Row}
-use Rattle.rv_report_lines.specs.declared.saved.Extent.{Extent}
-use Rattle.rv_report_lines.specs.declared.saved.Extent.TheVariants as extent
-use Rattle.rv_report_lines.specs.declared.saved.Shard.{Shard}
-use Rattle.rv_report_lines.specs.declared.saved.SavedReport.{SavedReport}
-use Rattle.rv_report_lines.specs.Saved.{IsSaved, are_stepped, fits, is_shard}
-use Rattle.rv_report_lines.proofs.Public.{same_reports}
+use Rattle.rv_report.specs.declared.saved.Extent.{Extent}
+use Rattle.rv_report.specs.declared.saved.Extent.TheVariants as extent
+use Rattle.rv_report.specs.declared.saved.Shard.{Shard}
+use Rattle.rv_report.specs.declared.saved.SavedReport.{SavedReport}
+use Rattle.rv_report.specs.Saved.{IsSaved, are_stepped, fits, is_shard}
+use Rattle.rv_report.proofs.Public.{same_reports}
 use Rattle.rv_merge.specs.Parts.{ArePartsIn, IsReportOf, IsPart, Run, run_of, shard_in, text_at}
 use Rattle.rv_merge.proofs.Slots.{same_by_get, under}
 use Rattle.rv_merge.proofs.Stepping.{shard_at, stepped_has}

@@ -19,9 +19,9 @@ use Rattle.rv_jobs.specs.Plans.{Planned, needed_for}
 use Rattle.rv_rows.specs.declared.row.Row.{Row}
 use Rattle.rv_rows.specs.Rows.{row_of, rows_at, rows_of}
 use Rattle.rv_rows.specs.Wholes.{KeepSame, planned}
-use Rattle.rv_report_lines.specs.declared.saved.Extent.TheVariants as extent
-use Rattle.rv_report_lines.specs.declared.saved.Shard.{Shard}
-use Rattle.rv_report_lines.specs.Saved.{IsRow, IsSaved, are_stepped, fits, is_shard, names_of, saved_text}
+use Rattle.rv_report.specs.declared.saved.Extent.TheVariants as extent
+use Rattle.rv_report.specs.declared.saved.Shard.{Shard}
+use Rattle.rv_report.specs.Saved.{IsRow, IsSaved, are_stepped, fits, is_shard, names_of, saved_text}
 use Rattle.rv_merge.specs.Parts.{AreListed, AreParts, IsPart, Run, shard_in}
 use Rattle.rv_merge.specs.Shards.{AreTextsFrom, IsRunOf, IsTextFrom, is_in_shard, shard_places, shard_report}
 use Rattle.rv_merge.proofs.Sharing.{new_under, rising_from, stepped_from}

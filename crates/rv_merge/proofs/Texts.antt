@@ -5,10 +5,10 @@ use Rattle.std.proofs.lemmas.List.{get_or-map, length-map}
 use Rattle.std.proofs.lemmas.Slice.Eq.{bytes_eq-Decides}
 use Rattle.rv_report.specs.declared.read.ReadError.{ReadError}
 use Rattle.rv_report.specs.declared.read.ReadError.TheVariants as read
-use Rattle.rv_report_lines.specs.declared.saved.SavedReport.{SavedReport}
+use Rattle.rv_report.specs.declared.saved.SavedReport.{SavedReport}
 use Rattle.rv_report.specs.Differences.{IsPlace, Tells, first_difference}
-use Rattle.rv_report_lines.specs.Said.{said}
-use Rattle.rv_report_lines.specs.Saved.{IsSaved, saved_text}
+use Rattle.rv_report.specs.Said.{said}
+use Rattle.rv_report.specs.Saved.{IsSaved, saved_text}
 use Rattle.rv_merge.specs.declared.error.Flaw.{Flaw}
 use Rattle.rv_merge.specs.GatheredInside.{IsOtherKind}
 use Rattle.rv_merge.specs.Parts.{bytes_of, text_at}

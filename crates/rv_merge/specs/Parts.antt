@@ -5,11 +5,11 @@ use Rattle.std.specs.Borrow.{Bor}
 use Rattle.std.specs.List.{All, AllByRecursion}
 use Rattle.rv_lists.specs.Jobs.{most_jobs}
 use Rattle.rv_rows.specs.declared.row.Row.{Row}
-use Rattle.rv_report_lines.specs.declared.saved.Extent.{Extent}
-use Rattle.rv_report_lines.specs.declared.saved.Extent.TheVariants as extent
-use Rattle.rv_report_lines.specs.declared.saved.Shard.{Shard}
-use Rattle.rv_report_lines.specs.declared.saved.SavedReport.{SavedReport}
-use Rattle.rv_report_lines.specs.Saved.{IsRow, IsSaved, are_new, names_of, saved_text}
+use Rattle.rv_report.specs.declared.saved.Extent.{Extent}
+use Rattle.rv_report.specs.declared.saved.Extent.TheVariants as extent
+use Rattle.rv_report.specs.declared.saved.Shard.{Shard}
+use Rattle.rv_report.specs.declared.saved.SavedReport.{SavedReport}
+use Rattle.rv_report.specs.Saved.{IsRow, IsSaved, are_new, names_of, saved_text}
 
 -- the bytes of texts, as a caller hands them over
 abbrev pub bytes_of : List (Bor (List ℕ)) → List (List ℕ)

@@ -6,12 +6,12 @@ use Rattle.rv_lists.specs.JobList.{place_in}
 use Rattle.rv_rows.specs.declared.row.Row.{Row}
 use Rattle.rv_report.specs.declared.read.ReadError.{ReadError}
 use Rattle.rv_report.specs.declared.read.ReadError.TheVariants as read
-use Rattle.rv_report_lines.specs.declared.saved.Extent.TheVariants as extent
-use Rattle.rv_report_lines.specs.declared.saved.Shard.{Shard}
-use Rattle.rv_report_lines.specs.declared.saved.SavedReport.{SavedReport}
+use Rattle.rv_report.specs.declared.saved.Extent.TheVariants as extent
+use Rattle.rv_report.specs.declared.saved.Shard.{Shard}
+use Rattle.rv_report.specs.declared.saved.SavedReport.{SavedReport}
 use Rattle.rv_report.specs.Differences.{IsPlace, Tells, first_difference}
-use Rattle.rv_report_lines.specs.Said.{said}
-use Rattle.rv_report_lines.specs.Saved.{IsSaved, names_of, saved_text}
+use Rattle.rv_report.specs.Said.{said}
+use Rattle.rv_report.specs.Saved.{IsSaved, names_of, saved_text}
 use Rattle.rv_merge.specs.declared.error.Flaw.{Flaw}
 use Rattle.rv_merge.specs.declared.error.Flaw.TheVariants as flaw
 use Rattle.rv_merge.specs.declared.error.MergeError.{MergeError}

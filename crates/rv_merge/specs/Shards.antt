@@ -9,9 +9,9 @@ use Rattle.rv_jobs.specs.declared.answers.Answer.{Answer}
 use Rattle.rv_jobs.specs.Plans.{Planned, needed_for}
 use Rattle.rv_rows.specs.Rows.{rows_at}
 use Rattle.rv_rows.specs.Wholes.{KeepSame, planned}
-use Rattle.rv_report_lines.specs.declared.saved.Extent.TheVariants as extent
-use Rattle.rv_report_lines.specs.declared.saved.SavedReport.{SavedReport}
-use Rattle.rv_report_lines.specs.Saved.{saved_text}
+use Rattle.rv_report.specs.declared.saved.Extent.TheVariants as extent
+use Rattle.rv_report.specs.declared.saved.SavedReport.{SavedReport}
+use Rattle.rv_report.specs.Saved.{saved_text}
 use Rattle.rv_merge.specs.Parts.{Run, shard_in}
 
 -- of so many shards the one of a number has the job at a place, counted from 0

@@ -1,7 +1,7 @@
 //! Names that stand in two rows.
 
 ghost use Rattle.std.specs.Prelude.{◌≡◌, ◌<◌, [], true, IfOk, IfSome, MatchOption};
-ghost use Rattle.rv_report_lines.specs.Saved.{are_new, names_of};
+ghost use Rattle.rv_report.specs.Saved.{are_new, names_of};
 ghost use Rattle.rv_merge.specs.Refusals.{IsNameTwice};
 
 use rv_rows::Row;

@@ -8,12 +8,13 @@ use Rattle.std.specs.Result.{IsErrAnd}
 use Rattle.rv_report.specs.declared.read.FirstWord.TheVariants as word
 use Rattle.rv_report.specs.declared.read.ReadError.{ReadError}
 use Rattle.rv_report.specs.declared.read.ReadError.TheVariants.{OutOfMemory, Line, CutOff}
-use Rattle.rv_report_lines.specs.declared.saved.SavedReport.{SavedReport}
-use Rattle.rv_report_lines.specs.Said.{said}
-use Rattle.rv_report_lines.specs.Saved.{IsSaved, saved_text}
+use Rattle.rv_report.specs.declared.saved.SavedReport.{SavedReport}
+use Rattle.rv_report.specs.Said.{said}
+use Rattle.rv_report.specs.Saved.{IsSaved, saved_text}
 use Rattle.rv_report.specs.Differences.{Tells, IsPlace, difference}
 use Rattle.rv_report.proofs.Told.{tells}
-use Rattle.rv_report_lines.proofs.Public.{said_can_be, says_itself}
+use Rattle.rv_report.proofs.Cut.{said_can_be}
+use Rattle.rv_report.proofs.Reports.{says_itself}
 
 pub can_be : (bytes : List ℕ) (r : SavedReport) → r ≡ said bytes → IsSaved r
 can_be bytes r s = subst (λ (x : SavedReport). IsSaved x) (sym s) (said_can_be bytes)

@@ -1,3 +1,12 @@
+pub mod Pieces
+pub mod Words
+pub mod Spelled
+pub mod Parts
+pub mod Reports
+pub mod Drafts
+pub mod Cut
+pub mod FieldLoops
+pub mod Wholes
 pub mod Loops
 pub mod Told
 pub mod Compared

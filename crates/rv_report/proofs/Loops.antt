@@ -11,8 +11,8 @@ use Rattle.rv_report.specs.Differences.{feeds, past, line_past, difference, diff
 use Rattle.rv_lists.specs.Jobs.{most_jobs}
 use Rattle.rv_rows.specs.Report.{row_text}
 use Rattle.rv_rows.specs.declared.row.Row.{Row}
-use Rattle.rv_report_lines.specs.Said.{rising_count}
-use Rattle.rv_report_lines.specs.Saved.{are_rising, numbered_text}
+use Rattle.rv_report.specs.Said.{rising_count}
+use Rattle.rv_report.specs.Saved.{are_rising, numbered_text}
 
 pub feeds_step : (xs : List ℕ) (i : ℕ) → i < length xs
     → feeds (drop i xs) ≡ cond (get_or xs i 0 == 10) (feeds (drop (i + 1) xs) + 1) (feeds (drop (i + 1) xs))

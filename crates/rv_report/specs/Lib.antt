@@ -1,1 +1,4 @@
+pub mod Saved
+pub mod Said
+pub mod View
 pub mod Differences

@@ -2,9 +2,9 @@
 
 ghost use Rattle.std.specs.Prelude.{◌≡◌};
 ghost use Rattle.rv_rows.specs.Report.{report_text};
-ghost use Rattle.rv_report_lines.specs.declared.saved.Extent.TheVariants.{Whole};
-ghost use Rattle.rv_report_lines.specs.declared.saved.SavedReport.{SavedReport};
-ghost use Rattle.rv_report_lines.specs.Saved.{IsSaved, saved_text};
+ghost use Rattle.rv_report.specs.declared.saved.Extent.TheVariants.{Whole};
+ghost use Rattle.rv_report.specs.declared.saved.SavedReport.{SavedReport};
+ghost use Rattle.rv_report.specs.Saved.{IsSaved, saved_text};
 
 /// Reports with one text are one.
 pub fn one_text_one_report()

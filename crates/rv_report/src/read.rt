@@ -1,17 +1,18 @@
 //! Reading: a text is taken for what it says, that is written, and both are compared.
 
 ghost use Rattle.std.specs.Prelude.{◌≡◌, ◌==◌, ◌≤◌, ◌^◌, ◌<◌, IfOk, IfErr, string_bytes, length, not};
-ghost use Rattle.rv_report_lines.specs.declared.saved.SavedReport.{SavedReport as Saved};
-ghost use Rattle.rv_report_lines.specs.Saved.{IsSaved, saved_text};
+ghost use Rattle.rv_report.specs.declared.saved.SavedReport.{SavedReport as Saved};
+ghost use Rattle.rv_report.specs.Saved.{IsSaved, saved_text};
 ghost use Rattle.rv_report.specs.Differences.{feeds, past, begun, is_last, begins_row, may_go_on, difference};
 ghost use Rattle.rv_report.specs.Differences.{difference_at, Tells, Gives, IsPlace};
-ghost use Rattle.rv_report_lines.specs.Said.{said};
+ghost use Rattle.rv_report.specs.Said.{said};
 ghost use Rattle.rv_report.specs.declared.read.ReadError.TheVariants.{OutOfMemory};
 ghost use Rattle.rv_report.specs.declared.read.FirstWord.TheVariants as word;
 
+use crate::fields::front;
 use crate::said::said;
+use crate::saved::SavedReport;
 use crate::text::text_of;
-use rv_report_lines::{SavedReport, front};
 use std::alloc::{AllocError, Global};
 use thiserror::Error;
 

@@ -1,17 +1,19 @@
 //! What a text says: its lines, up to the first row that can't stand where it does.
 
 ghost use Rattle.std.specs.Prelude.{◌≡◌, ◌≤◌, IfOk, length};
-ghost use Rattle.rv_report_lines.specs.Said.{rising_count, fitting, said};
+ghost use Rattle.rv_report.specs.Said.{rising_count, fitting, said};
 ghost use Rattle.rv_lists.specs.Jobs.{most_jobs};
-ghost use Rattle.rv_report_lines.specs.Saved.{IsSaved};
+ghost use Rattle.rv_report.specs.Saved.{IsSaved};
 
+use crate::gathering::gathered;
+use crate::names::new_count;
+use crate::saved::{Extent, Numbers, SavedReport};
 use rv_jobs::limits::MOST_JOBS;
-use rv_report_lines::{Extent, Numbers, SavedReport, gathered, new_count};
 use rv_rows::Rows;
 use std::alloc::{AllocError, Global};
 
 /// What a text says.
-#[tactic(auto, unfolding(rv_report_lines::specs::Said::said))]
+#[tactic(auto, unfolding(crate::specs::Said::said))]
 pub(crate) fn said(alloc: Global, text: &[u8]) -> Result<SavedReport, AllocError>
     ensures value { IfOk result (λ report. report ≡ said text.now) }
     ensures good { IfOk result (λ report. IsSaved report) }
@@ -32,7 +34,7 @@ pub(crate) fn said(alloc: Global, text: &[u8]) -> Result<SavedReport, AllocError
 }
 
 // Any extent that these numbers fit, where they don't fit the given one.
-#[tactic(auto, unfolding(rv_report_lines::specs::Said::fitting))]
+#[tactic(auto, unfolding(crate::specs::Said::fitting))]
 fn fitting(extent: Extent, numbers: &[u32]) -> Extent
     requires { length numbers.now ≤ most_jobs }
     ensures { result ≡ fitting extent numbers.now }

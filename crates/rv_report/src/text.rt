@@ -1,15 +1,15 @@
 //! The text of a saved report.
 
 ghost use Rattle.std.specs.Prelude.{◌≡◌, ◌++◌, ◌≤◌, ◌<◌, ◌^◌, true, IfOk, OnOk, string_bytes, length};
-ghost use Rattle.rv_report_lines.specs.Saved.{IsListed, are_rising, numbered_text, last_line, saved_text};
+ghost use Rattle.rv_report.specs.Saved.{IsListed, are_rising, numbered_text, last_line, saved_text};
 ghost use Rattle.rv_lists.specs.Jobs.{most_jobs};
 
-use rv_report_lines::{Extent, SavedReport, Shard};
+use crate::saved::{Extent, SavedReport, Shard};
 use rv_rows::{Row, push_done, push_row};
 use std::alloc::{AllocError, Global};
 
 /// The text of a report.
-#[tactic(auto, unfolding(rv_report_lines::specs::Saved::saved_text))]
+#[tactic(auto, unfolding(crate::specs::Saved::saved_text))]
 pub(crate) fn text_of(alloc: Global, report: &SavedReport) -> Result<String, AllocError>
     requires { IsListed report.now }
     ensures { IfOk result (λ text. string_bytes text ≡ saved_text report.now) }
@@ -39,7 +39,7 @@ fn push_rows(
 }
 
 /// Appends the line below so many rows.
-#[tactic(auto, unfolding(rv_report_lines::specs::Saved::last_line))]
+#[tactic(auto, unfolding(crate::specs::Saved::last_line))]
 pub fn push_last(text: &mut String, extent: &Extent, count: usize) -> Result<(), AllocError>
     ensures { OnOk result (string_bytes text.new
         ≡ string_bytes text.old ++ last_line extent.now count) }
@@ -51,7 +51,7 @@ pub fn push_last(text: &mut String, extent: &Extent, count: usize) -> Result<(),
     }
 }
 
-#[tactic(auto, unfolding(rv_report_lines::specs::Saved::last_line))]
+#[tactic(auto, unfolding(crate::specs::Saved::last_line))]
 fn push_shard(text: &mut String, shard: &Shard, count: usize) -> Result<(), AllocError>
     ensures { OnOk result (string_bytes text.new
         ≡ string_bytes text.old ++ last_line (Extent.Shard shard.now) count) }

@@ -1,11 +1,11 @@
 -- The text of a report: six parts a row, each of whole lines, and a last line.
 use Rattle.std.specs.Prelude.{◌==◌, if◌then◌else◌, ◌+◌, ℕ, List, [], ◌∷◌, ◌++◌, length, Option}
 use Rattle.std.specs.Prelude.{Some, None, codes, map}
-use Rattle.std.specs.Int.{w32, to_be_bytes}
 use Rattle.std.specs.List.{flat_map, find}
 use Rattle.std.specs.Str.{bytes_eq}
 use Rattle.std.specs.Fmt.{decimal}
 use Rattle.hex.specs.Hex.{encode_lower}
+use Rattle.rv_text.specs.Words.{word_digits}
 use Rattle.rv_elf.specs.ErrorNames.{image_error_name}
 use Rattle.rv_elf.specs.declared.error.ImageError.TheVariants as image
 use Rattle.rv_machine.specs.Faults.{fault_name}
@@ -20,10 +20,6 @@ use Rattle.rv_rows.specs.declared.row.Verdict.TheVariants as verdict
 -- a line ends with a line feed
 abbrev pub line : List ℕ → List ℕ
 line text = text ++ 10 ∷ []
-
--- a word as eight lower-case hexadecimal digits, the high ones first
-unfoldable pub word_digits : ℕ → List ℕ
-word_digits word = encode_lower (to_be_bytes w32 word)
 
 -- why there is no run; no row is refused out of memory, so that word of an image's errors never
 -- stands here

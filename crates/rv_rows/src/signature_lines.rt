@@ -3,7 +3,8 @@
 
 ghost use Rattle.std.specs.Prelude.{◌≡◌, ◌++◌, OnOk, bytes_eq, string_bytes};
 ghost use Rattle.std.specs.List.{flat_map};
-ghost use Rattle.rv_rows.specs.Report.{word_digits, word_line};
+ghost use Rattle.rv_rows.specs.Report.{word_line};
+ghost use Rattle.rv_text.specs.Words.{word_digits};
 
 use std::alloc::{AllocError, Global};
 
@@ -11,7 +12,7 @@ use std::alloc::{AllocError, Global};
 pub const LINE: usize = 9;
 
 /// Appends a word's digits, the high ones first.
-#[tactic(auto, unfolding(crate::specs::Report::word_digits))]
+#[tactic(auto, unfolding(rv_text::specs::Words::word_digits))]
 pub(crate) fn push_word(alloc: Global, text: &mut String, word: u32) -> Result<(), AllocError>
     ensures { OnOk result (string_bytes text.new ≡ string_bytes text.old ++ word_digits word) }
 {
@@ -50,7 +51,7 @@ pub(crate) fn are_word_lines(bytes: &[u8], words: &[u32]) -> bool
 }
 
 /// The line of a word.
-#[tactic(auto, unfolding(crate::specs::Report::word_digits))]
+#[tactic(auto, unfolding(rv_text::specs::Words::word_digits))]
 pub fn line_of(word: u32) -> [u8; LINE]
     ensures { result ≡ word_line word }
 {

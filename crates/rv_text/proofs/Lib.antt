@@ -1,3 +1,5 @@
+pub mod Pieces
+pub mod Appended
 pub mod XmlTexts
 pub mod XmlCharacters
 pub mod Public

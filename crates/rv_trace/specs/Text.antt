@@ -7,7 +7,7 @@ use Rattle.rv_disasm.specs.Assembly.{no_instruction, text16, text32}
 use Rattle.rv_disasm.specs.Operands.{register_name}
 use Rattle.rv_elf.specs.declared.image.Image.{Image}
 use Rattle.rv_elf.specs.Nearest.{symbol_at, symbol_of_value}
-use Rattle.rv_job_text.specs.ResultLine.{place_text, symbol_text}
+use Rattle.rv_text.specs.Symbol.{place_text, symbol_text}
 use Rattle.rv_machine.specs.declared.ending.FaultKind.{FaultKind}
 use Rattle.rv_machine.specs.declared.ending.FaultKind.TheVariants as fault
 use Rattle.rv_machine.specs.Faults.{fault_name}
@@ -15,7 +15,8 @@ use Rattle.rv_memory.specs.declared.access.Width.{Width}
 use Rattle.rv_memory.specs.declared.access.Width.TheVariants as width
 use Rattle.rv_rows.specs.declared.row.RowEnd.{RowEnd}
 use Rattle.rv_rows.specs.declared.row.RowEnd.TheVariants as ending
-use Rattle.rv_rows.specs.Report.{line, refusal_name, word_digits}
+use Rattle.rv_rows.specs.Report.{line, refusal_name}
+use Rattle.rv_text.specs.Words.{word_digits}
 use Rattle.rv_trace.specs.declared.code.Code.{Code}
 use Rattle.rv_trace.specs.declared.code.Code.TheVariants.{Half, Word}
 use Rattle.rv_trace.specs.declared.step.TracedStep.{TracedStep}

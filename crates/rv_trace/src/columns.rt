@@ -1,13 +1,12 @@
 //! The columns of the line of an instruction.
 
 ghost use Rattle.std.specs.Prelude.{◌≡◌, ◌++◌, OnOk, drop, option_map, replicate};
-ghost use Rattle.rv_rows.specs.Report.{word_digits};
+ghost use Rattle.rv_text.specs.Words.{word_digits};
 ghost use Rattle.rv_trace.specs.Text.{code_text, columns, instruction_line, padded, symbol_or_none, text_and_more};
 
 use crate::code::Code;
 use rv_elf::SymbolAt;
-use rv_expect::behind;
-use rv_job_text::{Span, push_spans, push_symbol, push_text, push_word};
+use rv_text::{Span, behind, push_spans, push_symbol, push_text, push_word};
 use std::alloc::{AllocError, Global};
 
 /// What separates two columns.

@@ -5,7 +5,7 @@ ghost use Rattle.std.specs.List.{flat_map};
 ghost use Rattle.rv_elf.specs.Image.{IsImageOf};
 ghost use Rattle.rv_elf.specs.Nearest.{symbol_at, symbol_of_value};
 ghost use Rattle.rv_trace.specs.Text.{behind_value, end_line, place_line, register_line, register_lines, step_line};
-ghost use Rattle.rv_job_text.specs.ResultLine.{place_text};
+ghost use Rattle.rv_text.specs.Symbol.{place_text};
 ghost use Rattle.rv_trace.specs.Text.{trace_text};
 
 use crate::code::Code;
@@ -14,8 +14,8 @@ use crate::step::TracedStep;
 use crate::told::{name_of, push_assembly, push_end, push_end_assembly, push_wrote};
 use crate::trace::Trace;
 use rv_elf::{Image, SymbolAt};
-use rv_job_text::{Span, push_place, push_spans, push_symbol, push_text};
 use rv_rows::RowEnd;
+use rv_text::{Span, push_place, push_spans, push_symbol, push_text};
 use std::alloc::{AllocError, Global};
 
 /// Appends the text of a trace: where the run ended, the 32 registers with the symbols that they point to, a line for each

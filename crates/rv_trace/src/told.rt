@@ -9,10 +9,10 @@ use crate::code::Code;
 use crate::columns::push_digits_behind;
 use crate::step::Wrote;
 use rv_disasm::{push_text16, push_text32};
-use rv_job_text::{Span, push_spans, push_text, push_word};
 use rv_machine::FaultKind;
 use rv_memory::Width;
 use rv_rows::RowEnd;
+use rv_text::{Span, push_spans, push_text, push_word};
 use std::alloc::{AllocError, Global};
 
 /// Appends the assembly text of a code at an address, where there is one.

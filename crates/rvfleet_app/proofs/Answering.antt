@@ -10,7 +10,7 @@ use Rattle.rv_rows.specs.Rows.{rows_of}
 use Rattle.rv_lists.specs.declared.job.Job.{Job}
 use Rattle.rv_jobs.specs.Plans.{Planned}
 use Rattle.rvfleet_app.specs.Answers.{Answers, Began, Reported, status_of}
-use Rattle.rv_cli.specs.CommandLine.{Request, raw}
+use Rattle.rv_cli.specs.RvfleetCommand.{Request, raw}
 use Rattle.rvfleet_app.specs.declared.error.Failure.{Failure}
 use Rattle.rvfleet_app.specs.Plans.{AreJobRows, MayPlan, Stored}
 use Rattle.rvfleet_app.specs.Raw.{AreRawRows}

@@ -9,7 +9,7 @@ use Rattle.rvfleet_app.specs.declared.error.Failure.TheVariants as failure
 use Rattle.rvfleet_app.specs.declared.error.RunError.{RunError}
 use Rattle.rvfleet_app.specs.declared.error.RunError.TheVariants as run_error
 use Rattle.rvfleet_app.specs.Answers.{may_fail}
-use Rattle.rv_cli.specs.CommandLine.{Request, one, raw, run}
+use Rattle.rv_cli.specs.RvfleetCommand.{Request, one, raw, run}
 use Rattle.rvfleet_app.specs.Failures.{fleet_failure, is_of_list, is_of_raw, is_of_sending, run_failure, send_failure}
 
 pub send_why : (e : WriteError) → is_of_sending (send_failure e) ≡ true

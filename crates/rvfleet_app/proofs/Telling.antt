@@ -8,10 +8,10 @@ use Rattle.clap.specs.declared.error.kind.ErrorKind.TheVariants.{OutOfMemory}
 use Rattle.rv_jobs.specs.Stores.{FileContents}
 use Rattle.rvfleet_app.proofs.Failing.{any_why}
 use Rattle.rvfleet_app.specs.Answers.{IsQuiet, Tells, TellsFailure, is_refused}
-use Rattle.rv_cli.specs.CommandLine.{IsToAnswer, Request, asked_of, fleet_app, is_taken, request_beside, request_of}
+use Rattle.rv_cli.specs.RvfleetCommand.{IsToAnswer, Request, asked_of, fleet_app, is_taken, request_beside, request_of}
 use Rattle.rvfleet_app.specs.Lines.{Told, bad_words_line}
-use Rattle.rv_cli.specs.Requests.{request}
-use Rattle.rv_cli.specs.declared.command.Request.{Request as Value}
+use Rattle.rv_cli.specs.RvfleetRequests.{request}
+use Rattle.rv_cli.specs.declared.rvfleet.Request.{Request as Value}
 
 -- words in which no fault is found ask for what they say
 asked_without_fault : (words : List Text) → fault_of fleet_app words ≡ [] → asked_of words ≡ request_of words

@@ -11,7 +11,7 @@ use Rattle.rv_rows.specs.Sending.{AppendsBeginning}
 use Rattle.rv_lists.specs.declared.error.JobError.{JobError}
 use Rattle.rv_lists.specs.declared.job.Job.{Job}
 use Rattle.rv_jobs.specs.Stores.{FileContents}
-use Rattle.rv_cli.specs.CommandLine.{Request, one, raw, run}
+use Rattle.rv_cli.specs.RvfleetCommand.{Request, one, raw, run}
 use Rattle.rvfleet_app.specs.declared.error.Failure.{Failure}
 use Rattle.rvfleet_app.specs.Failures.{is_of_list, is_of_raw, is_of_sending}
 use Rattle.rvfleet_app.specs.Lines.{Told, bad_words_line, failure_line, fault_line}

@@ -19,6 +19,6 @@ pub use list::{read_list, run_jobs};
 pub use one::{ScriptError, is_bad_path, read_script, run_image};
 pub use program::run_words;
 pub use raw::run_raw;
-pub use rv_cli::{Request, read_words};
+pub use rv_cli::rvfleet::{Request, read_words};
 pub use sending::send;
 pub use status::{BAD_WORDS, DONE, FAILED, SOME_FAIL, failed, refused, unread_status};

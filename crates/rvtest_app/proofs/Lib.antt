@@ -1,3 +1,4 @@
+pub mod StepRanks
 mod Names
 mod Numbers
 pub mod SavedRows

@@ -2,8 +2,8 @@
 use Rattle.std.proofs.Common.{◌≡◌, ℕ, ◌+◌, ◌≤◌, List, [], ◌∷◌, arith, length, true}
 use Rattle.std.proofs.lemmas.Bool.{and_parts, leb-true, ltb-true}
 use Rattle.rv_lists.specs.Jobs.{most_jobs}
-use Rattle.rv_report_lines.specs.declared.saved.SavedReport.{SavedReport}
-use Rattle.rv_report_lines.specs.Saved.{IsSaved, are_rising}
+use Rattle.rv_report.specs.declared.saved.SavedReport.{SavedReport}
+use Rattle.rv_report.specs.Saved.{IsSaved, are_rising}
 
 rising_few : (before last : ℕ) (ns : List ℕ) → are_rising before last ns ≡ true → before ≤ last →
     length ns + before ≤ last

@@ -12,8 +12,8 @@ use Rattle.rv_lists.specs.declared.job.Job.{Job}
 use Rattle.rv_rows.specs.declared.row.Row.{Row}
 use Rattle.rv_stream.specs.Choices.{is_chosen}
 use Rattle.rvtest_app.specs.Commands.{failed_in}
-use Rattle.rv_test_words.specs.Asked.{text_of}
-use Rattle.rv_test_words.specs.declared.asked.RunAsked.{RunAsked}
+use Rattle.rv_cli.specs.RvtestAsked.{text_of}
+use Rattle.rv_cli.specs.declared.rvtest.asked.RunAsked.{RunAsked}
 
 abbrev pub Names : Type 0
 Names = List (List ℕ)

@@ -11,14 +11,14 @@ use Rattle.rv_lists.specs.declared.job.Job.{Job}
 use Rattle.rv_rows.specs.declared.row.Row.{Row}
 use Rattle.rv_rows.specs.Outcome.{refusal_in}
 use Rattle.rv_rows.specs.Rows.{outcome_in}
-use Rattle.rv_telling.specs.declared.verbosity.Verbosity.{Verbosity}
-use Rattle.rv_telling.specs.declared.verbosity.Verbosity.TheVariants.{Quiet, Failures, All}
+use Rattle.rv_job_text.specs.declared.verbosity.Verbosity.{Verbosity}
+use Rattle.rv_job_text.specs.declared.verbosity.Verbosity.TheVariants.{Quiet, Failures, All}
 use Rattle.rvtest_app.specs.declared.stop.Lines.{Lines}
 use Rattle.rvtest_app.specs.declared.stop.Lines.TheVariants as lines
 use Rattle.rvtest_app.specs.declared.stop.Stop.{Stop}
 use Rattle.rvtest_app.specs.declared.stop.Stop.TheVariants as stop
-use Rattle.rv_junit.specs.Diff.{differing_count}
-use Rattle.rv_junit.specs.declared.diff.Differing.{Differing}
+use Rattle.rv_diff.specs.Diff.{differing_count}
+use Rattle.rv_diff.specs.declared.diff.Differing.{Differing}
 
 -- the rule by which jobs fail, with --lenient or without
 abbrev pub rule_for : Bool → Rule

@@ -9,11 +9,11 @@ use Rattle.rv_expect.specs.declared.passing.Rule.{Rule}
 use Rattle.rv_lists.specs.declared.job.Job.{Job}
 use Rattle.rv_lists.specs.JobList.{job_list_of}
 use Rattle.rv_merge.specs.Shards.{shard_marks}
-use Rattle.rv_report_lines.specs.declared.saved.Shard.{Shard}
+use Rattle.rv_report.specs.declared.saved.Shard.{Shard}
 use Rattle.rv_rows.specs.Rows.{rows_at}
 use Rattle.rvtest_app.specs.Choice.{AreChosen}
 use Rattle.rvtest_app.specs.Shown.{status_of}
-use Rattle.rv_test_words.specs.declared.asked.RunAsked.{RunAsked}
+use Rattle.rv_cli.specs.declared.rvtest.asked.RunAsked.{RunAsked}
 
 -- the places of the jobs that are marked
 abbrev pub places_of : List Bool → List ℕ

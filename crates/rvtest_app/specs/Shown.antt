@@ -5,10 +5,10 @@ use Rattle.std.specs.List.{list_all}
 use Rattle.rv_expect.specs.declared.passing.Rule.{Rule}
 use Rattle.rv_job_text.specs.LastLine.{last_line}
 use Rattle.rv_expect.specs.Passing.{has_passed}
-use Rattle.rv_report_lines.specs.declared.saved.Extent.{Extent}
-use Rattle.rv_report_lines.specs.declared.saved.Extent.TheVariants as extent
-use Rattle.rv_report_lines.specs.declared.saved.Shard.{Shard}
-use Rattle.rv_report_lines.specs.Saved.{saved_text}
+use Rattle.rv_report.specs.declared.saved.Extent.{Extent}
+use Rattle.rv_report.specs.declared.saved.Extent.TheVariants as extent
+use Rattle.rv_report.specs.declared.saved.Shard.{Shard}
+use Rattle.rv_report.specs.Saved.{saved_text}
 use Rattle.rv_rows.specs.declared.row.Row.{Row}
 use Rattle.rv_rows.specs.Report.{report_text}
 use Rattle.rv_stream.specs.Streams.{told}

@@ -8,15 +8,15 @@ use crate::list::{jobs_of, read_text, told_of_faults};
 use crate::messages::REFUSED;
 use crate::status::DONE;
 use crate::stop::Stop;
+use rv_cli::rvtest::CheckAsked;
 use rv_expect::expects_two_ends;
 use rv_files::{NotingStore, Unread};
-use rv_job_text::{Span, push_spans, push_text};
+use rv_job_text::reason_of;
 use rv_jobs::{ExpectedEnd, Job, Plan, gather};
 use rv_list_errors::job_lines;
 use rv_lists::read_faults;
 use rv_rows::{Refusal, RowEnd, refusal_at};
-use rv_telling::reason_of;
-use rv_test_words::CheckAsked;
+use rv_text::{Span, push_spans, push_text};
 use std::alloc::{AllocError, Global};
 use std::rt::Files;
 

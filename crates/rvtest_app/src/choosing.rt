@@ -5,7 +5,7 @@ ghost use Rattle.regex.specs.Strings.{regex_source};
 ghost use Rattle.rvtest_app.specs.Choice.{AreChosen, AreChosenBy, IsReadByDefault, marks_for, names_asked};
 ghost use Rattle.rvtest_app.specs.Choice.{names_of, pattern_of, texts_of};
 ghost use Rattle.rvtest_app.specs.Commands.{failed_in};
-ghost use Rattle.rv_test_words.specs.Asked.{text_of};
+ghost use Rattle.rv_cli.specs.RvtestAsked.{text_of};
 
 use crate::choice::{Wanted, chosen_marks, first_unknown};
 use crate::failed_before::{failed_names, read_saved, say_failed};
@@ -14,11 +14,11 @@ use crate::shard::refused;
 use crate::stop::Stop;
 use crate::streams::Streams;
 use regex::Regex;
-use rv_job_text::{Span, text_of};
+use rv_cli::rvtest::RunAsked;
 use rv_jobs::Job;
 use rv_list_errors::nearest;
 use rv_rows::Row;
-use rv_test_words::RunAsked;
+use rv_text::{Span, text_of};
 use std::alloc::{AllocError, Global};
 use std::rt::Files;
 

@@ -2,15 +2,15 @@
 
 ghost use Rattle.std.specs.Prelude.{◌≡◌, ◌≤◌, ◌<◌, ◌^◌, IfOk, length};
 ghost use Rattle.rvtest_app.specs.Commands.{diff_status};
-ghost use Rattle.rv_junit.specs.Diff.{diff_text, differing};
+ghost use Rattle.rv_diff.specs.Diff.{diff_text, differing};
 
 use crate::failed_before::read_saved;
 use crate::found::Found;
 use crate::status::{DONE, SOME_FAIL};
 use crate::stop::Stop;
-use rv_junit::{Differing, push_diff};
+use rv_cli::rvtest::DiffAsked;
+use rv_diff::{Differing, push_diff};
 use rv_rows::Row;
-use rv_test_words::DiffAsked;
 use std::alloc::Global;
 use std::rt::Files;
 

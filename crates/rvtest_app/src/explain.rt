@@ -6,7 +6,7 @@ ghost use Rattle.rv_lists.specs.declared.job.Job.{Job as AJob};
 ghost use Rattle.rv_expect.specs.declared.passing.Rule.TheVariants.{Strict};
 ghost use Rattle.rv_expect.specs.Passing.{has_passed};
 ghost use Rattle.rv_rows.specs.Rows.{row_of};
-ghost use Rattle.rv_telling.specs.Telling.{explained};
+ghost use Rattle.rv_job_text.specs.Telling.{explained};
 ghost use Rattle.rvtest_app.specs.Commands.{passing_status};
 
 use crate::choosing::unknown_name;
@@ -14,12 +14,12 @@ use crate::found::Found;
 use crate::list::read_list;
 use crate::status::{DONE, SOME_FAIL};
 use crate::stop::Stop;
+use rv_cli::rvtest::ExplainAsked;
 use rv_expect::{Rule, has_passed};
 use rv_files::{NotingStore, Unread};
+use rv_job_text::{RowTelling, Verbosity};
 use rv_jobs::{Job, JobList, Plan, gather_places};
 use rv_rows::row_at;
-use rv_telling::{RowTelling, Verbosity};
-use rv_test_words::ExplainAsked;
 use std::alloc::Global;
 use std::rt::Files;
 

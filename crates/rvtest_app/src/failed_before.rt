@@ -10,10 +10,10 @@ use crate::messages::{say_told, told_of, told_of_number};
 use crate::stop::Stop;
 use crate::streams::Streams;
 use rv_expect::{Rule, has_passed};
-use rv_job_text::{Span, text_of};
 use rv_jobs::Job;
 use rv_report::{ReadError, SavedReport, read_report};
 use rv_rows::Row;
+use rv_text::{Span, text_of};
 use std::alloc::{AllocError, Global};
 use std::rt::Files;
 

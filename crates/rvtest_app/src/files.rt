@@ -3,7 +3,7 @@
 use crate::messages::told_of;
 use crate::stop::Stop;
 use rv_files::{InputError, read_at_most};
-use rv_telling::kind_text;
+use rv_job_text::kind_text;
 use std::alloc::Global;
 use std::fs;
 use std::io::ErrorKind;

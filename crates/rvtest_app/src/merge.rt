@@ -5,6 +5,7 @@ ghost use Rattle.rv_lists.specs.Jobs.{most_jobs};
 ghost use Rattle.rvtest_app.specs.Commands.{rule_for};
 ghost use Rattle.rvtest_app.specs.Shown.{status_of};
 
+use crate::failed_lines::FailedLines;
 use crate::files::read_file;
 use crate::messages::{put_beside, told_of, told_of_number};
 use crate::outputs::{Outputs, class_of};
@@ -12,12 +13,12 @@ use crate::rules::rule_of;
 use crate::status::status_of;
 use crate::stop::Stop;
 use crate::streams::Streams;
+use rv_cli::rvtest::MergeAsked;
 use rv_expect::Rule;
 use rv_fleet::Rows;
-use rv_job_text::{Span, push_last_line, text_of};
-use rv_junit::FailedLines;
+use rv_job_text::push_last_line;
 use rv_merge::{Flaw, MergeError, merge_parts};
-use rv_test_words::MergeAsked;
+use rv_text::{Span, text_of};
 use std::alloc::{AllocError, Global};
 use std::rt::Files;
 

@@ -8,7 +8,7 @@ use crate::stop::{Lines, Stop};
 use crate::streams::Streams;
 use rv_files::StreamSink;
 use rv_fleet::put_all;
-use rv_job_text::{Span, text_of};
+use rv_text::{Span, text_of};
 use std::alloc::{AllocError, Global};
 
 /// The status where words, a list or a report are refused.

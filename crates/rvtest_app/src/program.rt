@@ -12,7 +12,7 @@ use crate::run::run;
 use crate::show::show;
 use crate::stop::Stop;
 use crate::streams::Streams;
-use rv_test_words::{Asked, read_words};
+use rv_cli::rvtest::{Asked, read_words};
 use std::alloc::Global;
 use std::convert::AsStr;
 use std::io::{self, ErrorKind};

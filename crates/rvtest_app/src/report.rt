@@ -5,6 +5,7 @@ ghost use Rattle.std.specs.List.{All};
 ghost use Rattle.std.specs.List.Sorted.{IsStrictlyIncreasing};
 ghost use Rattle.rv_lists.specs.Jobs.{most_jobs};
 
+use crate::failed_lines::FailedLines;
 use crate::files::unreadable;
 use crate::messages::told_of;
 use crate::rows_report::write_rows;
@@ -13,7 +14,7 @@ use crate::streams::Streams;
 use rv_expect::Rule;
 use rv_files::{FileError, FileSink, StreamSink};
 use rv_fleet::{Report, Row, Rows, Sink, WriteError, write_report};
-use rv_junit::{FailedLines, write_junit};
+use rv_junit::write_junit;
 use rv_report::Shard;
 use rv_stream::Telling;
 use std::alloc::Global;

@@ -9,10 +9,10 @@ ghost use Rattle.rvtest_app.specs.Runs.{IsShardOf, number_before_slash, number_b
 
 use crate::stop::Stop;
 use clap::error::ErrorKind;
+use rv_cli::rvtest::{RunAsked, refusal, run_command};
 use rv_jobs::Text;
 use rv_jobs::limits::MOST_JOBS;
 use rv_report::{Shard, is_name};
-use rv_test_words::{RunAsked, refusal, run_command};
 use sha2::{Digest, Sha256};
 use std::alloc::{AllocError, Global};
 

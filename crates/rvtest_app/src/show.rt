@@ -3,20 +3,21 @@
 ghost use Rattle.std.specs.Prelude.{◌≡◌, ◌≤◌, ◌<◌, ◌^◌, IfOk, length};
 ghost use Rattle.rvtest_app.specs.Commands.{rule_for};
 ghost use Rattle.rvtest_app.specs.Shown.{status_of};
-ghost use Rattle.rv_junit.specs.Show.{show_text};
+ghost use Rattle.rvtest_app.specs.ReportSummary.{show_text};
 
 use crate::failed_before::read_saved;
+use crate::failed_lines::FailedLines;
 use crate::messages::put_beside;
 use crate::outputs::class_of;
 use crate::report::ReportTo;
+use crate::report_summary::push_show;
 use crate::rules::rule_of;
 use crate::status::status_of;
 use crate::stop::Stop;
 use crate::streams::Streams;
+use rv_cli::rvtest::ShowAsked;
 use rv_expect::Rule;
-use rv_junit::{FailedLines, push_show};
 use rv_rows::Row;
-use rv_test_words::ShowAsked;
 use std::alloc::{AllocError, Global};
 use std::rt::Files;
 

@@ -5,7 +5,7 @@ ghost use Rattle.std.specs.Io.KnownBytes.{Appends};
 ghost use Rattle.rv_lists.specs.Jobs.{most_jobs};
 ghost use Rattle.rv_jobs.specs.Stores.{one_more};
 ghost use Rattle.rv_rows.specs.Sending.{AppendsBeginning, IsUnderWay, Rose};
-ghost use Rattle.rv_report_lines.specs.Saved.{are_rising, numbered_text, saved_text};
+ghost use Rattle.rv_report.specs.Saved.{are_rising, numbered_text, saved_text};
 
 use rv_report::{SavedReport, push_last};
 use rv_rows::{Row, Sink, WriteError, push_row, put_if_enough, put_text};

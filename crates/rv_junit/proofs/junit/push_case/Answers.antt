@@ -5,8 +5,7 @@ use Rattle.rv_text.specs.Xml.{escaped}
 use Rattle.rv_junit.specs.Junit.{problem_or_none}
 use Rattle.rv_junit.specs.Pieces.{attribute}
 use Rattle.rv_junit.proofs.Cases.{case_whole}
-use Rattle.rv_junit.proofs.OneMore.{ended, more}
-use Rattle.rv_junit.proofs.Told.{told}
+use Rattle.rv_text.proofs.Public.{ended, more, told}
 use Rattle.rv_junit.proofs.junit.push_case.Goals as goal
 
 pub returns : goal.returns

@@ -3,7 +3,7 @@ use Rattle.std.specs.BTreeMap.{get_by}
 use Rattle.std.specs.Cmp.Lexicographic.{slice_cmp}
 use Rattle.std.specs.Ordering.{nat_cmp}
 use Rattle.rv_lists.specs.JobList.{place_in}
-use Rattle.rv_report_lines.specs.Saved.{are_new, names_of}
+use Rattle.rv_report.specs.Saved.{are_new, names_of}
 use Rattle.rv_merge.proofs.names.name_twice.Given as goal
 
 abbrev pub invariant-loop-at : goal.invariant-loop-at

@@ -1,4 +1,4 @@
-use Rattle.rv_report_lines.proofs.Public.{same_reports}
+use Rattle.rv_report.proofs.Reports.{same_reports}
 use Rattle.rv_report.proofs.law.one_text_one_report.Goals as goal
 
 pub returns : goal.returns

@@ -1,4 +1,4 @@
-use Rattle.rv_report_lines.proofs.Public.{whole_text}
+use Rattle.rv_report.proofs.Wholes.{whole_text}
 use Rattle.rv_report.proofs.law.whole_text_is_report_text.Goals as goal
 
 pub returns : goal.returns

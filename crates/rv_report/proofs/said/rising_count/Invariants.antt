@@ -1,5 +1,5 @@
 use Rattle.std.proofs.Common.{◌≡◌, ◌+◌, drop}
-use Rattle.rv_report_lines.specs.Said.{rising_count}
+use Rattle.rv_report.specs.Said.{rising_count}
 use Rattle.rv_report.proofs.said.rising_count.Given as goal
 
 abbrev pub invariant-loop-at : goal.invariant-loop-at

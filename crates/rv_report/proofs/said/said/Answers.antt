@@ -1,10 +1,10 @@
 use Rattle.std.proofs.Common.{◌∙◌, ◌≤◌, ℕ, List, [], length, take, subst, sym, ap}
 use Rattle.rv_rows.specs.declared.row.Row.{Row}
 use Rattle.rv_lists.specs.Jobs.{most_jobs}
-use Rattle.rv_report_lines.specs.Said.{rising_count, new_count, fitting}
-use Rattle.rv_report_lines.specs.Saved.{names_of}
-use Rattle.rv_report_lines.specs.View.{view}
-use Rattle.rv_report_lines.proofs.Public.{cut_made, few_cut, good_view}
+use Rattle.rv_report.specs.Said.{rising_count, new_count, fitting}
+use Rattle.rv_report.specs.Saved.{names_of}
+use Rattle.rv_report.specs.View.{view}
+use Rattle.rv_report.proofs.Cut.{cut_made, few_cut, good_view}
 use Rattle.rv_report.proofs.said.said.Goals as goal
 
 pub fitting-extent-requires : goal.fitting-extent-requires

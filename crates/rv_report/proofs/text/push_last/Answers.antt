@@ -1,5 +1,5 @@
 use Rattle.std.proofs.Common.{append_assoc}
-use Rattle.rv_report_lines.specs.Saved.{last_line}
+use Rattle.rv_report.specs.Saved.{last_line}
 use Rattle.rv_report.proofs.text.push_last.Goals as goal
 
 pub returns-in-Choice : goal.returns-in-Choice

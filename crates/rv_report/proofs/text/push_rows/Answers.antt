@@ -3,7 +3,7 @@ use Rattle.std.proofs.Common.{take, add-one}
 use Rattle.std.specs.Prelude.{string_bytes}
 use Rattle.rv_lists.specs.Jobs.{most_jobs}
 use Rattle.rv_rows.specs.Report.{row_text}
-use Rattle.rv_report_lines.specs.Saved.{numbered_text}
+use Rattle.rv_report.specs.Saved.{numbered_text}
 use Rattle.rv_report.proofs.Loops.{numbered_more, above}
 use Rattle.rv_report.proofs.text.push_rows.Goals as goal
 

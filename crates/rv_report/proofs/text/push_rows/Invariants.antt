@@ -1,5 +1,5 @@
 use Rattle.std.proofs.Common.{◌≡◌, ◌++◌, take, string_bytes}
-use Rattle.rv_report_lines.specs.Saved.{numbered_text}
+use Rattle.rv_report.specs.Saved.{numbered_text}
 use Rattle.rv_report.proofs.text.push_rows.Given as goal
 
 abbrev pub invariant-loop-at : goal.invariant-loop-at

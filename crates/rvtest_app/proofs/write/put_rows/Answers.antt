@@ -4,7 +4,7 @@ use Rattle.rv_lists.specs.Jobs.{most_jobs}
 use Rattle.rv_rows.specs.Report.{row_text}
 use Rattle.rv_rows.proofs.Public.{beginning_of_longer, failed_under_way, more_under_way, nothing_under_way}
 use Rattle.rv_rows.proofs.Public.{stopped_under_way}
-use Rattle.rv_report_lines.specs.Saved.{numbered_text}
+use Rattle.rv_report.specs.Saved.{numbered_text}
 use Rattle.rv_report.proofs.Public.{above, numbered_more, numbered_split}
 use Rattle.rvtest_app.proofs.write.put_rows.Goals as goal
 

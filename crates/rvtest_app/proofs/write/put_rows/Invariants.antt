@@ -1,6 +1,6 @@
 use Rattle.std.proofs.Common.{◌≡◌, take, string_bytes}
 use Rattle.rv_rows.specs.Sending.{IsUnderWay}
-use Rattle.rv_report_lines.specs.Saved.{numbered_text}
+use Rattle.rv_report.specs.Saved.{numbered_text}
 use Rattle.rvtest_app.proofs.write.put_rows.Given as goal
 
 abbrev pub invariant-loop-at : goal.invariant-loop-at

@@ -1,7 +1,7 @@
 use Rattle.std.proofs.Common.{refl}
 use Rattle.std.proofs.lemmas.Result.{err_from_is_err_and}
 use Rattle.rv_rows.proofs.Public.{beginning_of_longer, ended_under_way, failed_under_way, stopped_under_way}
-use Rattle.rv_report_lines.specs.Saved.{saved_text}
+use Rattle.rv_report.specs.Saved.{saved_text}
 use Rattle.rvtest_app.proofs.write.write_saved.Goals as goal
 
 pub returns-in_err-put_rows-clause-part : goal.returns-in_err-put_rows-clause-part

@@ -1,0 +1,158 @@
+-- The command line of rvtest: the rules that `clap` reads words by.
+use Rattle.std.specs.Prelude.{ℕ, ℤ, true, List, [], ◌∷◌, Some, codes, fold, map, pos}
+use Rattle.std.specs.Borrow.{Bor}
+use Rattle.clap.specs.Words.{App, Rule, Text, new_app, new_rule, with_rule, with_subcommand}
+use Rattle.clap.specs.declared.builder.action.ArgAction.TheVariants.{Append, SetTrue}
+use Rattle.clap.specs.declared.builder.value_parser.ValueParser.TheVariants as value_parser
+use Rattle.rv_cli.specs.declared.rvtest.arguments.Argument.{Argument}
+use Rattle.rv_cli.specs.declared.rvtest.arguments.Argument.TheVariants as argument
+use Rattle.rv_cli.specs.declared.rvtest.command.Subcommand.{Subcommand}
+use Rattle.rv_cli.specs.Building.{option_rule, word_rule}
+use Rattle.rv_cli.specs.RvfleetCommand.{group_rule}
+
+-- the same argument, of which each use adds a value
+abbrev pub again_rule : Rule → Rule
+again_rule rule = record rule { action = Some Append }
+
+-- an option with a number from one to another, and what it has where it is not given
+abbrev pub number_rule : Text → ℤ → ℤ → List (Bor Text) → Rule
+number_rule name least most usual = record (option_rule name) {
+  parser = Some (value_parser.Signed least most);
+  defaults = map (λ text. text.now) usual;
+}
+
+-- an option without a value
+abbrev pub flag_rule : Text → Rule
+flag_rule name = record (new_rule name) { long = Some name; action = Some SetTrue }
+
+-- the most of the last instructions that are shown
+abbrev pub most_last : ℕ
+most_last = 100000
+
+-- the rule of an argument
+abbrev pub rule_for : Argument → Rule
+rule_for (argument.Word name value help) = word_rule name.now
+rule_for (argument.Words name value help) = again_rule (word_rule name.now)
+rule_for (argument.Option name value help) = option_rule name.now
+rule_for (argument.Again name value help) = again_rule (option_rule name.now)
+rule_for (argument.Flag name help) = flag_rule name.now
+rule_for (argument.Number name help least most usual) =
+    number_rule name.now least most usual.now
+rule_for argument.Group = group_rule
+
+-- <PART>..
+abbrev pub parts_rule : Rule
+parts_rule = again_rule (word_rule (codes "part"))
+
+-- --only <NAME>, which may come again
+abbrev pub only_rule : Rule
+only_rule = again_rule (option_rule (codes "only"))
+
+-- --workers <N>
+abbrev pub workers_rule : Rule
+workers_rule = number_rule (codes "workers") (pos 1) (pos 64) []
+
+-- --last <N>
+abbrev pub last_rule : Rule
+last_rule = number_rule (codes "last") (pos 0) (pos most_last) []
+
+-- the same, and 16 where it is not given
+abbrev pub shown_rule : Rule
+shown_rule = record last_rule { defaults = codes "16" ∷ [] }
+
+-- a command with an argument more, and with several in their order
+abbrev pub with_argument : App → Argument → App
+with_argument app argument = with_rule app (rule_for argument)
+
+abbrev pub with_arguments : App → List Argument → App
+with_arguments = fold with_argument
+
+-- a command as the table states it
+abbrev pub app_stated : Subcommand → App
+app_stated stated = with_arguments (new_app stated.name.now) stated.arguments.now
+
+-- a command with one of the table below it, and with several in their order
+abbrev pub with_stated : App → Subcommand → App
+with_stated app stated = with_subcommand app (app_stated stated).top
+
+abbrev pub with_commands : App → List Subcommand → App
+with_commands = fold with_stated
+
+-- [--only <NAME>].. [--match <REGEX>] [--failed <REPORT>]
+abbrev pub with_choice : App → App
+with_choice app = with_rule (with_rule (with_rule app only_rule)
+    (option_rule (codes "match"))) (option_rule (codes "failed"))
+
+-- [--shard <K/N>] [--stamp <TEXT>]
+abbrev pub with_shard : App → App
+with_shard app = with_rule (with_rule app (option_rule (codes "shard")))
+    (option_rule (codes "stamp"))
+
+-- [--workers <N>] [--group <N>] [--root <DIR>]
+abbrev pub with_machine : App → App
+with_machine app = with_rule (with_rule (with_rule app workers_rule)
+    group_rule) (option_rule (codes "root"))
+
+-- [--report <FILE>] [--junit <FILE>] [--lenient]
+abbrev pub with_files : App → App
+with_files app = with_rule (with_rule (with_rule app (option_rule (codes "report")))
+    (option_rule (codes "junit"))) (flag_rule (codes "lenient"))
+
+-- [--verbose | --quiet] [--last <N>]
+abbrev pub with_results : App → App
+with_results app = with_rule (with_rule (with_rule app (flag_rule (codes "verbose")))
+    (flag_rule (codes "quiet"))) last_rule
+
+abbrev pub list_app : Text → App
+list_app name = with_rule (new_app name) (word_rule (codes "list"))
+
+abbrev pub run_app : App
+run_app =
+    with_results (with_files (with_machine (with_shard (with_choice (list_app (codes "run"))))))
+
+-- explain <LIST> <NAME> [--last <N>] [--root <DIR>]
+abbrev pub explain_app : App
+explain_app = with_rule (with_rule (with_rule (list_app (codes "explain"))
+    (word_rule (codes "name"))) shown_rule) (option_rule (codes "root"))
+
+-- check <LIST> [--root <DIR>]
+abbrev pub check_app : App
+check_app = with_rule (list_app (codes "check")) (option_rule (codes "root"))
+
+-- merge <PART>.. [--report <FILE>] [--junit <FILE>] [--lenient]
+abbrev pub merge_app : App
+merge_app = with_files (with_rule (new_app (codes "merge")) parts_rule)
+
+-- diff <OLD> <NEW> [--steps]
+abbrev pub diff_app : App
+diff_app = with_rule (with_rule (with_rule (new_app (codes "diff")) (word_rule (codes "old")))
+    (word_rule (codes "new"))) (flag_rule (codes "steps"))
+
+-- show <REPORT> [--junit <FILE>] [--lenient]
+abbrev pub show_app : App
+show_app = with_rule (with_rule (with_rule (new_app (codes "show")) (word_rule (codes "report")))
+    (option_rule (codes "junit"))) (flag_rule (codes "lenient"))
+
+-- a subcommand is required, none is called help, and there is a version
+abbrev pub top_app : App
+top_app = let app = new_app (codes "rvtest") in
+    record app {
+      top = record app.top {
+        subcommand_required = true;
+        disable_help_subcommand = true;
+        has_version = true;
+      };
+    }
+
+-- the commands that run jobs, and then those that read reports
+abbrev pub with_runs : App → App
+with_runs app = with_subcommand (with_subcommand (with_subcommand app run_app.top)
+    explain_app.top) check_app.top
+
+abbrev pub with_reports : App → App
+with_reports app = with_subcommand (with_subcommand (with_subcommand app merge_app.top)
+    diff_app.top) show_app.top
+
+-- the whole command
+abbrev pub test_app : App
+test_app = with_reports (with_runs top_app)

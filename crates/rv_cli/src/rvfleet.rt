@@ -1,0 +1,191 @@
+//! The words of `rvfleet`: its command line, and what they ask for.
+
+ghost use Rattle.std.specs.Prelude.{◌≡◌, ◌≤◌, IfOk, IfErr, IfSome, is_some, true, false, map};
+ghost use Rattle.std.specs.Prelude.{option_map};
+ghost use Rattle.clap.specs.Words.{FailsBy, app_of, fault_of, first_of, found_of, kind_of, rows_of};
+ghost use Rattle.clap.specs.Words.{rule_of};
+ghost use Rattle.rv_cli.specs.Building.{IsBuilt};
+ghost use Rattle.rv_cli.specs.RvfleetCommand.{budget_rule, workers_rule, raw_app, one_app, run_app};
+ghost use Rattle.rv_cli.specs.RvfleetCommand.{top_app, fleet_app, budget_in};
+ghost use Rattle.rv_cli.specs.RvfleetCommand.{raw_in, one_in, run_in, request_in};
+ghost use Rattle.rv_cli.specs.RvfleetCommand.{request_of, is_taken};
+ghost use Rattle.rv_cli.specs.RvfleetRequests.{AreWithin, request};
+
+use crate::arguments::{group, option, word};
+use crate::building::{Built, with_argument, with_command};
+use crate::values::{number, text};
+use clap::error::ErrorKind;
+use clap::{Arg, ArgMatches, Command, Error, value_parser};
+use rv_lists::limits::MOST_BUDGET;
+use std::alloc::{AllocError, Global};
+use std::convert::AsStr;
+
+/// What words ask for.
+#[derive(Clone, Copy)]
+pub enum Request<'a> {
+    /// The flat image on the input, with a budget of 1 to 1,000,000,000 steps.
+    Raw {
+        budget: u32,
+    },
+    /// The ELF image at a path, with such a budget, and the console's script as hexadecimal digits.
+    One {
+        image: &'a str,
+        budget: u32,
+        input_hex: Option<&'a str>,
+    },
+    /// The job list at a path, with 1 to 64 workers and 1 to 4,096 jobs a piece.
+    Run {
+        jobs: &'a str,
+        workers: u32,
+        group: u32,
+    },
+}
+
+/// Reads words, the first of which is the program's name. `None` stands where words name no request; those that the
+/// command takes name one. An error is `clap`'s own; help is one, of the kind DisplayHelp.
+pub fn read_words<'a, T: AsStr>(alloc: Global, words: &'a [T]) -> Result<Option<Request<'a>>, Error>
+    // What is read is what the words ask for.
+    ensures value { IfOk result
+        (λ asked. option_map request asked ≡ request_of (map T.text words.entry.now)) }
+    // Each number is within the range of its argument.
+    ensures within { IfOk result (λ asked. IfSome asked AreWithin) }
+    // Words that the command takes ask for something.
+    ensures asked { is_taken (map T.text words.entry.now) ≡ true
+        → IfOk result (λ asked. is_some asked ≡ true) }
+    // They fail for want of memory alone.
+    ensures taken { IfErr result (λ error. is_taken (map T.text words.entry.now) ≡ true
+        → kind_of error ≡ ErrorKind.OutOfMemory) }
+    // Any words fail by a fault that is found in them, or for want of memory, and else have none.
+    ensures kinds { FailsBy (fault_of fleet_app (map T.text words.entry.now)) result }
+{
+    let command = fleet_command(alloc)?;
+    let matches = command.try_get_matches_from(words)?;
+    match matches.subcommand() {
+        Some((name, values)) => Ok(subcommand_asked(name, values)),
+        None => Ok(None),
+    }
+}
+
+fn fleet_command<'a>(alloc: Global) -> Result<Command<'a>, AllocError>
+    ensures { IfOk result (λ command. app_of command ≡ fleet_app) }
+{
+    let command = with_command(top_command(alloc), raw_command(alloc));
+    let command = with_command(command, one_command(alloc));
+    with_command(command, run_command(alloc))
+}
+
+fn top_command<'a>(alloc: Global) -> Built<'a>
+    ensures { IsBuilt top_app result }
+{
+    Command::new(alloc, "rvfleet")
+        .subcommand_required(true)
+        .disable_help_subcommand(true)
+        .about("Runs RV32IMC firmware images and reports how each run ended")
+        .bin_name("rvfleet")
+}
+
+fn raw_command<'a>(alloc: Global) -> Built<'a>
+    ensures { IsBuilt raw_app result }
+{
+    let about = "Runs the flat image on standard input, placed at 0x80000000";
+    with_argument(Ok(Command::new(alloc, "raw").about(about)), budget(alloc))
+}
+
+fn one_command<'a>(alloc: Global) -> Built<'a>
+    ensures { IsBuilt one_app result }
+{
+    let command = Ok(Command::new(alloc, "one").about(
+        "Runs one ELF image, placed at its physical addresses",
+    ));
+    let command = with_argument(command, word(alloc, "image", "IMAGE", "Path of the image"));
+    let command = with_argument(command, budget(alloc));
+    let input = "The console's input, as hexadecimal digits";
+    with_argument(command, option(alloc, "input-hex", "H", input))
+}
+
+fn run_command<'a>(alloc: Global) -> Built<'a>
+    ensures { IsBuilt run_app result }
+{
+    let command = Ok(Command::new(alloc, "run").about(
+        "Runs the jobs of a list, and reports one row a job",
+    ));
+    let command = with_argument(command, word(alloc, "jobs", "JOBS", "Path of the job list"));
+    let command = with_argument(command, workers(alloc));
+    with_argument(command, group(alloc))
+}
+
+fn budget<'a>(alloc: Global) -> Arg<'a>
+    ensures { (rule_of result ≡ budget_rule) × (result.global ≡ false) }
+{
+    let help = "Steps at most, from 1 to 1000000000";
+    option(alloc, "budget", "N", help)
+        .required(true)
+        .value_parser(value_parser!(u32).range(1..=1_000_000_000))
+}
+
+fn workers<'a>(alloc: Global) -> Arg<'a>
+    ensures { (rule_of result ≡ workers_rule) × (result.global ≡ false) }
+{
+    option(alloc, "workers", "N", "Threads, from 1 to 64")
+        .value_parser(value_parser!(u32).range(1..=64))
+        .default_value("1")
+}
+
+fn subcommand_asked<'a>(name: &str, values: &ArgMatches<'a>) -> Option<Request<'a>>
+    ensures value { option_map request result
+        ≡ request_in name.now (rows_of (found_of values.now)) }
+    ensures within { IfSome result AreWithin }
+{
+    if name == "raw" {
+        raw_asked(values)
+    } else if name == "one" {
+        one_asked(values)
+    } else if name == "run" {
+        run_asked(values)
+    } else {
+        None
+    }
+}
+
+fn raw_asked<'a>(values: &ArgMatches<'a>) -> Option<Request<'a>>
+    ensures value { option_map request result ≡ raw_in (rows_of (found_of values.now)) }
+    ensures within { IfSome result AreWithin }
+{
+    let budget = budget_asked(values)?;
+    Some(Request::Raw { budget })
+}
+
+fn one_asked<'a>(values: &ArgMatches<'a>) -> Option<Request<'a>>
+    ensures value { option_map request result ≡ one_in (rows_of (found_of values.now)) }
+    ensures within { IfSome result AreWithin }
+{
+    let image = text(values, "image")?;
+    let budget = budget_asked(values)?;
+    let input_hex = text(values, "input-hex");
+    Some(Request::One {
+        image,
+        budget,
+        input_hex,
+    })
+}
+
+fn run_asked<'a>(values: &ArgMatches<'a>) -> Option<Request<'a>>
+    ensures value { option_map request result ≡ run_in (rows_of (found_of values.now)) }
+    ensures within { IfSome result AreWithin }
+{
+    let jobs = text(values, "jobs")?;
+    let workers = number(values, "workers", 1, 64)?;
+    let group = number(values, "group", 1, 4_096)?;
+    Some(Request::Run {
+        jobs,
+        workers,
+        group,
+    })
+}
+
+fn budget_asked(values: &ArgMatches<'_>) -> Option<u32>
+    ensures value { result ≡ budget_in (rows_of (found_of values.now)) }
+    ensures within { IfSome result (λ number. (1 ≤ number) × (number ≤ MOST_BUDGET)) }
+{
+    number(values, "budget", 1, MOST_BUDGET)
+}

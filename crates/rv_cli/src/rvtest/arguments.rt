@@ -1,0 +1,95 @@
+//! The arguments of a command, each with its rule.
+
+ghost use Rattle.std.specs.Prelude.{◌≡◌, false};
+ghost use Rattle.clap.specs.Words.{App, rule_of};
+ghost use Rattle.rv_cli.specs.Building.{IsBuilt};
+ghost use Rattle.rv_cli.specs.RvtestCommand.{flag_rule, number_rule, rule_for};
+ghost use Rattle.rv_cli.specs.RvtestCommand.{with_arguments};
+
+use crate::arguments::{group, option, word};
+use crate::building::{Built, with_argument};
+use clap::builder::ValueParser;
+use clap::{Arg, ArgAction};
+use std::alloc::Global;
+
+/// An argument of a command: its name, what a value is called in the usage where it is any text, and its help.
+#[derive(Clone, Copy)]
+pub(crate) enum Argument<'a> {
+    /// A word that stands for itself.
+    Word(&'a str, &'a str, &'a str),
+    /// One such word or more.
+    Words(&'a str, &'a str, &'a str),
+    /// An option with a value.
+    Option(&'a str, &'a str, &'a str),
+    /// An option with a value, that may come again for more.
+    Again(&'a str, &'a str, &'a str),
+    /// An option without a value.
+    Flag(&'a str, &'a str),
+    /// An option with a number from one to another, and the one that it has where it is not given, if it has one.
+    Number(&'a str, &'a str, i64, i64, &'a [&'a str]),
+    /// How many jobs a thread takes at once.
+    Group,
+}
+
+impl<'a> Argument<'a> {
+    fn arg(&self, alloc: Global) -> Arg<'a>
+        ensures { (rule_of result ≡ rule_for self.now) × (result.global ≡ false) }
+    {
+        match *self {
+            Argument::Word(name, value, help) => word(alloc, name, value, help),
+            Argument::Words(name, value, help) => {
+                word(alloc, name, value, help).action(ArgAction::Append)
+            }
+            Argument::Option(name, value, help) => option(alloc, name, value, help),
+            Argument::Again(name, value, help) => {
+                option(alloc, name, value, help).action(ArgAction::Append)
+            }
+            Argument::Flag(name, help) => flag(alloc, name, help),
+            Argument::Number(name, help, least, most, usual) => {
+                number(alloc, name, help, least, most, usual)
+            }
+            Argument::Group => group(alloc),
+        }
+    }
+}
+
+/// A command with these arguments more, in their order.
+pub(crate) fn with_arguments<'a>(
+    alloc: Global,
+    command: Built<'a>,
+    arguments: &[Argument<'a>],
+) -> Built<'a>
+    ensures { (app : App) → IsBuilt app command.entry
+        → IsBuilt (with_arguments app arguments.now) result }
+{
+    let mut command = command;
+    for argument in arguments {
+        command = with_argument(command, argument.arg(alloc));
+    }
+    command
+}
+
+fn flag<'a>(alloc: Global, name: &'a str, help: &'a str) -> Arg<'a>
+    ensures { (rule_of result ≡ flag_rule name.entry.now) × (result.global ≡ false) }
+{
+    Arg::new(alloc, name)
+        .long(name)
+        .action(ArgAction::SetTrue)
+        .help(help)
+}
+
+fn number<'a>(
+    alloc: Global,
+    name: &'a str,
+    help: &'a str,
+    least: i64,
+    most: i64,
+    usual: &'a [&'a str],
+) -> Arg<'a>
+    ensures { (rule_of result ≡ number_rule name.entry.now least most usual.entry.now)
+        × (result.global ≡ false) }
+{
+    option(alloc, name, "N", help)
+        .value_parser(ValueParser::Signed(least, most))
+        .default_values(usual)
+}

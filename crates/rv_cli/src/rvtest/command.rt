@@ -1,0 +1,83 @@
+//! The command line of `rvtest`, for `clap`.
+
+ghost use Rattle.std.specs.Prelude.{◌≡◌, IfOk, false};
+ghost use Rattle.clap.specs.Words.{App, app_of, new_app};
+ghost use Rattle.clap.specs.declared.builder.command.Command.TheViews.{out-Command};
+ghost use Rattle.rv_cli.specs.Building.{HasApp, IsBuilt};
+ghost use Rattle.rv_cli.specs.RvtestCommand.{app_stated, merge_app, run_app, test_app};
+ghost use Rattle.rv_cli.specs.RvtestCommand.{top_app, with_commands};
+
+use crate::building::{Built, with_command};
+use crate::rvtest::arguments::{Argument, with_arguments};
+use crate::rvtest::table::{COMMANDS, MERGE, RUN};
+use clap::Command;
+use std::alloc::{AllocError, Global};
+
+/// A command of `rvtest`, as the table states it.
+#[derive(Clone, Copy)]
+pub(crate) struct Subcommand<'a> {
+    pub(crate) name: &'a str,
+    pub(crate) about: &'a str,
+    /// The words that its usage begins with.
+    pub(crate) usage: &'a str,
+    pub(crate) arguments: &'a [Argument<'a>],
+}
+
+/// The whole command.
+pub(crate) fn test_command<'a>(alloc: Global) -> Result<Command<'a>, AllocError>
+    ensures { IfOk result (λ command. app_of command ≡ test_app) }
+{
+    with_commands(alloc, top_command(alloc), &COMMANDS)
+}
+
+fn top_command<'a>(alloc: Global) -> Built<'a>
+    ensures { IsBuilt top_app result }
+{
+    Command::new(alloc, "rvtest")
+        .subcommand_required(true)
+        .disable_help_subcommand(true)
+        .about("Runs lists of firmware tests, and says what failed and why")
+        .version("1.0.0")
+        .bin_name("rvtest")
+}
+
+// A command with these below it more, in their order.
+fn with_commands<'a>(alloc: Global, command: Built<'a>, stated: &[Subcommand<'a>]) -> Built<'a>
+    ensures { (app : App) → HasApp app command.entry
+        → HasApp (with_commands app stated.now) result }
+{
+    let mut command = command;
+    for below in stated {
+        command = with_command(command, built(alloc, below));
+    }
+    command
+}
+
+fn built<'a>(alloc: Global, stated: &Subcommand<'a>) -> Built<'a>
+    ensures { IsBuilt (app_stated stated.now) result }
+{
+    let command = named(alloc, stated.name, stated.about, stated.usage);
+    with_arguments(alloc, command, stated.arguments)
+}
+
+fn named<'a>(alloc: Global, name: &'a str, about: &'a str, usage: &'a str) -> Built<'a>
+    ensures { IsBuilt (new_app name.entry.now) result }
+{
+    Command::new(alloc, name).about(about).bin_name(usage)
+}
+
+/// The command `rvtest run`, whose usage a refusal of its words shows.
+pub fn run_command<'a>(alloc: Global) -> Result<Command<'a>, AllocError>
+    ensures { IfOk result (λ command.
+        (app_of command ≡ run_app) × ((out-Command command).has_globals ≡ false)) }
+{
+    built(alloc, &RUN)
+}
+
+/// The command `rvtest merge`, whose usage a refusal of its words shows.
+pub fn merge_command<'a>(alloc: Global) -> Result<Command<'a>, AllocError>
+    ensures { IfOk result (λ command.
+        (app_of command ≡ merge_app) × ((out-Command command).has_globals ≡ false)) }
+{
+    built(alloc, &MERGE)
+}

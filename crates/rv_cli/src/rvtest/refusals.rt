@@ -1,0 +1,77 @@
+//! Refusals of words in which `clap` finds no fault.
+
+ghost use Rattle.std.specs.Prelude.{◌≡◌, [], ◌∷◌, Some};
+ghost use Rattle.clap.specs.Words.{HasKind};
+ghost use Rattle.rv_cli.specs.RvtestWords.{kinds_of};
+
+use clap::error::ErrorKind;
+use clap::{Command, Error};
+use std::alloc::AllocError;
+
+/// Options that do not go together.
+#[derive(Clone, Copy)]
+pub(crate) enum Misuse {
+    /// `--verbose` beside `--quiet`.
+    VerboseAndQuiet,
+    /// A shard beside a choice of jobs.
+    ShardAndChoice,
+    /// A stamp without a shard.
+    StampAlone,
+    /// A report and JUnit's XML that go to one file.
+    OneFile,
+}
+
+impl Misuse {
+    /// The error that says so, with the usage of the command.
+    pub(crate) fn error(self, command: Result<Command<'_>, AllocError>) -> Error
+        ensures { HasKind (kinds_of (Some self)) result }
+    {
+        refusal(command, self.kind(), self.text())
+    }
+
+    fn kind(self) -> ErrorKind
+        ensures { kinds_of (Some self) ≡ result ∷ [] }
+    {
+        match self {
+            Misuse::StampAlone => ErrorKind::MissingRequiredArgument,
+            Misuse::VerboseAndQuiet | Misuse::ShardAndChoice | Misuse::OneFile => {
+                ErrorKind::ArgumentConflict
+            }
+        }
+    }
+
+    fn text(self) -> &'static str {
+        match self {
+            Misuse::VerboseAndQuiet => "the argument '--verbose' cannot be used with '--quiet'",
+            Misuse::ShardAndChoice => {
+                "the argument '--shard <K/N>' cannot be used with '--only <NAME>', '--match <REGEX>' or '--failed <REPORT>'"
+            }
+            Misuse::StampAlone => {
+                "the argument '--stamp <TEXT>' cannot be used without '--shard <K/N>'"
+            }
+            Misuse::OneFile => {
+                "the argument '--report <FILE>' cannot be used with '--junit <FILE>' of the same name: it is one file"
+            }
+        }
+    }
+}
+
+/// An error in the form of `clap`'s own: `error: ` and the text, the usage of the command, and where help is; or want of memory,
+/// where there is no command for that. The text has no line feed at its end.
+pub fn refusal(command: Result<Command<'_>, AllocError>, kind: ErrorKind, text: &str) -> Error
+    // It is of that kind, or memory ran out while it was made.
+    ensures { HasKind (kind ∷ []) result }
+{
+    match command {
+        Ok(mut command) => {
+            let error = command.error(kind, text);
+            // At the end of the block each of its fields would be dropped, which is proved in twice the time.
+            drop(command);
+            match error {
+                Ok(error) => error,
+                Err(error) => Error::from(error),
+            }
+        }
+        Err(error) => Error::from(error),
+    }
+}

@@ -1,0 +1,127 @@
+//! The command line of `rvtest` as a table: its commands, each with its arguments and their help.
+
+use crate::rvtest::arguments::Argument;
+use crate::rvtest::command::Subcommand;
+
+/// The commands of `rvtest`, in the order in which help names them.
+pub(crate) const COMMANDS: [Subcommand<'static>; 6] = [RUN, EXPLAIN, CHECK, MERGE, DIFF, SHOW];
+
+pub(crate) const RUN: Subcommand<'static> = Subcommand {
+    name: "run",
+    about: "Runs the jobs of a list, and shows each that fails",
+    usage: "rvtest run",
+    arguments: &[
+        Argument::Word("list", "LIST", LIST),
+        Argument::Again(
+            "only",
+            "NAME",
+            "Chooses the job of this name; may come again",
+        ),
+        Argument::Option(
+            "match",
+            "REGEX",
+            "Chooses the jobs in whose names it is found",
+        ),
+        Argument::Option(
+            "failed",
+            "REPORT",
+            "Chooses the jobs that failed in a report",
+        ),
+        Argument::Option("shard", "K/N", "Runs the K-th of N parts of the list"),
+        Argument::Option(
+            "stamp",
+            "TEXT",
+            "Says which run the part is of; else a digest of the list",
+        ),
+        Argument::Number(
+            "workers",
+            "Threads, from 1 to 64; else one a processor",
+            1,
+            64,
+            &[],
+        ),
+        Argument::Group,
+        Argument::Option("root", "DIR", ROOT),
+        Argument::Option("report", "FILE", REPORT),
+        Argument::Option("junit", "FILE", JUNIT),
+        Argument::Flag("lenient", LENIENT),
+        Argument::Flag(
+            "verbose",
+            "Shows the jobs that pass, too; not beside --quiet",
+        ),
+        Argument::Flag("quiet", "Shows the last line alone; not beside --verbose"),
+        Argument::Number("last", LAST, 0, 100_000, &[]),
+    ],
+};
+
+const EXPLAIN: Subcommand<'static> = Subcommand {
+    name: "explain",
+    about: "Runs one job, and shows how it ended and came there",
+    usage: "rvtest explain",
+    arguments: &[
+        Argument::Word("list", "LIST", LIST),
+        Argument::Word("name", "NAME", "Name of the job"),
+        Argument::Number("last", LAST, 0, 100_000, &["16"]),
+        Argument::Option("root", "DIR", ROOT),
+    ],
+};
+
+const CHECK: Subcommand<'static> = Subcommand {
+    name: "check",
+    about: "Says all that is wrong with a list and its files, and runs nothing",
+    usage: "rvtest check",
+    arguments: &[
+        Argument::Word("list", "LIST", LIST),
+        Argument::Option("root", "DIR", ROOT),
+    ],
+};
+
+pub(crate) const MERGE: Subcommand<'static> = Subcommand {
+    name: "merge",
+    about: "Makes the whole report of the parts of one run",
+    usage: "rvtest merge",
+    arguments: &[
+        Argument::Words(
+            "part",
+            "PART",
+            "Paths of the parts of one run, in any order",
+        ),
+        Argument::Option("report", "FILE", REPORT),
+        Argument::Option("junit", "FILE", JUNIT),
+        Argument::Flag("lenient", LENIENT),
+    ],
+};
+
+const DIFF: Subcommand<'static> = Subcommand {
+    name: "diff",
+    about: "Says in which jobs two reports differ",
+    usage: "rvtest diff",
+    arguments: &[
+        Argument::Word("old", "OLD", "Path of the report that is compared with"),
+        Argument::Word("new", "NEW", "Path of the report that is compared"),
+        Argument::Flag("steps", "Compares steps too, and where faults were"),
+    ],
+};
+
+const SHOW: Subcommand<'static> = Subcommand {
+    name: "show",
+    about: "Shows what failed in a report",
+    usage: "rvtest show",
+    arguments: &[
+        Argument::Word("report", "REPORT", "Path of a report"),
+        Argument::Option("junit", "FILE", JUNIT),
+        Argument::Flag("lenient", LENIENT),
+    ],
+};
+
+const LIST: &str = "Path of the job list";
+
+const ROOT: &str = "Takes the paths in the list from this folder";
+
+const REPORT: &str = "Writes the report to this file; - is standard output";
+
+const JUNIT: &str = "Writes JUnit XML to this file; - is standard output";
+
+const LENIENT: &str = "Counts as failed only what misses an expectation";
+
+const LAST: &str = "Shows the last N instructions of a job, from 0 to 100000";

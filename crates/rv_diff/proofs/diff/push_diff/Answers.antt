@@ -1,0 +1,34 @@
+use Rattle.std.proofs.Common.{◌∙◌, ◌+◌, ◌++◌, length}
+use Rattle.std.specs.List.{flat_map}
+use Rattle.rv_diff.specs.ByName.{row_named}
+use Rattle.rv_diff.specs.Diff.{count_line, diff_text, differing, gone_line, lines_of_new}
+use Rattle.rv_diff.proofs.OneMore.{more}
+use Rattle.rv_diff.proofs.diff.push_diff.Goals as goal
+
+pub returns-clause-text : goal.returns-clause-text
+unfolding diff_text
+returns-clause-text c =
+    let begun = c.args.text.now.items in
+    let old = c.args.old.now in
+    let new = c.args.new.now in
+    let steps = c.args.steps in
+    let gone = flat_map (λ row. gone_line (row_named new row.name) row) old in
+    let others = flat_map (λ row. lines_of_new steps (row_named old row.name) row) new in
+    let counts = differing steps old new in
+    let counted = c.in_ok-gone.ensures.count in
+    let added = c.in_ok-added.ensures.added in
+    let changed = c.in_ok-added.ensures.changed in
+    more begun c.push_new.new.text.items c.push_count_line.new.text.items (gone ++ others)
+    (count_line (length new + counts.gone) counts)
+    (more begun c.push_gone.new.text.items c.push_new.new.text.items gone others c.in_ok-gone.ensures.text
+    c.in_ok-added.ensures.text)
+    (c.in_ok-push_count_line.ensures
+    ∙ (λ i. c.push_new.new.text.items
+    ++ count_line (length new + counted i) (record { gone = counted i; added = added i; changed = changed i })))
+
+pub returns-clause-counts : goal.returns-clause-counts
+returns-clause-counts c =
+    let counted = c.in_ok-gone.ensures.count in
+    let added = c.in_ok-added.ensures.added in
+    let changed = c.in_ok-added.ensures.changed in
+    λ i. record { gone = counted i; added = added i; changed = changed i }

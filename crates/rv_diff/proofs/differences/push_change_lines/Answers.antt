@@ -1,0 +1,27 @@
+use Rattle.std.proofs.Common.{◌++◌, ℕ, List}
+use Rattle.rv_rows.specs.Verdict.{same_signature}
+use Rattle.rv_diff.specs.Change.{same_console, same_ending, same_steps, same_verdict}
+use Rattle.rv_diff.specs.Differences.{becomes, change_line, change_lines, console_words, ending_words}
+use Rattle.rv_diff.specs.Differences.{signature_words, steps_words, verdict_words}
+use Rattle.rv_diff.proofs.OneMore.{ended, more}
+use Rattle.rv_diff.proofs.differences.push_change_lines.Goals as goal
+
+pub returns : goal.returns
+unfolding change_lines
+returns c =
+    let steps = c.args.steps in
+    let old = c.args.old.now in
+    let new = c.args.new.now in
+    let ending : List ℕ = change_line new.name (same_ending steps old.ending new.ending)
+    (becomes (ending_words old.ending) (ending_words new.ending)) in
+    let counts : List ℕ = change_line new.name (same_steps steps old new) (steps_words old.steps new.steps) in
+    let console : List ℕ = change_line new.name (same_console old new) (console_words old.console new.console) in
+    let signature : List ℕ = change_line new.name (same_signature old.signature new.signature)
+    (signature_words old.signature new.signature) in
+    let verdict : List ℕ = change_line new.name (same_verdict old.verdict new.verdict)
+    (verdict_words old.verdict new.verdict) in
+    ended _ _ _ _ (ending ++ counts ++ console ++ signature) verdict
+    (more _ _ _ (ending ++ counts ++ console) signature
+    (more _ _ _ (ending ++ counts) console
+    (more _ _ _ ending counts c.in_ok-push_ending_change.ensures c.in_ok-push_steps_change.ensures)
+    c.in_ok-push_console_change.ensures) c.in_ok-push_signature_change.ensures) c.push_verdict_change.ensures

@@ -1,0 +1,53 @@
+-- Whether two rows of one name agree, and what became of a job from one report to another.
+use Rattle.std.specs.Prelude.{◌==◌, ◌&&◌, ◌||◌, Bool, true, not, Option, Some, None, if◌then◌else◌}
+use Rattle.std.specs.Str.{bytes_eq}
+use Rattle.rv_rows.specs.declared.row.Row.{Row}
+use Rattle.rv_rows.specs.declared.row.RowEnd.{RowEnd}
+use Rattle.rv_rows.specs.declared.row.RowEnd.TheVariants as ending
+use Rattle.rv_rows.specs.declared.row.Verdict.{Verdict}
+use Rattle.rv_rows.specs.Report.{refusal_name, verdict_name}
+use Rattle.rv_rows.specs.Verdict.{are_alike, same_signature}
+use Rattle.rv_diff.specs.declared.change.Change.{Change}
+use Rattle.rv_diff.specs.declared.change.Change.TheVariants.{Gone, Added, Changed, Same}
+
+-- ---- which rows differ
+
+-- both ended by the same code, by the same kind of fault, by their budgets, or were refused for the
+-- same
+abbrev pub same_kind : RowEnd → RowEnd → Bool
+same_kind (ending.Refused why) (ending.Refused because) =
+    bytes_eq (refusal_name why) (refusal_name because)
+same_kind old new = are_alike old new
+
+-- two faults have the same address and the same value
+abbrev pub same_place : RowEnd → RowEnd → Bool
+same_place (ending.Fault kind pc value) (ending.Fault other at met) = pc == at && value == met
+same_place old new = true
+
+-- where steps are not compared, nor are the addresses and the values of faults
+abbrev pub same_ending : Bool → RowEnd → RowEnd → Bool
+same_ending steps old new = same_kind old new && (not steps || same_place old new)
+
+abbrev pub same_steps : Bool → Row → Row → Bool
+same_steps steps old new = not steps || old.steps == new.steps
+
+abbrev pub same_console : Row → Row → Bool
+same_console old new = bytes_eq old.console new.console
+
+abbrev pub same_verdict : Verdict → Verdict → Bool
+same_verdict old new = bytes_eq (verdict_name old) (verdict_name new)
+
+-- two rows agree, by all that is compared
+unfoldable pub rows_agree : Bool → Row → Row → Bool
+rows_agree steps old new = same_ending steps old.ending new.ending && same_steps steps old new
+    && same_console old new && same_signature old.signature new.signature
+    && same_verdict old.verdict new.verdict
+
+-- ---- what became of a job
+
+-- by its row in the old report and in the new one
+abbrev pub change_of : Bool → Option Row → Option Row → Change
+change_of steps None None = Same
+change_of steps None (Some new) = Added
+change_of steps (Some old) None = Gone
+change_of steps (Some old) (Some new) = if rows_agree steps old new then Same else Changed

@@ -1,0 +1,65 @@
+-- Two reports, row by row: jobs that only one has, and jobs whose rows differ.
+use Rattle.std.specs.Prelude.{◌+◌, ℕ, Bool, false, not, is_none, List, [], ◌++◌, Option, Some, None}
+use Rattle.std.specs.Prelude.{codes, count_by, length}
+use Rattle.std.specs.Fmt.{decimal}
+use Rattle.std.specs.List.{flat_map}
+use Rattle.rv_rows.specs.declared.row.Row.{Row}
+use Rattle.rv_rows.specs.Report.{line}
+use Rattle.rv_diff.specs.declared.diff.Differing.{Differing}
+use Rattle.rv_diff.specs.ByName.{row_named}
+use Rattle.rv_diff.specs.Change.{rows_agree}
+use Rattle.rv_diff.specs.Differences.{change_lines}
+
+-- ---- a row, beside the one of its name in the other report, if there is one
+
+abbrev pub is_alone_in : List Row → Row → Bool
+is_alone_in others row = is_none (row_named others row.name)
+
+abbrev pub is_changed : Bool → Option Row → Row → Bool
+is_changed steps None new = false
+is_changed steps (Some old) new = not (rows_agree steps old new)
+
+abbrev pub gone_line : Option Row → Row → List ℕ
+gone_line None old = line (codes "- " ++ old.name)
+gone_line (Some new) old = []
+
+abbrev pub lines_of_new : Bool → Option Row → Row → List ℕ
+lines_of_new steps None new = line (codes "+ " ++ new.name)
+lines_of_new steps (Some old) new = change_lines steps old new
+
+-- ---- how many jobs differ
+
+abbrev pub differing : Bool → List Row → List Row → Differing
+differing steps old new = record {
+  gone = count_by (is_alone_in new) old;
+  added = count_by (is_alone_in old) new;
+  changed = count_by (λ row. is_changed steps (row_named old row.name) row) new;
+}
+
+abbrev pub differing_count : Differing → ℕ
+differing_count counts = counts.gone + counts.added + counts.changed
+
+-- ---- the text
+
+-- jobs that are gone, in the order of the old report; then the others, in that of the new one
+abbrev pub difference_lines : Bool → List Row → List Row → List ℕ
+difference_lines steps old new =
+    flat_map (λ row. gone_line (row_named new row.name) row) old
+    ++ flat_map (λ row. lines_of_new steps (row_named old row.name) row) new
+
+unfoldable pub counts_words : Differing → List ℕ
+counts_words counts = decimal counts.gone ++ codes " gone, " ++ decimal counts.added
+    ++ codes " new, " ++ decimal counts.changed ++ codes " changed\n"
+
+-- so many of so many jobs
+unfoldable pub differing_words : ℕ → ℕ → List ℕ
+differing_words count jobs = decimal count ++ codes " of " ++ decimal jobs
+    ++ codes " jobs differ: "
+
+unfoldable pub count_line : ℕ → Differing → List ℕ
+count_line jobs counts = differing_words (differing_count counts) jobs ++ counts_words counts
+
+-- the jobs are those that are in either report
+unfoldable pub diff_text : Bool → List Row → List Row → List ℕ
+diff_text steps old new = let counts = differing steps old new in
+    difference_lines steps old new ++ count_line (length new + counts.gone) counts

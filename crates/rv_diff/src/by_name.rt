@@ -1,0 +1,58 @@
+//! Rows by their names.
+
+ghost use Rattle.std.specs.Prelude.{◌≡◌, IfOk, option_map};
+ghost use Rattle.rv_diff.specs.ByName.{row_named};
+
+use rv_rows::Row;
+use std::alloc::{AllocError, Global};
+use std::collections::HashMap;
+use std::hash::{BuildHasherDefault, FoldHasher};
+use std::marker::Model;
+
+/// Rows that are found by their names, of which contracts see their list. Of rows of one name the first is found.
+#[derive(Drop)]
+pub(crate) struct ByName<'a> {
+    rows: &'a [Row],
+    found: HashMap<&'a str, &'a Row, BuildHasherDefault<FoldHasher>>,
+}
+
+impl<'a> Model for ByName<'a> {
+    ghost use Rattle.std.specs.Prelude.{List};
+    ghost use Rattle.rv_rows.specs.declared.row.Row.{Row};
+
+    ghost Value = { List Row };
+
+    ghost use Rattle.rv_diff.specs.ByNameInside.{IsByNameInside};
+
+    ghost view = { λ named. named.rows.now };
+
+    ghost invariant = { IsByNameInside };
+}
+
+impl<'a> ByName<'a> {
+    pub(crate) fn new(alloc: Global, rows: &'a [Row]) -> Result<ByName<'a>, AllocError>
+        ensures { IfOk result (λ named. named ≡ rows.now) }
+    {
+        let mut found = HashMap::with_capacity_and_hasher(
+            alloc,
+            rows.len(),
+            BuildHasherDefault::new(),
+        )?;
+        // From the last on, so that the first of a name is the one that stays.
+        let mut left = rows.len();
+        while left > 0 {
+            left -= 1;
+            let row = &rows[left];
+            found.insert(row.name.as_str(), row)?;
+        }
+        Ok(ByName { rows, found })
+    }
+
+    /// The row of a name.
+    pub(crate) fn find(&self, name: &str) -> Option<&'a Row>
+        ensures { option_map (λ row. row.now) result ≡ row_named self.now name.now }
+    {
+        let _ = &self.rows;
+        self.found.get(name).copied()
+    }
+}

@@ -1,0 +1,118 @@
+//! What became of a job from one report to another.
+
+ghost use Rattle.std.specs.Prelude.{◌≡◌, option_map};
+ghost use Rattle.rv_rows.specs.Report.{verdict_name};
+ghost use Rattle.rv_rows.specs.Verdict.{same_signature};
+ghost use Rattle.rv_diff.specs.Change.{change_of, rows_agree, same_console, same_ending, same_kind, same_place};
+ghost use Rattle.rv_diff.specs.Change.{same_steps, same_verdict};
+
+use rv_rows::{Row, RowEnd, Verdict, Words, are_alike};
+
+/// What became of a job from one report to another.
+#[derive(Clone, Copy)]
+pub enum Change {
+    /// Only the old report has it.
+    Gone,
+    /// Only the new report has it.
+    Added,
+    /// Both have it, with rows that do not agree.
+    Changed,
+    /// Both have it, with rows that agree; or neither has it.
+    Same,
+}
+
+/// What became of a job, by its rows in two reports. Steps, and the addresses and values of faults, are compared where
+/// this is asked for.
+pub fn change_of(steps: bool, old: Option<&Row>, new: Option<&Row>) -> Change
+    ensures { result ≡ change_of steps (option_map (λ row. row.now) old.entry)
+        (option_map (λ row. row.now) new.entry) }
+{
+    match (old, new) {
+        (Some(_), None) => Change::Gone,
+        (None, Some(_)) => Change::Added,
+        (Some(old), Some(new)) if !rows_agree(steps, old, new) => Change::Changed,
+        _ => Change::Same,
+    }
+}
+
+// Whether two rows agree: in how they ended, in their consoles, their signatures and their verdicts, and where steps are
+// compared in these and in the addresses and the values of faults.
+#[tactic(auto, unfolding(crate::specs::Change::rows_agree))]
+fn rows_agree(steps: bool, old: &Row, new: &Row) -> bool
+    ensures { result ≡ rows_agree steps old.now new.now }
+{
+    same_ending(steps, old.ending, new.ending)
+        && same_steps(steps, old, new)
+        && same_console(old, new)
+        && same_signature(&old.signature, &new.signature)
+        && same_verdict(old.verdict, new.verdict)
+}
+
+/// Whether two rows ended the same way: by the same code, the same kind of fault, their budgets, or the same refusal; and
+/// where steps are compared, a fault with the same address and value.
+pub fn same_ending(steps: bool, old: RowEnd, new: RowEnd) -> bool
+    ensures { result ≡ same_ending steps old new }
+{
+    same_kind(old, new) && (!steps || same_place(old, new))
+}
+
+fn same_kind(old: RowEnd, new: RowEnd) -> bool
+    ensures { result ≡ same_kind old new }
+{
+    match (old, new) {
+        (RowEnd::Refused(why), RowEnd::Refused(because)) => why.name() == because.name(),
+        _ => are_alike(old, new),
+    }
+}
+
+fn same_place(old: RowEnd, new: RowEnd) -> bool
+    ensures { result ≡ same_place old new }
+{
+    match (old, new) {
+        (RowEnd::Fault(_, pc, value), RowEnd::Fault(_, at, met)) => pc == at && value == met,
+        _ => true,
+    }
+}
+
+/// Whether two rows have the same steps, where these are compared.
+pub fn same_steps(steps: bool, old: &Row, new: &Row) -> bool
+    ensures { result ≡ same_steps steps old.now new.now }
+{
+    !steps || old.steps == new.steps
+}
+
+/// Whether two rows have the same console.
+pub fn same_console(old: &Row, new: &Row) -> bool
+    ensures { result ≡ same_console old.now new.now }
+{
+    old.console.as_slice() == new.console.as_slice()
+}
+
+/// Whether two signatures are the same, or both absent.
+pub fn same_signature(old: &Option<Words>, new: &Option<Words>) -> bool
+    ensures { result ≡ same_signature old.now new.now }
+{
+    match (old, new) {
+        (Some(old), Some(new)) => old.as_slice() == new.as_slice(),
+        (None, None) => true,
+        _ => false,
+    }
+}
+
+/// Whether two verdicts are the same.
+pub fn same_verdict(old: Verdict, new: Verdict) -> bool
+    ensures { result ≡ same_verdict old new }
+{
+    verdict_text(old) == verdict_text(new)
+}
+
+/// The word for a verdict, as a report has it.
+pub fn verdict_text(verdict: Verdict) -> &'static str
+    ensures { result.now ≡ verdict_name verdict }
+{
+    match verdict {
+        Verdict::Unasked => "none",
+        Verdict::Pass => "pass",
+        Verdict::Fail => "fail",
+    }
+}

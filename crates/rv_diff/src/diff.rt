@@ -1,0 +1,171 @@
+//! Two reports, row by row.
+
+ghost use Rattle.std.specs.Prelude.{◌≡◌, ◌==◌, ◌≤◌, ◌<◌, ◌+◌, ◌^◌, ◌++◌, IfOk, OnOk, count_by, length, not, option_map};
+ghost use Rattle.std.specs.List.{flat_map};
+ghost use Rattle.rv_rows.specs.Report.{line};
+ghost use Rattle.rv_diff.specs.ByName.{row_named};
+ghost use Rattle.rv_diff.specs.Diff.{count_line, diff_text, differing, differing_count, gone_line, is_alone_in};
+ghost use Rattle.rv_diff.specs.Diff.{is_changed, lines_of_new};
+
+use crate::by_name::ByName;
+use crate::change::{Change, change_of};
+use crate::differences::push_change_lines;
+use rv_rows::Row;
+use rv_text::{Span, push_spans};
+use std::alloc::{AllocError, Global};
+
+/// How many jobs of two reports differ.
+#[derive(Clone, Copy)]
+pub struct Differing {
+    /// Those that only the old report has.
+    pub gone: usize,
+    /// Those that only the new report has.
+    pub added: usize,
+    /// Those that both have, with rows that do not agree.
+    pub changed: usize,
+}
+
+impl Differing {
+    /// Whether any job differs, so that a line is due.
+    pub fn is_any(&self) -> bool
+        ensures { result ≡ not (differing_count self.now == 0) }
+    {
+        self.gone != 0 || self.added != 0 || self.changed != 0
+    }
+}
+
+/// Appends in what the rows of two reports differ: `- NAME` for a job that only the old one has, in its order, then in the
+/// order of the new one `+ NAME` for a job that only that has, and `! NAME: ` and what changed for one whose rows do not
+/// agree; and last how many jobs differ. Steps, and the addresses and values of faults, are compared where this is asked
+/// for. Of rows of one name the first counts; the reports that can be read have none.
+#[tactic(auto, unfolding(crate::specs::Diff::diff_text))]
+pub fn push_diff(
+    alloc: Global,
+    text: &mut Vec<u8>,
+    steps: bool,
+    old: &[Row],
+    new: &[Row],
+) -> Result<Differing, AllocError>
+    requires old { length old.now < 2 ^ 32 }
+    requires new { length new.now < 2 ^ 32 }
+    ensures text { OnOk result
+        (text.new.items ≡ text.old.items ++ diff_text steps old.now new.now) }
+    ensures counts { IfOk result (λ counts. counts ≡ differing steps old.now new.now) }
+{
+    let gone = push_gone(alloc, text, steps, old, new)?;
+    let (added, changed) = push_new(alloc, text, steps, old, new)?;
+    let counts = Differing {
+        gone,
+        added,
+        changed,
+    };
+    push_count_line(text, new.len() + gone, counts)?;
+    Ok(counts)
+}
+
+// Appends the lines of the jobs that are gone, and counts these.
+fn push_gone(
+    alloc: Global,
+    text: &mut Vec<u8>,
+    steps: bool,
+    old: &[Row],
+    new: &[Row],
+) -> Result<usize, AllocError>
+    ensures text { OnOk result (text.new.items ≡ text.old.items
+        ++ flat_map (λ row. gone_line (row_named new.now row.name) row) old.now) }
+    ensures count { IfOk result (λ gone. gone ≡ count_by (is_alone_in new.now) old.now) }
+    ensures within { IfOk result (λ gone. gone ≤ length old.now) }
+{
+    let after = ByName::new(alloc, new)?;
+    let mut gone = 0;
+    for row in old {
+        if let Change::Gone = change_of(steps, Some(row), after.find(row.name.as_str())) {
+            push_sign(text, "- ", row)?;
+            gone += 1;
+        }
+    }
+    Ok(gone)
+}
+
+// Appends the lines of the jobs of the new report, and counts those that only it has and those that changed.
+fn push_new(
+    alloc: Global,
+    text: &mut Vec<u8>,
+    steps: bool,
+    old: &[Row],
+    new: &[Row],
+) -> Result<(usize, usize), AllocError>
+    ensures text { OnOk result (text.new.items ≡ text.old.items
+        ++ flat_map (λ row. lines_of_new steps (row_named old.now row.name) row) new.now) }
+    ensures added { IfOk result (λ counts. counts.0 ≡ count_by (is_alone_in old.now) new.now) }
+    ensures changed { IfOk result (λ counts. counts.1
+        ≡ count_by (λ row. is_changed steps (row_named old.now row.name) row) new.now) }
+    ensures within { IfOk result (λ counts. counts.0 + counts.1 ≤ length new.now) }
+{
+    let before = ByName::new(alloc, old)?;
+    let mut added = 0;
+    let mut changed = 0;
+    for row in new {
+        let other = before.find(row.name.as_str());
+        push_lines_of_new(text, steps, other, row)?;
+        match change_of(steps, other, Some(row)) {
+            Change::Added => added += 1,
+            Change::Changed => changed += 1,
+            _ => {}
+        }
+    }
+    Ok((added, changed))
+}
+
+fn push_lines_of_new(
+    text: &mut Vec<u8>,
+    steps: bool,
+    old: Option<&Row>,
+    new: &Row,
+) -> Result<(), AllocError>
+    ensures { OnOk result (text.new.items ≡ text.old.items
+        ++ lines_of_new steps (option_map (λ row. row.now) old.entry) new.now) }
+{
+    match old {
+        Some(old) => push_change_lines(text, steps, old, new),
+        None => push_sign(text, "+ ", new),
+    }
+}
+
+// Appends a line of a sign and the name of a job.
+fn push_sign<'a>(text: &mut Vec<u8>, sign: &'a str, row: &'a Row) -> Result<(), AllocError>
+    ensures { OnOk result
+        (text.new.items ≡ text.old.items ++ line (sign.now ++ row.now.name)) }
+{
+    push_spans(
+        text,
+        &[
+            Span::Text(sign),
+            Span::Text(row.name.as_str()),
+            Span::Text("\n"),
+        ],
+    )
+}
+
+// Appends how many of so many jobs differ.
+fn push_count_line(text: &mut Vec<u8>, jobs: usize, counts: Differing) -> Result<(), AllocError>
+    requires { differing_count counts < 2 ^ 64 }
+    ensures { OnOk result (text.new.items ≡ text.old.items ++ count_line jobs counts) }
+{
+    let count = counts.gone + counts.added + counts.changed;
+    push_spans(
+        text,
+        &[
+            Span::Number(count as u64),
+            Span::Text(" of "),
+            Span::Number(jobs as u64),
+            Span::Text(" jobs differ: "),
+            Span::Number(counts.gone as u64),
+            Span::Text(" gone, "),
+            Span::Number(counts.added as u64),
+            Span::Text(" new, "),
+            Span::Number(counts.changed as u64),
+            Span::Text(" changed\n"),
+        ],
+    )
+}

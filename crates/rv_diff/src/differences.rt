@@ -1,0 +1,193 @@
+//! The lines that say in what two rows of one name differ.
+
+ghost use Rattle.std.specs.Prelude.{◌≡◌, ◌++◌, OnOk};
+ghost use Rattle.rv_diff.specs.Change.{same_console, same_ending, same_steps, same_verdict};
+ghost use Rattle.rv_diff.specs.Differences.{becomes, change_line, change_lines, console_words};
+ghost use Rattle.rv_diff.specs.Differences.{ending_words, first_place, steps_words, verdict_words};
+
+use crate::change::{same_console, same_ending, same_steps, same_verdict, verdict_text};
+use crate::signature_line::push_signature_change;
+use rv_rows::{Row, RowEnd};
+use rv_text::{Span, behind, push_spans};
+use std::alloc::AllocError;
+
+/// Appends a line for each part in which two rows do not agree.
+#[tactic(auto, unfolding(crate::specs::Differences::change_lines))]
+pub(crate) fn push_change_lines(
+    text: &mut Vec<u8>,
+    steps: bool,
+    old: &Row,
+    new: &Row,
+) -> Result<(), AllocError>
+    ensures { OnOk result (text.new.items
+        ≡ text.old.items ++ change_lines steps old.now new.now) }
+{
+    push_ending_change(text, steps, old, new)?;
+    push_steps_change(text, steps, old, new)?;
+    push_console_change(text, old, new)?;
+    push_signature_change(text, old, new)?;
+    push_verdict_change(text, old, new)
+}
+
+fn push_ending_change(
+    text: &mut Vec<u8>,
+    steps: bool,
+    old: &Row,
+    new: &Row,
+) -> Result<(), AllocError>
+    ensures { OnOk result (text.new.items ≡ text.old.items
+        ++ change_line new.now.name (same_ending steps old.now.ending new.now.ending)
+        (becomes (ending_words old.now.ending) (ending_words new.now.ending))) }
+{
+    if same_ending(steps, old.ending, new.ending) {
+        return Ok(());
+    }
+    push_spans(
+        text,
+        &[
+            Span::Text("! "),
+            Span::Text(new.name.as_str()),
+            Span::Text(": "),
+        ],
+    )?;
+    push_ending(text, old.ending, " -> ")?;
+    push_ending(text, new.ending, "\n")
+}
+
+// Appends how a row ended, as a report has it, and what stands behind it.
+#[tactic(auto, unfolding(crate::specs::Differences::ending_words))]
+fn push_ending<'a>(text: &mut Vec<u8>, ending: RowEnd, end: &'a str) -> Result<(), AllocError>
+    ensures { OnOk result (text.new.items
+        ≡ text.old.items ++ (ending_words ending ++ end.now)) }
+{
+    match ending {
+        RowEnd::Exit(code) => push_spans(
+            text,
+            &[
+                Span::Text("exit "),
+                Span::Number(u64::from(code)),
+                Span::Text(end),
+            ],
+        ),
+        RowEnd::Fault(kind, pc, value) => push_spans(
+            text,
+            &[
+                Span::Text("fault "),
+                Span::Text(kind.name()),
+                Span::Text(" pc="),
+                Span::Word(pc),
+                Span::Text(" value="),
+                Span::Word(value),
+                Span::Text(end),
+            ],
+        ),
+        RowEnd::Budget => push_spans(text, &[Span::Text("budget"), Span::Text(end)]),
+        RowEnd::Refused(why) => push_spans(
+            text,
+            &[
+                Span::Text("refused "),
+                Span::Text(why.name()),
+                Span::Text(end),
+            ],
+        ),
+    }
+}
+
+fn push_steps_change(
+    text: &mut Vec<u8>,
+    steps: bool,
+    old: &Row,
+    new: &Row,
+) -> Result<(), AllocError>
+    ensures { OnOk result (text.new.items ≡ text.old.items
+        ++ change_line new.now.name (same_steps steps old.now new.now)
+        (steps_words old.now.steps new.now.steps)) }
+{
+    if same_steps(steps, old, new) {
+        return Ok(());
+    }
+    let before = old.steps;
+    let after = new.steps;
+    push_spans(
+        text,
+        &[
+            Span::Text("! "),
+            Span::Text(new.name.as_str()),
+            Span::Text(": steps "),
+            Span::Number(u64::from(before)),
+            Span::Text(" -> "),
+            Span::Number(u64::from(after)),
+            Span::Text("\n"),
+        ],
+    )
+}
+
+// The line tells from which byte on two consoles differ, or their lengths where one is the beginning of the other.
+#[tactic(auto, unfolding(crate::specs::Differences::console_words))]
+fn push_console_change<'a>(text: &mut Vec<u8>, old: &'a Row, new: &'a Row) -> Result<(), AllocError>
+    ensures { OnOk result (text.new.items ≡ text.old.items
+        ++ change_line new.now.name (same_console old.now new.now)
+        (console_words old.now.console new.now.console)) }
+{
+    if same_console(old, new) {
+        return Ok(());
+    }
+    let before = old.console.as_slice();
+    let after = new.console.as_slice();
+    match first_byte(before, after) {
+        Some(place) => push_spans(
+            text,
+            &[
+                Span::Text("! "),
+                Span::Text(new.name.as_str()),
+                Span::Text(": console byte "),
+                Span::Number(place as u64),
+                Span::Text(": \""),
+                Span::Value(behind(before, place)),
+                Span::Text("\" -> \""),
+                Span::Value(behind(after, place)),
+                Span::Text("\"\n"),
+            ],
+        ),
+        None => push_spans(
+            text,
+            &[
+                Span::Text("! "),
+                Span::Text(new.name.as_str()),
+                Span::Text(": console "),
+                Span::Number(before.len() as u64),
+                Span::Text(" bytes -> "),
+                Span::Number(after.len() as u64),
+                Span::Text(" bytes\n"),
+            ],
+        ),
+    }
+}
+
+fn first_byte(old: &[u8], new: &[u8]) -> Option<usize>
+    ensures { result ≡ first_place old.now new.now }
+{
+    old.iter().zip(new).position(|(x, y)| x != y)
+}
+
+fn push_verdict_change(text: &mut Vec<u8>, old: &Row, new: &Row) -> Result<(), AllocError>
+    ensures { OnOk result (text.new.items ≡ text.old.items
+        ++ change_line new.now.name (same_verdict old.now.verdict new.now.verdict)
+        (verdict_words old.now.verdict new.now.verdict)) }
+{
+    if same_verdict(old.verdict, new.verdict) {
+        return Ok(());
+    }
+    push_spans(
+        text,
+        &[
+            Span::Text("! "),
+            Span::Text(new.name.as_str()),
+            Span::Text(": verdict "),
+            Span::Text(verdict_text(old.verdict)),
+            Span::Text(" -> "),
+            Span::Text(verdict_text(new.verdict)),
+            Span::Text("\n"),
+        ],
+    )
+}

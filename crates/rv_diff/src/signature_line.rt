@@ -1,0 +1,123 @@
+//! The line that says in what two signatures differ.
+
+ghost use Rattle.std.specs.Prelude.{◌≡◌, ◌++◌, OnOk, codes, slice_index};
+ghost use Rattle.rv_rows.specs.Report.{line};
+ghost use Rattle.rv_rows.specs.Verdict.{same_signature};
+ghost use Rattle.rv_diff.specs.Differences.{change_begin, change_line, first_place, signature_words, words_words};
+
+use crate::change::same_signature;
+use rv_rows::{Row, Words};
+use rv_text::{Span, push_spans};
+use std::alloc::AllocError;
+
+/// Appends the line of two rows whose signatures differ: in which word they do first, or their sizes where they do in those.
+pub(crate) fn push_signature_change(
+    text: &mut Vec<u8>,
+    old: &Row,
+    new: &Row,
+) -> Result<(), AllocError>
+    ensures { OnOk result (text.new.items ≡ text.old.items
+        ++ change_line new.now.name (same_signature old.now.signature new.now.signature)
+        (signature_words old.now.signature new.now.signature)) }
+{
+    if same_signature(&old.signature, &new.signature) {
+        return Ok(());
+    }
+    push_signature_line(text, new.name.as_str(), &old.signature, &new.signature)
+}
+
+#[tactic(auto, unfolding(crate::specs::Differences::signature_words))]
+fn push_signature_line<'a>(
+    text: &mut Vec<u8>,
+    name: &'a str,
+    old: &Option<Words>,
+    new: &Option<Words>,
+) -> Result<(), AllocError>
+    ensures { OnOk result (text.new.items ≡ text.old.items
+        ++ line (change_begin name.now ++ signature_words old.now new.now)) }
+{
+    match (old, new) {
+        (Some(before), Some(after)) => {
+            push_words_change(text, name, before.as_slice(), after.as_slice())
+        }
+        (Some(before), None) => push_spans(
+            text,
+            &[
+                Span::Text("! "),
+                Span::Text(name),
+                Span::Text(": signature "),
+                Span::Number(before.as_slice().len() as u64),
+                Span::Text(" words -> none\n"),
+            ],
+        ),
+        (None, Some(after)) => push_spans(
+            text,
+            &[
+                Span::Text("! "),
+                Span::Text(name),
+                Span::Text(": signature none -> "),
+                Span::Number(after.as_slice().len() as u64),
+                Span::Text(" words\n"),
+            ],
+        ),
+        (None, None) => push_spans(
+            text,
+            &[
+                Span::Text("! "),
+                Span::Text(name),
+                Span::Text(": signature none -> none\n"),
+            ],
+        ),
+    }
+}
+
+fn push_words_change<'a>(
+    text: &mut Vec<u8>,
+    name: &'a str,
+    old: &[u32],
+    new: &[u32],
+) -> Result<(), AllocError>
+    ensures { OnOk result (text.new.items ≡ text.old.items ++ line (change_begin name.now
+        ++ (codes "signature " ++ words_words (first_place old.now new.now) old.now new.now))) }
+{
+    match first_word(old, new) {
+        Some(place) => push_spans(
+            text,
+            &[
+                Span::Text("! "),
+                Span::Text(name),
+                Span::Text(": signature word "),
+                Span::Number(place as u64),
+                Span::Text(": "),
+                Span::Word(word_at(old, place)),
+                Span::Text(" -> "),
+                Span::Word(word_at(new, place)),
+                Span::Text("\n"),
+            ],
+        ),
+        None => push_spans(
+            text,
+            &[
+                Span::Text("! "),
+                Span::Text(name),
+                Span::Text(": signature "),
+                Span::Number(old.len() as u64),
+                Span::Text(" words -> "),
+                Span::Number(new.len() as u64),
+                Span::Text(" words\n"),
+            ],
+        ),
+    }
+}
+
+fn first_word(old: &[u32], new: &[u32]) -> Option<usize>
+    ensures { result ≡ first_place old.now new.now }
+{
+    old.iter().zip(new).position(|(x, y)| x != y)
+}
+
+fn word_at(words: &[u32], place: usize) -> u32
+    ensures { result ≡ slice_index words.now place }
+{
+    if place < words.len() { words[place] } else { 0 }
+}

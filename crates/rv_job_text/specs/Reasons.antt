@@ -1,0 +1,49 @@
+-- Why a job was refused, as a person is told it: of a file that was not read its path and why, of
+-- an image what was found in it.
+use Rattle.std.specs.Prelude.{ℕ, List, Option, Some, None, option_map}
+use Rattle.std.specs.Option.{option_or}
+use Rattle.rv_elf.specs.declared.error.ImageError.{ImageError}
+use Rattle.rv_files.specs.declared.noting.Unread.{Unread}
+use Rattle.rv_jobs.specs.declared.answers.Answer.{Answer}
+use Rattle.rv_jobs.specs.Plans.{kept_for}
+use Rattle.rv_lists.specs.declared.job.Job.{Job}
+use Rattle.rv_lists.specs.Jobs.{console_path}
+use Rattle.rv_job_text.specs.ImageReasons.{image_reason}
+use Rattle.rv_rows.specs.declared.row.Refusal.{Refusal}
+use Rattle.rv_rows.specs.declared.row.Refusal.TheVariants as refusal
+use Rattle.rv_rows.specs.declared.row.RowEnd.{RowEnd}
+use Rattle.rv_rows.specs.declared.row.RowEnd.TheVariants as ending
+use Rattle.rv_rows.specs.Rows.{bytes_in, console_in, reference_in}
+use Rattle.rv_job_text.specs.UnreadFiles.{long_text, unread_text}
+
+-- a path, where none of its bytes were read
+abbrev pub path_without : Option (List ℕ) → Option (List ℕ) → Option (List ℕ)
+path_without None path = path
+path_without (Some bytes) path = None
+
+-- the path of the reference or of the console's file, whichever is the first that was not read
+unfoldable pub refused_reference : List Answer → Job → Option (List ℕ)
+refused_reference answers job =
+    option_or (path_without (reference_in answers job) job.expect_signature)
+    (path_without (console_in answers job) (console_path job.expect_console))
+
+-- of an image that was read
+abbrev pub image_refusal_text : List Answer → Job → ImageError → Option (List ℕ)
+image_refusal_text answers job why =
+    option_map (λ file. image_reason job file why)
+    (bytes_in (Some (kept_for answers job.image)))
+
+-- why a job was refused, over what is kept of the paths and what was noted of those that were not
+-- read
+unfoldable pub refusal_text : List Answer → List Unread → Job → Refusal → Option (List ℕ)
+refusal_text answers unread job refusal.ImageUnreadable = Some (unread_text unread job.image)
+refusal_text answers unread job refusal.ImageTooLong = Some (long_text job.image)
+refusal_text answers unread job refusal.ReferenceUnreadable =
+    option_map (unread_text unread) (refused_reference answers job)
+refusal_text answers unread job refusal.ReferenceTooLong =
+    option_map long_text (refused_reference answers job)
+refusal_text answers unread job (refusal.Image why) = image_refusal_text answers job why
+
+unfoldable pub reason_of : List Answer → List Unread → Job → RowEnd → Option (List ℕ)
+reason_of answers unread job (ending.Refused why) = refusal_text answers unread job why
+reason_of answers unread job _ = None

@@ -1,0 +1,128 @@
+//! What differs first between the bytes that were met and those that are expected, as text.
+
+ghost use Rattle.std.specs.Prelude.{◌≡◌, ◌++◌, [], OnOk, codes, option_map, unwrap_or};
+ghost use Rattle.rv_text.specs.Shown.{shown};
+ghost use Rattle.rv_job_text.specs.UnmetLines.{byte_text, bytes_text, console_text, count_text};
+
+use rv_expect::Difference;
+use rv_jobs::ExpectedConsole;
+use rv_text::{Span, push_spans, push_text, sides_from};
+use std::alloc::AllocError;
+
+/// What differs from the console that is expected.
+#[tactic(auto, unfolding(crate::specs::UnmetLines::console_text, crate::specs::UnmetLines::expected_text))]
+pub(crate) fn push_console(
+    bytes: &mut Vec<u8>,
+    expected: &Option<ExpectedConsole>,
+    file: Option<&[u8]>,
+    met: &[u8],
+    difference: Difference,
+) -> Result<(), AllocError>
+    ensures { OnOk result (bytes.new.items ≡ bytes.old.items
+        ++ console_text expected.now (option_map (λ bytes. bytes.now) file.entry) met.now
+        difference) }
+{
+    match expected {
+        Some(ExpectedConsole::Text(text)) => {
+            push_text(bytes, "the console: ")?;
+            push_bytes(bytes, met, text.as_slice(), difference)
+        }
+        Some(ExpectedConsole::File(path)) => {
+            push_topic(bytes, "the console of ", path.as_str())?;
+            push_bytes(bytes, met, bytes_or_none(file), difference)
+        }
+        None => push_text(bytes, "no console"),
+    }
+}
+
+/// Says in front of what differs what is compared: its name is shown.
+pub(crate) fn push_topic(
+    bytes: &mut Vec<u8>,
+    before: &'static str,
+    name: &str,
+) -> Result<(), AllocError>
+    ensures { OnOk result (bytes.new.items ≡ bytes.old.items
+        ++ (before.now ++ shown name.now ++ codes ": ")) }
+{
+    push_spans(
+        bytes,
+        &[
+            Span::Text(before),
+            Span::Shown(name.as_bytes()),
+            Span::Text(": "),
+        ],
+    )
+}
+
+pub(crate) fn bytes_or_none(file: Option<&[u8]>) -> &[u8]
+    ensures { result.now ≡ unwrap_or (option_map (λ bytes. bytes.now) file.entry) [] }
+{
+    match file {
+        Some(bytes) => bytes,
+        None => &[],
+    }
+}
+
+/// What differs between the bytes that were met and those that are wanted.
+#[tactic(auto, unfolding(crate::specs::UnmetLines::bytes_text))]
+pub(crate) fn push_bytes(
+    bytes: &mut Vec<u8>,
+    met: &[u8],
+    wanted: &[u8],
+    difference: Difference,
+) -> Result<(), AllocError>
+    ensures { OnOk result (bytes.new.items ≡ bytes.old.items
+        ++ bytes_text difference met.now wanted.now) }
+{
+    match difference {
+        Difference::At(place) => push_byte(bytes, place, met, wanted),
+        Difference::Lengths => push_count(bytes, met.len(), " bytes", wanted.len()),
+        Difference::Absent => push_text(bytes, "it was not read"),
+    }
+}
+
+#[tactic(auto, unfolding(crate::specs::UnmetLines::byte_text))]
+fn push_byte<'a>(
+    bytes: &mut Vec<u8>,
+    place: usize,
+    met: &'a [u8],
+    wanted: &'a [u8],
+) -> Result<(), AllocError>
+    ensures { OnOk result (bytes.new.items ≡ bytes.old.items ++ byte_text place met.now wanted.now) }
+{
+    let (met, wanted) = sides_from(place, met, wanted);
+    push_spans(
+        bytes,
+        &[
+            Span::Text("byte "),
+            Span::Number(place as u64),
+            Span::Text(" is \""),
+            Span::Value(met),
+            Span::Text("\", expected \""),
+            Span::Value(wanted),
+            Span::Text("\""),
+        ],
+    )
+}
+
+/// Says that so many bytes or words were met, and how many are wanted.
+#[tactic(auto, unfolding(crate::specs::UnmetLines::count_text))]
+pub(crate) fn push_count(
+    bytes: &mut Vec<u8>,
+    met: usize,
+    what: &'static str,
+    wanted: usize,
+) -> Result<(), AllocError>
+    ensures { OnOk result (bytes.new.items ≡ bytes.old.items ++ count_text met what.now wanted) }
+{
+    push_spans(
+        bytes,
+        &[
+            Span::Text("it has "),
+            Span::Number(met as u64),
+            Span::Text(what),
+            Span::Text(", expected "),
+            Span::Number(wanted as u64),
+        ],
+    )
+}

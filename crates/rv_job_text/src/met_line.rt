@@ -1,0 +1,125 @@
+//! The line of an expectation that a run meets.
+
+ghost use Rattle.std.specs.Prelude.{◌≡◌, ◌++◌, OnOk, option_map};
+ghost use Rattle.std.specs.List.{flat_map};
+ghost use Rattle.rv_job_text.specs.MetLines.{met_line, met_lines, met_text, named_text, path_text};
+ghost use Rattle.rv_job_text.specs.UnmetLines.{comparison_of};
+
+use crate::paths::{console_path, reference_path};
+use crate::unmet_line::{Sides, push_end, push_exit};
+use rv_expect::{Expectation, Unmet, is_met};
+use rv_rows::Row;
+use rv_text::{Span, push_spans, push_text};
+use std::alloc::AllocError;
+
+/// Appends a line for each expectation of a job that its run meets, behind five spaces: for those that are not among the
+/// unmet ones.
+#[tactic(auto, unfolding(crate::specs::MetLines::met_lines))]
+pub(crate) fn push_all_met(
+    bytes: &mut Vec<u8>,
+    sides: &Sides<'_>,
+    unmet: &[Unmet],
+) -> Result<(), AllocError>
+    ensures { OnOk result (bytes.new.items
+        ≡ bytes.old.items ++ met_lines (comparison_of sides.now) unmet.now) }
+{
+    push_each(
+        bytes,
+        sides,
+        unmet,
+        &[
+            Expectation::Exit,
+            Expectation::End,
+            Expectation::Console,
+            Expectation::Signature,
+            Expectation::Same,
+            Expectation::Nothing,
+        ],
+    )
+}
+
+fn push_each(
+    bytes: &mut Vec<u8>,
+    sides: &Sides<'_>,
+    unmet: &[Unmet],
+    expectations: &[Expectation],
+) -> Result<(), AllocError>
+    ensures { OnOk result (bytes.new.items ≡ bytes.old.items
+        ++ flat_map (met_line (comparison_of sides.now) unmet.now) expectations.now) }
+{
+    for one in expectations {
+        push_met(bytes, sides, unmet, *one)?;
+    }
+    Ok(())
+}
+
+#[tactic(auto, unfolding(crate::specs::MetLines::met_line))]
+fn push_met(
+    bytes: &mut Vec<u8>,
+    sides: &Sides<'_>,
+    unmet: &[Unmet],
+    one: Expectation,
+) -> Result<(), AllocError>
+    ensures { OnOk result (bytes.new.items
+        ≡ bytes.old.items ++ met_line (comparison_of sides.now) unmet.now one) }
+{
+    if !is_met(sides.job, unmet, one) {
+        return Ok(());
+    }
+    push_text(bytes, "     met: ")?;
+    push_expectation(bytes, sides, one)?;
+    push_text(bytes, "\n")
+}
+
+#[tactic(auto, unfolding(crate::specs::MetLines::met_text))]
+fn push_expectation(
+    bytes: &mut Vec<u8>,
+    sides: &Sides<'_>,
+    one: Expectation,
+) -> Result<(), AllocError>
+    ensures { OnOk result (bytes.new.items
+        ≡ bytes.old.items ++ met_text (comparison_of sides.now) one) }
+{
+    match one {
+        Expectation::Exit => push_exit(bytes, sides.job.expect_exit),
+        Expectation::End => push_end(bytes, sides.job.expect_end),
+        Expectation::Console => push_path(bytes, "the console", console_path(sides.job)),
+        Expectation::Signature => push_path(bytes, "the signature", reference_path(sides.job)),
+        Expectation::Same => push_named(bytes, sides.other),
+        Expectation::Nothing => push_text(bytes, "exit 0, since it expects nothing else"),
+    }
+}
+
+// Appends what is met, and the path that it is of, if it is of one.
+fn push_path<'a>(
+    bytes: &mut Vec<u8>,
+    what: &'a str,
+    path: Option<&'a str>,
+) -> Result<(), AllocError>
+    ensures { OnOk result (bytes.new.items ≡ bytes.old.items
+        ++ (what.now ++ path_text (option_map (λ path. path.now) path.entry))) }
+{
+    let Some(path) = path else {
+        return push_text(bytes, what);
+    };
+    push_spans(
+        bytes,
+        &[
+            Span::Text(what),
+            Span::Text(" of "),
+            Span::Shown(path.as_bytes()),
+        ],
+    )
+}
+
+#[tactic(auto, unfolding(crate::specs::MetLines::named_text))]
+fn push_named(bytes: &mut Vec<u8>, other: Option<&Row>) -> Result<(), AllocError>
+    ensures { OnOk result (bytes.new.items ≡ bytes.old.items
+        ++ named_text (option_map (λ row. row.now) other.entry)) }
+{
+    let Some(other) = other else {
+        return push_text(bytes, "the same as another job");
+    };
+    let name = other.name.as_str().as_bytes();
+    push_spans(bytes, &[Span::Text("the same as "), Span::Shown(name)])
+}

@@ -1,0 +1,184 @@
+//! The addresses of segments that a map refuses, as a person is told them.
+
+ghost use Rattle.std.specs.Prelude.{◌≡◌, ◌+◌, ◌++◌, OnOk, codes, option_map};
+ghost use Rattle.std.specs.List.{find};
+ghost use Rattle.rv_elf.specs.Loading.{load_address, share};
+ghost use Rattle.rv_text.specs.Spans.{span_text};
+ghost use Rattle.rv_job_text.specs.ImageReasons.{last_text, map_text, outside_text, overlap_text, pair_text, range_text};
+ghost use Rattle.rv_job_text.specs.ImageReasons.{regions_text, sharing_segments};
+
+use rv_elf::{LoadAt, Segment};
+use rv_expect::{is_file_inside, load_address};
+use rv_jobs::Job;
+use rv_memory::Region;
+use rv_text::{Span, push_spans, push_text};
+use std::alloc::AllocError;
+
+#[tactic(auto, unfolding(crate::specs::ImageReasons::map_text))]
+pub(crate) fn push_unfit(
+    bytes: &mut Vec<u8>,
+    job: &Job,
+    segment: Option<&Segment>,
+) -> Result<(), AllocError>
+    ensures { OnOk result (bytes.new.items ≡ bytes.old.items
+        ++ map_text job.now (option_map (λ segment. segment.now) segment.entry)) }
+{
+    match segment {
+        Some(segment) => {
+            let is_file_inside = is_file_inside(job, segment);
+            push_outside(bytes, is_file_inside, job.load, segment)?;
+            push_regions(bytes, job.regions.as_slice())
+        }
+        None => push_text(bytes, "a segment does not lie in one region"),
+    }
+}
+
+// What of a segment is outside: its memory where its bytes from the file are inside, else these.
+#[tactic(auto, unfolding(crate::specs::ImageReasons::outside_text))]
+fn push_outside(
+    bytes: &mut Vec<u8>,
+    is_file_inside: bool,
+    at: LoadAt,
+    segment: &Segment,
+) -> Result<(), AllocError>
+    ensures { OnOk result (bytes.new.items ≡ bytes.old.items
+        ++ (outside_text is_file_inside at segment.now ++ codes ", do not lie in one region:")) }
+{
+    let behind = ", do not lie in one region:";
+    if is_file_inside {
+        let what = "a segment's bytes in memory, ";
+        push_range(bytes, what, segment.vaddr, segment.memsz, behind)
+    } else {
+        let what = "a segment's bytes from the file, ";
+        push_range(
+            bytes,
+            what,
+            load_address(at, segment),
+            segment.filesz,
+            behind,
+        )
+    }
+}
+
+#[tactic(auto, unfolding(crate::specs::ImageReasons::regions_text))]
+pub(crate) fn push_regions(bytes: &mut Vec<u8>, regions: &[Region]) -> Result<(), AllocError>
+    ensures { OnOk result (bytes.new.items ≡ bytes.old.items ++ regions_text regions.now) }
+{
+    for region in regions {
+        push_range(bytes, " [", region.base, region.size, "]")?;
+    }
+    Ok(())
+}
+
+// So many addresses from one on, between texts.
+fn push_range(
+    bytes: &mut Vec<u8>,
+    before: &'static str,
+    from: u32,
+    count: u32,
+    behind: &'static str,
+) -> Result<(), AllocError>
+    ensures { OnOk result
+        (bytes.new.items ≡ bytes.old.items ++ (before.now ++ range_text from count ++ behind.now)) }
+{
+    push_spans(
+        bytes,
+        &[
+            Span::Text(before),
+            Span::Word(from),
+            Span::Text(" to "),
+            last_of(from, count),
+            Span::Text(behind),
+        ],
+    )
+}
+
+// The last of so many addresses from one on.
+#[tactic(auto, unfolding(crate::specs::ImageReasons::last_text))]
+fn last_of(from: u32, count: u32) -> Span<'static>
+    ensures { span_text result ≡ last_text from count }
+{
+    match from.checked_add(count.saturating_sub(1)) {
+        Some(last) => Span::Word(last),
+        None => Span::Text("past ffffffff"),
+    }
+}
+
+#[tactic(auto, unfolding(crate::specs::ImageReasons::overlap_text))]
+pub(crate) fn push_overlap(
+    bytes: &mut Vec<u8>,
+    at: LoadAt,
+    segments: &[Segment],
+) -> Result<(), AllocError>
+    ensures { OnOk result (bytes.new.items
+        ≡ bytes.old.items ++ overlap_text at (sharing_segments at segments.now)) }
+{
+    match sharing_segments(at, segments) {
+        Some((one, other)) => push_pair(bytes, at, &one, &other),
+        None => push_text(bytes, "the file bytes of two segments share addresses"),
+    }
+}
+
+// Says where the file bytes of two segments are loaded.
+#[tactic(auto, unfolding(crate::specs::ImageReasons::pair_text))]
+fn push_pair(
+    bytes: &mut Vec<u8>,
+    at: LoadAt,
+    one: &Segment,
+    other: &Segment,
+) -> Result<(), AllocError>
+    ensures { OnOk result (bytes.new.items ≡ bytes.old.items
+        ++ (codes "the file bytes of two segments share addresses: "
+        ++ pair_text at one.now other.now)) }
+{
+    let from = load_address(at, one);
+    let other_from = load_address(at, other);
+    push_spans(
+        bytes,
+        &[
+            Span::Text("the file bytes of two segments share addresses: "),
+            Span::Word(from),
+            Span::Text(" to "),
+            last_of(from, one.filesz),
+            Span::Text(" and "),
+            Span::Word(other_from),
+            Span::Text(" to "),
+            last_of(other_from, other.filesz),
+        ],
+    )
+}
+
+// The first segment that shares an address with a later one, and the first of those.
+fn sharing_segments(at: LoadAt, segments: &[Segment]) -> Option<(Segment, Segment)>
+    ensures { result ≡ sharing_segments at segments.now }
+{
+    let mut rest = segments;
+    while let Some((one, others)) = rest.split_first() {
+        if let Some(other) = sharing_one(at, one, others) {
+            return Some((*one, *other));
+        }
+        rest = others;
+    }
+    None
+}
+
+// The first of the others that shares an address with the one.
+fn sharing_one<'a>(at: LoadAt, one: &Segment, others: &'a [Segment]) -> Option<&'a Segment>
+    ensures { option_map (λ segment. segment.now) result ≡ find (share at one.now) others.now }
+{
+    others.iter().find(|other| share(at, one, other))
+}
+
+fn share(at: LoadAt, one: &Segment, other: &Segment) -> bool
+    ensures { result ≡ share at one.now other.now }
+{
+    let start = load_address(at, one).max(load_address(at, other));
+    u64::from(start) < end_address(at, one).min(end_address(at, other))
+}
+
+// The address past the last file byte.
+fn end_address(at: LoadAt, segment: &Segment) -> u64
+    ensures { result ≡ load_address at segment.now + segment.now.filesz }
+{
+    u64::from(load_address(at, segment)) + u64::from(segment.filesz)
+}

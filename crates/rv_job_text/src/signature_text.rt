@@ -1,0 +1,182 @@
+//! What differs first between the words of a signature and those that are expected, as text.
+
+ghost use Rattle.std.specs.Prelude.{◌≡◌, ◌++◌, ◌+◌, ◌*◌, ◌%◌, ◌^◌, OnOk, option_map};
+ghost use Rattle.rv_text.specs.Spans.{span_text};
+ghost use Rattle.rv_job_text.specs.UnmetLines.{absent_text, bad_line_text, digits_at, place_text, reference_text};
+ghost use Rattle.rv_job_text.specs.UnmetLines.{signature_text, signatures_text, word_at, word_text};
+
+use crate::difference_text::{bytes_or_none, push_count, push_topic};
+use rv_expect::{Difference, SignatureDifference, words_or_none};
+use rv_jobs::Text;
+use rv_rows::{LINE, Words};
+use rv_text::{Span, push_spans, push_text};
+use std::alloc::AllocError;
+
+/// What differs from the signature that is expected.
+#[tactic(auto, unfolding(crate::specs::UnmetLines::signature_text))]
+pub(crate) fn push_signature(
+    bytes: &mut Vec<u8>,
+    first: Option<u32>,
+    expected: &Option<Text>,
+    signature: &Option<Words>,
+    reference: Option<&[u8]>,
+    difference: SignatureDifference,
+) -> Result<(), AllocError>
+    ensures { OnOk result (bytes.new.items ≡ bytes.old.items
+        ++ signature_text first expected.now signature.now
+        (option_map (λ bytes. bytes.now) reference.entry) difference) }
+{
+    let Some(path) = expected else {
+        return push_text(bytes, "no signature");
+    };
+    let path = path.as_str();
+    push_topic(bytes, "the signature of ", path)?;
+    push_reference(
+        bytes,
+        first,
+        path,
+        words_or_none(signature),
+        bytes_or_none(reference),
+        difference,
+    )
+}
+
+// What differs from the reference at a path.
+#[tactic(auto, unfolding(crate::specs::UnmetLines::reference_text))]
+fn push_reference(
+    bytes: &mut Vec<u8>,
+    first: Option<u32>,
+    path: &str,
+    words: &[u32],
+    text: &[u8],
+    difference: SignatureDifference,
+) -> Result<(), AllocError>
+    ensures { OnOk result (bytes.new.items ≡ bytes.old.items
+        ++ reference_text first path.now words.now text.now difference) }
+{
+    match difference {
+        SignatureDifference::Line(number) => push_bad_line(bytes, number, path),
+        SignatureDifference::Word(place) => {
+            let wanted = Span::Shown(digits_at(text, place));
+            push_words(bytes, first, place, word_at(words, place), wanted)
+        }
+        SignatureDifference::Count => push_count(bytes, words.len(), " words", text.len() / LINE),
+        SignatureDifference::Absent => push_text(bytes, "it was not read"),
+    }
+}
+
+#[tactic(auto, unfolding(crate::specs::UnmetLines::bad_line_text))]
+fn push_bad_line(bytes: &mut Vec<u8>, number: usize, path: &str) -> Result<(), AllocError>
+    ensures { OnOk result (bytes.new.items ≡ bytes.old.items ++ bad_line_text number path.now) }
+{
+    push_spans(
+        bytes,
+        &[
+            Span::Text("line "),
+            Span::Number(number as u64),
+            Span::Text(" of "),
+            Span::Shown(path.as_bytes()),
+            Span::Text(" is not eight lower-case digits and a line feed"),
+        ],
+    )
+}
+
+/// What differs between two signatures, of which one may be absent.
+#[tactic(auto, unfolding(crate::specs::UnmetLines::signatures_text))]
+pub(crate) fn push_signatures(
+    bytes: &mut Vec<u8>,
+    first: Option<u32>,
+    words: &Option<Words>,
+    others: &Option<Words>,
+    difference: Difference,
+) -> Result<(), AllocError>
+    ensures { OnOk result (bytes.new.items ≡ bytes.old.items
+        ++ signatures_text first words.now others.now difference) }
+{
+    let met = words_or_none(words);
+    let wanted = words_or_none(others);
+    match difference {
+        Difference::At(place) => {
+            let wanted = word_at(wanted, place);
+            push_words(bytes, first, place, word_at(met, place), wanted)
+        }
+        Difference::Lengths => push_count(bytes, met.len(), " words", wanted.len()),
+        Difference::Absent => push_text(bytes, absent(words)),
+    }
+}
+
+// That one of two signatures is absent.
+fn absent(words: &Option<Words>) -> &'static str
+    ensures { result.now ≡ absent_text words.now }
+{
+    match words {
+        Some(_) => "there is one, expected none",
+        None => "there is none, expected one",
+    }
+}
+
+// What a word is at a place, and what is expected there.
+fn push_words<'a>(
+    bytes: &mut Vec<u8>,
+    first: Option<u32>,
+    place: usize,
+    met: Span<'a>,
+    wanted: Span<'a>,
+) -> Result<(), AllocError>
+    ensures { OnOk result (bytes.new.items ≡ bytes.old.items
+        ++ word_text first place (span_text met.entry) (span_text wanted.entry)) }
+{
+    push_place(bytes, first, place)?;
+    push_spans(bytes, &[met, Span::Text(", expected "), wanted])
+}
+
+// The number of a word, and its address where that of the first is known.
+#[tactic(auto, unfolding(crate::specs::UnmetLines::place_text))]
+fn push_place(bytes: &mut Vec<u8>, first: Option<u32>, place: usize) -> Result<(), AllocError>
+    ensures { OnOk result (bytes.new.items ≡ bytes.old.items ++ place_text first place) }
+{
+    let number = Span::Number(place as u64);
+    match first {
+        Some(first) => push_spans(
+            bytes,
+            &[
+                Span::Text("word "),
+                number,
+                Span::Text(" (at "),
+                Span::Word(word_address(first, place)),
+                Span::Text(") is "),
+            ],
+        ),
+        None => push_spans(bytes, &[Span::Text("word "), number, Span::Text(" is ")]),
+    }
+}
+
+fn word_address(first: u32, place: usize) -> u32
+    ensures { result ≡ (first + 4 * place) % 2 ^ 32 }
+{
+    ((first as u128 + 4 * place as u128) % 0x1_0000_0000) as u32
+}
+
+// The digits of the word at a place, if there is one.
+#[tactic(auto, unfolding(crate::specs::UnmetLines::word_at))]
+fn word_at(words: &[u32], place: usize) -> Span<'static>
+    ensures { span_text result ≡ word_at words.now place }
+{
+    if place < words.len() {
+        Span::Word(words[place])
+    } else {
+        Span::Text("")
+    }
+}
+
+// The digits of the line at a place.
+#[tactic(auto, unfolding(crate::specs::UnmetLines::digits_at))]
+fn digits_at(text: &[u8], place: usize) -> &[u8]
+    ensures { result.now ≡ digits_at text.now place }
+{
+    if place < text.len() / LINE {
+        &text[place * LINE..place * LINE + (LINE - 1)]
+    } else {
+        &[]
+    }
+}

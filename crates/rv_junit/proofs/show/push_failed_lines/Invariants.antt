@@ -1,8 +1,0 @@
-use Rattle.std.proofs.Common.{◌≡◌, ◌++◌, take}
-use Rattle.std.specs.List.{flat_map}
-use Rattle.rv_junit.specs.Show.{failed_line}
-use Rattle.rv_junit.proofs.show.push_failed_lines.Given as goal
-
-abbrev pub invariant-loop-row : goal.invariant-loop-row
-invariant-loop-row l =
-    l.text.items ≡ l.fn.text.items ++ flat_map (failed_line l.rule) (take l.row-index l.rows)

@@ -1,3 +1,0 @@
-pub mod Names
-pub mod Outcomes
-pub mod RowsOfLists

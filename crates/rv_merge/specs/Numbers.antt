@@ -1,0 +1,27 @@
+-- What the types of a row's parts say of its numbers.
+use Rattle.std.specs.Prelude.{List, ℕ, Option, Some, None}
+use Rattle.std.specs.List.{AllByRecursion}
+use Rattle.hex.specs.Hex.{IsBytes}
+use Rattle.rv_rows.specs.declared.row.Row.{Row}
+use Rattle.rv_rows.specs.declared.row.RowEnd.{RowEnd}
+use Rattle.rv_rows.specs.declared.row.RowEnd.TheVariants as ending
+use Rattle.rv_report.specs.Saved.{IsWord}
+
+-- the numbers of an ending have 32 bits
+abbrev pub EndsInWords : RowEnd → Type 0
+EndsInWords (ending.Exit code) = IsWord code
+EndsInWords (ending.Fault kind pc value) = IsWord pc × IsWord value
+EndsInWords ending.Budget = Unit {0}
+EndsInWords (ending.Refused why) = Unit {0}
+
+-- so have the words of a signature, where there is one
+abbrev pub HasWords : Option (List ℕ) → Type 0
+HasWords None = Unit {0}
+HasWords (Some words) = AllByRecursion IsWord words
+
+-- the numbers of a row have 32 bits, and its console is bytes
+pub record HasNumbers (row : Row) : Type 0 where
+  pub ending : EndsInWords row.ending
+  pub steps : IsWord row.steps
+  pub console : IsBytes row.console
+  pub signature : HasWords row.signature

@@ -1,0 +1,292 @@
+-- The rows that a text says can stand in a report.
+use Rattle.std.proofs.Common.{◌≡◌, ◌==◌, ◌-◌, ◌<◌, ◌≤◌, ℕ, zero, suc, Bool, true, false, ◌&&◌, not, cond}
+use Rattle.std.proofs.Common.{slice_index, take, drop, List, [], ◌∷◌, ◌++◌, length, Option, Some, None, refl, sym}
+use Rattle.std.proofs.Common.{ap, arith, subst, inl, inr, length-append}
+use Rattle.std.proofs.lemmas.Bool.{cases_Bool, and_parts, false≢true}
+use Rattle.std.proofs.lemmas.Bool.Decides.{nat_tests}
+use Rattle.std.specs.Prelude.{codes, nat_lt, nat_le, replicate, if◌then◌else◌, Result, Ok, Err}
+use Rattle.std.specs.List.{list_all, find, AllByRecursion}
+use Rattle.std.specs.Str.{bytes_eq}
+use Rattle.hex.specs.Hex.{IsBytes, decode_of}
+use Rattle.hex.specs.declared.error.FromHexError.{FromHexError}
+use Rattle.hex.proofs.HexLemmas.{decode_of-ok}
+use Rattle.rv_elf.specs.declared.error.ImageError.TheVariants as image
+use Rattle.rv_lists.specs.JobList.{is_name, is_name_byte}
+use Rattle.rv_lists.specs.Jobs.{most_jobs}
+use Rattle.rv_rows.specs.Report.{refusal_name, refusal_named, refusals}
+use Rattle.rv_rows.specs.declared.row.Refusal.{Refusal}
+use Rattle.rv_rows.specs.declared.row.Refusal.TheVariants as refusal
+use Rattle.rv_rows.specs.declared.row.Row.{Row}
+use Rattle.rv_rows.specs.declared.row.RowEnd.{RowEnd}
+use Rattle.rv_rows.specs.declared.row.RowEnd.TheVariants as ending
+use Rattle.rv_rows.specs.declared.row.Verdict.{Verdict}
+use Rattle.rv_rows.specs.declared.row.Verdict.TheVariants.{Unasked}
+use Rattle.rv_report.specs.declared.gathering.Stage.{Stage}
+use Rattle.rv_report.specs.declared.gathering.Stage.TheVariants as stage
+use Rattle.rv_report.specs.declared.saved.Extent.{Extent}
+use Rattle.rv_report.specs.declared.saved.Extent.TheVariants.{Whole}
+use Rattle.rv_report.specs.Said.{lines, name_or_dash, job_of, name_of, after, number_on, number_of, digit_on}
+use Rattle.rv_report.specs.Said.{word_on, shifted, word_of, is_word, bytes_of, decoded, refusal_or_first, fault_of}
+use Rattle.rv_report.specs.Said.{ending_of, verdict_of, part_of, Gathered, whole, closed, over, next_row, padded}
+use Rattle.rv_report.specs.Said.{between, at_ending, at_steps, at_console, at_signature, at_words, with_line_at}
+use Rattle.rv_report.specs.Said.{with_line, with_lines, finished, gathered, hex_digit}
+use Rattle.rv_report.specs.Saved.{most_words, IsWord, IsEnd, AreWords, IsRow}
+
+-- ---- names
+
+dash_is_name : is_name (codes "-") ≡ true
+unfolding is_name is_name_byte
+dash_is_name = refl
+
+name_or_dash_is_name : (text : List ℕ) → is_name (name_or_dash text) ≡ true
+name_or_dash_is_name text =
+    let P : List ℕ → Type 0 = λ t. is_name t ≡ true in
+    elim (cases_Bool (is_name text)) [
+      | inl e ↦ subst P (sym (ap (λ (t : Bool). cond t text (codes "-")) e)) e
+      | inr e ↦ subst P (sym (ap (λ (t : Bool). cond t text (codes "-")) e)) dash_is_name
+    ]
+
+name_of_is_name : (line : List ℕ) → is_name (name_of line) ≡ true
+unfolding name_of
+name_of_is_name line = name_or_dash_is_name (after 32 (drop 4 line))
+
+-- ---- numbers
+
+digit_small : (base value digit : ℕ) → IsWord (digit_on base value digit)
+digit_small base value digit = omega arith
+
+number_small : (value : ℕ) (text : List ℕ) → IsWord value → IsWord (number_on value text)
+unfolding number_on
+number_small value [] h = h
+number_small value (b ∷ bs) h = number_small (digit_on 10 value (b - 48)) bs (digit_small 10 value (b - 48))
+
+word_on_small : (value : ℕ) (text : List ℕ) → IsWord value → IsWord (word_on value text)
+unfolding word_on
+word_on_small value [] h = h
+word_on_small value (b ∷ bs) h =
+    word_on_small (digit_on 16 value (hex_digit b)) bs (digit_small 16 value (hex_digit b))
+
+shifted_small : (count value : ℕ) → IsWord value → IsWord (shifted count value)
+unfolding shifted
+shifted_small zero value h = h
+shifted_small (suc count) value h = shifted_small count (digit_on 16 value 0) (digit_small 16 value 0)
+
+word_small : (text : List ℕ) → IsWord (word_of text)
+unfolding word_of
+word_small text =
+    shifted_small (8 - length (take 8 text)) (word_on 0 (take 8 text)) (word_on_small 0 (take 8 text) (omega arith))
+
+-- ---- bytes
+
+decoded_good : (text : List ℕ) (r : Result (List ℕ) FromHexError) → decode_of text ≡ r → IsBytes (decoded r)
+decoded_good text (Ok bytes) e = (decode_of-ok text bytes e).3
+decoded_good text (Err error) e = λ i. omega arith
+
+bytes_good : (text : List ℕ) → IsBytes (bytes_of text)
+unfolding bytes_of
+bytes_good text = decoded_good text (decode_of text) refl
+
+-- ---- endings
+
+-- a row can be refused so
+can : Refusal → Bool
+can refusal.ImageUnreadable = true
+can refusal.ImageTooLong = true
+can refusal.ReferenceUnreadable = true
+can refusal.ReferenceTooLong = true
+can (refusal.Image image.OutOfMemory) = false
+can (refusal.Image _) = true
+
+can_be : (why : Refusal) → can why ≡ true → why ≡ refusal.Image image.OutOfMemory → ⊥
+unfolding can
+can_be why h e =
+    let f : can (refusal.Image image.OutOfMemory) ≡ true = subst (λ (w : Refusal). can w ≡ true) e h in
+    false≢true f
+
+found_can : (p : Refusal → Bool) (all : List Refusal) → list_all can all ≡ true
+    → can (refusal_or_first (find p all)) ≡ true
+unfolding can
+found_can p [] h = refl
+found_can p (why ∷ all) h =
+    let parts = and_parts (can why) (list_all can all) h in
+    let Q : Option Refusal → Type 0 = λ o. can (refusal_or_first o) ≡ true in
+    elim (cases_Bool (p why)) [
+      | inl e ↦ subst Q (sym (ap (λ (t : Bool). cond t (Some why) (find p all)) e)) parts.0
+      | inr e ↦ subst Q (sym (ap (λ (t : Bool). cond t (Some why) (find p all)) e)) (found_can p all parts.1)
+    ]
+
+refusal_good : (name : List ℕ) → refusal_or_first (refusal_named name) ≡ refusal.Image image.OutOfMemory → ⊥
+unfolding can
+refusal_good name =
+    can_be (refusal_or_first (refusal_named name)) (found_can (λ r. bytes_eq name (refusal_name r)) refusals refl)
+
+pick : {X : Type 0} (P : X → Type 0) (b : Bool) (x y : X) → P x → P y → P (if b then x else y)
+pick P true x y h k = h
+pick P false x y h k = k
+
+pick_if : {X : Type 0} (P : X → Type 0) (b : Bool) (x y : X) → (b ≡ true → P x) → P y → P (if b then x else y)
+pick_if P true x y h k = h refl
+pick_if P false x y h k = k
+
+fault_good : (text : List ℕ) → IsEnd (fault_of text)
+unfolding fault_of
+fault_good text =
+    (word_small (take 8 (drop 3 (after 32 text))), word_small (drop 18 (after 32 text)))
+
+ending_good : (line : List ℕ) → IsEnd (ending_of line)
+unfolding ending_of
+ending_good line =
+    let kind = slice_index line 4 in
+    let refused = ending.Refused (refusal_or_first (refusal_named (drop 12 line))) in
+    let last : RowEnd = if kind == 98 then ending.Budget else refused in
+    let next : RowEnd = if kind == 102 then fault_of (drop 10 line) else last in
+    pick IsEnd (kind == 101) (ending.Exit (number_of (drop 9 line))) next (number_small 0 (drop 9 line) (omega arith))
+    (pick IsEnd (kind == 102) (fault_of (drop 10 line)) last (fault_good (drop 10 line))
+    (pick IsEnd (kind == 98) ending.Budget refused tt (refusal_good (drop 12 line))))
+
+-- ---- what is gathered
+
+abbrev pub AreGood : List Row → Type 0
+AreGood rows = AllByRecursion IsRow rows
+
+-- the rows can stand in a report, and what is known of the next row can too
+abbrev IsDraft : Gathered → Type 0
+IsDraft g = AreGood g.rows × (is_name g.name ≡ true) × IsEnd g.ending × IsWord g.steps × IsBytes g.console
+    × (g.count ≤ most_words) × (length g.words ≤ g.count) × AllByRecursion IsWord g.words
+
+all-append : {X : Type 0} (P : X → Type 0) (xs ys : List X) → AllByRecursion P xs → AllByRecursion P ys
+    → AllByRecursion P (xs ++ ys)
+all-append P [] ys h k = k
+all-append P (x ∷ xs) ys h k = (h.0, all-append P xs ys h.1 k)
+
+draft_whole : (numbers : List ℕ) (rows : List Row) (e : Extent) → AreGood rows → IsDraft (whole numbers rows e)
+unfolding whole
+draft_whole numbers rows e h = (h, dash_is_name, tt, omega arith, (λ i. omega arith), omega arith, omega arith, tt)
+
+signature_good : (signed : Bool) (words : List ℕ) → length words ≤ most_words → AllByRecursion IsWord words
+    → AreWords (if signed then Some words else None)
+signature_good true words few each = (few, each)
+signature_good false words few each = tt
+
+row_good : (v : Verdict) (g : Gathered) → IsDraft g → IsRow (next_row v g)
+unfolding next_row
+row_good v g h =
+    let few = h.5 in
+    let within = h.6 in
+    record {
+      name = h.1;
+      ending = h.2;
+      steps = h.3;
+      console = h.4;
+      signature = signature_good g.signed g.words (omega arith) h.7;
+    }
+
+draft_closed : (v : Verdict) (g : Gathered) → IsDraft g → IsDraft (closed v g)
+unfolding closed
+draft_closed v g h =
+    draft_whole (g.numbers ++ g.number ∷ []) (g.rows ++ next_row v g ∷ []) g.extent
+    (all-append IsRow g.rows (next_row v g ∷ []) h.0 (row_good v g h, tt))
+
+draft_between : (line : List ℕ) (g : Gathered) → IsDraft g → IsDraft (between line g)
+unfolding between
+draft_between line g h =
+    let job : Gathered = record g { number = job_of line; name = name_of line; begun = true; stage = stage.Ending } in
+    let part : Gathered = over (record g { extent = part_of line }) in
+    let other : Gathered = if slice_index line 0 == 112 then part else over g in
+    pick IsDraft ((slice_index line 0 == 106) && nat_lt (length g.rows) most_jobs) job other
+    (h.0, name_of_is_name line, h.2, h.3, h.4, h.5, h.6, h.7)
+    (pick IsDraft (slice_index line 0 == 112) part (over g) h h)
+
+draft_ending : (line : List ℕ) (g : Gathered) → IsDraft g → IsDraft (at_ending line g)
+unfolding at_ending
+draft_ending line g h =
+    pick IsDraft (slice_index line 0 == 101) (record g { ending = ending_of line; stage = stage.Steps }) (over g)
+    (h.0, h.1, ending_good line, h.3, h.4, h.5, h.6, h.7) h
+
+draft_steps : (line : List ℕ) (g : Gathered) → IsDraft g → IsDraft (at_steps line g)
+unfolding at_steps
+draft_steps line g h =
+    pick IsDraft ((slice_index line 0 == 115) && (slice_index line 1 == 116))
+    (record g { steps = number_of (drop 6 line); stage = stage.Console }) (over g)
+    (h.0, h.1, h.2, number_small 0 (drop 6 line) (omega arith), h.4, h.5, h.6, h.7) h
+
+draft_console : (line : List ℕ) (g : Gathered) → IsDraft g → IsDraft (at_console line g)
+unfolding at_console
+draft_console line g h =
+    pick IsDraft (slice_index line 0 == 99) (record g { console = bytes_of (drop 8 line); stage = stage.Signature })
+    (over g) (h.0, h.1, h.2, h.3, bytes_good (drop 8 line), h.5, h.6, h.7) h
+
+draft_signature : (line : List ℕ) (g : Gathered) → IsDraft g → IsDraft (at_signature line g)
+unfolding at_signature
+draft_signature line g h =
+    let count = number_of (drop 10 line) in
+    let is : Bool = (slice_index line 0 == 115) && (slice_index line 1 == 105) in
+    let begun : Gathered = record g {
+      signed = not (slice_index line 10 == 45);
+      count = count;
+      words = [];
+      stage = stage.Words;
+    } in
+    pick_if IsDraft (is && nat_le count most_words) begun (over g)
+    (λ t. let few = (and_parts is (nat_le count most_words) t).1 in
+    let small : count ≤ most_words = grind (arith, nat_tests) in
+    (h.0, h.1, h.2, h.3, h.4, small, omega arith, tt)) h
+
+draft_words : (line : List ℕ) (g : Gathered) → IsDraft g → IsDraft (at_words line g)
+unfolding at_words
+draft_words line g h =
+    let word : Gathered = record g { words = g.words ++ word_of line ∷ [] } in
+    let row : Gathered = closed (verdict_of line) g in
+    let ended : Bool = (slice_index line 0 == 118) && (length g.words == g.count) in
+    let other : Gathered = if ended then row else over g in
+    pick_if IsDraft (is_word line && nat_lt (length g.words) g.count) word other
+    (λ t. let room = (and_parts (is_word line) (nat_lt (length g.words) g.count) t).1 in
+    let more : length g.words < g.count = grind (arith, nat_tests) in
+    let longer = length-append g.words (word_of line ∷ []) in
+    let words = all-append IsWord g.words (word_of line ∷ []) h.7 (word_small line, tt) in
+    (h.0, h.1, h.2, h.3, h.4, h.5, omega arith, words))
+    (pick IsDraft ended row (over g) (draft_closed (verdict_of line) g h) h)
+
+draft_at : (s : Stage) (line : List ℕ) (g : Gathered) → IsDraft g → IsDraft (with_line_at s line g)
+draft_at stage.Between line g h = draft_between line g h
+draft_at stage.Ending line g h = draft_ending line g h
+draft_at stage.Steps line g h = draft_steps line g h
+draft_at stage.Console line g h = draft_console line g h
+draft_at stage.Signature line g h = draft_signature line g h
+draft_at stage.Words line g h = draft_words line g h
+draft_at stage.Over line g h = h
+
+draft_lines : (ls : List (List ℕ)) (g : Gathered) → IsDraft g → IsDraft (with_lines ls g)
+unfolding with_lines with_line
+draft_lines [] g h = h
+draft_lines (l ∷ ls) g h = draft_lines ls (with_line_at g.stage l g) (draft_at g.stage l g h)
+
+zeros_good : (count : ℕ) → AllByRecursion IsWord (replicate count 0)
+zeros_good zero = tt
+zeros_good (suc count) = (omega arith, zeros_good count)
+
+length-zeros : (count : ℕ) → length {A = ℕ} (replicate count 0) ≡ count
+length-zeros zero = refl
+length-zeros (suc count) = ap suc (length-zeros count)
+
+draft_padded : (g : Gathered) → IsDraft g → IsDraft (record g { words = padded g.count g.words })
+unfolding padded
+draft_padded g h =
+    let missing = g.count - length g.words in
+    let a = length-append g.words (replicate missing 0) in
+    let b = length-zeros missing in
+    let within = h.6 in
+    let words = all-append IsWord g.words (replicate missing 0) h.7 (zeros_good missing) in
+    (h.0, h.1, h.2, h.3, h.4, h.5, omega arith, words)
+
+draft_finished : (g : Gathered) → IsDraft g → IsDraft (finished g)
+unfolding finished
+draft_finished g h =
+    let filled : Gathered = record g { words = padded g.count g.words } in
+    pick IsDraft g.begun (closed Unasked filled) g (draft_closed Unasked filled (draft_padded g h)) h
+
+pub gathered_good : (text : List ℕ) → AreGood (gathered text).rows
+unfolding gathered
+gathered_good text =
+    let start : Gathered = whole [] [] Whole in
+    (draft_finished (with_lines (lines text) start) (draft_lines (lines text) start (draft_whole [] [] Whole tt))).0

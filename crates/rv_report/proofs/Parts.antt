@@ -1,0 +1,232 @@
+-- The last line, and what it says.
+use Rattle.std.proofs.Common.{◌≡◌, ◌∙◌, ◌==◌, ◌+◌, ◌<◌, ◌≤◌, ◌^◌, ℕ, suc, Bool, true, false, ◌&&◌, not, cond, List, []}
+use Rattle.std.proofs.Common.{◌∷◌, ◌++◌, length, take, drop, refl, ap, arith, append_assoc}
+use Rattle.std.proofs.Common.{add-one}
+use Rattle.std.specs.Prelude.{codes, nat_le}
+use Rattle.std.proofs.lemmas.Bool.{and_parts}
+use Rattle.std.proofs.lemmas.Bool.Decides.{nat_tests}
+use Rattle.std.specs.Fmt.{decimal}
+use Rattle.rv_lists.specs.JobList.{is_name}
+use Rattle.rv_lists.specs.Jobs.{most_jobs}
+use Rattle.rv_rows.specs.declared.row.Row.{Row}
+use Rattle.rv_rows.specs.Report.{line, done_line}
+use Rattle.rv_report.specs.declared.saved.Extent.{Extent}
+use Rattle.rv_report.specs.declared.saved.Extent.TheVariants.{Whole, Choice}
+use Rattle.rv_report.specs.declared.saved.Extent.TheVariants as extent
+use Rattle.rv_report.specs.declared.saved.Shard.{Shard}
+use Rattle.rv_report.specs.Said.{before, after, number_of, name_or_dash, shard_of, part_of, whole, over}
+use Rattle.rv_report.specs.Said.{between, with_line, place_of}
+use Rattle.rv_report.specs.Saved.{part_words, shard_words, last_line, is_shard, are_rising, are_stepped, fits}
+use Rattle.rv_report.proofs.Pieces.{lacks, lacks-append, before_at, after_at}
+use Rattle.rv_report.proofs.Words.{lacks-decimal, number_of-decimal}
+use Rattle.rv_report.proofs.Spelled.{lacks-name, same_name}
+
+-- numbers and a stamp that a last line can have
+pub record IsPart (s : Shard) : Type 0 where
+  pub jobs : s.jobs ≤ most_jobs
+  pub number : s.number ≤ most_jobs
+  pub shards : s.shards ≤ most_jobs
+  pub stamp : is_name s.stamp ≡ true
+
+abbrev pub HasNumbers : Extent → Type 0
+HasNumbers extent.Whole = Unit {0}
+HasNumbers (extent.Choice jobs) = jobs ≤ most_jobs
+HasNumbers (extent.Shard s) = IsPart s
+
+pub is_part : (s : Shard) → is_shard s ≡ true → IsPart s
+unfolding is_shard
+is_part s h =
+    let a = and_parts (nat_le 1 s.number) (nat_le s.number s.shards && (nat_le s.shards most_jobs
+    && (nat_le s.jobs most_jobs && is_name s.stamp))) h in
+    let b = and_parts (nat_le s.number s.shards) (nat_le s.shards most_jobs
+    && (nat_le s.jobs most_jobs && is_name s.stamp)) a.1 in
+    let c = and_parts (nat_le s.shards most_jobs) (nat_le s.jobs most_jobs && is_name s.stamp) b.1 in
+    let d = and_parts (nat_le s.jobs most_jobs) (is_name s.stamp) c.1 in
+    let number : s.number ≤ s.shards = grind (arith, nat_tests) in
+    let shards : s.shards ≤ most_jobs = grind (arith, nat_tests) in
+    let jobs : s.jobs ≤ most_jobs = grind (arith, nat_tests) in
+    record { jobs = jobs; number = omega arith; shards = shards; stamp = d.1 }
+
+pub has_numbers : (e : Extent) (ns : List ℕ) → fits e ns ≡ true → HasNumbers e
+unfolding fits
+has_numbers extent.Whole ns h = tt
+has_numbers (extent.Choice jobs) ns h =
+    let first = (and_parts (nat_le jobs most_jobs) (are_rising 0 jobs ns) h).0 in grind (arith, nat_tests)
+has_numbers (extent.Shard s) ns h =
+    is_part s (and_parts (is_shard s) (are_stepped s.number s.shards s.jobs ns) h).0
+
+-- ---- the line without its line feed
+
+abbrev pub last_words : Extent → ℕ → List ℕ
+last_words extent.Whole count = codes "done " ++ decimal count
+last_words (extent.Choice jobs) count = part_words count jobs
+last_words (extent.Shard s) count = part_words count s.jobs ++ shard_words s
+
+pub last_is_line : (e : Extent) (count : ℕ) → last_line e count ≡ line (last_words e count)
+unfolding last_line done_line
+last_is_line extent.Whole count = refl
+last_is_line (extent.Choice jobs) count = refl
+last_is_line (extent.Shard s) count = refl
+
+lacks-part : (byte count jobs : ℕ) → lacks byte (codes "part ") ≡ true → lacks byte (codes " of ") ≡ true → byte < 48
+    → count < 2 ^ 32 → jobs ≤ most_jobs → lacks byte (part_words count jobs) ≡ true
+lacks-part byte count jobs p o low few small =
+    lacks-append byte (codes "part ") (decimal count ++ codes " of " ++ decimal jobs) p
+    (lacks-append byte (decimal count ++ codes " of ") (decimal jobs)
+    (lacks-append byte (decimal count) (codes " of ") (lacks-decimal byte count low (omega arith)) o)
+    (lacks-decimal byte jobs low (omega arith)))
+
+lacks-shard : (s : Shard) → IsPart s → lacks 10 (shard_words s) ≡ true
+lacks-shard s is =
+    let number = decimal s.number in
+    let shards = decimal s.shards in
+    let hn = is.number in
+    let hs = is.shards in
+    let s1 = number ++ codes "/" in
+    let s2 = s1 ++ shards in
+    let s3 = s2 ++ codes " stamp " in
+    let l1 : lacks 10 s1 ≡ true =
+    lacks-append 10 number (codes "/") (lacks-decimal 10 s.number (omega arith) (omega arith)) refl in
+    let l2 : lacks 10 s2 ≡ true =
+    lacks-append 10 s1 shards l1 (lacks-decimal 10 s.shards (omega arith) (omega arith)) in
+    let l3 : lacks 10 s3 ≡ true = lacks-append 10 s2 (codes " stamp ") l2 refl in
+    lacks-append 10 s3 s.stamp l3 (lacks-name s.stamp is.stamp)
+
+pub lacks-last : (e : Extent) (count : ℕ) → HasNumbers e → count < 2 ^ 32 → lacks 10 (last_words e count) ≡ true
+lacks-last extent.Whole count h few = lacks-decimal 10 count (omega arith) (omega arith)
+lacks-last (extent.Choice jobs) count h few = lacks-part 10 count jobs refl refl (omega arith) few h
+lacks-last (extent.Shard s) count h few =
+    lacks-append 10 (part_words count s.jobs) (shard_words s)
+    (lacks-part 10 count s.jobs refl refl (omega arith) few h.jobs)
+    (lacks-shard s h)
+
+-- ---- what it says
+
+-- a byte that is not there
+place_of_none : (byte : ℕ) (xs : List ℕ) → lacks byte xs ≡ true → place_of byte xs ≡ length xs
+unfolding place_of
+place_of_none byte [] h = refl
+place_of_none byte (b ∷ bs) h =
+    let parts = and_parts (not (b == byte)) (lacks byte bs) h in
+    let other : (b == byte) ≡ false = grind arith in
+    ap (λ (t : Bool). cond t 0 (place_of byte bs + 1)) other
+    ∙ ap (λ (n : ℕ). n + 1) (place_of_none byte bs parts.1) ∙ omega arith
+
+take_length : (xs : List ℕ) → take (length xs) xs ≡ xs
+take_length [] = refl
+take_length (x ∷ xs) = ap (λ (t : List ℕ). x ∷ t) (take_length xs)
+
+drop_past : (xs : List ℕ) → drop (suc (length xs)) xs ≡ []
+drop_past [] = refl
+drop_past (x ∷ xs) = drop_past xs
+
+before_none : (byte : ℕ) (xs : List ℕ) → lacks byte xs ≡ true → before byte xs ≡ xs
+before_none byte xs h = ap (λ (n : ℕ). take n xs) (place_of_none byte xs h) ∙ take_length xs
+
+after_none : (byte : ℕ) (xs : List ℕ) → lacks byte xs ≡ true → after byte xs ≡ []
+after_none byte xs h =
+    ap (λ (n : ℕ). drop n xs) (ap (λ (n : ℕ). n + 1) (place_of_none byte xs h) ∙ add-one (length xs)) ∙ drop_past xs
+
+-- the number of jobs and what follows it
+abbrev extent_from : List ℕ → List ℕ → Extent
+extent_from jobs shard =
+    cond (length shard == 0) (Choice (number_of jobs)) (shard_of (number_of jobs) shard)
+
+choice_regroup : (count jobs : List ℕ) → count ++ codes " of " ++ jobs ≡ count ++ 32 ∷ (codes "of " ++ jobs)
+choice_regroup count jobs = simp append_assoc
+
+choice_is : (count jobs : ℕ) → count < 2 ^ 32 → jobs ≤ most_jobs → part_of (part_words count jobs) ≡ Choice jobs
+unfolding part_of
+choice_is count jobs few small =
+    let js = decimal jobs in
+    let rest = codes "of " ++ js in
+    let plain : lacks 32 js ≡ true = lacks-decimal 32 jobs (omega arith) (omega arith) in
+    let from : List ℕ → Extent = λ t. extent_from (before 32 (drop 3 (after 32 t)))
+    (drop 6 (after 32 (drop 3 (after 32 t)))) in
+    ap from (choice_regroup (decimal count) js)
+    ∙ ap (λ (t : List ℕ). extent_from (before 32 (drop 3 t)) (drop 6 (after 32 (drop 3 t))))
+    (after_at 32 (decimal count) rest (lacks-decimal 32 count (omega arith) (omega arith)))
+    ∙ ap (λ (t : List ℕ). extent_from (before 32 js) (drop 6 t)) (after_none 32 js plain)
+    ∙ ap (λ (t : List ℕ). Choice (number_of t)) (before_none 32 js plain)
+    ∙ ap Choice (number_of-decimal jobs (omega arith))
+
+shard_regroup : (n jobs number shards stamp : List ℕ)
+    → n ++ codes " of " ++ jobs ++ (codes " shard " ++ number ++ codes "/" ++ shards ++ codes " stamp " ++ stamp)
+    ≡ n ++ 32 ∷ (codes "of " ++ (jobs ++ 32 ∷ (codes "shard " ++
+    (number ++ 47 ∷ (shards ++ 32 ∷ (codes "stamp " ++ stamp))))))
+shard_regroup n jobs number shards stamp = simp append_assoc
+
+abbrev shard_made : ℕ → ℕ → ℕ → List ℕ → Extent
+shard_made jobs number shards stamp =
+    extent.Shard (record { jobs = jobs; number = number; shards = shards; stamp = name_or_dash stamp })
+
+shard_says : (jobs : ℕ) (s : Shard) → IsPart s
+    → shard_of jobs (decimal s.number ++ 47 ∷ (decimal s.shards ++ 32 ∷ (codes "stamp " ++ s.stamp)))
+    ≡ extent.Shard (record s { jobs = jobs })
+unfolding shard_of
+shard_says jobs s is =
+    let number = decimal s.number in
+    let shards = decimal s.shards in
+    let t4 = codes "stamp " ++ s.stamp in
+    let t3 = shards ++ 32 ∷ t4 in
+    let t2 = number ++ 47 ∷ t3 in
+    let hn = is.number in
+    let hs = is.shards in
+    let plain : lacks 47 number ≡ true = lacks-decimal 47 s.number (omega arith) (omega arith) in
+    let spaced : lacks 32 shards ≡ true = lacks-decimal 32 s.shards (omega arith) (omega arith) in
+    ap (λ (t : List ℕ). shard_made jobs (number_of (before 47 t2)) (number_of (before 32 t)) (drop 6 (after 32 t)))
+    (after_at 47 number t3 plain)
+    ∙ ap (λ (t : List ℕ). shard_made jobs (number_of (before 47 t2)) (number_of (before 32 t3)) (drop 6 t))
+    (after_at 32 shards t4 spaced)
+    ∙ ap (λ (t : List ℕ). shard_made jobs (number_of t) (number_of (before 32 t3)) s.stamp)
+    (before_at 47 number t3 plain)
+    ∙ ap (λ (t : List ℕ). shard_made jobs (number_of number) (number_of t) s.stamp) (before_at 32 shards t4 spaced)
+    ∙ ap (λ (t : ℕ). shard_made jobs t (number_of shards) s.stamp) (number_of-decimal s.number (omega arith))
+    ∙ ap (λ (t : ℕ). shard_made jobs s.number t s.stamp) (number_of-decimal s.shards (omega arith))
+    ∙ ap (λ (t : List ℕ). extent.Shard (record { jobs = jobs; number = s.number; shards = s.shards; stamp = t }))
+    (same_name s.stamp is.stamp)
+
+longer : (xs : List ℕ) (b : ℕ) (ys : List ℕ) → (length (xs ++ b ∷ ys) == 0) ≡ false
+longer [] b ys = grind arith
+longer (x ∷ xs) b ys = grind arith
+
+shard_is : (count : ℕ) (s : Shard) → IsPart s → count < 2 ^ 32
+    → part_of (part_words count s.jobs ++ shard_words s) ≡ extent.Shard s
+unfolding part_of
+shard_is count s is few =
+    let n = decimal count in
+    let jobs = decimal s.jobs in
+    let t2 = decimal s.number ++ 47 ∷ (decimal s.shards ++ 32 ∷ (codes "stamp " ++ s.stamp)) in
+    let t1 = jobs ++ 32 ∷ (codes "shard " ++ t2) in
+    let hj = is.jobs in
+    let plain : lacks 32 jobs ≡ true = lacks-decimal 32 s.jobs (omega arith) (omega arith) in
+    let from : List ℕ → Extent = λ t. extent_from (before 32 (drop 3 (after 32 t)))
+    (drop 6 (after 32 (drop 3 (after 32 t)))) in
+    ap from (shard_regroup n jobs (decimal s.number) (decimal s.shards) s.stamp)
+    ∙ ap (λ (t : List ℕ). extent_from (before 32 (drop 3 t)) (drop 6 (after 32 (drop 3 t))))
+    (after_at 32 n (codes "of " ++ t1) (lacks-decimal 32 count (omega arith) (omega arith)))
+    ∙ ap (λ (t : List ℕ). extent_from (before 32 t1) (drop 6 t)) (after_at 32 jobs (codes "shard " ++ t2) plain)
+    ∙ ap (λ (t : List ℕ). extent_from t t2) (before_at 32 jobs (codes "shard " ++ t2) plain)
+    ∙ ap (λ (b : Bool). cond b (Choice (number_of jobs)) (shard_of (number_of jobs) t2))
+    (longer (decimal s.number) 47 (decimal s.shards ++ 32 ∷ (codes "stamp " ++ s.stamp)))
+    ∙ ap (λ (k : ℕ). shard_of k t2) (number_of-decimal s.jobs (omega arith))
+    ∙ shard_says s.jobs s is
+
+part_says : (text : List ℕ) (numbers : List ℕ) (rows : List Row) (e : Extent) → part_of (codes "part " ++ text) ≡ e
+    → with_line (codes "part " ++ text) (whole numbers rows Whole) ≡ over (whole numbers rows e)
+unfolding with_line between whole
+part_says text numbers rows e is = ap (λ (x : Extent). over (whole numbers rows x)) is
+
+done_says : (text numbers : List ℕ) (rows : List Row)
+    → with_line (codes "done " ++ text) (whole numbers rows Whole) ≡ over (whole numbers rows Whole)
+unfolding with_line between whole
+done_says text numbers rows = refl
+
+pub last_says : (e : Extent) (count : ℕ) (numbers : List ℕ) (rows : List Row) → HasNumbers e → count < 2 ^ 32
+    → with_line (last_words e count) (whole numbers rows Whole) ≡ over (whole numbers rows e)
+last_says extent.Whole count numbers rows h few = done_says (decimal count) numbers rows
+last_says (extent.Choice jobs) count numbers rows h few =
+    part_says (decimal count ++ codes " of " ++ decimal jobs) numbers rows (Choice jobs) (choice_is count jobs few h)
+last_says (extent.Shard s) count numbers rows h few =
+    part_says ((decimal count ++ codes " of " ++ decimal s.jobs) ++ shard_words s) numbers rows (extent.Shard s)
+    (shard_is count s h few)

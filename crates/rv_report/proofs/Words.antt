@@ -1,0 +1,155 @@
+-- Numbers and words, read as they are written.
+use Rattle.std.specs.Prelude.{nat_lt}
+use Rattle.std.proofs.Common.{length}
+use Rattle.std.proofs.Common.{◌≡◌, ◌∙◌, ◌==◌, ◌+◌, ◌-◌, ◌*◌, ◌/◌, ◌%◌, ◌<◌, ◌^◌, ℕ, zero, suc, Bool, true, ◌&&◌, not}
+use Rattle.std.proofs.Common.{List, [], ◌∷◌, ◌++◌, slice_index, refl, ap, arith, inl, inr}
+use Rattle.std.proofs.lemmas.Bool.{and_parts, and_from, cases_lt, eqb-true}
+use Rattle.std.proofs.lemmas.Fmt.{decimal_by_steps}
+use Rattle.std.specs.Fmt.{decimal}
+use Rattle.std.specs.Int.{w32, to_be_bytes}
+use Rattle.hex.specs.Hex.{IsBytes, encode_lower, encode_with, lower_digits}
+use Rattle.hex.proofs.HexLemmas.{decode_of-encode_lower}
+use Rattle.rv_text.specs.Words.{word_digits}
+use Rattle.rv_report.specs.Said.{shifted, all_hex}
+use Rattle.rv_report.specs.Said.{number_on, number_of, digit_on, word_on, word_of, hex_digit, is_hex, is_word}
+use Rattle.rv_report.specs.Said.{bytes_of, decoded}
+use Rattle.rv_report.proofs.Pieces.{lacks, lacks-append}
+
+-- ---- decimal numbers
+
+lacks_digit : (byte d : ℕ) → byte < 48 → lacks byte ((48 + d) ∷ []) ≡ true
+lacks_digit byte d h = grind arith
+
+pub lacks-decimal : (byte n : ℕ) → byte < 48 → n < 2 ^ 64 → lacks byte (decimal n) ≡ true
+lacks-decimal byte n h small =
+    decimal_by_steps (λ _ ds. lacks byte ds ≡ true) (λ m _. lacks_digit byte m h)
+    (λ m ds _ so. lacks-append byte ds ((48 + m % 10) ∷ []) so (lacks_digit byte (m % 10) h)) n small
+
+number_push : (value : ℕ) (ds : List ℕ) (b : ℕ) → number_on value (ds ++ b ∷ [])
+    ≡ digit_on 10 (number_on value ds) (b - 48)
+unfolding number_on
+number_push value [] b = refl
+number_push value (d ∷ ds) b = number_push (digit_on 10 value (d - 48)) ds b
+
+one_digit : (n : ℕ) → n < 10 → number_on 0 ((48 + n) ∷ []) ≡ n
+unfolding number_on
+one_digit n h = omega arith
+
+last_digit : (n value : ℕ) → n < 2 ^ 32 → value ≡ n / 10 → digit_on 10 value (48 + n % 10 - 48) ≡ n
+last_digit n value h is = omega arith
+
+pub number_of-decimal : (n : ℕ) → n < 2 ^ 32 → number_of (decimal n) ≡ n
+number_of-decimal n small =
+    decimal_by_steps (λ m ds. m < 2 ^ 32 → number_on 0 ds ≡ m) (λ m h _. one_digit m h)
+    (λ m ds _ so h. number_push 0 ds (48 + m % 10) ∙ last_digit m (number_on 0 ds) h (so (omega arith))) n (omega arith)
+    small
+
+-- ---- words
+
+-- a test that holds of each number below a bound
+abbrev holds_below : (ℕ → Bool) → ℕ → Bool
+holds_below p zero = true
+holds_below p (suc n) = p n && holds_below p n
+
+holds_at : (p : ℕ → Bool) (n k : ℕ) → holds_below p n ≡ true → k < n → p k ≡ true
+holds_at p zero k h lt = absurd (omega arith)
+holds_at p (suc n) k h lt =
+    let parts = and_parts (p n) (holds_below p n) h in
+    elim (cases_lt k n) [
+      | inl below ↦ holds_at p n k parts.1 below
+      | inr top ↦
+          let e : k ≡ n = omega arith in
+          rw e parts.0
+    ]
+
+digit_is : (d : ℕ) → d < 16 → hex_digit (slice_index lower_digits d) ≡ d
+digit_is d h = eqb-true (hex_digit (slice_index lower_digits d)) d
+    (holds_at (λ k. hex_digit (slice_index lower_digits k) == k) 16 d refl h)
+
+digit_is_hex : (d : ℕ) → d < 16 → is_hex (slice_index lower_digits d) ≡ true
+digit_is_hex d h = holds_at (λ k. is_hex (slice_index lower_digits k)) 16 d refl h
+
+digit_is_no_feed : (d : ℕ) → d < 16 → not (slice_index lower_digits d == 10) ≡ true
+digit_is_no_feed d h = holds_at (λ k. not (slice_index lower_digits k == 10)) 16 d refl h
+
+pub all_hex-encode : (bs : List ℕ) → IsBytes bs → all_hex (encode_lower bs) ≡ true
+unfolding all_hex encode_with
+all_hex-encode [] h = refl
+all_hex-encode (b ∷ bs) h =
+    let fits : b < 256 = h 0 in
+    and_from _ _ (digit_is_hex (b / 16) (omega arith))
+    (and_from _ _ (digit_is_hex (b % 16) (omega arith)) (all_hex-encode bs (λ i. h (suc i))))
+
+pub lacks-encode : (bs : List ℕ) → IsBytes bs → lacks 10 (encode_lower bs) ≡ true
+unfolding encode_with
+lacks-encode [] h = refl
+lacks-encode (b ∷ bs) h =
+    let fits : b < 256 = h 0 in
+    and_from _ _ (digit_is_no_feed (b / 16) (omega arith))
+    (and_from _ _ (digit_is_no_feed (b % 16) (omega arith)) (lacks-encode bs (λ i. h (suc i))))
+
+-- one byte more
+byte_on : (value b : ℕ) (bs : List ℕ) → b < 256 → value * 256 + b < 2 ^ 32
+    → word_on value (encode_lower (b ∷ bs)) ≡ word_on (value * 256 + b) (encode_lower bs)
+unfolding word_on encode_with
+byte_on value b bs fits small =
+    let high = digit_is (b / 16) (omega arith) in
+    let low = digit_is (b % 16) (omega arith) in
+    let same : digit_on 16 (digit_on 16 value (b / 16)) (b % 16) ≡ value * 256 + b = omega arith in
+    ap (λ (d : ℕ). word_on (digit_on 16 (digit_on 16 value d) (hex_digit (slice_index lower_digits (b % 16))))
+    (encode_lower bs)) high
+    ∙ ap (λ (d : ℕ). word_on (digit_on 16 (digit_on 16 value (b / 16)) d) (encode_lower bs)) low
+    ∙ ap (λ (v : ℕ). word_on v (encode_lower bs)) same
+
+four_bytes : (a b c d : ℕ) → a < 256 → b < 256 → c < 256 → d < 256
+    → word_on 0 (encode_lower (a ∷ b ∷ c ∷ d ∷ [])) ≡ ((a * 256 + b) * 256 + c) * 256 + d
+unfolding word_on encode_with
+four_bytes a b c d fa fb fc fd =
+    byte_on 0 a (b ∷ c ∷ d ∷ []) fa (omega arith)
+    ∙ byte_on (0 * 256 + a) b (c ∷ d ∷ []) fb (omega arith)
+    ∙ byte_on ((0 * 256 + a) * 256 + b) c (d ∷ []) fc (omega arith)
+    ∙ byte_on (((0 * 256 + a) * 256 + b) * 256 + c) d [] fd (omega arith)
+    ∙ omega arith
+
+-- eight digits lack none
+all_there : (a b c d : ℕ) → word_of (encode_lower (a ∷ b ∷ c ∷ d ∷ [])) ≡ word_on 0 (encode_lower (a ∷ b ∷ c ∷ d ∷ []))
+unfolding word_of shifted encode_with
+all_there a b c d = refl
+
+pub word_of-digits : (w : ℕ) → w < 2 ^ 32 → word_of (word_digits w) ≡ w
+unfolding word_digits
+word_of-digits w h = all_there (w / 2 ^ 24 % 256) (w / 2 ^ 16 % 256) (w / 2 ^ 8 % 256) (w % 256)
+    ∙ four_bytes (w / 2 ^ 24 % 256) (w / 2 ^ 16 % 256) (w / 2 ^ 8 % 256) (w % 256) (omega arith)
+    (omega arith) (omega arith) (omega arith) ∙ omega arith
+
+four_fit : (a b c d : ℕ) → a < 256 → b < 256 → c < 256 → d < 256 → IsBytes (a ∷ b ∷ c ∷ d ∷ [])
+four_fit a b c d fa fb fc fd zero = fa
+four_fit a b c d fa fb fc fd (suc zero) = fb
+four_fit a b c d fa fb fc fd (suc (suc zero)) = fc
+four_fit a b c d fa fb fc fd (suc (suc (suc zero))) = fd
+four_fit a b c d fa fb fc fd (suc (suc (suc (suc n)))) = omega arith
+
+pub fits_digits : (w : ℕ) → IsBytes (to_be_bytes w32 w)
+fits_digits w = four_fit (w / 2 ^ 24 % 256) (w / 2 ^ 16 % 256) (w / 2 ^ 8 % 256) (w % 256) (omega arith) (omega arith)
+    (omega arith) (omega arith)
+
+pub lacks-digits : (w : ℕ) → lacks 10 (word_digits w) ≡ true
+unfolding word_digits
+lacks-digits w = lacks-encode (to_be_bytes w32 w) (fits_digits w)
+
+some_digits : (w : ℕ) → nat_lt 0 (length (word_digits w)) ≡ true
+unfolding word_digits encode_with
+some_digits w = refl
+
+all_digits : (w : ℕ) → all_hex (word_digits w) ≡ true
+unfolding word_digits
+all_digits w = all_hex-encode (to_be_bytes w32 w) (fits_digits w)
+
+pub is_word-digits : (w : ℕ) → is_word (word_digits w) ≡ true
+is_word-digits w = and_from (nat_lt 0 (length (word_digits w))) (all_hex (word_digits w)) (some_digits w) (all_digits w)
+
+-- ---- bytes
+
+pub bytes_of-encode : (bs : List ℕ) → IsBytes bs → bytes_of (encode_lower bs) ≡ bs
+unfolding bytes_of
+bytes_of-encode bs h = ap decoded (decode_of-encode_lower bs h)

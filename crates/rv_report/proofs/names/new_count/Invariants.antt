@@ -1,0 +1,14 @@
+use Rattle.std.proofs.Common.{◌≡◌, ◌+◌, ℕ, List, [], take, drop}
+use Rattle.std.specs.BTreeMap.{get_by}
+use Rattle.std.specs.Cmp.Lexicographic.{slice_cmp}
+use Rattle.std.specs.Ordering.{nat_cmp}
+use Rattle.rv_lists.specs.JobList.{place_in}
+use Rattle.rv_report.specs.Said.{new_count}
+use Rattle.rv_report.specs.Saved.{names_of}
+use Rattle.rv_report.proofs.names.new_count.Given as goal
+
+abbrev pub invariant-loop-at : goal.invariant-loop-at
+invariant-loop-at l = record {
+  rest : l.at + new_count (names_of (take l.at l.rows)) (names_of (drop l.at l.rows)) ≡ new_count [] (names_of l.rows);
+  places : (t : List ℕ) → get_by (λ k. slice_cmp nat_cmp t k.now) l.places ≡ place_in (names_of (take l.at l.rows)) t;
+}

@@ -1,0 +1,119 @@
+-- Reports as files hold them: which jobs of a list they have rows of, their text, and which are
+-- good.
+use Rattle.std.specs.Prelude.{◌≡◌, ◌==◌, ◌+◌, ◌-◌, ◌^◌, ◌<◌, ◌≤◌, ℕ, List, [], ◌∷◌, ◌++◌, length}
+use Rattle.std.specs.Prelude.{map, Option, Some, None, Bool, true, ◌&&◌, not, nat_le, nat_lt, codes}
+use Rattle.std.specs.Prelude.{is_some}
+use Rattle.std.specs.List.{AllByRecursion, list_all}
+use Rattle.std.specs.Fmt.{decimal}
+use Rattle.hex.specs.Hex.{IsBytes}
+use Rattle.rv_elf.specs.declared.error.ImageError.TheVariants as image
+use Rattle.rv_lists.specs.JobList.{is_name, place_in}
+use Rattle.rv_lists.specs.Jobs.{most_jobs}
+use Rattle.rv_rows.specs.Report.{line, row_text, done_line}
+use Rattle.rv_rows.specs.declared.row.Refusal.TheVariants as refusal
+use Rattle.rv_rows.specs.declared.row.Row.{Row}
+use Rattle.rv_rows.specs.declared.row.RowEnd.{RowEnd}
+use Rattle.rv_rows.specs.declared.row.RowEnd.TheVariants as ending
+use Rattle.rv_report.specs.declared.saved.Extent.{Extent}
+use Rattle.rv_report.specs.declared.saved.Extent.TheVariants as extent
+use Rattle.rv_report.specs.declared.saved.Shard.{Shard}
+use Rattle.rv_report.specs.declared.saved.SavedReport.{SavedReport}
+
+-- ---- which jobs
+
+-- numbers of jobs that rise from behind one up to the last
+unfoldable pub are_rising : ℕ → ℕ → List ℕ → Bool
+are_rising before last [] = true
+are_rising before last (n ∷ ns) = nat_lt before n && (nat_le n last && are_rising n last ns)
+
+-- this number and each that is so much greater, up to the last
+unfoldable pub are_stepped : ℕ → ℕ → ℕ → List ℕ → Bool
+are_stepped next step last [] = nat_lt last next
+are_stepped next step last (n ∷ ns) =
+    (n == next) && (nat_le n last && are_stepped (next + step) step last ns)
+
+-- a shard's number is one of so many, and its stamp is a name
+unfoldable pub is_shard : Shard → Bool
+is_shard s = nat_le 1 s.number && (nat_le s.number s.shards && (nat_le s.shards most_jobs
+    && (nat_le s.jobs most_jobs && is_name s.stamp)))
+
+-- the numbers are those of a whole list, of some of its jobs, or of a shard
+unfoldable pub fits : Extent → List ℕ → Bool
+fits extent.Whole ns = are_stepped 1 1 (length ns) ns
+fits (extent.Choice jobs) ns = nat_le jobs most_jobs && are_rising 0 jobs ns
+fits (extent.Shard s) ns = is_shard s && are_stepped s.number s.shards s.jobs ns
+
+-- ---- the text
+
+-- rows under the numbers of their jobs
+unfoldable pub numbered_text : List ℕ → List Row → List ℕ
+numbered_text (n ∷ ns) (row ∷ rows) = row_text (n - 1) row ++ numbered_text ns rows
+numbered_text [] rows = []
+numbered_text (n ∷ ns) [] = []
+
+-- so many rows of a list of so many jobs
+abbrev pub part_words : ℕ → ℕ → List ℕ
+part_words count jobs = codes "part " ++ decimal count ++ codes " of " ++ decimal jobs
+
+abbrev pub shard_words : Shard → List ℕ
+shard_words s = codes " shard " ++ decimal s.number ++ codes "/" ++ decimal s.shards
+    ++ codes " stamp " ++ s.stamp
+
+-- what stands below so many rows
+unfoldable pub last_line : Extent → ℕ → List ℕ
+last_line extent.Whole count = done_line count
+last_line (extent.Choice jobs) count = line (part_words count jobs)
+last_line (extent.Shard s) count = line (part_words count s.jobs ++ shard_words s)
+
+unfoldable pub saved_text : SavedReport → List ℕ
+saved_text r = numbered_text r.numbers r.rows ++ last_line r.extent (length r.rows)
+
+-- ---- good reports
+
+abbrev pub IsWord : ℕ → Type 0
+IsWord word = word < 2 ^ 32
+
+-- no row is refused for want of memory
+abbrev pub IsEnd : RowEnd → Type 0
+IsEnd (ending.Exit code) = IsWord code
+IsEnd (ending.Fault kind pc value) = IsWord pc × IsWord value
+IsEnd ending.Budget = Unit {0}
+IsEnd (ending.Refused why) = why ≡ refusal.Image image.OutOfMemory → ⊥
+
+-- the most words of a signature
+abbrev pub most_words : ℕ
+most_words = 65536
+
+abbrev pub AreWords : Option (List ℕ) → Type 0
+AreWords None = Unit {0}
+AreWords (Some words) = (length words ≤ most_words) × AllByRecursion IsWord words
+
+-- a row with a name of 1 to 64 letters, digits, `.`, `_` and `-`, and with numbers of 32 bits
+pub record IsRow (row : Row) : Type 0 where
+  pub name : is_name row.name ≡ true
+  pub ending : IsEnd row.ending
+  pub steps : IsWord row.steps
+  pub console : IsBytes row.console
+  pub signature : AreWords row.signature
+
+-- no text is one of the earlier ones, or one before it
+unfoldable pub are_new : List (List ℕ) → List (List ℕ) → Bool
+are_new earlier [] = true
+are_new earlier (text ∷ texts) =
+    not (is_some (place_in earlier text)) && are_new (earlier ++ text ∷ []) texts
+
+abbrev pub names_of : List Row → List (List ℕ)
+names_of rows = map (λ (row : Row). row.name) rows
+
+-- its rows are those of up to 4,096 jobs, each with a name of its own
+pub record IsListed (r : SavedReport) : Type 0 where
+  pub counted : length r.numbers ≡ length r.rows
+  pub rising : are_rising 0 most_jobs r.numbers ≡ true
+  pub fits : fits r.extent r.numbers ≡ true
+  pub names : list_all is_name (names_of r.rows) ≡ true
+  pub new : are_new [] (names_of r.rows) ≡ true
+
+-- a report that can be
+pub record IsSaved (r : SavedReport) : Type 0 where
+  pub listed : IsListed r
+  pub rows : AllByRecursion IsRow r.rows

@@ -1,0 +1,21 @@
+-- What is gathered, without where it lies in memory.
+use Rattle.std.specs.Prelude.{string_bytes}
+use Rattle.rv_report.specs.declared.gathering.Gathering.{Gathering}
+use Rattle.rv_report.specs.Said.{Gathered}
+
+abbrev pub view : Gathering → Gathered
+view g = record {
+  numbers = g.numbers.items;
+  rows = g.rows.items;
+  extent = g.extent;
+  number = g.number;
+  name = string_bytes g.name;
+  ending = g.ending;
+  steps = g.steps;
+  console = g.console.items;
+  signed = g.signed;
+  count = g.count;
+  words = g.words.items;
+  begun = g.begun;
+  stage = g.stage;
+}

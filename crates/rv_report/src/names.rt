@@ -1,0 +1,24 @@
+//! Names that stand twice.
+
+ghost use Rattle.std.specs.Prelude.{◌≡◌, [], IfOk};
+ghost use Rattle.rv_report.specs.Said.{new_count};
+ghost use Rattle.rv_report.specs.Saved.{names_of};
+
+use rv_rows::Row;
+use std::alloc::{AllocError, Global};
+use std::collections::BTreeMap;
+
+/// How many rows stand before the first whose name is there already.
+pub fn new_count(alloc: Global, rows: &[Row]) -> Result<usize, AllocError>
+    ensures { IfOk result (λ count. count ≡ new_count [] (names_of rows.now)) }
+{
+    let mut places: BTreeMap<&str, usize> = BTreeMap::new(alloc);
+    for (at, row) in rows.iter().enumerate() {
+        let name = row.name.as_str();
+        if places.contains_key(name) {
+            return Ok(at);
+        }
+        places.insert(name, at)?;
+    }
+    Ok(rows.len())
+}

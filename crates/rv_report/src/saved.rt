@@ -1,0 +1,120 @@
+//! Reports as files hold them: rows under the numbers of their jobs, and which jobs of a list these are.
+
+ghost use Rattle.std.specs.Prelude.{◌≡◌, ◌≤◌, length};
+ghost use Rattle.rv_lists.specs.Jobs.{most_jobs};
+ghost use Rattle.rv_report.specs.Saved.{are_rising, are_stepped, is_shard, fits};
+
+use crate::fields::is_name;
+use rv_base::Sequence;
+use rv_jobs::Text;
+use rv_jobs::limits::MOST_JOBS;
+use rv_rows::Rows;
+
+/// Numbers of jobs, of which contracts see their list.
+pub type Numbers = Sequence<u32>;
+
+/// Which jobs of its list a report has rows of.
+#[derive(Drop)]
+pub enum Extent {
+    /// All of them.
+    Whole,
+    /// Some of them, where the list has so many, up to 4,096.
+    Choice(u32),
+    /// Those of a shard.
+    Shard(Shard),
+}
+
+/// One of several parts of a list that are run apart, in one run.
+#[derive(Drop)]
+pub struct Shard {
+    /// How many jobs the list has, up to 4,096.
+    pub jobs: u32,
+    /// Which shard, from 1: it has the job of this number, and from there on each `shards`-th.
+    pub number: u32,
+    /// How many shards there are, 1 to 4,096.
+    pub shards: u32,
+    /// A name for the run: 1 to 64 letters, digits, `.`, `_` and `-`.
+    pub stamp: Text,
+}
+
+/// A report, or a part of one, as a file holds it.
+#[derive(Drop)]
+pub struct SavedReport {
+    pub extent: Extent,
+    /// The number of each row's job in its list, from 1: rising, and as many as there are rows.
+    pub numbers: Numbers,
+    pub rows: Rows,
+}
+
+impl Extent {
+    /// Whether the numbers of jobs, in list order, are those that it has.
+    #[tactic(auto, unfolding(crate::specs::Saved::fits))]
+    pub fn fits(&self, numbers: &[u32]) -> bool
+        requires { length numbers.now ≤ most_jobs }
+        ensures { result ≡ fits self.now numbers.now }
+    {
+        match self {
+            Extent::Whole => are_stepped(1, 1, numbers.len(), numbers),
+            Extent::Choice(jobs) => *jobs as usize <= MOST_JOBS && are_rising(0, *jobs, numbers),
+            Extent::Shard(shard) => shard.fits(numbers),
+        }
+    }
+}
+
+impl Shard {
+    #[tactic(auto, unfolding(crate::specs::Saved::fits))]
+    fn fits(&self, numbers: &[u32]) -> bool
+        ensures { result ≡ fits (Extent.Shard self.now) numbers.now }
+    {
+        self.is_shard()
+            && are_stepped(
+                self.number as usize,
+                self.shards as usize,
+                self.jobs as usize,
+                numbers,
+            )
+    }
+
+    #[tactic(auto, unfolding(crate::specs::Saved::is_shard))]
+    fn is_shard(&self) -> bool
+        ensures { result ≡ is_shard self.now }
+    {
+        1 <= self.number
+            && self.number <= self.shards
+            && self.shards as usize <= MOST_JOBS
+            && self.jobs as usize <= MOST_JOBS
+            && is_name(self.stamp.as_str().as_bytes())
+    }
+}
+
+// Whether numbers of jobs rise from behind one up to the last.
+fn are_rising(before: u32, last: u32, numbers: &[u32]) -> bool
+    ensures { result ≡ are_rising before last numbers.now }
+{
+    let mut before = before;
+    for number in numbers {
+        if *number <= before || last < *number {
+            return false;
+        }
+        before = *number;
+    }
+    true
+}
+
+// Whether the numbers are this and each that is so much greater, up to the last.
+fn are_stepped(first: usize, step: usize, last: usize, numbers: &[u32]) -> bool
+    requires first { first ≤ most_jobs }
+    requires step { step ≤ most_jobs }
+    requires last { last ≤ most_jobs }
+    ensures { result ≡ are_stepped first step last numbers.now }
+{
+    let mut next = first;
+    for number in numbers {
+        let number = *number as usize;
+        if number != next || last < number {
+            return false;
+        }
+        next += step;
+    }
+    last < next
+}

@@ -1,4 +1,0 @@
-use Rattle.rv_test_words.proofs.command.run_command.Goals as goal
-
-pub returns : goal.returns
-returns c = c.built.ensures

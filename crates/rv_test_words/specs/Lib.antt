@@ -1,3 +1,0 @@
-pub mod Asked
-pub mod CommandLine
-pub mod Words

@@ -1,0 +1,14 @@
+-- Lines that are put together from spans.
+use Rattle.std.specs.Prelude.{ℕ, List}
+use Rattle.std.specs.Fmt.{decimal}
+use Rattle.rv_text.specs.Words.{word_digits}
+use Rattle.rv_text.specs.declared.spans.Span.{Span}
+use Rattle.rv_text.specs.declared.spans.Span.TheVariants as span
+use Rattle.rv_text.specs.Shown.{shown, shown_value}
+
+abbrev pub span_text : Span → List ℕ
+span_text (span.Text text) = text.now
+span_text (span.Number number) = decimal number
+span_text (span.Word word) = word_digits word
+span_text (span.Shown text) = shown text.now
+span_text (span.Value value) = shown_value value.now

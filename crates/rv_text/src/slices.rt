@@ -1,0 +1,29 @@
+//! Parts of texts.
+
+ghost use Rattle.std.specs.Prelude.{◌≡◌, drop, slice_index};
+
+/// The byte at a place, or 0 behind the end.
+pub(crate) fn byte_at(text: &[u8], place: usize) -> u8
+    ensures { result ≡ slice_index text.now place }
+{
+    if place < text.len() { text[place] } else { 0 }
+}
+
+/// What stands behind the first bytes: nothing where there are no more.
+pub fn behind(text: &[u8], count: usize) -> &[u8]
+    ensures { result.now ≡ drop count text.now }
+{
+    if count < text.len() {
+        &text[count..]
+    } else {
+        &text[text.len()..]
+    }
+}
+
+/// What was met and what is expected, from a place on.
+pub fn sides_from<'a>(place: usize, met: &'a [u8], expected: &'a [u8]) -> (&'a [u8], &'a [u8])
+    ensures met { result.0.now ≡ drop place met.now }
+    ensures expected { result.1.now ≡ drop place expected.now }
+{
+    (behind(met, place), behind(expected, place))
+}

@@ -1,0 +1,55 @@
+//! Lines that are put together from spans.
+
+ghost use Rattle.std.specs.Prelude.{◌≡◌, ◌++◌, IfOk, OnOk};
+ghost use Rattle.std.specs.List.{flat_map};
+ghost use Rattle.rv_text.specs.Spans.{span_text};
+
+use crate::parts::{push_number, push_text, push_word};
+use crate::shown::{push_shown, push_shown_value};
+use std::alloc::{AllocError, Global};
+
+/// A span of a line.
+#[derive(Clone, Copy)]
+pub enum Span<'a> {
+    /// Text as it stands.
+    Text(&'a str),
+    /// A number's decimal digits.
+    Number(u64),
+    /// A word's eight lower-case hexadecimal digits.
+    Word(u32),
+    /// Text from a file, as [`push_shown`] shows it.
+    Shown(&'a [u8]),
+    /// A value, as [`push_shown_value`] shows it.
+    Value(&'a [u8]),
+}
+
+/// Appends spans, one behind the other.
+pub fn push_spans(bytes: &mut Vec<u8>, spans: &[Span<'_>]) -> Result<(), AllocError>
+    ensures { OnOk result (bytes.new.items ≡ bytes.old.items ++ flat_map span_text spans.now) }
+{
+    for span in spans {
+        push_span(bytes, *span)?;
+    }
+    Ok(())
+}
+
+/// A text of spans.
+pub fn text_of(alloc: Global, spans: &[Span<'_>]) -> Result<Vec<u8>, AllocError>
+    ensures { IfOk result (λ text. text.items ≡ flat_map span_text spans.now) }
+{
+    let mut text = Vec::new(alloc);
+    push_spans(&mut text, spans)?;
+    Ok(text)
+}
+
+fn push_span(bytes: &mut Vec<u8>, span: Span<'_>) -> Result<(), AllocError>
+    ensures { OnOk result (bytes.new.items ≡ bytes.old.items ++ span_text span.entry) }
+{
+    match span {
+        Span::Text(text) => push_text(bytes, text),
+        Span::Number(number) => push_number(bytes, number),
+        Span::Word(word) => push_word(bytes, word),
+        Span::Shown(text) => push_shown(bytes, text),
+        Span::Value(value) => push_shown_value(bytes, value),
+    }
+}

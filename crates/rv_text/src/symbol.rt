@@ -1,0 +1,60 @@
+//! A place by a symbol.
+
+ghost use Rattle.std.specs.Prelude.{◌≡◌, ◌++◌, OnOk, option_map};
+ghost use Rattle.rv_text.specs.Symbol.{place_text, symbol_text};
+
+use crate::spans::{Span, push_spans};
+use rv_elf::SymbolAt;
+use std::alloc::{AllocError, Global};
+
+/// Appends a place in brackets behind a space, where there is a symbol.
+pub fn push_place(
+    alloc: Global,
+    bytes: &mut Vec<u8>,
+    place: Option<SymbolAt<'_>>,
+) -> Result<(), AllocError>
+    ensures { OnOk result (bytes.new.items ≡ bytes.old.items
+        ++ place_text (option_map (λ s. (s.name.now, s.offset)) place.entry)) }
+{
+    match place {
+        Some(symbol) => push_symbol_between(alloc, bytes, " (", symbol, ")"),
+        None => Ok(()),
+    }
+}
+
+/// Appends a place by the name of a symbol, shown as [`push_shown`](crate::shown::push_shown) does, and the bytes past it: `main+0x1c`.
+pub fn push_symbol(
+    alloc: Global,
+    bytes: &mut Vec<u8>,
+    symbol: SymbolAt<'_>,
+) -> Result<(), AllocError>
+    ensures { OnOk result (bytes.new.items ≡ bytes.old.items
+        ++ symbol_text (symbol.entry.name.now, symbol.entry.offset)) }
+{
+    push_symbol_between(alloc, bytes, "", symbol, "")
+}
+
+#[tactic(auto, unfolding(crate::specs::Symbol::symbol_text))]
+fn push_symbol_between<'a>(
+    alloc: Global,
+    bytes: &mut Vec<u8>,
+    before: &'a str,
+    symbol: SymbolAt<'a>,
+    behind: &'a str,
+) -> Result<(), AllocError>
+    ensures { OnOk result (bytes.new.items ≡ bytes.old.items
+        ++ (before.now ++ symbol_text (symbol.entry.name.now, symbol.entry.offset) ++ behind.now)) }
+{
+    let offset = symbol.offset;
+    let digits = format!(in alloc; "{offset:x}")?;
+    push_spans(
+        bytes,
+        &[
+            Span::Text(before),
+            Span::Shown(symbol.name),
+            Span::Text("+0x"),
+            Span::Text(digits.as_str()),
+            Span::Text(behind),
+        ],
+    )
+}

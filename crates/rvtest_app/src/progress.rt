@@ -1,0 +1,118 @@
+//! How many jobs are done and failed, and the line that says so.
+
+use crate::terminal_line::{Counts, Line};
+use rv_expect::{Rule, has_passed};
+use rv_rows::Row;
+use std::alloc::Global;
+use std::io::Write;
+use std::sync::atomic::{AtomicU64, Ordering};
+use std::sync::{Mutex, MutexGuard, Wait};
+use std::time::Clock;
+
+/// How many jobs of a run are done and failed, and a terminal that shows it in one line. Workers share it.
+#[derive(Drop)]
+pub struct Progress<W: Drop> {
+    jobs: u64,
+    rule: Rule,
+    is_terminal: bool,
+    done: AtomicU64,
+    failed: AtomicU64,
+    // The tenth of a second, by the clock, in which the line was shown last.
+    tenth: AtomicU64,
+    line: Mutex<Line<W>>,
+}
+
+impl<W: Write + Drop> Progress<W> {
+    /// Of a run of so many jobs, which fail by a rule. The line is shown on `out`, where that is a terminal, and from
+    /// the next tenth of a second of the clock on: a run that is done before has none.
+    pub fn new<C: Clock>(
+        clock: &C,
+        jobs: usize,
+        rule: Rule,
+        out: W,
+        is_terminal: bool,
+    ) -> Progress<W> {
+        Progress {
+            jobs: jobs as u64,
+            rule,
+            is_terminal,
+            done: AtomicU64::new(0),
+            failed: AtomicU64::new(0),
+            tenth: AtomicU64::new(tenth_of(clock).unwrap_or(0)),
+            line: Mutex::new(Line::new(out)),
+        }
+    }
+
+    /// Takes the line away, and gives the terminal back.
+    pub fn finish(self) -> W {
+        let Progress {
+            jobs: _,
+            rule: _,
+            is_terminal: _,
+            done: _,
+            failed: _,
+            tenth: _,
+            line,
+        } = self;
+        let mut line = line.into_inner();
+        line.take_away();
+        line.into_inner()
+    }
+
+    /// Counts a row. Where a tenth of a second has passed since the line was shown last, and no other thread writes to
+    /// the terminal, it is shown again.
+    pub(crate) fn count<C: Clock>(&self, clock: &C, alloc: Global, row: &Row) {
+        if !self.is_terminal {
+            return;
+        }
+        self.done.fetch_add(1, Ordering::SeqCst);
+        if !has_passed(self.rule, row) {
+            self.failed.fetch_add(1, Ordering::SeqCst);
+        }
+        if !self.is_due(clock) {
+            return;
+        }
+        if let Some(mut line) = self.line.try_lock() {
+            line.show(alloc, self.counts());
+        }
+    }
+
+    // Whether no line was shown in this tenth of a second. Of the threads that ask in one, one is answered so.
+    fn is_due<C: Clock>(&self, clock: &C) -> bool {
+        match tenth_of(clock) {
+            Some(now) => self.tenth.fetch_max(now, Ordering::SeqCst) < now,
+            None => false,
+        }
+    }
+
+    /// The failed ones are read first, so that they are never more than those that are done.
+    pub(crate) fn counts(&self) -> Counts {
+        let failed = self.failed.load(Ordering::SeqCst);
+        Counts {
+            done: self.done.load(Ordering::SeqCst),
+            jobs: self.jobs,
+            failed,
+        }
+    }
+
+    /// The line, for one thread at a time.
+    pub(crate) fn lock<R: Wait>(&self, rt: &R) -> MutexGuard<'_, Line<W>> {
+        self.line.lock(rt)
+    }
+
+    /// Whether the line is shown.
+    pub(crate) fn is_terminal(&self) -> bool {
+        self.is_terminal
+    }
+}
+
+// The clock's time in tenths of a second.
+fn tenth_of<C: Clock>(clock: &C) -> Option<u64> {
+    match clock.monotonic() {
+        Ok(time) => {
+            let tenths = u64::from(time.subsec_millis() / 100);
+            Some(time.as_secs().saturating_mul(10).saturating_add(tenths))
+        }
+        Err(_) => None,
+    }
+}
