@@ -31,6 +31,7 @@ SCRIPTS = {
     "launch": ([], False),
     "streams": ([], True),
     "lint": ([], False),
+    "pipelines": ([], False),
     "memory": ([], False),
     "doors": ([], False),
     "samples": ([], False),
