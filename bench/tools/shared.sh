@@ -46,7 +46,7 @@ peak() {
 
 # The maker of ELF files, which says what its words are.
 image() {
-    python3 checks/images.py "$@"
+    python3 checks/lib/images.py "$@"
 }
 
 # The ELF file of a flat image, whose first byte is the entry.

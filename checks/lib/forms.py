@@ -12,7 +12,7 @@ import told
 from rows import Row
 from tables import rows_of_file
 
-TABLES = pathlib.Path(__file__).resolve().parent / "tables"
+TABLES = pathlib.Path(__file__).resolve().parents[1] / "tables"
 FORMS = {
     **told.FORMS,
     **asked.FORMS,

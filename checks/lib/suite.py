@@ -22,7 +22,8 @@ from forms import FORMS, TABLES, rows_of
 from rows import Wrong
 from tables import Malformed
 
-TOP = pathlib.Path(__file__).resolve().parent.parent
+TOP = pathlib.Path(__file__).resolve().parents[2]
+COMMANDS = TOP / "checks/commands"
 # The checks that are scripts, the longest first: their words, and whether they run the programs.
 SCRIPTS = {
     "runner": ([], True),
@@ -76,7 +77,7 @@ def words_of(arguments):
 
 def title_of(name):
     """What a script says of itself: the lines behind its first, up to the end of its comment."""
-    text = (TOP / "checks" / name).read_text(encoding="utf-8")
+    text = (COMMANDS / name).read_text(encoding="utf-8")
     found = re.match(r'#!.*\n((?:#.*\n)+|""".*?""")', text, re.S)
     return found[1] if found else ""
 
@@ -117,7 +118,7 @@ def tables_of(folder):
 
 def by_bash(text, *words):
     """Runs a line of bash behind what the programs' scripts share, and gives what it printed."""
-    line = f"source ./launch.bash && source checks/shims.bash && {text}"
+    line = f"source ./launch.bash && source checks/lib/shims.bash && {text}"
     done = subprocess.run(["bash", "-c", line, "bash", *words], cwd=TOP, stdout=subprocess.PIPE, text=True, check=False)
     return done.stdout.strip() if done.returncode == 0 else ""
 
@@ -148,14 +149,14 @@ def run_script(name):
     """Runs a check that is a script: how many cases passed, 0 or 1 that failed, and what is said of it."""
     began = time.monotonic()
     done = subprocess.run(
-        [TOP / "checks" / name, *SCRIPTS[name][0]], cwd=TOP, stdin=subprocess.DEVNULL, capture_output=True, check=False
+        [COMMANDS / name, *SCRIPTS[name][0]], cwd=TOP, stdin=subprocess.DEVNULL, capture_output=True, check=False
     )
     out = done.stdout.decode("utf-8", "backslashreplace").splitlines()
     took = f"{time.monotonic() - began:.0f} s"
     if done.returncode == 0:
-        return len(out), 0, [f"checks/{name}: {len(out)} cases, {took}"]
+        return len(out), 0, [f"{name}: {len(out)} cases, {took}"]
     said = done.stderr.decode("utf-8", "backslashreplace").splitlines()
-    return 0, 1, [*out[-5:], *said[-60:], f"checks/{name}: FAILED, status {done.returncode}, {took}; again: checks/run {name}"]
+    return 0, 1, [*out[-5:], *said[-60:], f"{name}: FAILED, status {done.returncode}, {took}; again: checks/run {name}"]
 
 
 def run_row(row):
@@ -185,7 +186,7 @@ def run_all(chosen, processors):
     if rows_failed > MOST_TOLD:
         print(f"{rows_failed - MOST_TOLD} rows more failed")
     if chosen.rows:
-        print(f"checks/tables: {len(chosen.rows)} rows, {rows_failed} failed, {time.monotonic() - began:.0f} s")
+        print(f"tables: {len(chosen.rows)} rows, {rows_failed} failed, {time.monotonic() - began:.0f} s")
     return passed, failed
 
 

@@ -15,14 +15,14 @@ work=$(mktemp -d)
 trap 'rm -rf "$work"' EXIT
 # shellcheck source=launch.bash
 source ./launch.bash
-# shellcheck source=checks/shims.bash
-source checks/shims.bash
+# shellcheck source=checks/lib/shims.bash
+source checks/lib/shims.bash
 cp "$(program rvfleet)" "$(program rvtest)" "$work"
 shim=$work/refuse_growth.so
-take_shim refuse_growth "$shim" || fail 'there is no shim of checks/refuse_growth.c: it was not compiled, and programs/ has none of this source'
+take_shim refuse_growth "$shim" || fail 'there is no shim of checks/lib/refuse_growth.c: it was not compiled, and programs/ has none of this source'
 
 # The maker of ELF files, which says what its words are.
-images=$PWD/checks/images.py
+images=$PWD/checks/lib/images.py
 image() {
     python3 "$images" "$@"
 }

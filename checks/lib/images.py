@@ -1,9 +1,9 @@
 #!/usr/bin/env python3
 """Images for checks and measurements: ELF files by lines of words, and by what their runs come to.
 
-    checks/images.py WORDS >FILE           the file that the words stand for
-    checks/images.py --flat NUMBERS >FILE  the bytes of the numbers alone
-    checks/images.py --of FILE >FILE       the file whose one segment has the bytes of a flat image
+    checks/lib/images.py WORDS >FILE           the file that the words stand for
+    checks/lib/images.py --flat NUMBERS >FILE  the bytes of the numbers alone
+    checks/lib/images.py --of FILE >FILE       the file whose one segment has the bytes of a flat image
 
 `one` or `two` segments, `sign` for the image with a signature (files of checks/images), or the example firmware, `checksum`, `upper` or
 `stripped`, which is `upper` without symbols; and then changes: `24=90000000` puts the number at byte 24, little-endian, and `51` keeps
@@ -14,11 +14,11 @@ import pathlib
 import struct
 import sys
 
-HERE = pathlib.Path(__file__).resolve().parent
-FIRMWARE = HERE.parent / "examples/firmware"
+SAMPLES = pathlib.Path(__file__).resolve().parents[1] / "images"
+FIRMWARE = SAMPLES.parents[1] / "examples/firmware"
 FILES = {
-    "one": HERE / "images/one.elf", "two": HERE / "images/two.elf", "sign": HERE / "images/sign.elf",
-    "stripped": HERE / "images/stripped.elf", "checksum": FIRMWARE / "checksum.elf", "upper": FIRMWARE / "upper.elf",
+    "one": SAMPLES / "one.elf", "two": SAMPLES / "two.elf", "sign": SAMPLES / "sign.elf", "stripped": SAMPLES / "stripped.elf",
+    "checksum": FIRMWARE / "checksum.elf", "upper": FIRMWARE / "upper.elf",
 }
 
 BASE = 0x8000_0000

@@ -2,7 +2,7 @@
 """Merges a part that is cut at each byte, a part of which each byte is changed in turn, and parts of 16 MB, and compares with what
 a reader of the text's form says, which is written anew here. Then merges the parts of a report in each order.
 
-    checks/merge.py RVTEST FIRST SECOND REPORT PART..
+    checks/lib/merge.py RVTEST FIRST SECOND REPORT PART..
 """
 import itertools
 import os

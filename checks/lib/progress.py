@@ -1,4 +1,4 @@
-"""The form of rows of the line on a terminal: over a shim (checks/terminal.c), so that the clock, what a put takes and which streams
+"""The form of rows of the line on a terminal: over a shim (checks/lib/terminal.c), so that the clock, what a put takes and which streams
 are terminals are the row's.
 """
 import os
