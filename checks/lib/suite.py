@@ -33,6 +33,7 @@ SCRIPTS = {
     "streams": ([], True),
     "lint": ([], False),
     "pipelines": ([], False),
+    "grammar": ([], False),
     "memory": ([], False),
     "doors": ([], False),
     "samples": ([], False),
