@@ -19,7 +19,6 @@ import time
 
 import failures
 from forms import FORMS, TABLES, rows_of
-from rows import Wrong
 from tables import Malformed
 
 TOP = pathlib.Path(__file__).resolve().parents[2]
@@ -56,6 +55,10 @@ class Chosen:
 
 class Refused(Exception):
     """Why words are refused."""
+
+
+class NoShim(Exception):
+    """Why there is no shim."""
 
 
 # ---- choosing
@@ -130,17 +133,19 @@ def take_programs(folder):
         return False
     for name in ("rvfleet", "rvtest"):
         path = by_bash('program "$1"', name)
-        if not path:
-            print(f"checks/run: there is no program {name}", file=sys.stderr)
+        if not os.access(path, os.X_OK):
+            print(f"checks/run: there is no program {name}{f' at {path}' if path else ''}", file=sys.stderr)
             return False
         shutil.copy(path, folder / name)
     return True
 
 
 def take_shim(folder):
-    """Gives the rows of the line on a terminal the shim that they preload; the check `runner` takes one for itself."""
+    """Gives the rows of the line on a terminal the shim that they preload."""
     path = folder / "terminal.so"
     by_bash('take_shim terminal "$1"', str(path))
+    if not path.exists():
+        raise NoShim("there is no shim of checks/lib/terminal.c: it was not compiled, and programs/ has none of this source")
     os.environ["TERMINAL_SHIM"] = str(path)
 
 
@@ -165,7 +170,8 @@ def run_row(row):
     row.folder.mkdir()
     try:
         FORMS[row.table].check(row)
-    except (Wrong, ValueError, KeyError, IndexError, OSError) as wrong:
+    except Exception as wrong:
+        # A row that its check cannot read fails as well as one that is answered otherwise.
         return 0, 1, list(failures.told(row, wrong))
     finally:
         shutil.rmtree(row.folder, ignore_errors=True)
@@ -175,15 +181,18 @@ def run_row(row):
 def run_all(chosen, processors):
     """Runs what is chosen, and says what failed, and how each check that is a script ended: how many cases passed, and how many not."""
     began, passed, failed, rows_failed = time.monotonic(), 0, 0, 0
-    with concurrent.futures.ThreadPoolExecutor(processors) as pool:
-        scripts = [pool.submit(run_script, name) for name in chosen.scripts]
+    pool = concurrent.futures.ThreadPoolExecutor(processors)
+    try:
+        scripts = {pool.submit(run_script, name) for name in chosen.scripts}
         rows = [pool.submit(run_row, row) for row in chosen.rows]
-        for ended in concurrent.futures.as_completed(scripts + rows):
+        for ended in concurrent.futures.as_completed([*scripts, *rows]):
             good, bad, said = ended.result()
             passed, failed = passed + good, failed + bad
-            rows_failed += bad if ended in rows else 0
+            rows_failed += bad if ended not in scripts else 0
             if ended in scripts or rows_failed <= MOST_TOLD:
                 print(*said, sep="\n", end="\n" if said else "", flush=True)
+    finally:
+        pool.shutdown(cancel_futures=True)
     if rows_failed > MOST_TOLD:
         print(f"{rows_failed - MOST_TOLD} rows more failed")
     if chosen.rows:
@@ -200,14 +209,17 @@ def main():
         try:
             word, names = words_of(sys.argv[1:])
             chosen = chosen_of(word, names, tables_of(folder))
-        except (Refused, Malformed) as refused:
+            if chosen.needs_programs() and not take_programs(folder):
+                return 3
+            if any(row.table == "progress" for row in chosen.rows):
+                take_shim(folder)
+            passed, failed = run_all(chosen, len(os.sched_getaffinity(0)))
+        except Refused as refused:
             print(f"checks/run: {refused}", file=sys.stderr)
-            return 2 if isinstance(refused, Refused) else 1
-        if chosen.needs_programs() and not take_programs(folder):
-            return 3
-        if any(row.table == "progress" for row in chosen.rows):
-            take_shim(folder)
-        passed, failed = run_all(chosen, len(os.sched_getaffinity(0)))
+            return 2
+        except (Malformed, NoShim) as wrong:
+            print(f"checks/run: {wrong}", file=sys.stderr)
+            passed, failed = 0, 1
         print(f"{passed} passed, {failed} failed")
         return 1 if failed else 0
 
