@@ -1,4 +1,4 @@
-"""The program of checks/run: chooses checks and rows, runs them side by side, and says what failed.
+"""Chooses checks and rows, runs them side by side, and says what failed.
 
     checks/run [-k WORD] [CHECK | TABLE | TABLE:ROW]..
 
@@ -205,6 +205,9 @@ def main():
     os.chmod(work.name, 0o755)
     os.umask(0o022)
     folder = pathlib.Path(work.name)
+    if {"-h", "--help"} & {*sys.argv[1:]}:
+        print(f"{__doc__.strip()}\n\nChecks: {', '.join(SCRIPTS)}.\nTables: {', '.join(sorted(FORMS))}.")
+        return 0
     with work:
         try:
             word, names = words_of(sys.argv[1:])
