@@ -46,7 +46,7 @@ class Row:
 
     def write(self, name, data):
         """Makes a file."""
-        (self.folder / name).write_bytes(data if isinstance(data, bytes) else raw(data))
+        (self.folder / name).write_bytes(as_bytes(data))
 
     def run(self, words):
         """Runs the program: its status, its output, and what it says beside that."""
@@ -61,13 +61,18 @@ class Row:
         """Runs the program, and compares its output in a shape, what it says beside that, and its status."""
         ended, shown, said = self.run(words)
         found = ended, shape(shown), said
-        wanted = status, raw(out), raw(errors)
+        wanted = status, as_bytes(out), as_bytes(errors)
         if found != wanted:
             self.fails(words, wanted, found)
 
     def fails(self, words, wanted, found):
         """Says what a run was to come to, and what it came to."""
         raise Wrong([os.path.basename(self.rvtest), *words], wanted, found)
+
+
+def as_bytes(data):
+    """Bytes as they are, and those of a text."""
+    return data if isinstance(data, bytes) else raw(data)
 
 
 # ---- lines
