@@ -9,7 +9,7 @@ MOST_CHARACTERS = 300
 
 def told(row, wrong):
     """The lines of a row that ended by this."""
-    yield f"checks/tables/{row.table}.txt:{row.line}: {row.table}:{row.number} failed: {row.title}"
+    yield f"checks/tables/{row.table}.txt:{row.line}: {row.table}:{row.number} failed: {short(row.title)}"
     yield f"  row: {short(row.text)}"
     if hasattr(wrong, "wanted"):
         yield f"  ran: {short(shlex.join(wrong.command))}"
