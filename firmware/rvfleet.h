@@ -1,6 +1,10 @@
-/* What firmware asks of the simulator: a console with a script, the exit call, and FENCE.I. */
+/* What firmware in C and C++ asks of the simulator: a console with a script, the exit call, and FENCE.I. */
 #ifndef RVFLEET_H
 #define RVFLEET_H
+
+#ifdef __cplusplus
+extern "C" {
+#endif
 
 /* A word load takes the next byte of the script, or all ones at the script's end; a word store prints the low byte. */
 #define CONSOLE (*(volatile unsigned *)0x10000000)
@@ -16,7 +20,7 @@ static inline void print(const char *text)
 }
 
 /* Ends the run with this code: the exit call is ECALL with 93 in a7. */
-static inline _Noreturn void finish(unsigned code)
+__attribute__((noreturn)) static inline void finish(unsigned code)
 {
     register unsigned a0 __asm__("a0") = code;
     register unsigned a7 __asm__("a7") = 93;
@@ -30,5 +34,9 @@ static inline void fence_i(void)
 {
     __asm__ volatile(".option push\n\t.option arch, +zifencei\n\tfence.i\n\t.option pop" : : : "memory");
 }
+
+#ifdef __cplusplus
+}
+#endif
 
 #endif

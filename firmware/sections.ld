@@ -1,7 +1,9 @@
 /* What stands where in `rom` and `ram`, which the linker script that includes this defines: code, constants and the
- * image of initialised data in `rom`; data, zeros, the heap and the stack in `ram`. The names are those that picolibc's
- * start-up code and `sbrk` ask for. No segment holds the ELF header, whose page would lie below the memory. */
+ * image of initialised data in `rom`; the stack, data, zeros and the heap in `ram`, in this order. The names are those that
+ * picolibc's start-up code and `sbrk` ask for. No segment holds the ELF header, whose page would lie below the memory. */
 ENTRY(_start)
+/* Where a test has these symbols, they stay, and what they stand in, though no code may refer to them. */
+EXTERN(begin_signature end_signature)
 PHDRS
 {
     text PT_LOAD FLAGS(5);
@@ -27,8 +29,16 @@ SECTIONS
         . = ALIGN(8);
     } >rom :text
 
+    /* The stack grows down to where `ram` begins, and no further. */
+    .stack (NOLOAD) : {
+        . += DEFINED(__stack_size) ? __stack_size : 0x4000;
+        . = ALIGN(16);
+        __stack = .;
+    } >ram :NONE
+
     .data : ALIGN_WITH_INPUT {
         __data_start = .;
+        KEEP(*(SORT_BY_NAME(.signature) SORT_BY_NAME(.signature.*)))
         *(.data .data.*)
         . = ALIGN(8);
         __global_pointer$ = . + 0x800;
@@ -48,10 +58,8 @@ SECTIONS
     .bss (NOLOAD) : { *(.sbss .sbss.*) *(.bss .bss.*) *(COMMON) . = ALIGN(8); __bss_end = .; } >ram :NONE
     __bss_size = __bss_end - __bss_start;
 
-    __stack = ORIGIN(ram) + LENGTH(ram);
     __heap_start = __bss_end;
-    __heap_end = __stack - (DEFINED(__stack_size) ? __stack_size : 0x4000);
+    __heap_end = ORIGIN(ram) + LENGTH(ram);
     /DISCARD/ : { *(.eh_frame .note .note.*) }
 }
-ASSERT(__heap_start <= __heap_end, "the data and the stack (16 KB, or __stack_size) do not fit in `ram` of the linker script")
 ASSERT(__data_size % 4 == 0 && __bss_size % 4 == 0, "the start-up code copies and clears words")

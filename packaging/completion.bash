@@ -8,23 +8,23 @@ _rvfleet_options() {
         'rvtest merge') echo '--report --junit --lenient --help' ;;
         'rvtest diff') echo '--steps --help' ;;
         'rvtest show') echo '--junit --lenient --help' ;;
-        'rvfleet run') echo '--workers --group --help' ;;
-        'rvfleet one') echo '--budget --input-hex --help' ;;
         'rvfleet raw') echo '--budget --help' ;;
+        'rvfleet one') echo '--budget --input-hex --help' ;;
+        'rvfleet run') echo '--workers --group --help' ;;
     esac
 }
 
 _rvfleet() {
     local word=$2 before=$3 commands='run explain check merge diff show --version --help'
     COMPREPLY=()
-    [ "${1##*/}" = rvtest ] || commands='run one raw --help'
+    [ "${1##*/}" = rvtest ] || commands='raw one run --help'
     if [ "$COMP_CWORD" = 1 ]; then
         mapfile -t COMPREPLY < <(compgen -W "$commands" -- "$word")
     elif [[ $word = -* ]]; then
         mapfile -t COMPREPLY < <(compgen -W "$(_rvfleet_options "${1##*/}" "${COMP_WORDS[1]}")" -- "$word")
     elif [ "$before" = --root ]; then
         mapfile -t COMPREPLY < <(compgen -d -- "$word")
-    elif [[ " --only --match --shard --stamp --workers --group --last --budget --input-hex " != *" $before "* ]]; then
+    elif [[ " --budget --group --input-hex --last --match --only --shard --stamp --workers " != *" $before "* ]]; then
         mapfile -t COMPREPLY < <(compgen -f -- "$word")
     fi
 }

@@ -1,4 +1,4 @@
-/* Initialised data is copied from the ROM, which this job's regions make one that no store can change. */
+/* Initialised data is copied from the ROM, which no store can change. */
 #include "rvfleet.h"
 
 static const unsigned table[] = { 2, 3, 5, 7 };

@@ -1,6 +1,7 @@
-/* Leaves its results in memory, between the two symbols that a signature is read from. */
-unsigned begin_signature[4] __attribute__((section(".data.signature"), aligned(4)));
-__asm__(".globl end_signature\n.set end_signature, begin_signature + 16");
+/* Leaves its results in memory, between the two symbols that a signature is read from. The linker script keeps sections
+ * named .signature, in the order of what follows in their names, though nothing may refer to the last one. */
+unsigned begin_signature[4] __attribute__((section(".signature.1")));
+unsigned end_signature[1] __attribute__((section(".signature.2")));
 
 int main(void)
 {

@@ -1,4 +1,5 @@
-/* A state machine, a turnstile, driven by the script: a coin unlocks it, a push passes. Exits with how many passed. */
+/* A state machine, a turnstile, driven by the script: a coin unlocks it, a push passes. Exits with how many passed.
+ * Each script of states.cases is a job. */
 #include "rvfleet.h"
 
 enum state { LOCKED, UNLOCKED };

@@ -28,7 +28,9 @@ fn main(rt: HostRuntime) -> ExitCode {
     ExitCode::from(status)
 }
 
-// The process's own words.
+// The process's own words. It stands as a function of its own for the place of the loop of steps, which what stands before it
+// decides: docs/PERFORMANCE.md, "What must hold of the machine code".
+#[inline(never)]
 fn texts(rt: &(impl Env + AllocGlobal)) -> io::Result<Vec<String>> {
     let mut texts = Vec::new(rt.alloc());
     for text in env::args(rt)? {

@@ -1,0 +1,1 @@
+"""What mklist makes a list of, and how: files beside tests, which are tests, their keys, their jobs."""
