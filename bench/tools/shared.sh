@@ -1,3 +1,4 @@
+# shellcheck shell=bash
 # What the benchmarks of fleets, job lists and hostile input share. Sourced at the repository's root by bash.
 
 # shellcheck disable=SC2034  # for the scripts that source this one
@@ -43,46 +44,12 @@ peak() {
     cut -d ' ' -f 3 "$work/$1.times" | sort -g | tail -n 1
 }
 
-# Numbers as the bytes of an ELF file's fields, two or four each, the low one first.
-halves() {
-    local number
-    for number in "$@"; do
-        printf '%b' "$(printf '\\x%02x' $((number & 255)) $((number >> 8 & 255)))"
-    done
-}
-
-words() {
-    local number
-    for number in "$@"; do
-        halves $((number & 65535)) $((number >> 16 & 65535))
-    done
-}
-
-# The ELF header of an executable for RISC-V: its entry, then of its program headers and of its section headers the
-# place and the number.
-#   elf_header ENTRY PROGRAMS SEGMENTS SECTIONS COUNT
-elf_header() {
-    printf '\x7fELF\x01\x01\x01\x00\x00\x00\x00\x00\x00\x00\x00\x00'
-    halves 2 243
-    words 1 "$1" "$2" "$4" 0
-    halves 52 32 "$3" 40 "$5" 0
-}
-
-# A program header of bytes that are loaded where they run.
-#   segment OFFSET ADDRESS SIZE
-segment() {
-    words 1 "$1" "$2" "$2" "$3" "$3" 7 4
-}
-
-# A section header, of a section at a place of the file.
-#   section KIND OFFSET SIZE LINK ENTSIZE
-section() {
-    words 0 "$1" 0 0 "$2" "$3" "$4" 0 0 "$5"
+# The maker of ELF files, which says what its words are.
+image() {
+    python3 checks/lib/images.py "$@"
 }
 
 # The ELF file of a flat image, whose first byte is the entry.
 elf_of() {
-    elf_header 0x80000000 52 1 0 0
-    segment 84 0x80000000 "$(stat -c %s "$1")"
-    cat "$1"
+    image --of "$1"
 }

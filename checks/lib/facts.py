@@ -5,6 +5,7 @@ import glob
 import os
 import pathlib
 import re
+import shutil
 import subprocess
 
 IDENTIFIER = re.compile(r"[A-Za-z_][A-Za-z0-9_]*")
@@ -24,7 +25,7 @@ class Facts:
         """The paths of all files from the top: those that git tracks, or all where there is no git."""
         found = subprocess.run(
             ["git", "-C", self.top, "ls-files", "--cached", "--others", "--exclude-standard"], capture_output=True, text=True, check=False
-        ) if (self.top / ".git").exists() else None
+        ) if (self.top / ".git").exists() and shutil.which("git") else None
         if found and found.returncode == 0:
             return sorted(path for path in found.stdout.split("\n") if path and (self.top / path).exists())
         return sorted(self.walked())

@@ -1,0 +1,117 @@
+"""The forms of rows of words: what they ask for, how they are refused, which jobs they choose; and where jobs of lists begin."""
+import re
+
+import images
+from rows import Form, lines, lines_in, squeezed
+from saved import report_bytes
+
+# Images that exit by codes 5 and 6 after two steps, and two that never end.
+EXIT, OTHER_EXIT = "one", "code 00600513 X"
+LOOP, OTHER_LOOP = "code 0000006f", "code 00000013 0000006f"
+IMAGES = {"a.elf": EXIT, "b.elf": EXIT, "loop.elf": LOOP, "fw/a.elf": OTHER_EXIT, "fw/loop.elf": OTHER_LOOP}
+
+
+def job(name, image, budget, keys=""):
+    return f"[[job]]\nname = '{name}'\nimage = '{image}'\nbudget = {budget}\n{keys}\n"
+
+
+def jobs(names):
+    """Jobs that pass."""
+    return "".join(job(name, "a.elf", 9, "expect_exit = 5") for name in names)
+
+
+# ---- good words
+
+# Of these lists the first stands under two names; its check fails where no lenient rule holds, and uart2 has no image in fw.
+LIST = jobs(["uart"]) + job("uart2", "b.elf", 9, "expect_exit = 5") + jobs(["spi", "--x"]) + job("check", "a.elf", 9)
+LISTS = {"a.toml": LIST, "run": LIST, "-odd.toml": job("odd", "a.elf", 9), "loop.toml": job("uart", "loop.elf", 20)}
+REPORTS = {
+    "old.txt": "$1 spi, end exit 1\ndone 1",
+    "one": "$1 a\npart 1 of 1 shard 1/1 stamp r",
+    "half1": "$1 a\npart 1 of 2 shard 1/2 stamp r",
+    "half2": "$2 b\npart 1 of 2 shard 2/2 stamp r",
+    "third1": "$1 a\npart 1 of 2 shard 1/3 stamp r",
+    "third2": "$2 b, end exit 1\npart 1 of 2 shard 2/3 stamp r",
+    "third3": "part 0 of 2 shard 3/3 stamp r",
+    "old": "$1 a, steps 6\ndone 1",
+    "new": "$1 a\ndone 1",
+    "report": "$1 a, end exit 1\ndone 1",
+}
+
+
+def check_words(row):
+    """The status of words, what goes out, what is said, and files that are written, each with its last line."""
+    words = row["words"]
+    for folder in ("fw", "out"):
+        (row.folder / folder).mkdir()
+    for name, words_of_image in IMAGES.items():
+        row.write(name, images.image(words_of_image))
+    for name, text in LISTS.items():
+        row.write(name, text)
+    for name, text in REPORTS.items():
+        row.write(name, report_bytes(text))
+    out = report_bytes(row["shown"]) if row["shown"] else ""
+    shape = squeezed if words.startswith("explain") else bytes
+    row.wants(words.split(), int(row["status"]), out, lines(*lines_in(row["said"])), shape)
+    for name, last in (file.split(": ") for file in lines_in(row["files"])):
+        found = (row.folder / name).read_text(encoding="utf-8").splitlines()[-1]
+        if found != last:
+            raise ValueError(f"{name} ends with {found}, and not with {last}")
+
+
+# ---- words that are refused, and help
+
+def check_misused(row):
+    """With what the refusal of words begins, and what it says among other things."""
+    words, begin, others = row["words"].split(), row["begins"], lines_in(row["has"])
+    row.write("list.toml", job("a", "a.elf", 9))
+    status, out, said = row.run(words)
+    told = said.decode()
+    framed = told.startswith(f"error: {begin}") and told.endswith("\n\nFor more information, try '--help'.\n")
+    if (status, out) != (2, b"") or not framed or not all(other in told for other in others):
+        row.fails(words, (2, b"", f"error: {begin}.. {'.. '.join(others)}".encode()), (status, out, said))
+
+
+def check_help(row):
+    """The lines that are shown for words of one meaning."""
+    for words in lines_in(row["words"]):
+        row.wants(words.split(), 0, lines(row["shown"]))
+
+
+# ---- choices
+
+def check_choice(row):
+    """Which jobs words choose, where these failed in a report; the status, and what is said."""
+    row.write("a.elf", images.image(EXIT))
+    row.write("list.toml", jobs(row["jobs"].split()))
+    rows = [f"${number} {name}, end exit 1" for number, name in enumerate(row["failed"].split(), 1)]
+    row.write("report", report_bytes("\n".join([*rows, f"done {len(rows)}"])))
+    names = row["chosen"].split()
+    out = [f"PASS {name}: exit 5 after 2 steps" for name in names]
+    out.append(f"{len(names)} jobs: {len(names)} passed, 0 failed, {2 * len(names)} steps")
+    said = lines(f"rvtest: {row['said']}") if row["said"] else ""
+    words = ["run", "list.toml", "--verbose", *row["words"].split()]
+    row.wants(words, int(row["status"]), lines(*out) if names else "", said)
+
+
+# ---- lines
+
+def check_lines(row):
+    """The lines on which the jobs of a list begin, which are all refused."""
+    row.write("f.toml", row["list"])
+    told = [f"f.toml:{line}: job {number}" for number, line in enumerate(row["begins"].split(), 1)]
+    row.wants(["check", "f.toml"], 2, "\n".join(told), shape=fronts)
+
+
+def fronts(out):
+    """What stands before the name of each job, or before what is wrong with it; of a line that tells of no job nothing."""
+    return b"\n".join(re.findall(rb"^f\.toml:[0-9]+: job [0-9]+", out, re.MULTILINE))
+
+
+FORMS = {
+    "choices": Form(check_choice, "jobs words failed status chosen said"),
+    "help": Form(check_help, "words shown"),
+    "lines": Form(check_lines, "list begins"),
+    "misused": Form(check_misused, "words begins has"),
+    "words": Form(check_words, "words status shown said files"),
+}

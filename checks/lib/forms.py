@@ -1,0 +1,34 @@
+"""The forms of all tables, by their files' names, and the rows of a file with a folder of its own for each."""
+import pathlib
+
+import asked
+import codes
+import lists
+import machines
+import placed
+import progress
+import saved
+import told
+from rows import Row
+from tables import rows_of_file
+
+TABLES = pathlib.Path(__file__).resolve().parents[1] / "tables"
+FORMS = {
+    **told.FORMS,
+    **asked.FORMS,
+    **saved.FORMS,
+    **codes.FORMS,
+    **machines.FORMS,
+    **lists.FORMS,
+    **placed.FORMS,
+    **progress.FORMS,
+}
+
+
+def rows_of(path, rvtest, work):
+    """The rows of a file, numbered from 1."""
+    found = []
+    for number, row in enumerate(rows_of_file(path, FORMS[path.stem].columns.split()), 1):
+        folder = work / f"{path.stem}-{number}"
+        found.append(Row(path.stem, row.title, number, row.number, row.text, row.asks, rvtest, folder))
+    return found

@@ -1,0 +1,94 @@
+"""The forms of rows of paths: where a report is put, and where the files of a list are read.
+
+What is there stands in words: `report=old` is a file with a text, `last>report` a link, `far/` a folder, `!report` nothing, and
+`~null` what is neither file nor folder. The text `new` is that of the run's report.
+"""
+import os
+import subprocess
+
+import images
+from rows import Form, lines
+from saved import report_bytes
+
+REPORT = report_bytes("$1 a, steps 2\ndone 1")
+SHOWN = "1 jobs: 1 passed, 0 failed, 2 steps"
+
+
+def text_of(word):
+    """The bytes of a file by their word."""
+    return REPORT if word == "new" else word.encode()
+
+
+def put_there(folder, word):
+    """Makes what a word says."""
+    if ">" in word:
+        link, target = word.split(">")
+        (folder / link).symlink_to(target)
+    elif "=" in word:
+        name, text = word.split("=")
+        (folder / name).write_bytes(text_of(text))
+    else:
+        (folder / word).mkdir()
+
+
+def is_there(folder, word):
+    """Whether what a word says is there."""
+    path = folder / word.lstrip("!~").partition("=")[0].partition(">")[0]
+    if word.startswith("!"):
+        return not os.path.lexists(path)
+    if word.startswith("~"):
+        return path.exists() and not path.is_file() and not path.is_dir()
+    if ">" in word:
+        return path.is_symlink() and os.readlink(path) == word.partition(">")[2]
+    if "=" in word:
+        return not path.is_symlink() and path.is_file() and path.read_bytes() == text_of(word.partition("=")[2])
+    return not path.is_symlink() and path.is_dir()
+
+
+def check_place(row):
+    """What is told of a report's path or how the run ends, by what is there, and what is there then."""
+    path, told = row["path"], row["told"]
+    row.write("list.toml", "job = [{name = 'a', image = 'a.elf', budget = 9}]\n")
+    row.write("a.elf", images.image("code 00000513 X"))
+    for word in row["there"].split():
+        put_there(row.folder, word)
+    words = ["run", "list.toml", "--quiet", "--report", path]
+    if told == "done":
+        row.wants(words, 0, lines(SHOWN))
+    elif told == "full":
+        # Standard output is full: the report is not put in its place.
+        with open("/dev/full", "wb") as full:
+            done = subprocess.run([row.rvtest, *words], cwd=row.folder, stdout=full, stderr=subprocess.PIPE, check=False)
+        if done.returncode != 3:
+            raise ValueError(f"status {done.returncode}, {done.stderr}")
+    else:
+        row.wants(words, 3, lines(SHOWN) if path == "/dev/full" else "", lines(f"rvtest: {path}: {told}"))
+    for word in row["then"].split():
+        if not is_there(row.folder, word):
+            raise ValueError(f"not so: {word}")
+
+
+# Images that exit by codes 0 and 5.
+ENDS = {"one": "code 00000513 X", "two": "one"}
+
+
+def check_root(row):
+    """Which image is at a path, taken from a folder where one is given, or why none is read."""
+    folder, path, told = row["root"], row["path"], row["told"]
+    row.write("list.toml", f"job = [{{name = 'a', image = '{path}', budget = 9}}]\n")
+    (row.folder / "shelf").mkdir()
+    row.write("kept", images.image(ENDS["one"]))
+    row.write("shelf/kept", images.image(ENDS["two"]))
+    words = ["run", "list.toml", "--verbose", *(["--root", folder] if folder else [])]
+    wanted = {"one": "PASS a: exit 0 after 2 steps", "two": "FAIL a: exit 5 after 2 steps"}
+    status, out, said = row.run(words)
+    line = out.decode().partition("\n")[0]
+    is_told = line == wanted.get(told) or (line.startswith("FAIL a: refused image-unreadable: ") and line.endswith(f": {told}"))
+    if status != int(told != "one") or said or not is_told:
+        row.fails(words, (int(told != "one"), told.encode(), b""), (status, out, said))
+
+
+FORMS = {
+    "outputs": Form(check_place, "there path told then"),
+    "roots": Form(check_root, "root path told"),
+}

@@ -1,0 +1,48 @@
+"""The form of rows of the line on a terminal: over a shim (checks/lib/terminal.c), so that the clock, what a put takes and which streams
+are terminals are the row's.
+"""
+import os
+import re
+import subprocess
+
+import images
+from rows import RULES, Form
+from tables import raw
+
+# The lines of a job that fails, and the last line.
+SHORT = {r"FAIL .*\n(?:     .*\n)+": "FAIL/", r"[0-9]+ jobs: .*\n": "LAST/"}
+# A job that passes, one that fails, and one that expects nothing and exits by 5.
+JOBS = {"+": "image = 'zero.elf'", "-": "image = 'five.elf', expect_exit = 6", "5": "image = 'five.elf'"}
+
+
+def shortened(data):
+    """Bytes with the short forms of lines."""
+    for form, short in SHORT.items():
+        data = re.sub(form.encode(), short.encode(), data)
+    return data
+
+
+def check_progress(row):
+    """What comes on both streams of jobs that one worker runs."""
+    rule, jobs, wanted = row["rule"], row["jobs"], raw(row["shown"])
+    row.write("zero.elf", images.image("code 00000513 X"))
+    row.write("five.elf", images.image("one"))
+    tables = (f"{{name = 'j{at}', budget = 9, {JOBS[word]}}}" for at, word in enumerate(jobs.split()))
+    row.write("list.toml", f"job = [{', '.join(tables)}]\n")
+    streams = {"results": "1", "line": "2"}
+    given = {
+        "LD_PRELOAD": os.environ["TERMINAL_SHIM"], "CLOCK_STEP": row["step"], "MOST_PUT": row["put"],
+        "TERMINALS": "".join(streams[word] for word in row["terminals"].split()),
+    }
+    words = ["run", "list.toml", "--workers", "1", *RULES[rule][0]]
+    done = subprocess.run(
+        [row.rvtest, *words], cwd=row.folder, env={**os.environ, **given}, stdin=subprocess.DEVNULL,
+        stdout=subprocess.PIPE, stderr=subprocess.STDOUT, check=False,
+    )
+    failed = "-" in jobs or (rule == "strict" and "5" in jobs)
+    found = done.returncode, shortened(done.stdout), b""
+    if found != (int(failed), wanted, b""):
+        row.fails(words, (int(failed), wanted, b""), found)
+
+
+FORMS = {"progress": Form(check_progress, "step rule terminals put jobs shown")}
