@@ -38,6 +38,7 @@ SCRIPTS = {
     "doors": ([], False),
     "samples": ([], False),
     "version": ([], False),
+    "pages": ([], True),
     "worked": ([], True),
 }
 # How many failures are told at length.
