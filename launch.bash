@@ -122,110 +122,67 @@ not_had() {
     exit 3
 }
 
-# Proves and builds one crate, by so many lanes. `rt run` also runs what it builds: asked for help, a program reads nothing and ends with
-# status 0.
-build_crate() {
-    cd "$root/crates/$1" || return 1
-    case " ${programs[*]} " in
-        *" $1 "*) exec rt run --jobs "$2" -- --help ;;
-        *) exec rt lib --jobs "$2" ;;
-    esac
+# Copies what the programs are made of into a folder, without tests and must-fail edits: `rt ci` proves and builds all that it finds.
+copy_sources() {
+    local crates
+    mapfile -t crates < <(crate_lines | sed 's/:.*//')
+    crate_lines >"$1/crates.txt"
+    cp "$root/HANDLES" "$1"
+    (cd "$root" && find "${crates[@]/#/crates/}" \( -name out -o -name must-fail \) -prune -o -type f -print0 |
+        xargs -0 cp --parents -t "$1")
 }
 
-# Whether a crate waits, and each library that it stands on is built, or is the toolchain's own.
-is_startable() {
-    local library libraries
-    [ "${state[$1]}" = waiting ] || return 1
-    read -ra libraries <<<"${needs[$1]}"
-    for library in "${libraries[@]}"; do
-        [ "${state[$library]:-built}" = built ] || return 1
-    done
-}
-
-# Starts the crates that stand on built ones alone, in the order of crates.txt, while a lane is free. Where there are more lanes than
-# crates, each takes several.
-start_crates() {
-    local crate jobs startable=()
-    for crate in "${names[@]}"; do
-        ! is_startable "$crate" || startable+=("$crate")
-    done
-    while [ ${#startable[@]} -gt 0 ] && [ "$free" -gt 0 ]; do
-        jobs=$((free / ${#startable[@]}))
-        start_crate "${startable[0]}" $((jobs > 0 ? jobs : 1))
-        startable=("${startable[@]:1}")
-    done
-}
-
-start_crate() {
-    # A process group of its own, for end_build to end whole.
+# Proves and builds the crates in a copy, by lanes, and says now and then how far this is. `rt lib` in several folders would not do:
+# each waits for those that build what it stands on, too.
+prove() {
+    local ticks=0 proved seen=0
     set -m
-    build_crate "$1" "$2" >"$log.$1" 2>&1 </dev/null &
-    running[$!]=$1
+    (cd "$1" && RT_JOBS=$(lanes) exec rt ci) >"$log" 2>&1 </dev/null &
+    building=$!
     set +m
-    state[$1]=running
-    taken[$1]=$2
-    free=$((free - $2))
-}
-
-# Waits for one of the crates, and says how far the build is.
-await_crate() {
-    local ended status=0 crate
-    wait -n -p ended "${!running[@]}" || status=$?
-    crate=${running[$ended]}
-    unset "running[$ended]"
-    cat "$log.$crate" >>"$log"
-    rm -f "$log.$crate"
-    if [ "$status" != 0 ]; then
-        end_crates
-        tail -n 20 "$log" >&2
-        not_had "$crate was not built; see $log"
-    fi
-    state[$crate]=built
-    built=$((built + 1))
-    free=$((free + taken[$crate]))
-    echo "$asked: $crate, $built of ${#names[@]} crates, $((SECONDS - began)) s" >&2
-}
-
-# Ends the crates that are being built. What `rt` started ends with it.
-end_crates() {
-    local id
-    for id in "${!running[@]}"; do
-        kill -TERM -- "-$id" 2>/dev/null || true
-        wait "$id" 2>/dev/null || true
-        rm -f "$log.${running[$id]}"
+    while kill -0 "$building" 2>/dev/null; do
+        sleep 0.2
+        ticks=$((ticks + 1))
+        [ $((ticks % 50)) = 0 ] || continue
+        proved=$(grep -cE '^rt: [a-z_]+ (proved|is kept)' "$log" || true)
+        [ "$proved" = "$seen" ] || echo "$asked: $proved of $(crate_lines | wc -l) crates proved, $((SECONDS - began)) s" >&2
+        seen=$proved
     done
+    wait "$building"
 }
 
-# Ends the build, and then this script by the same signal.
+# Ends the build, and then this script by the same signal. What `rt` started ends with it.
 end_build() {
-    end_crates
+    kill -TERM -- "-$building" 2>/dev/null || true
+    wait "$building" 2>/dev/null || true
+    rm -rf "$copy"
     trap - "$1"
     kill -s "$1" $$
 }
 
 build() {
-    local began=$SECONDS built=0 free signal crate libraries names=()
-    local -A needs=() state=() taken=() running=()
+    local began=$SECONDS building='' copy signal name
     command -v rt >/dev/null ||
         not_had "$(why_not_stored "$asked" "$1"), and there is no rt to build one: install the Rattle kit, or set RVFLEET_BIN to a folder with the programs"
-    if ! mkdir -p "$(dirname "$log")" || ! : >"$log"; then
+    if ! mkdir -p "$root"/crates/{rvfleet,rvtest}/out || ! : >"$log"; then
         not_had "$log cannot be written"
     fi
-    while IFS=: read -r crate libraries; do
-        names+=("$crate")
-        needs[$crate]=$libraries
-        state[$crate]=waiting
-    done < <(crate_lines)
-    free=$(lanes)
-    echo "$asked: builds and proves the ${#names[@]} crates of both programs, once for these sources, by $free lanes: some 20 minutes on four cores; $log has what the build says" >&2
+    copy=$(mktemp -d)
+    echo "$asked: builds and proves the $(crate_lines | wc -l) crates of both programs, once for these sources, by $(lanes) lanes; $log has what the build says" >&2
     for signal in INT TERM HUP PIPE; do
         # shellcheck disable=SC2064 # the signal's name now
         trap "end_build $signal" "$signal"
     done
-    while [ "$built" -lt ${#names[@]} ]; do
-        start_crates
-        await_crate
+    copy_sources "$copy" || not_had "the sources below $root cannot be copied to $copy"
+    if ! prove "$copy"; then
+        tail -n 20 "$log" >&2
+        rm -rf "$copy"
+        not_had "the programs were not built; see $log"
+    fi
+    for name in "${programs[@]}"; do
+        cp "$copy/crates/$name/out/$name" "$root/crates/$name/out/$name" || not_had "$root/crates/$name/out cannot be written"
     done
+    rm -rf "$copy"
     stamp_programs "$1" || not_had "the programs' stamps cannot be written below $root/crates"
     trap - INT TERM HUP PIPE
 }
