@@ -124,11 +124,11 @@ not_had() {
 
 # Copies what the programs are made of into a folder, without tests and must-fail edits: `rt ci` proves and builds all that it finds.
 copy_sources() {
-    local crates
-    mapfile -t crates < <(crate_lines | sed 's/:.*//')
+    local folders
+    mapfile -t folders < <(crate_lines | sed 's/:.*//')
     crate_lines >"$1/crates.txt"
     cp "$root/HANDLES" "$1"
-    (cd "$root" && find "${crates[@]/#/crates/}" \( -name out -o -name must-fail \) -prune -o -type f -print0 |
+    (cd "$root" && find "${folders[@]/#/crates/}" \( -name out -o -name must-fail \) -prune -o -type f -print0 |
         xargs -0 cp --parents -t "$1")
 }
 
