@@ -132,12 +132,13 @@ copy_sources() {
         xargs -0 cp --parents -t "$1")
 }
 
-# Proves and builds the crates in a copy, by lanes, and says now and then how far this is. `rt lib` in several folders would not do:
-# each waits for those that build what it stands on, too.
+# Proves and builds the crates in a copy, and says now and then how far this is. `rt lib` in several folders would not do: each waits for
+# those that build what it stands on, too. `rt` gives a crate that others wait for the processors that no other crate can use, so it is
+# not held to one processor a crate, as the gate is.
 prove() {
     local ticks=0 proved seen=0
     set -m
-    (cd "$1" && RT_JOBS=$(lanes) exec rt ci) >"$log" 2>&1 </dev/null &
+    (cd "$1" && unset RT_JOBS && exec rt ci) >"$log" 2>&1 </dev/null &
     building=$!
     set +m
     while kill -0 "$building" 2>/dev/null; do
@@ -168,7 +169,7 @@ build() {
         not_had "$log cannot be written"
     fi
     copy=$(mktemp -d)
-    echo "$asked: builds and proves the $(crate_lines | wc -l) crates of both programs, once for these sources, by $(lanes) lanes; $log has what the build says" >&2
+    echo "$asked: builds and proves the $(crate_lines | wc -l) crates of both programs, once for these sources; $log has what the build says" >&2
     for signal in INT TERM HUP PIPE; do
         # shellcheck disable=SC2064 # the signal's name now
         trap "end_build $signal" "$signal"
