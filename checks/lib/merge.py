@@ -10,13 +10,11 @@ import re
 import subprocess
 import sys
 
+from kinds import fault_kinds
+
 NAME = r"[A-Za-z0-9._-]{1,64}"
 NUMBER = r"(?:0|[1-9][0-9]*)"
 WORD = r"[0-9a-f]{8}"
-FAULTS = [
-    "fetch-access", "fetch-misaligned", "stale-code", "illegal", "breakpoint", "load-misaligned", "load-access",
-    "store-misaligned", "store-access", "console-full", "unknown-call",
-]
 REFUSALS = [
     "image-unreadable", "image-too-long", "reference-unreadable", "reference-too-long", "short-header", "bad-magic",
     "not-32-bit", "not-little-endian", "bad-version", "not-executable", "not-riscv", "program-table", "dynamic",
@@ -25,7 +23,7 @@ REFUSALS = [
 ]
 END = (
     rf"end (?:exit {NUMBER}|budget|refused (?:{'|'.join(REFUSALS)})"
-    rf"|fault (?:{'|'.join(FAULTS)}) pc={WORD} value={WORD})\n"
+    rf"|fault (?:{'|'.join(fault_kinds())}) pc={WORD} value={WORD})\n"
 )
 ROW = re.compile(
     rf"job ({NUMBER}) ({NAME})\n{END}steps {NUMBER}\nconsole (?:-|(?:[0-9a-f]{{2}})+)\n"

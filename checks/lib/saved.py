@@ -7,15 +7,12 @@ are the rows of j1 to j9, and a `<` at the end takes the last line feed away.
 import os
 import re
 
+from kinds import fault_kinds
 from rows import RULES, Form, last_line, lines, status_of
 from tables import raw
 
 FIELDS = {"end": "exit 0", "steps": "5", "console": "-", "signature": "-", "verdict": "none"}
 REFUSED = {"image-unreadable", "bad-magic", "segment-map"}
-KINDS = {
-    "fetch-access", "fetch-misaligned", "stale-code", "illegal", "breakpoint", "load-misaligned", "load-access", "store-misaligned",
-    "store-access", "console-full", "unknown-call",
-}
 
 
 # ---- the texts of reports
@@ -75,7 +72,7 @@ def check_read(row):
 def report_row(number, name, text):
     """The lines of a row in a report, by how it ended, its verdict and its steps."""
     end, verdict, steps = text.split("/")
-    if end in KINDS:
+    if end in fault_kinds():
         end = f"fault {end} pc=80000088 value=000000ab"
     elif end in REFUSED:
         end = f"refused {end}"

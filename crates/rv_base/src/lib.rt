@@ -1,42 +1,18 @@
-//! Sequences: vectors that contracts see as lists. The bytes, words, segments and rows of the crates above are such.
+//! What needs no instruction, no image and no job: values that contracts see as lists, the limits of lists and files, and
+//! where bytes come from and go to.
+//!
+//! [`Sequence`] is a vector and [`Text`] a string, of which contracts see the list. A [`Store`] reads files by their
+//! paths; a [`Sink`] takes bytes. Both count how often they fail, so that a caller's contract can say whose fault an
+//! error is. [`limits`] has the numbers that the format of lists fixes.
 #![tactic(auto)]
 
-ghost use Rattle.std.specs.Prelude.{◌≡◌};
+pub mod limits;
+mod sequence;
+mod sink;
+mod store;
+mod text;
 
-use std::marker::Model;
-
-/// Values in their order. Contracts see their list.
-#[derive(Debug, Drop)]
-pub struct Sequence<T> {
-    items: Vec<T>,
-}
-
-impl<T> Model for Sequence<T> {
-    ghost use Rattle.std.specs.Prelude.{List};
-
-    ghost Value = { List T };
-
-    ghost view = { λ s. s.items.items };
-}
-
-impl<T> Sequence<T> {
-    /// The values of the vector. Takes no memory.
-    pub fn new(items: Vec<T>) -> Sequence<T>
-        ensures { result ≡ items.items }
-    {
-        Sequence { items }
-    }
-
-    pub fn as_slice(&self) -> &[T]
-        ensures { result.now ≡ self.now }
-    {
-        &self.items
-    }
-
-    /// The vector that they were made from. Takes no memory.
-    pub fn into_vec(self) -> Vec<T>
-        ensures { result.items ≡ self }
-    {
-        self.items
-    }
-}
+pub use sequence::Sequence;
+pub use sink::{Sink, SinkFailed, put_all};
+pub use store::{ReadError, Store};
+pub use text::{Bytes, Text};

@@ -1,4 +1,3 @@
-pub mod RvtestAsked
 pub mod RvtestCommand
 pub mod RvtestWords
 pub mod Building

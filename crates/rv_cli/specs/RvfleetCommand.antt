@@ -6,7 +6,7 @@ use Rattle.std.specs.Str.{bytes_eq}
 use Rattle.clap.specs.Words.{App, IsAmong, Kinds, Row, Rule, Text, fault_of, first_of, new_app}
 use Rattle.clap.specs.Words.{new_rule, one_of, subcommand_of, takes, with_rule, with_subcommand}
 use Rattle.clap.specs.declared.error.kind.ErrorKind.TheVariants as kind
-use Rattle.rv_lists.specs.declared.limits.TheConstants.{MOST_BUDGET}
+use Rattle.rv_lists.specs.Limits.{most_budget, most_group, most_workers}
 use Rattle.rv_cli.specs.Values.{number_in}
 use Rattle.clap.specs.declared.builder.value_parser.ValueParser.TheVariants as value_parser
 
@@ -18,7 +18,7 @@ budget_rule = record (new_rule (codes "budget")) {
   long = Some (codes "budget");
   required = true;
   value_names = 1;
-  parser = Some (value_parser.Signed (pos 1) (pos MOST_BUDGET));
+  parser = Some (value_parser.Signed (pos 1) (pos most_budget));
 }
 
 -- <IMAGE>, required
@@ -41,7 +41,7 @@ abbrev pub workers_rule : Rule
 workers_rule = record (new_rule (codes "workers")) {
   long = Some (codes "workers");
   value_names = 1;
-  parser = Some (value_parser.Signed (pos 1) (pos 64));
+  parser = Some (value_parser.Signed (pos 1) (pos most_workers));
   defaults = codes "1" ∷ [];
 }
 
@@ -50,7 +50,7 @@ abbrev pub group_rule : Rule
 group_rule = record (new_rule (codes "group")) {
   long = Some (codes "group");
   value_names = 1;
-  parser = Some (value_parser.Signed (pos 1) (pos 4096));
+  parser = Some (value_parser.Signed (pos 1) (pos most_group));
   defaults = codes "1" ∷ [];
 }
 
@@ -90,7 +90,7 @@ pub data Request : Type 0 where
   run : Text → ℕ → ℕ → Request
 
 abbrev pub budget_in : List Row → Option ℕ
-budget_in rows = number_in (codes "budget") 1 MOST_BUDGET rows
+budget_in rows = number_in (codes "budget") 1 most_budget rows
 
 abbrev pub raw_in : List Row → Option Request
 raw_in rows = option_map raw (budget_in rows)
@@ -102,8 +102,8 @@ one_in rows = option_and_then
 
 abbrev pub run_in : List Row → Option Request
 run_in rows = option_and_then (λ path. option_and_then
-    (λ workers. option_map (run path workers) (number_in (codes "group") 1 4096 rows))
-    (number_in (codes "workers") 1 64 rows)) (first_of (codes "jobs") rows)
+    (λ workers. option_map (run path workers) (number_in (codes "group") 1 most_group rows))
+    (number_in (codes "workers") 1 most_workers rows)) (first_of (codes "jobs") rows)
 
 -- what a subcommand with these values asks for
 abbrev pub request_in : Text → List Row → Option Request

@@ -4,6 +4,7 @@ use Rattle.std.specs.Borrow.{Bor}
 use Rattle.clap.specs.Words.{App, Rule, Text, new_app, new_rule, with_rule, with_subcommand}
 use Rattle.clap.specs.declared.builder.action.ArgAction.TheVariants.{Append, SetTrue}
 use Rattle.clap.specs.declared.builder.value_parser.ValueParser.TheVariants as value_parser
+use Rattle.rv_lists.specs.Limits.{most_workers}
 use Rattle.rv_cli.specs.declared.rvtest.arguments.Argument.{Argument}
 use Rattle.rv_cli.specs.declared.rvtest.arguments.Argument.TheVariants as argument
 use Rattle.rv_cli.specs.declared.rvtest.command.Subcommand.{Subcommand}
@@ -36,8 +37,8 @@ rule_for (argument.Words name value help) = again_rule (word_rule name.now)
 rule_for (argument.Option name value help) = option_rule name.now
 rule_for (argument.Again name value help) = again_rule (option_rule name.now)
 rule_for (argument.Flag name help) = flag_rule name.now
-rule_for (argument.Number name help least most usual) =
-    number_rule name.now least most usual.now
+rule_for (argument.Number name help bounds usual) =
+    number_rule name.now bounds.least bounds.most usual.now
 rule_for argument.Group = group_rule
 
 -- <PART>..
@@ -50,7 +51,7 @@ only_rule = again_rule (option_rule (codes "only"))
 
 -- --workers <N>
 abbrev pub workers_rule : Rule
-workers_rule = number_rule (codes "workers") (pos 1) (pos 64) []
+workers_rule = number_rule (codes "workers") (pos 1) (pos most_workers) []
 
 -- --last <N>
 abbrev pub last_rule : Rule

@@ -1,16 +1,25 @@
 -- What words ask rvtest for, and of which kinds their faults are.
-use Rattle.std.specs.Prelude.{◌&&◌, ◌||◌, ℕ, Bool, false, not, List, [], ◌∷◌, Option, Some, None}
-use Rattle.std.specs.Prelude.{codes, is_some, option_map, option_and_then, unwrap_or}
+use Rattle.std.specs.Prelude.{◌≡◌, ◌≤◌, ◌&&◌, ◌||◌, ℕ, Bool, not, List, [], ◌∷◌, Option}
+use Rattle.std.specs.Prelude.{Some, None, IfOk, IfSome, Result, map, false}
+use Rattle.std.specs.Prelude.{codes, option_map, option_and_then}
 use Rattle.std.specs.Prelude.{if◌then◌else◌}
 use Rattle.std.specs.Option.{option_map_or}
 use Rattle.std.specs.Str.{bytes_eq}
 use Rattle.clap.specs.Kinds.{or_else}
-use Rattle.clap.specs.Words.{Kinds, Row, Text, all_of, fault_of, first_of, subcommand_of}
+use Rattle.clap.specs.Words.{FailsBy, Kinds, Row, Text, fault_of, first_of, subcommand_of}
 use Rattle.clap.specs.declared.error.kind.ErrorKind.TheVariants as kind
+use Rattle.rv_lists.specs.Limits.{most_group, most_workers}
 use Rattle.rv_cli.specs.RvtestCommand.{most_last, test_app}
 use Rattle.rv_cli.specs.declared.rvtest.refusals.Misuse.{Misuse}
 use Rattle.rv_cli.specs.declared.rvtest.refusals.Misuse.TheVariants as misuse
-use Rattle.rv_cli.specs.Values.{number_in}
+use Rattle.rv_cli.specs.Values.{all_in, flag_in, is_given, number_in}
+use Rattle.clap.specs.declared.error.Error.{Error}
+use Rattle.rv_cli.specs.declared.rvtest.asked.Asked.{Asked}
+use Rattle.rv_cli.specs.declared.rvtest.asked.Asked.TheVariants as asked
+use Rattle.rv_cli.specs.declared.rvtest.run.RunAsked.{RunAsked}
+use Rattle.rv_cli.specs.declared.rvtest.explain.ExplainAsked.{ExplainAsked}
+use Rattle.rv_cli.specs.declared.rvtest.merge.MergeAsked.{MergeAsked}
+use Rattle.std.specs.Borrow.{Bor}
 
 -- ---- what words ask for
 
@@ -57,17 +66,6 @@ pub data Words : Type 0 where
   diff : Text → Text → Bool → Words
   show : Text → Option Text → Bool → Words
 
-abbrev pub is_true : Text → Bool
-is_true text = bytes_eq text (codes "true")
-
--- an option without a value is there
-abbrev pub flag_in : Text → List Row → Bool
-flag_in id rows = option_map_or is_true (first_of id rows) false
-
--- all values of an option
-abbrev pub all_in : Text → List Row → List Text
-all_in id rows = unwrap_or (all_of id rows) []
-
 -- what the values of `run` ask for, of a list, in pieces of so many jobs
 unfoldable pub run_words : Text → ℕ → List Row → RunWords
 run_words list group rows = record {
@@ -77,7 +75,7 @@ run_words list group rows = record {
   failed = first_of (codes "failed") rows;
   shard = first_of (codes "shard") rows;
   stamp = first_of (codes "stamp") rows;
-  workers = number_in (codes "workers") 1 64 rows;
+  workers = number_in (codes "workers") 1 most_workers rows;
   group = group;
   root = first_of (codes "root") rows;
   report = first_of (codes "report") rows;
@@ -90,7 +88,7 @@ run_words list group rows = record {
 
 abbrev pub run_in : List Row → Option Words
 run_in rows = option_and_then (λ list. option_map (λ group. run (run_words list group rows))
-    (number_in (codes "group") 1 4096 rows)) (first_of (codes "list") rows)
+    (number_in (codes "group") 1 most_group rows)) (first_of (codes "list") rows)
 
 abbrev pub explain_words : Text → Text → List Row → ℕ → Words
 explain_words list name rows last = explain (record {
@@ -145,10 +143,6 @@ asked_of words = words_found (subcommand_of test_app words)
 
 -- ---- what is wrong with words
 
--- an option with a value is there
-abbrev pub is_given : Text → List Row → Bool
-is_given id rows = is_some (first_of id rows)
-
 -- the report goes to a path
 abbrev pub is_report : Text → List Row → Bool
 is_report path rows = option_map_or (bytes_eq path) (first_of (codes "report") rows) false
@@ -192,3 +186,67 @@ faults_found found = option_map_or (λ met. faults_in met.0 met.1) found []
 -- the faults of words: those that `clap` finds, else options that do not go together
 abbrev pub faults_of : List Text → Kinds
 faults_of words = or_else (fault_of test_app words) (faults_found (subcommand_of test_app words))
+
+-- ---- the program's own value of what is asked for
+
+-- the text behind a reference, where there is one
+abbrev pub text_of : Option (Bor Text) → Option Text
+text_of text = option_map (λ t. t.now) text
+
+abbrev pub run_asked : RunAsked → RunWords
+run_asked value = record {
+  list = value.list.now;
+  only = map (λ name. name.now) value.only.items;
+  pattern = text_of value.pattern;
+  failed = text_of value.failed;
+  shard = text_of value.shard;
+  stamp = text_of value.stamp;
+  workers = value.workers;
+  group = value.group;
+  root = text_of value.root;
+  report = text_of value.report;
+  junit = text_of value.junit;
+  lenient = value.lenient;
+  verbose = value.verbose;
+  quiet = value.quiet;
+  last = value.last;
+}
+
+abbrev pub explain_asked : ExplainAsked → ExplainWords
+explain_asked value = record {
+  list = value.list.now;
+  name = value.name.now;
+  last = value.last;
+  root = text_of value.root;
+}
+
+abbrev pub merge_asked : MergeAsked → MergeWords
+merge_asked value = record {
+  parts = map (λ path. path.now) value.parts.items;
+  report = text_of value.report;
+  junit = text_of value.junit;
+  lenient = value.lenient;
+}
+
+abbrev pub words_asked : Asked → Words
+words_asked (asked.Run value) = run (run_asked value)
+words_asked (asked.Explain value) = explain (explain_asked value)
+words_asked (asked.Check value) = check value.list.now (text_of value.root)
+words_asked (asked.Merge value) = merge (merge_asked value)
+words_asked (asked.Diff value) = diff value.old.now value.new.now value.steps
+words_asked (asked.Show value) = show value.report.now (text_of value.junit) value.lenient
+
+-- each number is within the range of its argument
+abbrev pub AreWithin : Asked → Type 0
+AreWithin (asked.Run value) = IfSome value.workers (λ number. (1 ≤ number) × (number ≤ most_workers))
+    × (1 ≤ value.group) × (value.group ≤ most_group) × IfSome value.last (λ number. number ≤ most_last)
+AreWithin (asked.Explain value) = value.last ≤ most_last
+AreWithin _ = Unit {0}
+
+-- what is asked for is what these words are, with numbers in their ranges
+abbrev pub AsksFor : Option Words → Option Asked → Type 0
+AsksFor words asked = (option_map words_asked asked ≡ words) × IfSome asked AreWithin
+
+-- and else an error is of one of these kinds, or of want of memory
+abbrev pub Reads : Option Words → Kinds → Result (Option Asked) Error → Type 0
+Reads words kinds result = IfOk result (AsksFor words) × FailsBy kinds result

@@ -1,9 +1,11 @@
--- Numbers among the values that `clap` found for arguments.
-use Rattle.std.specs.Prelude.{◌&&◌, ◌^◌, ℕ, List, Option, Some, None, option_and_then}
-use Rattle.std.specs.Prelude.{if◌then◌else◌, nat_le, nat_lt}
+-- Values that `clap` found for arguments.
+use Rattle.std.specs.Prelude.{◌&&◌, ◌^◌, ℕ, Bool, false, List, [], Option, Some, None, codes}
+use Rattle.std.specs.Prelude.{if◌then◌else◌, is_some, nat_le, nat_lt, option_and_then, unwrap_or}
+use Rattle.std.specs.Option.{option_map_or}
+use Rattle.std.specs.Str.{bytes_eq}
 use Rattle.std.specs.Str.Parse.{digits_value, without_leading_plus}
 use Rattle.clap.specs.ValueTests.{is_numeral}
-use Rattle.clap.specs.Words.{Row, Text, one_of}
+use Rattle.clap.specs.Words.{Row, Text, all_of, first_of, one_of}
 
 -- a decimal number of 32 bits; a plus may stand before it
 abbrev pub number_of : Text → Option ℕ
@@ -21,3 +23,18 @@ read_number_in id rows = option_and_then number_of (one_of id rows)
 -- the number that stands for an argument, from low to high
 abbrev pub number_in : Text → ℕ → ℕ → List Row → Option ℕ
 number_in id low high rows = option_and_then (number_within low high) (read_number_in id rows)
+
+abbrev pub is_true : Text → Bool
+is_true text = bytes_eq text (codes "true")
+
+-- an option without a value is there
+abbrev pub flag_in : Text → List Row → Bool
+flag_in id rows = option_map_or is_true (first_of id rows) false
+
+-- all values of an option
+abbrev pub all_in : Text → List Row → List Text
+all_in id rows = unwrap_or (all_of id rows) []
+
+-- an option with a value is there
+abbrev pub is_given : Text → List Row → Bool
+is_given id rows = is_some (first_of id rows)

@@ -16,7 +16,7 @@ use crate::building::{Built, with_argument, with_command};
 use crate::values::{number, text};
 use clap::error::ErrorKind;
 use clap::{Arg, ArgMatches, Command, Error, value_parser};
-use rv_lists::limits::MOST_BUDGET;
+use rv_lists::limits::{MOST_BUDGET, MOST_GROUP, MOST_WORKERS};
 use std::alloc::{AllocError, Global};
 use std::convert::AsStr;
 
@@ -174,8 +174,8 @@ fn run_asked<'a>(values: &ArgMatches<'a>) -> Option<Request<'a>>
     ensures within { IfSome result AreWithin }
 {
     let jobs = text(values, "jobs")?;
-    let workers = number(values, "workers", 1, 64)?;
-    let group = number(values, "group", 1, 4_096)?;
+    let workers = number(values, "workers", 1, MOST_WORKERS)?;
+    let group = number(values, "group", 1, MOST_GROUP)?;
     Some(Request::Run {
         jobs,
         workers,

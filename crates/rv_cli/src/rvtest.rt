@@ -5,12 +5,22 @@
 
 mod arguments;
 mod asked;
+mod check;
 mod command;
-mod read;
+mod diff;
+mod explain;
+mod merge;
 mod refusals;
+mod run;
+mod show;
 mod table;
 
-pub use asked::{Asked, CheckAsked, DiffAsked, ExplainAsked, MergeAsked, RunAsked, ShowAsked};
+pub use asked::{Asked, read_words};
+pub use check::CheckAsked;
 pub use command::{merge_command, run_command};
-pub use read::read_words;
+pub use diff::DiffAsked;
+pub use explain::ExplainAsked;
+pub use merge::MergeAsked;
 pub use refusals::refusal;
+pub use run::RunAsked;
+pub use show::ShowAsked;

@@ -1,7 +1,7 @@
 -- What a row is to a difference of two reports, by what became of its job.
 use Rattle.std.proofs.Common.{◌≡◌, ◌+◌, ◌≤◌, refl, ℕ, Bool, true, false, cond, [], Option, Some, None, arith}
 use Rattle.std.specs.Prelude.{if◌then◌else◌, is_none, not}
-use Rattle.rv_rows.specs.declared.row.Row.{Row}
+use Rattle.rv_rows.specs.declared_row.Row.{Row}
 use Rattle.rv_diff.specs.declared.change.Change.TheVariants.{Gone, Added, Changed, Same}
 use Rattle.rv_diff.specs.declared.change.Compare.{Compare}
 use Rattle.rv_diff.specs.Change.{change_of, rows_agree}

@@ -4,7 +4,7 @@ use Rattle.std.proofs.Common.{Bool, true, false, cond, Option, Some, None, arith
 use Rattle.std.specs.Prelude.{◌&&◌, is_none, not}
 use Rattle.std.specs.List.{flat_map, sum_by}
 use Rattle.std.proofs.lemmas.List.Sums.{sum_by-cons}
-use Rattle.rv_rows.specs.declared.row.Row.{Row}
+use Rattle.rv_rows.specs.declared_row.Row.{Row}
 use Rattle.rv_rows.specs.Report.{line}
 use Rattle.rv_rows.specs.Verdict.{same_signature}
 use Rattle.rv_diff.specs.declared.change.Compare.{Compare}

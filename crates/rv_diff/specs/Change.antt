@@ -1,10 +1,10 @@
 -- Whether two rows of one name agree, and what became of a job from one report to another.
 use Rattle.std.specs.Prelude.{◌==◌, ◌&&◌, Bool, true, Option, Some, None, if◌then◌else◌}
 use Rattle.std.specs.Str.{bytes_eq}
-use Rattle.rv_rows.specs.declared.row.Row.{Row}
-use Rattle.rv_rows.specs.declared.row.RowEnd.{RowEnd}
-use Rattle.rv_rows.specs.declared.row.RowEnd.TheVariants as ending
-use Rattle.rv_rows.specs.declared.row.Verdict.{Verdict}
+use Rattle.rv_rows.specs.declared_row.Row.{Row}
+use Rattle.rv_rows.specs.declared_row.RowEnd.{RowEnd}
+use Rattle.rv_rows.specs.declared_row.RowEnd.TheVariants as ending
+use Rattle.rv_rows.specs.declared_row.Verdict.{Verdict}
 use Rattle.rv_rows.specs.Report.{refusal_name, verdict_name}
 use Rattle.rv_rows.specs.Verdict.{are_alike, same_signature}
 use Rattle.rv_diff.specs.declared.change.Change.{Change}

@@ -3,7 +3,7 @@ use Rattle.std.specs.Prelude.{◌+◌, ℕ, Bool, false, not, is_none, List, [],
 use Rattle.std.specs.Prelude.{codes, count_by, length}
 use Rattle.std.specs.Fmt.{decimal}
 use Rattle.std.specs.List.{flat_map}
-use Rattle.rv_rows.specs.declared.row.Row.{Row}
+use Rattle.rv_rows.specs.declared_row.Row.{Row}
 use Rattle.rv_rows.specs.Report.{line}
 use Rattle.rv_diff.specs.declared.diff.Differing.{Differing}
 use Rattle.rv_diff.specs.declared.change.Compare.{Compare}

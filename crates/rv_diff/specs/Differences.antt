@@ -3,12 +3,12 @@ use Rattle.std.specs.Prelude.{◌==◌, ℕ, Bool, not, List, [], ◌++◌, Opti
 use Rattle.std.specs.Prelude.{if◌then◌else◌, codes, drop, length, position, slice_index}
 use Rattle.std.specs.Fmt.{decimal}
 use Rattle.std.specs.List.{zip}
-use Rattle.rv_machine.specs.Faults.{fault_name}
+use Rattle.rv_rows.specs.Faults.{fault_name}
 use Rattle.rv_text.specs.Shown.{shown_value}
-use Rattle.rv_rows.specs.declared.row.Row.{Row}
-use Rattle.rv_rows.specs.declared.row.RowEnd.{RowEnd}
-use Rattle.rv_rows.specs.declared.row.RowEnd.TheVariants as ending
-use Rattle.rv_rows.specs.declared.row.Verdict.{Verdict}
+use Rattle.rv_rows.specs.declared_row.Row.{Row}
+use Rattle.rv_rows.specs.declared_row.RowEnd.{RowEnd}
+use Rattle.rv_rows.specs.declared_row.RowEnd.TheVariants as ending
+use Rattle.rv_rows.specs.declared_row.Verdict.{Verdict}
 use Rattle.rv_rows.specs.Report.{line, refusal_name, verdict_name}
 use Rattle.rv_text.specs.Words.{word_digits}
 use Rattle.rv_rows.specs.Verdict.{same_signature}

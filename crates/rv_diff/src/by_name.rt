@@ -18,7 +18,7 @@ pub(crate) struct ByName<'a> {
 
 impl<'a> Model for ByName<'a> {
     ghost use Rattle.std.specs.Prelude.{List};
-    ghost use Rattle.rv_rows.specs.declared.row.Row.{Row};
+    ghost use Rattle.rv_rows.specs.declared_row.Row.{Row};
 
     ghost Value = { List Row };
 

@@ -1,7 +1,7 @@
 //! Laws of differences, with nothing to run.
 
 ghost use Rattle.std.specs.Prelude.{◌≡◌, ◌==◌, List, length};
-ghost use Rattle.rv_rows.specs.declared.row.Row.{Row};
+ghost use Rattle.rv_rows.specs.declared_row.Row.{Row};
 ghost use Rattle.rv_diff.specs.declared.change.Compare.{Compare};
 ghost use Rattle.rv_diff.specs.Change.{rows_agree};
 ghost use Rattle.rv_diff.specs.Diff.{difference_lines, differing, differing_count};

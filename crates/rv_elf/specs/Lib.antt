@@ -7,3 +7,4 @@ pub mod Loading
 pub mod Sections
 pub mod Symbols
 pub mod Nearest
+pub use Rattle.rv_memory.specs.Regions

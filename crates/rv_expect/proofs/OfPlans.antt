@@ -2,12 +2,12 @@
 use Rattle.std.proofs.Common.{◌≡◌, ◌==◌, true, length, refl, sym, ap, subst, Option, Some, None}
 use Rattle.std.specs.Prelude.{option_and_then, option_map, slice_get}
 use Rattle.std.specs.List.{AllByRecursion}
-use Rattle.rv_lists.specs.declared.job.Job.{Job}
+use Rattle.rv_jobs.specs.declared_job.Job.{Job}
 use Rattle.rv_jobs.specs.Plans.{Planned}
 use Rattle.rv_rows.specs.declared.outcome.Outcome.{Outcome}
 use Rattle.rv_rows.specs.Rows.{console_in, other_in, outcome_in, reference_in, row_of}
 use Rattle.rv_rows.specs.Verdict.{is_run, verdict_of}
-use Rattle.rv_expect.specs.Planned.{named_row, unmet_in}
+use Rattle.rv_expect.specs.Planned.{named_row, sides_in, unmet_in}
 use Rattle.rv_expect.specs.Reference.{IsWord, words_or_none}
 use Rattle.rv_expect.specs.Telling.{HasItsVerdict, TellsWhatDoesNotHold, named_outcome, outcome_in_row, passes}
 use Rattle.rv_expect.proofs.Tellings.{passes_where_empty, tells}
@@ -25,8 +25,7 @@ module _ (plan : Planned) (job : Job) where
   named : Option Job
   named = option_and_then (slice_get plan.jobs) job.same_as
 
-  has_its_verdict : HasItsVerdict job (row_of plan job) (console_in plan.answers job)
-      (reference_in plan.answers job) (named_row plan job)
+  has_its_verdict : HasItsVerdict (sides_in plan job (row_of plan job))
   unfolding row_of named
   has_its_verdict =
       let console = console_in plan.answers job in
@@ -43,7 +42,7 @@ module _ (plan : Planned) (job : Job) where
       let told = unmet_in plan job (row_of plan job) in
       let console = console_in plan.answers job in
       let reference = reference_in plan.answers job in
-      let of_row = tells job (row_of plan job) console reference (named_row plan job) runs fit in
+      let of_row = tells (sides_in plan job (row_of plan job)) runs fit in
       let of_outcome = subst (λ (o : Outcome). TellsWhatDoesNotHold told job o console reference
       (named_outcome (named_row plan job))) (outcome_of_row plan job) of_row in
       subst (λ (o : Option Outcome). TellsWhatDoesNotHold told job (outcome_in plan.answers job) console reference o)
@@ -54,5 +53,4 @@ module _ (plan : Planned) (job : Job) where
       → (length (unmet_in plan job (row_of plan job)) == 0)
       ≡ passes (row_of plan job).verdict (row_of plan job).ending
   passes_in_a_plan runs fit =
-      passes_where_empty job (row_of plan job) (console_in plan.answers job) (reference_in plan.answers job)
-      (named_row plan job) runs fit has_its_verdict
+      passes_where_empty (sides_in plan job (row_of plan job)) runs fit has_its_verdict

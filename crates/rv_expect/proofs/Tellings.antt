@@ -4,19 +4,19 @@ use Rattle.std.proofs.Common.{refl, sym, ap, arith, Option, Some, None}
 use Rattle.std.specs.Option.{option_or}
 use Rattle.std.specs.Prelude.{is_some, option_map, option_to_list, ◌||◌}
 use Rattle.std.specs.List.{AllByRecursion, flat_map, list_any}
-use Rattle.rv_lists.specs.declared.job.ExpectedEnd.{ExpectedEnd}
+use Rattle.rv_jobs.specs.declared_job.ExpectedEnd.{ExpectedEnd}
 use Rattle.std.specs.Str.{bytes_eq}
 use Rattle.std.proofs.lemmas.Bool.{ne_eqb}
 use Rattle.std.proofs.lemmas.List.Folds.{list_any-append}
 use Rattle.std.proofs.lemmas.Slice.Eq.{bytes_eq-Decides}
-use Rattle.rv_lists.specs.declared.job.ExpectedConsole.{ExpectedConsole}
-use Rattle.rv_lists.specs.declared.job.ExpectedConsole.TheVariants.{Text, File}
-use Rattle.rv_lists.specs.declared.job.Job.{Job}
+use Rattle.rv_jobs.specs.declared_job.ExpectedConsole.{ExpectedConsole}
+use Rattle.rv_jobs.specs.declared_job.ExpectedConsole.TheVariants.{Text, File}
+use Rattle.rv_jobs.specs.declared_job.Job.{Job}
 use Rattle.rv_rows.specs.declared.outcome.Outcome.{Outcome}
-use Rattle.rv_rows.specs.declared.row.Row.{Row}
-use Rattle.rv_rows.specs.declared.row.RowEnd.{RowEnd}
-use Rattle.rv_rows.specs.declared.row.Verdict.{Verdict}
-use Rattle.rv_rows.specs.declared.row.Verdict.TheVariants as verdict
+use Rattle.rv_rows.specs.declared_row.Row.{Row}
+use Rattle.rv_rows.specs.declared_row.RowEnd.{RowEnd}
+use Rattle.rv_rows.specs.declared_row.Verdict.{Verdict}
+use Rattle.rv_rows.specs.declared_row.Verdict.TheVariants as verdict
 use Rattle.rv_rows.specs.Report.{word_line}
 use Rattle.rv_rows.specs.Verdict.{are_alike, are_same, exits_with, holds_all, holds_console, holds_end, holds_exit}
 use Rattle.rv_rows.specs.Verdict.{holds_reference, holds_same, is_asked, is_run, lines_of, same_signature}
@@ -26,6 +26,7 @@ use Rattle.rv_expect.specs.declared.reference.Reference.{Reference}
 use Rattle.rv_expect.specs.declared.reference.Reference.TheVariants.{Words, BadLine}
 use Rattle.rv_expect.specs.declared.unmet.Unmet.{Unmet}
 use Rattle.rv_expect.specs.declared.unmet.Unmet.TheVariants.{Exit, End, Console, Signature, Same, Nothing}
+use Rattle.rv_expect.specs.Comparisons.{Sides}
 use Rattle.rv_expect.specs.Difference.{console_difference, difference_of_runs, difference_of_texts, first_difference}
 use Rattle.rv_expect.specs.Difference.{same_difference, signatures_difference}
 use Rattle.rv_expect.specs.Reference.{IsWord, difference_from_reference, reference_of}
@@ -203,55 +204,55 @@ alone-4 : (t : Bool) → ((((t || false) || false) || false) || false) ≡ t
 alone-4 t = or_false (((t || false) || false) || false) ∙ alone-3 t
 
 -- what each part of the list tells
-parts_of : (p : Unmet → Bool) (job : Job) (row : Row) (console reference : Option (List ℕ)) (other : Option Row)
+parts_of : (p : Unmet → Bool) (sides : Sides)
     (a b c d e : Bool)
-    → list_any p (option_to_list (cond (holds_exit job.expect_exit row.ending) None (Some Exit))) ≡ a
-    → list_any p (option_to_list (cond (holds_end job.expect_end row.ending) None (Some End))) ≡ b
-    → list_any p (option_to_list (option_map Console (console_difference job.expect_console console row.console))) ≡ c
+    → list_any p (option_to_list (cond (holds_exit sides.job.expect_exit sides.row.ending) None (Some Exit))) ≡ a
+    → list_any p (option_to_list (cond (holds_end sides.job.expect_end sides.row.ending) None (Some End))) ≡ b
+    → list_any p (option_to_list (option_map Console (console_difference sides.job.expect_console sides.console sides.row.console))) ≡ c
     → list_any p (option_to_list (option_map Signature
-    (signature_difference job.expect_signature reference row.signature))) ≡ d
-    → list_any p (option_to_list (option_map Same (same_difference job.same_as other row))) ≡ e
-    → list_any p (unmet_of_asked job row console reference other) ≡ ((((a || b) || c) || d) || e)
-parts_of p job row console reference other a b c d e ha hb hc hd he =
+    (signature_difference sides.job.expect_signature sides.reference sides.row.signature))) ≡ d
+    → list_any p (option_to_list (option_map Same (same_difference sides.job.same_as sides.other sides.row))) ≡ e
+    → list_any p (unmet_of_asked sides) ≡ ((((a || b) || c) || d) || e)
+parts_of p sides a b c d e ha hb hc hd he =
     any_of_five p _ _ _ _ _ a b c d e ha hb hc hd he
 
-asked : (job : Job) (row : Row) (console reference : Option (List ℕ)) (other : Option Row)
-    → is_run row.ending ≡ true → is_asked job ≡ true → AllByRecursion IsWord (words_or_none row.signature)
-    → TellsWhatDoesNotHold (unmet_of_asked job row console reference other) job (outcome_in_row row) console reference
-    (named_outcome other)
-asked job row console reference other runs asks fit =
-    let outcome = outcome_in_row row in
-    let exit = holds_exit job.expect_exit row.ending in
-    let end = holds_end job.expect_end row.ending in
-    let c = console_difference job.expect_console console row.console in
-    let g = signature_difference job.expect_signature reference row.signature in
-    let s = same_difference job.same_as other row in
+asked : (sides : Sides)
+    → is_run sides.row.ending ≡ true → is_asked sides.job ≡ true → AllByRecursion IsWord (words_or_none sides.row.signature)
+    → TellsWhatDoesNotHold (unmet_of_asked sides) sides.job (outcome_in_row sides.row) sides.console sides.reference
+    (named_outcome sides.other)
+asked sides runs asks fit =
+    let outcome = outcome_in_row sides.row in
+    let exit = holds_exit sides.job.expect_exit sides.row.ending in
+    let end = holds_end sides.job.expect_end sides.row.ending in
+    let c = console_difference sides.job.expect_console sides.console sides.row.console in
+    let g = signature_difference sides.job.expect_signature sides.reference sides.row.signature in
+    let s = same_difference sides.job.same_as sides.other sides.row in
     record {
-      exit = parts_of is_exit job row console reference other (not exit) false false false false
+      exit = parts_of is_exit sides (not exit) false false false false
           (any_if is_exit Exit exit refl) (none_if is_exit End end refl) (none_map is_exit Console c (λ x. refl))
           (none_map is_exit Signature g (λ x. refl)) (none_map is_exit Same s (λ x. refl)) ∙ alone-4 (not exit);
-      end = parts_of is_end job row console reference other false (not end) false false false
+      end = parts_of is_end sides false (not end) false false false
           (none_if is_end Exit exit refl) (any_if is_end End end refl) (none_map is_end Console c (λ x. refl))
           (none_map is_end Signature g (λ x. refl)) (none_map is_end Same s (λ x. refl)) ∙ alone-3 (not end);
-      console = parts_of is_console job row console reference other false false (is_some c) false false
+      console = parts_of is_console sides false false (is_some c) false false
           (none_if is_console Exit exit refl) (none_if is_console End end refl)
           (any_map is_console Console c (λ x. refl)) (none_map is_console Signature g (λ x. refl))
           (none_map is_console Same s (λ x. refl)) ∙ alone-2 (is_some c)
-          ∙ console_told job.expect_console console outcome runs;
-      signature = parts_of is_signature job row console reference other false false false (is_some g) false
+          ∙ console_told sides.job.expect_console sides.console outcome runs;
+      signature = parts_of is_signature sides false false false (is_some g) false
           (none_if is_signature Exit exit refl) (none_if is_signature End end refl)
           (none_map is_signature Console c (λ x. refl)) (any_map is_signature Signature g (λ x. refl))
           (none_map is_signature Same s (λ x. refl)) ∙ alone-1 (is_some g)
-          ∙ signature_told job.expect_signature reference outcome runs fit;
-      same = parts_of is_same job row console reference other false false false false (is_some s)
+          ∙ signature_told sides.job.expect_signature sides.reference outcome runs fit;
+      same = parts_of is_same sides false false false false (is_some s)
           (none_if is_same Exit exit refl) (none_if is_same End end refl)
           (none_map is_same Console c (λ x. refl)) (none_map is_same Signature g (λ x. refl))
-          (any_map is_same Same s (λ x. refl)) ∙ same_told job.same_as other row;
-      nothing = parts_of is_nothing job row console reference other false false false false false
+          (any_map is_same Same s (λ x. refl)) ∙ same_told sides.job.same_as sides.other sides.row;
+      nothing = parts_of is_nothing sides false false false false false
           (none_if is_nothing Exit exit refl) (none_if is_nothing End end refl)
           (none_map is_nothing Console c (λ x. refl)) (none_map is_nothing Signature g (λ x. refl))
           (none_map is_nothing Same s (λ x. refl))
-          ∙ sym (ap (λ (t : Bool). not t && not (exits_with 0 row.ending)) asks);
+          ∙ sym (ap (λ (t : Bool). not t && not (exits_with 0 sides.row.ending)) asks);
     }
 
 -- ---- a job that expects nothing
@@ -283,47 +284,47 @@ no_same : (named : Option ℕ) (other : Option Outcome) (outcome : Outcome) → 
 no_same None other outcome none = refl
 no_same (Some place) other outcome none = cc
 
-unasked : (job : Job) (row : Row) (console reference : Option (List ℕ)) (other : Option Row)
-    → is_asked job ≡ false
-    → TellsWhatDoesNotHold (option_to_list (cond (holds_exit (Some 0) row.ending) None (Some Nothing))) job
-    (outcome_in_row row) console reference (named_outcome other)
-unasked job row console reference other none =
-    let outcome = outcome_in_row row in
-    let zero = holds_exit (Some 0) row.ending in
+unasked : (sides : Sides)
+    → is_asked sides.job ≡ false
+    → TellsWhatDoesNotHold (option_to_list (cond (holds_exit (Some 0) sides.row.ending) None (Some Nothing))) sides.job
+    (outcome_in_row sides.row) sides.console sides.reference (named_outcome sides.other)
+unasked sides none =
+    let outcome = outcome_in_row sides.row in
+    let zero = holds_exit (Some 0) sides.row.ending in
     let p = neither _ _ none in
     let q = neither _ _ p.1 in
     let r = neither _ _ q.1 in
     let s = neither _ _ r.1 in
     record {
-      exit = none_if is_exit Nothing zero refl ∙ sym (ap not (no_exit job.expect_exit row.ending p.0));
-      end = none_if is_end Nothing zero refl ∙ sym (ap not (no_end job.expect_end row.ending q.0));
+      exit = none_if is_exit Nothing zero refl ∙ sym (ap not (no_exit sides.job.expect_exit sides.row.ending p.0));
+      end = none_if is_end Nothing zero refl ∙ sym (ap not (no_end sides.job.expect_end sides.row.ending q.0));
       console = none_if is_console Nothing zero refl
-          ∙ sym (ap not (no_console job.expect_console console outcome r.0));
+          ∙ sym (ap not (no_console sides.job.expect_console sides.console outcome r.0));
       signature = none_if is_signature Nothing zero refl
-          ∙ sym (ap not (no_reference job.expect_signature reference outcome s.0));
+          ∙ sym (ap not (no_reference sides.job.expect_signature sides.reference outcome s.0));
       same = none_if is_same Nothing zero refl
-          ∙ sym (ap not (no_same job.same_as (named_outcome other) outcome s.1));
+          ∙ sym (ap not (no_same sides.job.same_as (named_outcome sides.other) outcome s.1));
       nothing = any_if is_nothing Nothing zero refl
-          ∙ sym (ap (λ (t : Bool). not t && not (exits_with 0 row.ending)) none);
+          ∙ sym (ap (λ (t : Bool). not t && not (exits_with 0 sides.row.ending)) none);
     }
 
 -- ---- the laws
 
-by_asked : (job : Job) (row : Row) (console reference : Option (List ℕ)) (other : Option Row) (asks : Bool)
-    → is_asked job ≡ asks → is_run row.ending ≡ true → AllByRecursion IsWord (words_or_none row.signature)
-    → TellsWhatDoesNotHold (cond asks (unmet_of_asked job row console reference other)
-    (option_to_list (cond (holds_exit (Some 0) row.ending) None (Some Nothing)))) job (outcome_in_row row) console
-    reference (named_outcome other)
-by_asked job row console reference other true asks runs fit = asked job row console reference other runs asks fit
-by_asked job row console reference other false none runs fit = unasked job row console reference other none
+by_asked : (sides : Sides) (asks : Bool)
+    → is_asked sides.job ≡ asks → is_run sides.row.ending ≡ true → AllByRecursion IsWord (words_or_none sides.row.signature)
+    → TellsWhatDoesNotHold (cond asks (unmet_of_asked sides)
+    (option_to_list (cond (holds_exit (Some 0) sides.row.ending) None (Some Nothing)))) sides.job (outcome_in_row sides.row) sides.console
+    sides.reference (named_outcome sides.other)
+by_asked sides true asks runs fit = asked sides runs asks fit
+by_asked sides false none runs fit = unasked sides none
 
-pub tells : (job : Job) (row : Row) (console reference : Option (List ℕ)) (other : Option Row)
-    → is_run row.ending ≡ true → AllByRecursion IsWord (words_or_none row.signature)
-    → TellsWhatDoesNotHold (unmet_of job row console reference other) job (outcome_in_row row) console reference
-    (named_outcome other)
+pub tells : (sides : Sides)
+    → is_run sides.row.ending ≡ true → AllByRecursion IsWord (words_or_none sides.row.signature)
+    → TellsWhatDoesNotHold (unmet_of sides) sides.job (outcome_in_row sides.row) sides.console sides.reference
+    (named_outcome sides.other)
 unfolding unmet_of
-tells job row console reference other runs fit =
-    rw runs (by_asked job row console reference other (is_asked job) refl runs fit)
+tells sides runs fit =
+    rw runs (by_asked sides (is_asked sides.job) refl runs fit)
 
 -- ---- nothing is told where a job passes
 
@@ -365,47 +366,47 @@ to_the_right true b c d e = three b c d e
     three false c d e = refl
 to_the_right false b c d e = refl
 
-asked_passes : (job : Job) (row : Row) (console reference : Option (List ℕ)) (other : Option Row)
-    → is_run row.ending ≡ true → AllByRecursion IsWord (words_or_none row.signature)
-    → (length (unmet_of_asked job row console reference other) == 0)
-    ≡ holds_all job (outcome_in_row row) reference console (named_outcome other)
-asked_passes job row console reference other runs fit =
-    let outcome = outcome_in_row row in
-    let exit = holds_exit job.expect_exit row.ending in
-    let end = holds_end job.expect_end row.ending in
-    let c = holds_console job.expect_console console outcome in
-    let g = holds_reference job.expect_signature reference outcome in
-    let s = holds_same job.same_as (named_outcome other) outcome in
+asked_passes : (sides : Sides)
+    → is_run sides.row.ending ≡ true → AllByRecursion IsWord (words_or_none sides.row.signature)
+    → (length (unmet_of_asked sides) == 0)
+    ≡ holds_all sides.job (outcome_in_row sides.row) sides.reference sides.console (named_outcome sides.other)
+asked_passes sides runs fit =
+    let outcome = outcome_in_row sides.row in
+    let exit = holds_exit sides.job.expect_exit sides.row.ending in
+    let end = holds_end sides.job.expect_end sides.row.ending in
+    let c = holds_console sides.job.expect_console sides.console outcome in
+    let g = holds_reference sides.job.expect_signature sides.reference outcome in
+    let s = holds_same sides.job.same_as (named_outcome sides.other) outcome in
     no_length_of_five _ _ _ _ _ exit end c g s (empty_if Exit exit) (empty_if End end)
-    (empty_map Console _ c (console_told job.expect_console console outcome runs))
-    (empty_map Signature _ g (signature_told job.expect_signature reference outcome runs fit))
-    (empty_map Same _ s (same_told job.same_as other row))
+    (empty_map Console _ c (console_told sides.job.expect_console sides.console outcome runs))
+    (empty_map Signature _ g (signature_told sides.job.expect_signature sides.reference outcome runs fit))
+    (empty_map Same _ s (same_told sides.job.same_as sides.other sides.row))
     ∙ to_the_right exit end c g s
 
 passes_if : (t : Bool) (end : RowEnd) → passes (cond t verdict.Pass verdict.Fail) end ≡ t
 passes_if true end = refl
 passes_if false end = refl
 
-by_verdict : (job : Job) (row : Row) (console reference : Option (List ℕ)) (other : Option Row) (asks : Bool)
-    → is_asked job ≡ asks → is_run row.ending ≡ true → AllByRecursion IsWord (words_or_none row.signature)
-    → (length (cond asks (unmet_of_asked job row console reference other)
-    (option_to_list (cond (holds_exit (Some 0) row.ending) None (Some Nothing)))) == 0)
+by_verdict : (sides : Sides) (asks : Bool)
+    → is_asked sides.job ≡ asks → is_run sides.row.ending ≡ true → AllByRecursion IsWord (words_or_none sides.row.signature)
+    → (length (cond asks (unmet_of_asked sides)
+    (option_to_list (cond (holds_exit (Some 0) sides.row.ending) None (Some Nothing)))) == 0)
     ≡ passes (cond (not asks) verdict.Unasked
-    (cond (holds_all job (outcome_in_row row) reference console (named_outcome other)) verdict.Pass verdict.Fail))
-    row.ending
-by_verdict job row console reference other true asks runs fit =
-    asked_passes job row console reference other runs fit ∙ sym (passes_if _ row.ending)
-by_verdict job row console reference other false asks runs fit =
-    empty_if Nothing (holds_exit (Some 0) row.ending)
+    (cond (holds_all sides.job (outcome_in_row sides.row) sides.reference sides.console (named_outcome sides.other)) verdict.Pass verdict.Fail))
+    sides.row.ending
+by_verdict sides true asks runs fit =
+    asked_passes sides runs fit ∙ sym (passes_if _ sides.row.ending)
+by_verdict sides false asks runs fit =
+    empty_if Nothing (holds_exit (Some 0) sides.row.ending)
 
-pub passes_where_empty : (job : Job) (row : Row) (console reference : Option (List ℕ)) (other : Option Row)
-    → is_run row.ending ≡ true → AllByRecursion IsWord (words_or_none row.signature)
-    → HasItsVerdict job row console reference other
-    → (length (unmet_of job row console reference other) == 0) ≡ passes row.verdict row.ending
+pub passes_where_empty : (sides : Sides)
+    → is_run sides.row.ending ≡ true → AllByRecursion IsWord (words_or_none sides.row.signature)
+    → HasItsVerdict sides
+    → (length (unmet_of sides) == 0) ≡ passes sides.row.verdict sides.row.ending
 unfolding unmet_of verdict_of
-passes_where_empty job row console reference other runs fit has =
-    let told = cond (is_asked job) (unmet_of_asked job row console reference other)
-    (option_to_list (cond (holds_exit (Some 0) row.ending) None (Some Nothing))) in
+passes_where_empty sides runs fit has =
+    let told = cond (is_asked sides.job) (unmet_of_asked sides)
+    (option_to_list (cond (holds_exit (Some 0) sides.row.ending) None (Some Nothing))) in
     ap (λ (t : Bool). length (cond t told []) == 0) runs
-    ∙ by_verdict job row console reference other (is_asked job) refl runs fit
-    ∙ sym (ap (λ (v : Verdict). passes v row.ending) has)
+    ∙ by_verdict sides (is_asked sides.job) refl runs fit
+    ∙ sym (ap (λ (v : Verdict). passes v sides.row.ending) has)

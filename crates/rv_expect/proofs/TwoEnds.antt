@@ -1,14 +1,14 @@
 -- A job that expects two ends fails.
 use Rattle.std.proofs.Common.{◌≡◌, ◌==◌, ℕ, Bool, true, false, cond, ◌&&◌, List, Option, Some, None, refl, ap}
 use Rattle.std.specs.Prelude.{is_some, IsTrue}
-use Rattle.rv_lists.specs.declared.job.ExpectedEnd.{ExpectedEnd}
-use Rattle.rv_lists.specs.declared.job.ExpectedEnd.TheVariants as expected
-use Rattle.rv_lists.specs.declared.job.Job.{Job}
+use Rattle.rv_jobs.specs.declared_job.ExpectedEnd.{ExpectedEnd}
+use Rattle.rv_jobs.specs.declared_job.ExpectedEnd.TheVariants as expected
+use Rattle.rv_jobs.specs.declared_job.Job.{Job}
 use Rattle.rv_rows.specs.declared.outcome.Outcome.{Outcome}
-use Rattle.rv_rows.specs.declared.row.RowEnd.{RowEnd}
-use Rattle.rv_rows.specs.declared.row.RowEnd.TheVariants as ending
-use Rattle.rv_rows.specs.declared.row.Verdict.{Verdict}
-use Rattle.rv_rows.specs.declared.row.Verdict.TheVariants as verdict
+use Rattle.rv_rows.specs.declared_row.RowEnd.{RowEnd}
+use Rattle.rv_rows.specs.declared_row.RowEnd.TheVariants as ending
+use Rattle.rv_rows.specs.declared_row.Verdict.{Verdict}
+use Rattle.rv_rows.specs.declared_row.Verdict.TheVariants as verdict
 use Rattle.rv_rows.specs.Verdict.{ends_by, exits_with, verdict_of}
 use Rattle.rv_expect.specs.TwoEnds.{expects_two_ends}
 

@@ -3,9 +3,9 @@ use Rattle.std.specs.Prelude.{◌≡◌, ◌≢◌, ◌==◌, ◌+◌, ◌<◌, 
 use Rattle.std.specs.Prelude.{slice_index, Option, Some, None, option_map}
 use Rattle.std.specs.Prelude.{if◌then◌else◌}
 use Rattle.std.specs.Option.{option_or}
-use Rattle.rv_lists.specs.declared.job.ExpectedConsole.{ExpectedConsole}
-use Rattle.rv_lists.specs.declared.job.ExpectedConsole.TheVariants.{Text, File}
-use Rattle.rv_rows.specs.declared.row.Row.{Row}
+use Rattle.rv_jobs.specs.declared_job.ExpectedConsole.{ExpectedConsole}
+use Rattle.rv_jobs.specs.declared_job.ExpectedConsole.TheVariants.{Text, File}
+use Rattle.rv_rows.specs.declared_row.Row.{Row}
 use Rattle.rv_rows.specs.Verdict.{are_alike}
 use Rattle.rv_expect.specs.declared.difference.Difference.{Difference}
 use Rattle.rv_expect.specs.declared.difference.Difference.TheVariants.{At, Lengths, Absent}

@@ -1,5 +1,6 @@
 pub mod Difference
 pub mod Reference
+pub mod Comparisons
 pub mod Unmet
 pub mod Telling
 pub mod Planned

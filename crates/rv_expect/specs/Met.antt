@@ -5,7 +5,7 @@ use Rattle.rv_expect.specs.declared.met.Expectation.{Expectation}
 use Rattle.rv_expect.specs.declared.met.Expectation.TheVariants as expectation
 use Rattle.rv_expect.specs.declared.unmet.Unmet.{Unmet}
 use Rattle.rv_expect.specs.declared.unmet.Unmet.TheVariants as unmet
-use Rattle.rv_lists.specs.declared.job.Job.{Job}
+use Rattle.rv_jobs.specs.declared_job.Job.{Job}
 use Rattle.rv_rows.specs.Verdict.{is_asked}
 
 -- a job has an expectation; one that has no other expects exit code 0

@@ -1,9 +1,10 @@
 -- The expectations that the run of a plan's job does not meet.
 use Rattle.std.specs.Prelude.{List, Option, option_and_then, option_map, slice_get}
-use Rattle.rv_lists.specs.declared.job.Job.{Job}
+use Rattle.rv_jobs.specs.declared_job.Job.{Job}
 use Rattle.rv_jobs.specs.Plans.{Planned}
-use Rattle.rv_rows.specs.declared.row.Row.{Row}
+use Rattle.rv_rows.specs.declared_row.Row.{Row}
 use Rattle.rv_rows.specs.Rows.{console_in, reference_in, row_of}
+use Rattle.rv_expect.specs.Comparisons.{Sides}
 use Rattle.rv_expect.specs.declared.unmet.Unmet.{Unmet}
 use Rattle.rv_expect.specs.Unmet.{unmet_of}
 
@@ -12,9 +13,15 @@ abbrev pub named_row : Planned → Job → Option Row
 named_row plan job =
     option_map (row_of plan) (option_and_then (slice_get plan.jobs) job.same_as)
 
--- those of a row of a job, over what the plan keeps of its files and the row of the job that it
--- names
+-- a row of a job, beside what the plan keeps of its files and the row of the job that it names
+abbrev pub sides_in : Planned → Job → Row → Sides
+sides_in plan job row = record {
+  job = job;
+  row = row;
+  console = console_in plan.answers job;
+  reference = reference_in plan.answers job;
+  other = named_row plan job;
+}
+
 abbrev pub unmet_in : Planned → Job → Row → List Unmet
-unmet_in plan job row =
-    unmet_of job row (console_in plan.answers job) (reference_in plan.answers job)
-    (named_row plan job)
+unmet_in plan job row = unmet_of (sides_in plan job row)

@@ -1,6 +1,6 @@
 -- What is wrong with a row that did not pass.
 use Rattle.std.specs.Prelude.{◌&&◌, Bool, not}
-use Rattle.rv_rows.specs.declared.row.Row.{Row}
+use Rattle.rv_rows.specs.declared_row.Row.{Row}
 use Rattle.rv_rows.specs.Verdict.{is_run}
 use Rattle.rv_expect.specs.declared.passing.Rule.{Rule}
 use Rattle.rv_expect.specs.Passing.{has_passed}

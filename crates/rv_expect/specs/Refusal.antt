@@ -3,7 +3,7 @@ use Rattle.std.specs.Prelude.{List, Option, not}
 use Rattle.std.specs.List.{find}
 use Rattle.rv_elf.specs.declared.image.Segment.{Segment}
 use Rattle.rv_elf.specs.Loading.{fits}
-use Rattle.rv_lists.specs.declared.job.Job.{Job}
+use Rattle.rv_jobs.specs.declared_job.Job.{Job}
 
 -- the first segment that does not fit a job's regions
 abbrev pub unfit_segment : Job → List Segment → Option Segment

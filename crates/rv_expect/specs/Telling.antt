@@ -2,14 +2,15 @@
 use Rattle.std.specs.Prelude.{◌≡◌, ◌&&◌, ℕ, Bool, true, false, not, List, Option}
 use Rattle.std.specs.Prelude.{option_map}
 use Rattle.std.specs.List.{list_any}
-use Rattle.rv_lists.specs.declared.job.Job.{Job}
+use Rattle.rv_jobs.specs.declared_job.Job.{Job}
 use Rattle.rv_rows.specs.declared.outcome.Outcome.{Outcome}
-use Rattle.rv_rows.specs.declared.row.Row.{Row}
-use Rattle.rv_rows.specs.declared.row.RowEnd.{RowEnd}
-use Rattle.rv_rows.specs.declared.row.Verdict.{Verdict}
-use Rattle.rv_rows.specs.declared.row.Verdict.TheVariants as verdict
+use Rattle.rv_rows.specs.declared_row.Row.{Row}
+use Rattle.rv_rows.specs.declared_row.RowEnd.{RowEnd}
+use Rattle.rv_rows.specs.declared_row.Verdict.{Verdict}
+use Rattle.rv_rows.specs.declared_row.Verdict.TheVariants as verdict
 use Rattle.rv_rows.specs.Verdict.{exits_with, holds_console, holds_end, holds_exit, holds_reference}
 use Rattle.rv_rows.specs.Verdict.{holds_same, is_asked, verdict_of}
+use Rattle.rv_expect.specs.Comparisons.{Sides}
 use Rattle.rv_expect.specs.declared.unmet.Unmet.{Unmet}
 use Rattle.rv_expect.specs.declared.unmet.Unmet.TheVariants.{Exit, End, Console, Signature}
 use Rattle.rv_expect.specs.declared.unmet.Unmet.TheVariants.{Same, Nothing}
@@ -74,7 +75,7 @@ passes verdict.Fail end = false
 passes verdict.Unasked end = exits_with 0 end
 
 -- the verdict of a row is the one on its outcome
-abbrev pub HasItsVerdict :
-    Job → Row → Option (List ℕ) → Option (List ℕ) → Option Row → Type 0
-HasItsVerdict job row console reference other =
-    row.verdict ≡ verdict_of job (outcome_in_row row) reference console (named_outcome other)
+abbrev pub HasItsVerdict : Sides → Type 0
+HasItsVerdict sides =
+    sides.row.verdict ≡ verdict_of sides.job (outcome_in_row sides.row) sides.reference
+    sides.console (named_outcome sides.other)

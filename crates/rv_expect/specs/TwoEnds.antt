@@ -1,6 +1,6 @@
 -- A job that expects two ends.
 use Rattle.std.specs.Prelude.{◌&&◌, Bool, is_some}
-use Rattle.rv_lists.specs.declared.job.Job.{Job}
+use Rattle.rv_jobs.specs.declared_job.Job.{Job}
 
 -- the job expects an exit code, and an end that is not by an exit
 abbrev pub expects_two_ends : Job → Bool

@@ -1,10 +1,11 @@
 -- The expectations of a job that its run does not meet.
 use Rattle.std.specs.Prelude.{ℕ, List, [], ◌++◌, Option, Some, None, option_map, option_to_list}
 use Rattle.std.specs.Prelude.{if◌then◌else◌}
-use Rattle.rv_lists.specs.declared.job.Job.{Job}
-use Rattle.rv_rows.specs.declared.row.Row.{Row}
-use Rattle.rv_rows.specs.declared.row.RowEnd.{RowEnd}
+use Rattle.rv_jobs.specs.declared_job.Job.{Job}
+use Rattle.rv_rows.specs.declared_row.Row.{Row}
+use Rattle.rv_rows.specs.declared_row.RowEnd.{RowEnd}
 use Rattle.rv_rows.specs.Verdict.{holds_end, holds_exit, is_asked, is_run}
+use Rattle.rv_expect.specs.Comparisons.{Sides}
 use Rattle.rv_expect.specs.Difference.{console_difference, same_difference}
 use Rattle.rv_expect.specs.Reference.{signature_difference}
 use Rattle.rv_expect.specs.declared.difference.SignatureDifference.{SignatureDifference}
@@ -33,21 +34,19 @@ abbrev pub unmet_nothing : RowEnd → Option Unmet
 unmet_nothing end = if holds_exit (Some 0) end then None else Some Nothing
 
 -- those of a job that expects something and ran
-abbrev pub unmet_of_asked :
-    Job → Row → Option (List ℕ) → Option (List ℕ) → Option Row → List Unmet
-unmet_of_asked job row console reference other =
-    option_to_list (unmet_exit job row.ending) ++ option_to_list (unmet_end job row.ending)
-    ++ option_to_list (unmet_console job console row)
+abbrev pub unmet_of_asked : Sides → List Unmet
+unmet_of_asked sides =
+    option_to_list (unmet_exit sides.job sides.row.ending)
+    ++ option_to_list (unmet_end sides.job sides.row.ending)
+    ++ option_to_list (unmet_console sides.job sides.console sides.row)
     ++ option_to_list (unmet_signature
-    (signature_difference job.expect_signature reference row.signature))
-    ++ option_to_list (unmet_same job other row)
+    (signature_difference sides.job.expect_signature sides.reference sides.row.signature))
+    ++ option_to_list (unmet_same sides.job sides.other sides.row)
 
--- those of a row of a job, over the bytes of the console's file and of the reference that were
--- read, and the row of the job that it names; a refused row has none
-unfoldable pub unmet_of :
-    Job → Row → Option (List ℕ) → Option (List ℕ) → Option Row → List Unmet
-unmet_of job row console reference other =
-    if is_run row.ending then
-    (if is_asked job then unmet_of_asked job row console reference other
-    else option_to_list (unmet_nothing row.ending))
+-- those of a row of a job beside what it is compared with; a refused row has none
+unfoldable pub unmet_of : Sides → List Unmet
+unmet_of sides =
+    if is_run sides.row.ending then
+    (if is_asked sides.job then unmet_of_asked sides
+    else option_to_list (unmet_nothing sides.row.ending))
     else []

@@ -1,23 +1,40 @@
 -- The ways in which jobs end: exit, budget, each kind of fault, refused.
-use Rattle.std.specs.Prelude.{◌==◌, ◌&&◌, ◌+◌, ℕ, Bool, not}
-use Rattle.rv_rows.specs.declared.row.Row.{Row}
-use Rattle.rv_rows.specs.declared.row.RowEnd.{RowEnd}
-use Rattle.rv_rows.specs.declared.row.RowEnd.TheVariants as ending
-use Rattle.rv_rows.specs.Verdict.{fault_number}
+use Rattle.std.specs.Prelude.{◌==◌, ◌&&◌, ◌+◌, ◌-◌, ℕ, Bool, true, false, not, if◌then◌else◌}
+use Rattle.std.specs.Prelude.{Option, Some, None, length, slice_get}
+use Rattle.rv_machine.specs.declared.ending.FaultKind.{FaultKind}
+use Rattle.rv_machine.specs.Faults.{fault_kinds}
+use Rattle.rv_rows.specs.declared_row.Row.{Row}
+use Rattle.rv_rows.specs.declared_row.RowEnd.{RowEnd}
+use Rattle.rv_rows.specs.declared_row.RowEnd.TheVariants as ending
+use Rattle.rv_rows.specs.Verdict.{is_same_kind}
 use Rattle.rv_expect.specs.declared.passing.Rule.{Rule}
+use Rattle.rv_expect.specs.declared.ways.Way.{Way}
+use Rattle.rv_expect.specs.declared.ways.Way.TheVariants as way
 use Rattle.rv_expect.specs.Passing.{has_passed}
 
 -- how many there are
 abbrev pub ways : ℕ
-ways = 14
+ways = length fault_kinds + 3
 
--- the place of an ending among them
-abbrev pub way_of : RowEnd → ℕ
-way_of (ending.Exit code) = 0
-way_of ending.Budget = 1
-way_of (ending.Fault kind pc value) = fault_number kind + 1
-way_of (ending.Refused why) = 13
+-- a kind of fault, or what stands behind the last of them
+abbrev pub fault_or_refused : Option FaultKind → Way
+fault_or_refused (Some kind) = way.Fault kind
+fault_or_refused None = way.Refused
+
+-- the way of a place among them
+abbrev pub way_at : ℕ → Way
+way_at place =
+    if place == 0 then way.Exit
+    else (if place == 1 then way.Budget else fault_or_refused (slice_get fault_kinds (place - 2)))
+
+-- the way of an ending
+abbrev pub is_of_way : Way → RowEnd → Bool
+is_of_way way.Exit (ending.Exit code) = true
+is_of_way way.Budget ending.Budget = true
+is_of_way (way.Fault kind) (ending.Fault met pc value) = is_same_kind kind met
+is_of_way way.Refused (ending.Refused why) = true
+is_of_way _ _ = false
 
 -- a job failed, and ended so
-abbrev pub fails_by : Rule → ℕ → Row → Bool
-fails_by rule way row = not (has_passed rule row) && way_of row.ending == way
+abbrev pub fails_by : Rule → Way → Row → Bool
+fails_by rule how row = not (has_passed rule row) && is_of_way how row.ending

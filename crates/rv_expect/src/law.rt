@@ -1,14 +1,14 @@
 //! Laws of what is told, with nothing to run.
 
-ghost use Rattle.std.specs.Prelude.{◌≡◌, ◌==◌, ℕ, List, Option, IsTrue, MatchOption, length};
+ghost use Rattle.std.specs.Prelude.{◌≡◌, ◌==◌, ℕ, List, IsTrue, MatchOption, length};
 ghost use Rattle.std.specs.List.{AllByRecursion, flat_map};
-ghost use Rattle.rv_lists.specs.declared.job.Job.{Job};
-ghost use Rattle.rv_rows.specs.declared.row.Row.{Row};
+ghost use Rattle.rv_jobs.specs.declared_job.Job.{Job};
 ghost use Rattle.rv_jobs.specs.Plans.{Planned};
 ghost use Rattle.rv_rows.specs.Report.{word_line};
 ghost use Rattle.rv_rows.specs.Rows.{console_in, other_in, outcome_in, reference_in, row_of};
 ghost use Rattle.rv_rows.specs.Verdict.{is_run};
 ghost use Rattle.rv_expect.specs.declared.reference.Reference.TheVariants.{Words};
+ghost use Rattle.rv_expect.specs.Comparisons.{Sides};
 ghost use Rattle.rv_expect.specs.Difference.{IsDifference, first_difference};
 ghost use Rattle.rv_expect.specs.Planned.{unmet_in};
 ghost use Rattle.rv_expect.specs.Reference.{IsReferenceOf, IsWord, reference_of, words_or_none};
@@ -34,19 +34,21 @@ pub fn references_are_lines_of_words()
 /// Of a row that is not refused, with words of 32 bits in its signature, an expectation is told exactly where it does
 /// not hold by the definitions of the verdict.
 pub fn unmet_is_what_does_not_hold()
-    ensures { (job : Job) (row : Row) (console reference : Option (List ℕ)) (other : Option Row)
-        → IsTrue (is_run row.ending) → AllByRecursion IsWord (words_or_none row.signature)
-        → TellsWhatDoesNotHold (unmet_of job row console reference other) job (outcome_in_row row)
-        console reference (named_outcome other) }
+    ensures { (sides : Sides)
+        → IsTrue (is_run sides.row.ending)
+        → AllByRecursion IsWord (words_or_none sides.row.signature)
+        → TellsWhatDoesNotHold (unmet_of sides) sides.job (outcome_in_row sides.row)
+        sides.console sides.reference (named_outcome sides.other) }
 {}
 
 /// Of such a row with its verdict, nothing is told exactly where its job passes: where the verdict is pass, or nothing
 /// is expected and the run ended with exit code 0.
 pub fn nothing_is_unmet_where_a_job_passes()
-    ensures { (job : Job) (row : Row) (console reference : Option (List ℕ)) (other : Option Row)
-        → IsTrue (is_run row.ending) → AllByRecursion IsWord (words_or_none row.signature)
-        → HasItsVerdict job row console reference other
-        → (length (unmet_of job row console reference other) == 0) ≡ passes row.verdict row.ending }
+    ensures { (sides : Sides)
+        → IsTrue (is_run sides.row.ending)
+        → AllByRecursion IsWord (words_or_none sides.row.signature)
+        → HasItsVerdict sides
+        → (length (unmet_of sides) == 0) ≡ passes sides.row.verdict sides.row.ending }
 {}
 
 /// Of a plan's job whose row is not refused, with words of 32 bits in its signature, an expectation is told exactly

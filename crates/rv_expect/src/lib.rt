@@ -1,13 +1,15 @@
 //! What a person is told of a row: which expectations of its job the run does not meet, and what differs first.
 //!
-//! [`unmet_expectations`] answers them over the bytes of a job's files and the row of the job that it names, which
-//! [`named_row`] makes, in the order exit, end, console, signature, other job. Each is told exactly where it does not hold by the definitions of the verdict
+//! [`unmet_expectations`] answers them over a [`Comparison`]: the bytes of a job's files, and the row of the job that it names, which
+//! [`named_row`] makes. Their order is exit, end, console, signature, other job. Each is told exactly where it does not hold by the
+//! definitions of the verdict
 //! ([`unmet_is_what_does_not_hold`], [`unmet_of_a_plan_is_what_does_not_hold`]), and none exactly where the job passes
 //! ([`nothing_is_unmet_where_a_job_passes`]). What is said to differ is the first that does ([`differences_are_first`]),
 //! and a reference is words exactly where it is their lines ([`references_are_lines_of_words`]). A job that
 //! [`expects_two_ends`] never passes ([`two_ends_fail`]).
 #![tactic(auto)]
 
+mod comparison;
 mod difference;
 mod law;
 mod met;
@@ -20,6 +22,7 @@ mod two_ends;
 mod unmet;
 mod ways;
 
+pub use comparison::Comparison;
 pub use difference::{Difference, SameDifference, SignatureDifference};
 pub use law::{
     differences_are_first, nothing_is_unmet_where_a_job_passes, references_are_lines_of_words,
@@ -33,4 +36,4 @@ pub use reference::words_or_none;
 pub use refusal::{is_file_inside, load_address, unfit_segment};
 pub use two_ends::{expects_two_ends, two_ends_fail};
 pub use unmet::{Unmet, unmet_expectations};
-pub use ways::{WAYS, fails_by};
+pub use ways::{Way, fails_by};

@@ -3,7 +3,7 @@
 ghost use Rattle.std.specs.Prelude.{◌≡◌, option_map};
 ghost use Rattle.rv_elf.specs.Loading.{fits, load_address};
 ghost use Rattle.rv_expect.specs.Refusal.{unfit_segment};
-ghost use Rattle.rv_memory.specs.Regions.{in_one};
+ghost use Rattle.rv_elf.specs.Regions.{in_one};
 
 use rv_elf::{LoadAt, Segment};
 use rv_jobs::Job;

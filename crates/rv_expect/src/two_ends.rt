@@ -1,9 +1,9 @@
 //! Jobs that can never pass, since they expect two ends.
 
 ghost use Rattle.std.specs.Prelude.{◌≡◌, List, Option, IsTrue, ℕ};
-ghost use Rattle.rv_lists.specs.declared.job.Job.{Job};
+ghost use Rattle.rv_jobs.specs.declared_job.Job.{Job};
 ghost use Rattle.rv_rows.specs.declared.outcome.Outcome.{Outcome};
-ghost use Rattle.rv_rows.specs.declared.row.Verdict.TheVariants.{Fail};
+ghost use Rattle.rv_rows.specs.declared_row.Verdict.TheVariants.{Fail};
 ghost use Rattle.rv_rows.specs.Verdict.{verdict_of};
 ghost use Rattle.rv_expect.specs.TwoEnds.{expects_two_ends};
 

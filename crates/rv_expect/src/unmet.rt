@@ -3,7 +3,9 @@
 ghost use Rattle.std.specs.Prelude.{◌≡◌, ◌++◌, IfOk, OnOk, option_map, option_to_list};
 ghost use Rattle.rv_expect.specs.Unmet.{unmet_console, unmet_end, unmet_exit, unmet_nothing, unmet_of, unmet_same};
 ghost use Rattle.rv_expect.specs.Unmet.{unmet_signature};
+ghost use Rattle.rv_expect.specs.Comparisons.{sides_of};
 
+use crate::comparison::Comparison;
 use crate::difference::{
     Difference, SameDifference, SignatureDifference, console_difference, same_difference,
 };
@@ -28,21 +30,15 @@ pub enum Unmet {
 }
 
 /// The expectations of a job that the run of its row does not meet, in the order exit, end, console, signature, other
-/// job. It takes the bytes of the files that the console and the signature are compared with, where they were read, and
-/// the row of the job that this one names. A refused row has none: its reason says why nothing ran.
+/// job. A refused row has none: its reason says why nothing ran.
 #[tactic(auto, unfolding(crate::specs::Unmet::unmet_of))]
 pub fn unmet_expectations(
     alloc: Global,
-    job: &Job,
-    row: &Row,
-    console: Option<&[u8]>,
-    reference: Option<&[u8]>,
-    other: Option<&Row>,
+    comparison: &Comparison<'_, '_>,
 ) -> Result<Vec<Unmet>, AllocError>
-    ensures { IfOk result (λ found. found.items
-        ≡ unmet_of job.now row.now (option_map (λ bytes. bytes.now) console.entry)
-        (option_map (λ bytes. bytes.now) reference.entry) (option_map (λ row. row.now) other.entry)) }
+    ensures { IfOk result (λ found. found.items ≡ unmet_of (sides_of comparison.now)) }
 {
+    let (job, row) = (comparison.job, comparison.row);
     let mut found = Vec::new(alloc);
     if !is_run(row.ending) {
         return Ok(found);
@@ -51,12 +47,13 @@ pub fn unmet_expectations(
         push_some(&mut found, unmet_nothing(row.ending))?;
         return Ok(found);
     }
+    let reference = comparison.reference;
     let signature = signature_difference(alloc, &job.expect_signature, reference, &row.signature)?;
     push_some(&mut found, unmet_exit(job, row.ending))?;
     push_some(&mut found, unmet_end(job, row.ending))?;
-    push_some(&mut found, unmet_console(job, console, row))?;
+    push_some(&mut found, unmet_console(job, comparison.console, row))?;
     push_some(&mut found, unmet_signature(signature))?;
-    push_some(&mut found, unmet_same(job, other, row))?;
+    push_some(&mut found, unmet_same(job, comparison.other, row))?;
     Ok(found)
 }
 

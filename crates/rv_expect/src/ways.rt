@@ -1,51 +1,68 @@
 //! The ways in which jobs end.
 
-ghost use Rattle.std.specs.Prelude.{◌≡◌, ◌<◌, ◌+◌};
-ghost use Rattle.rv_rows.specs.Verdict.{fault_number};
-ghost use Rattle.rv_expect.specs.Ways.{fails_by, way_of, ways};
+ghost use Rattle.std.specs.Prelude.{◌≡◌, slice_get};
+ghost use Rattle.rv_machine.specs.Faults.{fault_kinds};
+ghost use Rattle.rv_expect.specs.Ways.{fails_by, fault_or_refused, is_of_way, way_at};
 
 use crate::passing::{Rule, has_passed};
 use rv_machine::FaultKind;
 use rv_rows::{Row, RowEnd};
 
-/// How many ways there are: exit, budget, each kind of fault, refused.
-pub const WAYS: usize = 14;
-
-/// Whether a job failed, and ended in a way of [`WAYS`], counted from 0.
-pub fn fails_by(rule: Rule, way: usize, row: &Row) -> bool
-    ensures { result ≡ fails_by rule way row.now }
-{
-    !has_passed(rule, row) && way_of(row.ending) == way
+/// A way in which jobs end.
+#[derive(Clone, Copy)]
+pub enum Way {
+    /// By the exit call, with any code.
+    Exit,
+    /// The budget is used up.
+    Budget,
+    /// By a fault of the kind.
+    Fault(FaultKind),
+    /// The image is refused.
+    Refused,
 }
 
-// The place of an ending among the ways.
-fn way_of(ending: RowEnd) -> usize
-    ensures value { result ≡ way_of ending }
-    ensures within { result < ways }
-{
-    match ending {
-        RowEnd::Exit(_) => 0,
-        RowEnd::Budget => 1,
-        RowEnd::Fault(kind, _, _) => fault_way(kind),
-        RowEnd::Refused(_) => 13,
+impl Way {
+    /// How many there are.
+    pub const COUNT: usize = FaultKind::ALL.len() + 3;
+
+    /// The way of a place below [`COUNT`](Way::COUNT), in the order exit, budget, each kind of fault, refused.
+    pub fn at(place: usize) -> Way
+        ensures { result ≡ way_at place }
+    {
+        if place == 0 {
+            Way::Exit
+        } else if place == 1 {
+            Way::Budget
+        } else {
+            fault_or_refused(place - 2)
+        }
     }
 }
 
-fn fault_way(kind: FaultKind) -> usize
-    ensures value { result ≡ fault_number kind + 1 }
-    ensures within { result < ways }
+fn fault_or_refused(place: usize) -> Way
+    ensures { result ≡ fault_or_refused (slice_get fault_kinds place) }
 {
-    match kind {
-        FaultKind::FetchAccess => 2,
-        FaultKind::StaleCode => 3,
-        FaultKind::Illegal => 4,
-        FaultKind::Breakpoint => 5,
-        FaultKind::LoadMisaligned => 6,
-        FaultKind::LoadAccess => 7,
-        FaultKind::StoreMisaligned => 8,
-        FaultKind::StoreAccess => 9,
-        FaultKind::ConsoleFull => 10,
-        FaultKind::UnknownCall => 11,
-        FaultKind::FetchMisaligned => 12,
+    match FaultKind::ALL.get(place) {
+        Some(kind) => Way::Fault(*kind),
+        None => Way::Refused,
+    }
+}
+
+/// Whether a job failed, and ended in a way.
+pub fn fails_by(rule: Rule, way: Way, row: &Row) -> bool
+    ensures { result ≡ fails_by rule way row.now }
+{
+    !has_passed(rule, row) && is_of_way(way, row.ending)
+}
+
+fn is_of_way(way: Way, ending: RowEnd) -> bool
+    ensures { result ≡ is_of_way way ending }
+{
+    match (way, ending) {
+        (Way::Exit, RowEnd::Exit(_)) => true,
+        (Way::Budget, RowEnd::Budget) => true,
+        (Way::Fault(kind), RowEnd::Fault(met, ..)) => kind == met,
+        (Way::Refused, RowEnd::Refused(_)) => true,
+        _ => false,
     }
 }

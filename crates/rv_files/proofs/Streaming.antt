@@ -1,7 +1,7 @@
 -- What goes into a stream.
 use Rattle.std.proofs.Common.{◌∙◌, ℕ, List, Option, Some, None, sym, take, drop, take-append-drop}
 use Rattle.std.specs.Io.KnownBytes.{Appends, Keeps}
-use Rattle.rv_rows.specs.Sending.{AppendsBeginning}
+use Rattle.rv_base.specs.Sinks.{AppendsBeginning}
 
 appended_and_kept : (a b c : Option (List ℕ)) (bytes : List ℕ) → Appends a b bytes → Keeps b c → Appends a c bytes
 appended_and_kept None b c bytes appended kept = tt

@@ -2,12 +2,12 @@
 
 ghost use Rattle.std.specs.Prelude.{◌≡◌, ◌≤◌, None, IfOk, IfErr, OnErr, length, take};
 ghost use Rattle.std.specs.Io.KnownBytes.{Appends};
-ghost use Rattle.rv_rows.specs.Sending.{AppendsBeginning};
-ghost use Rattle.rv_jobs.specs.Stores.{one_more};
+ghost use Rattle.rv_base.specs.Sinks.{AppendsBeginning};
+ghost use Rattle.rv_base.specs.Counts.{one_more};
 
 use crate::places::{Places, places_of};
 use crate::streams::StreamSink;
-use rv_rows::{Sink, SinkFailed};
+use rv_base::{Sink, SinkFailed};
 use std::alloc::{AllocError, Global};
 use std::fs::{self, OpenFile, OpenOptions};
 use std::io::{self, ErrorKind};

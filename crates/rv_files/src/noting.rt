@@ -3,11 +3,11 @@
 ghost use Rattle.std.specs.Prelude.{◌≡◌, ◌≤◌, ◌<◌, ◌++◌, ◌∷◌, [], None, IfErr, IfOk, IfSome, MatchResult, OnErr};
 ghost use Rattle.std.specs.Prelude.{OnOk, length, option_map};
 ghost use Rattle.std.specs.Path.{path_buf_bytes};
-ghost use Rattle.rv_jobs.specs.Stores.{most_bytes};
+ghost use Rattle.rv_base.specs.Limits.{most_bytes};
 ghost use Rattle.rv_files.specs.Noted.{noted, noted_of, place_of};
 
 use crate::files::{WholeError, read_file};
-use rv_jobs::{ReadError, Store, Text};
+use rv_base::{ReadError, Store, Text};
 use std::alloc::{AllocError, Global};
 use std::io::ErrorKind;
 use std::path::{Path, PathBuf};

@@ -2,10 +2,10 @@
 
 ghost use Rattle.std.specs.Prelude.{◌≡◌, ◌≤◌, None, IfOk, IfErr, OnErr, length, take};
 ghost use Rattle.std.specs.Io.KnownBytes.{Appends};
-ghost use Rattle.rv_rows.specs.Sending.{AppendsBeginning};
-ghost use Rattle.rv_jobs.specs.Stores.{one_more};
+ghost use Rattle.rv_base.specs.Sinks.{AppendsBeginning};
+ghost use Rattle.rv_base.specs.Counts.{one_more};
 
-use rv_rows::{Sink, SinkFailed};
+use rv_base::{Sink, SinkFailed};
 use std::io::Write;
 
 /// A stream of the process as a sink: each put is one write and one flush, so nothing is held

@@ -6,16 +6,18 @@ use Rattle.std.specs.List.{filter}
 use Rattle.std.proofs.lemmas.Bool.{ltb-true}
 use Rattle.std.proofs.lemmas.List.{length-map}
 use Rattle.std.proofs.lemmas.List.Elements.{All-head, All-map, All-weaker, All-same, filter_passes}
-use Rattle.rv_lists.specs.Jobs.{single_job}
+use Rattle.rv_jobs.specs.Jobs.{single_job}
 use Rattle.rv_jobs.specs.Plans.{Planned}
 use Rattle.rv_rows.specs.Rows.{rows_at}
 use Rattle.rv_fleet.specs.declared.piece.Piece.{Piece}
-use Rattle.rv_rows.specs.declared.row.Row.{Row}
+use Rattle.rv_rows.specs.declared_row.Row.{Row}
+use Rattle.rv_fleet.specs.declared.pieces.Pieces.{Pieces}
 use Rattle.rv_fleet.specs.declared.worked.Worked.{Worked}
+use Rattle.rv_fleet.specs.Batches.{batch_rows}
 use Rattle.rv_fleet.specs.Collected.{IsPiece, ArePieces}
 use Rattle.rv_claims.specs.Draws.{numbers}
 use Rattle.rv_claims.specs.Passes.{SharedDraw}
-use Rattle.rv_fleet.specs.Pieces.{pieces_in, piece_for}
+use Rattle.rv_fleet.specs.Pieces.{count_in, piece_in, pieces_in}
 use Rattle.rv_fleet.specs.Promised.{HasWorked}
 use Rattle.rv_rows.specs.Rows.{row_of}
 use Rattle.rv_fleet.proofs.Chunks.{chunks_all}
@@ -25,21 +27,20 @@ pub All-first : {X : Type 0} (P : X → Type 0) (x : X) (xs all : List X) → al
 All-first P x xs all is each = All-head P x xs (All-same P _ _ (sym is) each)
 
 -- what a worker made is pieces with the rows of their numbers
-pub pieces_worked : (rows : List Row) (group : ℕ) (draw : SharedDraw) (worked : Worked) (made : Vec Piece Global)
-    → HasWorked rows group draw worked → worked.pieces ≡ Ok made
-    → draw.pieces ≡ pieces_in rows group → ArePieces rows group made.items
-pieces_worked rows group draw worked made has is total =
+pub pieces_worked : (pieces : Pieces) (draw : SharedDraw) (worked : Worked) (made : Vec Piece Global)
+    → HasWorked (batch_rows pieces.batch) pieces.group draw worked → worked.pieces ≡ Ok made
+    → draw.pieces ≡ count_in pieces → ArePieces pieces made.items
+pieces_worked pieces draw worked made has is total =
     let low : ℕ → Bool = λ n. nat_lt n draw.pieces in
     let drawn : List ℕ = numbers worked.pass.draws in
-    let kept : made.items ≡ map (piece_for rows group) (filter low drawn) =
-    subst (λ r. IfOk r (λ (v : Vec Piece Global). v.items ≡ map (piece_for rows group) (filter low drawn))) is
-    has.1 in
+    let kept : made.items ≡ map (piece_in pieces) (filter low drawn) =
+    subst (λ r. IfOk r (λ (v : Vec Piece Global). v.items ≡ map (piece_in pieces) (filter low drawn))) is has.1 in
     let below : (n : ℕ) → low n ≡ true
-    → IsPiece rows group (piece_for rows group n) = λ n passes. let l : n < draw.pieces =
+    → IsPiece pieces (piece_in pieces n) = λ n passes. let l : n < draw.pieces =
     ltb-true n draw.pieces passes in (omega arith, refl) in
-    All-same (IsPiece rows group) _ _ kept
-    (All-map (IsPiece rows group) (piece_for rows group) (filter low drawn)
-    (All-weaker (λ n. low n ≡ true) (λ n. IsPiece rows group (piece_for rows group n)) below (filter low drawn)
+    All-same (IsPiece pieces) _ _ kept
+    (All-map (IsPiece pieces) (piece_in pieces) (filter low drawn)
+    (All-weaker (λ n. low n ≡ true) (λ n. IsPiece pieces (piece_in pieces n)) below (filter low drawn)
     (filter_passes low drawn)))
 
 -- what stands at the first of the places that are left, and at the others

@@ -1,13 +1,8 @@
 -- A choice of a plan's jobs: those at some places, in order.
-use Rattle.std.specs.Prelude.{ℕ, ◌<◌, ◌≤◌, List, length}
+use Rattle.std.specs.Prelude.{ℕ, ◌<◌, List, length}
 use Rattle.std.specs.List.{All}
-use Rattle.rv_lists.specs.Jobs.{most_jobs}
 use Rattle.rv_jobs.specs.Plans.{Planned}
 
 -- each is the place of a job
 abbrev pub AreWithin : Planned → List ℕ → Type 0
 AreWithin plan places = All (λ place. place < length plan.jobs) places
-
--- places of jobs, no more than a list has
-abbrev pub AreChosen : Planned → List ℕ → Type 0
-AreChosen plan places = AreWithin plan places × (length places ≤ most_jobs)

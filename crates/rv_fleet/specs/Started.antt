@@ -1,20 +1,29 @@
 -- When a thread may be started, and what is known of one that was.
-use Rattle.std.specs.Prelude.{◌≡◌, ◌<◌, ◌≤◌, ℕ, List}
+use Rattle.std.specs.Prelude.{◌≡◌, ◌<◌, ◌≤◌, ℕ, List, length}
+use Rattle.std.specs.List.Sorted.{IsStrictlyIncreasing}
 use Rattle.std.specs.declared.thread.PromisedHandle.{PromisedHandle}
-use Rattle.rv_rows.specs.declared.row.Row.{Row}
+use Rattle.rv_jobs.specs.Limits.{most_group, most_jobs}
+use Rattle.rv_rows.specs.declared_row.Row.{Row}
 use Rattle.rv_rows.specs.Rows.{rows_at}
 use Rattle.rv_fleet.specs.declared.worked.Worked.{Worked}
 use Rattle.rv_fleet.specs.declared.worked.Works.{Works}
 use Rattle.rv_claims.specs.Passes.{SharedDraw}
 use Rattle.rv_jobs.specs.Plans.{Planned}
-use Rattle.rv_fleet.specs.Choices.{AreChosen}
+use Rattle.rv_fleet.specs.Choices.{AreWithin}
 use Rattle.rv_fleet.specs.Pieces.{Hears, pieces_in}
+
+-- jobs that may be a batch, in groups that may be its pieces
+pub record AreGrouped (plan : Planned) (places : List ℕ) (group : ℕ) : Type 0 where
+  pub within : AreWithin plan places
+  pub rising : IsStrictlyIncreasing places
+  pub few : length places ≤ most_jobs
+  pub group_few : (0 < group) × (group ≤ most_group)
 
 -- the shared draw is of the pieces of these jobs' rows, and a gate that awaits this may be told of
 -- them
 abbrev pub CanWork : Planned → List ℕ → ℕ → SharedDraw → (ℕ → List Row → Type 0) → Type 0
-CanWork plan places group draw awaits = ((0 < group) × (group ≤ 4096))
-    × (draw.pieces ≡ pieces_in (rows_at plan places) group) × AreChosen plan places
+CanWork plan places group draw awaits = AreGrouped plan places group
+    × (draw.pieces ≡ pieces_in (rows_at plan places) group)
     × Hears awaits (rows_at plan places) group
 
 -- its promise is of these rows, this group and this shared draw

@@ -1,19 +1,18 @@
 //! From what the workers made to the rows in list order.
 
-ghost use Rattle.std.specs.Prelude.{◌≡◌, ◌<◌, ◌≤◌, IfOk, IfSome};
+ghost use Rattle.std.specs.Prelude.{◌≡◌, ◌<◌, IfOk, IfSome};
+ghost use Rattle.rv_fleet.specs.Batches.{batch_rows};
 ghost use Rattle.rv_fleet.specs.Collected.{ArePieces, IsPiece, IsFilled};
-ghost use Rattle.std.specs.Fork.{slice_chunk};
-ghost use Rattle.rv_fleet.specs.Pieces.{Hears, pieces_in};
+ghost use Rattle.rv_fleet.specs.Pieces.{CanHear, count_in, rows_in};
 ghost use Rattle.rv_fleet.specs.Promised.{HaveWorked};
-ghost use Rattle.rv_fleet.specs.Choices.{AreChosen};
-ghost use Rattle.rv_rows.specs.Rows.{rows_at};
 
 use crate::gate::Gate;
-use crate::piece::{Piece, make_piece, piece_count};
+use crate::piece::{Piece, make_piece};
+use crate::pieces::Pieces;
+use crate::workbench::Workbench;
 use crate::worked::Worked;
 use rv_claims::{Claims, Pass};
-use rv_jobs::Plan;
-use rv_rows::{Recent, Row, Rows, Spare};
+use rv_rows::{Row, Rows};
 use std::alloc::{AllocError, Global};
 
 /// What all workers made.
@@ -32,27 +31,23 @@ pub(crate) fn collect(
     alloc: Global,
     claims: &Claims,
     worked: Vec<Worked>,
-    plan: &Plan,
-    places: &[usize],
-    group: u32,
+    pieces: &Pieces<'_>,
 ) -> Result<Collected, AllocError>
-    requires group { 0 < group }
-    requires chosen { AreChosen plan.now places.now }
-    requires pieces { claims.now.pieces ≡ pieces_in (rows_at plan.now places.now) group }
-    requires worked { HaveWorked (rows_at plan.now places.now) group claims.now worked.items }
-    ensures slots { IfOk result (λ all. IsFilled
-        (rows_at plan.now places.now) group all.slots.items) }
+    requires pieces { claims.now.pieces ≡ count_in pieces.now }
+    requires worked { HaveWorked
+        (batch_rows pieces.now.batch) pieces.now.group claims.now worked.items }
+    ensures slots { IfOk result (λ all. IsFilled pieces.now all.slots.items) }
     ensures pass { IfOk result (λ all. IfSome all.pass (λ pass. pass.draw ≡ claims.now)) }
 {
-    let mut slots = empty_slots(alloc, plan, places, group)?;
+    let mut slots = empty_slots(alloc, pieces)?;
     let mut all = None;
     let mut stopped = false;
-    for Worked { pass, pieces } in worked {
-        keep_all(&mut slots, plan, places, group, pieces?);
+    for Worked { pass, pieces: made } in worked {
+        keep_all(&mut slots, pieces, made?);
         if !pass.ended() {
             stopped = true;
         }
-        all = Some(joined(claims, all, pass));
+        all = Some(join(claims, all, pass));
     }
     Ok(Collected {
         slots,
@@ -62,48 +57,31 @@ pub(crate) fn collect(
 }
 
 /// A slot for each piece, and no rows there yet.
-fn empty_slots(
-    alloc: Global,
-    plan: &Plan,
-    places: &[usize],
-    group: u32,
-) -> Result<Vec<Option<Rows>>, AllocError>
-    requires group { 0 < group }
-    requires chosen { AreChosen plan.now places.now }
-    ensures { IfOk result (λ slots. IsFilled (rows_at plan.now places.now) group slots.items) }
+fn empty_slots(alloc: Global, pieces: &Pieces<'_>) -> Result<Vec<Option<Rows>>, AllocError>
+    ensures { IfOk result (λ slots. IsFilled pieces.now slots.items) }
 {
     let mut slots = Vec::new(alloc);
-    for _ in 0..piece_count(plan, places, group) {
+    for _ in 0..pieces.count() {
         slots.push(None)?;
     }
     Ok(slots)
 }
 
-fn keep_all(
-    slots: &mut Vec<Option<Rows>>,
-    plan: &Plan,
-    places: &[usize],
-    group: u32,
-    pieces: Vec<Piece>,
-)
-    requires group { 0 < group }
-    requires chosen { AreChosen plan.now places.now }
-    requires slots { IsFilled (rows_at plan.now places.now) group slots.old.items }
-    requires pieces { ArePieces (rows_at plan.now places.now) group pieces.items }
-    ensures { IsFilled (rows_at plan.now places.now) group slots.new.items }
+fn keep_all(slots: &mut Vec<Option<Rows>>, pieces: &Pieces<'_>, made: Vec<Piece>)
+    requires slots { IsFilled pieces.now slots.old.items }
+    requires made { ArePieces pieces.now made.items }
+    ensures { IsFilled pieces.now slots.new.items }
 {
-    for piece in pieces {
-        keep(slots, plan, places, group, piece);
+    for piece in made {
+        keep(slots, pieces, piece);
     }
 }
 
 /// Keeps a piece's rows, unless they are there.
-fn keep(slots: &mut Vec<Option<Rows>>, plan: &Plan, places: &[usize], group: u32, piece: Piece)
-    requires group { 0 < group }
-    requires chosen { AreChosen plan.now places.now }
-    requires slots { IsFilled (rows_at plan.now places.now) group slots.old.items }
-    requires piece { IsPiece (rows_at plan.now places.now) group piece }
-    ensures { IsFilled (rows_at plan.now places.now) group slots.new.items }
+fn keep(slots: &mut Vec<Option<Rows>>, pieces: &Pieces<'_>, piece: Piece)
+    requires slots { IsFilled pieces.now slots.old.items }
+    requires piece { IsPiece pieces.now piece }
+    ensures { IsFilled pieces.now slots.new.items }
 {
     let at = piece.number as usize;
     if slots[at].is_none() {
@@ -111,7 +89,7 @@ fn keep(slots: &mut Vec<Option<Rows>>, plan: &Plan, places: &[usize], group: u32
     }
 }
 
-fn joined(claims: &Claims, all: Option<Pass>, pass: Pass) -> Pass
+fn join(claims: &Claims, all: Option<Pass>, pass: Pass) -> Pass
     requires all { IfSome all (λ other. other.draw ≡ claims.now) }
     requires pass { pass.draw ≡ claims.now }
     ensures { result.draw ≡ claims.now }
@@ -123,24 +101,20 @@ fn joined(claims: &Claims, all: Option<Pass>, pass: Pass) -> Pass
 }
 
 /// The rows of all pieces, in order. A piece that no worker made is made here.
-pub(crate) fn rows_kept_or_made<G: Gate>(
+pub(crate) fn all_rows<G: Gate>(
     alloc: Global,
     slots: Vec<Option<Rows>>,
-    plan: &Plan,
-    places: &[usize],
-    group: u32,
+    pieces: &Pieces<'_>,
     gate: &G,
 ) -> Result<Rows, AllocError>
-    requires group { 0 < group }
-    requires chosen { AreChosen plan.now places.now }
-    requires slots { IsFilled (rows_at plan.now places.now) group slots.items }
-    requires gate { Hears (G.awaits gate.now) (rows_at plan.now places.now) group }
-    ensures { IfOk result (λ rows. rows ≡ rows_at plan.now places.now) }
+    requires slots { IsFilled pieces.now slots.items }
+    requires gate { CanHear (G.awaits gate.now) pieces.now }
+    ensures { IfOk result (λ rows. rows ≡ batch_rows pieces.now.batch) }
 {
-    let mut rows: Vec<Row> = Vec::with_capacity(alloc, places.len())?;
+    let mut rows: Vec<Row> = Vec::with_capacity(alloc, pieces.batch.places.len())?;
     let mut number = 0;
     for slot in slots {
-        let part = rows_in_slot(alloc, slot, plan, places, group, gate, number)?;
+        let part = rows_in_slot(alloc, slot, pieces, gate, number)?;
         rows.append(&mut part.into_vec())?;
         number += 1;
     }
@@ -151,35 +125,20 @@ pub(crate) fn rows_kept_or_made<G: Gate>(
 fn rows_in_slot<G: Gate>(
     alloc: Global,
     slot: Option<Rows>,
-    plan: &Plan,
-    places: &[usize],
-    group: u32,
+    pieces: &Pieces<'_>,
     gate: &G,
     number: u64,
 ) -> Result<Rows, AllocError>
-    requires group { 0 < group }
-    requires chosen { AreChosen plan.now places.now }
-    requires number { number < pieces_in (rows_at plan.now places.now) group }
-    requires gate { Hears (G.awaits gate.now) (rows_at plan.now places.now) group }
-    requires slot { IfSome slot (λ rows. rows
-        ≡ slice_chunk (rows_at plan.now places.now) group number) }
-    ensures { IfOk result (λ rows. rows ≡ slice_chunk (rows_at plan.now places.now) group number) }
+    requires number { number < count_in pieces.now }
+    requires gate { CanHear (G.awaits gate.now) pieces.now }
+    requires slot { IfSome slot (λ rows. rows ≡ rows_in pieces.now number) }
+    ensures { IfOk result (λ rows. rows ≡ rows_in pieces.now number) }
 {
     match slot {
         Some(rows) => Ok(rows),
         None => {
-            let mut spare = Spare::new();
-            let mut recent = Recent::new(alloc);
-            let made = make_piece(
-                alloc,
-                plan,
-                places,
-                group,
-                gate,
-                number,
-                &mut spare,
-                &mut recent,
-            )?;
+            let mut bench = Workbench::new(alloc);
+            let made = make_piece(alloc, pieces, gate, number, &mut bench)?;
             Ok(made.piece.rows)
         }
     }

@@ -1,18 +1,21 @@
 //! A fleet: the rows of a plan, made by threads that draw its pieces.
 
+ghost use Rattle.rv_jobs.specs.Limits.{most_group, most_workers};
 ghost use Rattle.std.specs.Prelude.{◌≡◌, ◌<◌, ◌≤◌, IfOk};
-ghost use Rattle.std.specs.List.Sorted.{IsStrictlyIncreasing};
-ghost use Rattle.rv_rows.specs.Rows.{rows_at, rows_of};
+ghost use Rattle.rv_rows.specs.Rows.{rows_of};
 ghost use Rattle.rv_fleet.specs.declared.fleet.FleetError.TheVariants.{OutOfMemory};
 ghost use Rattle.rv_fleet.specs.declared.fleet.PlacesError.TheVariants as places;
-ghost use Rattle.rv_fleet.specs.Choices.{AreWithin};
+ghost use Rattle.rv_fleet.specs.Batches.{batch_rows};
 ghost use Rattle.rv_fleet.specs.Fleets.{of_fleet};
 ghost use Rattle.rv_fleet.specs.Pieces.{Hears};
 
-use crate::choice::{all_places, check_places};
-use crate::collect::rows_kept_or_made;
+use crate::batch::Batch;
+use crate::collect::all_rows;
+use crate::crew::Crew;
 use crate::gate::{Gate, Unheard};
-use crate::threads::made_by_threads;
+use crate::pieces::Pieces;
+use crate::places::all_places;
+use crate::threads::make_pieces;
 use rv_jobs::Plan;
 use rv_rows::{Report, Rows};
 use std::alloc::{AllocError, Global};
@@ -85,41 +88,37 @@ pub fn run_fleet<R: Threads + Wait, G: Gate>(
     group: u32,
     gate: &G,
 ) -> Result<Report, FleetError>
-    requires workers { (0 < workers) × (workers ≤ 64) }
-    requires group { (0 < group) × (group ≤ 4096) }
+    requires workers { (0 < workers) × (workers ≤ most_workers) }
+    requires group { (0 < group) × (group ≤ most_group) }
     ensures { IfOk result (λ report. report.rows ≡ rows_of plan.now) }
 {
     let places = all_places(alloc, plan)?;
-    let places = places.as_slice();
+    let batch = Batch::new(plan, places.as_slice());
+    let crew = Crew::new(rt, alloc, workers, group);
+    let pieces = Pieces { batch, group };
     let gate = Unheard { gate };
-    let made = made_by_threads(rt, alloc, plan, places, workers, group, &gate)?;
-    let rows = rows_kept_or_made(alloc, made.slots, plan, places, group, &gate)?;
+    let made = make_pieces(&crew, &pieces, &gate)?;
+    let rows = all_rows(alloc, made.slots, &pieces, &gate)?;
     Ok(Report { rows })
 }
 
-/// The rows of the jobs at some places, in order: the same for every number of workers and of jobs in a piece. The gate
-/// is told of each piece when its rows are made, and may stop the run: then each worker ends with the piece that it
-/// makes.
+/// The rows of a batch, in order: the same for every crew. The gate is told of each piece when its rows are made, and
+/// may stop the run: then each worker ends with the piece that it makes.
 pub fn run_places<R: Threads + Wait, G: Gate>(
-    rt: &R,
-    alloc: Global,
-    plan: &Plan,
-    places: &[usize],
-    workers: u32,
-    group: u32,
+    crew: &Crew<'_, R>,
+    batch: &Batch<'_>,
     gate: &G,
 ) -> Result<Rows, PlacesError>
-    requires within { AreWithin plan.now places.now }
-    requires rising { IsStrictlyIncreasing places.now }
-    requires workers { (0 < workers) × (workers ≤ 64) }
-    requires group { (0 < group) × (group ≤ 4096) }
-    requires gate { Hears (G.awaits gate.now) (rows_at plan.now places.now) group }
-    ensures { IfOk result (λ rows. rows ≡ rows_at plan.now places.now) }
+    requires { Hears (G.awaits gate.now) (batch_rows batch.now) crew.now.group }
+    ensures { IfOk result (λ rows. rows ≡ batch_rows batch.now) }
 {
-    check_places(plan, places);
-    let made = made_by_threads(rt, alloc, plan, places, workers, group, gate)?;
+    let pieces = Pieces {
+        batch: *batch,
+        group: crew.group,
+    };
+    let made = make_pieces(crew, &pieces, gate)?;
     if made.stopped {
         return Err(PlacesError::Stopped);
     }
-    Ok(rows_kept_or_made(alloc, made.slots, plan, places, group, gate)?)
+    Ok(all_rows(crew.alloc, made.slots, &pieces, gate)?)
 }

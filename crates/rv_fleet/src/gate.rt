@@ -5,7 +5,7 @@ use rv_rows::Rows;
 /// Entered once for each piece that is run, by the worker that has the piece and before its first row.
 pub trait Gate: Sync {
     ghost use Rattle.std.specs.Prelude.{ℕ, List, IsFalse};
-    ghost use Rattle.rv_rows.specs.declared.row.Row.{Row};
+    ghost use Rattle.rv_rows.specs.declared_row.Row.{Row};
 
     // The rows that it may be told of a piece. A gate that hears nothing may be told anything.
     ghost awaits: { Self → ℕ → List Row → Type 0 } = { λ _ _ _. Unit {0} };

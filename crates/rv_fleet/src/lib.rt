@@ -2,19 +2,25 @@
 //!
 //! [`run_fleet`] runs a plan in threads: each calls [`work`] with a pass of its own, which makes the pieces that the
 //! pass draws. Its report is that of [`run_one`], for every number of workers and of jobs in a piece. [`run_places`]
-//! runs the jobs at some places, and tells the [`Gate`] of each piece when it is made. The rows and the shared draw are
+//! runs a [`Batch`] by a [`Crew`], and tells the [`Gate`] of each piece when it is made. The rows and the shared draw are
 //! those of the crates below, and stand here under their names too.
 #![tactic(auto)]
 
-mod choice;
+mod batch;
 mod collect;
+mod crew;
 mod fleet;
 mod gate;
 mod piece;
+mod pieces;
+mod places;
 mod threads;
+mod workbench;
 mod worked;
 mod worker;
 
+pub use batch::Batch;
+pub use crew::Crew;
 pub use fleet::{FleetError, PlacesError, run_fleet, run_places};
 pub use gate::{FreeGate, Gate};
 pub use piece::Piece;

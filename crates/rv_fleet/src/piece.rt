@@ -1,15 +1,13 @@
-//! Pieces: jobs of a plan in groups, in list order.
+//! One piece of a batch.
 
-ghost use Rattle.std.specs.Prelude.{◌≡◌, ◌<◌, ◌≤◌, IfOk, OnOk, IsFalse};
-ghost use Rattle.std.specs.Fork.{slice_chunk};
+ghost use Rattle.std.specs.Prelude.{◌≡◌, ◌<◌, IfOk, OnOk, IsFalse};
 ghost use Rattle.rv_rows.specs.Recent.{AreOutcomes};
-ghost use Rattle.rv_rows.specs.Rows.{rows_at};
-ghost use Rattle.rv_fleet.specs.Choices.{AreChosen};
-ghost use Rattle.rv_fleet.specs.Pieces.{pieces_in, piece_for};
+ghost use Rattle.rv_fleet.specs.Pieces.{count_in, piece_in, rows_in};
 
 use crate::gate::Gate;
-use rv_jobs::Plan;
-use rv_rows::{Recent, Rows, Spare, next_row};
+use crate::pieces::Pieces;
+use crate::workbench::Workbench;
+use rv_rows::{Rows, next_row};
 use std::alloc::{AllocError, Global};
 
 /// The rows of the jobs at the places from `number * group` on: a group of them, or as many as there are.
@@ -27,41 +25,23 @@ pub(crate) struct MadePiece {
     pub(crate) goes_on: bool,
 }
 
-/// How many pieces the jobs at the places have.
-#[tactic(auto, using(crate::proofs::Collects::rows_count))]
-pub(crate) fn piece_count(plan: &Plan, places: &[usize], group: u32) -> u64
-    requires group { 0 < group }
-    requires places { AreChosen plan.now places.now }
-    ensures value { result ≡ pieces_in (rows_at plan.now places.now) group }
-    ensures few { result ≤ 4096 }
-{
-    places.len().div_ceil(group as usize) as u64
-}
-
 /// A piece, made behind the gate, which is told of its rows.
 pub(crate) fn make_piece<G: Gate>(
     alloc: Global,
-    plan: &Plan,
-    places: &[usize],
-    group: u32,
+    pieces: &Pieces<'_>,
     gate: &G,
     number: u64,
-    spare: &mut Spare,
-    recent: &mut Recent,
+    bench: &mut Workbench,
 ) -> Result<MadePiece, AllocError>
-    requires group { 0 < group }
-    requires places { AreChosen plan.now places.now }
-    requires number { number < pieces_in (rows_at plan.now places.now) group }
-    requires gate { G.awaits gate.now number (slice_chunk
-        (rows_at plan.now places.now) group number) }
-    requires recent { AreOutcomes plan.now recent.old }
-    ensures piece { IfOk result (λ made. made.piece
-        ≡ piece_for (rows_at plan.now places.now) group number) }
-    ensures recent { OnOk result (AreOutcomes plan.now recent.new) }
+    requires number { number < count_in pieces.now }
+    requires gate { G.awaits gate.now number (rows_in pieces.now number) }
+    requires recent { AreOutcomes pieces.now.batch.plan.now bench.old.recent }
+    ensures piece { IfOk result (λ made. made.piece ≡ piece_in pieces.now number) }
+    ensures recent { OnOk result (AreOutcomes pieces.now.batch.plan.now bench.new.recent) }
     ensures goes_on { IfOk result (λ made. IsFalse made.goes_on → G.stops gate.now) }
 {
     gate.enter(number);
-    let rows = rows_of_piece(alloc, plan, places, group, number, spare, recent)?;
+    let rows = rows_of_piece(alloc, pieces, number, bench)?;
     let goes_on = gate.made(number, &rows);
     let piece = Piece { number, rows };
     Ok(MadePiece { piece, goes_on })
@@ -69,28 +49,24 @@ pub(crate) fn make_piece<G: Gate>(
 
 fn rows_of_piece(
     alloc: Global,
-    plan: &Plan,
-    places: &[usize],
-    group: u32,
+    pieces: &Pieces<'_>,
     number: u64,
-    spare: &mut Spare,
-    recent: &mut Recent,
+    bench: &mut Workbench,
 ) -> Result<Rows, AllocError>
-    requires group { 0 < group }
-    requires places { AreChosen plan.now places.now }
-    requires number { number < pieces_in (rows_at plan.now places.now) group }
-    requires recent { AreOutcomes plan.now recent.old }
-    ensures rows { IfOk result (λ rows. rows ≡ slice_chunk
-        (rows_at plan.now places.now) group number) }
-    ensures recent { OnOk result (AreOutcomes plan.now recent.new) }
+    requires number { number < count_in pieces.now }
+    requires recent { AreOutcomes pieces.now.batch.plan.now bench.old.recent }
+    ensures rows { IfOk result (λ rows. rows ≡ rows_in pieces.now number) }
+    ensures recent { OnOk result (AreOutcomes pieces.now.batch.plan.now bench.new.recent) }
 {
+    let (plan, places) = (pieces.batch.plan, pieces.batch.places);
     let jobs = places.len();
-    let group = group as usize;
+    let group = pieces.group as usize;
     let start = number as usize * group;
     let end = start + group.min(jobs - start);
     let mut rows = Vec::with_capacity(alloc, end - start)?;
     for i in start..end {
-        rows.push(next_row(alloc, plan, places[i], spare, recent)?)?;
+        let row = next_row(alloc, plan, places[i], &mut bench.spare, &mut bench.recent)?;
+        rows.push(row)?;
     }
     Ok(Rows::new(rows))
 }

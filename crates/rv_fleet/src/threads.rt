@@ -1,51 +1,46 @@
 //! The threads of a fleet: each draws pieces with a pass of its own and makes them.
 
-ghost use Rattle.std.specs.Prelude.{◌≡◌, ◌<◌, ◌≤◌, [], IfOk};
+ghost use Rattle.std.specs.Prelude.{◌≡◌, [], IfOk};
 ghost use Rattle.rv_rows.specs.Rows.{rows_at};
-ghost use Rattle.rv_fleet.specs.Choices.{AreChosen};
+ghost use Rattle.rv_fleet.specs.Batches.{batch_rows};
 ghost use Rattle.rv_fleet.specs.Collected.{IsFilled};
-ghost use Rattle.rv_fleet.specs.Pieces.{Hears};
+ghost use Rattle.rv_fleet.specs.Pieces.{CanHear, count_in};
 ghost use Rattle.rv_fleet.specs.Promised.{AreFresh, HasWorked, HaveWorked};
 ghost use Rattle.rv_fleet.specs.Started.{CanWork};
 
+use crate::batch::Batch;
 use crate::collect::{Collected, collect};
+use crate::crew::Crew;
 use crate::fleet::FleetError;
 use crate::gate::Gate;
-use crate::piece::piece_count;
+use crate::pieces::Pieces;
 use crate::worked::{Worked, Works};
 use crate::worker::work_with;
 use rv_claims::{Claims, Pass, SplitError};
-use rv_jobs::Plan;
 use std::alloc::{AllocError, Global};
 use std::sync::Wait;
 use std::thread;
 use std::thread::Threads;
 
-/// What threads make of the jobs at the places: as many threads as `workers` says, or as there are pieces.
-pub(crate) fn made_by_threads<R: Threads + Wait, G: Gate>(
-    rt: &R,
-    alloc: Global,
-    plan: &Plan,
-    places: &[usize],
-    workers: u32,
-    group: u32,
+/// What threads make of pieces: as many threads as the crew has, or as there are pieces.
+pub(crate) fn make_pieces<R: Threads + Wait, G: Gate>(
+    crew: &Crew<'_, R>,
+    pieces: &Pieces<'_>,
     gate: &G,
 ) -> Result<Collected, FleetError>
-    requires chosen { AreChosen plan.now places.now }
-    requires workers { (0 < workers) × (workers ≤ 64) }
-    requires group { (0 < group) × (group ≤ 4096) }
-    requires gate { Hears (G.awaits gate.now) (rows_at plan.now places.now) group }
-    ensures { IfOk result (λ made. IsFilled (rows_at plan.now places.now) group made.slots.items) }
+    requires { CanHear (G.awaits gate.now) pieces.now }
+    ensures { IfOk result (λ made. IsFilled pieces.now made.slots.items) }
 {
-    let pieces = piece_count(plan, places, group);
-    let (claims, first) = Claims::new(alloc, pieces)?;
-    let passes = split_passes(alloc, &claims, first, pieces.min(u64::from(workers)))?;
-    let worked = run_workers(rt, alloc, &claims, passes, plan, places, group, gate)?;
+    let alloc = crew.alloc;
+    let count = pieces.count();
+    let (claims, first) = Claims::new(alloc, count)?;
+    let passes = split_passes(alloc, &claims, first, count.min(u64::from(crew.workers)))?;
+    let worked = run_workers(crew, &claims, passes, pieces, gate)?;
     let Collected {
         slots,
         pass,
         stopped,
-    } = collect(alloc, &claims, worked, plan, places, group)?;
+    } = collect(alloc, &claims, worked, pieces)?;
     if let Some(pass) = pass {
         // The rows rest on what the workers promise, and not on this answer: a piece that nobody made is made later.
         let _each_once = claims.finish(pass);
@@ -90,20 +85,21 @@ fn split_passes(
 
 /// A thread for each pass: what each made. It returns when all of them have ended.
 fn run_workers<R: Threads + Wait, G: Gate>(
-    rt: &R,
-    alloc: Global,
+    crew: &Crew<'_, R>,
     claims: &Claims,
     passes: Vec<Pass>,
-    plan: &Plan,
-    places: &[usize],
-    group: u32,
+    pieces: &Pieces<'_>,
     gate: &G,
 ) -> Result<Vec<Worked>, FleetError>
-    requires work { CanWork plan.now places.now group claims.now (G.awaits gate.now) }
+    requires pieces { claims.now.pieces ≡ count_in pieces.now }
+    requires gate { CanHear (G.awaits gate.now) pieces.now }
     requires passes { AreFresh claims.now passes.items }
     ensures { IfOk result (λ worked. HaveWorked
-        (rows_at plan.now places.now) group claims.now worked.items) }
+        (batch_rows pieces.now.batch) pieces.now.group claims.now worked.items) }
 {
+    let (rt, alloc) = (crew.rt, crew.alloc);
+    // The closures capture plain references: what a closure ensures is not known where a captured type has a lifetime.
+    let (plan, places, group) = (pieces.batch.plan, pieces.batch.places, pieces.group);
     thread::scope(
         thread::scope_env(),
         rt,
@@ -128,14 +124,20 @@ fn run_workers<R: Threads + Wait, G: Gate>(
                             × (pass.draw ≡ claims.now) × (pass.draws ≡ []) }
                         ensures { HasWorked (rows_at plan.entry.now places.entry.now) group
                             claims.entry.now result }
-                    { work_with(alloc, claims, pass, plan, places, group, gate) },
+                    {
+                        let batch = Batch { plan, places };
+                        work_with(alloc, claims, pass, &Pieces { batch, group }, gate)
+                    },
                 ) else {
+                    // No worker: `spawn_with` fails where the start of a thread was refused.
                     return Err(FleetError::NoWorker);
                 };
                 let Ok(()) = handles.push(handle) else {
+                    // Out of memory: `push` fails by that alone.
                     return Err(FleetError::OutOfMemory);
                 };
             }
+            // Out of memory: `join_promised` fails by that alone.
             thread::join_promised(rt, handles).map_err(|_| FleetError::OutOfMemory)
         },
     )

@@ -9,6 +9,8 @@ use Rattle.std.proofs.lemmas.Bool.{true≢false}
 use Rattle.std.proofs.lemmas.Grind.{flat_map-append}
 use Rattle.std.proofs.lemmas.List.{length-take, take_all}
 use Rattle.std.proofs.lemmas.List.Sums.{count_by-le-length, count_by_more_no, count_by_more_yes}
+use Rattle.rv_expect.specs.declared.ways.Way.{Way}
+use Rattle.rv_expect.specs.Ways.{way_at}
 use Rattle.rv_job_text.specs.LastLine.{bracket, failures_below, opened, way_name}
 use Rattle.rv_text.proofs.Public.{more}
 
@@ -65,20 +67,22 @@ bracket-none (first ∷ others) is_open old new begun none so_far =
     let filled : (length (first ∷ others) == 0) ≡ false = ne_eqb (length (first ∷ others)) 0 (omega arith) in
     absurd (true≢false (ap not (sym filled) ∙ (sym begun ∙ none)))
 
--- ---- the ways below one more
+-- ---- the ways below one place more
 
-pub failures_below-none : (count : ℕ → ℕ) (way : ℕ) → count way ≡ 0 →
-    failures_below count (way + 1) ≡ failures_below count way
+pub failures_below-none : (count : Way → ℕ) (place : ℕ) → count (way_at place) ≡ 0 →
+    failures_below count (place + 1) ≡ failures_below count place
 unfolding failures_below
-failures_below-none count way none = rw (add-one way, none) (append-nil (failures_below count way))
+failures_below-none count place none = rw (add-one place, none) (append-nil (failures_below count place))
 
-pub failures_below-some : (count : ℕ → ℕ) (way : ℕ) → 0 < count way →
-    failures_below count (way + 1) ≡ failures_below count way ++ (decimal (count way) ++ codes " " ++ way_name way) ∷ []
+pub failures_below-some : (count : Way → ℕ) (place : ℕ) → 0 < count (way_at place) →
+    failures_below count (place + 1)
+    ≡ failures_below count place ++ (decimal (count (way_at place)) ++ codes " " ++ way_name (way_at place)) ∷ []
 unfolding failures_below
-failures_below-some count way some =
-    let other : (count way == 0) ≡ false = ne_eqb (count way) 0 (omega arith) in
-    rw add-one (ap (λ t. failures_below count way
-    ++ cond t [] ((decimal (count way) ++ codes " " ++ way_name way) ∷ [])) other)
+failures_below-some count place some =
+    let how = way_at place in
+    let other : (count how == 0) ≡ false = ne_eqb (count how) 0 (omega arith) in
+    rw add-one (ap (λ t. failures_below count place
+    ++ cond t [] ((decimal (count how) ++ codes " " ++ way_name how) ∷ [])) other)
 
 pub is_begun : (texts : List (List ℕ)) (text : List ℕ) → true ≡ not (length (texts ++ text ∷ []) == 0)
 is_begun texts text =

@@ -7,9 +7,9 @@ use Rattle.rv_elf.specs.Image.{image_of}
 use Rattle.rv_elf.specs.Nearest.{symbol_at}
 use Rattle.rv_elf.specs.Symbols.{symbol_of}
 use Rattle.rv_isa.specs.declared.sets.Isa.{Isa}
-use Rattle.rv_lists.specs.declared.job.Symbols.{Symbols}
-use Rattle.rv_rows.specs.declared.row.RowEnd.{RowEnd}
-use Rattle.rv_rows.specs.declared.row.RowEnd.TheVariants as ending
+use Rattle.rv_jobs.specs.declared_job.Symbols.{Symbols}
+use Rattle.rv_rows.specs.declared_row.RowEnd.{RowEnd}
+use Rattle.rv_rows.specs.declared_row.RowEnd.TheVariants as ending
 
 -- ---- a fault's place
 

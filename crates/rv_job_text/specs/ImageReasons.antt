@@ -13,8 +13,8 @@ use Rattle.rv_elf.specs.Image.{image_of}
 use Rattle.rv_elf.specs.Loading.{load_address, share}
 use Rattle.rv_elf.specs.Symbols.{symbol_of}
 use Rattle.rv_expect.specs.Refusal.{unfit_segment}
-use Rattle.rv_lists.specs.declared.job.Job.{Job}
-use Rattle.rv_lists.specs.declared.job.Symbols.{Symbols}
+use Rattle.rv_jobs.specs.declared_job.Job.{Job}
+use Rattle.rv_jobs.specs.declared_job.Symbols.{Symbols}
 use Rattle.rv_text.specs.Shown.{shown}
 use Rattle.rv_memory.specs.declared.map.Region.{Region}
 use Rattle.rv_memory.specs.Regions.{in_one}

@@ -1,31 +1,33 @@
 -- The last line: how many jobs there were, how many of them passed, and how the others ended.
 use Rattle.std.specs.Prelude.{◌==◌, ◌-◌, ℕ, zero, suc, List, [], ◌∷◌, ◌++◌}
-use Rattle.std.specs.Prelude.{codes, if◌then◌else◌, length, map, slice_index_or, sum_by, count_by}
+use Rattle.std.specs.Prelude.{codes, if◌then◌else◌, length, sum_by, count_by}
 use Rattle.std.specs.List.{flat_map}
 use Rattle.std.specs.Fmt.{decimal}
-use Rattle.rv_machine.specs.Faults.{fault_kinds, fault_name}
-use Rattle.rv_rows.specs.declared.row.Row.{Row}
+use Rattle.rv_machine.specs.Faults.{fault_name}
+use Rattle.rv_rows.specs.declared_row.Row.{Row}
 use Rattle.rv_rows.specs.Report.{line}
 use Rattle.rv_expect.specs.declared.passing.Rule.{Rule}
 use Rattle.rv_expect.specs.Passing.{has_passed}
-use Rattle.rv_expect.specs.Ways.{fails_by, ways}
+use Rattle.rv_expect.specs.declared.ways.Way.{Way}
+use Rattle.rv_expect.specs.declared.ways.Way.TheVariants as way
+use Rattle.rv_expect.specs.Ways.{fails_by, way_at, ways}
 
 -- ---- ways to end
 
--- the words for them, in the order in which they are told
-abbrev pub way_names : List (List ℕ)
-way_names = codes "exit" ∷ codes "budget" ∷ map fault_name fault_kinds ++ codes "refused" ∷ []
-
-abbrev pub way_name : ℕ → List ℕ
-way_name way = slice_index_or way_names way []
+-- the word for one
+abbrev pub way_name : Way → List ℕ
+way_name way.Exit = codes "exit"
+way_name way.Budget = codes "budget"
+way_name (way.Fault kind) = fault_name kind
+way_name way.Refused = codes "refused"
 
 -- ---- counts
 
 abbrev pub passed_count : Rule → List Row → ℕ
 passed_count rule rows = count_by (has_passed rule) rows
 
-abbrev pub failed_count : Rule → List Row → ℕ → ℕ
-failed_count rule rows way = count_by (fails_by rule way) rows
+abbrev pub failed_count : Rule → List Row → Way → ℕ
+failed_count rule rows how = count_by (fails_by rule how) rows
 
 abbrev pub steps_count : List Row → ℕ
 steps_count rows = sum_by (λ row. row.steps) rows
@@ -33,14 +35,14 @@ steps_count rows = sum_by (λ row. row.steps) rows
 -- ---- the line
 
 -- a way in which jobs failed, and how many: told where there are any
-abbrev pub failures_in : (ℕ → ℕ) → ℕ → List (List ℕ)
-failures_in count way =
-    if count way == 0 then [] else (decimal (count way) ++ codes " " ++ way_name way) ∷ []
+abbrev pub failures_in : (Way → ℕ) → Way → List (List ℕ)
+failures_in count how =
+    if count how == 0 then [] else (decimal (count how) ++ codes " " ++ way_name how) ∷ []
 
--- of the ways below a number, in order
-unfoldable pub failures_below : (ℕ → ℕ) → ℕ → List (List ℕ)
+-- of the ways below a place, in order
+unfoldable pub failures_below : (Way → ℕ) → ℕ → List (List ℕ)
 failures_below count zero = []
-failures_below count (suc way) = failures_below count way ++ failures_in count way
+failures_below count (suc place) = failures_below count place ++ failures_in count (way_at place)
 
 -- in brackets, with commas between; nothing where there is nothing
 abbrev pub opened : List (List ℕ) → List ℕ

@@ -2,9 +2,9 @@
 use Rattle.std.specs.Prelude.{ℕ, Bool, List, [], ◌++◌, Option, Some, None, codes, if◌then◌else◌}
 use Rattle.std.specs.Fmt.{decimal}
 use Rattle.rv_machine.specs.Faults.{fault_name}
-use Rattle.rv_rows.specs.declared.row.Row.{Row}
-use Rattle.rv_rows.specs.declared.row.RowEnd.{RowEnd}
-use Rattle.rv_rows.specs.declared.row.RowEnd.TheVariants as ending
+use Rattle.rv_rows.specs.declared_row.Row.{Row}
+use Rattle.rv_rows.specs.declared_row.RowEnd.{RowEnd}
+use Rattle.rv_rows.specs.declared_row.RowEnd.TheVariants as ending
 use Rattle.rv_rows.specs.Report.{line, refusal_name}
 use Rattle.rv_text.specs.Words.{word_digits}
 use Rattle.rv_expect.specs.declared.passing.Rule.{Rule}

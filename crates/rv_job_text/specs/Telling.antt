@@ -2,19 +2,21 @@
 use Rattle.std.specs.Prelude.{ℕ, List, [], ◌++◌, Option, Some, None, Bool, true, false}
 use Rattle.std.specs.Prelude.{if◌then◌else◌, slice_get}
 use Rattle.rv_expect.specs.declared.unmet.Unmet.{Unmet}
-use Rattle.rv_expect.specs.Planned.{named_row, unmet_in}
+use Rattle.rv_expect.specs.Comparisons.{Sides}
+use Rattle.rv_expect.specs.Planned.{sides_in, unmet_in}
 use Rattle.rv_files.specs.declared.noting.Unread.{Unread}
-use Rattle.rv_lists.specs.declared.job.Job.{Job}
+use Rattle.rv_jobs.specs.declared_job.Job.{Job}
 use Rattle.rv_jobs.specs.Plans.{Planned, kept_for}
 use Rattle.rv_expect.specs.declared.passing.Rule.{Rule}
 use Rattle.rv_job_text.specs.ConsoleTail.{console_tail}
 use Rattle.rv_expect.specs.Passing.{has_passed}
 use Rattle.rv_job_text.specs.ResultLine.{result_line}
 use Rattle.rv_job_text.specs.MetLines.{met_lines}
-use Rattle.rv_job_text.specs.UnmetLines.{Comparison, unmet_lines}
-use Rattle.rv_rows.specs.declared.row.Row.{Row}
-use Rattle.rv_rows.specs.Rows.{bytes_in, console_in, reference_in}
+use Rattle.rv_job_text.specs.UnmetLines.{unmet_lines}
+use Rattle.rv_rows.specs.declared_row.Row.{Row}
+use Rattle.rv_rows.specs.Rows.{bytes_in}
 use Rattle.rv_rows.specs.Verdict.{is_run}
+use Rattle.rv_job_text.specs.declared.row_telling.RowTelling.{RowTelling}
 use Rattle.rv_job_text.specs.declared.verbosity.Detail.{Detail}
 use Rattle.rv_job_text.specs.declared.verbosity.Detail.TheVariants as detail
 use Rattle.rv_job_text.specs.declared.verbosity.Verbosity.{Verbosity}
@@ -24,20 +26,31 @@ use Rattle.rv_job_text.specs.Reasons.{reason_of}
 use Rattle.rv_job_text.specs.WayToEnd.{way_of}
 use Rattle.rv_trace.specs.Trace.{trace_in}
 
+-- the rows of which plan are told, with what was noted of its paths, by which rule, how much of them,
+-- and how many of the last instructions of a job that failed, where they are
+pub record Telling : Type 0 where
+  pub plan : Planned
+  pub unread : List Unread
+  pub rule : Rule
+  pub verbosity : Verbosity
+  pub last : Option ℕ
+
+abbrev pub telling_of : RowTelling → Telling
+telling_of telling = record {
+  plan = telling.plan.now;
+  unread = telling.unread.now;
+  rule = telling.rule;
+  verbosity = telling.verbosity;
+  last = telling.last;
+}
+
 -- the bytes that the plan has of a job's image
 abbrev pub image_bytes : Planned → Job → Option (List ℕ)
 image_bytes plan job = bytes_in (Some (kept_for plan.answers job.image))
 
--- what the row of a job is compared with
-unfoldable pub comparison_in : Planned → Job → Row → Comparison
-comparison_in plan job row = record {
-  job = job;
-  row = row;
-  console = console_in plan.answers job;
-  reference = reference_in plan.answers job;
-  other = named_row plan job;
-  address = signature_begin job.isa (image_bytes plan job) job.signature;
-}
+-- the address of the first word of a job's signature, where it is known
+abbrev pub signature_address : Planned → Job → Option ℕ
+signature_address plan job = signature_begin job.isa (image_bytes plan job) job.signature
 
 -- the line of a row: a fault's place by its symbol too, a refusal with its reason
 unfoldable pub line_of_row : Planned → List Unread → Rule → Job → Row → List ℕ
@@ -55,13 +68,15 @@ way_if_asked plan job row None = []
 way_if_asked plan job row (Some last) = way_lines plan job row last
 
 -- the expectations that a run does not meet, and behind them, where all are told, those that it does
-abbrev pub compared_lines : Detail → Comparison → List Unmet → List ℕ
-compared_lines detail.Unmet sides unmet = unmet_lines sides unmet
-compared_lines detail.All sides unmet = unmet_lines sides unmet ++ met_lines sides unmet
+abbrev pub compared_lines : Detail → Option ℕ → Sides → List Unmet → List ℕ
+compared_lines detail.Unmet address sides unmet = unmet_lines address sides unmet
+compared_lines detail.All address sides unmet =
+    unmet_lines address sides unmet ++ met_lines sides unmet
 
 abbrev pub expectation_lines : Detail → Planned → Job → Row → List ℕ
 expectation_lines which plan job row =
-    compared_lines which (comparison_in plan job row) (unmet_in plan job row)
+    compared_lines which (signature_address plan job) (sides_in plan job row)
+    (unmet_in plan job row)
 
 -- the expectations that a run does not meet, the end of its console, and how it came to its end where
 -- that is asked for
@@ -75,30 +90,26 @@ abbrev pub lines_behind : Planned → Job → Row → Option ℕ → List ℕ
 lines_behind plan job row last = if is_run row.ending then run_lines plan job row last else []
 
 -- whether anything is told of a row that passed, or failed
-abbrev pub is_told : Verbosity → Bool → Bool
-is_told Quiet passed = false
-is_told Failures passed = if passed then false else true
-is_told All passed = true
+abbrev pub tells_of : Verbosity → Bool → Bool
+tells_of Quiet passed = false
+tells_of Failures passed = if passed then false else true
+tells_of All passed = true
 
-unfoldable pub told_of_row :
-    Planned → List Unread → Rule → Verbosity → Option ℕ → Job → Row → List ℕ
-told_of_row plan unread rule verbosity last job row =
-    if is_told verbosity (has_passed rule row)
-    then line_of_row plan unread rule job row
-    ++ (if has_passed rule row then [] else lines_behind plan job row last)
+unfoldable pub told_of_row : Telling → Job → Row → List ℕ
+told_of_row telling job row =
+    if tells_of telling.verbosity (has_passed telling.rule row)
+    then line_of_row telling.plan telling.unread telling.rule job row
+    ++ (if has_passed telling.rule row then []
+    else lines_behind telling.plan job row telling.last)
     else []
 
 -- of the row of the job at a place; nothing where there is no job
-abbrev pub told_of_job :
-    Planned → List Unread → Rule → Verbosity → Option ℕ → Row → Option Job → List ℕ
-told_of_job plan unread rule verbosity last row None = []
-told_of_job plan unread rule verbosity last row (Some job) =
-    told_of_row plan unread rule verbosity last job row
+abbrev pub told_of_job : Telling → Row → Option Job → List ℕ
+told_of_job telling row None = []
+told_of_job telling row (Some job) = told_of_row telling job row
 
-unfoldable pub told_at :
-    Planned → List Unread → Rule → Verbosity → Option ℕ → ℕ → Row → List ℕ
-told_at plan unread rule verbosity last place row =
-    told_of_job plan unread rule verbosity last row (slice_get plan.jobs place)
+unfoldable pub told_at : Telling → ℕ → Row → List ℕ
+told_at telling place row = told_of_job telling row (slice_get telling.plan.jobs place)
 
 -- ---- a job that is explained
 

@@ -13,41 +13,19 @@ use Rattle.rv_expect.specs.declared.difference.SignatureDifference.{SignatureDif
 use Rattle.rv_expect.specs.declared.difference.SignatureDifference.TheVariants as signature
 use Rattle.rv_expect.specs.declared.unmet.Unmet.{Unmet}
 use Rattle.rv_expect.specs.declared.unmet.Unmet.TheVariants as unmet
+use Rattle.rv_expect.specs.Comparisons.{Sides}
 use Rattle.rv_expect.specs.Reference.{words_or_none}
-use Rattle.rv_lists.specs.declared.job.ExpectedConsole.{ExpectedConsole}
-use Rattle.rv_lists.specs.declared.job.ExpectedConsole.TheVariants as console
-use Rattle.rv_lists.specs.declared.job.ExpectedEnd.{ExpectedEnd}
-use Rattle.rv_lists.specs.declared.job.ExpectedEnd.TheVariants as expected
-use Rattle.rv_lists.specs.declared.job.Job.{Job}
-use Rattle.rv_job_text.specs.declared.unmet_line.Sides.{Sides}
+use Rattle.rv_jobs.specs.declared_job.ExpectedConsole.{ExpectedConsole}
+use Rattle.rv_jobs.specs.declared_job.ExpectedConsole.TheVariants as console
+use Rattle.rv_jobs.specs.declared_job.ExpectedEnd.{ExpectedEnd}
+use Rattle.rv_jobs.specs.declared_job.ExpectedEnd.TheVariants as expected
 use Rattle.rv_text.specs.Shown.{shown, shown_value}
 use Rattle.rv_machine.specs.Faults.{fault_name}
-use Rattle.rv_rows.specs.declared.row.Row.{Row}
-use Rattle.rv_rows.specs.declared.row.RowEnd.{RowEnd}
-use Rattle.rv_rows.specs.declared.row.RowEnd.TheVariants as ending
+use Rattle.rv_rows.specs.declared_row.Row.{Row}
+use Rattle.rv_rows.specs.declared_row.RowEnd.{RowEnd}
+use Rattle.rv_rows.specs.declared_row.RowEnd.TheVariants as ending
 use Rattle.rv_rows.specs.Report.{line, refusal_name}
 use Rattle.rv_text.specs.Words.{word_digits}
-
--- what stands beside an expectation: the job and its row, the bytes that were read of the files
--- that its console and its signature are compared with, the row of the job that it names, and the
--- address of the first word of its signature
-pub record Comparison : Type 0 where
-  pub job : Job
-  pub row : Row
-  pub console : Option (List ℕ)
-  pub reference : Option (List ℕ)
-  pub other : Option Row
-  pub address : Option ℕ
-
-abbrev pub comparison_of : Sides → Comparison
-comparison_of sides = record {
-  job = sides.job.now;
-  row = sides.row.now;
-  console = option_map (λ bytes. bytes.now) sides.console;
-  reference = option_map (λ bytes. bytes.now) sides.reference;
-  other = option_map (λ row. row.now) sides.other;
-  address = sides.address;
-}
 
 -- ---- the exit code and the end
 
@@ -62,13 +40,13 @@ end_text (Some (expected.Fault kind)) = codes "the end " ++ fault_name kind
 
 -- ---- bytes
 
-abbrev pub quoted : List ℕ → List ℕ
-quoted value = codes "\"" ++ shown_value value ++ codes "\""
+abbrev pub quoted_value : List ℕ → List ℕ
+quoted_value value = codes "\"" ++ shown_value value ++ codes "\""
 
 unfoldable pub byte_text : ℕ → List ℕ → List ℕ → List ℕ
 byte_text place met wanted =
-    codes "byte " ++ decimal place ++ codes " is " ++ quoted (drop place met)
-    ++ codes ", expected " ++ quoted (drop place wanted)
+    codes "byte " ++ decimal place ++ codes " is " ++ quoted_value (drop place met)
+    ++ codes ", expected " ++ quoted_value (drop place wanted)
 
 -- so many bytes or words were met
 unfoldable pub count_text : ℕ → List ℕ → ℕ → List ℕ
@@ -182,22 +160,22 @@ same_text first row (Some other) difference =
 
 -- ---- the line
 
-unfoldable pub unmet_text : Comparison → Unmet → List ℕ
-unmet_text sides unmet.Exit = exit_text sides.job.expect_exit
-unmet_text sides unmet.End = end_text sides.job.expect_end
-unmet_text sides (unmet.Console difference) =
+-- the address is that of the first word of the signature, where it is known
+unfoldable pub unmet_text : Option ℕ → Sides → Unmet → List ℕ
+unmet_text address sides unmet.Exit = exit_text sides.job.expect_exit
+unmet_text address sides unmet.End = end_text sides.job.expect_end
+unmet_text address sides (unmet.Console difference) =
     console_text sides.job.expect_console sides.console sides.row.console difference
-unmet_text sides (unmet.Signature difference) =
-    signature_text sides.address sides.job.expect_signature sides.row.signature sides.reference
-    difference
-unmet_text sides (unmet.Same difference) =
-    same_text sides.address sides.row sides.other difference
-unmet_text sides unmet.Nothing = codes "exit 0, since it expects nothing else"
+unmet_text address sides (unmet.Signature difference) =
+    signature_text address sides.job.expect_signature sides.row.signature sides.reference difference
+unmet_text address sides (unmet.Same difference) =
+    same_text address sides.row sides.other difference
+unmet_text address sides unmet.Nothing = codes "exit 0, since it expects nothing else"
 
 -- behind five spaces
-unfoldable pub unmet_line : Comparison → Unmet → List ℕ
-unmet_line sides unmet = line (codes "     expected " ++ unmet_text sides unmet)
+unfoldable pub unmet_line : Option ℕ → Sides → Unmet → List ℕ
+unmet_line address sides unmet = line (codes "     expected " ++ unmet_text address sides unmet)
 
 -- in their order
-abbrev pub unmet_lines : Comparison → List Unmet → List ℕ
-unmet_lines sides unmet = flat_map (unmet_line sides) unmet
+abbrev pub unmet_lines : Option ℕ → Sides → List Unmet → List ℕ
+unmet_lines address sides unmet = flat_map (unmet_line address sides) unmet

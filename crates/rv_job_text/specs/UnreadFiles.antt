@@ -6,7 +6,7 @@ use Rattle.std.specs.declared.io.ErrorKind.TheVariants as kind
 use Rattle.std.specs.List.{find}
 use Rattle.std.specs.Str.{bytes_eq}
 use Rattle.rv_files.specs.declared.noting.Unread.{Unread}
-use Rattle.rv_jobs.specs.Stores.{most_bytes}
+use Rattle.rv_jobs.specs.Limits.{most_bytes}
 
 -- what the system said when a file was opened or read: three things in plain words, others that it
 -- may say of a file as the standard library words them

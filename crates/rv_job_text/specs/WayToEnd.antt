@@ -4,7 +4,7 @@ use Rattle.rv_elf.specs.declared.error.ImageError.{ImageError}
 use Rattle.rv_elf.specs.declared.image.Image.{Image}
 use Rattle.rv_elf.specs.Image.{image_of}
 use Rattle.rv_isa.specs.declared.sets.Isa.{Isa}
-use Rattle.rv_rows.specs.declared.row.RowEnd.{RowEnd}
+use Rattle.rv_rows.specs.declared_row.RowEnd.{RowEnd}
 use Rattle.rv_trace.specs.declared.trace.Trace.{Trace}
 use Rattle.rv_trace.specs.Text.{trace_text}
 

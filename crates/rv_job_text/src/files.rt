@@ -1,7 +1,8 @@
 //! What the image of a job says of its run: the symbol of a fault's place, and where a signature stands.
 
-ghost use Rattle.std.specs.Prelude.{◌≡◌, ◌<◌, IfOk, IfSome, Some, length, option_map, slice_index_or};
-ghost use Rattle.rv_lists.specs.declared.job.Job.{Job as AJob};
+ghost use Rattle.std.specs.Prelude.{◌≡◌, ◌<◌, IfOk, IfSome, Some, length, option_map};
+ghost use Rattle.rv_jobs.specs.declared_job.Job.{Job as AJob};
+ghost use Rattle.rv_trace.specs.Trace.{job_at};
 ghost use Rattle.rv_jobs.specs.Plans.{kept_for};
 ghost use Rattle.rv_rows.specs.Rows.{bytes_in};
 ghost use Rattle.rv_elf.specs.Image.{IsImageOf, image_of};
@@ -19,7 +20,7 @@ use std::alloc::{AllocError, Global};
 pub(crate) fn image_bytes(plan: &Plan, place: usize) -> Option<&[u8]>
     requires { place < length plan.now.jobs }
     ensures { (d : AJob) → option_map (λ bytes. bytes.now) result
-        ≡ bytes_in (Some (kept_for plan.now.answers (slice_index_or plan.now.jobs place d).image)) }
+        ≡ bytes_in (Some (kept_for plan.now.answers (job_at plan.now place d).image)) }
 {
     match plan.image(place) {
         Kept::Content(bytes) => Some(bytes.as_slice()),

@@ -2,12 +2,12 @@
 
 ghost use Rattle.std.specs.Prelude.{◌≡◌, ◌++◌, OnOk, option_map};
 ghost use Rattle.std.specs.List.{flat_map};
+ghost use Rattle.rv_expect.specs.Comparisons.{sides_of};
 ghost use Rattle.rv_job_text.specs.MetLines.{met_line, met_lines, met_text, named_text, path_text};
-ghost use Rattle.rv_job_text.specs.UnmetLines.{comparison_of};
 
 use crate::paths::{console_path, reference_path};
-use crate::unmet_line::{Sides, push_end, push_exit};
-use rv_expect::{Expectation, Unmet, is_met};
+use crate::unmet_line::{push_end, push_exit};
+use rv_expect::{Comparison, Expectation, Unmet, is_met};
 use rv_rows::Row;
 use rv_text::{Span, push_spans, push_text};
 use std::alloc::AllocError;
@@ -17,15 +17,15 @@ use std::alloc::AllocError;
 #[tactic(auto, unfolding(crate::specs::MetLines::met_lines))]
 pub(crate) fn push_all_met(
     bytes: &mut Vec<u8>,
-    sides: &Sides<'_>,
+    comparison: &Comparison<'_, '_>,
     unmet: &[Unmet],
 ) -> Result<(), AllocError>
     ensures { OnOk result (bytes.new.items
-        ≡ bytes.old.items ++ met_lines (comparison_of sides.now) unmet.now) }
+        ≡ bytes.old.items ++ met_lines (sides_of comparison.now) unmet.now) }
 {
     push_each(
         bytes,
-        sides,
+        comparison,
         unmet,
         &[
             Expectation::Exit,
@@ -40,15 +40,15 @@ pub(crate) fn push_all_met(
 
 fn push_each(
     bytes: &mut Vec<u8>,
-    sides: &Sides<'_>,
+    comparison: &Comparison<'_, '_>,
     unmet: &[Unmet],
     expectations: &[Expectation],
 ) -> Result<(), AllocError>
     ensures { OnOk result (bytes.new.items ≡ bytes.old.items
-        ++ flat_map (met_line (comparison_of sides.now) unmet.now) expectations.now) }
+        ++ flat_map (met_line (sides_of comparison.now) unmet.now) expectations.now) }
 {
     for one in expectations {
-        push_met(bytes, sides, unmet, *one)?;
+        push_met(bytes, comparison, unmet, *one)?;
     }
     Ok(())
 }
@@ -56,36 +56,36 @@ fn push_each(
 #[tactic(auto, unfolding(crate::specs::MetLines::met_line))]
 fn push_met(
     bytes: &mut Vec<u8>,
-    sides: &Sides<'_>,
+    comparison: &Comparison<'_, '_>,
     unmet: &[Unmet],
     one: Expectation,
 ) -> Result<(), AllocError>
     ensures { OnOk result (bytes.new.items
-        ≡ bytes.old.items ++ met_line (comparison_of sides.now) unmet.now one) }
+        ≡ bytes.old.items ++ met_line (sides_of comparison.now) unmet.now one) }
 {
-    if !is_met(sides.job, unmet, one) {
+    if !is_met(comparison.job, unmet, one) {
         return Ok(());
     }
     push_text(bytes, "     met: ")?;
-    push_expectation(bytes, sides, one)?;
+    push_expectation(bytes, comparison, one)?;
     push_text(bytes, "\n")
 }
 
 #[tactic(auto, unfolding(crate::specs::MetLines::met_text))]
 fn push_expectation(
     bytes: &mut Vec<u8>,
-    sides: &Sides<'_>,
+    comparison: &Comparison<'_, '_>,
     one: Expectation,
 ) -> Result<(), AllocError>
     ensures { OnOk result (bytes.new.items
-        ≡ bytes.old.items ++ met_text (comparison_of sides.now) one) }
+        ≡ bytes.old.items ++ met_text (sides_of comparison.now) one) }
 {
     match one {
-        Expectation::Exit => push_exit(bytes, sides.job.expect_exit),
-        Expectation::End => push_end(bytes, sides.job.expect_end),
-        Expectation::Console => push_path(bytes, "the console", console_path(sides.job)),
-        Expectation::Signature => push_path(bytes, "the signature", reference_path(sides.job)),
-        Expectation::Same => push_named(bytes, sides.other),
+        Expectation::Exit => push_exit(bytes, comparison.job.expect_exit),
+        Expectation::End => push_end(bytes, comparison.job.expect_end),
+        Expectation::Console => push_path(bytes, "the console", console_path(comparison.job)),
+        Expectation::Signature => push_path(bytes, "the signature", reference_path(comparison.job)),
+        Expectation::Same => push_named(bytes, comparison.other),
         Expectation::Nothing => push_text(bytes, "exit 0, since it expects nothing else"),
     }
 }

@@ -1,7 +1,7 @@
 //! The paths of the files that a job's run is compared with.
 
 ghost use Rattle.std.specs.Prelude.{◌≡◌, option_map};
-ghost use Rattle.rv_lists.specs.Jobs.{console_path};
+ghost use Rattle.rv_jobs.specs.Jobs.{console_path};
 
 use rv_jobs::Job;
 

@@ -1,7 +1,8 @@
 //! Why a job was refused.
 
-ghost use Rattle.std.specs.Prelude.{◌≡◌, ◌<◌, IfOk, length, option_map, slice_index_or};
-ghost use Rattle.rv_lists.specs.declared.job.Job.{Job as AJob};
+ghost use Rattle.std.specs.Prelude.{◌≡◌, ◌<◌, IfOk, length, option_map};
+ghost use Rattle.rv_jobs.specs.declared_job.Job.{Job as AJob};
+ghost use Rattle.rv_trace.specs.Trace.{job_at};
 ghost use Rattle.rv_job_text.specs.Reasons.{image_refusal_text, path_without, reason_of, refusal_text};
 ghost use Rattle.rv_job_text.specs.Reasons.{refused_reference};
 ghost use Rattle.rv_job_text.specs.UnreadFiles.{long_text, unread_text};
@@ -27,7 +28,7 @@ pub fn reason_of(
 ) -> Result<Option<Vec<u8>>, AllocError>
     requires { place < length plan.now.jobs }
     ensures { IfOk result (λ reason. (d : AJob) → option_map (λ text. text.items) reason
-        ≡ reason_of plan.now.answers unread.now (slice_index_or plan.now.jobs place d) ending) }
+        ≡ reason_of plan.now.answers unread.now (job_at plan.now place d) ending) }
 {
     match ending {
         RowEnd::Refused(why) => refusal_text(alloc, plan, unread, place, why),
@@ -45,7 +46,7 @@ fn refusal_text(
 ) -> Result<Option<Vec<u8>>, AllocError>
     requires { place < length plan.now.jobs }
     ensures { IfOk result (λ reason. (d : AJob) → option_map (λ text. text.items) reason
-        ≡ refusal_text plan.now.answers unread.now (slice_index_or plan.now.jobs place d) why) }
+        ≡ refusal_text plan.now.answers unread.now (job_at plan.now place d) why) }
 {
     let image = plan.job(place).image.as_str();
     match why {
@@ -91,7 +92,7 @@ fn image_text(
 ) -> Result<Option<Vec<u8>>, AllocError>
     requires { place < length plan.now.jobs }
     ensures { IfOk result (λ reason. (d : AJob) → option_map (λ text. text.items) reason
-        ≡ image_refusal_text plan.now.answers (slice_index_or plan.now.jobs place d) why) }
+        ≡ image_refusal_text plan.now.answers (job_at plan.now place d) why) }
 {
     let Some(file) = image_bytes(plan, place) else {
         return Ok(None);
@@ -106,7 +107,7 @@ fn image_text(
 fn refused_reference(plan: &Plan, place: usize) -> Option<&str>
     requires { place < length plan.now.jobs }
     ensures { (d : AJob) → option_map (λ path. path.now) result
-        ≡ refused_reference plan.now.answers (slice_index_or plan.now.jobs place d) }
+        ≡ refused_reference plan.now.answers (job_at plan.now place d) }
 {
     let job = plan.job(place);
     match path_without(reference_bytes(plan, place), reference_path(job)) {

@@ -2,6 +2,7 @@
 
 ghost use Rattle.std.specs.Prelude.{◌≡◌, ◌++◌, OnOk, codes, option_map};
 ghost use Rattle.std.specs.Fmt.{decimal};
+ghost use Rattle.rv_expect.specs.Passing.{has_passed};
 ghost use Rattle.rv_machine.specs.Faults.{fault_name};
 ghost use Rattle.rv_rows.specs.Report.{refusal_name};
 ghost use Rattle.rv_text.specs.Words.{word_digits};
@@ -17,6 +18,15 @@ use rv_rows::{Refusal, Row, RowEnd};
 use rv_text::{Span, push_place, push_spans, push_text};
 use std::alloc::{AllocError, Global};
 
+/// What is known of how a job ended, beside its row.
+#[derive(Clone, Copy)]
+pub struct EndDetail<'a, 'b> {
+    /// The symbol of a fault's address.
+    pub symbol: Option<SymbolAt<'a>>,
+    /// Why the job was refused.
+    pub reason: Option<&'b [u8]>,
+}
+
 /// Appends the line of a row: `PASS` or `FAIL`, the job's name, and how it ended. A fault's address is told by a symbol
 /// too where one is given, and a refusal by its reason where that is given. The symbol's name and the reason are shown as
 /// [`push_shown`](rv_text::push_shown) does.
@@ -26,14 +36,14 @@ pub fn push_result(
     bytes: &mut Vec<u8>,
     rule: Rule,
     row: &Row,
-    place: Option<SymbolAt<'_>>,
-    reason: Option<&[u8]>,
+    detail: &EndDetail<'_, '_>,
 ) -> Result<(), AllocError>
     ensures { OnOk result (bytes.new.items ≡ bytes.old.items
-        ++ result_line rule row.now (option_map (λ s. (s.name.now, s.offset)) place.entry)
-        (option_map (λ text. text.now) reason.entry)) }
+        ++ result_line rule row.now
+        (option_map (λ s. (s.name.now, s.offset)) detail.now.symbol)
+        (option_map (λ text. text.now) detail.now.reason)) }
 {
-    let word = passing_word(has_passed(rule, row));
+    let word = passing_word(rule, row);
     push_spans(
         bytes,
         &[
@@ -42,14 +52,18 @@ pub fn push_result(
             Span::Text(": "),
         ],
     )?;
-    push_ending(alloc, bytes, row, place, reason)?;
+    push_ending(alloc, bytes, row, detail.symbol, detail.reason)?;
     push_text(bytes, "\n")
 }
 
-fn passing_word(passed: bool) -> &'static str
-    ensures { result.now ≡ passing_word passed }
+fn passing_word(rule: Rule, row: &Row) -> &'static str
+    ensures { result.now ≡ passing_word (has_passed rule row.now) }
 {
-    if passed { "PASS " } else { "FAIL " }
+    if has_passed(rule, row) {
+        "PASS "
+    } else {
+        "FAIL "
+    }
 }
 
 #[tactic(auto, unfolding(crate::specs::ResultLine::ending_text))]

@@ -3,6 +3,7 @@
 ghost use Rattle.std.specs.Prelude.{◌≡◌, ◌+◌, ◌++◌, OnOk, codes, option_map};
 ghost use Rattle.std.specs.List.{find};
 ghost use Rattle.rv_elf.specs.Loading.{load_address, share};
+ghost use Rattle.rv_memory.specs.Regions.{in_one};
 ghost use Rattle.rv_text.specs.Spans.{span_text};
 ghost use Rattle.rv_job_text.specs.ImageReasons.{last_text, map_text, outside_text, overlap_text, pair_text, range_text};
 ghost use Rattle.rv_job_text.specs.ImageReasons.{regions_text, sharing_segments};
@@ -25,8 +26,7 @@ pub(crate) fn push_unfit(
 {
     match segment {
         Some(segment) => {
-            let is_file_inside = is_file_inside(job, segment);
-            push_outside(bytes, is_file_inside, job.load, segment)?;
+            push_outside(bytes, job, segment)?;
             push_regions(bytes, job.regions.as_slice())
         }
         None => push_text(bytes, "a segment does not lie in one region"),
@@ -35,16 +35,13 @@ pub(crate) fn push_unfit(
 
 // What of a segment is outside: its memory where its bytes from the file are inside, else these.
 #[tactic(auto, unfolding(crate::specs::ImageReasons::outside_text))]
-fn push_outside(
-    bytes: &mut Vec<u8>,
-    is_file_inside: bool,
-    at: LoadAt,
-    segment: &Segment,
-) -> Result<(), AllocError>
+fn push_outside(bytes: &mut Vec<u8>, job: &Job, segment: &Segment) -> Result<(), AllocError>
     ensures { OnOk result (bytes.new.items ≡ bytes.old.items
-        ++ (outside_text is_file_inside at segment.now ++ codes ", do not lie in one region:")) }
+        ++ (outside_text (in_one job.now.regions (load_address job.now.load segment.now)
+        segment.now.filesz) job.now.load segment.now ++ codes ", do not lie in one region:")) }
 {
     let behind = ", do not lie in one region:";
+    let is_file_inside = is_file_inside(job, segment);
     if is_file_inside {
         let what = "a segment's bytes in memory, ";
         push_range(bytes, what, segment.vaddr, segment.memsz, behind)
@@ -53,7 +50,7 @@ fn push_outside(
         push_range(
             bytes,
             what,
-            load_address(at, segment),
+            load_address(job.load, segment),
             segment.filesz,
             behind,
         )

@@ -6,56 +6,59 @@ ghost use Rattle.rv_job_text.specs.UnmetLines.{absent_text, bad_line_text, digit
 ghost use Rattle.rv_job_text.specs.UnmetLines.{signature_text, signatures_text, word_at, word_text};
 
 use crate::difference_text::{bytes_or_none, push_count, push_topic};
-use rv_expect::{Difference, SignatureDifference, words_or_none};
-use rv_jobs::Text;
+use rv_expect::{Comparison, Difference, SignatureDifference, words_or_none};
 use rv_rows::{LINE, Words};
 use rv_text::{Span, push_spans, push_text};
 use std::alloc::AllocError;
 
-/// What differs from the signature that is expected.
+/// A reference: its path, and its bytes.
+#[derive(Clone, Copy)]
+struct ReferenceFile<'a> {
+    path: &'a str,
+    bytes: &'a [u8],
+}
+
+/// What differs from the signature that is expected. The address is that of its first word, where it is known.
 #[tactic(auto, unfolding(crate::specs::UnmetLines::signature_text))]
 pub(crate) fn push_signature(
     bytes: &mut Vec<u8>,
-    first: Option<u32>,
-    expected: &Option<Text>,
-    signature: &Option<Words>,
-    reference: Option<&[u8]>,
+    comparison: &Comparison<'_, '_>,
+    address: Option<u32>,
     difference: SignatureDifference,
 ) -> Result<(), AllocError>
     ensures { OnOk result (bytes.new.items ≡ bytes.old.items
-        ++ signature_text first expected.now signature.now
-        (option_map (λ bytes. bytes.now) reference.entry) difference) }
+        ++ signature_text address comparison.now.job.now.expect_signature
+        comparison.now.row.now.signature
+        (option_map (λ bytes. bytes.now) comparison.now.reference) difference) }
 {
-    let Some(path) = expected else {
+    let Some(path) = &comparison.job.expect_signature else {
         return push_text(bytes, "no signature");
     };
     let path = path.as_str();
     push_topic(bytes, "the signature of ", path)?;
-    push_reference(
-        bytes,
-        first,
+    let words = words_or_none(&comparison.row.signature);
+    let reference = ReferenceFile {
         path,
-        words_or_none(signature),
-        bytes_or_none(reference),
-        difference,
-    )
+        bytes: bytes_or_none(comparison.reference),
+    };
+    push_reference(bytes, address, words, &reference, difference)
 }
 
-// What differs from the reference at a path.
 #[tactic(auto, unfolding(crate::specs::UnmetLines::reference_text))]
 fn push_reference(
     bytes: &mut Vec<u8>,
     first: Option<u32>,
-    path: &str,
     words: &[u32],
-    text: &[u8],
+    reference: &ReferenceFile<'_>,
     difference: SignatureDifference,
 ) -> Result<(), AllocError>
     ensures { OnOk result (bytes.new.items ≡ bytes.old.items
-        ++ reference_text first path.now words.now text.now difference) }
+        ++ reference_text first reference.now.path.now words.now reference.now.bytes.now
+        difference) }
 {
+    let text = reference.bytes;
     match difference {
-        SignatureDifference::Line(number) => push_bad_line(bytes, number, path),
+        SignatureDifference::Line(number) => push_bad_line(bytes, number, reference.path),
         SignatureDifference::Word(place) => {
             let wanted = Span::Shown(digits_at(text, place));
             push_words(bytes, first, place, word_at(words, place), wanted)

@@ -1,86 +1,78 @@
 //! The line of an expectation that a run does not meet.
 
 ghost use Rattle.std.specs.Prelude.{◌≡◌, ◌++◌, OnOk, option_map};
-ghost use Rattle.rv_job_text.specs.UnmetLines.{comparison_of, end_text, ended_text, exit_text, same_text, rows_text};
+ghost use Rattle.rv_expect.specs.Comparisons.{sides_of};
+ghost use Rattle.rv_job_text.specs.UnmetLines.{end_text, ended_text, exit_text, same_text, rows_text};
 ghost use Rattle.rv_job_text.specs.UnmetLines.{unmet_line, unmet_lines, unmet_text};
 
 use crate::difference_text::{push_bytes, push_console, push_topic};
 use crate::signature_text::{push_signature, push_signatures};
-use rv_expect::{SameDifference, Unmet};
-use rv_jobs::{ExpectedEnd, Job};
+use rv_expect::{Comparison, SameDifference, Unmet};
+use rv_jobs::ExpectedEnd;
 use rv_rows::{Row, RowEnd};
 use rv_text::{Span, push_spans, push_text};
 use std::alloc::AllocError;
 
-/// What stands beside the expectations of a job: what `unmet_expectations` of `rv_expect` compared, and where the
-/// signature stands.
-#[derive(Clone, Copy)]
-pub(crate) struct Sides<'a> {
-    pub(crate) job: &'a Job,
-    /// The job's row.
-    pub(crate) row: &'a Row,
-    /// The bytes of the file that the console is compared with, where one was read.
-    pub(crate) console: Option<&'a [u8]>,
-    /// The bytes of the reference, where one was read.
-    pub(crate) reference: Option<&'a [u8]>,
-    /// The row of the job that this one names, where it was run.
-    pub(crate) other: Option<&'a Row>,
-    /// The address of the first word of the signature, where it is known.
-    pub(crate) address: Option<u32>,
-}
-
-/// Appends a line for each expectation that is not met, behind five spaces.
+/// Appends a line for each expectation that is not met, behind five spaces. The address is that of the first word of the
+/// signature, where it is known.
 pub(crate) fn push_all_unmet(
     bytes: &mut Vec<u8>,
-    sides: &Sides<'_>,
+    comparison: &Comparison<'_, '_>,
+    address: Option<u32>,
     unmet: &[Unmet],
 ) -> Result<(), AllocError>
     ensures { OnOk result (bytes.new.items
-        ≡ bytes.old.items ++ unmet_lines (comparison_of sides.now) unmet.now) }
+        ≡ bytes.old.items ++ unmet_lines address (sides_of comparison.now) unmet.now) }
 {
     for one in unmet {
-        push_unmet(bytes, sides, *one)?;
+        push_unmet(bytes, comparison, address, *one)?;
     }
     Ok(())
 }
 
 // Appends the line of an expectation that is not met, behind five spaces.
 #[tactic(auto, unfolding(crate::specs::UnmetLines::unmet_line))]
-fn push_unmet(bytes: &mut Vec<u8>, sides: &Sides<'_>, unmet: Unmet) -> Result<(), AllocError>
+fn push_unmet(
+    bytes: &mut Vec<u8>,
+    comparison: &Comparison<'_, '_>,
+    address: Option<u32>,
+    unmet: Unmet,
+) -> Result<(), AllocError>
     ensures { OnOk result (bytes.new.items
-        ≡ bytes.old.items ++ unmet_line (comparison_of sides.now) unmet) }
+        ≡ bytes.old.items ++ unmet_line address (sides_of comparison.now) unmet) }
 {
     push_text(bytes, "     expected ")?;
-    push_expectation(bytes, sides, unmet)?;
+    push_expectation(bytes, comparison, address, unmet)?;
     push_text(bytes, "\n")
 }
 
 #[tactic(auto, unfolding(crate::specs::UnmetLines::unmet_text))]
-fn push_expectation(bytes: &mut Vec<u8>, sides: &Sides<'_>, unmet: Unmet) -> Result<(), AllocError>
+fn push_expectation(
+    bytes: &mut Vec<u8>,
+    comparison: &Comparison<'_, '_>,
+    address: Option<u32>,
+    unmet: Unmet,
+) -> Result<(), AllocError>
     ensures { OnOk result (bytes.new.items
-        ≡ bytes.old.items ++ unmet_text (comparison_of sides.now) unmet) }
+        ≡ bytes.old.items ++ unmet_text address (sides_of comparison.now) unmet) }
 {
-    let job = sides.job;
-    let row = sides.row;
+    let job = comparison.job;
+    let row = comparison.row;
     match unmet {
         Unmet::Exit => push_exit(bytes, job.expect_exit),
         Unmet::End => push_end(bytes, job.expect_end),
         Unmet::Console(difference) => {
             let met = row.console.as_slice();
-            push_console(bytes, &job.expect_console, sides.console, met, difference)
-        }
-        Unmet::Signature(difference) => {
-            let path = &job.expect_signature;
-            push_signature(
+            push_console(
                 bytes,
-                sides.address,
-                path,
-                &row.signature,
-                sides.reference,
+                &job.expect_console,
+                comparison.console,
+                met,
                 difference,
             )
         }
-        Unmet::Same(difference) => push_same(bytes, sides.address, row, sides.other, difference),
+        Unmet::Signature(difference) => push_signature(bytes, comparison, address, difference),
+        Unmet::Same(difference) => push_same(bytes, address, row, comparison.other, difference),
         Unmet::Nothing => push_text(bytes, "exit 0, since it expects nothing else"),
     }
 }

@@ -1,7 +1,11 @@
 //! How much is told of rows.
 
 ghost use Rattle.std.specs.Prelude.{◌≡◌};
-ghost use Rattle.rv_job_text.specs.Telling.{is_told};
+ghost use Rattle.rv_expect.specs.Passing.{has_passed};
+ghost use Rattle.rv_job_text.specs.Telling.{tells_of};
+
+use rv_expect::{Rule, has_passed};
+use rv_rows::Row;
 
 /// How much is told.
 #[derive(Clone, Copy)]
@@ -23,13 +27,15 @@ pub(crate) enum Detail {
     All,
 }
 
-/// Whether anything is told of a job that passed, or failed.
-pub(crate) fn is_told(verbosity: Verbosity, passed: bool) -> bool
-    ensures { result ≡ is_told verbosity passed }
-{
-    match verbosity {
-        Verbosity::Quiet => false,
-        Verbosity::Failures => !passed,
-        Verbosity::All => true,
+impl Verbosity {
+    /// Whether anything is told of a row, by whether the rule lets it pass.
+    pub(crate) fn tells_of(self, rule: Rule, row: &Row) -> bool
+        ensures { result ≡ tells_of self (has_passed rule row.now) }
+    {
+        match self {
+            Verbosity::Quiet => false,
+            Verbosity::Failures => !has_passed(rule, row),
+            Verbosity::All => true,
+        }
     }
 }

@@ -1,11 +1,11 @@
 //! The ways in which jobs failed, as the last line tells them.
 
-ghost use Rattle.std.specs.Prelude.{◌≡◌, ◌≤◌, ◌<◌, ◌++◌, OnOk, codes, if◌then◌else◌, length};
+ghost use Rattle.std.specs.Prelude.{◌≡◌, ◌++◌, OnOk, codes, if◌then◌else◌};
 ghost use Rattle.std.specs.Fmt.{decimal};
 ghost use Rattle.rv_expect.specs.Ways.{ways};
 ghost use Rattle.rv_job_text.specs.LastLine.{bracket, failed_count, failures_below, way_name};
 
-use rv_expect::{Rule, WAYS, fails_by};
+use rv_expect::{Rule, Way, fails_by};
 use rv_rows::Row;
 use rv_text::{Span, push_spans};
 use std::alloc::AllocError;
@@ -16,7 +16,8 @@ pub(crate) fn push_bracket(bytes: &mut Vec<u8>, rule: Rule, rows: &[Row]) -> Res
         ++ bracket (failures_below (failed_count rule rows.now) ways)) }
 {
     let mut is_open = false;
-    for way in 0..WAYS {
+    for place in 0..Way::COUNT {
+        let way = Way::at(place);
         let count = failed_count(rule, rows, way);
         if count > 0 {
             push_failures(bytes, is_open, count, way)?;
@@ -29,7 +30,7 @@ pub(crate) fn push_bracket(bytes: &mut Vec<u8>, rule: Rule, rows: &[Row]) -> Res
     Ok(())
 }
 
-fn failed_count(rule: Rule, rows: &[Row], way: usize) -> usize
+fn failed_count(rule: Rule, rows: &[Row], way: Way) -> usize
     ensures { result ≡ failed_count rule rows.now way }
 {
     let mut count = 0;
@@ -45,9 +46,8 @@ fn push_failures(
     bytes: &mut Vec<u8>,
     is_open: bool,
     count: usize,
-    way: usize,
+    way: Way,
 ) -> Result<(), AllocError>
-    requires { way < ways }
     ensures { OnOk result (bytes.new.items ≡ bytes.old.items
         ++ ((if is_open then codes ", " else codes " (")
         ++ (decimal count ++ codes " " ++ way_name way))) }
@@ -64,24 +64,13 @@ fn push_failures(
     )
 }
 
-fn way_name(way: usize) -> &'static str
-    requires { way < ways }
+fn way_name(way: Way) -> &'static str
     ensures { result.now ≡ way_name way }
 {
     match way {
-        0 => "exit",
-        1 => "budget",
-        2 => "fetch-access",
-        3 => "stale-code",
-        4 => "illegal",
-        5 => "breakpoint",
-        6 => "load-misaligned",
-        7 => "load-access",
-        8 => "store-misaligned",
-        9 => "store-access",
-        10 => "console-full",
-        11 => "unknown-call",
-        12 => "fetch-misaligned",
-        _ => "refused",
+        Way::Exit => "exit",
+        Way::Budget => "budget",
+        Way::Fault(kind) => kind.name(),
+        Way::Refused => "refused",
     }
 }

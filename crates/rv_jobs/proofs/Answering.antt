@@ -10,12 +10,14 @@ use Rattle.std.proofs.lemmas.List.{map-append, length-map}
 use Rattle.std.proofs.lemmas.List.Sums.{sum_by-append}
 use Rattle.std.proofs.lemmas.List.Elements.{All-push}
 use Rattle.rv_lists.specs.declared.job.Job.{Job}
-use Rattle.rv_jobs.specs.declared.store.Kept.{Kept}
-use Rattle.rv_jobs.specs.declared.store.Kept.TheVariants.{Unreadable}
+use Rattle.rv_jobs.specs.declared.kept.Kept.{Kept}
+use Rattle.rv_jobs.specs.declared.kept.Kept.TheVariants.{Unreadable}
 use Rattle.rv_jobs.specs.declared.answers.Answer.{Answer}
 use Rattle.rv_jobs.specs.declared.asking.Places.{Places}
 use Rattle.rv_lists.specs.JobList.{place_in}
-use Rattle.rv_jobs.specs.Stores.{FileContents, IsKeptOf, is_unreadable, one_more, faults_with}
+use Rattle.rv_base.specs.Files.{FileContents}
+use Rattle.rv_jobs.specs.Kept.{IsKeptOf, is_unreadable, faults_with}
+use Rattle.rv_base.specs.Counts.{one_more}
 use Rattle.rv_lists.specs.Jobs.{console_path}
 use Rattle.rv_jobs.specs.Plans.{paths_of, answers_with, with_path, with_path_if, with_job, kept_of}
 use Rattle.rv_jobs.specs.Plans.{AreKept, kept_for, unreadables, more}

@@ -12,7 +12,7 @@ use Rattle.rv_lists.specs.Jobs.{AreJobs, console_path, single_job}
 use Rattle.rv_lists.specs.JobList.{place_in}
 use Rattle.rv_jobs.specs.Placed.{ArePlaced}
 use Rattle.rv_jobs.specs.declared.answers.Answer.{Answer}
-use Rattle.rv_jobs.specs.declared.store.Kept.TheVariants.{Unreadable}
+use Rattle.rv_jobs.specs.declared.kept.Kept.TheVariants.{Unreadable}
 use Rattle.rv_jobs.specs.Plans.{with_path, with_path_if, with_job, paths_used, named_by, needed_at, needed_for}
 use Rattle.rv_jobs.specs.Plans.{paths_of, kept_of, HasAnswers}
 use Rattle.std.proofs.Common.{IsTrue, subst}

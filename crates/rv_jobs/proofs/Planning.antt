@@ -3,7 +3,7 @@ use Rattle.std.proofs.Common.{◌≡◌, ◌∙◌, ◌<◌, ℕ, List, [], Opti
 use Rattle.std.proofs.Common.{IfSome, option_map, option_and_then}
 use Rattle.std.proofs.lemmas.List.{get_or_default}
 use Rattle.rv_lists.specs.declared.job.Job.{Job}
-use Rattle.rv_jobs.specs.declared.store.Kept.{Kept}
+use Rattle.rv_jobs.specs.declared.kept.Kept.{Kept}
 use Rattle.rv_jobs.specs.declared.asking.Found.{Found}
 use Rattle.rv_jobs.specs.declared.plan.Plan.TheInside.{Inside}
 use Rattle.rv_lists.specs.Jobs.{single_job}

@@ -1,7 +1,7 @@
 -- What is known of every plan.
 use Rattle.std.specs.Prelude.{◌≡◌, List, ℕ, length}
 use Rattle.rv_jobs.specs.declared.plan.Plan.TheInside.{Inside}
-use Rattle.rv_jobs.specs.declared.store.Kept.TheVariants.{Unreadable}
+use Rattle.rv_jobs.specs.declared.kept.Kept.TheVariants.{Unreadable}
 use Rattle.rv_lists.specs.Jobs.{AreJobs}
 use Rattle.rv_jobs.specs.Placed.{AreFound}
 use Rattle.rv_jobs.specs.Plans.{Planned, paths_used, needed_for, answers_with}

@@ -5,12 +5,14 @@ use Rattle.std.specs.Prelude.{slice_index_or, IfSome, IsTrue}
 use Rattle.std.specs.List.{All, find, flat_map, fold}
 use Rattle.std.specs.Str.{bytes_eq}
 use Rattle.rv_lists.specs.declared.job.Job.{Job}
-use Rattle.rv_jobs.specs.declared.store.Kept.{Kept}
-use Rattle.rv_jobs.specs.declared.store.Kept.TheVariants.{Unreadable}
+use Rattle.rv_jobs.specs.declared.kept.Kept.{Kept}
+use Rattle.rv_jobs.specs.declared.kept.Kept.TheVariants.{Unreadable}
 use Rattle.rv_jobs.specs.declared.answers.Answer.{Answer}
 use Rattle.rv_lists.specs.JobList.{place_in}
 use Rattle.rv_lists.specs.Jobs.{console_path, single_job}
-use Rattle.rv_jobs.specs.Stores.{FileContents, IsKeptOf, is_unreadable, one_more}
+use Rattle.rv_base.specs.Files.{FileContents}
+use Rattle.rv_jobs.specs.Kept.{IsKeptOf, is_unreadable}
+use Rattle.rv_base.specs.Counts.{one_more}
 
 -- the paths of answers, in order
 abbrev pub paths_of : List Answer → List (List ℕ)

@@ -4,7 +4,8 @@ ghost use Rattle.std.specs.Prelude.{◌≡◌, ℕ, [], IfOk, Some, map};
 ghost use Rattle.rv_lists.specs.JobList.{place_in};
 ghost use Rattle.rv_jobs.specs.Plans.{paths_of, with_path, AreKept, unreadables, more};
 
-use crate::store::{Kept, Store, keep};
+use crate::kept::{Kept, keep};
+use rv_base::Store;
 use rv_lists::Text;
 use std::alloc::{AllocError, Global};
 use std::collections::HashMap;

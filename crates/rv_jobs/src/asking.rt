@@ -10,7 +10,7 @@ ghost use Rattle.rv_jobs.specs.Plans.{AreKept, unreadables, more};
 ghost use Rattle.rv_jobs.specs.Placed.{ArePlaced, AreNoted, IsFound, AreFound};
 
 use crate::answers::Answers;
-use crate::store::Store;
+use rv_base::Store;
 use rv_lists::Job;
 use std::alloc::{AllocError, Global};
 
@@ -41,62 +41,64 @@ pub(crate) fn nothing_noted(alloc: Global, jobs: &[Job]) -> Result<Vec<Option<Pl
     Ok(noted)
 }
 
-/// The answers with those that the row of the job at a place needs: of its paths, and of the paths of the job that it
-/// names.
-pub(crate) fn ask_for_row<'a, S: Store>(
-    alloc: Global,
-    store: &mut S,
-    asked: Answers<'a>,
-    jobs: &'a [Job],
-    place: usize,
-    noted: &mut Vec<Option<Places>>,
-) -> Result<Answers<'a>, AllocError>
-    requires jobs { AreJobs jobs.now }
-    requires place { place < length jobs.now }
-    requires noted { AreNoted (paths_of asked) jobs.now noted.old.items }
-    ensures same { S.contents store.new ≡ S.contents store.old }
-    ensures paths { IfOk result (λ a. paths_of a
-        ≡ fold with_job (paths_of asked.entry) (needed_at jobs.now place)) }
-    ensures noted { IfOk result (λ a. AreNoted (paths_of a) jobs.now noted.new.items) }
-    ensures kept { AreKept (S.contents store.old) asked.entry
-        → IfOk result (AreKept (S.contents store.old)) }
-    ensures faults { (n : ℕ) → S.faulted store.old ≡ more n (unreadables asked.entry)
-        → IfOk result (λ a. S.faulted store.new ≡ more n (unreadables a)) }
-{
-    let own = ask_at(alloc, store, asked, jobs, place, noted)?;
-    match jobs[place].same_as {
-        Some(other) => ask_at(alloc, store, own, jobs, other, noted),
-        None => Ok(own),
+impl<'a> Answers<'a> {
+    /// The answers with those that the row of the job at a place needs: of its paths, and of the paths of the job that it
+    /// names.
+    pub(crate) fn ask_for_row<S: Store>(
+        self,
+        alloc: Global,
+        store: &mut S,
+        jobs: &'a [Job],
+        place: usize,
+        noted: &mut Vec<Option<Places>>,
+    ) -> Result<Answers<'a>, AllocError>
+        requires jobs { AreJobs jobs.now }
+        requires place { place < length jobs.now }
+        requires noted { AreNoted (paths_of self) jobs.now noted.old.items }
+        ensures same { S.contents store.new ≡ S.contents store.old }
+        ensures paths { IfOk result (λ a. paths_of a
+            ≡ fold with_job (paths_of self.entry) (needed_at jobs.now place)) }
+        ensures noted { IfOk result (λ a. AreNoted (paths_of a) jobs.now noted.new.items) }
+        ensures kept { AreKept (S.contents store.old) self.entry
+            → IfOk result (AreKept (S.contents store.old)) }
+        ensures faults { (n : ℕ) → S.faulted store.old ≡ more n (unreadables self.entry)
+            → IfOk result (λ a. S.faulted store.new ≡ more n (unreadables a)) }
+    {
+        let own = self.ask_at(alloc, store, jobs, place, noted)?;
+        match jobs[place].same_as {
+            Some(other) => own.ask_at(alloc, store, jobs, other, noted),
+            None => Ok(own),
+        }
     }
-}
 
-/// The answers with those of the paths of the job at a place, whose places are noted. A job that was asked for adds
-/// none.
-fn ask_at<'a, S: Store>(
-    alloc: Global,
-    store: &mut S,
-    asked: Answers<'a>,
-    jobs: &'a [Job],
-    place: usize,
-    noted: &mut Vec<Option<Places>>,
-) -> Result<Answers<'a>, AllocError>
-    requires place { place < length jobs.now }
-    requires noted { AreNoted (paths_of asked) jobs.now noted.old.items }
-    ensures same { S.contents store.new ≡ S.contents store.old }
-    ensures paths { IfOk result (λ a. paths_of a
-        ≡ with_job (paths_of asked.entry) (slice_index_or jobs.now place (single_job [] 0 []))) }
-    ensures noted { IfOk result (λ a. AreNoted (paths_of a) jobs.now noted.new.items) }
-    ensures kept { AreKept (S.contents store.old) asked.entry
-        → IfOk result (AreKept (S.contents store.old)) }
-    ensures faults { (n : ℕ) → S.faulted store.old ≡ more n (unreadables asked.entry)
-        → IfOk result (λ a. S.faulted store.new ≡ more n (unreadables a)) }
-{
-    if noted[place].is_some() {
-        return Ok(asked);
+    /// The answers with those of the paths of the job at a place, whose places are noted. A job that was asked for adds
+    /// none.
+    fn ask_at<S: Store>(
+        self,
+        alloc: Global,
+        store: &mut S,
+        jobs: &'a [Job],
+        place: usize,
+        noted: &mut Vec<Option<Places>>,
+    ) -> Result<Answers<'a>, AllocError>
+        requires place { place < length jobs.now }
+        requires noted { AreNoted (paths_of self) jobs.now noted.old.items }
+        ensures same { S.contents store.new ≡ S.contents store.old }
+        ensures paths { IfOk result (λ a. paths_of a
+            ≡ with_job (paths_of self.entry) (slice_index_or jobs.now place (single_job [] 0 []))) }
+        ensures noted { IfOk result (λ a. AreNoted (paths_of a) jobs.now noted.new.items) }
+        ensures kept { AreKept (S.contents store.old) self.entry
+            → IfOk result (AreKept (S.contents store.old)) }
+        ensures faults { (n : ℕ) → S.faulted store.old ≡ more n (unreadables self.entry)
+            → IfOk result (λ a. S.faulted store.new ≡ more n (unreadables a)) }
+    {
+        if noted[place].is_some() {
+            return Ok(self);
+        }
+        let (asked, places) = ask_of_job(alloc, store, self, &jobs[place])?;
+        noted[place] = Some(places);
+        Ok(asked)
     }
-    let (asked, places) = ask_of_job(alloc, store, asked, &jobs[place])?;
-    noted[place] = Some(places);
-    Ok(asked)
 }
 
 /// The answers with those of a job's paths, and the places of these.

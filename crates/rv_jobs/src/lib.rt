@@ -8,16 +8,17 @@
 mod answers;
 mod asking;
 mod choice;
+mod kept;
 mod law;
 mod plan;
-mod store;
 
 pub use answers::Answer;
 pub use choice::marked_places;
+pub use kept::Kept;
 pub use law::used_paths_have_answers;
 pub use plan::{Plan, gather, gather_places};
+pub use rv_base::{ReadError, Store};
 pub use rv_lists::{
     Bytes, ExpectedConsole, ExpectedEnd, Job, JobError, JobList, Symbols, Text, What, limits,
     read_jobs,
 };
-pub use store::{Kept, ReadError, Store};

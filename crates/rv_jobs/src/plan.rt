@@ -1,5 +1,6 @@
 //! A plan: jobs, and what is kept of the paths that they name.
 
+ghost use Rattle.rv_base.specs.Limits.{most_jobs};
 ghost use Rattle.rv_lists.specs.declared.job.Job.{Job as AJob};
 ghost use Rattle.std.specs.Prelude.{◌≡◌, ◌<◌, ◌≤◌, ℕ, List, IfOk, IfSome, length};
 ghost use Rattle.std.specs.Prelude.{slice_index_or, option_map};
@@ -10,8 +11,9 @@ ghost use Rattle.rv_jobs.specs.Plans.{paths_of, paths_used, needed_for, kept_for
 ghost use Rattle.rv_jobs.specs.Plans.{AreKept, unreadables, more};
 
 use crate::answers::Answers;
-use crate::asking::{Found, ask_for_row, console_path, found_of, nothing_noted, reference_path};
-use crate::store::{Kept, Store};
+use crate::asking::{Found, console_path, found_of, nothing_noted, reference_path};
+use crate::kept::Kept;
+use rv_base::Store;
 use rv_lists::{Job, JobList};
 use std::alloc::{AllocError, Global};
 use std::marker::Model;
@@ -76,7 +78,7 @@ pub fn gather_places<S: Store>(
     let mut asked = none;
     let mut noted = nothing_noted(alloc, jobs.as_slice())?;
     for place in places.as_slice() {
-        asked = ask_for_row(alloc, store, asked, jobs.as_slice(), *place, &mut noted)?;
+        asked = asked.ask_for_row(alloc, store, jobs.as_slice(), *place, &mut noted)?;
     }
     let found = found_of(alloc, &asked, jobs.as_slice(), noted.as_slice())?;
     let answers = asked.into_kept();
@@ -107,7 +109,7 @@ impl Plan {
     /// The number of jobs, at most 4,096.
     pub fn jobs(&self) -> usize
         ensures value { result ≡ length self.now.jobs }
-        ensures few { result ≤ 4096 }
+        ensures few { result ≤ most_jobs }
     {
         self.jobs.as_slice().len()
     }

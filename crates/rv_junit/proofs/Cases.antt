@@ -3,8 +3,8 @@ use Rattle.std.proofs.Common.{◌≡◌, ◌∙◌, refl, sym, ap, append_assoc,
 use Rattle.std.specs.Prelude.{codes}
 use Rattle.std.specs.Fmt.{decimal}
 use Rattle.std.proofs.KnownBytes.{Appends-nil}
-use Rattle.rv_rows.specs.declared.row.Row.{Row}
-use Rattle.rv_rows.specs.Sending.{AppendsBeginning}
+use Rattle.rv_rows.specs.declared_row.Row.{Row}
+use Rattle.rv_rows.specs.Sinks.{AppendsBeginning}
 use Rattle.rv_expect.specs.declared.passing.Rule.{Rule}
 use Rattle.rv_stream.specs.Streams.{texts_of, told}
 use Rattle.rv_text.specs.declared.xml.Within.TheVariants.{Element}

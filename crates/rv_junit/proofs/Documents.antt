@@ -4,7 +4,7 @@ use Rattle.std.proofs.Common.{cond, Option, Some, None, arith, get_or, length, t
 use Rattle.std.specs.Prelude.{codes, count_by, position}
 use Rattle.std.specs.List.{AllByRecursion}
 use Rattle.hex.specs.Hex.{IsBytes}
-use Rattle.rv_rows.specs.declared.row.Row.{Row}
+use Rattle.rv_rows.specs.declared_row.Row.{Row}
 use Rattle.rv_rows.specs.Verdict.{is_run}
 use Rattle.rv_expect.specs.declared.passing.Rule.{Rule}
 use Rattle.rv_job_text.specs.ConsoleTail.{is_feed}

@@ -7,6 +7,7 @@ ghost use Rattle.rv_junit.specs.Junit.{begin_text, case_text, first_line};
 ghost use Rattle.rv_junit.specs.Junit.{problem_name, problem_or_none};
 
 use crate::pieces::{Piece, push_pieces};
+use crate::suite::Suite;
 use rv_expect::{Rule, has_passed, is_error, is_failure};
 use rv_rows::{Row, is_run};
 use std::alloc::{AllocError, Global};
@@ -15,21 +16,20 @@ use std::alloc::{AllocError, Global};
 pub(crate) fn push_begin(
     alloc: Global,
     text: &mut String,
-    class: &[u8],
-    rule: Rule,
+    suite: &Suite<'_>,
     rows: &[Row],
 ) -> Result<(), AllocError>
     ensures { OnOk result (string_bytes text.new
-        ≡ string_bytes text.old ++ begin_text class.now rule rows.now) }
+        ≡ string_bytes text.old ++ begin_text suite.now.name.now suite.now.rule rows.now) }
 {
-    let failures = failure_count(rule, rows);
-    let errors = error_count(rule, rows);
+    let failures = failure_count(suite.rule, rows);
+    let errors = error_count(suite.rule, rows);
     push_pieces(
         alloc,
         text,
         &[
             Piece::Text("<?xml version=\"1.0\" encoding=\"UTF-8\"?>\n<testsuites>\n<testsuite"),
-            Piece::Attribute("name", class),
+            Piece::Attribute("name", suite.name),
             Piece::NumberAttribute("tests", rows.len() as u64),
             Piece::NumberAttribute("failures", failures as u64),
             Piece::NumberAttribute("errors", errors as u64),
@@ -54,25 +54,24 @@ fn error_count(rule: Rule, rows: &[Row]) -> usize
 pub(crate) fn push_case<'a>(
     alloc: Global,
     text: &mut String,
-    class: &'a [u8],
-    rule: Rule,
+    suite: &Suite<'a>,
     row: &'a Row,
     lines: &[u8],
 ) -> Result<(), AllocError>
     ensures { OnOk result (string_bytes text.new
-        ≡ string_bytes text.old ++ case_text class.now rule row.now lines.now) }
+        ≡ string_bytes text.old ++ case_text suite.now.name.now suite.now.rule row.now lines.now) }
 {
     push_pieces(
         alloc,
         text,
         &[
             Piece::Text("<testcase"),
-            Piece::Attribute("classname", class),
+            Piece::Attribute("classname", suite.name),
             Piece::Attribute("name", row.name.as_str().as_bytes()),
             Piece::Text(">\n"),
         ],
     )?;
-    push_problem_or_none(alloc, text, rule, row, lines)?;
+    push_problem_or_none(alloc, text, suite.rule, row, lines)?;
     let steps = row.steps;
     push_pieces(
         alloc,

@@ -1,48 +1,47 @@
 //! Rows as JUnit's XML, sent in few large puts.
 
-ghost use Rattle.std.specs.Prelude.{◌≡◌, ◌≤◌, IfErr, OnErr, OnOk, length};
+ghost use Rattle.std.specs.Prelude.{◌≡◌, IfErr, OnErr, OnOk};
 ghost use Rattle.std.specs.Io.KnownBytes.{Appends};
-ghost use Rattle.rv_rows.specs.Sending.{AppendsBeginning, Rose};
+ghost use Rattle.rv_rows.specs.Sinks.{AppendsBeginning};
+ghost use Rattle.rv_rows.specs.Counts.{Rose};
 ghost use Rattle.rv_stream.specs.Streams.{texts_of};
 ghost use Rattle.rv_junit.specs.Junit.{junit_text};
 
 use crate::junit::{push_begin, push_case};
-use rv_expect::Rule;
+use crate::suite::Suite;
 use rv_rows::{Row, Sink, WriteError, put_all};
-use rv_stream::{Telling, put_told};
+use rv_stream::{PlacedRows, Telling, put_told};
 use rv_text::push_text;
 use std::alloc::{AllocError, Global};
 
-/// Writes rows as JUnit's XML: one suite of a name, and in order one case a row, with its steps and its console. A failed
+/// Writes rows as JUnit's XML: one suite, and in order one case a row, with its steps and its console. A failed
 /// row is a failure, or an error where the job was refused, with the lines that are told of the job at its place. After an
 /// error a beginning of the text is out.
 pub fn write_junit<T: Telling, W: Sink>(
     alloc: Global,
-    class: &[u8],
-    rule: Rule,
+    suite: &Suite<'_>,
     telling: &T,
-    places: &[usize],
-    rows: &[Row],
+    rows: &PlacedRows<'_>,
     out: &mut W,
 ) -> Result<(), WriteError>
-    requires { length rows.now ≤ length places.now }
     ensures appended { OnOk result (Appends (W.taken out.old) (W.taken out.new)
-        (junit_text class.now rule (texts_of (T.line telling.now) places.now rows.now) rows.now)) }
+        (junit_text suite.now.name.now suite.now.rule
+        (texts_of (T.line telling.now) rows.now.places.now rows.now.rows.now) rows.now.rows.now)) }
     ensures counted { OnOk result (W.failed out.new ≡ W.failed out.old) }
     ensures part { OnErr result (AppendsBeginning (W.taken out.old) (W.taken out.new)
-        (junit_text class.now rule (texts_of (T.line telling.now) places.now rows.now) rows.now)) }
+        (junit_text suite.now.name.now suite.now.rule
+        (texts_of (T.line telling.now) rows.now.places.now rows.now.rows.now) rows.now.rows.now)) }
     ensures failed { IfErr result (λ error. error ≡ WriteError.Failed
         → Rose (W.failed out.old) (W.failed out.new)) }
 {
     let mut begin = String::new(alloc);
-    push_begin(alloc, &mut begin, class, rule, rows)?;
+    push_begin(alloc, &mut begin, suite, rows.rows)?;
     let mut text = begin.into_bytes();
     let cases = Cases {
-        class,
-        rule,
+        suite: *suite,
         telling,
     };
-    put_told(alloc, &mut text, &cases, places, rows, out)?;
+    put_told(alloc, &mut text, &cases, rows, out)?;
     push_text(&mut text, "</testsuite>\n</testsuites>\n")?;
     put_all(out, text.as_slice())?;
     Ok(())
@@ -50,16 +49,15 @@ pub fn write_junit<T: Telling, W: Sink>(
 
 // Tells the case of a row, in which stand the lines that another telling tells of it.
 #[derive(Drop)]
-struct Cases<'a, T: Telling> {
-    class: &'a [u8],
-    rule: Rule,
-    telling: &'a T,
+struct Cases<'a, 'b, T: Telling> {
+    suite: Suite<'a>,
+    telling: &'b T,
 }
 
-impl<'a, T: Telling> Telling for Cases<'a, T> {
+impl<'a, 'b, T: Telling> Telling for Cases<'a, 'b, T> {
     ghost use Rattle.rv_junit.specs.Junit.{case_text};
 
-    ghost line = { λ cases place row. case_text cases.class.now cases.rule row
+    ghost line = { λ cases place row. case_text cases.suite.name.now cases.suite.rule row
         (T.line cases.telling.now place row) };
 
     fn push(
@@ -72,14 +70,7 @@ impl<'a, T: Telling> Telling for Cases<'a, T> {
         let mut lines = Vec::new(alloc);
         self.telling.push(alloc, place, row, &mut lines)?;
         let mut case = String::new(alloc);
-        push_case(
-            alloc,
-            &mut case,
-            self.class,
-            self.rule,
-            row,
-            lines.as_slice(),
-        )?;
+        push_case(alloc, &mut case, &self.suite, row, lines.as_slice())?;
         text.extend_from_slice(case.as_bytes())
     }
 }

@@ -1,6 +1,6 @@
 //! Rows as JUnit's XML.
 //!
-//! [`write_junit`] writes them, with the lines that a caller's [`Telling`](rv_stream::Telling) gives them. What it writes is
+//! [`write_junit`] writes [`PlacedRows`] as a [`Suite`], with the lines that a caller's [`Telling`](rv_stream::Telling) gives them. What it writes is
 //! exactly the text of its definition in `specs/`, and is characters of XML 1.0 ([`documents_are_xml_characters`]).
 #![tactic(auto)]
 
@@ -8,6 +8,9 @@ mod junit;
 mod junit_writer;
 mod law;
 mod pieces;
+mod suite;
 
 pub use junit_writer::write_junit;
 pub use law::{documents_are_xml_characters, failures_and_errors_are_what_did_not_pass};
+pub use rv_stream::PlacedRows;
+pub use suite::Suite;

@@ -9,7 +9,6 @@ use crate::texts::{Look, message_of};
 use rv_lists::JobError;
 use rv_text::{Span, push_spans};
 use std::alloc::{AllocError, Global};
-use toml::Table;
 
 // Of how many faults the nearest name of a job is told: to look for it takes as long as there are earlier jobs.
 const NEAR_TOLD: usize = 64;
@@ -26,29 +25,18 @@ pub fn push_faults(
     ensures { OnOk result (PutsLines (length faults.now) bytes.old.items bytes.new.items) }
 {
     match toml::table_from_slice(alloc, text) {
-        Ok(table) => push_all(alloc, bytes, file, text, &table, faults),
+        Ok(table) => {
+            let list = List::of(alloc, text, &table)?;
+            push_each(alloc, bytes, file, &Look::List(list), faults)
+        }
         Err(error) => {
             if error.is_memory() {
+                // Out of memory: `toml` says so of its own error.
                 return Err(AllocError);
             }
             push_each(alloc, bytes, file, &Look::NoToml(text, error), faults)
         }
     }
-}
-
-// Appends a line for each fault of a list that is a document.
-fn push_all(
-    alloc: Global,
-    bytes: &mut Vec<u8>,
-    file: &str,
-    text: &[u8],
-    table: &Table,
-    faults: &[JobError],
-) -> Result<(), AllocError>
-    ensures { OnOk result (PutsLines (length faults.now) bytes.old.items bytes.new.items) }
-{
-    let list = List::of(alloc, text, table)?;
-    push_each(alloc, bytes, file, &Look::List(list), faults)
 }
 
 fn push_each(

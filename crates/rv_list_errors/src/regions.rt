@@ -157,7 +157,7 @@ fn end_of(region: &Region) -> u64 {
 }
 
 // The first address that two regions share.
-fn shared(region: &Region, other: &Region) -> Option<u32> {
+fn shared_address(region: &Region, other: &Region) -> Option<u32> {
     let first = region.base.max(other.base);
     if u64::from(first) < end_of(region).min(end_of(other)) {
         Some(first)
@@ -170,7 +170,7 @@ fn shared(region: &Region, other: &Region) -> Option<u32> {
 fn push_overlap(message: &mut Message, regions: &[Region]) {
     for at in 0..regions.len() {
         for later in at + 1..regions.len() {
-            if let Some(address) = shared(&regions[at], &regions[later]) {
+            if let Some(address) = shared_address(&regions[at], &regions[later]) {
                 push_region_number(message, at);
                 message.push(" and ");
                 push_region_number(message, later);
@@ -185,7 +185,7 @@ fn push_overlap(message: &mut Message, regions: &[Region]) {
 // Appends the first region that has an address of the console.
 fn push_console(message: &mut Message, regions: &[Region]) {
     for (at, region) in regions.iter().enumerate() {
-        if let Some(address) = shared(region, &CONSOLE) {
+        if let Some(address) = shared_address(region, &CONSOLE) {
             push_region_number(message, at);
             message.push(" has 0x");
             message.push_word(address);

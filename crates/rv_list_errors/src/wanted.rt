@@ -3,6 +3,7 @@
 use crate::message::Message;
 use crate::values::{push_key, text_of};
 use rv_lists::limits::{MOST_BUDGET, MOST_CONSOLE, MOST_NAME, MOST_PATH, MOST_SCRIPT, MOST_SYMBOL};
+use rv_machine::FaultKind;
 use toml::Table;
 
 /// What is told of one key, or of two.
@@ -12,13 +13,23 @@ pub(crate) enum Told {
     Text(&'static str),
 }
 
-/// What is wanted of the value of a key: words, or the words around the most that is taken.
+/// What is wanted of the value of a key: words, or words around what is told between them.
 pub(crate) struct Wanted {
     key: &'static str,
     before: &'static str,
-    most: Option<u64>,
+    rest: Rest,
     behind: &'static str,
     bytes: Bytes,
+}
+
+/// What stands behind the first words.
+#[derive(Clone, Copy)]
+enum Rest {
+    Nothing,
+    /// The most that is taken.
+    Most(u64),
+    /// The names of all kinds of faults.
+    FaultKinds,
 }
 
 /// Whether a text's bytes are told where they are more than the most that is taken.
@@ -33,7 +44,7 @@ enum Bytes {
 pub(crate) const NAME: Wanted = Wanted {
     key: "name",
     before: "1 to ",
-    most: Some(MOST_NAME as u64),
+    rest: Rest::Most(MOST_NAME as u64),
     behind: " ASCII letters, digits, \".\", \"_\" and \"-\" are wanted",
     bytes: Bytes::Untold,
 };
@@ -41,7 +52,7 @@ pub(crate) const NAME: Wanted = Wanted {
 pub(crate) const IMAGE: Wanted = Wanted {
     key: "image",
     before: "a path of 1 to ",
-    most: Some(MOST_PATH as u64),
+    rest: Rest::Most(MOST_PATH as u64),
     behind: " bytes is wanted",
     bytes: Bytes::Each,
 };
@@ -49,7 +60,7 @@ pub(crate) const IMAGE: Wanted = Wanted {
 pub(crate) const BUDGET: Wanted = Wanted {
     key: "budget",
     before: "a whole number from 1 to ",
-    most: Some(MOST_BUDGET as u64),
+    rest: Rest::Most(MOST_BUDGET as u64),
     behind: " is wanted",
     bytes: Bytes::Untold,
 };
@@ -57,7 +68,7 @@ pub(crate) const BUDGET: Wanted = Wanted {
 pub(crate) const INPUT: Wanted = Wanted {
     key: "input",
     before: "at most ",
-    most: Some(MOST_SCRIPT as u64),
+    rest: Rest::Most(MOST_SCRIPT as u64),
     behind: " bytes are taken",
     bytes: Bytes::Each,
 };
@@ -65,7 +76,7 @@ pub(crate) const INPUT: Wanted = Wanted {
 pub(crate) const INPUT_HEX: Wanted = Wanted {
     key: "input_hex",
     before: "at most ",
-    most: Some(MOST_SCRIPT as u64),
+    rest: Rest::Most(MOST_SCRIPT as u64),
     behind: " bytes are taken",
     bytes: Bytes::Pairs,
 };
@@ -73,7 +84,7 @@ pub(crate) const INPUT_HEX: Wanted = Wanted {
 pub(crate) const PAIRS: Wanted = Wanted {
     key: "input_hex",
     before: "pairs of hexadecimal digits are wanted",
-    most: None,
+    rest: Rest::Nothing,
     behind: "",
     bytes: Bytes::Untold,
 };
@@ -81,7 +92,7 @@ pub(crate) const PAIRS: Wanted = Wanted {
 pub(crate) const LOAD: Wanted = Wanted {
     key: "load",
     before: "\"physical\" or \"virtual\" is wanted",
-    most: None,
+    rest: Rest::Nothing,
     behind: "",
     bytes: Bytes::Untold,
 };
@@ -89,7 +100,7 @@ pub(crate) const LOAD: Wanted = Wanted {
 pub(crate) const SIGNATURE: Wanted = Wanted {
     key: "signature",
     before: "the names of two symbols are wanted, 1 to ",
-    most: Some(MOST_SYMBOL as u64),
+    rest: Rest::Most(MOST_SYMBOL as u64),
     behind: " bytes each and no zero byte",
     bytes: Bytes::Untold,
 };
@@ -97,7 +108,7 @@ pub(crate) const SIGNATURE: Wanted = Wanted {
 pub(crate) const EXPECT_EXIT: Wanted = Wanted {
     key: "expect_exit",
     before: "a whole number from 0 to ",
-    most: Some(u32::MAX as u64),
+    rest: Rest::Most(u32::MAX as u64),
     behind: " is wanted",
     bytes: Bytes::Untold,
 };
@@ -105,7 +116,7 @@ pub(crate) const EXPECT_EXIT: Wanted = Wanted {
 pub(crate) const UNASKED: Wanted = Wanted {
     key: "expect_signature",
     before: "a signature is expected only where the key signature names its two symbols",
-    most: None,
+    rest: Rest::Nothing,
     behind: "",
     bytes: Bytes::Untold,
 };
@@ -113,7 +124,7 @@ pub(crate) const UNASKED: Wanted = Wanted {
 pub(crate) const EXPECT_SIGNATURE: Wanted = Wanted {
     key: "expect_signature",
     before: "a path of 1 to ",
-    most: Some(MOST_PATH as u64),
+    rest: Rest::Most(MOST_PATH as u64),
     behind: " bytes is wanted",
     bytes: Bytes::Each,
 };
@@ -121,7 +132,7 @@ pub(crate) const EXPECT_SIGNATURE: Wanted = Wanted {
 pub(crate) const EXPECT_CONSOLE: Wanted = Wanted {
     key: "expect_console",
     before: "at most ",
-    most: Some(MOST_CONSOLE as u64),
+    rest: Rest::Most(MOST_CONSOLE as u64),
     behind: " bytes are taken",
     bytes: Bytes::Each,
 };
@@ -129,17 +140,15 @@ pub(crate) const EXPECT_CONSOLE: Wanted = Wanted {
 pub(crate) const EXPECT_CONSOLE_FILE: Wanted = Wanted {
     key: "expect_console_file",
     before: "a path of 1 to ",
-    most: Some(MOST_PATH as u64),
+    rest: Rest::Most(MOST_PATH as u64),
     behind: " bytes is wanted",
     bytes: Bytes::Each,
 };
 
 pub(crate) const EXPECT_END: Wanted = Wanted {
     key: "expect_end",
-    before: "\"budget\" or the kind of a fault is wanted: \"fetch-access\", \"stale-code\", \"illegal\", \
-\"breakpoint\", \"load-misaligned\", \"load-access\", \"store-misaligned\", \"store-access\", \"console-full\", \
-\"unknown-call\" or \"fetch-misaligned\"",
-    most: None,
+    before: "\"budget\" or the kind of a fault is wanted: ",
+    rest: Rest::FaultKinds,
     behind: "",
     bytes: Bytes::Untold,
 };
@@ -147,7 +156,7 @@ pub(crate) const EXPECT_END: Wanted = Wanted {
 pub(crate) const ISA: Wanted = Wanted {
     key: "isa",
     before: "\"rv32i\", \"rv32im\", \"rv32ic\" or \"rv32imc\" is wanted",
-    most: None,
+    rest: Rest::Nothing,
     behind: "",
     bytes: Bytes::Untold,
 };
@@ -155,7 +164,7 @@ pub(crate) const ISA: Wanted = Wanted {
 pub(crate) const MISALIGNED: Wanted = Wanted {
     key: "misaligned",
     before: "\"fault\" or \"allow\" is wanted",
-    most: None,
+    rest: Rest::Nothing,
     behind: "",
     bytes: Bytes::Untold,
 };
@@ -166,22 +175,40 @@ pub(crate) fn push_told(message: &mut Message, table: &Table, told: Told) {
         Told::Text(text) => message.push(text),
         Told::Wanted(wanted) => {
             push_key(message, table, wanted.key);
-            push_most(message, bytes_of(table, wanted), wanted);
+            push_wanted(message, bytes_of(table, wanted), wanted);
         }
     }
 }
 
 // Appends what is wanted, behind the bytes that there are where they are too many.
-fn push_most(message: &mut Message, bytes: u64, wanted: &Wanted) {
-    let Some(most) = wanted.most else {
-        message.push(": ");
-        return message.push(wanted.before);
-    };
-    if most < bytes {
+fn push_wanted(message: &mut Message, bytes: u64, wanted: &Wanted) {
+    if let Rest::Most(most) = wanted.rest
+        && most < bytes
+    {
         message.push_between(" (", bytes, " bytes)");
     }
     message.push(": ");
-    message.push_between(wanted.before, most, wanted.behind);
+    message.push(wanted.before);
+    match wanted.rest {
+        Rest::Nothing => {}
+        Rest::Most(most) => message.push_number(most),
+        Rest::FaultKinds => push_fault_kinds(message),
+    }
+    message.push(wanted.behind);
+}
+
+// Appends the names of all kinds of faults in quotes, as a sentence lists them.
+fn push_fault_kinds(message: &mut Message) {
+    let kinds = &FaultKind::ALL;
+    let last = kinds.len() - 1;
+    for (place, kind) in kinds.iter().enumerate() {
+        if place == last {
+            message.push(" or ");
+        } else if place > 0 {
+            message.push(", ");
+        }
+        message.push_quoted(kind.name());
+    }
 }
 
 // The bytes of the text at a key, where they are told.

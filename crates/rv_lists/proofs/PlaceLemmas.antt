@@ -19,7 +19,8 @@ use Rattle.std.proofs.lemmas.List.{map-append, length-map}
 use Rattle.std.proofs.Math.ListN.{get_or-append}
 use Rattle.std.proofs.Math.Seq.{get_or-append_seam}
 use Rattle.rv_lists.specs.declared.job.Job.{Job}
-use Rattle.rv_lists.specs.Jobs.{IsJob, AreJobs, most_jobs}
+use Rattle.rv_lists.specs.Jobs.{IsJob, AreJobs}
+use Rattle.rv_base.specs.Limits.{most_jobs}
 use Rattle.rv_lists.specs.JobList.{place_in, names_of}
 
 below_at : (b : Bool) (o : Option ℕ) (n m : ℕ) → n + 1 ≡ m → IfSome o (λ k. k < n)

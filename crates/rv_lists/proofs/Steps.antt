@@ -13,7 +13,7 @@ use Rattle.toml.proofs.Views.{items_view-drop}
 use Rattle.rv_memory.specs.declared.map.Region.{Region}
 use Rattle.rv_lists.specs.declared.error.What.{What}
 use Rattle.rv_lists.specs.declared.job.Job.{Job}
-use Rattle.rv_lists.specs.Jobs.{most_jobs}
+use Rattle.rv_base.specs.Limits.{most_jobs}
 use Rattle.rv_lists.specs.Reading.{◌>>=◌, with_front}
 use Rattle.rv_lists.specs.JobList.{document_of, has_no_jobs, has_too_many, element_in, jobs_from, names_of, region_of}
 use Rattle.rv_lists.specs.JobList.{regions_from, is_within, is_symbol, symbol_in, symbols_of}

@@ -32,8 +32,9 @@ use Rattle.rv_lists.specs.declared.job.ExpectedEnd.{ExpectedEnd}
 use Rattle.rv_lists.specs.declared.job.ExpectedEnd.TheVariants as expected
 use Rattle.rv_machine.specs.declared.ending.FaultKind.{FaultKind}
 use Rattle.rv_machine.specs.Faults.{fault_named}
-use Rattle.rv_lists.specs.declared.limits.TheConstants.{MOST_BUDGET, MOST_NAME, MOST_SYMBOL}
-use Rattle.rv_lists.specs.Jobs.{most_console, most_jobs, most_path, most_script, default_regions}
+use Rattle.rv_base.specs.Limits.{most_budget, most_name, most_symbol}
+use Rattle.rv_base.specs.Limits.{most_console, most_jobs, most_path, most_script}
+use Rattle.rv_lists.specs.Jobs.{default_regions}
 use Rattle.rv_lists.specs.Reading.{◌>>=◌, unless, passing, or_else, numbered}
 use Rattle.rv_lists.specs.Keys.{any_unknown_key, is_list_key, count_of, text_at, number_at}
 use Rattle.rv_lists.specs.Keys.{truth_at, array_at, has_wrong_kind, has_unknown_key}
@@ -48,7 +49,7 @@ unfoldable pub is_name_byte : ℕ → Bool
 is_name_byte c = is_ascii_alphanumeric c || list_any (λ b. c == b) (codes "._-")
 
 unfoldable pub is_name : List ℕ → Bool
-is_name t = is_within 1 MOST_NAME (length t) && list_all is_name_byte t
+is_name t = is_within 1 most_name (length t) && list_all is_name_byte t
 
 abbrev pub is_path : List ℕ → Bool
 is_path t = is_within 1 most_path (length t)
@@ -70,7 +71,7 @@ required f fault (Some x) = f x
 
 unfoldable pub budget_in : Members → Result ℕ What
 budget_in ms =
-    required (number_within 1 MOST_BUDGET what.Budget) what.Budget (number_at (codes "budget") ms)
+    required (number_within 1 most_budget what.Budget) what.Budget (number_at (codes "budget") ms)
 
 -- ---- the script
 
@@ -138,7 +139,7 @@ load_in ms = or_else load_of Physical (text_at (codes "load") ms)
 
 -- not empty, not too long, and without a zero byte
 unfoldable pub is_symbol : List ℕ → Bool
-is_symbol t = is_within 1 MOST_SYMBOL (length t) && list_all (λ b. not (b == 0)) t
+is_symbol t = is_within 1 most_symbol (length t) && list_all (λ b. not (b == 0)) t
 
 abbrev pub symbol_in : ℕ → Items → Result (List ℕ) What
 symbol_in n ds = passing is_symbol what.Signature (option_and_then as_str (get_item n ds))

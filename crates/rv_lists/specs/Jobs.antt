@@ -8,22 +8,7 @@ use Rattle.rv_elf.specs.declared.loading.LoadAt.TheVariants.{Physical}
 use Rattle.rv_lists.specs.declared.job.Job.{Job}
 use Rattle.rv_lists.specs.declared.job.ExpectedConsole.{ExpectedConsole}
 use Rattle.rv_lists.specs.declared.job.ExpectedConsole.TheVariants.{Text, File}
-use Rattle.rv_lists.specs.declared.limits.TheConstants.{MOST_CONSOLE, MOST_JOBS, MOST_PATH}
-use Rattle.rv_lists.specs.declared.limits.TheConstants.{MOST_SCRIPT}
-
--- the most jobs of a list, bytes of a path, and bytes of a script: the limits of the code
-abbrev pub most_jobs : ℕ
-most_jobs = MOST_JOBS
-
-abbrev pub most_path : ℕ
-most_path = MOST_PATH
-
-abbrev pub most_script : ℕ
-most_script = MOST_SCRIPT
-
--- the most bytes that a console is expected to hold
-abbrev pub most_console : ℕ
-most_console = MOST_CONSOLE
+use Rattle.rv_base.specs.Limits.{most_jobs, most_script}
 
 -- the path of the file that a console is expected to hold, where one is named
 abbrev pub console_path : Option ExpectedConsole → Option (List ℕ)

@@ -7,3 +7,6 @@ pub mod JobSteps
 pub mod EarlierJobsInside
 pub mod Faults
 pub mod ListFaults
+pub use Rattle.rv_base.specs.Counts
+pub use Rattle.rv_base.specs.Limits
+pub use Rattle.rv_base.specs.Sinks

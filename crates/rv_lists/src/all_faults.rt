@@ -4,7 +4,7 @@ ghost use Rattle.std.specs.Prelude.{◌≡◌, ◌<◌, ◌≤◌, ◌+◌, ◌�
 ghost use Rattle.std.specs.Prelude.{None, Some, length, option_map, slice_get};
 ghost use Rattle.std.specs.Result.{result_err};
 ghost use Rattle.toml.specs.View.{view, table_view, items_view};
-ghost use Rattle.rv_lists.specs.Jobs.{most_jobs};
+ghost use Rattle.rv_base.specs.Limits.{most_jobs};
 ghost use Rattle.rv_lists.specs.JobList.{element_in, job_list_of, names_of, place_in};
 ghost use Rattle.rv_lists.specs.ListFaults.{fault_in, faults_from, faults_in, list_faults, name_taken};
 ghost use Rattle.rv_lists.specs.ListFaults.{names_with};
@@ -14,7 +14,7 @@ use crate::error::{JobError, What};
 use crate::job::Job;
 use crate::job_keys::{element_of, name_of};
 use crate::list::{elements_of, list_error};
-use crate::text::{Bytes, Text};
+use rv_base::{Bytes, Text};
 use std::alloc::{AllocError, Global};
 use toml::{Table, Value};
 
@@ -29,6 +29,7 @@ pub fn read_faults(alloc: Global, bytes: &[u8]) -> Result<Vec<JobError>, AllocEr
         Ok(table) => faults_of_table(alloc, &table),
         Err(error) => {
             if error.is_memory() {
+                // Out of memory: `toml` says so of its own error.
                 return Err(AllocError);
             }
             one_fault(alloc, What::NotToml)

@@ -1,7 +1,8 @@
 //! The jobs of a list that are read so far, with the place of each name.
 
 ghost use Rattle.std.specs.Prelude.{◌≡◌, ◌<◌, ◌++◌, ◌∷◌, [], IfSome, IfOk, None, length};
-ghost use Rattle.rv_lists.specs.Jobs.{IsJob, most_jobs};
+ghost use Rattle.rv_lists.specs.Jobs.{IsJob};
+ghost use Rattle.rv_base.specs.Limits.{most_jobs};
 ghost use Rattle.rv_lists.specs.JobList.{place_in, names_of};
 
 use crate::job::{Job, JobList};

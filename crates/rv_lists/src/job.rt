@@ -1,9 +1,10 @@
 //! Jobs, and lists of them.
 
+ghost use Rattle.rv_base.specs.Limits.{most_budget, most_path, most_script};
 ghost use Rattle.std.specs.Prelude.{◌≡◌, ◌≤◌, ◌<◌, ◌∷◌, [], IfOk, Some, length, option_map, vec_len};
 ghost use Rattle.rv_lists.specs.Jobs.{AreJobs, console_path, single_job};
 
-use crate::text::{Bytes, Text};
+use rv_base::{Bytes, Text};
 use rv_elf::LoadAt;
 use rv_isa::Isa;
 use rv_machine::FaultKind;
@@ -129,11 +130,11 @@ impl JobList {
         budget: u32,
         script: Vec<u8>,
     ) -> Result<JobList, AllocError>
-        requires path { length image.now ≤ 4096 }
+        requires path { length image.now ≤ most_path }
         requires named { 0 < length image.now }
-        requires room { vec_len script ≤ 0x1_0000 }
+        requires room { vec_len script ≤ most_script }
         requires some { 0 < budget }
-        requires bound { budget ≤ 1000000000 }
+        requires bound { budget ≤ most_budget }
         ensures { IfOk result (λ l. l ≡ single_job image.now budget script.items ∷ []) }
     {
         let name = Text::copy(alloc, "one")?;

@@ -13,12 +13,12 @@ use crate::error::What;
 use crate::job::Job;
 use crate::keys::{number_of, text_of};
 use crate::kinds::{has_unknown_key, has_wrong_kind};
-use crate::limits::MOST_BUDGET;
 use crate::manner::{Manner, manner_of};
 use crate::results::{Results, results_of};
 use crate::setup::{Setup, setup_of};
-use crate::text::Text;
 use crate::texts::{is_name, is_path};
+use rv_base::Text;
+use rv_base::limits::MOST_BUDGET;
 use std::alloc::Global;
 use toml::{Table, Value};
 
@@ -53,73 +53,71 @@ fn job_of(alloc: Global, earlier: &EarlierJobs, table: &Table) -> Result<Job, Wh
     }
     let image = image_of(table)?;
     let budget = budget_of(table)?;
-    described(alloc, earlier, name, image, budget, table)
+    earlier.described_job(alloc, name, image, budget, table)
 }
 
-/// The job of a name that no earlier job has, of an image and a budget.
-#[tactic(auto, unfolding(crate::specs::JobSteps::described_in))]
-fn described(
-    alloc: Global,
-    earlier: &EarlierJobs,
-    name: &str,
-    image: &str,
-    budget: u32,
-    table: &Table,
-) -> Result<Job, What>
-    requires { place_in (names_of earlier.now) name.now ≡ None }
-    ensures value { Gives result
-        (described_in (names_of earlier.now) name.now image.now budget (table_view table.now)) }
-    ensures good { IfOk result (IsJob (length earlier.now)) }
-    ensures fresh { IfOk result (λ job. place_in (names_of earlier.now) job.name ≡ None) }
-{
-    let setup = setup_of(alloc, table)?;
-    let results = results_of(alloc, table)?;
-    let manner = manner_of(earlier, table)?;
-    let name = Text::copy(alloc, name)?;
-    let image = Text::copy(alloc, image)?;
-    Ok(job_with(name, image, budget, setup, results, manner))
+impl EarlierJobs {
+    /// The job of a name that no earlier job has, of an image and a budget.
+    #[tactic(auto, unfolding(crate::specs::JobSteps::described_in))]
+    fn described_job(
+        &self,
+        alloc: Global,
+        name: &str,
+        image: &str,
+        budget: u32,
+        table: &Table,
+    ) -> Result<Job, What>
+        requires { place_in (names_of self.now) name.now ≡ None }
+        ensures value { Gives result
+            (described_in (names_of self.now) name.now image.now budget (table_view table.now)) }
+        ensures good { IfOk result (IsJob (length self.now)) }
+        ensures fresh { IfOk result (λ job. place_in (names_of self.now) job.name ≡ None) }
+    {
+        let setup = setup_of(alloc, table)?;
+        let results = results_of(alloc, table)?;
+        let manner = manner_of(self, table)?;
+        let name = Text::copy(alloc, name)?;
+        let image = Text::copy(alloc, image)?;
+        Ok(setup.job(name, image, budget, results, manner))
+    }
 }
 
-fn job_with(
-    name: Text,
-    image: Text,
-    budget: u32,
-    setup: Setup,
-    results: Results,
-    manner: Manner,
-) -> Job
-    ensures { result ≡ record {
-      name = name;
-      image = image;
-      budget = budget;
-      script = setup.script;
-      load = setup.load;
-      regions = setup.regions;
-      signature = results.signature;
-      expect_exit = results.exit;
-      expect_signature = results.reference;
-      expect_console = results.console;
-      expect_end = manner.expect_end;
-      same_as = manner.same_as;
-      isa = manner.isa;
-      misaligned = manner.misaligned;
-    } }
-{
-    Job {
-        name,
-        image,
-        budget,
-        script: setup.script,
-        load: setup.load,
-        regions: setup.regions,
-        signature: results.signature,
-        expect_exit: results.exit,
-        expect_signature: results.reference,
-        expect_console: results.console,
-        expect_end: manner.expect_end,
-        same_as: manner.same_as,
-        isa: manner.isa,
-        misaligned: manner.misaligned,
+impl Setup {
+    // The job of all that its keys say.
+    fn job(self, name: Text, image: Text, budget: u32, results: Results, manner: Manner) -> Job
+        ensures { result ≡ record {
+          name = name;
+          image = image;
+          budget = budget;
+          script = self.script;
+          load = self.load;
+          regions = self.regions;
+          signature = results.signature;
+          expect_exit = results.exit;
+          expect_signature = results.reference;
+          expect_console = results.console;
+          expect_end = manner.expect_end;
+          same_as = manner.same_as;
+          isa = manner.isa;
+          misaligned = manner.misaligned;
+        } }
+    {
+        Job {
+            name,
+            image,
+            budget,
+            script: self.script,
+            load: self.load,
+            regions: self.regions,
+            signature: results.signature,
+            expect_exit: results.exit,
+            expect_signature: results.reference,
+            expect_console: results.console,
+            expect_end: manner.expect_end,
+            same_as: manner.same_as,
+            isa: manner.isa,
+            misaligned: manner.misaligned,
+        }
     }
 }
 

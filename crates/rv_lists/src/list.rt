@@ -4,7 +4,7 @@ ghost use Rattle.std.specs.Prelude.{◌≡◌, ◌≤◌, [], MatchResult, IfOk,
 ghost use Rattle.std.specs.Prelude.{vec_len, option_map};
 ghost use Rattle.toml.specs.View.{view, table_view, array_view, items_view};
 ghost use Rattle.rv_lists.specs.declared.error.What.TheVariants.{OutOfMemory};
-ghost use Rattle.rv_lists.specs.Jobs.{most_jobs};
+ghost use Rattle.rv_base.specs.Limits.{most_jobs};
 ghost use Rattle.rv_lists.specs.Reading.{GivesJobs};
 ghost use Rattle.rv_lists.specs.JobList.{has_no_jobs, has_too_many, elements_in, jobs_from, jobs_in};
 ghost use Rattle.rv_lists.specs.JobList.{job_list_of};
@@ -14,7 +14,7 @@ use crate::error::{JobError, What};
 use crate::job::JobList;
 use crate::job_keys::element_of;
 use crate::keys::{has_unknown_list_key, value_of};
-use crate::limits::MOST_JOBS;
+use rv_base::limits::MOST_JOBS;
 use std::alloc::Global;
 use toml::value::Array;
 use toml::{Table, Value};
@@ -29,6 +29,7 @@ pub fn read_jobs(alloc: Global, bytes: &[u8]) -> Result<JobList, JobError>
         Ok(table) => jobs_of_table(alloc, &table),
         Err(error) => {
             if error.is_memory() {
+                // Out of memory: `toml` says so of its own error.
                 return Err(list_error(What::OutOfMemory));
             }
             Err(list_error(What::NotToml))
@@ -120,6 +121,7 @@ fn jobs_of(alloc: Global, elements: &[Value]) -> Result<JobList, JobError>
             Err(_) => {
                 return Err(JobError {
                     job: number,
+                    // Out of memory: `with` fails by that alone.
                     what: What::OutOfMemory,
                 });
             }

@@ -9,7 +9,7 @@ use crate::error::What;
 use crate::expected::{console_of, exit_of, reference_of};
 use crate::job::{ExpectedConsole, Symbols};
 use crate::signature::signature_of;
-use crate::text::Text;
+use rv_base::Text;
 use std::alloc::Global;
 use toml::Table;
 

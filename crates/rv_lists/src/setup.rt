@@ -4,17 +4,17 @@ ghost use Rattle.std.specs.Prelude.{◌≡◌, ◌≤◌, ◌==◌, IfOk, length
 ghost use Rattle.hex.specs.Hex.{decode_of};
 ghost use Rattle.toml.specs.View.{table_view};
 ghost use Rattle.rv_lists.specs.declared.error.What.TheVariants.{OutOfMemory};
-ghost use Rattle.rv_lists.specs.Jobs.{most_script};
+ghost use Rattle.rv_base.specs.Limits.{most_script};
 ghost use Rattle.rv_lists.specs.JobList.{limited, from_hex, script_in, load_of, load_in};
 ghost use Rattle.rv_lists.specs.JobSteps.{setup_in};
 ghost use Rattle.rv_lists.specs.Reading.{Gives};
 
 use crate::error::What;
 use crate::keys::text_of;
-use crate::limits::MOST_SCRIPT;
 use crate::regions::regions_of;
-use crate::text::Bytes;
 use hex::FromHexError;
+use rv_base::Bytes;
+use rv_base::limits::MOST_SCRIPT;
 use rv_elf::LoadAt;
 use rv_memory::Map;
 use std::alloc::Global;

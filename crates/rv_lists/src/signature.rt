@@ -11,9 +11,9 @@ ghost use Rattle.rv_lists.specs.JobList.{is_symbol, symbol_in, symbols_of, signa
 use crate::error::What;
 use crate::job::Symbols;
 use crate::keys::array_of;
-use crate::limits::MOST_SYMBOL;
-use crate::text::Text;
 use crate::texts::is_within;
+use rv_base::Text;
+use rv_base::limits::MOST_SYMBOL;
 use std::alloc::Global;
 use toml::{Table, Value};
 

@@ -4,7 +4,7 @@ ghost use Rattle.std.specs.Prelude.{◌≡◌};
 ghost use Rattle.std.specs.List.{list_all};
 ghost use Rattle.rv_lists.specs.JobList.{is_name, is_name_byte, is_path, is_within};
 
-use crate::limits::{MOST_NAME, MOST_PATH};
+use rv_base::limits::{MOST_NAME, MOST_PATH};
 
 #[tactic(auto, unfolding(crate::specs::JobList::is_name))]
 pub(crate) fn is_name(text: &str) -> bool

@@ -1,3 +1,4 @@
 -- The lemmas that proofs of other crates may cite.
+pub use Rattle.rv_machine.proofs.FaultNames.{every_fault, fault_named-name}
 pub use Rattle.rv_machine.proofs.Narrower.{run_wider}
 pub use Rattle.rv_machine.proofs.Regions.{run_keeps}

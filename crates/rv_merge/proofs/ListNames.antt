@@ -5,17 +5,17 @@ use Rattle.std.specs.Prelude.{codes, if◌then◌else◌}
 use Rattle.std.specs.List.{list_all}
 use Rattle.std.proofs.lemmas.Bool.{and_from, ltb-false}
 use Rattle.toml.specs.Data.{Data, Items, no_items, item, Members, table, array, get_member}
-use Rattle.rv_lists.specs.declared.error.What.{What}
-use Rattle.rv_lists.specs.declared.job.Job.{Job}
-use Rattle.rv_lists.specs.Jobs.{most_jobs}
-use Rattle.rv_lists.specs.declared.error.What.TheVariants as what
-use Rattle.rv_lists.specs.Keys.{any_unknown_key, count_of, has_unknown_key, has_wrong_kind, is_list_key}
-use Rattle.rv_lists.specs.Reading.{◌>>=◌, unless, passing, numbered}
-use Rattle.rv_lists.specs.JobList.{is_name, name_in, names_of, place_in, image_in, budget_in, script_in, regions_in}
-use Rattle.rv_lists.specs.JobList.{load_in, signature_in, exit_in, reference_in, console_in, end_in, same_in, isa_in}
-use Rattle.rv_lists.specs.JobList.{misaligned_in, job_in, element_in, jobs_from, has_no_jobs, has_too_many, elements}
-use Rattle.rv_lists.specs.JobList.{elements_in, jobs_in}
-use Rattle.rv_lists.specs.JobList.{document_of, job_list_of}
+use Rattle.rv_jobs.specs.declared_error.What.{What}
+use Rattle.rv_jobs.specs.declared_job.Job.{Job}
+use Rattle.rv_jobs.specs.Limits.{most_jobs}
+use Rattle.rv_jobs.specs.declared_error.What.TheVariants as what
+use Rattle.rv_jobs.specs.Keys.{any_unknown_key, count_of, has_unknown_key, has_wrong_kind, is_list_key}
+use Rattle.rv_jobs.specs.Reading.{◌>>=◌, unless, passing, numbered}
+use Rattle.rv_jobs.specs.JobList.{is_name, name_in, names_of, place_in, image_in, budget_in, script_in, regions_in}
+use Rattle.rv_jobs.specs.JobList.{load_in, signature_in, exit_in, reference_in, console_in, end_in, same_in, isa_in}
+use Rattle.rv_jobs.specs.JobList.{misaligned_in, job_in, element_in, jobs_from, has_no_jobs, has_too_many, elements}
+use Rattle.rv_jobs.specs.JobList.{elements_in, jobs_in}
+use Rattle.rv_jobs.specs.JobList.{document_of, job_list_of}
 use Rattle.rv_report.specs.Saved.{are_new}
 
 -- a step that found no fault had a value, with which the next one found none

@@ -6,8 +6,8 @@ use Rattle.std.specs.Result.{IsErrAnd}
 use Rattle.std.proofs.lemmas.Bool.{false≢true}
 use Rattle.std.proofs.lemmas.List.{take-map}
 use Rattle.std.proofs.lemmas.Option.{slice_get-map}
-use Rattle.rv_lists.specs.JobList.{place_in}
-use Rattle.rv_rows.specs.declared.row.Row.{Row}
+use Rattle.rv_jobs.specs.JobList.{place_in}
+use Rattle.rv_report.specs.declared.row.Row.{Row}
 use Rattle.rv_report.specs.declared.saved.Extent.{Extent}
 use Rattle.rv_report.specs.declared.saved.Extent.TheVariants as extent
 use Rattle.rv_report.specs.declared.saved.Shard.{Shard}

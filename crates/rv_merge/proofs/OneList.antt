@@ -6,9 +6,9 @@ use Rattle.std.proofs.Common.{inl, inr}
 use Rattle.std.proofs.lemmas.Bool.{and_parts, cases_lt, leb-true}
 use Rattle.std.proofs.lemmas.Option.{same_Some, slice_get_past}
 use Rattle.std.proofs.lemmas.List.{get_or_default}
-use Rattle.rv_lists.specs.JobList.{is_name}
-use Rattle.rv_lists.specs.Jobs.{most_jobs}
-use Rattle.rv_rows.specs.declared.row.Row.{Row}
+use Rattle.rv_jobs.specs.JobList.{is_name}
+use Rattle.rv_jobs.specs.Limits.{most_jobs}
+use Rattle.rv_report.specs.declared.row.Row.{Row}
 use Rattle.rv_report.specs.declared.saved.Extent.{Extent}
 use Rattle.rv_report.specs.declared.saved.Extent.TheVariants as extent
 use Rattle.rv_report.specs.declared.saved.Shard.{Shard}

@@ -4,37 +4,37 @@ use Rattle.std.proofs.Common.{List, [], ◌∷◌, length, refl, subst, arith, O
 use Rattle.std.proofs.Common.{Result, Ok, Err, nat_lt}
 use Rattle.std.specs.Prelude.{if◌then◌else◌}
 use Rattle.std.proofs.lemmas.Bool.{and_parts, or_parts, ltb-false}
-use Rattle.rv_isa.specs.declared.sets.Isa.{Isa}
-use Rattle.rv_memory.specs.declared.map.Region.{Region}
-use Rattle.rv_memory.specs.Regions.{in_one}
-use Rattle.rv_elf.specs.declared.error.ImageError.{ImageError}
-use Rattle.rv_elf.specs.declared.error.ImageError.TheVariants as image
-use Rattle.rv_elf.specs.declared.image.Segment.{Segment}
-use Rattle.rv_elf.specs.declared.loading.LoadAt.{LoadAt}
-use Rattle.rv_elf.specs.Rows.{Row, first_row, accepted}
-use Rattle.rv_elf.specs.Image.{image_of, image_there, refusals}
-use Rattle.rv_elf.specs.Loading.{map_check, map_rows}
-use Rattle.rv_elf.specs.Symbols.{symbol_of, symbol_rows, signature_check, is_bad_range}
-use Rattle.rv_lists.specs.declared.job.Job.{Job}
-use Rattle.rv_lists.specs.declared.job.Symbols.{Symbols}
-use Rattle.rv_lists.specs.Reading.{◌>>=◌}
-use Rattle.rv_jobs.specs.declared.store.Kept.{Kept}
-use Rattle.rv_jobs.specs.declared.store.Kept.TheVariants as kept
-use Rattle.rv_rows.specs.declared.row.Refusal.{Refusal}
-use Rattle.rv_rows.specs.declared.row.Refusal.TheVariants as refusal
+use Rattle.rv_rows.specs.declared_sets.Isa.{Isa}
+use Rattle.rv_rows.specs.declared_map.Region.{Region}
+use Rattle.rv_rows.specs.Regions.{in_one}
+use Rattle.rv_report.specs.declared_error.ImageError.{ImageError}
+use Rattle.rv_report.specs.declared_error.ImageError.TheVariants as image
+use Rattle.rv_report.specs.declared_image.Segment.{Segment}
+use Rattle.rv_report.specs.declared_loading.LoadAt.{LoadAt}
+use Rattle.rv_report.specs.Rows.{Row, first_row, accepted}
+use Rattle.rv_report.specs.Image.{image_of, image_there, refusals}
+use Rattle.rv_report.specs.Loading.{map_check, map_rows}
+use Rattle.rv_report.specs.Symbols.{symbol_of, symbol_rows, signature_check, is_bad_range}
+use Rattle.rv_jobs.specs.declared_job.Job.{Job}
+use Rattle.rv_jobs.specs.declared_job.Symbols.{Symbols}
+use Rattle.rv_jobs.specs.Reading.{◌>>=◌}
+use Rattle.rv_jobs.specs.declared.kept.Kept.{Kept}
+use Rattle.rv_jobs.specs.declared.kept.Kept.TheVariants as kept
+use Rattle.rv_report.specs.declared.row.Refusal.{Refusal}
+use Rattle.rv_report.specs.declared.row.Refusal.TheVariants as refusal
 use Rattle.rv_rows.specs.declared.outcome.SignatureRange.{SignatureRange}
 use Rattle.rv_rows.specs.Outcome.{content_of, reference_of, file_of, end_of_signature, range_of, range_if_asked}
 use Rattle.rv_rows.specs.Outcome.{loadable_of, end_of, outcome_of_run, refused_outcome, outcome_if_loadable}
 use Rattle.rv_rows.specs.Outcome.{loaded_state, file_outcome_of, outcome_if_there, outcome_of}
 use Rattle.rv_rows.specs.declared.outcome.Loadable.{Loadable}
 use Rattle.rv_rows.specs.declared.outcome.Outcome.{Outcome}
-use Rattle.rv_rows.specs.declared.row.RowEnd.TheVariants as ending
-use Rattle.rv_elf.specs.declared.image.Image.{Image}
-use Rattle.rv_machine.specs.declared.ending.Ending.{Ending}
-use Rattle.rv_machine.specs.declared.ending.Ending.TheVariants as machine
-use Rattle.rv_machine.specs.Run.{Ran, run_of}
-use Rattle.rv_memory.specs.Bus.{word_at}
-use Rattle.rv_memory.specs.SignatureWords.{words_of}
+use Rattle.rv_report.specs.declared.row.RowEnd.TheVariants as ending
+use Rattle.rv_report.specs.declared_image.Image.{Image}
+use Rattle.rv_report.specs.declared_ending.Ending.{Ending}
+use Rattle.rv_report.specs.declared_ending.Ending.TheVariants as machine
+use Rattle.rv_report.specs.Run.{Ran, run_of}
+use Rattle.rv_rows.specs.Bus.{word_at}
+use Rattle.rv_rows.specs.SignatureWords.{words_of}
 use Rattle.rv_report.specs.Saved.{most_words}
 use Rattle.std.specs.FinMap as fin
 use Rattle.std.specs.List.{list_all}

@@ -9,13 +9,13 @@ use Rattle.std.proofs.lemmas.List.{get_or_default, length-map}
 use Rattle.std.proofs.lemmas.List.Elements.{recursion_from_All}
 use Rattle.rv_jobs.specs.declared.answers.Answer.{Answer}
 use Rattle.rv_jobs.specs.Plans.{Planned, kept_for}
-use Rattle.rv_lists.specs.declared.job.Job.{Job}
-use Rattle.rv_lists.specs.Jobs.{console_path}
-use Rattle.rv_lists.specs.JobList.{is_name, job_list_of, names_of as job_names}
-use Rattle.rv_rows.specs.declared.row.Refusal.{Refusal}
-use Rattle.rv_rows.specs.declared.row.Row.{Row}
-use Rattle.rv_rows.specs.declared.row.RowEnd.{RowEnd}
-use Rattle.rv_rows.specs.declared.row.RowEnd.TheVariants as ending
+use Rattle.rv_jobs.specs.declared_job.Job.{Job}
+use Rattle.rv_jobs.specs.Jobs.{console_path}
+use Rattle.rv_jobs.specs.JobList.{is_name, job_list_of, names_of as job_names}
+use Rattle.rv_report.specs.declared.row.Refusal.{Refusal}
+use Rattle.rv_report.specs.declared.row.Row.{Row}
+use Rattle.rv_report.specs.declared.row.RowEnd.{RowEnd}
+use Rattle.rv_report.specs.declared.row.RowEnd.TheVariants as ending
 use Rattle.rv_rows.specs.Rows.{row_of, rows_of}
 use Rattle.rv_rows.specs.Wholes.{planned}
 use Rattle.rv_report.specs.Saved.{AreWords, IsEnd, IsRow, most_words, are_new, names_of}

@@ -10,13 +10,14 @@ use Rattle.std.proofs.lemmas.List.Elements.{All-from_recursion, recursion_from_A
 use Rattle.std.proofs.lemmas.List.FromFn.{get_or-range_with_len, length-range_with_len}
 use Rattle.std.proofs.lemmas.Option.{get_or_from_slice_get, none-some, same_Some, slice_get-get_or, slice_get-map}
 use Rattle.std.proofs.lemmas.Option.{slice_get_within}
-use Rattle.rv_lists.specs.declared.job.Job.{Job}
-use Rattle.rv_lists.specs.JobList.{is_name}
-use Rattle.rv_lists.specs.Jobs.{most_jobs, single_job}
+use Rattle.rv_jobs.specs.declared_job.Job.{Job}
+use Rattle.rv_jobs.specs.JobList.{is_name}
+use Rattle.rv_jobs.specs.Limits.{most_jobs}
+use Rattle.rv_jobs.specs.Jobs.{single_job}
 use Rattle.rv_jobs.specs.declared.answers.Answer.{Answer}
 use Rattle.rv_jobs.specs.Choices.{marked}
 use Rattle.rv_jobs.specs.Plans.{Planned, needed_for}
-use Rattle.rv_rows.specs.declared.row.Row.{Row}
+use Rattle.rv_report.specs.declared.row.Row.{Row}
 use Rattle.rv_rows.specs.Rows.{row_of, rows_at, rows_of}
 use Rattle.rv_rows.specs.Wholes.{KeepSame, planned}
 use Rattle.rv_report.specs.declared.saved.Extent.TheVariants as extent

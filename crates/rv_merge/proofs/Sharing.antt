@@ -10,7 +10,7 @@ use Rattle.std.proofs.lemmas.Option.{same_Some, none-some}
 use Rattle.std.proofs.lemmas.Slice.Eq.{bytes_eq-Decides}
 use Rattle.std.proofs.lemmas.List.{append_assoc, append-nil}
 use Rattle.std.proofs.Math.Nat.{add-mod_right, mod-add-mod, mod-lt}
-use Rattle.rv_lists.specs.JobList.{place_in}
+use Rattle.rv_jobs.specs.JobList.{place_in}
 use Rattle.rv_report.specs.Saved.{are_new, are_rising, are_stepped}
 use Rattle.rv_merge.specs.Shards.{is_in_shard}
 use Rattle.rv_merge.proofs.Named.{new_at}

@@ -2,9 +2,9 @@
 use Rattle.std.specs.Prelude.{◌≡◌, ◌==◌, ◌+◌, ◌-◌, ◌%◌, ◌<◌, ◌≤◌, ℕ, Bool, true, List, length}
 use Rattle.std.specs.Prelude.{map, Any}
 use Rattle.std.specs.List.{All, filter, range_with_len}
-use Rattle.rv_lists.specs.declared.job.Job.{Job}
-use Rattle.rv_lists.specs.JobList.{is_name}
-use Rattle.rv_lists.specs.Jobs.{most_jobs}
+use Rattle.rv_jobs.specs.declared_job.Job.{Job}
+use Rattle.rv_jobs.specs.JobList.{is_name}
+use Rattle.rv_jobs.specs.Limits.{most_jobs}
 use Rattle.rv_jobs.specs.declared.answers.Answer.{Answer}
 use Rattle.rv_jobs.specs.Plans.{Planned, needed_for}
 use Rattle.rv_rows.specs.Rows.{rows_at}

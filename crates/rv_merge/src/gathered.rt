@@ -26,7 +26,7 @@ pub(crate) struct Gathered {
 }
 
 /// No rows of the run of a shard.
-pub(crate) fn nothing(alloc: Global, shard: &Shard) -> Result<Gathered, AllocError>
+pub(crate) fn no_rows(alloc: Global, shard: &Shard) -> Result<Gathered, AllocError>
     ensures first { IfOk result (λ g. g.first ≡ shard.now) }
     ensures sources { IfOk result (λ g. g.sources.items ≡ replicate shard.now.shards None) }
     ensures slots { IfOk result (λ g. g.slots.items ≡ replicate shard.now.jobs None) }

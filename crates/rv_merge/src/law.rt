@@ -2,7 +2,7 @@
 
 ghost use Rattle.std.specs.Prelude.{ℕ, List};
 ghost use Rattle.rv_jobs.specs.declared.answers.Answer.{Answer};
-ghost use Rattle.rv_lists.specs.declared.job.Job.{Job};
+ghost use Rattle.rv_jobs.specs.declared_job.Job.{Job};
 ghost use Rattle.rv_rows.specs.Rows.{rows_of};
 ghost use Rattle.rv_rows.specs.Wholes.{planned};
 ghost use Rattle.rv_merge.specs.Parts.{AreListed, AreParts, Run};

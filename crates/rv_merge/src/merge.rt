@@ -2,14 +2,14 @@
 
 ghost use Rattle.std.specs.Prelude.{◌≡◌, ◌<◌, ◌+◌, ◌%◌, List, IfOk, IfErr, MatchOption, None, length};
 ghost use Rattle.std.specs.Prelude.{slice_index_or};
-ghost use Rattle.rv_rows.specs.declared.row.Row.{Row};
+ghost use Rattle.rv_report.specs.declared.row.Row.{Row};
 ghost use Rattle.rv_merge.specs.Parts.{AreParts, bytes_of};
 ghost use Rattle.rv_merge.specs.Refusals.{Gives, IsRefused};
 ghost use Rattle.rv_merge.specs.GatheredInside.{HaveSources, HoldsIn, IsComplete};
 ghost use Rattle.rv_merge.specs.GatheredInside.{IsUnfinished, present};
 
 use crate::error::{Flaw, MergeError};
-use crate::gathered::{Gathered, add, nothing};
+use crate::gathered::{Gathered, add, no_rows};
 use crate::names::name_twice;
 use crate::part::part_at;
 use rv_rows::{Row, Rows};
@@ -28,18 +28,18 @@ pub fn merge_parts(alloc: Global, texts: &[&[u8]]) -> Result<Rows, MergeError>
     if texts.is_empty() {
         return Err(MergeError::NoTexts);
     }
-    let gathered = gathered(alloc, texts)?;
-    merged(alloc, gathered)
+    let gathered = gather_parts(alloc, texts)?;
+    rows_of_parts(alloc, gathered)
 }
 
 // What is gathered of all texts.
-fn gathered(alloc: Global, texts: &[&[u8]]) -> Result<Gathered, MergeError>
+fn gather_parts(alloc: Global, texts: &[&[u8]]) -> Result<Gathered, MergeError>
     requires { 0 < length texts.now }
     ensures holds { IfOk result (λ g. HoldsIn (bytes_of texts.now) (length texts.now) g) }
     ensures err { IfErr result (IsRefused (bytes_of texts.now)) }
 {
     let part = part_at(alloc, texts, 0)?;
-    let mut gathered = nothing(alloc, &part.shard)?;
+    let mut gathered = no_rows(alloc, &part.shard)?;
     add(&mut gathered, texts, 0, part)?;
     for at in 1..texts.len() {
         let part = part_at(alloc, texts, at)?;
@@ -49,7 +49,7 @@ fn gathered(alloc: Global, texts: &[&[u8]]) -> Result<Gathered, MergeError>
 }
 
 // The rows that were gathered, where none is missing and each has a name of its own.
-fn merged(alloc: Global, gathered: Gathered) -> Result<Rows, MergeError>
+fn rows_of_parts(alloc: Global, gathered: Gathered) -> Result<Rows, MergeError>
     requires { 0 < length gathered.sources.items }
     ensures rows { IfOk result (λ rows. IsComplete gathered.sources.items gathered.slots.items
         rows) }

@@ -6,8 +6,8 @@ use Rattle.std.specs.List.{list_all}
 use Rattle.std.proofs.lemmas.Bool.{and_parts, and_from, cases_Bool}
 use Rattle.std.proofs.lemmas.Bool.Decides.{nat_tests}
 use Rattle.rv_lists.specs.JobList.{is_name, place_in}
-use Rattle.rv_lists.specs.Jobs.{most_jobs}
-use Rattle.rv_rows.specs.declared.row.Row.{Row}
+use Rattle.rv_base.specs.Limits.{most_jobs}
+use Rattle.rv_report.specs.declared.row.Row.{Row}
 use Rattle.rv_report.specs.declared.saved.Extent.{Extent}
 use Rattle.rv_report.specs.declared.saved.Extent.TheVariants.{Choice}
 use Rattle.rv_report.specs.declared.saved.SavedReport.{SavedReport}

@@ -12,15 +12,15 @@ use Rattle.hex.specs.declared.error.FromHexError.{FromHexError}
 use Rattle.hex.proofs.HexLemmas.{decode_of-ok}
 use Rattle.rv_elf.specs.declared.error.ImageError.TheVariants as image
 use Rattle.rv_lists.specs.JobList.{is_name, is_name_byte}
-use Rattle.rv_lists.specs.Jobs.{most_jobs}
-use Rattle.rv_rows.specs.Report.{refusal_name, refusal_named, refusals}
-use Rattle.rv_rows.specs.declared.row.Refusal.{Refusal}
-use Rattle.rv_rows.specs.declared.row.Refusal.TheVariants as refusal
-use Rattle.rv_rows.specs.declared.row.Row.{Row}
-use Rattle.rv_rows.specs.declared.row.RowEnd.{RowEnd}
-use Rattle.rv_rows.specs.declared.row.RowEnd.TheVariants as ending
-use Rattle.rv_rows.specs.declared.row.Verdict.{Verdict}
-use Rattle.rv_rows.specs.declared.row.Verdict.TheVariants.{Unasked}
+use Rattle.rv_base.specs.Limits.{most_jobs}
+use Rattle.rv_report.specs.Report.{refusal_name, refusal_named, refusals}
+use Rattle.rv_report.specs.declared.row.Refusal.{Refusal}
+use Rattle.rv_report.specs.declared.row.Refusal.TheVariants as refusal
+use Rattle.rv_report.specs.declared.row.Row.{Row}
+use Rattle.rv_report.specs.declared.row.RowEnd.{RowEnd}
+use Rattle.rv_report.specs.declared.row.RowEnd.TheVariants as ending
+use Rattle.rv_report.specs.declared.row.Verdict.{Verdict}
+use Rattle.rv_report.specs.declared.row.Verdict.TheVariants.{Unasked}
 use Rattle.rv_report.specs.declared.gathering.Stage.{Stage}
 use Rattle.rv_report.specs.declared.gathering.Stage.TheVariants as stage
 use Rattle.rv_report.specs.declared.saved.Extent.{Extent}

@@ -13,7 +13,7 @@ use Rattle.rv_lists.specs.JobList.{is_name, is_name_byte, is_within}
 use Rattle.std.specs.Prelude.{Result, Ok, Err, IfOk}
 use Rattle.rv_report.specs.Said.{Gathered, with_line, with_lines, lines, place_of, number_on, word_on, digit_on}
 use Rattle.rv_report.specs.Said.{hex_digit, shifted, all_hex, is_hex}
-use Rattle.rv_rows.specs.declared.row.Row.{Row}
+use Rattle.rv_report.specs.declared.row.Row.{Row}
 use Rattle.std.specs.Prelude.{is_some}
 use Rattle.std.proofs.lemmas.Bool.{false≢true}
 use Rattle.rv_lists.specs.JobList.{place_in}

@@ -11,3 +11,4 @@ pub mod Loops
 pub mod Told
 pub mod Compared
 pub mod Public
+pub mod RowTexts

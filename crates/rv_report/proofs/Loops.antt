@@ -8,9 +8,9 @@ use Rattle.rv_report.specs.declared.read.FirstWord.{FirstWord}
 use Rattle.rv_report.specs.declared.read.ReadError.TheVariants.{Line, CutOff}
 use Rattle.std.proofs.lemmas.Bool.{and_parts}
 use Rattle.rv_report.specs.Differences.{feeds, past, line_past, difference, difference_at}
-use Rattle.rv_lists.specs.Jobs.{most_jobs}
-use Rattle.rv_rows.specs.Report.{row_text}
-use Rattle.rv_rows.specs.declared.row.Row.{Row}
+use Rattle.rv_base.specs.Limits.{most_jobs}
+use Rattle.rv_report.specs.Report.{row_text}
+use Rattle.rv_report.specs.declared.row.Row.{Row}
 use Rattle.rv_report.specs.Said.{rising_count}
 use Rattle.rv_report.specs.Saved.{are_rising, numbered_text}
 

@@ -10,25 +10,25 @@ use Rattle.hex.specs.Hex.{IsBytes, encode_lower, encode_with, lower_digits}
 use Rattle.rv_elf.specs.declared.error.ImageError.TheVariants as image
 use Rattle.rv_lists.specs.JobList.{is_name, is_name_byte, is_within}
 use Rattle.rv_machine.specs.declared.ending.FaultKind.{FaultKind}
-use Rattle.rv_machine.specs.declared.ending.FaultKind.TheVariants as fault
 use Rattle.rv_machine.specs.Faults.{fault_name, fault_named}
-use Rattle.rv_rows.specs.declared.row.Refusal.{Refusal}
-use Rattle.rv_rows.specs.declared.row.Refusal.TheVariants as refusal
-use Rattle.rv_rows.specs.declared.row.Row.{Row}
-use Rattle.rv_rows.specs.declared.row.RowEnd.{RowEnd}
-use Rattle.rv_rows.specs.declared.row.RowEnd.TheVariants as ending
-use Rattle.rv_rows.specs.declared.row.Verdict.{Verdict}
-use Rattle.rv_rows.specs.declared.row.Verdict.TheVariants as verdict
-use Rattle.rv_rows.specs.Report.{line, word_line, refusal_name, refusal_named, verdict_name, end_line}
+use Rattle.rv_machine.proofs.Public.{every_fault, fault_named-name}
+use Rattle.rv_report.specs.declared.row.Refusal.{Refusal}
+use Rattle.rv_report.specs.declared.row.Refusal.TheVariants as refusal
+use Rattle.rv_report.specs.declared.row.Row.{Row}
+use Rattle.rv_report.specs.declared.row.RowEnd.{RowEnd}
+use Rattle.rv_report.specs.declared.row.RowEnd.TheVariants as ending
+use Rattle.rv_report.specs.declared.row.Verdict.{Verdict}
+use Rattle.rv_report.specs.declared.row.Verdict.TheVariants as verdict
+use Rattle.rv_report.specs.Report.{line, word_line, refusal_name, refusal_named, verdict_name, end_line}
 use Rattle.rv_text.specs.Words.{word_digits}
-use Rattle.rv_rows.specs.Report.{or_dash, console_line, signature_lines, row_text}
+use Rattle.rv_report.specs.Report.{or_dash, console_line, signature_lines, row_text}
 use Rattle.rv_report.specs.declared.gathering.Stage.TheVariants as stage
 use Rattle.rv_report.specs.declared.saved.Extent.{Extent}
 use Rattle.rv_report.specs.Said.{lines, before, after, number_of, word_of, all_hex, bytes_of, name_or_dash}
 use Rattle.rv_report.specs.Said.{job_of, name_of, fault_or_first, refusal_or_first, fault_of, ending_of, verdict_of}
 use Rattle.rv_report.specs.Said.{number_on, Gathered, whole, closed, over, next_row, between, at_ending}
 use Rattle.rv_report.specs.Said.{at_steps, at_console, at_signature, at_words, with_line, with_lines}
-use Rattle.rv_lists.specs.Jobs.{most_jobs}
+use Rattle.rv_base.specs.Limits.{most_jobs}
 use Rattle.std.proofs.lemmas.Bool.Decides.{nat_tests}
 use Rattle.rv_report.specs.Saved.{most_words, IsWord, IsEnd, AreWords, IsRow}
 use Rattle.rv_report.proofs.Pieces.{lacks, lacks-append, lines_at, before_at, after_at, first_is_other}
@@ -48,31 +48,8 @@ says_line xs rest g h =
 
 -- ---- names
 
-pub fault_named-name : (kind : FaultKind) → fault_named (fault_name kind) ≡ Some kind
-fault_named-name fault.FetchAccess = refl
-fault_named-name fault.StaleCode = refl
-fault_named-name fault.Illegal = refl
-fault_named-name fault.Breakpoint = refl
-fault_named-name fault.LoadMisaligned = refl
-fault_named-name fault.LoadAccess = refl
-fault_named-name fault.StoreMisaligned = refl
-fault_named-name fault.StoreAccess = refl
-fault_named-name fault.ConsoleFull = refl
-fault_named-name fault.UnknownCall = refl
-fault_named-name fault.FetchMisaligned = refl
-
 lacks-fault_name : (kind : FaultKind) → (lacks 10 (fault_name kind) && lacks 32 (fault_name kind)) ≡ true
-lacks-fault_name fault.FetchAccess = refl
-lacks-fault_name fault.StaleCode = refl
-lacks-fault_name fault.Illegal = refl
-lacks-fault_name fault.Breakpoint = refl
-lacks-fault_name fault.LoadMisaligned = refl
-lacks-fault_name fault.LoadAccess = refl
-lacks-fault_name fault.StoreMisaligned = refl
-lacks-fault_name fault.StoreAccess = refl
-lacks-fault_name fault.ConsoleFull = refl
-lacks-fault_name fault.UnknownCall = refl
-lacks-fault_name fault.FetchMisaligned = refl
+lacks-fault_name kind = every_fault (λ each. lacks 10 (fault_name each) && lacks 32 (fault_name each)) refl kind
 
 pub refusal_named-name : (why : Refusal) → (why ≡ refusal.Image image.OutOfMemory → ⊥)
     → refusal_named (refusal_name why) ≡ Some why

@@ -3,8 +3,8 @@ use Rattle.std.proofs.Common.{◌≡◌, ◌∙◌, ◌==◌, ◌+◌, ◌-◌, 
 use Rattle.std.proofs.Common.{arith, subst}
 use Rattle.std.specs.Prelude.{nat_le}
 use Rattle.std.proofs.lemmas.Bool.{and_parts, eqb-true}
-use Rattle.rv_rows.specs.declared.row.Row.{Row}
-use Rattle.rv_rows.specs.Report.{row_text, rows_text, done_line, report_text}
+use Rattle.rv_report.specs.declared.row.Row.{Row}
+use Rattle.rv_report.specs.Report.{row_text, rows_text, done_line, report_text}
 use Rattle.rv_report.specs.declared.saved.Extent.{Extent}
 use Rattle.rv_report.specs.declared.saved.Extent.TheVariants.{Whole}
 use Rattle.rv_report.specs.declared.saved.SavedReport.{SavedReport}

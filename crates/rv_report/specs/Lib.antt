@@ -1,4 +1,15 @@
+pub mod Report
 pub mod Saved
 pub mod Said
 pub mod View
 pub mod Differences
+pub use Rattle.rv_elf.specs.Image
+pub use Rattle.rv_elf.specs.Loading
+pub use Rattle.rv_elf.specs.Rows
+pub use Rattle.rv_elf.specs.Symbols
+pub use Rattle.rv_elf.specs.declared.error as declared_error
+pub use Rattle.rv_elf.specs.declared.image as declared_image
+pub use Rattle.rv_elf.specs.declared.loading as declared_loading
+pub use Rattle.rv_machine.specs.Run
+pub use Rattle.rv_machine.specs.declared.ending as declared_ending
+pub use Rattle.rv_text.specs.Words

@@ -8,12 +8,12 @@ use Rattle.std.specs.Fmt.{decimal}
 use Rattle.hex.specs.Hex.{IsBytes}
 use Rattle.rv_elf.specs.declared.error.ImageError.TheVariants as image
 use Rattle.rv_lists.specs.JobList.{is_name, place_in}
-use Rattle.rv_lists.specs.Jobs.{most_jobs}
-use Rattle.rv_rows.specs.Report.{line, row_text, done_line}
-use Rattle.rv_rows.specs.declared.row.Refusal.TheVariants as refusal
-use Rattle.rv_rows.specs.declared.row.Row.{Row}
-use Rattle.rv_rows.specs.declared.row.RowEnd.{RowEnd}
-use Rattle.rv_rows.specs.declared.row.RowEnd.TheVariants as ending
+use Rattle.rv_base.specs.Limits.{most_jobs}
+use Rattle.rv_report.specs.Report.{line, row_text, done_line}
+use Rattle.rv_report.specs.declared.row.Refusal.TheVariants as refusal
+use Rattle.rv_report.specs.declared.row.Row.{Row}
+use Rattle.rv_report.specs.declared.row.RowEnd.{RowEnd}
+use Rattle.rv_report.specs.declared.row.RowEnd.TheVariants as ending
 use Rattle.rv_report.specs.declared.saved.Extent.{Extent}
 use Rattle.rv_report.specs.declared.saved.Extent.TheVariants as extent
 use Rattle.rv_report.specs.declared.saved.Shard.{Shard}

@@ -8,10 +8,10 @@ ghost use Rattle.rv_report.specs.View.{view};
 
 use crate::fields::{behind, byte_at, bytes_of, front, is_word, number_of, place_of, word_of};
 use crate::lines::{ending_of, job_of, name_of, part_of, verdict_of};
+use crate::row::{Row, RowEnd, Verdict, Words};
 use crate::saved::Extent;
-use rv_jobs::limits::MOST_JOBS;
-use rv_jobs::{Bytes, Text};
-use rv_rows::{Row, RowEnd, Verdict, Words};
+use rv_base::limits::MOST_JOBS;
+use rv_base::{Bytes, Text};
 use std::alloc::{AllocError, Global};
 use std::mem;
 
@@ -56,7 +56,7 @@ const MOST_WORDS: u32 = 65_536;
 pub fn gathered(alloc: Global, text: &[u8]) -> Result<Gathering, AllocError>
     ensures { IfOk result (λ g. view g ≡ gathered text.now) }
 {
-    let mut gathering = nothing(alloc)?;
+    let mut gathering = no_rows(alloc)?;
     let mut rest = text;
     while !rest.is_empty() {
         let end = place_of(b'\n', rest);
@@ -68,7 +68,7 @@ pub fn gathered(alloc: Global, text: &[u8]) -> Result<Gathering, AllocError>
 }
 
 #[tactic(auto, unfolding(crate::specs::Said::whole))]
-fn nothing(alloc: Global) -> Result<Gathering, AllocError>
+fn no_rows(alloc: Global) -> Result<Gathering, AllocError>
     ensures { IfOk result (λ g. view g ≡ whole [] [] Extent.Whole) }
 {
     let name = String::from_str(alloc, "-")?;

@@ -1,8 +1,10 @@
-//! The text of a report read back: of a whole report, of a choice of its jobs and of a shard.
+//! The report of a fleet: its rows, its text, and that text read back.
 //!
-//! [`read_report`] answers the [`SavedReport`] whose text it is given, or names the first line that no report has
-//! there ([`ReadError`]). It takes each line for what it seems to say, writes the report of that, and compares: so
-//! what it answers has exactly this text, by one comparison. [`one_text_one_report`] is a law of reports.
+//! A [`Row`] says what one job came to. [`write_report`] appends a report's text to a sink, in few large puts; where it
+//! fails a beginning of the text went out, and nothing after it. [`read_report`] answers the [`SavedReport`] whose text
+//! it is given, a whole report, that of a choice of jobs or that of a shard, or names the first line that no report has
+//! there ([`ReadError`]). It takes each line for what it seems to say, writes the report of that, and compares: so what
+//! it answers has exactly this text, by one comparison. [`one_text_one_report`] is a law of reports.
 #![tactic(auto)]
 
 mod fields;
@@ -11,12 +13,19 @@ mod law;
 mod lines;
 mod names;
 mod read;
+mod report;
+mod row;
 mod said;
 mod saved;
+mod saved_writer;
+mod signature_lines;
 mod text;
 
 pub use fields::is_name;
 pub use law::{one_text_one_report, whole_text_is_report_text};
 pub use read::{ReadError, read_report};
+pub use report::{Report, Rows, WriteError, write_report};
+pub use row::{Refusal, Row, RowEnd, Verdict, Words};
 pub use saved::{Extent, Numbers, SavedReport, Shard};
-pub use text::push_last;
+pub use saved_writer::write_saved;
+pub use signature_lines::{LINE, are_word_lines, line_of};

@@ -4,13 +4,13 @@ ghost use Rattle.std.specs.Prelude.{◌≡◌, IfOk, string_bytes};
 ghost use Rattle.rv_report.specs.Said.{job_of, name_of, fault_or_first, refusal_or_first, fault_of, ending_of};
 ghost use Rattle.rv_report.specs.Said.{verdict_of};
 ghost use Rattle.rv_report.specs.Said.{shard_of, part_of};
-ghost use Rattle.rv_rows.specs.Report.{refusal_named};
+ghost use Rattle.rv_report.specs.Report.{refusal_named};
 
 use crate::fields::{after, before, behind, byte_at, front, name_or_dash, number_of, word_of};
+use crate::row::{Refusal, RowEnd, Verdict};
 use crate::saved::{Extent, Shard};
-use rv_jobs::Text;
+use rv_base::Text;
 use rv_machine::FaultKind;
-use rv_rows::{Refusal, RowEnd, Verdict};
 use std::alloc::{AllocError, Global};
 
 /// The number of a job.

@@ -4,7 +4,7 @@ ghost use Rattle.std.specs.Prelude.{◌≡◌, [], IfOk};
 ghost use Rattle.rv_report.specs.Said.{new_count};
 ghost use Rattle.rv_report.specs.Saved.{names_of};
 
-use rv_rows::Row;
+use crate::row::Row;
 use std::alloc::{AllocError, Global};
 use std::collections::BTreeMap;
 

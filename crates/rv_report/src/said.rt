@@ -2,14 +2,14 @@
 
 ghost use Rattle.std.specs.Prelude.{◌≡◌, ◌≤◌, IfOk, length};
 ghost use Rattle.rv_report.specs.Said.{rising_count, fitting, said};
-ghost use Rattle.rv_lists.specs.Jobs.{most_jobs};
+ghost use Rattle.rv_base.specs.Limits.{most_jobs};
 ghost use Rattle.rv_report.specs.Saved.{IsSaved};
 
 use crate::gathering::gathered;
 use crate::names::new_count;
+use crate::report::Rows;
 use crate::saved::{Extent, Numbers, SavedReport};
-use rv_jobs::limits::MOST_JOBS;
-use rv_rows::Rows;
+use rv_base::limits::MOST_JOBS;
 use std::alloc::{AllocError, Global};
 
 /// What a text says.

@@ -1,14 +1,13 @@
 //! Reports as files hold them: rows under the numbers of their jobs, and which jobs of a list these are.
 
 ghost use Rattle.std.specs.Prelude.{◌≡◌, ◌≤◌, length};
-ghost use Rattle.rv_lists.specs.Jobs.{most_jobs};
+ghost use Rattle.rv_base.specs.Limits.{most_jobs};
 ghost use Rattle.rv_report.specs.Saved.{are_rising, are_stepped, is_shard, fits};
 
 use crate::fields::is_name;
-use rv_base::Sequence;
-use rv_jobs::Text;
-use rv_jobs::limits::MOST_JOBS;
-use rv_rows::Rows;
+use crate::report::Rows;
+use rv_base::limits::MOST_JOBS;
+use rv_base::{Sequence, Text};
 
 /// Numbers of jobs, of which contracts see their list.
 pub type Numbers = Sequence<u32>;

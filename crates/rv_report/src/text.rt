@@ -2,10 +2,11 @@
 
 ghost use Rattle.std.specs.Prelude.{◌≡◌, ◌++◌, ◌≤◌, ◌<◌, ◌^◌, true, IfOk, OnOk, string_bytes, length};
 ghost use Rattle.rv_report.specs.Saved.{IsListed, are_rising, numbered_text, last_line, saved_text};
-ghost use Rattle.rv_lists.specs.Jobs.{most_jobs};
+ghost use Rattle.rv_base.specs.Limits.{most_jobs};
 
+use crate::report::{push_done, push_row};
+use crate::row::Row;
 use crate::saved::{Extent, SavedReport, Shard};
-use rv_rows::{Row, push_done, push_row};
 use std::alloc::{AllocError, Global};
 
 /// The text of a report.
@@ -40,7 +41,7 @@ fn push_rows(
 
 /// Appends the line below so many rows.
 #[tactic(auto, unfolding(crate::specs::Saved::last_line))]
-pub fn push_last(text: &mut String, extent: &Extent, count: usize) -> Result<(), AllocError>
+pub(crate) fn push_last(text: &mut String, extent: &Extent, count: usize) -> Result<(), AllocError>
     ensures { OnOk result (string_bytes text.new
         ≡ string_bytes text.old ++ last_line extent.now count) }
 {

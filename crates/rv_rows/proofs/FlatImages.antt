@@ -11,7 +11,7 @@ use Rattle.rv_memory.specs.declared.access.Misaligned.TheVariants.{Fault}
 use Rattle.rv_memory.specs.Bus.{Contents, byte_at, bytes_put, new_bus}
 use Rattle.rv_memory.specs.Regions.{addresses, in_one}
 use Rattle.rv_rows.specs.Flat.{flat_byte, flat_contents, image_room}
-use Rattle.rv_lists.specs.Jobs.{default_regions}
+use Rattle.rv_jobs.specs.Jobs.{default_regions}
 
 same_regions : (bus : Contents) → bus ≡ new_bus default_regions [] Fault → bus.regions ≡ default_regions
 unfolding new_bus

@@ -8,8 +8,8 @@ use Rattle.rv_elf.specs.Image.{image_of}
 use Rattle.rv_elf.specs.Loading.{map_check, opening_memory}
 use Rattle.rv_elf.specs.Rows.{accepted}
 use Rattle.rv_elf.specs.Symbols.{signature_check, symbol_of}
-use Rattle.rv_lists.specs.declared.job.Job.{Job}
-use Rattle.rv_lists.specs.declared.job.Symbols.{Symbols}
+use Rattle.rv_jobs.specs.declared_job.Job.{Job}
+use Rattle.rv_jobs.specs.declared_job.Symbols.{Symbols}
 use Rattle.rv_memory.specs.declared.map.Region.{Region}
 use Rattle.rv_memory.specs.declared.access.Misaligned.{Misaligned as Choice}
 use Rattle.rv_memory.specs.Bus.{Contents, new_bus}
@@ -17,7 +17,7 @@ use Rattle.rv_machine.specs.State.{State, at_reset, is_misaligned}
 use Rattle.rv_rows.specs.declared.outcome.Loadable.{Loadable}
 use Rattle.rv_rows.specs.declared.outcome.SignatureRange.{SignatureRange}
 use Rattle.rv_rows.specs.Outcome.{end_of_signature, loadable_of, loaded_state, range_if_asked, range_of}
-use Rattle.rv_lists.specs.Reading.{◌>>=◌}
+use Rattle.rv_jobs.specs.Reading.{◌>>=◌}
 
 -- a second step that was reached: the first gave a value
 stepped : {E A B : Type 0} (r : Result A E) (f : A → Result B E) (y : B) → (r >>= f) ≡ Ok y → (x : A)

@@ -8,9 +8,9 @@ use Rattle.rv_isa.specs.declared.sets.Isa.TheVariants.{Imc}
 use Rattle.rv_elf.specs.declared.error.ImageError.{ImageError}
 use Rattle.rv_elf.specs.Image.{image_of}
 use Rattle.rv_elf.proofs.Public.{image_wider}
-use Rattle.rv_lists.specs.declared.job.Job.{Job}
-use Rattle.rv_jobs.specs.declared.store.Kept.{Kept}
-use Rattle.rv_lists.specs.Jobs.{AreJobs}
+use Rattle.rv_jobs.specs.declared_job.Job.{Job}
+use Rattle.rv_jobs.specs.declared.kept.Kept.{Kept}
+use Rattle.rv_jobs.specs.Jobs.{AreJobs}
 use Rattle.rv_jobs.specs.Plans.{Planned}
 use Rattle.rv_machine.specs.declared.ending.Ending.{Ending}
 use Rattle.rv_machine.specs.declared.ending.Ending.TheVariants as machine
@@ -19,11 +19,11 @@ use Rattle.rv_machine.specs.State.{State}
 use Rattle.rv_machine.specs.Sets.{is_of_any_set as ends_in_any_set}
 use Rattle.rv_machine.proofs.Public.{run_wider}
 use Rattle.rv_rows.specs.declared.outcome.Loadable.{Loadable}
-use Rattle.rv_rows.specs.declared.row.Refusal.{Refusal}
-use Rattle.rv_rows.specs.declared.row.Row.{Row}
+use Rattle.rv_report.specs.declared.row.Refusal.{Refusal}
+use Rattle.rv_report.specs.declared.row.Row.{Row}
 use Rattle.rv_rows.specs.Narrower.{widened_job, widened_jobs, widened_plan, is_of_any_set}
 use Rattle.rv_rows.specs.Outcome.{end_of, file_of, file_outcome_of, loadable_of, loaded_state}
-use Rattle.rv_lists.specs.Reading.{◌>>=◌}
+use Rattle.rv_jobs.specs.Reading.{◌>>=◌}
 use Rattle.rv_rows.specs.Outcome.{outcome_if_loadable, outcome_if_there, outcome_of, outcome_of_run}
 use Rattle.rv_rows.specs.Rows.{other_in, outcome_in, row_of, rows_of}
 use Rattle.rv_rows.specs.Verdict.{verdict_of}

@@ -7,8 +7,8 @@ use Rattle.std.proofs.lemmas.Option.{get_or_from_slice_get}
 use Rattle.std.proofs.Math.ListN.{get_or-append}
 use Rattle.std.proofs.lemmas.List.{get_or-append_right}
 use Rattle.rv_jobs.specs.declared.answers.Answer.{Answer}
-use Rattle.rv_lists.specs.declared.job.Job.{Job}
-use Rattle.rv_lists.specs.Jobs.{single_job}
+use Rattle.rv_jobs.specs.declared_job.Job.{Job}
+use Rattle.rv_jobs.specs.Jobs.{single_job}
 use Rattle.rv_jobs.specs.Plans.{named_by, needed_at, needed_for}
 use Rattle.rv_rows.specs.Outcome.{outcome_of}
 use Rattle.rv_rows.specs.Rows.{bytes_in, outcome_in, row_of, row_with, rows_at}

@@ -4,13 +4,13 @@ use Rattle.std.specs.Prelude.{if◌then◌else◌}
 use Rattle.rv_isa.specs.declared.sets.Isa.TheVariants.{Imc}
 use Rattle.rv_memory.specs.declared.access.Misaligned.TheVariants.{Fault}
 use Rattle.rv_memory.specs.Bus.{Contents, new_bus, with_bytes}
-use Rattle.rv_lists.specs.Jobs.{default_regions}
+use Rattle.rv_jobs.specs.Jobs.{default_regions}
 use Rattle.rv_machine.specs.Run.{run_of}
 use Rattle.rv_machine.specs.State.{State, at_reset}
-use Rattle.rv_rows.specs.declared.row.Refusal.TheVariants as refusal
+use Rattle.rv_report.specs.declared.row.Refusal.TheVariants as refusal
 use Rattle.rv_rows.specs.declared.outcome.Outcome.{Outcome}
-use Rattle.rv_rows.specs.declared.row.Row.{Row}
-use Rattle.rv_rows.specs.declared.row.Verdict.TheVariants as verdict
+use Rattle.rv_report.specs.declared.row.Row.{Row}
+use Rattle.rv_report.specs.declared.row.Verdict.TheVariants as verdict
 use Rattle.rv_rows.specs.Outcome.{outcome_of_run, refused_outcome}
 use Rattle.rv_rows.specs.Rows.{row_with}
 

@@ -6,11 +6,11 @@ use Rattle.rv_elf.specs.declared.image.Image.{Image}
 use Rattle.rv_elf.specs.Image.{image_of}
 use Rattle.rv_elf.specs.Loading.{map_check, opening_memory}
 use Rattle.rv_elf.specs.Symbols.{signature_check, symbol_of}
-use Rattle.rv_lists.specs.declared.job.Job.{Job}
-use Rattle.rv_lists.specs.declared.job.Symbols.{Symbols}
-use Rattle.rv_lists.specs.Reading.{◌>>=◌}
-use Rattle.rv_jobs.specs.declared.store.Kept.{Kept}
-use Rattle.rv_jobs.specs.declared.store.Kept.TheVariants as kept
+use Rattle.rv_jobs.specs.declared_job.Job.{Job}
+use Rattle.rv_jobs.specs.declared_job.Symbols.{Symbols}
+use Rattle.rv_jobs.specs.Reading.{◌>>=◌}
+use Rattle.rv_jobs.specs.declared.kept.Kept.{Kept}
+use Rattle.rv_jobs.specs.declared.kept.Kept.TheVariants as kept
 use Rattle.rv_memory.specs.declared.map.Region.{Region}
 use Rattle.rv_memory.specs.Bus.{Contents, new_bus}
 use Rattle.rv_memory.specs.SignatureWords.{words_of}
@@ -21,10 +21,10 @@ use Rattle.rv_machine.specs.State.{State, at_reset}
 use Rattle.rv_rows.specs.declared.outcome.Outcome.{Outcome}
 use Rattle.rv_rows.specs.declared.outcome.Loadable.{Loadable}
 use Rattle.rv_rows.specs.declared.outcome.SignatureRange.{SignatureRange}
-use Rattle.rv_rows.specs.declared.row.Refusal.{Refusal}
-use Rattle.rv_rows.specs.declared.row.Refusal.TheVariants as refusal
-use Rattle.rv_rows.specs.declared.row.RowEnd.{RowEnd}
-use Rattle.rv_rows.specs.declared.row.RowEnd.TheVariants as ending
+use Rattle.rv_report.specs.declared.row.Refusal.{Refusal}
+use Rattle.rv_report.specs.declared.row.Refusal.TheVariants as refusal
+use Rattle.rv_report.specs.declared.row.RowEnd.{RowEnd}
+use Rattle.rv_report.specs.declared.row.RowEnd.TheVariants as ending
 
 -- ---- the files of a job
 

@@ -3,19 +3,20 @@ use Rattle.std.specs.Prelude.{◌==◌, ◌&&◌, ◌||◌, ℕ, Bool, true, fal
 use Rattle.std.specs.Prelude.{None, is_some, if◌then◌else◌}
 use Rattle.std.specs.List.{flat_map}
 use Rattle.std.specs.Str.{bytes_eq}
-use Rattle.rv_lists.specs.declared.job.ExpectedConsole.{ExpectedConsole}
-use Rattle.rv_lists.specs.declared.job.ExpectedConsole.TheVariants.{Text, File}
-use Rattle.rv_lists.specs.declared.job.ExpectedEnd.{ExpectedEnd}
-use Rattle.rv_lists.specs.declared.job.ExpectedEnd.TheVariants as expected
-use Rattle.rv_lists.specs.declared.job.Job.{Job}
+use denote.Enum.Bare.{sameb}
+use Rattle.rv_jobs.specs.declared_job.ExpectedConsole.{ExpectedConsole}
+use Rattle.rv_jobs.specs.declared_job.ExpectedConsole.TheVariants.{Text, File}
+use Rattle.rv_jobs.specs.declared_job.ExpectedEnd.{ExpectedEnd}
+use Rattle.rv_jobs.specs.declared_job.ExpectedEnd.TheVariants as expected
+use Rattle.rv_jobs.specs.declared_job.Job.{Job}
+use Rattle.rv_machine.specs.contracts.ending.FaultKind.{the_type}
 use Rattle.rv_machine.specs.declared.ending.FaultKind.{FaultKind}
-use Rattle.rv_machine.specs.declared.ending.FaultKind.TheVariants as fault
 use Rattle.rv_rows.specs.declared.outcome.Outcome.{Outcome}
-use Rattle.rv_rows.specs.declared.row.RowEnd.{RowEnd}
-use Rattle.rv_rows.specs.declared.row.RowEnd.TheVariants as ending
-use Rattle.rv_rows.specs.declared.row.Verdict.{Verdict}
-use Rattle.rv_rows.specs.declared.row.Verdict.TheVariants as verdict
-use Rattle.rv_rows.specs.Report.{word_line}
+use Rattle.rv_report.specs.declared.row.RowEnd.{RowEnd}
+use Rattle.rv_report.specs.declared.row.RowEnd.TheVariants as ending
+use Rattle.rv_report.specs.declared.row.Verdict.{Verdict}
+use Rattle.rv_report.specs.declared.row.Verdict.TheVariants as verdict
+use Rattle.rv_report.specs.Report.{word_line}
 
 -- a job expects something of its row
 abbrev pub is_asked : Job → Bool
@@ -25,19 +26,9 @@ is_asked job =
 
 -- ---- kinds of faults
 
--- faults are of one kind where their numbers are equal
-abbrev pub fault_number : FaultKind → ℕ
-fault_number fault.FetchAccess = 1
-fault_number fault.StaleCode = 2
-fault_number fault.Illegal = 3
-fault_number fault.Breakpoint = 4
-fault_number fault.LoadMisaligned = 5
-fault_number fault.LoadAccess = 6
-fault_number fault.StoreMisaligned = 7
-fault_number fault.StoreAccess = 8
-fault_number fault.ConsoleFull = 9
-fault_number fault.UnknownCall = 10
-fault_number fault.FetchMisaligned = 11
+-- two faults are of one kind: `==` of the kinds
+abbrev pub is_same_kind : FaultKind → FaultKind → Bool
+is_same_kind kind other = sameb the_type kind other
 
 -- ---- the exit code
 
@@ -58,7 +49,7 @@ holds_exit (Some code) end = exits_with code end
 -- the run ended so: by its budget, or by a fault of the kind
 abbrev pub ends_by : ExpectedEnd → RowEnd → Bool
 ends_by expected.Budget ending.Budget = true
-ends_by (expected.Fault kind) (ending.Fault met pc value) = fault_number kind == fault_number met
+ends_by (expected.Fault kind) (ending.Fault met pc value) = is_same_kind kind met
 ends_by _ _ = false
 
 -- the run ended as is expected, if something is
@@ -103,7 +94,7 @@ holds_reference (Some path) (Some bytes) outcome = is_run outcome.ending
 -- two runs ended alike: by the same code, by the same kind of fault, or both by their budgets
 abbrev pub are_alike : RowEnd → RowEnd → Bool
 are_alike (ending.Exit m) (ending.Exit n) = m == n
-are_alike (ending.Fault k pc value) (ending.Fault l at met) = fault_number k == fault_number l
+are_alike (ending.Fault kind pc value) (ending.Fault other at met) = is_same_kind kind other
 are_alike ending.Budget ending.Budget = true
 are_alike _ _ = false
 

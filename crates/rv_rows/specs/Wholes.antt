@@ -1,8 +1,8 @@
 -- Plans of the same jobs, of which one may have read less.
 use Rattle.std.specs.Prelude.{◌≡◌, List, option_map}
 use Rattle.rv_jobs.specs.declared.answers.Answer.{Answer}
-use Rattle.rv_lists.specs.declared.job.Job.{Job}
-use Rattle.rv_lists.specs.Jobs.{console_path}
+use Rattle.rv_jobs.specs.declared_job.Job.{Job}
+use Rattle.rv_jobs.specs.Jobs.{console_path}
 use Rattle.rv_jobs.specs.Plans.{Planned, kept_for}
 
 abbrev pub planned : List Job → List Answer → Planned

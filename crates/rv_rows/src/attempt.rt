@@ -5,7 +5,7 @@ ghost use Rattle.rv_elf.specs.declared.error.ImageError.TheVariants.{OutOfMemory
 ghost use Rattle.rv_elf.specs.Image.{IsImageOf};
 ghost use Rattle.rv_elf.specs.Symbols.{signature_check, symbol_of};
 ghost use Rattle.rv_elf.specs.Rows.{accepted};
-ghost use Rattle.rv_lists.specs.Jobs.{most_script};
+ghost use Rattle.rv_base.specs.Limits.{most_script};
 ghost use Rattle.rv_machine.specs.Run.{run_of};
 ghost use Rattle.rv_machine.specs.Machine.{state_of};
 ghost use Rattle.rv_rows.specs.Attempt.{HasSignature, IsReadable, outcome_in_bus, outcome_of_attempt};
@@ -14,42 +14,18 @@ ghost use Rattle.rv_rows.specs.Outcome.{outcome_of, outcome_of_run, range_of, re
 ghost use Rattle.rv_rows.specs.Outcome.{start_if_loadable, start_of};
 
 use crate::outcome::{Attempt, EndedRun, Loadable, SignatureRange};
-use crate::row::{Refusal, RowEnd};
 use crate::spare::Spare;
 use rv_elf::{Image, ImageError, check_map, check_signature, find_symbol, load, read_image};
 use rv_jobs::{Job, Kept, Symbols};
 use rv_machine::{Ending, Machine};
 use rv_memory::Map;
+use rv_report::{Refusal, RowEnd};
 use std::alloc::{AllocError, Global};
 
-/// What a job comes to over what is kept of the paths of its image, of its reference, and of the file that its console
-/// is expected to hold.
-#[tactic(auto, unfolding(crate::specs::Outcome::outcome_of))]
-pub(crate) fn attempt_of(
-    alloc: Global,
-    job: &Job,
-    image: &Kept,
-    reference: Option<&Kept>,
-    console: Option<&Kept>,
-    spare: &mut Spare,
-) -> Result<Attempt, AllocError>
-    requires script { length job.now.script ≤ most_script }
-    requires named { IfSome job.now.signature (λ names. (0 < length names.begin)
-        × (0 < length names.end)) }
-    ensures outcome { IfOk result (λ attempt. outcome_of_attempt attempt
-        ≡ outcome_of job.now image.now (option_map (λ kept. kept.now) reference.entry)
-        (option_map (λ kept. kept.now) console.entry)) }
-    ensures readable { IfOk result IsReadable }
-{
-    match file(image, reference, console) {
-        Ok(file) => file_attempt(alloc, job, file, spare),
-        Err(why) => Ok(Attempt::Refused(why)),
-    }
-}
-
-// The image's bytes, if the references are there too.
+/// The image's bytes, over what is kept of the paths of the image, of the reference, and of the file that the console is
+/// expected to hold, or the first refusal of them.
 #[tactic(auto, unfolding(crate::specs::Outcome::file_of))]
-fn file<'a>(
+pub(crate) fn file_of<'a>(
     image: &'a Kept,
     reference: Option<&Kept>,
     console: Option<&Kept>,
@@ -83,7 +59,7 @@ pub(crate) fn refusal_of(
         ≡ refusal_in (outcome_of job.now image.now (option_map (λ kept. kept.now) reference.entry)
         (option_map (λ kept. kept.now) console.entry)).ending) }
 {
-    match file(image, reference, console) {
+    match file_of(image, reference, console) {
         Ok(file) => file_refusal(alloc, job, file),
         Err(why) => Ok(Some(why)),
     }
@@ -120,7 +96,7 @@ pub(crate) fn machine_of(
         IfOk result (λ found. MatchResult found (λ machine. start ≡ Ok (state_of machine))
         (λ why. start ≡ Err why)) }
 {
-    match file(image, reference, console) {
+    match file_of(image, reference, console) {
         Ok(file) => file_machine(alloc, job, file),
         Err(why) => Ok(Err(why)),
     }
@@ -158,8 +134,9 @@ fn check_reference(reference: Option<&Kept>) -> Result<(), Refusal>
     }
 }
 
+/// What a job comes to over its image's bytes.
 #[tactic(auto, unfolding(crate::specs::Outcome::file_outcome_of))]
-fn file_attempt(
+pub(crate) fn file_attempt(
     alloc: Global,
     job: &Job,
     file: &[u8],

@@ -8,10 +8,10 @@ ghost use Rattle.rv_rows.specs.Flat.{flat_byte, flat_contents, flat_outcome_of, 
 use crate::attempt::run;
 use crate::outcome::{Outcome, refused};
 use crate::plan_rows::row_with;
-use crate::row::{Refusal, Row, Verdict};
 use rv_isa::Isa;
 use rv_machine::Machine;
 use rv_memory::{Bus, Map, Misaligned};
+use rv_report::{Refusal, Row, Verdict};
 use std::alloc::{AllocError, Global};
 
 /// The bytes of the default map's region, the most of a flat image.

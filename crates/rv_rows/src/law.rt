@@ -3,10 +3,10 @@
 ghost use Rattle.std.specs.Prelude.{ℕ, ◌≡◌, List, IsTrue, Some, slice_get};
 ghost use Rattle.std.specs.List.{All};
 ghost use Rattle.rv_jobs.specs.declared.answers.Answer.{Answer};
-ghost use Rattle.rv_lists.specs.declared.job.Job.{Job};
-ghost use Rattle.rv_lists.specs.Jobs.{AreJobs};
+ghost use Rattle.rv_jobs.specs.declared_job.Job.{Job};
+ghost use Rattle.rv_jobs.specs.Jobs.{AreJobs};
 ghost use Rattle.rv_jobs.specs.Plans.{Planned, needed_for};
-ghost use Rattle.rv_rows.specs.declared.row.Row.{Row};
+ghost use Rattle.rv_report.specs.declared.row.Row.{Row};
 ghost use Rattle.rv_rows.specs.Narrower.{is_of_any_set, widened_plan};
 ghost use Rattle.rv_rows.specs.Rows.{rows_at, rows_of};
 ghost use Rattle.rv_rows.specs.Wholes.{KeepSame, planned};

@@ -6,10 +6,10 @@ ghost use Rattle.rv_elf.specs.Symbols.{signature_check};
 ghost use Rattle.rv_rows.specs.Attempt.{HasSignature, IsReadable, outcome_in_bus, outcome_of_attempt};
 ghost use Rattle.rv_rows.specs.Outcome.{refused_outcome, signature_in};
 
-use crate::row::{Refusal, RowEnd, Words};
 use rv_elf::Image;
 use rv_jobs::Bytes;
 use rv_memory::Bus;
+use rv_report::{Refusal, RowEnd, Words};
 use std::alloc::{AllocError, Global};
 
 /// What a job came to, but for its verdict.

@@ -2,7 +2,7 @@
 
 ghost use Rattle.std.specs.Prelude.{◌≡◌, ◌<◌, ◌≤◌, IfOk, IfSome, MatchResult, OnOk, Some, Ok, Err, length, map};
 ghost use Rattle.std.specs.Prelude.{option_map, option_and_then, slice_index_or};
-ghost use Rattle.rv_lists.specs.declared.job.Job.{Job as AJob};
+ghost use Rattle.rv_jobs.specs.declared_job.Job.{Job as AJob};
 ghost use Rattle.rv_machine.specs.Machine.{state_of};
 ghost use Rattle.rv_rows.specs.Attempt.{IsReadable, outcome_of_attempt};
 ghost use Rattle.rv_rows.specs.Outcome.{refusal_in};
@@ -11,15 +11,14 @@ ghost use Rattle.rv_rows.specs.Rows.{bytes_in, console_in, other_in, outcome_in,
 ghost use Rattle.rv_rows.specs.Rows.{rows_of, start_in};
 ghost use Rattle.rv_rows.specs.Verdict.{are_same, holds_same};
 
-use crate::attempt::{attempt_of, machine_of, refusal_of};
+use crate::attempt::{file_attempt, file_of, machine_of, refusal_of};
 use crate::outcome::{Attempt, Outcome};
 use crate::recent::{MOST, Recent};
-use crate::report::{Report, Rows};
-use crate::row::{Refusal, Row, Verdict};
 use crate::spare::Spare;
 use crate::verdict::{are_same, is_same, verdict};
 use rv_jobs::{Job, Kept, Plan, Text};
 use rv_machine::Machine;
+use rv_report::{Refusal, Report, Row, Rows, Verdict};
 use std::alloc::{AllocError, Global};
 
 /// The row of the job at a place, counted from 0.
@@ -50,7 +49,7 @@ pub fn next_row(
 {
     let job = plan.job(i);
     let outcome = outcome_at(alloc, plan, i, spare)?;
-    let same = holds_same(alloc, plan, job, &outcome, spare, recent)?;
+    let same = holds_same(plan, job, &outcome, spare, recent)?;
     let verdict = verdict(
         job,
         &outcome,
@@ -80,6 +79,8 @@ fn outcome_at(
     Ok(outcome)
 }
 
+// What the job at a place comes to.
+#[tactic(auto, unfolding(crate::specs::Outcome::outcome_of))]
 fn attempt_at(
     alloc: Global,
     plan: &Plan,
@@ -91,14 +92,11 @@ fn attempt_at(
         ≡ outcome_in plan.now.answers (slice_index_or plan.now.jobs i d)) }
     ensures readable { IfOk result IsReadable }
 {
-    attempt_of(
-        alloc,
-        plan.job(i),
-        plan.image(i),
-        plan.reference(i),
-        plan.console_reference(i),
-        spare,
-    )
+    let job = plan.job(i);
+    match file_of(plan.image(i), plan.reference(i), plan.console_reference(i)) {
+        Ok(file) => file_attempt(alloc, job, file, spare),
+        Err(why) => Ok(Attempt::Refused(why)),
+    }
 }
 
 /// Why the job at a place is refused, if its row is that of a refusal. Nothing is run.
@@ -140,7 +138,6 @@ pub fn machine_at(
 
 // Whether an outcome is the same as that of the job that a job names, if it names one.
 fn holds_same(
-    alloc: Global,
     plan: &Plan,
     job: &Job,
     outcome: &Outcome,
@@ -154,14 +151,13 @@ fn holds_same(
     ensures recent { OnOk result (AreOutcomes plan.now recent.new) }
 {
     match job.same_as {
-        Some(place) => is_same_as(alloc, plan, place, outcome, spare, recent),
+        Some(place) => is_same_as(plan, place, outcome, spare, recent),
         None => Ok(true),
     }
 }
 
 // Whether an outcome is the same as that of the job at a place, which is run again unless its outcome is kept.
 fn is_same_as(
-    alloc: Global,
     plan: &Plan,
     place: usize,
     outcome: &Outcome,
@@ -178,6 +174,7 @@ fn is_same_as(
     if let Some(other) = recent.find(place) {
         return Ok(are_same(outcome, other));
     }
+    let alloc = recent.alloc();
     let other = attempt_at(alloc, plan, place, spare)?;
     let same = is_same(outcome, &other);
     if recent.make_room(other.size()) {

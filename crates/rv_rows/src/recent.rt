@@ -47,6 +47,11 @@ impl Recent {
         }
     }
 
+    /// What it takes memory from.
+    pub(crate) fn alloc(&self) -> Global {
+        *self.items.allocator()
+    }
+
     /// The outcome of the job at a place, if it is kept.
     pub fn find(&self, place: usize) -> Option<&Outcome>
         ensures { (plan : Planned) → AreOutcomes plan self.now

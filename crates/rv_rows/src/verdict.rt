@@ -3,15 +3,13 @@
 ghost use Rattle.std.specs.Prelude.{◌≡◌, Option, bytes_eq, option_map};
 ghost use Rattle.rv_rows.specs.declared.outcome.Outcome.{Outcome as AnOutcome};
 ghost use Rattle.rv_rows.specs.Attempt.{HasSignature, IsReadable, outcome_in_bus, outcome_of_attempt};
-ghost use Rattle.rv_rows.specs.Verdict.{are_alike, are_same, ends_by, exits_with, fault_number, holds_console};
+ghost use Rattle.rv_rows.specs.Verdict.{are_alike, are_same, ends_by, exits_with, holds_console};
 ghost use Rattle.rv_rows.specs.Verdict.{holds_end, holds_exit, holds_reference};
 ghost use Rattle.rv_rows.specs.Verdict.{holds_same, is_asked, is_run, lines_of, prints, same_signature, verdict_of};
 
 use crate::outcome::{Attempt, EndedRun, Outcome};
-use crate::row::{RowEnd, Verdict, Words};
-use crate::signature_lines::are_word_lines;
 use rv_jobs::{ExpectedConsole, ExpectedEnd, Job, Text};
-use rv_machine::FaultKind;
+use rv_report::{RowEnd, Verdict, Words, are_word_lines};
 
 /// Whether an outcome is what the job expects, over the bytes of its references, where they were read, and whether it
 /// is the same as the outcome of the job that it names, if it names one.
@@ -97,9 +95,7 @@ fn ends_by(expected: ExpectedEnd, ending: RowEnd) -> bool
 {
     match (expected, ending) {
         (ExpectedEnd::Budget, RowEnd::Budget) => true,
-        (ExpectedEnd::Fault(kind), RowEnd::Fault(met, ..)) => {
-            fault_number(kind) == fault_number(met)
-        }
+        (ExpectedEnd::Fault(kind), RowEnd::Fault(met, ..)) => kind == met,
         _ => false,
     }
 }
@@ -212,29 +208,9 @@ pub fn are_alike(ending: RowEnd, other: RowEnd) -> bool
 {
     match (ending, other) {
         (RowEnd::Exit(code), RowEnd::Exit(exit)) => code == exit,
-        (RowEnd::Fault(kind, ..), RowEnd::Fault(fault, ..)) => {
-            fault_number(kind) == fault_number(fault)
-        }
+        (RowEnd::Fault(kind, ..), RowEnd::Fault(other, ..)) => kind == other,
         (RowEnd::Budget, RowEnd::Budget) => true,
         _ => false,
-    }
-}
-
-fn fault_number(kind: FaultKind) -> u8
-    ensures { result ≡ fault_number kind }
-{
-    match kind {
-        FaultKind::FetchAccess => 1,
-        FaultKind::StaleCode => 2,
-        FaultKind::Illegal => 3,
-        FaultKind::Breakpoint => 4,
-        FaultKind::LoadMisaligned => 5,
-        FaultKind::LoadAccess => 6,
-        FaultKind::StoreMisaligned => 7,
-        FaultKind::StoreAccess => 8,
-        FaultKind::ConsoleFull => 9,
-        FaultKind::UnknownCall => 10,
-        FaultKind::FetchMisaligned => 11,
     }
 }
 

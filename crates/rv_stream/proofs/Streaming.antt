@@ -10,7 +10,7 @@ use Rattle.std.proofs.KnownBytes.{Appends-nil, Appends-trans}
 use Rattle.std.proofs.lemmas.Grind.{common_steps}
 use Rattle.std.proofs.lemmas.List.{take_all, take_min}
 use Rattle.std.proofs.lemmas.List.Folds.{concat-append}
-use Rattle.rv_rows.specs.Sending.{AppendsBeginning}
+use Rattle.rv_rows.specs.Sinks.{AppendsBeginning}
 use Rattle.rv_stream.specs.declared.error.StreamError.{StreamError}
 use Rattle.rv_stream.specs.Streams.{IsOut, told_before, told_in}
 use Rattle.rv_fleet.proofs.Public.{chunk_more}

@@ -5,7 +5,7 @@ use Rattle.std.specs.Fork.{slice_chunk}
 use Rattle.std.specs.Int.{div_ceil}
 use Rattle.std.specs.List.{concat}
 use Rattle.std.proofs.lemmas.List.{length-take, take_all}
-use Rattle.rv_rows.specs.declared.row.Row.{Row}
+use Rattle.rv_rows.specs.declared_row.Row.{Row}
 use Rattle.rv_fleet.proofs.Public.{chunk_inside}
 use Rattle.rv_stream.specs.Streams.{CanBeTold, texts_of, told}
 use Rattle.rv_stream.proofs.Streaming.{parts_of_all}

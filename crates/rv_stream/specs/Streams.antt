@@ -1,16 +1,14 @@
 -- Texts of rows that go out in the order of the rows, while other rows are still being made.
-use Rattle.std.specs.Prelude.{◌≡◌, ◌∷◌, ◌+◌, ◌*◌, ◌<◌, ◌≤◌, ℕ, List, [], length, take, drop}
+use Rattle.std.specs.Prelude.{◌≡◌, ◌∷◌, ◌+◌, ◌*◌, ◌≤◌, ℕ, List, [], length, take, drop}
 use Rattle.std.specs.Prelude.{Option, Some, None, IfSome, Vec, slice_index_or}
 use Rattle.std.specs.declared.alloc.Global.{Global}
 use Rattle.std.specs.Fork.{slice_chunk}
 use Rattle.std.specs.Io.KnownBytes.{Appends}
 use Rattle.std.specs.List.{concat}
-use Rattle.std.specs.List.Sorted.{IsStrictlyIncreasing}
-use Rattle.rv_jobs.specs.Plans.{Planned}
-use Rattle.rv_rows.specs.declared.row.Row.{Row}
-use Rattle.rv_rows.specs.Rows.{rows_at}
-use Rattle.rv_rows.specs.Sending.{AppendsBeginning}
-use Rattle.rv_fleet.specs.Choices.{AreWithin}
+use Rattle.rv_rows.specs.declared_row.Row.{Row}
+use Rattle.rv_rows.specs.Sinks.{AppendsBeginning}
+use Rattle.rv_fleet.specs.Batches.{batch_rows}
+use Rattle.rv_fleet.specs.declared.batch.Batch.{Batch}
 use Rattle.rv_stream.specs.declared.error.StreamError.{StreamError}
 
 -- a text for each row, told of the job at its place
@@ -54,12 +52,8 @@ pub record CanBeTold (texts : List (List ℕ)) (group : ℕ) (line : ℕ → Row
   pub within : k * size + length rows ≤ length places
   pub told_so : told line (drop (k * size) places) rows ≡ told_in texts group k
 
--- a run of the jobs at some places, whose texts these are, in pieces of this size
-pub record IsStreamOf (texts : List (List ℕ)) (size : ℕ) (line : ℕ → Row → List ℕ) (plan : Planned)
-    (places : List ℕ) (workers group : ℕ) : Type 0 where
-  pub texts_told : texts ≡ texts_of line places (rows_at plan places)
+-- a run of a batch, whose texts these are, in pieces of this size
+pub record IsStreamOf (texts : List (List ℕ)) (size : ℕ) (line : ℕ → Row → List ℕ) (batch : Batch)
+    (group : ℕ) : Type 0 where
+  pub texts_told : texts ≡ texts_of line batch.places.now (batch_rows batch)
   pub size_given : size ≡ group
-  pub within : AreWithin plan places
-  pub rising : IsStrictlyIncreasing places
-  pub workers_few : (0 < workers) × (workers ≤ 64)
-  pub group_few : (0 < group) × (group ≤ 4096)

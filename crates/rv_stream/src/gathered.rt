@@ -1,37 +1,39 @@
 //! What is told of rows, sent in few large puts.
 
-ghost use Rattle.std.specs.Prelude.{◌≡◌, ◌≤◌, ◌++◌, IfErr, OnErr, OnOk, length};
-ghost use Rattle.rv_jobs.specs.Stores.{one_more};
-ghost use Rattle.rv_rows.specs.Sending.{AppendsBeginning, IsUnderWay};
+ghost use Rattle.std.specs.Prelude.{◌≡◌, ◌++◌, IfErr, OnErr, OnOk};
+ghost use Rattle.rv_rows.specs.Counts.{one_more};
+ghost use Rattle.rv_rows.specs.Sinks.{AppendsBeginning, IsUnderWay};
 ghost use Rattle.rv_stream.specs.Streams.{told};
 
+use crate::placed::PlacedRows;
 use crate::telling::Telling;
-use rv_fleet::{Row, Sink, put_all};
+use rv_fleet::{Sink, put_all};
 use rv_rows::WriteError;
 use std::alloc::Global;
 
 // Gathered text is put once it has this many bytes.
 const ENOUGH: usize = 32_768;
 
-/// Sends what is told of rows, those of the first places, behind the text that is gathered: the first part of all goes out
+/// Sends what is told of rows behind the text that is gathered: the first part of all goes out
 /// in few large puts, the rest stands in `text`. After an error a beginning of all is out.
 pub fn put_told<T: Telling, W: Sink>(
     alloc: Global,
     text: &mut Vec<u8>,
     telling: &T,
-    places: &[usize],
-    rows: &[Row],
+    placed: &PlacedRows<'_>,
     out: &mut W,
 ) -> Result<(), WriteError>
-    requires { length rows.now ≤ length places.now }
     ensures under_way { OnOk result (IsUnderWay (W.taken out.old) (W.taken out.new) text.new.items
-        (text.old.items ++ told (T.line telling.now) places.now rows.now)) }
+        (text.old.items
+        ++ told (T.line telling.now) placed.now.places.now placed.now.rows.now)) }
     ensures counted { OnOk result (W.failed out.new ≡ W.failed out.old) }
     ensures part { OnErr result (AppendsBeginning (W.taken out.old) (W.taken out.new)
-        (text.old.items ++ told (T.line telling.now) places.now rows.now)) }
+        (text.old.items
+        ++ told (T.line telling.now) placed.now.places.now placed.now.rows.now)) }
     ensures failed { IfErr result (λ error. error ≡ WriteError.Failed
         → W.failed out.new ≡ one_more (W.failed out.old)) }
 {
+    let (places, rows) = (placed.places, placed.rows);
     for i in 0..rows.len() {
         telling.push(alloc, places[i], &rows[i], text)?;
         put_if_enough(text, out)?;

@@ -3,7 +3,7 @@
 ghost use Rattle.std.specs.Prelude.{◌≡◌, ◌<◌, ◌++◌, ℕ, IfOk, IfSome, None, length, slice_index_or};
 ghost use Rattle.std.specs.Io.KnownBytes.{Appends};
 ghost use Rattle.std.specs.List.{concat};
-ghost use Rattle.rv_rows.specs.Sending.{AppendsBeginning};
+ghost use Rattle.rv_rows.specs.Sinks.{AppendsBeginning};
 ghost use Rattle.rv_stream.specs.Streams.{AreTexts, told_before, told_in};
 
 use crate::error::StreamError;

@@ -1,15 +1,16 @@
 //! Streams: texts of rows that go out in list order, while other rows are still being made.
 //!
-//! [`stream_places`] runs the jobs at some places in threads. What is told of a row is a caller's [`Telling`], and goes
+//! [`stream_places`] runs a [`Batch`](rv_fleet::Batch) by a [`Crew`](rv_fleet::Crew). What is told of a row is a caller's [`Telling`], and goes
 //! out as soon as that of all rows before it is out. With `Ok` the sink took the texts of all rows, in order, for every
 //! number of workers and of jobs in a piece; with an error it took a beginning of them. [`put_told`] sends what is told of
-//! rows that are there already, in few large puts. [`is_chosen`] says which jobs of a list a person chooses.
+//! [`PlacedRows`] that are there already, in few large puts. [`is_chosen`] says which jobs of a list a person chooses.
 #![tactic(auto)]
 
 mod choice;
 mod error;
 mod gathered;
 mod in_order;
+mod placed;
 mod stream;
 mod telling;
 
@@ -17,5 +18,6 @@ pub use choice::is_chosen;
 pub use error::StreamError;
 pub use gathered::put_told;
 pub use in_order::Streamed;
+pub use placed::PlacedRows;
 pub use stream::stream_places;
 pub use telling::Telling;

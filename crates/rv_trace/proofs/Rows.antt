@@ -2,14 +2,14 @@
 use Rattle.std.proofs.Common.{◌≡◌, ◌∙◌, ℕ, List, Some, None, Result, Ok, Err, sym, ap, option_map}
 use Rattle.std.specs.Result.{result_ok}
 use Rattle.rv_elf.specs.declared.error.ImageError.{ImageError}
-use Rattle.rv_lists.specs.declared.job.Job.{Job}
-use Rattle.rv_lists.specs.Jobs.{console_path}
+use Rattle.rv_jobs.specs.declared_job.Job.{Job}
+use Rattle.rv_jobs.specs.Jobs.{console_path}
 use Rattle.rv_jobs.specs.Plans.{Planned, kept_for}
 use Rattle.rv_machine.specs.Run.{Ran, run_of}
 use Rattle.rv_machine.specs.State.{State}
 use Rattle.rv_rows.specs.declared.outcome.Loadable.{Loadable}
 use Rattle.rv_rows.specs.declared.outcome.Outcome.{Outcome}
-use Rattle.rv_rows.specs.declared.row.Refusal.{Refusal}
+use Rattle.rv_rows.specs.declared_row.Refusal.{Refusal}
 use Rattle.rv_rows.specs.Outcome.{end_of, file_of, file_outcome_of, loadable_of, loaded_state, outcome_if_loadable}
 use Rattle.rv_rows.specs.Outcome.{outcome_if_there, outcome_of, start_if_loadable, start_if_there, start_of}
 use Rattle.rv_rows.specs.Rows.{outcome_in, row_of, start_in}

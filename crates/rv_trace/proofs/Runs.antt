@@ -9,7 +9,7 @@ use Rattle.rv_machine.specs.declared.ending.Ending.TheVariants.{Budget}
 use Rattle.rv_machine.specs.State.{State}
 use Rattle.rv_machine.specs.Run.{go_on, step_of, run_of}
 use Rattle.rv_trace.specs.declared.step.TracedStep.{TracedStep}
-use Rattle.rv_trace.specs.Steps.{steps_from, traced, traced_and_more}
+use Rattle.rv_trace.specs.Steps.{steps_from, traced_step, step_and_more}
 use Rattle.rv_trace.specs.Trace.{after}
 
 -- ---- one step more in front
@@ -121,13 +121,13 @@ ends (suc n) s = by_step s (((run_of (suc n) s).ending ≡ Budget)
 
 -- ---- what is shown of the steps
 
-pub lines_first : (n : ℕ) (s t : State) → step_of s ≡ Ok t → steps_from (suc n) s ≡ traced s t ∷ steps_from n t
+pub lines_first : (n : ℕ) (s t : State) → step_of s ≡ Ok t → steps_from (suc n) s ≡ traced_step s t ∷ steps_from n t
 unfolding steps_from
-lines_first n s t e = ap (λ r. traced_and_more r s (λ u. steps_from n u)) e
+lines_first n s t e = ap (λ r. step_and_more r s (λ u. steps_from n u)) e
 
 pub lines_end : (n : ℕ) (s : State) (e : Ending) → step_of s ≡ Err e → steps_from (suc n) s ≡ []
 unfolding steps_from
-lines_end n s e is = ap (λ r. traced_and_more r s (λ u. steps_from n u)) is
+lines_end n s e is = ap (λ r. step_and_more r s (λ u. steps_from n u)) is
 
 lines_none : (s : State) → steps_from 0 s ≡ []
 unfolding steps_from
@@ -142,18 +142,18 @@ lines_count (suc n) s = by_step s (length (steps_from (suc n) s) ≡ (run_of (su
 
 -- each by the states in front of it and behind it
 pub line_at : (n k : ℕ) (s : State) (d : TracedStep) → k < (run_of n s).steps
-    → get_or (steps_from n s) k d ≡ traced (after k s) (after (k + 1) s)
+    → get_or (steps_from n s) k d ≡ traced_step (after k s) (after (k + 1) s)
 line_at zero k s d h = let none = steps_none s in absurd (omega arith)
-line_at (suc n) zero s d h = by_step s (get_or (steps_from (suc n) s) 0 d ≡ traced (after 0 s) (after (0 + 1) s))
+line_at (suc n) zero s d h = by_step s (get_or (steps_from (suc n) s) 0 d ≡ traced_step (after 0 s) (after (0 + 1) s))
     (λ t e. ap (λ ls. get_or ls 0 d) (lines_first n s t e)
-    ∙ (λ i. traced (sym (after_none s) i) ((sym (after_none t) ∙ sym (after_first 0 s t e)) i)))
+    ∙ (λ i. traced_step (sym (after_none s) i) ((sym (after_none t) ∙ sym (after_first 0 s t e)) i)))
     (λ e is. let none = steps_end n s e is in absurd (omega arith))
 line_at (suc n) (suc k) s d h = by_step s
-    (get_or (steps_from (suc n) s) (suc k) d ≡ traced (after (suc k) s) (after (suc k + 1) s))
+    (get_or (steps_from (suc n) s) (suc k) d ≡ traced_step (after (suc k) s) (after (suc k + 1) s))
     (λ t e. let first = steps_first n s t e in let rest : k < (run_of n t).steps = omega arith in
     let sum : suc k + 1 ≡ suc (k + 1) = omega arith in
     ap (λ ls. get_or ls (suc k) d) (lines_first n s t e) ∙ line_at n k t d rest
-    ∙ (λ i. traced (sym (after_first k s t e) i)
+    ∙ (λ i. traced_step (sym (after_first k s t e) i)
     ((sym (after_first (k + 1) s t e) ∙ ap (λ m. after m s) (sym sum)) i)))
     (λ e is. let none = steps_end n s e is in absurd (omega arith))
 
@@ -162,10 +162,10 @@ line_at (suc n) (suc k) s d h = by_step s
 -- one step more
 pub more_lines : (count counter : ℕ) (s t : State) (shown whole : List TracedStep) → counter < count
     → step_of s ≡ Ok t → shown ++ steps_from (count - counter) s ≡ whole
-    → (shown ++ traced s t ∷ []) ++ steps_from (count - (counter + 1)) t ≡ whole
+    → (shown ++ traced_step s t ∷ []) ++ steps_from (count - (counter + 1)) t ≡ whole
 more_lines count counter s t shown whole h e so_far =
     let left : count - counter ≡ suc (count - (counter + 1)) = omega arith in
-    append_assoc shown (traced s t ∷ []) (steps_from (count - (counter + 1)) t)
+    append_assoc shown (traced_step s t ∷ []) (steps_from (count - (counter + 1)) t)
     ∙ ap (λ ls. shown ++ ls) (sym (lines_first (count - (counter + 1)) s t e))
     ∙ ap (λ k. shown ++ steps_from k s) (sym left) ∙ so_far
 

@@ -6,7 +6,7 @@ use Rattle.rv_machine.specs.State.{State, register}
 use Rattle.rv_trace.specs.declared.step.TracedStep.{TracedStep}
 use Rattle.rv_trace.specs.Code.{code_at}
 use Rattle.rv_trace.specs.Showing.{EndsThere, ShowsTheEnd}
-use Rattle.rv_trace.specs.Steps.{steps_from, traced}
+use Rattle.rv_trace.specs.Steps.{steps_from, traced_step}
 use Rattle.rv_trace.specs.Trace.{after, registers_of, trace_of}
 use Rattle.rv_trace.proofs.Runs.{after_more, completes, each_completes, ends, line_at, lines_count, same_end}
 use Rattle.rv_trace.proofs.Runs.{steps_more}
@@ -32,12 +32,12 @@ module _ (budget last : ℕ) (s : State) where
     end_is = sym (after_more front shown s in_front) ∙ ap (λ k. after k s) is ∙ same_end budget s
 
     one_line : (k : ℕ) (d : TracedStep) → k < shown
-        → get_or (steps_from shown (after front s)) k d ≡ traced (after (front + k) s) (after (front + k + 1) s)
+        → get_or (steps_from shown (after front s)) k d ≡ traced_step (after (front + k) s) (after (front + k + 1) s)
     one_line k d h =
         let within : k < (run_of shown (after front s)).steps = rw all_shown h in
         let next : front + k + 1 ≡ front + (k + 1) = omega arith in
         line_at shown k (after front s) d within
-        ∙ (λ i. traced (sym (after_more front k s in_front) i)
+        ∙ (λ i. traced_step (sym (after_more front k s in_front) i)
         ((sym (after_more front (k + 1) s in_front) ∙ ap (λ m. after m s) (sym next)) i))
 
   pub shows : ShowsTheEnd (trace_of (run_of budget s).steps last s) last (run_of budget s) s

@@ -23,7 +23,7 @@ use Rattle.rv_trace.specs.declared.aim.Access.{Access}
 use Rattle.rv_trace.specs.declared.aim.Access.TheVariants as access
 use Rattle.rv_trace.specs.declared.aim.Aim.TheVariants as aim
 use Rattle.rv_trace.specs.declared.step.Wrote.TheVariants as wrote
-use Rattle.rv_trace.specs.Steps.{access_of, aim_by, aim_of, traced, wrote_in}
+use Rattle.rv_trace.specs.Steps.{access_of, aim_by, aim_of, traced_step, wrote_in}
 use Rattle.rv_trace.proofs.Fetched.{code_is_fetched}
 
 -- ---- memory
@@ -126,7 +126,7 @@ module _ (s t : State) (i : Instr) (next a v : ℕ) (w : Width) where
       ap (λ b. value_at t.bus.memory b w) (sym at) ∙ there
       ∙ sym (ap (λ x. rs2 s i % 2 ^ (8 * size_of x)) wide) ∙ value
 
-module _ (s t : State) (a v : ℕ) (w : Width) (e : (traced s t).wrote ≡ wrote.Stored a w v)
+module _ (s t : State) (a v : ℕ) (w : Width) (e : (traced_step s t).wrote ≡ wrote.Stored a w v)
     (outside : touches_console a (size_of w) ≡ false) where
   by_fetch : (f : Fetched) → fetch s.isa s.bus s.pc ≡ f → after_fetch f s ≡ Ok t → value_at t.bus.memory a w ≡ v
   unfolding effect
@@ -140,6 +140,6 @@ module _ (s t : State) (a v : ℕ) (w : Width) (e : (traced s t).wrote ≡ wrote
   unfolding step_of
   stands done = by_fetch (fetch s.isa s.bus s.pc) refl done
 
-pub stored_stands : (s t : State) (a v : ℕ) (w : Width) → step_of s ≡ Ok t → (traced s t).wrote ≡ wrote.Stored a w v
+pub stored_stands : (s t : State) (a v : ℕ) (w : Width) → step_of s ≡ Ok t → (traced_step s t).wrote ≡ wrote.Stored a w v
     → touches_console a (size_of w) ≡ false → value_at t.bus.memory a w ≡ v
 stored_stands s t a v w done e outside = stands s t a v w e outside done

@@ -8,7 +8,7 @@ use Rattle.rv_trace.specs.declared.code.Code.{Code}
 use Rattle.rv_trace.specs.declared.step.TracedStep.{TracedStep}
 use Rattle.rv_trace.specs.declared.trace.Trace.{Trace}
 use Rattle.rv_trace.specs.Code.{code_at, size_of_code}
-use Rattle.rv_trace.specs.Steps.{instr_at, traced}
+use Rattle.rv_trace.specs.Steps.{instr_at, traced_step}
 use Rattle.rv_trace.specs.Trace.{after}
 
 -- a trace shows a run from a state on, and of its instructions the last ones, so many or all: where it
@@ -21,7 +21,7 @@ pub record ShowsTheEnd (trace : Trace) (last : ℕ) (ran : Ran) (s : State) : Ty
   pub count : length trace.steps ≡ min ran.steps last
   pub lines : (k : ℕ) (d : TracedStep) → k < min ran.steps last
       → let place = ran.steps - min ran.steps last + k in
-      slice_index_or trace.steps k d ≡ traced (after place s) (after (place + 1) s)
+      slice_index_or trace.steps k d ≡ traced_step (after place s) (after (place + 1) s)
 
 -- the instructions in front of the end of a run are those that completed, and the one at its end did
 -- not, unless the budget was used up in front of it

@@ -65,8 +65,8 @@ abbrev pub instr_at : State → Option Instr
 instr_at s = option_and_then instr_of (code_at s.bus s.pc)
 
 -- the instruction that led from a state to the next
-abbrev pub traced : State → State → TracedStep
-traced s t = record {
+abbrev pub traced_step : State → State → TracedStep
+traced_step s t = record {
   pc = s.pc;
   code = code_at s.bus s.pc;
   wrote = wrote_in (aim_of (instr_at s) s) t;
@@ -75,11 +75,11 @@ traced s t = record {
 -- ---- one after another
 
 -- the instruction at a state, where it completes, and those behind it
-abbrev pub traced_and_more : Result State Ending → State → (State → List TracedStep) → List TracedStep
-traced_and_more (Ok t) s rest = traced s t ∷ rest t
-traced_and_more (Err e) s rest = []
+abbrev pub step_and_more : Result State Ending → State → (State → List TracedStep) → List TracedStep
+step_and_more (Ok t) s rest = traced_step s t ∷ rest t
+step_and_more (Err e) s rest = []
 
 -- those of at most n steps from a state on, up to the first that does not complete
 unfoldable pub steps_from : ℕ → State → List TracedStep
 steps_from zero s = []
-steps_from (suc n) s = traced_and_more (step_of s) s (λ t. steps_from n t)
+steps_from (suc n) s = step_and_more (step_of s) s (λ t. steps_from n t)

@@ -13,8 +13,8 @@ use Rattle.rv_machine.specs.declared.ending.FaultKind.TheVariants as fault
 use Rattle.rv_machine.specs.Faults.{fault_name}
 use Rattle.rv_memory.specs.declared.access.Width.{Width}
 use Rattle.rv_memory.specs.declared.access.Width.TheVariants as width
-use Rattle.rv_rows.specs.declared.row.RowEnd.{RowEnd}
-use Rattle.rv_rows.specs.declared.row.RowEnd.TheVariants as ending
+use Rattle.rv_rows.specs.declared_row.RowEnd.{RowEnd}
+use Rattle.rv_rows.specs.declared_row.RowEnd.TheVariants as ending
 use Rattle.rv_rows.specs.Report.{line, refusal_name}
 use Rattle.rv_text.specs.Words.{word_digits}
 use Rattle.rv_trace.specs.declared.code.Code.{Code}
@@ -27,8 +27,8 @@ use Rattle.rv_trace.specs.declared.trace.Trace.{Trace}
 -- ---- columns
 
 -- a text with spaces behind it, up to a width
-unfoldable pub padded : ℕ → List ℕ → List ℕ
-padded width text = text ++ replicate (width - length text) 32
+unfoldable pub padded_text : ℕ → List ℕ → List ℕ
+padded_text width text = text ++ replicate (width - length text) 32
 
 abbrev pub gap : List ℕ
 gap = codes "  "
@@ -77,18 +77,18 @@ wrote_text (wrote.Stored address width value) =
 
 -- a text, and behind it what is told, where that is anything
 abbrev pub text_and_more : List ℕ → List ℕ → List ℕ
-text_and_more text told = if length told == 0 then text else padded 24 text ++ gap ++ told
+text_and_more text told = if length told == 0 then text else padded_text 24 text ++ gap ++ told
 
 -- the code, the text of it, and what became of it, where there is something to say
 unfoldable pub columns : Option Code → List ℕ → List ℕ → List ℕ
 columns None text told = told
-columns (Some code) text told = padded 8 (code_text code) ++ gap ++ text_and_more text told
+columns (Some code) text told = padded_text 8 (code_text code) ++ gap ++ text_and_more text told
 
 -- the line of an instruction at an address
 unfoldable pub instruction_line :
     Option (List ℕ × ℕ) → ℕ → Option Code → List ℕ → List ℕ → List ℕ
 instruction_line symbol pc code text told =
-    line (margin ++ word_digits pc ++ gap ++ padded 20 (symbol_or_none symbol) ++ gap
+    line (margin ++ word_digits pc ++ gap ++ padded_text 20 (symbol_or_none symbol) ++ gap
     ++ columns code text told)
 
 abbrev pub assembly_or_none : ℕ → Option Code → List ℕ
@@ -143,7 +143,7 @@ behind_value (Some place) = gap ++ symbol_text place
 
 unfoldable pub register_line : Image → List ℕ → ℕ → ℕ → List ℕ
 register_line image file number value =
-    line (margin ++ padded 4 (register_name number) ++ gap ++ word_digits value
+    line (margin ++ padded_text 4 (register_name number) ++ gap ++ word_digits value
     ++ behind_value (symbol_of_value image file value))
 
 -- those of registers from a number on

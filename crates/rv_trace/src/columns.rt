@@ -2,7 +2,7 @@
 
 ghost use Rattle.std.specs.Prelude.{◌≡◌, ◌++◌, OnOk, drop, option_map, replicate};
 ghost use Rattle.rv_text.specs.Words.{word_digits};
-ghost use Rattle.rv_trace.specs.Text.{code_text, columns, instruction_line, padded, symbol_or_none, text_and_more};
+ghost use Rattle.rv_trace.specs.Text.{code_text, columns, instruction_line, padded_text, symbol_or_none, text_and_more};
 
 use crate::code::Code;
 use rv_elf::SymbolAt;
@@ -54,7 +54,7 @@ fn push_place(
     symbol: Option<SymbolAt<'_>>,
 ) -> Result<(), AllocError>
     ensures { OnOk result (bytes.new.items ≡ bytes.old.items
-        ++ padded 20 (symbol_or_none (option_map (λ s. (s.name.now, s.offset)) symbol.entry))) }
+        ++ padded_text 20 (symbol_or_none (option_map (λ s. (s.name.now, s.offset)) symbol.entry))) }
 {
     let mut text = Vec::new(alloc);
     if let Some(symbol) = symbol {
@@ -93,7 +93,7 @@ fn push_text_and_more(bytes: &mut Vec<u8>, text: &[u8], told: &[u8]) -> Result<(
 }
 
 fn push_code(alloc: Global, bytes: &mut Vec<u8>, code: Code) -> Result<(), AllocError>
-    ensures { OnOk result (bytes.new.items ≡ bytes.old.items ++ padded 8 (code_text code)) }
+    ensures { OnOk result (bytes.new.items ≡ bytes.old.items ++ padded_text 8 (code_text code)) }
 {
     let mut digits = Vec::new(alloc);
     push_code_digits(alloc, &mut digits, code)?;
@@ -125,9 +125,9 @@ pub(crate) fn push_digits_behind(
 }
 
 /// Appends a text with spaces behind it, up to a width.
-#[tactic(auto, unfolding(crate::specs::Text::padded))]
+#[tactic(auto, unfolding(crate::specs::Text::padded_text))]
 pub(crate) fn push_padded(bytes: &mut Vec<u8>, width: usize, text: &[u8]) -> Result<(), AllocError>
-    ensures { OnOk result (bytes.new.items ≡ bytes.old.items ++ padded width text.now) }
+    ensures { OnOk result (bytes.new.items ≡ bytes.old.items ++ padded_text width text.now) }
 {
     bytes.extend_from_slice(text)?;
     push_spaces(bytes, width.saturating_sub(text.len()))

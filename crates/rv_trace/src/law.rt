@@ -2,7 +2,7 @@
 
 ghost use Rattle.std.specs.Prelude.{◌≡◌, ℕ, Ok, false};
 ghost use Rattle.rv_isa.specs.declared.instruction.Instr.{Instr};
-ghost use Rattle.rv_lists.specs.declared.job.Job.{Job};
+ghost use Rattle.rv_jobs.specs.declared_job.Job.{Job};
 ghost use Rattle.rv_jobs.specs.Plans.{Planned};
 ghost use Rattle.rv_machine.specs.Fetch.{fetch};
 ghost use Rattle.rv_machine.specs.Run.{run_of, step_of};
@@ -13,7 +13,7 @@ ghost use Rattle.rv_memory.specs.Bus.{size_of, touches_console, value_at};
 ghost use Rattle.rv_memory.specs.declared.access.Width.{Width};
 ghost use Rattle.rv_trace.specs.declared.code.Code.{Code};
 ghost use Rattle.rv_trace.specs.declared.step.Wrote.TheVariants.{Stored};
-ghost use Rattle.rv_trace.specs.Steps.{traced};
+ghost use Rattle.rv_trace.specs.Steps.{traced_step};
 ghost use Rattle.rv_trace.specs.Showing.{EndsThere, IsCodeOf, ShowsTheEnd};
 ghost use Rattle.rv_trace.specs.Trace.{trace_of};
 
@@ -36,7 +36,7 @@ pub fn codes_are_fetched()
 /// holds by definition.
 pub fn stored_values_stand()
     ensures { (s t : State) (a v : ℕ) (w : Width) → step_of s ≡ Ok t
-        → (traced s t).wrote ≡ Stored a w v → touches_console a (size_of w) ≡ false
+        → (traced_step s t).wrote ≡ Stored a w v → touches_console a (size_of w) ≡ false
         → value_at t.bus.memory a w ≡ v }
 {}
 

@@ -3,12 +3,13 @@
 //!
 //! A run is exact, so the state in front of its last instructions is that of the same run with a smaller budget.
 //! [`trace_run`] runs a machine so far, and then step by step; [`trace_at`] does so for a job of a plan.
-//! [`push_trace`] appends the text of it.
+//! [`push_trace`] appends the text of it, with the symbols of an [`ElfFile`].
 #![tactic(auto)]
 
 mod aim;
 mod code;
 mod columns;
+mod elf_file;
 mod law;
 mod step;
 mod text;
@@ -16,6 +17,7 @@ mod told;
 mod trace;
 
 pub use code::{Code, code_at};
+pub use elf_file::ElfFile;
 pub use law::{codes_are_fetched, rows_are_of_the_run, stored_values_stand, traces_show_the_end};
 pub use step::{TracedStep, TracedSteps, Wrote};
 pub use text::push_trace;

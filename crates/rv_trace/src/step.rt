@@ -3,7 +3,7 @@
 ghost use Rattle.std.specs.Prelude.{◌≡◌, MatchBool, MatchOption, Ok, false, is_ok};
 ghost use Rattle.rv_machine.specs.Machine.{state_of};
 ghost use Rattle.rv_machine.specs.Run.{step_of};
-ghost use Rattle.rv_trace.specs.Steps.{traced};
+ghost use Rattle.rv_trace.specs.Steps.{traced_step};
 
 use crate::aim::aim_of;
 use crate::code::{Code, code_at};
@@ -41,7 +41,7 @@ pub(crate) fn next_step(machine: &mut Machine) -> Option<TracedStep>
         ((is_ok (step_of (state_of machine.old)) ≡ false)
         × (state_of machine.new ≡ state_of machine.old))
         (λ step. (step_of (state_of machine.old) ≡ Ok (state_of machine.new))
-        × (step ≡ traced (state_of machine.old) (state_of machine.new))) }
+        × (step ≡ traced_step (state_of machine.old) (state_of machine.new))) }
 {
     let pc = machine.pc();
     let code = code_at(machine.bus(), pc);

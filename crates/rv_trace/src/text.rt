@@ -2,73 +2,66 @@
 
 ghost use Rattle.std.specs.Prelude.{◌≡◌, ◌++◌, OnOk, option_map};
 ghost use Rattle.std.specs.List.{flat_map};
-ghost use Rattle.rv_elf.specs.Image.{IsImageOf};
 ghost use Rattle.rv_elf.specs.Nearest.{symbol_at, symbol_of_value};
 ghost use Rattle.rv_trace.specs.Text.{behind_value, end_line, place_line, register_line, register_lines, step_line};
 ghost use Rattle.rv_text.specs.Symbol.{place_text};
 ghost use Rattle.rv_trace.specs.Text.{trace_text};
 
-use crate::code::Code;
 use crate::columns::{GAP, Instruction, MARGIN, push_instruction, push_padded};
+use crate::elf_file::ElfFile;
 use crate::step::TracedStep;
 use crate::told::{name_of, push_assembly, push_end, push_end_assembly, push_wrote};
 use crate::trace::Trace;
-use rv_elf::{Image, SymbolAt};
+use rv_elf::SymbolAt;
 use rv_rows::RowEnd;
 use rv_text::{Span, push_place, push_spans, push_symbol, push_text};
 use std::alloc::{AllocError, Global};
 
 /// Appends the text of a trace: where the run ended, the 32 registers with the symbols that they point to, a line for each
 /// instruction that completed, and one for that at the end, with how it ended the run. Symbols are those of the job's
-/// image and its file, and the ending is that of the row.
+/// file, and the ending is that of the row.
 #[tactic(auto, unfolding(crate::specs::Text::trace_text))]
 pub fn push_trace(
     alloc: Global,
     bytes: &mut Vec<u8>,
-    image: &Image,
-    file: &[u8],
+    elf: &ElfFile<'_>,
     trace: &Trace,
     end: RowEnd,
 ) -> Result<(), AllocError>
-    requires { IsImageOf file.now image.now }
     ensures { OnOk result (bytes.new.items ≡ bytes.old.items
-        ++ trace_text image.now file.now trace.now end) }
+        ++ trace_text elf.now.image.now elf.now.bytes.now trace.now end) }
 {
-    push_place_line(alloc, bytes, image, file, trace.pc)?;
-    push_registers(alloc, bytes, image, file, &trace.registers)?;
-    push_steps(alloc, bytes, image, file, trace.steps.as_slice())?;
-    push_end_line(alloc, bytes, image, file, trace.pc, trace.code, end)
+    push_place_line(alloc, bytes, elf, trace.pc)?;
+    push_registers(alloc, bytes, elf, &trace.registers)?;
+    push_steps(alloc, bytes, elf, trace.steps.as_slice())?;
+    push_end_line(alloc, bytes, elf, trace, end)
 }
 
 #[tactic(auto, unfolding(crate::specs::Text::place_line))]
 fn push_place_line(
     alloc: Global,
     bytes: &mut Vec<u8>,
-    image: &Image,
-    file: &[u8],
+    elf: &ElfFile<'_>,
     pc: u32,
 ) -> Result<(), AllocError>
-    requires { IsImageOf file.now image.now }
     ensures { OnOk result (bytes.new.items ≡ bytes.old.items
-        ++ place_line image.now file.now pc) }
+        ++ place_line elf.now.image.now elf.now.bytes.now pc) }
 {
     push_spans(bytes, &[Span::Text("     ended at "), Span::Word(pc)])?;
-    push_code_place(alloc, bytes, image, file, pc)?;
+    push_code_place(alloc, bytes, elf, pc)?;
     push_text(bytes, "\n")
 }
 
 fn push_code_place(
     alloc: Global,
     bytes: &mut Vec<u8>,
-    image: &Image,
-    file: &[u8],
+    elf: &ElfFile<'_>,
     pc: u32,
 ) -> Result<(), AllocError>
-    requires { IsImageOf file.now image.now }
     ensures { OnOk result (bytes.new.items ≡ bytes.old.items
-        ++ place_text (symbol_at image.now file.now pc)) }
+        ++ place_text (symbol_at elf.now.image.now elf.now.bytes.now pc)) }
 {
-    push_place(alloc, bytes, symbol_at(image, file, pc))
+    push_place(alloc, bytes, elf.symbol_at(pc))
 }
 
 // ---- registers
@@ -76,16 +69,14 @@ fn push_code_place(
 fn push_registers(
     alloc: Global,
     bytes: &mut Vec<u8>,
-    image: &Image,
-    file: &[u8],
+    elf: &ElfFile<'_>,
     values: &[u32; 32],
 ) -> Result<(), AllocError>
-    requires { IsImageOf file.now image.now }
     ensures { OnOk result (bytes.new.items ≡ bytes.old.items
-        ++ register_lines image.now file.now 0 values.now) }
+        ++ register_lines elf.now.image.now elf.now.bytes.now 0 values.now) }
 {
     for n in 0..32u8 {
-        push_register_line(alloc, bytes, image, file, n, values[n as usize])?;
+        push_register_line(alloc, bytes, elf, n, values[n as usize])?;
     }
     Ok(())
 }
@@ -94,19 +85,17 @@ fn push_registers(
 fn push_register_line(
     alloc: Global,
     bytes: &mut Vec<u8>,
-    image: &Image,
-    file: &[u8],
+    elf: &ElfFile<'_>,
     number: u8,
     value: u32,
 ) -> Result<(), AllocError>
-    requires { IsImageOf file.now image.now }
     ensures { OnOk result (bytes.new.items ≡ bytes.old.items
-        ++ register_line image.now file.now number value) }
+        ++ register_line elf.now.image.now elf.now.bytes.now number value) }
 {
     push_text(bytes, MARGIN)?;
     push_padded(bytes, 4, name_of(number).as_bytes())?;
     push_spans(bytes, &[Span::Text(GAP), Span::Word(value)])?;
-    push_value_place(alloc, bytes, image, file, value)?;
+    push_value_place(alloc, bytes, elf, value)?;
     push_text(bytes, "\n")
 }
 
@@ -114,15 +103,13 @@ fn push_register_line(
 fn push_value_place(
     alloc: Global,
     bytes: &mut Vec<u8>,
-    image: &Image,
-    file: &[u8],
+    elf: &ElfFile<'_>,
     value: u32,
 ) -> Result<(), AllocError>
-    requires { IsImageOf file.now image.now }
     ensures { OnOk result (bytes.new.items ≡ bytes.old.items
-        ++ behind_value (symbol_of_value image.now file.now value)) }
+        ++ behind_value (symbol_of_value elf.now.image.now elf.now.bytes.now value)) }
 {
-    push_behind(alloc, bytes, symbol_of_value(image, file, value))
+    push_behind(alloc, bytes, elf.symbol_of_value(value))
 }
 
 fn push_behind(
@@ -145,16 +132,14 @@ fn push_behind(
 fn push_steps(
     alloc: Global,
     bytes: &mut Vec<u8>,
-    image: &Image,
-    file: &[u8],
+    elf: &ElfFile<'_>,
     steps: &[TracedStep],
 ) -> Result<(), AllocError>
-    requires { IsImageOf file.now image.now }
     ensures { OnOk result (bytes.new.items ≡ bytes.old.items
-        ++ flat_map (step_line image.now file.now) steps.now) }
+        ++ flat_map (step_line elf.now.image.now elf.now.bytes.now) steps.now) }
 {
     for step in steps {
-        push_step(alloc, bytes, image, file, step)?;
+        push_step(alloc, bytes, elf, step)?;
     }
     Ok(())
 }
@@ -163,20 +148,18 @@ fn push_steps(
 fn push_step(
     alloc: Global,
     bytes: &mut Vec<u8>,
-    image: &Image,
-    file: &[u8],
+    elf: &ElfFile<'_>,
     step: &TracedStep,
 ) -> Result<(), AllocError>
-    requires { IsImageOf file.now image.now }
     ensures { OnOk result (bytes.new.items ≡ bytes.old.items
-        ++ step_line image.now file.now step.now) }
+        ++ step_line elf.now.image.now elf.now.bytes.now step.now) }
 {
     let mut text = Vec::new(alloc);
     push_assembly(alloc, &mut text, step.pc, step.code)?;
     let mut told = Vec::new(alloc);
     push_wrote(alloc, &mut told, step.wrote)?;
     let shown = Instruction {
-        symbol: symbol_at(image, file, step.pc),
+        symbol: elf.symbol_at(step.pc),
         pc: step.pc,
         code: step.code,
         text: &text,
@@ -189,43 +172,23 @@ fn push_step(
 fn push_end_line(
     alloc: Global,
     bytes: &mut Vec<u8>,
-    image: &Image,
-    file: &[u8],
-    pc: u32,
-    code: Option<Code>,
+    elf: &ElfFile<'_>,
+    trace: &Trace,
     end: RowEnd,
 ) -> Result<(), AllocError>
-    requires { IsImageOf file.now image.now }
     ensures { OnOk result (bytes.new.items ≡ bytes.old.items
-        ++ end_line image.now file.now pc code end) }
+        ++ end_line elf.now.image.now elf.now.bytes.now trace.now.pc trace.now.code end) }
 {
     let mut text = Vec::new(alloc);
-    push_end_assembly(alloc, &mut text, pc, code, end)?;
+    push_end_assembly(alloc, &mut text, trace.pc, trace.code, end)?;
     let mut told = Vec::new(alloc);
     push_end(&mut told, end)?;
     let shown = Instruction {
-        symbol: symbol_at(image, file, pc),
-        pc,
-        code,
+        symbol: elf.symbol_at(trace.pc),
+        pc: trace.pc,
+        code: trace.code,
         text: &text,
         told: &told,
     };
     push_instruction(alloc, bytes, &shown)
-}
-
-// ---- symbols
-
-fn symbol_at<'a>(image: &Image, file: &'a [u8], pc: u32) -> Option<SymbolAt<'a>>
-    requires { IsImageOf file.now image.now }
-    ensures { option_map (λ s. (s.name.now, s.offset)) result ≡ symbol_at image.now file.now pc }
-{
-    rv_elf::symbol_at(image, file, pc)
-}
-
-fn symbol_of_value<'a>(image: &Image, file: &'a [u8], value: u32) -> Option<SymbolAt<'a>>
-    requires { IsImageOf file.now image.now }
-    ensures { option_map (λ s. (s.name.now, s.offset)) result
-        ≡ symbol_of_value image.now file.now value }
-{
-    rv_elf::symbol_of_value(image, file, value)
 }

@@ -1,10 +1,10 @@
 //! The last instructions of a run, and where it ended.
 
-ghost use Rattle.std.specs.Prelude.{◌≡◌, ◌<◌, IfOk, OnOk, length, slice_index_or};
-ghost use Rattle.rv_lists.specs.declared.job.Job.{Job as AJob};
+ghost use Rattle.std.specs.Prelude.{◌≡◌, ◌<◌, IfOk, OnOk, length};
+ghost use Rattle.rv_jobs.specs.declared_job.Job.{Job as AJob};
 ghost use Rattle.rv_machine.specs.Machine.{state_of};
 ghost use Rattle.rv_trace.specs.Steps.{steps_from};
-ghost use Rattle.rv_trace.specs.Trace.{after, registers_of, trace_in, trace_of};
+ghost use Rattle.rv_trace.specs.Trace.{after, job_at, registers_of, trace_in, trace_of};
 
 use crate::code::{Code, code_at};
 use crate::step::{TracedStep, TracedSteps, next_step};
@@ -61,7 +61,7 @@ pub fn trace_at(
 ) -> Result<Option<Trace>, AllocError>
     requires { place < length plan.now.jobs }
     ensures { IfOk result (λ trace. (d : AJob) → trace
-        ≡ trace_in plan.now (slice_index_or plan.now.jobs place d) steps last) }
+        ≡ trace_in plan.now (job_at plan.now place d) steps last) }
 {
     match machine_at(alloc, plan, place)? {
         Ok(machine) => Ok(Some(trace_run(alloc, machine, steps, last)?)),

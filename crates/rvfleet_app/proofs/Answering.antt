@@ -3,11 +3,11 @@ use Rattle.std.proofs.Common.{◌≡◌, ◌∙◌, ◌⊎◌, ℕ, List, [], �
 use Rattle.std.proofs.Common.{ap}
 use Rattle.std.proofs.Common.{IfOk, arith, inl, inr}
 use Rattle.std.specs.Io.KnownBytes.{Appends, Keeps}
-use Rattle.rv_rows.specs.declared.row.Row.{Row}
-use Rattle.rv_rows.specs.Flat.{flat_row_of}
-use Rattle.rv_rows.specs.Report.{report_text}
-use Rattle.rv_rows.specs.Rows.{rows_of}
-use Rattle.rv_lists.specs.declared.job.Job.{Job}
+use Rattle.rv_fleet.specs.declared_row.Row.{Row}
+use Rattle.rv_fleet.specs.Flat.{flat_row_of}
+use Rattle.rv_fleet.specs.Report.{report_text}
+use Rattle.rv_fleet.specs.Rows.{rows_of}
+use Rattle.rv_jobs.specs.declared_job.Job.{Job}
 use Rattle.rv_jobs.specs.Plans.{Planned}
 use Rattle.rvfleet_app.specs.Answers.{Answers, Began, Reported, status_of}
 use Rattle.rv_cli.specs.RvfleetCommand.{Request, raw}

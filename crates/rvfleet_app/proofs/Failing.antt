@@ -1,7 +1,7 @@
 -- Which failures come of an error of a layer below.
 use Rattle.std.proofs.Common.{◌≡◌, true, Option, Some, None, refl}
-use Rattle.rv_rows.specs.declared.report.WriteError.{WriteError}
-use Rattle.rv_rows.specs.declared.report.WriteError.TheVariants as write
+use Rattle.rv_fleet.specs.declared_report.WriteError.{WriteError}
+use Rattle.rv_fleet.specs.declared_report.WriteError.TheVariants as write
 use Rattle.rv_fleet.specs.declared.fleet.FleetError.{FleetError}
 use Rattle.rv_fleet.specs.declared.fleet.FleetError.TheVariants as fleet
 use Rattle.rvfleet_app.specs.declared.error.Failure.{Failure}

@@ -3,14 +3,14 @@ use Rattle.std.specs.Prelude.{◌≡◌, ◌⊎◌, ℕ, Bool, true, false, List
 use Rattle.std.specs.Prelude.{if◌then◌else◌}
 use Rattle.std.specs.List.{list_any}
 use Rattle.std.specs.Io.KnownBytes.{Appends, Keeps}
-use Rattle.rv_rows.specs.declared.row.Row.{Row}
-use Rattle.rv_rows.specs.declared.row.Verdict.{Verdict}
-use Rattle.rv_rows.specs.declared.row.Verdict.TheVariants as verdict
-use Rattle.rv_rows.specs.Report.{report_text}
-use Rattle.rv_rows.specs.Sending.{AppendsBeginning}
-use Rattle.rv_lists.specs.declared.error.JobError.{JobError}
-use Rattle.rv_lists.specs.declared.job.Job.{Job}
-use Rattle.rv_jobs.specs.Stores.{FileContents}
+use Rattle.rv_fleet.specs.declared_row.Row.{Row}
+use Rattle.rv_fleet.specs.declared_row.Verdict.{Verdict}
+use Rattle.rv_fleet.specs.declared_row.Verdict.TheVariants as verdict
+use Rattle.rv_fleet.specs.Report.{report_text}
+use Rattle.rv_jobs.specs.Sinks.{AppendsBeginning}
+use Rattle.rv_jobs.specs.declared_error.JobError.{JobError}
+use Rattle.rv_jobs.specs.declared_job.Job.{Job}
+use Rattle.rv_jobs.specs.Files.{FileContents}
 use Rattle.rv_cli.specs.RvfleetCommand.{Request, one, raw, run}
 use Rattle.rvfleet_app.specs.declared.error.Failure.{Failure}
 use Rattle.rvfleet_app.specs.Failures.{is_of_list, is_of_raw, is_of_sending}

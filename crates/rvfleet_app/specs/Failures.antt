@@ -1,13 +1,13 @@
 -- What the program says of an error of a layer below.
 use Rattle.std.specs.Prelude.{◌≡◌, Bool, true, false}
-use Rattle.rv_lists.specs.declared.error.JobError.{JobError}
+use Rattle.rv_jobs.specs.declared_error.JobError.{JobError}
 use Rattle.rvfleet_app.specs.declared.error.ListError.{ListError}
 use Rattle.rvfleet_app.specs.declared.error.ListError.TheVariants.{Failed, Refused}
-use Rattle.rv_lists.specs.declared.error.What.TheVariants as what
+use Rattle.rv_jobs.specs.declared_error.What.TheVariants as what
 use Rattle.rv_fleet.specs.declared.fleet.FleetError.{FleetError}
 use Rattle.rv_fleet.specs.declared.fleet.FleetError.TheVariants as fleet
-use Rattle.rv_rows.specs.declared.report.WriteError.{WriteError}
-use Rattle.rv_rows.specs.declared.report.WriteError.TheVariants as write
+use Rattle.rv_fleet.specs.declared_report.WriteError.{WriteError}
+use Rattle.rv_fleet.specs.declared_report.WriteError.TheVariants as write
 use Rattle.rv_files.specs.declared.input.InputError.{InputError}
 use Rattle.rv_files.specs.declared.input.InputError.TheVariants as input
 use Rattle.rvfleet_app.specs.declared.error.Failure.{Failure}

@@ -2,11 +2,11 @@
 use Rattle.std.specs.Prelude.{◌≡◌, ◌⊎◌, ℕ, List, ◌++◌, Option, codes}
 use Rattle.std.specs.Fmt.{decimal}
 use Rattle.std.specs.Io.KnownBytes.{Appends}
-use Rattle.rv_rows.specs.Report.{line}
-use Rattle.rv_rows.specs.Sending.{AppendsBeginning}
-use Rattle.rv_jobs.specs.Stores.{one_more}
-use Rattle.rv_lists.specs.Faults.{what_name}
-use Rattle.rv_lists.specs.declared.error.JobError.{JobError}
+use Rattle.rv_fleet.specs.Report.{line}
+use Rattle.rv_jobs.specs.Sinks.{AppendsBeginning}
+use Rattle.rv_jobs.specs.Counts.{one_more}
+use Rattle.rv_jobs.specs.Faults.{what_name}
+use Rattle.rv_jobs.specs.declared_error.JobError.{JobError}
 use Rattle.rvfleet_app.specs.declared.error.Failure.{Failure}
 use Rattle.rvfleet_app.specs.declared.error.Failure.TheVariants as failure
 

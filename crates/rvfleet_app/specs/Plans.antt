@@ -1,13 +1,14 @@
 -- What the store may answer to what the program asks of it.
 use Rattle.std.specs.Prelude.{◌≡◌, ℕ, List, Option, Ok, Err}
-use Rattle.rv_rows.specs.declared.row.Row.{Row}
-use Rattle.rv_rows.specs.Rows.{rows_of}
-use Rattle.rv_lists.specs.declared.error.JobError.{JobError}
-use Rattle.rv_lists.specs.declared.job.Job.{Job}
-use Rattle.rv_jobs.specs.declared.store.Kept.TheVariants.{Content}
-use Rattle.rv_lists.specs.JobList.{job_list_of}
+use Rattle.rv_fleet.specs.declared_row.Row.{Row}
+use Rattle.rv_fleet.specs.Rows.{rows_of}
+use Rattle.rv_jobs.specs.declared_error.JobError.{JobError}
+use Rattle.rv_jobs.specs.declared_job.Job.{Job}
+use Rattle.rv_jobs.specs.declared.kept.Kept.TheVariants.{Content}
+use Rattle.rv_jobs.specs.JobList.{job_list_of}
 use Rattle.rv_jobs.specs.Plans.{AreKept, Planned, more, paths_of, paths_used, unreadables}
-use Rattle.rv_jobs.specs.Stores.{FileContents, IsKeptOf}
+use Rattle.rv_jobs.specs.Files.{FileContents}
+use Rattle.rv_jobs.specs.Kept.{IsKeptOf}
 use Rattle.rvfleet_app.specs.declared.error.ListError.{ListError}
 use Rattle.rvfleet_app.specs.declared.error.ListError.TheVariants.{Failed, Refused}
 

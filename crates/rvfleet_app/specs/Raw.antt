@@ -1,7 +1,7 @@
 -- What comes of the input's bytes.
 use Rattle.std.specs.Prelude.{◌≡◌, ℕ, List, [], ◌∷◌, take, Option, IfSome}
-use Rattle.rv_rows.specs.declared.row.Row.{Row}
-use Rattle.rv_rows.specs.Flat.{flat_row_of}
+use Rattle.rv_fleet.specs.declared_row.Row.{Row}
+use Rattle.rv_fleet.specs.Flat.{flat_row_of}
 
 -- as many bytes are read at most: one more than an image may have
 abbrev pub most_read : ℕ

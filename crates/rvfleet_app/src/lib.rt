@@ -16,7 +16,7 @@ mod status;
 
 pub use error::{Failure, ListError, RunError};
 pub use list::{read_list, run_jobs};
-pub use one::{ScriptError, is_bad_path, read_script, run_image};
+pub use one::{ImageRun, ScriptError, is_bad_path, read_script, run_image};
 pub use program::run_words;
 pub use raw::run_raw;
 pub use rv_cli::rvfleet::{Request, read_words};

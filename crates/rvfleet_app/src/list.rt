@@ -2,15 +2,15 @@
 
 ghost use Rattle.std.specs.Prelude.{true, List, ◌≡◌, ◌≤◌, ◌⊎◌, IfErr, IfOk, OnErr, OnOk};
 ghost use Rattle.std.specs.Io.KnownBytes.{Keeps};
-ghost use Rattle.rv_rows.specs.declared.row.Row.{Row as ARow};
-ghost use Rattle.rv_rows.specs.Sending.{Rose};
+ghost use Rattle.rv_fleet.specs.declared_row.Row.{Row as ARow};
+ghost use Rattle.rv_jobs.specs.Counts.{Rose};
 ghost use Rattle.rvfleet_app.specs.Answers.{Began, Reported};
 ghost use Rattle.rvfleet_app.specs.Failures.{IsListError, IsListFailure, is_of_list};
 ghost use Rattle.rvfleet_app.specs.Plans.{AreJobRows, MayList, OfFault, stored};
 
 use crate::error::{Failure, ListError};
 use crate::sending::send;
-use rv_fleet::{Gate, Sink, run_fleet};
+use rv_fleet::{Crew, Gate, Sink, run_fleet};
 use rv_jobs::{JobError, JobList, ReadError, Store, What, gather, read_jobs};
 use std::alloc::Global;
 use std::sync::Wait;
@@ -54,21 +54,16 @@ fn list_error(error: JobError) -> ListError
     }
 }
 
-/// Runs jobs, over the answers of a store for their paths, which are each read once, by workers that take so many
-/// jobs at a time; and appends the report to the sink. The answer is the status of the report's verdicts.
+/// Runs jobs by a crew, over the answers of a store for their paths, which are each read once, and appends the report to
+/// the sink. The answer is the status of the report's verdicts.
 #[tactic(auto, using(crate::proofs::Failing::fleet_why, crate::proofs::Failing::list_why))]
 pub fn run_jobs<R: Threads + Wait, S: Store, O: Sink, G: Gate>(
-    rt: &R,
-    alloc: Global,
+    crew: &Crew<'_, R>,
     jobs: JobList,
-    workers: u32,
-    group: u32,
     store: &mut S,
     out: &mut O,
     gate: &G,
 ) -> Result<u8, Failure>
-    requires workers { (1 ≤ workers) × (workers ≤ 64) }
-    requires group { (1 ≤ group) × (group ≤ 4096) }
     ensures reported { IfOk result (λ status. (rows : List ARow)
         × (AreJobRows (stored (S.contents store.old) (S.faulted store.old) (S.faulted store.new))
         jobs rows
@@ -85,7 +80,8 @@ pub fn run_jobs<R: Threads + Wait, S: Store, O: Sink, G: Gate>(
         (λ error. error ≡ Failure.WriteFailed → Rose (O.failed out.old) (O.failed out.new)) }
     ensures same { S.contents store.new ≡ S.contents store.old }
 {
+    let alloc = crew.alloc;
     let plan = gather(alloc, jobs, store)?;
-    let report = run_fleet(rt, alloc, &plan, workers, group, gate)?;
+    let report = run_fleet(crew.rt, alloc, &plan, crew.workers, crew.group, gate)?;
     send(alloc, &report, out)
 }

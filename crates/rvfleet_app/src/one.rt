@@ -1,11 +1,12 @@
 //! One ELF image of a store.
 
+ghost use Rattle.rv_jobs.specs.Limits.{most_budget};
 ghost use Rattle.std.specs.Prelude.{List, ◌≡◌, ◌≢◌, ◌<◌, ◌≤◌, ◌⊎◌, Ok, IfErr, IfOk, OnErr, OnOk};
 ghost use Rattle.std.specs.Prelude.{length, option_map, true, vec_len};
 ghost use Rattle.std.specs.Io.KnownBytes.{Keeps};
-ghost use Rattle.rv_rows.specs.declared.row.Row.{Row as ARow};
-ghost use Rattle.rv_rows.specs.Sending.{Rose};
-ghost use Rattle.rv_lists.specs.Jobs.{most_path, most_script};
+ghost use Rattle.rv_fleet.specs.declared_row.Row.{Row as ARow};
+ghost use Rattle.rv_jobs.specs.Counts.{Rose};
+ghost use Rattle.rv_jobs.specs.Limits.{most_path, most_script};
 ghost use Rattle.rvfleet_app.specs.Answers.{Began, Reported};
 ghost use Rattle.rvfleet_app.specs.Failures.{is_of_sending};
 ghost use Rattle.rvfleet_app.specs.One.{bytes_of, is_bad_path, is_bad_script, one_jobs};
@@ -26,6 +27,18 @@ pub enum ScriptError {
     Refused,
     /// A growth was refused.
     OutOfMemory,
+}
+
+/// A run of one ELF image: its path in a store, how many steps it may take, and what it reads from its console.
+#[derive(Drop)]
+pub struct ImageRun<'a> {
+    pub path: &'a str,
+    pub budget: u32,
+    pub script: Vec<u8>,
+    pub ghost named: { 0 < length path.now },
+    pub ghost short: { length path.now ≤ most_path },
+    pub ghost budget_fits: { (1 ≤ budget) × (budget ≤ most_budget) },
+    pub ghost script_fits: { vec_len script ≤ most_script },
 }
 
 /// Whether a path is empty or has more than 4,096 bytes.
@@ -54,23 +67,17 @@ pub fn read_script(alloc: Global, digits: Option<&str>) -> Result<Vec<u8>, Scrip
     }
 }
 
-/// Runs the ELF image at a path of the store, which is read once, and appends its report to the sink. A path that
-/// can't be read is a row of the report. The answer is the status of the report's verdicts.
+/// Runs an ELF image of the store, whose path is read once, and appends its report to the sink. A path that can't be
+/// read is a row of the report. The answer is the status of the report's verdicts.
 pub fn run_image<S: Store, O: Sink>(
     alloc: Global,
+    run: ImageRun<'_>,
     store: &mut S,
-    path: &str,
-    budget: u32,
-    script: Vec<u8>,
     out: &mut O,
 ) -> Result<u8, Failure>
-    requires named { 0 < length path.now }
-    requires path { length path.now ≤ most_path }
-    requires budget { (1 ≤ budget) × (budget ≤ 1000000000) }
-    requires room { vec_len script ≤ most_script }
     ensures reported { IfOk result (λ status. (rows : List ARow)
         × (AreJobRows (stored (S.contents store.old) (S.faulted store.old) (S.faulted store.new))
-        (one_jobs path.now budget script.items) rows
+        (one_jobs run.entry.path.now run.entry.budget run.entry.script.items) rows
         × Reported (O.taken out.old) (O.taken out.new) status rows)) }
     ensures range { IfOk result (λ status. status ≤ 1) }
     ensures counted { OnOk result (O.failed out.new ≡ O.failed out.old) }
@@ -78,12 +85,17 @@ pub fn run_image<S: Store, O: Sink>(
     ensures part { OnErr result (Keeps (O.taken out.old) (O.taken out.new)
         ⊎ ((rows : List ARow)
         × (AreJobRows (stored (S.contents store.old) (S.faulted store.old) (S.faulted store.new))
-        (one_jobs path.now budget script.items) rows
+        (one_jobs run.entry.path.now run.entry.budget run.entry.script.items) rows
         × Began (O.taken out.old) (O.taken out.new) rows))) }
     ensures failed { IfErr result
         (λ error. error ≡ Failure.WriteFailed → Rose (O.failed out.old) (O.failed out.new)) }
     ensures same { S.contents store.new ≡ S.contents store.old }
 {
+    let ImageRun {
+        path,
+        budget,
+        script,
+    } = run;
     let jobs = JobList::single(alloc, path, budget, script)?;
     let plan = gather(alloc, jobs, store)?;
     let report = run_one(alloc, &plan)?;

@@ -1,10 +1,11 @@
 //! The whole program, over a store, a reader and sinks.
 
+ghost use Rattle.rv_jobs.specs.Limits.{most_budget, most_group, most_workers};
 ghost use Rattle.std.specs.Prelude.{◌≡◌, ◌⊎◌, ◌≤◌, List, Some, None, is_some, map, option_map};
 ghost use Rattle.std.specs.Prelude.{true, false};
 ghost use Rattle.std.specs.Io.KnownBytes.{Keeps};
 ghost use Rattle.clap.specs.Words.{kind_of};
-ghost use Rattle.rv_rows.specs.declared.row.Row.{Row};
+ghost use Rattle.rv_fleet.specs.declared_row.Row.{Row};
 ghost use Rattle.rvfleet_app.specs.Answers.{Answers, Began, IsQuiet, Reported, Tells, TellsFailure};
 ghost use Rattle.rvfleet_app.specs.Answers.{reads_input, reads_store};
 ghost use Rattle.rv_cli.specs.RvfleetCommand.{AsksHelp, IsToAnswer, asked_of, is_taken, one};
@@ -16,13 +17,13 @@ ghost use Rattle.rv_cli.specs.RvfleetRequests.{AreWithin, request};
 
 use crate::error::{Failure, ListError};
 use crate::list::{read_list, run_jobs};
-use crate::one::{ScriptError, is_bad_path, read_script, run_image};
+use crate::one::{ImageRun, ScriptError, is_bad_path, read_script, run_image};
 use crate::raw::run_raw;
 use crate::status::{BAD_WORDS, DONE, FAILED, failed, refused, refused_list};
 use clap::Error;
 use clap::error::ErrorKind;
 use rv_cli::rvfleet::{Request, read_words};
-use rv_fleet::{Gate, Sink, put_all};
+use rv_fleet::{Crew, Gate, Sink, put_all};
 use rv_jobs::Store;
 use std::alloc::Global;
 use std::convert::AsStr;
@@ -73,48 +74,125 @@ pub fn run_words<'a, R: Threads + Wait, T: AsStr, S: Store, I: Read, O: Sink, E:
     ensures range { result ≤ 3 }
 {
     match read_words(alloc, words) {
-        Ok(Some(asked)) => asked_status(rt, alloc, asked, store, input, out, errors, gate),
+        Ok(Some(asked)) => {
+            let host = Host { rt, alloc, gate };
+            host.asked_status(asked, store, input, out, errors)
+        }
         Ok(None) => refused(errors),
         Err(error) => error_status(alloc, &error, out, errors),
     }
 }
 
-fn asked_status<R: Threads + Wait, S: Store, I: Read, O: Sink, E: Sink, G: Gate>(
-    rt: &R,
+/// What the program runs on.
+#[derive(Drop)]
+struct Host<'a, R, G> {
+    rt: &'a R,
     alloc: Global,
-    asked: Request<'_>,
-    store: &mut S,
-    input: &mut I,
-    out: &mut O,
-    errors: &mut E,
-    gate: &G,
-) -> u8
-    requires { AreWithin asked }
-    ensures answers { Answers (Some (request asked.entry)) (I.remaining input.old)
-        (stored (S.contents store.old) (S.faulted store.old) (S.faulted store.new))
-        (O.taken out.old) (O.taken out.new) result }
-    ensures told { Tells (Some (request asked.entry)) (S.contents store.old)
-        (E.taken errors.old) (E.taken errors.new)
-        (E.failed errors.old) (E.failed errors.new) result }
-    ensures counted { result ≡ 0 ⊎ result ≡ 1 → O.failed out.new ≡ O.failed out.old }
-    ensures unread { reads_store (Some (request asked.entry)) ≡ false
-        → S.faulted store.new ≡ S.faulted store.old }
-    ensures untaken { reads_input (Some (request asked.entry)) ≡ false
-        → I.remaining input.new ≡ I.remaining input.old }
-    ensures range { result ≤ 3 }
-{
-    match asked {
-        Request::Raw { budget } => raw_status(alloc, budget, input, out, errors),
-        Request::One {
-            image,
-            budget,
-            input_hex,
-        } => one_status(alloc, image, budget, input_hex, store, out, errors),
-        Request::Run {
-            jobs,
-            workers,
-            group,
-        } => run_status(rt, alloc, jobs, workers, group, store, out, errors, gate),
+    gate: &'a G,
+}
+
+/// One image that words ask for.
+#[derive(Clone, Copy)]
+struct ImageAsked<'a> {
+    path: &'a str,
+    budget: u32,
+    digits: Option<&'a str>,
+}
+
+/// A job list that words ask for.
+#[derive(Clone, Copy)]
+struct ListAsked<'a> {
+    path: &'a str,
+    workers: u32,
+    group: u32,
+}
+
+impl<'a, R: Threads + Wait, G: Gate> Host<'a, R, G> {
+    fn asked_status<S: Store, I: Read, O: Sink, E: Sink>(
+        &self,
+        asked: Request<'_>,
+        store: &mut S,
+        input: &mut I,
+        out: &mut O,
+        errors: &mut E,
+    ) -> u8
+        requires { AreWithin asked }
+        ensures answers { Answers (Some (request asked.entry)) (I.remaining input.old)
+            (stored (S.contents store.old) (S.faulted store.old) (S.faulted store.new))
+            (O.taken out.old) (O.taken out.new) result }
+        ensures told { Tells (Some (request asked.entry)) (S.contents store.old)
+            (E.taken errors.old) (E.taken errors.new)
+            (E.failed errors.old) (E.failed errors.new) result }
+        ensures counted { result ≡ 0 ⊎ result ≡ 1 → O.failed out.new ≡ O.failed out.old }
+        ensures unread { reads_store (Some (request asked.entry)) ≡ false
+            → S.faulted store.new ≡ S.faulted store.old }
+        ensures untaken { reads_input (Some (request asked.entry)) ≡ false
+            → I.remaining input.new ≡ I.remaining input.old }
+        ensures range { result ≤ 3 }
+    {
+        match asked {
+            Request::Raw { budget } => raw_status(self.alloc, budget, input, out, errors),
+            Request::One {
+                image,
+                budget,
+                input_hex,
+            } => {
+                let asked = ImageAsked {
+                    path: image,
+                    budget,
+                    digits: input_hex,
+                };
+                one_status(self.alloc, &asked, store, out, errors)
+            }
+            Request::Run {
+                jobs,
+                workers,
+                group,
+            } => {
+                let asked = ListAsked {
+                    path: jobs,
+                    workers,
+                    group,
+                };
+                self.list_status(&asked, store, out, errors)
+            }
+        }
+    }
+
+    // The list is read, and refused if it has a fault, before the files of its jobs are.
+    fn list_status<S: Store, O: Sink, E: Sink>(
+        &self,
+        asked: &ListAsked<'_>,
+        store: &mut S,
+        out: &mut O,
+        errors: &mut E,
+    ) -> u8
+        requires workers { (1 ≤ asked.now.workers) × (asked.now.workers ≤ most_workers) }
+        requires group { (1 ≤ asked.now.group) × (asked.now.group ≤ most_group) }
+        ensures answers { Answers
+            (Some (run asked.now.path.now asked.now.workers asked.now.group)) None
+            (stored (S.contents store.old) (S.faulted store.old) (S.faulted store.new))
+            (O.taken out.old) (O.taken out.new) result }
+        ensures told { Tells
+            (Some (run asked.now.path.now asked.now.workers asked.now.group))
+            (S.contents store.old) (E.taken errors.old) (E.taken errors.new)
+            (E.failed errors.old) (E.failed errors.new) result }
+        ensures counted { result ≡ 0 ⊎ result ≡ 1 → O.failed out.new ≡ O.failed out.old }
+        ensures range { result ≤ 3 }
+    {
+        if is_bad_path(asked.path) {
+            return refused(errors);
+        }
+        let jobs = match read_list(self.alloc, store, asked.path) {
+            Ok(jobs) => jobs,
+            Err(ListError::Refused(error)) => return refused_list(self.alloc, errors, error),
+            Err(ListError::Failed(failure)) => return failed(errors, failure),
+        };
+        let crew = Crew::new(self.rt, self.alloc, asked.workers, asked.group);
+        match run_jobs(&crew, jobs, store, out, self.gate) {
+            Ok(status) => status,
+            Err(failure) => failed(errors, failure),
+        }
     }
 }
 
@@ -148,71 +226,39 @@ fn raw_status<I: Read, O: Sink, E: Sink>(
 // Both the path and the digits are asked before the store is read.
 fn one_status<S: Store, O: Sink, E: Sink>(
     alloc: Global,
-    image: &str,
-    budget: u32,
-    input_hex: Option<&str>,
+    asked: &ImageAsked<'_>,
     store: &mut S,
     out: &mut O,
     errors: &mut E,
 ) -> u8
-    requires { (1 ≤ budget) × (budget ≤ 1000000000) }
+    requires { (1 ≤ asked.now.budget) × (asked.now.budget ≤ most_budget) }
     ensures answers { Answers
-        (Some (one image.now budget (option_map (λ text. text.now) input_hex.entry))) None
+        (Some (one asked.now.path.now asked.now.budget
+        (option_map (λ text. text.now) asked.now.digits))) None
         (stored (S.contents store.old) (S.faulted store.old) (S.faulted store.new))
         (O.taken out.old) (O.taken out.new) result }
     ensures told { Tells
-        (Some (one image.now budget (option_map (λ text. text.now) input_hex.entry)))
+        (Some (one asked.now.path.now asked.now.budget
+        (option_map (λ text. text.now) asked.now.digits)))
         (S.contents store.old) (E.taken errors.old) (E.taken errors.new)
         (E.failed errors.old) (E.failed errors.new) result }
     ensures counted { result ≡ 0 ⊎ result ≡ 1 → O.failed out.new ≡ O.failed out.old }
     ensures range { result ≤ 3 }
 {
-    if is_bad_path(image) {
+    if is_bad_path(asked.path) {
         return refused(errors);
     }
-    let script = match read_script(alloc, input_hex) {
+    let script = match read_script(alloc, asked.digits) {
         Ok(script) => script,
         Err(ScriptError::Refused) => return refused(errors),
         Err(ScriptError::OutOfMemory) => return failed(errors, Failure::OutOfMemory),
     };
-    match run_image(alloc, store, image, budget, script, out) {
-        Ok(status) => status,
-        Err(failure) => failed(errors, failure),
-    }
-}
-
-// The list is read, and refused if it has a fault, before the files of its jobs are.
-fn run_status<R: Threads + Wait, S: Store, O: Sink, E: Sink, G: Gate>(
-    rt: &R,
-    alloc: Global,
-    path: &str,
-    workers: u32,
-    group: u32,
-    store: &mut S,
-    out: &mut O,
-    errors: &mut E,
-    gate: &G,
-) -> u8
-    requires workers { (1 ≤ workers) × (workers ≤ 64) }
-    requires group { (1 ≤ group) × (group ≤ 4096) }
-    ensures answers { Answers (Some (run path.now workers group)) None
-        (stored (S.contents store.old) (S.faulted store.old) (S.faulted store.new))
-        (O.taken out.old) (O.taken out.new) result }
-    ensures told { Tells (Some (run path.now workers group)) (S.contents store.old)
-        (E.taken errors.old) (E.taken errors.new)
-        (E.failed errors.old) (E.failed errors.new) result }
-    ensures counted { result ≡ 0 ⊎ result ≡ 1 → O.failed out.new ≡ O.failed out.old }
-    ensures range { result ≤ 3 }
-{
-    if is_bad_path(path) {
-        return refused(errors);
-    }
-    let jobs = match read_list(alloc, store, path) {
-        Ok(jobs) => jobs,
-        Err(ListError::Refused(error)) => return refused_list(alloc, errors, error),
-        Err(ListError::Failed(failure)) => return failed(errors, failure),
+    let run = ImageRun {
+        path: asked.path,
+        budget: asked.budget,
+        script,
     };
-    match run_jobs(rt, alloc, jobs, workers, group, store, out, gate) {
+    match run_image(alloc, run, store, out) {
         Ok(status) => status,
         Err(failure) => failed(errors, failure),
     }
@@ -249,6 +295,7 @@ fn help_status<O: Sink, E: Sink>(alloc: Global, help: &Error, out: &mut O, error
     ensures range { result ≡ DONE ⊎ result ≡ FAILED }
 {
     let Ok(help) = help.to_string(alloc) else {
+        // Out of memory: `to_string` fails by that alone.
         return failed(errors, Failure::OutOfMemory);
     };
     match put_all(out, help.as_bytes()) {

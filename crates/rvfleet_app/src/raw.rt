@@ -2,10 +2,10 @@
 
 ghost use Rattle.std.specs.Prelude.{◌≡◌, ◌⊎◌, List, [], ◌∷◌, IfErr, IfOk, OnErr, OnOk};
 ghost use Rattle.std.specs.Io.KnownBytes.{Appends, Keeps};
-ghost use Rattle.rv_rows.specs.declared.row.Row.{Row as ARow};
-ghost use Rattle.rv_rows.specs.Flat.{flat_row_of};
-ghost use Rattle.rv_rows.specs.Report.{report_text};
-ghost use Rattle.rv_rows.specs.Sending.{Rose};
+ghost use Rattle.rv_fleet.specs.declared_row.Row.{Row as ARow};
+ghost use Rattle.rv_fleet.specs.Flat.{flat_row_of};
+ghost use Rattle.rv_fleet.specs.Report.{report_text};
+ghost use Rattle.rv_jobs.specs.Counts.{Rose};
 ghost use Rattle.rv_files.specs.Input.{TookFirst};
 ghost use Rattle.rvfleet_app.specs.Answers.{Began};
 ghost use Rattle.rvfleet_app.specs.Raw.{AreRawRows, AreRead, most_read};

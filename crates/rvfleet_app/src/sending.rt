@@ -1,7 +1,7 @@
 //! A report and its status.
 
 ghost use Rattle.std.specs.Prelude.{true, ◌≡◌, ◌≤◌, IfErr, IfOk, OnErr, OnOk};
-ghost use Rattle.rv_rows.specs.Sending.{Rose};
+ghost use Rattle.rv_jobs.specs.Counts.{Rose};
 ghost use Rattle.rvfleet_app.specs.Answers.{Began, Reported, has_fail, is_fail, status_of};
 ghost use Rattle.rvfleet_app.specs.Failures.{is_of_sending};
 

@@ -42,6 +42,7 @@ pub fn refused_list<E: Sink>(alloc: Global, errors: &mut E, error: JobError) -> 
 {
     let JobError { job, what } = error;
     let Ok(line) = format!(in alloc; "rvfleet: job {job}: {}\n", what.name()) else {
+        // Out of memory: `format!` fails by that alone.
         return failed(errors, Failure::OutOfMemory);
     };
     say(errors, line.as_str());

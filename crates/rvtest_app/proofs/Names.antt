@@ -6,7 +6,7 @@ use Rattle.std.specs.List.{list_any}
 use Rattle.rv_expect.specs.declared.passing.Rule.{Rule}
 use Rattle.rv_lists.specs.declared.job.Job.{Job}
 use Rattle.rvtest_app.specs.Choice.{AreChosen, marks_for, names_of}
-use Rattle.rv_cli.specs.declared.rvtest.asked.RunAsked.{RunAsked}
+use Rattle.rv_cli.specs.declared.rvtest.run.RunAsked.{RunAsked}
 
 -- what is asked of one of them is asked of its text
 pub any_text : (p : List ℕ → Bool) (names : List (Bor (List ℕ)))

@@ -5,7 +5,7 @@ use Rattle.std.proofs.lemmas.Bool.{and_from}
 use Rattle.std.proofs.lemmas.Bool.Decides.{nat_tests}
 use Rattle.std.specs.List.{All}
 use Rattle.std.specs.List.Sorted.{IsStrictlyIncreasing}
-use Rattle.rv_lists.specs.Jobs.{most_jobs}
+use Rattle.rv_lists.specs.Limits.{most_jobs}
 use Rattle.rv_report.specs.Saved.{are_rising}
 use Rattle.rvtest_app.specs.Shown.{numbers_of}
 

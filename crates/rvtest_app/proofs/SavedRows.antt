@@ -1,7 +1,7 @@
 -- A report that can be has no more rows than a list may have jobs.
 use Rattle.std.proofs.Common.{◌≡◌, ℕ, ◌+◌, ◌≤◌, List, [], ◌∷◌, arith, length, true}
 use Rattle.std.proofs.lemmas.Bool.{and_parts, leb-true, ltb-true}
-use Rattle.rv_lists.specs.Jobs.{most_jobs}
+use Rattle.rv_lists.specs.Limits.{most_jobs}
 use Rattle.rv_report.specs.declared.saved.SavedReport.{SavedReport}
 use Rattle.rv_report.specs.Saved.{IsSaved, are_rising}
 

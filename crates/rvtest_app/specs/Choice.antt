@@ -9,11 +9,11 @@ use Rattle.regex.specs.Strings.{IsReadFromSource, regex_config, regex_pattern, r
 use Rattle.regex.specs.declared.string.regex.Regex.{Regex}
 use Rattle.rv_expect.specs.declared.passing.Rule.{Rule}
 use Rattle.rv_lists.specs.declared.job.Job.{Job}
-use Rattle.rv_rows.specs.declared.row.Row.{Row}
+use Rattle.rv_report.specs.declared.row.Row.{Row}
 use Rattle.rv_stream.specs.Choices.{is_chosen}
 use Rattle.rvtest_app.specs.Commands.{failed_in}
-use Rattle.rv_cli.specs.RvtestAsked.{text_of}
-use Rattle.rv_cli.specs.declared.rvtest.asked.RunAsked.{RunAsked}
+use Rattle.rv_cli.specs.RvtestWords.{text_of}
+use Rattle.rv_cli.specs.declared.rvtest.run.RunAsked.{RunAsked}
 
 abbrev pub Names : Type 0
 Names = List (List ℕ)

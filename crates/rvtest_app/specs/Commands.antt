@@ -8,7 +8,7 @@ use Rattle.rv_expect.specs.Passing.{has_passed}
 use Rattle.rv_expect.specs.TwoEnds.{expects_two_ends}
 use Rattle.rv_jobs.specs.Plans.{Planned}
 use Rattle.rv_lists.specs.declared.job.Job.{Job}
-use Rattle.rv_rows.specs.declared.row.Row.{Row}
+use Rattle.rv_report.specs.declared.row.Row.{Row}
 use Rattle.rv_rows.specs.Outcome.{refusal_in}
 use Rattle.rv_rows.specs.Rows.{outcome_in}
 use Rattle.rv_job_text.specs.declared.verbosity.Verbosity.{Verbosity}

@@ -13,7 +13,7 @@ use Rattle.rv_report.specs.declared.saved.Shard.{Shard}
 use Rattle.rv_rows.specs.Rows.{rows_at}
 use Rattle.rvtest_app.specs.Choice.{AreChosen}
 use Rattle.rvtest_app.specs.Shown.{status_of}
-use Rattle.rv_cli.specs.declared.rvtest.asked.RunAsked.{RunAsked}
+use Rattle.rv_cli.specs.declared.rvtest.run.RunAsked.{RunAsked}
 
 -- the places of the jobs that are marked
 abbrev pub places_of : List Bool → List ℕ

@@ -5,12 +5,12 @@ ghost use Rattle.regex.specs.Strings.{regex_source};
 ghost use Rattle.rvtest_app.specs.Choice.{AreChosen, AreChosenBy, IsReadByDefault, marks_for, names_asked};
 ghost use Rattle.rvtest_app.specs.Choice.{names_of, pattern_of, texts_of};
 ghost use Rattle.rvtest_app.specs.Commands.{failed_in};
-ghost use Rattle.rv_cli.specs.RvtestAsked.{text_of};
+ghost use Rattle.rv_cli.specs.RvtestWords.{text_of};
 
 use crate::choice::{Wanted, chosen_marks, first_unknown};
 use crate::failed_before::{failed_names, read_saved, say_failed};
 use crate::run::ListRun;
-use crate::shard::refused;
+use crate::shard::refused_value;
 use crate::stop::Stop;
 use crate::streams::Streams;
 use regex::Regex;
@@ -188,7 +188,7 @@ fn pattern_of(alloc: Global, text: &str) -> Result<Regex, Stop>
     match Regex::new(alloc, text) {
         Ok(pattern) => Ok(pattern),
         Err(regex::Error::OutOfMemory) => Err(Stop::OutOfMemory),
-        Err(error) => Err(refused(
+        Err(error) => Err(refused_value(
             alloc,
             format!(in alloc; "invalid value '{text}' for '--match <REGEX>': {error}"),
         )),

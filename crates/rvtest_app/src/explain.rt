@@ -59,11 +59,11 @@ fn explain_at<R: Files>(
     let places = vec![in alloc; place; 1]?;
     let mut store = NotingStore::new(files, alloc, asked.root);
     let plan = gather_places(alloc, jobs, places, &mut store)?;
-    explained(alloc, &plan, store.unread(), place, asked.last)
+    explain_job(alloc, &plan, store.unread(), place, asked.last)
 }
 
 // The same of a plan.
-fn explained(
+fn explain_job(
     alloc: Global,
     plan: &Plan,
     unread: &[Unread],

@@ -2,7 +2,7 @@
 
 ghost use Rattle.std.specs.Prelude.{◌≡◌, ◌≤◌, IfOk, length, map};
 ghost use Rattle.rvtest_app.specs.Commands.{failed_in};
-ghost use Rattle.rv_lists.specs.Jobs.{most_jobs};
+ghost use Rattle.rv_lists.specs.Limits.{most_jobs};
 
 use crate::choice::has_job;
 use crate::files::read_file;

@@ -4,7 +4,7 @@ ghost use Rattle.std.specs.Prelude.{◌≡◌, ◌++◌, OnOk};
 ghost use Rattle.rvtest_app.specs.ReportSummary.{failed_line};
 
 use rv_expect::{Rule, has_passed};
-use rv_job_text::push_result;
+use rv_job_text::{EndDetail, push_result};
 use rv_rows::Row;
 use rv_stream::Telling;
 use std::alloc::{AllocError, Global};
@@ -43,5 +43,9 @@ pub(crate) fn push_failed_line(
     if has_passed(rule, row) {
         return Ok(());
     }
-    push_result(alloc, text, rule, row, None, None)
+    let detail = EndDetail {
+        symbol: None,
+        reason: None,
+    };
+    push_result(alloc, text, rule, row, &detail)
 }

@@ -11,6 +11,7 @@
 mod check;
 mod choice;
 mod choosing;
+mod chosen_rows;
 mod counting_telling;
 mod diff;
 mod explain;
@@ -38,7 +39,6 @@ mod stop;
 mod streams;
 mod terminal_line;
 mod terminal_sink;
-mod write;
 
 pub use program::{run_test_words, unread_status};
 pub use streams::Streams;

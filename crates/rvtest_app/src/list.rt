@@ -34,13 +34,14 @@ pub(crate) fn jobs_of(alloc: Global, path: &str, text: &[u8]) -> Result<JobList,
 {
     match read_jobs(alloc, text) {
         Ok(jobs) => Ok(jobs),
-        Err(
-            JobError {
-                job: _,
-                what: What::OutOfMemory,
-            },
-        ) => Err(Stop::OutOfMemory),
-        Err(error) => Err(Stop::refused(told_of_faults(alloc, path, text, &[error]))),
+        Err(error) => Err(fault_stop(alloc, path, text, error)),
+    }
+}
+
+fn fault_stop(alloc: Global, path: &str, text: &[u8], fault: JobError) -> Stop {
+    match fault.what {
+        What::OutOfMemory => Stop::OutOfMemory,
+        _ => Stop::refused(told_of_faults(alloc, path, text, &[fault])),
     }
 }
 

@@ -1,7 +1,7 @@
 //! The command `merge`.
 
 ghost use Rattle.std.specs.Prelude.{◌≡◌, ◌≤◌, IfOk, length};
-ghost use Rattle.rv_lists.specs.Jobs.{most_jobs};
+ghost use Rattle.rv_lists.specs.Limits.{most_jobs};
 ghost use Rattle.rvtest_app.specs.Commands.{rule_for};
 ghost use Rattle.rvtest_app.specs.Shown.{status_of};
 
@@ -53,7 +53,7 @@ fn merged_rows<R: Files>(files: &R, alloc: Global, asked: &MergeAsked<'_>) -> Re
     let parts = slices_of(alloc, texts.as_slice())?;
     match merge_parts(alloc, parts.as_slice()) {
         Ok(rows) => Ok(rows),
-        Err(error) => Err(refused(alloc, asked, error)),
+        Err(error) => Err(merge_stop(alloc, asked, error)),
     }
 }
 
@@ -99,7 +99,7 @@ fn write<R: Files, S: Streams>(
 {
     let rule = rule_of(asked.lenient);
     match show(alloc, streams, rule, &rows, outputs.is_out()) {
-        Ok(()) => write_files(alloc, streams, asked, rule, outputs, rows),
+        Ok(()) => write_files(alloc, streams, asked, outputs, rows),
         Err(stop) => Err(outputs.abandoned(stop)),
     }
 }
@@ -123,13 +123,13 @@ fn write_files<R: Files, S: Streams>(
     alloc: Global,
     streams: &S,
     asked: &MergeAsked<'_>,
-    rule: Rule,
     outputs: Outputs<'_, R>,
     rows: Rows,
 ) -> Result<u8, Stop>
     requires { length rows ≤ most_jobs }
-    ensures { IfOk result (λ status. status ≡ status_of rule rows) }
+    ensures { IfOk result (λ status. status ≡ status_of (rule_for asked.now.lenient) rows) }
 {
+    let rule = rule_of(asked.lenient);
     let Outputs { report, junit } = outputs;
     let class = class_of(asked.report.unwrap_or("merged")).as_bytes();
     let told = FailedLines { rule };
@@ -142,7 +142,7 @@ fn write_files<R: Files, S: Streams>(
 }
 
 // Why the parts are not those of one run.
-fn refused(alloc: Global, asked: &MergeAsked<'_>, error: MergeError) -> Stop {
+fn merge_stop(alloc: Global, asked: &MergeAsked<'_>, error: MergeError) -> Stop {
     Stop::refused(match error {
         MergeError::OutOfMemory => return Stop::OutOfMemory,
         MergeError::NoTexts => text_of(alloc, &[Span::Text("rvtest: there is no part\n")]),

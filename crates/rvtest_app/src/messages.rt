@@ -91,33 +91,33 @@ pub(crate) fn put_beside<S: Streams>(
 }
 
 /// Says why a command ended before its work was done, and gives the status.
-pub(crate) fn stopped<S: Streams>(streams: &S, stop: Stop) -> u8
+pub(crate) fn stop_status<S: Streams>(streams: &S, stop: Stop) -> u8
     ensures low { result ≤ 3 }
     ensures told { IsStopStatus stop result }
 {
     match stop {
-        Stop::Told(lines, text) => told(streams, lines, text.as_slice()),
+        Stop::Told(lines, text) => lines_status(streams, lines, text.as_slice()),
         Stop::NoJob => DONE,
-        Stop::OutOfMemory => failed(streams, b"rvtest: out of memory\n"),
-        Stop::NoWorker => failed(streams, b"rvtest: no thread could be started\n"),
+        Stop::OutOfMemory => failure_status(streams, b"rvtest: out of memory\n"),
+        Stop::NoWorker => failure_status(streams, b"rvtest: no thread could be started\n"),
         Stop::WriteFailed => write_failed(streams),
     }
 }
 
-fn told<S: Streams>(streams: &S, lines: Lines, text: &[u8]) -> u8
+fn lines_status<S: Streams>(streams: &S, lines: Lines, text: &[u8]) -> u8
     ensures { IsStatusOfLines lines result }
 {
     match lines {
-        Lines::Help => shown(streams, text),
+        Lines::Help => help_status(streams, text),
         Lines::Refusal => {
             say(streams, text);
             REFUSED
         }
-        Lines::Failure => failed(streams, text),
+        Lines::Failure => failure_status(streams, text),
     }
 }
 
-fn failed<S: Streams>(streams: &S, text: &[u8]) -> u8
+fn failure_status<S: Streams>(streams: &S, text: &[u8]) -> u8
     ensures { result ≡ FAILED }
 {
     say(streams, text);
@@ -125,7 +125,7 @@ fn failed<S: Streams>(streams: &S, text: &[u8]) -> u8
 }
 
 // Help and the version go to standard output.
-fn shown<S: Streams>(streams: &S, text: &[u8]) -> u8
+fn help_status<S: Streams>(streams: &S, text: &[u8]) -> u8
     ensures { (result ≡ DONE) ⊎ (result ≡ FAILED) }
 {
     match put_out(streams, text) {
@@ -137,5 +137,5 @@ fn shown<S: Streams>(streams: &S, text: &[u8]) -> u8
 fn write_failed<S: Streams>(streams: &S) -> u8
     ensures { result ≡ FAILED }
 {
-    failed(streams, b"rvtest: the results: write failed\n")
+    failure_status(streams, b"rvtest: the results: write failed\n")
 }

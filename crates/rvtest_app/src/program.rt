@@ -7,7 +7,7 @@ use crate::diff::diff;
 use crate::explain::explain;
 use crate::found::put_found;
 use crate::merge::merge;
-use crate::messages::{FAILED, REFUSED, say, stopped};
+use crate::messages::{FAILED, REFUSED, say, stop_status};
 use crate::run::run;
 use crate::show::show;
 use crate::stop::Stop;
@@ -32,7 +32,7 @@ pub fn run_test_words<'a, R: Threads + Wait + Sync + Files + Clock, T: AsStr, S:
 {
     match answer(rt, alloc, words, streams) {
         Ok(status) => status,
-        Err(stop) => stopped(streams, stop),
+        Err(stop) => stop_status(streams, stop),
     }
 }
 
@@ -45,14 +45,14 @@ fn answer<'a, R: Threads + Wait + Sync + Files + Clock, T: AsStr, S: Streams>(
     ensures { IfOk result (λ status. status ≤ 2) }
 {
     match read_words(alloc, words) {
-        Ok(Some(asked)) => obey(rt, alloc, streams, asked),
+        Ok(Some(asked)) => answer_asked(rt, alloc, streams, asked),
         Ok(None) => Ok(REFUSED),
         Err(error) => Err(Stop::of_words(alloc, &error)),
     }
 }
 
 // Does what words ask for.
-fn obey<R: Threads + Wait + Sync + Files + Clock, S: Streams>(
+fn answer_asked<R: Threads + Wait + Sync + Files + Clock, S: Streams>(
     rt: &R,
     alloc: Global,
     streams: &S,

@@ -1,20 +1,15 @@
 //! Where a text of rows goes: a report, or JUnit's XML.
 
-ghost use Rattle.std.specs.Prelude.{◌≡◌, ◌≤◌, ◌<◌, length};
-ghost use Rattle.std.specs.List.{All};
-ghost use Rattle.std.specs.List.Sorted.{IsStrictlyIncreasing};
-ghost use Rattle.rv_lists.specs.Jobs.{most_jobs};
-
+use crate::chosen_rows::ChosenRows;
 use crate::failed_lines::FailedLines;
 use crate::files::unreadable;
 use crate::messages::told_of;
 use crate::rows_report::write_rows;
 use crate::stop::Stop;
 use crate::streams::Streams;
-use rv_expect::Rule;
 use rv_files::{FileError, FileSink, StreamSink};
 use rv_fleet::{Report, Row, Rows, Sink, WriteError, write_report};
-use rv_junit::write_junit;
+use rv_junit::{PlacedRows, Suite, write_junit};
 use rv_report::Shard;
 use rv_stream::Telling;
 use std::alloc::Global;
@@ -60,29 +55,22 @@ impl<'a, R: Files> ReportTo<'a, R> {
         stop
     }
 
-    /// Writes the report of the rows of the jobs at some places of a list of so many jobs.
+    /// Writes the report of the rows of chosen jobs, those of a shard where they were chosen by one.
     pub(crate) fn write<S: Streams>(
         self,
         alloc: Global,
         streams: &S,
-        jobs: usize,
-        places: &[usize],
+        chosen: ChosenRows<'_>,
         shard: Option<Shard>,
-        rows: Rows,
-    ) -> Result<(), Stop>
-        requires few { jobs ≤ most_jobs }
-        requires within { All (λ place. place < jobs) places.now }
-        requires rising { IsStrictlyIncreasing places.now }
-        requires counted { length rows ≡ length places.now }
-    {
+    ) -> Result<(), Stop> {
         match self {
             ReportTo::Nowhere => Ok(()),
             ReportTo::Out => {
                 let mut out = StreamSink::new(streams.out());
-                out_end(write_rows(alloc, jobs, places, shard, rows, &mut out))
+                out_end(write_rows(alloc, chosen, shard, &mut out))
             }
             ReportTo::File(path, mut file) => {
-                let written = write_rows(alloc, jobs, places, shard, rows, &mut file);
+                let written = write_rows(alloc, chosen, shard, &mut file);
                 file_end(alloc, path, file, written)
             }
         }
@@ -93,22 +81,18 @@ impl<'a, R: Files> ReportTo<'a, R> {
         self,
         alloc: Global,
         streams: &S,
-        class: &[u8],
-        rule: Rule,
+        suite: &Suite<'_>,
         telling: &T,
-        places: &[usize],
-        rows: &[Row],
-    ) -> Result<(), Stop>
-        requires { length rows.now ≤ length places.now }
-    {
+        rows: &PlacedRows<'_>,
+    ) -> Result<(), Stop> {
         match self {
             ReportTo::Nowhere => Ok(()),
             ReportTo::Out => {
                 let mut out = StreamSink::new(streams.out());
-                out_end(write_junit(alloc, class, rule, telling, places, rows, &mut out))
+                out_end(write_junit(alloc, suite, telling, rows, &mut out))
             }
             ReportTo::File(path, mut file) => {
-                let written = write_junit(alloc, class, rule, telling, places, rows, &mut file);
+                let written = write_junit(alloc, suite, telling, rows, &mut file);
                 file_end(alloc, path, file, written)
             }
         }
@@ -149,15 +133,12 @@ impl<'a, R: Files> ReportTo<'a, R> {
             Ok(places) => places,
             Err(error) => return Err(self.abandoned(Stop::from(error))),
         };
-        self.write_junit(
-            alloc,
-            streams,
-            class,
-            told.rule,
-            told,
-            places.as_slice(),
-            rows,
-        )
+        let suite = Suite {
+            name: class,
+            rule: told.rule,
+        };
+        let places = places.as_slice();
+        self.write_junit(alloc, streams, &suite, told, &PlacedRows { places, rows })
     }
 }
 

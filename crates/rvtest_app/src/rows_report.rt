@@ -1,73 +1,63 @@
 //! The report of the rows of chosen jobs.
 
-ghost use Rattle.std.specs.Prelude.{◌≡◌, ◌+◌, ◌<◌, ◌≤◌, ◌^◌, IfErr, IfOk, OnErr, OnOk, length, map};
+ghost use Rattle.std.specs.Prelude.{◌≡◌, ◌<◌, IfErr, IfOk, OnErr, OnOk};
 ghost use Rattle.std.specs.Io.KnownBytes.{Appends};
 ghost use Rattle.std.specs.List.{All};
-ghost use Rattle.std.specs.List.Sorted.{IsStrictlyIncreasing};
-ghost use Rattle.rv_lists.specs.Jobs.{most_jobs};
-ghost use Rattle.rv_rows.specs.Sending.{AppendsBeginning, Rose};
+ghost use Rattle.rv_lists.specs.Limits.{most_jobs};
+ghost use Rattle.rv_lists.specs.Sinks.{AppendsBeginning};
+ghost use Rattle.rv_lists.specs.Counts.{Rose};
 ghost use Rattle.rvtest_app.specs.Shown.{numbers_of, part_text, report_of};
 
-use crate::write::write_saved;
-use rv_fleet::{Report, Rows, Sink, WriteError, write_report};
-use rv_report::{Extent, Numbers, SavedReport, Shard};
+use crate::chosen_rows::ChosenRows;
+use rv_fleet::{Report, Sink, WriteError, write_report};
+use rv_report::{Extent, Numbers, SavedReport, Shard, write_saved};
 use std::alloc::{AllocError, Global};
 
-/// Appends the report of the rows of the jobs at some places of a list of so many jobs: that of a shard, where these are
-/// its jobs; else the whole report where they are all, else that of a choice. After an error a beginning of it is out.
+/// Appends the report of the rows of chosen jobs: that of a shard, where these are its jobs; else the whole report where they
+/// are all, else that of a choice. After an error a beginning of it is out.
 pub(crate) fn write_rows<W: Sink>(
     alloc: Global,
-    jobs: usize,
-    places: &[usize],
+    chosen: ChosenRows<'_>,
     shard: Option<Shard>,
-    rows: Rows,
     out: &mut W,
 ) -> Result<(), WriteError>
-    requires few { jobs ≤ most_jobs }
-    requires within { All (λ place. place < jobs) places.now }
-    requires rising { IsStrictlyIncreasing places.now }
-    requires counted { length rows ≡ length places.now }
     ensures all { OnOk result (Appends (W.taken out.old) (W.taken out.new)
-        (report_of jobs places.now shard rows)) }
+        (report_of chosen.entry.jobs chosen.entry.places.now shard chosen.entry.rows)) }
     ensures counted { OnOk result (W.failed out.new ≡ W.failed out.old) }
     ensures part { OnErr result (AppendsBeginning (W.taken out.old) (W.taken out.new)
-        (report_of jobs places.now shard rows)) }
+        (report_of chosen.entry.jobs chosen.entry.places.now shard chosen.entry.rows)) }
     ensures failed { IfErr result (λ error. error ≡ WriteError.Failed
         → Rose (W.failed out.old) (W.failed out.new)) }
 {
     let extent = match shard {
         Some(shard) => Extent::Shard(shard),
-        None if places.len() == jobs => return write_report(alloc, &Report { rows }, out),
-        None => Extent::Choice(jobs as u32),
+        None if chosen.places.len() == chosen.jobs => {
+            return write_report(alloc, &Report { rows: chosen.rows }, out);
+        }
+        None => Extent::Choice(chosen.jobs as u32),
     };
-    write_part(alloc, extent, jobs, places, rows, out)
+    write_part(alloc, extent, chosen, out)
 }
 
-// The report of a part of a list of so many jobs.
+// The report of a part of a list.
 fn write_part<W: Sink>(
     alloc: Global,
     extent: Extent,
-    jobs: usize,
-    places: &[usize],
-    rows: Rows,
+    chosen: ChosenRows<'_>,
     out: &mut W,
 ) -> Result<(), WriteError>
-    requires few { jobs ≤ most_jobs }
-    requires within { All (λ place. place < jobs) places.now }
-    requires rising { IsStrictlyIncreasing places.now }
-    requires counted { length rows ≡ length places.now }
     ensures all { OnOk result (Appends (W.taken out.old) (W.taken out.new)
-        (part_text extent places.now rows)) }
+        (part_text extent chosen.entry.places.now chosen.entry.rows)) }
     ensures counted { OnOk result (W.failed out.new ≡ W.failed out.old) }
     ensures part { OnErr result (AppendsBeginning (W.taken out.old) (W.taken out.new)
-        (part_text extent places.now rows)) }
+        (part_text extent chosen.entry.places.now chosen.entry.rows)) }
     ensures failed { IfErr result (λ error. error ≡ WriteError.Failed
         → Rose (W.failed out.old) (W.failed out.new)) }
 {
     let report = SavedReport {
         extent,
-        numbers: Numbers::new(numbers_of(alloc, places)?),
-        rows,
+        numbers: Numbers::new(numbers_of(alloc, chosen.places)?),
+        rows: chosen.rows,
     };
     write_saved(alloc, &report, out)
 }

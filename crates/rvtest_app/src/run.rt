@@ -1,5 +1,6 @@
 //! The command `run`.
 
+ghost use Rattle.rv_lists.specs.Limits.{most_workers};
 ghost use Rattle.std.specs.Prelude.{◌≡◌, ◌≤◌, ◌<◌, IfOk, IfSome, length};
 ghost use Rattle.std.specs.List.Sorted.{IsStrictlyIncreasing};
 ghost use Rattle.rv_fleet.specs.Choices.{AreWithin};
@@ -9,6 +10,7 @@ ghost use Rattle.rvtest_app.specs.Runs.{AreAsked, IsRun, IsStatusOf};
 ghost use Rattle.rvtest_app.specs.Commands.{verbosity_for};
 ghost use Rattle.rvtest_app.specs.Shown.{status_of};
 
+use crate::chosen_rows::ChosenRows;
 use crate::counting_telling::CountingTelling;
 use crate::list::{jobs_of, read_text};
 use crate::outputs::{Outputs, class_of};
@@ -23,9 +25,11 @@ use crate::terminal_sink::TerminalSink;
 use rv_cli::rvtest::RunAsked;
 use rv_expect::Rule;
 use rv_files::{NotingStore, StreamSink};
-use rv_fleet::Rows;
+use rv_fleet::{Batch, Crew, Rows};
 use rv_job_text::{RowTelling, Verbosity};
+use rv_jobs::limits::{MOST_GROUP, MOST_WORKERS};
 use rv_jobs::{Job, JobList, Plan, gather_places, marked_places};
+use rv_junit::{PlacedRows, Suite};
 use rv_merge::shard_marks;
 use rv_report::Shard;
 use std::alloc::Global;
@@ -160,18 +164,10 @@ impl<'x, R: Threads + Wait + Sync + Clock, S: Streams> ListRun<'x, R, S> {
         let counting = CountingTelling::new(rt, telling, &progress);
         let sink = TerminalSink::new(rt, alloc, StreamSink::new(out), is_terminal, &progress);
         let workers = workers_of(rt, self.asked);
-        let group = self.asked.group.clamp(1, 4_096);
-        let (sink, ran) = show_run(
-            rt,
-            alloc,
-            telling.plan,
-            places,
-            workers,
-            group,
-            rule,
-            &counting,
-            sink,
-        );
+        let group = self.asked.group.clamp(1, MOST_GROUP);
+        let crew = Crew::new(rt, alloc, workers, group);
+        let batch = Batch::new(telling.plan, places);
+        let (sink, ran) = show_run(&crew, &batch, rule, &counting, sink);
         sink.into_inner();
         progress.finish();
         Ok(ran?)
@@ -211,20 +207,29 @@ impl<'x, R: Files, S: Streams> ListRun<'x, R, S> {
     {
         let (alloc, streams) = (self.alloc, self.streams);
         let Outputs { report, junit } = outputs;
-        let class = class_of(self.asked.list).as_bytes();
         let told = RowTelling {
             verbosity: Verbosity::Failures,
             ..*telling
         };
+        let suite = Suite {
+            name: class_of(self.asked.list).as_bytes(),
+            rule: told.rule,
+        };
         let items = rows.as_slice();
         let status = status_of(told.rule, items);
-        if let Err(stop) = junit.write_junit(
-            alloc, streams, class, told.rule, &told, places, items,
-        ) {
+        let placed = PlacedRows {
+            places,
+            rows: items,
+        };
+        if let Err(stop) = junit.write_junit(alloc, streams, &suite, &told, &placed) {
             return Err(report.abandoned(stop));
         }
-        let jobs = telling.plan.jobs();
-        report.write(alloc, streams, jobs, places, shard, rows)?;
+        let chosen = ChosenRows {
+            jobs: telling.plan.jobs(),
+            places,
+            rows,
+        };
+        report.write(alloc, streams, chosen, shard)?;
         Ok(status)
     }
 }
@@ -241,12 +246,12 @@ fn verbosity_of(asked: &RunAsked<'_>) -> Verbosity
 
 // As many threads as are asked for, or as there are processors: from 1 to 64.
 fn workers_of<R: Threads>(rt: &R, asked: &RunAsked<'_>) -> u32
-    ensures { (0 < result) × (result ≤ 64) }
+    ensures { (0 < result) × (result ≤ most_workers) }
 {
     match asked.workers {
-        Some(workers) => workers.clamp(1, 64),
+        Some(workers) => workers.clamp(1, MOST_WORKERS),
         None => match thread::available_parallelism(rt) {
-            Ok(count) => count.get().clamp(1, 64) as u32,
+            Ok(count) => count.get().clamp(1, MOST_WORKERS as usize) as u32,
             Err(_) => 1,
         },
     }

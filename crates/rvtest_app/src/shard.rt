@@ -4,7 +4,7 @@ ghost use Rattle.std.specs.Prelude.{◌≡◌, ◌≤◌, ◌<◌, IfOk, IfSome,
 ghost use Rattle.std.specs.Str.Parse.{digits_value};
 ghost use Rattle.hex.specs.Hex.{encode_lower};
 ghost use Rattle.sha2.specs.Sha256.{sha256};
-ghost use Rattle.rv_lists.specs.Jobs.{most_jobs};
+ghost use Rattle.rv_lists.specs.Limits.{most_jobs};
 ghost use Rattle.rvtest_app.specs.Runs.{IsShardOf, number_before_slash, number_behind_slash};
 
 use crate::stop::Stop;
@@ -84,7 +84,7 @@ fn digest_of(alloc: Global, text: &[u8]) -> Result<String, AllocError>
 }
 
 fn bad_shard(alloc: Global, words: &str) -> Stop {
-    refused(
+    refused_value(
         alloc,
         format!(in alloc;
             "invalid value '{words}' for '--shard <K/N>': K and N are numbers, 1 <= K <= N <= 4096"
@@ -93,7 +93,7 @@ fn bad_shard(alloc: Global, words: &str) -> Stop {
 }
 
 fn bad_stamp(alloc: Global, stamp: &str) -> Stop {
-    refused(
+    refused_value(
         alloc,
         format!(in alloc;
             "invalid value '{stamp}' for '--stamp <TEXT>': 1 to 64 letters, digits, '.', '_' and '-'"
@@ -102,7 +102,7 @@ fn bad_stamp(alloc: Global, stamp: &str) -> Stop {
 }
 
 /// That a value of `run` is none, as these words say, where there was memory for them.
-pub(crate) fn refused(alloc: Global, what: Result<String, AllocError>) -> Stop {
+pub(crate) fn refused_value(alloc: Global, what: Result<String, AllocError>) -> Stop {
     match what {
         Ok(what) => {
             let kind = ErrorKind::ValueValidation;

@@ -12,6 +12,13 @@ use clap::builder::ValueParser;
 use clap::{Arg, ArgAction};
 use std::alloc::Global;
 
+/// The least and the greatest number that an option takes.
+#[derive(Clone, Copy)]
+pub(crate) struct Bounds {
+    pub(crate) least: i64,
+    pub(crate) most: i64,
+}
+
 /// An argument of a command: its name, what a value is called in the usage where it is any text, and its help.
 #[derive(Clone, Copy)]
 pub(crate) enum Argument<'a> {
@@ -25,8 +32,8 @@ pub(crate) enum Argument<'a> {
     Again(&'a str, &'a str, &'a str),
     /// An option without a value.
     Flag(&'a str, &'a str),
-    /// An option with a number from one to another, and the one that it has where it is not given, if it has one.
-    Number(&'a str, &'a str, i64, i64, &'a [&'a str]),
+    /// An option with a number, and the one that it has where it is not given, if it has one.
+    Number(&'a str, &'a str, Bounds, &'a [&'a str]),
     /// How many jobs a thread takes at once.
     Group,
 }
@@ -45,9 +52,7 @@ impl<'a> Argument<'a> {
                 option(alloc, name, value, help).action(ArgAction::Append)
             }
             Argument::Flag(name, help) => flag(alloc, name, help),
-            Argument::Number(name, help, least, most, usual) => {
-                number(alloc, name, help, least, most, usual)
-            }
+            Argument::Number(name, help, bounds, usual) => number(alloc, name, help, bounds, usual),
             Argument::Group => group(alloc),
         }
     }
@@ -82,14 +87,13 @@ fn number<'a>(
     alloc: Global,
     name: &'a str,
     help: &'a str,
-    least: i64,
-    most: i64,
+    bounds: Bounds,
     usual: &'a [&'a str],
 ) -> Arg<'a>
-    ensures { (rule_of result ≡ number_rule name.entry.now least most usual.entry.now)
+    ensures { (rule_of result ≡ number_rule name.entry.now bounds.least bounds.most usual.entry.now)
         × (result.global ≡ false) }
 {
     option(alloc, name, "N", help)
-        .value_parser(ValueParser::Signed(least, most))
+        .value_parser(ValueParser::Signed(bounds.least, bounds.most))
         .default_values(usual)
 }

@@ -1,4 +1,20 @@
-//! What words ask `rvtest` for.
+//! What words ask `rvtest` for: a command with its values.
+
+ghost use Rattle.std.specs.Prelude.{◌≡◌, IfOk, IfSome, map, option_map};
+ghost use Rattle.clap.specs.Words.{FailsBy, found_of, rows_of, subcommand_rows_of};
+ghost use Rattle.rv_cli.specs.RvtestWords.{AreWithin, Reads, asked_of, faults_found, faults_in};
+ghost use Rattle.rv_cli.specs.RvtestWords.{faults_of, words_asked, words_found, words_in};
+
+use crate::rvtest::check::{CheckAsked, check_asked};
+use crate::rvtest::command::test_command;
+use crate::rvtest::diff::{DiffAsked, diff_asked};
+use crate::rvtest::explain::{ExplainAsked, explain_asked};
+use crate::rvtest::merge::{MergeAsked, merge_asked};
+use crate::rvtest::run::{RunAsked, run_asked};
+use crate::rvtest::show::{ShowAsked, show_asked};
+use clap::{ArgMatches, Error};
+use std::alloc::Global;
+use std::convert::AsStr;
 
 /// What words ask for.
 #[derive(Drop)]
@@ -17,94 +33,47 @@ pub enum Asked<'a> {
     Show(ShowAsked<'a>),
 }
 
-/// The jobs of a list that are to run, and how.
-#[derive(Drop)]
-pub struct RunAsked<'a> {
-    /// Path of the job list.
-    pub list: &'a str,
-    /// The exact names of jobs that are chosen.
-    pub only: Vec<&'a str>,
-    /// A regular expression: jobs in whose names it is found are chosen.
-    pub pattern: Option<&'a str>,
-    /// Path of a report: jobs that failed in it are chosen.
-    pub failed: Option<&'a str>,
-    /// Which part of the list is to run, as `K/N`.
-    pub shard: Option<&'a str>,
-    /// Which run the part is of.
-    pub stamp: Option<&'a str>,
-    /// Threads, from 1 to 64; absent: as many as there are processors.
-    pub workers: Option<u32>,
-    /// Jobs that a thread takes at once, from 1 to 4,096.
-    pub group: u32,
-    /// The folder from which the paths in the list are taken.
-    pub root: Option<&'a str>,
-    /// Path of the report that is written; `-` is standard output.
-    pub report: Option<&'a str>,
-    /// Path of the JUnit file that is written; `-` is standard output.
-    pub junit: Option<&'a str>,
-    /// Whether a failed verdict alone is a failure.
-    pub lenient: bool,
-    /// Whether jobs that pass have a line too.
-    pub verbose: bool,
-    /// Whether the last line alone is shown.
-    pub quiet: bool,
-    /// How many of the last instructions of a failed job are shown, up to 100,000.
-    pub last: Option<u32>,
+/// Reads words, the first of which is the program's name. `None` stands where words ask for nothing. An error is `clap`'s
+/// own, but for options that do not go together. Help and the version are errors, too: DisplayHelp and DisplayVersion.
+pub fn read_words<'a, T: AsStr>(alloc: Global, words: &'a [T]) -> Result<Option<Asked<'a>>, Error>
+    // What is read is what the words ask for.
+    ensures value { IfOk result
+        (λ asked. option_map words_asked asked ≡ asked_of (map T.text words.entry.now)) }
+    // Each number is within the range of its argument.
+    ensures within { IfOk result (λ asked. IfSome asked AreWithin) }
+    // Any words fail by a fault that is found in them, or for want of memory, and else have none.
+    ensures kinds { FailsBy (faults_of (map T.text words.entry.now)) result }
+{
+    let command = test_command(alloc)?;
+    let matches = command.try_get_matches_from(words)?;
+    asked_in(alloc, &matches)
 }
 
-/// The job whose end is to be explained.
-#[derive(Clone, Copy)]
-pub struct ExplainAsked<'a> {
-    /// Path of the job list.
-    pub list: &'a str,
-    /// The job's name.
-    pub name: &'a str,
-    /// How many of its last instructions are shown, up to 100,000.
-    pub last: u32,
-    /// The folder from which the paths in the list are taken.
-    pub root: Option<&'a str>,
+fn asked_in<'a>(alloc: Global, matches: &ArgMatches<'a>) -> Result<Option<Asked<'a>>, Error>
+    ensures { Reads (words_found (subcommand_rows_of matches.now))
+        (faults_found (subcommand_rows_of matches.now)) result }
+{
+    match matches.subcommand() {
+        Some((name, values)) => subcommand_asked(alloc, name, values),
+        None => Ok(None),
+    }
 }
 
-/// The list of which all that is wrong is to be said.
-#[derive(Clone, Copy)]
-pub struct CheckAsked<'a> {
-    /// Path of the job list.
-    pub list: &'a str,
-    /// The folder from which the paths in the list are taken.
-    pub root: Option<&'a str>,
-}
-
-/// The parts of one run whose whole report is to be made.
-#[derive(Drop)]
-pub struct MergeAsked<'a> {
-    /// Paths of the parts.
-    pub parts: Vec<&'a str>,
-    /// Path of the report that is written; `-` is standard output.
-    pub report: Option<&'a str>,
-    /// Path of the JUnit file that is written; `-` is standard output.
-    pub junit: Option<&'a str>,
-    /// Whether a failed verdict alone is a failure.
-    pub lenient: bool,
-}
-
-/// Two reports that are to be compared.
-#[derive(Clone, Copy)]
-pub struct DiffAsked<'a> {
-    /// Path of the report that is compared with.
-    pub old: &'a str,
-    /// Path of the report that is compared.
-    pub new: &'a str,
-    /// Whether steps count too, and the places and values of faults.
-    pub steps: bool,
-}
-
-/// A report that is to be shown.
-#[derive(Clone, Copy)]
-pub struct ShowAsked<'a> {
-    /// Path of the report.
-    pub report: &'a str,
-    /// Path of the JUnit file that is written; `-` is standard output.
-    pub junit: Option<&'a str>,
-    /// Whether a failed verdict alone is a failure.
-    pub lenient: bool,
+fn subcommand_asked<'a>(
+    alloc: Global,
+    name: &str,
+    values: &ArgMatches<'a>,
+) -> Result<Option<Asked<'a>>, Error>
+    ensures { Reads (words_in name.now (rows_of (found_of values.now)))
+        (faults_in name.now (rows_of (found_of values.now))) result }
+{
+    match name {
+        "run" => run_asked(alloc, values),
+        "explain" => Ok(explain_asked(values)),
+        "check" => Ok(check_asked(values)),
+        "merge" => merge_asked(alloc, values),
+        "diff" => Ok(diff_asked(values)),
+        "show" => Ok(show_asked(values)),
+        _ => Ok(None),
+    }
 }

@@ -48,19 +48,19 @@ fn with_commands<'a>(alloc: Global, command: Built<'a>, stated: &[Subcommand<'a>
 {
     let mut command = command;
     for below in stated {
-        command = with_command(command, built(alloc, below));
+        command = with_command(command, command_of(alloc, below));
     }
     command
 }
 
-fn built<'a>(alloc: Global, stated: &Subcommand<'a>) -> Built<'a>
+fn command_of<'a>(alloc: Global, stated: &Subcommand<'a>) -> Built<'a>
     ensures { IsBuilt (app_stated stated.now) result }
 {
-    let command = named(alloc, stated.name, stated.about, stated.usage);
+    let command = bare_command(alloc, stated.name, stated.about, stated.usage);
     with_arguments(alloc, command, stated.arguments)
 }
 
-fn named<'a>(alloc: Global, name: &'a str, about: &'a str, usage: &'a str) -> Built<'a>
+fn bare_command<'a>(alloc: Global, name: &'a str, about: &'a str, usage: &'a str) -> Built<'a>
     ensures { IsBuilt (new_app name.entry.now) result }
 {
     Command::new(alloc, name).about(about).bin_name(usage)
@@ -71,7 +71,7 @@ pub fn run_command<'a>(alloc: Global) -> Result<Command<'a>, AllocError>
     ensures { IfOk result (λ command.
         (app_of command ≡ run_app) × ((out-Command command).has_globals ≡ false)) }
 {
-    built(alloc, &RUN)
+    command_of(alloc, &RUN)
 }
 
 /// The command `rvtest merge`, whose usage a refusal of its words shows.
@@ -79,5 +79,5 @@ pub fn merge_command<'a>(alloc: Global) -> Result<Command<'a>, AllocError>
     ensures { IfOk result (λ command.
         (app_of command ≡ merge_app) × ((out-Command command).has_globals ≡ false)) }
 {
-    built(alloc, &MERGE)
+    command_of(alloc, &MERGE)
 }

@@ -1,11 +1,12 @@
 //! Refusals of words in which `clap` finds no fault.
 
 ghost use Rattle.std.specs.Prelude.{◌≡◌, [], ◌∷◌, Some};
-ghost use Rattle.clap.specs.Words.{HasKind};
-ghost use Rattle.rv_cli.specs.RvtestWords.{kinds_of};
+ghost use Rattle.clap.specs.Words.{HasKind, found_of, rows_of};
+ghost use Rattle.rv_cli.specs.RvtestWords.{is_report, kinds_of, one_file};
 
+use crate::values::text;
 use clap::error::ErrorKind;
-use clap::{Command, Error};
+use clap::{ArgMatches, Command, Error};
 use std::alloc::AllocError;
 
 /// Options that do not go together.
@@ -53,6 +54,25 @@ impl Misuse {
                 "the argument '--report <FILE>' cannot be used with '--junit <FILE>' of the same name: it is one file"
             }
         }
+    }
+}
+
+/// A report and JUnit's XML may not go to one file.
+pub(crate) fn one_file(values: &ArgMatches<'_>) -> Option<Misuse>
+    ensures { result ≡ one_file (rows_of (found_of values.now)) }
+{
+    match text(values, "junit") {
+        Some(path) if is_report(values, path) => Some(Misuse::OneFile),
+        _ => None,
+    }
+}
+
+fn is_report(values: &ArgMatches<'_>, path: &str) -> bool
+    ensures { result ≡ is_report path.now (rows_of (found_of values.now)) }
+{
+    match text(values, "report") {
+        Some(report) => path == report,
+        None => false,
     }
 }
 

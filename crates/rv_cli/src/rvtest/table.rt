@@ -1,7 +1,8 @@
 //! The command line of `rvtest` as a table: its commands, each with its arguments and their help.
 
-use crate::rvtest::arguments::Argument;
+use crate::rvtest::arguments::{Argument, Bounds};
 use crate::rvtest::command::Subcommand;
+use rv_lists::limits::MOST_WORKERS;
 
 /// The commands of `rvtest`, in the order in which help names them.
 pub(crate) const COMMANDS: [Subcommand<'static>; 6] = [RUN, EXPLAIN, CHECK, MERGE, DIFF, SHOW];
@@ -36,8 +37,7 @@ pub(crate) const RUN: Subcommand<'static> = Subcommand {
         Argument::Number(
             "workers",
             "Threads, from 1 to 64; else one a processor",
-            1,
-            64,
+            WORKERS,
             &[],
         ),
         Argument::Group,
@@ -50,7 +50,7 @@ pub(crate) const RUN: Subcommand<'static> = Subcommand {
             "Shows the jobs that pass, too; not beside --quiet",
         ),
         Argument::Flag("quiet", "Shows the last line alone; not beside --verbose"),
-        Argument::Number("last", LAST, 0, 100_000, &[]),
+        Argument::Number("last", LAST, LAST_BOUNDS, &[]),
     ],
 };
 
@@ -61,7 +61,7 @@ const EXPLAIN: Subcommand<'static> = Subcommand {
     arguments: &[
         Argument::Word("list", "LIST", LIST),
         Argument::Word("name", "NAME", "Name of the job"),
-        Argument::Number("last", LAST, 0, 100_000, &["16"]),
+        Argument::Number("last", LAST, LAST_BOUNDS, &["16"]),
         Argument::Option("root", "DIR", ROOT),
     ],
 };
@@ -125,3 +125,13 @@ const JUNIT: &str = "Writes JUnit XML to this file; - is standard output";
 const LENIENT: &str = "Counts as failed only what misses an expectation";
 
 const LAST: &str = "Shows the last N instructions of a job, from 0 to 100000";
+
+const WORKERS: Bounds = Bounds {
+    least: 1,
+    most: MOST_WORKERS as i64,
+};
+
+const LAST_BOUNDS: Bounds = Bounds {
+    least: 0,
+    most: 100_000,
+};

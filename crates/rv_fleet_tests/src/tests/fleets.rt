@@ -5,7 +5,7 @@ ghost use Rattle.rv_fleet.specs.Choices.{AreWithin};
 
 use super::gate::NotingGate;
 use super::{chosen, crew_of, push_rows};
-use rv_fleet::{PlacesError, Rows, run_fleet, run_places};
+use rv_fleet::{Batch, Crew, PlacesError, Rows, run_fleet, run_places};
 use rv_jobs::Plan;
 use samples::cell_of;
 use std::alloc::Global;
@@ -53,7 +53,8 @@ fn ran<R: Threads + Wait>(
         let report = run_fleet(rt, alloc, plan, workers, group, gate)?;
         return Ok(report.rows);
     }
-    run_places(rt, alloc, plan, places, workers, group, gate)
+    let crew = Crew::new(rt, alloc, workers, group);
+    run_places(&crew, &Batch::new(plan, places), gate)
 }
 
 // The rows, or why there are none, and what the gate notes.

@@ -2,7 +2,7 @@
 ghost use Rattle.std.specs.Prelude.{None};
 
 use super::{chosen, crew_of, number_in};
-use rv_fleet::{Row, Rows, Sink, SinkFailed};
+use rv_fleet::{Batch, Crew, Row, Rows, Sink, SinkFailed};
 use rv_stream::{StreamError, Telling, stream_places};
 use samples::{agree, cell_of, has_lines};
 use std::alloc::{AllocError, Global};
@@ -156,8 +156,9 @@ fn told<R: Threads + Wait + Sync>(
     let asked = AtomicU64::new(0);
     let names = Names { asked: &asked };
     let out = NotingSink::new(alloc, most, fails_at, &asked);
-    let places = places.as_slice();
-    let (out, ran) = stream_places(rt, alloc, &plan, places, workers, group, &names, out);
+    let crew = Crew::new(rt, alloc, workers, group);
+    let batch = Batch::new(&plan, places.as_slice());
+    let (out, ran) = stream_places(&crew, &batch, &names, out);
     text_of(alloc, &out, &ran)
 }
 

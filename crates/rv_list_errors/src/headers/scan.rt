@@ -98,27 +98,37 @@ fn over_header(alloc: Global, text: &str) -> Result<Step<'_>, ParseError>
     requires { slice_index text.now 0 ≡ left_bracket }
     ensures { IfOk result (λ step. length step.rest.now < length text.now) }
 {
-    let is_array = byte_at(text, 1) == b'[';
-    let inside = skip(text, if is_array { 2 } else { 1 });
+    let (header, inside) = if byte_at(text, 1) == b'[' {
+        (Header::Element, skip(text, 2))
+    } else {
+        (Header::Table, skip(text, 1))
+    };
     let (is_job, rest) = behind_key(alloc, skip_ws(inside))?;
-    let rest = behind_closing(rest, is_array)?;
+    let rest = behind_closing(rest, header)?;
     Ok(Step {
-        is_job: is_array && is_job,
+        is_job: is_job && matches!(header, Header::Element),
         next: Next::Table,
         rest: behind_line(rest),
     })
 }
 
+// What a header begins.
+#[derive(Clone, Copy)]
+enum Header {
+    // A table, between single brackets.
+    Table,
+    // An element of an array of tables, between double brackets.
+    Element,
+}
+
 // The text behind the brackets that close a header.
-fn behind_closing(text: &str, is_array: bool) -> Result<&str, ParseError>
+fn behind_closing(text: &str, header: Header) -> Result<&str, ParseError>
     ensures { IfOk result (λ rest. length rest.now < length text.now) }
 {
-    if first(text) == b']' && !is_array {
-        Ok(skip(text, 1))
-    } else if first(text) == b']' && byte_at(text, 1) == b']' {
-        Ok(skip(text, 2))
-    } else {
-        Err(ParseError::at(ErrorKind::UnclosedTable, text))
+    match header {
+        Header::Table if first(text) == b']' => Ok(skip(text, 1)),
+        Header::Element if first(text) == b']' && byte_at(text, 1) == b']' => Ok(skip(text, 2)),
+        _ => Err(ParseError::at(ErrorKind::UnclosedTable, text)),
     }
 }
 

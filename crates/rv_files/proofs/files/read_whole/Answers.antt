@@ -1,5 +1,5 @@
 use Rattle.std.proofs.Common.{arith}
-use Rattle.rv_jobs.specs.Stores.{most_bytes}
+use Rattle.rv_base.specs.Limits.{most_bytes}
 use Rattle.rv_files.proofs.Incoming.{longer, whole}
 use Rattle.rv_files.proofs.files.read_whole.Goals as goal
 

@@ -1,11 +1,10 @@
 use Rattle.std.proofs.lemmas.List.Elements.{All-rest}
-use Rattle.rv_rows.specs.Rows.{rows_at}
 use Rattle.rv_fleet.specs.Collected.{IsPiece}
 use Rattle.rv_fleet.proofs.collect.keep_all.Goals as goal
 
 pub loop-piece-preserved : goal.loop-piece-preserved
 loop-piece-preserved c = (
   c.keep.ensures,
-  All-rest (IsPiece (rows_at c.args.plan.now c.args.places.now) c.args.group) _
+  All-rest (IsPiece c.args.pieces.now) _
       _ _ c.in-Some.ensures.steps.0 c.loop-piece.invariant.1,
 )

@@ -3,8 +3,7 @@ use Rattle.std.proofs.lemmas.Bool.{both_ways}
 use Rattle.rv_claims.specs.NewPieces.{Grew}
 use Rattle.rv_claims.specs.Passes.{SharedDraw, PassView}
 use Rattle.rv_claims.proofs.Public.{took_some, made_one, made_all, falls, grew_more}
-use Rattle.rv_rows.specs.Rows.{rows_at}
-use Rattle.rv_fleet.specs.Pieces.{piece_for}
+use Rattle.rv_fleet.specs.Pieces.{piece_in}
 use Rattle.rv_fleet.proofs.worker.work_on.Goals as goal
 
 pub loop-number-smaller : goal.loop-number-smaller
@@ -16,7 +15,7 @@ pub loop-number-preserved : goal.loop-number-preserved
 loop-number-preserved g c =
     let was = c.loop-number.invariant in
     let t = took_some _ _ _ _ c.in-Some.number (c.take.ensures.none, c.take.ensures.drawn) c.in-Some.is in
-    let m = made_one (piece_for (rows_at c.args.plan.now c.args.places.now) c.args.group) c.args.pass.now _ _ _ _ _ _ _
+    let m = made_one (piece_in c.args.pieces.now) c.args.pass.now _ _ _ _ _ _ _
     was.1 t.0 t.2 (ap (λ (d : SharedDraw). d.pieces) c.requires.pass) was.2 c.in_ok-push.ensures.items
     c.in_ok-made.ensures.piece in
     (ap (λ (h : PassView). h.draw) t.0 ∙ was.0, m.0, m.1, c.in_ok-made.ensures.recent)
@@ -25,7 +24,7 @@ pub returns-then-not-made-clause-pass : goal.returns-then-not-made-clause-pass
 returns-then-not-made-clause-pass g c =
     let was = c.loop-number.invariant in
     let t = took_some _ _ _ _ c.in-Some.number (c.take.ensures.none, c.take.ensures.drawn) c.in-Some.is in
-    (made_one (piece_for (rows_at c.args.plan.now c.args.places.now) c.args.group) c.args.pass.now _ _ _ _ _ _ _
+    (made_one (piece_in c.args.pieces.now) c.args.pass.now _ _ _ _ _ _ _
     was.1 t.0 t.2 (ap (λ (d : SharedDraw). d.pieces) c.requires.pass) was.2 c.in_ok-push.ensures.items
     c.in_ok-made.ensures.piece).0
 
@@ -33,7 +32,7 @@ pub returns-then-not-made-clause-made : goal.returns-then-not-made-clause-made
 returns-then-not-made-clause-made g c =
     let was = c.loop-number.invariant in
     let t = took_some _ _ _ _ c.in-Some.number (c.take.ensures.none, c.take.ensures.drawn) c.in-Some.is in
-    (made_one (piece_for (rows_at c.args.plan.now c.args.places.now) c.args.group) c.args.pass.now _ _ _ _ _ _ _
+    (made_one (piece_in c.args.pieces.now) c.args.pass.now _ _ _ _ _ _ _
     was.1 t.0 t.2 (ap (λ (d : SharedDraw). d.pieces) c.requires.pass) was.2 c.in_ok-push.ensures.items
     c.in_ok-made.ensures.piece).1
 
@@ -44,18 +43,18 @@ returns-in_err-push-clause-pass g c =
 
 pub returns-clause-pass : goal.returns-clause-pass
 returns-clause-pass g c =
-    (made_all (piece_for (rows_at c.args.plan.now c.args.places.now) c.args.group) c.args.pass.now _ _ _ _ _
+    (made_all (piece_in c.args.pieces.now) c.args.pass.now _ _ _ _ _
     c.loop-number.invariant.1 (c.take.ensures.none, c.take.ensures.drawn) c.in_default.is
     (ap (λ (d : SharedDraw). d.pieces) c.requires.pass) c.loop-number.invariant.2).0
 
 pub returns-clause-ended : goal.returns-clause-ended
 returns-clause-ended g c = λ no.
-    absurd (both_ways _ no (made_all (piece_for (rows_at c.args.plan.now c.args.places.now) c.args.group)
+    absurd (both_ways _ no (made_all (piece_in c.args.pieces.now)
     c.args.pass.now _ _ _ _ _ c.loop-number.invariant.1 (c.take.ensures.none, c.take.ensures.drawn) c.in_default.is
     (ap (λ (d : SharedDraw). d.pieces) c.requires.pass) c.loop-number.invariant.2).1)
 
 pub returns-clause-made : goal.returns-clause-made
 returns-clause-made g c =
-    (made_all (piece_for (rows_at c.args.plan.now c.args.places.now) c.args.group) c.args.pass.now _ _ _ _ _
+    (made_all (piece_in c.args.pieces.now) c.args.pass.now _ _ _ _ _
     c.loop-number.invariant.1 (c.take.ensures.none, c.take.ensures.drawn) c.in_default.is
     (ap (λ (d : SharedDraw). d.pieces) c.requires.pass) c.loop-number.invariant.2).2

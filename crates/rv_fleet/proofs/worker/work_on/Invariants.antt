@@ -2,15 +2,14 @@ use Rattle.std.proofs.Common.{◌≡◌, ◌-◌, map}
 use Rattle.rv_claims.specs.NewPieces.{Grew, new_pieces}
 use Rattle.rv_claims.proofs.Public.{above}
 use Rattle.rv_rows.specs.Recent.{AreOutcomes}
-use Rattle.rv_rows.specs.Rows.{rows_at}
-use Rattle.rv_fleet.specs.Pieces.{piece_for}
+use Rattle.rv_fleet.specs.Pieces.{piece_in}
 use Rattle.rv_fleet.proofs.worker.work_on.Given as goal
 
 abbrev pub invariant-loop-number : goal.invariant-loop-number
 invariant-loop-number g l =
     (l.pass.draw ≡ l.claims) × Grew l.initial.pass l.pass
-    × (l.pieces.items ≡ map (piece_for (rows_at l.plan l.places) l.group) (new_pieces l.initial.pass l.pass))
-    × AreOutcomes l.plan l.recent
+    × (l.drawn.items ≡ map (piece_in l.pieces) (new_pieces l.initial.pass l.pass))
+    × AreOutcomes l.pieces.batch.plan.now l.bench.recent
 
 abbrev pub decreases-loop-number : goal.decreases-loop-number
 decreases-loop-number g l = l.claims.pieces - above l.pass.draws

@@ -3,9 +3,9 @@ use Rattle.rv_job_text.proofs.segment_reason.push_outside.Goals as goal
 
 pub returns-then-is_file_inside : goal.returns-then-is_file_inside
 unfolding outside_text
-returns-then-is_file_inside c = rw c.if-is_file_inside.true c.push_range.ensures
+returns-then-is_file_inside c = rw (← c.is_file_inside-is_file_inside.ensures, c.if-is_file_inside.true) c.push_range.ensures
 
 pub returns-else-is_file_inside : goal.returns-else-is_file_inside
 unfolding outside_text
 returns-else-is_file_inside c =
-    rw (c.if-is_file_inside.false, ← c.load_address.ensures) c.push_range-else-is_file_inside.ensures
+    rw (← c.is_file_inside-is_file_inside.ensures, c.if-is_file_inside.false, ← c.load_address.ensures) c.push_range-else-is_file_inside.ensures

@@ -1,5 +1,6 @@
 use Rattle.std.proofs.Common.{◌++◌, ℕ, List, codes}
-use Rattle.rv_job_text.specs.UnmetLines.{comparison_of, unmet_line, unmet_text}
+use Rattle.rv_expect.specs.Comparisons.{sides_of}
+use Rattle.rv_job_text.specs.UnmetLines.{unmet_line, unmet_text}
 use Rattle.rv_text.proofs.Public.{ended, more}
 use Rattle.rv_job_text.proofs.unmet_line.push_unmet.Goals as goal
 
@@ -7,7 +8,7 @@ pub returns : goal.returns
 unfolding unmet_line
 returns c =
     let margin : List ℕ = codes "     expected " in
-    let text : List ℕ = unmet_text (comparison_of c.args.sides.now) c.args.unmet in
+    let text : List ℕ = unmet_text c.args.address (sides_of c.args.comparison.now) c.args.unmet in
     ended _ _ _ _ (margin ++ text) (codes "\n")
     (more _ _ _ margin text c.in_ok-push_text.ensures c.in_ok-push_expectation.ensures)
     c.push_text-2.ensures

@@ -2,54 +2,59 @@ use Rattle.std.proofs.Common.{◌≡◌, ◌∙◌, ◌++◌, ◌==◌, ℕ, ap,
 use Rattle.std.proofs.Common.{refl, sym}
 use Rattle.std.specs.Fmt.{decimal}
 use Rattle.std.specs.Prelude.{codes, not}
-use Rattle.rv_expect.specs.Ways.{ways}
+use Rattle.rv_expect.specs.declared.ways.Way.{Way}
+use Rattle.rv_expect.specs.Ways.{way_at, ways}
 use Rattle.rv_job_text.specs.LastLine.{failed_count, failures_below, opened, way_name}
 use Rattle.rv_job_text.proofs.Counts.{bracket-closed, bracket-none, failures_below-none, failures_below-some, is_begun, opened-more}
 use Rattle.rv_job_text.proofs.ways.push_bracket.Goals as goal
 use Rattle.rv_job_text.proofs.ways.push_bracket.Goals.{else-count-gt0, then-count-gt0+in_ok-push_failures}
 
-pub loop-way-init : goal.loop-way-init
+pub loop-place-init : goal.loop-place-init
 unfolding failures_below
-loop-way-init c = record { begun = refl; text = sym (append-nil c.args.bytes.now.items) }
+loop-place-init c = record { begun = refl; text = sym (append-nil c.args.bytes.now.items) }
 
-pub loop-way-preserved : goal.loop-way-preserved
-loop-way-preserved c =
-    let count : ℕ → ℕ = failed_count c.args.rule c.args.rows.now in
-    let way = c.loop-way.way in
-    let texts = failures_below count way in
-    let text = decimal (count way) ++ codes " " ++ way_name way in
+pub loop-place-preserved : goal.loop-place-preserved
+loop-place-preserved c =
+    let count : Way → ℕ = failed_count c.args.rule c.args.rows.now in
+    let place = c.loop-place.place in
+    let how = way_at place in
+    let texts = failures_below count place in
+    let text = decimal (count how) ++ codes " " ++ way_name how in
+    let counted = c.failed_count-count.ensures ∙ ap count c.at-way.ensures in
+    let named = ap way_name c.at-way.ensures in
     elim c.if-count-gt0.branch [
       | then-count-gt0+in_ok-push_failures w ↦
-          let more = failures_below-some count way (omega (arith, c.failed_count-count.ensures, w.if-count-gt0.true)) in
+          let more = failures_below-some count place (omega (arith, counted, w.if-count-gt0.true)) in
           record {
             begun = w.is_open-is ∙ is_begun texts text ∙ ap (λ xs. not (length xs == 0)) (sym more);
             text = rw w.bytes-is (cc (
               w.in_ok-push_failures.ensures,
-              c.failed_count-count.ensures,
+              counted,
+              named,
               more,
               opened-more texts text,
-              c.loop-way.invariant.text,
-              c.loop-way.invariant.begun,
+              c.loop-place.invariant.text,
+              c.loop-place.invariant.begun,
               append_assoc c.args.bytes.now.items (opened texts)
                   (cond (not (length texts == 0)) (codes ", ") (codes " (") ++ text),
             ));
           }
       | else-count-gt0 w ↦
-          let same = failures_below-none count way (omega (arith, c.failed_count-count.ensures, w.if-count-gt0.false)) in
+          let same = failures_below-none count place (omega (arith, counted, w.if-count-gt0.false)) in
           record {
-            begun = w.is_open-is ∙ c.loop-way.invariant.begun ∙ ap (λ xs. not (length xs == 0)) (sym same);
-            text = rw w.bytes-is (c.loop-way.invariant.text
+            begun = w.is_open-is ∙ c.loop-place.invariant.begun ∙ ap (λ xs. not (length xs == 0)) (sym same);
+            text = rw w.bytes-is (c.loop-place.invariant.text
                 ∙ ap (λ xs. c.args.bytes.now.items ++ opened xs) (sym same));
           }
     ]
 
 pub returns-in_ok-extend_from_slice : goal.returns-in_ok-extend_from_slice
 returns-in_ok-extend_from_slice c =
-    let all : c.loop-way.way ≡ ways = omega arith in
-    rw (← all) (bracket-closed _ _ _ _ _ c.loop-way.invariant.begun c.if-is_open.true c.loop-way.invariant.text
+    let all : c.loop-place.place ≡ ways = omega arith in
+    rw (← all) (bracket-closed _ _ _ _ _ c.loop-place.invariant.begun c.if-is_open.true c.loop-place.invariant.text
     c.in_ok-extend_from_slice.ensures.items)
 
 pub returns-else-is_open : goal.returns-else-is_open
 returns-else-is_open c =
-    let all : c.loop-way.way ≡ ways = omega arith in
-    rw (← all) (bracket-none _ _ _ _ c.loop-way.invariant.begun c.if-is_open.false c.loop-way.invariant.text)
+    let all : c.loop-place.place ≡ ways = omega arith in
+    rw (← all) (bracket-none _ _ _ _ c.loop-place.invariant.begun c.if-is_open.false c.loop-place.invariant.text)

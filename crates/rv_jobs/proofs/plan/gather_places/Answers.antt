@@ -2,7 +2,7 @@ use Rattle.std.proofs.Common.{◌∙◌, refl, ap, arith, length, sym, subst, ge
 use Rattle.std.specs.List.{fold}
 use Rattle.std.proofs.lemmas.List.{length-map}
 use Rattle.rv_jobs.specs.declared.answers.Answer.{Answer}
-use Rattle.rv_jobs.specs.declared.store.Kept.{Kept}
+use Rattle.rv_jobs.specs.declared.kept.Kept.{Kept}
 use Rattle.rv_jobs.specs.Placed.{AreNoted, AreFound}
 use Rattle.rv_jobs.specs.Plans.{paths_of, paths_used, needed_for, needed_at, with_job, AreKept, unreadables, more}
 use Rattle.rv_jobs.proofs.Answering.{start_kept, start_faults, parts_whole}

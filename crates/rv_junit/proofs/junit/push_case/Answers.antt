@@ -16,12 +16,12 @@ returns c =
     let old = string_bytes c.args.text.now in
     let mid = string_bytes c.push_problem_or_none.new.text in
     let new = string_bytes c.push_pieces-2.new.text in
-    let begin : List ℕ = codes "<testcase" ++ (attribute (codes "classname") c.args.class.now
+    let begin : List ℕ = codes "<testcase" ++ (attribute (codes "classname") c.args.suite.now.name.now
     ++ (attribute (codes "name") row.name ++ (codes ">\n" ++ []))) in
-    let problem : List ℕ = problem_or_none c.args.rule row c.args.lines.now in
+    let problem : List ℕ = problem_or_none c.args.suite.now.rule row c.args.lines.now in
     let last : List ℕ = codes "<system-out>" ++ (decimal row.steps ++ (codes " steps\n"
     ++ (escaped Element row.console ++ (codes "</system-out>\n</testcase>\n" ++ [])))) in
     told c.push_pieces-2.result old new ((begin ++ problem) ++ last) _
-    (case_whole c.args.class.now c.args.rule row c.args.lines.now)
+    (case_whole c.args.suite.now.name.now c.args.suite.now.rule row c.args.lines.now)
     (ended c.push_pieces-2.result old mid new (begin ++ problem) last
     (more old (string_bytes c.push_pieces.new.text) mid begin problem begun c.in_ok-push_problem_or_none.ensures) rest)

@@ -13,7 +13,7 @@ returns-clause-value c =
     c.in_ok-budget.budget (sym c.has_unknown_key.ensures ∙ c.if-has_unknown_key.false)
     (sym c.has_wrong_kind.ensures ∙ c.if-has_wrong_kind.false) c.in_ok-name.ensures fresh c.in_ok-image.ensures
     (sym c.budget_of.ensures ∙ c.in_ok-budget.was) in
-    subst (λ read. Gives c.described.result read) (sym same) c.described.ensures.value
+    subst (λ read. Gives c.described_job.result read) (sym same) c.described_job.ensures.value
 
 pub returns-then-has_wrong_kind-clause-value : goal.returns-then-has_wrong_kind-clause-value
 unfolding job_in

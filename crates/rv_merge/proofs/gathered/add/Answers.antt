@@ -2,7 +2,7 @@ use Rattle.std.proofs.Common.{◌∙◌, ◌+◌, ◌-◌, ◌<◌, ◌≤◌, �
 use Rattle.std.specs.Prelude.{slice_set, vec_len}
 use Rattle.std.proofs.lemmas.Bool.{false≢true}
 use Rattle.std.proofs.lemmas.Option.{same_Some}
-use Rattle.rv_rows.specs.declared.row.Row.{Row}
+use Rattle.rv_report.specs.declared.row.Row.{Row}
 use Rattle.rv_merge.specs.GatheredInside.{Holds, filled, report_of}
 use Rattle.rv_merge.specs.Parts.{bytes_of, text_at}
 use Rattle.rv_merge.proofs.Gathering.{are_two, has_other_run, holds_again, holds_more, number_within, read_none}

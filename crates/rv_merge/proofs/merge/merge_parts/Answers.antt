@@ -45,34 +45,34 @@ some_held texts b is no' =
     let some = some_there (length texts) (sym is ∙ no') in
     omega (arith, length-bytes_of texts)
 
-pub merged-requires : goal.merged-requires
-merged-requires c =
+pub rows_of_parts-requires : goal.rows_of_parts-requires
+rows_of_parts-requires c =
     let g = c.in_ok-gathered.gathered in
     sources_some (bytes_of c.args.texts.now) g.first g.sources.items g.slots.items
     (all_held c.args.texts.now g c.in_ok-gathered.ensures.holds)
     (some_held c.args.texts.now c.is_empty.result c.is_empty.ensures c.if-is_empty.false)
 
-found : (c : goal.After-merged) → IfOk c.merged.result (λ rows. AreParts rows (bytes_of c.args.texts.now))
+found : (c : goal.After-rows_of_parts) → IfOk c.rows_of_parts.result (λ rows. AreParts rows (bytes_of c.args.texts.now))
 found c =
     let g = c.in_ok-gathered.gathered in
     found_in (bytes_of c.args.texts.now) g.first g.sources.items g.slots.items
     (all_held c.args.texts.now g c.in_ok-gathered.ensures.holds)
-    (some_held c.args.texts.now c.is_empty.result c.is_empty.ensures c.if-is_empty.false) c.merged.result
-    c.merged.ensures.rows
+    (some_held c.args.texts.now c.is_empty.result c.is_empty.ensures c.if-is_empty.false) c.rows_of_parts.result
+    c.rows_of_parts.ensures.rows
 
-refused : (c : goal.After-merged) → IfErr c.merged.result (IsRefused (bytes_of c.args.texts.now))
+refused : (c : goal.After-rows_of_parts) → IfErr c.rows_of_parts.result (IsRefused (bytes_of c.args.texts.now))
 refused c =
     let g = c.in_ok-gathered.gathered in
     refused_in (bytes_of c.args.texts.now) g.first g.sources.items g.slots.items
     (all_held c.args.texts.now g c.in_ok-gathered.ensures.holds)
-    (some_held c.args.texts.now c.is_empty.result c.is_empty.ensures c.if-is_empty.false) c.merged.result
-    c.merged.ensures.err
+    (some_held c.args.texts.now c.is_empty.result c.is_empty.ensures c.if-is_empty.false) c.rows_of_parts.result
+    c.rows_of_parts.ensures.err
 
 pub returns-clause-found : goal.returns-clause-found
 returns-clause-found c = found c
 
 pub returns-clause-only : goal.returns-clause-only
-returns-clause-only c = gives (bytes_of c.args.texts.now) c.merged.result (found c) (refused c)
+returns-clause-only c = gives (bytes_of c.args.texts.now) c.rows_of_parts.result (found c) (refused c)
 
 pub returns-clause-err : goal.returns-clause-err
 returns-clause-err c = refused c

@@ -7,9 +7,9 @@ use Rattle.std.specs.Ordering.{nat_cmp}
 use Rattle.std.proofs.lemmas.List.{length-map, length-take-le}
 use Rattle.std.proofs.lemmas.Map.Text.{btree_map_updates_str}
 use Rattle.std.proofs.lemmas.Option.{slice_get_read}
-use Rattle.rv_lists.specs.JobList.{place_in}
+use Rattle.rv_jobs.specs.JobList.{place_in}
 use Rattle.rv_lists.proofs.Public.{places_more}
-use Rattle.rv_rows.specs.declared.row.Row.{Row}
+use Rattle.rv_report.specs.declared.row.Row.{Row}
 use Rattle.rv_report.specs.Saved.{are_new, names_of}
 use Rattle.rv_merge.proofs.Named.{fresh_end, fresh_later, names_on, nowhere}
 use Rattle.rv_merge.proofs.names.name_twice.Goals as goal

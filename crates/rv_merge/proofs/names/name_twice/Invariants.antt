@@ -2,7 +2,7 @@ use Rattle.std.proofs.Common.{◌≡◌, ℕ, List, [], take, drop}
 use Rattle.std.specs.BTreeMap.{get_by}
 use Rattle.std.specs.Cmp.Lexicographic.{slice_cmp}
 use Rattle.std.specs.Ordering.{nat_cmp}
-use Rattle.rv_lists.specs.JobList.{place_in}
+use Rattle.rv_jobs.specs.JobList.{place_in}
 use Rattle.rv_report.specs.Saved.{are_new, names_of}
 use Rattle.rv_merge.proofs.names.name_twice.Given as goal
 

@@ -1,6 +1,6 @@
 use Rattle.std.proofs.Common.{◌∙◌, ◌≤◌, ℕ, List, [], length, take, subst, sym, ap}
-use Rattle.rv_rows.specs.declared.row.Row.{Row}
-use Rattle.rv_lists.specs.Jobs.{most_jobs}
+use Rattle.rv_report.specs.declared.row.Row.{Row}
+use Rattle.rv_base.specs.Limits.{most_jobs}
 use Rattle.rv_report.specs.Said.{rising_count, new_count, fitting}
 use Rattle.rv_report.specs.Saved.{names_of}
 use Rattle.rv_report.specs.View.{view}

@@ -1,5 +1,5 @@
 use Rattle.std.proofs.Common.{◌≡◌, ◌+◌, ◌≤◌, drop}
-use Rattle.rv_lists.specs.Jobs.{most_jobs}
+use Rattle.rv_base.specs.Limits.{most_jobs}
 use Rattle.rv_report.specs.Saved.{are_stepped}
 use Rattle.rv_report.proofs.saved.are_stepped.Given as goal
 

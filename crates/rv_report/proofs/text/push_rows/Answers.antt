@@ -1,8 +1,8 @@
 use Rattle.std.proofs.Common.{◌∙◌, ◌++◌, ℕ, List, get_or, refl, sym, ap, arith, append-nil, append_assoc, ◌-◌}
 use Rattle.std.proofs.Common.{take, add-one}
 use Rattle.std.specs.Prelude.{string_bytes}
-use Rattle.rv_lists.specs.Jobs.{most_jobs}
-use Rattle.rv_rows.specs.Report.{row_text}
+use Rattle.rv_base.specs.Limits.{most_jobs}
+use Rattle.rv_report.specs.Report.{row_text}
 use Rattle.rv_report.specs.Saved.{numbered_text}
 use Rattle.rv_report.proofs.Loops.{numbered_more, above}
 use Rattle.rv_report.proofs.text.push_rows.Goals as goal

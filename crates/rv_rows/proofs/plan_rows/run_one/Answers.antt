@@ -1,6 +1,6 @@
 use Rattle.std.proofs.Common.{◌∙◌, [], ◌∷◌, ◌++◌, ap, sym, arith, map, take}
 use Rattle.std.proofs.lemmas.List.{map_more}
-use Rattle.rv_lists.specs.Jobs.{single_job}
+use Rattle.rv_jobs.specs.Jobs.{single_job}
 use Rattle.rv_rows.specs.Rows.{row_of}
 use Rattle.rv_rows.proofs.plan_rows.run_one.Goals as goal
 

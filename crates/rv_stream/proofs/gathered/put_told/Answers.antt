@@ -2,10 +2,10 @@ use Rattle.std.proofs.Common.{◌∙◌, ◌+◌, ◌++◌, List, drop, get_or, 
 use Rattle.std.proofs.lemmas.List.{take_all}
 use Rattle.std.proofs.lemmas.Result.{err_from_is_err_and}
 use Rattle.std.specs.List.{concat}
-use Rattle.rv_rows.proofs.Public.{beginning_of_longer, failed_under_way, more_under_way, nothing_under_way}
-use Rattle.rv_rows.proofs.Public.{stopped_under_way}
-use Rattle.rv_rows.specs.Sending.{IsUnderWay}
-use Rattle.rv_rows.specs.declared.row.Row.{Row}
+use Rattle.rv_base.proofs.Public.{beginning_of_longer, failed_under_way, more_under_way, nothing_under_way}
+use Rattle.rv_base.proofs.Public.{stopped_under_way}
+use Rattle.rv_rows.specs.Sinks.{IsUnderWay}
+use Rattle.rv_rows.specs.declared_row.Row.{Row}
 use Rattle.rv_stream.proofs.Tellings.{told_behind, told_none, told_rest}
 use Rattle.rv_stream.specs.Streams.{texts_of, told}
 use Rattle.rv_stream.proofs.gathered.put_told.Goals as goal
@@ -14,8 +14,8 @@ pub loop-i-init : goal.loop-i-init
 loop-i-init g c =
     let line = g.T.Telling.line c.args.telling.now in
     let text = c.args.text.now.items in
-    let places = c.args.places.now in
-    let rows = c.args.rows.now in
+    let places = c.args.placed.now.places.now in
+    let rows = c.args.placed.now.rows.now in
     record {
       under_way = nothing_under_way (g.W.Sink.taken c.args.out.now) text (text ++ told line places (take 0 rows))
           (told_none line text places rows);
@@ -27,8 +27,8 @@ returns-in_err-push-clause-part g c =
     let error = err_from_is_err_and c.from_residual.result c.from_residual.ensures.1 in
     let line = g.T.Telling.line c.args.telling.now in
     let text = c.args.text.now.items in
-    let places = c.args.places.now in
-    let rows = c.args.rows.now in
+    let places = c.args.placed.now.places.now in
+    let rows = c.args.placed.now.rows.now in
     let i = c.loop-i.i in
     rw error.1 (stopped_under_way (g.W.Sink.taken c.args.out.now) (g.W.Sink.taken c.loop-i.out) c.loop-i.text.items
     (text ++ told line places (take i rows)) (concat (drop i (texts_of line places rows)))
@@ -40,8 +40,8 @@ returns-in_err-put_if_enough-clause-part g c =
     c.from_residual-in_err-put_if_enough.ensures.1 in
     let line = g.T.Telling.line c.args.telling.now in
     let text = c.args.text.now.items in
-    let places = c.args.places.now in
-    let rows = c.args.rows.now in
+    let places = c.args.placed.now.places.now in
+    let rows = c.args.placed.now.rows.now in
     let i = c.loop-i.i in
     let row = c.index-rows-i.result in
     let before = g.W.Sink.taken c.args.out.now in
@@ -60,8 +60,8 @@ pub loop-i-preserved : goal.loop-i-preserved
 loop-i-preserved g c =
     let line = g.T.Telling.line c.args.telling.now in
     let text = c.args.text.now.items in
-    let places = c.args.places.now in
-    let rows = c.args.rows.now in
+    let places = c.args.placed.now.places.now in
+    let rows = c.args.placed.now.rows.now in
     let i = c.loop-i.i in
     let row = c.index-rows-i.result in
     record {
@@ -79,8 +79,8 @@ returns-clause-under_way g c =
     let line = g.T.Telling.line c.args.telling.now in
     let text = c.args.text.now.items in
     subst (λ (rows : List Row). IsUnderWay (g.W.Sink.taken c.args.out.now) (g.W.Sink.taken c.loop-i.out)
-    c.loop-i.text.items (text ++ told line c.args.places.now rows))
-    (take_all c.loop-i.i c.args.rows.now (omega arith)) c.loop-i.invariant.under_way
+    c.loop-i.text.items (text ++ told line c.args.placed.now.places.now rows))
+    (take_all c.loop-i.i c.args.placed.now.rows.now (omega arith)) c.loop-i.invariant.under_way
 
 pub bounds-rows-i : goal.bounds-rows-i
 bounds-rows-i g c = omega arith

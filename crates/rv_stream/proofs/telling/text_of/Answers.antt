@@ -8,16 +8,16 @@ use Rattle.rv_stream.proofs.telling.text_of.Goals as goal
 pub loop-i-init : goal.loop-i-init
 loop-i-init g c =
     c.new-text.ensures.items
-    ∙ sym (ap concat (texts_none (g.T.Telling.line c.args.telling.now) c.args.places.now))
+    ∙ sym (ap concat (texts_none (g.T.Telling.line c.args.telling.now) c.args.placed.now.places.now))
 
 pub loop-i-preserved : goal.loop-i-preserved
 loop-i-preserved g c =
-    told_on (g.T.Telling.line c.args.telling.now) c.args.places.now c.args.rows.now c.loop-i.i 0 c.index-rows-i.result
+    told_on (g.T.Telling.line c.args.telling.now) c.args.placed.now.places.now c.args.placed.now.rows.now c.loop-i.i 0 c.index-rows-i.result
     c.loop-i.text.items c.push.new.text.items (omega arith) (omega arith) c.index-rows-i.is c.loop-i.invariant
     c.in_ok-push.ensures
 
 pub returns : goal.returns
 returns g c =
     c.loop-i.invariant
-    ∙ ap (told (g.T.Telling.line c.args.telling.now) c.args.places.now)
-    (take_all c.loop-i.i c.args.rows.now (omega arith))
+    ∙ ap (told (g.T.Telling.line c.args.telling.now) c.args.placed.now.places.now)
+    (take_all c.loop-i.i c.args.placed.now.rows.now (omega arith))

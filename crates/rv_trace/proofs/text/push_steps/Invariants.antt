@@ -5,4 +5,4 @@ use Rattle.rv_trace.proofs.text.push_steps.Given as goal
 
 abbrev pub invariant-loop-step : goal.invariant-loop-step
 invariant-loop-step l = l.bytes.items
-    ≡ l.initial.bytes.items ++ flat_map (step_line l.image l.file) (take l.step-index l.steps)
+    ≡ l.initial.bytes.items ++ flat_map (step_line l.elf.image.now l.elf.bytes.now) (take l.step-index l.steps)

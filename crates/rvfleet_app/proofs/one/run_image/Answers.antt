@@ -8,7 +8,7 @@ pub returns-clause-reported : goal.returns-clause-reported
 returns-clause-reported g c =
     let plan = c.in_ok-plan in
     let list = c.in_ok-jobs.ensures in
-    jobs_reported c.send.result _ (one_jobs c.args.path.now c.args.budget c.args.script.items) plan.plan
+    jobs_reported c.send.result _ (one_jobs c.args.run.path.now c.args.run.budget c.args.run.script.items) plan.plan
     c.in_ok-report.report.rows _ _ (record {
       jobs = plan.ensures.jobs ∙ list;
       paths = plan.ensures.paths ∙ ap paths_used list;

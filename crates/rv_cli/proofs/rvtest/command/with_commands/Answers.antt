@@ -10,4 +10,4 @@ loop-below-preserved c =
     let one_more = fold_more with_stated app c.args.stated.now c.loop-below.below-index _
     c.loop-below-test.true in
     subst (λ new. HasApp new c.with_command-command.result) (sym one_more)
-    (c.with_command-command.ensures _ _ (c.loop-below.invariant app has) c.built.ensures)
+    (c.with_command-command.ensures _ _ (c.loop-below.invariant app has) c.command_of.ensures)

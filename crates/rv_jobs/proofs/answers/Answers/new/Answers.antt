@@ -1,6 +1,6 @@
 use Rattle.std.proofs.Common.{◌∙◌, ap, map, length, sym, List, ℕ}
 use denote.Ref.{Bor}
-use Rattle.rv_jobs.specs.declared.store.Kept.{Kept}
+use Rattle.rv_jobs.specs.declared.kept.Kept.{Kept}
 use Rattle.rv_lists.proofs.Public.{no_places}
 use Rattle.rv_jobs.proofs.answers.Answers.new.Goals as goal
 

@@ -1,6 +1,7 @@
 use Rattle.std.proofs.Common.{◌≡◌, ◌∙◌, sym, subst, None, List, length, ◌<◌}
 use Rattle.rv_lists.specs.declared.job.Job.{Job}
-use Rattle.rv_lists.specs.Jobs.{IsJob, most_jobs}
+use Rattle.rv_lists.specs.Jobs.{IsJob}
+use Rattle.rv_base.specs.Limits.{most_jobs}
 use Rattle.rv_lists.specs.JobList.{place_in, names_of}
 use Rattle.rv_lists.proofs.PlaceLemmas.{jobs_more, names_more}
 use Rattle.rv_lists.proofs.earlier_jobs.EarlierJobs.with.Goals as goal

@@ -1,0 +1,2 @@
+pub mod Outgoing
+pub mod Public

@@ -1,4 +1,0 @@
-use Rattle.rv_base.proofs.Sequence.as_slice.Goals as goal
-
-pub returns : goal.returns
-returns g c = rw (← c.self.view_is) c.deref.ensures.value

@@ -1,4 +1,0 @@
-use Rattle.rv_base.proofs.Sequence.into_vec.Goals as goal
-
-pub returns : goal.returns
-returns g c = c.self.view_is

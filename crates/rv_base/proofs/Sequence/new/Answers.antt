@@ -1,5 +1,0 @@
-use Rattle.std.proofs.Common.{refl}
-use Rattle.rv_base.proofs.Sequence.new.Goals as goal
-
-pub returns : goal.returns
-returns g c = refl

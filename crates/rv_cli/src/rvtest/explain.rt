@@ -1,0 +1,37 @@
+//! The words of `explain`.
+
+ghost use Rattle.clap.specs.Words.{found_of, rows_of};
+ghost use Rattle.rv_cli.specs.RvtestWords.{AsksFor, explain_in};
+
+use crate::rvtest::asked::Asked;
+use crate::values::{number, text};
+use clap::ArgMatches;
+
+/// The job whose end is to be explained.
+#[derive(Clone, Copy)]
+pub struct ExplainAsked<'a> {
+    /// Path of the job list.
+    pub list: &'a str,
+    /// The job's name.
+    pub name: &'a str,
+    /// How many of its last instructions are shown, up to 100,000.
+    pub last: u32,
+    /// The folder from which the paths in the list are taken.
+    pub root: Option<&'a str>,
+}
+
+/// What the values of `explain` ask for.
+pub(crate) fn explain_asked<'a>(values: &ArgMatches<'a>) -> Option<Asked<'a>>
+    ensures { AsksFor (explain_in (rows_of (found_of values.now))) result }
+{
+    let list = text(values, "list")?;
+    let name = text(values, "name")?;
+    let last = number(values, "last", 0, 100_000)?;
+    let root = text(values, "root");
+    Some(Asked::Explain(ExplainAsked {
+        list,
+        name,
+        last,
+        root,
+    }))
+}

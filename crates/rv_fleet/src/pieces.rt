@@ -1,0 +1,28 @@
+//! A batch in pieces.
+
+ghost use Rattle.rv_jobs.specs.Limits.{most_group, most_jobs};
+ghost use Rattle.std.specs.Prelude.{◌≡◌, ◌<◌, ◌≤◌};
+
+use crate::batch::Batch;
+
+/// The pieces of a batch: its jobs in groups, in order. The last piece may have fewer.
+#[derive(Clone, Copy)]
+pub(crate) struct Pieces<'a> {
+    pub(crate) batch: Batch<'a>,
+    /// How many jobs a piece has.
+    pub(crate) group: u32,
+    pub(crate) ghost group_few: { (0 < group) × (group ≤ most_group) },
+}
+
+impl<'a> Pieces<'a> {
+    ghost use Rattle.rv_fleet.specs.Pieces.{count_in};
+
+    /// How many there are.
+    #[tactic(auto, using(crate::proofs::Collects::rows_count))]
+    pub(crate) fn count(&self) -> u64
+        ensures value { result ≡ count_in self.now }
+        ensures few { result ≤ most_jobs }
+    {
+        self.batch.places.len().div_ceil(self.group as usize) as u64
+    }
+}

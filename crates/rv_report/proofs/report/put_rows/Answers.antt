@@ -1,0 +1,41 @@
+use Rattle.std.proofs.Common.{◌∙◌, refl, arith, add-one, suc}
+use Rattle.std.proofs.lemmas.Result.{err_from_is_err_and}
+use Rattle.rv_report.specs.Report.{row_text, rows_text}
+use Rattle.rv_base.proofs.Public.{beginning_of_longer, failed_under_way, more_under_way, nothing_under_way}
+use Rattle.rv_report.proofs.RowTexts.{rows_more}
+use Rattle.rv_report.proofs.RowTexts.{rows_split}
+use Rattle.rv_base.proofs.Public.{stopped_under_way}
+use Rattle.rv_report.proofs.report.put_rows.Goals as goal
+
+pub loop-place-init : goal.loop-place-init
+unfolding rows_text
+loop-place-init g c = record { under_way = nothing_under_way _ _ _ c.requires; counted = refl }
+
+pub returns-in_err-push_row-clause-part : goal.returns-in_err-push_row-clause-part
+returns-in_err-push_row-clause-part g c =
+    let error = err_from_is_err_and c.from_residual.result c.from_residual.ensures.1 in
+    rw error.1 (stopped_under_way _ _ _ _ _ _ c.loop-place.invariant.under_way
+    (rows_split 0 c.args.rows.now c.loop-place.place c.loop-place.place (omega arith)))
+
+pub returns-in_err-put_if_enough-clause-part : goal.returns-in_err-put_if_enough-clause-part
+returns-in_err-put_if_enough-clause-part g c =
+    let rows = c.args.rows.now in
+    let place = c.loop-place.place in
+    let error = err_from_is_err_and c.from_residual-in_err-put_if_enough.result
+    c.from_residual-in_err-put_if_enough.ensures.1 in
+    rw error.1 (beginning_of_longer _ _ _ _ _
+    (failed_under_way _ _ _ _ (row_text place c.index-rows-place.result) _ _ _ c.loop-place.invariant.under_way
+    c.in_ok-push_row.ensures c.in_err-put_if_enough.ensures.part
+    (rw (← c.index-rows-place.is) at
+    (rows_more 0 rows place place c.index-rows-place.result (omega arith) (omega arith))))
+    (rows_split 0 rows (suc place) (suc place) (omega arith)))
+
+pub loop-place-preserved : goal.loop-place-preserved
+loop-place-preserved g c =
+    let place = c.loop-place.place in record {
+      under_way = rw add-one (more_under_way _ _ _ _ (row_text place c.index-rows-place.result) _ _ _ _
+          c.loop-place.invariant.under_way c.in_ok-push_row.ensures c.in_ok-put_if_enough.ensures.under_way
+          (rw (← c.index-rows-place.is) at
+          (rows_more 0 c.args.rows.now place place c.index-rows-place.result (omega arith) (omega arith))));
+      counted = c.in_ok-put_if_enough.ensures.counted ∙ c.loop-place.invariant.counted;
+    }

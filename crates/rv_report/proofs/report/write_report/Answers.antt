@@ -1,0 +1,33 @@
+use Rattle.std.proofs.Common.{refl}
+use Rattle.std.proofs.lemmas.Result.{err_from_is_err_and}
+use Rattle.rv_report.specs.Report.{report_text}
+use Rattle.rv_base.proofs.Public.{beginning_of_longer, ended_under_way, failed_under_way, stopped_under_way}
+use Rattle.rv_report.proofs.report.write_report.Goals as goal
+
+pub returns-in_err-put_rows-clause-part : goal.returns-in_err-put_rows-clause-part
+unfolding report_text
+returns-in_err-put_rows-clause-part g c =
+    let error = err_from_is_err_and c.from_residual.result c.from_residual.ensures.1 in
+    rw (error.1, ← c.as_slice-rows.ensures) (beginning_of_longer _ _ _ _ _ c.in_err-put_rows.ensures.part refl)
+
+pub returns-in_err-push_done-clause-part : goal.returns-in_err-push_done-clause-part
+unfolding report_text
+returns-in_err-push_done-clause-part g c =
+    let error = err_from_is_err_and c.from_residual-in_err-push_done.result
+    c.from_residual-in_err-push_done.ensures.1 in
+    rw (error.1, ← c.as_slice-rows.ensures) (stopped_under_way _ _ _ _ _ _ c.in_ok-put_rows.ensures.under_way refl)
+
+pub returns-in_err-put_text-clause-part : goal.returns-in_err-put_text-clause-part
+unfolding report_text
+returns-in_err-put_text-clause-part g c =
+    let error = err_from_is_err_and c.from_residual-in_err-put_text.result c.from_residual-in_err-put_text.ensures.1 in
+    rw (error.1, ← c.as_slice-rows.ensures)
+    (failed_under_way _ _ _ _ _ _ _ _ c.in_ok-put_rows.ensures.under_way c.in_ok-push_done.ensures
+    c.in_err-put_text.ensures.part refl)
+
+pub returns-clause-appended : goal.returns-clause-appended
+unfolding report_text
+returns-clause-appended g c =
+    rw (← c.as_slice-rows.ensures)
+    (ended_under_way _ _ _ _ _ _ _ c.in_ok-put_rows.ensures.under_way c.in_ok-push_done.ensures
+    c.in_ok-put_text.ensures.appended)

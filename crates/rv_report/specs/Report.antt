@@ -1,0 +1,99 @@
+-- The text of a report: six parts a row, each of whole lines, and a last line.
+use Rattle.std.specs.Prelude.{◌==◌, if◌then◌else◌, ◌+◌, ℕ, List, [], ◌∷◌, ◌++◌, length, Option}
+use Rattle.std.specs.Prelude.{Some, None, codes, map}
+use Rattle.std.specs.List.{flat_map, find}
+use Rattle.std.specs.Str.{bytes_eq}
+use Rattle.std.specs.Fmt.{decimal}
+use Rattle.hex.specs.Hex.{encode_lower}
+use Rattle.rv_text.specs.Words.{word_digits}
+use Rattle.rv_elf.specs.ErrorNames.{image_error_name}
+use Rattle.rv_elf.specs.declared.error.ImageError.TheVariants as image
+use Rattle.rv_machine.specs.Faults.{fault_name}
+use Rattle.rv_report.specs.declared.row.Refusal.{Refusal}
+use Rattle.rv_report.specs.declared.row.Refusal.TheVariants as refusal
+use Rattle.rv_report.specs.declared.row.Row.{Row}
+use Rattle.rv_report.specs.declared.row.RowEnd.{RowEnd}
+use Rattle.rv_report.specs.declared.row.RowEnd.TheVariants as ending
+use Rattle.rv_report.specs.declared.row.Verdict.{Verdict}
+use Rattle.rv_report.specs.declared.row.Verdict.TheVariants as verdict
+
+-- a line ends with a line feed
+abbrev pub line : List ℕ → List ℕ
+line text = text ++ 10 ∷ []
+
+-- why there is no run; no row is refused out of memory, so that word of an image's errors never
+-- stands here
+abbrev pub refusal_name : Refusal → List ℕ
+refusal_name refusal.ImageUnreadable = codes "image-unreadable"
+refusal_name refusal.ImageTooLong = codes "image-too-long"
+refusal_name refusal.ReferenceUnreadable = codes "reference-unreadable"
+refusal_name refusal.ReferenceTooLong = codes "reference-too-long"
+refusal_name (refusal.Image why) = image_error_name why
+
+-- all that a row can have
+abbrev pub refusals : List Refusal
+refusals = refusal.ImageUnreadable ∷ refusal.ImageTooLong ∷ refusal.ReferenceUnreadable
+    ∷ refusal.ReferenceTooLong ∷ map refusal.Image (image.ShortHeader ∷ image.BadMagic
+    ∷ image.Not32Bit ∷ image.NotLittleEndian ∷ image.BadVersion ∷ image.NotExecutable
+    ∷ image.NotRiscv ∷ image.ProgramTable ∷ image.Dynamic ∷ image.SegmentSizes ∷ image.SegmentFile
+    ∷ image.NoSegment ∷ image.EntryOdd ∷ image.EntryAlign ∷ image.SegmentMap ∷ image.SegmentOverlap
+    ∷ image.SectionTable ∷ image.NoSymbols ∷ image.SymbolTable ∷ image.StringTable ∷ image.NoBegin
+    ∷ image.NoEnd ∷ image.SignatureRange ∷ [])
+
+-- the one of this name
+abbrev pub refusal_named : List ℕ → Option Refusal
+refusal_named name = find (λ r. bytes_eq name (refusal_name r)) refusals
+
+-- how the run ended
+unfoldable pub end_line : RowEnd → List ℕ
+end_line (ending.Exit code) = line (codes "end exit " ++ decimal code)
+end_line (ending.Fault kind pc value) =
+    line (codes "end fault " ++ fault_name kind
+    ++ codes " pc=" ++ word_digits pc ++ codes " value=" ++ word_digits value)
+end_line ending.Budget = line (codes "end budget")
+end_line (ending.Refused why) = line (codes "end refused " ++ refusal_name why)
+
+-- a dash stands for no text
+abbrev pub or_dash : List ℕ → List ℕ
+or_dash text = if length text == 0 then codes "-" else text
+
+-- the console's bytes as lower-case hexadecimal digits
+unfoldable pub console_line : List ℕ → List ℕ
+console_line bytes = line (codes "console " ++ or_dash (encode_lower bytes))
+
+-- a word of a signature on a line of its own
+abbrev pub word_line : ℕ → List ℕ
+word_line word = line (word_digits word)
+
+-- the count of the signature's words, and a line for each; or a dash where none was asked for
+unfoldable pub signature_lines : Option (List ℕ) → List ℕ
+signature_lines None = line (codes "signature -")
+signature_lines (Some words) = line (codes "signature " ++ decimal (length words))
+    ++ flat_map word_line words
+
+abbrev pub verdict_name : Verdict → List ℕ
+verdict_name verdict.Unasked = codes "none"
+verdict_name verdict.Pass = codes "pass"
+verdict_name verdict.Fail = codes "fail"
+
+-- the row at a place; places count from 0, and the printed number from 1
+unfoldable pub row_text : ℕ → Row → List ℕ
+row_text place row = line (codes "job " ++ decimal (place + 1) ++ codes " " ++ row.name)
+    ++ end_line row.ending
+    ++ line (codes "steps " ++ decimal row.steps)
+    ++ console_line row.console
+    ++ signature_lines row.signature
+    ++ line (codes "verdict " ++ verdict_name row.verdict)
+
+-- rows from a place on
+unfoldable pub rows_text : ℕ → List Row → List ℕ
+rows_text place [] = []
+rows_text place (row ∷ rows) = row_text place row ++ rows_text (place + 1) rows
+
+-- the last line says how many rows there were
+unfoldable pub done_line : ℕ → List ℕ
+done_line count = line (codes "done " ++ decimal count)
+
+-- the rows in order, and how many they are
+unfoldable pub report_text : List Row → List ℕ
+report_text rows = rows_text 0 rows ++ done_line (length rows)

@@ -1,0 +1,240 @@
+//! Reports, and their text, sent in few large puts.
+
+ghost use Rattle.std.specs.Prelude.{◌≡◌, ◌++◌, ◌+◌, ◌<◌, ◌^◌, ◌-◌, [], OnOk, OnErr, IfErr, map, option_map};
+ghost use Rattle.std.specs.Prelude.{string_bytes};
+ghost use Rattle.std.specs.Io.KnownBytes.{Appends};
+ghost use Rattle.rv_report.specs.Report.{verdict_name, end_line, or_dash, console_line};
+ghost use Rattle.rv_report.specs.Report.{signature_lines, row_text, rows_text, done_line, report_text};
+ghost use Rattle.rv_base.specs.Sinks.{AppendsBeginning, IsUnderWay};
+ghost use Rattle.rv_base.specs.Counts.{Rose};
+ghost use Rattle.rv_base.specs.Counts.{one_more};
+ghost use Rattle.rv_report.specs.declared.report.WriteError.TheVariants.{Failed, OutOfMemory};
+
+use crate::row::{Row, RowEnd, Verdict};
+use crate::signature_lines::{push_word, push_word_lines};
+use rv_base::{Sequence, Sink, SinkFailed, put_all};
+use std::alloc::{AllocError, Global};
+use thiserror::Error;
+
+/// Rows in list order, of which contracts see their list.
+pub type Rows = Sequence<Row>;
+
+/// The answer of a fleet: one row a job.
+#[derive(Debug, Drop)]
+pub struct Report {
+    pub rows: Rows,
+}
+
+/// Why a report didn't go out, or not all of it.
+#[derive(Clone, Copy, Debug, Error, PartialEq, Eq)]
+pub enum WriteError {
+    /// A growth was refused.
+    #[error("out of memory")]
+    OutOfMemory,
+    /// A put of the sink failed.
+    #[error("write failed")]
+    Failed,
+}
+
+impl From<AllocError> for WriteError {
+    ghost from_gives = { λ _ error. error ≡ OutOfMemory };
+
+    fn from(_: AllocError) -> WriteError {
+        WriteError::OutOfMemory
+    }
+}
+
+impl From<SinkFailed> for WriteError {
+    ghost from_gives = { λ _ error. error ≡ Failed };
+
+    fn from(_: SinkFailed) -> WriteError {
+        WriteError::Failed
+    }
+}
+
+// Gathered text is put once it has this many bytes.
+const ENOUGH: usize = 32_768;
+
+/// Appends the report's text to the sink, or a beginning of it.
+pub fn write_report<W: Sink>(alloc: Global, report: &Report, out: &mut W) -> Result<(), WriteError>
+    ensures appended { OnOk result
+        (Appends (W.taken out.old) (W.taken out.new) (report_text report.now.rows)) }
+    ensures counted { OnOk result (W.failed out.new ≡ W.failed out.old) }
+    ensures part { OnErr result
+        (AppendsBeginning (W.taken out.old) (W.taken out.new) (report_text report.now.rows)) }
+    ensures failed { IfErr result (λ error. error ≡ WriteError.Failed
+        → Rose (W.failed out.old) (W.failed out.new)) }
+{
+    let rows = report.rows.as_slice();
+    let mut text = String::new(alloc);
+    put_rows(alloc, rows, &mut text, out)?;
+    push_done(&mut text, rows.len())?;
+    put_text(&mut text, out)?;
+    Ok(())
+}
+
+// The rows' text: the first part of it goes out, the rest stands in `text`.
+fn put_rows<W: Sink>(
+    alloc: Global,
+    rows: &[Row],
+    text: &mut String,
+    out: &mut W,
+) -> Result<(), WriteError>
+    requires { string_bytes text.old ≡ [] }
+    ensures under_way { OnOk result
+        (IsUnderWay (W.taken out.old) (W.taken out.new)
+        (string_bytes text.new) (rows_text 0 rows.now)) }
+    ensures counted { OnOk result (W.failed out.new ≡ W.failed out.old) }
+    ensures part { OnErr result
+        (AppendsBeginning (W.taken out.old) (W.taken out.new) (rows_text 0 rows.now)) }
+    ensures failed { IfErr result
+        (λ error. error ≡ WriteError.Failed → W.failed out.new ≡ one_more (W.failed out.old)) }
+{
+    for (place, row) in rows.iter().enumerate() {
+        push_row(alloc, text, place, row)?;
+        put_if_enough(text, out)?;
+    }
+    Ok(())
+}
+
+/// Sends the gathered text where it is enough for a large put.
+pub(crate) fn put_if_enough<W: Sink>(text: &mut String, out: &mut W) -> Result<(), WriteError>
+    ensures under_way { OnOk result
+        (IsUnderWay (W.taken out.old) (W.taken out.new)
+        (string_bytes text.new) (string_bytes text.old)) }
+    ensures counted { OnOk result (W.failed out.new ≡ W.failed out.old) }
+    ensures part { OnErr result
+        (AppendsBeginning (W.taken out.old) (W.taken out.new) (string_bytes text.old)) }
+    ensures failed { IfErr result
+        (λ error. (error ≡ WriteError.Failed) × (W.failed out.new ≡ one_more (W.failed out.old))) }
+{
+    if text.len() < ENOUGH {
+        return Ok(());
+    }
+    put_text(text, out)
+}
+
+/// Puts the gathered text, and begins anew.
+pub(crate) fn put_text<W: Sink>(text: &mut String, out: &mut W) -> Result<(), WriteError>
+    ensures appended { OnOk result
+        (Appends (W.taken out.old) (W.taken out.new) (string_bytes text.old)) }
+    ensures anew { OnOk result (string_bytes text.new ≡ []) }
+    ensures counted { OnOk result (W.failed out.new ≡ W.failed out.old) }
+    ensures part { OnErr result
+        (AppendsBeginning (W.taken out.old) (W.taken out.new) (string_bytes text.old)) }
+    ensures failed { IfErr result
+        (λ error. (error ≡ WriteError.Failed) × (W.failed out.new ≡ one_more (W.failed out.old))) }
+{
+    put_all(out, text.as_bytes())?;
+    text.clear();
+    Ok(())
+}
+
+/// Appends the last line of a report of so many rows.
+#[tactic(auto, unfolding(crate::specs::Report::done_line))]
+pub(crate) fn push_done(text: &mut String, count: usize) -> Result<(), AllocError>
+    ensures { OnOk result (string_bytes text.new ≡ string_bytes text.old ++ done_line count) }
+{
+    write!(text, "done {count}\n")
+}
+
+/// Appends what a report says of the row at a place, counted from 0.
+#[tactic(auto, unfolding(crate::specs::Report::row_text))]
+pub(crate) fn push_row(
+    alloc: Global,
+    text: &mut String,
+    place: usize,
+    row: &Row,
+) -> Result<(), AllocError>
+    requires { place < 2 ^ 64 - 1 }
+    ensures { OnOk result (string_bytes text.new
+        ≡ string_bytes text.old ++ row_text place row.now) }
+{
+    let number = place + 1;
+    let name = row.name.as_str();
+    let steps = row.steps;
+    let verdict = verdict_text(row.verdict);
+    write!(text, "job {number} {name}\n")?;
+    push_end(alloc, text, row.ending)?;
+    write!(text, "steps {steps}\n")?;
+    push_console(alloc, text, row.console.as_slice())?;
+    push_signature(alloc, text, signature_of(row))?;
+    write!(text, "verdict {verdict}\n")
+}
+
+#[tactic(auto, unfolding(crate::specs::Report::end_line))]
+fn push_end(alloc: Global, text: &mut String, ending: RowEnd) -> Result<(), AllocError>
+    ensures { OnOk result (string_bytes text.new ≡ string_bytes text.old ++ end_line ending) }
+{
+    match ending {
+        RowEnd::Exit(code) => write!(text, "end exit {code}\n"),
+        RowEnd::Fault(kind, pc, value) => {
+            let name = kind.name();
+            write!(text, "end fault {name} pc=")?;
+            push_word(alloc, text, pc)?;
+            text.push_str(" value=")?;
+            push_word(alloc, text, value)?;
+            text.push_str("\n")
+        }
+        RowEnd::Budget => text.push_str("end budget\n"),
+        RowEnd::Refused(refusal) => {
+            let name = refusal.name();
+            write!(text, "end refused {name}\n")
+        }
+    }
+}
+
+#[tactic(auto, unfolding(crate::specs::Report::console_line))]
+fn push_console(alloc: Global, text: &mut String, console: &[u8]) -> Result<(), AllocError>
+    ensures { OnOk result (string_bytes text.new
+        ≡ string_bytes text.old ++ console_line console.now) }
+{
+    let digits = hex::encode(alloc, console)?;
+    let shown = dash_if_empty(digits.as_str());
+    write!(text, "console {shown}\n")
+}
+
+fn dash_if_empty(text: &str) -> &str
+    ensures { result.now ≡ or_dash text.now }
+{
+    if text.is_empty() { "-" } else { text }
+}
+
+fn signature_of(row: &Row) -> Option<&[u32]>
+    ensures { option_map (λ words. words.now) result ≡ row.now.signature }
+{
+    match &row.signature {
+        Some(words) => Some(words.as_slice()),
+        None => None,
+    }
+}
+
+#[tactic(auto, unfolding(crate::specs::Report::signature_lines))]
+fn push_signature(
+    alloc: Global,
+    text: &mut String,
+    signature: Option<&[u32]>,
+) -> Result<(), AllocError>
+    ensures { OnOk result
+        (string_bytes text.new ≡ string_bytes text.old ++ signature_lines
+        (option_map (λ words. words.now) signature.entry)) }
+{
+    match signature {
+        Some(words) => {
+            let count = words.len();
+            write!(text, "signature {count}\n")?;
+            push_word_lines(alloc, text, words)
+        }
+        None => text.push_str("signature -\n"),
+    }
+}
+
+fn verdict_text(verdict: Verdict) -> &'static str
+    ensures { result.now ≡ verdict_name verdict }
+{
+    match verdict {
+        Verdict::Unasked => "none",
+        Verdict::Pass => "pass",
+        Verdict::Fail => "fail",
+    }
+}

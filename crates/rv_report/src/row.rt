@@ -1,0 +1,133 @@
+//! A row: what a report says of one job.
+
+ghost use Rattle.std.specs.Prelude.{◌≡◌, option_map};
+ghost use Rattle.std.specs.List.{find};
+ghost use Rattle.std.specs.Str.{bytes_eq};
+ghost use Rattle.rv_report.specs.Report.{refusal_name, refusal_named};
+
+use rv_base::{Bytes, Sequence, Text};
+use rv_elf::ImageError;
+use rv_machine::FaultKind;
+
+/// Words of 32 bits, of which contracts see their list.
+pub type Words = Sequence<u32>;
+
+/// Why a job didn't run.
+#[derive(Clone, Copy, Debug, PartialEq, Eq)]
+pub enum Refusal {
+    /// The image's file wasn't read.
+    ImageUnreadable,
+    /// A flat image has more bytes than its place in memory, or the image's file more than
+    /// 16,777,216.
+    ImageTooLong,
+    /// The file of the reference wasn't read.
+    ReferenceUnreadable,
+    /// The file of the reference has more than 16,777,216 bytes.
+    ReferenceTooLong,
+    /// The file is no image, the image doesn't fit the map, or there is no signature as it is asked for. No row has
+    /// OutOfMemory here.
+    Image(ImageError),
+}
+
+// All that a row can have.
+const REFUSALS: [Refusal; 27] = [
+    Refusal::ImageUnreadable,
+    Refusal::ImageTooLong,
+    Refusal::ReferenceUnreadable,
+    Refusal::ReferenceTooLong,
+    Refusal::Image(ImageError::ShortHeader),
+    Refusal::Image(ImageError::BadMagic),
+    Refusal::Image(ImageError::Not32Bit),
+    Refusal::Image(ImageError::NotLittleEndian),
+    Refusal::Image(ImageError::BadVersion),
+    Refusal::Image(ImageError::NotExecutable),
+    Refusal::Image(ImageError::NotRiscv),
+    Refusal::Image(ImageError::ProgramTable),
+    Refusal::Image(ImageError::Dynamic),
+    Refusal::Image(ImageError::SegmentSizes),
+    Refusal::Image(ImageError::SegmentFile),
+    Refusal::Image(ImageError::NoSegment),
+    Refusal::Image(ImageError::EntryOdd),
+    Refusal::Image(ImageError::EntryAlign),
+    Refusal::Image(ImageError::SegmentMap),
+    Refusal::Image(ImageError::SegmentOverlap),
+    Refusal::Image(ImageError::SectionTable),
+    Refusal::Image(ImageError::NoSymbols),
+    Refusal::Image(ImageError::SymbolTable),
+    Refusal::Image(ImageError::StringTable),
+    Refusal::Image(ImageError::NoBegin),
+    Refusal::Image(ImageError::NoEnd),
+    Refusal::Image(ImageError::SignatureRange),
+];
+
+impl Refusal {
+    /// The refusal of a name, as [`name`](Refusal::name) gives it; its bytes need not be UTF-8.
+    pub fn named(name: &[u8]) -> Option<Refusal>
+        ensures { result ≡ refusal_named name.now }
+    {
+        match find_named(&REFUSALS, name) {
+            Some(refusal) => Some(*refusal),
+            None => None,
+        }
+    }
+
+    /// The word for it in a report.
+    pub fn name(self) -> &'static str
+        ensures { result.now ≡ refusal_name self }
+    {
+        match self {
+            Refusal::ImageUnreadable => "image-unreadable",
+            Refusal::ImageTooLong => "image-too-long",
+            Refusal::ReferenceUnreadable => "reference-unreadable",
+            Refusal::ReferenceTooLong => "reference-too-long",
+            Refusal::Image(error) => error.name(),
+        }
+    }
+}
+
+fn find_named<'a>(refusals: &'a [Refusal], name: &[u8]) -> Option<&'a Refusal>
+    ensures { option_map (λ refusal. refusal.now) result
+        ≡ find (λ refusal. bytes_eq name.now (refusal_name refusal)) refusals.now }
+{
+    refusals
+        .iter()
+        .find(|refusal| name == refusal.name().as_bytes())
+}
+
+/// How the run of a job ended.
+#[derive(Clone, Copy, Debug, PartialEq, Eq)]
+pub enum RowEnd {
+    /// The exit call, with its code.
+    Exit(u32),
+    /// A fault, with the address of its instruction and its value.
+    Fault(FaultKind, u32, u32),
+    /// The budget is used up.
+    Budget,
+    /// The job didn't run.
+    Refused(Refusal),
+}
+
+/// Whether a job met what its list expects of it.
+#[derive(Clone, Copy, Debug, PartialEq, Eq)]
+pub enum Verdict {
+    /// Nothing is expected.
+    Unasked,
+    /// All that is expected holds.
+    Pass,
+    /// Something that is expected doesn't hold.
+    Fail,
+}
+
+/// One job's part of a report. A refused row has 0 steps, no console bytes and no signature.
+#[derive(Debug, Drop)]
+pub struct Row {
+    pub name: Text,
+    pub ending: RowEnd,
+    /// Completed instructions; the one that ended the run isn't counted.
+    pub steps: u32,
+    /// What the run wrote to the console.
+    pub console: Bytes,
+    /// The words between the two symbols of the signature, where one is asked for.
+    pub signature: Option<Words>,
+    pub verdict: Verdict,
+}

@@ -1,3 +1,0 @@
--- What other crates may cite of the proofs of this one.
-pub use Rattle.rv_rows.proofs.Outgoing.{beginning_of_longer, ended_under_way, failed_under_way, more_under_way}
-pub use Rattle.rv_rows.proofs.Outgoing.{nothing_under_way, rows_more, stopped_under_way}

@@ -1,0 +1,36 @@
+//! An image that was read, beside the bytes of its file.
+
+ghost use Rattle.std.specs.Prelude.{◌≡◌, Ok, option_map};
+ghost use Rattle.rv_elf.specs.Image.{image_of};
+ghost use Rattle.rv_elf.specs.Nearest.{symbol_at, symbol_of_value};
+
+use rv_elf::{Image, SymbolAt};
+use rv_isa::Isa;
+
+/// The bytes of an executable file, and the image that they were read as.
+#[derive(Clone, Copy)]
+pub struct ElfFile<'a> {
+    /// The set of instructions that the file was read for.
+    pub isa: Isa,
+    pub image: &'a Image,
+    pub bytes: &'a [u8],
+    pub ghost read: { image_of isa bytes.now ≡ Ok image.now },
+}
+
+impl<'a> ElfFile<'a> {
+    /// The symbol that an address of code belongs to.
+    pub(crate) fn symbol_at(&self, address: u32) -> Option<SymbolAt<'a>>
+        ensures { option_map (λ s. (s.name.now, s.offset)) result
+            ≡ symbol_at self.now.image.now self.now.bytes.now address }
+    {
+        rv_elf::symbol_at(self.image, self.bytes, address)
+    }
+
+    /// The symbol that a value is the address of, or points into.
+    pub(crate) fn symbol_of_value(&self, value: u32) -> Option<SymbolAt<'a>>
+        ensures { option_map (λ s. (s.name.now, s.offset)) result
+            ≡ symbol_of_value self.now.image.now self.now.bytes.now value }
+    {
+        rv_elf::symbol_of_value(self.image, self.bytes, value)
+    }
+}

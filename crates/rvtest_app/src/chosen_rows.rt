@@ -1,0 +1,21 @@
+//! The rows of chosen jobs.
+
+ghost use Rattle.std.specs.Prelude.{◌≡◌, ◌<◌, ◌≤◌, length};
+ghost use Rattle.std.specs.List.{All};
+ghost use Rattle.std.specs.List.Sorted.{IsStrictlyIncreasing};
+ghost use Rattle.rv_lists.specs.Limits.{most_jobs};
+
+use rv_fleet::Rows;
+
+/// The rows of the jobs at some places of a list.
+#[derive(Drop)]
+pub(crate) struct ChosenRows<'a> {
+    /// How many jobs the list has.
+    pub(crate) jobs: usize,
+    pub(crate) places: &'a [usize],
+    pub(crate) rows: Rows,
+    ghost few: { jobs ≤ most_jobs },
+    ghost within: { All (λ place. place < jobs) places.now },
+    ghost rising: { IsStrictlyIncreasing places.now },
+    ghost counted: { length rows ≡ length places.now },
+}
