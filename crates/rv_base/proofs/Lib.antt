@@ -1,2 +1,3 @@
 pub mod Outgoing
 pub mod Public
+pub mod Places

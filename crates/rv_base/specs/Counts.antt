@@ -6,5 +6,5 @@ abbrev pub one_more : ℕ → ℕ
 one_more n = min (n + 1) (2 ^ 64 - 1)
 
 -- the count rose by one or more; at its greatest it passes as risen
-abbrev pub Rose : ℕ → ℕ → Type 0
-Rose old new = one_more old ≤ new
+abbrev pub HasRisen : ℕ → ℕ → Type 0
+HasRisen old new = one_more old ≤ new

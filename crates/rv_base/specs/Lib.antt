@@ -1,4 +1,5 @@
 pub mod Limits
+pub mod Names
 pub mod Counts
 pub mod Files
 pub mod Sinks

@@ -1,5 +1,9 @@
 -- The limits of job lists and of files.
-use Rattle.std.specs.Prelude.{ℕ}
+use Rattle.std.specs.Prelude.{ℕ, Bool, ◌&&◌, nat_le}
+
+-- a number from one to another, both among them
+abbrev pub is_within : ℕ → ℕ → ℕ → Bool
+is_within low high n = nat_le low n && nat_le n high
 
 -- the most jobs of a list
 abbrev pub most_jobs : ℕ

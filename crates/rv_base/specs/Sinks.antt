@@ -10,7 +10,7 @@ pub record AppendsBeginning (old new : Option (List ℕ)) (text : List ℕ) : Ty
   pub appended : Appends old new part
 
 -- the first part of the text went out, and the second is gathered
-pub record IsUnderWay (old new : Option (List ℕ)) (gathered text : List ℕ) : Type 0 where
+pub record IsPartlySent (old new : Option (List ℕ)) (gathered text : List ℕ) : Type 0 where
   pub sent : List ℕ
   pub appended : Appends old new sent
   pub whole : text ≡ sent ++ gathered

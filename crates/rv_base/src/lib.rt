@@ -7,11 +7,13 @@
 #![tactic(auto)]
 
 pub mod limits;
+mod names;
 mod sequence;
 mod sink;
 mod store;
 mod text;
 
+pub use names::is_name;
 pub use sequence::Sequence;
 pub use sink::{Sink, SinkFailed, put_all};
 pub use store::{ReadError, Store};

@@ -12,9 +12,9 @@ use Rattle.atomic_table.specs.Table.{State, step, keeps, stepped, opening, Allow
 use Rattle.atomic_table.proofs.Lists.{at_set, set_again}
 use Rattle.rv_claims.specs.declared.view.Entry.{Entry}
 use Rattle.rv_claims.specs.declared.view.View.{View}
-use Rattle.rv_claims.specs.Draws.{total, times, IsIn, Within, IsHistory, past_count, entry, count_of, numbers, Same}
+use Rattle.rv_claims.specs.Draws.{total, times, IsIn, Within, IsHistory, past_count, entry, entry_count, numbers, Same}
 use Rattle.rv_claims.specs.Draws.{view, first_view, new_seat_view, note_of, joined_view, empty_view, Fits, Runs}
-use Rattle.rv_claims.specs.Draws.{Sitting, first_of, Drew, Sat, Looked}
+use Rattle.rv_claims.specs.Draws.{Sitting, first_place_of, Drew, Sat, Looked}
 use Rattle.rv_claims.proofs.Sums.{snoc_at, at_lt, in_append, in_left, in_right, in_one, in_none, total-append}
 use Rattle.rv_claims.proofs.Sums.{total-set, term_le, terms_le, some_term, only_term, total_le, total-map, places_few}
 use Rattle.rv_claims.proofs.Sums.{past_no, past_le, history_past, history-snoc, counted_in, weighs_same, views_weigh}
@@ -34,7 +34,7 @@ in_history pieces s r i v at e here =
       arith,
       one_for-same e,
       term_le (one_for e) v.draws here.0 e here.1,
-      term_le (λ (u : View). count_of e u.draws) s.views i v at,
+      term_le (λ (u : View). entry_count e u.draws) s.views i v at,
       r.held e,
     ))
 
@@ -115,7 +115,7 @@ pub draws : (pieces slots id : ℕ) (m : Sitting) → pieces ≤ 4096 → past_c
 draws pieces slots id m most going sits s r _ at small =
     let v = m.0 in
     let n : ℕ = get_or s.words 0 0 in
-    let e = entry (first_of v.places) n in
+    let e = entry (first_place_of v.places) n in
     let w = view v.pieces v.places (v.draws ++ e ∷ []) v.noted in
     let fits = r.each id v at in
     let long : length r.history ≡ n = sym r.drawn in
@@ -137,7 +137,7 @@ draws pieces slots id m most going sits s r _ at small =
         );
         held = λ x. omega (
           arith,
-          total-set (λ (u : View). count_of x u.draws) s.views id v w at,
+          total-set (λ (u : View). entry_count x u.draws) s.views id v w at,
           total-append (one_for x) v.draws (e ∷ []),
           total-append (one_for x) r.history (e ∷ []),
           r.held x,
@@ -170,7 +170,7 @@ draws pieces slots id m most going sits s r _ at small =
       },
     )
   where
-    first_in : (ps : List ℕ) → 0 < length ps → IsIn (first_of ps) ps
+    first_in : (ps : List ℕ) → 0 < length ps → IsIn (first_place_of ps) ps
     first_in [] h = absurd (omega arith)
     first_in (p ∷ ps) h = (0, refl)
 
@@ -233,7 +233,7 @@ sits pieces slots id m p k low is s r _ at small =
         numbered = r.numbered;
         wide = length-set s.words k 1 ∙ r.wide;
         drawn = get_or-set_other s.words k 0 1 0 (λ z. omega arith) ∙ r.drawn;
-        held = λ x. omega (arith, total-set (λ (u : View). count_of x u.draws) s.views id v w at, r.held x);
+        held = λ x. omega (arith, total-set (λ (u : View). entry_count x u.draws) s.views id v w at, r.held x);
         seated = λ q h. dite (ℕ_discrete (k - 1) q)
             (λ e. let here : get_or (set s.words k 1) (q + 1) 0 ≡ 1 =
             ap (λ (i : ℕ). get_or (set s.words k 1) i 0) (omega arith)
@@ -297,8 +297,8 @@ splits pieces id v w no_place no_draw notes s r at =
       drawn = r.drawn;
       held = λ x. omega (
         arith,
-        total-append (λ (u : View). count_of x u.draws) s.views (w ∷ []),
-        ap (count_of x) no_draw,
+        total-append (λ (u : View). entry_count x u.draws) s.views (w ∷ []),
+        ap (entry_count x) no_draw,
         r.held x,
       );
       seated = λ p h. omega (
@@ -343,7 +343,7 @@ joins pieces id v other w s r at apart there =
       numbered = r.numbered;
       wide = r.wide;
       drawn = r.drawn;
-      held = λ x. moved (λ (u : View). count_of x u.draws) (total-append (one_for x) v.draws w.draws) refl
+      held = λ x. moved (λ (u : View). entry_count x u.draws) (total-append (one_for x) v.draws w.draws) refl
           ∙ r.held x;
       seated = λ p h. moved (λ (u : View). times p u.places) (total-append (one_at p) v.places w.places) refl
           ∙ r.seated p h;
@@ -383,7 +383,7 @@ times_in p ps i = omega (arith, term_le (one_at p) ps i.0 p i.1, one_at-same p)
 pub whole : (pieces : ℕ) (s : St) (r : Runs pieces s) (id : ℕ) (v : View) → get_elem? s.views id ≡ some v
     → ((p : ℕ) → p < 64 → get_or s.words (p + 1) 0 ≡ 1 → IsIn p v.places) → Same v.draws r.history
 whole pieces s r id v at all x =
-    let empty : (k : ℕ) (u : View) → k ≢ id → get_elem? s.views k ≡ some u → count_of x u.draws ≡ 0 =
+    let empty : (k : ℕ) (u : View) → k ≢ id → get_elem? s.views k ≡ some u → entry_count x u.draws ≡ 0 =
     λ k u ne there.
     let fu = r.each k u there in
     let none_here : (p : ℕ) → IsIn p u.places → ⊥ = λ p i.
@@ -404,8 +404,8 @@ whole pieces s r id v at all x =
       r.seated p low,
       r.single p low,
     ) in
-    ap (count_of x) (no_draws u.draws (λ e i. none_here e.place (fu.own e i))) in
-    sym (only_term (λ (u : View). count_of x u.draws) s.views id v at empty) ∙ r.held x
+    ap (entry_count x) (no_draws u.draws (λ e i. none_here e.place (fu.own e i))) in
+    sym (only_term (λ (u : View). entry_count x u.draws) s.views id v at empty) ∙ r.held x
 
 at_history : (h : List Entry) → IsHistory h → (x : ℕ) → x < length h
     → total (λ (e : Entry). one_at x e.number) h ≡ 1

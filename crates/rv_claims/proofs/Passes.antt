@@ -17,7 +17,7 @@ use Rattle.std.specs.Prelude.{Option}
 use Rattle.atomic_table.specs.Seated.{TableId}
 use Rattle.atomic_table.specs.Table.{Step, opening, Final, Seen}
 use Rattle.rv_claims.specs.declared.view.Entry.{Entry}
-use Rattle.rv_claims.specs.Draws.{times, joined_view, IsIn, IsHistory, Within, past_count, entry, numbers, first_of}
+use Rattle.rv_claims.specs.Draws.{times, joined_view, IsIn, IsHistory, Within, past_count, entry, numbers, first_place_of}
 use Rattle.rv_claims.specs.Draws.{view, Sitting, Drew, Sat, first_view, Runs}
 use Rattle.rv_claims.specs.Passes.{pass_of, with_draw, piece_of, IsPass, pass_view, opening_row, AreAll}
 use Rattle.rv_claims.proofs.Keeps.{opens, whole, each_once}
@@ -27,16 +27,16 @@ use Rattle.rv_claims.proofs.Sums.{one_at-same, one_past, past_yes, past_no}
 pub none_past : (n : ℕ) → nat_lt 0 n ≡ false → n ≡ 0
 none_past n e = dite (dec_lt 0 n) (λ y. absurd (true≢false (sym (lt-ltb 0 n y) ∙ e))) (λ no. omega arith)
 
-pub first_in : (ps : List ℕ) → 0 < length ps → IsIn (first_of ps) ps
+pub first_in : (ps : List ℕ) → 0 < length ps → IsIn (first_place_of ps) ps
 first_in [] h = absurd (omega arith)
 first_in (p ∷ ps) h = (0, refl)
 
 -- the places of a pass that drew are as they were
 pub drew_pass : {st : Step (Unit {0})} (m m' : Sitting) (n bits : ℕ) (ended now : Bool) → IsPass m bits ended
-    → Drew st m n m' → now ≡ nat_lt 0 (past_count m.0.pieces (m.0.draws ++ entry (first_of m.0.places) n ∷ []))
+    → Drew st m n m' → now ≡ nat_lt 0 (past_count m.0.pieces (m.0.draws ++ entry (first_place_of m.0.places) n ∷ []))
     → IsPass m' bits now
 drew_pass m m' n bits ended now p d stop =
-    let e = entry (first_of m.0.places) n in
+    let e = entry (first_place_of m.0.places) n in
     let w = view m.0.pieces m.0.places (m.0.draws ++ e ∷ []) m.0.noted in
     let is : m' ≡ (w, m.1) = λ i. (d.drawn i, d.slots i) in
     subst (λ (x : Sitting). IsPass x bits now) (sym is) (record {

@@ -9,14 +9,14 @@ use lib.ListN.{get_elem?}
 use Rattle.atomic_table.proofs.Lists.{at_longer}
 use Rattle.rv_claims.specs.declared.view.Entry.{Entry}
 use Rattle.rv_claims.specs.declared.view.View.{View}
-use Rattle.rv_claims.specs.Draws.{total, times, IsIn, IsHistory, is_past, past_count, is_entry, count_of, Same}
+use Rattle.rv_claims.specs.Draws.{total, times, IsIn, IsHistory, is_past_last_piece, past_count, is_entry, entry_count, Same}
 
 -- what an item counts for in each of the counts
 abbrev pub one_at : ℕ → ℕ → ℕ
 one_at n k = cond (eqb k n) 1 0
 
 abbrev pub one_past : ℕ → Entry → ℕ
-one_past pieces e = cond (is_past pieces e) 1 0
+one_past pieces e = cond (is_past_last_piece pieces e) 1 0
 
 abbrev pub one_for : Entry → Entry → ℕ
 one_for e x = cond (is_entry e x) 1 0
@@ -227,7 +227,7 @@ is_same e x h = dite (ℕ_discrete x.place e.place)
     (λ ne. let z = one_for-other_place e x ne in absurd (omega arith))
 
 -- an entry that is counted stands in the list
-pub counted_in : (e : Entry) (l : List Entry) → 0 < count_of e l → IsIn e l
+pub counted_in : (e : Entry) (l : List Entry) → 0 < entry_count e l → IsIn e l
 counted_in e l h =
     let t = some_term (one_for e) l h in
     (t.0, subst (λ (y : Entry). get_elem? l t.0 ≡ some y) (is_same e t.1 t.3) t.2)
@@ -240,7 +240,7 @@ weighs_same f (x ∷ xs) ys same =
     let here = counted_in x ys (omega (arith, same x, one_for-same x)) in
     let r = parted_at ys here.0 x here.1 in
     let rest : Same xs (r.0 ++ r.1) = λ e.
-    omega (arith, same e, ap (count_of e) r.2, total-between (one_for e) r.0 x r.1) in
+    omega (arith, same e, ap (entry_count e) r.2, total-between (one_for e) r.0 x r.1) in
     omega (arith, weighs_same f xs (r.0 ++ r.1) rest, ap (total f) r.2, total-between f r.0 x r.1)
 
 -- the draws of all views
@@ -254,7 +254,7 @@ total-all_draws f (v ∷ vs) = omega (arith, total-append f v.draws (all_draws v
 
 -- so do views that hold the entries of a history
 pub views_weigh : (f : Entry → ℕ) (vs : List View) (h : List Entry)
-    → ((e : Entry) → total (λ (v : View). count_of e v.draws) vs ≡ count_of e h)
+    → ((e : Entry) → total (λ (v : View). entry_count e v.draws) vs ≡ entry_count e h)
     → total (λ (v : View). total f v.draws) vs ≡ total f h
 views_weigh f vs h held =
     sym (total-all_draws f vs) ∙ weighs_same f (all_draws vs) h (λ e. total-all_draws (one_for e) vs ∙ held e)

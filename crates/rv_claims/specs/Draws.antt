@@ -42,12 +42,12 @@ abbrev pub is_entry : Entry → Entry → Bool
 is_entry e x = (x.place == e.place) && (x.number == e.number)
 
 -- how often the entry stands in the list
-abbrev pub count_of : Entry → List Entry → ℕ
-count_of e draws = count (is_entry e) draws
+abbrev pub entry_count : Entry → List Entry → ℕ
+entry_count e draws = count (is_entry e) draws
 
 -- each entry stands in both lists, as often in one as in the other
 abbrev pub Same : List Entry → List Entry → Type 0
-Same xs ys = (e : Entry) → count_of e xs ≡ count_of e ys
+Same xs ys = (e : Entry) → entry_count e xs ≡ entry_count e ys
 
 -- a history of draws: the j-th number, counted from 0, is j
 abbrev pub IsHistory : List Entry → Type 0
@@ -58,12 +58,12 @@ abbrev pub numbers : List Entry → List ℕ
 numbers draws = map (λ (e : Entry). e.number) draws
 
 -- a draw past the last piece
-abbrev pub is_past : ℕ → Entry → Bool
-is_past pieces e = nat_le pieces e.number
+abbrev pub is_past_last_piece : ℕ → Entry → Bool
+is_past_last_piece pieces e = nat_le pieces e.number
 
 -- how many draws are past the last piece
 abbrev pub past_count : ℕ → List Entry → ℕ
-past_count pieces draws = count (is_past pieces) draws
+past_count pieces draws = count (is_past_last_piece pieces) draws
 
 -- ---- what seats hold
 
@@ -111,7 +111,7 @@ pub record Runs (pieces : ℕ) (s : State (Unit {0}) View) : Type 0 where
   pub drawn : slice_index s.words 0 ≡ length history
   -- an entry stands as often in the draws of all views together as in the history: there once, if
   -- it was drawn, so that one view holds it, once; and else never
-  pub held : (e : Entry) → total (λ v. count_of e v.draws) s.views ≡ count_of e history
+  pub held : (e : Entry) → total (λ v. entry_count e v.draws) s.views ≡ entry_count e history
   -- the word of a place is 1 where one view holds the place, once, and 0 where none does
   pub seated : (p : ℕ) → p < 64
       → total (λ v. times p v.places) s.views ≡ slice_index s.words (p + 1)
@@ -132,13 +132,13 @@ abbrev pub slots_of : Sitting → List (ℕ × Unit {0})
 slots_of me = me.1
 
 -- the place that draws: the first. A seat that draws has one
-abbrev pub first_of : List ℕ → ℕ
-first_of [] = 0
-first_of (p ∷ ps) = p
+abbrev pub first_place_of : List ℕ → ℕ
+first_place_of [] = 0
+first_place_of (p ∷ ps) = p
 
 -- the view with one more draw, by its first place
 abbrev pub view_drawn : View → ℕ → View
-view_drawn v n = view v.pieces v.places (v.draws ++ entry (first_of v.places) n ∷ []) v.noted
+view_drawn v n = view v.pieces v.places (v.draws ++ entry (first_place_of v.places) n ∷ []) v.noted
 
 -- the view with one more place, before those that it has
 abbrev pub view_seated : View → ℕ → View

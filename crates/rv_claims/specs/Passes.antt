@@ -4,7 +4,7 @@ use Rattle.std.specs.Prelude.{replicate, Option, Some, None}
 use Rattle.std.specs.Int.{bit_at}
 use Rattle.atomic_table.specs.Seated.{TableId}
 use Rattle.rv_claims.specs.declared.view.Entry.{Entry}
-use Rattle.rv_claims.specs.Draws.{IsIn, past_count, entry, first_of, Sitting, view_of, slots_of}
+use Rattle.rv_claims.specs.Draws.{IsIn, past_count, entry, first_place_of, Sitting, view_of, slots_of}
 use Rattle.rv_claims.specs.Draws.{IsHistory, Within, Same}
 
 -- which shared draw it is, and the number of its pieces
@@ -28,7 +28,7 @@ has_ended p = nat_lt 0 (past_count p.draw.pieces p.draws)
 
 -- the pass with one more draw, by its first place
 abbrev pub with_draw : PassView → ℕ → PassView
-with_draw p n = pass_of p.draw p.places (p.draws ++ entry (first_of p.places) n ∷ [])
+with_draw p n = pass_of p.draw p.places (p.draws ++ entry (first_place_of p.places) n ∷ [])
 
 -- each number that was drawn is below n
 abbrev pub AllBelow : ℕ → List Entry → Type 0

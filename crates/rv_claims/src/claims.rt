@@ -90,7 +90,7 @@ impl Claims {
         ensures full { IfErr result (λ e. in_full e ≡ pass) }
     {
         let seat = self.table.shared.split_seat::<Fresh>(&mut pass.seat);
-        match self.sit(seat, pass.bits) {
+        match self.take_seat(seat, pass.bits) {
             Some(new) => Ok((pass, new)),
             None => Err(SplitError::Full(pass)),
         }
@@ -148,13 +148,13 @@ impl Claims {
             ended: _,
         } = pass;
         let closed = table.close_with(seat);
-        let all = has_each(&closed, bits);
+        let all = has_all_seats(&closed, bits);
         closed.free();
         all
     }
 
     /// A pass for a place that is not in `taken`, by a seat that has no place yet.
-    fn sit(&self, mut seat: Seat<(), View>, taken: u64) -> Option<Pass>
+    fn take_seat(&self, mut seat: Seat<(), View>, taken: u64) -> Option<Pass>
         requires table { seat.table_id ≡ self.now.table }
         requires blank { seat.me ≡ (view self.now.pieces [] [] [], []) }
         ensures { IfSome result (λ p. IsNew self.now taken p) }
@@ -184,7 +184,7 @@ fn opening_words() -> [u64; 65]
 }
 
 /// Whether each place whose word is 1 is among the bits.
-fn has_each(closed: &Closed<(), Global>, bits: u64) -> bool
+fn has_all_seats(closed: &Closed<(), Global>, bits: u64) -> bool
     requires { (slots_len closed.now.words ≡ 65) × IsFull closed.now.words }
     ensures held { result ≡ true → (p : ℕ) → p < 64
         → get_elem? (slots_items closed.now.words) (p + 1) ≡ some 1 → bit_at bits p ≡ 1 }

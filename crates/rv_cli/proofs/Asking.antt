@@ -25,13 +25,13 @@ use Rattle.rv_cli.proofs.Matching.{there_if_given, there_if_had, value_good, val
 use Rattle.rv_cli.proofs.Numerals.{test_gives, test_holds}
 use Rattle.rv_cli.specs.declared.rvfleet.Request.{Request as Value}
 use Rattle.rv_cli.specs.RvfleetRequests.{request}
-use Rattle.rv_cli.specs.RvfleetCommand.{budget_rule, fleet_app, is_taken, one_in}
-use Rattle.rv_cli.specs.Values.{number_in, number_of, number_within}
-use Rattle.rv_cli.specs.RvfleetCommand.{raw_in, request_in, request_of, run_in}
+use Rattle.rv_cli.specs.RvfleetCommand.{budget_rule, fleet_app, are_words_taken, one_request}
+use Rattle.rv_cli.specs.Values.{number_value, parsed_decimal, number_in_range}
+use Rattle.rv_cli.specs.RvfleetCommand.{raw_request, subcommand_request, request_of, run_request}
 
 -- ---- numbers
 
-number_read : (text : Text) → ReadsOne (ParsesUnsigned {E = Unit {0}} 32 10) text (number_of text)
+number_read : (text : Text) → ReadsOne (ParsesUnsigned {E = Unit {0}} 32 10) text (parsed_decimal text)
 number_read text = go
     (is_numeral (without_leading_plus text) && nat_lt (digits_value 10 (without_leading_plus text)) (2 ^ 32)) refl
   where
@@ -46,7 +46,7 @@ number_read text = go
 number_there : (c : List Rule) (id : Text) (rows : List Row) (a : Rule) (low high : ℕ) → arg_by_id c id ≡ Some a
     → parser_of_value a.parser ≡ value_parser.Signed (pos low) (pos high) → high < 2 ^ 32 → AreGood c rows
     → IsThere id rows
-    → (n : ℕ) × (number_in id low high rows ≡ Some n)
+    → (n : ℕ) × (number_value id low high rows ≡ Some n)
 number_there c id rows a low high own parser fits good there =
     let value = value_there c id rows a own good there in
     let reads : one_of id rows ≡ Some (without_minus value.0) = value.2
@@ -54,12 +54,12 @@ number_there c id rows a low high own parser fits good there =
     let passes : accepts a.ignore_case (value_parser.Signed (pos low) (pos high)) value.0 ≡ true =
     rw parser at value.3 in
     let number = signed_reads (Unit {0}) (λ text read. ParsesUnsigned 32 10 text read) 32 low high value.0
-    (number_of (without_minus value.0))
+    (parsed_decimal (without_minus value.0))
     (number_read (without_minus value.0)) (λ _ _ read. read) fits
     (accepts-Accepts a.ignore_case (value_parser.Signed (pos low) (pos high)) value.0 passes) in (
       number.0,
-      ap (λ text. option_and_then (number_within low high) (option_and_then number_of text)) reads
-          ∙ ap (λ read. option_and_then (number_within low high) read) number.1
+      ap (λ text. option_and_then (number_in_range low high) (option_and_then parsed_decimal text)) reads
+          ∙ ap (λ read. option_and_then (number_in_range low high) read) number.1
           ∙ rw (le-leb low number.0 number.2, le-leb number.0 high number.3) refl,
     )
 
@@ -74,9 +74,9 @@ rule_at rules place = unwrap_or (slice_get rules place) budget_rule
 -- what the subcommand takes asks for something
 Asks : Shape → Type 0
 Asks s = (words : List Text) → level_passes s [] nothing_held words false ≡ true
-    → is_some (request_in s.name (rows_after s.rules [] words)) ≡ true
+    → is_some (subcommand_request s.name (rows_after s.rules [] words)) ≡ true
 
-raw_reads : (rows : List Row) → IsRead (leaf 0).rules rows → is_some (raw_in rows) ≡ true
+raw_reads : (rows : List Row) → IsRead (leaf 0).rules rows → is_some (raw_request rows) ≡ true
 raw_reads rows read =
     let given = both (is_given (codes "budget") rows) _ read.given in
     let budget = number_there (leaf 0).rules (codes "budget") rows _ 1 1000000000 refl refl (omega arith) read.good
@@ -91,7 +91,7 @@ raw_asks words e = raw_reads (rows_after (leaf 0).rules [] words) (level_read (l
 )
     refl e)
 
-one_reads : (rows : List Row) → IsRead (leaf 1).rules rows → is_some (one_in rows) ≡ true
+one_reads : (rows : List Row) → IsRead (leaf 1).rules rows → is_some (one_request rows) ≡ true
 one_reads rows read =
     let image_given = both (is_given (codes "image") rows) _ read.given in
     let budget_given = both (is_given (codes "budget") rows) _ image_given.1 in
@@ -115,7 +115,7 @@ one_asks words e = one_reads (rows_after (leaf 1).rules [] words) (level_read (l
 )
     refl e)
 
-run_reads : (rows : List Row) → IsRead (leaf 2).rules rows → is_some (run_in rows) ≡ true
+run_reads : (rows : List Row) → IsRead (leaf 2).rules rows → is_some (run_request rows) ≡ true
 run_reads rows read =
     let jobs_given = both (is_given (codes "jobs") rows) _ read.given in
     let jobs = value_there (leaf 2).rules (codes "jobs") rows _ refl read.good (there_if_given _ rows jobs_given.0) in
@@ -148,7 +148,7 @@ rows_below words s = rows_at s words
 -- words that enter a subcommand and pass ask for something
 entered_asks : (a : App) (stop : Option (Text × List Text)) → EachOf Asks a.subs → entered_passes a stop ≡ true
     → is_some (entered a stop) ≡ true
-    → is_some (option_and_then (λ found. request_in found.0 found.1) (entered a stop)) ≡ true
+    → is_some (option_and_then (λ found. subcommand_request found.0 found.1) (entered a stop)) ≡ true
 unfolding Asks
 entered_asks a None each passes met = absurd (true≢false (sym met))
 entered_asks a (Some p) each passes met = go (find (λ s. answers_to p.0 (label_of s)) a.subs) refl passes met
@@ -156,7 +156,7 @@ entered_asks a (Some p) each passes met = go (find (λ s. answers_to p.0 (label_
     go : (o : Option Shape) → find (λ s. answers_to p.0 (label_of s)) a.subs ≡ o
         → option_map_or (λ s. level_passes s [] nothing_held p.1 false) o true ≡ true
         → is_some (option_map (rows_below p.1) o) ≡ true
-        → is_some (option_and_then (λ found. request_in found.0 found.1) (option_map (rows_below p.1) o)) ≡ true
+        → is_some (option_and_then (λ found. subcommand_request found.0 found.1) (option_map (rows_below p.1) o)) ≡ true
     go None found pass some = absurd (true≢false (sym some))
     go (Some s) found pass some = found_of_each Asks (λ s. answers_to p.0 (label_of s)) a.subs s each found p.1 pass
 
@@ -174,8 +174,8 @@ subcommand_met s names words false required e =
     let met = both (not s.subcommand_required || false) _ helped.1 in
     rw required at met.0
 
-pub taken_asks : (words : List Text) → is_taken words ≡ true → is_some (request_of words) ≡ true
-unfolding is_taken
+pub taken_asks : (words : List Text) → are_words_taken words ≡ true → is_some (request_of words) ≡ true
+unfolding are_words_taken
 taken_asks words taken =
     let passes = both (is_simple fleet_app)
     (built_takes (built fleet_app) nothing_held (argument_words fleet_app words)) taken in
@@ -188,6 +188,6 @@ taken_asks words taken =
 
 -- where a request is read, something is asked
 pub some_asked : (asked : Option Value) (words : List Text) → option_map request asked ≡ request_of words
-    → is_taken words ≡ true → is_some asked ≡ true
+    → are_words_taken words ≡ true → is_some asked ≡ true
 some_asked (Some asked) words reads taken = refl
 some_asked None words reads taken = ap is_some reads ∙ taken_asks words taken

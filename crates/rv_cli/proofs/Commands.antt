@@ -5,7 +5,7 @@ use Rattle.clap.specs.Words.{AddsArg, AddsSubcommand, App, Rule, app_of, rule_of
 use Rattle.clap.specs.declared.builder.arg.Arg.{Arg}
 use Rattle.clap.specs.declared.builder.command.Command.{Command}
 use Rattle.clap.specs.declared.builder.command.Command.TheViews.{out-Command}
-use Rattle.rv_cli.specs.Building.{HasApp, IsBuilt}
+use Rattle.rv_cli.specs.CommandBuilder.{HasApp, IsBuilt}
 
 -- this shape, and no argument that subcommands have too
 abbrev pub Is : App → Command → Type 0

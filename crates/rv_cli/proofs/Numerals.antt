@@ -9,7 +9,7 @@ use Rattle.clap.specs.Matches.{ReadsOne, one_text}
 use Rattle.clap.specs.Walk.{Text, rows_of}
 use Rattle.clap.specs.declared.parser.matches.Found.{Found}
 use Rattle.clap.proofs.WalkLemmas.{one_text-rows, both}
-use Rattle.rv_cli.specs.Values.{read_number_in, number_of}
+use Rattle.rv_cli.specs.Values.{parsed_number_value, parsed_decimal}
 
 digits_from : (ds : List ℕ) → list_all (λ d. nat_lt (digit_value d) 10) ds ≡ true → AllDigits 10 ds
 digits_from [] e = tt
@@ -34,7 +34,7 @@ test_gives ds e =
 
 -- the option that a result of `parse` becomes
 pub parsed : {E : Type 0} (t : Text) (r : Option ℕ) (G : List ℕ → Result ℕ E → Type 0) → ReadsOne G t r
-    → ((x : Result ℕ E) → G t x → ParsesUnsigned 32 10 t x) → r ≡ number_of t
+    → ((x : Result ℕ E) → G t x → ParsesUnsigned 32 10 t x) → r ≡ parsed_decimal t
 parsed {E} t (Some v) G read only =
     let p = only (Ok v) read in
     let b = test_holds (without_leading_plus t) p.0.0 p.0.1 in
@@ -50,9 +50,9 @@ parsed {E} t None G read only =
 
 pub number_reads : {E : Type 0} (G : List ℕ → Result ℕ E → Type 0) (f : Found) (id : Text) (r : Option ℕ)
     → (one_text f id ≡ None → r ≡ None) → ((t : List ℕ) → one_text f id ≡ Some t → ReadsOne G t r)
-    → ((t : List ℕ) (x : Result ℕ E) → G t x → ParsesUnsigned 32 10 t x) → r ≡ read_number_in id (rows_of f)
-number_reads {E} G f id r none some only = go (one_text f id) refl ∙ ap (option_and_then number_of) (one_text-rows f id)
+    → ((t : List ℕ) (x : Result ℕ E) → G t x → ParsesUnsigned 32 10 t x) → r ≡ parsed_number_value id (rows_of f)
+number_reads {E} G f id r none some only = go (one_text f id) refl ∙ ap (option_and_then parsed_decimal) (one_text-rows f id)
   where
-    go : (o : Option Text) → one_text f id ≡ o → r ≡ option_and_then number_of (one_text f id)
+    go : (o : Option Text) → one_text f id ≡ o → r ≡ option_and_then parsed_decimal (one_text f id)
     go None e = rw e (none e)
     go (Some t) e = rw e (parsed t r G (some t e) (only t))

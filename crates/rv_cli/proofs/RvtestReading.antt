@@ -14,7 +14,7 @@ use Rattle.clap.specs.declared.parser.matches.ArgMatches.{ArgMatches}
 use Rattle.clap.specs.declared.parser.matches.ArgMatches.TheViews.{out-SubCommand}
 use Rattle.clap.specs.declared.parser.matches.SubCommand.{SubCommand}
 use Rattle.rv_cli.specs.RvtestCommand.{test_app}
-use Rattle.rv_cli.specs.RvtestWords.{faults_found, faults_of}
+use Rattle.rv_cli.specs.RvtestWords.{matched_fault_kinds, words_fault_kinds}
 
 module _ {Z : Type 0} where
   -- a subcommand that was met, by its name and its values
@@ -37,12 +37,12 @@ here app words found is has = (has (ap is_simple is)).1 ∙ ap (λ a. subcommand
 -- where `clap` finds no fault, the faults are those of the subcommand
 pub faults : (words : List Text) (found : ArgMatches) → fault_of test_app words ≡ []
     → subcommand_rows_of found ≡ subcommand_of test_app words
-    → faults_found (subcommand_rows_of found) ≡ faults_of words
-faults words found none is = ap faults_found is ∙ sym (past (fault_of test_app words) _ none)
+    → matched_fault_kinds (subcommand_rows_of found) ≡ words_fault_kinds words
+faults words found none is = ap matched_fault_kinds is ∙ sym (past (fault_of test_app words) _ none)
 
 -- an error of a fault that `clap` finds is one of the faults
 pub refused : (app : App) (words : List Text) (error : Error) → app ≡ test_app → HasKind (fault_of app words) error
-    → HasKind (faults_of words) error
+    → HasKind (words_fault_kinds words) error
 refused app words error is has =
     first_fails (fault_of test_app words) _ (kind_of error) (subst (λ a. HasKind (fault_of a words) error) is has)
 

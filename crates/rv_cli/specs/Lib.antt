@@ -1,6 +1,6 @@
 pub mod RvtestCommand
 pub mod RvtestWords
-pub mod Building
+pub mod CommandBuilder
 pub mod RvfleetCommand
 pub mod RvfleetRequests
 pub mod Values

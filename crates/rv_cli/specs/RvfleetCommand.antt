@@ -6,8 +6,8 @@ use Rattle.std.specs.Str.{bytes_eq}
 use Rattle.clap.specs.Words.{App, IsAmong, Kinds, Row, Rule, Text, fault_of, first_of, new_app}
 use Rattle.clap.specs.Words.{new_rule, one_of, subcommand_of, takes, with_rule, with_subcommand}
 use Rattle.clap.specs.declared.error.kind.ErrorKind.TheVariants as kind
-use Rattle.rv_lists.specs.Limits.{most_budget, most_group, most_workers}
-use Rattle.rv_cli.specs.Values.{number_in}
+use Rattle.rv_base.specs.Limits.{most_budget, most_group, most_workers}
+use Rattle.rv_cli.specs.Values.{number_value}
 use Rattle.clap.specs.declared.builder.value_parser.ValueParser.TheVariants as value_parser
 
 -- ---- the rules
@@ -89,50 +89,50 @@ pub data Request : Type 0 where
   one : Text → ℕ → Option Text → Request
   run : Text → ℕ → ℕ → Request
 
-abbrev pub budget_in : List Row → Option ℕ
-budget_in rows = number_in (codes "budget") 1 most_budget rows
+abbrev pub requested_budget : List Row → Option ℕ
+requested_budget rows = number_value (codes "budget") 1 most_budget rows
 
-abbrev pub raw_in : List Row → Option Request
-raw_in rows = option_map raw (budget_in rows)
+abbrev pub raw_request : List Row → Option Request
+raw_request rows = option_map raw (requested_budget rows)
 
-abbrev pub one_in : List Row → Option Request
-one_in rows = option_and_then
+abbrev pub one_request : List Row → Option Request
+one_request rows = option_and_then
     (λ path. option_map (λ budget. one path budget (first_of (codes "input-hex") rows))
-    (budget_in rows)) (first_of (codes "image") rows)
+    (requested_budget rows)) (first_of (codes "image") rows)
 
-abbrev pub run_in : List Row → Option Request
-run_in rows = option_and_then (λ path. option_and_then
-    (λ workers. option_map (run path workers) (number_in (codes "group") 1 most_group rows))
-    (number_in (codes "workers") 1 most_workers rows)) (first_of (codes "jobs") rows)
+abbrev pub run_request : List Row → Option Request
+run_request rows = option_and_then (λ path. option_and_then
+    (λ workers. option_map (run path workers) (number_value (codes "group") 1 most_group rows))
+    (number_value (codes "workers") 1 most_workers rows)) (first_of (codes "jobs") rows)
 
 -- what a subcommand with these values asks for
-abbrev pub request_in : Text → List Row → Option Request
-request_in name rows = if bytes_eq name (codes "raw") then raw_in rows
-    else if bytes_eq name (codes "one") then one_in rows
-    else if bytes_eq name (codes "run") then run_in rows
+abbrev pub subcommand_request : Text → List Row → Option Request
+subcommand_request name rows = if bytes_eq name (codes "raw") then raw_request rows
+    else if bytes_eq name (codes "one") then one_request rows
+    else if bytes_eq name (codes "run") then run_request rows
     else None
 
 -- the subcommand and the values are the matches that `clap` defines for the words
 abbrev pub request_of : List Text → Option Request
 request_of words =
-    option_and_then (λ found. request_in found.0 found.1) (subcommand_of fleet_app words)
+    option_and_then (λ found. subcommand_request found.0 found.1) (subcommand_of fleet_app words)
 
 -- the command takes the words
-unfoldable pub is_taken : List Text → Bool
-is_taken words = takes fleet_app words
+unfoldable pub are_words_taken : List Text → Bool
+are_words_taken words = takes fleet_app words
 
 -- what words ask for in which these faults are found: none, or nothing is asked for
-abbrev pub request_beside : Kinds → Option Request → Option Request
-request_beside [] request = request
-request_beside (fault ∷ more) request = None
+abbrev pub request_beside_faults : Kinds → Option Request → Option Request
+request_beside_faults [] request = request
+request_beside_faults (fault ∷ more) request = None
 
 -- what words ask for in which the command finds no fault
-unfoldable pub asked_of : List Text → Option Request
-asked_of words = request_beside (fault_of fleet_app words) (request_of words)
+unfoldable pub faultless_request : List Text → Option Request
+faultless_request words = request_beside_faults (fault_of fleet_app words) (request_of words)
 
 -- the command takes the words, or finds no fault in them and something is asked for
 abbrev pub IsToAnswer : List Text → Type 0
-IsToAnswer words = (is_taken words ≡ true) ⊎ (is_some (asked_of words) ≡ true)
+IsToAnswer words = (are_words_taken words ≡ true) ⊎ (is_some (faultless_request words) ≡ true)
 
 -- the words ask for help
 abbrev pub AsksHelp : List Text → Type 0

@@ -1,6 +1,6 @@
 -- What the program's own value of a request stands for.
 use Rattle.std.specs.Prelude.{◌≤◌, option_map}
-use Rattle.rv_lists.specs.Limits.{most_budget, most_group, most_workers}
+use Rattle.rv_base.specs.Limits.{most_budget, most_group, most_workers}
 use Rattle.rv_cli.specs.declared.rvfleet.Request.{Request as Value}
 use Rattle.rv_cli.specs.declared.rvfleet.Request.TheVariants.{One, Raw, Run}
 use Rattle.rv_cli.specs.RvfleetCommand.{Request, one, raw, run}
@@ -12,7 +12,7 @@ request (One image budget input_hex) =
 request (Run jobs workers group) = run jobs.now workers group
 
 -- each number is within the range of its argument
-abbrev pub AreWithin : Value → Type 0
-AreWithin (Raw budget) = (1 ≤ budget) × (budget ≤ most_budget)
-AreWithin (One image budget input_hex) = (1 ≤ budget) × (budget ≤ most_budget)
-AreWithin (Run jobs workers group) = (1 ≤ workers) × (workers ≤ most_workers) × (1 ≤ group) × (group ≤ most_group)
+abbrev pub IsRequestInRange : Value → Type 0
+IsRequestInRange (Raw budget) = (1 ≤ budget) × (budget ≤ most_budget)
+IsRequestInRange (One image budget input_hex) = (1 ≤ budget) × (budget ≤ most_budget)
+IsRequestInRange (Run jobs workers group) = (1 ≤ workers) × (workers ≤ most_workers) × (1 ≤ group) × (group ≤ most_group)

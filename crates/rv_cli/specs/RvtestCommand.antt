@@ -4,16 +4,16 @@ use Rattle.std.specs.Borrow.{Bor}
 use Rattle.clap.specs.Words.{App, Rule, Text, new_app, new_rule, with_rule, with_subcommand}
 use Rattle.clap.specs.declared.builder.action.ArgAction.TheVariants.{Append, SetTrue}
 use Rattle.clap.specs.declared.builder.value_parser.ValueParser.TheVariants as value_parser
-use Rattle.rv_lists.specs.Limits.{most_workers}
+use Rattle.rv_base.specs.Limits.{most_workers}
 use Rattle.rv_cli.specs.declared.rvtest.arguments.Argument.{Argument}
 use Rattle.rv_cli.specs.declared.rvtest.arguments.Argument.TheVariants as argument
 use Rattle.rv_cli.specs.declared.rvtest.command.Subcommand.{Subcommand}
-use Rattle.rv_cli.specs.Building.{option_rule, word_rule}
+use Rattle.rv_cli.specs.CommandBuilder.{option_rule, word_rule}
 use Rattle.rv_cli.specs.RvfleetCommand.{group_rule}
 
 -- the same argument, of which each use adds a value
-abbrev pub again_rule : Rule → Rule
-again_rule rule = record rule { action = Some Append }
+abbrev pub repeated_rule : Rule → Rule
+repeated_rule rule = record rule { action = Some Append }
 
 -- an option with a number from one to another, and what it has where it is not given
 abbrev pub number_rule : Text → ℤ → ℤ → List (Bor Text) → Rule
@@ -27,57 +27,57 @@ abbrev pub flag_rule : Text → Rule
 flag_rule name = record (new_rule name) { long = Some name; action = Some SetTrue }
 
 -- the most of the last instructions that are shown
-abbrev pub most_last : ℕ
-most_last = 100000
+abbrev pub most_last_instructions : ℕ
+most_last_instructions = 100000
 
 -- the rule of an argument
-abbrev pub rule_for : Argument → Rule
-rule_for (argument.Word name value help) = word_rule name.now
-rule_for (argument.Words name value help) = again_rule (word_rule name.now)
-rule_for (argument.Option name value help) = option_rule name.now
-rule_for (argument.Again name value help) = again_rule (option_rule name.now)
-rule_for (argument.Flag name help) = flag_rule name.now
-rule_for (argument.Number name help bounds usual) =
+abbrev pub argument_rule : Argument → Rule
+argument_rule (argument.Word name value help) = word_rule name.now
+argument_rule (argument.Words name value help) = repeated_rule (word_rule name.now)
+argument_rule (argument.Option name value help) = option_rule name.now
+argument_rule (argument.Again name value help) = repeated_rule (option_rule name.now)
+argument_rule (argument.Flag name help) = flag_rule name.now
+argument_rule (argument.Number name help bounds usual) =
     number_rule name.now bounds.least bounds.most usual.now
-rule_for argument.Group = group_rule
+argument_rule argument.Group = group_rule
 
 -- <PART>..
 abbrev pub parts_rule : Rule
-parts_rule = again_rule (word_rule (codes "part"))
+parts_rule = repeated_rule (word_rule (codes "part"))
 
 -- --only <NAME>, which may come again
 abbrev pub only_rule : Rule
-only_rule = again_rule (option_rule (codes "only"))
+only_rule = repeated_rule (option_rule (codes "only"))
 
 -- --workers <N>
-abbrev pub workers_rule : Rule
-workers_rule = number_rule (codes "workers") (pos 1) (pos most_workers) []
+abbrev pub test_workers_rule : Rule
+test_workers_rule = number_rule (codes "workers") (pos 1) (pos most_workers) []
 
 -- --last <N>
 abbrev pub last_rule : Rule
-last_rule = number_rule (codes "last") (pos 0) (pos most_last) []
+last_rule = number_rule (codes "last") (pos 0) (pos most_last_instructions) []
 
 -- the same, and 16 where it is not given
-abbrev pub shown_rule : Rule
-shown_rule = record last_rule { defaults = codes "16" ∷ [] }
+abbrev pub explain_last_rule : Rule
+explain_last_rule = record last_rule { defaults = codes "16" ∷ [] }
 
 -- a command with an argument more, and with several in their order
 abbrev pub with_argument : App → Argument → App
-with_argument app argument = with_rule app (rule_for argument)
+with_argument app argument = with_rule app (argument_rule argument)
 
 abbrev pub with_arguments : App → List Argument → App
 with_arguments = fold with_argument
 
 -- a command as the table states it
-abbrev pub app_stated : Subcommand → App
-app_stated stated = with_arguments (new_app stated.name.now) stated.arguments.now
+abbrev pub subcommand_app : Subcommand → App
+subcommand_app stated = with_arguments (new_app stated.name.now) stated.arguments.now
 
 -- a command with one of the table below it, and with several in their order
-abbrev pub with_stated : App → Subcommand → App
-with_stated app stated = with_subcommand app (app_stated stated).top
+abbrev pub with_table_command : App → Subcommand → App
+with_table_command app stated = with_subcommand app (subcommand_app stated).top
 
 abbrev pub with_commands : App → List Subcommand → App
-with_commands = fold with_stated
+with_commands = fold with_table_command
 
 -- [--only <NAME>].. [--match <REGEX>] [--failed <REPORT>]
 abbrev pub with_choice : App → App
@@ -91,7 +91,7 @@ with_shard app = with_rule (with_rule app (option_rule (codes "shard")))
 
 -- [--workers <N>] [--group <N>] [--root <DIR>]
 abbrev pub with_machine : App → App
-with_machine app = with_rule (with_rule (with_rule app workers_rule)
+with_machine app = with_rule (with_rule (with_rule app test_workers_rule)
     group_rule) (option_rule (codes "root"))
 
 -- [--report <FILE>] [--junit <FILE>] [--lenient]
@@ -107,14 +107,14 @@ with_results app = with_rule (with_rule (with_rule app (flag_rule (codes "verbos
 abbrev pub list_app : Text → App
 list_app name = with_rule (new_app name) (word_rule (codes "list"))
 
-abbrev pub run_app : App
-run_app =
+abbrev pub test_run_app : App
+test_run_app =
     with_results (with_files (with_machine (with_shard (with_choice (list_app (codes "run"))))))
 
 -- explain <LIST> <NAME> [--last <N>] [--root <DIR>]
 abbrev pub explain_app : App
 explain_app = with_rule (with_rule (with_rule (list_app (codes "explain"))
-    (word_rule (codes "name"))) shown_rule) (option_rule (codes "root"))
+    (word_rule (codes "name"))) explain_last_rule) (option_rule (codes "root"))
 
 -- check <LIST> [--root <DIR>]
 abbrev pub check_app : App
@@ -135,8 +135,8 @@ show_app = with_rule (with_rule (with_rule (new_app (codes "show")) (word_rule (
     (option_rule (codes "junit"))) (flag_rule (codes "lenient"))
 
 -- a subcommand is required, none is called help, and there is a version
-abbrev pub top_app : App
-top_app = let app = new_app (codes "rvtest") in
+abbrev pub test_top_app : App
+test_top_app = let app = new_app (codes "rvtest") in
     record app {
       top = record app.top {
         subcommand_required = true;
@@ -147,7 +147,7 @@ top_app = let app = new_app (codes "rvtest") in
 
 -- the commands that run jobs, and then those that read reports
 abbrev pub with_runs : App → App
-with_runs app = with_subcommand (with_subcommand (with_subcommand app run_app.top)
+with_runs app = with_subcommand (with_subcommand (with_subcommand app test_run_app.top)
     explain_app.top) check_app.top
 
 abbrev pub with_reports : App → App
@@ -156,4 +156,4 @@ with_reports app = with_subcommand (with_subcommand (with_subcommand app merge_a
 
 -- the whole command
 abbrev pub test_app : App
-test_app = with_reports (with_runs top_app)
+test_app = with_reports (with_runs test_top_app)

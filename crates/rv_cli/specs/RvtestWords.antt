@@ -8,14 +8,14 @@ use Rattle.std.specs.Str.{bytes_eq}
 use Rattle.clap.specs.Kinds.{or_else}
 use Rattle.clap.specs.Words.{FailsBy, Kinds, Row, Text, fault_of, first_of, subcommand_of}
 use Rattle.clap.specs.declared.error.kind.ErrorKind.TheVariants as kind
-use Rattle.rv_lists.specs.Limits.{most_group, most_workers}
-use Rattle.rv_cli.specs.RvtestCommand.{most_last, test_app}
+use Rattle.rv_base.specs.Limits.{most_group, most_workers}
+use Rattle.rv_cli.specs.RvtestCommand.{most_last_instructions, test_app}
 use Rattle.rv_cli.specs.declared.rvtest.refusals.Misuse.{Misuse}
 use Rattle.rv_cli.specs.declared.rvtest.refusals.Misuse.TheVariants as misuse
-use Rattle.rv_cli.specs.Values.{all_in, flag_in, is_given, number_in}
+use Rattle.rv_cli.specs.Values.{argument_values, is_flag_set, is_option_given, number_value}
 use Rattle.clap.specs.declared.error.Error.{Error}
-use Rattle.rv_cli.specs.declared.rvtest.asked.Asked.{Asked}
-use Rattle.rv_cli.specs.declared.rvtest.asked.Asked.TheVariants as asked
+use Rattle.rv_cli.specs.declared.rvtest.requests.Asked.{Asked}
+use Rattle.rv_cli.specs.declared.rvtest.requests.Asked.TheVariants as asked
 use Rattle.rv_cli.specs.declared.rvtest.run.RunAsked.{RunAsked}
 use Rattle.rv_cli.specs.declared.rvtest.explain.ExplainAsked.{ExplainAsked}
 use Rattle.rv_cli.specs.declared.rvtest.merge.MergeAsked.{MergeAsked}
@@ -70,25 +70,25 @@ pub data Words : Type 0 where
 unfoldable pub run_words : Text → ℕ → List Row → RunWords
 run_words list group rows = record {
   list = list;
-  only = all_in (codes "only") rows;
+  only = argument_values (codes "only") rows;
   pattern = first_of (codes "match") rows;
   failed = first_of (codes "failed") rows;
   shard = first_of (codes "shard") rows;
   stamp = first_of (codes "stamp") rows;
-  workers = number_in (codes "workers") 1 most_workers rows;
+  workers = number_value (codes "workers") 1 most_workers rows;
   group = group;
   root = first_of (codes "root") rows;
   report = first_of (codes "report") rows;
   junit = first_of (codes "junit") rows;
-  lenient = flag_in (codes "lenient") rows;
-  verbose = flag_in (codes "verbose") rows;
-  quiet = flag_in (codes "quiet") rows;
-  last = number_in (codes "last") 0 most_last rows;
+  lenient = is_flag_set (codes "lenient") rows;
+  verbose = is_flag_set (codes "verbose") rows;
+  quiet = is_flag_set (codes "quiet") rows;
+  last = number_value (codes "last") 0 most_last_instructions rows;
 }
 
-abbrev pub run_in : List Row → Option Words
-run_in rows = option_and_then (λ list. option_map (λ group. run (run_words list group rows))
-    (number_in (codes "group") 1 most_group rows)) (first_of (codes "list") rows)
+abbrev pub test_run_request : List Row → Option Words
+test_run_request rows = option_and_then (λ list. option_map (λ group. run (run_words list group rows))
+    (number_value (codes "group") 1 most_group rows)) (first_of (codes "list") rows)
 
 abbrev pub explain_words : Text → Text → List Row → ℕ → Words
 explain_words list name rows last = explain (record {
@@ -98,155 +98,155 @@ explain_words list name rows last = explain (record {
   root = first_of (codes "root") rows;
 })
 
-abbrev pub explain_in : List Row → Option Words
-explain_in rows = option_and_then (λ list. option_and_then (λ name.
-    option_map (explain_words list name rows) (number_in (codes "last") 0 most_last rows))
+abbrev pub explain_request : List Row → Option Words
+explain_request rows = option_and_then (λ list. option_and_then (λ name.
+    option_map (explain_words list name rows) (number_value (codes "last") 0 most_last_instructions rows))
     (first_of (codes "name") rows)) (first_of (codes "list") rows)
 
-abbrev pub check_in : List Row → Option Words
-check_in rows = option_map (λ list. check list (first_of (codes "root") rows))
+abbrev pub check_request : List Row → Option Words
+check_request rows = option_map (λ list. check list (first_of (codes "root") rows))
     (first_of (codes "list") rows)
 
-abbrev pub merge_in : List Row → Words
-merge_in rows = merge (record {
-  parts = all_in (codes "part") rows;
+abbrev pub merge_request : List Row → Words
+merge_request rows = merge (record {
+  parts = argument_values (codes "part") rows;
   report = first_of (codes "report") rows;
   junit = first_of (codes "junit") rows;
-  lenient = flag_in (codes "lenient") rows;
+  lenient = is_flag_set (codes "lenient") rows;
 })
 
-abbrev pub diff_in : List Row → Option Words
-diff_in rows = option_and_then (λ old. option_map (λ new. diff old new
-    (flag_in (codes "steps") rows)) (first_of (codes "new") rows)) (first_of (codes "old") rows)
+abbrev pub diff_request : List Row → Option Words
+diff_request rows = option_and_then (λ old. option_map (λ new. diff old new
+    (is_flag_set (codes "steps") rows)) (first_of (codes "new") rows)) (first_of (codes "old") rows)
 
-abbrev pub show_in : List Row → Option Words
-show_in rows = option_map (λ report. show report (first_of (codes "junit") rows)
-    (flag_in (codes "lenient") rows)) (first_of (codes "report") rows)
+abbrev pub show_request : List Row → Option Words
+show_request rows = option_map (λ report. show report (first_of (codes "junit") rows)
+    (is_flag_set (codes "lenient") rows)) (first_of (codes "report") rows)
 
 -- what a subcommand with these values asks for
-abbrev pub words_in : Text → List Row → Option Words
-words_in name rows = if bytes_eq name (codes "run") then run_in rows
-    else if bytes_eq name (codes "explain") then explain_in rows
-    else if bytes_eq name (codes "check") then check_in rows
-    else if bytes_eq name (codes "merge") then Some (merge_in rows)
-    else if bytes_eq name (codes "diff") then diff_in rows
-    else if bytes_eq name (codes "show") then show_in rows
+abbrev pub subcommand_words : Text → List Row → Option Words
+subcommand_words name rows = if bytes_eq name (codes "run") then test_run_request rows
+    else if bytes_eq name (codes "explain") then explain_request rows
+    else if bytes_eq name (codes "check") then check_request rows
+    else if bytes_eq name (codes "merge") then Some (merge_request rows)
+    else if bytes_eq name (codes "diff") then diff_request rows
+    else if bytes_eq name (codes "show") then show_request rows
     else None
 
 -- what a subcommand that was met asks for, with its values
-abbrev pub words_found : Option (Text × List Row) → Option Words
-words_found = option_and_then (λ found. words_in found.0 found.1)
+abbrev pub matched_words : Option (Text × List Row) → Option Words
+matched_words = option_and_then (λ found. subcommand_words found.0 found.1)
 
 -- what words ask for: the subcommand and the values are the matches that `clap` defines for them
-abbrev pub asked_of : List Text → Option Words
-asked_of words = words_found (subcommand_of test_app words)
+abbrev pub words_request : List Text → Option Words
+words_request words = matched_words (subcommand_of test_app words)
 
 -- ---- what is wrong with words
 
 -- the report goes to a path
-abbrev pub is_report : Text → List Row → Bool
-is_report path rows = option_map_or (bytes_eq path) (first_of (codes "report") rows) false
+abbrev pub is_report_path : Text → List Row → Bool
+is_report_path path rows = option_map_or (bytes_eq path) (first_of (codes "report") rows) false
 
 -- jobs are chosen by their names or by a report
-abbrev pub is_choice : List Row → Bool
-is_choice rows = is_given (codes "only") rows
-    || (is_given (codes "match") rows || is_given (codes "failed") rows)
+abbrev pub is_choice_given : List Row → Bool
+is_choice_given rows = is_option_given (codes "only") rows
+    || (is_option_given (codes "match") rows || is_option_given (codes "failed") rows)
 
 -- JUnit's XML goes where the report goes, be that a file or standard output
-abbrev pub one_file : List Row → Option Misuse
-one_file rows =
-    if option_map_or (λ path. is_report path rows) (first_of (codes "junit") rows) false
+abbrev pub one_file_misuse : List Row → Option Misuse
+one_file_misuse rows =
+    if option_map_or (λ path. is_report_path path rows) (first_of (codes "junit") rows) false
     then Some misuse.OneFile else None
 
 -- the first of the rules that options of `run` break: --verbose and --quiet do not stand beside
 -- one another, nor a shard beside a choice; a stamp is a shard's; the two files are not one
-abbrev pub misuse_in : List Row → Option Misuse
-misuse_in rows = if flag_in (codes "verbose") rows && flag_in (codes "quiet") rows
+abbrev pub run_misuse : List Row → Option Misuse
+run_misuse rows = if is_flag_set (codes "verbose") rows && is_flag_set (codes "quiet") rows
     then Some misuse.VerboseAndQuiet
-    else if is_given (codes "shard") rows && is_choice rows then Some misuse.ShardAndChoice
-    else if is_given (codes "stamp") rows && not (is_given (codes "shard") rows)
+    else if is_option_given (codes "shard") rows && is_choice_given rows then Some misuse.ShardAndChoice
+    else if is_option_given (codes "stamp") rows && not (is_option_given (codes "shard") rows)
     then Some misuse.StampAlone
-    else one_file rows
+    else one_file_misuse rows
 
-abbrev pub kinds_of : Option Misuse → Kinds
-kinds_of None = []
-kinds_of (Some misuse.StampAlone) = kind.MissingRequiredArgument ∷ []
-kinds_of (Some _) = kind.ArgumentConflict ∷ []
+abbrev pub misuse_kinds : Option Misuse → Kinds
+misuse_kinds None = []
+misuse_kinds (Some misuse.StampAlone) = kind.MissingRequiredArgument ∷ []
+misuse_kinds (Some _) = kind.ArgumentConflict ∷ []
 
 -- the faults of a subcommand with these values that `clap` does not look for
-abbrev pub faults_in : Text → List Row → Kinds
-faults_in name rows = if bytes_eq name (codes "run") then kinds_of (misuse_in rows)
-    else if bytes_eq name (codes "merge") then kinds_of (one_file rows)
+abbrev pub subcommand_fault_kinds : Text → List Row → Kinds
+subcommand_fault_kinds name rows = if bytes_eq name (codes "run") then misuse_kinds (run_misuse rows)
+    else if bytes_eq name (codes "merge") then misuse_kinds (one_file_misuse rows)
     else []
 
 -- those of the subcommand that was met
-abbrev pub faults_found : Option (Text × List Row) → Kinds
-faults_found found = option_map_or (λ met. faults_in met.0 met.1) found []
+abbrev pub matched_fault_kinds : Option (Text × List Row) → Kinds
+matched_fault_kinds found = option_map_or (λ met. subcommand_fault_kinds met.0 met.1) found []
 
 -- the faults of words: those that `clap` finds, else options that do not go together
-abbrev pub faults_of : List Text → Kinds
-faults_of words = or_else (fault_of test_app words) (faults_found (subcommand_of test_app words))
+abbrev pub words_fault_kinds : List Text → Kinds
+words_fault_kinds words = or_else (fault_of test_app words) (matched_fault_kinds (subcommand_of test_app words))
 
 -- ---- the program's own value of what is asked for
 
 -- the text behind a reference, where there is one
-abbrev pub text_of : Option (Bor Text) → Option Text
-text_of text = option_map (λ t. t.now) text
+abbrev pub borrowed_text : Option (Bor Text) → Option Text
+borrowed_text text = option_map (λ t. t.now) text
 
-abbrev pub run_asked : RunAsked → RunWords
-run_asked value = record {
+abbrev pub run_asked_words : RunAsked → RunWords
+run_asked_words value = record {
   list = value.list.now;
   only = map (λ name. name.now) value.only.items;
-  pattern = text_of value.pattern;
-  failed = text_of value.failed;
-  shard = text_of value.shard;
-  stamp = text_of value.stamp;
+  pattern = borrowed_text value.pattern;
+  failed = borrowed_text value.failed;
+  shard = borrowed_text value.shard;
+  stamp = borrowed_text value.stamp;
   workers = value.workers;
   group = value.group;
-  root = text_of value.root;
-  report = text_of value.report;
-  junit = text_of value.junit;
+  root = borrowed_text value.root;
+  report = borrowed_text value.report;
+  junit = borrowed_text value.junit;
   lenient = value.lenient;
   verbose = value.verbose;
   quiet = value.quiet;
   last = value.last;
 }
 
-abbrev pub explain_asked : ExplainAsked → ExplainWords
-explain_asked value = record {
+abbrev pub explain_asked_words : ExplainAsked → ExplainWords
+explain_asked_words value = record {
   list = value.list.now;
   name = value.name.now;
   last = value.last;
-  root = text_of value.root;
+  root = borrowed_text value.root;
 }
 
-abbrev pub merge_asked : MergeAsked → MergeWords
-merge_asked value = record {
+abbrev pub merge_asked_words : MergeAsked → MergeWords
+merge_asked_words value = record {
   parts = map (λ path. path.now) value.parts.items;
-  report = text_of value.report;
-  junit = text_of value.junit;
+  report = borrowed_text value.report;
+  junit = borrowed_text value.junit;
   lenient = value.lenient;
 }
 
-abbrev pub words_asked : Asked → Words
-words_asked (asked.Run value) = run (run_asked value)
-words_asked (asked.Explain value) = explain (explain_asked value)
-words_asked (asked.Check value) = check value.list.now (text_of value.root)
-words_asked (asked.Merge value) = merge (merge_asked value)
-words_asked (asked.Diff value) = diff value.old.now value.new.now value.steps
-words_asked (asked.Show value) = show value.report.now (text_of value.junit) value.lenient
+abbrev pub asked_words : Asked → Words
+asked_words (asked.Run value) = run (run_asked_words value)
+asked_words (asked.Explain value) = explain (explain_asked_words value)
+asked_words (asked.Check value) = check value.list.now (borrowed_text value.root)
+asked_words (asked.Merge value) = merge (merge_asked_words value)
+asked_words (asked.Diff value) = diff value.old.now value.new.now value.steps
+asked_words (asked.Show value) = show value.report.now (borrowed_text value.junit) value.lenient
 
 -- each number is within the range of its argument
-abbrev pub AreWithin : Asked → Type 0
-AreWithin (asked.Run value) = IfSome value.workers (λ number. (1 ≤ number) × (number ≤ most_workers))
-    × (1 ≤ value.group) × (value.group ≤ most_group) × IfSome value.last (λ number. number ≤ most_last)
-AreWithin (asked.Explain value) = value.last ≤ most_last
-AreWithin _ = Unit {0}
+abbrev pub IsAskedInRange : Asked → Type 0
+IsAskedInRange (asked.Run value) = IfSome value.workers (λ number. (1 ≤ number) × (number ≤ most_workers))
+    × (1 ≤ value.group) × (value.group ≤ most_group) × IfSome value.last (λ number. number ≤ most_last_instructions)
+IsAskedInRange (asked.Explain value) = value.last ≤ most_last_instructions
+IsAskedInRange _ = Unit {0}
 
 -- what is asked for is what these words are, with numbers in their ranges
 abbrev pub AsksFor : Option Words → Option Asked → Type 0
-AsksFor words asked = (option_map words_asked asked ≡ words) × IfSome asked AreWithin
+AsksFor words asked = (option_map asked_words asked ≡ words) × IfSome asked IsAskedInRange
 
 -- and else an error is of one of these kinds, or of want of memory
-abbrev pub Reads : Option Words → Kinds → Result (Option Asked) Error → Type 0
-Reads words kinds result = IfOk result (AsksFor words) × FailsBy kinds result
+abbrev pub ReadsRequest : Option Words → Kinds → Result (Option Asked) Error → Type 0
+ReadsRequest words kinds result = IfOk result (AsksFor words) × FailsBy kinds result

@@ -8,33 +8,33 @@ use Rattle.clap.specs.ValueTests.{is_numeral}
 use Rattle.clap.specs.Words.{Row, Text, all_of, first_of, one_of}
 
 -- a decimal number of 32 bits; a plus may stand before it
-abbrev pub number_of : Text → Option ℕ
-number_of text = let number = digits_value 10 (without_leading_plus text) in
+abbrev pub parsed_decimal : Text → Option ℕ
+parsed_decimal text = let number = digits_value 10 (without_leading_plus text) in
     if is_numeral (without_leading_plus text) && nat_lt number (2 ^ 32) then Some number else None
 
-abbrev pub number_within : ℕ → ℕ → ℕ → Option ℕ
-number_within low high number =
+abbrev pub number_in_range : ℕ → ℕ → ℕ → Option ℕ
+number_in_range low high number =
     if nat_le low number && nat_le number high then Some number else None
 
 -- the number that stands for an argument
-abbrev pub read_number_in : Text → List Row → Option ℕ
-read_number_in id rows = option_and_then number_of (one_of id rows)
+abbrev pub parsed_number_value : Text → List Row → Option ℕ
+parsed_number_value id rows = option_and_then parsed_decimal (one_of id rows)
 
 -- the number that stands for an argument, from low to high
-abbrev pub number_in : Text → ℕ → ℕ → List Row → Option ℕ
-number_in id low high rows = option_and_then (number_within low high) (read_number_in id rows)
+abbrev pub number_value : Text → ℕ → ℕ → List Row → Option ℕ
+number_value id low high rows = option_and_then (number_in_range low high) (parsed_number_value id rows)
 
 abbrev pub is_true : Text → Bool
 is_true text = bytes_eq text (codes "true")
 
 -- an option without a value is there
-abbrev pub flag_in : Text → List Row → Bool
-flag_in id rows = option_map_or is_true (first_of id rows) false
+abbrev pub is_flag_set : Text → List Row → Bool
+is_flag_set id rows = option_map_or is_true (first_of id rows) false
 
 -- all values of an option
-abbrev pub all_in : Text → List Row → List Text
-all_in id rows = unwrap_or (all_of id rows) []
+abbrev pub argument_values : Text → List Row → List Text
+argument_values id rows = unwrap_or (all_of id rows) []
 
 -- an option with a value is there
-abbrev pub is_given : Text → List Row → Bool
-is_given id rows = is_some (first_of id rows)
+abbrev pub is_option_given : Text → List Row → Bool
+is_option_given id rows = is_some (first_of id rows)

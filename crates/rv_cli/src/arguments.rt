@@ -2,14 +2,14 @@
 
 ghost use Rattle.std.specs.Prelude.{◌≡◌, false};
 ghost use Rattle.clap.specs.Words.{rule_of};
-ghost use Rattle.rv_cli.specs.Building.{option_rule, word_rule};
+ghost use Rattle.rv_cli.specs.CommandBuilder.{option_rule, word_rule};
 ghost use Rattle.rv_cli.specs.RvfleetCommand.{group_rule};
 
 use clap::{Arg, value_parser};
 use std::alloc::Global;
 
 /// A word that stands for itself.
-pub fn word<'a>(alloc: Global, name: &'a str, value: &'a str, help: &'a str) -> Arg<'a>
+pub fn word_argument<'a>(alloc: Global, name: &'a str, value: &'a str, help: &'a str) -> Arg<'a>
     ensures { (rule_of result ≡ word_rule name.entry.now) × (result.global ≡ false) }
 {
     Arg::new(alloc, name)
@@ -19,7 +19,7 @@ pub fn word<'a>(alloc: Global, name: &'a str, value: &'a str, help: &'a str) -> 
 }
 
 /// An option with a value.
-pub fn option<'a>(alloc: Global, name: &'a str, value: &'a str, help: &'a str) -> Arg<'a>
+pub fn option_argument<'a>(alloc: Global, name: &'a str, value: &'a str, help: &'a str) -> Arg<'a>
     ensures { (rule_of result ≡ option_rule name.entry.now) × (result.global ≡ false) }
 {
     Arg::new(alloc, name)
@@ -29,11 +29,11 @@ pub fn option<'a>(alloc: Global, name: &'a str, value: &'a str, help: &'a str) -
 }
 
 /// How many jobs a thread takes at once.
-pub fn group<'a>(alloc: Global) -> Arg<'a>
+pub fn group_argument<'a>(alloc: Global) -> Arg<'a>
     ensures { (rule_of result ≡ group_rule) × (result.global ≡ false) }
 {
     let help = "Jobs that a thread takes at once, from 1 to 4096";
-    option(alloc, "group", "N", help)
+    option_argument(alloc, "group", "N", help)
         .value_parser(value_parser!(u32).range(1..=4_096))
         .default_value("1")
 }

@@ -5,7 +5,7 @@
 #![tactic(auto)]
 
 mod arguments;
-mod building;
+mod command_builder;
 pub mod rvfleet;
 pub mod rvtest;
 mod values;

@@ -4,19 +4,19 @@ ghost use Rattle.std.specs.Prelude.{◌≡◌, ◌≤◌, IfOk, IfErr, IfSome, i
 ghost use Rattle.std.specs.Prelude.{option_map};
 ghost use Rattle.clap.specs.Words.{FailsBy, app_of, fault_of, first_of, found_of, kind_of, rows_of};
 ghost use Rattle.clap.specs.Words.{rule_of};
-ghost use Rattle.rv_cli.specs.Building.{IsBuilt};
+ghost use Rattle.rv_cli.specs.CommandBuilder.{IsBuilt};
 ghost use Rattle.rv_cli.specs.RvfleetCommand.{budget_rule, workers_rule, raw_app, one_app, run_app};
-ghost use Rattle.rv_cli.specs.RvfleetCommand.{top_app, fleet_app, budget_in};
-ghost use Rattle.rv_cli.specs.RvfleetCommand.{raw_in, one_in, run_in, request_in};
-ghost use Rattle.rv_cli.specs.RvfleetCommand.{request_of, is_taken};
-ghost use Rattle.rv_cli.specs.RvfleetRequests.{AreWithin, request};
+ghost use Rattle.rv_cli.specs.RvfleetCommand.{top_app, fleet_app, requested_budget};
+ghost use Rattle.rv_cli.specs.RvfleetCommand.{raw_request, one_request, run_request, subcommand_request};
+ghost use Rattle.rv_cli.specs.RvfleetCommand.{request_of, are_words_taken};
+ghost use Rattle.rv_cli.specs.RvfleetRequests.{IsRequestInRange, request};
 
-use crate::arguments::{group, option, word};
-use crate::building::{Built, with_argument, with_command};
-use crate::values::{number, text};
+use crate::arguments::{group_argument, option_argument, word_argument};
+use crate::command_builder::{Built, with_argument, with_command};
+use crate::values::{number_value, text_value};
 use clap::error::ErrorKind;
 use clap::{Arg, ArgMatches, Command, Error, value_parser};
-use rv_lists::limits::{MOST_BUDGET, MOST_GROUP, MOST_WORKERS};
+use rv_base::limits::{MOST_BUDGET, MOST_GROUP, MOST_WORKERS};
 use std::alloc::{AllocError, Global};
 use std::convert::AsStr;
 
@@ -48,12 +48,12 @@ pub fn read_words<'a, T: AsStr>(alloc: Global, words: &'a [T]) -> Result<Option<
     ensures value { IfOk result
         (λ asked. option_map request asked ≡ request_of (map T.text words.entry.now)) }
     // Each number is within the range of its argument.
-    ensures within { IfOk result (λ asked. IfSome asked AreWithin) }
+    ensures within { IfOk result (λ asked. IfSome asked IsRequestInRange) }
     // Words that the command takes ask for something.
-    ensures asked { is_taken (map T.text words.entry.now) ≡ true
+    ensures asked { are_words_taken (map T.text words.entry.now) ≡ true
         → IfOk result (λ asked. is_some asked ≡ true) }
     // They fail for want of memory alone.
-    ensures taken { IfErr result (λ error. is_taken (map T.text words.entry.now) ≡ true
+    ensures taken { IfErr result (λ error. are_words_taken (map T.text words.entry.now) ≡ true
         → kind_of error ≡ ErrorKind.OutOfMemory) }
     // Any words fail by a fault that is found in them, or for want of memory, and else have none.
     ensures kinds { FailsBy (fault_of fleet_app (map T.text words.entry.now)) result }
@@ -61,7 +61,7 @@ pub fn read_words<'a, T: AsStr>(alloc: Global, words: &'a [T]) -> Result<Option<
     let command = fleet_command(alloc)?;
     let matches = command.try_get_matches_from(words)?;
     match matches.subcommand() {
-        Some((name, values)) => Ok(subcommand_asked(name, values)),
+        Some((name, values)) => Ok(subcommand_request(name, values)),
         None => Ok(None),
     }
 }
@@ -70,7 +70,7 @@ fn fleet_command<'a>(alloc: Global) -> Result<Command<'a>, AllocError>
     ensures { IfOk result (λ command. app_of command ≡ fleet_app) }
 {
     let command = with_command(top_command(alloc), raw_command(alloc));
-    let command = with_command(command, one_command(alloc));
+    let command = with_command(command, one_image_command(alloc));
     with_command(command, run_command(alloc))
 }
 
@@ -88,19 +88,25 @@ fn raw_command<'a>(alloc: Global) -> Built<'a>
     ensures { IsBuilt raw_app result }
 {
     let about = "Runs the flat image on standard input, placed at 0x80000000";
-    with_argument(Ok(Command::new(alloc, "raw").about(about)), budget(alloc))
+    with_argument(
+        Ok(Command::new(alloc, "raw").about(about)),
+        budget_argument(alloc),
+    )
 }
 
-fn one_command<'a>(alloc: Global) -> Built<'a>
+fn one_image_command<'a>(alloc: Global) -> Built<'a>
     ensures { IsBuilt one_app result }
 {
     let command = Ok(Command::new(alloc, "one").about(
         "Runs one ELF image, placed at its physical addresses",
     ));
-    let command = with_argument(command, word(alloc, "image", "IMAGE", "Path of the image"));
-    let command = with_argument(command, budget(alloc));
+    let command = with_argument(
+        command,
+        word_argument(alloc, "image", "IMAGE", "Path of the image"),
+    );
+    let command = with_argument(command, budget_argument(alloc));
     let input = "The console's input, as hexadecimal digits";
-    with_argument(command, option(alloc, "input-hex", "H", input))
+    with_argument(command, option_argument(alloc, "input-hex", "H", input))
 }
 
 fn run_command<'a>(alloc: Global) -> Built<'a>
@@ -109,59 +115,62 @@ fn run_command<'a>(alloc: Global) -> Built<'a>
     let command = Ok(Command::new(alloc, "run").about(
         "Runs the jobs of a list, and reports one row a job",
     ));
-    let command = with_argument(command, word(alloc, "jobs", "JOBS", "Path of the job list"));
-    let command = with_argument(command, workers(alloc));
-    with_argument(command, group(alloc))
+    let command = with_argument(
+        command,
+        word_argument(alloc, "jobs", "JOBS", "Path of the job list"),
+    );
+    let command = with_argument(command, workers_argument(alloc));
+    with_argument(command, group_argument(alloc))
 }
 
-fn budget<'a>(alloc: Global) -> Arg<'a>
+fn budget_argument<'a>(alloc: Global) -> Arg<'a>
     ensures { (rule_of result ≡ budget_rule) × (result.global ≡ false) }
 {
     let help = "Steps at most, from 1 to 1000000000";
-    option(alloc, "budget", "N", help)
+    option_argument(alloc, "budget", "N", help)
         .required(true)
         .value_parser(value_parser!(u32).range(1..=1_000_000_000))
 }
 
-fn workers<'a>(alloc: Global) -> Arg<'a>
+fn workers_argument<'a>(alloc: Global) -> Arg<'a>
     ensures { (rule_of result ≡ workers_rule) × (result.global ≡ false) }
 {
-    option(alloc, "workers", "N", "Threads, from 1 to 64")
+    option_argument(alloc, "workers", "N", "Threads, from 1 to 64")
         .value_parser(value_parser!(u32).range(1..=64))
         .default_value("1")
 }
 
-fn subcommand_asked<'a>(name: &str, values: &ArgMatches<'a>) -> Option<Request<'a>>
+fn subcommand_request<'a>(name: &str, values: &ArgMatches<'a>) -> Option<Request<'a>>
     ensures value { option_map request result
-        ≡ request_in name.now (rows_of (found_of values.now)) }
-    ensures within { IfSome result AreWithin }
+        ≡ subcommand_request name.now (rows_of (found_of values.now)) }
+    ensures within { IfSome result IsRequestInRange }
 {
     if name == "raw" {
-        raw_asked(values)
+        raw_request(values)
     } else if name == "one" {
-        one_asked(values)
+        one_request(values)
     } else if name == "run" {
-        run_asked(values)
+        run_request(values)
     } else {
         None
     }
 }
 
-fn raw_asked<'a>(values: &ArgMatches<'a>) -> Option<Request<'a>>
-    ensures value { option_map request result ≡ raw_in (rows_of (found_of values.now)) }
-    ensures within { IfSome result AreWithin }
+fn raw_request<'a>(values: &ArgMatches<'a>) -> Option<Request<'a>>
+    ensures value { option_map request result ≡ raw_request (rows_of (found_of values.now)) }
+    ensures within { IfSome result IsRequestInRange }
 {
-    let budget = budget_asked(values)?;
+    let budget = requested_budget(values)?;
     Some(Request::Raw { budget })
 }
 
-fn one_asked<'a>(values: &ArgMatches<'a>) -> Option<Request<'a>>
-    ensures value { option_map request result ≡ one_in (rows_of (found_of values.now)) }
-    ensures within { IfSome result AreWithin }
+fn one_request<'a>(values: &ArgMatches<'a>) -> Option<Request<'a>>
+    ensures value { option_map request result ≡ one_request (rows_of (found_of values.now)) }
+    ensures within { IfSome result IsRequestInRange }
 {
-    let image = text(values, "image")?;
-    let budget = budget_asked(values)?;
-    let input_hex = text(values, "input-hex");
+    let image = text_value(values, "image")?;
+    let budget = requested_budget(values)?;
+    let input_hex = text_value(values, "input-hex");
     Some(Request::One {
         image,
         budget,
@@ -169,13 +178,13 @@ fn one_asked<'a>(values: &ArgMatches<'a>) -> Option<Request<'a>>
     })
 }
 
-fn run_asked<'a>(values: &ArgMatches<'a>) -> Option<Request<'a>>
-    ensures value { option_map request result ≡ run_in (rows_of (found_of values.now)) }
-    ensures within { IfSome result AreWithin }
+fn run_request<'a>(values: &ArgMatches<'a>) -> Option<Request<'a>>
+    ensures value { option_map request result ≡ run_request (rows_of (found_of values.now)) }
+    ensures within { IfSome result IsRequestInRange }
 {
-    let jobs = text(values, "jobs")?;
-    let workers = number(values, "workers", 1, MOST_WORKERS)?;
-    let group = number(values, "group", 1, MOST_GROUP)?;
+    let jobs = text_value(values, "jobs")?;
+    let workers = number_value(values, "workers", 1, MOST_WORKERS)?;
+    let group = number_value(values, "group", 1, MOST_GROUP)?;
     Some(Request::Run {
         jobs,
         workers,
@@ -183,9 +192,9 @@ fn run_asked<'a>(values: &ArgMatches<'a>) -> Option<Request<'a>>
     })
 }
 
-fn budget_asked(values: &ArgMatches<'_>) -> Option<u32>
-    ensures value { result ≡ budget_in (rows_of (found_of values.now)) }
+fn requested_budget(values: &ArgMatches<'_>) -> Option<u32>
+    ensures value { result ≡ requested_budget (rows_of (found_of values.now)) }
     ensures within { IfSome result (λ number. (1 ≤ number) × (number ≤ MOST_BUDGET)) }
 {
-    number(values, "budget", 1, MOST_BUDGET)
+    number_value(values, "budget", 1, MOST_BUDGET)
 }

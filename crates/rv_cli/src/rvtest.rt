@@ -1,26 +1,26 @@
 //! The words of `rvtest`.
 //!
-//! [`read_words`] reads them. [`refusal`] makes an error of that form for what `clap` does not find, as a bad regular
+//! [`read_words`] reads them. [`usage_error`] makes an error of that form for what `clap` does not find, as a bad regular
 //! expression.
 
 mod arguments;
-mod asked;
 mod check;
 mod command;
 mod diff;
 mod explain;
 mod merge;
 mod refusals;
+mod requests;
 mod run;
 mod show;
 mod table;
 
-pub use asked::{Asked, read_words};
 pub use check::CheckAsked;
 pub use command::{merge_command, run_command};
 pub use diff::DiffAsked;
 pub use explain::ExplainAsked;
 pub use merge::MergeAsked;
-pub use refusals::refusal;
+pub use refusals::usage_error;
+pub use requests::{Asked, read_words};
 pub use run::RunAsked;
 pub use show::ShowAsked;

@@ -6,11 +6,11 @@ use Rattle.std.specs.List.{flat_map, sum_by}
 use Rattle.std.proofs.lemmas.List.Sums.{sum_by-cons}
 use Rattle.rv_rows.specs.declared_row.Row.{Row}
 use Rattle.rv_rows.specs.Report.{line}
-use Rattle.rv_rows.specs.Verdict.{same_signature}
+use Rattle.rv_rows.specs.Verdict.{are_same_signatures}
 use Rattle.rv_diff.specs.declared.change.Compare.{Compare}
 use Rattle.rv_diff.specs.Change.{rows_agree, same_console, same_ending, same_steps, same_verdict}
 use Rattle.rv_diff.specs.ByName.{row_named}
-use Rattle.rv_diff.specs.Diff.{difference_lines, differing, differing_count, gone_line, is_changed, lines_of_new}
+use Rattle.rv_diff.specs.Diff.{difference_lines, counts_of_differing, differing_count, gone_line, is_changed, changes_of_row}
 use Rattle.rv_diff.specs.Differences.{becomes, change_begin, change_line, change_lines, console_words, ending_words}
 use Rattle.rv_diff.specs.Differences.{signature_words, steps_words, verdict_words}
 
@@ -34,7 +34,7 @@ agree_where_none compare old new =
     (becomes (ending_words old.ending) (ending_words new.ending)) in
     let counts = change_line new.name (same_steps compare old new) (steps_words old.steps new.steps) in
     let console = change_line new.name (same_console old new) (console_words old.console new.console) in
-    let signature = change_line new.name (same_signature old.signature new.signature)
+    let signature = change_line new.name (are_same_signatures old.signature new.signature)
     (signature_words old.signature new.signature) in
     let verdict = change_line new.name (same_verdict old.verdict new.verdict)
     (verdict_words old.verdict new.verdict) in
@@ -46,7 +46,7 @@ agree_where_none compare old new =
     (becomes (ending_words old.ending) (ending_words new.ending)) i
     && change_due new.name (same_steps compare old new) (steps_words old.steps new.steps) i
     && change_due new.name (same_console old new) (console_words old.console new.console) i
-    && change_due new.name (same_signature old.signature new.signature)
+    && change_due new.name (are_same_signatures old.signature new.signature)
     (signature_words old.signature new.signature) i
     && change_due new.name (same_verdict old.verdict new.verdict) (verdict_words old.verdict new.verdict) i)
 
@@ -78,22 +78,22 @@ changed_due true = refl
 changed_due false = refl
 
 new_due : (compare : Compare) (other : Option Row) (row : Row) →
-    (length (lines_of_new compare other row) == 0)
+    (length (changes_of_row compare other row) == 0)
     ≡ (cond (is_none other) 1 0 + cond (is_changed compare other row) 1 0 == 0)
-new_due compare None row = ne_eqb (length (lines_of_new compare None row)) 0 (omega arith)
+new_due compare None row = ne_eqb (length (changes_of_row compare None row)) 0 (omega arith)
 new_due compare (Some old) row = agree_where_none compare old row ∙ changed_due (rows_agree compare old row)
 
 pub differ_where_due : (compare : Compare) (old new : List Row) →
-    (length (difference_lines compare old new) == 0) ≡ (differing_count (differing compare old new) == 0)
+    (length (difference_lines compare old new) == 0) ≡ (differing_count (counts_of_differing compare old new) == 0)
 differ_where_due compare old new =
     let gone : Row → ℕ = λ row. cond (is_none (row_named new row.name)) 1 0 in
     let added : Row → ℕ = λ row. cond (is_none (row_named old row.name)) 1 0 in
     let changed : Row → ℕ = λ row. cond (is_changed compare (row_named old row.name) row) 1 0 in
     no_text (flat_map (λ row. gone_line (row_named new row.name) row) old)
-    (flat_map (λ row. lines_of_new compare (row_named old row.name) row) new)
+    (flat_map (λ row. changes_of_row compare (row_named old row.name) row) new)
     ∙ (λ i. none_of_all (λ row. gone_line (row_named new row.name) row) gone
     (λ row. gone_due (row_named new row.name) row) old i
-    && none_of_all (λ row. lines_of_new compare (row_named old row.name) row) (λ row. added row + changed row)
+    && none_of_all (λ row. changes_of_row compare (row_named old row.name) row) (λ row. added row + changed row)
     (λ row. new_due compare (row_named old row.name) row) new i)
     ∙ sym (none_of_two (sum_by gone old) (sum_by (λ row. added row + changed row) new))
     ∙ ap (λ n. n == 0) (omega (arith, sum_of_two added changed new))

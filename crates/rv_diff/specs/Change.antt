@@ -6,7 +6,7 @@ use Rattle.rv_rows.specs.declared_row.RowEnd.{RowEnd}
 use Rattle.rv_rows.specs.declared_row.RowEnd.TheVariants as ending
 use Rattle.rv_rows.specs.declared_row.Verdict.{Verdict}
 use Rattle.rv_rows.specs.Report.{refusal_name, verdict_name}
-use Rattle.rv_rows.specs.Verdict.{are_alike, same_signature}
+use Rattle.rv_rows.specs.Verdict.{are_alike_endings, are_same_signatures}
 use Rattle.rv_diff.specs.declared.change.Change.{Change}
 use Rattle.rv_diff.specs.declared.change.Compare.{Compare}
 use Rattle.rv_diff.specs.declared.change.Compare.TheVariants.{Outcomes, Steps}
@@ -16,20 +16,20 @@ use Rattle.rv_diff.specs.declared.change.Change.TheVariants.{Gone, Added, Change
 
 -- both ended by the same code, by the same kind of fault, by their budgets, or were refused for the
 -- same
-abbrev pub same_kind : RowEnd → RowEnd → Bool
-same_kind (ending.Refused why) (ending.Refused because) =
+abbrev pub same_end_kind : RowEnd → RowEnd → Bool
+same_end_kind (ending.Refused why) (ending.Refused because) =
     bytes_eq (refusal_name why) (refusal_name because)
-same_kind old new = are_alike old new
+same_end_kind old new = are_alike_endings old new
 
 -- two faults have the same address and the same value
-abbrev pub same_place : RowEnd → RowEnd → Bool
-same_place (ending.Fault kind pc value) (ending.Fault other at met) = pc == at && value == met
-same_place old new = true
+abbrev pub same_fault_values : RowEnd → RowEnd → Bool
+same_fault_values (ending.Fault kind pc value) (ending.Fault other at met) = pc == at && value == met
+same_fault_values old new = true
 
 -- where steps are not compared, nor are the addresses and the values of faults
 abbrev pub same_ending : Compare → RowEnd → RowEnd → Bool
-same_ending Outcomes old new = same_kind old new
-same_ending Steps old new = same_kind old new && same_place old new
+same_ending Outcomes old new = same_end_kind old new
+same_ending Steps old new = same_end_kind old new && same_fault_values old new
 
 abbrev pub same_steps : Compare → Row → Row → Bool
 same_steps Outcomes old new = true
@@ -44,7 +44,7 @@ same_verdict old new = bytes_eq (verdict_name old) (verdict_name new)
 -- two rows agree, by all that is compared
 unfoldable pub rows_agree : Compare → Row → Row → Bool
 rows_agree compare old new = same_ending compare old.ending new.ending && same_steps compare old new
-    && same_console old new && same_signature old.signature new.signature
+    && same_console old new && are_same_signatures old.signature new.signature
     && same_verdict old.verdict new.verdict
 
 -- ---- what became of a job

@@ -24,14 +24,14 @@ abbrev pub gone_line : Option Row → Row → List ℕ
 gone_line None old = line (codes "- " ++ old.name)
 gone_line (Some new) old = []
 
-abbrev pub lines_of_new : Compare → Option Row → Row → List ℕ
-lines_of_new compare None new = line (codes "+ " ++ new.name)
-lines_of_new compare (Some old) new = change_lines compare old new
+abbrev pub changes_of_row : Compare → Option Row → Row → List ℕ
+changes_of_row compare None new = line (codes "+ " ++ new.name)
+changes_of_row compare (Some old) new = change_lines compare old new
 
 -- ---- how many jobs differ
 
-abbrev pub differing : Compare → List Row → List Row → Differing
-differing compare old new = record {
+abbrev pub counts_of_differing : Compare → List Row → List Row → Differing
+counts_of_differing compare old new = record {
   gone = count_by (is_alone_in new) old;
   added = count_by (is_alone_in old) new;
   changed = count_by (λ row. is_changed compare (row_named old row.name) row) new;
@@ -46,10 +46,10 @@ differing_count counts = counts.gone + counts.added + counts.changed
 abbrev pub difference_lines : Compare → List Row → List Row → List ℕ
 difference_lines compare old new =
     flat_map (λ row. gone_line (row_named new row.name) row) old
-    ++ flat_map (λ row. lines_of_new compare (row_named old row.name) row) new
+    ++ flat_map (λ row. changes_of_row compare (row_named old row.name) row) new
 
-unfoldable pub counts_words : Differing → List ℕ
-counts_words counts = decimal counts.gone ++ codes " gone, " ++ decimal counts.added
+unfoldable pub change_counts_words : Differing → List ℕ
+change_counts_words counts = decimal counts.gone ++ codes " gone, " ++ decimal counts.added
     ++ codes " new, " ++ decimal counts.changed ++ codes " changed\n"
 
 -- so many of so many jobs
@@ -58,9 +58,9 @@ differing_words count jobs = decimal count ++ codes " of " ++ decimal jobs
     ++ codes " jobs differ: "
 
 unfoldable pub count_line : ℕ → Differing → List ℕ
-count_line jobs counts = differing_words (differing_count counts) jobs ++ counts_words counts
+count_line jobs counts = differing_words (differing_count counts) jobs ++ change_counts_words counts
 
 -- the jobs are those that are in either report
 unfoldable pub diff_text : Compare → List Row → List Row → List ℕ
-diff_text compare old new = let counts = differing compare old new in
+diff_text compare old new = let counts = counts_of_differing compare old new in
     difference_lines compare old new ++ count_line (length new + counts.gone) counts

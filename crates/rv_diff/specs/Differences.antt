@@ -4,14 +4,14 @@ use Rattle.std.specs.Prelude.{if◌then◌else◌, codes, drop, length, position
 use Rattle.std.specs.Fmt.{decimal}
 use Rattle.std.specs.List.{zip}
 use Rattle.rv_rows.specs.Faults.{fault_name}
-use Rattle.rv_text.specs.Shown.{shown_value}
+use Rattle.rv_text.specs.Printable.{printable_value}
 use Rattle.rv_rows.specs.declared_row.Row.{Row}
 use Rattle.rv_rows.specs.declared_row.RowEnd.{RowEnd}
 use Rattle.rv_rows.specs.declared_row.RowEnd.TheVariants as ending
 use Rattle.rv_rows.specs.declared_row.Verdict.{Verdict}
 use Rattle.rv_rows.specs.Report.{line, refusal_name, verdict_name}
 use Rattle.rv_text.specs.Words.{word_digits}
-use Rattle.rv_rows.specs.Verdict.{same_signature}
+use Rattle.rv_rows.specs.Verdict.{are_same_signatures}
 use Rattle.rv_diff.specs.declared.change.Compare.{Compare}
 use Rattle.rv_diff.specs.Change.{same_console, same_ending, same_steps, same_verdict}
 
@@ -28,12 +28,12 @@ ending_words (ending.Refused why) = codes "refused " ++ refusal_name why
 abbrev pub becomes : List ℕ → List ℕ → List ℕ
 becomes old new = old ++ codes " -> " ++ new
 
-abbrev pub quoted : List ℕ → List ℕ
-quoted value = codes "\"" ++ shown_value value ++ codes "\""
+abbrev pub value_in_quotes : List ℕ → List ℕ
+value_in_quotes value = codes "\"" ++ printable_value value ++ codes "\""
 
 -- the first place where both lists have an element and these differ
-abbrev pub first_place : List ℕ → List ℕ → Option ℕ
-first_place old new = position (λ pair. not (pair.0 == pair.1)) (zip old new)
+abbrev pub first_differing_place : List ℕ → List ℕ → Option ℕ
+first_differing_place old new = position (λ pair. not (pair.0 == pair.1)) (zip old new)
 
 abbrev pub count_words : ℕ → List ℕ → List ℕ
 count_words count what = decimal count ++ codes " " ++ what
@@ -44,31 +44,31 @@ counts_words what old new = becomes (count_words (length old) what) (count_words
 
 -- the bytes from the first on that differs; where there is none, one console is the beginning of
 -- the other
-abbrev pub bytes_words : Option ℕ → List ℕ → List ℕ → List ℕ
-bytes_words (Some place) old new = codes "byte " ++ decimal place ++ codes ": "
-    ++ becomes (quoted (drop place old)) (quoted (drop place new))
-bytes_words None old new = counts_words (codes "bytes") old new
+abbrev pub byte_change_words : Option ℕ → List ℕ → List ℕ → List ℕ
+byte_change_words (Some place) old new = codes "byte " ++ decimal place ++ codes ": "
+    ++ becomes (value_in_quotes (drop place old)) (value_in_quotes (drop place new))
+byte_change_words None old new = counts_words (codes "bytes") old new
 
 unfoldable pub console_words : List ℕ → List ℕ → List ℕ
-console_words old new = codes "console " ++ bytes_words (first_place old new) old new
+console_words old new = codes "console " ++ byte_change_words (first_differing_place old new) old new
 
 -- the first word that differs
-abbrev pub words_words : Option ℕ → List ℕ → List ℕ → List ℕ
-words_words (Some place) old new = codes "word " ++ decimal place ++ codes ": "
+abbrev pub word_change_words : Option ℕ → List ℕ → List ℕ → List ℕ
+word_change_words (Some place) old new = codes "word " ++ decimal place ++ codes ": "
     ++ becomes (word_digits (slice_index old place)) (word_digits (slice_index new place))
-words_words None old new = counts_words (codes "words") old new
+word_change_words None old new = counts_words (codes "words") old new
 
 abbrev pub size_words : Option (List ℕ) → List ℕ
 size_words None = codes "none"
 size_words (Some words) = count_words (length words) (codes "words")
 
 -- of two signatures of which one is absent the sizes are told
-abbrev pub signatures_words : Option (List ℕ) → Option (List ℕ) → List ℕ
-signatures_words (Some old) (Some new) = words_words (first_place old new) old new
-signatures_words old new = becomes (size_words old) (size_words new)
+abbrev pub signature_change_words : Option (List ℕ) → Option (List ℕ) → List ℕ
+signature_change_words (Some old) (Some new) = word_change_words (first_differing_place old new) old new
+signature_change_words old new = becomes (size_words old) (size_words new)
 
 unfoldable pub signature_words : Option (List ℕ) → Option (List ℕ) → List ℕ
-signature_words old new = codes "signature " ++ signatures_words old new
+signature_words old new = codes "signature " ++ signature_change_words old new
 
 abbrev pub steps_words : ℕ → ℕ → List ℕ
 steps_words old new = codes "steps " ++ becomes (decimal old) (decimal new)
@@ -92,7 +92,7 @@ change_lines compare old new =
     (becomes (ending_words old.ending) (ending_words new.ending))
     ++ change_line new.name (same_steps compare old new) (steps_words old.steps new.steps)
     ++ change_line new.name (same_console old new) (console_words old.console new.console)
-    ++ change_line new.name (same_signature old.signature new.signature)
+    ++ change_line new.name (are_same_signatures old.signature new.signature)
     (signature_words old.signature new.signature)
     ++ change_line new.name (same_verdict old.verdict new.verdict)
     (verdict_words old.verdict new.verdict)

@@ -2,11 +2,11 @@
 
 ghost use Rattle.std.specs.Prelude.{◌≡◌, option_map};
 ghost use Rattle.rv_rows.specs.Report.{verdict_name};
-ghost use Rattle.rv_rows.specs.Verdict.{same_signature};
-ghost use Rattle.rv_diff.specs.Change.{change_of, rows_agree, same_console, same_ending, same_kind, same_place};
+ghost use Rattle.rv_rows.specs.Verdict.{are_same_signatures};
+ghost use Rattle.rv_diff.specs.Change.{change_of, rows_agree, same_console, same_ending, same_end_kind, same_fault_values};
 ghost use Rattle.rv_diff.specs.Change.{same_steps, same_verdict};
 
-use rv_rows::{Row, RowEnd, Verdict, Words, are_alike};
+use rv_rows::{Row, RowEnd, Verdict, Words, are_alike_endings};
 
 /// What became of a job from one report to another.
 #[derive(Clone, Copy)]
@@ -61,22 +61,22 @@ pub fn same_ending(compare: Compare, old: RowEnd, new: RowEnd) -> bool
     ensures { result ≡ same_ending compare old new }
 {
     match compare {
-        Compare::Outcomes => same_kind(old, new),
-        Compare::Steps => same_kind(old, new) && same_place(old, new),
+        Compare::Outcomes => same_end_kind(old, new),
+        Compare::Steps => same_end_kind(old, new) && same_fault_values(old, new),
     }
 }
 
-fn same_kind(old: RowEnd, new: RowEnd) -> bool
-    ensures { result ≡ same_kind old new }
+fn same_end_kind(old: RowEnd, new: RowEnd) -> bool
+    ensures { result ≡ same_end_kind old new }
 {
     match (old, new) {
         (RowEnd::Refused(why), RowEnd::Refused(because)) => why.name() == because.name(),
-        _ => are_alike(old, new),
+        _ => are_alike_endings(old, new),
     }
 }
 
-fn same_place(old: RowEnd, new: RowEnd) -> bool
-    ensures { result ≡ same_place old new }
+fn same_fault_values(old: RowEnd, new: RowEnd) -> bool
+    ensures { result ≡ same_fault_values old new }
 {
     match (old, new) {
         (RowEnd::Fault(_, pc, value), RowEnd::Fault(_, at, met)) => pc == at && value == met,
@@ -103,7 +103,7 @@ pub fn same_console(old: &Row, new: &Row) -> bool
 
 /// Whether two signatures are the same, or both absent.
 pub fn same_signature(old: &Option<Words>, new: &Option<Words>) -> bool
-    ensures { result ≡ same_signature old.now new.now }
+    ensures { result ≡ are_same_signatures old.now new.now }
 {
     match (old, new) {
         (Some(old), Some(new)) => old.as_slice() == new.as_slice(),

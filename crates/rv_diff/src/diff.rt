@@ -4,8 +4,8 @@ ghost use Rattle.std.specs.Prelude.{◌≡◌, ◌==◌, ◌≤◌, ◌<◌, ◌
 ghost use Rattle.std.specs.List.{flat_map};
 ghost use Rattle.rv_rows.specs.Report.{line};
 ghost use Rattle.rv_diff.specs.ByName.{row_named};
-ghost use Rattle.rv_diff.specs.Diff.{count_line, diff_text, differing, differing_count, gone_line, is_alone_in};
-ghost use Rattle.rv_diff.specs.Diff.{is_changed, lines_of_new};
+ghost use Rattle.rv_diff.specs.Diff.{count_line, diff_text, counts_of_differing, differing_count, gone_line, is_alone_in};
+ghost use Rattle.rv_diff.specs.Diff.{is_changed, changes_of_row};
 
 use crate::by_name::ByName;
 use crate::change::{Change, Compare, change_of};
@@ -27,7 +27,7 @@ pub struct Differing {
 
 impl Differing {
     /// Whether any job differs, so that a line is due.
-    pub fn is_any(&self) -> bool
+    pub fn has_differences(&self) -> bool
         ensures { result ≡ not (differing_count self.now == 0) }
     {
         self.gone != 0 || self.added != 0 || self.changed != 0
@@ -49,10 +49,10 @@ pub fn push_diff(
     requires new { length new.now < 2 ^ 32 }
     ensures text { OnOk result
         (text.new.items ≡ text.old.items ++ diff_text compare old.now new.now) }
-    ensures counts { IfOk result (λ counts. counts ≡ differing compare old.now new.now) }
+    ensures counts { IfOk result (λ counts. counts ≡ counts_of_differing compare old.now new.now) }
 {
-    let gone = push_gone(alloc, text, compare, old, new)?;
-    let (added, changed) = push_new(alloc, text, compare, old, new)?;
+    let gone = push_gone_lines(alloc, text, compare, old, new)?;
+    let (added, changed) = push_added_and_changed(alloc, text, compare, old, new)?;
     let counts = Differing {
         gone,
         added,
@@ -63,7 +63,7 @@ pub fn push_diff(
 }
 
 // Appends the lines of the jobs that are gone, and counts these.
-fn push_gone(
+fn push_gone_lines(
     alloc: Global,
     text: &mut Vec<u8>,
     compare: Compare,
@@ -79,7 +79,7 @@ fn push_gone(
     let mut gone = 0;
     for row in old {
         if let Change::Gone = change_of(compare, Some(row), after.find(row.name.as_str())) {
-            push_sign(text, "- ", row)?;
+            push_sign_line(text, "- ", row)?;
             gone += 1;
         }
     }
@@ -87,7 +87,7 @@ fn push_gone(
 }
 
 // Appends the lines of the jobs of the new report, and counts those that only it has and those that changed.
-fn push_new(
+fn push_added_and_changed(
     alloc: Global,
     text: &mut Vec<u8>,
     compare: Compare,
@@ -95,7 +95,7 @@ fn push_new(
     new: &[Row],
 ) -> Result<(usize, usize), AllocError>
     ensures text { OnOk result (text.new.items ≡ text.old.items
-        ++ flat_map (λ row. lines_of_new compare (row_named old.now row.name) row) new.now) }
+        ++ flat_map (λ row. changes_of_row compare (row_named old.now row.name) row) new.now) }
     ensures added { IfOk result (λ counts. counts.0 ≡ count_by (is_alone_in old.now) new.now) }
     ensures changed { IfOk result (λ counts. counts.1
         ≡ count_by (λ row. is_changed compare (row_named old.now row.name) row) new.now) }
@@ -106,7 +106,7 @@ fn push_new(
     let mut changed = 0;
     for row in new {
         let other = before.find(row.name.as_str());
-        push_lines_of_new(text, compare, other, row)?;
+        push_changes_of_row(text, compare, other, row)?;
         match change_of(compare, other, Some(row)) {
             Change::Added => added += 1,
             Change::Changed => changed += 1,
@@ -116,23 +116,23 @@ fn push_new(
     Ok((added, changed))
 }
 
-fn push_lines_of_new(
+fn push_changes_of_row(
     text: &mut Vec<u8>,
     compare: Compare,
     old: Option<&Row>,
     new: &Row,
 ) -> Result<(), AllocError>
     ensures { OnOk result (text.new.items ≡ text.old.items
-        ++ lines_of_new compare (option_map (λ row. row.now) old.entry) new.now) }
+        ++ changes_of_row compare (option_map (λ row. row.now) old.entry) new.now) }
 {
     match old {
         Some(old) => push_change_lines(text, compare, old, new),
-        None => push_sign(text, "+ ", new),
+        None => push_sign_line(text, "+ ", new),
     }
 }
 
 // Appends a line of a sign and the name of a job.
-fn push_sign<'a>(text: &mut Vec<u8>, sign: &'a str, row: &'a Row) -> Result<(), AllocError>
+fn push_sign_line<'a>(text: &mut Vec<u8>, sign: &'a str, row: &'a Row) -> Result<(), AllocError>
     ensures { OnOk result
         (text.new.items ≡ text.old.items ++ line (sign.now ++ row.now.name)) }
 {

@@ -3,12 +3,12 @@
 ghost use Rattle.std.specs.Prelude.{◌≡◌, ◌++◌, OnOk};
 ghost use Rattle.rv_diff.specs.Change.{same_console, same_ending, same_steps, same_verdict};
 ghost use Rattle.rv_diff.specs.Differences.{becomes, change_line, change_lines, console_words};
-ghost use Rattle.rv_diff.specs.Differences.{ending_words, first_place, steps_words, verdict_words};
+ghost use Rattle.rv_diff.specs.Differences.{ending_words, first_differing_place, steps_words, verdict_words};
 
 use crate::change::{Compare, same_console, same_ending, same_steps, same_verdict, verdict_text};
 use crate::signature_line::push_signature_change;
 use rv_rows::{Row, RowEnd};
-use rv_text::{Span, behind, push_spans};
+use rv_text::{Span, push_spans, tail_from};
 use std::alloc::AllocError;
 
 /// Appends a line for each part in which two rows do not agree.
@@ -134,7 +134,7 @@ fn push_console_change<'a>(text: &mut Vec<u8>, old: &'a Row, new: &'a Row) -> Re
     }
     let before = old.console.as_slice();
     let after = new.console.as_slice();
-    match first_byte(before, after) {
+    match first_differing_byte(before, after) {
         Some(place) => push_spans(
             text,
             &[
@@ -143,9 +143,9 @@ fn push_console_change<'a>(text: &mut Vec<u8>, old: &'a Row, new: &'a Row) -> Re
                 Span::Text(": console byte "),
                 Span::Number(place as u64),
                 Span::Text(": \""),
-                Span::Value(behind(before, place)),
+                Span::Value(tail_from(before, place)),
                 Span::Text("\" -> \""),
-                Span::Value(behind(after, place)),
+                Span::Value(tail_from(after, place)),
                 Span::Text("\"\n"),
             ],
         ),
@@ -164,8 +164,8 @@ fn push_console_change<'a>(text: &mut Vec<u8>, old: &'a Row, new: &'a Row) -> Re
     }
 }
 
-fn first_byte(old: &[u8], new: &[u8]) -> Option<usize>
-    ensures { result ≡ first_place old.now new.now }
+fn first_differing_byte(old: &[u8], new: &[u8]) -> Option<usize>
+    ensures { result ≡ first_differing_place old.now new.now }
 {
     old.iter().zip(new).position(|(x, y)| x != y)
 }

@@ -4,7 +4,7 @@ ghost use Rattle.std.specs.Prelude.{◌≡◌, ◌==◌, List, length};
 ghost use Rattle.rv_rows.specs.declared_row.Row.{Row};
 ghost use Rattle.rv_diff.specs.declared.change.Compare.{Compare};
 ghost use Rattle.rv_diff.specs.Change.{rows_agree};
-ghost use Rattle.rv_diff.specs.Diff.{difference_lines, differing, differing_count};
+ghost use Rattle.rv_diff.specs.Diff.{difference_lines, counts_of_differing, differing_count};
 ghost use Rattle.rv_diff.specs.Differences.{change_lines};
 
 /// Of two rows of one name a line is due exactly where they do not agree.
@@ -17,5 +17,5 @@ pub fn rows_agree_where_no_line_is_due()
 pub fn jobs_differ_where_a_line_is_due()
     ensures { (compare : Compare) (old new : List Row)
         → (length (difference_lines compare old new) == 0)
-        ≡ (differing_count (differing compare old new) == 0) }
+        ≡ (differing_count (counts_of_differing compare old new) == 0) }
 {}

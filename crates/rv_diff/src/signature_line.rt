@@ -2,8 +2,8 @@
 
 ghost use Rattle.std.specs.Prelude.{◌≡◌, ◌++◌, OnOk, codes, slice_index};
 ghost use Rattle.rv_rows.specs.Report.{line};
-ghost use Rattle.rv_rows.specs.Verdict.{same_signature};
-ghost use Rattle.rv_diff.specs.Differences.{change_begin, change_line, first_place, signature_words, words_words};
+ghost use Rattle.rv_rows.specs.Verdict.{are_same_signatures};
+ghost use Rattle.rv_diff.specs.Differences.{change_begin, change_line, first_differing_place, signature_words, word_change_words};
 
 use crate::change::same_signature;
 use rv_rows::{Row, Words};
@@ -17,7 +17,7 @@ pub(crate) fn push_signature_change(
     new: &Row,
 ) -> Result<(), AllocError>
     ensures { OnOk result (text.new.items ≡ text.old.items
-        ++ change_line new.now.name (same_signature old.now.signature new.now.signature)
+        ++ change_line new.now.name (are_same_signatures old.now.signature new.now.signature)
         (signature_words old.now.signature new.now.signature)) }
 {
     if same_signature(&old.signature, &new.signature) {
@@ -78,9 +78,9 @@ fn push_words_change<'a>(
     new: &[u32],
 ) -> Result<(), AllocError>
     ensures { OnOk result (text.new.items ≡ text.old.items ++ line (change_begin name.now
-        ++ (codes "signature " ++ words_words (first_place old.now new.now) old.now new.now))) }
+        ++ (codes "signature " ++ word_change_words (first_differing_place old.now new.now) old.now new.now))) }
 {
-    match first_word(old, new) {
+    match first_differing_word(old, new) {
         Some(place) => push_spans(
             text,
             &[
@@ -89,9 +89,9 @@ fn push_words_change<'a>(
                 Span::Text(": signature word "),
                 Span::Number(place as u64),
                 Span::Text(": "),
-                Span::Word(word_at(old, place)),
+                Span::Word(word_or_zero(old, place)),
                 Span::Text(" -> "),
-                Span::Word(word_at(new, place)),
+                Span::Word(word_or_zero(new, place)),
                 Span::Text("\n"),
             ],
         ),
@@ -110,13 +110,13 @@ fn push_words_change<'a>(
     }
 }
 
-fn first_word(old: &[u32], new: &[u32]) -> Option<usize>
-    ensures { result ≡ first_place old.now new.now }
+fn first_differing_word(old: &[u32], new: &[u32]) -> Option<usize>
+    ensures { result ≡ first_differing_place old.now new.now }
 {
     old.iter().zip(new).position(|(x, y)| x != y)
 }
 
-fn word_at(words: &[u32], place: usize) -> u32
+fn word_or_zero(words: &[u32], place: usize) -> u32
     ensures { result ≡ slice_index words.now place }
 {
     if place < words.len() { words[place] } else { 0 }

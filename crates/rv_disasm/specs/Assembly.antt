@@ -20,29 +20,29 @@ operands_text (Three a b c) f =
     codes " " ++ operand_text a f ++ codes ", " ++ operand_text b f ++ codes ", "
     ++ operand_text c f
 
-unfoldable pub written : Form → Fetched → List ℕ
-written form f = form.mnemonic ++ operands_text form.operands f
+unfoldable pub form_text : Form → Fetched → List ℕ
+form_text form f = form.mnemonic ++ operands_text form.operands f
 
 -- where no row fits
 abbrev pub no_instruction : List ℕ
 no_instruction = codes "no instruction"
 
-abbrev pub fetched : Instr → ℕ → ℕ → Fetched
-fetched i code pc = record { instr = i; code = code; pc = pc }
+abbrev pub fetched_instr : Instr → ℕ → ℕ → Fetched
+fetched_instr i code pc = record { instr = i; code = code; pc = pc }
 
 -- the text of a word's instruction, by the form of its name
 abbrev pub text_by_name : Option Instr → ℕ → ℕ → List ℕ
 text_by_name None word pc = no_instruction
-text_by_name (Some i) word pc = written (form32 i.op) (fetched i word pc)
+text_by_name (Some i) word pc = form_text (form32 i.op) (fetched_instr i word pc)
 
-unfoldable pub text32 : ℕ → ℕ → List ℕ
-text32 word pc = text_by_name (meaning32 set.Imc word) word pc
+unfoldable pub assembly32 : ℕ → ℕ → List ℕ
+assembly32 word pc = text_by_name (meaning32 set.Imc word) word pc
 
 -- the text of a halfword's instruction, by the form of its row
 abbrev pub text_by_row : Option Form → Option Instr → ℕ → ℕ → List ℕ
 text_by_row None i half pc = no_instruction
 text_by_row (Some form) None half pc = no_instruction
-text_by_row (Some form) (Some i) half pc = written form (fetched i half pc)
+text_by_row (Some form) (Some i) half pc = form_text form (fetched_instr i half pc)
 
-unfoldable pub text16 : ℕ → ℕ → List ℕ
-text16 half pc = text_by_row (form16 half) (meaning16 set.Imc half) half pc
+unfoldable pub assembly16 : ℕ → ℕ → List ℕ
+assembly16 half pc = text_by_row (form16 half) (meaning16 set.Imc half) half pc

@@ -19,94 +19,94 @@ pub record Form : Type 0 where
   pub operands : Operands
 
 -- a row of a table of forms
-abbrev pub row : List ℕ → Operands → Form
-row mnemonic operands = record { mnemonic = mnemonic; operands = operands }
+abbrev pub form_row : List ℕ → Operands → Form
+form_row mnemonic operands = record { mnemonic = mnemonic; operands = operands }
 
 -- a form of the code, as contracts see it
-abbrev pub form_seen : CodesForm → Form
-form_seen seen = row seen.0.now seen.1
+abbrev pub form_of_code : CodesForm → Form
+form_of_code seen = form_row seen.0.now seen.1
 
 -- ---- the 32-bit rows
 
 -- the operands of the formats R and I (chapters 2 and 7)
-abbrev pub registers : Operands
-registers = Three Rd Rs1 Rs2
+abbrev pub register_operands : Operands
+register_operands = Three Rd Rs1 Rs2
 
-abbrev pub immediate : Operands
-immediate = Three Rd Rs1 Imm
+abbrev pub immediate_operands : Operands
+immediate_operands = Three Rd Rs1 Imm
 
 -- loads and JALR, stores (sections 2.5 and 2.6)
-abbrev pub load : Operands
-load = Two Rd Address
+abbrev pub load_operands : Operands
+load_operands = Two Rd Address
 
-abbrev pub store : Operands
-store = Two Rs2 Address
+abbrev pub store_operands : Operands
+store_operands = Two Rs2 Address
 
 -- the formats B, U and J (chapter 2)
-abbrev pub branch : Operands
-branch = Three Rs1 Rs2 Target
+abbrev pub branch_operands : Operands
+branch_operands = Three Rs1 Rs2 Target
 
-abbrev pub upper_immediate : Operands
-upper_immediate = Two Rd Upper
+abbrev pub upper_immediate_operands : Operands
+upper_immediate_operands = Two Rd Upper
 
-abbrev pub jump : Operands
-jump = Two Rd Target
+abbrev pub jump_operands : Operands
+jump_operands = Two Rd Target
 
 -- section 2.7
-abbrev pub fence : Operands
-fence = Two Predecessors Successors
+abbrev pub fence_operands : Operands
+fence_operands = Two Predecessors Successors
 
 -- the row of a name
 abbrev pub form32 : Op → Form
-form32 op.Lui = row (codes "lui") upper_immediate
-form32 op.Auipc = row (codes "auipc") upper_immediate
-form32 op.Jal = row (codes "jal") jump
-form32 op.Jalr = row (codes "jalr") load
-form32 op.Beq = row (codes "beq") branch
-form32 op.Bne = row (codes "bne") branch
-form32 op.Blt = row (codes "blt") branch
-form32 op.Bge = row (codes "bge") branch
-form32 op.Bltu = row (codes "bltu") branch
-form32 op.Bgeu = row (codes "bgeu") branch
-form32 op.Lb = row (codes "lb") load
-form32 op.Lh = row (codes "lh") load
-form32 op.Lw = row (codes "lw") load
-form32 op.Lbu = row (codes "lbu") load
-form32 op.Lhu = row (codes "lhu") load
-form32 op.Sb = row (codes "sb") store
-form32 op.Sh = row (codes "sh") store
-form32 op.Sw = row (codes "sw") store
-form32 op.Addi = row (codes "addi") immediate
-form32 op.Slti = row (codes "slti") immediate
-form32 op.Sltiu = row (codes "sltiu") immediate
-form32 op.Xori = row (codes "xori") immediate
-form32 op.Ori = row (codes "ori") immediate
-form32 op.Andi = row (codes "andi") immediate
-form32 op.Slli = row (codes "slli") immediate
-form32 op.Srli = row (codes "srli") immediate
-form32 op.Srai = row (codes "srai") immediate
-form32 op.Add = row (codes "add") registers
-form32 op.Sub = row (codes "sub") registers
-form32 op.Sll = row (codes "sll") registers
-form32 op.Slt = row (codes "slt") registers
-form32 op.Sltu = row (codes "sltu") registers
-form32 op.Xor = row (codes "xor") registers
-form32 op.Srl = row (codes "srl") registers
-form32 op.Sra = row (codes "sra") registers
-form32 op.Or = row (codes "or") registers
-form32 op.And = row (codes "and") registers
-form32 op.Fence = row (codes "fence") fence
-form32 op.FenceI = row (codes "fence.i") Absent
-form32 op.Ecall = row (codes "ecall") Absent
-form32 op.Ebreak = row (codes "ebreak") Absent
-form32 op.Mul = row (codes "mul") registers
-form32 op.Mulh = row (codes "mulh") registers
-form32 op.Mulhsu = row (codes "mulhsu") registers
-form32 op.Mulhu = row (codes "mulhu") registers
-form32 op.Div = row (codes "div") registers
-form32 op.Divu = row (codes "divu") registers
-form32 op.Rem = row (codes "rem") registers
-form32 op.Remu = row (codes "remu") registers
+form32 op.Lui = form_row (codes "lui") upper_immediate_operands
+form32 op.Auipc = form_row (codes "auipc") upper_immediate_operands
+form32 op.Jal = form_row (codes "jal") jump_operands
+form32 op.Jalr = form_row (codes "jalr") load_operands
+form32 op.Beq = form_row (codes "beq") branch_operands
+form32 op.Bne = form_row (codes "bne") branch_operands
+form32 op.Blt = form_row (codes "blt") branch_operands
+form32 op.Bge = form_row (codes "bge") branch_operands
+form32 op.Bltu = form_row (codes "bltu") branch_operands
+form32 op.Bgeu = form_row (codes "bgeu") branch_operands
+form32 op.Lb = form_row (codes "lb") load_operands
+form32 op.Lh = form_row (codes "lh") load_operands
+form32 op.Lw = form_row (codes "lw") load_operands
+form32 op.Lbu = form_row (codes "lbu") load_operands
+form32 op.Lhu = form_row (codes "lhu") load_operands
+form32 op.Sb = form_row (codes "sb") store_operands
+form32 op.Sh = form_row (codes "sh") store_operands
+form32 op.Sw = form_row (codes "sw") store_operands
+form32 op.Addi = form_row (codes "addi") immediate_operands
+form32 op.Slti = form_row (codes "slti") immediate_operands
+form32 op.Sltiu = form_row (codes "sltiu") immediate_operands
+form32 op.Xori = form_row (codes "xori") immediate_operands
+form32 op.Ori = form_row (codes "ori") immediate_operands
+form32 op.Andi = form_row (codes "andi") immediate_operands
+form32 op.Slli = form_row (codes "slli") immediate_operands
+form32 op.Srli = form_row (codes "srli") immediate_operands
+form32 op.Srai = form_row (codes "srai") immediate_operands
+form32 op.Add = form_row (codes "add") register_operands
+form32 op.Sub = form_row (codes "sub") register_operands
+form32 op.Sll = form_row (codes "sll") register_operands
+form32 op.Slt = form_row (codes "slt") register_operands
+form32 op.Sltu = form_row (codes "sltu") register_operands
+form32 op.Xor = form_row (codes "xor") register_operands
+form32 op.Srl = form_row (codes "srl") register_operands
+form32 op.Sra = form_row (codes "sra") register_operands
+form32 op.Or = form_row (codes "or") register_operands
+form32 op.And = form_row (codes "and") register_operands
+form32 op.Fence = form_row (codes "fence") fence_operands
+form32 op.FenceI = form_row (codes "fence.i") Absent
+form32 op.Ecall = form_row (codes "ecall") Absent
+form32 op.Ebreak = form_row (codes "ebreak") Absent
+form32 op.Mul = form_row (codes "mul") register_operands
+form32 op.Mulh = form_row (codes "mulh") register_operands
+form32 op.Mulhsu = form_row (codes "mulhsu") register_operands
+form32 op.Mulhu = form_row (codes "mulhu") register_operands
+form32 op.Div = form_row (codes "div") register_operands
+form32 op.Divu = form_row (codes "divu") register_operands
+form32 op.Rem = form_row (codes "rem") register_operands
+form32 op.Remu = form_row (codes "remu") register_operands
 
 -- ---- the 16-bit rows
 
@@ -123,39 +123,39 @@ test_of_zero = Two Rs1 Target
 -- C.ADDI, or with x0 as its register C.NOP, of which a hint has an immediate (section 16.5)
 abbrev pub addi_or_nop : ℕ → Form
 addi_or_nop h =
-    if not (rd h == 0) then row (codes "c.addi") register_immediate
-    else if not (immediate_ci h == 0) then row (codes "c.nop") (One Imm)
-    else row (codes "c.nop") Absent
+    if not (rd h == 0) then form_row (codes "c.addi") register_immediate
+    else if not (immediate_ci h == 0) then form_row (codes "c.nop") (One Imm)
+    else form_row (codes "c.nop") Absent
 
 -- a form for each row of the listing, in its order
 abbrev pub forms16 : ℕ → List Form
 forms16 h =
-    row (codes "c.addi4spn") immediate ∷
-    row (codes "c.lw") load ∷
-    row (codes "c.sw") store ∷
+    form_row (codes "c.addi4spn") immediate_operands ∷
+    form_row (codes "c.lw") load_operands ∷
+    form_row (codes "c.sw") store_operands ∷
     addi_or_nop h ∷
-    row (codes "c.jal") (One Target) ∷
-    row (codes "c.li") register_immediate ∷
-    row (codes "c.addi16sp") register_immediate ∷
-    row (codes "c.lui") upper_immediate ∷
-    row (codes "c.srli") register_immediate ∷
-    row (codes "c.srai") register_immediate ∷
-    row (codes "c.andi") register_immediate ∷
-    row (codes "c.sub") two_registers ∷
-    row (codes "c.xor") two_registers ∷
-    row (codes "c.or") two_registers ∷
-    row (codes "c.and") two_registers ∷
-    row (codes "c.j") (One Target) ∷
-    row (codes "c.beqz") test_of_zero ∷
-    row (codes "c.bnez") test_of_zero ∷
-    row (codes "c.slli") register_immediate ∷
-    row (codes "c.lwsp") load ∷
-    row (codes "c.jr") (One Rs1) ∷
-    row (codes "c.mv") two_registers ∷
-    row (codes "c.ebreak") Absent ∷
-    row (codes "c.jalr") (One Rs1) ∷
-    row (codes "c.add") two_registers ∷
-    row (codes "c.swsp") store ∷
+    form_row (codes "c.jal") (One Target) ∷
+    form_row (codes "c.li") register_immediate ∷
+    form_row (codes "c.addi16sp") register_immediate ∷
+    form_row (codes "c.lui") upper_immediate_operands ∷
+    form_row (codes "c.srli") register_immediate ∷
+    form_row (codes "c.srai") register_immediate ∷
+    form_row (codes "c.andi") register_immediate ∷
+    form_row (codes "c.sub") two_registers ∷
+    form_row (codes "c.xor") two_registers ∷
+    form_row (codes "c.or") two_registers ∷
+    form_row (codes "c.and") two_registers ∷
+    form_row (codes "c.j") (One Target) ∷
+    form_row (codes "c.beqz") test_of_zero ∷
+    form_row (codes "c.bnez") test_of_zero ∷
+    form_row (codes "c.slli") register_immediate ∷
+    form_row (codes "c.lwsp") load_operands ∷
+    form_row (codes "c.jr") (One Rs1) ∷
+    form_row (codes "c.mv") two_registers ∷
+    form_row (codes "c.ebreak") Absent ∷
+    form_row (codes "c.jalr") (One Rs1) ∷
+    form_row (codes "c.add") two_registers ∷
+    form_row (codes "c.swsp") store_operands ∷
     []
 
 -- the form of the row that fits a halfword

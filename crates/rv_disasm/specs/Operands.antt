@@ -23,18 +23,18 @@ register_name number = slice_index_or register_names number []
 
 -- a set of a FENCE (section 2.7): of its four bits, from the highest, the letter of each that is
 -- set; `0` where none is
-abbrev pub set_name : ℕ → List ℕ
-set_name bits = if bits == 0 then codes "0" else
+abbrev pub fence_set_name : ℕ → List ℕ
+fence_set_name bits = if bits == 0 then codes "0" else
     (if bit bits 3 == 1 then codes "i" else []) ++ (if bit bits 2 == 1 then codes "o" else [])
     ++ (if bit bits 1 == 1 then codes "r" else []) ++ (if bit bits 0 == 1 then codes "w" else [])
 
 -- lower-case digits, without zeros in front
-abbrev pub hexadecimal : ℕ → List ℕ
-hexadecimal number = codes "0x" ++ digits 16 false number
+abbrev pub prefixed_hexadecimal : ℕ → List ℕ
+prefixed_hexadecimal number = codes "0x" ++ digits 16 false number
 
 -- a register and what is added to it
-unfoldable pub address : ℤ → ℕ → List ℕ
-address offset base = signed_decimal offset ++ codes "(" ++ register_name base ++ codes ")"
+unfoldable pub offset_and_base : ℤ → ℕ → List ℕ
+offset_and_base offset base = signed_decimal offset ++ codes "(" ++ register_name base ++ codes ")"
 
 -- an operand of an instruction
 unfoldable pub operand_text : Operand → Fetched → List ℕ
@@ -42,8 +42,8 @@ operand_text operand.Rd f = register_name f.instr.rd
 operand_text operand.Rs1 f = register_name f.instr.rs1
 operand_text operand.Rs2 f = register_name f.instr.rs2
 operand_text operand.Imm f = signed_decimal f.instr.imm
-operand_text operand.Address f = address f.instr.imm f.instr.rs1
-operand_text operand.Upper f = hexadecimal (wrap f.instr.imm / 2 ^ 12)
-operand_text operand.Target f = hexadecimal (wrap (pos f.pc +ℤ f.instr.imm))
-operand_text operand.Predecessors f = set_name (field f.code 27 24)
-operand_text operand.Successors f = set_name (field f.code 23 20)
+operand_text operand.Address f = offset_and_base f.instr.imm f.instr.rs1
+operand_text operand.Upper f = prefixed_hexadecimal (wrap f.instr.imm / 2 ^ 12)
+operand_text operand.Target f = prefixed_hexadecimal (wrap (pos f.pc +ℤ f.instr.imm))
+operand_text operand.Predecessors f = fence_set_name (field f.code 27 24)
+operand_text operand.Successors f = fence_set_name (field f.code 23 20)

@@ -1,16 +1,16 @@
 //! The assembly text of an instruction, as the RISC-V Unprivileged ISA 20191213 writes its row.
 //!
-//! [`push_text32`] appends the text of a word, and [`push_text16`] that of a halfword, which is under the name of its
+//! [`push_assembly32`] appends the text of a word, and [`push_assembly16`] that of a halfword, which is under the name of its
 //! own row (`c.lw`), as it was fetched at an address. Registers have the names of the ABI ([`register_name`]), immediates are decimal, those
 //! of LUI and AUIPC the upper 20 bits in hexadecimal, and targets are addresses. No row has a second name:
 //! `addi zero, zero, 0` is no `nop`. What has no row is told as `no instruction`.
 #![tactic(auto)]
 
+mod assembly_text;
 mod form;
 mod operand;
 mod rows16;
 mod rows32;
-mod text;
 
+pub use assembly_text::{push_assembly16, push_assembly32};
 pub use operand::register_name;
-pub use text::{push_text16, push_text32};

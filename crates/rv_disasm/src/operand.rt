@@ -1,7 +1,7 @@
 //! The text of an operand.
 ghost use Rattle.std.specs.Prelude.{◌≡◌, ◌<◌, ◌++◌, OnOk};
 ghost use Rattle.rv_isa.specs.Words.{IsWellFormed};
-ghost use Rattle.rv_disasm.specs.Operands.{address, hexadecimal, operand_text, register_name, set_name};
+ghost use Rattle.rv_disasm.specs.Operands.{offset_and_base, prefixed_hexadecimal, operand_text, register_name, fence_set_name};
 ghost use Rattle.std.specs.Fmt.{signed_decimal};
 
 use crate::form::{Fetched, Operand};
@@ -23,54 +23,58 @@ pub(crate) fn push_operand(
 {
     let instr = fetched.instr;
     match operand {
-        Operand::Rd => push(bytes, register_name(instr.rd)),
-        Operand::Rs1 => push(bytes, register_name(instr.rs1)),
-        Operand::Rs2 => push(bytes, register_name(instr.rs2)),
-        Operand::Imm => push_number(bytes, instr.imm),
-        Operand::Address => push_address(bytes, instr.imm, instr.rs1),
-        Operand::Upper => push_hexadecimal(alloc, bytes, instr.imm.cast_unsigned() >> 12),
+        Operand::Rd => push_literal(bytes, register_name(instr.rd)),
+        Operand::Rs1 => push_literal(bytes, register_name(instr.rs1)),
+        Operand::Rs2 => push_literal(bytes, register_name(instr.rs2)),
+        Operand::Imm => push_signed_decimal(bytes, instr.imm),
+        Operand::Address => push_offset_and_base(bytes, instr.imm, instr.rs1),
+        Operand::Upper => push_prefixed_hexadecimal(alloc, bytes, instr.imm.cast_unsigned() >> 12),
         Operand::Target => {
             let target = fetched.pc.wrapping_add(instr.imm.cast_unsigned());
-            push_hexadecimal(alloc, bytes, target)
+            push_prefixed_hexadecimal(alloc, bytes, target)
         }
-        Operand::Predecessors => push(bytes, set_name(field(fetched.code, 27, 24))),
-        Operand::Successors => push(bytes, set_name(field(fetched.code, 23, 20))),
+        Operand::Predecessors => push_literal(bytes, fence_set_name(field(fetched.code, 27, 24))),
+        Operand::Successors => push_literal(bytes, fence_set_name(field(fetched.code, 23, 20))),
     }
 }
 
 /// Appends a text as it stands.
-pub(crate) fn push(bytes: &mut Vec<u8>, text: &str) -> Result<(), AllocError>
+pub(crate) fn push_literal(bytes: &mut Vec<u8>, text: &str) -> Result<(), AllocError>
     ensures { OnOk result (bytes.new.items ≡ bytes.old.items ++ text.now) }
 {
     bytes.extend_from_slice(text.as_bytes())
 }
 
 // Appends a number's decimal digits, behind a minus sign where it is below 0.
-fn push_number(bytes: &mut Vec<u8>, number: i32) -> Result<(), AllocError>
+fn push_signed_decimal(bytes: &mut Vec<u8>, number: i32) -> Result<(), AllocError>
     ensures { OnOk result (bytes.new.items ≡ bytes.old.items ++ signed_decimal number) }
 {
     let mut buffer = Buffer::new();
-    push(bytes, buffer.format(number))
+    push_literal(bytes, buffer.format(number))
 }
 
 // Appends a number's lower-case hexadecimal digits behind `0x`, without zeros in front.
-fn push_hexadecimal(alloc: Global, bytes: &mut Vec<u8>, number: u32) -> Result<(), AllocError>
-    ensures { OnOk result (bytes.new.items ≡ bytes.old.items ++ hexadecimal number) }
+fn push_prefixed_hexadecimal(
+    alloc: Global,
+    bytes: &mut Vec<u8>,
+    number: u32,
+) -> Result<(), AllocError>
+    ensures { OnOk result (bytes.new.items ≡ bytes.old.items ++ prefixed_hexadecimal number) }
 {
     let text = format!(in alloc; "0x{number:x}")?;
-    push(bytes, text.as_str())
+    push_literal(bytes, text.as_str())
 }
 
 // Appends an address as `offset(base)`.
-#[tactic(auto, unfolding(crate::specs::Operands::address))]
-fn push_address(bytes: &mut Vec<u8>, offset: i32, base: u8) -> Result<(), AllocError>
+#[tactic(auto, unfolding(crate::specs::Operands::offset_and_base))]
+fn push_offset_and_base(bytes: &mut Vec<u8>, offset: i32, base: u8) -> Result<(), AllocError>
     requires { base < 32 }
-    ensures { OnOk result (bytes.new.items ≡ bytes.old.items ++ address offset base) }
+    ensures { OnOk result (bytes.new.items ≡ bytes.old.items ++ offset_and_base offset base) }
 {
-    push_number(bytes, offset)?;
-    push(bytes, "(")?;
-    push(bytes, register_name(base))?;
-    push(bytes, ")")
+    push_signed_decimal(bytes, offset)?;
+    push_literal(bytes, "(")?;
+    push_literal(bytes, register_name(base))?;
+    push_literal(bytes, ")")
 }
 
 /// The name of a register in the calling convention of the RISC-V ABIs.
@@ -116,9 +120,9 @@ pub fn register_name(number: u8) -> &'static str
 
 // What a field of a FENCE orders, by its four bits.
 #[tactic(auto, unfolding(rv_isa::specs::Bits::field))]
-fn set_name(bits: u32) -> &'static str
+fn fence_set_name(bits: u32) -> &'static str
     requires { bits < 16 }
-    ensures { result.now ≡ set_name bits }
+    ensures { result.now ≡ fence_set_name bits }
 {
     match bits {
         0 => "0",

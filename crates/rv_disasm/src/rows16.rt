@@ -2,7 +2,7 @@
 ghost use Rattle.std.specs.Prelude.{◌≡◌, ◌≢◌, ◌↔◌, IsTrue, option_map};
 ghost use Rattle.rv_isa.specs.Bits.{field as bits_of};
 ghost use Rattle.rv_isa.specs.Halfwords.{immediate_ci};
-ghost use Rattle.rv_disasm.specs.Forms.{form16, form_seen};
+ghost use Rattle.rv_disasm.specs.Forms.{form16, form_of_code};
 
 use crate::form::{
     Form, IMMEDIATE, LOAD, Operand, Operands, REGISTER_IMMEDIATE, STORE, TEST_OF_ZERO,
@@ -13,20 +13,20 @@ use rv_isa::field;
 /// How the row of a halfword is written, or `None` where it has none.
 #[tactic(auto, using(crate::proofs::HalfwordForms::by_quadrant))]
 pub(crate) fn form16(half: u32) -> Option<Form>
-    ensures { option_map form_seen result ≡ form16 half }
+    ensures { option_map form_of_code result ≡ form16 half }
 {
     match field(half, 1, 0) {
-        0 => quadrant0(half),
-        1 => quadrant1(half),
-        2 => quadrant2(half),
+        0 => quadrant0_form(half),
+        1 => quadrant1_form(half),
+        2 => quadrant2_form(half),
         _ => None, // begins a 32-bit instruction
     }
 }
 
 #[tactic(auto, using(crate::proofs::HalfwordForms::by_quadrant))]
-fn quadrant0(half: u32) -> Option<Form>
+fn quadrant0_form(half: u32) -> Option<Form>
     requires { bits_of half 1 0 ≡ 0 }
-    ensures { option_map form_seen result ≡ form16 half }
+    ensures { option_map form_of_code result ≡ form16 half }
 {
     match field(half, 15, 13) {
         0 if field(half, 12, 5) != 0 => Some(Form("c.addi4spn", IMMEDIATE)),
@@ -37,18 +37,18 @@ fn quadrant0(half: u32) -> Option<Form>
 }
 
 #[tactic(auto, using(crate::proofs::HalfwordForms::by_quadrant))]
-fn quadrant1(half: u32) -> Option<Form>
+fn quadrant1_form(half: u32) -> Option<Form>
     requires { bits_of half 1 0 ≡ 1 }
-    ensures { option_map form_seen result ≡ form16 half }
+    ensures { option_map form_of_code result ≡ form16 half }
 {
     match field(half, 15, 13) {
         0 if field(half, 11, 7) != 0 => Some(Form("c.addi", REGISTER_IMMEDIATE)),
-        0 if has_immediate(half) => Some(Form("c.nop", Operands::One(Operand::Imm))),
+        0 if has_ci_immediate(half) => Some(Form("c.nop", Operands::One(Operand::Imm))),
         0 => Some(Form("c.nop", Operands::Absent)),
         1 => Some(Form("c.jal", Operands::One(Operand::Target))),
         2 => Some(Form("c.li", REGISTER_IMMEDIATE)),
-        3 => upper(half),
-        4 => arithmetic(half),
+        3 => upper_immediate_form(half),
+        4 => arithmetic_form(half),
         5 => Some(Form("c.j", Operands::One(Operand::Target))),
         6 => Some(Form("c.beqz", TEST_OF_ZERO)),
         _ => Some(Form("c.bnez", TEST_OF_ZERO)),
@@ -56,7 +56,7 @@ fn quadrant1(half: u32) -> Option<Form>
 }
 
 // Whether the immediate of a CI format is not 0. C.ADDI16SP and C.LUI take theirs from the same bits.
-fn has_immediate(half: u32) -> bool
+fn has_ci_immediate(half: u32) -> bool
     ensures { IsTrue result ↔ (immediate_ci half ≢ 0) }
 {
     field(half, 12, 12) != 0 || field(half, 6, 2) != 0
@@ -64,12 +64,12 @@ fn has_immediate(half: u32) -> bool
 
 // C.ADDI16SP and C.LUI.
 #[tactic(auto, using(crate::proofs::HalfwordForms::by_quadrant))]
-fn upper(half: u32) -> Option<Form>
+fn upper_immediate_form(half: u32) -> Option<Form>
     requires quadrant { bits_of half 1 0 ≡ 1 }
     requires top { bits_of half 15 13 ≡ 3 }
-    ensures { option_map form_seen result ≡ form16 half }
+    ensures { option_map form_of_code result ≡ form16 half }
 {
-    if !has_immediate(half) {
+    if !has_ci_immediate(half) {
         None
     } else if field(half, 11, 7) == 2 {
         Some(Form("c.addi16sp", REGISTER_IMMEDIATE))
@@ -79,10 +79,10 @@ fn upper(half: u32) -> Option<Form>
 }
 
 #[tactic(auto, using(crate::proofs::HalfwordForms::by_quadrant))]
-fn arithmetic(half: u32) -> Option<Form>
+fn arithmetic_form(half: u32) -> Option<Form>
     requires quadrant { bits_of half 1 0 ≡ 1 }
     requires top { bits_of half 15 13 ≡ 4 }
-    ensures { option_map form_seen result ≡ form16 half }
+    ensures { option_map form_of_code result ≡ form16 half }
 {
     match (field(half, 11, 10), field(half, 12, 12)) {
         (0, 0) => Some(Form("c.srli", REGISTER_IMMEDIATE)),
@@ -99,14 +99,14 @@ fn arithmetic(half: u32) -> Option<Form>
 }
 
 #[tactic(auto, using(crate::proofs::HalfwordForms::by_quadrant))]
-fn quadrant2(half: u32) -> Option<Form>
+fn quadrant2_form(half: u32) -> Option<Form>
     requires { bits_of half 1 0 ≡ 2 }
-    ensures { option_map form_seen result ≡ form16 half }
+    ensures { option_map form_of_code result ≡ form16 half }
 {
     match field(half, 15, 13) {
         0 if field(half, 12, 12) == 0 => Some(Form("c.slli", REGISTER_IMMEDIATE)),
         2 if field(half, 11, 7) != 0 => Some(Form("c.lwsp", LOAD)),
-        4 => registers(half),
+        4 => register_form(half),
         6 => Some(Form("c.swsp", STORE)),
         _ => None,
     }
@@ -114,10 +114,10 @@ fn quadrant2(half: u32) -> Option<Form>
 
 // C.JR, C.MV, C.EBREAK, C.JALR and C.ADD.
 #[tactic(auto, using(crate::proofs::HalfwordForms::by_quadrant))]
-fn registers(half: u32) -> Option<Form>
+fn register_form(half: u32) -> Option<Form>
     requires quadrant { bits_of half 1 0 ≡ 2 }
     requires top { bits_of half 15 13 ≡ 4 }
-    ensures { option_map form_seen result ≡ form16 half }
+    ensures { option_map form_of_code result ≡ form16 half }
 {
     match (field(half, 12, 12), field(half, 11, 7), field(half, 6, 2)) {
         (0, 0, 0) => None,

@@ -1,6 +1,6 @@
 //! How the 32-bit rows are written.
 ghost use Rattle.std.specs.Prelude.{◌≡◌};
-ghost use Rattle.rv_disasm.specs.Forms.{form32, form_seen};
+ghost use Rattle.rv_disasm.specs.Forms.{form32, form_of_code};
 
 use crate::form::{
     BRANCH, FENCE, Form, IMMEDIATE, JUMP, LOAD, Operands, REGISTERS, STORE, UPPER_IMMEDIATE,
@@ -9,13 +9,13 @@ use rv_isa::Op;
 
 /// How the row of a name is written.
 pub(crate) fn form32(op: Op) -> Form
-    ensures { form_seen result ≡ form32 op }
+    ensures { form_of_code result ≡ form32 op }
 {
-    Form(mnemonic(op), operands(op))
+    Form(mnemonic(op), operands_of_op(op))
 }
 
 // The operands of the row of a name.
-fn operands(op: Op) -> Operands
+fn operands_of_op(op: Op) -> Operands
     ensures { result ≡ (form32 op).operands }
 {
     match op {

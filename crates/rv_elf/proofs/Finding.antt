@@ -5,7 +5,7 @@ use Rattle.std.proofs.Common.{nat_eq, eqb-true, ne_eqb, ◌≢◌}
 use Rattle.std.specs.List.{starts_with, list_any, find, range_with_len}
 use Rattle.std.specs.Option.{option_map_or}
 use Rattle.std.specs.Str.{bytes_eq}
-use Rattle.rv_elf.specs.Sections.{text_of, begins_with}
+use Rattle.rv_elf.specs.Sections.{text_before_zero, begins_with_name}
 
 module _ {X : Type 0} (p : X → Bool) (f : ℕ → X) where
   -- among the places from k up to n, the first that passes is k, or one from k + 1 on
@@ -46,11 +46,11 @@ text_goes_on b c cs true o = refl
 text_goes_on b c cs false None = and_false (c == b)
 text_goes_on b c cs false (Some t) = refl
 
-pub begins_by_bytes : (bs text : List ℕ) → begins_with bs text ≡ begins bs text
-unfolding begins_with
+pub begins_by_bytes : (bs text : List ℕ) → begins_with_name bs text ≡ begins bs text
+unfolding begins_with_name
 begins_by_bytes [] text = refl
-begins_by_bytes (b ∷ bs) [] = text_ends b (b == 0) (text_of bs)
-begins_by_bytes (b ∷ bs) (c ∷ cs) = text_goes_on b c cs (b == 0) (text_of bs)
+begins_by_bytes (b ∷ bs) [] = text_ends b (b == 0) (text_before_zero bs)
+begins_by_bytes (b ∷ bs) (c ∷ cs) = text_goes_on b c cs (b == 0) (text_before_zero bs)
     ∙ ap (λ r. not (b == 0) && ((c == b) && r)) (begins_by_bytes bs cs)
 
 and_false_at : (z e r : Bool) → r ≡ false → not z && (e && r) ≡ false
@@ -101,15 +101,15 @@ begins_in_parts (b ∷ bs) (c ∷ cs) l =
     (zero_alike (c == b) (b == 0) (c == 0) starts any (λ e. ap (λ x. x == 0) (sym (eqb-true c b e))))
 
 module _ (bs text : List ℕ) (long : length text < length bs) where
-  parts : begins_with bs text ≡ (get_or bs (length text) 0 == 0)
+  parts : begins_with_name bs text ≡ (get_or bs (length text) 0 == 0)
       && (starts_with nat_eq bs text && not (list_any (λ c. c == 0) text))
   parts = begins_by_bytes bs text ∙ begins_in_parts bs text long
 
   -- where another byte stands behind the text, there is none
-  pub begins_without_end : get_or bs (length text) 0 ≢ 0 → begins_with bs text ≡ false
+  pub begins_without_end : get_or bs (length text) 0 ≢ 0 → begins_with_name bs text ≡ false
   begins_without_end n = parts ∙ ap (λ e. e && (starts_with nat_eq bs text && not (list_any (λ c. c == 0) text)))
       (ne_eqb _ 0 n)
 
   pub begins_with_end : get_or bs (length text) 0 ≡ 0
-      → begins_with bs text ≡ (starts_with nat_eq bs text && not (list_any (λ c. c == 0) text))
+      → begins_with_name bs text ≡ (starts_with nat_eq bs text && not (list_any (λ c. c == 0) text))
   begins_with_end e = parts ∙ ap (λ x. (x == 0) && (starts_with nat_eq bs text && not (list_any (λ c. c == 0) text))) e

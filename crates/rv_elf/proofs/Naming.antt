@@ -12,21 +12,21 @@ use Rattle.rv_elf.specs.declared.image.Image.{Image}
 use Rattle.rv_elf.specs.declared.sections.Section.{Section}
 use Rattle.rv_elf.specs.declared.symbols.Symbol.{Symbol}
 use Rattle.rv_elf.specs.Image.{image_of, IsImageOf}
-use Rattle.rv_elf.specs.ImageParts.{header_rows, table_of}
+use Rattle.rv_elf.specs.ImageParts.{header_rows, image_behind_header}
 use Rattle.rv_elf.specs.Rows.{accepted}
-use Rattle.rv_elf.specs.Sections.{e_shnum, e_shoff, e_shentsize, has_bad_sections, symbol_table, string_table}
-use Rattle.rv_elf.specs.Sections.{is_bad_symbols, is_bad_strings, bytes_of, symbol_named, HasSections}
-use Rattle.rv_elf.specs.Symbols.{has_bad_strings, table_rows, table_check, tables_of, tables_there, symbol_there}
+use Rattle.rv_elf.specs.Sections.{e_shnum, e_shoff, e_shentsize, has_bad_section_table, symbol_table, string_table}
+use Rattle.rv_elf.specs.Sections.{is_bad_symbol_table, is_bad_string_table, section_bytes, symbol_named, HasSections}
+use Rattle.rv_elf.specs.Symbols.{has_bad_string_table, table_rows, table_check, tables_of_section, symbol_tables, symbol_of_name}
 use Rattle.rv_elf.specs.Symbols.{symbol_of}
 use Rattle.rv_elf.proofs.FirstRow.{none_refused, none_refuses, refusal_stays}
 
 -- the bytes of an image have a whole header
 pub header_there : (file : List ℕ) (image : Image) → IsImageOf file image → 52 ≤ length file
-unfolding image_of table_of
+unfolding image_of image_behind_header
 header_there file image e = ltb-false (length file) 52
-    (or_parts (ltb (length file) 52) _ (none_refused (header_rows file) (table_of e.isa file) image e.is).0).0
+    (or_parts (ltb (length file) 52) _ (none_refused (header_rows file) (image_behind_header e.isa file) image e.is).0).0
 
-pub sections_there : (file : List ℕ) → 52 ≤ length file → has_bad_sections file ≡ false → HasSections file
+pub sections_there : (file : List ℕ) → 52 ≤ length file → has_bad_section_table file ≡ false → HasSections file
 sections_there file h e =
     let count = or_parts (e_shnum file == 0)
     (not (e_shentsize file == 40) || ltb (length file) (e_shoff file + 40 * e_shnum file)) e in
@@ -44,11 +44,11 @@ refused b w rest e = ap (λ x. cond x (Err w) rest) e
 -- ---- the tables
 
 module _ (file : List ℕ) where
-  pub no_section_table : has_bad_sections file ≡ true → table_check file ≡ Err SectionTable
+  pub no_section_table : has_bad_section_table file ≡ true → table_check file ≡ Err SectionTable
   unfolding table_check
   no_section_table e = refused _ _ _ e
 
-  module _ (sections : has_bad_sections file ≡ false) where
+  module _ (sections : has_bad_section_table file ≡ false) where
     pub no_symbol_table : symbol_table file ≡ None → table_check file ≡ Err NoSymbols
     unfolding table_check
     no_symbol_table e = passed _ _ _ sections ∙ refused _ _ _ (ap is_none e)
@@ -57,43 +57,43 @@ module _ (file : List ℕ) where
       at_table : (f : Section → Bool) (b : Bool) → f t ≡ b → option_map_or f (symbol_table file) false ≡ b
       at_table f b e = ap (λ o. option_map_or f o false) is ∙ e
 
-      pub bad_symbol_table : is_bad_symbols (length file) t ≡ true → table_check file ≡ Err SymbolTable
+      pub bad_symbol_table : is_bad_symbol_table (length file) t ≡ true → table_check file ≡ Err SymbolTable
       unfolding table_check
       bad_symbol_table e = passed _ _ _ sections ∙ passed _ _ _ (ap is_none is)
-          ∙ refused _ _ _ (at_table (is_bad_symbols (length file)) true e)
+          ∙ refused _ _ _ (at_table (is_bad_symbol_table (length file)) true e)
 
-      module _ (good : is_bad_symbols (length file) t ≡ false) where
-        pub bad_string_table : has_bad_strings file t ≡ true → table_check file ≡ Err StringTable
+      module _ (good : is_bad_symbol_table (length file) t ≡ false) where
+        pub bad_string_table : has_bad_string_table file t ≡ true → table_check file ≡ Err StringTable
         unfolding table_check
         bad_string_table e =
             passed _ _ _ sections ∙ passed _ _ _ (ap is_none is)
-            ∙ passed _ _ _ (at_table (is_bad_symbols (length file)) false good)
-            ∙ refused _ _ _ (at_table (has_bad_strings file) true e)
+            ∙ passed _ _ _ (at_table (is_bad_symbol_table (length file)) false good)
+            ∙ refused _ _ _ (at_table (has_bad_string_table file) true e)
 
         pub no_string_table : string_table file t ≡ None → table_check file ≡ Err StringTable
-        no_string_table e = bad_string_table (ap (λ o. option_map_or (is_bad_strings (length file)) o true) e)
+        no_string_table e = bad_string_table (ap (λ o. option_map_or (is_bad_string_table (length file)) o true) e)
 
         module _ (s : Section) (strings : string_table file t ≡ Some s) where
-          pub past_string_table : is_bad_strings (length file) s ≡ true → table_check file ≡ Err StringTable
+          pub past_string_table : is_bad_string_table (length file) s ≡ true → table_check file ≡ Err StringTable
           past_string_table e = bad_string_table
-              (ap (λ o. option_map_or (is_bad_strings (length file)) o true) strings ∙ e)
+              (ap (λ o. option_map_or (is_bad_string_table (length file)) o true) strings ∙ e)
 
           -- where none is refused, they are there
-          pub tables_good : is_bad_strings (length file) s ≡ false → table_check file ≡ accepted
+          pub tables_good : is_bad_string_table (length file) s ≡ false → table_check file ≡ accepted
           unfolding table_check
           tables_good e =
               passed _ _ _ sections ∙ passed _ _ _ (ap is_none is)
-              ∙ passed _ _ _ (at_table (is_bad_symbols (length file)) false good)
+              ∙ passed _ _ _ (at_table (is_bad_symbol_table (length file)) false good)
               ∙ passed _ _ _
-              (at_table (has_bad_strings file) false
-              (ap (λ o. option_map_or (is_bad_strings (length file)) o true) strings ∙ e))
+              (at_table (has_bad_string_table file) false
+              (ap (λ o. option_map_or (is_bad_string_table (length file)) o true) strings ∙ e))
 
-          pub tables_found : (table names : List ℕ) → table ≡ bytes_of file t → names ≡ bytes_of file s
-              → tables_there file ≡ Some (table, names)
+          pub tables_found : (table names : List ℕ) → table ≡ section_bytes file t → names ≡ section_bytes file s
+              → symbol_tables file ≡ Some (table, names)
           tables_found table names e f =
               let there : Option Section → Option (List ℕ × List ℕ) =
-              λ o. option_map (λ x. (bytes_of file t, bytes_of file x)) o in
-              ap (option_and_then (tables_of file)) is ∙ ap there strings ∙ sym (λ i. Some (e i, f i))
+              λ o. option_map (λ x. (section_bytes file t, section_bytes file x)) o in
+              ap (option_and_then (tables_of_section file)) is ∙ ap there strings ∙ sym (λ i. Some (e i, f i))
 
 -- ---- a name in them
 
@@ -110,15 +110,15 @@ module _ (file name : List ℕ) where
   -- what refuses the tables refuses each name
   pub name_refused : (w : ImageError) → table_check file ≡ Err w → symbol_of file name ≡ Err w
   unfolding table_check symbol_of
-  name_refused w e = refusal_stays (table_rows file) (value_or_none (symbol_there file name)) w e
+  name_refused w e = refusal_stays (table_rows file) (value_or_none (symbol_of_name file name)) w e
 
-  tables_passed : table_check file ≡ accepted → symbol_of file name ≡ value_or_none (symbol_there file name)
+  tables_passed : table_check file ≡ accepted → symbol_of file name ≡ value_or_none (symbol_of_name file name)
   unfolding table_check symbol_of
-  tables_passed e = none_refuses (table_rows file) (value_or_none (symbol_there file name)) e
+  tables_passed e = none_refuses (table_rows file) (value_or_none (symbol_of_name file name)) e
 
   -- and else the answer is what the search in them finds
   pub name_looked_up : (table strings : List ℕ) (v : Option ℕ) → table_check file ≡ accepted
-      → tables_there file ≡ Some (table, strings)
+      → symbol_tables file ≡ Some (table, strings)
       → v ≡ option_map (λ y. y.value) (symbol_named table strings name)
       → symbol_of file name ≡ cond (is_none v) (Err NoBegin) (Ok (unwrap_or v 0))
   name_looked_up table strings v e there found =

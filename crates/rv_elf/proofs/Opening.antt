@@ -12,7 +12,7 @@ use Rattle.rv_elf.specs.declared.image.Segment.{Segment}
 use Rattle.rv_elf.specs.declared.loading.LoadAt.{LoadAt}
 use Rattle.rv_elf.specs.Rows.{accepted}
 use Rattle.rv_elf.specs.Image.{IsImageOf}
-use Rattle.rv_elf.specs.Loading.{load_address, fits, any_share, map_rows, map_check, file_bytes, opening_memory}
+use Rattle.rv_elf.specs.Loading.{load_address, segment_fits, any_segments_overlap, map_rows, map_check, file_bytes, opening_memory}
 use Rattle.rv_elf.proofs.FirstRow.{none_refused}
 use Rattle.rv_elf.proofs.Reading.{in_file, in_file_bounds, segments_in_file}
 use Rattle.rv_elf.proofs.Placing.{opening_memory_more}
@@ -23,12 +23,12 @@ no_segment = record { offset = 0; vaddr = 0; paddr = 0; filesz = 0; memsz = 0 }
 
 -- where a map is accepted, each segment fits it and no two share a byte
 map_accepted : (ss : List Segment) (rs : List Region) (at : LoadAt) → map_check ss rs at ≡ accepted
-    → (list_all (fits rs at) ss ≡ true) × (any_share at ss ≡ false)
+    → (list_all (segment_fits rs at) ss ≡ true) × (any_segments_overlap at ss ≡ false)
 unfolding map_check
 map_accepted ss rs at e =
-    let p = or_parts (not (list_all (fits rs at) ss)) (any_share at ss || false)
+    let p = or_parts (not (list_all (segment_fits rs at) ss)) (any_segments_overlap at ss || false)
     (none_refused (map_rows ss rs at) accepted tt e).0 in
-    (not-false _ p.0, (or_parts (any_share at ss) false p.1).0)
+    (not-false _ p.0, (or_parts (any_segments_overlap at ss) false p.1).0)
 
 all_at : (p : Segment → Bool) (ss : List Segment) (i : ℕ) (d : Segment) → list_all p ss ≡ true → i < length ss
     → p (get_or ss i d) ≡ true
@@ -56,8 +56,8 @@ module _ (file : List ℕ) (image : Image) (ss : List Segment) (same : ss ≡ im
     fits_first : IsTrue (in_one c.regions (load_address at (get_or ss k no_segment)) (get_or ss k no_segment).filesz)
     fits_first =
         (and_parts _ _
-        (all_at (fits c.regions at) ss k no_segment
-        (ap (list_all (fits c.regions at)) same ∙ (map_accepted image.segments c.regions at accepts).0) l)).0
+        (all_at (segment_fits c.regions at) ss k no_segment
+        (ap (list_all (segment_fits c.regions at)) same ∙ (map_accepted image.segments c.regions at accepts).0) l)).0
 
     -- which lie in one region of the bus
     pub fits_bus : IsTrue (in_one b.regions (load_address at (get_or ss k no_segment)) (get_or ss k no_segment).filesz)
@@ -72,7 +72,7 @@ module _ (file : List ℕ) (image : Image) (ss : List Segment) (same : ss ≡ im
     one_more new e =
         let s = get_or ss k no_segment in
         let more = opening_memory_more c.regions file at ss k no_segment
-        (ap (any_share at) same ∙ (map_accepted image.segments c.regions at accepts).1) l fits_first within_file in
+        (ap (any_segments_overlap at) same ∙ (map_accepted image.segments c.regions at accepts).1) l fits_first within_file in
         let m = ap (λ x. bytes_put (opening_memory c.regions (take k x) file at) (load_address at s)
         (file_bytes file s)) (sym same) ∙ sym more
         ∙ ap (λ x. opening_memory c.regions (take (k + 1) x) file at) same in

@@ -12,7 +12,7 @@ use Rattle.rv_memory.specs.Bus.{bytes_put}
 use Rattle.rv_memory.proofs.Public.{among, among_addresses, is_covered, covers_bounds, tabulate-insert, tabulate-same}
 use Rattle.rv_elf.specs.declared.image.Segment.{Segment}
 use Rattle.rv_elf.specs.declared.loading.LoadAt.{LoadAt}
-use Rattle.rv_elf.specs.Loading.{load_address, any_share, fills, byte_of, file_bytes, opening_byte, opening_memory}
+use Rattle.rv_elf.specs.Loading.{load_address, any_segments_overlap, segment_fills, segment_byte, file_bytes, opening_byte, opening_memory}
 use Rattle.rv_elf.proofs.Sharing.{opening_byte_more}
 use Rattle.rv_elf.proofs.Reading.{in_file, in_file_bounds}
 
@@ -80,8 +80,8 @@ among_each rs a n h k l =
     (λ e. covered_each rs a n k e l) (or_cases (eqb n 0) (list_any (covers a n) rs) h)
 
 -- a segment's file bytes, all of them in the file
-file_bytes_at : (file : List ℕ) (at : LoadAt) (s : Segment) (q : ℕ) → fills at q s ≡ true
-    → get_or (file_bytes file s) (q - load_address at s) 0 ≡ byte_of file at s q
+file_bytes_at : (file : List ℕ) (at : LoadAt) (s : Segment) (q : ℕ) → segment_fills at q s ≡ true
+    → get_or (file_bytes file s) (q - load_address at s) 0 ≡ segment_byte file at s q
 file_bytes_at file at s q f =
     let p = and_parts (leb (load_address at s) q) _ f in
     let l = leb-true (load_address at s) q p.0 in
@@ -102,7 +102,7 @@ length-file_bytes file s h =
 
 -- the opening memory of one segment more is that of those before it, with its bytes put
 pub opening_memory_more : (rs : List Region) (file : List ℕ) (at : LoadAt) (ss : List Segment) (i : ℕ) (d : Segment)
-    → any_share at ss ≡ false → i < length ss
+    → any_segments_overlap at ss ≡ false → i < length ss
     → IsTrue (in_one rs (load_address at (get_or ss i d)) (get_or ss i d).filesz)
     → in_file (length file) (get_or ss i d) ≡ true
     → opening_memory rs (take (i + 1) ss) file at ≡ bytes_put (opening_memory rs (take i ss) file at)
@@ -116,8 +116,8 @@ opening_memory_more rs file at ss i d e l one within =
     (file_bytes file s)
     (λ k less. among_each rs start s.filesz one k (omega arith))
     (λ q m. opening_byte_more at q file ss i d e l
-    ∙ elim (fills at q s) as (λ b. fills at q s ≡ b
-    → cond b (byte_of file at s q) (opening_byte (take i ss) file at q) ≡ cond b
+    ∙ elim (segment_fills at q s) as (λ b. segment_fills at q s ≡ b
+    → cond b (segment_byte file at s q) (opening_byte (take i ss) file at q) ≡ cond b
     (get_or (file_bytes file s) (q - start) 0) (opening_byte (take i ss) file at q)) [
       | true ↦ λ f. sym (file_bytes_at file at s q f)
       | false ↦ λ f. refl

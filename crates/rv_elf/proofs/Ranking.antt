@@ -10,7 +10,7 @@ use Rattle.std.proofs.lemmas.Bool.Decides.{nat_tests}
 use Rattle.std.proofs.lemmas.List.{append-nil}
 use Rattle.std.proofs.lemmas.List.FromFn.{filter_of_map_range_with_len_more}
 use Rattle.rv_elf.specs.declared.symbols.Symbol.{Symbol}
-use Rattle.rv_elf.specs.Nearest.{is_function, is_object, precedence, is_nearer, nearest}
+use Rattle.rv_elf.specs.SymbolSearch.{is_function, is_object, precedence, is_nearer, nearest_candidate}
 
 absorbed_right : (p q x : Bool) → (p ≡ true → q ≡ true) → p || (q || x) ≡ q || x
 absorbed_right true q x h = sym (or_left q x (h refl))
@@ -103,8 +103,8 @@ module _ {X : Type 0} (rank : X → ℕ) where
 -- ---- the nearest symbol
 
 -- the value first, and then what it is
-abbrev pub rank_of : Symbol → ℕ
-rank_of s = 3 * s.value + precedence s
+abbrev pub rank_by_steps : Symbol → ℕ
+rank_by_steps s = 3 * s.value + precedence s
 
 below_three : (f o : Bool) → cond f 2 (cond o 1 0) < 3
 below_three true o = lit< tt
@@ -114,22 +114,22 @@ below_three false false = lit< tt
 ranked_alike : (a b f g : ℕ) → f < 3 → g < 3 → ltb b a || ((a == b) && ltb g f) ≡ ltb (3 * b + g) (3 * a + f)
 ranked_alike a b f g below under = grind (arith, nat_tests)
 
-is_ranked : (s t : Symbol) → is_nearer s t ≡ ltb (rank_of t) (rank_of s)
+is_ranked : (s t : Symbol) → is_nearer s t ≡ ltb (rank_by_steps t) (rank_by_steps s)
 is_ranked s t = ranked_alike s.value t.value (precedence s) (precedence t)
     (below_three (is_function s) (is_object s)) (below_three (is_function t) (is_object t))
 
-nearest_ranked : (ss : List Symbol) → nearest ss ≡ first_best rank_of ss
-unfolding nearest
+nearest_ranked : (ss : List Symbol) → nearest_candidate ss ≡ first_best rank_by_steps ss
+unfolding nearest_candidate
 nearest_ranked ss = λ i. find (λ s. not (list_any (λ t. is_ranked t s i) ss)) ss
 
-nearest-append : (ss : List Symbol) (c : Symbol) → nearest (ss ++ c ∷ [])
-    ≡ cond (option_map_or (is_nearer c) (nearest ss) true) (Some c) (nearest ss)
+nearest-append : (ss : List Symbol) (c : Symbol) → nearest_candidate (ss ++ c ∷ [])
+    ≡ cond (option_map_or (is_nearer c) (nearest_candidate ss) true) (Some c) (nearest_candidate ss)
 nearest-append ss c =
-    let back : cond (option_map_or (is_nearer c) (nearest ss) true) (Some c) (nearest ss)
-    ≡ cond (option_map_or (λ b. ltb (rank_of b) (rank_of c)) (first_best rank_of ss) true) (Some c)
-    (first_best rank_of ss) =
+    let back : cond (option_map_or (is_nearer c) (nearest_candidate ss) true) (Some c) (nearest_candidate ss)
+    ≡ cond (option_map_or (λ b. ltb (rank_by_steps b) (rank_by_steps c)) (first_best rank_by_steps ss) true) (Some c)
+    (first_best rank_by_steps ss) =
     λ i. cond (option_map_or (λ b. is_ranked c b i) (nearest_ranked ss i) true) (Some c) (nearest_ranked ss i) in
-    nearest_ranked (ss ++ c ∷ []) ∙ first_best-append rank_of ss c ∙ sym back
+    nearest_ranked (ss ++ c ∷ []) ∙ first_best-append rank_by_steps ss c ∙ sym back
 
 and_true : (b : Bool) → b ≡ b && true
 and_true true = refl
@@ -140,21 +140,21 @@ and_false true = refl
 and_false false = refl
 
 -- one more symbol, which may be a candidate
-more : (ss : List Symbol) (c : Symbol) (passes : Bool) → nearest (ss ++ cond passes (c ∷ []) [])
-    ≡ cond (option_map_or (is_nearer c) (nearest ss) true && passes) (Some c) (nearest ss)
+more : (ss : List Symbol) (c : Symbol) (passes : Bool) → nearest_candidate (ss ++ cond passes (c ∷ []) [])
+    ≡ cond (option_map_or (is_nearer c) (nearest_candidate ss) true && passes) (Some c) (nearest_candidate ss)
 more ss c true = nearest-append ss c
-    ∙ ap (λ b. cond b (Some c) (nearest ss)) (and_true (option_map_or (is_nearer c) (nearest ss) true))
-more ss c false = ap nearest (append-nil ss)
-    ∙ ap (λ b. cond b (Some c) (nearest ss)) (and_false (option_map_or (is_nearer c) (nearest ss) true))
+    ∙ ap (λ b. cond b (Some c) (nearest_candidate ss)) (and_true (option_map_or (is_nearer c) (nearest_candidate ss) true))
+more ss c false = ap nearest_candidate (append-nil ss)
+    ∙ ap (λ b. cond b (Some c) (nearest_candidate ss)) (and_false (option_map_or (is_nearer c) (nearest_candidate ss) true))
 
 module _ (p : Symbol → Bool) (f : ℕ → Symbol) where
   -- the nearest of those that pass, among the first k
   abbrev pub nearest_below : ℕ → Option Symbol
-  nearest_below k = nearest (filter p (map f (range_with_len 0 k)))
+  nearest_below k = nearest_candidate (filter p (map f (range_with_len 0 k)))
 
   pub nearest_more : (k : ℕ) → nearest_below (k + 1)
       ≡ cond (option_map_or (is_nearer (f k)) (nearest_below k) true && p (f k)) (Some (f k)) (nearest_below k)
-  nearest_more k = ap nearest (filter_of_map_range_with_len_more p f 0 k k (omega arith))
+  nearest_more k = ap nearest_candidate (filter_of_map_range_with_len_more p f 0 k k (omega arith))
       ∙ more (filter p (map f (range_with_len 0 k))) (f k) (p (f k))
 
   -- so it changes to the next one where that is nearer and passes

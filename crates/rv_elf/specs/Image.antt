@@ -17,7 +17,7 @@ use Rattle.rv_elf.specs.declared.image.Segment.{Segment}
 use Rattle.rv_elf.specs.declared.image.Image.{Image}
 use Rattle.rv_elf.specs.declared.program_headers.ProgramHeader.{ProgramHeader}
 use Rattle.rv_elf.specs.Fields.{byte_at, half_at, word_at}
-use Rattle.rv_elf.specs.Rows.{Row, first_row}
+use Rattle.rv_elf.specs.Rows.{RefusalRow, first_refusal}
 
 -- ---- the ELF header's fields ("ELF Header")
 
@@ -72,12 +72,12 @@ segment_at file at = record {
   memsz = p_memsz file at;
 }
 
-unfoldable pub entry_at : List ℕ → ℕ → ProgramHeader
-entry_at file at = record { p_type = p_type file at; segment = segment_at file at }
+unfoldable pub program_entry_at : List ℕ → ℕ → ProgramHeader
+program_entry_at file at = record { p_type = p_type file at; segment = segment_at file at }
 
 -- the table: e_phnum entries of 32 bytes from e_phoff on
-unfoldable pub entries : List ℕ → List ProgramHeader
-entries file = map (λ k. entry_at file (e_phoff file + 32 * k)) (range_with_len 0 (e_phnum file))
+unfoldable pub program_entries : List ℕ → List ProgramHeader
+program_entries file = map (λ k. program_entry_at file (e_phoff file + 32 * k)) (range_with_len 0 (e_phnum file))
 
 -- ---- the conditions of the refusals
 
@@ -91,8 +91,8 @@ abbrev pub has_bad_version : List ℕ → Bool
 has_bad_version file = not (byte_at file 6 == 1) || not (e_version file == 1)
 
 -- more than 64 entries; or there are some, and they are not of 32 bytes or go past the file
-abbrev pub has_bad_table : List ℕ → Bool
-has_bad_table file = nat_lt 64 (e_phnum file) || (nat_lt 0 (e_phnum file)
+abbrev pub has_bad_program_table : List ℕ → Bool
+has_bad_program_table file = nat_lt 64 (e_phnum file) || (nat_lt 0 (e_phnum file)
     && (not (e_phentsize file == 32) || nat_lt (length file) (e_phoff file + 32 * e_phnum file)))
 
 -- PT_DYNAMIC or PT_INTERP
@@ -108,27 +108,27 @@ abbrev pub has_bad_sizes : ProgramHeader → Bool
 has_bad_sizes e = is_load e && nat_lt e.segment.memsz e.segment.filesz
 
 -- its bytes go past a file of n bytes
-abbrev pub is_past : ℕ → ProgramHeader → Bool
-is_past n e = is_load e
+abbrev pub is_entry_past_file : ℕ → ProgramHeader → Bool
+is_entry_past_file n e = is_load e
     && (nat_lt 0 e.segment.filesz && nat_lt n (e.segment.offset + e.segment.filesz))
 
 -- it has bytes in memory
-abbrev pub is_kept : ProgramHeader → Bool
-is_kept e = is_load e && nat_lt 0 e.segment.memsz
+abbrev pub is_kept_entry : ProgramHeader → Bool
+is_kept_entry e = is_load e && nat_lt 0 e.segment.memsz
 
-abbrev pub kept_of : List ProgramHeader → List Segment
-kept_of found = map (λ e. e.segment) (filter is_kept found)
+abbrev pub kept_segments : List ProgramHeader → List Segment
+kept_segments found = map (λ e. e.segment) (filter is_kept_entry found)
 
 -- the PT_LOAD entries with a size in memory, in table order
 unfoldable pub segments : List ℕ → List Segment
-segments file = kept_of (entries file)
+segments file = kept_segments (program_entries file)
 
 -- ---- the refusals, and the image
 
 -- the refusals in their order, each with its condition: of the ELF header, of the place of the
 -- program header table, of its entries (each question of all of them before the next one), and of
 -- what is read, where only a set of instructions without compressed ones asks for a multiple of 4
-abbrev pub refusals : Isa → List ℕ → List Row
+abbrev pub refusals : Isa → List ℕ → List RefusalRow
 refusals isa file = (nat_lt (length file) 52, ShortHeader)
     ∷ (not (has_magic file), BadMagic)
     ∷ (not (byte_at file 4 == 1), Not32Bit)
@@ -136,22 +136,22 @@ refusals isa file = (nat_lt (length file) 52, ShortHeader)
     ∷ (has_bad_version file, BadVersion)
     ∷ (not (e_type file == 2), NotExecutable)
     ∷ (not (e_machine file == 243), NotRiscv)
-    ∷ (has_bad_table file, ProgramTable)
-    ∷ (list_any is_dynamic (entries file), Dynamic)
-    ∷ (list_any has_bad_sizes (entries file), SegmentSizes)
-    ∷ (list_any (is_past (length file)) (entries file), SegmentFile)
+    ∷ (has_bad_program_table file, ProgramTable)
+    ∷ (list_any is_dynamic (program_entries file), Dynamic)
+    ∷ (list_any has_bad_sizes (program_entries file), SegmentSizes)
+    ∷ (list_any (is_entry_past_file (length file)) (program_entries file), SegmentFile)
     ∷ (length (segments file) == 0, NoSegment)
     ∷ (not (e_entry file % 2 == 0), EntryOdd)
     ∷ (not (has isa RV32C) && not (e_entry file % 4 == 0), EntryAlign)
     ∷ []
 
 -- the entry and the kept segments, before any refusal is asked
-abbrev pub image_there : List ℕ → Image
-image_there file = record { entry = e_entry file; segments = segments file }
+abbrev pub unchecked_image : List ℕ → Image
+unchecked_image file = record { entry = e_entry file; segments = segments file }
 
 -- the refusal of the first condition in the list that holds; where none does, the image
 unfoldable pub image_of : Isa → List ℕ → Result Image ImageError
-image_of isa file = first_row (refusals isa file) (Ok (image_there file))
+image_of isa file = first_refusal (refusals isa file) (Ok (unchecked_image file))
 
 -- the image is that of the bytes, for some set of instructions
 pub record IsImageOf (file : List ℕ) (image : Image) : Type 0 where

@@ -4,31 +4,31 @@ use Rattle.rv_isa.specs.declared.sets.Isa.{Isa}
 use Rattle.rv_isa.specs.declared.sets.Isa.TheVariants.{Imc}
 use Rattle.rv_elf.specs.declared.error.ImageError.{ImageError}
 use Rattle.rv_elf.specs.declared.image.Image.{Image}
-use Rattle.rv_elf.specs.Rows.{Row, first_row, accepted}
-use Rattle.rv_elf.specs.Image.{refusals, image_there}
+use Rattle.rv_elf.specs.Rows.{RefusalRow, first_refusal, accepted}
+use Rattle.rv_elf.specs.Image.{refusals, unchecked_image}
 
 -- the first eight are of the header. Only the last of all is asked of the set of instructions, so
 -- any set stands here
-abbrev pub header_rows : List ℕ → List Row
+abbrev pub header_rows : List ℕ → List RefusalRow
 header_rows file = take 8 (refusals Imc file)
 
 -- the next three are of the entries
-abbrev pub entry_rows : List ℕ → List Row
+abbrev pub entry_rows : List ℕ → List RefusalRow
 entry_rows file = take 3 (drop 8 (refusals Imc file))
 
 -- and the last three of what is read
-abbrev pub image_rows : Isa → List ℕ → List Row
+abbrev pub image_rows : Isa → List ℕ → List RefusalRow
 image_rows isa file = drop 11 (refusals isa file)
 
 unfoldable pub header_check : List ℕ → Result (Unit {0}) ImageError
-header_check file = first_row (header_rows file) accepted
+header_check file = first_refusal (header_rows file) accepted
 
 unfoldable pub entry_check : List ℕ → Result (Unit {0}) ImageError
-entry_check file = first_row (entry_rows file) accepted
+entry_check file = first_refusal (entry_rows file) accepted
 
-unfoldable pub image_check : Isa → List ℕ → Result (Unit {0}) ImageError
-image_check isa file = first_row (image_rows isa file) accepted
+unfoldable pub segments_and_entry_check : Isa → List ℕ → Result (Unit {0}) ImageError
+segments_and_entry_check isa file = first_refusal (image_rows isa file) accepted
 
 -- the answer once the header is not refused
-unfoldable pub table_of : Isa → List ℕ → Result Image ImageError
-table_of isa file = first_row (drop 8 (refusals isa file)) (Ok (image_there file))
+unfoldable pub image_behind_header : Isa → List ℕ → Result Image ImageError
+image_behind_header isa file = first_refusal (drop 8 (refusals isa file)) (Ok (unchecked_image file))

@@ -6,5 +6,5 @@ pub mod ErrorNames
 pub mod Loading
 pub mod Sections
 pub mod Symbols
-pub mod Nearest
+pub mod SymbolSearch
 pub use Rattle.rv_memory.specs.Regions

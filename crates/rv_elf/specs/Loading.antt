@@ -11,7 +11,7 @@ use Rattle.rv_elf.specs.declared.error.ImageError.TheVariants.{SegmentMap, Segme
 use Rattle.rv_elf.specs.declared.image.Segment.{Segment}
 use Rattle.rv_elf.specs.declared.loading.LoadAt.{LoadAt}
 use Rattle.rv_elf.specs.declared.loading.LoadAt.TheVariants.{Physical, Virtual}
-use Rattle.rv_elf.specs.Rows.{Row, first_row, accepted}
+use Rattle.rv_elf.specs.Rows.{RefusalRow, first_refusal, accepted}
 
 -- where the segment's file bytes go
 abbrev pub load_address : LoadAt → Segment → ℕ
@@ -20,43 +20,43 @@ load_address Virtual s = s.vaddr
 
 -- its file bytes at the load address lie in one region, and so does its memory at the virtual
 -- address; no bytes always do
-abbrev pub fits : List Region → LoadAt → Segment → Bool
-fits regions at s = in_one regions (load_address at s) s.filesz && in_one regions s.vaddr s.memsz
+abbrev pub segment_fits : List Region → LoadAt → Segment → Bool
+segment_fits regions at s = in_one regions (load_address at s) s.filesz && in_one regions s.vaddr s.memsz
 
 -- the file bytes of both, placed at their load addresses, share a byte: the later start is before
 -- the earlier end
-abbrev pub share : LoadAt → Segment → Segment → Bool
-share at s t = nat_lt (max (load_address at s) (load_address at t))
+abbrev pub segments_overlap : LoadAt → Segment → Segment → Bool
+segments_overlap at s t = nat_lt (max (load_address at s) (load_address at t))
     (min (load_address at s + s.filesz) (load_address at t + t.filesz))
 
 -- some segment of the list shares a byte with a later one
-abbrev pub any_share : LoadAt → List Segment → Bool
-any_share at [] = false
-any_share at (s ∷ ss) = list_any (share at s) ss || any_share at ss
+abbrev pub any_segments_overlap : LoadAt → List Segment → Bool
+any_segments_overlap at [] = false
+any_segments_overlap at (s ∷ ss) = list_any (segments_overlap at s) ss || any_segments_overlap at ss
 
 -- the refusals of a map, in their order
-abbrev pub map_rows : List Segment → List Region → LoadAt → List Row
-map_rows segments regions at = (not (list_all (fits regions at) segments), SegmentMap)
-    ∷ (any_share at segments, SegmentOverlap) ∷ []
+abbrev pub map_rows : List Segment → List Region → LoadAt → List RefusalRow
+map_rows segments regions at = (not (list_all (segment_fits regions at) segments), SegmentMap)
+    ∷ (any_segments_overlap at segments, SegmentOverlap) ∷ []
 
 -- the first refusal that applies, if one does
 unfoldable pub map_check : List Segment → List Region → LoadAt → Result (Unit {0}) ImageError
-map_check segments regions at = first_row (map_rows segments regions at) accepted
+map_check segments regions at = first_refusal (map_rows segments regions at) accepted
 
 -- a byte of the segment's file bytes goes to the address
-abbrev pub fills : LoadAt → ℕ → Segment → Bool
-fills at a s = nat_le (load_address at s) a && nat_lt a (load_address at s + s.filesz)
+abbrev pub segment_fills : LoadAt → ℕ → Segment → Bool
+segment_fills at a s = nat_le (load_address at s) a && nat_lt a (load_address at s + s.filesz)
 
 -- the file's byte that a segment has for an address that it fills
-abbrev pub byte_of : List ℕ → LoadAt → Segment → ℕ → ℕ
-byte_of file at s a = slice_index file (s.offset + (a - load_address at s))
+abbrev pub segment_byte : List ℕ → LoadAt → Segment → ℕ → ℕ
+segment_byte file at s a = slice_index file (s.offset + (a - load_address at s))
 
 -- the byte that an address has at the start: the file's byte of the segment that fills it, else 0.
 -- Where the map is accepted no two fill the same address, so the first that does is the only one
 abbrev pub opening_byte : List Segment → List ℕ → LoadAt → ℕ → ℕ
 opening_byte [] file at a = 0
 opening_byte (s ∷ ss) file at a =
-    if fills at a s then byte_of file at s a else opening_byte ss file at a
+    if segment_fills at a s then segment_byte file at s a else opening_byte ss file at a
 
 -- the memory at the start
 unfoldable pub opening_memory : List Region → List Segment → List ℕ → LoadAt → fin.FinMap nat_cmp ℕ

@@ -2,13 +2,13 @@
 use Rattle.std.specs.Prelude.{Bool, if◌then◌else◌, List, [], ◌∷◌, Result, Ok, Err}
 use Rattle.rv_elf.specs.declared.error.ImageError.{ImageError}
 
-abbrev pub Row : Type 0
-Row = Bool × ImageError
+abbrev pub RefusalRow : Type 0
+RefusalRow = Bool × ImageError
 
 -- the refusal of the first row whose condition holds; where none does, what follows
-abbrev pub first_row : {X : Type 0} → List Row → Result X ImageError → Result X ImageError
-first_row [] next = next
-first_row (row ∷ rows) next = if row.0 then Err row.1 else first_row rows next
+abbrev pub first_refusal : {X : Type 0} → List RefusalRow → Result X ImageError → Result X ImageError
+first_refusal [] next = next
+first_refusal (row ∷ rows) next = if row.0 then Err row.1 else first_refusal rows next
 
 -- no refusal
 abbrev pub accepted : Result (Unit {0}) ImageError

@@ -50,40 +50,40 @@ section_at file at = record {
 }
 
 -- that of an index
-abbrev pub section : List ℕ → ℕ → Section
-section file index = section_at file (e_shoff file + 40 * index)
+abbrev pub section_of_index : List ℕ → ℕ → Section
+section_of_index file index = section_at file (e_shoff file + 40 * index)
 
 -- the table: e_shnum entries of 40 bytes from e_shoff on
 abbrev pub sections : List ℕ → List Section
-sections file = map (section file) (range_with_len 0 (e_shnum file))
+sections file = map (section_of_index file) (range_with_len 0 (e_shnum file))
 
 -- there is none, its entries have another size, or it goes past the file
-abbrev pub has_bad_sections : List ℕ → Bool
-has_bad_sections file = (e_shnum file == 0)
+abbrev pub has_bad_section_table : List ℕ → Bool
+has_bad_section_table file = (e_shnum file == 0)
     || (not (e_shentsize file == 40) || nat_lt (length file) (e_shoff file + 40 * e_shnum file))
 
 -- the section goes past a file of n bytes
-abbrev pub is_past : ℕ → Section → Bool
-is_past n s = nat_lt n (s.offset + s.size)
+abbrev pub is_section_past_file : ℕ → Section → Bool
+is_section_past_file n s = nat_lt n (s.offset + s.size)
 
 -- the bytes of a section
-abbrev pub bytes_of : List ℕ → Section → List ℕ
-bytes_of file s = take s.size (drop s.offset file)
+abbrev pub section_bytes : List ℕ → Section → List ℕ
+section_bytes file s = take s.size (drop s.offset file)
 
 -- ---- the symbol table, and the fields of the symbol at a place of its bytes
 
 -- SHT_SYMTAB
-abbrev pub is_symbols : Section → Bool
-is_symbols s = s.sh_type == 2
+abbrev pub is_symbol_section : Section → Bool
+is_symbol_section s = s.sh_type == 2
 
 -- the first symbol table
 unfoldable pub symbol_table : List ℕ → Option Section
-symbol_table file = find is_symbols (sections file)
+symbol_table file = find is_symbol_section (sections file)
 
 -- its entries have another size, its size is no whole number of them, or it goes past a file of n
 -- bytes
-abbrev pub is_bad_symbols : ℕ → Section → Bool
-is_bad_symbols n s = not (s.entsize == 16) || (not (s.size % 16 == 0) || is_past n s)
+abbrev pub is_bad_symbol_table : ℕ → Section → Bool
+is_bad_symbol_table n s = not (s.entsize == 16) || (not (s.size % 16 == 0) || is_section_past_file n s)
 
 abbrev pub st_name : List ℕ → ℕ → ℕ
 st_name table at = word_at table at
@@ -120,24 +120,24 @@ symbols_of table = map (λ k. symbol_entry table (16 * k)) (range_with_len 0 (le
 -- the section that a symbol table's link names, if there are so many
 abbrev pub string_table : List ℕ → Section → Option Section
 string_table file symbols =
-    if nat_lt symbols.link (e_shnum file) then Some (section file symbols.link) else None
+    if nat_lt symbols.link (e_shnum file) then Some (section_of_index file symbols.link) else None
 
 -- not SHT_STRTAB, or past a file of n bytes
-abbrev pub is_bad_strings : ℕ → Section → Bool
-is_bad_strings n s = not (s.sh_type == 3) || is_past n s
+abbrev pub is_bad_string_table : ℕ → Section → Bool
+is_bad_string_table n s = not (s.sh_type == 3) || is_section_past_file n s
 
 -- the text that bytes begin with: those up to the first zero byte, if there is one
-abbrev pub text_of : List ℕ → Option (List ℕ)
-text_of [] = None
-text_of (b ∷ bs) = if b == 0 then Some [] else option_map (λ text. b ∷ text) (text_of bs)
+abbrev pub text_before_zero : List ℕ → Option (List ℕ)
+text_before_zero [] = None
+text_before_zero (b ∷ bs) = if b == 0 then Some [] else option_map (λ text. b ∷ text) (text_before_zero bs)
 
 -- the bytes begin with the text and a zero byte
-unfoldable pub begins_with : List ℕ → List ℕ → Bool
-begins_with bytes text = option_map_or (bytes_eq text) (text_of bytes) false
+unfoldable pub begins_with_name : List ℕ → List ℕ → Bool
+begins_with_name bytes text = option_map_or (bytes_eq text) (text_before_zero bytes) false
 
 -- the symbol is defined, and its name in the string table is the text
 abbrev pub is_named : List ℕ → List ℕ → Symbol → Bool
-is_named strings text s = not (s.section == 0) && begins_with (drop s.name strings) text
+is_named strings text s = not (s.section == 0) && begins_with_name (drop s.name strings) text
 
 -- the first such symbol of a table
 unfoldable pub symbol_named : List ℕ → List ℕ → List ℕ → Option Symbol

@@ -13,60 +13,60 @@ use Rattle.rv_elf.specs.declared.error.ImageError.TheVariants.{SectionTable, NoS
 use Rattle.rv_elf.specs.declared.error.ImageError.TheVariants.{StringTable, NoBegin, SignatureRange}
 use Rattle.rv_elf.specs.declared.sections.Section.{Section}
 use Rattle.rv_elf.specs.declared.symbols.Symbol.{Symbol}
-use Rattle.rv_elf.specs.Rows.{Row, first_row, accepted}
-use Rattle.rv_elf.specs.Sections.{has_bad_sections, symbol_table, string_table, is_bad_symbols}
-use Rattle.rv_elf.specs.Sections.{is_bad_strings, bytes_of, symbol_named}
+use Rattle.rv_elf.specs.Rows.{RefusalRow, first_refusal, accepted}
+use Rattle.rv_elf.specs.Sections.{has_bad_section_table, symbol_table, string_table, is_bad_symbol_table}
+use Rattle.rv_elf.specs.Sections.{is_bad_string_table, section_bytes, symbol_named}
 
 -- the string table of a symbol table is missing, is none, or goes past the file
-abbrev pub has_bad_strings : List ℕ → Section → Bool
-has_bad_strings file symbols =
-    option_map_or (is_bad_strings (length file)) (string_table file symbols) true
+abbrev pub has_bad_string_table : List ℕ → Section → Bool
+has_bad_string_table file symbols =
+    option_map_or (is_bad_string_table (length file)) (string_table file symbols) true
 
 -- the refusals of a file's symbols, in their order; what is asked of a symbol table is asked where
 -- there is one
-abbrev pub table_rows : List ℕ → List Row
-table_rows file = (has_bad_sections file, SectionTable)
+abbrev pub table_rows : List ℕ → List RefusalRow
+table_rows file = (has_bad_section_table file, SectionTable)
     ∷ (is_none (symbol_table file), NoSymbols)
-    ∷ (option_map_or (is_bad_symbols (length file)) (symbol_table file) false, SymbolTable)
-    ∷ (option_map_or (has_bad_strings file) (symbol_table file) false, StringTable)
+    ∷ (option_map_or (is_bad_symbol_table (length file)) (symbol_table file) false, SymbolTable)
+    ∷ (option_map_or (has_bad_string_table file) (symbol_table file) false, StringTable)
     ∷ []
 
 -- the first of them that applies, if one does
 unfoldable pub table_check : List ℕ → Result (Unit {0}) ImageError
-table_check file = first_row (table_rows file) accepted
+table_check file = first_refusal (table_rows file) accepted
 
 -- the bytes of a symbol table and of its string table
-abbrev pub tables_of : List ℕ → Section → Option (List ℕ × List ℕ)
-tables_of file symbols =
-    option_map (λ strings. (bytes_of file symbols, bytes_of file strings))
+abbrev pub tables_of_section : List ℕ → Section → Option (List ℕ × List ℕ)
+tables_of_section file symbols =
+    option_map (λ strings. (section_bytes file symbols, section_bytes file strings))
     (string_table file symbols)
 
 -- those of the first symbol table
-abbrev pub tables_there : List ℕ → Option (List ℕ × List ℕ)
-tables_there file = option_and_then (tables_of file) (symbol_table file)
+abbrev pub symbol_tables : List ℕ → Option (List ℕ × List ℕ)
+symbol_tables file = option_and_then (tables_of_section file) (symbol_table file)
 
 -- the first symbol of that name in them
-abbrev pub symbol_there : List ℕ → List ℕ → Option Symbol
-symbol_there file name = option_and_then (λ t. symbol_named t.0 t.1 name) (tables_there file)
+abbrev pub symbol_of_name : List ℕ → List ℕ → Option Symbol
+symbol_of_name file name = option_and_then (λ t. symbol_named t.0 t.1 name) (symbol_tables file)
 
 -- the refusals of a name, in their order
-abbrev pub symbol_rows : List ℕ → List ℕ → List Row
-symbol_rows file name = table_rows file ++ (is_none (symbol_there file name), NoBegin) ∷ []
+abbrev pub symbol_rows : List ℕ → List ℕ → List RefusalRow
+symbol_rows file name = table_rows file ++ (is_none (symbol_of_name file name), NoBegin) ∷ []
 
 -- the first refusal that applies, or the value of the symbol; where no refusal applies there is
 -- one, so that the default is never taken
 unfoldable pub symbol_of : List ℕ → List ℕ → Result ℕ ImageError
-symbol_of file name = first_row (symbol_rows file name)
-    (Ok (unwrap_or (option_map (λ s. s.value) (symbol_there file name)) 0))
+symbol_of file name = first_refusal (symbol_rows file name)
+    (Ok (unwrap_or (option_map (λ s. s.value) (symbol_of_name file name)) 0))
 
 -- the begin is above the end, one is no multiple of 4, or there are bytes that lie not in one
 -- region or are more than 65,536 words
-abbrev pub is_bad_range : ℕ → ℕ → List Region → Bool
-is_bad_range begin end regions = nat_lt end begin || (not (begin % 4 == 0) || (not (end % 4 == 0)
+abbrev pub is_bad_signature_range : ℕ → ℕ → List Region → Bool
+is_bad_signature_range begin end regions = nat_lt end begin || (not (begin % 4 == 0) || (not (end % 4 == 0)
     || (nat_lt begin end && (not (in_one regions begin (end - begin))
     || nat_lt 0x4_0000 (end - begin)))))
 
 -- the refusal of a signature's range, if it applies
 unfoldable pub signature_check : ℕ → ℕ → List Region → Result (Unit {0}) ImageError
 signature_check begin end regions =
-    first_row ((is_bad_range begin end regions, SignatureRange) ∷ []) accepted
+    first_refusal ((is_bad_signature_range begin end regions, SignatureRange) ∷ []) accepted

@@ -68,7 +68,7 @@ pub(crate) const ST_SHNDX: usize = 14;
 
 /// The two-byte number at a place.
 #[tactic(auto, unfolding(crate::specs::Fields::half_at))]
-pub(crate) fn half(file: &[u8], at: usize) -> u16
+pub(crate) fn half_field(file: &[u8], at: usize) -> u16
     requires { at + 2 ≤ length file.now }
     ensures { result ≡ half_at file.now at }
 {
@@ -77,7 +77,7 @@ pub(crate) fn half(file: &[u8], at: usize) -> u16
 
 /// The four-byte number at a place.
 #[tactic(auto, unfolding(crate::specs::Fields::word_at))]
-pub(crate) fn word(file: &[u8], at: usize) -> u32
+pub(crate) fn word_field(file: &[u8], at: usize) -> u32
     requires { at + 4 ≤ length file.now }
     ensures { result ≡ word_at file.now at }
 {

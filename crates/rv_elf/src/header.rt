@@ -1,12 +1,12 @@
 //! The tests of the ELF header, and of the place of the program header table.
 ghost use Rattle.std.specs.Prelude.{◌≡◌, ◌≤◌, OnOk, length};
-ghost use Rattle.rv_elf.specs.Image.{has_magic, has_bad_version, has_bad_table, HasTable};
+ghost use Rattle.rv_elf.specs.Image.{has_magic, has_bad_version, has_bad_program_table, HasTable};
 ghost use Rattle.rv_elf.specs.ImageParts.{header_check};
 
 use crate::error::ImageError;
 use crate::fields::{
     E_MACHINE, E_PHENTSIZE, E_PHNUM, E_PHOFF, E_TYPE, E_VERSION, EI_CLASS, EI_DATA, EI_VERSION,
-    half, word,
+    half_field, word_field,
 };
 
 const HEADER_SIZE: usize = 52;
@@ -47,13 +47,13 @@ pub(crate) fn check_header(file: &[u8]) -> Result<(), ImageError>
     if has_bad_version(file) {
         return Err(ImageError::BadVersion);
     }
-    if half(file, E_TYPE) != ET_EXEC {
+    if half_field(file, E_TYPE) != ET_EXEC {
         return Err(ImageError::NotExecutable);
     }
-    if half(file, E_MACHINE) != EM_RISCV {
+    if half_field(file, E_MACHINE) != EM_RISCV {
         return Err(ImageError::NotRiscv);
     }
-    if has_bad_table(file) {
+    if has_bad_program_table(file) {
         return Err(ImageError::ProgramTable);
     }
     Ok(())
@@ -70,16 +70,17 @@ fn has_bad_version(file: &[u8]) -> bool
     requires { 52 ≤ length file.now }
     ensures { result ≡ has_bad_version file.now }
 {
-    file[EI_VERSION] != EV_CURRENT || word(file, E_VERSION) != u32::from(EV_CURRENT)
+    file[EI_VERSION] != EV_CURRENT || word_field(file, E_VERSION) != u32::from(EV_CURRENT)
 }
 
-fn has_bad_table(file: &[u8]) -> bool
+fn has_bad_program_table(file: &[u8]) -> bool
     requires { 52 ≤ length file.now }
-    ensures { result ≡ has_bad_table file.now }
+    ensures { result ≡ has_bad_program_table file.now }
 {
-    let count = half(file, E_PHNUM);
+    let count = half_field(file, E_PHNUM);
     MOST_ENTRIES < count
         || 0 < count
-            && (half(file, E_PHENTSIZE) != ENTRY_SIZE
-                || file.len() < word(file, E_PHOFF) as usize + ENTRY_SIZE as usize * count as usize)
+            && (half_field(file, E_PHENTSIZE) != ENTRY_SIZE
+                || file.len()
+                    < word_field(file, E_PHOFF) as usize + ENTRY_SIZE as usize * count as usize)
 }

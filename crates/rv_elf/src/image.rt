@@ -2,13 +2,13 @@
 ghost use Rattle.std.specs.Prelude.{◌≡◌, ◌≢◌, ◌≤◌, IfOk, MatchResult, Ok, Err, false, length, ◌%◌};
 ghost use Rattle.rv_isa.specs.Extensions.{has, RV32C};
 ghost use Rattle.rv_elf.specs.Image.{image_of, segments, HasTable, IsImageOf};
-ghost use Rattle.rv_elf.specs.ImageParts.{table_of, image_check};
+ghost use Rattle.rv_elf.specs.ImageParts.{image_behind_header, segments_and_entry_check};
 ghost use Rattle.rv_elf.specs.declared.error.ImageError.TheVariants.{OutOfMemory};
 
 use crate::error::ImageError;
-use crate::fields::{E_ENTRY, word};
+use crate::fields::{E_ENTRY, word_field};
 use crate::header::check_header;
-use crate::program_headers::{check_entries, entries, kept_segments};
+use crate::program_headers::{check_entries, kept_segments, program_entries};
 use rv_base::Sequence;
 use rv_isa::Isa;
 use std::alloc::Global;
@@ -53,33 +53,33 @@ pub fn read_image(alloc: Global, file: &[u8], isa: Isa) -> Result<Image, ImageEr
     ensures aligned { IfOk result (λ image. has isa RV32C ≡ false → image.entry % 4 ≡ 0) }
 {
     check_header(file)?;
-    read_table(alloc, file, isa)
+    read_image_behind_header(alloc, file, isa)
 }
 
 // The rest of [`read_image`], once the header is accepted.
-fn read_table(alloc: Global, file: &[u8], isa: Isa) -> Result<Image, ImageError>
+fn read_image_behind_header(alloc: Global, file: &[u8], isa: Isa) -> Result<Image, ImageError>
     requires { HasTable file.now }
-    ensures { MatchResult result (λ image. table_of isa file.now ≡ Ok image)
-        (λ e. e ≢ OutOfMemory → table_of isa file.now ≡ Err e) }
+    ensures { MatchResult result (λ image. image_behind_header isa file.now ≡ Ok image)
+        (λ e. e ≢ OutOfMemory → image_behind_header isa file.now ≡ Err e) }
 {
-    let found = entries(alloc, file)?;
+    let found = program_entries(alloc, file)?;
     check_entries(found.as_slice(), file)?;
     let kept = kept_segments(alloc, found.as_slice())?;
-    check_image(file, kept.as_slice(), isa)?;
+    check_segments_and_entry(file, kept.as_slice(), isa)?;
     Ok(Image {
-        entry: word(file, E_ENTRY),
+        entry: word_field(file, E_ENTRY),
         segments: Segments::new(kept),
     })
 }
 
 // Asks the refusals of what is read: the segments that are kept, and the entry.
-#[tactic(auto, unfolding(crate::specs::ImageParts::image_check))]
-fn check_image(file: &[u8], kept: &[Segment], isa: Isa) -> Result<(), ImageError>
+#[tactic(auto, unfolding(crate::specs::ImageParts::segments_and_entry_check))]
+fn check_segments_and_entry(file: &[u8], kept: &[Segment], isa: Isa) -> Result<(), ImageError>
     requires header { 52 ≤ length file.now }
     requires read { kept.now ≡ segments file.now }
-    ensures { result ≡ image_check isa file.now }
+    ensures { result ≡ segments_and_entry_check isa file.now }
 {
-    let entry = word(file, E_ENTRY);
+    let entry = word_field(file, E_ENTRY);
     if kept.is_empty() {
         return Err(ImageError::NoSegment);
     }

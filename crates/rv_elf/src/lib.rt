@@ -14,13 +14,13 @@ mod fields;
 mod header;
 mod image;
 mod loading;
-mod nearest;
 mod program_headers;
 mod sections;
+mod symbol_search;
 mod symbols;
 
 pub use error::ImageError;
 pub use image::{Image, Segment, Segments, read_image};
 pub use loading::{LoadAt, check_map, load};
-pub use nearest::{SymbolAt, symbol_at, symbol_of_value};
+pub use symbol_search::{SymbolAt, symbol_at, symbol_of_value};
 pub use symbols::{check_signature, find_symbol};

@@ -5,7 +5,7 @@ ghost use Rattle.rv_memory.specs.Regions.{in_one};
 ghost use Rattle.rv_memory.specs.Bus.{new_bus, with_bytes};
 ghost use Rattle.rv_elf.specs.Rows.{accepted};
 ghost use Rattle.rv_elf.specs.Image.{IsImageOf};
-ghost use Rattle.rv_elf.specs.Loading.{load_address, fits, share, any_share, fills, map_check, opening_memory};
+ghost use Rattle.rv_elf.specs.Loading.{load_address, segment_fits, segments_overlap, any_segments_overlap, segment_fills, map_check, opening_memory};
 ghost use Rattle.rv_elf.specs.Loading.{file_bytes};
 
 use crate::error::ImageError;
@@ -24,13 +24,13 @@ pub enum LoadAt {
 #[tactic(auto, unfolding(crate::specs::Loading::map_check))]
 pub fn check_map(image: &Image, map: &Map, at: LoadAt) -> Result<(), ImageError>
     ensures value { result ≡ map_check image.now.segments map.now at }
-    ensures once { OnOk result ((a : ℕ) → count_by (fills at a) image.now.segments ≤ 1) }
+    ensures once { OnOk result ((a : ℕ) → count_by (segment_fills at a) image.now.segments ≤ 1) }
 {
     let segments = image.segments.as_slice();
-    if !all_fit(segments, map, at) {
+    if !all_segments_fit(segments, map, at) {
         return Err(ImageError::SegmentMap);
     }
-    if any_share(segments, at) {
+    if any_segments_overlap(segments, at) {
         return Err(ImageError::SegmentOverlap);
     }
     Ok(())
@@ -47,12 +47,12 @@ pub fn load(image: &Image, file: &[u8], at: LoadAt, bus: &mut Bus)
     } }
 {
     for segment in image.segments.as_slice() {
-        place(segment, file, at, bus);
+        place_segment(segment, file, at, bus);
     }
 }
 
 impl LoadAt {
-    fn address_of(self, segment: &Segment) -> u32
+    fn load_address(self, segment: &Segment) -> u32
         ensures { result ≡ load_address self segment.now }
     {
         match self {
@@ -62,48 +62,50 @@ impl LoadAt {
     }
 
     // The address past the last file byte.
-    fn end_of(self, segment: &Segment) -> u64
+    fn load_end(self, segment: &Segment) -> u64
         ensures { result ≡ load_address self segment.now + segment.now.filesz }
     {
-        u64::from(self.address_of(segment)) + u64::from(segment.filesz)
+        u64::from(self.load_address(segment)) + u64::from(segment.filesz)
     }
 }
 
-fn all_fit(segments: &[Segment], map: &Map, at: LoadAt) -> bool
-    ensures { result ≡ list_all (fits map.now at) segments.now }
+fn all_segments_fit(segments: &[Segment], map: &Map, at: LoadAt) -> bool
+    ensures { result ≡ list_all (segment_fits map.now at) segments.now }
 {
     segments.iter().all(|segment| {
-        map.in_one(at.address_of(segment), segment.filesz)
+        map.in_one(at.load_address(segment), segment.filesz)
             && map.in_one(segment.vaddr, segment.memsz)
     })
 }
 
 // Whether two of the segments get a byte of memory in common.
-fn any_share(segments: &[Segment], at: LoadAt) -> bool
-    ensures { result ≡ any_share at segments.now }
+fn any_segments_overlap(segments: &[Segment], at: LoadAt) -> bool
+    ensures { result ≡ any_segments_overlap at segments.now }
 {
     for k in 0..segments.len() {
-        if shares_any(&segments[k], &segments[k + 1..], at) {
+        if overlaps_any_segment(&segments[k], &segments[k + 1..], at) {
             return true;
         }
     }
     false
 }
 
-fn shares_any(segment: &Segment, others: &[Segment], at: LoadAt) -> bool
-    ensures { result ≡ list_any (share at segment.now) others.now }
+fn overlaps_any_segment(segment: &Segment, others: &[Segment], at: LoadAt) -> bool
+    ensures { result ≡ list_any (segments_overlap at segment.now) others.now }
 {
-    others.iter().any(|other| share(segment, other, at))
+    others
+        .iter()
+        .any(|other| segments_overlap(segment, other, at))
 }
 
-fn share(one: &Segment, other: &Segment, at: LoadAt) -> bool
-    ensures { result ≡ share at one.now other.now }
+fn segments_overlap(one: &Segment, other: &Segment, at: LoadAt) -> bool
+    ensures { result ≡ segments_overlap at one.now other.now }
 {
-    let start = at.address_of(one).max(at.address_of(other));
-    u64::from(start) < at.end_of(one).min(at.end_of(other))
+    let start = at.load_address(one).max(at.load_address(other));
+    u64::from(start) < at.load_end(one).min(at.load_end(other))
 }
 
-fn place(segment: &Segment, file: &[u8], at: LoadAt, bus: &mut Bus)
+fn place_segment(segment: &Segment, file: &[u8], at: LoadAt, bus: &mut Bus)
     requires inside { 0 < segment.now.filesz
         → segment.now.offset + segment.now.filesz ≤ length file.now }
     requires fits { IsTrue
@@ -114,6 +116,6 @@ fn place(segment: &Segment, file: &[u8], at: LoadAt, bus: &mut Bus)
     if 0 < segment.filesz {
         let start = segment.offset as usize;
         let bytes = &file[start..start + segment.filesz as usize];
-        bus.place(at.address_of(segment), bytes);
+        bus.place(at.load_address(segment), bytes);
     }
 }

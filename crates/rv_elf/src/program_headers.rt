@@ -1,13 +1,13 @@
 //! The program header table: its entries, their tests, and the segments that are kept.
 ghost use Rattle.std.specs.Prelude.{◌≡◌, ◌+◌, ◌*◌, ◌<◌, ◌≤◌, IfOk, map, length};
 ghost use Rattle.std.specs.List.{list_any, range_with_len};
-ghost use Rattle.rv_elf.specs.Image.{segment_at, entry_at, entries, is_dynamic, has_bad_sizes, is_past};
-ghost use Rattle.rv_elf.specs.Image.{kept_of, HasTable};
+ghost use Rattle.rv_elf.specs.Image.{segment_at, program_entry_at, program_entries, is_dynamic, has_bad_sizes, is_entry_past_file};
+ghost use Rattle.rv_elf.specs.Image.{kept_segments, HasTable};
 ghost use Rattle.rv_elf.specs.ImageParts.{entry_check};
 
 use crate::error::ImageError;
 use crate::fields::{
-    E_PHNUM, E_PHOFF, P_FILESZ, P_MEMSZ, P_OFFSET, P_PADDR, P_TYPE, P_VADDR, half, word,
+    E_PHNUM, E_PHOFF, P_FILESZ, P_MEMSZ, P_OFFSET, P_PADDR, P_TYPE, P_VADDR, half_field, word_field,
 };
 use crate::image::Segment;
 use std::alloc::{AllocError, Global};
@@ -26,32 +26,32 @@ const PT_DYNAMIC: u32 = 2;
 const PT_INTERP: u32 = 3;
 
 /// The entries of the program header table.
-#[tactic(auto, unfolding(crate::specs::Image::entries))]
-pub(crate) fn entries(alloc: Global, file: &[u8]) -> Result<Vec<ProgramHeader>, AllocError>
+#[tactic(auto, unfolding(crate::specs::Image::program_entries))]
+pub(crate) fn program_entries(alloc: Global, file: &[u8]) -> Result<Vec<ProgramHeader>, AllocError>
     requires { HasTable file.now }
-    ensures { IfOk result (λ v. v.items ≡ entries file.now) }
+    ensures { IfOk result (λ v. v.items ≡ program_entries file.now) }
 {
-    entries_at(
+    program_entries_at(
         alloc,
         file,
-        word(file, E_PHOFF) as usize,
-        half(file, E_PHNUM) as usize,
+        word_field(file, E_PHOFF) as usize,
+        half_field(file, E_PHNUM) as usize,
     )
 }
 
 /// Asks the refusals of the entries.
 #[tactic(auto, unfolding(crate::specs::ImageParts::entry_check))]
 pub(crate) fn check_entries(found: &[ProgramHeader], file: &[u8]) -> Result<(), ImageError>
-    requires { found.now ≡ entries file.now }
+    requires { found.now ≡ program_entries file.now }
     ensures { result ≡ entry_check file.now }
 {
-    if any_dynamic(found) {
+    if any_dynamic_entry(found) {
         return Err(ImageError::Dynamic);
     }
-    if any_bad_sizes(found) {
+    if any_bad_segment_sizes(found) {
         return Err(ImageError::SegmentSizes);
     }
-    if any_past(found, file.len()) {
+    if any_segment_past_file(found, file.len()) {
         return Err(ImageError::SegmentFile);
     }
     Ok(())
@@ -62,7 +62,7 @@ pub(crate) fn kept_segments(
     alloc: Global,
     found: &[ProgramHeader],
 ) -> Result<Vec<Segment>, AllocError>
-    ensures { IfOk result (λ v. v.items ≡ kept_of found.now) }
+    ensures { IfOk result (λ v. v.items ≡ kept_segments found.now) }
 {
     let mut kept = Vec::new(alloc);
     for entry in found {
@@ -73,7 +73,7 @@ pub(crate) fn kept_segments(
     Ok(kept)
 }
 
-fn entries_at(
+fn program_entries_at(
     alloc: Global,
     file: &[u8],
     offset: usize,
@@ -82,22 +82,22 @@ fn entries_at(
     requires room { 0 < count → offset + 32 * count ≤ length file.now }
     requires few { count ≤ 64 }
     ensures { IfOk result (λ v. v.items
-        ≡ map (λ k. entry_at file.now (offset + 32 * k)) (range_with_len 0 count)) }
+        ≡ map (λ k. program_entry_at file.now (offset + 32 * k)) (range_with_len 0 count)) }
 {
     let mut found = Vec::new(alloc);
     for k in 0..count {
-        found.push(entry_at(file, offset + 32 * k))?;
+        found.push(program_entry_at(file, offset + 32 * k))?;
     }
     Ok(found)
 }
 
-#[tactic(auto, unfolding(crate::specs::Image::entry_at))]
-fn entry_at(file: &[u8], at: usize) -> ProgramHeader
+#[tactic(auto, unfolding(crate::specs::Image::program_entry_at))]
+fn program_entry_at(file: &[u8], at: usize) -> ProgramHeader
     requires { at + 32 ≤ length file.now }
-    ensures { result ≡ entry_at file.now at }
+    ensures { result ≡ program_entry_at file.now at }
 {
     ProgramHeader {
-        p_type: word(file, at + P_TYPE),
+        p_type: word_field(file, at + P_TYPE),
         segment: segment_at(file, at),
     }
 }
@@ -108,15 +108,15 @@ fn segment_at(file: &[u8], at: usize) -> Segment
     ensures { result ≡ segment_at file.now at }
 {
     Segment {
-        offset: word(file, at + P_OFFSET),
-        vaddr: word(file, at + P_VADDR),
-        paddr: word(file, at + P_PADDR),
-        filesz: word(file, at + P_FILESZ),
-        memsz: word(file, at + P_MEMSZ),
+        offset: word_field(file, at + P_OFFSET),
+        vaddr: word_field(file, at + P_VADDR),
+        paddr: word_field(file, at + P_PADDR),
+        filesz: word_field(file, at + P_FILESZ),
+        memsz: word_field(file, at + P_MEMSZ),
     }
 }
 
-fn any_dynamic(found: &[ProgramHeader]) -> bool
+fn any_dynamic_entry(found: &[ProgramHeader]) -> bool
     ensures { result ≡ list_any is_dynamic found.now }
 {
     found
@@ -124,14 +124,14 @@ fn any_dynamic(found: &[ProgramHeader]) -> bool
         .any(|e| e.p_type == PT_DYNAMIC || e.p_type == PT_INTERP)
 }
 
-fn any_bad_sizes(found: &[ProgramHeader]) -> bool
+fn any_bad_segment_sizes(found: &[ProgramHeader]) -> bool
     ensures { result ≡ list_any has_bad_sizes found.now }
 {
     found.iter().any(|e| e.p_type == PT_LOAD && e.segment.memsz < e.segment.filesz)
 }
 
-fn any_past(found: &[ProgramHeader], size: usize) -> bool
-    ensures { result ≡ list_any (is_past size) found.now }
+fn any_segment_past_file(found: &[ProgramHeader], size: usize) -> bool
+    ensures { result ≡ list_any (is_entry_past_file size) found.now }
 {
     found.iter().any(|e| {
         e.p_type == PT_LOAD

@@ -3,11 +3,12 @@ ghost use Rattle.std.specs.Prelude.{◌≡◌, ◌+◌, ◌*◌, ◌<◌, ◌≤
 ghost use Rattle.std.specs.Prelude.{length, MatchOption};
 ghost use Rattle.std.specs.List.{find, slice_get};
 ghost use Rattle.rv_elf.specs.Fields.{half_at, word_at};
-ghost use Rattle.rv_elf.specs.Sections.{section_at, section, has_bad_sections, symbol_table, string_table, is_past};
-ghost use Rattle.rv_elf.specs.Sections.{is_bad_symbols, is_bad_strings, bytes_of, is_symbols, e_shnum, HasSections};
+ghost use Rattle.rv_elf.specs.Sections.{section_at, section_of_index, has_bad_section_table, symbol_table, string_table, is_section_past_file};
+ghost use Rattle.rv_elf.specs.Sections.{is_bad_symbol_table, is_bad_string_table, section_bytes, is_symbol_section, e_shnum, HasSections};
 
 use crate::fields::{
-    E_SHENTSIZE, E_SHNUM, E_SHOFF, SH_ENTSIZE, SH_LINK, SH_OFFSET, SH_SIZE, SH_TYPE, half, word,
+    E_SHENTSIZE, E_SHNUM, E_SHOFF, SH_ENTSIZE, SH_LINK, SH_OFFSET, SH_SIZE, SH_TYPE, half_field,
+    word_field,
 };
 
 /// A section header, as far as it is looked at (System V ABI, "Sections").
@@ -33,43 +34,45 @@ const SHT_STRTAB: u32 = 3;
 impl Section {
     /// Whether a symbol table can't be read: its entries have another size, or it goes past a file of
     /// `size` bytes.
-    pub(crate) fn is_bad_symbols(&self, size: usize) -> bool
-        ensures { result ≡ is_bad_symbols size self.now }
+    pub(crate) fn is_bad_symbol_table(&self, size: usize) -> bool
+        ensures { result ≡ is_bad_symbol_table size self.now }
     {
-        self.entsize != SYMBOL_SIZE || self.size % SYMBOL_SIZE != 0 || self.is_past(size)
+        self.entsize != SYMBOL_SIZE
+            || self.size % SYMBOL_SIZE != 0
+            || self.is_section_past_file(size)
     }
 
     /// Whether it is no string table within a file of `size` bytes.
-    pub(crate) fn is_bad_strings(&self, size: usize) -> bool
-        ensures { result ≡ is_bad_strings size self.now }
+    pub(crate) fn is_bad_string_table(&self, size: usize) -> bool
+        ensures { result ≡ is_bad_string_table size self.now }
     {
-        self.sh_type != SHT_STRTAB || self.is_past(size)
+        self.sh_type != SHT_STRTAB || self.is_section_past_file(size)
     }
 
     /// The bytes of the section.
-    pub(crate) fn bytes_in<'a>(&self, file: &'a [u8]) -> &'a [u8]
-        requires { is_past (length file.now) self.now ≡ false }
-        ensures { result.now ≡ bytes_of file.now self.now }
+    pub(crate) fn section_bytes<'a>(&self, file: &'a [u8]) -> &'a [u8]
+        requires { is_section_past_file (length file.now) self.now ≡ false }
+        ensures { result.now ≡ section_bytes file.now self.now }
     {
         &file[self.offset as usize..self.offset as usize + self.size as usize]
     }
 
-    fn is_past(&self, size: usize) -> bool
-        ensures { result ≡ is_past size self.now }
+    fn is_section_past_file(&self, size: usize) -> bool
+        ensures { result ≡ is_section_past_file size self.now }
     {
         size < self.offset as usize + self.size as usize
     }
 }
 
 /// Whether there is no section header table, or none that can be read.
-pub(crate) fn has_bad_sections(file: &[u8]) -> bool
+pub(crate) fn has_bad_section_table(file: &[u8]) -> bool
     requires { 52 ≤ length file.now }
-    ensures { result ≡ has_bad_sections file.now }
+    ensures { result ≡ has_bad_section_table file.now }
 {
-    let count = half(file, E_SHNUM);
+    let count = half_field(file, E_SHNUM);
     count == 0
-        || half(file, E_SHENTSIZE) != HEADER_SIZE
-        || file.len() < word(file, E_SHOFF) as usize + HEADER_SIZE as usize * count as usize
+        || half_field(file, E_SHENTSIZE) != HEADER_SIZE
+        || file.len() < word_field(file, E_SHOFF) as usize + HEADER_SIZE as usize * count as usize
 }
 
 /// The first symbol table of the file.
@@ -77,8 +80,8 @@ pub(crate) fn symbol_table(file: &[u8]) -> Option<Section>
     requires { HasSections file.now }
     ensures { result ≡ symbol_table file.now }
 {
-    for index in 0..u32::from(half(file, E_SHNUM)) {
-        let section = header_of(file, index);
+    for index in 0..u32::from(half_field(file, E_SHNUM)) {
+        let section = section_of_index(file, index);
         if section.sh_type == SHT_SYMTAB {
             return Some(section);
         }
@@ -91,21 +94,21 @@ pub(crate) fn string_table(file: &[u8], symbols: &Section) -> Option<Section>
     requires { HasSections file.now }
     ensures { result ≡ string_table file.now symbols.now }
 {
-    if symbols.link >= u32::from(half(file, E_SHNUM)) {
+    if symbols.link >= u32::from(half_field(file, E_SHNUM)) {
         return None;
     }
-    Some(header_of(file, symbols.link))
+    Some(section_of_index(file, symbols.link))
 }
 
 // The section header of an index.
-fn header_of(file: &[u8], index: u32) -> Section
+fn section_of_index(file: &[u8], index: u32) -> Section
     requires table { HasSections file.now }
     requires within { index < e_shnum file.now }
-    ensures { result ≡ section file.now index }
+    ensures { result ≡ section_of_index file.now index }
 {
     section_at(
         file,
-        word(file, E_SHOFF) as usize + HEADER_SIZE as usize * index as usize,
+        word_field(file, E_SHOFF) as usize + HEADER_SIZE as usize * index as usize,
     )
 }
 
@@ -115,10 +118,10 @@ fn section_at(file: &[u8], at: usize) -> Section
     ensures { result ≡ section_at file.now at }
 {
     Section {
-        sh_type: word(file, at + SH_TYPE),
-        offset: word(file, at + SH_OFFSET),
-        size: word(file, at + SH_SIZE),
-        link: word(file, at + SH_LINK),
-        entsize: word(file, at + SH_ENTSIZE),
+        sh_type: word_field(file, at + SH_TYPE),
+        offset: word_field(file, at + SH_OFFSET),
+        size: word_field(file, at + SH_SIZE),
+        link: word_field(file, at + SH_LINK),
+        entsize: word_field(file, at + SH_ENTSIZE),
     }
 }

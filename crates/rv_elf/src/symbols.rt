@@ -4,13 +4,13 @@ ghost use Rattle.std.specs.Prelude.{MatchResult, Some, length};
 ghost use Rattle.std.specs.Prelude.{option_map, drop};
 ghost use Rattle.rv_elf.specs.Rows.{accepted};
 ghost use Rattle.rv_elf.specs.Image.{IsImageOf};
-ghost use Rattle.rv_elf.specs.Sections.{symbol_entry, symbol_named, begins_with, is_named};
-ghost use Rattle.rv_elf.specs.Symbols.{table_check, tables_there, symbol_of, signature_check, is_bad_range};
+ghost use Rattle.rv_elf.specs.Sections.{symbol_entry, symbol_named, begins_with_name, is_named};
+ghost use Rattle.rv_elf.specs.Symbols.{table_check, symbol_tables, symbol_of, signature_check, is_bad_signature_range};
 
 use crate::error::ImageError;
-use crate::fields::{ST_INFO, ST_NAME, ST_SHNDX, ST_SIZE, ST_VALUE, half, word};
+use crate::fields::{ST_INFO, ST_NAME, ST_SHNDX, ST_SIZE, ST_VALUE, half_field, word_field};
 use crate::image::Image;
-use crate::sections::{has_bad_sections, string_table, symbol_table};
+use crate::sections::{has_bad_section_table, string_table, symbol_table};
 use rv_memory::Map;
 
 /// An entry of a symbol table, as far as it is looked at (System V ABI, "Symbol Table").
@@ -47,7 +47,7 @@ pub fn find_symbol(image: &Image, file: &[u8], name: &[u8]) -> Result<u32, Image
 {
     let _ = image;
     let (table, strings) = symbol_tables(file)?;
-    match value_named(table, strings, name) {
+    match value_of_symbol_name(table, strings, name) {
         Some(value) => Ok(value),
         None => Err(ImageError::NoBegin),
     }
@@ -59,14 +59,14 @@ pub fn find_symbol(image: &Image, file: &[u8], name: &[u8]) -> Result<u32, Image
 pub fn check_signature(begin: u32, end: u32, map: &Map) -> Result<(), ImageError>
     ensures { result ≡ signature_check begin end map.now }
 {
-    if is_bad_range(begin, end, map) {
+    if is_bad_signature_range(begin, end, map) {
         return Err(ImageError::SignatureRange);
     }
     Ok(())
 }
 
-fn is_bad_range(begin: u32, end: u32, map: &Map) -> bool
-    ensures { result ≡ is_bad_range begin end map.now }
+fn is_bad_signature_range(begin: u32, end: u32, map: &Map) -> bool
+    ensures { result ≡ is_bad_signature_range begin end map.now }
 {
     end < begin
         || begin % 4 != 0
@@ -79,28 +79,28 @@ pub(crate) fn symbol_tables(file: &[u8]) -> Result<(&[u8], &[u8]), ImageError>
     requires { 52 ≤ length file.now }
     ensures checked { MatchResult result (λ _. table_check file.now ≡ accepted)
         (λ e. table_check file.now ≡ Err e) }
-    ensures there { IfOk result (λ t. tables_there file.now ≡ Some (t.0.now, t.1.now)) }
+    ensures there { IfOk result (λ t. symbol_tables file.now ≡ Some (t.0.now, t.1.now)) }
 {
-    if has_bad_sections(file) {
+    if has_bad_section_table(file) {
         return Err(ImageError::SectionTable);
     }
     let Some(symbols) = symbol_table(file) else {
         return Err(ImageError::NoSymbols);
     };
-    if symbols.is_bad_symbols(file.len()) {
+    if symbols.is_bad_symbol_table(file.len()) {
         return Err(ImageError::SymbolTable);
     }
     let Some(strings) = string_table(file, &symbols) else {
         return Err(ImageError::StringTable);
     };
-    if strings.is_bad_strings(file.len()) {
+    if strings.is_bad_string_table(file.len()) {
         return Err(ImageError::StringTable);
     }
-    Ok((symbols.bytes_in(file), strings.bytes_in(file)))
+    Ok((symbols.section_bytes(file), strings.section_bytes(file)))
 }
 
 // The value of the first defined symbol of a name, over the bytes of a symbol table and its strings.
-fn value_named(table: &[u8], strings: &[u8], name: &[u8]) -> Option<u32>
+fn value_of_symbol_name(table: &[u8], strings: &[u8], name: &[u8]) -> Option<u32>
     ensures { result ≡ option_map (λ s. s.value) (symbol_named table.now strings.now name.now) }
 {
     for k in 0..table.len() / SYMBOL_SIZE {
@@ -119,11 +119,11 @@ pub(crate) fn symbol_entry(table: &[u8], at: usize) -> Symbol
     ensures { result ≡ symbol_entry table.now at }
 {
     Symbol {
-        name: word(table, at + ST_NAME),
-        value: word(table, at + ST_VALUE),
-        size: word(table, at + ST_SIZE),
+        name: word_field(table, at + ST_NAME),
+        value: word_field(table, at + ST_VALUE),
+        size: word_field(table, at + ST_SIZE),
         kind: table[at + ST_INFO] % 16,
-        section: half(table, at + ST_SHNDX),
+        section: half_field(table, at + ST_SHNDX),
     }
 }
 
@@ -131,12 +131,12 @@ impl Symbol {
     fn is_named(&self, strings: &[u8], name: &[u8]) -> bool
         ensures { result ≡ is_named strings.now name.now self.now }
     {
-        self.section != SHN_UNDEF && begins_with(tail(strings, self.name as usize), name)
+        self.section != SHN_UNDEF && begins_with_name(bytes_from(strings, self.name as usize), name)
     }
 }
 
 /// The bytes from a place on, none where it is past the end.
-pub(crate) fn tail(bytes: &[u8], at: usize) -> &[u8]
+pub(crate) fn bytes_from(bytes: &[u8], at: usize) -> &[u8]
     ensures { result.now ≡ drop at bytes.now }
 {
     &bytes[at.min(bytes.len())..]
@@ -144,8 +144,8 @@ pub(crate) fn tail(bytes: &[u8], at: usize) -> &[u8]
 
 // Whether bytes begin with a text and a zero byte, where the text has none. The text itself is looked
 // through last, since few bytes come so far.
-fn begins_with(bytes: &[u8], text: &[u8]) -> bool
-    ensures { result ≡ begins_with bytes.now text.now }
+fn begins_with_name(bytes: &[u8], text: &[u8]) -> bool
+    ensures { result ≡ begins_with_name bytes.now text.now }
 {
     if bytes.len() <= text.len() || bytes[text.len()] != 0 {
         return false;

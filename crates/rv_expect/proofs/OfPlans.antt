@@ -5,10 +5,10 @@ use Rattle.std.specs.List.{AllByRecursion}
 use Rattle.rv_jobs.specs.declared_job.Job.{Job}
 use Rattle.rv_jobs.specs.Plans.{Planned}
 use Rattle.rv_rows.specs.declared.outcome.Outcome.{Outcome}
-use Rattle.rv_rows.specs.Rows.{console_in, other_in, outcome_in, reference_in, row_of}
-use Rattle.rv_rows.specs.Verdict.{is_run, verdict_of}
-use Rattle.rv_expect.specs.Planned.{named_row, sides_in, unmet_in}
-use Rattle.rv_expect.specs.Reference.{IsWord, words_or_none}
+use Rattle.rv_rows.specs.Rows.{expected_console_bytes, named_job_outcome, outcome_in, signature_reference_bytes, row_of}
+use Rattle.rv_rows.specs.Verdict.{did_run, verdict_of}
+use Rattle.rv_expect.specs.UnmetInPlan.{row_of_same_as_job, sides_in, unmet_in}
+use Rattle.rv_expect.specs.Reference.{IsWord, signature_words_or_empty}
 use Rattle.rv_expect.specs.Telling.{HasItsVerdict, TellsWhatDoesNotHold, named_outcome, outcome_in_row, passes}
 use Rattle.rv_expect.proofs.Tellings.{passes_where_empty, tells}
 
@@ -28,28 +28,28 @@ module _ (plan : Planned) (job : Job) where
   has_its_verdict : HasItsVerdict (sides_in plan job (row_of plan job))
   unfolding row_of named
   has_its_verdict =
-      let console = console_in plan.answers job in
-      let reference = reference_in plan.answers job in
+      let console = expected_console_bytes plan.answers job in
+      let reference = signature_reference_bytes plan.answers job in
       ap (λ (o : Option Outcome). verdict_of job (outcome_in plan.answers job) reference console o)
       (sym (outcome_of_named plan named))
 
-  pub tells_of_a_plan : is_run (row_of plan job).ending ≡ true
-      → AllByRecursion IsWord (words_or_none (row_of plan job).signature)
+  pub tells_of_a_plan : did_run (row_of plan job).ending ≡ true
+      → AllByRecursion IsWord (signature_words_or_empty (row_of plan job).signature)
       → TellsWhatDoesNotHold (unmet_in plan job (row_of plan job)) job (outcome_in plan.answers job)
-      (console_in plan.answers job) (reference_in plan.answers job) (other_in plan job)
+      (expected_console_bytes plan.answers job) (signature_reference_bytes plan.answers job) (named_job_outcome plan job)
   unfolding named
   tells_of_a_plan runs fit =
       let told = unmet_in plan job (row_of plan job) in
-      let console = console_in plan.answers job in
-      let reference = reference_in plan.answers job in
+      let console = expected_console_bytes plan.answers job in
+      let reference = signature_reference_bytes plan.answers job in
       let of_row = tells (sides_in plan job (row_of plan job)) runs fit in
       let of_outcome = subst (λ (o : Outcome). TellsWhatDoesNotHold told job o console reference
-      (named_outcome (named_row plan job))) (outcome_of_row plan job) of_row in
+      (named_outcome (row_of_same_as_job plan job))) (outcome_of_row plan job) of_row in
       subst (λ (o : Option Outcome). TellsWhatDoesNotHold told job (outcome_in plan.answers job) console reference o)
       (outcome_of_named plan named) of_outcome
 
-  pub passes_in_a_plan : is_run (row_of plan job).ending ≡ true
-      → AllByRecursion IsWord (words_or_none (row_of plan job).signature)
+  pub passes_in_a_plan : did_run (row_of plan job).ending ≡ true
+      → AllByRecursion IsWord (signature_words_or_empty (row_of plan job).signature)
       → (length (unmet_in plan job (row_of plan job)) == 0)
       ≡ passes (row_of plan job).verdict (row_of plan job).ending
   passes_in_a_plan runs fit =

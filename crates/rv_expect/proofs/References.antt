@@ -14,7 +14,7 @@ use Rattle.hex.specs.declared.error.FromHexError.{FromHexError}
 use Rattle.hex.proofs.HexLemmas.{decode_of-ok, decode_sized-encode_lower, decode_sized-ok, decode_sized-twice}
 use Rattle.rv_rows.specs.Report.{word_line}
 use Rattle.rv_rows.specs.Words.{word_digits}
-use Rattle.rv_expect.specs.Reference.{IsFirstBadLine, IsReferenceOf, IsWord, reference_of, with_line, word_if, word_in}
+use Rattle.rv_expect.specs.Reference.{IsFirstBadLine, IsReferenceOf, IsWord, read_reference, with_reference_line, word_if_line, word_of_line}
 use Rattle.rv_expect.specs.declared.reference.Reference.{Reference}
 use Rattle.rv_expect.specs.declared.reference.Reference.TheVariants.{Words, BadLine}
 
@@ -30,13 +30,13 @@ after-none (Words words) = refl
 after-none (BadLine line) = ap BadLine (omega arith)
 
 pub after-more : (words : List ℕ) (word : ℕ) (r : Reference)
-    → after (words ++ word ∷ []) r ≡ after words (with_line (Some word) r)
+    → after (words ++ word ∷ []) r ≡ after words (with_reference_line (Some word) r)
 after-more words word (Words more) = ap Words (append_assoc words (word ∷ []) more)
 after-more words word (BadLine line) = ap BadLine (omega (arith, length-append words (word ∷ [])))
 
 pub line_first : (text : List ℕ) → 9 ≤ length text
-    → reference_of text ≡ with_line (word_in (take 9 text)) (reference_of (drop 9 text))
-unfolding reference_of
+    → read_reference text ≡ with_reference_line (word_of_line (take 9 text)) (read_reference (drop 9 text))
+unfolding read_reference
 line_first (a ∷ b ∷ c ∷ d ∷ e ∷ f ∷ g ∷ h ∷ feed ∷ rest) long = refl
 line_first [] long = absurd (omega arith)
 line_first (a ∷ []) long = absurd (omega arith)
@@ -48,8 +48,8 @@ line_first (a ∷ b ∷ c ∷ d ∷ e ∷ f ∷ []) long = absurd (omega arith)
 line_first (a ∷ b ∷ c ∷ d ∷ e ∷ f ∷ g ∷ []) long = absurd (omega arith)
 line_first (a ∷ b ∷ c ∷ d ∷ e ∷ f ∷ g ∷ h ∷ []) long = absurd (omega arith)
 
-pub short_line : (text : List ℕ) → length text < 9 → 0 < length text → reference_of text ≡ BadLine 1
-unfolding reference_of
+pub short_line : (text : List ℕ) → length text < 9 → 0 < length text → read_reference text ≡ BadLine 1
+unfolding read_reference
 short_line (a ∷ b ∷ c ∷ d ∷ e ∷ f ∷ g ∷ h ∷ feed ∷ rest) short some = absurd (omega arith)
 short_line [] short some = absurd (omega arith)
 short_line (a ∷ []) short some = refl
@@ -61,34 +61,34 @@ short_line (a ∷ b ∷ c ∷ d ∷ e ∷ f ∷ []) short some = refl
 short_line (a ∷ b ∷ c ∷ d ∷ e ∷ f ∷ g ∷ []) short some = refl
 short_line (a ∷ b ∷ c ∷ d ∷ e ∷ f ∷ g ∷ h ∷ []) short some = refl
 
-pub no_lines : (text : List ℕ) → length text ≡ 0 → reference_of text ≡ Words []
-unfolding reference_of
+pub no_lines : (text : List ℕ) → length text ≡ 0 → read_reference text ≡ Words []
+unfolding read_reference
 no_lines [] none = refl
 no_lines (a ∷ rest) none = absurd (omega arith)
 
-pub line_is_bad : (words rest text : List ℕ) → 9 ≤ length rest → None ≡ word_in (take 9 rest)
-    → after words (reference_of rest) ≡ reference_of text → BadLine (length words + 1) ≡ reference_of text
+pub line_is_bad : (words rest text : List ℕ) → 9 ≤ length rest → None ≡ word_of_line (take 9 rest)
+    → after words (read_reference rest) ≡ read_reference text → BadLine (length words + 1) ≡ read_reference text
 line_is_bad words rest text long bad h =
-    ap (λ (word : Option ℕ). after words (with_line word (reference_of (drop 9 rest)))) bad
+    ap (λ (word : Option ℕ). after words (with_reference_line word (read_reference (drop 9 rest)))) bad
     ∙ sym (ap (after words) (line_first rest long)) ∙ h
 
-pub line_is_read : (words more rest text : List ℕ) (word : ℕ) → 9 ≤ length rest → Some word ≡ word_in (take 9 rest)
-    → more ≡ words ++ word ∷ [] → after words (reference_of rest) ≡ reference_of text
-    → after more (reference_of (take (length rest - 9) (drop 9 rest))) ≡ reference_of text
+pub line_is_read : (words more rest text : List ℕ) (word : ℕ) → 9 ≤ length rest → Some word ≡ word_of_line (take 9 rest)
+    → more ≡ words ++ word ∷ [] → after words (read_reference rest) ≡ read_reference text
+    → after more (read_reference (take (length rest - 9) (drop 9 rest))) ≡ read_reference text
 line_is_read words more rest text word long read is h =
-    ap (λ (behind : List ℕ). after more (reference_of behind)) (take_rest rest 9)
-    ∙ ap (λ (ws : List ℕ). after ws (reference_of (drop 9 rest))) is
-    ∙ after-more words word (reference_of (drop 9 rest))
-    ∙ ap (λ (w : Option ℕ). after words (with_line w (reference_of (drop 9 rest)))) read
+    ap (λ (behind : List ℕ). after more (read_reference behind)) (take_rest rest 9)
+    ∙ ap (λ (ws : List ℕ). after ws (read_reference (drop 9 rest))) is
+    ∙ after-more words word (read_reference (drop 9 rest))
+    ∙ ap (λ (w : Option ℕ). after words (with_reference_line w (read_reference (drop 9 rest)))) read
     ∙ sym (ap (after words) (line_first rest long)) ∙ h
 
-pub all_are_read : (words rest text : List ℕ) → length rest ≡ 0 → after words (reference_of rest) ≡ reference_of text
-    → Words words ≡ reference_of text
+pub all_are_read : (words rest text : List ℕ) → length rest ≡ 0 → after words (read_reference rest) ≡ read_reference text
+    → Words words ≡ read_reference text
 all_are_read words rest text none h =
     ap Words (sym (append-nil words)) ∙ sym (ap (after words) (no_lines rest none)) ∙ h
 
 pub last_is_bad : (words rest text : List ℕ) → length rest < 9 → 0 < length rest
-    → after words (reference_of rest) ≡ reference_of text → BadLine (length words + 1) ≡ reference_of text
+    → after words (read_reference rest) ≡ read_reference text → BadLine (length words + 1) ≡ read_reference text
 last_is_bad words rest text short some h = sym (ap (after words) (short_line rest short some)) ∙ h
 
 -- ---- one line
@@ -112,42 +112,42 @@ digits_first : (w : ℕ) → take 8 (word_line w) ≡ encode_lower (to_be_bytes 
 unfolding word_digits encode_with
 digits_first w = refl
 
-word_if-same : (line bytes : List ℕ) (w : ℕ) → from_be_bytes w32 bytes ≡ w → line ≡ word_line w
-    → word_if line (Ok bytes) ≡ Some w
-word_if-same line bytes w is same =
+word_if_line-same : (line bytes : List ℕ) (w : ℕ) → from_be_bytes w32 bytes ≡ w → line ≡ word_line w
+    → word_if_line line (Ok bytes) ≡ Some w
+word_if_line-same line bytes w is same =
     let yes : bytes_eq line (word_line w) ≡ true = (bytes_eq-Decides line (word_line w)).1 same in
     ap (λ (word : ℕ). cond (bytes_eq line (word_line word)) (Some word) None) is
     ∙ ap (λ (t : Bool). cond t (Some w) None) yes
 
-pub word_in-word_line : (w : ℕ) → IsWord w → word_in (word_line w) ≡ Some w
-unfolding word_in
+pub word_in-word_line : (w : ℕ) → IsWord w → word_of_line (word_line w) ≡ Some w
+unfolding word_of_line
 word_in-word_line w fits =
     let bytes = to_be_bytes w32 w in
-    ap (λ (digits : List ℕ). word_if (word_line w) (decode_sized digits 4)) (digits_first w)
-    ∙ ap (word_if (word_line w)) (decode_sized-encode_lower bytes 4 refl (bytes_fit w))
-    ∙ word_if-same (word_line w) bytes w (from_be_bytes-to_be_bytes_4 w fits) refl
+    ap (λ (digits : List ℕ). word_if_line (word_line w) (decode_sized digits 4)) (digits_first w)
+    ∙ ap (word_if_line (word_line w)) (decode_sized-encode_lower bytes 4 refl (bytes_fit w))
+    ∙ word_if_line-same (word_line w) bytes w (from_be_bytes-to_be_bytes_4 w fits) refl
 
 -- the code's reading of a line: what its digits decode to is written again
 pub unread_line : (line out : List ℕ) (r : Result Unit FromHexError) (d : Result (List ℕ) FromHexError)
     → decode_sized (take 8 line) 4 ≡ d → MatchResult d (λ bytes. (r ≡ Ok tt) × (out ≡ bytes)) (λ e. r ≡ Err e)
-    → is_err r ≡ true → word_in line ≡ None
-unfolding word_in
+    → is_err r ≡ true → word_of_line line ≡ None
+unfolding word_of_line
 unread_line line out r (Ok bytes) is h fails = let e : r ≡ Ok tt = h.0 in cc (ap is_err e)
-unread_line line out r (Err e) is h fails = ap (word_if line) is
+unread_line line out r (Err e) is h fails = ap (word_if_line line) is
 
 pub read_line : (line out : List ℕ) (r : Result Unit FromHexError) (d : Result (List ℕ) FromHexError)
     → decode_sized (take 8 line) 4 ≡ d → MatchResult d (λ bytes. (r ≡ Ok tt) × (out ≡ bytes)) (λ e. r ≡ Err e)
-    → is_err r ≡ false → word_in line ≡ word_if line (Ok out)
-unfolding word_in
-read_line line out r (Ok bytes) is h reads = ap (word_if line) (is ∙ ap Ok (sym h.1))
+    → is_err r ≡ false → word_of_line line ≡ word_if_line line (Ok out)
+unfolding word_of_line
+read_line line out r (Ok bytes) is h reads = ap (word_if_line line) (is ∙ ap Ok (sym h.1))
 read_line line out r (Err e) is h reads = let f : r ≡ Err e = h in cc (ap is_err f)
 
 pub same_line : (line out : List ℕ) (word : ℕ) → word ≡ from_be_bytes w32 out → line ≡ word_line word
-    → word_if line (Ok out) ≡ Some word
-same_line line out word is same = word_if-same line out word (sym is) same
+    → word_if_line line (Ok out) ≡ Some word
+same_line line out word is same = word_if_line-same line out word (sym is) same
 
 pub other_line : (line out : List ℕ) (word : ℕ) → word ≡ from_be_bytes w32 out → (line ≡ word_line word → ⊥)
-    → word_if line (Ok out) ≡ None
+    → word_if_line line (Ok out) ≡ None
 other_line line out word is other =
     ap (λ (w : ℕ). cond (bytes_eq line (word_line w)) (Some w) None) (sym is)
     ∙ ap (λ (t : Bool). cond t (Some word) None) (no (bytes_eq line (word_line word)) refl)
@@ -173,7 +173,7 @@ is_line_if line bytes w true same fit e =
 is_line_if line bytes w false same fit e = cc
 
 is_line : (line : List ℕ) (w : ℕ) (r : Result (List ℕ) FromHexError) → decode_sized (take 8 line) 4 ≡ r
-    → word_if line r ≡ Some w → (line ≡ word_line w) × IsWord w
+    → word_if_line line r ≡ Some w → (line ≡ word_line w) × IsWord w
 is_line line w (Ok bytes) is e =
     let digits = take 8 line in
     let long : length digits ≡ 2 * 4 = decode_sized-ok digits 4 bytes is in
@@ -181,31 +181,31 @@ is_line line w (Ok bytes) is e =
     is_line_if line bytes w _ refl fit e
 is_line line w (Err error) is e = cc
 
-pub word_in-some : (line : List ℕ) (w : ℕ) → word_in line ≡ Some w → (line ≡ word_line w) × IsWord w
-unfolding word_in
+pub word_in-some : (line : List ℕ) (w : ℕ) → word_of_line line ≡ Some w → (line ≡ word_line w) × IsWord w
+unfolding word_of_line
 word_in-some line w e = is_line line w _ refl e
 
 -- ---- all lines
 
 line_in_front : (w : ℕ) (more : List ℕ)
-    → reference_of (word_line w ++ more) ≡ with_line (word_in (word_line w)) (reference_of more)
-unfolding reference_of word_digits encode_with
+    → read_reference (word_line w ++ more) ≡ with_reference_line (word_of_line (word_line w)) (read_reference more)
+unfolding read_reference word_digits encode_with
 line_in_front w more = refl
 
-pub written : (words : List ℕ) → AllByRecursion IsWord words → reference_of (flat_map word_line words) ≡ Words words
-unfolding reference_of
+pub written : (words : List ℕ) → AllByRecursion IsWord words → read_reference (flat_map word_line words) ≡ Words words
+unfolding read_reference
 written [] fit = refl
 written (w ∷ words) fit = line_in_front w (flat_map word_line words)
-    ∙ ap (λ (word : Option ℕ). with_line word (reference_of (flat_map word_line words))) (word_in-word_line w fit.0)
-    ∙ ap (with_line (Some w)) (written words fit.1)
+    ∙ ap (λ (word : Option ℕ). with_reference_line word (read_reference (flat_map word_line words))) (word_in-word_line w fit.0)
+    ∙ ap (with_reference_line (Some w)) (written words fit.1)
 
 -- no line of a word stands in front
-bad_line : (line rest : List ℕ) (w : ℕ) (more : List ℕ) → length line ≡ 9 → word_in line ≡ None → IsWord w
+bad_line : (line rest : List ℕ) (w : ℕ) (more : List ℕ) → length line ≡ 9 → word_of_line line ≡ None → IsWord w
     → line ++ rest ≡ word_line w ++ more → ⊥
 bad_line line rest w more nine none fits e =
     let long = nine_bytes w in
     let same : line ≡ word_line w = sym (front line rest nine) ∙ ap (take 9) e ∙ front (word_line w) more long in
-    let some : word_in line ≡ Some w = ap word_in same ∙ word_in-word_line w fits in
+    let some : word_of_line line ≡ Some w = ap word_of_line same ∙ word_in-word_line w fits in
     cc
   where
     front : (xs ys : List ℕ) → length xs ≡ 9 → take 9 (xs ++ ys) ≡ xs
@@ -223,8 +223,8 @@ short_text text short some = record {
   bad = λ w more fits e. absurd (omega (arith, ap length e, length-append (word_line w) more, nine_bytes w));
 }
 
-with_line_is : (line rest : List ℕ) (w : Option ℕ) (r : Reference) → length line ≡ 9 → word_in line ≡ w
-    → IsReferenceOf r rest → IsReferenceOf (with_line w r) (line ++ rest)
+with_line_is : (line rest : List ℕ) (w : Option ℕ) (r : Reference) → length line ≡ 9 → word_of_line line ≡ w
+    → IsReferenceOf r rest → IsReferenceOf (with_reference_line w r) (line ++ rest)
 with_line_is line rest None r nine is h = record {
   words = [];
   rest = line ++ rest;
@@ -255,11 +255,11 @@ with_line_is line rest (Some w) (BadLine number) nine is h =
       bad = bad.bad;
     }
 
-pub reads : (text : List ℕ) → IsReferenceOf (reference_of text) text
-unfolding reference_of
+pub reads : (text : List ℕ) → IsReferenceOf (read_reference text) text
+unfolding read_reference
 reads [] = (tt, refl)
 reads (a ∷ b ∷ c ∷ d ∷ e ∷ f ∷ g ∷ h ∷ feed ∷ rest) =
-    with_line_is (a ∷ b ∷ c ∷ d ∷ e ∷ f ∷ g ∷ h ∷ feed ∷ []) rest _ (reference_of rest) refl refl (reads rest)
+    with_line_is (a ∷ b ∷ c ∷ d ∷ e ∷ f ∷ g ∷ h ∷ feed ∷ []) rest _ (read_reference rest) refl refl (reads rest)
 reads (a ∷ []) = short_text _ (omega arith) (omega arith)
 reads (a ∷ b ∷ []) = short_text _ (omega arith) (omega arith)
 reads (a ∷ b ∷ c ∷ []) = short_text _ (omega arith) (omega arith)

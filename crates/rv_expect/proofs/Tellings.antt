@@ -18,8 +18,8 @@ use Rattle.rv_rows.specs.declared_row.RowEnd.{RowEnd}
 use Rattle.rv_rows.specs.declared_row.Verdict.{Verdict}
 use Rattle.rv_rows.specs.declared_row.Verdict.TheVariants as verdict
 use Rattle.rv_rows.specs.Report.{word_line}
-use Rattle.rv_rows.specs.Verdict.{are_alike, are_same, exits_with, holds_all, holds_console, holds_end, holds_exit}
-use Rattle.rv_rows.specs.Verdict.{holds_reference, holds_same, is_asked, is_run, lines_of, same_signature}
+use Rattle.rv_rows.specs.Verdict.{are_alike_endings, are_same_outcomes, exits_with, meets_all_expectations, has_expected_console, has_expected_end, has_expected_exit}
+use Rattle.rv_rows.specs.Verdict.{has_expected_signature, is_same_as_named, expects_anything, did_run, lines_of_signature, are_same_signatures}
 use Rattle.rv_rows.specs.Verdict.{verdict_of}
 use Rattle.rv_expect.specs.declared.difference.SameDifference.TheVariants as same
 use Rattle.rv_expect.specs.declared.reference.Reference.{Reference}
@@ -28,12 +28,12 @@ use Rattle.rv_expect.specs.declared.unmet.Unmet.{Unmet}
 use Rattle.rv_expect.specs.declared.unmet.Unmet.TheVariants.{Exit, End, Console, Signature, Same, Nothing}
 use Rattle.rv_expect.specs.Comparisons.{Sides}
 use Rattle.rv_expect.specs.Difference.{console_difference, difference_of_runs, difference_of_texts, first_difference}
-use Rattle.rv_expect.specs.Difference.{same_difference, signatures_difference}
-use Rattle.rv_expect.specs.Reference.{IsWord, difference_from_reference, reference_of}
-use Rattle.rv_expect.specs.Reference.{signature_difference, word_difference, words_or_none}
+use Rattle.rv_expect.specs.Difference.{same_as_difference, signatures_difference}
+use Rattle.rv_expect.specs.Reference.{IsWord, difference_from_reference, read_reference}
+use Rattle.rv_expect.specs.Reference.{signature_difference, word_difference, signature_words_or_empty}
 use Rattle.rv_expect.specs.Telling.{HasItsVerdict, TellsWhatDoesNotHold, is_console, is_end, is_exit, is_nothing}
 use Rattle.rv_expect.specs.Telling.{is_same, is_signature, named_outcome, outcome_in_row, passes}
-use Rattle.rv_expect.specs.Unmet.{unmet_of, unmet_of_asked}
+use Rattle.rv_expect.specs.Unmet.{unmet_of, unmet_of_expecting_job}
 use Rattle.rv_expect.proofs.Differences.{is_some-first_difference}
 use Rattle.rv_expect.proofs.References.{reads, written}
 
@@ -63,21 +63,21 @@ with_run true b runs = refl
 with_run false b runs = cc
 
 pub console_told : (expected : Option ExpectedConsole) (file : Option (List ℕ)) (outcome : Outcome)
-    → is_run outcome.ending ≡ true
-    → is_some (console_difference expected file outcome.console) ≡ not (holds_console expected file outcome)
+    → did_run outcome.ending ≡ true
+    → is_some (console_difference expected file outcome.console) ≡ not (has_expected_console expected file outcome)
 console_told None file outcome runs = refl
 console_told (Some (Text text)) file outcome runs =
-    not_expected outcome.console text ∙ with_run (is_run outcome.ending) (bytes_eq text outcome.console) runs
+    not_expected outcome.console text ∙ with_run (did_run outcome.ending) (bytes_eq text outcome.console) runs
 console_told (Some (File path)) None outcome runs = refl
 console_told (Some (File path)) (Some bytes) outcome runs =
-    not_expected outcome.console bytes ∙ with_run (is_run outcome.ending) (bytes_eq bytes outcome.console) runs
+    not_expected outcome.console bytes ∙ with_run (did_run outcome.ending) (bytes_eq bytes outcome.console) runs
 
-flat_lines : (signature : Option (List ℕ)) → lines_of signature ≡ flat_map word_line (words_or_none signature)
+flat_lines : (signature : Option (List ℕ)) → lines_of_signature signature ≡ flat_map word_line (signature_words_or_empty signature)
 flat_lines None = refl
 flat_lines (Some words) = refl
 
 -- the bytes of a reference are the lines of words exactly where they are read as these words
-reference_told : (r : Reference) (bytes words : List ℕ) → reference_of bytes ≡ r → AllByRecursion IsWord words
+reference_told : (r : Reference) (bytes words : List ℕ) → read_reference bytes ≡ r → AllByRecursion IsWord words
     → is_some (difference_from_reference r words) ≡ not (bytes_eq bytes (flat_map word_line words))
 reference_told (Words expected) bytes words is fit =
     let lines = flat_map word_line words in
@@ -85,36 +85,36 @@ reference_told (Words expected) bytes words is fit =
     is_some-map word_difference (first_difference words expected)
     ∙ is_some-first_difference (bytes_eq bytes lines) words expected (
       λ equal.
-          let read = ap reference_of (decides.0 equal) ∙ written words fit in
+          let read = ap read_reference (decides.0 equal) ∙ written words fit in
           let e : Words words ≡ Words expected = sym read ∙ is in
           cc,
-      λ same. decides.1 (read_text bytes expected is ∙ ap (flat_map word_line) (sym same)),
+      λ same. decides.1 (read_list_text bytes expected is ∙ ap (flat_map word_line) (sym same)),
     )
   where
-    read_text : (bytes expected : List ℕ) → reference_of bytes ≡ Words expected → bytes ≡ flat_map word_line expected
-    read_text bytes expected is = (rw is at (reads bytes)).1
+    read_list_text : (bytes expected : List ℕ) → read_reference bytes ≡ Words expected → bytes ≡ flat_map word_line expected
+    read_list_text bytes expected is = (rw is at (reads bytes)).1
 reference_told (BadLine line) bytes words is fit = go (bytes_eq bytes (flat_map word_line words)) refl
   where
     go : (b : Bool) → bytes_eq bytes (flat_map word_line words) ≡ b → true ≡ not b
     go true equal =
         let same : bytes ≡ flat_map word_line words = (bytes_eq-Decides bytes (flat_map word_line words)).0 equal in
-        let e : BadLine line ≡ Words words = sym is ∙ ap reference_of same ∙ written words fit in
+        let e : BadLine line ≡ Words words = sym is ∙ ap read_reference same ∙ written words fit in
         cc
     go false unequal = refl
 
-pub signature_told : (expected reference : Option (List ℕ)) (outcome : Outcome) → is_run outcome.ending ≡ true
-    → AllByRecursion IsWord (words_or_none outcome.signature)
+pub signature_told : (expected reference : Option (List ℕ)) (outcome : Outcome) → did_run outcome.ending ≡ true
+    → AllByRecursion IsWord (signature_words_or_empty outcome.signature)
     → is_some (signature_difference expected reference outcome.signature)
-    ≡ not (holds_reference expected reference outcome)
+    ≡ not (has_expected_signature expected reference outcome)
 signature_told None reference outcome runs fit = refl
 signature_told (Some path) None outcome runs fit = refl
 signature_told (Some path) (Some bytes) outcome runs fit =
-    reference_told (reference_of bytes) bytes (words_or_none outcome.signature) refl fit
+    reference_told (read_reference bytes) bytes (signature_words_or_empty outcome.signature) refl fit
     ∙ ap (λ (lines : List ℕ). not (bytes_eq bytes lines)) (sym (flat_lines outcome.signature))
-    ∙ with_run (is_run outcome.ending) (bytes_eq bytes (lines_of outcome.signature)) runs
+    ∙ with_run (did_run outcome.ending) (bytes_eq bytes (lines_of_signature outcome.signature)) runs
 
 signatures_told : (signature other : Option (List ℕ))
-    → is_some (signatures_difference signature other) ≡ not (same_signature signature other)
+    → is_some (signatures_difference signature other) ≡ not (are_same_signatures signature other)
 signatures_told None None = refl
 signatures_told (Some words) (Some others) = not_same words others
 signatures_told (Some words) None = refl
@@ -125,7 +125,7 @@ not_both true b = refl
 not_both false b = refl
 
 texts_told : (row other : Row) → is_some (difference_of_texts row other)
-    ≡ not (bytes_eq row.console other.console && same_signature row.signature other.signature)
+    ≡ not (bytes_eq row.console other.console && are_same_signatures row.signature other.signature)
 texts_told row other =
     let signatures = signatures_difference row.signature other.signature in
     is_some-or (option_map same.Console (first_difference row.console other.console))
@@ -134,21 +134,21 @@ texts_told row other =
     (is_some-map same.Console (first_difference row.console other.console) ∙ not_same row.console other.console)
     ∙ ap (λ (t : Bool). not (bytes_eq row.console other.console) || t)
     (is_some-map same.Signature signatures ∙ signatures_told row.signature other.signature)
-    ∙ not_both (bytes_eq row.console other.console) (same_signature row.signature other.signature)
+    ∙ not_both (bytes_eq row.console other.console) (are_same_signatures row.signature other.signature)
 
 runs_told : (row other : Row)
-    → is_some (difference_of_runs row other) ≡ not (are_same (outcome_in_row row) (outcome_in_row other))
-runs_told row other = go (are_alike row.ending other.ending) (texts_told row other)
+    → is_some (difference_of_runs row other) ≡ not (are_same_outcomes (outcome_in_row row) (outcome_in_row other))
+runs_told row other = go (are_alike_endings row.ending other.ending) (texts_told row other)
   where
     go : (alike : Bool) → is_some (difference_of_texts row other)
-        ≡ not (bytes_eq row.console other.console && same_signature row.signature other.signature)
+        ≡ not (bytes_eq row.console other.console && are_same_signatures row.signature other.signature)
         → is_some (cond alike (difference_of_texts row other) (Some same.Ending))
-        ≡ not (alike && (bytes_eq row.console other.console && same_signature row.signature other.signature))
+        ≡ not (alike && (bytes_eq row.console other.console && are_same_signatures row.signature other.signature))
     go true h = h
     go false h = refl
 
 pub same_told : (named : Option ℕ) (other : Option Row) (row : Row)
-    → is_some (same_difference named other row) ≡ not (holds_same named (named_outcome other) (outcome_in_row row))
+    → is_some (same_as_difference named other row) ≡ not (is_same_as_named named (named_outcome other) (outcome_in_row row))
 same_told None other row = refl
 same_told (Some place) None row = refl
 same_told (Some place) (Some other) row = runs_told row other
@@ -206,27 +206,27 @@ alone-4 t = or_false (((t || false) || false) || false) ∙ alone-3 t
 -- what each part of the list tells
 parts_of : (p : Unmet → Bool) (sides : Sides)
     (a b c d e : Bool)
-    → list_any p (option_to_list (cond (holds_exit sides.job.expect_exit sides.row.ending) None (Some Exit))) ≡ a
-    → list_any p (option_to_list (cond (holds_end sides.job.expect_end sides.row.ending) None (Some End))) ≡ b
+    → list_any p (option_to_list (cond (has_expected_exit sides.job.expect_exit sides.row.ending) None (Some Exit))) ≡ a
+    → list_any p (option_to_list (cond (has_expected_end sides.job.expect_end sides.row.ending) None (Some End))) ≡ b
     → list_any p (option_to_list (option_map Console (console_difference sides.job.expect_console sides.console sides.row.console))) ≡ c
     → list_any p (option_to_list (option_map Signature
     (signature_difference sides.job.expect_signature sides.reference sides.row.signature))) ≡ d
-    → list_any p (option_to_list (option_map Same (same_difference sides.job.same_as sides.other sides.row))) ≡ e
-    → list_any p (unmet_of_asked sides) ≡ ((((a || b) || c) || d) || e)
+    → list_any p (option_to_list (option_map Same (same_as_difference sides.job.same_as sides.other sides.row))) ≡ e
+    → list_any p (unmet_of_expecting_job sides) ≡ ((((a || b) || c) || d) || e)
 parts_of p sides a b c d e ha hb hc hd he =
     any_of_five p _ _ _ _ _ a b c d e ha hb hc hd he
 
 asked : (sides : Sides)
-    → is_run sides.row.ending ≡ true → is_asked sides.job ≡ true → AllByRecursion IsWord (words_or_none sides.row.signature)
-    → TellsWhatDoesNotHold (unmet_of_asked sides) sides.job (outcome_in_row sides.row) sides.console sides.reference
+    → did_run sides.row.ending ≡ true → expects_anything sides.job ≡ true → AllByRecursion IsWord (signature_words_or_empty sides.row.signature)
+    → TellsWhatDoesNotHold (unmet_of_expecting_job sides) sides.job (outcome_in_row sides.row) sides.console sides.reference
     (named_outcome sides.other)
 asked sides runs asks fit =
     let outcome = outcome_in_row sides.row in
-    let exit = holds_exit sides.job.expect_exit sides.row.ending in
-    let end = holds_end sides.job.expect_end sides.row.ending in
+    let exit = has_expected_exit sides.job.expect_exit sides.row.ending in
+    let end = has_expected_end sides.job.expect_end sides.row.ending in
     let c = console_difference sides.job.expect_console sides.console sides.row.console in
     let g = signature_difference sides.job.expect_signature sides.reference sides.row.signature in
-    let s = same_difference sides.job.same_as sides.other sides.row in
+    let s = same_as_difference sides.job.same_as sides.other sides.row in
     record {
       exit = parts_of is_exit sides (not exit) false false false false
           (any_if is_exit Exit exit refl) (none_if is_exit End end refl) (none_map is_exit Console c (λ x. refl))
@@ -261,36 +261,36 @@ neither : (x y : Bool) → (x || y) ≡ false → (x ≡ false) × (y ≡ false)
 neither true y e = cc
 neither false y e = (refl, e)
 
-no_exit : (expected : Option ℕ) (end : RowEnd) → is_some expected ≡ false → holds_exit expected end ≡ true
+no_exit : (expected : Option ℕ) (end : RowEnd) → is_some expected ≡ false → has_expected_exit expected end ≡ true
 no_exit None end none = refl
 no_exit (Some code) end none = cc
 
-no_end : (expected : Option ExpectedEnd) (end : RowEnd) → is_some expected ≡ false → holds_end expected end ≡ true
+no_end : (expected : Option ExpectedEnd) (end : RowEnd) → is_some expected ≡ false → has_expected_end expected end ≡ true
 no_end None end none = refl
 no_end (Some how) end none = cc
 
 no_console : (expected : Option ExpectedConsole) (file : Option (List ℕ)) (outcome : Outcome)
-    → is_some expected ≡ false → holds_console expected file outcome ≡ true
+    → is_some expected ≡ false → has_expected_console expected file outcome ≡ true
 no_console None file outcome none = refl
 no_console (Some how) file outcome none = cc
 
 no_reference : (expected : Option (List ℕ)) (file : Option (List ℕ)) (outcome : Outcome)
-    → is_some expected ≡ false → holds_reference expected file outcome ≡ true
+    → is_some expected ≡ false → has_expected_signature expected file outcome ≡ true
 no_reference None file outcome none = refl
 no_reference (Some path) file outcome none = cc
 
 no_same : (named : Option ℕ) (other : Option Outcome) (outcome : Outcome) → is_some named ≡ false
-    → holds_same named other outcome ≡ true
+    → is_same_as_named named other outcome ≡ true
 no_same None other outcome none = refl
 no_same (Some place) other outcome none = cc
 
 unasked : (sides : Sides)
-    → is_asked sides.job ≡ false
-    → TellsWhatDoesNotHold (option_to_list (cond (holds_exit (Some 0) sides.row.ending) None (Some Nothing))) sides.job
+    → expects_anything sides.job ≡ false
+    → TellsWhatDoesNotHold (option_to_list (cond (has_expected_exit (Some 0) sides.row.ending) None (Some Nothing))) sides.job
     (outcome_in_row sides.row) sides.console sides.reference (named_outcome sides.other)
 unasked sides none =
     let outcome = outcome_in_row sides.row in
-    let zero = holds_exit (Some 0) sides.row.ending in
+    let zero = has_expected_exit (Some 0) sides.row.ending in
     let p = neither _ _ none in
     let q = neither _ _ p.1 in
     let r = neither _ _ q.1 in
@@ -311,20 +311,20 @@ unasked sides none =
 -- ---- the laws
 
 by_asked : (sides : Sides) (asks : Bool)
-    → is_asked sides.job ≡ asks → is_run sides.row.ending ≡ true → AllByRecursion IsWord (words_or_none sides.row.signature)
-    → TellsWhatDoesNotHold (cond asks (unmet_of_asked sides)
-    (option_to_list (cond (holds_exit (Some 0) sides.row.ending) None (Some Nothing)))) sides.job (outcome_in_row sides.row) sides.console
+    → expects_anything sides.job ≡ asks → did_run sides.row.ending ≡ true → AllByRecursion IsWord (signature_words_or_empty sides.row.signature)
+    → TellsWhatDoesNotHold (cond asks (unmet_of_expecting_job sides)
+    (option_to_list (cond (has_expected_exit (Some 0) sides.row.ending) None (Some Nothing)))) sides.job (outcome_in_row sides.row) sides.console
     sides.reference (named_outcome sides.other)
 by_asked sides true asks runs fit = asked sides runs asks fit
 by_asked sides false none runs fit = unasked sides none
 
 pub tells : (sides : Sides)
-    → is_run sides.row.ending ≡ true → AllByRecursion IsWord (words_or_none sides.row.signature)
+    → did_run sides.row.ending ≡ true → AllByRecursion IsWord (signature_words_or_empty sides.row.signature)
     → TellsWhatDoesNotHold (unmet_of sides) sides.job (outcome_in_row sides.row) sides.console sides.reference
     (named_outcome sides.other)
 unfolding unmet_of
 tells sides runs fit =
-    rw runs (by_asked sides (is_asked sides.job) refl runs fit)
+    rw runs (by_asked sides (expects_anything sides.job) refl runs fit)
 
 -- ---- nothing is told where a job passes
 
@@ -367,16 +367,16 @@ to_the_right true b c d e = three b c d e
 to_the_right false b c d e = refl
 
 asked_passes : (sides : Sides)
-    → is_run sides.row.ending ≡ true → AllByRecursion IsWord (words_or_none sides.row.signature)
-    → (length (unmet_of_asked sides) == 0)
-    ≡ holds_all sides.job (outcome_in_row sides.row) sides.reference sides.console (named_outcome sides.other)
+    → did_run sides.row.ending ≡ true → AllByRecursion IsWord (signature_words_or_empty sides.row.signature)
+    → (length (unmet_of_expecting_job sides) == 0)
+    ≡ meets_all_expectations sides.job (outcome_in_row sides.row) sides.reference sides.console (named_outcome sides.other)
 asked_passes sides runs fit =
     let outcome = outcome_in_row sides.row in
-    let exit = holds_exit sides.job.expect_exit sides.row.ending in
-    let end = holds_end sides.job.expect_end sides.row.ending in
-    let c = holds_console sides.job.expect_console sides.console outcome in
-    let g = holds_reference sides.job.expect_signature sides.reference outcome in
-    let s = holds_same sides.job.same_as (named_outcome sides.other) outcome in
+    let exit = has_expected_exit sides.job.expect_exit sides.row.ending in
+    let end = has_expected_end sides.job.expect_end sides.row.ending in
+    let c = has_expected_console sides.job.expect_console sides.console outcome in
+    let g = has_expected_signature sides.job.expect_signature sides.reference outcome in
+    let s = is_same_as_named sides.job.same_as (named_outcome sides.other) outcome in
     no_length_of_five _ _ _ _ _ exit end c g s (empty_if Exit exit) (empty_if End end)
     (empty_map Console _ c (console_told sides.job.expect_console sides.console outcome runs))
     (empty_map Signature _ g (signature_told sides.job.expect_signature sides.reference outcome runs fit))
@@ -388,25 +388,25 @@ passes_if true end = refl
 passes_if false end = refl
 
 by_verdict : (sides : Sides) (asks : Bool)
-    → is_asked sides.job ≡ asks → is_run sides.row.ending ≡ true → AllByRecursion IsWord (words_or_none sides.row.signature)
-    → (length (cond asks (unmet_of_asked sides)
-    (option_to_list (cond (holds_exit (Some 0) sides.row.ending) None (Some Nothing)))) == 0)
+    → expects_anything sides.job ≡ asks → did_run sides.row.ending ≡ true → AllByRecursion IsWord (signature_words_or_empty sides.row.signature)
+    → (length (cond asks (unmet_of_expecting_job sides)
+    (option_to_list (cond (has_expected_exit (Some 0) sides.row.ending) None (Some Nothing)))) == 0)
     ≡ passes (cond (not asks) verdict.Unasked
-    (cond (holds_all sides.job (outcome_in_row sides.row) sides.reference sides.console (named_outcome sides.other)) verdict.Pass verdict.Fail))
+    (cond (meets_all_expectations sides.job (outcome_in_row sides.row) sides.reference sides.console (named_outcome sides.other)) verdict.Pass verdict.Fail))
     sides.row.ending
 by_verdict sides true asks runs fit =
     asked_passes sides runs fit ∙ sym (passes_if _ sides.row.ending)
 by_verdict sides false asks runs fit =
-    empty_if Nothing (holds_exit (Some 0) sides.row.ending)
+    empty_if Nothing (has_expected_exit (Some 0) sides.row.ending)
 
 pub passes_where_empty : (sides : Sides)
-    → is_run sides.row.ending ≡ true → AllByRecursion IsWord (words_or_none sides.row.signature)
+    → did_run sides.row.ending ≡ true → AllByRecursion IsWord (signature_words_or_empty sides.row.signature)
     → HasItsVerdict sides
     → (length (unmet_of sides) == 0) ≡ passes sides.row.verdict sides.row.ending
 unfolding unmet_of verdict_of
 passes_where_empty sides runs fit has =
-    let told = cond (is_asked sides.job) (unmet_of_asked sides)
-    (option_to_list (cond (holds_exit (Some 0) sides.row.ending) None (Some Nothing))) in
+    let told = cond (expects_anything sides.job) (unmet_of_expecting_job sides)
+    (option_to_list (cond (has_expected_exit (Some 0) sides.row.ending) None (Some Nothing))) in
     ap (λ (t : Bool). length (cond t told []) == 0) runs
-    ∙ by_verdict sides (is_asked sides.job) refl runs fit
+    ∙ by_verdict sides (expects_anything sides.job) refl runs fit
     ∙ sym (ap (λ (v : Verdict). passes v sides.row.ending) has)

@@ -6,7 +6,7 @@ use Rattle.std.specs.Option.{option_or}
 use Rattle.rv_jobs.specs.declared_job.ExpectedConsole.{ExpectedConsole}
 use Rattle.rv_jobs.specs.declared_job.ExpectedConsole.TheVariants.{Text, File}
 use Rattle.rv_rows.specs.declared_row.Row.{Row}
-use Rattle.rv_rows.specs.Verdict.{are_alike}
+use Rattle.rv_rows.specs.Verdict.{are_alike_endings}
 use Rattle.rv_expect.specs.declared.difference.Difference.{Difference}
 use Rattle.rv_expect.specs.declared.difference.Difference.TheVariants.{At, Lengths, Absent}
 use Rattle.rv_expect.specs.declared.difference.SameDifference.{SameDifference}
@@ -72,11 +72,11 @@ difference_of_texts row other =
 -- between two rows: how they ended comes first
 abbrev pub difference_of_runs : Row → Row → Option SameDifference
 difference_of_runs row other =
-    if are_alike row.ending other.ending then difference_of_texts row other
+    if are_alike_endings row.ending other.ending then difference_of_texts row other
     else Some same.Ending
 
 -- between a row and that of the job that its job names, if it names one
-abbrev pub same_difference : Option ℕ → Option Row → Row → Option SameDifference
-same_difference None other row = None
-same_difference (Some place) None row = Some same.Absent
-same_difference (Some place) (Some other) row = difference_of_runs row other
+abbrev pub same_as_difference : Option ℕ → Option Row → Row → Option SameDifference
+same_as_difference None other row = None
+same_as_difference (Some place) None row = Some same.Absent
+same_as_difference (Some place) (Some other) row = difference_of_runs row other

@@ -3,10 +3,10 @@ pub mod Reference
 pub mod Comparisons
 pub mod Unmet
 pub mod Telling
-pub mod Planned
+pub mod UnmetInPlan
 pub mod Passing
 pub mod Ways
-pub mod Met
+pub mod MetExpectations
 pub mod Refusal
 pub mod Problem
 pub mod TwoEnds

@@ -19,30 +19,30 @@ use Rattle.rv_expect.specs.declared.reference.Reference.TheVariants.{Words, BadL
 -- ---- one line
 
 -- the word of these bytes, if this is its line
-abbrev pub word_if : List ℕ → Result (List ℕ) FromHexError → Option ℕ
-word_if line (Ok bytes) =
+abbrev pub word_if_line : List ℕ → Result (List ℕ) FromHexError → Option ℕ
+word_if_line line (Ok bytes) =
     let word = from_be_bytes w32 bytes in
     if bytes_eq line (word_line word) then Some word else None
-word_if line (Err error) = None
+word_if_line line (Err error) = None
 
 -- the word whose line this is: eight lower-case hexadecimal digits and a line feed
-unfoldable pub word_in : List ℕ → Option ℕ
-word_in line = word_if line (decode_sized (take 8 line) 4)
+unfoldable pub word_of_line : List ℕ → Option ℕ
+word_of_line line = word_if_line line (decode_sized (take 8 line) 4)
 
 -- ---- all lines
 
 -- a line of a word, or of none, and what the lines behind it are
-abbrev pub with_line : Option ℕ → Reference → Reference
-with_line None behind = BadLine 1
-with_line (Some word) (Words words) = Words (word ∷ words)
-with_line (Some word) (BadLine line) = BadLine (line + 1)
+abbrev pub with_reference_line : Option ℕ → Reference → Reference
+with_reference_line None behind = BadLine 1
+with_reference_line (Some word) (Words words) = Words (word ∷ words)
+with_reference_line (Some word) (BadLine line) = BadLine (line + 1)
 
 -- the words whose lines a text is, or its first line that is not that of a word
-unfoldable pub reference_of : List ℕ → Reference
-reference_of [] = Words []
-reference_of (a ∷ b ∷ c ∷ d ∷ e ∷ f ∷ g ∷ h ∷ feed ∷ rest) =
-    with_line (word_in (a ∷ b ∷ c ∷ d ∷ e ∷ f ∷ g ∷ h ∷ feed ∷ [])) (reference_of rest)
-reference_of _ = BadLine 1
+unfoldable pub read_reference : List ℕ → Reference
+read_reference [] = Words []
+read_reference (a ∷ b ∷ c ∷ d ∷ e ∷ f ∷ g ∷ h ∷ feed ∷ rest) =
+    with_reference_line (word_of_line (a ∷ b ∷ c ∷ d ∷ e ∷ f ∷ g ∷ h ∷ feed ∷ [])) (read_reference rest)
+read_reference _ = BadLine 1
 
 abbrev pub IsWord : ℕ → Type 0
 IsWord word = word < 2 ^ 32
@@ -66,9 +66,9 @@ IsReferenceOf (BadLine line) text = IsFirstBadLine line text
 -- ---- compared with a signature
 
 -- an absent signature counts as one of no words
-abbrev pub words_or_none : Option (List ℕ) → List ℕ
-words_or_none None = []
-words_or_none (Some words) = words
+abbrev pub signature_words_or_empty : Option (List ℕ) → List ℕ
+signature_words_or_empty None = []
+signature_words_or_empty (Some words) = words
 
 -- a difference of words
 abbrev pub word_difference : Difference → SignatureDifference
@@ -88,4 +88,4 @@ abbrev pub signature_difference :
 signature_difference None bytes signature = None
 signature_difference (Some path) None signature = Some Absent
 signature_difference (Some path) (Some bytes) signature =
-    difference_from_reference (reference_of bytes) (words_or_none signature)
+    difference_from_reference (read_reference bytes) (signature_words_or_empty signature)

@@ -8,8 +8,8 @@ use Rattle.rv_rows.specs.declared_row.Row.{Row}
 use Rattle.rv_rows.specs.declared_row.RowEnd.{RowEnd}
 use Rattle.rv_rows.specs.declared_row.Verdict.{Verdict}
 use Rattle.rv_rows.specs.declared_row.Verdict.TheVariants as verdict
-use Rattle.rv_rows.specs.Verdict.{exits_with, holds_console, holds_end, holds_exit, holds_reference}
-use Rattle.rv_rows.specs.Verdict.{holds_same, is_asked, verdict_of}
+use Rattle.rv_rows.specs.Verdict.{exits_with, has_expected_console, has_expected_end, has_expected_exit, has_expected_signature}
+use Rattle.rv_rows.specs.Verdict.{is_same_as_named, expects_anything, verdict_of}
 use Rattle.rv_expect.specs.Comparisons.{Sides}
 use Rattle.rv_expect.specs.declared.unmet.Unmet.{Unmet}
 use Rattle.rv_expect.specs.declared.unmet.Unmet.TheVariants.{Exit, End, Console, Signature}
@@ -59,14 +59,14 @@ named_outcome other = option_map outcome_in_row other
 -- that expects nothing exactly where its run did not end with exit code 0
 pub record TellsWhatDoesNotHold (told : List Unmet) (job : Job) (outcome : Outcome)
     (file reference : Option (List ℕ)) (other : Option Outcome) : Type 0 where
-  pub exit : list_any is_exit told ≡ not (holds_exit job.expect_exit outcome.ending)
-  pub end : list_any is_end told ≡ not (holds_end job.expect_end outcome.ending)
-  pub console : list_any is_console told ≡ not (holds_console job.expect_console file outcome)
+  pub exit : list_any is_exit told ≡ not (has_expected_exit job.expect_exit outcome.ending)
+  pub end : list_any is_end told ≡ not (has_expected_end job.expect_end outcome.ending)
+  pub console : list_any is_console told ≡ not (has_expected_console job.expect_console file outcome)
   pub signature : list_any is_signature told
-      ≡ not (holds_reference job.expect_signature reference outcome)
-  pub same : list_any is_same told ≡ not (holds_same job.same_as other outcome)
+      ≡ not (has_expected_signature job.expect_signature reference outcome)
+  pub same : list_any is_same told ≡ not (is_same_as_named job.same_as other outcome)
   pub nothing : list_any is_nothing told
-      ≡ (not (is_asked job) && not (exits_with 0 outcome.ending))
+      ≡ (not (expects_anything job) && not (exits_with 0 outcome.ending))
 
 -- the job passes where its verdict is pass, and where it expects nothing and ended with exit code 0
 abbrev pub passes : Verdict → RowEnd → Bool

@@ -4,9 +4,9 @@ use Rattle.std.specs.Prelude.{if◌then◌else◌}
 use Rattle.rv_jobs.specs.declared_job.Job.{Job}
 use Rattle.rv_rows.specs.declared_row.Row.{Row}
 use Rattle.rv_rows.specs.declared_row.RowEnd.{RowEnd}
-use Rattle.rv_rows.specs.Verdict.{holds_end, holds_exit, is_asked, is_run}
+use Rattle.rv_rows.specs.Verdict.{has_expected_end, has_expected_exit, expects_anything, did_run}
 use Rattle.rv_expect.specs.Comparisons.{Sides}
-use Rattle.rv_expect.specs.Difference.{console_difference, same_difference}
+use Rattle.rv_expect.specs.Difference.{console_difference, same_as_difference}
 use Rattle.rv_expect.specs.Reference.{signature_difference}
 use Rattle.rv_expect.specs.declared.difference.SignatureDifference.{SignatureDifference}
 use Rattle.rv_expect.specs.declared.unmet.Unmet.{Unmet}
@@ -14,10 +14,10 @@ use Rattle.rv_expect.specs.declared.unmet.Unmet.TheVariants.{Exit, End, Console,
 use Rattle.rv_expect.specs.declared.unmet.Unmet.TheVariants.{Same, Nothing}
 
 abbrev pub unmet_exit : Job → RowEnd → Option Unmet
-unmet_exit job end = if holds_exit job.expect_exit end then None else Some Exit
+unmet_exit job end = if has_expected_exit job.expect_exit end then None else Some Exit
 
 abbrev pub unmet_end : Job → RowEnd → Option Unmet
-unmet_end job end = if holds_end job.expect_end end then None else Some End
+unmet_end job end = if has_expected_end job.expect_end end then None else Some End
 
 abbrev pub unmet_console : Job → Option (List ℕ) → Row → Option Unmet
 unmet_console job file row =
@@ -26,27 +26,27 @@ unmet_console job file row =
 abbrev pub unmet_signature : Option SignatureDifference → Option Unmet
 unmet_signature difference = option_map Signature difference
 
-abbrev pub unmet_same : Job → Option Row → Row → Option Unmet
-unmet_same job other row = option_map Same (same_difference job.same_as other row)
+abbrev pub unmet_same_as : Job → Option Row → Row → Option Unmet
+unmet_same_as job other row = option_map Same (same_as_difference job.same_as other row)
 
 -- a job that expects nothing is to end with exit code 0
-abbrev pub unmet_nothing : RowEnd → Option Unmet
-unmet_nothing end = if holds_exit (Some 0) end then None else Some Nothing
+abbrev pub unmet_default_exit : RowEnd → Option Unmet
+unmet_default_exit end = if has_expected_exit (Some 0) end then None else Some Nothing
 
 -- those of a job that expects something and ran
-abbrev pub unmet_of_asked : Sides → List Unmet
-unmet_of_asked sides =
+abbrev pub unmet_of_expecting_job : Sides → List Unmet
+unmet_of_expecting_job sides =
     option_to_list (unmet_exit sides.job sides.row.ending)
     ++ option_to_list (unmet_end sides.job sides.row.ending)
     ++ option_to_list (unmet_console sides.job sides.console sides.row)
     ++ option_to_list (unmet_signature
     (signature_difference sides.job.expect_signature sides.reference sides.row.signature))
-    ++ option_to_list (unmet_same sides.job sides.other sides.row)
+    ++ option_to_list (unmet_same_as sides.job sides.other sides.row)
 
 -- those of a row of a job beside what it is compared with; a refused row has none
 unfoldable pub unmet_of : Sides → List Unmet
 unmet_of sides =
-    if is_run sides.row.ending then
-    (if is_asked sides.job then unmet_of_asked sides
-    else option_to_list (unmet_nothing sides.row.ending))
+    if did_run sides.row.ending then
+    (if expects_anything sides.job then unmet_of_expecting_job sides
+    else option_to_list (unmet_default_exit sides.row.ending))
     else []

@@ -13,8 +13,8 @@ use Rattle.rv_expect.specs.declared.ways.Way.TheVariants as way
 use Rattle.rv_expect.specs.Passing.{has_passed}
 
 -- how many there are
-abbrev pub ways : ℕ
-ways = length fault_kinds + 3
+abbrev pub way_count : ℕ
+way_count = length fault_kinds + 3
 
 -- a kind of fault, or what stands behind the last of them
 abbrev pub fault_or_refused : Option FaultKind → Way
@@ -28,13 +28,13 @@ way_at place =
     else (if place == 1 then way.Budget else fault_or_refused (slice_get fault_kinds (place - 2)))
 
 -- the way of an ending
-abbrev pub is_of_way : Way → RowEnd → Bool
-is_of_way way.Exit (ending.Exit code) = true
-is_of_way way.Budget ending.Budget = true
-is_of_way (way.Fault kind) (ending.Fault met pc value) = is_same_kind kind met
-is_of_way way.Refused (ending.Refused why) = true
-is_of_way _ _ = false
+abbrev pub ends_in_way : Way → RowEnd → Bool
+ends_in_way way.Exit (ending.Exit code) = true
+ends_in_way way.Budget ending.Budget = true
+ends_in_way (way.Fault kind) (ending.Fault met pc value) = is_same_kind kind met
+ends_in_way way.Refused (ending.Refused why) = true
+ends_in_way _ _ = false
 
 -- a job failed, and ended so
-abbrev pub fails_by : Rule → Way → Row → Bool
-fails_by rule how row = not (has_passed rule row) && is_of_way how row.ending
+abbrev pub fails_in_way : Rule → Way → Row → Bool
+fails_in_way rule how row = not (has_passed rule row) && ends_in_way how row.ending

@@ -2,10 +2,10 @@
 
 ghost use Rattle.std.specs.Prelude.{◌≡◌, option_map};
 ghost use Rattle.rv_expect.specs.Difference.{console_difference, difference_of_runs, first_difference};
-ghost use Rattle.rv_expect.specs.Difference.{same_difference, signatures_difference};
+ghost use Rattle.rv_expect.specs.Difference.{same_as_difference, signatures_difference};
 
 use rv_jobs::ExpectedConsole;
-use rv_rows::{Row, Words, are_alike};
+use rv_rows::{Row, Words, are_alike_endings};
 
 /// What differs first between two sequences.
 #[derive(Clone, Copy)]
@@ -46,7 +46,7 @@ pub enum SameDifference {
 }
 
 /// What differs first between bytes that were met and those that are expected.
-pub(crate) fn first_byte(met: &[u8], expected: &[u8]) -> Option<Difference>
+pub(crate) fn first_byte_difference(met: &[u8], expected: &[u8]) -> Option<Difference>
     ensures { result ≡ first_difference met.now expected.now }
 {
     for (place, byte) in met.iter().enumerate() {
@@ -65,7 +65,7 @@ pub(crate) fn first_byte(met: &[u8], expected: &[u8]) -> Option<Difference>
 }
 
 /// What differs first between words that were met and those that are expected.
-pub(crate) fn first_word(met: &[u32], expected: &[u32]) -> Option<Difference>
+pub(crate) fn first_word_difference(met: &[u32], expected: &[u32]) -> Option<Difference>
     ensures { result ≡ first_difference met.now expected.now }
 {
     for (place, word) in met.iter().enumerate() {
@@ -94,19 +94,19 @@ pub(crate) fn console_difference(
 {
     match (expected, file) {
         (None, _) => None,
-        (Some(ExpectedConsole::Text(text)), _) => first_byte(console, text.as_slice()),
-        (Some(ExpectedConsole::File(_)), Some(bytes)) => first_byte(console, bytes),
+        (Some(ExpectedConsole::Text(text)), _) => first_byte_difference(console, text.as_slice()),
+        (Some(ExpectedConsole::File(_)), Some(bytes)) => first_byte_difference(console, bytes),
         (Some(ExpectedConsole::File(_)), None) => Some(Difference::Absent),
     }
 }
 
 /// What differs between a row and that of the job that its job names, if it names one.
-pub(crate) fn same_difference(
+pub(crate) fn same_as_difference(
     named: Option<usize>,
     other: Option<&Row>,
     row: &Row,
 ) -> Option<SameDifference>
-    ensures { result ≡ same_difference named (option_map (λ row. row.now) other.entry) row.now }
+    ensures { result ≡ same_as_difference named (option_map (λ row. row.now) other.entry) row.now }
 {
     match (named, other) {
         (None, _) => None,
@@ -118,10 +118,13 @@ pub(crate) fn same_difference(
 fn difference_of_runs(row: &Row, other: &Row) -> Option<SameDifference>
     ensures { result ≡ difference_of_runs row.now other.now }
 {
-    if !are_alike(row.ending, other.ending) {
+    if !are_alike_endings(row.ending, other.ending) {
         return Some(SameDifference::Ending);
     }
-    if let Some(difference) = first_byte(row.console.as_slice(), other.console.as_slice()) {
+    if let Some(difference) = first_byte_difference(
+        row.console.as_slice(),
+        other.console.as_slice(),
+    ) {
         return Some(SameDifference::Console(difference));
     }
     match signatures_difference(&row.signature, &other.signature) {
@@ -134,7 +137,7 @@ fn signatures_difference(signature: &Option<Words>, other: &Option<Words>) -> Op
     ensures { result ≡ signatures_difference signature.now other.now }
 {
     match (signature, other) {
-        (Some(words), Some(others)) => first_word(words.as_slice(), others.as_slice()),
+        (Some(words), Some(others)) => first_word_difference(words.as_slice(), others.as_slice()),
         (None, None) => None,
         _ => Some(Difference::Absent),
     }

@@ -5,13 +5,13 @@ ghost use Rattle.std.specs.List.{AllByRecursion, flat_map};
 ghost use Rattle.rv_jobs.specs.declared_job.Job.{Job};
 ghost use Rattle.rv_jobs.specs.Plans.{Planned};
 ghost use Rattle.rv_rows.specs.Report.{word_line};
-ghost use Rattle.rv_rows.specs.Rows.{console_in, other_in, outcome_in, reference_in, row_of};
-ghost use Rattle.rv_rows.specs.Verdict.{is_run};
+ghost use Rattle.rv_rows.specs.Rows.{expected_console_bytes, named_job_outcome, outcome_in, signature_reference_bytes, row_of};
+ghost use Rattle.rv_rows.specs.Verdict.{did_run};
 ghost use Rattle.rv_expect.specs.declared.reference.Reference.TheVariants.{Words};
 ghost use Rattle.rv_expect.specs.Comparisons.{Sides};
 ghost use Rattle.rv_expect.specs.Difference.{IsDifference, first_difference};
-ghost use Rattle.rv_expect.specs.Planned.{unmet_in};
-ghost use Rattle.rv_expect.specs.Reference.{IsReferenceOf, IsWord, reference_of, words_or_none};
+ghost use Rattle.rv_expect.specs.UnmetInPlan.{unmet_in};
+ghost use Rattle.rv_expect.specs.Reference.{IsReferenceOf, IsWord, read_reference, signature_words_or_empty};
 ghost use Rattle.rv_expect.specs.Telling.{HasItsVerdict, TellsWhatDoesNotHold, named_outcome, outcome_in_row, passes};
 ghost use Rattle.rv_expect.specs.Unmet.{unmet_of};
 
@@ -26,17 +26,17 @@ pub fn differences_are_first()
 /// A reference is read as words exactly where it is their lines. Else the first line is named that is not that of a
 /// word of 32 bits.
 pub fn references_are_lines_of_words()
-    ensures read { (text : List ℕ) → IsReferenceOf (reference_of text) text }
+    ensures read { (text : List ℕ) → IsReferenceOf (read_reference text) text }
     ensures written { (words : List ℕ) → AllByRecursion IsWord words
-        → reference_of (flat_map word_line words) ≡ Words words }
+        → read_reference (flat_map word_line words) ≡ Words words }
 {}
 
 /// Of a row that is not refused, with words of 32 bits in its signature, an expectation is told exactly where it does
 /// not hold by the definitions of the verdict.
 pub fn unmet_is_what_does_not_hold()
     ensures { (sides : Sides)
-        → IsTrue (is_run sides.row.ending)
-        → AllByRecursion IsWord (words_or_none sides.row.signature)
+        → IsTrue (did_run sides.row.ending)
+        → AllByRecursion IsWord (signature_words_or_empty sides.row.signature)
         → TellsWhatDoesNotHold (unmet_of sides) sides.job (outcome_in_row sides.row)
         sides.console sides.reference (named_outcome sides.other) }
 {}
@@ -45,8 +45,8 @@ pub fn unmet_is_what_does_not_hold()
 /// is expected and the run ended with exit code 0.
 pub fn nothing_is_unmet_where_a_job_passes()
     ensures { (sides : Sides)
-        → IsTrue (is_run sides.row.ending)
-        → AllByRecursion IsWord (words_or_none sides.row.signature)
+        → IsTrue (did_run sides.row.ending)
+        → AllByRecursion IsWord (signature_words_or_empty sides.row.signature)
         → HasItsVerdict sides
         → (length (unmet_of sides) == 0) ≡ passes sides.row.verdict sides.row.ending }
 {}
@@ -56,13 +56,13 @@ pub fn nothing_is_unmet_where_a_job_passes()
 /// of the job that it names. Nothing is told exactly where the job passes.
 pub fn unmet_of_a_plan_is_what_does_not_hold()
     ensures told { (plan : Planned) (job : Job)
-        → IsTrue (is_run (row_of plan job).ending)
-        → AllByRecursion IsWord (words_or_none (row_of plan job).signature)
+        → IsTrue (did_run (row_of plan job).ending)
+        → AllByRecursion IsWord (signature_words_or_empty (row_of plan job).signature)
         → TellsWhatDoesNotHold (unmet_in plan job (row_of plan job)) job
-        (outcome_in plan.answers job) (console_in plan.answers job) (reference_in plan.answers job) (other_in plan job) }
+        (outcome_in plan.answers job) (expected_console_bytes plan.answers job) (signature_reference_bytes plan.answers job) (named_job_outcome plan job) }
     ensures passes { (plan : Planned) (job : Job)
-        → IsTrue (is_run (row_of plan job).ending)
-        → AllByRecursion IsWord (words_or_none (row_of plan job).signature)
+        → IsTrue (did_run (row_of plan job).ending)
+        → AllByRecursion IsWord (signature_words_or_empty (row_of plan job).signature)
         → (length (unmet_in plan job (row_of plan job)) == 0)
         ≡ passes (row_of plan job).verdict (row_of plan job).ending }
 {}

@@ -1,7 +1,7 @@
 //! What a person is told of a row: which expectations of its job the run does not meet, and what differs first.
 //!
 //! [`unmet_expectations`] answers them over a [`Comparison`]: the bytes of a job's files, and the row of the job that it names, which
-//! [`named_row`] makes. Their order is exit, end, console, signature, other job. Each is told exactly where it does not hold by the
+//! [`row_of_same_as_job`] makes. Their order is exit, end, console, signature, other job. Each is told exactly where it does not hold by the
 //! definitions of the verdict
 //! ([`unmet_is_what_does_not_hold`], [`unmet_of_a_plan_is_what_does_not_hold`]), and none exactly where the job passes
 //! ([`nothing_is_unmet_where_a_job_passes`]). What is said to differ is the first that does ([`differences_are_first`]),
@@ -12,13 +12,13 @@
 mod comparison;
 mod difference;
 mod law;
-mod met;
+mod met_expectations;
 mod passing;
-mod planned;
 mod problem;
 mod reference;
-mod refusal;
+mod same_as_job;
 mod two_ends;
+mod unfit_segments;
 mod unmet;
 mod ways;
 
@@ -28,12 +28,12 @@ pub use law::{
     differences_are_first, nothing_is_unmet_where_a_job_passes, references_are_lines_of_words,
     unmet_is_what_does_not_hold, unmet_of_a_plan_is_what_does_not_hold,
 };
-pub use met::{Expectation, is_met};
+pub use met_expectations::{Expectation, is_expectation_met};
 pub use passing::{Rule, has_passed, have_passed};
-pub use planned::named_row;
 pub use problem::{is_error, is_failure};
-pub use reference::words_or_none;
-pub use refusal::{is_file_inside, load_address, unfit_segment};
+pub use reference::signature_words_or_empty;
+pub use same_as_job::row_of_same_as_job;
 pub use two_ends::{expects_two_ends, two_ends_fail};
+pub use unfit_segments::{has_file_bytes_in_region, load_address, unfit_segment};
 pub use unmet::{Unmet, unmet_expectations};
-pub use ways::{Way, fails_by};
+pub use ways::{Way, fails_in_way};

@@ -4,7 +4,7 @@ ghost use Rattle.std.specs.Prelude.{◌≡◌};
 ghost use Rattle.std.specs.List.{list_all};
 ghost use Rattle.rv_expect.specs.Passing.{has_passed};
 
-use rv_rows::{Row, Verdict, holds_exit};
+use rv_rows::{Row, Verdict, has_expected_exit};
 
 /// What counts as a failure.
 #[derive(Clone, Copy)]
@@ -23,7 +23,7 @@ pub fn has_passed(rule: Rule, row: &Row) -> bool
     match (rule, row.verdict) {
         (_, Verdict::Pass) => true,
         (_, Verdict::Fail) => false,
-        (Rule::Strict, Verdict::Unasked) => holds_exit(Some(0), row.ending),
+        (Rule::Strict, Verdict::Unasked) => has_expected_exit(Some(0), row.ending),
         (Rule::Lenient, Verdict::Unasked) => true,
     }
 }

@@ -1,12 +1,12 @@
 //! References: texts that are the lines of a signature's words.
 
 ghost use Rattle.std.specs.Prelude.{◌≡◌, IfOk, length, option_map};
-ghost use Rattle.rv_expect.specs.Reference.{difference_from_reference, reference_of, signature_difference};
-ghost use Rattle.rv_expect.specs.Reference.{word_in, words_or_none};
+ghost use Rattle.rv_expect.specs.Reference.{difference_from_reference, read_reference, signature_difference};
+ghost use Rattle.rv_expect.specs.Reference.{word_of_line, signature_words_or_empty};
 
-use crate::difference::{Difference, SignatureDifference, first_word};
+use crate::difference::{Difference, SignatureDifference, first_word_difference};
 use rv_jobs::Text;
-use rv_rows::{LINE, Words, line_of};
+use rv_rows::{LINE, Words, word_line};
 use std::alloc::{AllocError, Global};
 
 /// What a reference's text is.
@@ -35,14 +35,14 @@ pub(crate) fn signature_difference(
         (Some(_), None) => Ok(Some(SignatureDifference::Absent)),
         (Some(_), Some(bytes)) => {
             let reference = read_reference(alloc, bytes)?;
-            Ok(difference_from_reference(&reference, words_or_none(signature)))
+            Ok(difference_from_reference(&reference, signature_words_or_empty(signature)))
         }
     }
 }
 
 /// The words of a signature; an absent one counts as one of no words.
-pub fn words_or_none(signature: &Option<Words>) -> &[u32]
-    ensures { result.now ≡ words_or_none signature.now }
+pub fn signature_words_or_empty(signature: &Option<Words>) -> &[u32]
+    ensures { result.now ≡ signature_words_or_empty signature.now }
 {
     match signature {
         Some(words) => words.as_slice(),
@@ -57,7 +57,7 @@ fn difference_from_reference(reference: &Reference, words: &[u32]) -> Option<Sig
         Reference::Words(expected) => expected,
         Reference::BadLine(line) => return Some(SignatureDifference::Line(*line)),
     };
-    match first_word(words, expected.as_slice()) {
+    match first_word_difference(words, expected.as_slice()) {
         Some(Difference::At(place)) => Some(SignatureDifference::Word(place)),
         Some(Difference::Lengths) => Some(SignatureDifference::Count),
         Some(Difference::Absent) => Some(SignatureDifference::Absent),
@@ -66,12 +66,12 @@ fn difference_from_reference(reference: &Reference, words: &[u32]) -> Option<Sig
 }
 
 fn read_reference(alloc: Global, text: &[u8]) -> Result<Reference, AllocError>
-    ensures { IfOk result (λ reference. reference ≡ reference_of text.now) }
+    ensures { IfOk result (λ reference. reference ≡ read_reference text.now) }
 {
     let mut words = Vec::new(alloc);
     let mut rest = text;
     while LINE <= rest.len() {
-        match word_in(&rest[..LINE]) {
+        match word_of_line(&rest[..LINE]) {
             Some(word) => words.push(word)?,
             None => return Ok(Reference::BadLine(words.len() + 1)),
         }
@@ -85,16 +85,16 @@ fn read_reference(alloc: Global, text: &[u8]) -> Result<Reference, AllocError>
 }
 
 // The word whose line this is. Its digits are read in either case, so what they say is written and compared.
-fn word_in(line: &[u8]) -> Option<u32>
+fn word_of_line(line: &[u8]) -> Option<u32>
     requires { length line.now ≡ LINE }
-    ensures { result ≡ word_in line.now }
+    ensures { result ≡ word_of_line line.now }
 {
     let mut bytes = [0u8; 4];
     if hex::decode_to_slice(&line[..LINE - 1], &mut bytes).is_err() {
         return None;
     }
     let word = u32::from_be_bytes(bytes);
-    if line == line_of(word).as_slice() {
+    if line == word_line(word).as_slice() {
         Some(word)
     } else {
         None

@@ -1,17 +1,17 @@
 //! Which expectations a run does not meet.
 
 ghost use Rattle.std.specs.Prelude.{◌≡◌, ◌++◌, IfOk, OnOk, option_map, option_to_list};
-ghost use Rattle.rv_expect.specs.Unmet.{unmet_console, unmet_end, unmet_exit, unmet_nothing, unmet_of, unmet_same};
+ghost use Rattle.rv_expect.specs.Unmet.{unmet_console, unmet_end, unmet_exit, unmet_default_exit, unmet_of, unmet_same_as};
 ghost use Rattle.rv_expect.specs.Unmet.{unmet_signature};
 ghost use Rattle.rv_expect.specs.Comparisons.{sides_of};
 
 use crate::comparison::Comparison;
 use crate::difference::{
-    Difference, SameDifference, SignatureDifference, console_difference, same_difference,
+    Difference, SameDifference, SignatureDifference, console_difference, same_as_difference,
 };
 use crate::reference::signature_difference;
 use rv_jobs::Job;
-use rv_rows::{Row, RowEnd, holds_end, holds_exit, is_asked, is_run};
+use rv_rows::{Row, RowEnd, did_run, expects_anything, has_expected_end, has_expected_exit};
 use std::alloc::{AllocError, Global};
 
 /// An expectation of a job that its run does not meet, and what differs first.
@@ -40,24 +40,24 @@ pub fn unmet_expectations(
 {
     let (job, row) = (comparison.job, comparison.row);
     let mut found = Vec::new(alloc);
-    if !is_run(row.ending) {
+    if !did_run(row.ending) {
         return Ok(found);
     }
-    if !is_asked(job) {
-        push_some(&mut found, unmet_nothing(row.ending))?;
+    if !expects_anything(job) {
+        push_if_unmet(&mut found, unmet_default_exit(row.ending))?;
         return Ok(found);
     }
     let reference = comparison.reference;
     let signature = signature_difference(alloc, &job.expect_signature, reference, &row.signature)?;
-    push_some(&mut found, unmet_exit(job, row.ending))?;
-    push_some(&mut found, unmet_end(job, row.ending))?;
-    push_some(&mut found, unmet_console(job, comparison.console, row))?;
-    push_some(&mut found, unmet_signature(signature))?;
-    push_some(&mut found, unmet_same(job, comparison.other, row))?;
+    push_if_unmet(&mut found, unmet_exit(job, row.ending))?;
+    push_if_unmet(&mut found, unmet_end(job, row.ending))?;
+    push_if_unmet(&mut found, unmet_console(job, comparison.console, row))?;
+    push_if_unmet(&mut found, unmet_signature(signature))?;
+    push_if_unmet(&mut found, unmet_same_as(job, comparison.other, row))?;
     Ok(found)
 }
 
-fn push_some(found: &mut Vec<Unmet>, unmet: Option<Unmet>) -> Result<(), AllocError>
+fn push_if_unmet(found: &mut Vec<Unmet>, unmet: Option<Unmet>) -> Result<(), AllocError>
     ensures { OnOk result (found.new.items ≡ found.old.items ++ option_to_list unmet) }
 {
     if let Some(unmet) = unmet {
@@ -66,10 +66,10 @@ fn push_some(found: &mut Vec<Unmet>, unmet: Option<Unmet>) -> Result<(), AllocEr
     Ok(())
 }
 
-fn unmet_nothing(ending: RowEnd) -> Option<Unmet>
-    ensures { result ≡ unmet_nothing ending }
+fn unmet_default_exit(ending: RowEnd) -> Option<Unmet>
+    ensures { result ≡ unmet_default_exit ending }
 {
-    if holds_exit(Some(0), ending) {
+    if has_expected_exit(Some(0), ending) {
         None
     } else {
         Some(Unmet::Nothing)
@@ -79,7 +79,7 @@ fn unmet_nothing(ending: RowEnd) -> Option<Unmet>
 fn unmet_exit(job: &Job, ending: RowEnd) -> Option<Unmet>
     ensures { result ≡ unmet_exit job.now ending }
 {
-    if holds_exit(job.expect_exit, ending) {
+    if has_expected_exit(job.expect_exit, ending) {
         None
     } else {
         Some(Unmet::Exit)
@@ -89,7 +89,7 @@ fn unmet_exit(job: &Job, ending: RowEnd) -> Option<Unmet>
 fn unmet_end(job: &Job, ending: RowEnd) -> Option<Unmet>
     ensures { result ≡ unmet_end job.now ending }
 {
-    if holds_end(job.expect_end, ending) {
+    if has_expected_end(job.expect_end, ending) {
         None
     } else {
         Some(Unmet::End)
@@ -114,10 +114,10 @@ fn unmet_signature(difference: Option<SignatureDifference>) -> Option<Unmet>
     }
 }
 
-fn unmet_same(job: &Job, other: Option<&Row>, row: &Row) -> Option<Unmet>
-    ensures { result ≡ unmet_same job.now (option_map (λ row. row.now) other.entry) row.now }
+fn unmet_same_as(job: &Job, other: Option<&Row>, row: &Row) -> Option<Unmet>
+    ensures { result ≡ unmet_same_as job.now (option_map (λ row. row.now) other.entry) row.now }
 {
-    match same_difference(job.same_as, other, row) {
+    match same_as_difference(job.same_as, other, row) {
         Some(difference) => Some(Unmet::Same(difference)),
         None => None,
     }

@@ -2,7 +2,7 @@
 
 ghost use Rattle.std.specs.Prelude.{◌≡◌, slice_get};
 ghost use Rattle.rv_machine.specs.Faults.{fault_kinds};
-ghost use Rattle.rv_expect.specs.Ways.{fails_by, fault_or_refused, is_of_way, way_at};
+ghost use Rattle.rv_expect.specs.Ways.{fails_in_way, fault_or_refused, ends_in_way, way_at};
 
 use crate::passing::{Rule, has_passed};
 use rv_machine::FaultKind;
@@ -49,14 +49,14 @@ fn fault_or_refused(place: usize) -> Way
 }
 
 /// Whether a job failed, and ended in a way.
-pub fn fails_by(rule: Rule, way: Way, row: &Row) -> bool
-    ensures { result ≡ fails_by rule way row.now }
+pub fn fails_in_way(rule: Rule, way: Way, row: &Row) -> bool
+    ensures { result ≡ fails_in_way rule way row.now }
 {
-    !has_passed(rule, row) && is_of_way(way, row.ending)
+    !has_passed(rule, row) && ends_in_way(way, row.ending)
 }
 
-fn is_of_way(way: Way, ending: RowEnd) -> bool
-    ensures { result ≡ is_of_way way ending }
+fn ends_in_way(way: Way, ending: RowEnd) -> bool
+    ensures { result ≡ ends_in_way way ending }
 {
     match (way, ending) {
         (Way::Exit, RowEnd::Exit(_)) => true,

@@ -1,3 +1,3 @@
 pub mod Input
-pub mod Noted
+pub mod UnreadPaths
 pub mod Saving

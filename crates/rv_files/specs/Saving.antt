@@ -5,6 +5,6 @@ use Rattle.rv_files.specs.declared.file_sink.FileError.{FileError}
 use Rattle.rv_files.specs.declared.file_sink.FileError.TheVariants.{OutOfMemory, Failed}
 
 -- the error for what the system said
-abbrev pub error_for : ErrorKind → FileError
-error_for kind.OutOfMemory = OutOfMemory
-error_for reason = Failed reason
+abbrev pub file_error : ErrorKind → FileError
+file_error kind.OutOfMemory = OutOfMemory
+file_error reason = Failed reason

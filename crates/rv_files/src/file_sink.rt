@@ -5,7 +5,7 @@ ghost use Rattle.std.specs.Io.KnownBytes.{Appends};
 ghost use Rattle.rv_base.specs.Sinks.{AppendsBeginning};
 ghost use Rattle.rv_base.specs.Counts.{one_more};
 
-use crate::places::{Places, places_of};
+use crate::sink_paths::{Places, temporary_and_final_path};
 use crate::streams::StreamSink;
 use rv_base::{Sink, SinkFailed};
 use std::alloc::{AllocError, Global};
@@ -34,9 +34,9 @@ impl From<AllocError> for FileError {
 
 impl From<io::Error> for FileError {
     ghost use Rattle.std.specs.IoError.{error_kind};
-    ghost use Rattle.rv_files.specs.Saving.{error_for};
+    ghost use Rattle.rv_files.specs.Saving.{file_error};
 
-    ghost from_gives = { λ refused error. error ≡ error_for (error_kind refused) };
+    ghost from_gives = { λ refused error. error ≡ file_error (error_kind refused) };
 
     fn from(error: io::Error) -> FileError {
         match error.kind() {
@@ -62,10 +62,14 @@ impl<'a, R: Files> FileSink<'a, R> {
     pub fn open(files: &'a R, alloc: Global, path: &str) -> Result<FileSink<'a, R>, FileError>
         ensures { IfOk result (λ sink. sink.stream.failures ≡ 0) }
     {
-        let places = places_of(files, alloc, path)?;
-        let _streams = (nothing(files), nothing(files), nothing(files));
+        let places = temporary_and_final_path(files, alloc, path)?;
+        let _streams = (
+            open_null_device(files),
+            open_null_device(files),
+            open_null_device(files),
+        );
         let file = match &places {
-            Some(places) => open_anew(files, places.new.as_str())?,
+            Some(places) => create_new_file(files, places.new.as_str())?,
             None => OpenOptions::new().write(true).open(files, path)?,
         };
         Ok(FileSink {
@@ -104,12 +108,12 @@ impl<'a, R: Files> FileSink<'a, R> {
 
 // A file that is open. Three of them take the places of standard streams that are closed, so that the file which is
 // opened behind them takes none, and what goes to the streams is not written to it.
-fn nothing<R: Files>(files: &R) -> io::Result<R::File> {
+fn open_null_device<R: Files>(files: &R) -> io::Result<R::File> {
     fs::open(files, "/dev/null")
 }
 
 // A new file: what stands at its path gives way.
-fn open_anew<R: Files>(files: &R, path: &str) -> io::Result<R::File> {
+fn create_new_file<R: Files>(files: &R, path: &str) -> io::Result<R::File> {
     match files.remove_file(path) {
         Ok(()) => {}
         Err(error) if error.kind() == ErrorKind::NotFound => {}

@@ -45,7 +45,7 @@ pub fn read_at_most<R: Read>(
     let mut bytes = Vec::new(alloc);
     let mut chunk = [0u8; CHUNK];
     'reading: while bytes.len() < most {
-        if read_more(input, &mut chunk, &mut bytes, most)? == 0 {
+        if read_chunk(input, &mut chunk, &mut bytes, most)? == 0 {
             return Ok(bytes);
         }
     }
@@ -53,7 +53,7 @@ pub fn read_at_most<R: Read>(
 }
 
 // One read, into a buffer of its own: so a growth that is refused is told from a read that fails.
-fn read_more<R: Read>(
+fn read_chunk<R: Read>(
     input: &mut R,
     chunk: &mut [u8; CHUNK],
     bytes: &mut Vec<u8>,

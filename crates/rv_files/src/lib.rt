@@ -7,14 +7,14 @@
 #![tactic(auto)]
 
 mod file_sink;
-mod files;
+mod file_store;
 mod input;
-mod noting;
-mod places;
+mod noting_store;
+mod sink_paths;
 mod streams;
 
 pub use file_sink::{FileError, FileSink};
-pub use files::{FileStore, WholeError, read_whole};
+pub use file_store::{FileStore, WholeError, read_whole};
 pub use input::{InputError, read_at_most};
-pub use noting::{NotingStore, Unread};
+pub use noting_store::{NotingStore, Unread};
 pub use streams::StreamSink;

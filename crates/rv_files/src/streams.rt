@@ -33,7 +33,7 @@ impl<W: Write + Drop> StreamSink<W> {
         self.stream
     }
 
-    fn fail(&mut self) -> SinkFailed
+    fn count_failure(&mut self) -> SinkFailed
         ensures counted { self.new.failures ≡ one_more self.old.failures }
         ensures same { self.new.stream ≡ self.old.stream }
     {
@@ -57,12 +57,12 @@ impl<W: Write + Drop> Sink for StreamSink<W> {
         ensures failure { IfErr result (λ _. self.new.failures ≡ one_more self.old.failures) }
     {
         let count = match self.stream.write(bytes) {
-            Ok(0) | Err(_) => return Err(self.fail()),
+            Ok(0) | Err(_) => return Err(self.count_failure()),
             Ok(count) => count,
         };
         match self.stream.flush() {
             Ok(()) => Ok(count),
-            Err(_) => Err(self.fail()),
+            Err(_) => Err(self.count_failure()),
         }
     }
 

@@ -12,12 +12,12 @@ use Rattle.rv_rows.specs.Rows.{rows_at}
 use Rattle.rv_fleet.specs.declared.piece.Piece.{Piece}
 use Rattle.rv_rows.specs.declared_row.Row.{Row}
 use Rattle.rv_fleet.specs.declared.pieces.Pieces.{Pieces}
-use Rattle.rv_fleet.specs.declared.worked.Worked.{Worked}
+use Rattle.rv_fleet.specs.declared.worker_promise.Worked.{Worked}
 use Rattle.rv_fleet.specs.Batches.{batch_rows}
 use Rattle.rv_fleet.specs.Collected.{IsPiece, ArePieces}
 use Rattle.rv_claims.specs.Draws.{numbers}
 use Rattle.rv_claims.specs.Passes.{SharedDraw}
-use Rattle.rv_fleet.specs.Pieces.{count_in, piece_in, pieces_in}
+use Rattle.rv_fleet.specs.Pieces.{count_of_pieces, numbered_piece, piece_count_of_rows}
 use Rattle.rv_fleet.specs.Promised.{HasWorked}
 use Rattle.rv_rows.specs.Rows.{row_of}
 use Rattle.rv_fleet.proofs.Chunks.{chunks_all}
@@ -29,18 +29,18 @@ All-first P x xs all is each = All-head P x xs (All-same P _ _ (sym is) each)
 -- what a worker made is pieces with the rows of their numbers
 pub pieces_worked : (pieces : Pieces) (draw : SharedDraw) (worked : Worked) (made : Vec Piece Global)
     → HasWorked (batch_rows pieces.batch) pieces.group draw worked → worked.pieces ≡ Ok made
-    → draw.pieces ≡ count_in pieces → ArePieces pieces made.items
+    → draw.pieces ≡ count_of_pieces pieces → ArePieces pieces made.items
 pieces_worked pieces draw worked made has is total =
     let low : ℕ → Bool = λ n. nat_lt n draw.pieces in
     let drawn : List ℕ = numbers worked.pass.draws in
-    let kept : made.items ≡ map (piece_in pieces) (filter low drawn) =
-    subst (λ r. IfOk r (λ (v : Vec Piece Global). v.items ≡ map (piece_in pieces) (filter low drawn))) is has.1 in
+    let kept : made.items ≡ map (numbered_piece pieces) (filter low drawn) =
+    subst (λ r. IfOk r (λ (v : Vec Piece Global). v.items ≡ map (numbered_piece pieces) (filter low drawn))) is has.1 in
     let below : (n : ℕ) → low n ≡ true
-    → IsPiece pieces (piece_in pieces n) = λ n passes. let l : n < draw.pieces =
+    → IsPiece pieces (numbered_piece pieces n) = λ n passes. let l : n < draw.pieces =
     ltb-true n draw.pieces passes in (omega arith, refl) in
     All-same (IsPiece pieces) _ _ kept
-    (All-map (IsPiece pieces) (piece_in pieces) (filter low drawn)
-    (All-weaker (λ n. low n ≡ true) (λ n. IsPiece pieces (piece_in pieces n)) below (filter low drawn)
+    (All-map (IsPiece pieces) (numbered_piece pieces) (filter low drawn)
+    (All-weaker (λ n. low n ≡ true) (λ n. IsPiece pieces (numbered_piece pieces n)) below (filter low drawn)
     (filter_passes low drawn)))
 
 -- what stands at the first of the places that are left, and at the others
@@ -67,5 +67,5 @@ unfolding rows_at
 rows_count plan places = length-map places (λ i. row_of plan (slice_index_or plan.jobs i (single_job [] 0 [])))
 
 -- the rows of all pieces are all rows
-pub pieces_all : (rows : List Row) (group k : ℕ) → 0 < group → k ≡ pieces_in rows group → take (k * group) rows ≡ rows
+pub pieces_all : (rows : List Row) (group k : ℕ) → 0 < group → k ≡ piece_count_of_rows rows group → take (k * group) rows ≡ rows
 pieces_all rows group k some is = chunks_all rows group k some is

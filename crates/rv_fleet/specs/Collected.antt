@@ -4,12 +4,12 @@ use Rattle.std.specs.Prelude.{slice_index_or}
 use Rattle.rv_fleet.specs.declared.piece.Piece.{Piece}
 use Rattle.rv_fleet.specs.declared.pieces.Pieces.{Pieces}
 use Rattle.rv_rows.specs.declared_row.Row.{Row}
-use Rattle.rv_fleet.specs.Pieces.{count_in, piece_in, rows_in}
+use Rattle.rv_fleet.specs.Pieces.{count_of_pieces, numbered_piece, piece_rows}
 
 -- one of the pieces, with its rows
 abbrev pub IsPiece : Pieces → Piece → Type 0
 IsPiece pieces piece =
-    (piece.number < count_in pieces) × (piece ≡ piece_in pieces piece.number)
+    (piece.number < count_of_pieces pieces) × (piece ≡ numbered_piece pieces piece.number)
 
 -- each is one of the pieces
 abbrev pub ArePieces : Pieces → List Piece → Type 0
@@ -17,5 +17,5 @@ ArePieces pieces made = All (IsPiece pieces) made
 
 -- a slot for each piece, where its rows stand or nothing does; past the slots there is nothing
 abbrev pub IsFilled : Pieces → List (Option (List Row)) → Type 0
-IsFilled pieces slots = (length slots ≡ count_in pieces)
-    × ((k : ℕ) → IfSome (slice_index_or slots k None) (λ part. part ≡ rows_in pieces k))
+IsFilled pieces slots = (length slots ≡ count_of_pieces pieces)
+    × ((k : ℕ) → IfSome (slice_index_or slots k None) (λ part. part ≡ piece_rows pieces k))

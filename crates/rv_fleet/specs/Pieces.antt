@@ -10,8 +10,8 @@ use Rattle.rv_rows.specs.declared_row.Row.{Row}
 use Rattle.rv_rows.specs.Rows.{rows_of}
 
 -- how many pieces rows have: the rows divided by the group, rounded up
-abbrev pub pieces_in : List Row → ℕ → ℕ
-pieces_in rows group = div_ceil (length rows) group
+abbrev pub piece_count_of_rows : List Row → ℕ → ℕ
+piece_count_of_rows rows group = div_ceil (length rows) group
 
 -- piece k: its number, and the rows from k * group on, a group of them or as many as there are
 abbrev pub piece_for : List Row → ℕ → ℕ → Piece
@@ -20,7 +20,7 @@ piece_for rows group k = record { number = k; rows = slice_chunk rows group k }
 -- a gate that awaits this may be told of each piece
 abbrev pub Hears : (ℕ → List Row → Type 0) → List Row → ℕ → Type 0
 Hears awaits rows group =
-    (k : ℕ) → k < pieces_in rows group → awaits k (slice_chunk rows group k)
+    (k : ℕ) → k < piece_count_of_rows rows group → awaits k (slice_chunk rows group k)
 
 -- ---- of a plan
 
@@ -35,16 +35,16 @@ piece_at plan group k = piece_for (rows_of plan) group k
 -- ---- of a batch
 
 -- how many pieces it has
-abbrev pub count_in : Pieces → ℕ
-count_in pieces = pieces_in (batch_rows pieces.batch) pieces.group
+abbrev pub count_of_pieces : Pieces → ℕ
+count_of_pieces pieces = piece_count_of_rows (batch_rows pieces.batch) pieces.group
 
 -- the rows of piece k
-abbrev pub rows_in : Pieces → ℕ → List Row
-rows_in pieces k = slice_chunk (batch_rows pieces.batch) pieces.group k
+abbrev pub piece_rows : Pieces → ℕ → List Row
+piece_rows pieces k = slice_chunk (batch_rows pieces.batch) pieces.group k
 
 -- piece k
-abbrev pub piece_in : Pieces → ℕ → Piece
-piece_in pieces k = piece_for (batch_rows pieces.batch) pieces.group k
+abbrev pub numbered_piece : Pieces → ℕ → Piece
+numbered_piece pieces k = piece_for (batch_rows pieces.batch) pieces.group k
 
 -- a gate that awaits this may be told of each of them
 abbrev pub CanHear : (ℕ → List Row → Type 0) → Pieces → Type 0

@@ -1,7 +1,7 @@
 -- What a worker promises of its result.
 use Rattle.std.specs.Prelude.{◌≡◌, ℕ, List, [], map, All, IfOk}
 use Rattle.rv_rows.specs.declared_row.Row.{Row}
-use Rattle.rv_fleet.specs.declared.worked.Worked.{Worked}
+use Rattle.rv_fleet.specs.declared.worker_promise.Worked.{Worked}
 use Rattle.rv_claims.specs.NewPieces.{pieces_among}
 use Rattle.rv_claims.specs.Passes.{SharedDraw, PassView}
 use Rattle.rv_fleet.specs.Pieces.{piece_for}

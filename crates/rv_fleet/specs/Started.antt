@@ -5,16 +5,16 @@ use Rattle.std.specs.declared.thread.PromisedHandle.{PromisedHandle}
 use Rattle.rv_jobs.specs.Limits.{most_group, most_jobs}
 use Rattle.rv_rows.specs.declared_row.Row.{Row}
 use Rattle.rv_rows.specs.Rows.{rows_at}
-use Rattle.rv_fleet.specs.declared.worked.Worked.{Worked}
-use Rattle.rv_fleet.specs.declared.worked.Works.{Works}
+use Rattle.rv_fleet.specs.declared.worker_promise.Worked.{Worked}
+use Rattle.rv_fleet.specs.declared.worker_promise.Works.{Works}
 use Rattle.rv_claims.specs.Passes.{SharedDraw}
 use Rattle.rv_jobs.specs.Plans.{Planned}
-use Rattle.rv_fleet.specs.Choices.{AreWithin}
-use Rattle.rv_fleet.specs.Pieces.{Hears, pieces_in}
+use Rattle.rv_fleet.specs.Choices.{AreJobPlaces}
+use Rattle.rv_fleet.specs.Pieces.{Hears, piece_count_of_rows}
 
 -- jobs that may be a batch, in groups that may be its pieces
 pub record AreGrouped (plan : Planned) (places : List ℕ) (group : ℕ) : Type 0 where
-  pub within : AreWithin plan places
+  pub within : AreJobPlaces plan places
   pub rising : IsStrictlyIncreasing places
   pub few : length places ≤ most_jobs
   pub group_few : (0 < group) × (group ≤ most_group)
@@ -23,7 +23,7 @@ pub record AreGrouped (plan : Planned) (places : List ℕ) (group : ℕ) : Type 
 -- them
 abbrev pub CanWork : Planned → List ℕ → ℕ → SharedDraw → (ℕ → List Row → Type 0) → Type 0
 CanWork plan places group draw awaits = AreGrouped plan places group
-    × (draw.pieces ≡ pieces_in (rows_at plan places) group)
+    × (draw.pieces ≡ piece_count_of_rows (rows_at plan places) group)
     × Hears awaits (rows_at plan places) group
 
 -- its promise is of these rows, this group and this shared draw

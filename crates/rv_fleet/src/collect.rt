@@ -3,14 +3,14 @@
 ghost use Rattle.std.specs.Prelude.{◌≡◌, ◌<◌, IfOk, IfSome};
 ghost use Rattle.rv_fleet.specs.Batches.{batch_rows};
 ghost use Rattle.rv_fleet.specs.Collected.{ArePieces, IsPiece, IsFilled};
-ghost use Rattle.rv_fleet.specs.Pieces.{CanHear, count_in, rows_in};
+ghost use Rattle.rv_fleet.specs.Pieces.{CanHear, count_of_pieces, piece_rows};
 ghost use Rattle.rv_fleet.specs.Promised.{HaveWorked};
 
 use crate::gate::Gate;
 use crate::piece::{Piece, make_piece};
 use crate::pieces::Pieces;
 use crate::workbench::Workbench;
-use crate::worked::Worked;
+use crate::worker_promise::Worked;
 use rv_claims::{Claims, Pass};
 use rv_rows::{Row, Rows};
 use std::alloc::{AllocError, Global};
@@ -27,13 +27,13 @@ pub(crate) struct Collected {
 }
 
 /// What all workers made, each piece once.
-pub(crate) fn collect(
+pub(crate) fn collect_pieces(
     alloc: Global,
     claims: &Claims,
     worked: Vec<Worked>,
     pieces: &Pieces<'_>,
 ) -> Result<Collected, AllocError>
-    requires pieces { claims.now.pieces ≡ count_in pieces.now }
+    requires pieces { claims.now.pieces ≡ count_of_pieces pieces.now }
     requires worked { HaveWorked
         (batch_rows pieces.now.batch) pieces.now.group claims.now worked.items }
     ensures slots { IfOk result (λ all. IsFilled pieces.now all.slots.items) }
@@ -43,11 +43,11 @@ pub(crate) fn collect(
     let mut all = None;
     let mut stopped = false;
     for Worked { pass, pieces: made } in worked {
-        keep_all(&mut slots, pieces, made?);
+        keep_pieces(&mut slots, pieces, made?);
         if !pass.ended() {
             stopped = true;
         }
-        all = Some(join(claims, all, pass));
+        all = Some(join_passes(claims, all, pass));
     }
     Ok(Collected {
         slots,
@@ -67,18 +67,18 @@ fn empty_slots(alloc: Global, pieces: &Pieces<'_>) -> Result<Vec<Option<Rows>>, 
     Ok(slots)
 }
 
-fn keep_all(slots: &mut Vec<Option<Rows>>, pieces: &Pieces<'_>, made: Vec<Piece>)
+fn keep_pieces(slots: &mut Vec<Option<Rows>>, pieces: &Pieces<'_>, made: Vec<Piece>)
     requires slots { IsFilled pieces.now slots.old.items }
     requires made { ArePieces pieces.now made.items }
     ensures { IsFilled pieces.now slots.new.items }
 {
     for piece in made {
-        keep(slots, pieces, piece);
+        keep_piece(slots, pieces, piece);
     }
 }
 
 /// Keeps a piece's rows, unless they are there.
-fn keep(slots: &mut Vec<Option<Rows>>, pieces: &Pieces<'_>, piece: Piece)
+fn keep_piece(slots: &mut Vec<Option<Rows>>, pieces: &Pieces<'_>, piece: Piece)
     requires slots { IsFilled pieces.now slots.old.items }
     requires piece { IsPiece pieces.now piece }
     ensures { IsFilled pieces.now slots.new.items }
@@ -89,7 +89,7 @@ fn keep(slots: &mut Vec<Option<Rows>>, pieces: &Pieces<'_>, piece: Piece)
     }
 }
 
-fn join(claims: &Claims, all: Option<Pass>, pass: Pass) -> Pass
+fn join_passes(claims: &Claims, all: Option<Pass>, pass: Pass) -> Pass
     requires all { IfSome all (λ other. other.draw ≡ claims.now) }
     requires pass { pass.draw ≡ claims.now }
     ensures { result.draw ≡ claims.now }
@@ -101,7 +101,7 @@ fn join(claims: &Claims, all: Option<Pass>, pass: Pass) -> Pass
 }
 
 /// The rows of all pieces, in order. A piece that no worker made is made here.
-pub(crate) fn all_rows<G: Gate>(
+pub(crate) fn rows_of_all_pieces<G: Gate>(
     alloc: Global,
     slots: Vec<Option<Rows>>,
     pieces: &Pieces<'_>,
@@ -129,10 +129,10 @@ fn rows_in_slot<G: Gate>(
     gate: &G,
     number: u64,
 ) -> Result<Rows, AllocError>
-    requires number { number < count_in pieces.now }
+    requires number { number < count_of_pieces pieces.now }
     requires gate { CanHear (G.awaits gate.now) pieces.now }
-    requires slot { IfSome slot (λ rows. rows ≡ rows_in pieces.now number) }
-    ensures { IfOk result (λ rows. rows ≡ rows_in pieces.now number) }
+    requires slot { IfSome slot (λ rows. rows ≡ piece_rows pieces.now number) }
+    ensures { IfOk result (λ rows. rows ≡ piece_rows pieces.now number) }
 {
     match slot {
         Some(rows) => Ok(rows),

@@ -6,11 +6,11 @@ ghost use Rattle.rv_rows.specs.Rows.{rows_of};
 ghost use Rattle.rv_fleet.specs.declared.fleet.FleetError.TheVariants.{OutOfMemory};
 ghost use Rattle.rv_fleet.specs.declared.fleet.PlacesError.TheVariants as places;
 ghost use Rattle.rv_fleet.specs.Batches.{batch_rows};
-ghost use Rattle.rv_fleet.specs.Fleets.{of_fleet};
+ghost use Rattle.rv_fleet.specs.Fleets.{places_error_of_fleet};
 ghost use Rattle.rv_fleet.specs.Pieces.{Hears};
 
 use crate::batch::Batch;
-use crate::collect::all_rows;
+use crate::collect::rows_of_all_pieces;
 use crate::crew::Crew;
 use crate::gate::{Gate, Unheard};
 use crate::pieces::Pieces;
@@ -65,7 +65,7 @@ impl From<AllocError> for PlacesError {
 }
 
 impl From<FleetError> for PlacesError {
-    ghost from_gives = { λ error given. given ≡ of_fleet error };
+    ghost from_gives = { λ error given. given ≡ places_error_of_fleet error };
 
     fn from(error: FleetError) -> PlacesError {
         match error {
@@ -98,7 +98,7 @@ pub fn run_fleet<R: Threads + Wait, G: Gate>(
     let pieces = Pieces { batch, group };
     let gate = Unheard { gate };
     let made = make_pieces(&crew, &pieces, &gate)?;
-    let rows = all_rows(alloc, made.slots, &pieces, &gate)?;
+    let rows = rows_of_all_pieces(alloc, made.slots, &pieces, &gate)?;
     Ok(Report { rows })
 }
 
@@ -120,5 +120,5 @@ pub fn run_places<R: Threads + Wait, G: Gate>(
     if made.stopped {
         return Err(PlacesError::Stopped);
     }
-    Ok(all_rows(crew.alloc, made.slots, &pieces, gate)?)
+    Ok(rows_of_all_pieces(crew.alloc, made.slots, &pieces, gate)?)
 }

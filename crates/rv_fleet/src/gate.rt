@@ -18,7 +18,7 @@ pub trait Gate: Sync {
 
     /// Told of a piece's rows by the worker that made them, as soon as they are made; answers whether to go on. A gate
     /// that has answered no answers so from then on: each worker ends when it is told no, and draws no other piece.
-    fn made(&self, piece: u64, rows: &Rows) -> bool
+    fn on_piece_made(&self, piece: u64, rows: &Rows) -> bool
         requires { awaits self.now piece rows.now }
         ensures { IsFalse result → stops self.now }
     {

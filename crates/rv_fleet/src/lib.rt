@@ -16,8 +16,8 @@ mod pieces;
 mod places;
 mod threads;
 mod workbench;
-mod worked;
 mod worker;
+mod worker_promise;
 
 pub use batch::Batch;
 pub use crew::Crew;

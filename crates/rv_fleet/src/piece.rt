@@ -2,12 +2,12 @@
 
 ghost use Rattle.std.specs.Prelude.{◌≡◌, ◌<◌, IfOk, OnOk, IsFalse};
 ghost use Rattle.rv_rows.specs.Recent.{AreOutcomes};
-ghost use Rattle.rv_fleet.specs.Pieces.{count_in, piece_in, rows_in};
+ghost use Rattle.rv_fleet.specs.Pieces.{count_of_pieces, numbered_piece, piece_rows};
 
 use crate::gate::Gate;
 use crate::pieces::Pieces;
 use crate::workbench::Workbench;
-use rv_rows::{Rows, next_row};
+use rv_rows::{Rows, row_at_with_recent};
 use std::alloc::{AllocError, Global};
 
 /// The rows of the jobs at the places from `number * group` on: a group of them, or as many as there are.
@@ -33,16 +33,16 @@ pub(crate) fn make_piece<G: Gate>(
     number: u64,
     bench: &mut Workbench,
 ) -> Result<MadePiece, AllocError>
-    requires number { number < count_in pieces.now }
-    requires gate { G.awaits gate.now number (rows_in pieces.now number) }
+    requires number { number < count_of_pieces pieces.now }
+    requires gate { G.awaits gate.now number (piece_rows pieces.now number) }
     requires recent { AreOutcomes pieces.now.batch.plan.now bench.old.recent }
-    ensures piece { IfOk result (λ made. made.piece ≡ piece_in pieces.now number) }
+    ensures piece { IfOk result (λ made. made.piece ≡ numbered_piece pieces.now number) }
     ensures recent { OnOk result (AreOutcomes pieces.now.batch.plan.now bench.new.recent) }
     ensures goes_on { IfOk result (λ made. IsFalse made.goes_on → G.stops gate.now) }
 {
     gate.enter(number);
     let rows = rows_of_piece(alloc, pieces, number, bench)?;
-    let goes_on = gate.made(number, &rows);
+    let goes_on = gate.on_piece_made(number, &rows);
     let piece = Piece { number, rows };
     Ok(MadePiece { piece, goes_on })
 }
@@ -53,9 +53,9 @@ fn rows_of_piece(
     number: u64,
     bench: &mut Workbench,
 ) -> Result<Rows, AllocError>
-    requires number { number < count_in pieces.now }
+    requires number { number < count_of_pieces pieces.now }
     requires recent { AreOutcomes pieces.now.batch.plan.now bench.old.recent }
-    ensures rows { IfOk result (λ rows. rows ≡ rows_in pieces.now number) }
+    ensures rows { IfOk result (λ rows. rows ≡ piece_rows pieces.now number) }
     ensures recent { OnOk result (AreOutcomes pieces.now.batch.plan.now bench.new.recent) }
 {
     let (plan, places) = (pieces.batch.plan, pieces.batch.places);
@@ -65,7 +65,7 @@ fn rows_of_piece(
     let end = start + group.min(jobs - start);
     let mut rows = Vec::with_capacity(alloc, end - start)?;
     for i in start..end {
-        let row = next_row(alloc, plan, places[i], &mut bench.spare, &mut bench.recent)?;
+        let row = row_at_with_recent(alloc, plan, places[i], &mut bench.spare, &mut bench.recent)?;
         rows.push(row)?;
     }
     Ok(Rows::new(rows))

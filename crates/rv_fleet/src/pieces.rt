@@ -15,12 +15,12 @@ pub(crate) struct Pieces<'a> {
 }
 
 impl<'a> Pieces<'a> {
-    ghost use Rattle.rv_fleet.specs.Pieces.{count_in};
+    ghost use Rattle.rv_fleet.specs.Pieces.{count_of_pieces};
 
     /// How many there are.
     #[tactic(auto, using(crate::proofs::Collects::rows_count))]
     pub(crate) fn count(&self) -> u64
-        ensures value { result ≡ count_in self.now }
+        ensures value { result ≡ count_of_pieces self.now }
         ensures few { result ≤ most_jobs }
     {
         self.batch.places.len().div_ceil(self.group as usize) as u64

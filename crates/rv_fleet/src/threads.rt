@@ -4,18 +4,18 @@ ghost use Rattle.std.specs.Prelude.{◌≡◌, [], IfOk};
 ghost use Rattle.rv_rows.specs.Rows.{rows_at};
 ghost use Rattle.rv_fleet.specs.Batches.{batch_rows};
 ghost use Rattle.rv_fleet.specs.Collected.{IsFilled};
-ghost use Rattle.rv_fleet.specs.Pieces.{CanHear, count_in};
+ghost use Rattle.rv_fleet.specs.Pieces.{CanHear, count_of_pieces};
 ghost use Rattle.rv_fleet.specs.Promised.{AreFresh, HasWorked, HaveWorked};
 ghost use Rattle.rv_fleet.specs.Started.{CanWork};
 
 use crate::batch::Batch;
-use crate::collect::{Collected, collect};
+use crate::collect::{Collected, collect_pieces};
 use crate::crew::Crew;
 use crate::fleet::FleetError;
 use crate::gate::Gate;
 use crate::pieces::Pieces;
-use crate::worked::{Worked, Works};
-use crate::worker::work_with;
+use crate::worker::work_with_own_pass;
+use crate::worker_promise::{Worked, Works};
 use rv_claims::{Claims, Pass, SplitError};
 use std::alloc::{AllocError, Global};
 use std::sync::Wait;
@@ -40,7 +40,7 @@ pub(crate) fn make_pieces<R: Threads + Wait, G: Gate>(
         slots,
         pass,
         stopped,
-    } = collect(alloc, &claims, worked, pieces)?;
+    } = collect_pieces(alloc, &claims, worked, pieces)?;
     if let Some(pass) = pass {
         // The rows rest on what the workers promise, and not on this answer: a piece that nobody made is made later.
         let _each_once = claims.finish(pass);
@@ -91,7 +91,7 @@ fn run_workers<R: Threads + Wait, G: Gate>(
     pieces: &Pieces<'_>,
     gate: &G,
 ) -> Result<Vec<Worked>, FleetError>
-    requires pieces { claims.now.pieces ≡ count_in pieces.now }
+    requires pieces { claims.now.pieces ≡ count_of_pieces pieces.now }
     requires gate { CanHear (G.awaits gate.now) pieces.now }
     requires passes { AreFresh claims.now passes.items }
     ensures { IfOk result (λ worked. HaveWorked
@@ -126,7 +126,7 @@ fn run_workers<R: Threads + Wait, G: Gate>(
                             claims.entry.now result }
                     {
                         let batch = Batch { plan, places };
-                        work_with(alloc, claims, pass, &Pieces { batch, group }, gate)
+                        work_with_own_pass(alloc, claims, pass, &Pieces { batch, group }, gate)
                     },
                 ) else {
                     // No worker: `spawn_with` fails where the start of a thread was refused.

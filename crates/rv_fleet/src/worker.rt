@@ -5,7 +5,7 @@ ghost use Rattle.std.specs.Prelude.{◌≡◌, ◌<◌, ◌≤◌, [], true, map
 ghost use Rattle.rv_claims.specs.NewPieces.{Grew, new_pieces};
 ghost use Rattle.rv_claims.specs.Passes.{has_ended};
 ghost use Rattle.rv_fleet.specs.Batches.{batch_rows};
-ghost use Rattle.rv_fleet.specs.Pieces.{CanHear, count_in, piece_at, piece_in, pieces_of};
+ghost use Rattle.rv_fleet.specs.Pieces.{CanHear, count_of_pieces, piece_at, numbered_piece, pieces_of};
 ghost use Rattle.rv_fleet.specs.Promised.{HasWorked};
 
 use crate::batch::Batch;
@@ -14,7 +14,7 @@ use crate::piece::{Piece, make_piece};
 use crate::pieces::Pieces;
 use crate::places::all_places;
 use crate::workbench::Workbench;
-use crate::worked::Worked;
+use crate::worker_promise::Worked;
 use rv_claims::{Claims, Pass};
 use rv_jobs::Plan;
 use std::alloc::{AllocError, Global};
@@ -40,25 +40,25 @@ pub fn work<G: Gate>(
     let places = all_places(alloc, plan)?;
     let batch = Batch::new(plan, places.as_slice());
     let pieces = Pieces { batch, group };
-    work_on(alloc, claims, pass, &pieces, &Unheard { gate })
+    work_on_pieces(alloc, claims, pass, &pieces, &Unheard { gate })
 }
 
 /// The same for the pieces of a batch, by a gate that is told of each. After a no of the gate it takes no other piece,
 /// and its pass has not ended.
-pub(crate) fn work_on<G: Gate>(
+pub(crate) fn work_on_pieces<G: Gate>(
     alloc: Global,
     claims: &Claims,
     pass: &mut Pass,
     pieces: &Pieces<'_>,
     gate: &G,
 ) -> Result<Vec<Piece>, AllocError>
-    requires pieces { claims.now.pieces ≡ count_in pieces.now }
+    requires pieces { claims.now.pieces ≡ count_of_pieces pieces.now }
     requires pass { pass.old.draw ≡ claims.now }
     requires gate { CanHear (G.awaits gate.now) pieces.now }
     ensures pass { Grew pass.old pass.new }
     ensures ended { IfOk result (λ _. IsFalse (has_ended pass.new) → G.stops gate.now) }
     ensures made { IfOk result (λ made. made.items
-        ≡ map (piece_in pieces.now) (new_pieces pass.old pass.new)) }
+        ≡ map (numbered_piece pieces.now) (new_pieces pass.old pass.new)) }
 {
     let mut drawn = Vec::new(alloc);
     let mut bench = Workbench::new(alloc);
@@ -73,18 +73,18 @@ pub(crate) fn work_on<G: Gate>(
 }
 
 /// What one thread does with a pass of its own.
-pub(crate) fn work_with<G: Gate>(
+pub(crate) fn work_with_own_pass<G: Gate>(
     alloc: Global,
     claims: &Claims,
     mut pass: Pass,
     pieces: &Pieces<'_>,
     gate: &G,
 ) -> Worked
-    requires pieces { claims.now.pieces ≡ count_in pieces.now }
+    requires pieces { claims.now.pieces ≡ count_of_pieces pieces.now }
     requires pass { (pass.draw ≡ claims.now) × (pass.draws ≡ []) }
     requires gate { CanHear (G.awaits gate.now) pieces.now }
     ensures { HasWorked (batch_rows pieces.now.batch) pieces.now.group claims.now result }
 {
-    let pieces = work_on(alloc, claims, &mut pass, pieces, gate);
+    let pieces = work_on_pieces(alloc, claims, &mut pass, pieces, gate);
     Worked { pass, pieces }
 }

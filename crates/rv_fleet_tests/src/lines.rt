@@ -1,5 +1,5 @@
 //! Where jobs begin in texts that are no TOML: those up to there are noted. No run of a program asks for them.
-use rv_list_errors::job_lines;
+use rv_list_errors::job_line_numbers;
 use samples::agree;
 use std::alloc::{AllocError, Global};
 use std::test::Fail;
@@ -27,7 +27,7 @@ job = [{}, {} = [1, 1]
 job = [{}, , {}] = [1]";
 
 fn begins_of(alloc: Global, text: &str) -> Result<String, AllocError> {
-    let lines = job_lines(alloc, text)?;
+    let lines = job_line_numbers(alloc, text)?;
     format!(in alloc; "{:?}", lines.as_slice())
 }
 

@@ -2,7 +2,7 @@
 //! which is the last cell.
 ghost use Rattle.std.specs.Prelude.{◌<◌, ◌≤◌, IfOk, None};
 ghost use Rattle.std.specs.List.Sorted.{IsStrictlyIncreasing};
-ghost use Rattle.rv_fleet.specs.Choices.{AreWithin};
+ghost use Rattle.rv_fleet.specs.Choices.{AreJobPlaces};
 
 use rv_fleet::Row;
 use rv_jobs::{Plan, ReadError, Store, gather, marked_places, read_jobs};
@@ -106,7 +106,7 @@ fn crew_of(line: &str) -> (u32, u32)
 
 // The plan of a line, and the places of the jobs that are chosen of it.
 fn chosen(alloc: Global, line: &str) -> Result<(Plan, Vec<usize>), Fail>
-    ensures within { IfOk result (λ chosen. AreWithin chosen.0 chosen.1.items) }
+    ensures within { IfOk result (λ chosen. AreJobPlaces chosen.0 chosen.1.items) }
     ensures rising { IfOk result (λ chosen. IsStrictlyIncreasing chosen.1.items) }
 {
     let marks = marks_of(alloc, cell_of(line, 2))?;

@@ -39,7 +39,7 @@ pub fn expand(half: u16) -> Option<u32>
     ensures word { IfSome result (λ w. (i : Instr) → Means32 set.Imc w i ↔ Means16 set.Imc half i) }
     ensures value { Expands half result }
 {
-    find_word(half)
+    expanded_word(half)
 }
 
 /// The instruction of a halfword: that of its only row in the RVC listing, or `None` where no row fits (as for
@@ -50,7 +50,7 @@ pub fn decode16(half: u16, isa: Isa) -> Option<Instr>
     ensures value { result ≡ meaning16 isa half }
     ensures well_formed { IfSome result IsWellFormed }
 {
-    find(half, isa)
+    instr_of_half(half, isa)
 }
 
 /// A law of the listing, with nothing to run: no halfword has two rows, in any set.
@@ -60,7 +60,7 @@ pub fn no_halfword_has_two_rows()
 
 #[inline(always)]
 #[tactic(auto, using(crate::proofs::ByQuadrant::by_set))]
-fn find(half: u16, isa: Isa) -> Option<Instr>
+fn instr_of_half(half: u16, isa: Isa) -> Option<Instr>
     ensures value { result ≡ meaning16 isa half }
     ensures well_formed { IfSome result IsWellFormed }
 {
@@ -71,7 +71,7 @@ fn find(half: u16, isa: Isa) -> Option<Instr>
 }
 
 #[tactic(auto, using(crate::proofs::ByQuadrant::quadrant_3))]
-fn find_word(half: u16) -> Option<u32>
+fn expanded_word(half: u16) -> Option<u32>
     ensures { Expands half result }
 {
     let half = u32::from(half);
@@ -109,8 +109,8 @@ fn quadrant1(half: u32) -> Option<u32>
         0 => Some(addi(rd, rd, widen(imm_ci(half), 6, 12))),
         1 => Some(jal(1, widen(imm_cj(half), 12, 21))),
         2 => Some(addi(rd, 0, widen(imm_ci(half), 6, 12))),
-        3 => upper(half),
-        4 => arithmetic(half),
+        3 => upper_immediate_word(half),
+        4 => arithmetic_word(half),
         5 => Some(jal(0, widen(imm_cj(half), 12, 21))),
         6 => Some(beq(high, 0, widen(imm_cb(half), 9, 13))),
         _ => Some(bne(high, 0, widen(imm_cb(half), 9, 13))),
@@ -119,7 +119,7 @@ fn quadrant1(half: u32) -> Option<u32>
 
 // C.ADDI16SP and C.LUI. The two take their immediates from the same bits, so both are 0 together.
 #[tactic(auto, using(crate::proofs::ByQuadrant::by_quadrant))]
-fn upper(half: u32) -> Option<u32>
+fn upper_immediate_word(half: u32) -> Option<u32>
     requires quadrant { bits_of half 1 0 ≡ 1 }
     requires top { bits_of half 15 13 ≡ 3 }
     ensures { Expands half result }
@@ -136,7 +136,7 @@ fn upper(half: u32) -> Option<u32>
 }
 
 #[tactic(auto, using(crate::proofs::ByQuadrant::by_quadrant))]
-fn arithmetic(half: u32) -> Option<u32>
+fn arithmetic_word(half: u32) -> Option<u32>
     requires quadrant { bits_of half 1 0 ≡ 1 }
     requires top { bits_of half 15 13 ≡ 4 }
     ensures { Expands half result }
@@ -166,7 +166,7 @@ fn quadrant2(half: u32) -> Option<u32>
     match field(half, 15, 13) {
         0 if field(half, 12, 12) == 0 => Some(slli(rd, rd, field(half, 6, 2))),
         2 if rd != 0 => Some(lw(rd, 2, imm_lwsp(half))),
-        4 => registers(half),
+        4 => cr_format_word(half),
         6 => Some(sw(2, field(half, 6, 2), imm_css(half))),
         _ => None,
     }
@@ -174,7 +174,7 @@ fn quadrant2(half: u32) -> Option<u32>
 
 // C.JR, C.MV, C.EBREAK, C.JALR and C.ADD.
 #[tactic(auto, using(crate::proofs::ByQuadrant::by_quadrant))]
-fn registers(half: u32) -> Option<u32>
+fn cr_format_word(half: u32) -> Option<u32>
     requires quadrant { bits_of half 1 0 ≡ 2 }
     requires top { bits_of half 15 13 ≡ 4 }
     ensures { Expands half result }

@@ -25,7 +25,7 @@ pub fn decode32(word: u32, isa: Isa) -> Option<Instr>
     ensures value { result ≡ meaning32 isa word }
     ensures well_formed { IfSome result IsWellFormed }
 {
-    find(word, isa)
+    instr_of_word(word, isa)
 }
 
 /// A law of the listing, with nothing to run: no word has two rows, in any set.
@@ -35,7 +35,7 @@ pub fn no_word_has_two_rows()
 
 #[inline(always)]
 #[tactic(auto, using(crate::proofs::ByOpcode::by_opcode))]
-fn find(word: u32, isa: Isa) -> Option<Instr>
+fn instr_of_word(word: u32, isa: Isa) -> Option<Instr>
     ensures { result ≡ meaning32 isa word }
 {
     let funct3 = field(word, 14, 12);

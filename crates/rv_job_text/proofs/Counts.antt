@@ -11,7 +11,7 @@ use Rattle.std.proofs.lemmas.List.{length-take, take_all}
 use Rattle.std.proofs.lemmas.List.Sums.{count_by-le-length, count_by_more_no, count_by_more_yes}
 use Rattle.rv_expect.specs.declared.ways.Way.{Way}
 use Rattle.rv_expect.specs.Ways.{way_at}
-use Rattle.rv_job_text.specs.LastLine.{bracket, failures_below, opened, way_name}
+use Rattle.rv_job_text.specs.TotalsLine.{bracket_text, failed_ways_below, open_bracket_text, way_name}
 use Rattle.rv_text.proofs.Public.{more}
 
 -- ---- the elements that pass a test, among so many
@@ -40,7 +40,7 @@ module _ {X : Type 0} (p : X → Bool) (xs : List X) (i count : ℕ) (so_far : c
 
 -- a text more in brackets
 pub opened-more : (texts : List (List ℕ)) (text : List ℕ) →
-    opened (texts ++ text ∷ []) ≡ opened texts ++ (cond (not (length texts == 0)) (codes ", ") (codes " (") ++ text)
+    open_bracket_text (texts ++ text ∷ []) ≡ open_bracket_text texts ++ (cond (not (length texts == 0)) (codes ", ") (codes " (") ++ text)
 opened-more [] text = append-nil (codes " (" ++ text)
 opened-more (first ∷ more) text =
     let comma : List ℕ → List ℕ = λ one. codes ", " ++ one in
@@ -48,20 +48,20 @@ opened-more (first ∷ more) text =
     ap (λ xs. codes " (" ++ first ++ xs) (flat_map-append comma more (text ∷ [])
     ∙ ap (λ xs. flat_map comma more ++ xs) (append-nil (comma text)))
     ∙ sym (append_assoc (codes " (" ++ first) (flat_map comma more) (comma text))
-    ∙ ap (λ t. opened (first ∷ more) ++ (cond (not t) (codes ", ") (codes " (") ++ text)) (sym some)
+    ∙ ap (λ t. open_bracket_text (first ∷ more) ++ (cond (not t) (codes ", ") (codes " (") ++ text)) (sym some)
 
 -- they are closed where there is a text
 pub bracket-closed : (texts : List (List ℕ)) (is_open : Bool) (old mid new : List ℕ) →
-    is_open ≡ not (length texts == 0) → is_open ≡ true → mid ≡ old ++ opened texts → new ≡ mid ++ codes ")" →
-    new ≡ old ++ bracket texts
+    is_open ≡ not (length texts == 0) → is_open ≡ true → mid ≡ old ++ open_bracket_text texts → new ≡ mid ++ codes ")" →
+    new ≡ old ++ bracket_text texts
 bracket-closed [] is_open old mid new begun some so_far last = cc
 bracket-closed (first ∷ others) is_open old mid new begun some so_far last =
     let filled : (length (first ∷ others) == 0) ≡ false = ne_eqb (length (first ∷ others)) 0 (omega arith) in
-    rw filled (more old mid new (opened (first ∷ others)) (codes ")") so_far last)
+    rw filled (more old mid new (open_bracket_text (first ∷ others)) (codes ")") so_far last)
 
 -- and there are none where there is none
 pub bracket-none : (texts : List (List ℕ)) (is_open : Bool) (old new : List ℕ) →
-    is_open ≡ not (length texts == 0) → is_open ≡ false → new ≡ old ++ opened texts → new ≡ old ++ bracket texts
+    is_open ≡ not (length texts == 0) → is_open ≡ false → new ≡ old ++ open_bracket_text texts → new ≡ old ++ bracket_text texts
 bracket-none [] is_open old new begun none so_far = so_far
 bracket-none (first ∷ others) is_open old new begun none so_far =
     let filled : (length (first ∷ others) == 0) ≡ false = ne_eqb (length (first ∷ others)) 0 (omega arith) in
@@ -69,19 +69,19 @@ bracket-none (first ∷ others) is_open old new begun none so_far =
 
 -- ---- the ways below one place more
 
-pub failures_below-none : (count : Way → ℕ) (place : ℕ) → count (way_at place) ≡ 0 →
-    failures_below count (place + 1) ≡ failures_below count place
-unfolding failures_below
-failures_below-none count place none = rw (add-one place, none) (append-nil (failures_below count place))
+pub failed_ways_below-none : (count : Way → ℕ) (place : ℕ) → count (way_at place) ≡ 0 →
+    failed_ways_below count (place + 1) ≡ failed_ways_below count place
+unfolding failed_ways_below
+failed_ways_below-none count place none = rw (add-one place, none) (append-nil (failed_ways_below count place))
 
-pub failures_below-some : (count : Way → ℕ) (place : ℕ) → 0 < count (way_at place) →
-    failures_below count (place + 1)
-    ≡ failures_below count place ++ (decimal (count (way_at place)) ++ codes " " ++ way_name (way_at place)) ∷ []
-unfolding failures_below
-failures_below-some count place some =
+pub failed_ways_below-some : (count : Way → ℕ) (place : ℕ) → 0 < count (way_at place) →
+    failed_ways_below count (place + 1)
+    ≡ failed_ways_below count place ++ (decimal (count (way_at place)) ++ codes " " ++ way_name (way_at place)) ∷ []
+unfolding failed_ways_below
+failed_ways_below-some count place some =
     let how = way_at place in
     let other : (count how == 0) ≡ false = ne_eqb (count how) 0 (omega arith) in
-    rw add-one (ap (λ t. failures_below count place
+    rw add-one (ap (λ t. failed_ways_below count place
     ++ cond t [] ((decimal (count how) ++ codes " " ++ way_name how) ∷ [])) other)
 
 pub is_begun : (texts : List (List ℕ)) (text : List ℕ) → true ≡ not (length (texts ++ text ∷ []) == 0)

@@ -10,12 +10,12 @@ use Rattle.rv_elf.specs.declared.image.Image.{Image}
 use Rattle.rv_elf.specs.declared.image.Segment.{Segment}
 use Rattle.rv_elf.specs.declared.loading.LoadAt.{LoadAt}
 use Rattle.rv_elf.specs.Image.{image_of}
-use Rattle.rv_elf.specs.Loading.{load_address, share}
+use Rattle.rv_elf.specs.Loading.{load_address, segments_overlap}
 use Rattle.rv_elf.specs.Symbols.{symbol_of}
 use Rattle.rv_expect.specs.Refusal.{unfit_segment}
 use Rattle.rv_jobs.specs.declared_job.Job.{Job}
 use Rattle.rv_jobs.specs.declared_job.Symbols.{Symbols}
-use Rattle.rv_text.specs.Shown.{shown}
+use Rattle.rv_text.specs.Printable.{printable_text}
 use Rattle.rv_memory.specs.declared.map.Region.{Region}
 use Rattle.rv_memory.specs.Regions.{in_one}
 use Rattle.rv_text.specs.Words.{word_digits}
@@ -23,16 +23,16 @@ use Rattle.rv_text.specs.Words.{word_digits}
 -- ---- addresses
 
 -- the last of so many addresses from one on, of which there is at least one
-unfoldable pub last_text : ℕ → ℕ → List ℕ
-last_text from count =
+unfoldable pub last_address_text : ℕ → ℕ → List ℕ
+last_address_text from count =
     if nat_lt (from + (count - 1)) (2 ^ 32) then word_digits (from + (count - 1))
     else codes "past ffffffff"
 
-abbrev pub range_text : ℕ → ℕ → List ℕ
-range_text from count = word_digits from ++ codes " to " ++ last_text from count
+abbrev pub address_range_text : ℕ → ℕ → List ℕ
+address_range_text from count = word_digits from ++ codes " to " ++ last_address_text from count
 
 abbrev pub region_text : Region → List ℕ
-region_text region = codes " [" ++ range_text region.base region.size ++ codes "]"
+region_text region = codes " [" ++ address_range_text region.base region.size ++ codes "]"
 
 unfoldable pub regions_text : List Region → List ℕ
 regions_text regions = flat_map region_text regions
@@ -41,110 +41,110 @@ regions_text regions = flat_map region_text regions
 
 -- what of a segment is outside: its memory, where its bytes in the file are inside, else these
 -- where they are loaded
-unfoldable pub outside_text : Bool → LoadAt → Segment → List ℕ
-outside_text true at segment =
-    codes "a segment's bytes in memory, " ++ range_text segment.vaddr segment.memsz
-outside_text false at segment =
-    codes "a segment's bytes from the file, " ++ range_text (load_address at segment) segment.filesz
+unfoldable pub outside_segment_text : Bool → LoadAt → Segment → List ℕ
+outside_segment_text true at segment =
+    codes "a segment's bytes in memory, " ++ address_range_text segment.vaddr segment.memsz
+outside_segment_text false at segment =
+    codes "a segment's bytes from the file, " ++ address_range_text (load_address at segment) segment.filesz
 
-unfoldable pub map_text : Job → Option Segment → List ℕ
-map_text job None = codes "a segment does not lie in one region"
-map_text job (Some segment) =
-    outside_text (in_one job.regions (load_address job.load segment) segment.filesz)
+unfoldable pub unfit_segment_text : Job → Option Segment → List ℕ
+unfit_segment_text job None = codes "a segment does not lie in one region"
+unfit_segment_text job (Some segment) =
+    outside_segment_text (in_one job.regions (load_address job.load segment) segment.filesz)
     job.load segment
     ++ codes ", do not lie in one region:" ++ regions_text job.regions
 
 -- the first segment that shares an address with a later one, and the first of those
-abbrev pub sharing_segments : LoadAt → List Segment → Option (Segment × Segment)
-sharing_segments at [] = None
-sharing_segments at (one ∷ others) =
-    option_or (option_map (λ other. (one, other)) (find (share at one) others))
-    (sharing_segments at others)
+abbrev pub overlapping_segments : LoadAt → List Segment → Option (Segment × Segment)
+overlapping_segments at [] = None
+overlapping_segments at (one ∷ others) =
+    option_or (option_map (λ other. (one, other)) (find (segments_overlap at one) others))
+    (overlapping_segments at others)
 
 -- where the file bytes of two segments are loaded
-unfoldable pub pair_text : LoadAt → Segment → Segment → List ℕ
-pair_text at one other =
-    range_text (load_address at one) one.filesz ++ codes " and "
-    ++ range_text (load_address at other) other.filesz
+unfoldable pub segment_pair_text : LoadAt → Segment → Segment → List ℕ
+segment_pair_text at one other =
+    address_range_text (load_address at one) one.filesz ++ codes " and "
+    ++ address_range_text (load_address at other) other.filesz
 
-unfoldable pub overlap_text : LoadAt → Option (Segment × Segment) → List ℕ
-overlap_text at None = codes "the file bytes of two segments share addresses"
-overlap_text at (Some pair) =
-    codes "the file bytes of two segments share addresses: " ++ pair_text at pair.0 pair.1
+unfoldable pub segment_overlap_text : LoadAt → Option (Segment × Segment) → List ℕ
+segment_overlap_text at None = codes "the file bytes of two segments share addresses"
+segment_overlap_text at (Some pair) =
+    codes "the file bytes of two segments share addresses: " ++ segment_pair_text at pair.0 pair.1
 
 -- ---- symbols
 
-unfoldable pub missing_text : Option (List ℕ) → List ℕ
-missing_text None = codes "a symbol of the signature is not defined"
-missing_text (Some name) = codes "no symbol " ++ shown name ++ codes " is defined"
+unfoldable pub missing_symbol_text : Option (List ℕ) → List ℕ
+missing_symbol_text None = codes "a symbol of the signature is not defined"
+missing_symbol_text (Some name) = codes "no symbol " ++ printable_text name ++ codes " is defined"
 
 -- the address of a symbol, where there is one
-abbrev pub address_of_text : Result ℕ ImageError → List ℕ
-address_of_text (Ok address) = codes " at " ++ word_digits address
-address_of_text (Err why) = []
+abbrev pub symbol_address_text : Result ℕ ImageError → List ℕ
+symbol_address_text (Ok address) = codes " at " ++ word_digits address
+symbol_address_text (Err why) = []
 
-unfoldable pub symbol_text : List ℕ → List ℕ → List ℕ
-symbol_text file name = shown name ++ address_of_text (symbol_of file name)
+unfoldable pub named_symbol_text : List ℕ → List ℕ → List ℕ
+named_symbol_text file name = printable_text name ++ symbol_address_text (symbol_of file name)
 
 -- from one symbol to another
-unfoldable pub ends_text : List ℕ → Symbols → List ℕ
-ends_text file names =
-    symbol_text file names.begin ++ codes " to " ++ symbol_text file names.end
+unfoldable pub signature_ends_text : List ℕ → Symbols → List ℕ
+signature_ends_text file names =
+    named_symbol_text file names.begin ++ codes " to " ++ named_symbol_text file names.end
 
 unfoldable pub signature_range_text : List Region → List ℕ → Option Symbols → List ℕ
 signature_range_text regions file None = codes "the signature is not whole words of one region"
 signature_range_text regions file (Some names) =
-    codes "the signature from " ++ ends_text file names
+    codes "the signature from " ++ signature_ends_text file names
     ++ codes " is not up to 65536 whole words of one region:" ++ regions_text regions
 
 -- ---- the reason
 
 -- the sentence for a refusal, of which no details are told
-unfoldable pub sentence : ImageError → List ℕ
-sentence image.ShortHeader = codes "the file is shorter than an ELF header"
-sentence image.BadMagic = codes "the file is no ELF file"
-sentence image.Not32Bit = codes "the file is not of 32 bits"
-sentence image.NotLittleEndian = codes "the file is not little-endian"
-sentence image.BadVersion = codes "the file's ELF version is not 1"
-sentence image.NotExecutable = codes "the file is not linked as an executable"
-sentence image.NotRiscv = codes "the file is not for RISC-V"
-sentence image.ProgramTable = codes "the program header table is bad or goes past the file"
-sentence image.Dynamic = codes "the file is linked dynamically"
-sentence image.SegmentSizes = codes "a segment has more bytes in the file than in memory"
-sentence image.SegmentFile = codes "the bytes of a segment go past the file"
-sentence image.NoSegment = codes "the file has no segment to load"
-sentence image.EntryOdd = codes "the entry is odd"
-sentence image.EntryAlign = codes "the entry is no multiple of 4"
-sentence image.SegmentMap = codes "a segment does not lie in one region"
-sentence image.SegmentOverlap = codes "the file bytes of two segments share addresses"
-sentence image.SectionTable = codes "the section header table is bad or goes past the file"
-sentence image.NoSymbols = codes "the file has no symbol table"
-sentence image.SymbolTable = codes "the symbol table is bad or goes past the file"
-sentence image.StringTable = codes "the symbols' names are missing or go past the file"
-sentence image.NoBegin = codes "a symbol of the signature is not defined"
-sentence image.NoEnd = codes "a symbol of the signature is not defined"
-sentence image.SignatureRange = codes "the signature is not whole words of one region"
-sentence image.OutOfMemory = codes "out of memory"
+unfoldable pub image_error_sentence : ImageError → List ℕ
+image_error_sentence image.ShortHeader = codes "the file is shorter than an ELF header"
+image_error_sentence image.BadMagic = codes "the file is no ELF file"
+image_error_sentence image.Not32Bit = codes "the file is not of 32 bits"
+image_error_sentence image.NotLittleEndian = codes "the file is not little-endian"
+image_error_sentence image.BadVersion = codes "the file's ELF version is not 1"
+image_error_sentence image.NotExecutable = codes "the file is not linked as an executable"
+image_error_sentence image.NotRiscv = codes "the file is not for RISC-V"
+image_error_sentence image.ProgramTable = codes "the program header table is bad or goes past the file"
+image_error_sentence image.Dynamic = codes "the file is linked dynamically"
+image_error_sentence image.SegmentSizes = codes "a segment has more bytes in the file than in memory"
+image_error_sentence image.SegmentFile = codes "the bytes of a segment go past the file"
+image_error_sentence image.NoSegment = codes "the file has no segment to load"
+image_error_sentence image.EntryOdd = codes "the entry is odd"
+image_error_sentence image.EntryAlign = codes "the entry is no multiple of 4"
+image_error_sentence image.SegmentMap = codes "a segment does not lie in one region"
+image_error_sentence image.SegmentOverlap = codes "the file bytes of two segments share addresses"
+image_error_sentence image.SectionTable = codes "the section header table is bad or goes past the file"
+image_error_sentence image.NoSymbols = codes "the file has no symbol table"
+image_error_sentence image.SymbolTable = codes "the symbol table is bad or goes past the file"
+image_error_sentence image.StringTable = codes "the symbols' names are missing or go past the file"
+image_error_sentence image.NoBegin = codes "a symbol of the signature is not defined"
+image_error_sentence image.NoEnd = codes "a symbol of the signature is not defined"
+image_error_sentence image.SignatureRange = codes "the signature is not whole words of one region"
+image_error_sentence image.OutOfMemory = codes "out of memory"
 
 -- the details of a refusal by the map, or of a signature, of an image that was read
-unfoldable pub image_text : Job → List ℕ → Image → ImageError → List ℕ
-image_text job file there image.SegmentMap =
-    map_text job (unfit_segment job there.segments)
-image_text job file there image.SegmentOverlap =
-    overlap_text job.load (sharing_segments job.load there.segments)
-image_text job file there image.SignatureRange =
+unfoldable pub image_details_text : Job → List ℕ → Image → ImageError → List ℕ
+image_details_text job file there image.SegmentMap =
+    unfit_segment_text job (unfit_segment job there.segments)
+image_details_text job file there image.SegmentOverlap =
+    segment_overlap_text job.load (overlapping_segments job.load there.segments)
+image_details_text job file there image.SignatureRange =
     signature_range_text job.regions file job.signature
-image_text job file there image.NoBegin =
-    missing_text (option_map (λ names. names.begin) job.signature)
-image_text job file there image.NoEnd =
-    missing_text (option_map (λ names. names.end) job.signature)
-image_text job file there why = sentence why
+image_details_text job file there image.NoBegin =
+    missing_symbol_text (option_map (λ names. names.begin) job.signature)
+image_details_text job file there image.NoEnd =
+    missing_symbol_text (option_map (λ names. names.end) job.signature)
+image_details_text job file there why = image_error_sentence why
 
 -- details are told of an image that can be read
-abbrev pub reason_text : Job → List ℕ → Result Image ImageError → ImageError → List ℕ
-reason_text job file (Ok there) why = image_text job file there why
-reason_text job file (Err other) why = sentence why
+abbrev pub image_reason_text : Job → List ℕ → Result Image ImageError → ImageError → List ℕ
+image_reason_text job file (Ok there) why = image_details_text job file there why
+image_reason_text job file (Err other) why = image_error_sentence why
 
 -- why the image of a file was refused for a job
 unfoldable pub image_reason : Job → List ℕ → ImageError → List ℕ
-image_reason job file why = reason_text job file (image_of job.isa file) why
+image_reason job file why = image_reason_text job file (image_of job.isa file) why

@@ -1,11 +1,11 @@
-pub mod Files
+pub mod ImageSymbols
 pub mod UnreadFiles
 pub mod UnmetLines
 pub mod MetLines
 pub mod ImageReasons
-pub mod Reasons
+pub mod RefusalReasons
 pub mod WayToEnd
 pub mod Telling
 pub mod ConsoleTail
 pub mod ResultLine
-pub mod LastLine
+pub mod TotalsLine

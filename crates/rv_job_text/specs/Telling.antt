@@ -3,8 +3,8 @@ use Rattle.std.specs.Prelude.{ℕ, List, [], ◌++◌, Option, Some, None, Bool,
 use Rattle.std.specs.Prelude.{if◌then◌else◌, slice_get}
 use Rattle.rv_expect.specs.declared.unmet.Unmet.{Unmet}
 use Rattle.rv_expect.specs.Comparisons.{Sides}
-use Rattle.rv_expect.specs.Planned.{sides_in, unmet_in}
-use Rattle.rv_files.specs.declared.noting.Unread.{Unread}
+use Rattle.rv_expect.specs.UnmetInPlan.{sides_in, unmet_in}
+use Rattle.rv_files.specs.declared.noting_store.Unread.{Unread}
 use Rattle.rv_jobs.specs.declared_job.Job.{Job}
 use Rattle.rv_jobs.specs.Plans.{Planned, kept_for}
 use Rattle.rv_expect.specs.declared.passing.Rule.{Rule}
@@ -14,16 +14,16 @@ use Rattle.rv_job_text.specs.ResultLine.{result_line}
 use Rattle.rv_job_text.specs.MetLines.{met_lines}
 use Rattle.rv_job_text.specs.UnmetLines.{unmet_lines}
 use Rattle.rv_rows.specs.declared_row.Row.{Row}
-use Rattle.rv_rows.specs.Rows.{bytes_in}
-use Rattle.rv_rows.specs.Verdict.{is_run}
+use Rattle.rv_rows.specs.Rows.{content_if_read}
+use Rattle.rv_rows.specs.Verdict.{did_run}
 use Rattle.rv_job_text.specs.declared.row_telling.RowTelling.{RowTelling}
 use Rattle.rv_job_text.specs.declared.verbosity.Detail.{Detail}
 use Rattle.rv_job_text.specs.declared.verbosity.Detail.TheVariants as detail
 use Rattle.rv_job_text.specs.declared.verbosity.Verbosity.{Verbosity}
 use Rattle.rv_job_text.specs.declared.verbosity.Verbosity.TheVariants.{Quiet, Failures, All}
-use Rattle.rv_job_text.specs.Files.{signature_begin, fault_symbol}
-use Rattle.rv_job_text.specs.Reasons.{reason_of}
-use Rattle.rv_job_text.specs.WayToEnd.{way_of}
+use Rattle.rv_job_text.specs.ImageSymbols.{signature_begin, fault_symbol}
+use Rattle.rv_job_text.specs.RefusalReasons.{ending_reason}
+use Rattle.rv_job_text.specs.WayToEnd.{optional_trace_text}
 use Rattle.rv_trace.specs.Trace.{trace_in}
 
 -- the rows of which plan are told, with what was noted of its paths, by which rule, how much of them,
@@ -46,26 +46,26 @@ telling_of telling = record {
 
 -- the bytes that the plan has of a job's image
 abbrev pub image_bytes : Planned → Job → Option (List ℕ)
-image_bytes plan job = bytes_in (Some (kept_for plan.answers job.image))
+image_bytes plan job = content_if_read (Some (kept_for plan.answers job.image))
 
 -- the address of the first word of a job's signature, where it is known
 abbrev pub signature_address : Planned → Job → Option ℕ
 signature_address plan job = signature_begin job.isa (image_bytes plan job) job.signature
 
 -- the line of a row: a fault's place by its symbol too, a refusal with its reason
-unfoldable pub line_of_row : Planned → List Unread → Rule → Job → Row → List ℕ
-line_of_row plan unread rule job row =
+unfoldable pub row_line : Planned → List Unread → Rule → Job → Row → List ℕ
+row_line plan unread rule job row =
     result_line rule row (fault_symbol job.isa (image_bytes plan job) row.ending)
-    (reason_of plan.answers unread job row.ending)
+    (ending_reason plan.answers unread job row.ending)
 
 -- how a run came to its end, with so many of its last instructions
-unfoldable pub way_lines : Planned → Job → Row → ℕ → List ℕ
-way_lines plan job row last = way_of job.isa (image_bytes plan job) row.ending
+unfoldable pub way_to_end_lines : Planned → Job → Row → ℕ → List ℕ
+way_to_end_lines plan job row last = optional_trace_text job.isa (image_bytes plan job) row.ending
     (trace_in plan job row.steps last)
 
-abbrev pub way_if_asked : Planned → Job → Row → Option ℕ → List ℕ
-way_if_asked plan job row None = []
-way_if_asked plan job row (Some last) = way_lines plan job row last
+abbrev pub way_to_end_if_asked : Planned → Job → Row → Option ℕ → List ℕ
+way_to_end_if_asked plan job row None = []
+way_to_end_if_asked plan job row (Some last) = way_to_end_lines plan job row last
 
 -- the expectations that a run does not meet, and behind them, where all are told, those that it does
 abbrev pub compared_lines : Detail → Option ℕ → Sides → List Unmet → List ℕ
@@ -83,45 +83,45 @@ expectation_lines which plan job row =
 unfoldable pub run_lines : Planned → Job → Row → Option ℕ → List ℕ
 run_lines plan job row last =
     expectation_lines detail.Unmet plan job row ++ (console_tail row.console
-    ++ way_if_asked plan job row last)
+    ++ way_to_end_if_asked plan job row last)
 
 -- what stands behind the line of a row that fails: nothing where the job did not run
-abbrev pub lines_behind : Planned → Job → Row → Option ℕ → List ℕ
-lines_behind plan job row last = if is_run row.ending then run_lines plan job row last else []
+abbrev pub lines_below_failure : Planned → Job → Row → Option ℕ → List ℕ
+lines_below_failure plan job row last = if did_run row.ending then run_lines plan job row last else []
 
 -- whether anything is told of a row that passed, or failed
-abbrev pub tells_of : Verbosity → Bool → Bool
-tells_of Quiet passed = false
-tells_of Failures passed = if passed then false else true
-tells_of All passed = true
+abbrev pub shows_row : Verbosity → Bool → Bool
+shows_row Quiet passed = false
+shows_row Failures passed = if passed then false else true
+shows_row All passed = true
 
-unfoldable pub told_of_row : Telling → Job → Row → List ℕ
-told_of_row telling job row =
-    if tells_of telling.verbosity (has_passed telling.rule row)
-    then line_of_row telling.plan telling.unread telling.rule job row
+unfoldable pub row_lines : Telling → Job → Row → List ℕ
+row_lines telling job row =
+    if shows_row telling.verbosity (has_passed telling.rule row)
+    then row_line telling.plan telling.unread telling.rule job row
     ++ (if has_passed telling.rule row then []
-    else lines_behind telling.plan job row telling.last)
+    else lines_below_failure telling.plan job row telling.last)
     else []
 
 -- of the row of the job at a place; nothing where there is no job
-abbrev pub told_of_job : Telling → Row → Option Job → List ℕ
-told_of_job telling row None = []
-told_of_job telling row (Some job) = told_of_row telling job row
+abbrev pub row_lines_of_job : Telling → Row → Option Job → List ℕ
+row_lines_of_job telling row None = []
+row_lines_of_job telling row (Some job) = row_lines telling job row
 
-unfoldable pub told_at : Telling → ℕ → Row → List ℕ
-told_at telling place row = told_of_job telling row (slice_get telling.plan.jobs place)
+unfoldable pub row_lines_at : Telling → ℕ → Row → List ℕ
+row_lines_at telling place row = row_lines_of_job telling row (slice_get telling.plan.jobs place)
 
 -- ---- a job that is explained
 
 -- every expectation, and how the run came to its end
-unfoldable pub explained_run : Planned → Job → Row → ℕ → List ℕ
-explained_run plan job row last =
-    expectation_lines detail.All plan job row ++ way_lines plan job row last
+unfoldable pub run_explanation : Planned → Job → Row → ℕ → List ℕ
+run_explanation plan job row last =
+    expectation_lines detail.All plan job row ++ way_to_end_lines plan job row last
 
-abbrev pub explained_if_run : Planned → Job → Row → ℕ → List ℕ
-explained_if_run plan job row last =
-    if is_run row.ending then explained_run plan job row last else []
+abbrev pub explanation_if_run : Planned → Job → Row → ℕ → List ℕ
+explanation_if_run plan job row last =
+    if did_run row.ending then run_explanation plan job row last else []
 
-unfoldable pub explained : Planned → List Unread → Rule → Job → Row → ℕ → List ℕ
-explained plan unread rule job row last =
-    line_of_row plan unread rule job row ++ explained_if_run plan job row last
+unfoldable pub explanation_text : Planned → List Unread → Rule → Job → Row → ℕ → List ℕ
+explanation_text plan unread rule job row last =
+    row_line plan unread rule job row ++ explanation_if_run plan job row last

@@ -14,12 +14,12 @@ use Rattle.rv_expect.specs.declared.difference.SignatureDifference.TheVariants a
 use Rattle.rv_expect.specs.declared.unmet.Unmet.{Unmet}
 use Rattle.rv_expect.specs.declared.unmet.Unmet.TheVariants as unmet
 use Rattle.rv_expect.specs.Comparisons.{Sides}
-use Rattle.rv_expect.specs.Reference.{words_or_none}
+use Rattle.rv_expect.specs.Reference.{signature_words_or_empty}
 use Rattle.rv_jobs.specs.declared_job.ExpectedConsole.{ExpectedConsole}
 use Rattle.rv_jobs.specs.declared_job.ExpectedConsole.TheVariants as console
 use Rattle.rv_jobs.specs.declared_job.ExpectedEnd.{ExpectedEnd}
 use Rattle.rv_jobs.specs.declared_job.ExpectedEnd.TheVariants as expected
-use Rattle.rv_text.specs.Shown.{shown, shown_value}
+use Rattle.rv_text.specs.Printable.{printable_text, printable_value}
 use Rattle.rv_machine.specs.Faults.{fault_name}
 use Rattle.rv_rows.specs.declared_row.Row.{Row}
 use Rattle.rv_rows.specs.declared_row.RowEnd.{RowEnd}
@@ -29,152 +29,152 @@ use Rattle.rv_text.specs.Words.{word_digits}
 
 -- ---- the exit code and the end
 
-unfoldable pub exit_text : Option ℕ → List ℕ
-exit_text None = codes "an exit"
-exit_text (Some code) = codes "exit " ++ decimal code
+unfoldable pub expected_exit_text : Option ℕ → List ℕ
+expected_exit_text None = codes "an exit"
+expected_exit_text (Some code) = codes "exit " ++ decimal code
 
-unfoldable pub end_text : Option ExpectedEnd → List ℕ
-end_text None = codes "another end"
-end_text (Some expected.Budget) = codes "the end budget"
-end_text (Some (expected.Fault kind)) = codes "the end " ++ fault_name kind
+unfoldable pub expected_end_text : Option ExpectedEnd → List ℕ
+expected_end_text None = codes "another end"
+expected_end_text (Some expected.Budget) = codes "the end budget"
+expected_end_text (Some (expected.Fault kind)) = codes "the end " ++ fault_name kind
 
 -- ---- bytes
 
 abbrev pub quoted_value : List ℕ → List ℕ
-quoted_value value = codes "\"" ++ shown_value value ++ codes "\""
+quoted_value value = codes "\"" ++ printable_value value ++ codes "\""
 
-unfoldable pub byte_text : ℕ → List ℕ → List ℕ → List ℕ
-byte_text place met wanted =
+unfoldable pub byte_difference_text : ℕ → List ℕ → List ℕ → List ℕ
+byte_difference_text place met wanted =
     codes "byte " ++ decimal place ++ codes " is " ++ quoted_value (drop place met)
     ++ codes ", expected " ++ quoted_value (drop place wanted)
 
 -- so many bytes or words were met
-unfoldable pub count_text : ℕ → List ℕ → ℕ → List ℕ
-count_text met what wanted =
+unfoldable pub count_difference_text : ℕ → List ℕ → ℕ → List ℕ
+count_difference_text met what wanted =
     codes "it has " ++ decimal met ++ what ++ codes ", expected " ++ decimal wanted
 
 -- what differs first between the bytes that were met and those that are wanted
-unfoldable pub bytes_text : Difference → List ℕ → List ℕ → List ℕ
-bytes_text (difference.At place) met wanted = byte_text place met wanted
-bytes_text difference.Lengths met wanted = count_text (length met) (codes " bytes") (length wanted)
-bytes_text difference.Absent met wanted = codes "it was not read"
+unfoldable pub bytes_difference_text : Difference → List ℕ → List ℕ → List ℕ
+bytes_difference_text (difference.At place) met wanted = byte_difference_text place met wanted
+bytes_difference_text difference.Lengths met wanted = count_difference_text (length met) (codes " bytes") (length wanted)
+bytes_difference_text difference.Absent met wanted = codes "it was not read"
 
 -- a console that is expected: the bytes of a job, or those of a file
-unfoldable pub expected_text :
+unfoldable pub expected_console_text :
     ExpectedConsole → Option (List ℕ) → List ℕ → Difference → List ℕ
-expected_text (console.Text text) file met difference =
-    codes "the console: " ++ bytes_text difference met text
-expected_text (console.File path) file met difference =
-    codes "the console of " ++ shown path ++ codes ": "
-    ++ bytes_text difference met (unwrap_or file [])
+expected_console_text (console.Text text) file met difference =
+    codes "the console: " ++ bytes_difference_text difference met text
+expected_console_text (console.File path) file met difference =
+    codes "the console of " ++ printable_text path ++ codes ": "
+    ++ bytes_difference_text difference met (unwrap_or file [])
 
-unfoldable pub console_text :
+unfoldable pub console_difference_text :
     Option ExpectedConsole → Option (List ℕ) → List ℕ → Difference → List ℕ
-console_text None file met difference = codes "no console"
-console_text (Some expected) file met difference = expected_text expected file met difference
+console_difference_text None file met difference = codes "no console"
+console_difference_text (Some expected) file met difference = expected_console_text expected file met difference
 
 -- ---- words
 
 -- the digits of the word at a place, if there is one
-unfoldable pub word_at : List ℕ → ℕ → List ℕ
-word_at words place =
+unfoldable pub signature_word_digits : List ℕ → ℕ → List ℕ
+signature_word_digits words place =
     if nat_lt place (length words) then word_digits (slice_index words place) else []
 
 -- the digits of the line at a place of a reference, if there is one: lines have nine bytes
-unfoldable pub digits_at : List ℕ → ℕ → List ℕ
-digits_at text place =
+unfoldable pub reference_digits_at : List ℕ → ℕ → List ℕ
+reference_digits_at text place =
     if nat_lt place (length text / 9) then slice_range text (place * 9) (place * 9 + 8) else []
 
 -- the address of the word at a place, where that of the first is known
-abbrev pub address_text : Option ℕ → ℕ → List ℕ
-address_text None place = []
-address_text (Some first) place =
+abbrev pub word_address_text : Option ℕ → ℕ → List ℕ
+word_address_text None place = []
+word_address_text (Some first) place =
     codes " (at " ++ word_digits ((first + 4 * place) % 2 ^ 32) ++ codes ")"
 
-unfoldable pub place_text : Option ℕ → ℕ → List ℕ
-place_text first place = codes "word " ++ decimal place ++ address_text first place ++ codes " is "
+unfoldable pub word_place_text : Option ℕ → ℕ → List ℕ
+word_place_text first place = codes "word " ++ decimal place ++ word_address_text first place ++ codes " is "
 
-abbrev pub word_text : Option ℕ → ℕ → List ℕ → List ℕ → List ℕ
-word_text first place met wanted = place_text first place ++ met ++ codes ", expected " ++ wanted
+abbrev pub word_difference_text : Option ℕ → ℕ → List ℕ → List ℕ → List ℕ
+word_difference_text first place met wanted = word_place_text first place ++ met ++ codes ", expected " ++ wanted
 
-unfoldable pub bad_line_text : ℕ → List ℕ → List ℕ
-bad_line_text number path =
-    codes "line " ++ decimal number ++ codes " of " ++ shown path
+unfoldable pub bad_reference_line_text : ℕ → List ℕ → List ℕ
+bad_reference_line_text number path =
+    codes "line " ++ decimal number ++ codes " of " ++ printable_text path
     ++ codes " is not eight lower-case digits and a line feed"
 
 -- what differs first between a signature and the reference at a path
-unfoldable pub reference_text :
+unfoldable pub reference_difference_text :
     Option ℕ → List ℕ → List ℕ → List ℕ → SignatureDifference → List ℕ
-reference_text first path words text (signature.Line number) = bad_line_text number path
-reference_text first path words text (signature.Word place) =
-    word_text first place (word_at words place) (shown (digits_at text place))
-reference_text first path words text signature.Count =
-    count_text (length words) (codes " words") (length text / 9)
-reference_text first path words text signature.Absent = codes "it was not read"
+reference_difference_text first path words text (signature.Line number) = bad_reference_line_text number path
+reference_difference_text first path words text (signature.Word place) =
+    word_difference_text first place (signature_word_digits words place) (printable_text (reference_digits_at text place))
+reference_difference_text first path words text signature.Count =
+    count_difference_text (length words) (codes " words") (length text / 9)
+reference_difference_text first path words text signature.Absent = codes "it was not read"
 
-unfoldable pub signature_text : Option ℕ → Option (List ℕ) → Option (List ℕ) → Option (List ℕ)
+unfoldable pub signature_difference_text : Option ℕ → Option (List ℕ) → Option (List ℕ) → Option (List ℕ)
     → SignatureDifference → List ℕ
-signature_text first None words bytes difference = codes "no signature"
-signature_text first (Some path) words bytes difference =
-    codes "the signature of " ++ shown path ++ codes ": "
-    ++ reference_text first path (words_or_none words) (unwrap_or bytes []) difference
+signature_difference_text first None words bytes difference = codes "no signature"
+signature_difference_text first (Some path) words bytes difference =
+    codes "the signature of " ++ printable_text path ++ codes ": "
+    ++ reference_difference_text first path (signature_words_or_empty words) (unwrap_or bytes []) difference
 
 -- ---- the named job
 
 -- how a run ended
-unfoldable pub ended_text : RowEnd → List ℕ
-ended_text (ending.Exit code) = codes "exit " ++ decimal code
-ended_text (ending.Fault kind pc value) = codes "fault " ++ fault_name kind
-ended_text ending.Budget = codes "its budget used up"
-ended_text (ending.Refused why) = codes "the refusal " ++ refusal_name why
+unfoldable pub row_end_text : RowEnd → List ℕ
+row_end_text (ending.Exit code) = codes "exit " ++ decimal code
+row_end_text (ending.Fault kind pc value) = codes "fault " ++ fault_name kind
+row_end_text ending.Budget = codes "its budget used up"
+row_end_text (ending.Refused why) = codes "the refusal " ++ refusal_name why
 
 -- one of two signatures is absent
-abbrev pub absent_text : Option (List ℕ) → List ℕ
-absent_text None = codes "there is none, expected one"
-absent_text (Some words) = codes "there is one, expected none"
+abbrev pub absent_signature_text : Option (List ℕ) → List ℕ
+absent_signature_text None = codes "there is none, expected one"
+absent_signature_text (Some words) = codes "there is one, expected none"
 
 -- what differs first between two signatures, of which one may be absent
-unfoldable pub signatures_text : Option ℕ → Option (List ℕ) → Option (List ℕ) → Difference → List ℕ
-signatures_text first words others (difference.At place) =
-    word_text first place (word_at (words_or_none words) place)
-    (word_at (words_or_none others) place)
-signatures_text first words others difference.Lengths =
-    count_text (length (words_or_none words)) (codes " words") (length (words_or_none others))
-signatures_text first words others difference.Absent = absent_text words
+unfoldable pub signatures_difference_text : Option ℕ → Option (List ℕ) → Option (List ℕ) → Difference → List ℕ
+signatures_difference_text first words others (difference.At place) =
+    word_difference_text first place (signature_word_digits (signature_words_or_empty words) place)
+    (signature_word_digits (signature_words_or_empty others) place)
+signatures_difference_text first words others difference.Lengths =
+    count_difference_text (length (signature_words_or_empty words)) (codes " words") (length (signature_words_or_empty others))
+signatures_difference_text first words others difference.Absent = absent_signature_text words
 
 -- what differs first between a row and that of the named job
-unfoldable pub rows_text : Option ℕ → Row → Row → SameDifference → List ℕ
-rows_text first row other same.Ending =
-    codes "it ended with " ++ ended_text other.ending ++ codes ", this with "
-    ++ ended_text row.ending
-rows_text first row other (same.Console difference) =
-    codes "console: " ++ bytes_text difference row.console other.console
-rows_text first row other (same.Signature difference) =
-    codes "signature: " ++ signatures_text first row.signature other.signature difference
-rows_text first row other same.Absent = codes "it was not run"
+unfoldable pub rows_difference_text : Option ℕ → Row → Row → SameDifference → List ℕ
+rows_difference_text first row other same.Ending =
+    codes "it ended with " ++ row_end_text other.ending ++ codes ", this with "
+    ++ row_end_text row.ending
+rows_difference_text first row other (same.Console difference) =
+    codes "console: " ++ bytes_difference_text difference row.console other.console
+rows_difference_text first row other (same.Signature difference) =
+    codes "signature: " ++ signatures_difference_text first row.signature other.signature difference
+rows_difference_text first row other same.Absent = codes "it was not run"
 
-unfoldable pub same_text : Option ℕ → Row → Option Row → SameDifference → List ℕ
-same_text first row None difference = codes "the same as another job, which was not run"
-same_text first row (Some other) difference =
-    codes "the same as " ++ shown other.name ++ codes ": " ++ rows_text first row other difference
+unfoldable pub same_difference_text : Option ℕ → Row → Option Row → SameDifference → List ℕ
+same_difference_text first row None difference = codes "the same as another job, which was not run"
+same_difference_text first row (Some other) difference =
+    codes "the same as " ++ printable_text other.name ++ codes ": " ++ rows_difference_text first row other difference
 
 -- ---- the line
 
 -- the address is that of the first word of the signature, where it is known
-unfoldable pub unmet_text : Option ℕ → Sides → Unmet → List ℕ
-unmet_text address sides unmet.Exit = exit_text sides.job.expect_exit
-unmet_text address sides unmet.End = end_text sides.job.expect_end
-unmet_text address sides (unmet.Console difference) =
-    console_text sides.job.expect_console sides.console sides.row.console difference
-unmet_text address sides (unmet.Signature difference) =
-    signature_text address sides.job.expect_signature sides.row.signature sides.reference difference
-unmet_text address sides (unmet.Same difference) =
-    same_text address sides.row sides.other difference
-unmet_text address sides unmet.Nothing = codes "exit 0, since it expects nothing else"
+unfoldable pub unmet_expectation_text : Option ℕ → Sides → Unmet → List ℕ
+unmet_expectation_text address sides unmet.Exit = expected_exit_text sides.job.expect_exit
+unmet_expectation_text address sides unmet.End = expected_end_text sides.job.expect_end
+unmet_expectation_text address sides (unmet.Console difference) =
+    console_difference_text sides.job.expect_console sides.console sides.row.console difference
+unmet_expectation_text address sides (unmet.Signature difference) =
+    signature_difference_text address sides.job.expect_signature sides.row.signature sides.reference difference
+unmet_expectation_text address sides (unmet.Same difference) =
+    same_difference_text address sides.row sides.other difference
+unmet_expectation_text address sides unmet.Nothing = codes "exit 0, since it expects nothing else"
 
 -- behind five spaces
 unfoldable pub unmet_line : Option ℕ → Sides → Unmet → List ℕ
-unmet_line address sides unmet = line (codes "     expected " ++ unmet_text address sides unmet)
+unmet_line address sides unmet = line (codes "     expected " ++ unmet_expectation_text address sides unmet)
 
 -- in their order
 abbrev pub unmet_lines : Option ℕ → Sides → List Unmet → List ℕ

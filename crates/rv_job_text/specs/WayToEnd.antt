@@ -9,15 +9,15 @@ use Rattle.rv_trace.specs.declared.trace.Trace.{Trace}
 use Rattle.rv_trace.specs.Text.{trace_text}
 
 -- the text of a trace, in a file that can be read as an image
-abbrev pub way_in_image : Result Image ImageError → List ℕ → Trace → RowEnd → List ℕ
-way_in_image (Ok image) file trace end = trace_text image file trace end
-way_in_image (Err why) file trace end = []
+abbrev pub trace_text_in_image : Result Image ImageError → List ℕ → Trace → RowEnd → List ℕ
+trace_text_in_image (Ok image) file trace end = trace_text image file trace end
+trace_text_in_image (Err why) file trace end = []
 
-unfoldable pub way_in_file : Isa → Option (List ℕ) → Trace → RowEnd → List ℕ
-way_in_file isa None trace end = []
-way_in_file isa (Some file) trace end = way_in_image (image_of isa file) file trace end
+unfoldable pub trace_text_in_file : Isa → Option (List ℕ) → Trace → RowEnd → List ℕ
+trace_text_in_file isa None trace end = []
+trace_text_in_file isa (Some file) trace end = trace_text_in_image (image_of isa file) file trace end
 
 -- where there is a trace
-abbrev pub way_of : Isa → Option (List ℕ) → RowEnd → Option Trace → List ℕ
-way_of isa file end None = []
-way_of isa file end (Some trace) = way_in_file isa file trace end
+abbrev pub optional_trace_text : Isa → Option (List ℕ) → RowEnd → Option Trace → List ℕ
+optional_trace_text isa file end None = []
+optional_trace_text isa file end (Some trace) = trace_text_in_file isa file trace end

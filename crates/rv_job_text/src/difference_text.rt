@@ -1,17 +1,17 @@
 //! What differs first between the bytes that were met and those that are expected, as text.
 
 ghost use Rattle.std.specs.Prelude.{◌≡◌, ◌++◌, [], OnOk, codes, option_map, unwrap_or};
-ghost use Rattle.rv_text.specs.Shown.{shown};
-ghost use Rattle.rv_job_text.specs.UnmetLines.{byte_text, bytes_text, console_text, count_text};
+ghost use Rattle.rv_text.specs.Printable.{printable_text};
+ghost use Rattle.rv_job_text.specs.UnmetLines.{byte_difference_text, bytes_difference_text, console_difference_text, count_difference_text};
 
 use rv_expect::Difference;
 use rv_jobs::ExpectedConsole;
-use rv_text::{Span, push_spans, push_text, sides_from};
+use rv_text::{Span, met_and_expected_from, push_spans, push_text};
 use std::alloc::AllocError;
 
 /// What differs from the console that is expected.
-#[tactic(auto, unfolding(crate::specs::UnmetLines::console_text, crate::specs::UnmetLines::expected_text))]
-pub(crate) fn push_console(
+#[tactic(auto, unfolding(crate::specs::UnmetLines::console_difference_text, crate::specs::UnmetLines::expected_console_text))]
+pub(crate) fn push_console_difference(
     bytes: &mut Vec<u8>,
     expected: &Option<ExpectedConsole>,
     file: Option<&[u8]>,
@@ -19,30 +19,30 @@ pub(crate) fn push_console(
     difference: Difference,
 ) -> Result<(), AllocError>
     ensures { OnOk result (bytes.new.items ≡ bytes.old.items
-        ++ console_text expected.now (option_map (λ bytes. bytes.now) file.entry) met.now
+        ++ console_difference_text expected.now (option_map (λ bytes. bytes.now) file.entry) met.now
         difference) }
 {
     match expected {
         Some(ExpectedConsole::Text(text)) => {
             push_text(bytes, "the console: ")?;
-            push_bytes(bytes, met, text.as_slice(), difference)
+            push_bytes_difference(bytes, met, text.as_slice(), difference)
         }
         Some(ExpectedConsole::File(path)) => {
-            push_topic(bytes, "the console of ", path.as_str())?;
-            push_bytes(bytes, met, bytes_or_none(file), difference)
+            push_compared_name(bytes, "the console of ", path.as_str())?;
+            push_bytes_difference(bytes, met, bytes_or_empty(file), difference)
         }
         None => push_text(bytes, "no console"),
     }
 }
 
 /// Says in front of what differs what is compared: its name is shown.
-pub(crate) fn push_topic(
+pub(crate) fn push_compared_name(
     bytes: &mut Vec<u8>,
     before: &'static str,
     name: &str,
 ) -> Result<(), AllocError>
     ensures { OnOk result (bytes.new.items ≡ bytes.old.items
-        ++ (before.now ++ shown name.now ++ codes ": ")) }
+        ++ (before.now ++ printable_text name.now ++ codes ": ")) }
 {
     push_spans(
         bytes,
@@ -54,7 +54,7 @@ pub(crate) fn push_topic(
     )
 }
 
-pub(crate) fn bytes_or_none(file: Option<&[u8]>) -> &[u8]
+pub(crate) fn bytes_or_empty(file: Option<&[u8]>) -> &[u8]
     ensures { result.now ≡ unwrap_or (option_map (λ bytes. bytes.now) file.entry) [] }
 {
     match file {
@@ -64,33 +64,33 @@ pub(crate) fn bytes_or_none(file: Option<&[u8]>) -> &[u8]
 }
 
 /// What differs between the bytes that were met and those that are wanted.
-#[tactic(auto, unfolding(crate::specs::UnmetLines::bytes_text))]
-pub(crate) fn push_bytes(
+#[tactic(auto, unfolding(crate::specs::UnmetLines::bytes_difference_text))]
+pub(crate) fn push_bytes_difference(
     bytes: &mut Vec<u8>,
     met: &[u8],
     wanted: &[u8],
     difference: Difference,
 ) -> Result<(), AllocError>
     ensures { OnOk result (bytes.new.items ≡ bytes.old.items
-        ++ bytes_text difference met.now wanted.now) }
+        ++ bytes_difference_text difference met.now wanted.now) }
 {
     match difference {
-        Difference::At(place) => push_byte(bytes, place, met, wanted),
-        Difference::Lengths => push_count(bytes, met.len(), " bytes", wanted.len()),
+        Difference::At(place) => push_byte_difference(bytes, place, met, wanted),
+        Difference::Lengths => push_count_difference(bytes, met.len(), " bytes", wanted.len()),
         Difference::Absent => push_text(bytes, "it was not read"),
     }
 }
 
-#[tactic(auto, unfolding(crate::specs::UnmetLines::byte_text))]
-fn push_byte<'a>(
+#[tactic(auto, unfolding(crate::specs::UnmetLines::byte_difference_text))]
+fn push_byte_difference<'a>(
     bytes: &mut Vec<u8>,
     place: usize,
     met: &'a [u8],
     wanted: &'a [u8],
 ) -> Result<(), AllocError>
-    ensures { OnOk result (bytes.new.items ≡ bytes.old.items ++ byte_text place met.now wanted.now) }
+    ensures { OnOk result (bytes.new.items ≡ bytes.old.items ++ byte_difference_text place met.now wanted.now) }
 {
-    let (met, wanted) = sides_from(place, met, wanted);
+    let (met, wanted) = met_and_expected_from(place, met, wanted);
     push_spans(
         bytes,
         &[
@@ -106,14 +106,14 @@ fn push_byte<'a>(
 }
 
 /// Says that so many bytes or words were met, and how many are wanted.
-#[tactic(auto, unfolding(crate::specs::UnmetLines::count_text))]
-pub(crate) fn push_count(
+#[tactic(auto, unfolding(crate::specs::UnmetLines::count_difference_text))]
+pub(crate) fn push_count_difference(
     bytes: &mut Vec<u8>,
     met: usize,
     what: &'static str,
     wanted: usize,
 ) -> Result<(), AllocError>
-    ensures { OnOk result (bytes.new.items ≡ bytes.old.items ++ count_text met what.now wanted) }
+    ensures { OnOk result (bytes.new.items ≡ bytes.old.items ++ count_difference_text met what.now wanted) }
 {
     push_spans(
         bytes,

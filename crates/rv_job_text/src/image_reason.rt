@@ -4,10 +4,10 @@ ghost use Rattle.std.specs.Prelude.{◌≡◌, ◌<◌, ◌++◌, IfSome, OnOk, 
 ghost use Rattle.rv_elf.specs.Image.{IsImageOf};
 ghost use Rattle.rv_elf.specs.Symbols.{symbol_of};
 ghost use Rattle.rv_text.specs.Spans.{span_text};
-ghost use Rattle.rv_job_text.specs.ImageReasons.{address_of_text, ends_text, image_reason, image_text, missing_text, sentence};
+ghost use Rattle.rv_job_text.specs.ImageReasons.{symbol_address_text, signature_ends_text, image_reason, image_details_text, missing_symbol_text, image_error_sentence};
 ghost use Rattle.rv_job_text.specs.ImageReasons.{signature_range_text};
 
-use crate::segment_reason::{push_overlap, push_regions, push_unfit};
+use crate::segment_reason::{push_regions, push_segment_overlap, push_unfit_segment};
 use rv_elf::{Image, ImageError, find_symbol, read_image};
 use rv_expect::unfit_segment;
 use rv_jobs::{Job, Symbols};
@@ -19,7 +19,7 @@ use std::alloc::{AllocError, Global};
 /// regions; for a symbol its name; else a sentence. A file that can't be read as an image has the sentence of its refusal
 /// alone. Takes memory for the image once more.
 #[tactic(auto, unfolding(crate::specs::ImageReasons::image_reason))]
-pub(crate) fn push_reason_of_image(
+pub(crate) fn push_image_reason(
     alloc: Global,
     bytes: &mut Vec<u8>,
     job: &Job,
@@ -32,14 +32,14 @@ pub(crate) fn push_reason_of_image(
         ≡ bytes.old.items ++ image_reason job.now file.now why) }
 {
     match read_image(alloc, file, job.isa) {
-        Ok(image) => push_reason(bytes, job, file, &image, why),
+        Ok(image) => push_image_details(bytes, job, file, &image, why),
         Err(ImageError::OutOfMemory) => Err(AllocError),
-        Err(_) => push_text(bytes, sentence(why)),
+        Err(_) => push_text(bytes, image_error_sentence(why)),
     }
 }
 
-#[tactic(auto, unfolding(crate::specs::ImageReasons::image_text))]
-fn push_reason(
+#[tactic(auto, unfolding(crate::specs::ImageReasons::image_details_text))]
+fn push_image_details(
     bytes: &mut Vec<u8>,
     job: &Job,
     file: &[u8],
@@ -50,25 +50,25 @@ fn push_reason(
     requires named { IfSome job.now.signature (λ names. (0 < length names.begin)
         × (0 < length names.end)) }
     ensures { OnOk result (bytes.new.items
-        ≡ bytes.old.items ++ image_text job.now file.now image.now why) }
+        ≡ bytes.old.items ++ image_details_text job.now file.now image.now why) }
 {
     let segments = image.segments.as_slice();
     match why {
-        ImageError::SegmentMap => push_unfit(bytes, job, unfit_segment(job, segments)),
-        ImageError::SegmentOverlap => push_overlap(bytes, job.load, segments),
+        ImageError::SegmentMap => push_unfit_segment(bytes, job, unfit_segment(job, segments)),
+        ImageError::SegmentOverlap => push_segment_overlap(bytes, job.load, segments),
         ImageError::SignatureRange => {
-            push_range_of(bytes, job.regions.as_slice(), file, image, &job.signature)
+            push_signature_range(bytes, job.regions.as_slice(), file, image, &job.signature)
         },
-        ImageError::NoBegin => push_missing(bytes, begin_of(&job.signature)),
-        ImageError::NoEnd => push_missing(bytes, end_of(&job.signature)),
-        _ => push_text(bytes, sentence(why)),
+        ImageError::NoBegin => push_missing_symbol(bytes, begin_symbol_name(&job.signature)),
+        ImageError::NoEnd => push_missing_symbol(bytes, end_symbol_name(&job.signature)),
+        _ => push_text(bytes, image_error_sentence(why)),
     }
 }
 
 // The sentence for a refusal, of which no details are told.
-#[tactic(auto, unfolding(crate::specs::ImageReasons::sentence))]
-fn sentence(why: ImageError) -> &'static str
-    ensures { result.now ≡ sentence why }
+#[tactic(auto, unfolding(crate::specs::ImageReasons::image_error_sentence))]
+fn image_error_sentence(why: ImageError) -> &'static str
+    ensures { result.now ≡ image_error_sentence why }
 {
     match why {
         ImageError::ShortHeader => "the file is shorter than an ELF header",
@@ -97,7 +97,7 @@ fn sentence(why: ImageError) -> &'static str
     }
 }
 
-fn begin_of(signature: &Option<Symbols>) -> Option<&[u8]>
+fn begin_symbol_name(signature: &Option<Symbols>) -> Option<&[u8]>
     ensures { option_map (λ name. name.now) result
         ≡ option_map (λ names. names.begin) signature.now }
 {
@@ -107,7 +107,7 @@ fn begin_of(signature: &Option<Symbols>) -> Option<&[u8]>
     }
 }
 
-fn end_of(signature: &Option<Symbols>) -> Option<&[u8]>
+fn end_symbol_name(signature: &Option<Symbols>) -> Option<&[u8]>
     ensures { option_map (λ name. name.now) result
         ≡ option_map (λ names. names.end) signature.now }
 {
@@ -117,10 +117,10 @@ fn end_of(signature: &Option<Symbols>) -> Option<&[u8]>
     }
 }
 
-#[tactic(auto, unfolding(crate::specs::ImageReasons::missing_text))]
-fn push_missing(bytes: &mut Vec<u8>, name: Option<&[u8]>) -> Result<(), AllocError>
+#[tactic(auto, unfolding(crate::specs::ImageReasons::missing_symbol_text))]
+fn push_missing_symbol(bytes: &mut Vec<u8>, name: Option<&[u8]>) -> Result<(), AllocError>
     ensures { OnOk result (bytes.new.items ≡ bytes.old.items
-        ++ missing_text (option_map (λ name. name.now) name.entry)) }
+        ++ missing_symbol_text (option_map (λ name. name.now) name.entry)) }
 {
     match name {
         Some(name) => push_spans(
@@ -136,7 +136,7 @@ fn push_missing(bytes: &mut Vec<u8>, name: Option<&[u8]>) -> Result<(), AllocErr
 }
 
 #[tactic(auto, unfolding(crate::specs::ImageReasons::signature_range_text))]
-fn push_range_of(
+fn push_signature_range(
     bytes: &mut Vec<u8>,
     regions: &[Region],
     file: &[u8],
@@ -151,7 +151,7 @@ fn push_range_of(
 {
     match signature {
         Some(names) => {
-            push_ends(bytes, file, image, names)?;
+            push_signature_ends(bytes, file, image, names)?;
             push_regions(bytes, regions)
         }
         None => push_text(bytes, "the signature is not whole words of one region"),
@@ -159,8 +159,8 @@ fn push_range_of(
 }
 
 // From one symbol to another.
-#[tactic(auto, unfolding(crate::specs::ImageReasons::ends_text, crate::specs::ImageReasons::symbol_text))]
-fn push_ends(
+#[tactic(auto, unfolding(crate::specs::ImageReasons::signature_ends_text, crate::specs::ImageReasons::named_symbol_text))]
+fn push_signature_ends(
     bytes: &mut Vec<u8>,
     file: &[u8],
     image: &Image,
@@ -170,13 +170,13 @@ fn push_ends(
     requires begins { 0 < length names.now.begin }
     requires ends { 0 < length names.now.end }
     ensures { OnOk result (bytes.new.items ≡ bytes.old.items
-        ++ (codes "the signature from " ++ ends_text file.now names.now
+        ++ (codes "the signature from " ++ signature_ends_text file.now names.now
         ++ codes " is not up to 65536 whole words of one region:")) }
 {
     let begin = names.begin.as_str().as_bytes();
     let end = names.end.as_str().as_bytes();
-    let (begin_at, begin_address) = address_of(file, image, begin);
-    let (end_at, end_address) = address_of(file, image, end);
+    let (begin_at, begin_address) = symbol_address_spans(file, image, begin);
+    let (end_at, load_end_address) = symbol_address_spans(file, image, end);
     push_spans(
         bytes,
         &[
@@ -187,18 +187,18 @@ fn push_ends(
             Span::Text(" to "),
             Span::Shown(end),
             end_at,
-            end_address,
+            load_end_address,
             Span::Text(" is not up to 65536 whole words of one region:"),
         ],
     )
 }
 
 // The address of a symbol, where there is one.
-fn address_of(file: &[u8], image: &Image, name: &[u8]) -> (Span<'static>, Span<'static>)
+fn symbol_address_spans(file: &[u8], image: &Image, name: &[u8]) -> (Span<'static>, Span<'static>)
     requires image { IsImageOf file.now image.now }
     requires named { 0 < length name.now }
     ensures { span_text result.0 ++ span_text result.1
-        ≡ address_of_text (symbol_of file.now name.now) }
+        ≡ symbol_address_text (symbol_of file.now name.now) }
 {
     match find_symbol(image, file, name) {
         Ok(address) => (Span::Text(" at "), Span::Word(address)),

@@ -2,36 +2,36 @@
 //! its run does not meet and the end of its console. Of an expectation it is told what was expected and what was met, and of
 //! a refused image why, with the addresses of segments beside the regions and the names of symbols.
 //!
-//! [`RowTelling`] is a [`Telling`](rv_stream::Telling) over a plan, and over what a store noted of the paths that it
+//! [`RowTelling`] is a [`Telling`](rv_rows::Telling) over a plan, and over what a store noted of the paths that it
 //! could not read. How much is told is a [`Verbosity`], and which rows pass a [`Rule`](rv_expect::Rule).
 //!
-//! [`push_result`] appends the line of a row alone, [`push_console_tail`] the end of its console, and [`push_last_line`] the
+//! [`push_result_line`] appends the line of a row alone, [`push_console_tail`] the end of its console, and [`push_totals_line`] the
 //! counts of all rows.
 #![tactic(auto)]
 
 mod console_tail;
 mod difference_text;
-mod files;
+mod failed_ways;
 mod image_reason;
+mod image_symbols;
 mod job_row;
-mod last_line;
 mod met_line;
 mod paths;
-mod reasons;
+mod refusal_reasons;
 mod result_line;
 mod row_telling;
 mod segment_reason;
-mod signature_text;
+mod signature_difference_text;
+mod totals_line;
 mod unmet_line;
 mod unread_files;
 mod verbosity;
 mod way_to_end;
-mod ways;
 
 pub use console_tail::{TAIL_BYTES, TAIL_LINES, push_console_tail};
-pub use last_line::push_last_line;
-pub use reasons::reason_of;
-pub use result_line::{EndDetail, push_result};
+pub use refusal_reasons::ending_reason;
+pub use result_line::{EndDetail, push_result_line};
 pub use row_telling::RowTelling;
-pub use unread_files::kind_text;
+pub use totals_line::push_totals_line;
+pub use unread_files::io_error_text;
 pub use verbosity::Verbosity;

@@ -3,11 +3,11 @@
 ghost use Rattle.std.specs.Prelude.{◌≡◌, ◌++◌, OnOk, option_map};
 ghost use Rattle.std.specs.List.{flat_map};
 ghost use Rattle.rv_expect.specs.Comparisons.{sides_of};
-ghost use Rattle.rv_job_text.specs.MetLines.{met_line, met_lines, met_text, named_text, path_text};
+ghost use Rattle.rv_job_text.specs.MetLines.{met_line, met_lines, met_expectation_text, same_as_job_text, optional_path_text};
 
 use crate::paths::{console_path, reference_path};
-use crate::unmet_line::{push_end, push_exit};
-use rv_expect::{Comparison, Expectation, Unmet, is_met};
+use crate::unmet_line::{push_expected_end, push_expected_exit};
+use rv_expect::{Comparison, Expectation, Unmet, is_expectation_met};
 use rv_rows::Row;
 use rv_text::{Span, push_spans, push_text};
 use std::alloc::AllocError;
@@ -15,7 +15,7 @@ use std::alloc::AllocError;
 /// Appends a line for each expectation of a job that its run meets, behind five spaces: for those that are not among the
 /// unmet ones.
 #[tactic(auto, unfolding(crate::specs::MetLines::met_lines))]
-pub(crate) fn push_all_met(
+pub(crate) fn push_met_lines(
     bytes: &mut Vec<u8>,
     comparison: &Comparison<'_, '_>,
     unmet: &[Unmet],
@@ -23,7 +23,7 @@ pub(crate) fn push_all_met(
     ensures { OnOk result (bytes.new.items
         ≡ bytes.old.items ++ met_lines (sides_of comparison.now) unmet.now) }
 {
-    push_each(
+    push_each_met_line(
         bytes,
         comparison,
         unmet,
@@ -38,7 +38,7 @@ pub(crate) fn push_all_met(
     )
 }
 
-fn push_each(
+fn push_each_met_line(
     bytes: &mut Vec<u8>,
     comparison: &Comparison<'_, '_>,
     unmet: &[Unmet],
@@ -48,13 +48,13 @@ fn push_each(
         ++ flat_map (met_line (sides_of comparison.now) unmet.now) expectations.now) }
 {
     for one in expectations {
-        push_met(bytes, comparison, unmet, *one)?;
+        push_met_line(bytes, comparison, unmet, *one)?;
     }
     Ok(())
 }
 
 #[tactic(auto, unfolding(crate::specs::MetLines::met_line))]
-fn push_met(
+fn push_met_line(
     bytes: &mut Vec<u8>,
     comparison: &Comparison<'_, '_>,
     unmet: &[Unmet],
@@ -63,41 +63,45 @@ fn push_met(
     ensures { OnOk result (bytes.new.items
         ≡ bytes.old.items ++ met_line (sides_of comparison.now) unmet.now one) }
 {
-    if !is_met(comparison.job, unmet, one) {
+    if !is_expectation_met(comparison.job, unmet, one) {
         return Ok(());
     }
     push_text(bytes, "     met: ")?;
-    push_expectation(bytes, comparison, one)?;
+    push_met_expectation(bytes, comparison, one)?;
     push_text(bytes, "\n")
 }
 
-#[tactic(auto, unfolding(crate::specs::MetLines::met_text))]
-fn push_expectation(
+#[tactic(auto, unfolding(crate::specs::MetLines::met_expectation_text))]
+fn push_met_expectation(
     bytes: &mut Vec<u8>,
     comparison: &Comparison<'_, '_>,
     one: Expectation,
 ) -> Result<(), AllocError>
     ensures { OnOk result (bytes.new.items
-        ≡ bytes.old.items ++ met_text (sides_of comparison.now) one) }
+        ≡ bytes.old.items ++ met_expectation_text (sides_of comparison.now) one) }
 {
     match one {
-        Expectation::Exit => push_exit(bytes, comparison.job.expect_exit),
-        Expectation::End => push_end(bytes, comparison.job.expect_end),
-        Expectation::Console => push_path(bytes, "the console", console_path(comparison.job)),
-        Expectation::Signature => push_path(bytes, "the signature", reference_path(comparison.job)),
-        Expectation::Same => push_named(bytes, comparison.other),
+        Expectation::Exit => push_expected_exit(bytes, comparison.job.expect_exit),
+        Expectation::End => push_expected_end(bytes, comparison.job.expect_end),
+        Expectation::Console => push_met_file(bytes, "the console", console_path(comparison.job)),
+        Expectation::Signature => push_met_file(
+            bytes,
+            "the signature",
+            reference_path(comparison.job),
+        ),
+        Expectation::Same => push_same_as_job(bytes, comparison.other),
         Expectation::Nothing => push_text(bytes, "exit 0, since it expects nothing else"),
     }
 }
 
 // Appends what is met, and the path that it is of, if it is of one.
-fn push_path<'a>(
+fn push_met_file<'a>(
     bytes: &mut Vec<u8>,
     what: &'a str,
     path: Option<&'a str>,
 ) -> Result<(), AllocError>
     ensures { OnOk result (bytes.new.items ≡ bytes.old.items
-        ++ (what.now ++ path_text (option_map (λ path. path.now) path.entry))) }
+        ++ (what.now ++ optional_path_text (option_map (λ path. path.now) path.entry))) }
 {
     let Some(path) = path else {
         return push_text(bytes, what);
@@ -112,10 +116,10 @@ fn push_path<'a>(
     )
 }
 
-#[tactic(auto, unfolding(crate::specs::MetLines::named_text))]
-fn push_named(bytes: &mut Vec<u8>, other: Option<&Row>) -> Result<(), AllocError>
+#[tactic(auto, unfolding(crate::specs::MetLines::same_as_job_text))]
+fn push_same_as_job(bytes: &mut Vec<u8>, other: Option<&Row>) -> Result<(), AllocError>
     ensures { OnOk result (bytes.new.items ≡ bytes.old.items
-        ++ named_text (option_map (λ row. row.now) other.entry)) }
+        ++ same_as_job_text (option_map (λ row. row.now) other.entry)) }
 {
     let Some(other) = other else {
         return push_text(bytes, "the same as another job");

@@ -6,16 +6,16 @@ ghost use Rattle.rv_expect.specs.Passing.{has_passed};
 ghost use Rattle.rv_machine.specs.Faults.{fault_name};
 ghost use Rattle.rv_rows.specs.Report.{refusal_name};
 ghost use Rattle.rv_text.specs.Words.{word_digits};
-ghost use Rattle.rv_job_text.specs.ResultLine.{ending_text, passing_word, reason_text};
-ghost use Rattle.rv_text.specs.Symbol.{place_text};
-ghost use Rattle.rv_job_text.specs.ResultLine.{result_line, steps_text};
+ghost use Rattle.rv_job_text.specs.ResultLine.{result_ending_text, pass_or_fail_word, optional_reason_text};
+ghost use Rattle.rv_text.specs.Symbol.{symbol_in_brackets};
+ghost use Rattle.rv_job_text.specs.ResultLine.{result_line, after_steps_text};
 ghost use Rattle.rv_text.specs.Symbol.{symbol_text};
 
 use rv_elf::SymbolAt;
 use rv_expect::{Rule, has_passed};
 use rv_machine::FaultKind;
 use rv_rows::{Refusal, Row, RowEnd};
-use rv_text::{Span, push_place, push_spans, push_text};
+use rv_text::{Span, push_spans, push_symbol_in_brackets, push_text};
 use std::alloc::{AllocError, Global};
 
 /// What is known of how a job ended, beside its row.
@@ -31,7 +31,7 @@ pub struct EndDetail<'a, 'b> {
 /// too where one is given, and a refusal by its reason where that is given. The symbol's name and the reason are shown as
 /// [`push_shown`](rv_text::push_shown) does.
 #[tactic(auto, unfolding(crate::specs::ResultLine::result_line))]
-pub fn push_result(
+pub fn push_result_line(
     alloc: Global,
     bytes: &mut Vec<u8>,
     rule: Rule,
@@ -43,7 +43,7 @@ pub fn push_result(
         (option_map (λ s. (s.name.now, s.offset)) detail.now.symbol)
         (option_map (λ text. text.now) detail.now.reason)) }
 {
-    let word = passing_word(rule, row);
+    let word = pass_or_fail_word(rule, row);
     push_spans(
         bytes,
         &[
@@ -52,12 +52,12 @@ pub fn push_result(
             Span::Text(": "),
         ],
     )?;
-    push_ending(alloc, bytes, row, detail.symbol, detail.reason)?;
+    push_result_ending(alloc, bytes, row, detail.symbol, detail.reason)?;
     push_text(bytes, "\n")
 }
 
-fn passing_word(rule: Rule, row: &Row) -> &'static str
-    ensures { result.now ≡ passing_word (has_passed rule row.now) }
+fn pass_or_fail_word(rule: Rule, row: &Row) -> &'static str
+    ensures { result.now ≡ pass_or_fail_word (has_passed rule row.now) }
 {
     if has_passed(rule, row) {
         "PASS "
@@ -66,8 +66,8 @@ fn passing_word(rule: Rule, row: &Row) -> &'static str
     }
 }
 
-#[tactic(auto, unfolding(crate::specs::ResultLine::ending_text))]
-fn push_ending(
+#[tactic(auto, unfolding(crate::specs::ResultLine::result_ending_text))]
+fn push_result_ending(
     alloc: Global,
     bytes: &mut Vec<u8>,
     row: &Row,
@@ -75,26 +75,26 @@ fn push_ending(
     reason: Option<&[u8]>,
 ) -> Result<(), AllocError>
     ensures { OnOk result (bytes.new.items ≡ bytes.old.items
-        ++ ending_text row.now.ending row.now.steps
+        ++ result_ending_text row.now.ending row.now.steps
         (option_map (λ s. (s.name.now, s.offset)) place.entry)
         (option_map (λ text. text.now) reason.entry)) }
 {
     let steps = row.steps;
     match row.ending {
-        RowEnd::Exit(code) => push_exit(bytes, code, steps),
+        RowEnd::Exit(code) => push_exit_ending(bytes, code, steps),
         RowEnd::Fault(kind, pc, value) => {
-            push_fault(bytes, kind, pc)?;
-            push_place(alloc, bytes, place)?;
-            push_value(bytes, value, steps)
+            push_fault_and_address(bytes, kind, pc)?;
+            push_symbol_in_brackets(alloc, bytes, place)?;
+            push_fault_value(bytes, value, steps)
         }
-        RowEnd::Budget => push_budget(bytes, steps),
-        RowEnd::Refused(why) => push_refusal(bytes, why, reason),
+        RowEnd::Budget => push_budget_ending(bytes, steps),
+        RowEnd::Refused(why) => push_refusal_ending(bytes, why, reason),
     }
 }
 
-fn push_exit(bytes: &mut Vec<u8>, code: u32, steps: u32) -> Result<(), AllocError>
+fn push_exit_ending(bytes: &mut Vec<u8>, code: u32, steps: u32) -> Result<(), AllocError>
     ensures { OnOk result (bytes.new.items ≡ bytes.old.items
-        ++ (codes "exit " ++ decimal code ++ steps_text steps)) }
+        ++ (codes "exit " ++ decimal code ++ after_steps_text steps)) }
 {
     push_spans(
         bytes,
@@ -109,7 +109,7 @@ fn push_exit(bytes: &mut Vec<u8>, code: u32, steps: u32) -> Result<(), AllocErro
 }
 
 // Appends the kind of a fault and its address.
-fn push_fault(bytes: &mut Vec<u8>, kind: FaultKind, pc: u32) -> Result<(), AllocError>
+fn push_fault_and_address(bytes: &mut Vec<u8>, kind: FaultKind, pc: u32) -> Result<(), AllocError>
     ensures { OnOk result (bytes.new.items ≡ bytes.old.items
         ++ (codes "fault " ++ fault_name kind ++ codes " at " ++ word_digits pc)) }
 {
@@ -125,9 +125,9 @@ fn push_fault(bytes: &mut Vec<u8>, kind: FaultKind, pc: u32) -> Result<(), Alloc
 }
 
 // Appends what a fault met, and after how many steps.
-fn push_value(bytes: &mut Vec<u8>, value: u32, steps: u32) -> Result<(), AllocError>
+fn push_fault_value(bytes: &mut Vec<u8>, value: u32, steps: u32) -> Result<(), AllocError>
     ensures { OnOk result (bytes.new.items ≡ bytes.old.items
-        ++ (codes ", value " ++ word_digits value ++ codes "," ++ steps_text steps)) }
+        ++ (codes ", value " ++ word_digits value ++ codes "," ++ after_steps_text steps)) }
 {
     push_spans(
         bytes,
@@ -141,9 +141,9 @@ fn push_value(bytes: &mut Vec<u8>, value: u32, steps: u32) -> Result<(), AllocEr
     )
 }
 
-fn push_budget(bytes: &mut Vec<u8>, steps: u32) -> Result<(), AllocError>
+fn push_budget_ending(bytes: &mut Vec<u8>, steps: u32) -> Result<(), AllocError>
     ensures { OnOk result (bytes.new.items ≡ bytes.old.items
-        ++ (codes "budget used up" ++ steps_text steps)) }
+        ++ (codes "budget used up" ++ after_steps_text steps)) }
 {
     push_spans(
         bytes,
@@ -155,10 +155,14 @@ fn push_budget(bytes: &mut Vec<u8>, steps: u32) -> Result<(), AllocError>
     )
 }
 
-fn push_refusal(bytes: &mut Vec<u8>, why: Refusal, reason: Option<&[u8]>) -> Result<(), AllocError>
+fn push_refusal_ending(
+    bytes: &mut Vec<u8>,
+    why: Refusal,
+    reason: Option<&[u8]>,
+) -> Result<(), AllocError>
     ensures { OnOk result (bytes.new.items ≡ bytes.old.items
         ++ (codes "refused " ++ refusal_name why
-        ++ reason_text (option_map (λ text. text.now) reason.entry))) }
+        ++ optional_reason_text (option_map (λ text. text.now) reason.entry))) }
 {
     let Some(reason) = reason else {
         return push_spans(bytes, &[Span::Text("refused "), Span::Text(why.name())]);

@@ -2,25 +2,24 @@
 
 ghost use Rattle.std.specs.Prelude.{◌≡◌, ◌<◌, ◌++◌, OnOk, length, option_map};
 ghost use Rattle.rv_expect.specs.Comparisons.{sides_of};
-ghost use Rattle.rv_expect.specs.Planned.{named_row};
+ghost use Rattle.rv_expect.specs.UnmetInPlan.{row_of_same_as_job};
 ghost use Rattle.rv_jobs.specs.declared_job.Job.{Job as AJob};
 ghost use Rattle.rv_trace.specs.Trace.{job_at};
-ghost use Rattle.rv_job_text.specs.Telling.{compared_lines, expectation_lines, explained, line_of_row};
-ghost use Rattle.rv_job_text.specs.Telling.{run_lines, telling_of, told_of_row};
+ghost use Rattle.rv_job_text.specs.Telling.{compared_lines, expectation_lines, explanation_text, row_line};
+ghost use Rattle.rv_job_text.specs.Telling.{run_lines, telling_of, row_lines};
 
 use crate::console_tail::push_console_tail;
-use crate::files::{fault_symbol, image_bytes, signature_begin};
+use crate::image_symbols::{fault_symbol, image_bytes, signature_begin};
 use crate::job_row::JobRow;
-use crate::met_line::push_all_met;
-use crate::reasons::reason_of;
-use crate::result_line::{EndDetail, push_result};
-use crate::unmet_line::push_all_unmet;
+use crate::met_line::push_met_lines;
+use crate::refusal_reasons::ending_reason;
+use crate::result_line::{EndDetail, push_result_line};
+use crate::unmet_line::push_unmet_lines;
 use crate::verbosity::{Detail, Verbosity};
-use rv_expect::{Comparison, Rule, Unmet, has_passed, named_row, unmet_expectations};
+use rv_expect::{Comparison, Rule, Unmet, has_passed, row_of_same_as_job, unmet_expectations};
 use rv_files::Unread;
 use rv_jobs::Plan;
-use rv_rows::{Row, console_bytes, is_run, reference_bytes};
-use rv_stream::Telling;
+use rv_rows::{Row, Telling, did_run, expected_console_bytes, signature_reference_bytes};
 use std::alloc::{AllocError, Global};
 
 /// Tells of the rows of a plan.
@@ -36,12 +35,12 @@ pub struct RowTelling<'a> {
 }
 
 impl<'a> Telling for RowTelling<'a> {
-    ghost use Rattle.rv_job_text.specs.Telling.{telling_of, told_at};
+    ghost use Rattle.rv_job_text.specs.Telling.{telling_of, row_lines_at};
 
-    ghost line = { λ telling place row. told_at (telling_of telling) place row };
+    ghost line = { λ telling place row. row_lines_at (telling_of telling) place row };
 
-    #[tactic(auto, unfolding(crate::specs::Telling::told_at))]
-    fn push(
+    #[tactic(auto, unfolding(crate::specs::Telling::row_lines_at))]
+    fn push_row_text(
         &self,
         alloc: Global,
         place: usize,
@@ -49,15 +48,15 @@ impl<'a> Telling for RowTelling<'a> {
         text: &mut Vec<u8>,
     ) -> Result<(), AllocError> {
         if place < self.plan.jobs() {
-            return self.push_row(alloc, place, row, text);
+            return self.push_row_lines(alloc, place, row, text);
         }
         Ok(())
     }
 }
 
 impl<'a> RowTelling<'a> {
-    #[tactic(auto, unfolding(crate::specs::Telling::told_of_row))]
-    fn push_row(
+    #[tactic(auto, unfolding(crate::specs::Telling::row_lines))]
+    fn push_row_lines(
         &self,
         alloc: Global,
         place: usize,
@@ -66,25 +65,25 @@ impl<'a> RowTelling<'a> {
     ) -> Result<(), AllocError>
         requires { place < length self.now.plan.now.jobs }
         ensures { OnOk result ((d : AJob) → text.new.items ≡ text.old.items
-            ++ told_of_row (telling_of self.now) (job_at self.now.plan.now place d) row.now) }
+            ++ row_lines (telling_of self.now) (job_at self.now.plan.now place d) row.now) }
     {
         let passed = has_passed(self.rule, row);
-        if !self.verbosity.tells_of(self.rule, row) {
+        if !self.verbosity.shows_row(self.rule, row) {
             return Ok(());
         }
-        self.push_line(alloc, place, row, text)?;
-        if passed || !is_run(row.ending) {
+        self.push_row_line(alloc, place, row, text)?;
+        if passed || !did_run(row.ending) {
             return Ok(());
         }
         let plan = self.plan;
-        JobRow { plan, place, row }.push_run(alloc, self.last, text)
+        JobRow { plan, place, row }.push_run_lines(alloc, self.last, text)
     }
 
     /// Appends what explains the row of the job at a place, whatever the verbosity: its line, and where the job ran every
     /// expectation, those that it does not meet first, and how it came to its end: the registers there, and so many of its
     /// last instructions.
-    #[tactic(auto, unfolding(crate::specs::Telling::explained, crate::specs::Telling::explained_run))]
-    pub fn push_explained(
+    #[tactic(auto, unfolding(crate::specs::Telling::explanation_text, crate::specs::Telling::run_explanation))]
+    pub fn push_job_explanation(
         &self,
         alloc: Global,
         place: usize,
@@ -94,22 +93,22 @@ impl<'a> RowTelling<'a> {
     ) -> Result<(), AllocError>
         requires { place < length self.now.plan.now.jobs }
         ensures { OnOk result ((d : AJob) → text.new.items ≡ text.old.items
-            ++ explained self.now.plan.now self.now.unread.now self.now.rule
+            ++ explanation_text self.now.plan.now self.now.unread.now self.now.rule
             (job_at self.now.plan.now place d) row.now last) }
     {
-        self.push_line(alloc, place, row, text)?;
-        if !is_run(row.ending) {
+        self.push_row_line(alloc, place, row, text)?;
+        if !did_run(row.ending) {
             return Ok(());
         }
         let plan = self.plan;
         let job_row = JobRow { plan, place, row };
-        job_row.push_expectations(alloc, Detail::All, text)?;
-        job_row.push_way(alloc, last, text)
+        job_row.push_expectation_lines(alloc, Detail::All, text)?;
+        job_row.push_way_to_end(alloc, last, text)
     }
 
     // Appends the line of the row of the job at a place.
-    #[tactic(auto, unfolding(crate::specs::Telling::line_of_row))]
-    fn push_line(
+    #[tactic(auto, unfolding(crate::specs::Telling::row_line))]
+    fn push_row_line(
         &self,
         alloc: Global,
         place: usize,
@@ -118,22 +117,22 @@ impl<'a> RowTelling<'a> {
     ) -> Result<(), AllocError>
         requires { place < length self.now.plan.now.jobs }
         ensures { OnOk result ((d : AJob) → text.new.items ≡ text.old.items
-            ++ line_of_row self.now.plan.now self.now.unread.now self.now.rule
+            ++ row_line self.now.plan.now self.now.unread.now self.now.rule
             (job_at self.now.plan.now place d) row.now) }
     {
         let (plan, rule) = (self.plan, self.rule);
         let isa = plan.job(place).isa;
         let symbol = fault_symbol(alloc, isa, image_bytes(plan, place), row.ending)?;
-        let reason = reason_of(alloc, plan, self.unread, place, row.ending)?;
+        let reason = ending_reason(alloc, plan, self.unread, place, row.ending)?;
         let detail = EndDetail {
             symbol,
-            reason: bytes_of(&reason),
+            reason: reason_bytes(&reason),
         };
-        push_result(alloc, text, rule, row, &detail)
+        push_result_line(alloc, text, rule, row, &detail)
     }
 }
 
-fn bytes_of(reason: &Option<Vec<u8>>) -> Option<&[u8]>
+fn reason_bytes(reason: &Option<Vec<u8>>) -> Option<&[u8]>
     ensures { option_map (λ bytes. bytes.now) result ≡ option_map (λ text. text.items) reason.now }
 {
     match reason {
@@ -145,7 +144,7 @@ fn bytes_of(reason: &Option<Vec<u8>>) -> Option<&[u8]>
 impl<'a> JobRow<'a> {
     // Appends the expectations that the run doesn't meet, the end of its console, and how it came to its end.
     #[tactic(auto, unfolding(crate::specs::Telling::run_lines))]
-    fn push_run(
+    fn push_run_lines(
         &self,
         alloc: Global,
         last: Option<u32>,
@@ -155,16 +154,16 @@ impl<'a> JobRow<'a> {
             ++ run_lines self.now.plan.now (job_at self.now.plan.now self.now.place d)
             self.now.row.now last) }
     {
-        self.push_expectations(alloc, Detail::Unmet, text)?;
+        self.push_expectation_lines(alloc, Detail::Unmet, text)?;
         push_console_tail(text, self.row.console.as_slice())?;
         match last {
-            Some(last) => self.push_way(alloc, last, text),
+            Some(last) => self.push_way_to_end(alloc, last, text),
             None => Ok(()),
         }
     }
 
     // Appends the expectations that are told of the run.
-    fn push_expectations(
+    fn push_expectation_lines(
         &self,
         alloc: Global,
         detail: Detail,
@@ -174,12 +173,12 @@ impl<'a> JobRow<'a> {
             ++ expectation_lines detail self.now.plan.now
             (job_at self.now.plan.now self.now.place d) self.now.row.now) }
     {
-        let named = named_row(alloc, self.plan, self.plan.job(self.place))?;
-        self.push_compared(alloc, named.as_ref(), detail, text)
+        let named = row_of_same_as_job(alloc, self.plan, self.plan.job(self.place))?;
+        self.push_compared_expectations(alloc, named.as_ref(), detail, text)
     }
 
     // The same, beside the row of the named job.
-    fn push_compared(
+    fn push_compared_expectations(
         &self,
         alloc: Global,
         other: Option<&Row>,
@@ -187,7 +186,7 @@ impl<'a> JobRow<'a> {
         text: &mut Vec<u8>,
     ) -> Result<(), AllocError>
         requires { (d : AJob) → option_map (λ row. row.now) other
-            ≡ named_row self.now.plan.now (job_at self.now.plan.now self.now.place d) }
+            ≡ row_of_same_as_job self.now.plan.now (job_at self.now.plan.now self.now.place d) }
         ensures { OnOk result ((d : AJob) → text.new.items ≡ text.old.items
             ++ expectation_lines detail self.now.plan.now
             (job_at self.now.plan.now self.now.place d) self.now.row.now) }
@@ -197,17 +196,17 @@ impl<'a> JobRow<'a> {
         let comparison = Comparison {
             job,
             row: self.row,
-            console: console_bytes(plan, place),
-            reference: reference_bytes(plan, place),
+            console: expected_console_bytes(plan, place),
+            reference: signature_reference_bytes(plan, place),
             other,
         };
         let address = signature_begin(alloc, job.isa, image_bytes(plan, place), &job.signature)?;
         let unmet = unmet_expectations(alloc, &comparison)?;
-        push_comparison(&comparison, address, unmet.as_slice(), detail, text)
+        push_compared_lines(&comparison, address, unmet.as_slice(), detail, text)
     }
 }
 
-fn push_comparison(
+fn push_compared_lines(
     comparison: &Comparison<'_, '_>,
     address: Option<u32>,
     unmet: &[Unmet],
@@ -217,9 +216,9 @@ fn push_comparison(
     ensures { OnOk result (text.new.items ≡ text.old.items
         ++ compared_lines detail address (sides_of comparison.now) unmet.now) }
 {
-    push_all_unmet(text, comparison, address, unmet)?;
+    push_unmet_lines(text, comparison, address, unmet)?;
     match detail {
         Detail::Unmet => Ok(()),
-        Detail::All => push_all_met(text, comparison, unmet),
+        Detail::All => push_met_lines(text, comparison, unmet),
     }
 }

@@ -2,31 +2,31 @@
 
 ghost use Rattle.std.specs.Prelude.{◌≡◌, ◌+◌, ◌++◌, OnOk, codes, option_map};
 ghost use Rattle.std.specs.List.{find};
-ghost use Rattle.rv_elf.specs.Loading.{load_address, share};
+ghost use Rattle.rv_elf.specs.Loading.{load_address, segments_overlap};
 ghost use Rattle.rv_memory.specs.Regions.{in_one};
 ghost use Rattle.rv_text.specs.Spans.{span_text};
-ghost use Rattle.rv_job_text.specs.ImageReasons.{last_text, map_text, outside_text, overlap_text, pair_text, range_text};
-ghost use Rattle.rv_job_text.specs.ImageReasons.{regions_text, sharing_segments};
+ghost use Rattle.rv_job_text.specs.ImageReasons.{last_address_text, unfit_segment_text, outside_segment_text, segment_overlap_text, segment_pair_text, address_range_text};
+ghost use Rattle.rv_job_text.specs.ImageReasons.{regions_text, overlapping_segments};
 
 use rv_elf::{LoadAt, Segment};
-use rv_expect::{is_file_inside, load_address};
+use rv_expect::{has_file_bytes_in_region, load_address};
 use rv_jobs::Job;
 use rv_memory::Region;
 use rv_text::{Span, push_spans, push_text};
 use std::alloc::AllocError;
 
-#[tactic(auto, unfolding(crate::specs::ImageReasons::map_text))]
-pub(crate) fn push_unfit(
+#[tactic(auto, unfolding(crate::specs::ImageReasons::unfit_segment_text))]
+pub(crate) fn push_unfit_segment(
     bytes: &mut Vec<u8>,
     job: &Job,
     segment: Option<&Segment>,
 ) -> Result<(), AllocError>
     ensures { OnOk result (bytes.new.items ≡ bytes.old.items
-        ++ map_text job.now (option_map (λ segment. segment.now) segment.entry)) }
+        ++ unfit_segment_text job.now (option_map (λ segment. segment.now) segment.entry)) }
 {
     match segment {
         Some(segment) => {
-            push_outside(bytes, job, segment)?;
+            push_outside_segment(bytes, job, segment)?;
             push_regions(bytes, job.regions.as_slice())
         }
         None => push_text(bytes, "a segment does not lie in one region"),
@@ -34,20 +34,20 @@ pub(crate) fn push_unfit(
 }
 
 // What of a segment is outside: its memory where its bytes from the file are inside, else these.
-#[tactic(auto, unfolding(crate::specs::ImageReasons::outside_text))]
-fn push_outside(bytes: &mut Vec<u8>, job: &Job, segment: &Segment) -> Result<(), AllocError>
+#[tactic(auto, unfolding(crate::specs::ImageReasons::outside_segment_text))]
+fn push_outside_segment(bytes: &mut Vec<u8>, job: &Job, segment: &Segment) -> Result<(), AllocError>
     ensures { OnOk result (bytes.new.items ≡ bytes.old.items
-        ++ (outside_text (in_one job.now.regions (load_address job.now.load segment.now)
+        ++ (outside_segment_text (in_one job.now.regions (load_address job.now.load segment.now)
         segment.now.filesz) job.now.load segment.now ++ codes ", do not lie in one region:")) }
 {
     let behind = ", do not lie in one region:";
-    let is_file_inside = is_file_inside(job, segment);
+    let is_file_inside = has_file_bytes_in_region(job, segment);
     if is_file_inside {
         let what = "a segment's bytes in memory, ";
-        push_range(bytes, what, segment.vaddr, segment.memsz, behind)
+        push_address_range(bytes, what, segment.vaddr, segment.memsz, behind)
     } else {
         let what = "a segment's bytes from the file, ";
-        push_range(
+        push_address_range(
             bytes,
             what,
             load_address(job.load, segment),
@@ -62,13 +62,13 @@ pub(crate) fn push_regions(bytes: &mut Vec<u8>, regions: &[Region]) -> Result<()
     ensures { OnOk result (bytes.new.items ≡ bytes.old.items ++ regions_text regions.now) }
 {
     for region in regions {
-        push_range(bytes, " [", region.base, region.size, "]")?;
+        push_address_range(bytes, " [", region.base, region.size, "]")?;
     }
     Ok(())
 }
 
 // So many addresses from one on, between texts.
-fn push_range(
+fn push_address_range(
     bytes: &mut Vec<u8>,
     before: &'static str,
     from: u32,
@@ -76,7 +76,7 @@ fn push_range(
     behind: &'static str,
 ) -> Result<(), AllocError>
     ensures { OnOk result
-        (bytes.new.items ≡ bytes.old.items ++ (before.now ++ range_text from count ++ behind.now)) }
+        (bytes.new.items ≡ bytes.old.items ++ (before.now ++ address_range_text from count ++ behind.now)) }
 {
     push_spans(
         bytes,
@@ -84,16 +84,16 @@ fn push_range(
             Span::Text(before),
             Span::Word(from),
             Span::Text(" to "),
-            last_of(from, count),
+            last_address_span(from, count),
             Span::Text(behind),
         ],
     )
 }
 
 // The last of so many addresses from one on.
-#[tactic(auto, unfolding(crate::specs::ImageReasons::last_text))]
-fn last_of(from: u32, count: u32) -> Span<'static>
-    ensures { span_text result ≡ last_text from count }
+#[tactic(auto, unfolding(crate::specs::ImageReasons::last_address_text))]
+fn last_address_span(from: u32, count: u32) -> Span<'static>
+    ensures { span_text result ≡ last_address_text from count }
 {
     match from.checked_add(count.saturating_sub(1)) {
         Some(last) => Span::Word(last),
@@ -101,24 +101,24 @@ fn last_of(from: u32, count: u32) -> Span<'static>
     }
 }
 
-#[tactic(auto, unfolding(crate::specs::ImageReasons::overlap_text))]
-pub(crate) fn push_overlap(
+#[tactic(auto, unfolding(crate::specs::ImageReasons::segment_overlap_text))]
+pub(crate) fn push_segment_overlap(
     bytes: &mut Vec<u8>,
     at: LoadAt,
     segments: &[Segment],
 ) -> Result<(), AllocError>
     ensures { OnOk result (bytes.new.items
-        ≡ bytes.old.items ++ overlap_text at (sharing_segments at segments.now)) }
+        ≡ bytes.old.items ++ segment_overlap_text at (overlapping_segments at segments.now)) }
 {
-    match sharing_segments(at, segments) {
-        Some((one, other)) => push_pair(bytes, at, &one, &other),
+    match overlapping_segments(at, segments) {
+        Some((one, other)) => push_segment_pair(bytes, at, &one, &other),
         None => push_text(bytes, "the file bytes of two segments share addresses"),
     }
 }
 
 // Says where the file bytes of two segments are loaded.
-#[tactic(auto, unfolding(crate::specs::ImageReasons::pair_text))]
-fn push_pair(
+#[tactic(auto, unfolding(crate::specs::ImageReasons::segment_pair_text))]
+fn push_segment_pair(
     bytes: &mut Vec<u8>,
     at: LoadAt,
     one: &Segment,
@@ -126,7 +126,7 @@ fn push_pair(
 ) -> Result<(), AllocError>
     ensures { OnOk result (bytes.new.items ≡ bytes.old.items
         ++ (codes "the file bytes of two segments share addresses: "
-        ++ pair_text at one.now other.now)) }
+        ++ segment_pair_text at one.now other.now)) }
 {
     let from = load_address(at, one);
     let other_from = load_address(at, other);
@@ -136,22 +136,22 @@ fn push_pair(
             Span::Text("the file bytes of two segments share addresses: "),
             Span::Word(from),
             Span::Text(" to "),
-            last_of(from, one.filesz),
+            last_address_span(from, one.filesz),
             Span::Text(" and "),
             Span::Word(other_from),
             Span::Text(" to "),
-            last_of(other_from, other.filesz),
+            last_address_span(other_from, other.filesz),
         ],
     )
 }
 
 // The first segment that shares an address with a later one, and the first of those.
-fn sharing_segments(at: LoadAt, segments: &[Segment]) -> Option<(Segment, Segment)>
-    ensures { result ≡ sharing_segments at segments.now }
+fn overlapping_segments(at: LoadAt, segments: &[Segment]) -> Option<(Segment, Segment)>
+    ensures { result ≡ overlapping_segments at segments.now }
 {
     let mut rest = segments;
     while let Some((one, others)) = rest.split_first() {
-        if let Some(other) = sharing_one(at, one, others) {
+        if let Some(other) = first_overlapping_segment(at, one, others) {
             return Some((*one, *other));
         }
         rest = others;
@@ -160,21 +160,27 @@ fn sharing_segments(at: LoadAt, segments: &[Segment]) -> Option<(Segment, Segmen
 }
 
 // The first of the others that shares an address with the one.
-fn sharing_one<'a>(at: LoadAt, one: &Segment, others: &'a [Segment]) -> Option<&'a Segment>
-    ensures { option_map (λ segment. segment.now) result ≡ find (share at one.now) others.now }
+fn first_overlapping_segment<'a>(
+    at: LoadAt,
+    one: &Segment,
+    others: &'a [Segment],
+) -> Option<&'a Segment>
+    ensures { option_map (λ segment. segment.now) result ≡ find (segments_overlap at one.now) others.now }
 {
-    others.iter().find(|other| share(at, one, other))
+    others
+        .iter()
+        .find(|other| are_segments_overlapping(at, one, other))
 }
 
-fn share(at: LoadAt, one: &Segment, other: &Segment) -> bool
-    ensures { result ≡ share at one.now other.now }
+fn are_segments_overlapping(at: LoadAt, one: &Segment, other: &Segment) -> bool
+    ensures { result ≡ segments_overlap at one.now other.now }
 {
     let start = load_address(at, one).max(load_address(at, other));
-    u64::from(start) < end_address(at, one).min(end_address(at, other))
+    u64::from(start) < load_end_address(at, one).min(load_end_address(at, other))
 }
 
 // The address past the last file byte.
-fn end_address(at: LoadAt, segment: &Segment) -> u64
+fn load_end_address(at: LoadAt, segment: &Segment) -> u64
     ensures { result ≡ load_address at segment.now + segment.now.filesz }
 {
     u64::from(load_address(at, segment)) + u64::from(segment.filesz)

@@ -2,11 +2,11 @@
 
 ghost use Rattle.std.specs.Prelude.{◌≡◌, ◌++◌, OnOk, option_map};
 ghost use Rattle.rv_expect.specs.Comparisons.{sides_of};
-ghost use Rattle.rv_job_text.specs.UnmetLines.{end_text, ended_text, exit_text, same_text, rows_text};
-ghost use Rattle.rv_job_text.specs.UnmetLines.{unmet_line, unmet_lines, unmet_text};
+ghost use Rattle.rv_job_text.specs.UnmetLines.{expected_end_text, row_end_text, expected_exit_text, same_difference_text, rows_difference_text};
+ghost use Rattle.rv_job_text.specs.UnmetLines.{unmet_line, unmet_lines, unmet_expectation_text};
 
-use crate::difference_text::{push_bytes, push_console, push_topic};
-use crate::signature_text::{push_signature, push_signatures};
+use crate::difference_text::{push_bytes_difference, push_compared_name, push_console_difference};
+use crate::signature_difference_text::{push_signature_difference, push_signatures_difference};
 use rv_expect::{Comparison, SameDifference, Unmet};
 use rv_jobs::ExpectedEnd;
 use rv_rows::{Row, RowEnd};
@@ -15,7 +15,7 @@ use std::alloc::AllocError;
 
 /// Appends a line for each expectation that is not met, behind five spaces. The address is that of the first word of the
 /// signature, where it is known.
-pub(crate) fn push_all_unmet(
+pub(crate) fn push_unmet_lines(
     bytes: &mut Vec<u8>,
     comparison: &Comparison<'_, '_>,
     address: Option<u32>,
@@ -25,14 +25,14 @@ pub(crate) fn push_all_unmet(
         ≡ bytes.old.items ++ unmet_lines address (sides_of comparison.now) unmet.now) }
 {
     for one in unmet {
-        push_unmet(bytes, comparison, address, *one)?;
+        push_unmet_line(bytes, comparison, address, *one)?;
     }
     Ok(())
 }
 
 // Appends the line of an expectation that is not met, behind five spaces.
 #[tactic(auto, unfolding(crate::specs::UnmetLines::unmet_line))]
-fn push_unmet(
+fn push_unmet_line(
     bytes: &mut Vec<u8>,
     comparison: &Comparison<'_, '_>,
     address: Option<u32>,
@@ -42,28 +42,28 @@ fn push_unmet(
         ≡ bytes.old.items ++ unmet_line address (sides_of comparison.now) unmet) }
 {
     push_text(bytes, "     expected ")?;
-    push_expectation(bytes, comparison, address, unmet)?;
+    push_unmet_expectation(bytes, comparison, address, unmet)?;
     push_text(bytes, "\n")
 }
 
-#[tactic(auto, unfolding(crate::specs::UnmetLines::unmet_text))]
-fn push_expectation(
+#[tactic(auto, unfolding(crate::specs::UnmetLines::unmet_expectation_text))]
+fn push_unmet_expectation(
     bytes: &mut Vec<u8>,
     comparison: &Comparison<'_, '_>,
     address: Option<u32>,
     unmet: Unmet,
 ) -> Result<(), AllocError>
     ensures { OnOk result (bytes.new.items
-        ≡ bytes.old.items ++ unmet_text address (sides_of comparison.now) unmet) }
+        ≡ bytes.old.items ++ unmet_expectation_text address (sides_of comparison.now) unmet) }
 {
     let job = comparison.job;
     let row = comparison.row;
     match unmet {
-        Unmet::Exit => push_exit(bytes, job.expect_exit),
-        Unmet::End => push_end(bytes, job.expect_end),
+        Unmet::Exit => push_expected_exit(bytes, job.expect_exit),
+        Unmet::End => push_expected_end(bytes, job.expect_end),
         Unmet::Console(difference) => {
             let met = row.console.as_slice();
-            push_console(
+            push_console_difference(
                 bytes,
                 &job.expect_console,
                 comparison.console,
@@ -71,16 +71,27 @@ fn push_expectation(
                 difference,
             )
         }
-        Unmet::Signature(difference) => push_signature(bytes, comparison, address, difference),
-        Unmet::Same(difference) => push_same(bytes, address, row, comparison.other, difference),
+        Unmet::Signature(difference) => push_signature_difference(
+            bytes, comparison, address, difference,
+        ),
+        Unmet::Same(difference) => push_same_difference(
+            bytes,
+            address,
+            row,
+            comparison.other,
+            difference,
+        ),
         Unmet::Nothing => push_text(bytes, "exit 0, since it expects nothing else"),
     }
 }
 
 /// Appends the end with an exit code.
-#[tactic(auto, unfolding(crate::specs::UnmetLines::exit_text))]
-pub(crate) fn push_exit(bytes: &mut Vec<u8>, expected: Option<u32>) -> Result<(), AllocError>
-    ensures { OnOk result (bytes.new.items ≡ bytes.old.items ++ exit_text expected) }
+#[tactic(auto, unfolding(crate::specs::UnmetLines::expected_exit_text))]
+pub(crate) fn push_expected_exit(
+    bytes: &mut Vec<u8>,
+    expected: Option<u32>,
+) -> Result<(), AllocError>
+    ensures { OnOk result (bytes.new.items ≡ bytes.old.items ++ expected_exit_text expected) }
 {
     match expected {
         Some(code) => push_spans(bytes, &[Span::Text("exit "), Span::Number(code as u64)]),
@@ -89,9 +100,12 @@ pub(crate) fn push_exit(bytes: &mut Vec<u8>, expected: Option<u32>) -> Result<()
 }
 
 /// Appends another end.
-#[tactic(auto, unfolding(crate::specs::UnmetLines::end_text))]
-pub(crate) fn push_end(bytes: &mut Vec<u8>, expected: Option<ExpectedEnd>) -> Result<(), AllocError>
-    ensures { OnOk result (bytes.new.items ≡ bytes.old.items ++ end_text expected) }
+#[tactic(auto, unfolding(crate::specs::UnmetLines::expected_end_text))]
+pub(crate) fn push_expected_end(
+    bytes: &mut Vec<u8>,
+    expected: Option<ExpectedEnd>,
+) -> Result<(), AllocError>
+    ensures { OnOk result (bytes.new.items ≡ bytes.old.items ++ expected_end_text expected) }
 {
     match expected {
         Some(ExpectedEnd::Budget) => push_text(bytes, "the end budget"),
@@ -103,8 +117,8 @@ pub(crate) fn push_end(bytes: &mut Vec<u8>, expected: Option<ExpectedEnd>) -> Re
 }
 
 // What differs from the job that this one names.
-#[tactic(auto, unfolding(crate::specs::UnmetLines::same_text))]
-fn push_same(
+#[tactic(auto, unfolding(crate::specs::UnmetLines::same_difference_text))]
+fn push_same_difference(
     bytes: &mut Vec<u8>,
     first: Option<u32>,
     row: &Row,
@@ -112,17 +126,17 @@ fn push_same(
     difference: SameDifference,
 ) -> Result<(), AllocError>
     ensures { OnOk result (bytes.new.items ≡ bytes.old.items
-        ++ same_text first row.now (option_map (λ row. row.now) other.entry) difference) }
+        ++ same_difference_text first row.now (option_map (λ row. row.now) other.entry) difference) }
 {
     let Some(other) = other else {
         return push_text(bytes, "the same as another job, which was not run");
     };
-    push_topic(bytes, "the same as ", other.name.as_str())?;
-    push_rows(bytes, first, row, other, difference)
+    push_compared_name(bytes, "the same as ", other.name.as_str())?;
+    push_rows_difference(bytes, first, row, other, difference)
 }
 
-#[tactic(auto, unfolding(crate::specs::UnmetLines::rows_text))]
-fn push_rows(
+#[tactic(auto, unfolding(crate::specs::UnmetLines::rows_difference_text))]
+fn push_rows_difference(
     bytes: &mut Vec<u8>,
     first: Option<u32>,
     row: &Row,
@@ -130,16 +144,16 @@ fn push_rows(
     difference: SameDifference,
 ) -> Result<(), AllocError>
     ensures { OnOk result (bytes.new.items ≡ bytes.old.items
-        ++ rows_text first row.now other.now difference) }
+        ++ rows_difference_text first row.now other.now difference) }
 {
     match difference {
         SameDifference::Ending => {
-            push_ended(bytes, "it ended with ", other.ending)?;
-            push_ended(bytes, ", this with ", row.ending)
+            push_row_end(bytes, "it ended with ", other.ending)?;
+            push_row_end(bytes, ", this with ", row.ending)
         }
         SameDifference::Console(difference) => {
             push_text(bytes, "console: ")?;
-            push_bytes(
+            push_bytes_difference(
                 bytes,
                 row.console.as_slice(),
                 other.console.as_slice(),
@@ -148,16 +162,16 @@ fn push_rows(
         }
         SameDifference::Signature(difference) => {
             push_text(bytes, "signature: ")?;
-            push_signatures(bytes, first, &row.signature, &other.signature, difference)
+            push_signatures_difference(bytes, first, &row.signature, &other.signature, difference)
         }
         SameDifference::Absent => push_text(bytes, "it was not run"),
     }
 }
 
 // How a run ended, behind a text: in which way, and with what.
-#[tactic(auto, unfolding(crate::specs::UnmetLines::ended_text))]
-fn push_ended(bytes: &mut Vec<u8>, before: &'static str, ending: RowEnd) -> Result<(), AllocError>
-    ensures { OnOk result (bytes.new.items ≡ bytes.old.items ++ (before.now ++ ended_text ending)) }
+#[tactic(auto, unfolding(crate::specs::UnmetLines::row_end_text))]
+fn push_row_end(bytes: &mut Vec<u8>, before: &'static str, ending: RowEnd) -> Result<(), AllocError>
+    ensures { OnOk result (bytes.new.items ≡ bytes.old.items ++ (before.now ++ row_end_text ending)) }
 {
     let before = Span::Text(before);
     match ending {

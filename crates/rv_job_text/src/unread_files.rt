@@ -1,36 +1,36 @@
 //! What is told of a file that was not read.
 
 ghost use Rattle.std.specs.Prelude.{◌≡◌, IfOk, option_map};
-ghost use Rattle.rv_job_text.specs.UnreadFiles.{kind_text, long_text, noted_of_path, noted_text, unread_text};
+ghost use Rattle.rv_job_text.specs.UnreadFiles.{io_error_text, long_file_text, unread_note, unread_note_text, unread_file_text};
 
 use rv_files::Unread;
 use rv_jobs::limits::MOST_BYTES;
-use rv_text::{Span, text_of};
+use rv_text::{Span, text_of_spans};
 use std::alloc::{AllocError, Global};
 use std::io::ErrorKind;
 
 /// A path, and why its file was unreadable.
-#[tactic(auto, unfolding(crate::specs::UnreadFiles::unread_text))]
-pub(crate) fn unread_text(
+#[tactic(auto, unfolding(crate::specs::UnreadFiles::unread_file_text))]
+pub(crate) fn unread_file_text(
     alloc: Global,
     unread: &[Unread],
     path: &str,
 ) -> Result<Vec<u8>, AllocError>
-    ensures { IfOk result (λ text. text.items ≡ unread_text unread.now path.now) }
+    ensures { IfOk result (λ text. text.items ≡ unread_file_text unread.now path.now) }
 {
-    let why = noted_text(noted_of_path(unread, path));
-    text_of(
+    let why = unread_note_text(unread_note(unread, path));
+    text_of_spans(
         alloc,
         &[Span::Text(path), Span::Text(": "), Span::Text(why)],
     )
 }
 
 /// A path, and that its file is too long.
-#[tactic(auto, unfolding(crate::specs::UnreadFiles::long_text))]
-pub(crate) fn long_text(alloc: Global, path: &str) -> Result<Vec<u8>, AllocError>
-    ensures { IfOk result (λ text. text.items ≡ long_text path.now) }
+#[tactic(auto, unfolding(crate::specs::UnreadFiles::long_file_text))]
+pub(crate) fn long_file_text(alloc: Global, path: &str) -> Result<Vec<u8>, AllocError>
+    ensures { IfOk result (λ text. text.items ≡ long_file_text path.now) }
 {
-    text_of(
+    text_of_spans(
         alloc,
         &[
             Span::Text(path),
@@ -42,25 +42,25 @@ pub(crate) fn long_text(alloc: Global, path: &str) -> Result<Vec<u8>, AllocError
 }
 
 // The first that was noted of a path.
-fn noted_of_path<'a>(unread: &'a [Unread], path: &str) -> Option<&'a Unread>
-    ensures { option_map (λ one. one.now) result ≡ noted_of_path unread.now path.now }
+fn unread_note<'a>(unread: &'a [Unread], path: &str) -> Option<&'a Unread>
+    ensures { option_map (λ one. one.now) result ≡ unread_note unread.now path.now }
 {
     unread.iter().find(|one| path == one.path.as_str())
 }
 
-fn noted_text(noted: Option<&Unread>) -> &'static str
-    ensures { result.now ≡ noted_text (option_map (λ one. one.now) noted.entry) }
+fn unread_note_text(noted: Option<&Unread>) -> &'static str
+    ensures { result.now ≡ unread_note_text (option_map (λ one. one.now) noted.entry) }
 {
     match noted {
-        Some(one) => kind_text(one.reason),
+        Some(one) => io_error_text(one.reason),
         None => "not readable",
     }
 }
 
 /// What the system said when a file was opened or read.
-#[tactic(auto, unfolding(crate::specs::UnreadFiles::kind_text))]
-pub fn kind_text(kind: ErrorKind) -> &'static str
-    ensures { result.now ≡ kind_text kind }
+#[tactic(auto, unfolding(crate::specs::UnreadFiles::io_error_text))]
+pub fn io_error_text(kind: ErrorKind) -> &'static str
+    ensures { result.now ≡ io_error_text kind }
 {
     match kind {
         ErrorKind::NotFound => "missing",

@@ -2,7 +2,7 @@
 
 ghost use Rattle.std.specs.Prelude.{◌≡◌};
 ghost use Rattle.rv_expect.specs.Passing.{has_passed};
-ghost use Rattle.rv_job_text.specs.Telling.{tells_of};
+ghost use Rattle.rv_job_text.specs.Telling.{shows_row};
 
 use rv_expect::{Rule, has_passed};
 use rv_rows::Row;
@@ -29,8 +29,8 @@ pub(crate) enum Detail {
 
 impl Verbosity {
     /// Whether anything is told of a row, by whether the rule lets it pass.
-    pub(crate) fn tells_of(self, rule: Rule, row: &Row) -> bool
-        ensures { result ≡ tells_of self (has_passed rule row.now) }
+    pub(crate) fn shows_row(self, rule: Rule, row: &Row) -> bool
+        ensures { result ≡ shows_row self (has_passed rule row.now) }
     {
         match self {
             Verbosity::Quiet => false,

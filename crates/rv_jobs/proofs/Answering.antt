@@ -13,35 +13,35 @@ use Rattle.rv_lists.specs.declared.job.Job.{Job}
 use Rattle.rv_jobs.specs.declared.kept.Kept.{Kept}
 use Rattle.rv_jobs.specs.declared.kept.Kept.TheVariants.{Unreadable}
 use Rattle.rv_jobs.specs.declared.answers.Answer.{Answer}
-use Rattle.rv_jobs.specs.declared.asking.Places.{Places}
-use Rattle.rv_lists.specs.JobList.{place_in}
+use Rattle.rv_jobs.specs.declared.path_reading.Places.{Places}
+use Rattle.rv_base.specs.Names.{place_in}
 use Rattle.rv_base.specs.Files.{FileContents}
 use Rattle.rv_jobs.specs.Kept.{IsKeptOf, is_unreadable, faults_with}
 use Rattle.rv_base.specs.Counts.{one_more}
 use Rattle.rv_lists.specs.Jobs.{console_path}
-use Rattle.rv_jobs.specs.Plans.{paths_of, answers_with, with_path, with_path_if, with_job, kept_of}
-use Rattle.rv_jobs.specs.Plans.{AreKept, kept_for, unreadables, more}
+use Rattle.rv_jobs.specs.Plans.{paths_of, answers_with, with_path, with_path_if, with_job, kept_of_path}
+use Rattle.rv_jobs.specs.Plans.{AreKept, kept_for, unreadable_count, one_more_times}
 use Rattle.rv_jobs.specs.Placed.{ArePlaced, IsFound}
-use Rattle.rv_lists.proofs.Public.{place_below, place_last}
+use Rattle.rv_base.proofs.Public.{place_below, place_last}
 use Rattle.std.proofs.lemmas.Slice.Eq.{bytes_eq-Decides}
 
 -- ---- what is kept of a path
 
-found_at : (b : Bool) (o : Option ℕ) (a : Answer) (ans : List Answer) (f : Option Answer) (k : ℕ) (d : Answer)
+answer_places_of_job : (b : Bool) (o : Option ℕ) (a : Answer) (ans : List Answer) (f : Option Answer) (k : ℕ) (d : Answer)
     → ((j : ℕ) → o ≡ Some j → option_map (λ (x : Answer). x.kept) f ≡ Some (get_or ans j d).kept)
     → cond b (Some 0) (option_map (λ j. j + 1) o) ≡ Some k
     → option_map (λ (x : Answer). x.kept) (cond b (Some a) f) ≡ Some (get_or (a ∷ ans) k d).kept
-found_at true o a ans f k d ih e = let z : 0 ≡ k = cc in ap (λ j. Some (get_or (a ∷ ans) j d).kept) z
-found_at false None a ans f k d ih e = cc
-found_at false (Some j) a ans f k d ih e = let z : j + 1 ≡ k = cc in let s : suc j ≡ k = omega arith in ih j refl
+answer_places_of_job true o a ans f k d ih e = let z : 0 ≡ k = cc in ap (λ j. Some (get_or (a ∷ ans) j d).kept) z
+answer_places_of_job false None a ans f k d ih e = cc
+answer_places_of_job false (Some j) a ans f k d ih e = let z : j + 1 ≡ k = cc in let s : suc j ≡ k = omega arith in ih j refl
     ∙ ap (λ i. Some (get_or (a ∷ ans) i d).kept) s
 
 -- the answer at the place of the path
 pub kept_at : (ans : List Answer) (p : List ℕ) (k : ℕ) (d : Answer) → place_in (paths_of ans) p ≡ Some k
-    → kept_of ans p ≡ Some (get_or ans k d).kept
+    → kept_of_path ans p ≡ Some (get_or ans k d).kept
 unfolding place_in
 kept_at [] p k d e = cc
-kept_at (a ∷ ans) p k d e = found_at (bytes_eq p a.path) (place_in (paths_of ans) p) a ans
+kept_at (a ∷ ans) p k d e = answer_places_of_job (bytes_eq p a.path) (place_in (paths_of ans) p) a ans
     (find (λ (x : Answer). bytes_eq p x.path) ans) k d (λ j h. kept_at ans p j d h) e
 
 absent : (b : Bool) (o : Option ℕ) (a : Answer) (f : Option Answer)
@@ -138,11 +138,11 @@ below_length (Some j) k n m e is h = let z : k ≡ j = cc in omega arith
 abbrev pub one_answer : List Answer → List ℕ → Kept → List Answer
 one_answer old p kept = old ++ record { path = p; kept = kept } ∷ []
 
-counted_at : (b : Bool) (n u before after : ℕ) → before ≡ more n u → after ≡ cond b (one_more before) before
-    → after ≡ more n (u + cond b 1 0)
-unfolding more
-counted_at true n u before after e f = f ∙ ap one_more e ∙ ap (more n) (let s : suc u ≡ u + 1 = omega arith in s)
-counted_at false n u before after e f = f ∙ e ∙ ap (more n) (let s : u ≡ u + 0 = omega arith in s)
+counted_at : (b : Bool) (n u before after : ℕ) → before ≡ one_more_times n u → after ≡ cond b (one_more before) before
+    → after ≡ one_more_times n (u + cond b 1 0)
+unfolding one_more_times
+counted_at true n u before after e f = f ∙ ap one_more e ∙ ap (one_more_times n) (let s : suc u ≡ u + 1 = omega arith in s)
+counted_at false n u before after e f = f ∙ e ∙ ap (one_more_times n) (let s : u ≡ u + 0 = omega arith in s)
 
 never_some : (o : Option ℕ) → ((k : ℕ) → o ≡ Some k → ⊥) → o ≡ None
 never_some None h = refl
@@ -196,16 +196,16 @@ module _ (ps qs : List (List ℕ)) (ks ms : List Kept) (p : List ℕ) (kept : Ke
   asked_kept known is before = subst (AreKept known) (sym grown)
       (All-push (λ (x : Answer). IsKeptOf known x.path x.kept) old (record { path = p; kept = kept }) before is)
 
-  pub asked_faults : (n before after : ℕ) → before ≡ more n (unreadables old)
+  pub asked_faults : (n before after : ℕ) → before ≡ one_more_times n (unreadable_count old)
       → after ≡ faults_with kept before
-      → after ≡ more n (unreadables (answers_with qs ms))
+      → after ≡ one_more_times n (unreadable_count (answers_with qs ms))
   asked_faults n before after b f =
-      let more_one : unreadables (one_answer old p kept) ≡ unreadables old + cond (is_unreadable kept) 1 0 =
+      let more_one : unreadable_count (one_answer old p kept) ≡ unreadable_count old + cond (is_unreadable kept) 1 0 =
       sum_by-append (λ (x : Answer). cond (is_unreadable x.kept) 1 0) old (record { path = p; kept = kept } ∷ [])
-      ∙ ap (λ k. unreadables old + k)
+      ∙ ap (λ k. unreadable_count old + k)
       (let z : 0 + cond (is_unreadable kept) 1 0 ≡ cond (is_unreadable kept) 1 0 = omega arith in z) in
-      counted_at (is_unreadable kept) n (unreadables old) before after b f
-      ∙ ap (more n) (sym more_one ∙ sym (ap unreadables grown))
+      counted_at (is_unreadable kept) n (unreadable_count old) before after b f
+      ∙ ap (one_more_times n) (sym more_one ∙ sym (ap unreadable_count grown))
 
 -- ---- the places of a job's answers
 
@@ -252,11 +252,11 @@ pub placed_all : (xs ys zs : List (List ℕ)) (job : Job) (image : ℕ) (referen
     → ys ≡ with_path_if xs r → option_map (place_in ys) r ≡ option_map (λ k. Some k) reference
     → zs ≡ with_path_if ys c → option_map (place_in zs) c ≡ option_map (λ k. Some k) console
     → ArePlaced zs job (record { image = image; reference = reference; console = console })
-placed_all xs ys zs job image reference console p r c is_p is_r is_c found grown there more last =
+placed_all xs ys zs job image reference console p r c is_p is_r is_c found grown there one_more_times last =
     let later : (q : List ℕ) (k : ℕ) → place_in xs q ≡ Some k → place_in ys q ≡ Some k =
     λ q k h. ap (λ ws. place_in ws q) grown ∙ with_path_if-place xs r q k h in
     let last_too : (q : List ℕ) (k : ℕ) → place_in ys q ≡ Some k → place_in zs q ≡ Some k =
-    λ q k h. ap (λ ws. place_in ws q) more ∙ with_path_if-place ys c q k h in
+    λ q k h. ap (λ ws. place_in ws q) one_more_times ∙ with_path_if-place ys c q k h in
     record {
       image = last_too job.image image (later job.image image (ap (place_in xs) (sym is_p) ∙ found));
       reference = ap (option_map (place_in zs)) (sym is_r) ∙ reference_later ys zs last_too r reference there;
@@ -270,14 +270,14 @@ place_within : (xs : List (List ℕ)) (q : List ℕ) (k n : ℕ) → length xs �
 place_within xs q k n e is = below_length (place_in xs q) k (length xs) n e (sym is) (place_below xs q)
 
 kept_there : (ps : List (List ℕ)) (ks : List Kept) (q : List ℕ) (k : ℕ) (x : Kept) → length ps ≡ length ks
-    → place_in ps q ≡ Some k → x ≡ get_or ks k x → kept_of (answers_with ps ks) q ≡ Some x
+    → place_in ps q ≡ Some k → x ≡ get_or ks k x → kept_of_path (answers_with ps ks) q ≡ Some x
 kept_there ps ks q k x even found is =
     let d : Answer = record { path = q; kept = x } in
     kept_at (answers_with ps ks) q k d (ap (λ l. place_in l q) (paths-with ps ks even) ∙ found)
     ∙ ap (λ (y : Kept). Some y) (with-at ps ks k d x even (place_within ps q k (length ks) even found) ∙ sym is)
 
 -- a path that has no place has no answer
-pub kept_none : (ans : List Answer) (p : List ℕ) → place_in (paths_of ans) p ≡ None → kept_of ans p ≡ None
+pub kept_none : (ans : List Answer) (p : List ℕ) → place_in (paths_of ans) p ≡ None → kept_of_path ans p ≡ None
 unfolding place_in
 kept_none [] p e = refl
 kept_none (a ∷ ans) p e = absent (bytes_eq p a.path) (place_in (paths_of ans) p) a
@@ -297,15 +297,15 @@ module _ (all : List Answer) (ps : List (List ℕ)) (ks : List Kept) (even : len
         length-map (answers_with ps ks) (λ (a : Answer). a.kept),
       )
 
-  same_place : (p : List ℕ) → place_in (paths_of all) p ≡ at → place_in ps p ≡ at
-  same_place p placed = ap (λ l. place_in l p) (sym (paths-with ps ks even) ∙ ap paths_of view) ∙ placed
+  same_fault_values : (p : List ℕ) → place_in (paths_of all) p ≡ at → place_in ps p ≡ at
+  same_fault_values p placed = ap (λ l. place_in l p) (sym (paths-with ps ks even) ∙ ap paths_of view) ∙ placed
 
   pub kept_in : (k : ℕ) (x : Kept) (p : List ℕ) → at ≡ Some k → x ≡ get_or ks k x
       → place_in (paths_of all) p ≡ at
       → x ≡ kept_for all p
   kept_in k x p is there placed =
       sym (ap (λ (a : List Answer). kept_for a p) (sym view)
-      ∙ ap (λ o. unwrap_or o Unreadable) (kept_there ps ks p k x even (same_place p placed ∙ is) there))
+      ∙ ap (λ o. unwrap_or o Unreadable) (kept_there ps ks p k x even (same_fault_values p placed ∙ is) there))
 
   pub kept_not_in : (x : Kept) (p : List ℕ) → at ≡ None → x ≡ Unreadable → place_in (paths_of all) p ≡ at
       → x ≡ kept_for all p
@@ -345,6 +345,6 @@ module _ (ans : List Answer) (e : ans ≡ []) where
   pub start_kept : (known : Option FileContents) → AreKept known ans
   start_kept known = subst (AreKept known) (sym e) (λ k d l. absurd (omega arith))
 
-  pub start_faults : (n : ℕ) → n ≡ more n (unreadables ans)
-  unfolding more
-  start_faults n = ap (λ a. more n (unreadables a)) (sym e)
+  pub start_faults : (n : ℕ) → n ≡ one_more_times n (unreadable_count ans)
+  unfolding one_more_times
+  start_faults n = ap (λ a. one_more_times n (unreadable_count a)) (sym e)

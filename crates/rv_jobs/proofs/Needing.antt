@@ -7,14 +7,14 @@ use Rattle.std.proofs.Math.Seq.{take-length}
 use Rattle.std.proofs.lemmas.Grind.{flat_map-append, fold-append}
 use Rattle.std.proofs.lemmas.List.{take_more, length-take, get_or-take}
 use Rattle.rv_lists.specs.declared.job.Job.{Job}
-use Rattle.rv_jobs.specs.declared.asking.Places.{Places}
+use Rattle.rv_jobs.specs.declared.path_reading.Places.{Places}
 use Rattle.rv_lists.specs.Jobs.{AreJobs, console_path, single_job}
-use Rattle.rv_lists.specs.JobList.{place_in}
+use Rattle.rv_base.specs.Names.{place_in}
 use Rattle.rv_jobs.specs.Placed.{ArePlaced}
 use Rattle.rv_jobs.specs.declared.answers.Answer.{Answer}
 use Rattle.rv_jobs.specs.declared.kept.Kept.TheVariants.{Unreadable}
-use Rattle.rv_jobs.specs.Plans.{with_path, with_path_if, with_job, paths_used, named_by, needed_at, needed_for}
-use Rattle.rv_jobs.specs.Plans.{paths_of, kept_of, HasAnswers}
+use Rattle.rv_jobs.specs.Plans.{with_path, with_path_if, with_job, paths_used, jobs_named_by, jobs_needed_at, jobs_needed_for}
+use Rattle.rv_jobs.specs.Plans.{paths_of, kept_of_path, HasAnswers}
 use Rattle.std.proofs.Common.{IsTrue, subst}
 use Rattle.rv_jobs.proofs.Answering.{kept_at}
 use Rattle.rv_jobs.proofs.Answering.{with_path-old, with_path-new, no_place, new_place, keeps_place}
@@ -122,14 +122,14 @@ job_used js k d inside = has_old (fold with_job [] js) (get_or js k d) (has_used
 
 -- ---- answers
 
-answered : (answers : List Answer) (p : List ℕ) → IsThere (paths_of answers) p → IsTrue (is_some (kept_of answers p))
+answered : (answers : List Answer) (p : List ℕ) → IsThere (paths_of answers) p → IsTrue (is_some (kept_of_path answers p))
 answered answers p h =
     let t = place_there (place_in (paths_of answers) p) h in
     ap is_some (kept_at answers p t.0 (record { path = p; kept = Unreadable }) t.1)
 
 answered_if : (answers : List Answer) (o : Option (List ℕ))
     → ((p : List ℕ) → o ≡ Some p → IsThere (paths_of answers) p)
-    → IfSome o (λ p. IsTrue (is_some (kept_of answers p)))
+    → IfSome o (λ p. IsTrue (is_some (kept_of_path answers p)))
 answered_if answers None there = tt
 answered_if answers (Some p) there = answered answers p (there p refl)
 
@@ -150,24 +150,24 @@ used_answered jobs answers used i d inside =
 module _ (jobs : List Job) where
   -- the paths for one place more
   pub needed_more : (places : List ℕ) (i d : ℕ) → i < length places
-      → fold with_job [] (needed_for jobs (take (i + 1) places))
-      ≡ fold with_job (fold with_job [] (needed_for jobs (take i places))) (needed_at jobs (get_or places i d))
+      → fold with_job [] (jobs_needed_for jobs (take (i + 1) places))
+      ≡ fold with_job (fold with_job [] (jobs_needed_for jobs (take i places))) (jobs_needed_at jobs (get_or places i d))
   needed_more places i d inside =
-      let before : List Job = needed_for jobs (take i places) in
+      let before : List Job = jobs_needed_for jobs (take i places) in
       let last : ℕ = get_or places i d in
-      ap (λ ps. fold with_job [] (needed_for jobs ps)) (take_more places i d inside)
-      ∙ (ap (fold with_job []) (flat_map-append (needed_at jobs) (take i places) (last ∷ [])
-      ∙ ap (λ js. before ++ js) (append-nil (needed_at jobs last)))
-      ∙ fold-append with_job [] before (needed_at jobs last))
+      ap (λ ps. fold with_job [] (jobs_needed_for jobs ps)) (take_more places i d inside)
+      ∙ (ap (fold with_job []) (flat_map-append (jobs_needed_at jobs) (take i places) (last ∷ [])
+      ∙ ap (λ js. before ++ js) (append-nil (jobs_needed_at jobs last)))
+      ∙ fold-append with_job [] before (jobs_needed_at jobs last))
 
   pub needed_whole : (places : List ℕ) (n : ℕ) → n ≡ length places
-      → fold with_job [] (needed_for jobs (take n places)) ≡ paths_used (needed_for jobs places)
+      → fold with_job [] (jobs_needed_for jobs (take n places)) ≡ paths_used (jobs_needed_for jobs places)
   unfolding paths_used
   needed_whole places n is =
-      ap (λ ps. fold with_job [] (needed_for jobs ps)) (ap (λ k. take k places) is ∙ take-length places)
+      ap (λ ps. fold with_job [] (jobs_needed_for jobs ps)) (ap (λ k. take k places) is ∙ take-length places)
 
 named_used : (jobs js : List Job) (o : Option ℕ) (n : ℕ) → js ≡ take n jobs → IfSome o (λ k. k < n) → n ≤ length jobs
-    → fold with_job (fold with_job [] js) (named_by jobs o) ≡ fold with_job [] js
+    → fold with_job (fold with_job [] js) (jobs_named_by jobs o) ≡ fold with_job [] js
 named_used jobs js None n is earlier low = refl
 named_used jobs js (Some k) n is earlier low =
     let any = single_job [] 0 [] in
@@ -179,7 +179,7 @@ named_used jobs js (Some k) n is earlier low =
 module _ (jobs : List Job) (are : AreJobs jobs) (places : List ℕ) (count : length places ≡ length jobs)
     (each : (k d : ℕ) → k < length places → get_or places k d ≡ k) where
   needed_first : (n : ℕ) → n ≤ length jobs
-      → fold with_job [] (needed_for jobs (take n places)) ≡ fold with_job [] (take n jobs)
+      → fold with_job [] (jobs_needed_for jobs (take n places)) ≡ fold with_job [] (take n jobs)
   needed_first zero low = refl
   needed_first (suc n) low =
       let any = single_job [] 0 [] in
@@ -192,12 +192,12 @@ module _ (jobs : List Job) (are : AreJobs jobs) (places : List ℕ) (count : len
       sym (ap (fold with_job []) more ∙ fold-append with_job [] (take n jobs) (job ∷ [])) in
       let earlier : IfSome job.same_as (λ k. k < suc n) =
       weaken job.same_as n (are.each n any (omega arith)).earlier in
-      ap (λ k. fold with_job [] (needed_for jobs (take k places))) (sym next)
+      ap (λ k. fold with_job [] (jobs_needed_for jobs (take k places))) (sym next)
       ∙ (needed_more jobs places n 0 (omega arith)
-      ∙ (ap (λ p. fold with_job (fold with_job [] (needed_for jobs (take n places))) (needed_at jobs p))
+      ∙ (ap (λ p. fold with_job (fold with_job [] (jobs_needed_for jobs (take n places))) (jobs_needed_at jobs p))
       (each n 0 (omega arith))
-      ∙ (ap (λ ps. fold with_job ps (needed_at jobs n)) (needed_first n (omega arith))
-      ∙ (ap (λ ps. fold with_job ps (named_by jobs job.same_as)) own
+      ∙ (ap (λ ps. fold with_job ps (jobs_needed_at jobs n)) (needed_first n (omega arith))
+      ∙ (ap (λ ps. fold with_job ps (jobs_named_by jobs job.same_as)) own
       ∙ named_used jobs (take (suc n) jobs) job.same_as (suc n) refl earlier low))))
     where
       weaken : (o : Option ℕ) (n : ℕ) → IfSome o (λ k. k < n) → IfSome o (λ k. k < suc n)
@@ -205,7 +205,7 @@ module _ (jobs : List Job) (are : AreJobs jobs) (places : List ℕ) (count : len
       weaken (Some k) n h = omega arith
 
   -- all rows need the paths of all jobs
-  pub needed_all : paths_used (needed_for jobs places) ≡ paths_used jobs
+  pub needed_all : paths_used (jobs_needed_for jobs places) ≡ paths_used jobs
   unfolding paths_used
   needed_all =
       let n = length jobs in

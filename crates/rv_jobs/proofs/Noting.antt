@@ -7,8 +7,8 @@ use Rattle.std.proofs.lemmas.List.{get_or_default, get_or_push, length-set, get_
 use Rattle.std.proofs.Math.ListN.{get_or-append}
 use Rattle.std.proofs.Common.{◌+◌, ◌++◌}
 use Rattle.rv_lists.specs.declared.job.Job.{Job}
-use Rattle.rv_jobs.specs.declared.asking.Places.{Places}
-use Rattle.rv_jobs.specs.declared.asking.Found.{Found}
+use Rattle.rv_jobs.specs.declared.path_reading.Places.{Places}
+use Rattle.rv_jobs.specs.declared.path_reading.Found.{Found}
 use Rattle.rv_jobs.specs.Placed.{ArePlaced, AreNoted, IsFound}
 use Rattle.rv_jobs.specs.Plans.{with_job}
 use Rattle.rv_jobs.proofs.Answering.{placed_later}

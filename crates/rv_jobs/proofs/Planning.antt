@@ -4,16 +4,16 @@ use Rattle.std.proofs.Common.{IfSome, option_map, option_and_then}
 use Rattle.std.proofs.lemmas.List.{get_or_default}
 use Rattle.rv_lists.specs.declared.job.Job.{Job}
 use Rattle.rv_jobs.specs.declared.kept.Kept.{Kept}
-use Rattle.rv_jobs.specs.declared.asking.Found.{Found}
+use Rattle.rv_jobs.specs.declared.path_reading.Found.{Found}
 use Rattle.rv_jobs.specs.declared.plan.Plan.TheInside.{Inside}
 use Rattle.rv_lists.specs.Jobs.{single_job}
-use Rattle.rv_lists.specs.JobList.{place_in}
+use Rattle.rv_base.specs.Names.{place_in}
 use Rattle.rv_jobs.specs.Placed.{IsFound}
-use Rattle.rv_jobs.specs.PlanInside.{IsPlanInside, paths_read, planned_of}
+use Rattle.rv_jobs.specs.PlanInside.{IsPlanInside, paths_read, plan_view}
 use Rattle.rv_jobs.specs.Plans.{Planned, paths_of, kept_for}
 use Rattle.rv_jobs.proofs.Answering.{paths-with, path_below}
 
-module _ (a : Inside) (is : IsPlanInside a) (p : Planned) (view : planned_of a ≡ p) (i : ℕ) (within : i < length p.jobs)
+module _ (a : Inside) (is : IsPlanInside a) (p : Planned) (view : plan_view a ≡ p) (i : ℕ) (within : i < length p.jobs)
     (at : Found) (there : at ≡ get_or a.found.items i at) where
   inside : i < length a.jobs
   inside = subst (λ (q : Planned). i < length q.jobs) (sym view) within

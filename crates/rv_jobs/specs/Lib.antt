@@ -7,6 +7,7 @@ pub mod Choices
 pub use Rattle.rv_base.specs.Counts
 pub use Rattle.rv_base.specs.Files
 pub use Rattle.rv_base.specs.Limits
+pub use Rattle.rv_base.specs.Names
 pub use Rattle.rv_base.specs.Sinks
 pub use Rattle.rv_lists.specs.Faults
 pub use Rattle.rv_lists.specs.JobList

@@ -2,9 +2,9 @@
 use Rattle.std.specs.Prelude.{◌≡◌, ◌<◌, ℕ, List, length, Option, Some, None, IfSome, option_map}
 use Rattle.std.specs.Prelude.{option_and_then, slice_index_or}
 use Rattle.rv_lists.specs.declared.job.Job.{Job}
-use Rattle.rv_jobs.specs.declared.asking.Places.{Places}
-use Rattle.rv_jobs.specs.declared.asking.Found.{Found}
-use Rattle.rv_lists.specs.JobList.{place_in}
+use Rattle.rv_jobs.specs.declared.path_reading.Places.{Places}
+use Rattle.rv_jobs.specs.declared.path_reading.Found.{Found}
+use Rattle.rv_base.specs.Names.{place_in}
 use Rattle.rv_lists.specs.Jobs.{console_path}
 
 -- these are the places of a job's paths, all of which are there

@@ -4,14 +4,14 @@ use Rattle.rv_jobs.specs.declared.plan.Plan.TheInside.{Inside}
 use Rattle.rv_jobs.specs.declared.kept.Kept.TheVariants.{Unreadable}
 use Rattle.rv_lists.specs.Jobs.{AreJobs}
 use Rattle.rv_jobs.specs.Placed.{AreFound}
-use Rattle.rv_jobs.specs.Plans.{Planned, paths_used, needed_for, answers_with}
+use Rattle.rv_jobs.specs.Plans.{Planned, paths_used, jobs_needed_for, answers_with}
 
 -- the paths that were read
 abbrev pub paths_read : Inside → List (List ℕ)
-paths_read a = paths_used (needed_for a.jobs a.chosen.items)
+paths_read a = paths_used (jobs_needed_for a.jobs a.chosen.items)
 
-abbrev pub planned_of : Inside → Planned
-planned_of a = record { jobs = a.jobs; answers = answers_with (paths_read a) a.answers.items }
+abbrev pub plan_view : Inside → Planned
+plan_view a = record { jobs = a.jobs; answers = answers_with (paths_read a) a.answers.items }
 
 -- the jobs are those of a list, each path that was read has an answer, and these are the places of
 -- each job's answers

@@ -8,7 +8,7 @@ use Rattle.rv_lists.specs.declared.job.Job.{Job}
 use Rattle.rv_jobs.specs.declared.kept.Kept.{Kept}
 use Rattle.rv_jobs.specs.declared.kept.Kept.TheVariants.{Unreadable}
 use Rattle.rv_jobs.specs.declared.answers.Answer.{Answer}
-use Rattle.rv_lists.specs.JobList.{place_in}
+use Rattle.rv_base.specs.Names.{place_in}
 use Rattle.rv_lists.specs.Jobs.{console_path, single_job}
 use Rattle.rv_base.specs.Files.{FileContents}
 use Rattle.rv_jobs.specs.Kept.{IsKeptOf, is_unreadable}
@@ -45,48 +45,48 @@ unfoldable pub paths_used : List Job → List (List ℕ)
 paths_used jobs = fold with_job [] jobs
 
 -- what is kept of a path
-abbrev pub kept_of : List Answer → List ℕ → Option Kept
-kept_of answers path =
+abbrev pub kept_of_path : List Answer → List ℕ → Option Kept
+kept_of_path answers path =
     option_map (λ (a : Answer). a.kept) (find (λ (a : Answer). bytes_eq path a.path) answers)
 
 -- what is kept of a path, where one that has no answer passes as unreadable
 abbrev pub kept_for : List Answer → List ℕ → Kept
-kept_for answers path = unwrap_or (kept_of answers path) Unreadable
+kept_for answers path = unwrap_or (kept_of_path answers path) Unreadable
 
 -- the job that a job names, if it names one
-abbrev pub named_by : List Job → Option ℕ → List Job
-named_by jobs None = []
-named_by jobs (Some place) = slice_index_or jobs place (single_job [] 0 []) ∷ []
+abbrev pub jobs_named_by : List Job → Option ℕ → List Job
+jobs_named_by jobs None = []
+jobs_named_by jobs (Some place) = slice_index_or jobs place (single_job [] 0 []) ∷ []
 
 -- the jobs whose paths the row of the job at a place needs: its own, and those of the job that it
 -- names
-abbrev pub needed_at : List Job → ℕ → List Job
-needed_at jobs place =
-    let job = slice_index_or jobs place (single_job [] 0 []) in job ∷ named_by jobs job.same_as
+abbrev pub jobs_needed_at : List Job → ℕ → List Job
+jobs_needed_at jobs place =
+    let job = slice_index_or jobs place (single_job [] 0 []) in job ∷ jobs_named_by jobs job.same_as
 
 -- those that the rows of the jobs at some places need, place by place
-abbrev pub needed_for : List Job → List ℕ → List Job
-needed_for jobs places = flat_map (needed_at jobs) places
+abbrev pub jobs_needed_for : List Job → List ℕ → List Job
+jobs_needed_for jobs places = flat_map (jobs_needed_at jobs) places
 
 -- each path that a job names has an answer
 pub record HasAnswers (answers : List Answer) (job : Job) : Type 0 where
-  pub image : IsTrue (is_some (kept_of answers job.image))
-  pub reference : IfSome job.expect_signature (λ path. IsTrue (is_some (kept_of answers path)))
+  pub image : IsTrue (is_some (kept_of_path answers job.image))
+  pub reference : IfSome job.expect_signature (λ path. IsTrue (is_some (kept_of_path answers path)))
   pub console :
-      IfSome (console_path job.expect_console) (λ path. IsTrue (is_some (kept_of answers path)))
+      IfSome (console_path job.expect_console) (λ path. IsTrue (is_some (kept_of_path answers path)))
 
 -- every answer agrees with the contents, where the store tells them
 abbrev pub AreKept : Option FileContents → List Answer → Type 0
 AreKept known answers = All (λ (a : Answer). IsKeptOf known a.path a.kept) answers
 
 -- how many paths are unreadable
-abbrev pub unreadables : List Answer → ℕ
-unreadables answers = count_by (λ (a : Answer). is_unreadable a.kept) answers
+abbrev pub unreadable_count : List Answer → ℕ
+unreadable_count answers = count_by (λ (a : Answer). is_unreadable a.kept) answers
 
 -- a count, and one more so many times
-unfoldable pub more : ℕ → ℕ → ℕ
-more n zero = n
-more n (suc k) = one_more (more n k)
+unfoldable pub one_more_times : ℕ → ℕ → ℕ
+one_more_times n zero = n
+one_more_times n (suc k) = one_more (one_more_times n k)
 
 -- what callers see of a plan
 pub record Planned : Type 0 where

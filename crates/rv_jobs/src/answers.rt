@@ -1,10 +1,10 @@
 //! What is kept of the different paths that jobs name, while a plan is gathered.
 
 ghost use Rattle.std.specs.Prelude.{◌≡◌, ℕ, [], IfOk, Some, map};
-ghost use Rattle.rv_lists.specs.JobList.{place_in};
-ghost use Rattle.rv_jobs.specs.Plans.{paths_of, with_path, AreKept, unreadables, more};
+ghost use Rattle.rv_base.specs.Names.{place_in};
+ghost use Rattle.rv_jobs.specs.Plans.{paths_of, with_path, AreKept, unreadable_count, one_more_times};
 
-use crate::kept::{Kept, keep};
+use crate::kept::{Kept, keep_path_answer};
 use rv_base::Store;
 use rv_lists::Text;
 use std::alloc::{AllocError, Global};
@@ -57,7 +57,7 @@ impl<'a> Answers<'a> {
     /// The answers with that of a path, which is read unless it has one, and the place of its answer.
     ///
     /// A path that is new is searched for once: the search that would find it puts it in.
-    pub(crate) fn ask<S: Store>(
+    pub(crate) fn read_path_once<S: Store>(
         self,
         alloc: Global,
         store: &mut S,
@@ -68,8 +68,8 @@ impl<'a> Answers<'a> {
         ensures place { IfOk result (λ a. place_in (paths_of a.0) path.now ≡ Some a.1) }
         ensures kept { AreKept (S.contents store.old) self.entry
             → IfOk result (λ a. AreKept (S.contents store.old) a.0) }
-        ensures faults { (n : ℕ) → S.faulted store.old ≡ more n (unreadables self.entry)
-            → IfOk result (λ a. S.faulted store.new ≡ more n (unreadables a.0)) }
+        ensures faults { (n : ℕ) → S.faulted store.old ≡ one_more_times n (unreadable_count self.entry)
+            → IfOk result (λ a. S.faulted store.new ≡ one_more_times n (unreadable_count a.0)) }
     {
         let Answers {
             mut answers,
@@ -86,7 +86,7 @@ impl<'a> Answers<'a> {
             };
             return Ok((asked, place));
         }
-        let kept = keep(alloc, store, path)?;
+        let kept = keep_path_answer(alloc, store, path)?;
         answers.push(kept)?;
         paths.push(path)?;
         let asked = Answers {
@@ -98,7 +98,7 @@ impl<'a> Answers<'a> {
     }
 
     /// The place of the answer of a path, if it has one.
-    pub(crate) fn place_of(&self, path: &str) -> Option<usize>
+    pub(crate) fn place_of_path(&self, path: &str) -> Option<usize>
         ensures { result ≡ place_in (paths_of self.now) path.now }
     {
         let _ = &self.paths;

@@ -18,7 +18,11 @@ pub enum Kept {
 }
 
 /// Reads a path once, and keeps the answer.
-pub(crate) fn keep<S: Store>(alloc: Global, store: &mut S, path: &str) -> Result<Kept, AllocError>
+pub(crate) fn keep_path_answer<S: Store>(
+    alloc: Global,
+    store: &mut S,
+    path: &str,
+) -> Result<Kept, AllocError>
     ensures same { S.contents store.new ≡ S.contents store.old }
     ensures kept { IfOk result (IsKeptOf (S.contents store.old) path.now) }
     ensures counted { IfOk result (λ kept. S.faulted store.new

@@ -6,10 +6,10 @@
 #![tactic(auto)]
 
 mod answers;
-mod asking;
 mod choice;
 mod kept;
 mod law;
+mod path_reading;
 mod plan;
 
 pub use answers::Answer;

@@ -6,13 +6,15 @@ ghost use Rattle.std.specs.Prelude.{◌≡◌, ◌<◌, ◌≤◌, ℕ, List, If
 ghost use Rattle.std.specs.Prelude.{slice_index_or, option_map};
 ghost use Rattle.std.specs.List.{All};
 ghost use Rattle.rv_lists.specs.Jobs.{IsJob, console_path};
-ghost use Rattle.rv_lists.specs.JobList.{place_in};
-ghost use Rattle.rv_jobs.specs.Plans.{paths_of, paths_used, needed_for, kept_for};
-ghost use Rattle.rv_jobs.specs.Plans.{AreKept, unreadables, more};
+ghost use Rattle.rv_base.specs.Names.{place_in};
+ghost use Rattle.rv_jobs.specs.Plans.{paths_of, paths_used, jobs_needed_for, kept_for};
+ghost use Rattle.rv_jobs.specs.Plans.{AreKept, unreadable_count, one_more_times};
 
 use crate::answers::Answers;
-use crate::asking::{Found, console_path, found_of, nothing_noted, reference_path};
 use crate::kept::Kept;
+use crate::path_reading::{
+    Found, blank_job_places, console_path, places_of_answers, reference_path,
+};
 use rv_base::Store;
 use rv_lists::{Job, JobList};
 use std::alloc::{AllocError, Global};
@@ -37,9 +39,9 @@ impl Model for Plan {
 
     ghost Value = { Planned };
 
-    ghost use Rattle.rv_jobs.specs.PlanInside.{planned_of, IsPlanInside};
+    ghost use Rattle.rv_jobs.specs.PlanInside.{plan_view, IsPlanInside};
 
-    ghost view = { planned_of };
+    ghost view = { plan_view };
 
     ghost invariant = { IsPlanInside };
 }
@@ -51,7 +53,7 @@ pub fn gather<S: Store>(alloc: Global, jobs: JobList, store: &mut S) -> Result<P
     ensures paths { IfOk result (λ p. paths_of p.answers ≡ paths_used jobs) }
     ensures kept { IfOk result (λ p. AreKept (S.contents store.old) p.answers) }
     ensures faults { IfOk result (λ p. S.faulted store.new
-        ≡ more (S.faulted store.old) (unreadables p.answers)) }
+        ≡ one_more_times (S.faulted store.old) (unreadable_count p.answers)) }
 {
     let places = all_places(alloc, &jobs)?;
     gather_places(alloc, jobs, places, store)
@@ -69,18 +71,18 @@ pub fn gather_places<S: Store>(
     ensures same { S.contents store.new ≡ S.contents store.old }
     ensures jobs { IfOk result (λ p. p.jobs ≡ jobs) }
     ensures paths { IfOk result (λ p. paths_of p.answers
-        ≡ paths_used (needed_for jobs places.items)) }
+        ≡ paths_used (jobs_needed_for jobs places.items)) }
     ensures kept { IfOk result (λ p. AreKept (S.contents store.old) p.answers) }
     ensures faults { IfOk result (λ p. S.faulted store.new
-        ≡ more (S.faulted store.old) (unreadables p.answers)) }
+        ≡ one_more_times (S.faulted store.old) (unreadable_count p.answers)) }
 {
     let none = Answers::new(alloc, places.len())?;
     let mut asked = none;
-    let mut noted = nothing_noted(alloc, jobs.as_slice())?;
+    let mut noted = blank_job_places(alloc, jobs.as_slice())?;
     for place in places.as_slice() {
-        asked = asked.ask_for_row(alloc, store, jobs.as_slice(), *place, &mut noted)?;
+        asked = asked.read_paths_for_row(alloc, store, jobs.as_slice(), *place, &mut noted)?;
     }
-    let found = found_of(alloc, &asked, jobs.as_slice(), noted.as_slice())?;
+    let found = places_of_answers(alloc, &asked, jobs.as_slice(), noted.as_slice())?;
     let answers = asked.into_kept();
     Ok(Plan {
         jobs,
@@ -94,7 +96,7 @@ pub fn gather_places<S: Store>(
 /// The places of all jobs.
 fn all_places(alloc: Global, jobs: &JobList) -> Result<Vec<usize>, AllocError>
     ensures within { IfOk result (λ places. All (λ place. place < length jobs.now) places.items) }
-    ensures paths { IfOk result (λ places. paths_used (needed_for jobs.now places.items)
+    ensures paths { IfOk result (λ places. paths_used (jobs_needed_for jobs.now places.items)
         ≡ paths_used jobs.now) }
 {
     let count = jobs.as_slice().len();
@@ -129,7 +131,7 @@ impl Plan {
         ensures { (d : AJob) → result.now
             ≡ kept_for self.now.answers (slice_index_or self.now.jobs i d).image }
     {
-        self.kept(self.found[i].image)
+        self.kept_or_unread(self.found[i].image)
     }
 
     /// What is kept of the path of a job's reference, where it has one. A path that was not read passes as unreadable.
@@ -140,7 +142,7 @@ impl Plan {
             (slice_index_or self.now.jobs i d).expect_signature }
     {
         match reference_path(self.job(i)) {
-            Some(_) => Some(self.kept(self.found[i].reference)),
+            Some(_) => Some(self.kept_or_unread(self.found[i].reference)),
             None => None,
         }
     }
@@ -154,13 +156,13 @@ impl Plan {
             (console_path (slice_index_or self.now.jobs i d).expect_console) }
     {
         match console_path(self.job(i)) {
-            Some(_) => Some(self.kept(self.found[i].console)),
+            Some(_) => Some(self.kept_or_unread(self.found[i].console)),
             None => None,
         }
     }
 
     // What is kept of the path whose answer is here.
-    fn kept(&self, at: Option<usize>) -> &Kept
+    fn kept_or_unread(&self, at: Option<usize>) -> &Kept
         requires { IfSome at (λ k. k < length self.now.answers) }
         ensures { (path : List ℕ) → place_in (paths_of self.now.answers) path ≡ at
             → result.now ≡ kept_for self.now.answers path }

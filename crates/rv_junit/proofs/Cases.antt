@@ -6,11 +6,11 @@ use Rattle.std.proofs.KnownBytes.{Appends-nil}
 use Rattle.rv_rows.specs.declared_row.Row.{Row}
 use Rattle.rv_rows.specs.Sinks.{AppendsBeginning}
 use Rattle.rv_expect.specs.declared.passing.Rule.{Rule}
-use Rattle.rv_stream.specs.Streams.{texts_of, told}
+use Rattle.rv_stream.specs.Streams.{row_text_list, joined_row_texts}
 use Rattle.rv_text.specs.declared.xml.Within.TheVariants.{Element}
-use Rattle.rv_text.specs.Xml.{escaped}
+use Rattle.rv_text.specs.Xml.{xml_text}
 use Rattle.rv_junit.specs.Pieces.{attribute}
-use Rattle.rv_junit.specs.Junit.{begin_text, case_text, cases_text, end_text, junit_text, output_text, problem_or_none}
+use Rattle.rv_junit.specs.Junit.{suite_begin_text, test_case_text, test_cases_text, suite_end_text, junit_text, output_text, problem_or_none}
 
 joined : (a b c d p o s m x y z : List ℕ)
     → ((a ++ (b ++ (c ++ (d ++ [])))) ++ p) ++ (o ++ (s ++ (m ++ (x ++ ((y ++ z) ++ [])))))
@@ -21,14 +21,14 @@ joined a b c d p o s m x y z = simp (append_assoc, append-nil)
 pub case_whole : (class : List ℕ) (rule : Rule) (row : Row) (lines : List ℕ) →
     ((codes "<testcase" ++ (attribute (codes "classname") class ++ (attribute (codes "name") row.name
     ++ (codes ">\n" ++ [])))) ++ problem_or_none rule row lines)
-    ++ (codes "<system-out>" ++ (decimal row.steps ++ (codes " steps\n" ++ (escaped Element row.console
+    ++ (codes "<system-out>" ++ (decimal row.steps ++ (codes " steps\n" ++ (xml_text Element row.console
     ++ (codes "</system-out>\n</testcase>\n" ++ [])))))
-    ≡ case_text class rule row lines
-unfolding case_text output_text
+    ≡ test_case_text class rule row lines
+unfolding test_case_text output_text
 case_whole class rule row lines =
     joined (codes "<testcase") (attribute (codes "classname") class) (attribute (codes "name") row.name) (codes ">\n")
     (problem_or_none rule row lines) (codes "<system-out>") (decimal row.steps) (codes " steps\n")
-    (escaped Element row.console) (codes "</system-out>\n") (codes "</testcase>\n")
+    (xml_text Element row.console) (codes "</system-out>\n") (codes "</testcase>\n")
 
 -- nothing went out yet
 pub nothing_out : (a : Option (List ℕ)) (text : List ℕ) → AppendsBeginning a a text
@@ -37,20 +37,20 @@ nothing_out a text = record { part = []; rest = text; whole = refl; appended = A
 module _ (class : List ℕ) (rule : Rule) (line : ℕ → Row → List ℕ) where
   -- what is told of rows where each is told as its case
   abbrev pub told_cases : List ℕ → List Row → List ℕ
-  told_cases places rows = told (λ place row. case_text class rule row (line place row)) places rows
+  told_cases places rows = joined_row_texts (λ place row. test_case_text class rule row (line place row)) places rows
 
   cases_told : (places : List ℕ) (rows : List Row) →
-      cases_text class rule (texts_of line places rows) rows ≡ told_cases places rows
-  unfolding cases_text
+      test_cases_text class rule (row_text_list line places rows) rows ≡ told_cases places rows
+  unfolding test_cases_text
   cases_told [] rows = refl
   cases_told (place ∷ places) [] = refl
   cases_told (place ∷ places) (row ∷ rows) =
-      ap (λ xs. case_text class rule row (line place row) ++ xs) (cases_told places rows)
+      ap (λ xs. test_case_text class rule row (line place row) ++ xs) (cases_told places rows)
 
   -- the document, once what stands before the cases is gathered
-  pub junit_begun : (places : List ℕ) (rows : List Row) (text : List ℕ) → text ≡ begin_text class rule rows →
-      junit_text class rule (texts_of line places rows) rows ≡ text ++ told_cases places rows ++ end_text
+  pub junit_begun : (places : List ℕ) (rows : List Row) (text : List ℕ) → text ≡ suite_begin_text class rule rows →
+      junit_text class rule (row_text_list line places rows) rows ≡ text ++ told_cases places rows ++ suite_end_text
   unfolding junit_text
   junit_begun places rows text is =
-      ap (λ xs. begin_text class rule rows ++ xs ++ end_text) (cases_told places rows)
-      ∙ ap (λ xs. xs ++ told_cases places rows ++ end_text) (sym is)
+      ap (λ xs. suite_begin_text class rule rows ++ xs ++ suite_end_text) (cases_told places rows)
+      ∙ ap (λ xs. xs ++ told_cases places rows ++ suite_end_text) (sym is)

@@ -5,16 +5,16 @@ use Rattle.std.specs.Prelude.{codes, count_by, position}
 use Rattle.std.specs.List.{AllByRecursion}
 use Rattle.hex.specs.Hex.{IsBytes}
 use Rattle.rv_rows.specs.declared_row.Row.{Row}
-use Rattle.rv_rows.specs.Verdict.{is_run}
+use Rattle.rv_rows.specs.Verdict.{did_run}
 use Rattle.rv_expect.specs.declared.passing.Rule.{Rule}
 use Rattle.rv_job_text.specs.ConsoleTail.{is_feed}
 use Rattle.rv_expect.specs.Passing.{has_passed}
 use Rattle.rv_text.specs.declared.xml.Within.TheVariants.{Attribute, Element}
 use Rattle.rv_junit.specs.Pieces.{attribute, number_attribute}
-use Rattle.rv_junit.specs.Junit.{IsWrittenRow, begin_text, case_text, cases_text, end_text, first_line}
+use Rattle.rv_junit.specs.Junit.{IsWrittenRow, suite_begin_text, test_case_text, test_cases_text, suite_end_text, first_line}
 use Rattle.rv_expect.specs.Problem.{is_error, is_failure}
-use Rattle.rv_junit.specs.Junit.{junit_text, output_text, problem_name}
-use Rattle.rv_junit.specs.Junit.{problem_text, up_to}
+use Rattle.rv_junit.specs.Junit.{junit_text, output_text, problem_element_name}
+use Rattle.rv_junit.specs.Junit.{problem_text, text_up_to}
 use Rattle.rv_text.specs.Xml.{IsXmlCharacters}
 use Rattle.rv_junit.proofs.Laws.{all_are_counted}
 use Rattle.rv_text.proofs.Public.{xml_append, xml_decimal, xml_escaped, xml_nil, xml_plain}
@@ -27,7 +27,7 @@ bytes_take (suc n) (byte ∷ rest) are = λ i. elim i as (λ k. get_or (byte ∷
   | suc k ↦ bytes_take n rest (λ j. are (suc j)) k
 ]
 
-bytes_up_to : (place : Option ℕ) (text : List ℕ) → IsBytes text → IsBytes (up_to place text)
+bytes_up_to : (place : Option ℕ) (text : List ℕ) → IsBytes text → IsBytes (text_up_to place text)
 bytes_up_to (Some place) text are = bytes_take place text are
 bytes_up_to None text are = are
 
@@ -51,9 +51,9 @@ xml_number name number named fits =
     (xml_plain (codes " ") refl) named) (xml_plain (codes "=\"") refl))
     (xml_decimal number fits)) (xml_plain (codes "\"") refl)
 
-xml_problem_name : (row : Row) → IsXmlCharacters (problem_name row)
+xml_problem_name : (row : Row) → IsXmlCharacters (problem_element_name row)
 xml_problem_name row =
-    xml_either (is_run row.ending) (codes "failure") (codes "error") (xml_plain (codes "failure") refl)
+    xml_either (did_run row.ending) (codes "failure") (codes "error") (xml_plain (codes "failure") refl)
     (xml_plain (codes "error") refl)
 
 xml_problem : (row : Row) (lines : List ℕ) → IsBytes lines → IsXmlCharacters (problem_text row lines)
@@ -75,8 +75,8 @@ xml_output row is =
     (xml_plain (codes "</system-out>\n") refl)
 
 xml_case : (class : List ℕ) (rule : Rule) (row : Row) (lines : List ℕ) → IsBytes class → IsWrittenRow row →
-    IsBytes lines → IsXmlCharacters (case_text class rule row lines)
-unfolding case_text
+    IsBytes lines → IsXmlCharacters (test_case_text class rule row lines)
+unfolding test_case_text
 xml_case class rule row lines classed is are =
     xml_append _ _ (xml_append _ _ (xml_append _ _ (xml_append _ _ (xml_append _ _ (xml_append _ _
     (xml_plain (codes "<testcase") refl)
@@ -87,8 +87,8 @@ xml_case class rule row lines classed is are =
     (xml_output row is)) (xml_plain (codes "</testcase>\n") refl)
 
 xml_cases : (class : List ℕ) (rule : Rule) (texts : List (List ℕ)) (rows : List Row) → IsBytes class →
-    AllByRecursion IsBytes texts → AllByRecursion IsWrittenRow rows → IsXmlCharacters (cases_text class rule texts rows)
-unfolding cases_text
+    AllByRecursion IsBytes texts → AllByRecursion IsWrittenRow rows → IsXmlCharacters (test_cases_text class rule texts rows)
+unfolding test_cases_text
 xml_cases class rule [] rows classed lines are = xml_nil
 xml_cases class rule (text ∷ texts) [] classed lines are = xml_nil
 xml_cases class rule (text ∷ texts) (row ∷ rows) classed lines are =
@@ -96,8 +96,8 @@ xml_cases class rule (text ∷ texts) (row ∷ rows) classed lines are =
     (xml_cases class rule texts rows classed lines.1 are.1)
 
 xml_begin : (class : List ℕ) (rule : Rule) (rows : List Row) → IsBytes class → length rows < 2 ^ 64 →
-    IsXmlCharacters (begin_text class rule rows)
-unfolding begin_text
+    IsXmlCharacters (suite_begin_text class rule rows)
+unfolding suite_begin_text
 xml_begin class rule rows classed few =
     let failures : count_by (is_failure rule) rows < 2 ^ 64 = omega (arith, all_are_counted rule rows) in
     let errors : count_by (is_error rule) rows < 2 ^ 64 = omega (arith, all_are_counted rule rows) in
@@ -115,4 +115,4 @@ pub xml_junit : (class : List ℕ) (rule : Rule) (texts : List (List ℕ)) (rows
 unfolding junit_text
 xml_junit class rule texts rows classed lines are few =
     xml_append _ _ (xml_append _ _ (xml_begin class rule rows classed few)
-    (xml_cases class rule texts rows classed lines are)) (xml_plain end_text refl)
+    (xml_cases class rule texts rows classed lines are)) (xml_plain suite_end_text refl)

@@ -4,9 +4,9 @@ use Rattle.std.proofs.Common.{Bool, true, false, cond, arith}
 use Rattle.std.specs.Prelude.{◌&&◌, count_by, not}
 use Rattle.std.proofs.lemmas.List.Sums.{sum_by-cons}
 use Rattle.rv_rows.specs.declared_row.Row.{Row}
-use Rattle.rv_rows.specs.Verdict.{is_run}
+use Rattle.rv_rows.specs.Verdict.{did_run}
 use Rattle.rv_expect.specs.declared.passing.Rule.{Rule}
-use Rattle.rv_job_text.specs.LastLine.{passed_count}
+use Rattle.rv_job_text.specs.TotalsLine.{passed_count}
 use Rattle.rv_expect.specs.Passing.{has_passed}
 use Rattle.rv_expect.specs.Problem.{is_error, is_failure}
 
@@ -26,5 +26,5 @@ all_are_counted rule (row ∷ rows) =
       sum_by-cons (λ r. cond (is_error rule r) 1 0) row rows,
       sum_by-cons (λ r. cond (has_passed rule r) 1 0) row rows,
     )
-    (one_of_three (has_passed rule row) (is_run row.ending) (count_by (is_failure rule) rows)
+    (one_of_three (has_passed rule row) (did_run row.ending) (count_by (is_failure rule) rows)
     (count_by (is_error rule) rows) (passed_count rule rows) (length rows) (all_are_counted rule rows))

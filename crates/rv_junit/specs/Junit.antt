@@ -4,33 +4,33 @@ use Rattle.std.specs.Prelude.{count_by, if◌then◌else◌, length, position, t
 use Rattle.std.specs.Fmt.{decimal}
 use Rattle.hex.specs.Hex.{IsBytes}
 use Rattle.rv_rows.specs.declared_row.Row.{Row}
-use Rattle.rv_rows.specs.Verdict.{is_run}
+use Rattle.rv_rows.specs.Verdict.{did_run}
 use Rattle.rv_expect.specs.declared.passing.Rule.{Rule}
 use Rattle.rv_job_text.specs.ConsoleTail.{is_feed}
 use Rattle.rv_expect.specs.Passing.{has_passed}
 use Rattle.rv_expect.specs.Problem.{is_error, is_failure}
 use Rattle.rv_text.specs.declared.xml.Within.TheVariants.{Element}
-use Rattle.rv_text.specs.Xml.{escaped}
+use Rattle.rv_text.specs.Xml.{xml_text}
 use Rattle.rv_junit.specs.Pieces.{attribute, number_attribute}
 
 -- ---- a case
 
 -- what stands before the first line feed, or all
-abbrev pub up_to : Option ℕ → List ℕ → List ℕ
-up_to (Some place) text = take place text
-up_to None text = text
+abbrev pub text_up_to : Option ℕ → List ℕ → List ℕ
+text_up_to (Some place) text = take place text
+text_up_to None text = text
 
 abbrev pub first_line : List ℕ → List ℕ
-first_line text = up_to (position is_feed text) text
+first_line text = text_up_to (position is_feed text) text
 
-abbrev pub problem_name : Row → List ℕ
-problem_name row = if is_run row.ending then codes "failure" else codes "error"
+abbrev pub problem_element_name : Row → List ℕ
+problem_element_name row = if did_run row.ending then codes "failure" else codes "error"
 
 -- the lines that a row is given, of which the first is the message
 unfoldable pub problem_text : Row → List ℕ → List ℕ
 problem_text row lines =
-    codes "<" ++ problem_name row ++ attribute (codes "message") (first_line lines) ++ codes ">"
-    ++ escaped Element lines ++ codes "</" ++ problem_name row ++ codes ">\n"
+    codes "<" ++ problem_element_name row ++ attribute (codes "message") (first_line lines) ++ codes ">"
+    ++ xml_text Element lines ++ codes "</" ++ problem_element_name row ++ codes ">\n"
 
 abbrev pub problem_or_none : Rule → Row → List ℕ → List ℕ
 problem_or_none rule row lines = if has_passed rule row then [] else problem_text row lines
@@ -38,38 +38,38 @@ problem_or_none rule row lines = if has_passed rule row then [] else problem_tex
 -- the steps, and then the console
 unfoldable pub output_text : Row → List ℕ
 output_text row =
-    codes "<system-out>" ++ decimal row.steps ++ codes " steps\n" ++ escaped Element row.console
+    codes "<system-out>" ++ decimal row.steps ++ codes " steps\n" ++ xml_text Element row.console
     ++ codes "</system-out>\n"
 
 -- a row, under the name of its class, with the lines that it is given
-unfoldable pub case_text : List ℕ → Rule → Row → List ℕ → List ℕ
-case_text class rule row lines =
+unfoldable pub test_case_text : List ℕ → Rule → Row → List ℕ → List ℕ
+test_case_text class rule row lines =
     codes "<testcase" ++ attribute (codes "classname") class ++ attribute (codes "name") row.name
     ++ codes ">\n" ++ problem_or_none rule row lines ++ output_text row ++ codes "</testcase>\n"
 
 -- ---- the document
 
 -- the name and the counts of the one suite
-unfoldable pub begin_text : List ℕ → Rule → List Row → List ℕ
-begin_text class rule rows =
+unfoldable pub suite_begin_text : List ℕ → Rule → List Row → List ℕ
+suite_begin_text class rule rows =
     codes "<?xml version=\"1.0\" encoding=\"UTF-8\"?>\n<testsuites>\n<testsuite"
     ++ attribute (codes "name") class ++ number_attribute (codes "tests") (length rows)
     ++ number_attribute (codes "failures") (count_by (is_failure rule) rows)
     ++ number_attribute (codes "errors") (count_by (is_error rule) rows) ++ codes ">\n"
 
 -- one case a row, with the text of lines at its place
-unfoldable pub cases_text : List ℕ → Rule → List (List ℕ) → List Row → List ℕ
-cases_text class rule [] rows = []
-cases_text class rule (lines ∷ texts) [] = []
-cases_text class rule (lines ∷ texts) (row ∷ rows) =
-    case_text class rule row lines ++ cases_text class rule texts rows
+unfoldable pub test_cases_text : List ℕ → Rule → List (List ℕ) → List Row → List ℕ
+test_cases_text class rule [] rows = []
+test_cases_text class rule (lines ∷ texts) [] = []
+test_cases_text class rule (lines ∷ texts) (row ∷ rows) =
+    test_case_text class rule row lines ++ test_cases_text class rule texts rows
 
-abbrev pub end_text : List ℕ
-end_text = codes "</testsuite>\n</testsuites>\n"
+abbrev pub suite_end_text : List ℕ
+suite_end_text = codes "</testsuite>\n</testsuites>\n"
 
 unfoldable pub junit_text : List ℕ → Rule → List (List ℕ) → List Row → List ℕ
 junit_text class rule texts rows =
-    begin_text class rule rows ++ cases_text class rule texts rows ++ end_text
+    suite_begin_text class rule rows ++ test_cases_text class rule texts rows ++ suite_end_text
 
 -- ---- what rows are
 

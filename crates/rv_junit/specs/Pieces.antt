@@ -4,10 +4,10 @@ use Rattle.std.specs.Fmt.{decimal}
 use Rattle.rv_junit.specs.declared.pieces.Piece.{Piece}
 use Rattle.rv_junit.specs.declared.pieces.Piece.TheVariants as piece
 use Rattle.rv_text.specs.declared.xml.Within.TheVariants.{Attribute, Element}
-use Rattle.rv_text.specs.Xml.{escaped}
+use Rattle.rv_text.specs.Xml.{xml_text}
 
 unfoldable pub attribute : List ℕ → List ℕ → List ℕ
-attribute name value = codes " " ++ name ++ codes "=\"" ++ escaped Attribute value ++ codes "\""
+attribute name value = codes " " ++ name ++ codes "=\"" ++ xml_text Attribute value ++ codes "\""
 
 unfoldable pub number_attribute : List ℕ → ℕ → List ℕ
 number_attribute name number = codes " " ++ name ++ codes "=\"" ++ decimal number ++ codes "\""
@@ -17,4 +17,4 @@ piece_text (piece.Text text) = text.now
 piece_text (piece.Number number) = decimal number
 piece_text (piece.Attribute name value) = attribute name.now value.now
 piece_text (piece.NumberAttribute name number) = number_attribute name.now number
-piece_text (piece.Element text) = escaped Element text.now
+piece_text (piece.Element text) = xml_text Element text.now

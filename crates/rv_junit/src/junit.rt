@@ -3,24 +3,24 @@
 ghost use Rattle.std.specs.Prelude.{◌≡◌, ◌++◌, OnOk, count_by, position, string_bytes};
 ghost use Rattle.rv_job_text.specs.ConsoleTail.{is_feed};
 ghost use Rattle.rv_expect.specs.Problem.{is_error, is_failure};
-ghost use Rattle.rv_junit.specs.Junit.{begin_text, case_text, first_line};
-ghost use Rattle.rv_junit.specs.Junit.{problem_name, problem_or_none};
+ghost use Rattle.rv_junit.specs.Junit.{suite_begin_text, test_case_text, first_line};
+ghost use Rattle.rv_junit.specs.Junit.{problem_element_name, problem_or_none};
 
 use crate::pieces::{Piece, push_pieces};
 use crate::suite::Suite;
 use rv_expect::{Rule, has_passed, is_error, is_failure};
-use rv_rows::{Row, is_run};
+use rv_rows::{Row, did_run};
 use std::alloc::{AllocError, Global};
 
 /// Appends what stands before the cases: the declaration, and the suite's name and counts.
-pub(crate) fn push_begin(
+pub(crate) fn push_suite_begin(
     alloc: Global,
     text: &mut String,
     suite: &Suite<'_>,
     rows: &[Row],
 ) -> Result<(), AllocError>
     ensures { OnOk result (string_bytes text.new
-        ≡ string_bytes text.old ++ begin_text suite.now.name.now suite.now.rule rows.now) }
+        ≡ string_bytes text.old ++ suite_begin_text suite.now.name.now suite.now.rule rows.now) }
 {
     let failures = failure_count(suite.rule, rows);
     let errors = error_count(suite.rule, rows);
@@ -51,7 +51,7 @@ fn error_count(rule: Rule, rows: &[Row]) -> usize
 }
 
 /// Appends the case of a row, with the lines that the row is given.
-pub(crate) fn push_case<'a>(
+pub(crate) fn push_test_case<'a>(
     alloc: Global,
     text: &mut String,
     suite: &Suite<'a>,
@@ -59,7 +59,7 @@ pub(crate) fn push_case<'a>(
     lines: &[u8],
 ) -> Result<(), AllocError>
     ensures { OnOk result (string_bytes text.new
-        ≡ string_bytes text.old ++ case_text suite.now.name.now suite.now.rule row.now lines.now) }
+        ≡ string_bytes text.old ++ test_case_text suite.now.name.now suite.now.rule row.now lines.now) }
 {
     push_pieces(
         alloc,
@@ -100,7 +100,7 @@ fn push_problem_or_none(
     if has_passed(rule, row) {
         return Ok(());
     }
-    let name = problem_name(row);
+    let name = problem_element_name(row);
     push_pieces(
         alloc,
         text,
@@ -117,10 +117,10 @@ fn push_problem_or_none(
     )
 }
 
-fn problem_name(row: &Row) -> &'static str
-    ensures { result.now ≡ problem_name row.now }
+fn problem_element_name(row: &Row) -> &'static str
+    ensures { result.now ≡ problem_element_name row.now }
 {
-    if is_run(row.ending) {
+    if did_run(row.ending) {
         "failure"
     } else {
         "error"
@@ -130,13 +130,13 @@ fn problem_name(row: &Row) -> &'static str
 fn first_line(text: &[u8]) -> &[u8]
     ensures { result.now ≡ first_line text.now }
 {
-    match feed_place(text) {
+    match line_feed_place(text) {
         Some(place) if place < text.len() => &text[..place],
         _ => text,
     }
 }
 
-fn feed_place(text: &[u8]) -> Option<usize>
+fn line_feed_place(text: &[u8]) -> Option<usize>
     ensures { result ≡ position is_feed text.now }
 {
     text.iter().position(|byte| *byte == b'\n')

@@ -3,14 +3,14 @@
 ghost use Rattle.std.specs.Prelude.{◌≡◌, IfErr, OnErr, OnOk};
 ghost use Rattle.std.specs.Io.KnownBytes.{Appends};
 ghost use Rattle.rv_rows.specs.Sinks.{AppendsBeginning};
-ghost use Rattle.rv_rows.specs.Counts.{Rose};
-ghost use Rattle.rv_stream.specs.Streams.{texts_of};
+ghost use Rattle.rv_rows.specs.Counts.{HasRisen};
+ghost use Rattle.rv_stream.specs.Streams.{row_text_list};
 ghost use Rattle.rv_junit.specs.Junit.{junit_text};
 
-use crate::junit::{push_begin, push_case};
+use crate::junit::{push_suite_begin, push_test_case};
 use crate::suite::Suite;
 use rv_rows::{Row, Sink, WriteError, put_all};
-use rv_stream::{PlacedRows, Telling, put_told};
+use rv_stream::{PlacedRows, Telling, put_row_texts};
 use rv_text::push_text;
 use std::alloc::{AllocError, Global};
 
@@ -26,22 +26,22 @@ pub fn write_junit<T: Telling, W: Sink>(
 ) -> Result<(), WriteError>
     ensures appended { OnOk result (Appends (W.taken out.old) (W.taken out.new)
         (junit_text suite.now.name.now suite.now.rule
-        (texts_of (T.line telling.now) rows.now.places.now rows.now.rows.now) rows.now.rows.now)) }
+        (row_text_list (T.line telling.now) rows.now.places.now rows.now.rows.now) rows.now.rows.now)) }
     ensures counted { OnOk result (W.failed out.new ≡ W.failed out.old) }
     ensures part { OnErr result (AppendsBeginning (W.taken out.old) (W.taken out.new)
         (junit_text suite.now.name.now suite.now.rule
-        (texts_of (T.line telling.now) rows.now.places.now rows.now.rows.now) rows.now.rows.now)) }
+        (row_text_list (T.line telling.now) rows.now.places.now rows.now.rows.now) rows.now.rows.now)) }
     ensures failed { IfErr result (λ error. error ≡ WriteError.Failed
-        → Rose (W.failed out.old) (W.failed out.new)) }
+        → HasRisen (W.failed out.old) (W.failed out.new)) }
 {
     let mut begin = String::new(alloc);
-    push_begin(alloc, &mut begin, suite, rows.rows)?;
+    push_suite_begin(alloc, &mut begin, suite, rows.rows)?;
     let mut text = begin.into_bytes();
     let cases = Cases {
         suite: *suite,
         telling,
     };
-    put_told(alloc, &mut text, &cases, rows, out)?;
+    put_row_texts(alloc, &mut text, &cases, rows, out)?;
     push_text(&mut text, "</testsuite>\n</testsuites>\n")?;
     put_all(out, text.as_slice())?;
     Ok(())
@@ -55,12 +55,12 @@ struct Cases<'a, 'b, T: Telling> {
 }
 
 impl<'a, 'b, T: Telling> Telling for Cases<'a, 'b, T> {
-    ghost use Rattle.rv_junit.specs.Junit.{case_text};
+    ghost use Rattle.rv_junit.specs.Junit.{test_case_text};
 
-    ghost line = { λ cases place row. case_text cases.suite.name.now cases.suite.rule row
+    ghost line = { λ cases place row. test_case_text cases.suite.name.now cases.suite.rule row
         (T.line cases.telling.now place row) };
 
-    fn push(
+    fn push_row_text(
         &self,
         alloc: Global,
         place: usize,
@@ -68,9 +68,9 @@ impl<'a, 'b, T: Telling> Telling for Cases<'a, 'b, T> {
         text: &mut Vec<u8>,
     ) -> Result<(), AllocError> {
         let mut lines = Vec::new(alloc);
-        self.telling.push(alloc, place, row, &mut lines)?;
+        self.telling.push_row_text(alloc, place, row, &mut lines)?;
         let mut case = String::new(alloc);
-        push_case(alloc, &mut case, &self.suite, row, lines.as_slice())?;
+        push_test_case(alloc, &mut case, &self.suite, row, lines.as_slice())?;
         text.extend_from_slice(case.as_bytes())
     }
 }

@@ -5,7 +5,7 @@ ghost use Rattle.std.specs.List.{AllByRecursion};
 ghost use Rattle.hex.specs.Hex.{IsBytes};
 ghost use Rattle.rv_rows.specs.declared_row.Row.{Row};
 ghost use Rattle.rv_expect.specs.declared.passing.Rule.{Rule};
-ghost use Rattle.rv_job_text.specs.LastLine.{passed_count};
+ghost use Rattle.rv_job_text.specs.TotalsLine.{passed_count};
 ghost use Rattle.rv_expect.specs.Problem.{is_error, is_failure};
 ghost use Rattle.rv_junit.specs.Junit.{IsWrittenRow, junit_text};
 ghost use Rattle.rv_text.specs.Xml.{IsXmlCharacters};

@@ -1,6 +1,6 @@
 //! Rows as JUnit's XML.
 //!
-//! [`write_junit`] writes [`PlacedRows`] as a [`Suite`], with the lines that a caller's [`Telling`](rv_stream::Telling) gives them. What it writes is
+//! [`write_junit`] writes [`PlacedRows`] as a [`Suite`], with the lines that a caller's [`Telling`](rv_rows::Telling) gives them. What it writes is
 //! exactly the text of its definition in `specs/`, and is characters of XML 1.0 ([`documents_are_xml_characters`]).
 #![tactic(auto)]
 

@@ -4,7 +4,7 @@ ghost use Rattle.std.specs.Prelude.{◌≡◌, ◌++◌, OnOk, string_bytes};
 ghost use Rattle.std.specs.List.{flat_map};
 ghost use Rattle.rv_junit.specs.Pieces.{attribute, number_attribute, piece_text};
 
-use rv_text::{Within, push_escaped};
+use rv_text::{Within, push_xml_text};
 use std::alloc::{AllocError, Global};
 use std::fmt::Write;
 
@@ -47,7 +47,7 @@ fn push_piece(alloc: Global, text: &mut String, piece: Piece<'_>) -> Result<(), 
         Piece::Number(number) => write!(text, "{number}"),
         Piece::Attribute(name, value) => push_attribute(alloc, text, name, value),
         Piece::NumberAttribute(name, number) => push_number_attribute(text, name, number),
-        Piece::Element(bytes) => push_escaped(alloc, text, Within::Element, bytes),
+        Piece::Element(bytes) => push_xml_text(alloc, text, Within::Element, bytes),
     }
 }
 
@@ -62,7 +62,7 @@ fn push_attribute(
         ≡ string_bytes text.old ++ attribute name.now value.now) }
 {
     write!(text, " {name}=\"")?;
-    push_escaped(alloc, text, Within::Attribute, value)?;
+    push_xml_text(alloc, text, Within::Attribute, value)?;
     text.push_str("\"")
 }
 

@@ -1,3 +1,3 @@
 pub mod Places
 pub mod Lines
-pub mod Nearest
+pub mod NearestJob

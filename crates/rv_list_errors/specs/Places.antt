@@ -9,5 +9,5 @@ abbrev pub line_at : ℕ → List ℕ → ℕ
 line_at place text = 1 + count_by is_feed (take place text)
 
 -- how many lines a text has; behind a line feed at its end there is one more, which is empty
-abbrev pub lines_in : List ℕ → ℕ
-lines_in text = 1 + count_by is_feed text
+abbrev pub text_line_count : List ℕ → ℕ
+text_line_count text = 1 + count_by is_feed text

@@ -3,9 +3,9 @@
 ghost use Rattle.std.specs.Prelude.{OnOk, length};
 ghost use Rattle.rv_list_errors.specs.Lines.{PutsLines};
 
+use crate::fault_text::{Look, message_of_fault};
 use crate::list::List;
 use crate::names::Suggestion;
-use crate::texts::{Look, message_of};
 use rv_lists::JobError;
 use rv_text::{Span, push_spans};
 use std::alloc::{AllocError, Global};
@@ -27,19 +27,19 @@ pub fn push_faults(
     match toml::table_from_slice(alloc, text) {
         Ok(table) => {
             let list = List::of(alloc, text, &table)?;
-            push_each(alloc, bytes, file, &Look::List(list), faults)
+            push_fault_lines(alloc, bytes, file, &Look::List(list), faults)
         }
         Err(error) => {
             if error.is_memory() {
                 // Out of memory: `toml` says so of its own error.
                 return Err(AllocError);
             }
-            push_each(alloc, bytes, file, &Look::NoToml(text, error), faults)
+            push_fault_lines(alloc, bytes, file, &Look::NoToml(text, error), faults)
         }
     }
 }
 
-fn push_each(
+fn push_fault_lines(
     alloc: Global,
     bytes: &mut Vec<u8>,
     file: &str,
@@ -49,14 +49,14 @@ fn push_each(
     ensures { OnOk result (PutsLines (length faults.now) bytes.old.items bytes.new.items) }
 {
     for (at, fault) in faults.iter().enumerate() {
-        let message = message_of(alloc, file, look, *fault, suggestion_at(at))?;
+        let message = message_of_fault(alloc, file, look, *fault, suggestion_for_fault(at))?;
         push_spans(bytes, &[Span::Shown(message.as_slice()), Span::Text("\n")])?;
     }
     Ok(())
 }
 
 // What is told beside a name that no job has, in the fault at a place.
-fn suggestion_at(place: usize) -> Suggestion {
+fn suggestion_for_fault(place: usize) -> Suggestion {
     if place < NEAR_TOLD {
         Suggestion::Nearest
     } else {

@@ -1,16 +1,17 @@
 //! Faults of a job.
 
-use crate::expected::told_of_expectation;
-use crate::keys::push_unknown_key;
+use crate::expectation_fault::expectation_explanation;
+use crate::explanations::{
+    BUDGET, IMAGE, INPUT, INPUT_HEX, ISA, LOAD, MISALIGNED, NAME, PAIRS, SIGNATURE, Told,
+    push_explanation,
+};
+use crate::keys::push_unknown_job_key;
 use crate::kinds::push_wrong_kind;
 use crate::list::List;
 use crate::message::Message;
-use crate::names::{Suggestion, push_owner, push_same_as};
-use crate::regions::push_region;
-use crate::values::text_of;
-use crate::wanted::{
-    BUDGET, IMAGE, INPUT, INPUT_HEX, ISA, LOAD, MISALIGNED, NAME, PAIRS, SIGNATURE, Told, push_told,
-};
+use crate::names::{Suggestion, push_name_owner, push_unknown_same_as};
+use crate::regions::push_region_fault;
+use crate::values::table_text;
 use rv_lists::What;
 use toml::{Table, Value};
 
@@ -24,9 +25,9 @@ pub(crate) fn push_job_fault(
 ) {
     match list.jobs.get(place) {
         Some(Value::Table(table)) => match what {
-            What::Duplicate => push_owner(message, list, table, "name", FREE),
-            What::SameAs => push_same_as(message, list, table, place, suggestion),
-            _ => push_own_fault(message, table, what),
+            What::Duplicate => push_name_owner(message, list, table, "name", FREE),
+            What::SameAs => push_unknown_same_as(message, list, table, place, suggestion),
+            _ => push_fault_within_job(message, table, what),
         },
         Some(job) => {
             message.push_value(job);
@@ -39,42 +40,42 @@ pub(crate) fn push_job_fault(
 const FREE: &str = "a name that no earlier job has is wanted";
 
 // Appends a fault that a job has whatever the other jobs are.
-fn push_own_fault(message: &mut Message, table: &Table, what: What) {
+fn push_fault_within_job(message: &mut Message, table: &Table, what: What) {
     match what {
-        What::UnknownKey => push_unknown_key(message, table),
+        What::UnknownKey => push_unknown_job_key(message, table),
         What::WrongType => push_wrong_kind(message, table),
-        What::Region => push_region(message, table),
-        _ => push_told(message, table, told_of(table, what)),
+        What::Region => push_region_fault(message, table),
+        _ => push_explanation(message, table, key_explanation(table, what)),
     }
 }
 
 // What is told of a fault that one value has.
-fn told_of(table: &Table, what: What) -> Told {
+fn key_explanation(table: &Table, what: What) -> Told {
     match what {
         What::Name => Told::Wanted(&NAME),
         What::Image => Told::Wanted(&IMAGE),
         What::Budget => Told::Wanted(&BUDGET),
-        What::Input => told_of_input(table),
+        What::Input => input_explanation(table),
         What::Load => Told::Wanted(&LOAD),
         What::Signature => Told::Wanted(&SIGNATURE),
-        What::Expect => told_of_expectation(table),
+        What::Expect => expectation_explanation(table),
         What::Isa => Told::Wanted(&ISA),
         What::Misaligned => Told::Wanted(&MISALIGNED),
         _ => Told::Text(what.name()),
     }
 }
 
-fn told_of_input(table: &Table) -> Told {
-    match (text_of(table, "input"), text_of(table, "input_hex")) {
+fn input_explanation(table: &Table) -> Told {
+    match (table_text(table, "input"), table_text(table, "input_hex")) {
         (Some(_), Some(_)) => Told::Text("input and input_hex both stand: one of them is taken"),
         (Some(_), None) => Told::Wanted(&INPUT),
-        (None, Some(digits)) if are_pairs(digits) => Told::Wanted(&INPUT_HEX),
+        (None, Some(digits)) if are_hex_digit_pairs(digits) => Told::Wanted(&INPUT_HEX),
         (None, Some(_)) => Told::Wanted(&PAIRS),
         (None, None) => Told::Text(What::Input.name()),
     }
 }
 
-fn are_pairs(digits: &str) -> bool {
+fn are_hex_digit_pairs(digits: &str) -> bool {
     for digit in digits.as_bytes() {
         if !digit.is_ascii_hexdigit() {
             return false;

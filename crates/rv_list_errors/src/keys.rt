@@ -1,9 +1,9 @@
 //! Keys that the format does not have.
 
 use crate::message::Message;
-use crate::names::push_nearest;
+use crate::names::push_nearest_name;
 use crate::regions::push_region_number;
-use crate::values::elements_of;
+use crate::values::table_elements;
 use rv_lists::JOB_KEYS;
 use toml::{Table, Value};
 
@@ -19,14 +19,14 @@ pub(crate) enum Owner {
 pub(crate) fn unknown_key(table: &Table, owner: Owner) -> Option<&str> {
     for key in table.keys() {
         let key = key.as_str();
-        if !is_known(key, owner) {
+        if !is_key_of_owner(key, owner) {
             return Some(key);
         }
     }
     None
 }
 
-fn is_known(key: &str, owner: Owner) -> bool {
+fn is_key_of_owner(key: &str, owner: Owner) -> bool {
     match owner {
         Owner::List => key == "job",
         Owner::Job => is_job_key(key),
@@ -44,38 +44,38 @@ fn is_job_key(key: &str) -> bool {
 }
 
 /// Appends that a key is not known.
-pub(crate) fn push_unknown(message: &mut Message, key: &str) {
+pub(crate) fn push_key_is_unknown(message: &mut Message, key: &str) {
     message.push("unknown key ");
     message.push_quoted(key);
 }
 
 /// Appends the first key of a job, or of one of its regions, that the format does not have, and those that it has: of the
 /// keys of a job the nearest.
-pub(crate) fn push_unknown_key(message: &mut Message, table: &Table) {
+pub(crate) fn push_unknown_job_key(message: &mut Message, table: &Table) {
     match unknown_key(table, Owner::Job) {
         Some(key) => {
-            push_unknown(message, key);
-            push_near_key(message, key);
+            push_key_is_unknown(message, key);
+            push_nearest_key(message, key);
         }
         None => push_unknown_region_key(message, table),
     }
 }
 
 // Appends the key of a job that is nearest to a text.
-fn push_near_key(message: &mut Message, text: &str) {
+fn push_nearest_key(message: &mut Message, text: &str) {
     let mut names = [None; 16];
     for at in 0..names.len() {
         names[at] = Some(JOB_KEYS[at].0);
     }
-    push_nearest(message, &names, text, ": the nearest key is ");
+    push_nearest_name(message, &names, text, ": the nearest key is ");
 }
 
 fn push_unknown_region_key(message: &mut Message, table: &Table) {
-    for (at, region) in elements_of(table, "region").iter().enumerate() {
+    for (at, region) in table_elements(table, "region").iter().enumerate() {
         if let Some(key) = unknown_region_key(region) {
             push_region_number(message, at);
             message.push(": ");
-            push_unknown(message, key);
+            push_key_is_unknown(message, key);
             return message.push(": the keys of a region are base, size and write");
         }
     }

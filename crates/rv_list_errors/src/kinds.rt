@@ -2,7 +2,7 @@
 
 use crate::message::Message;
 use crate::regions::push_region_number;
-use crate::values::{elements_of, push_wanted, value_of};
+use crate::values::{push_wanted_value, table_elements, table_value};
 use rv_lists::{JOB_KEYS, Kind};
 use toml::{Table, Value};
 
@@ -10,31 +10,31 @@ use toml::{Table, Value};
 pub(crate) fn push_wrong_kind(message: &mut Message, table: &Table) {
     for known in &JOB_KEYS {
         let (key, kind) = *known;
-        if is_other(table, key, kind) {
-            return push_wrong_value(message, table, key, kind);
+        if is_value_of_other_kind(table, key, kind) {
+            return push_value_of_wrong_kind(message, table, key, kind);
         }
     }
     message.push("a value of another kind");
 }
 
 // Whether the value at a key is of another kind.
-fn is_other(table: &Table, key: &str, kind: Kind) -> bool {
-    match value_of(table, key) {
-        Some(value) => !is_of(kind, value),
+fn is_value_of_other_kind(table: &Table, key: &str, kind: Kind) -> bool {
+    match table_value(table, key) {
+        Some(value) => !is_of_toml_kind(kind, value),
         None => false,
     }
 }
 
-fn is_of(kind: Kind, value: &Value) -> bool {
+fn is_of_toml_kind(kind: Kind, value: &Value) -> bool {
     match kind {
         Kind::Text => value.is_str(),
         Kind::Number => value.is_integer(),
-        Kind::Texts => are_texts(value),
-        Kind::Regions => are_regions(value),
+        Kind::Texts => is_array_of_texts(value),
+        Kind::Regions => is_array_of_regions(value),
     }
 }
 
-fn are_texts(value: &Value) -> bool {
+fn is_array_of_texts(value: &Value) -> bool {
     let Value::Array(texts) = value else {
         return false;
     };
@@ -46,7 +46,7 @@ fn are_texts(value: &Value) -> bool {
     true
 }
 
-fn are_regions(value: &Value) -> bool {
+fn is_array_of_regions(value: &Value) -> bool {
     let Value::Array(regions) = value else {
         return false;
     };
@@ -60,32 +60,32 @@ fn are_regions(value: &Value) -> bool {
 
 fn is_region(value: &Value) -> bool {
     match value {
-        Value::Table(table) => wrong_region_key(table).is_none(),
+        Value::Table(table) => region_key_of_wrong_kind(table).is_none(),
         _ => false,
     }
 }
 
 // The first key of a region whose value is of another kind, and what is wanted of it.
-fn wrong_region_key(table: &Table) -> Option<(&'static str, &'static str)> {
-    if is_no_number(value_of(table, "base")) {
+fn region_key_of_wrong_kind(table: &Table) -> Option<(&'static str, &'static str)> {
+    if is_other_than_number(table_value(table, "base")) {
         Some(("base", NUMBER))
-    } else if is_no_number(value_of(table, "size")) {
+    } else if is_other_than_number(table_value(table, "size")) {
         Some(("size", NUMBER))
-    } else if is_no_boolean(value_of(table, "write")) {
+    } else if is_other_than_boolean(table_value(table, "write")) {
         Some(("write", "true or false is wanted"))
     } else {
         None
     }
 }
 
-fn is_no_number(value: Option<&Value>) -> bool {
+fn is_other_than_number(value: Option<&Value>) -> bool {
     match value {
         Some(value) => !value.is_integer(),
         None => false,
     }
 }
 
-fn is_no_boolean(value: Option<&Value>) -> bool {
+fn is_other_than_boolean(value: Option<&Value>) -> bool {
     match value {
         Some(value) => !value.is_bool(),
         None => false,
@@ -95,34 +95,34 @@ fn is_no_boolean(value: Option<&Value>) -> bool {
 const NUMBER: &str = "a whole number is wanted";
 
 // Appends the value of a key, which is of another kind than this.
-fn push_wrong_value(message: &mut Message, table: &Table, key: &str, kind: Kind) {
+fn push_value_of_wrong_kind(message: &mut Message, table: &Table, key: &str, kind: Kind) {
     match kind {
-        Kind::Text => push_wanted(message, table, key, "a text is wanted"),
-        Kind::Number => push_wanted(message, table, key, NUMBER),
-        Kind::Texts => push_wanted(message, table, key, "an array of texts is wanted"),
-        Kind::Regions => push_wrong_regions(message, table, key),
+        Kind::Text => push_wanted_value(message, table, key, "a text is wanted"),
+        Kind::Number => push_wanted_value(message, table, key, NUMBER),
+        Kind::Texts => push_wanted_value(message, table, key, "an array of texts is wanted"),
+        Kind::Regions => push_regions_of_wrong_kind(message, table, key),
     }
 }
 
-fn push_wrong_regions(message: &mut Message, table: &Table, key: &str) {
-    for (at, region) in elements_of(table, key).iter().enumerate() {
+fn push_regions_of_wrong_kind(message: &mut Message, table: &Table, key: &str) {
+    for (at, region) in table_elements(table, key).iter().enumerate() {
         if !is_region(region) {
             push_region_number(message, at);
-            return push_wrong_region(message, region);
+            return push_region_of_wrong_kind(message, region);
         }
     }
-    push_wanted(message, table, key, "an array of tables is wanted");
+    push_wanted_value(message, table, key, "an array of tables is wanted");
 }
 
-fn push_wrong_region(message: &mut Message, region: &Value) {
+fn push_region_of_wrong_kind(message: &mut Message, region: &Value) {
     let Value::Table(table) = region else {
         message.push(" = ");
         message.push_value(region);
         return message.push(": a table is wanted");
     };
     message.push(": ");
-    match wrong_region_key(table) {
-        Some((key, wanted)) => push_wanted(message, table, key, wanted),
+    match region_key_of_wrong_kind(table) {
+        Some((key, wanted)) => push_wanted_value(message, table, key, wanted),
         None => message.push("a value of another kind"),
     }
 }

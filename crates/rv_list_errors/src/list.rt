@@ -1,7 +1,7 @@
 //! A list whose faults are told, as a look at its text finds it.
 
-use crate::headers::job_lines;
-use crate::values::{elements_of, text_of};
+use crate::headers::job_line_numbers;
+use crate::values::{table_elements, table_text};
 use std::alloc::{AllocError, Global};
 use toml::{Table, Value};
 
@@ -20,17 +20,17 @@ pub(crate) struct List<'a> {
 impl<'a> List<'a> {
     /// The list of a text and its table.
     pub(crate) fn of(alloc: Global, text: &[u8], table: &'a Table) -> Result<List<'a>, AllocError> {
-        let jobs = elements_of(table, "job");
+        let jobs = table_elements(table, "job");
         Ok(List {
             table,
             jobs,
-            names: names_of(alloc, jobs)?,
-            lines: job_lines(alloc, str::from_utf8(text).unwrap_or(""))?,
+            names: element_names(alloc, jobs)?,
+            lines: job_line_numbers(alloc, str::from_utf8(text).unwrap_or(""))?,
         })
     }
 
     /// The number, counted from 1, of the first job that has a name.
-    pub(crate) fn number_of(&self, name: Option<&str>) -> Option<u64> {
+    pub(crate) fn job_number_of_name(&self, name: Option<&str>) -> Option<u64> {
         for (place, other) in self.names.iter().enumerate() {
             if other.is_some() && *other == name {
                 return Some(place as u64 + 1);
@@ -40,17 +40,17 @@ impl<'a> List<'a> {
     }
 }
 
-fn names_of(alloc: Global, jobs: &[Value]) -> Result<Vec<Option<&str>>, AllocError> {
+fn element_names(alloc: Global, jobs: &[Value]) -> Result<Vec<Option<&str>>, AllocError> {
     let mut names = Vec::new(alloc);
     for job in jobs {
-        names.push(name_in(job))?;
+        names.push(element_name(job))?;
     }
     Ok(names)
 }
 
-fn name_in(job: &Value) -> Option<&str> {
+fn element_name(job: &Value) -> Option<&str> {
     match job {
-        Value::Table(table) => text_of(table, "name"),
+        Value::Table(table) => table_text(table, "name"),
         _ => None,
     }
 }

@@ -1,20 +1,20 @@
 //! Faults of a whole list.
 
-use crate::headers::place_of;
-use crate::keys::{Owner, push_unknown, unknown_key};
+use crate::headers::line_and_column;
+use crate::keys::{Owner, push_key_is_unknown, unknown_key};
 use crate::list::List;
 use crate::message::Message;
-use crate::values::push_wanted;
+use crate::values::push_wanted_value;
 use rv_lists::What;
 use rv_lists::limits::MOST_JOBS;
 use toml::Table;
 use toml::de::Error;
 
 /// Appends why a text is no TOML, behind its line and column.
-pub(crate) fn push_no_toml(message: &mut Message, text: &[u8], error: &Error) {
+pub(crate) fn push_not_toml(message: &mut Message, text: &[u8], error: &Error) {
     if let Some(span) = error.span() {
-        let place = place_of(text, span.start);
-        message.push_between(":", place.line as u64, ":");
+        let place = line_and_column(text, span.start);
+        message.push_number_between(":", place.line as u64, ":");
         message.push_number(place.column as u64);
     }
     message.push(": not TOML: ");
@@ -25,9 +25,9 @@ pub(crate) fn push_no_toml(message: &mut Message, text: &[u8], error: &Error) {
 pub(crate) fn push_list_fault(message: &mut Message, list: &List<'_>, what: What) {
     match what {
         What::NoJobs => push_no_jobs(message, list.table),
-        What::TooMany => push_many_jobs(message, list.jobs.len()),
-        What::UnknownKey => push_other_key(message, list.table),
-        What::WrongType => push_wanted(message, list.table, "job", TABLES),
+        What::TooMany => push_too_many_jobs(message, list.jobs.len()),
+        What::UnknownKey => push_unknown_list_key(message, list.table),
+        What::WrongType => push_wanted_value(message, list.table, "job", TABLES),
         _ => message.push(what.name()),
     }
 }
@@ -36,7 +36,7 @@ const TABLES: &str = "an array of tables, [[job]], is wanted";
 
 // Appends that a list has no jobs. A key beside `job` is told too, since it may be meant.
 fn push_no_jobs(message: &mut Message, table: &Table) {
-    push_wanted(
+    push_wanted_value(
         message,
         table,
         "job",
@@ -44,19 +44,19 @@ fn push_no_jobs(message: &mut Message, table: &Table) {
     );
     if let Some(key) = unknown_key(table, Owner::List) {
         message.push(", and there is an ");
-        push_unknown(message, key);
+        push_key_is_unknown(message, key);
     }
 }
 
-fn push_many_jobs(message: &mut Message, jobs: usize) {
+fn push_too_many_jobs(message: &mut Message, jobs: usize) {
     message.push_number(jobs as u64);
-    message.push_between(" jobs: at most ", MOST_JOBS as u64, " are taken");
+    message.push_number_between(" jobs: at most ", MOST_JOBS as u64, " are taken");
 }
 
-fn push_other_key(message: &mut Message, table: &Table) {
+fn push_unknown_list_key(message: &mut Message, table: &Table) {
     match unknown_key(table, Owner::List) {
         Some(key) => {
-            push_unknown(message, key);
+            push_key_is_unknown(message, key);
             message.push(": the only key of a list is job");
         }
         None => message.push(What::UnknownKey.name()),

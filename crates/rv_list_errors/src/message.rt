@@ -1,6 +1,6 @@
 //! A text that grows.
 
-use rv_text::{push_number, push_shown_value, push_text, push_word};
+use rv_text::{push_number, push_printable_value, push_text, push_word_digits};
 use std::alloc::{AllocError, Global};
 use strsim::levenshtein;
 use toml::Value;
@@ -42,16 +42,16 @@ impl Message {
     }
 
     /// Appends a number between texts.
-    pub(crate) fn push_between(&mut self, before: &str, number: u64, behind: &str) {
+    pub(crate) fn push_number_between(&mut self, before: &str, number: u64, behind: &str) {
         self.push(before);
         self.push_number(number);
         self.push(behind);
     }
 
     /// Appends a word's eight hexadecimal digits.
-    pub(crate) fn push_word(&mut self, word: u32) {
+    pub(crate) fn push_hex_word(&mut self, word: u32) {
         if self.grown.is_ok() {
-            self.grown = push_word(&mut self.bytes, word);
+            self.grown = push_word_digits(&mut self.bytes, word);
         }
     }
 
@@ -61,7 +61,7 @@ impl Message {
             self.push_quoted(text.as_str());
         } else if self.grown.is_ok() {
             match format!(in self.alloc; "{value}") {
-                Ok(text) => self.push_shown(text.as_str()),
+                Ok(text) => self.push_printable(text.as_str()),
                 Err(error) => self.grown = Err(error),
             }
         }
@@ -70,20 +70,20 @@ impl Message {
     /// Appends a text in quotes.
     pub(crate) fn push_quoted(&mut self, text: &str) {
         self.push("\"");
-        self.push_shown(text);
+        self.push_printable(text);
         self.push("\"");
     }
 
     /// Appends a text without quotes.
-    pub(crate) fn push_shown(&mut self, text: &str) {
+    pub(crate) fn push_printable(&mut self, text: &str) {
         if self.grown.is_ok() {
-            self.grown = push_shown_value(&mut self.bytes, text.as_bytes());
+            self.grown = push_printable_value(&mut self.bytes, text.as_bytes());
         }
     }
 
     /// How many characters must be put in, taken out or changed to make one text of another, for which memory is wanted; once a
     /// growth was refused, more than any two texts differ by.
-    pub(crate) fn distance(&mut self, text: &str, other: &str) -> usize {
+    pub(crate) fn edit_distance(&mut self, text: &str, other: &str) -> usize {
         if self.grown.is_err() {
             return usize::MAX;
         }

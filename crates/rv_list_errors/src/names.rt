@@ -2,22 +2,22 @@
 
 use crate::list::List;
 use crate::message::Message;
-use crate::values::{push_key, text_of};
+use crate::values::{push_key_and_value, table_text};
 use rv_lists::limits::MOST_NAME;
 use toml::Table;
 
 /// Appends a key with a name, which earlier job has it, if one does, and what is wanted.
-pub(crate) fn push_owner(
+pub(crate) fn push_name_owner(
     message: &mut Message,
     list: &List<'_>,
     table: &Table,
     key: &str,
     wanted: &str,
 ) {
-    push_key(message, table, key);
+    push_key_and_value(message, table, key);
     message.push(": ");
-    if let Some(number) = list.number_of(text_of(table, key)) {
-        message.push_between("job ", number, " has this name, and ");
+    if let Some(number) = list.job_number_of_name(table_text(table, key)) {
+        message.push_number_between("job ", number, " has this name, and ");
     }
     message.push(wanted);
 }
@@ -31,14 +31,14 @@ pub(crate) enum Suggestion {
 }
 
 /// Appends that `same_as` of the job at a place is the name of no earlier one. The nearest is told where it is asked for.
-pub(crate) fn push_same_as(
+pub(crate) fn push_unknown_same_as(
     message: &mut Message,
     list: &List<'_>,
     table: &Table,
     place: usize,
     suggestion: Suggestion,
 ) {
-    push_owner(
+    push_name_owner(
         message,
         list,
         table,
@@ -46,24 +46,24 @@ pub(crate) fn push_same_as(
         "the name of an earlier job is wanted",
     );
     match suggestion {
-        Suggestion::Nearest => push_nearest_job(message, list, text_of(table, "same_as"), place),
+        Suggestion::Nearest => push_nearest_job(message, list, table_text(table, "same_as"), place),
         Suggestion::Nothing => {}
     }
 }
 
 // Appends which of the jobs before a place has the name that is nearest to one that no job has.
 fn push_nearest_job(message: &mut Message, list: &List<'_>, wanted: Option<&str>, place: usize) {
-    if list.number_of(wanted).is_none() {
+    if list.job_number_of_name(wanted).is_none() {
         let names = list.names.as_slice();
         let earlier = &names[..place.min(names.len())];
-        push_nearest(message, earlier, wanted.unwrap_or(""), "; the nearest is ");
+        push_nearest_name(message, earlier, wanted.unwrap_or(""), "; the nearest is ");
     }
 }
 
 /// Appends which of these names is the nearest to a text, behind other words, if one is: the first of those from which the fewest
 /// characters must be put in, taken out or changed. What is longer than a name may be is near to nothing, so that a look has its
 /// bound.
-pub(crate) fn push_nearest(
+pub(crate) fn push_nearest_name(
     message: &mut Message,
     names: &[Option<&str>],
     text: &str,
@@ -72,7 +72,7 @@ pub(crate) fn push_nearest(
     let mut nearest = None;
     let mut least = usize::MAX;
     for name in names {
-        let distance = distance_of(message, *name, text);
+        let distance = capped_name_distance(message, *name, text);
         if distance < least {
             nearest = *name;
             least = distance;
@@ -84,10 +84,10 @@ pub(crate) fn push_nearest(
     }
 }
 
-fn distance_of(message: &mut Message, name: Option<&str>, text: &str) -> usize {
+fn capped_name_distance(message: &mut Message, name: Option<&str>, text: &str) -> usize {
     match name {
         Some(name) if name.len() <= MOST_NAME && text.len() <= MOST_NAME => {
-            message.distance(text, name)
+            message.edit_distance(text, name)
         }
         _ => usize::MAX,
     }

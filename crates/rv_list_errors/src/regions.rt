@@ -1,7 +1,7 @@
 //! Regions that are no map.
 
 use crate::message::Message;
-use crate::values::{elements_of, push_wanted, word_of};
+use crate::values::{push_wanted_value, table_elements, table_word};
 use rv_lists::What;
 use rv_memory::{Map, MapError, Region};
 use toml::{Table, Value};
@@ -19,34 +19,34 @@ const CONSOLE: Region = Region {
 
 /// Appends which region it is, counted from 1.
 pub(crate) fn push_region_number(message: &mut Message, at: usize) {
-    message.push_between("region ", (at as u64).saturating_add(1), "");
+    message.push_number_between("region ", (at as u64).saturating_add(1), "");
 }
 
 /// Appends why the regions of a job are no map.
-pub(crate) fn push_region(message: &mut Message, table: &Table) {
-    let elements = elements_of(table, "region");
+pub(crate) fn push_region_fault(message: &mut Message, table: &Table) {
+    let elements = table_elements(table, "region");
     for (at, element) in elements.iter().enumerate() {
-        if region_of(element).is_none() {
-            return push_no_region(message, at, element);
+        if region_of_element(element).is_none() {
+            return push_bad_base_or_size(message, at, element);
         }
     }
     let regions = [
-        region_at(elements, 0),
-        region_at(elements, 1),
-        region_at(elements, 2),
-        region_at(elements, 3),
+        region_or_empty(elements, 0),
+        region_or_empty(elements, 1),
+        region_or_empty(elements, 2),
+        region_or_empty(elements, 3),
     ];
     if elements.len() <= regions.len() {
-        push_no_map(message, &regions[..elements.len()]);
+        push_map_error(message, &regions[..elements.len()]);
     } else {
-        push_count(message, elements.len());
+        push_region_count(message, elements.len());
     }
 }
 
 // The region at a place; an empty one where there is none.
-fn region_at(elements: &[Value], at: usize) -> Region {
+fn region_or_empty(elements: &[Value], at: usize) -> Region {
     let region = match elements.get(at) {
-        Some(element) => region_of(element),
+        Some(element) => region_of_element(element),
         None => None,
     };
     region.unwrap_or(Region {
@@ -57,11 +57,11 @@ fn region_at(elements: &[Value], at: usize) -> Region {
 }
 
 // The region of an element, where its base and its size are 32-bit numbers.
-fn region_of(element: &Value) -> Option<Region> {
+fn region_of_element(element: &Value) -> Option<Region> {
     let Value::Table(table) = element else {
         return None;
     };
-    match (word_of(table, "base"), word_of(table, "size")) {
+    match (table_word(table, "base"), table_word(table, "size")) {
         (Some(base), Some(size)) => Some(Region {
             base,
             size,
@@ -72,94 +72,94 @@ fn region_of(element: &Value) -> Option<Region> {
 }
 
 // Appends the base or the size of a region that is no 32-bit number.
-fn push_no_region(message: &mut Message, at: usize, element: &Value) {
+fn push_bad_base_or_size(message: &mut Message, at: usize, element: &Value) {
     push_region_number(message, at);
     message.push(": ");
     match element {
-        Value::Table(table) if word_of(table, "base").is_some() => {
-            push_wanted(message, table, "size", SIZE)
+        Value::Table(table) if table_word(table, "base").is_some() => {
+            push_wanted_value(message, table, "size", SIZE)
         }
-        Value::Table(table) => push_wanted(message, table, "base", BASE),
+        Value::Table(table) => push_wanted_value(message, table, "base", BASE),
         _ => message.push("a table is wanted"),
     }
 }
 
 // Appends why regions are no map.
-fn push_no_map(message: &mut Message, regions: &[Region]) {
+fn push_map_error(message: &mut Message, regions: &[Region]) {
     match Map::of(regions) {
         Ok(_) => message.push(What::Region.name()),
-        Err(MapError::Count) => push_count(message, regions.len()),
-        Err(MapError::Align) => push_unaligned(message, regions),
-        Err(MapError::Size) => push_unsized(message, regions),
-        Err(MapError::Overlap) => push_overlap(message, regions),
-        Err(MapError::Console) => push_console(message, regions),
+        Err(MapError::Count) => push_region_count(message, regions.len()),
+        Err(MapError::Align) => push_unaligned_region(message, regions),
+        Err(MapError::Size) => push_region_size_fault(message, regions),
+        Err(MapError::Overlap) => push_region_overlap(message, regions),
+        Err(MapError::Console) => push_console_overlap(message, regions),
     }
 }
 
-fn push_count(message: &mut Message, count: usize) {
-    message.push_between("region has ", count as u64, " tables: 1 to 4 are wanted");
+fn push_region_count(message: &mut Message, count: usize) {
+    message.push_number_between("region has ", count as u64, " tables: 1 to 4 are wanted");
 }
 
 // Appends the first base or size that is no multiple of 4.
-fn push_unaligned(message: &mut Message, regions: &[Region]) {
+fn push_unaligned_region(message: &mut Message, regions: &[Region]) {
     for (at, region) in regions.iter().enumerate() {
         if region.base % 4 != 0 {
-            push_base(message, at, region.base);
+            push_region_base(message, at, region.base);
             message.push(": ");
             return message.push(BASE);
         }
         if region.size % 4 != 0 {
-            return push_size(message, at, region.size);
+            return push_region_size(message, at, region.size);
         }
     }
 }
 
 // Appends the first region that is too small or goes past the address space, or that all of them are too much.
-fn push_unsized(message: &mut Message, regions: &[Region]) {
+fn push_region_size_fault(message: &mut Message, regions: &[Region]) {
     let mut total = 0u64;
     for (at, region) in regions.iter().enumerate() {
         if region.size < 4 {
-            return push_size(message, at, region.size);
+            return push_region_size(message, at, region.size);
         }
-        if end_of(region) > 0x1_0000_0000 {
-            return push_past(message, at, region);
+        if region_end(region) > 0x1_0000_0000 {
+            return push_region_past_end(message, at, region);
         }
         total = total.saturating_add(u64::from(region.size));
     }
-    message.push_between(
+    message.push_number_between(
         "the sizes of the regions add up to ",
         total,
         ": at most 16777216 is taken",
     );
 }
 
-fn push_past(message: &mut Message, at: usize, region: &Region) {
-    push_base(message, at, region.base);
+fn push_region_past_end(message: &mut Message, at: usize, region: &Region) {
+    push_region_base(message, at, region.base);
     let wanted = ": a region that ends at 0xffffffff at most is wanted";
-    message.push_between(", size = ", u64::from(region.size), wanted);
+    message.push_number_between(", size = ", u64::from(region.size), wanted);
 }
 
-fn push_base(message: &mut Message, at: usize, base: u32) {
+fn push_region_base(message: &mut Message, at: usize, base: u32) {
     push_region_number(message, at);
     message.push(": base = 0x");
-    message.push_word(base);
+    message.push_hex_word(base);
 }
 
-fn push_size(message: &mut Message, at: usize, size: u32) {
+fn push_region_size(message: &mut Message, at: usize, size: u32) {
     push_region_number(message, at);
-    message.push_between(": size = ", u64::from(size), ": ");
+    message.push_number_between(": size = ", u64::from(size), ": ");
     message.push(SIZE);
 }
 
 // The address past the last byte of a region.
-fn end_of(region: &Region) -> u64 {
+fn region_end(region: &Region) -> u64 {
     u64::from(region.base) + u64::from(region.size)
 }
 
 // The first address that two regions share.
 fn shared_address(region: &Region, other: &Region) -> Option<u32> {
     let first = region.base.max(other.base);
-    if u64::from(first) < end_of(region).min(end_of(other)) {
+    if u64::from(first) < region_end(region).min(region_end(other)) {
         Some(first)
     } else {
         None
@@ -167,7 +167,7 @@ fn shared_address(region: &Region, other: &Region) -> Option<u32> {
 }
 
 // Appends the first two regions that share an address.
-fn push_overlap(message: &mut Message, regions: &[Region]) {
+fn push_region_overlap(message: &mut Message, regions: &[Region]) {
     for at in 0..regions.len() {
         for later in at + 1..regions.len() {
             if let Some(address) = shared_address(&regions[at], &regions[later]) {
@@ -175,7 +175,7 @@ fn push_overlap(message: &mut Message, regions: &[Region]) {
                 message.push(" and ");
                 push_region_number(message, later);
                 message.push(" both have 0x");
-                message.push_word(address);
+                message.push_hex_word(address);
                 return message.push(": regions that share no address are wanted");
             }
         }
@@ -183,12 +183,12 @@ fn push_overlap(message: &mut Message, regions: &[Region]) {
 }
 
 // Appends the first region that has an address of the console.
-fn push_console(message: &mut Message, regions: &[Region]) {
+fn push_console_overlap(message: &mut Message, regions: &[Region]) {
     for (at, region) in regions.iter().enumerate() {
         if let Some(address) = shared_address(region, &CONSOLE) {
             push_region_number(message, at);
             message.push(" has 0x");
-            message.push_word(address);
+            message.push_hex_word(address);
             return message.push(": 0x10000000 to 0x1000000f are the console's");
         }
     }

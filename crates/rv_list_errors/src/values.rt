@@ -4,38 +4,38 @@ use crate::message::Message;
 use toml::{Table, Value};
 
 /// The value at a key.
-pub(crate) fn value_of<'a>(table: &'a Table, key: &str) -> Option<&'a Value> {
+pub(crate) fn table_value<'a>(table: &'a Table, key: &str) -> Option<&'a Value> {
     table.get(key)
 }
 
 /// The text at a key.
-pub(crate) fn text_of<'a>(table: &'a Table, key: &str) -> Option<&'a str> {
-    match value_of(table, key) {
+pub(crate) fn table_text<'a>(table: &'a Table, key: &str) -> Option<&'a str> {
+    match table_value(table, key) {
         Some(value) => value.as_str(),
         None => None,
     }
 }
 
 /// The number at a key, where it is one of 32 bits.
-pub(crate) fn word_of(table: &Table, key: &str) -> Option<u32> {
-    match value_of(table, key) {
+pub(crate) fn table_word(table: &Table, key: &str) -> Option<u32> {
+    match table_value(table, key) {
         Some(Value::Integer(number)) => u32::try_from(*number).ok(),
         _ => None,
     }
 }
 
 /// The elements of the array at a key; none where there is no array.
-pub(crate) fn elements_of<'a>(table: &'a Table, key: &str) -> &'a [Value] {
-    match value_of(table, key) {
+pub(crate) fn table_elements<'a>(table: &'a Table, key: &str) -> &'a [Value] {
+    match table_value(table, key) {
         Some(Value::Array(elements)) => elements.as_slice(),
         _ => &[],
     }
 }
 
 /// Appends a key and its value, or that it is absent.
-pub(crate) fn push_key(message: &mut Message, table: &Table, key: &str) {
+pub(crate) fn push_key_and_value(message: &mut Message, table: &Table, key: &str) {
     message.push(key);
-    match value_of(table, key) {
+    match table_value(table, key) {
         Some(value) => {
             message.push(" = ");
             message.push_value(value);
@@ -45,8 +45,8 @@ pub(crate) fn push_key(message: &mut Message, table: &Table, key: &str) {
 }
 
 /// Appends a key, its value, and what is wanted of it.
-pub(crate) fn push_wanted(message: &mut Message, table: &Table, key: &str, wanted: &str) {
-    push_key(message, table, key);
+pub(crate) fn push_wanted_value(message: &mut Message, table: &Table, key: &str, wanted: &str) {
+    push_key_and_value(message, table, key);
     message.push(": ");
     message.push(wanted);
 }

@@ -6,7 +6,7 @@ use Rattle.std.specs.Map.{keys_of}
 use Rattle.toml.specs.Data.{Data, Items, array, as_array, string, integer, float, boolean, datetime, table}
 use Rattle.toml.specs.declared.value.Value.{Value}
 use Rattle.toml.specs.View.{view, members_view, items_view}
-use Rattle.rv_lists.specs.Keys.{any_unknown_key, any_item, all_items, count_of}
+use Rattle.rv_lists.specs.Keys.{any_unknown_key, any_item, all_items, item_count}
 
 pub unknown_key_entries : (known : List ℕ → Bool) (es : List (String Global × Value))
     → list_any (λ k. not (known (string_bytes k))) (keys_of es)
@@ -28,7 +28,7 @@ unfolding all_items
 all_values p [] = refl
 all_values p (v ∷ vs) = ap (λ b. p (view v) && b) (all_values p vs)
 
-pub count_items : (vs : List Value) → count_of (items_view vs) ≡ length vs
+pub count_items : (vs : List Value) → item_count (items_view vs) ≡ length vs
 count_items [] = refl
 count_items (v ∷ vs) = ap (λ n. n + 1) (count_items vs) ∙ omega arith
 

@@ -8,16 +8,17 @@ use Rattle.rv_lists.specs.declared.job.ExpectedEnd.{ExpectedEnd}
 use Rattle.rv_lists.specs.declared.job.Job.{Job}
 use Rattle.rv_lists.specs.declared.job.ExpectedConsole.{ExpectedConsole}
 use Rattle.rv_lists.specs.declared.job.Symbols.{Symbols}
-use Rattle.rv_lists.specs.declared.manner.Manner.{Manner}
+use Rattle.rv_lists.specs.declared.run_keys.Manner.{Manner}
 use Rattle.rv_lists.specs.declared.results.Results.{Results}
 use Rattle.rv_lists.specs.declared.setup.Setup.{Setup}
 use Rattle.rv_elf.specs.declared.loading.LoadAt.{LoadAt}
 use Rattle.rv_memory.specs.declared.map.Region.{Region}
 use Rattle.rv_lists.specs.Keys.{has_unknown_key, has_wrong_kind}
-use Rattle.rv_lists.specs.JobList.{job_in, name_in, image_in, budget_in, place_in, script_in, regions_in, load_in}
-use Rattle.rv_lists.specs.JobList.{signature_in, exit_in, reference_in, console_in, end_in, same_in, isa_in}
-use Rattle.rv_lists.specs.JobList.{misaligned_in}
-use Rattle.rv_lists.specs.JobSteps.{described_in, manner_in, setup_in, results_in}
+use Rattle.rv_lists.specs.JobList.{job_from_table, name_from_table, image_from_table, budget_from_table, script_from_table, regions_from_table, load_from_table}
+use Rattle.rv_base.specs.Names.{place_in}
+use Rattle.rv_lists.specs.JobList.{signature_from_table, exit_from_table, reference_from_table, console_from_table, end_from_table, same_as_from_table, isa_from_table}
+use Rattle.rv_lists.specs.JobList.{misaligned_from_table}
+use Rattle.rv_lists.specs.JobSteps.{job_from_remaining_keys, manner_from_table, setup_from_table, results_from_table}
 use Rattle.rv_lists.specs.Reading.{◌>>=◌}
 
 under : {A B : Type 0} (r : Result A What) (f g : A → Result B What) → ((x : A) → f x ≡ g x) → (r >>= f) ≡ (r >>= g)
@@ -70,10 +71,10 @@ result_steps (Ok s) (Ok e) reference console k = on_reference (reference s)
 
 -- a job whose keys and kinds are in order is the one that is described, where no earlier job has its name
 pub job_described : (earlier : List (List ℕ)) (ms : Members) (name image : List ℕ) (budget : ℕ)
-    → has_unknown_key ms ≡ false → has_wrong_kind ms ≡ false → name_in ms ≡ Ok name
-    → is_some (place_in earlier name) ≡ false → image_in ms ≡ Ok image → budget_in ms ≡ Ok budget
-    → job_in earlier ms ≡ described_in earlier name image budget ms
-unfolding job_in described_in manner_in setup_in results_in
+    → has_unknown_key ms ≡ false → has_wrong_kind ms ≡ false → name_from_table ms ≡ Ok name
+    → is_some (place_in earlier name) ≡ false → image_from_table ms ≡ Ok image → budget_from_table ms ≡ Ok budget
+    → job_from_table earlier ms ≡ job_from_remaining_keys earlier name image budget ms
+unfolding job_from_table job_from_remaining_keys manner_from_table setup_from_table results_from_table
 job_described earlier ms name image budget known typed named fresh imaged budgeted =
     let described : Setup → Results → Manner → Result Job What
     = λ setup results manner. Ok (record {
@@ -93,17 +94,17 @@ job_described earlier ms name image budget known typed named fresh imaged budget
       misaligned = manner.misaligned;
     }) in
     let judged : Setup → Results → Result Job What
-    = λ setup results. (end_in ms >>= λ end. same_in earlier ms >>= λ same. isa_in ms >>= λ set.
-    misaligned_in ms >>= λ choice.
+    = λ setup results. (end_from_table ms >>= λ end. same_as_from_table earlier ms >>= λ same. isa_from_table ms >>= λ set.
+    misaligned_from_table ms >>= λ choice.
     described setup results (record { expect_end = end; same_as = same; isa = set; misaligned = choice })) in
     simp (known, typed, named, fresh, imaged, budgeted) (
-    setup_steps (script_in ms) (regions_in ms) (load_in ms) (λ setup.
-    signature_in ms >>= λ signature. exit_in ms >>= λ exit. reference_in (is_some signature) ms >>= λ reference.
-    console_in ms >>= λ console.
+    setup_steps (script_from_table ms) (regions_from_table ms) (load_from_table ms) (λ setup.
+    signature_from_table ms >>= λ signature. exit_from_table ms >>= λ exit. reference_from_table (is_some signature) ms >>= λ reference.
+    console_from_table ms >>= λ console.
     judged setup (record { signature = signature; exit = exit; reference = reference; console = console }))
-    ∙ under (setup_in ms) _ _ (λ setup.
-    result_steps (signature_in ms) (exit_in ms) (λ signature. reference_in (is_some signature) ms) (console_in ms)
+    ∙ under (setup_from_table ms) _ _ (λ setup.
+    result_steps (signature_from_table ms) (exit_from_table ms) (λ signature. reference_from_table (is_some signature) ms) (console_from_table ms)
     (judged setup)
-    ∙ under (results_in ms) _ _ (λ results.
-    four_steps (end_in ms) (same_in earlier ms) (isa_in ms) (misaligned_in ms) (described setup results)))
+    ∙ under (results_from_table ms) _ _ (λ results.
+    four_steps (end_from_table ms) (same_as_from_table earlier ms) (isa_from_table ms) (misaligned_from_table ms) (described setup results)))
     )

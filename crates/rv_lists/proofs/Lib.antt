@@ -1,6 +1,5 @@
 pub mod Entries
-pub mod PlaceLemmas
+pub mod JobPlaces
 pub mod Steps
 pub mod JobStages
 pub mod AllFaults
-pub mod Public

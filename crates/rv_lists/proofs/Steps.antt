@@ -15,18 +15,19 @@ use Rattle.rv_lists.specs.declared.error.What.{What}
 use Rattle.rv_lists.specs.declared.job.Job.{Job}
 use Rattle.rv_base.specs.Limits.{most_jobs}
 use Rattle.rv_lists.specs.Reading.{◌>>=◌, with_front}
-use Rattle.rv_lists.specs.JobList.{document_of, has_no_jobs, has_too_many, element_in, jobs_from, names_of, region_of}
-use Rattle.rv_lists.specs.JobList.{regions_from, is_within, is_symbol, symbol_in, symbols_of}
+use Rattle.rv_lists.specs.JobList.{document_of, has_no_jobs, has_too_many_jobs, job_from_element, jobs_of_elements, names_of_jobs, region_from_element}
+use Rattle.rv_lists.specs.JobList.{regions_from_elements, is_signature_symbol, signature_symbol, symbols_from_names}
+use Rattle.rv_base.specs.Limits.{is_within}
 use Rattle.std.proofs.Common.{leb}
 use Rattle.std.proofs.lemmas.Bool.{leb-true, and_parts}
 use Rattle.rv_lists.specs.declared.error.What.TheVariants.{Signature}
 use Rattle.rv_lists.proofs.Entries.{count_items, is_array}
 
-too_many_array : (vs : List Value) → nat_lt most_jobs (length vs) ≡ has_too_many (Some (array (items_view vs)))
+too_many_array : (vs : List Value) → nat_lt most_jobs (length vs) ≡ has_too_many_jobs (Some (array (items_view vs)))
 too_many_array vs = rw (count_items vs) refl
 
 pub too_many : (vs : List Value) (d : Data) → Some (items_view vs) ≡ as_array d
-    → nat_lt most_jobs (length vs) ≡ has_too_many (Some d)
+    → nat_lt most_jobs (length vs) ≡ has_too_many_jobs (Some d)
 too_many vs d e = rw (is_array d (items_view vs) e) (too_many_array vs)
 
 no_jobs_array : (vs : List Value) → (length vs == 0) ≡ has_no_jobs (Some (array (items_view vs)))
@@ -36,7 +37,7 @@ no_jobs_array (v ∷ vs) = ne_eqb _ _ (λ e. omega arith)
 pub no_jobs : (vs : List Value) (d : Data) → Some (items_view vs) ≡ as_array d → (length vs == 0) ≡ has_no_jobs (Some d)
 no_jobs vs d e = rw (is_array d (items_view vs) e) (no_jobs_array vs)
 
-pub few_items : (vs : List Value) (d : Data) → Some (items_view vs) ≡ as_array d → has_too_many (Some d) ≡ false
+pub few_items : (vs : List Value) (d : Data) → Some (items_view vs) ≡ as_array d → has_too_many_jobs (Some d) ≡ false
     → length vs ≤ most_jobs
 few_items vs d e below =
     let test : nat_lt most_jobs (length vs) ≡ false = too_many vs d e ∙ below in
@@ -50,79 +51,79 @@ front_more front j (Err e) = refl
 -- ---- jobs
 
 module _ (front : List Job) (n : ℕ) (names : List (List ℕ)) where
-  step_more : (d : Data) (ds : Items) (j : Job) → element_in names d ≡ Ok j
-      → with_front (front ++ j ∷ []) (jobs_from (n + 1) (names ++ j.name ∷ []) ds)
-      ≡ with_front front (jobs_from n names (item d ds))
-  unfolding jobs_from
-  step_more d ds j e = rw e (front_more front j (jobs_from (n + 1) (names ++ j.name ∷ []) ds))
+  step_more : (d : Data) (ds : Items) (j : Job) → job_from_element names d ≡ Ok j
+      → with_front (front ++ j ∷ []) (jobs_of_elements (n + 1) (names ++ j.name ∷ []) ds)
+      ≡ with_front front (jobs_of_elements n names (item d ds))
+  unfolding jobs_of_elements
+  step_more d ds j e = rw e (front_more front j (jobs_of_elements (n + 1) (names ++ j.name ∷ []) ds))
 
-  step_bad : (d : Data) (ds : Items) (w : What) → element_in names d ≡ Err w
-      → with_front front (jobs_from n names (item d ds)) ≡ Err (record { job = n; what = w })
-  unfolding jobs_from
+  step_bad : (d : Data) (ds : Items) (w : What) → job_from_element names d ≡ Err w
+      → with_front front (jobs_of_elements n names (item d ds)) ≡ Err (record { job = n; what = w })
+  unfolding jobs_of_elements
   step_bad d ds w e = rw e refl
 
   -- past the last element
   pub step_end : (vs : List Value) (i : ℕ) → length vs ≤ i
-      → with_front front (jobs_from n names (items_view (drop i vs))) ≡ Ok front
-  unfolding jobs_from
+      → with_front front (jobs_of_elements n names (items_view (drop i vs))) ≡ Ok front
+  unfolding jobs_of_elements
   step_end vs i past = rw (drop_of_length-le vs past) (ap Ok (append-nil front))
 
   turn_more : (vs : List Value) (i : ℕ) (d : Value) (j : Job) → i < length vs
-      → element_in names (view (get_or vs i d)) ≡ Ok j
-      → with_front (front ++ j ∷ []) (jobs_from (n + 1) (names ++ j.name ∷ []) (items_view (drop (i + 1) vs)))
-      ≡ with_front front (jobs_from n names (items_view (drop i vs)))
+      → job_from_element names (view (get_or vs i d)) ≡ Ok j
+      → with_front (front ++ j ∷ []) (jobs_of_elements (n + 1) (names ++ j.name ∷ []) (items_view (drop (i + 1) vs)))
+      ≡ with_front front (jobs_of_elements n names (items_view (drop i vs)))
   turn_more vs i d j lt e =
       step_more (view (get_or vs i d)) (items_view (drop (i + 1) vs)) j e
-      ∙ ap (λ ds. with_front front (jobs_from n names ds)) (sym (items_view-drop vs i d lt))
+      ∙ ap (λ ds. with_front front (jobs_of_elements n names ds)) (sym (items_view-drop vs i d lt))
 
   -- at a bad one
   pub turn_bad : (vs : List Value) (i : ℕ) (d : Value) (w : What) → i < length vs
-      → element_in names (view (get_or vs i d)) ≡ Err w
-      → with_front front (jobs_from n names (items_view (drop i vs))) ≡ Err (record { job = n; what = w })
+      → job_from_element names (view (get_or vs i d)) ≡ Err w
+      → with_front front (jobs_of_elements n names (items_view (drop i vs))) ≡ Err (record { job = n; what = w })
   turn_bad vs i d w lt e =
-      ap (λ ds. with_front front (jobs_from n names ds)) (items_view-drop vs i d lt)
+      ap (λ ds. with_front front (jobs_of_elements n names ds)) (items_view-drop vs i d lt)
       ∙ step_bad (view (get_or vs i d)) (items_view (drop (i + 1) vs)) w e
 
 -- one job more
 pub turn_pushed : (js : List Job) (job : Job) (new : List Job) (n : ℕ) (vs : List Value) (i : ℕ) (d : Value)
     → new ≡ js ++ job ∷ [] → i < length vs
-    → element_in (names_of js) (view (get_or vs i d)) ≡ Ok job
-    → with_front new (jobs_from (n + 1) (names_of new) (items_view (drop (i + 1) vs)))
-    ≡ with_front js (jobs_from n (names_of js) (items_view (drop i vs)))
+    → job_from_element (names_of_jobs js) (view (get_or vs i d)) ≡ Ok job
+    → with_front new (jobs_of_elements (n + 1) (names_of_jobs new) (items_view (drop (i + 1) vs)))
+    ≡ with_front js (jobs_of_elements n (names_of_jobs js) (items_view (drop i vs)))
 turn_pushed js job new n vs i d pushed lt e =
-    rw (pushed, map-append (λ (j : Job). j.name) js (job ∷ [])) (turn_more js n (names_of js) vs i d job lt e)
+    rw (pushed, map-append (λ (j : Job). j.name) js (job ∷ [])) (turn_more js n (names_of_jobs js) vs i d job lt e)
 
 -- ---- regions
 
 module _ (front : List Region) where
-  region_more : (d : Data) (ds : Items) (r : Region) → region_of d ≡ Ok r
-      → with_front (front ++ r ∷ []) (regions_from ds) ≡ with_front front (regions_from (item d ds))
-  unfolding regions_from
-  region_more d ds r e = rw e (front_more front r (regions_from ds))
+  region_more : (d : Data) (ds : Items) (r : Region) → region_from_element d ≡ Ok r
+      → with_front (front ++ r ∷ []) (regions_from_elements ds) ≡ with_front front (regions_from_elements (item d ds))
+  unfolding regions_from_elements
+  region_more d ds r e = rw e (front_more front r (regions_from_elements ds))
 
-  region_bad : (d : Data) (ds : Items) (w : What) → region_of d ≡ Err w
-      → with_front front (regions_from (item d ds)) ≡ Err w
-  unfolding regions_from
+  region_bad : (d : Data) (ds : Items) (w : What) → region_from_element d ≡ Err w
+      → with_front front (regions_from_elements (item d ds)) ≡ Err w
+  unfolding regions_from_elements
   region_bad d ds w e = rw e refl
 
   pub regions_end : (vs : List Value) (i : ℕ) → length vs ≤ i
-      → with_front front (regions_from (items_view (drop i vs))) ≡ Ok front
-  unfolding regions_from
+      → with_front front (regions_from_elements (items_view (drop i vs))) ≡ Ok front
+  unfolding regions_from_elements
   regions_end vs i past = rw (drop_of_length-le vs past) (ap Ok (append-nil front))
 
   pub regions_more : (vs : List Value) (i : ℕ) (d : Value) (r : Region) (new : List Region) → new ≡ front ++ r ∷ []
-      → i < length vs → region_of (view (get_or vs i d)) ≡ Ok r
-      → with_front new (regions_from (items_view (drop (i + 1) vs)))
-      ≡ with_front front (regions_from (items_view (drop i vs)))
+      → i < length vs → region_from_element (view (get_or vs i d)) ≡ Ok r
+      → with_front new (regions_from_elements (items_view (drop (i + 1) vs)))
+      ≡ with_front front (regions_from_elements (items_view (drop i vs)))
   regions_more vs i d r new pushed lt e =
       rw pushed (region_more (view (get_or vs i d)) (items_view (drop (i + 1) vs)) r e
-      ∙ ap (λ ds. with_front front (regions_from ds)) (sym (items_view-drop vs i d lt)))
+      ∙ ap (λ ds. with_front front (regions_from_elements ds)) (sym (items_view-drop vs i d lt)))
 
   pub regions_bad : (vs : List Value) (i : ℕ) (d : Value) (w : What) → i < length vs
-      → region_of (view (get_or vs i d)) ≡ Err w
-      → with_front front (regions_from (items_view (drop i vs))) ≡ Err w
+      → region_from_element (view (get_or vs i d)) ≡ Err w
+      → with_front front (regions_from_elements (items_view (drop i vs))) ≡ Err w
   regions_bad vs i d w lt e =
-      ap (λ ds. with_front front (regions_from ds)) (items_view-drop vs i d lt)
+      ap (λ ds. with_front front (regions_from_elements ds)) (items_view-drop vs i d lt)
       ∙ region_bad (view (get_or vs i d)) (items_view (drop (i + 1) vs)) w e
 
 -- ---- the document
@@ -140,19 +141,19 @@ refused_document bytes h = go (is_utf8 bytes) refl
 
 -- ---- the symbols of a signature
 
-pub symbols_other : (vs : List Value) → (length vs ≡ 2 → ⊥) → symbols_of (items_view vs) ≡ Err Signature
-unfolding symbols_of
+pub symbols_other : (vs : List Value) → (length vs ≡ 2 → ⊥) → symbols_from_names (items_view vs) ≡ Err Signature
+unfolding symbols_from_names
 symbols_other vs h = rw (count_items vs, ne_eqb (length vs) 2 h) refl
 
-pub symbols_two : (vs : List Value) (b e : List ℕ) → length vs ≡ 2 → symbol_in 0 (items_view vs) ≡ Ok b
-    → symbol_in 1 (items_view vs) ≡ Ok e
-    → symbols_of (items_view vs) ≡ Ok (Some (record { begin = b; end = e }))
-unfolding symbols_of
+pub symbols_two : (vs : List Value) (b e : List ℕ) → length vs ≡ 2 → signature_symbol 0 (items_view vs) ≡ Ok b
+    → signature_symbol 1 (items_view vs) ≡ Ok e
+    → symbols_from_names (items_view vs) ≡ Ok (Some (record { begin = b; end = e }))
+unfolding symbols_from_names
 symbols_two vs b e two first second = rw (count_items vs, two, first, second) refl
 
 -- a symbol's name has bytes
-pub symbol_some : (t : List ℕ) → is_symbol t ≡ true → 0 < length t
-unfolding is_symbol
+pub symbol_some : (t : List ℕ) → is_signature_symbol t ≡ true → 0 < length t
+unfolding is_signature_symbol
 symbol_some t e =
     let low = leb-true 1 (length t) (and_parts (leb 1 (length t)) _ (and_parts (is_within 1 255 (length t)) _ e).0).0 in
     omega arith

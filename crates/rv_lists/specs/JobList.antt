@@ -32,234 +32,220 @@ use Rattle.rv_lists.specs.declared.job.ExpectedEnd.{ExpectedEnd}
 use Rattle.rv_lists.specs.declared.job.ExpectedEnd.TheVariants as expected
 use Rattle.rv_machine.specs.declared.ending.FaultKind.{FaultKind}
 use Rattle.rv_machine.specs.Faults.{fault_named}
-use Rattle.rv_base.specs.Limits.{most_budget, most_name, most_symbol}
+use Rattle.rv_base.specs.Limits.{is_within, most_budget, most_symbol}
 use Rattle.rv_base.specs.Limits.{most_console, most_jobs, most_path, most_script}
+use Rattle.rv_base.specs.Names.{is_name, place_in}
 use Rattle.rv_lists.specs.Jobs.{default_regions}
-use Rattle.rv_lists.specs.Reading.{◌>>=◌, unless, passing, or_else, numbered}
-use Rattle.rv_lists.specs.Keys.{any_unknown_key, is_list_key, count_of, text_at, number_at}
-use Rattle.rv_lists.specs.Keys.{truth_at, array_at, has_wrong_kind, has_unknown_key}
+use Rattle.rv_lists.specs.Reading.{◌>>=◌, fault_if, passing_value, reading_or_default, numbered_reading}
+use Rattle.rv_lists.specs.Keys.{any_unknown_key, is_list_key, item_count, text_at_key, number_at_key}
+use Rattle.rv_lists.specs.Keys.{boolean_at_key, array_at_key, has_wrong_kind, has_unknown_key}
 
 -- ---- name, image, budget
-
-abbrev pub is_within : ℕ → ℕ → ℕ → Bool
-is_within low high n = nat_le low n && nat_le n high
-
--- an ASCII letter or digit, or one of `.`, `_` and `-`
-unfoldable pub is_name_byte : ℕ → Bool
-is_name_byte c = is_ascii_alphanumeric c || list_any (λ b. c == b) (codes "._-")
-
-unfoldable pub is_name : List ℕ → Bool
-is_name t = is_within 1 most_name (length t) && list_all is_name_byte t
 
 abbrev pub is_path : List ℕ → Bool
 is_path t = is_within 1 most_path (length t)
 
-unfoldable pub name_in : Members → Result (List ℕ) What
-name_in ms = passing is_name what.Name (text_at (codes "name") ms)
+unfoldable pub name_from_table : Members → Result (List ℕ) What
+name_from_table ms = passing_value is_name what.Name (text_at_key (codes "name") ms)
 
-unfoldable pub image_in : Members → Result (List ℕ) What
-image_in ms = passing is_path what.Image (text_at (codes "image") ms)
+unfoldable pub image_from_table : Members → Result (List ℕ) What
+image_from_table ms = passing_value is_path what.Image (text_at_key (codes "image") ms)
 
 -- a number from low to high, else the fault
-abbrev pub number_within : ℕ → ℕ → What → ℤ → Result ℕ What
-number_within low high fault (pos n) = if is_within low high n then Ok n else Err fault
-number_within low high fault (negsuc n) = Err fault
+abbrev pub number_or_fault : ℕ → ℕ → What → ℤ → Result ℕ What
+number_or_fault low high fault (pos n) = if is_within low high n then Ok n else Err fault
+number_or_fault low high fault (negsuc n) = Err fault
 
-abbrev pub required : {X Y : Type 0} → (X → Result Y What) → What → Option X → Result Y What
-required f fault None = Err fault
-required f fault (Some x) = f x
+abbrev pub required_value : {X Y : Type 0} → (X → Result Y What) → What → Option X → Result Y What
+required_value f fault None = Err fault
+required_value f fault (Some x) = f x
 
-unfoldable pub budget_in : Members → Result ℕ What
-budget_in ms =
-    required (number_within 1 most_budget what.Budget) what.Budget (number_at (codes "budget") ms)
+unfoldable pub budget_from_table : Members → Result ℕ What
+budget_from_table ms =
+    required_value (number_or_fault 1 most_budget what.Budget) what.Budget (number_at_key (codes "budget") ms)
 
 -- ---- the script
 
-abbrev pub limited : List ℕ → Result (List ℕ) What
-limited bytes = if nat_le (length bytes) most_script then Ok bytes else Err what.Input
+abbrev pub script_from_bytes : List ℕ → Result (List ℕ) What
+script_from_bytes bytes = if nat_le (length bytes) most_script then Ok bytes else Err what.Input
 
-abbrev pub from_hex : Result (List ℕ) FromHexError → Result (List ℕ) What
-from_hex (Ok bytes) = limited bytes
-from_hex (Err e) = Err what.Input
+abbrev pub script_from_decoded : Result (List ℕ) FromHexError → Result (List ℕ) What
+script_from_decoded (Ok bytes) = script_from_bytes bytes
+script_from_decoded (Err e) = Err what.Input
 
 -- of `input` and `input_hex`, of which one stands at most
-abbrev pub script_of : Option (List ℕ) → Option (List ℕ) → Result (List ℕ) What
-script_of None None = Ok []
-script_of (Some text) None = limited text
-script_of None (Some digits) = from_hex (decode_of digits)
-script_of (Some text) (Some digits) = Err what.Input
+abbrev pub script_from_either : Option (List ℕ) → Option (List ℕ) → Result (List ℕ) What
+script_from_either None None = Ok []
+script_from_either (Some text) None = script_from_bytes text
+script_from_either None (Some digits) = script_from_decoded (decode_of digits)
+script_from_either (Some text) (Some digits) = Err what.Input
 
-unfoldable pub script_in : Members → Result (List ℕ) What
-script_in ms = script_of (text_at (codes "input") ms) (text_at (codes "input_hex") ms)
+unfoldable pub script_from_table : Members → Result (List ℕ) What
+script_from_table ms = script_from_either (text_at_key (codes "input") ms) (text_at_key (codes "input_hex") ms)
 
 -- ---- regions
 
-abbrev pub word_in : List ℕ → Members → Result ℕ What
-word_in key ms = required (number_within 0 0xffff_ffff what.Region) what.Region (number_at key ms)
+abbrev pub region_word : List ℕ → Members → Result ℕ What
+region_word key ms = required_value (number_or_fault 0 0xffff_ffff what.Region) what.Region (number_at_key key ms)
 
-unfoldable pub region_in : Members → Result Region What
-region_in ms = do
-  base ← word_in (codes "base") ms
-  size ← word_in (codes "size") ms
-  Ok (record { base = base; size = size; writable = unwrap_or (truth_at (codes "write") ms) true })
+unfoldable pub region_from_table : Members → Result Region What
+region_from_table ms = do
+  base ← region_word (codes "base") ms
+  size ← region_word (codes "size") ms
+  Ok (record { base = base; size = size; writable = unwrap_or (boolean_at_key (codes "write") ms) true })
 
-unfoldable pub region_of : Data → Result Region What
-region_of (table ms) = region_in ms
-region_of _ = Err what.Region
+unfoldable pub region_from_element : Data → Result Region What
+region_from_element (table ms) = region_from_table ms
+region_from_element _ = Err what.Region
 
-unfoldable pub regions_from : Items → Result (List Region) What
-regions_from no_items = Ok []
-regions_from (item d ds) = do
-  region ← region_of d
-  regions ← regions_from ds
+unfoldable pub regions_from_elements : Items → Result (List Region) What
+regions_from_elements no_items = Ok []
+regions_from_elements (item d ds) = do
+  region ← region_from_element d
+  regions ← regions_from_elements ds
   Ok (region ∷ regions)
 
 -- the regions, where they are a map
-abbrev pub mapped : List Region → Option MapError → Result (List Region) What
-mapped regions None = Ok regions
-mapped regions (Some e) = Err what.Region
+abbrev pub regions_if_map : List Region → Option MapError → Result (List Region) What
+regions_if_map regions None = Ok regions
+regions_if_map regions (Some e) = Err what.Region
 
-unfoldable pub map_of : Items → Result (List Region) What
-map_of ds = regions_from ds >>= (λ regions. mapped regions (map_error regions))
+unfoldable pub map_from_elements : Items → Result (List Region) What
+map_from_elements ds = regions_from_elements ds >>= (λ regions. regions_if_map regions (map_error regions))
 
-unfoldable pub regions_in : Members → Result (List Region) What
-regions_in ms = or_else map_of default_regions (array_at (codes "region") ms)
+unfoldable pub regions_from_table : Members → Result (List Region) What
+regions_from_table ms = reading_or_default map_from_elements default_regions (array_at_key (codes "region") ms)
 
 -- ---- where the image is loaded
 
-abbrev pub load_of : List ℕ → Result LoadAt What
-load_of t = if bytes_eq t (codes "physical") then Ok Physical
+abbrev pub load_from_text : List ℕ → Result LoadAt What
+load_from_text t = if bytes_eq t (codes "physical") then Ok Physical
     else if bytes_eq t (codes "virtual") then Ok Virtual
     else Err what.Load
 
-unfoldable pub load_in : Members → Result LoadAt What
-load_in ms = or_else load_of Physical (text_at (codes "load") ms)
+unfoldable pub load_from_table : Members → Result LoadAt What
+load_from_table ms = reading_or_default load_from_text Physical (text_at_key (codes "load") ms)
 
 -- ---- the signature
 
 -- not empty, not too long, and without a zero byte
-unfoldable pub is_symbol : List ℕ → Bool
-is_symbol t = is_within 1 most_symbol (length t) && list_all (λ b. not (b == 0)) t
+unfoldable pub is_signature_symbol : List ℕ → Bool
+is_signature_symbol t = is_within 1 most_symbol (length t) && list_all (λ b. not (b == 0)) t
 
-abbrev pub symbol_in : ℕ → Items → Result (List ℕ) What
-symbol_in n ds = passing is_symbol what.Signature (option_and_then as_str (get_item n ds))
+abbrev pub signature_symbol : ℕ → Items → Result (List ℕ) What
+signature_symbol n ds = passing_value is_signature_symbol what.Signature (option_and_then as_str (get_item n ds))
 
-unfoldable pub symbols_of : Items → Result (Option Symbols) What
-symbols_of ds = do
-  two ← unless (not (count_of ds == 2)) what.Signature
-  begin ← symbol_in 0 ds
-  end ← symbol_in 1 ds
+unfoldable pub symbols_from_names : Items → Result (Option Symbols) What
+symbols_from_names ds = do
+  two ← fault_if (not (item_count ds == 2)) what.Signature
+  begin ← signature_symbol 0 ds
+  end ← signature_symbol 1 ds
   Ok (Some (record { begin = begin; end = end }))
 
-unfoldable pub signature_in : Members → Result (Option Symbols) What
-signature_in ms = or_else symbols_of None (array_at (codes "signature") ms)
+unfoldable pub signature_from_table : Members → Result (Option Symbols) What
+signature_from_table ms = reading_or_default symbols_from_names None (array_at_key (codes "signature") ms)
 
 -- ---- what is expected
 
-abbrev pub exit_of : ℤ → Result (Option ℕ) What
-exit_of z = number_within 0 0xffff_ffff what.Expect z >>= (λ n. Ok (Some n))
+abbrev pub exit_from_number : ℤ → Result (Option ℕ) What
+exit_from_number z = number_or_fault 0 0xffff_ffff what.Expect z >>= (λ n. Ok (Some n))
 
-unfoldable pub exit_in : Members → Result (Option ℕ) What
-exit_in ms = or_else exit_of None (number_at (codes "expect_exit") ms)
+unfoldable pub exit_from_table : Members → Result (Option ℕ) What
+exit_from_table ms = reading_or_default exit_from_number None (number_at_key (codes "expect_exit") ms)
 
 -- a path, where a signature is asked for
-abbrev pub reference_of : Bool → List ℕ → Result (Option (List ℕ)) What
-reference_of asked path = if asked && is_path path then Ok (Some path) else Err what.Expect
+abbrev pub reference_from_path : Bool → List ℕ → Result (Option (List ℕ)) What
+reference_from_path asked path = if asked && is_path path then Ok (Some path) else Err what.Expect
 
-unfoldable pub reference_in : Bool → Members → Result (Option (List ℕ)) What
-reference_in asked ms = or_else (reference_of asked) None (text_at (codes "expect_signature") ms)
+unfoldable pub reference_from_table : Bool → Members → Result (Option (List ℕ)) What
+reference_from_table asked ms = reading_or_default (reference_from_path asked) None (text_at_key (codes "expect_signature") ms)
 
 -- the bytes of a text, where they are no more than a console holds
-abbrev pub console_text : List ℕ → Result (Option ExpectedConsole) What
-console_text text =
+abbrev pub console_from_text : List ℕ → Result (Option ExpectedConsole) What
+console_from_text text =
     if nat_le (length text) most_console then Ok (Some (Text text)) else Err what.Expect
 
-abbrev pub console_file : List ℕ → Result (Option ExpectedConsole) What
-console_file path = if is_path path then Ok (Some (File path)) else Err what.Expect
+abbrev pub console_from_path : List ℕ → Result (Option ExpectedConsole) What
+console_from_path path = if is_path path then Ok (Some (File path)) else Err what.Expect
 
 -- of `expect_console` and `expect_console_file`, of which one stands at most
-abbrev pub console_of : Option (List ℕ) → Option (List ℕ) → Result (Option ExpectedConsole) What
-console_of None None = Ok None
-console_of (Some text) None = console_text text
-console_of None (Some path) = console_file path
-console_of (Some text) (Some path) = Err what.Expect
+abbrev pub console_from_either : Option (List ℕ) → Option (List ℕ) → Result (Option ExpectedConsole) What
+console_from_either None None = Ok None
+console_from_either (Some text) None = console_from_text text
+console_from_either None (Some path) = console_from_path path
+console_from_either (Some text) (Some path) = Err what.Expect
 
-unfoldable pub console_in : Members → Result (Option ExpectedConsole) What
-console_in ms =
-    console_of (text_at (codes "expect_console") ms) (text_at (codes "expect_console_file") ms)
+unfoldable pub console_from_table : Members → Result (Option ExpectedConsole) What
+console_from_table ms =
+    console_from_either (text_at_key (codes "expect_console") ms) (text_at_key (codes "expect_console_file") ms)
 
-abbrev pub end_by : Option FaultKind → Result (Option ExpectedEnd) What
-end_by None = Err what.Expect
-end_by (Some kind) = Ok (Some (expected.Fault kind))
+abbrev pub end_from_fault_kind : Option FaultKind → Result (Option ExpectedEnd) What
+end_from_fault_kind None = Err what.Expect
+end_from_fault_kind (Some kind) = Ok (Some (expected.Fault kind))
 
 -- `budget`, or the name of a fault
-abbrev pub end_of : List ℕ → Result (Option ExpectedEnd) What
-end_of t = if bytes_eq t (codes "budget") then Ok (Some expected.Budget) else end_by (fault_named t)
+abbrev pub end_from_text : List ℕ → Result (Option ExpectedEnd) What
+end_from_text t = if bytes_eq t (codes "budget") then Ok (Some expected.Budget) else end_from_fault_kind (fault_named t)
 
-unfoldable pub end_in : Members → Result (Option ExpectedEnd) What
-end_in ms = or_else end_of None (text_at (codes "expect_end") ms)
+unfoldable pub end_from_table : Members → Result (Option ExpectedEnd) What
+end_from_table ms = reading_or_default end_from_text None (text_at_key (codes "expect_end") ms)
 
 -- the names of jobs, in order
-abbrev pub names_of : List Job → List (List ℕ)
-names_of jobs = map (λ (j : Job). j.name) jobs
+abbrev pub names_of_jobs : List Job → List (List ℕ)
+names_of_jobs jobs = map (λ (j : Job). j.name) jobs
 
--- the place of the first of these texts that is t
-unfoldable pub place_in : List (List ℕ) → List ℕ → Option ℕ
-place_in [] t = None
-place_in (x ∷ xs) t = if bytes_eq t x then Some 0 else option_map (λ k. k + 1) (place_in xs t)
+abbrev pub same_as_from_place : Option ℕ → Result (Option ℕ) What
+same_as_from_place None = Err what.SameAs
+same_as_from_place (Some k) = Ok (Some k)
 
-abbrev pub same_at : Option ℕ → Result (Option ℕ) What
-same_at None = Err what.SameAs
-same_at (Some k) = Ok (Some k)
+abbrev pub same_as_from_name : List (List ℕ) → List ℕ → Result (Option ℕ) What
+same_as_from_name earlier t = same_as_from_place (place_in earlier t)
 
-abbrev pub same_of : List (List ℕ) → List ℕ → Result (Option ℕ) What
-same_of earlier t = same_at (place_in earlier t)
-
-unfoldable pub same_in : List (List ℕ) → Members → Result (Option ℕ) What
-same_in earlier ms = or_else (same_of earlier) None (text_at (codes "same_as") ms)
+unfoldable pub same_as_from_table : List (List ℕ) → Members → Result (Option ℕ) What
+same_as_from_table earlier ms = reading_or_default (same_as_from_name earlier) None (text_at_key (codes "same_as") ms)
 
 -- ---- the hart
 
-abbrev pub isa_of : List ℕ → Result Isa What
-isa_of t = if bytes_eq t (codes "rv32i") then Ok isa.I
+abbrev pub isa_from_text : List ℕ → Result Isa What
+isa_from_text t = if bytes_eq t (codes "rv32i") then Ok isa.I
     else if bytes_eq t (codes "rv32im") then Ok isa.Im
     else if bytes_eq t (codes "rv32ic") then Ok isa.Ic
     else if bytes_eq t (codes "rv32imc") then Ok isa.Imc
     else Err what.Isa
 
-unfoldable pub isa_in : Members → Result Isa What
-isa_in ms = or_else isa_of isa.Imc (text_at (codes "isa") ms)
+unfoldable pub isa_from_table : Members → Result Isa What
+isa_from_table ms = reading_or_default isa_from_text isa.Imc (text_at_key (codes "isa") ms)
 
-abbrev pub misaligned_of : List ℕ → Result Choice What
-misaligned_of t = if bytes_eq t (codes "fault") then Ok Fault
+abbrev pub misaligned_from_text : List ℕ → Result Choice What
+misaligned_from_text t = if bytes_eq t (codes "fault") then Ok Fault
     else if bytes_eq t (codes "allow") then Ok Allow
     else Err what.Misaligned
 
-unfoldable pub misaligned_in : Members → Result Choice What
-misaligned_in ms = or_else misaligned_of Fault (text_at (codes "misaligned") ms)
+unfoldable pub misaligned_from_table : Members → Result Choice What
+misaligned_from_table ms = reading_or_default misaligned_from_text Fault (text_at_key (codes "misaligned") ms)
 
 -- ---- a job
 
 -- the job of a table behind jobs of these names, or the fault of the lowest number
-unfoldable pub job_in : List (List ℕ) → Members → Result Job What
-job_in earlier ms = do
-  known ← unless (has_unknown_key ms) what.UnknownKey
-  typed ← unless (has_wrong_kind ms) what.WrongType
-  name ← name_in ms
-  fresh ← unless (is_some (place_in earlier name)) what.Duplicate
-  image ← image_in ms
-  budget ← budget_in ms
-  script ← script_in ms
-  regions ← regions_in ms
-  load ← load_in ms
-  signature ← signature_in ms
-  expect_exit ← exit_in ms
-  expect_signature ← reference_in (is_some signature) ms
-  expect_console ← console_in ms
-  expect_end ← end_in ms
-  same_as ← same_in earlier ms
-  set ← isa_in ms
-  choice ← misaligned_in ms
+unfoldable pub job_from_table : List (List ℕ) → Members → Result Job What
+job_from_table earlier ms = do
+  known ← fault_if (has_unknown_key ms) what.UnknownKey
+  typed ← fault_if (has_wrong_kind ms) what.WrongType
+  name ← name_from_table ms
+  fresh ← fault_if (is_some (place_in earlier name)) what.Duplicate
+  image ← image_from_table ms
+  budget ← budget_from_table ms
+  script ← script_from_table ms
+  regions ← regions_from_table ms
+  load ← load_from_table ms
+  signature ← signature_from_table ms
+  expect_exit ← exit_from_table ms
+  expect_signature ← reference_from_table (is_some signature) ms
+  expect_console ← console_from_table ms
+  expect_end ← end_from_table ms
+  same_as ← same_as_from_table earlier ms
+  set ← isa_from_table ms
+  choice ← misaligned_from_table ms
   Ok (record {
     name = name;
     image = image;
@@ -277,19 +263,19 @@ job_in earlier ms = do
     misaligned = choice;
   })
 
-unfoldable pub element_in : List (List ℕ) → Data → Result Job What
-element_in earlier (table ms) = job_in earlier ms
-element_in earlier _ = Err what.WrongType
+unfoldable pub job_from_element : List (List ℕ) → Data → Result Job What
+job_from_element earlier (table ms) = job_from_table earlier ms
+job_from_element earlier _ = Err what.WrongType
 
 -- ---- the whole list
 
 -- the jobs of the elements, of which the first has the number n, or the first bad one with its
 -- fault
-unfoldable pub jobs_from : ℕ → List (List ℕ) → Items → Result (List Job) JobError
-jobs_from n earlier no_items = Ok []
-jobs_from n earlier (item d ds) = do
-  job ← numbered n (element_in earlier d)
-  jobs ← jobs_from (n + 1) (earlier ++ job.name ∷ []) ds
+unfoldable pub jobs_of_elements : ℕ → List (List ℕ) → Items → Result (List Job) JobError
+jobs_of_elements n earlier no_items = Ok []
+jobs_of_elements n earlier (item d ds) = do
+  job ← numbered_reading n (job_from_element earlier d)
+  jobs ← jobs_of_elements (n + 1) (earlier ++ job.name ∷ []) ds
   Ok (job ∷ jobs)
 
 -- `job` is absent or an empty array
@@ -298,30 +284,30 @@ has_no_jobs None = true
 has_no_jobs (Some (array no_items)) = true
 has_no_jobs _ = false
 
-abbrev pub has_too_many : Option Data → Bool
-has_too_many (Some (array ds)) = nat_lt most_jobs (count_of ds)
-has_too_many _ = false
+abbrev pub has_too_many_jobs : Option Data → Bool
+has_too_many_jobs (Some (array ds)) = nat_lt most_jobs (item_count ds)
+has_too_many_jobs _ = false
 
-abbrev pub elements : Option Data → Result Items What
-elements (Some (array ds)) = Ok ds
-elements _ = Err what.WrongType
+abbrev pub array_elements : Option Data → Result Items What
+array_elements (Some (array ds)) = Ok ds
+array_elements _ = Err what.WrongType
 
 -- the elements of `job`, or the lowest fault of the whole list
-unfoldable pub elements_in : Members → Result Items What
-elements_in ms = do
-  some ← unless (has_no_jobs (get_member (codes "job") ms)) what.NoJobs
-  few ← unless (has_too_many (get_member (codes "job") ms)) what.TooMany
-  known ← unless (any_unknown_key is_list_key ms) what.UnknownKey
-  elements (get_member (codes "job") ms)
+unfoldable pub job_elements : Members → Result Items What
+job_elements ms = do
+  some ← fault_if (has_no_jobs (get_member (codes "job") ms)) what.NoJobs
+  few ← fault_if (has_too_many_jobs (get_member (codes "job") ms)) what.TooMany
+  known ← fault_if (any_unknown_key is_list_key ms) what.UnknownKey
+  array_elements (get_member (codes "job") ms)
 
 -- of a document, which no jobs are in without one
-unfoldable pub jobs_in : Option Members → Result (List Job) JobError
-jobs_in None = Err (record { job = 0; what = what.NotToml })
-jobs_in (Some ms) = numbered 0 (elements_in ms) >>= jobs_from 1 []
+unfoldable pub jobs_of_document : Option Members → Result (List Job) JobError
+jobs_of_document None = Err (record { job = 0; what = what.NotToml })
+jobs_of_document (Some ms) = numbered_reading 0 (job_elements ms) >>= jobs_of_elements 1 []
 
 -- what bytes are as a document: no text that is not UTF-8 is one
 abbrev pub document_of : List ℕ → Option Members
 document_of bytes = if is_utf8 bytes then parse_document bytes else None
 
 unfoldable pub job_list_of : List ℕ → Result (List Job) JobError
-job_list_of bytes = jobs_in (document_of bytes)
+job_list_of bytes = jobs_of_document (document_of bytes)

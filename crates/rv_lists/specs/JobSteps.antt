@@ -3,46 +3,46 @@ use Rattle.std.specs.Prelude.{ℕ, List, Result, Ok, is_some}
 use Rattle.toml.specs.Data.{Members}
 use Rattle.rv_lists.specs.declared.error.What.{What}
 use Rattle.rv_lists.specs.declared.job.Job.{Job}
-use Rattle.rv_lists.specs.declared.manner.Manner.{Manner}
+use Rattle.rv_lists.specs.declared.run_keys.Manner.{Manner}
 use Rattle.rv_lists.specs.declared.results.Results.{Results}
 use Rattle.rv_lists.specs.declared.setup.Setup.{Setup}
-use Rattle.rv_lists.specs.JobList.{script_in, regions_in, load_in, signature_in, exit_in}
-use Rattle.rv_lists.specs.JobList.{reference_in, console_in}
-use Rattle.rv_lists.specs.JobList.{end_in, same_in, isa_in, misaligned_in}
+use Rattle.rv_lists.specs.JobList.{script_from_table, regions_from_table, load_from_table, signature_from_table, exit_from_table}
+use Rattle.rv_lists.specs.JobList.{reference_from_table, console_from_table}
+use Rattle.rv_lists.specs.JobList.{end_from_table, same_as_from_table, isa_from_table, misaligned_from_table}
 use Rattle.rv_lists.specs.Reading.{◌>>=◌}
 
 -- how a job runs and is to end, behind jobs of these names
-unfoldable pub manner_in : List (List ℕ) → Members → Result Manner What
-manner_in earlier ms = do
-  expect_end ← end_in ms
-  same_as ← same_in earlier ms
-  set ← isa_in ms
-  choice ← misaligned_in ms
+unfoldable pub manner_from_table : List (List ℕ) → Members → Result Manner What
+manner_from_table earlier ms = do
+  expect_end ← end_from_table ms
+  same_as ← same_as_from_table earlier ms
+  set ← isa_from_table ms
+  choice ← misaligned_from_table ms
   Ok (record { expect_end = expect_end; same_as = same_as; isa = set; misaligned = choice })
 
 -- what a job starts with
-unfoldable pub setup_in : Members → Result Setup What
-setup_in ms = do
-  script ← script_in ms
-  regions ← regions_in ms
-  load ← load_in ms
+unfoldable pub setup_from_table : Members → Result Setup What
+setup_from_table ms = do
+  script ← script_from_table ms
+  regions ← regions_from_table ms
+  load ← load_from_table ms
   Ok (record { script = script; regions = regions; load = load })
 
 -- what is taken of a job's run, and what it is expected to be
-unfoldable pub results_in : Members → Result Results What
-results_in ms = do
-  signature ← signature_in ms
-  exit ← exit_in ms
-  reference ← reference_in (is_some signature) ms
-  console ← console_in ms
+unfoldable pub results_from_table : Members → Result Results What
+results_from_table ms = do
+  signature ← signature_from_table ms
+  exit ← exit_from_table ms
+  reference ← reference_from_table (is_some signature) ms
+  console ← console_from_table ms
   Ok (record { signature = signature; exit = exit; reference = reference; console = console })
 
 -- the job of this name, image and budget
-unfoldable pub described_in : List (List ℕ) → List ℕ → List ℕ → ℕ → Members → Result Job What
-described_in earlier name image budget ms = do
-  setup ← setup_in ms
-  results ← results_in ms
-  manner ← manner_in earlier ms
+unfoldable pub job_from_remaining_keys : List (List ℕ) → List ℕ → List ℕ → ℕ → Members → Result Job What
+job_from_remaining_keys earlier name image budget ms = do
+  setup ← setup_from_table ms
+  results ← results_from_table ms
+  manner ← manner_from_table earlier ms
   Ok (record {
     name = name;
     image = image;

@@ -19,22 +19,22 @@ unfoldable pub all_items : (Data → Bool) → Items → Bool
 all_items p no_items = true
 all_items p (item d ds) = p d && all_items p ds
 
-abbrev pub count_of : Items → ℕ
-count_of no_items = 0
-count_of (item d ds) = count_of ds + 1
+abbrev pub item_count : Items → ℕ
+item_count no_items = 0
+item_count (item d ds) = item_count ds + 1
 
 -- the text, the number, the truth value and the array at a key
-abbrev pub text_at : List ℕ → Members → Option (List ℕ)
-text_at k ms = option_and_then as_str (get_member k ms)
+abbrev pub text_at_key : List ℕ → Members → Option (List ℕ)
+text_at_key k ms = option_and_then as_str (get_member k ms)
 
-abbrev pub number_at : List ℕ → Members → Option ℤ
-number_at k ms = option_and_then as_integer (get_member k ms)
+abbrev pub number_at_key : List ℕ → Members → Option ℤ
+number_at_key k ms = option_and_then as_integer (get_member k ms)
 
-abbrev pub truth_at : List ℕ → Members → Option Bool
-truth_at k ms = option_and_then as_bool (get_member k ms)
+abbrev pub boolean_at_key : List ℕ → Members → Option Bool
+boolean_at_key k ms = option_and_then as_bool (get_member k ms)
 
-abbrev pub array_at : List ℕ → Members → Option Items
-array_at k ms = option_and_then as_array (get_member k ms)
+abbrev pub array_at_key : List ℕ → Members → Option Items
+array_at_key k ms = option_and_then as_array (get_member k ms)
 
 -- ---- keys, each with its kind
 
@@ -51,24 +51,24 @@ abbrev pub absent_or : (Data → Bool) → List ℕ → Members → Bool
 absent_or p k ms = option_map_or p (get_member k ms) true
 
 -- each of these keys is absent, or its value is of its kind
-abbrev pub are_of_kinds : List Key → Members → Bool
-are_of_kinds keys ms = list_all (λ (k : Key). absent_or k.is_of_kind k.name ms) keys
+abbrev pub has_kinds_of_keys : List Key → Members → Bool
+has_kinds_of_keys keys ms = list_all (λ (k : Key). absent_or k.is_of_kind k.name ms) keys
 
 -- one of these keys has the name
-abbrev pub is_known : List Key → List ℕ → Bool
-is_known keys name = list_any (λ (k : Key). bytes_eq name k.name) keys
+abbrev pub is_key_among : List Key → List ℕ → Bool
+is_key_among keys name = list_any (λ (k : Key). bytes_eq name k.name) keys
 
 -- ---- the keys of a region
 
 abbrev pub is_number : Data → Bool
 is_number d = is_some (as_integer d)
 
-abbrev pub is_truth : Data → Bool
-is_truth d = is_some (as_bool d)
+abbrev pub is_boolean : Data → Bool
+is_boolean d = is_some (as_bool d)
 
 abbrev pub region_keys : List Key
 region_keys =
-    key (codes "base") is_number ∷ key (codes "size") is_number ∷ key (codes "write") is_truth ∷ []
+    key (codes "base") is_number ∷ key (codes "size") is_number ∷ key (codes "write") is_boolean ∷ []
 
 -- ---- the keys of a job
 
@@ -76,19 +76,19 @@ abbrev pub is_text : Data → Bool
 is_text d = is_some (as_str d)
 
 -- an array of texts
-abbrev pub is_texts : Data → Bool
-is_texts (array ds) = all_items is_text ds
-is_texts _ = false
+abbrev pub is_text_array : Data → Bool
+is_text_array (array ds) = all_items is_text ds
+is_text_array _ = false
 
 -- a table whose values are of the kinds of a region's keys
 abbrev pub is_region : Data → Bool
-is_region (table ms) = are_of_kinds region_keys ms
+is_region (table ms) = has_kinds_of_keys region_keys ms
 is_region _ = false
 
 -- an array of them
-abbrev pub is_regions : Data → Bool
-is_regions (array ds) = all_items is_region ds
-is_regions _ = false
+abbrev pub is_region_array : Data → Bool
+is_region_array (array ds) = all_items is_region ds
+is_region_array _ = false
 
 abbrev pub job_keys : List Key
 job_keys =
@@ -97,9 +97,9 @@ job_keys =
     ∷ key (codes "budget") is_number
     ∷ key (codes "input") is_text
     ∷ key (codes "input_hex") is_text
-    ∷ key (codes "region") is_regions
+    ∷ key (codes "region") is_region_array
     ∷ key (codes "load") is_text
-    ∷ key (codes "signature") is_texts
+    ∷ key (codes "signature") is_text_array
     ∷ key (codes "expect_exit") is_number
     ∷ key (codes "expect_signature") is_text
     ∷ key (codes "expect_console") is_text
@@ -112,15 +112,15 @@ job_keys =
 
 -- a value of another TOML kind than its key has, in a region or a signature too
 unfoldable pub has_wrong_kind : Members → Bool
-has_wrong_kind ms = not (are_of_kinds job_keys ms)
+has_wrong_kind ms = not (has_kinds_of_keys job_keys ms)
 
 -- ---- unknown keys
 
 abbrev pub is_job_key : List ℕ → Bool
-is_job_key name = is_known job_keys name
+is_job_key name = is_key_among job_keys name
 
 abbrev pub is_region_key : List ℕ → Bool
-is_region_key name = is_known region_keys name
+is_region_key name = is_key_among region_keys name
 
 -- the whole list has one key
 abbrev pub is_list_key : List ℕ → Bool
@@ -132,15 +132,15 @@ any_unknown_key known no_members = false
 any_unknown_key known (member k d ms) = not (known k) || any_unknown_key known ms
 
 -- a table with a key that no region has
-abbrev pub is_unknown_region : Data → Bool
-is_unknown_region (table ms) = any_unknown_key is_region_key ms
-is_unknown_region _ = false
+abbrev pub region_has_unknown_key : Data → Bool
+region_has_unknown_key (table ms) = any_unknown_key is_region_key ms
+region_has_unknown_key _ = false
 
 -- a region with one
-abbrev pub any_unknown_region : Members → Bool
-any_unknown_region ms =
-    option_map_or (any_item is_unknown_region) (array_at (codes "region") ms) false
+abbrev pub regions_have_unknown_key : Members → Bool
+regions_have_unknown_key ms =
+    option_map_or (any_item region_has_unknown_key) (array_at_key (codes "region") ms) false
 
 -- a key that no job has, or in a region that no region has
 unfoldable pub has_unknown_key : Members → Bool
-has_unknown_key ms = any_unknown_key is_job_key ms || any_unknown_region ms
+has_unknown_key ms = any_unknown_key is_job_key ms || regions_have_unknown_key ms

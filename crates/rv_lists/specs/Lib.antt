@@ -9,4 +9,5 @@ pub mod Faults
 pub mod ListFaults
 pub use Rattle.rv_base.specs.Counts
 pub use Rattle.rv_base.specs.Limits
+pub use Rattle.rv_base.specs.Names
 pub use Rattle.rv_base.specs.Sinks

@@ -6,45 +6,46 @@ use Rattle.toml.specs.Data.{Data, Items, no_items, item, Members, table}
 use Rattle.rv_lists.specs.declared.error.What.{What}
 use Rattle.rv_lists.specs.declared.error.What.TheVariants as what
 use Rattle.rv_lists.specs.declared.error.JobError.{JobError}
-use Rattle.rv_lists.specs.JobList.{name_in, place_in, element_in, elements_in, document_of}
+use Rattle.rv_lists.specs.JobList.{name_from_table, job_from_element, job_elements, document_of}
+use Rattle.rv_base.specs.Names.{place_in}
 
 -- the fault of a reading, with the number of its job
-abbrev pub fault_in : {A : Type 0} → ℕ → Result A What → List JobError
-fault_in n (Ok x) = []
-fault_in n (Err w) = record { job = n; what = w } ∷ []
+abbrev pub numbered_fault : {A : Type 0} → ℕ → Result A What → List JobError
+numbered_fault n (Ok x) = []
+numbered_fault n (Err w) = record { job = n; what = w } ∷ []
 
 -- a name that is not among these
-abbrev pub untaken : List (List ℕ) → Result (List ℕ) What → Option (List ℕ)
-untaken names (Ok name) = if is_some (place_in names name) then None else Some name
-untaken names (Err fault) = None
+abbrev pub untaken_name : List (List ℕ) → Result (List ℕ) What → Option (List ℕ)
+untaken_name names (Ok name) = if is_some (place_in names name) then None else Some name
+untaken_name names (Err fault) = None
 
 -- the name that an element takes, be its job good or bad: a good name that none before it has taken
-unfoldable pub name_taken : List (List ℕ) → Data → Option (List ℕ)
-name_taken names (table ms) = untaken names (name_in ms)
-name_taken names _ = None
+unfoldable pub name_taken_by_element : List (List ℕ) → Data → Option (List ℕ)
+name_taken_by_element names (table ms) = untaken_name names (name_from_table ms)
+name_taken_by_element names _ = None
 
 -- names and one more, where there is one
-abbrev pub names_with : List (List ℕ) → Option (List ℕ) → List (List ℕ)
-names_with names None = names
-names_with names (Some name) = names ++ name ∷ []
+abbrev pub names_with_taken : List (List ℕ) → Option (List ℕ) → List (List ℕ)
+names_with_taken names None = names
+names_with_taken names (Some name) = names ++ name ∷ []
 
 -- the first fault of each bad element, where the first element has the number n and these names are
 -- taken
-unfoldable pub faults_from : ℕ → List (List ℕ) → Items → List JobError
-faults_from n names no_items = []
-faults_from n names (item d ds) =
-    fault_in n (element_in names d)
-    ++ faults_from (n + 1) (names_with names (name_taken names d)) ds
+unfoldable pub faults_of_elements : ℕ → List (List ℕ) → Items → List JobError
+faults_of_elements n names no_items = []
+faults_of_elements n names (item d ds) =
+    numbered_fault n (job_from_element names d)
+    ++ faults_of_elements (n + 1) (names_with_taken names (name_taken_by_element names d)) ds
 
 -- those of the elements, or that of the whole list
-abbrev pub faults_of : Result Items What → List JobError
-faults_of (Ok ds) = faults_from 1 [] ds
-faults_of (Err w) = record { job = 0; what = w } ∷ []
+abbrev pub faults_or_list_fault : Result Items What → List JobError
+faults_or_list_fault (Ok ds) = faults_of_elements 1 [] ds
+faults_or_list_fault (Err w) = record { job = 0; what = w } ∷ []
 
 -- of a document, which no jobs are in without one
-unfoldable pub faults_in : Option Members → List JobError
-faults_in None = record { job = 0; what = what.NotToml } ∷ []
-faults_in (Some ms) = faults_of (elements_in ms)
+unfoldable pub faults_of_document : Option Members → List JobError
+faults_of_document None = record { job = 0; what = what.NotToml } ∷ []
+faults_of_document (Some ms) = faults_or_list_fault (job_elements ms)
 
 unfoldable pub list_faults : List ℕ → List JobError
-list_faults bytes = faults_in (document_of bytes)
+list_faults bytes = faults_of_document (document_of bytes)

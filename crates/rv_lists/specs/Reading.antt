@@ -13,23 +13,23 @@ abbrev pub ◌>>=◌ : {F A B : Type 0} → Result A F → (A → Result B F) �
 (Err e) >>= f = Err e
 
 -- a fault where the test holds
-abbrev pub unless : Bool → What → Result (Unit {0}) What
-unless b fault = if b then Err fault else Ok tt
+abbrev pub fault_if : Bool → What → Result (Unit {0}) What
+fault_if b fault = if b then Err fault else Ok tt
 
 -- the value where it is there and passes, else the fault
-abbrev pub passing : {X : Type 0} → (X → Bool) → What → Option X → Result X What
-passing p fault None = Err fault
-passing p fault (Some x) = if p x then Ok x else Err fault
+abbrev pub passing_value : {X : Type 0} → (X → Bool) → What → Option X → Result X What
+passing_value p fault None = Err fault
+passing_value p fault (Some x) = if p x then Ok x else Err fault
 
 -- what a reading makes of a value, or the value for none
-abbrev pub or_else : {X Y : Type 0} → (X → Result Y What) → Y → Option X → Result Y What
-or_else f y None = Ok y
-or_else f y (Some x) = f x
+abbrev pub reading_or_default : {X Y : Type 0} → (X → Result Y What) → Y → Option X → Result Y What
+reading_or_default f y None = Ok y
+reading_or_default f y (Some x) = f x
 
 -- a fault with the number of its job
-abbrev pub numbered : {A : Type 0} → ℕ → Result A What → Result A JobError
-numbered n (Ok x) = Ok x
-numbered n (Err w) = Err (record { job = n; what = w })
+abbrev pub numbered_reading : {A : Type 0} → ℕ → Result A What → Result A JobError
+numbered_reading n (Ok x) = Ok x
+numbered_reading n (Err w) = Err (record { job = n; what = w })
 
 -- the values before those that are read
 abbrev pub with_front : {F A : Type 0} → List A → Result (List A) F → Result (List A) F

@@ -5,15 +5,16 @@ ghost use Rattle.std.specs.Prelude.{None, Some, length, option_map, slice_get};
 ghost use Rattle.std.specs.Result.{result_err};
 ghost use Rattle.toml.specs.View.{view, table_view, items_view};
 ghost use Rattle.rv_base.specs.Limits.{most_jobs};
-ghost use Rattle.rv_lists.specs.JobList.{element_in, job_list_of, names_of, place_in};
-ghost use Rattle.rv_lists.specs.ListFaults.{fault_in, faults_from, faults_in, list_faults, name_taken};
-ghost use Rattle.rv_lists.specs.ListFaults.{names_with};
+ghost use Rattle.rv_lists.specs.JobList.{job_from_element, job_list_of, names_of_jobs};
+ghost use Rattle.rv_base.specs.Names.{place_in};
+ghost use Rattle.rv_lists.specs.ListFaults.{numbered_fault, faults_of_elements, faults_of_document, list_faults, name_taken_by_element};
+ghost use Rattle.rv_lists.specs.ListFaults.{names_with_taken};
 
 use crate::earlier_jobs::EarlierJobs;
 use crate::error::{JobError, What};
 use crate::job::Job;
-use crate::job_keys::{element_of, name_of};
-use crate::list::{elements_of, list_error};
+use crate::job_keys::{job_from_element, name_from_table};
+use crate::list::{job_elements, list_error};
 use rv_base::{Bytes, Text};
 use std::alloc::{AllocError, Global};
 use toml::{Table, Value};
@@ -32,13 +33,13 @@ pub fn read_faults(alloc: Global, bytes: &[u8]) -> Result<Vec<JobError>, AllocEr
                 // Out of memory: `toml` says so of its own error.
                 return Err(AllocError);
             }
-            one_fault(alloc, What::NotToml)
+            single_list_fault(alloc, What::NotToml)
         }
     }
 }
 
 /// A fault of the whole list, alone.
-fn one_fault(alloc: Global, what: What) -> Result<Vec<JobError>, AllocError>
+fn single_list_fault(alloc: Global, what: What) -> Result<Vec<JobError>, AllocError>
     ensures { IfOk result (λ faults. faults.items ≡ record { job = 0; what = what } ∷ []) }
 {
     let mut faults = Vec::new(alloc);
@@ -46,31 +47,31 @@ fn one_fault(alloc: Global, what: What) -> Result<Vec<JobError>, AllocError>
     Ok(faults)
 }
 
-#[tactic(auto, unfolding(crate::specs::ListFaults::faults_in))]
+#[tactic(auto, unfolding(crate::specs::ListFaults::faults_of_document))]
 fn faults_of_table(alloc: Global, table: &Table) -> Result<Vec<JobError>, AllocError>
-    ensures { IfOk result (λ faults. faults.items ≡ faults_in (Some (table_view table.now))) }
+    ensures { IfOk result (λ faults. faults.items ≡ faults_of_document (Some (table_view table.now))) }
 {
-    match elements_of(table) {
-        Ok(elements) => faults_of(alloc, elements.as_slice()),
-        Err(what) => one_fault(alloc, what),
+    match job_elements(table) {
+        Ok(elements) => faults_of_elements(alloc, elements.as_slice()),
+        Err(what) => single_list_fault(alloc, what),
     }
 }
 
-fn faults_of(alloc: Global, elements: &[Value]) -> Result<Vec<JobError>, AllocError>
+fn faults_of_elements(alloc: Global, elements: &[Value]) -> Result<Vec<JobError>, AllocError>
     requires { length elements.now ≤ most_jobs }
-    ensures { IfOk result (λ faults. faults.items ≡ faults_from 1 [] (items_view elements.now)) }
+    ensures { IfOk result (λ faults. faults.items ≡ faults_of_elements 1 [] (items_view elements.now)) }
 {
     let mut faults = Vec::new(alloc);
     let mut earlier = EarlierJobs::new(alloc);
     for (at, element) in elements.iter().enumerate() {
         let number = at as u32 + 1;
-        earlier = behind_element(alloc, earlier, number, element, &mut faults)?;
+        earlier = add_element_or_fault(alloc, earlier, number, element, &mut faults)?;
     }
     Ok(faults)
 }
 
 /// The jobs behind an element of a number; its fault is noted where it has one.
-fn behind_element(
+fn add_element_or_fault(
     alloc: Global,
     earlier: EarlierJobs,
     number: u32,
@@ -79,58 +80,58 @@ fn behind_element(
 ) -> Result<EarlierJobs, AllocError>
     requires { length earlier < most_jobs }
     ensures faults { OnOk result (faults.new.items ≡ faults.old.items
-        ++ fault_in number (element_in (names_of earlier) (view element.now))) }
-    ensures names { IfOk result (λ jobs. names_of jobs
-        ≡ names_with (names_of earlier) (name_taken (names_of earlier) (view element.now))) }
+        ++ numbered_fault number (job_from_element (names_of_jobs earlier) (view element.now))) }
+    ensures names { IfOk result (λ jobs. names_of_jobs jobs
+        ≡ names_with_taken (names_of_jobs earlier) (name_taken_by_element (names_of_jobs earlier) (view element.now))) }
     ensures few { IfOk result (λ jobs. length jobs ≤ length earlier + 1) }
 {
-    match element_of(alloc, &earlier, element) {
-        Ok(job) => earlier.with(alloc, job),
+    match job_from_element(alloc, &earlier, element) {
+        Ok(job) => earlier.append_job(alloc, job),
         Err(What::OutOfMemory) => Err(AllocError),
         Err(what) => {
             faults.push(JobError { job: number, what })?;
-            behind_bad(alloc, earlier, element)
+            reserve_bad_job_name(alloc, earlier, element)
         }
     }
 }
 
 /// The jobs behind a bad element: where it takes a name, a job of that name stands in its place.
-fn behind_bad(
+fn reserve_bad_job_name(
     alloc: Global,
     earlier: EarlierJobs,
     element: &Value,
 ) -> Result<EarlierJobs, AllocError>
     requires { length earlier < most_jobs }
-    ensures names { IfOk result (λ jobs. names_of jobs
-        ≡ names_with (names_of earlier) (name_taken (names_of earlier) (view element.now))) }
+    ensures names { IfOk result (λ jobs. names_of_jobs jobs
+        ≡ names_with_taken (names_of_jobs earlier) (name_taken_by_element (names_of_jobs earlier) (view element.now))) }
     ensures few { IfOk result (λ jobs. length jobs ≤ length earlier + 1) }
 {
-    match name_taken(&earlier, element) {
+    match name_taken_by_element(&earlier, element) {
         Some(name) => {
             let name = Text::copy(alloc, name)?;
             let no_image = Text::new(String::new(alloc));
             let no_script = Bytes::new(Vec::new(alloc));
-            earlier.with(alloc, Job::plain(name, no_image, 1, no_script))
+            earlier.append_job(alloc, Job::job_with_defaults(name, no_image, 1, no_script))
         }
         None => Ok(earlier),
     }
 }
 
 /// The name that an element takes, be its job good or bad.
-#[tactic(auto, unfolding(crate::specs::ListFaults::name_taken))]
-fn name_taken<'a>(earlier: &EarlierJobs, element: &'a Value) -> Option<&'a str>
+#[tactic(auto, unfolding(crate::specs::ListFaults::name_taken_by_element))]
+fn name_taken_by_element<'a>(earlier: &EarlierJobs, element: &'a Value) -> Option<&'a str>
     ensures value { option_map (λ name. name.now) result
-        ≡ name_taken (names_of earlier.now) (view element.now) }
-    ensures fresh { IfSome result (λ name. place_in (names_of earlier.now) name.now ≡ None) }
+        ≡ name_taken_by_element (names_of_jobs earlier.now) (view element.now) }
+    ensures fresh { IfSome result (λ name. place_in (names_of_jobs earlier.now) name.now ≡ None) }
 {
     let name = match element.as_table() {
-        Some(table) => match name_of(table) {
+        Some(table) => match name_from_table(table) {
             Ok(name) => name,
             Err(_) => return None,
         },
         None => return None,
     };
-    match earlier.place_of(name) {
+    match earlier.place_of_name(name) {
         Some(_) => None,
         None => Some(name),
     }

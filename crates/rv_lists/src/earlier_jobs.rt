@@ -3,7 +3,8 @@
 ghost use Rattle.std.specs.Prelude.{◌≡◌, ◌<◌, ◌++◌, ◌∷◌, [], IfSome, IfOk, None, length};
 ghost use Rattle.rv_lists.specs.Jobs.{IsJob};
 ghost use Rattle.rv_base.specs.Limits.{most_jobs};
-ghost use Rattle.rv_lists.specs.JobList.{place_in, names_of};
+ghost use Rattle.rv_lists.specs.JobList.{names_of_jobs};
+ghost use Rattle.rv_base.specs.Names.{place_in};
 
 use crate::job::{Job, JobList};
 use std::alloc::{AllocError, Global};
@@ -41,8 +42,8 @@ impl EarlierJobs {
     }
 
     /// The place of the job of a name.
-    pub(crate) fn place_of(&self, name: &str) -> Option<usize>
-        ensures value { result ≡ place_in (names_of self.now) name.now }
+    pub(crate) fn place_of_name(&self, name: &str) -> Option<usize>
+        ensures value { result ≡ place_in (names_of_jobs self.now) name.now }
         ensures within { IfSome result (λ k. k < length self.now) }
     {
         let _ = &self.jobs;
@@ -50,8 +51,8 @@ impl EarlierJobs {
     }
 
     /// The jobs and one more.
-    pub(crate) fn with(self, alloc: Global, job: Job) -> Result<EarlierJobs, AllocError>
-        requires fresh { place_in (names_of self) job.name ≡ None }
+    pub(crate) fn append_job(self, alloc: Global, job: Job) -> Result<EarlierJobs, AllocError>
+        requires fresh { place_in (names_of_jobs self) job.name ≡ None }
         requires good { IsJob (length self) job }
         requires room { length self < most_jobs }
         ensures { IfOk result (λ g. g ≡ self ++ job ∷ []) }
@@ -66,7 +67,7 @@ impl EarlierJobs {
         Ok(EarlierJobs { jobs, places })
     }
 
-    pub(crate) fn into_list(self) -> JobList
+    pub(crate) fn into_job_list(self) -> JobList
         ensures { result ≡ self }
     {
         JobList::new(self.jobs)

@@ -81,7 +81,7 @@ pub struct Job {
 
 impl Job {
     /// A job of these four, and of what a list gives where it leaves a key out.
-    pub(crate) fn plain(name: Text, image: Text, budget: u32, script: Bytes) -> Job
+    pub(crate) fn job_with_defaults(name: Text, image: Text, budget: u32, script: Bytes) -> Job
         ensures { result ≡ record (single_job image budget script) { name = name } }
     {
         Job {
@@ -140,7 +140,7 @@ impl JobList {
         let name = Text::copy(alloc, "one")?;
         let image = Text::copy(alloc, image)?;
         let mut items = Vec::new(alloc);
-        items.push(Job::plain(name, image, budget, Bytes::new(script)))?;
+        items.push(Job::job_with_defaults(name, image, budget, Bytes::new(script)))?;
         Ok(JobList { items })
     }
 

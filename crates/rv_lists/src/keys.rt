@@ -6,7 +6,7 @@ ghost use Rattle.std.specs.BTreeMap.{keys};
 ghost use Rattle.std.specs.Str.{bytes_eq};
 ghost use Rattle.toml.specs.Data.{get_member};
 ghost use Rattle.toml.specs.View.{view, table_view, array_view};
-ghost use Rattle.rv_lists.specs.Keys.{text_at, number_at, truth_at, array_at};
+ghost use Rattle.rv_lists.specs.Keys.{text_at_key, number_at_key, boolean_at_key, array_at_key};
 ghost use Rattle.rv_lists.specs.Keys.{is_job_key, is_region_key, is_list_key, any_unknown_key};
 
 use toml::value::Array;
@@ -43,43 +43,43 @@ pub const JOB_KEYS: [(&str, Kind); 16] = [
     ("misaligned", Kind::Text),
 ];
 
-pub(crate) fn value_of<'a>(table: &'a Table, key: &str) -> Option<&'a Value>
+pub(crate) fn value_at_key<'a>(table: &'a Table, key: &str) -> Option<&'a Value>
     ensures { option_map (λ v. view v.now) result ≡ get_member key.now (table_view table.now) }
 {
     table.get(key)
 }
 
-pub(crate) fn text_of<'a>(table: &'a Table, key: &str) -> Option<&'a str>
-    ensures { option_map (λ s. s.now) result ≡ text_at key.now (table_view table.now) }
+pub(crate) fn text_at_key<'a>(table: &'a Table, key: &str) -> Option<&'a str>
+    ensures { option_map (λ s. s.now) result ≡ text_at_key key.now (table_view table.now) }
 {
-    match value_of(table, key) {
+    match value_at_key(table, key) {
         Some(value) => value.as_str(),
         None => None,
     }
 }
 
-pub(crate) fn number_of(table: &Table, key: &str) -> Option<i64>
-    ensures { result ≡ number_at key.now (table_view table.now) }
+pub(crate) fn number_at_key(table: &Table, key: &str) -> Option<i64>
+    ensures { result ≡ number_at_key key.now (table_view table.now) }
 {
-    match value_of(table, key) {
+    match value_at_key(table, key) {
         Some(value) => value.as_integer(),
         None => None,
     }
 }
 
-pub(crate) fn truth_of(table: &Table, key: &str) -> Option<bool>
-    ensures { result ≡ truth_at key.now (table_view table.now) }
+pub(crate) fn boolean_at_key(table: &Table, key: &str) -> Option<bool>
+    ensures { result ≡ boolean_at_key key.now (table_view table.now) }
 {
-    match value_of(table, key) {
+    match value_at_key(table, key) {
         Some(value) => value.as_bool(),
         None => None,
     }
 }
 
-pub(crate) fn array_of<'a>(table: &'a Table, key: &str) -> Option<&'a Array>
-    ensures { option_map (λ a. array_view a.now) result ≡ array_at key.now (table_view table.now) }
+pub(crate) fn array_at_key<'a>(table: &'a Table, key: &str) -> Option<&'a Array>
+    ensures { option_map (λ a. array_view a.now) result ≡ array_at_key key.now (table_view table.now) }
 {
-    match value_of(table, key) {
+    match value_at_key(table, key) {
         Some(value) => value.as_array(),
         None => None,
     }
@@ -127,10 +127,10 @@ fn any_unknown_list_key(table: &Table) -> bool
 fn is_job_key(name: &str) -> bool
     ensures { result ≡ is_job_key name.now }
 {
-    is_among(&JOB_KEYS, name)
+    is_key_among(&JOB_KEYS, name)
 }
 
-fn is_among(keys: &[(&str, Kind)], name: &str) -> bool
+fn is_key_among(keys: &[(&str, Kind)], name: &str) -> bool
     ensures { result ≡ list_any (λ key. bytes_eq name.now key.0.now) keys.now }
 {
     keys.iter().any(|key| name == key.0)

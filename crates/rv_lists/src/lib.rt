@@ -8,15 +8,15 @@
 mod all_faults;
 mod earlier_jobs;
 mod error;
-mod expected;
+mod expectation_keys;
 mod job;
 mod job_keys;
 mod keys;
 mod kinds;
 mod list;
-mod manner;
 mod regions;
 mod results;
+mod run_keys;
 mod setup;
 mod signature;
 mod texts;

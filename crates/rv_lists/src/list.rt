@@ -6,14 +6,14 @@ ghost use Rattle.toml.specs.View.{view, table_view, array_view, items_view};
 ghost use Rattle.rv_lists.specs.declared.error.What.TheVariants.{OutOfMemory};
 ghost use Rattle.rv_base.specs.Limits.{most_jobs};
 ghost use Rattle.rv_lists.specs.Reading.{GivesJobs};
-ghost use Rattle.rv_lists.specs.JobList.{has_no_jobs, has_too_many, elements_in, jobs_from, jobs_in};
+ghost use Rattle.rv_lists.specs.JobList.{has_no_jobs, has_too_many_jobs, job_elements, jobs_of_elements, jobs_of_document};
 ghost use Rattle.rv_lists.specs.JobList.{job_list_of};
 
 use crate::earlier_jobs::EarlierJobs;
 use crate::error::{JobError, What};
 use crate::job::JobList;
-use crate::job_keys::element_of;
-use crate::keys::{has_unknown_list_key, value_of};
+use crate::job_keys::job_from_element;
+use crate::keys::{has_unknown_list_key, value_at_key};
 use rv_base::limits::MOST_JOBS;
 use std::alloc::Global;
 use toml::value::Array;
@@ -44,29 +44,29 @@ pub(crate) fn list_error(what: What) -> JobError
     JobError { job: 0, what }
 }
 
-#[tactic(auto, unfolding(crate::specs::JobList::jobs_in))]
+#[tactic(auto, unfolding(crate::specs::JobList::jobs_of_document))]
 fn jobs_of_table(alloc: Global, table: &Table) -> Result<JobList, JobError>
-    ensures { GivesJobs result (jobs_in (Some (table_view table.now))) }
+    ensures { GivesJobs result (jobs_of_document (Some (table_view table.now))) }
 {
-    match elements_of(table) {
-        Ok(elements) => jobs_of(alloc, elements.as_slice()),
+    match job_elements(table) {
+        Ok(elements) => jobs_of_elements(alloc, elements.as_slice()),
         Err(what) => Err(list_error(what)),
     }
 }
 
 /// The elements of `job`, where the whole list has no fault.
-#[tactic(auto, unfolding(crate::specs::JobList::elements_in))]
-pub(crate) fn elements_of(table: &Table) -> Result<&Array, What>
-    ensures value { MatchResult result (λ a. elements_in (table_view table.now)
+#[tactic(auto, unfolding(crate::specs::JobList::job_elements))]
+pub(crate) fn job_elements(table: &Table) -> Result<&Array, What>
+    ensures value { MatchResult result (λ a. job_elements (table_view table.now)
         ≡ Ok (array_view a.now))
-        (λ e. elements_in (table_view table.now) ≡ Err e) }
+        (λ e. job_elements (table_view table.now) ≡ Err e) }
     ensures few { IfOk result (λ a. vec_len a.now ≤ most_jobs) }
 {
-    let value = value_of(table, "job");
+    let value = value_at_key(table, "job");
     if has_no_jobs(value) {
         return Err(What::NoJobs);
     }
-    if has_too_many(value) {
+    if has_too_many_jobs(value) {
         return Err(What::TooMany);
     }
     if has_unknown_list_key(table) {
@@ -93,8 +93,8 @@ fn has_no_jobs(value: Option<&Value>) -> bool
     }
 }
 
-fn has_too_many(value: Option<&Value>) -> bool
-    ensures { result ≡ has_too_many (option_map (λ v. view v.now) value.entry) }
+fn has_too_many_jobs(value: Option<&Value>) -> bool
+    ensures { result ≡ has_too_many_jobs (option_map (λ v. view v.now) value.entry) }
 {
     match value {
         Some(value) => match value.as_array() {
@@ -105,18 +105,18 @@ fn has_too_many(value: Option<&Value>) -> bool
     }
 }
 
-fn jobs_of(alloc: Global, elements: &[Value]) -> Result<JobList, JobError>
+fn jobs_of_elements(alloc: Global, elements: &[Value]) -> Result<JobList, JobError>
     requires { length elements.now ≤ most_jobs }
-    ensures { GivesJobs result (jobs_from 1 [] (items_view elements.now)) }
+    ensures { GivesJobs result (jobs_of_elements 1 [] (items_view elements.now)) }
 {
     let mut jobs = EarlierJobs::new(alloc);
     for (at, element) in elements.iter().enumerate() {
         let number = at as u32 + 1;
-        let job = match element_of(alloc, &jobs, element) {
+        let job = match job_from_element(alloc, &jobs, element) {
             Ok(job) => job,
             Err(what) => return Err(JobError { job: number, what }),
         };
-        jobs = match jobs.with(alloc, job) {
+        jobs = match jobs.append_job(alloc, job) {
             Ok(jobs) => jobs,
             Err(_) => {
                 return Err(JobError {
@@ -127,5 +127,5 @@ fn jobs_of(alloc: Global, elements: &[Value]) -> Result<JobList, JobError>
             }
         };
     }
-    Ok(jobs.into_list())
+    Ok(jobs.into_job_list())
 }

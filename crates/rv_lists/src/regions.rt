@@ -4,44 +4,44 @@ ghost use Rattle.std.specs.Prelude.{◌≡◌, ◌≢◌, MatchResult, Ok, Err};
 ghost use Rattle.rv_lists.specs.declared.error.What.TheVariants.{OutOfMemory};
 ghost use Rattle.toml.specs.View.{view, table_view, items_view};
 ghost use Rattle.rv_lists.specs.Reading.{Gives};
-ghost use Rattle.rv_lists.specs.JobList.{word_in, region_in, region_of, regions_from, map_of};
-ghost use Rattle.rv_lists.specs.JobList.{regions_in};
+ghost use Rattle.rv_lists.specs.JobList.{region_word, region_from_table, region_from_element, regions_from_elements, map_from_elements};
+ghost use Rattle.rv_lists.specs.JobList.{regions_from_table};
 
 use crate::error::What;
-use crate::keys::{array_of, number_of, truth_of};
+use crate::keys::{array_at_key, boolean_at_key, number_at_key};
 use rv_memory::{Map, Region};
 use std::alloc::Global;
 use toml::{Table, Value};
 
 /// The map of a job's regions, the default one where it has none.
-#[tactic(auto, unfolding(crate::specs::JobList::regions_in))]
-pub(crate) fn regions_of(alloc: Global, table: &Table) -> Result<Map, What>
-    ensures { Gives result (regions_in (table_view table.now)) }
+#[tactic(auto, unfolding(crate::specs::JobList::regions_from_table))]
+pub(crate) fn regions_from_table(alloc: Global, table: &Table) -> Result<Map, What>
+    ensures { Gives result (regions_from_table (table_view table.now)) }
 {
-    match array_of(table, "region") {
-        Some(regions) => map_of(alloc, regions.as_slice()),
+    match array_at_key(table, "region") {
+        Some(regions) => map_from_elements(alloc, regions.as_slice()),
         None => Ok(Map::default_map()),
     }
 }
 
-#[tactic(auto, unfolding(crate::specs::JobList::map_of))]
-fn map_of(alloc: Global, elements: &[Value]) -> Result<Map, What>
-    ensures { Gives result (map_of (items_view elements.now)) }
+#[tactic(auto, unfolding(crate::specs::JobList::map_from_elements))]
+fn map_from_elements(alloc: Global, elements: &[Value]) -> Result<Map, What>
+    ensures { Gives result (map_from_elements (items_view elements.now)) }
 {
-    let regions = each_region(alloc, elements)?;
+    let regions = regions_from_elements(alloc, elements)?;
     match Map::of(regions.as_slice()) {
         Ok(map) => Ok(map),
         Err(_) => Err(What::Region),
     }
 }
 
-fn each_region(alloc: Global, elements: &[Value]) -> Result<Vec<Region>, What>
-    ensures { MatchResult result (λ v. regions_from (items_view elements.now) ≡ Ok v.items)
-        (λ e. e ≢ OutOfMemory → regions_from (items_view elements.now) ≡ Err e) }
+fn regions_from_elements(alloc: Global, elements: &[Value]) -> Result<Vec<Region>, What>
+    ensures { MatchResult result (λ v. regions_from_elements (items_view elements.now) ≡ Ok v.items)
+        (λ e. e ≢ OutOfMemory → regions_from_elements (items_view elements.now) ≡ Err e) }
 {
     let mut regions = Vec::new(alloc);
     for element in elements {
-        let region = match region_of(element) {
+        let region = match region_from_element(element) {
             Ok(region) => region,
             Err(what) => return Err(what),
         };
@@ -50,33 +50,33 @@ fn each_region(alloc: Global, elements: &[Value]) -> Result<Vec<Region>, What>
     Ok(regions)
 }
 
-#[tactic(auto, unfolding(crate::specs::JobList::region_of))]
-fn region_of(value: &Value) -> Result<Region, What>
-    ensures { result ≡ region_of (view value.now) }
+#[tactic(auto, unfolding(crate::specs::JobList::region_from_element))]
+fn region_from_element(value: &Value) -> Result<Region, What>
+    ensures { result ≡ region_from_element (view value.now) }
 {
     match value.as_table() {
-        Some(table) => region_in(table),
+        Some(table) => region_from_table(table),
         None => Err(What::Region),
     }
 }
 
-#[tactic(auto, unfolding(crate::specs::JobList::region_in))]
-fn region_in(table: &Table) -> Result<Region, What>
-    ensures { result ≡ region_in (table_view table.now) }
+#[tactic(auto, unfolding(crate::specs::JobList::region_from_table))]
+fn region_from_table(table: &Table) -> Result<Region, What>
+    ensures { result ≡ region_from_table (table_view table.now) }
 {
-    let base = word_in(table, "base")?;
-    let size = word_in(table, "size")?;
+    let base = region_word(table, "base")?;
+    let size = region_word(table, "size")?;
     Ok(Region {
         base,
         size,
-        writable: truth_of(table, "write").unwrap_or(true),
+        writable: boolean_at_key(table, "write").unwrap_or(true),
     })
 }
 
-fn word_in(table: &Table, key: &str) -> Result<u32, What>
-    ensures { result ≡ word_in key.now (table_view table.now) }
+fn region_word(table: &Table, key: &str) -> Result<u32, What>
+    ensures { result ≡ region_word key.now (table_view table.now) }
 {
-    match number_of(table, key) {
+    match number_at_key(table, key) {
         Some(n) => {
             if 0 <= n && n <= 0xffff_ffff {
                 Ok(n as u32)

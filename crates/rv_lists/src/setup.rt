@@ -5,13 +5,13 @@ ghost use Rattle.hex.specs.Hex.{decode_of};
 ghost use Rattle.toml.specs.View.{table_view};
 ghost use Rattle.rv_lists.specs.declared.error.What.TheVariants.{OutOfMemory};
 ghost use Rattle.rv_base.specs.Limits.{most_script};
-ghost use Rattle.rv_lists.specs.JobList.{limited, from_hex, script_in, load_of, load_in};
-ghost use Rattle.rv_lists.specs.JobSteps.{setup_in};
+ghost use Rattle.rv_lists.specs.JobList.{script_from_bytes, script_from_decoded, script_from_table, load_from_text, load_from_table};
+ghost use Rattle.rv_lists.specs.JobSteps.{setup_from_table};
 ghost use Rattle.rv_lists.specs.Reading.{Gives};
 
 use crate::error::What;
-use crate::keys::text_of;
-use crate::regions::regions_of;
+use crate::keys::text_at_key;
+use crate::regions::regions_from_table;
 use hex::FromHexError;
 use rv_base::Bytes;
 use rv_base::limits::MOST_SCRIPT;
@@ -29,14 +29,14 @@ pub(crate) struct Setup {
 }
 
 /// The script, the regions and the choice of addresses of a job.
-#[tactic(auto, unfolding(crate::specs::JobSteps::setup_in))]
-pub(crate) fn setup_of(alloc: Global, table: &Table) -> Result<Setup, What>
-    ensures value { Gives result (setup_in (table_view table.now)) }
+#[tactic(auto, unfolding(crate::specs::JobSteps::setup_from_table))]
+pub(crate) fn setup_from_table(alloc: Global, table: &Table) -> Result<Setup, What>
+    ensures value { Gives result (setup_from_table (table_view table.now)) }
     ensures short { IfOk result (λ setup. length setup.script ≤ most_script) }
 {
-    let script = script_of(alloc, table)?;
-    let regions = regions_of(alloc, table)?;
-    let load = load_of(table)?;
+    let script = script_from_table(alloc, table)?;
+    let regions = regions_from_table(alloc, table)?;
+    let load = load_from_table(table)?;
     Ok(Setup {
         script,
         regions,
@@ -44,21 +44,21 @@ pub(crate) fn setup_of(alloc: Global, table: &Table) -> Result<Setup, What>
     })
 }
 
-#[tactic(auto, unfolding(crate::specs::JobList::script_in))]
-fn script_of(alloc: Global, table: &Table) -> Result<Bytes, What>
-    ensures value { Gives result (script_in (table_view table.now)) }
+#[tactic(auto, unfolding(crate::specs::JobList::script_from_table))]
+fn script_from_table(alloc: Global, table: &Table) -> Result<Bytes, What>
+    ensures value { Gives result (script_from_table (table_view table.now)) }
     ensures short { IfOk result (λ s. length s ≤ most_script) }
 {
-    match (text_of(table, "input"), text_of(table, "input_hex")) {
+    match (text_at_key(table, "input"), text_at_key(table, "input_hex")) {
         (None, None) => Ok(Bytes::new(Vec::new(alloc))),
-        (Some(text), None) => limited_copy(alloc, text.as_bytes()),
-        (None, Some(digits)) => limited_hex(alloc, digits),
+        (Some(text), None) => script_from_bytes(alloc, text.as_bytes()),
+        (None, Some(digits)) => script_from_hex(alloc, digits),
         (Some(_), Some(_)) => Err(What::Input),
     }
 }
 
-fn limited_copy(alloc: Global, bytes: &[u8]) -> Result<Bytes, What>
-    ensures value { Gives result (limited bytes.now) }
+fn script_from_bytes(alloc: Global, bytes: &[u8]) -> Result<Bytes, What>
+    ensures value { Gives result (script_from_bytes bytes.now) }
     ensures short { IfOk result (λ s. length s ≤ most_script) }
 {
     if bytes.len() <= MOST_SCRIPT {
@@ -68,8 +68,8 @@ fn limited_copy(alloc: Global, bytes: &[u8]) -> Result<Bytes, What>
     }
 }
 
-fn limited_hex(alloc: Global, digits: &str) -> Result<Bytes, What>
-    ensures value { Gives result (from_hex (decode_of digits.now)) }
+fn script_from_hex(alloc: Global, digits: &str) -> Result<Bytes, What>
+    ensures value { Gives result (script_from_decoded (decode_of digits.now)) }
     ensures short { IfOk result (λ s. length s ≤ most_script) }
 {
     match hex::decode(alloc, digits) {
@@ -85,18 +85,18 @@ fn limited_hex(alloc: Global, digits: &str) -> Result<Bytes, What>
     }
 }
 
-#[tactic(auto, unfolding(crate::specs::JobList::load_in))]
-fn load_of(table: &Table) -> Result<LoadAt, What>
-    ensures { result ≡ load_in (table_view table.now) }
+#[tactic(auto, unfolding(crate::specs::JobList::load_from_table))]
+fn load_from_table(table: &Table) -> Result<LoadAt, What>
+    ensures { result ≡ load_from_table (table_view table.now) }
 {
-    match text_of(table, "load") {
-        Some(text) => load_named(text),
+    match text_at_key(table, "load") {
+        Some(text) => load_from_text(text),
         None => Ok(LoadAt::Physical),
     }
 }
 
-fn load_named(text: &str) -> Result<LoadAt, What>
-    ensures { result ≡ load_of text.now }
+fn load_from_text(text: &str) -> Result<LoadAt, What>
+    ensures { result ≡ load_from_text text.now }
 {
     if text == "physical" {
         Ok(LoadAt::Physical)

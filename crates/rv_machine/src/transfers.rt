@@ -14,7 +14,7 @@ impl Hart {
     /// The address behind an instruction of `length` bytes. It is found by a branch of the processor, not by a sum, so
     /// that what stands there is looked up before the length is known.
     #[inline(always)]
-    pub(crate) fn next_of(&mut self, pc: u32, length: u32) -> u32
+    pub(crate) fn following_pc(&mut self, pc: u32, length: u32) -> u32
         requires { (length ≡ 2) ⊎ (length ≡ 4) }
         ensures value { result ≡ (pc + length) % 0x1_0000_0000 }
         ensures same { self.new ≡ self.old }

@@ -7,7 +7,7 @@ ghost use Rattle.rv_memory.specs.Inside.Places.{IsPlace};
 ghost use Rattle.rv_memory.specs.Bus.{size_of, load_from, store_to, fetch_half_from, fetch_word_from, clean_from};
 ghost use Rattle.rv_memory.specs.Bus.{put, without_stored, with_bytes};
 
-use crate::access::{Misaligned, Width, read, read_word, write};
+use crate::access::{Misaligned, Width, read_value, read_word, write_value};
 use crate::faults::{BusFault, FetchFault};
 use crate::map::Map;
 use crate::marks::{has_mark, mark};
@@ -74,8 +74,8 @@ impl Bus {
             (λ e. (load_from self.old addr width ≡ Err e) × (self.new ≡ self.old)) }
     {
         if width.divides(addr) {
-            if let Some(place) = self.map.first_place(addr, width) {
-                return Ok(read(&self.bytes, place.at, width));
+            if let Some(place) = self.map.place_in_first_region(addr, width) {
+                return Ok(read_value(&self.bytes, place.at, width));
             }
         }
         if self.misaligned.refuses(addr, width) {
@@ -84,7 +84,7 @@ impl Bus {
         let Some(place) = self.map.place(addr, width.size()) else {
             return self.load_console(addr, width);
         };
-        Ok(read(&self.bytes, place.at, width))
+        Ok(read_value(&self.bytes, place.at, width))
     }
 
     /// Writes the low bytes of a value, and marks them as stored.
@@ -95,7 +95,7 @@ impl Bus {
             (λ e. (store_to self.old addr width value ≡ Err e) × (self.new ≡ self.old)) }
     {
         if width.divides(addr) {
-            if let Some(place) = self.map.first_place(addr, width) {
+            if let Some(place) = self.map.place_in_first_region(addr, width) {
                 if place.writable {
                     self.put(place, addr, width, value);
                     return Ok(());
@@ -123,7 +123,7 @@ impl Bus {
     {
         // The clauses alone speak of the address.
         let _ = addr;
-        write(&mut self.bytes, place.at, width, value);
+        write_value(&mut self.bytes, place.at, width, value);
         mark(&mut self.marks, place.at, width, self.generation);
     }
 

@@ -33,7 +33,7 @@ impl Bus {
             return Err(BusFault::Access);
         };
         if addr == CONSOLE_BYTE {
-            return Ok(self.take_script());
+            return Ok(self.take_script_byte());
         }
         if addr == SCRIPT_LEFT {
             return Ok((self.script.len() - self.taken) as u32);
@@ -43,7 +43,7 @@ impl Bus {
 
     // The next byte of the script, or all ones at its end.
     #[inline]
-    fn take_script(&mut self) -> u32
+    fn take_script_byte(&mut self) -> u32
         ensures value { result ≡ next_of self.old.script }
         ensures rest { self.new ≡ record self.old { script = drop 1 self.old.script } }
     {

@@ -6,7 +6,7 @@ use crate::access::Misaligned;
 use crate::bus::Bus;
 use crate::limits::CONSOLE_ROOM;
 use crate::map::Map;
-use crate::marks::unmarked;
+use crate::marks::next_generation;
 use std::alloc::{AllocError, Global};
 
 impl Bus {
@@ -23,7 +23,7 @@ impl Bus {
         requires { vec_len script ≤ 0x1_0000 }
         ensures { IfOk result (λ b. b ≡ new_bus map script.items misaligned) }
     {
-        let total = map.total();
+        let total = map.total_bytes();
         let bytes = vec![in alloc; 0u8; total]?;
         let marks = vec![in alloc; 0u16; total]?;
         let console = Vec::with_capacity(alloc, CONSOLE_ROOM)?;
@@ -51,7 +51,7 @@ impl Bus {
         requires { vec_len script ≤ 0x1_0000 }
         ensures { IfOk result (λ bus. bus ≡ new_bus map script.items misaligned) }
     {
-        if self.bytes.len() != map.total() {
+        if self.bytes.len() != map.total_bytes() {
             drop(self);
             return Bus::new(alloc, map, script, misaligned);
         }
@@ -64,7 +64,7 @@ impl Bus {
         } = self;
         bytes.fill(0);
         console.clear();
-        let (marks, generation) = unmarked(marks, generation);
+        let (marks, generation) = next_generation(marks, generation);
         Ok(Bus {
             map,
             bytes,

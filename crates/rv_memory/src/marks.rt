@@ -40,7 +40,7 @@ pub(crate) fn has_mark(marks: &[u16], at: usize, generation: u16) -> bool
 }
 
 /// Marks and the next generation, in which none of them is.
-pub(crate) fn unmarked(mut marks: Vec<u16>, generation: u16) -> (Vec<u16>, u16)
+pub(crate) fn next_generation(mut marks: Vec<u16>, generation: u16) -> (Vec<u16>, u16)
     requires { (k : ℕ) → slice_index marks.items k ≤ generation }
     ensures length { length result.0.items ≡ length marks.items }
     ensures older { (k : ℕ) → slice_index result.0.items k < result.1 }

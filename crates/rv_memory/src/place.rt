@@ -35,18 +35,18 @@ impl Map {
                 writable: first.writable,
             });
         }
-        search(&self.regions[1..self.count], first.size as usize, addr, len)
+        search_regions(&self.regions[1..self.count], first.size as usize, addr, len)
     }
 
     /// The same where the first region has the bytes and the address is a multiple of the width: regions begin and end
     /// at multiples of 4, so one comparison tells it.
     #[inline(always)]
-    pub(crate) fn first_place(&self, addr: u32, width: Width) -> Option<Place>
+    pub(crate) fn place_in_first_region(&self, addr: u32, width: Width) -> Option<Place>
         requires { addr % size_of width ≡ 0 }
         ensures { IfSome result (λ p. IsPlace self.now addr (size_of width) p.at p.writable) }
     {
         let first = &self.regions[0];
-        let offset = first.aligned_offset(addr, width)?;
+        let offset = first.offset_of_aligned(addr, width)?;
         Some(Place {
             at: offset as usize,
             writable: first.writable,
@@ -56,7 +56,7 @@ impl Map {
 
 // Where the bytes stand, if they lie in one of the regions, whose own bytes begin at a place.
 #[inline]
-fn search(regions: &[Region], start: usize, addr: u32, len: u32) -> Option<Place>
+fn search_regions(regions: &[Region], start: usize, addr: u32, len: u32) -> Option<Place>
     requires some { 0 < len }
     requires sized { list_all is_sized regions.now ≡ true }
     requires room { start + total_size regions.now ≤ MAP_ROOM }
@@ -95,7 +95,7 @@ impl Region {
 
     // The same for an access whose address is a multiple of its width.
     #[inline(always)]
-    fn aligned_offset(&self, addr: u32, width: Width) -> Option<u32>
+    fn offset_of_aligned(&self, addr: u32, width: Width) -> Option<u32>
         requires aligned { is_aligned self.now ≡ true }
         requires sized { is_sized self.now ≡ true }
         requires multiple { addr % size_of width ≡ 0 }

@@ -10,16 +10,16 @@ use Rattle.std.proofs.lemmas.Option.{get_or_from_slice_get, same_Some, slice_get
 use Rattle.rv_report.specs.declared.row.Row.{Row}
 use Rattle.rv_report.specs.declared.saved.Extent.TheVariants as extent
 use Rattle.rv_report.specs.declared.saved.Shard.{Shard}
-use Rattle.rv_report.specs.Saved.{IsRow, are_new, names_of}
+use Rattle.rv_report.specs.Saved.{IsRow, are_new, row_names}
 use Rattle.rv_merge.specs.declared.error.Flaw.{Flaw}
 use Rattle.rv_merge.specs.declared.error.Flaw.TheVariants as flaw
 use Rattle.rv_merge.specs.declared.error.MergeError.{MergeError}
 use Rattle.rv_merge.specs.declared.error.MergeError.TheVariants as error
-use Rattle.rv_merge.specs.GatheredInside.{HaveSources, Holds, IsComplete, IsTaken, IsUnfinished, IsWithout}
-use Rattle.rv_merge.specs.GatheredInside.{present}
-use Rattle.rv_merge.specs.Parts.{AreListed, AreParts, ArePartsIn, IsReportOf, IsPart, Run, run_of, shard_in, text_at}
+use Rattle.rv_merge.specs.GatheredParts.{HaveSources, Holds, IsComplete, IsTaken, IsUnfinished, IsWithout}
+use Rattle.rv_merge.specs.GatheredParts.{rows_from_slots}
+use Rattle.rv_merge.specs.Parts.{AreListed, AreParts, ArePartsIn, IsReportOf, IsPart, Run, run_of_shard, shard_in, nth_text}
 use Rattle.rv_merge.specs.Refusals.{HasNameTwice, IsMissing, IsNameTwice, IsRefused}
-use Rattle.rv_merge.proofs.OneList.{job_in, numbers_of_shard, one_shard_of, row_in, some_part}
+use Rattle.rv_merge.proofs.OneList.{job_from_table, numbers_of_shard, one_shard_of, row_in, some_part}
 use Rattle.rv_merge.proofs.Slots.{get_or-some, map_agree, present_all, under}
 use Rattle.rv_merge.proofs.Stepping.{shard_at, stepped_has}
 
@@ -33,7 +33,7 @@ module _ (texts : List (List ℕ)) (shard : Shard) (sources : List (Option ℕ))
 
   pub is_missing : (n : ℕ) → 0 < length texts → IsWithout sources n → IsMissing n texts
   is_missing n some w = record {
-    run = run_of shard;
+    run = run_of_shard shard;
     low = w.low;
     high = let a = w.high in let b = h.sources_long in omega arith;
     each = λ at d within.
@@ -42,7 +42,7 @@ module _ (texts : List (List ℕ)) (shard : Shard) (sources : List (Option ℕ))
         false≢true
         (sym (ap is_some w.none) ∙ sym (ap (λ (k : ℕ). is_some (get_or sources (k - 1) None)) e) ∙ t.noted) in (
           t.n,
-          subst (λ (b : List ℕ). IsReportOf (extent.Shard (shard_in (run_of shard) t.n)) b)
+          subst (λ (b : List ℕ). IsReportOf (extent.Shard (shard_in (run_of_shard shard) t.n)) b)
               (get_or_default texts at [] d within) t.of,
           differ,
         );
@@ -57,7 +57,7 @@ module _ (texts : List (List ℕ)) (shard : Shard) (sources : List (Option ℕ))
       at : ℕ
       there : get_or sources k None ≡ Some at
       within : at < length texts
-      taken : IsTaken (run_of shard) sources slots (text_at texts at)
+      taken : IsTaken (run_of_shard shard) sources slots (nth_text texts at)
       is : taken.n ≡ k + 1
 
     text_of : (k : ℕ) → k < length sources → HasText k
@@ -71,7 +71,7 @@ module _ (texts : List (List ℕ)) (shard : Shard) (sources : List (Option ℕ))
           within = source.within;
           taken = t;
           is = ap (λ (s : Shard). s.number)
-              (one_shard_of (shard_in (run_of shard) t.n) (shard_in (run_of shard) (k + 1)) (text_at texts some.0) t.of
+              (one_shard_of (shard_in (run_of_shard shard) t.n) (shard_in (run_of_shard shard) (k + 1)) (nth_text texts some.0) t.of
               source.of);
         }
 
@@ -81,7 +81,7 @@ module _ (texts : List (List ℕ)) (shard : Shard) (sources : List (Option ℕ))
     number_in place within some t =
         let s = shard_at shard.shards place some in
         let r = t.taken.of in
-        let has = numbers_of_shard (shard_in (run_of shard) t.taken.n) r.report r.saved r.extent in
+        let has = numbers_of_shard (shard_in (run_of_shard shard) t.taken.n) r.report r.saved r.extent in
         let is = t.is in
         let below = s.below in
         stepped_has t.taken.n shard.shards shard.jobs r.report.numbers (place + 1) has.stepped (omega arith)
@@ -106,49 +106,49 @@ module _ (texts : List (List ℕ)) (shard : Shard) (sources : List (Option ℕ))
       shards_some : 0 < shard.shards
       shards_some =
           let t = h.taken 0 some in
-          let has = numbers_of_shard (shard_in (run_of shard) t.n) t.of.report t.of.saved t.of.extent in
+          let has = numbers_of_shard (shard_in (run_of_shard shard) t.n) t.of.report t.of.saved t.of.extent in
           let good = has.good in
           omega arith
 
-      slots_are : slots ≡ map Some (present slots)
+      slots_are : slots ≡ map Some (rows_from_slots slots)
       slots_are = present_all slots (λ k within. row_there k shards_some within)
 
-      is_part : (bytes : List ℕ) (t : IsTaken (run_of shard) sources slots bytes)
-          → IsPart (present slots) (run_of shard) t.n bytes
+      is_part : (bytes : List ℕ) (t : IsTaken (run_of_shard shard) sources slots bytes)
+          → IsPart (rows_from_slots slots) (run_of_shard shard) t.n bytes
       is_part bytes t = record {
         of = t.of;
-        has = map_agree (λ (m : ℕ). slice_get (present slots) (m - 1)) (λ (m : ℕ). get_or slots (m - 1) None)
+        has = map_agree (λ (m : ℕ). slice_get (rows_from_slots slots) (m - 1)) (λ (m : ℕ). get_or slots (m - 1) None)
             t.of.report.numbers
-            (λ q n there. sym (get_or-some (present slots) (n - 1))
+            (λ q n there. sym (get_or-some (rows_from_slots slots) (n - 1))
             ∙ sym (ap (λ (xs : List (Option Row)). get_or xs (n - 1) None) slots_are))
             ∙ t.has;
       }
 
-      any_part : (n : ℕ) → 0 < n → n ≤ shard.shards → Any (IsPart (present slots) (run_of shard) n) texts
+      any_part : (n : ℕ) → 0 < n → n ≤ shard.shards → Any (IsPart (rows_from_slots slots) (run_of_shard shard) n) texts
       any_part n low high =
           let a = h.sources_long in
           let t = text_of (n - 1) (omega arith) in
           let is = t.is in
           let number : t.taken.n ≡ n = omega arith in (
             t.at,
-            text_at texts t.at,
+            nth_text texts t.at,
             t.within,
-            get_or_default texts t.at (text_at texts t.at) [] t.within,
-            subst (λ (k : ℕ). IsPart (present slots) (run_of shard) k (text_at texts t.at)) number
-                (is_part (text_at texts t.at) t.taken),
+            get_or_default texts t.at (nth_text texts t.at) [] t.within,
+            subst (λ (k : ℕ). IsPart (rows_from_slots slots) (run_of_shard shard) k (nth_text texts t.at)) number
+                (is_part (nth_text texts t.at) t.taken),
           )
 
       -- the texts are the parts of the rows in the slots
-      pub are_parts : ArePartsIn (run_of shard) (present slots) texts
+      pub are_parts : ArePartsIn (run_of_shard shard) (rows_from_slots slots) texts
       are_parts = record {
-        jobs = sym h.slots_long ∙ ap length slots_are ∙ length-map (present slots) Some;
+        jobs = sym h.slots_long ∙ ap length slots_are ∙ length-map (rows_from_slots slots) Some;
         some = shards_some;
         each = λ at d within.
             let t = h.taken at within in (
               t.n,
-              subst (λ (b : List ℕ). IsPart (present slots) (run_of shard) t.n b)
+              subst (λ (b : List ℕ). IsPart (rows_from_slots slots) (run_of_shard shard) t.n b)
                   (get_or_default texts at [] d within)
-                  (is_part (text_at texts at) t),
+                  (is_part (nth_text texts at) t),
             );
         all = any_part;
       }
@@ -156,29 +156,29 @@ module _ (texts : List (List ℕ)) (shard : Shard) (sources : List (Option ℕ))
       -- ---- a name twice
 
       pub has_name_twice : (n at : ℕ) → 0 < n
-          → get_or sources ((n - 1) % length sources) None ≡ Some at → IsNameTwice (present slots) (n - 1)
-          → (at < length texts) × HasNameTwice texts (text_at texts at) n
+          → get_or sources ((n - 1) % length sources) None ≡ Some at → IsNameTwice (rows_from_slots slots) (n - 1)
+          → (at < length texts) × HasNameTwice texts (nth_text texts at) n
       has_name_twice n at low there twice =
           let place = n - 1 in
           let s = shard_at shard.shards place shards_some in
           let high = s.high in
           let a = h.sources_long in
-          let jobs : length (present slots) ≡ shard.jobs =
-          sym (length-map (present slots) Some) ∙ sym (ap length slots_are) ∙ h.slots_long in
-          let inside = slice_get_within (present slots) place twice.row twice.at in
+          let jobs : length (rows_from_slots slots) ≡ shard.jobs =
+          sym (length-map (rows_from_slots slots) Some) ∙ sym (ap length slots_are) ∙ h.slots_long in
+          let inside = slice_get_within (rows_from_slots slots) place twice.row twice.at in
           let t = text_of (place % shard.shards) (omega arith) in
           let q = number_in place (omega arith) shards_some t in
           let number : place + 1 ≡ n = omega arith in
           let is : t.at ≡ at =
           same_Some t.at at
           (sym t.there ∙ sym (ap (λ (k : ℕ). get_or sources (place % k) None) a) ∙ there) in
-          let P : ℕ → Type 0 = λ k. (k < length texts) × HasNameTwice texts (text_at texts k) n in
+          let P : ℕ → Type 0 = λ k. (k < length texts) × HasNameTwice texts (nth_text texts k) n in
           subst P is (
             t.within,
             record {
-              rows = present slots;
-              run = run_of shard;
-              shard = shard_in (run_of shard) t.taken.n;
+              rows = rows_from_slots slots;
+              run = run_of_shard shard;
+              shard = shard_in (run_of_shard shard) t.taken.n;
               parts = are_parts;
               twice = twice;
               of = t.taken.of;
@@ -190,7 +190,7 @@ module _ (texts : List (List ℕ)) (shard : Shard) (sources : List (Option ℕ))
 -- ---- and they are rows of a list
 
 pub are_listed : (run : Run) (rows : List Row) (texts : List (List ℕ)) → ArePartsIn run rows texts
-    → are_new [] (names_of rows) ≡ true → AreListed rows
+    → are_new [] (row_names rows) ≡ true → AreListed rows
 are_listed run rows texts parts new =
     let some = some_part run rows texts parts in
     let of = some.part.of in
@@ -205,7 +205,7 @@ are_listed run rows texts parts new =
   where
     good : All IsRow rows
     good k d within =
-        let job = job_in run rows texts k parts within in
+        let job = job_from_table run rows texts k parts within in
         let row = row_in run rows texts k job in
         let report = job.part.of.report in
         let every = All-from_recursion IsRow report.rows job.part.of.saved.rows in
@@ -224,10 +224,10 @@ module _ (texts : List (List ℕ)) (shard : Shard) (sources : List (Option ℕ))
   pub complete : (rows : List Row) → IsComplete sources slots rows → AreParts rows texts
   complete rows whole =
       let parts = are_parts texts shard sources slots h whole.all some in
-      let new = subst (λ (x : List Row). are_new [] (names_of x) ≡ true) whole.are whole.new in
-      let all : AreParts (present slots) texts = record {
-        listed = are_listed (run_of shard) (present slots) texts parts new;
-        run = run_of shard;
+      let new = subst (λ (x : List Row). are_new [] (row_names x) ≡ true) whole.are whole.new in
+      let all : AreParts (rows_from_slots slots) texts = record {
+        listed = are_listed (run_of_shard shard) (rows_from_slots slots) texts parts new;
+        run = run_of_shard shard;
         parts = parts;
       } in
       subst (λ (x : List Row). AreParts x texts) (sym whole.are) all
@@ -253,7 +253,7 @@ module _ (texts : List (List ℕ)) (shard : Shard) (sources : List (Option ℕ))
   pub sources_some : 0 < length sources
   sources_some =
       let t = h.taken 0 some in
-      let has = numbers_of_shard (shard_in (run_of shard) t.n) t.of.report t.of.saved t.of.extent in
+      let has = numbers_of_shard (shard_in (run_of_shard shard) t.n) t.of.report t.of.saved t.of.extent in
       let good = has.good in
       let long = h.sources_long in
       omega arith
@@ -263,7 +263,7 @@ module _ (texts : List (List ℕ)) (shard : Shard) (sources : List (Option ℕ))
   found_in (Ok rows) whole = complete rows whole
   found_in (Err e) w = tt
 
-  pub refused_in : (result : Result (List Row) MergeError) → IfErr result (IsUnfinished sources slots)
+  pub refused_job_count : (result : Result (List Row) MergeError) → IfErr result (IsUnfinished sources slots)
       → IfErr result (IsRefused texts)
-  refused_in (Ok rows) whole = tt
-  refused_in (Err e) w = unfinished e w
+  refused_job_count (Ok rows) whole = tt
+  refused_job_count (Err e) w = unfinished e w

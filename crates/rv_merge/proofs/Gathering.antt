@@ -15,12 +15,12 @@ use Rattle.rv_report.specs.declared.saved.SavedReport.{SavedReport}
 use Rattle.rv_report.specs.Saved.{IsSaved, saved_text}
 use Rattle.rv_report.specs.declared.read.ReadError.{ReadError}
 use Rattle.rv_report.specs.declared.read.ReadError.TheVariants as read
-use Rattle.rv_report.specs.Differences.{IsPlace, Tells, first_difference}
-use Rattle.rv_report.specs.Said.{said}
+use Rattle.rv_report.specs.Differences.{IsSameReadError, BeginsAlike, first_read_error}
+use Rattle.rv_report.specs.LenientReport.{lenient_report}
 use Rattle.rv_merge.specs.declared.error.Flaw.{Flaw}
 use Rattle.rv_merge.specs.declared.error.Flaw.TheVariants as flaw
-use Rattle.rv_merge.specs.GatheredInside.{Holds, IsOtherKind, IsOtherRun, IsSource, IsTaken, IsTextOf, filled}
-use Rattle.rv_merge.specs.Parts.{IsReportOf, Run, run_of, shard_in, text_at}
+use Rattle.rv_merge.specs.GatheredParts.{Holds, IsOtherKind, IsOtherRun, IsSource, IsTaken, IsTextOf, filled_slots}
+use Rattle.rv_merge.specs.Parts.{IsReportOf, Run, run_of_shard, shard_in, nth_text}
 use Rattle.rv_merge.specs.Refusals.{AreTwo, HasFlaw, IsUnread}
 use Rattle.rv_merge.proofs.OneList.{HasNumbers, numbers_of_shard}
 use Rattle.rv_merge.proofs.Slots.{filled_has, filled_other, length-filled, map_agree}
@@ -34,10 +34,10 @@ none_at X (suc count) zero = refl
 none_at X (suc count) (suc k) = none_at X count k
 
 pub holds_none : (texts : List (List ℕ)) (shard first : Shard) (sources : List (Option ℕ)) (slots : List (Option Row))
-    → IsReportOf (extent.Shard first) (text_at texts 0) → shard ≡ first → sources ≡ replicate first.shards None
+    → IsReportOf (extent.Shard first) (nth_text texts 0) → shard ≡ first → sources ≡ replicate first.shards None
     → slots ≡ replicate first.jobs None → Holds texts 0 shard sources slots
 holds_none texts shard first sources slots of same a b = record {
-  first = subst (λ (s : Shard). IsReportOf (extent.Shard s) (text_at texts 0)) (sym same) of;
+  first = subst (λ (s : Shard). IsReportOf (extent.Shard s) (nth_text texts 0)) (sym same) of;
   sources_long = ap length a ∙ length-replicate first.shards None ∙ sym (ap (λ (s : Shard). s.shards) same);
   slots_long = ap length b ∙ length-replicate first.jobs None ∙ sym (ap (λ (s : Shard). s.jobs) same);
   from = λ k at e.
@@ -49,11 +49,11 @@ holds_none texts shard first sources slots of same a b = record {
 
 module _ (texts : List (List ℕ)) (at : ℕ) (shard : Shard) (sources : List (Option ℕ)) (slots : List (Option Row))
     (h : Holds texts at shard sources slots) where
-  later : (k a : ℕ) → IsSource (run_of shard) texts at k a → IsSource (run_of shard) texts (at + 1) k a
+  later : (k a : ℕ) → IsSource (run_of_shard shard) texts at k a → IsSource (run_of_shard shard) texts (at + 1) k a
   later k a s = record { within = let low = s.within in omega arith; of = s.of }
 
   pub holds_again : (k earlier : ℕ) → get_or sources k None ≡ Some earlier
-      → text_at texts earlier ≡ text_at texts at → Holds texts (at + 1) shard sources slots
+      → nth_text texts earlier ≡ nth_text texts at → Holds texts (at + 1) shard sources slots
   holds_again k earlier e same = record {
     first = h.first;
     sources_long = h.sources_long;
@@ -61,8 +61,8 @@ module _ (texts : List (List ℕ)) (at : ℕ) (shard : Shard) (sources : List (O
     from = λ j a f. later j a (h.from j a f);
     taken = λ i within. elim (cases_eq i at) [
       | inl is ↦
-          subst (λ (j : ℕ). IsTaken (run_of shard) sources slots (text_at texts j)) (sym is)
-          (subst (λ (b : List ℕ). IsTaken (run_of shard) sources slots b) same
+          subst (λ (j : ℕ). IsTaken (run_of_shard shard) sources slots (nth_text texts j)) (sym is)
+          (subst (λ (b : List ℕ). IsTaken (run_of_shard shard) sources slots b) same
           (h.taken earlier (h.from k earlier e).within))
       | inr other ↦ h.taken i (omega arith)
     ];
@@ -71,9 +71,9 @@ module _ (texts : List (List ℕ)) (at : ℕ) (shard : Shard) (sources : List (O
   -- ---- a new text
 
   module _ (part : Shard) (numbers : List ℕ) (rows : List Row)
-      (is : IsTextOf (record { extent = extent.Shard part; numbers = numbers; rows = rows }) (text_at texts at))
-      (same : run_of part ≡ run_of shard) where
-    of : IsReportOf (extent.Shard (shard_in (run_of shard) part.number)) (text_at texts at)
+      (is : IsTextOf (record { extent = extent.Shard part; numbers = numbers; rows = rows }) (nth_text texts at))
+      (same : run_of_shard part ≡ run_of_shard shard) where
+    of : IsReportOf (extent.Shard (shard_in (run_of_shard shard) part.number)) (nth_text texts at)
     of = record {
       report = record { extent = extent.Shard part; numbers = numbers; rows = rows };
       saved = is.saved;
@@ -81,20 +81,20 @@ module _ (texts : List (List ℕ)) (at : ℕ) (shard : Shard) (sources : List (O
       extent = ap (λ (run : Run). extent.Shard (shard_in run part.number)) same;
     }
 
-    has_numbers : HasNumbers part numbers
-    has_numbers =
+    row_has_word_numbers : HasNumbers part numbers
+    row_has_word_numbers =
         numbers_of_shard part (record { extent = extent.Shard part; numbers = numbers; rows = rows }) is.saved refl
 
     pub shard_within : (0 < part.number) × (part.number ≤ length sources)
     shard_within =
-        let good = has_numbers.good in
+        let good = row_has_word_numbers.good in
         let a = ap (λ (run : Run). run.shards) same in
         let b = h.sources_long in
         (good.low, omega arith)
 
     pub number_within : (q n : ℕ) → slice_get numbers q ≡ Some n → (0 < n) × (n ≤ length slots)
     number_within q n at' =
-        let has = has_numbers in
+        let has = row_has_word_numbers in
         let good = has.good in
         let p = stepped_at part.number part.shards part.jobs numbers q n has.stepped at' in
         let a = ap (λ (run : Run). run.jobs) same in
@@ -103,13 +103,13 @@ module _ (texts : List (List ℕ)) (at : ℕ) (shard : Shard) (sources : List (O
 
     module _ (none : get_or sources (part.number - 1) None ≡ None) where
       put : List (Option Row)
-      put = filled numbers rows slots
+      put = filled_slots numbers rows slots
 
       noted : List (Option ℕ)
       noted = set sources (part.number - 1) (Some at)
 
-      new_taken : IsTaken (run_of shard) (set sources (part.number - 1) (Some at)) (filled numbers rows slots)
-          (text_at texts at)
+      new_taken : IsTaken (run_of_shard shard) (set sources (part.number - 1) (Some at)) (filled_slots numbers rows slots)
+          (nth_text texts at)
       unfolding of
       new_taken =
           let within = shard_within in
@@ -121,17 +121,17 @@ module _ (texts : List (List ℕ)) (at : ℕ) (shard : Shard) (sources : List (O
             has = filled_has 0 most_jobs numbers rows slots listed.rising listed.counted number_within;
           }
 
-      other_shard : (bytes : List ℕ) (t : IsTaken (run_of shard) sources slots bytes) → t.n - 1 ≡ part.number - 1 → ⊥
+      other_shard : (bytes : List ℕ) (t : IsTaken (run_of_shard shard) sources slots bytes) → t.n - 1 ≡ part.number - 1 → ⊥
       other_shard bytes t e =
           false≢true
           (sym (ap is_some none) ∙ sym (ap (λ (k : ℕ). is_some (get_or sources k None)) e) ∙ t.noted)
 
-      apart : (bytes : List ℕ) (t : IsTaken (run_of shard) sources slots bytes) (q n : ℕ)
+      apart : (bytes : List ℕ) (t : IsTaken (run_of_shard shard) sources slots bytes) (q n : ℕ)
           → slice_get t.of.report.numbers q ≡ Some n → (j m : ℕ) → slice_get numbers j ≡ Some m → m - 1 ≡ n - 1 → ⊥
       apart bytes t q n there j m here e =
-          let mine = has_numbers in
+          let mine = row_has_word_numbers in
           let good = mine.good in
-          let has = numbers_of_shard (shard_in (run_of shard) t.n) t.of.report t.of.saved t.of.extent in
+          let has = numbers_of_shard (shard_in (run_of_shard shard) t.n) t.of.report t.of.saved t.of.extent in
           let other = has.good in
           let shards = ap (λ (run : Run). run.shards) same in
           let a = stepped_at part.number part.shards part.jobs numbers j m mine.stepped here in
@@ -144,22 +144,22 @@ module _ (texts : List (List ℕ)) (at : ℕ) (shard : Shard) (sources : List (O
           one_shard shard.shards t.n part.number n other.low other.high good.low (omega arith) b.2 leaves in
           other_shard bytes t (ap (λ (k : ℕ). k - 1) is')
 
-      still_taken : (bytes : List ℕ) → IsTaken (run_of shard) sources slots bytes
-          → IsTaken (run_of shard) (set sources (part.number - 1) (Some at)) (filled numbers rows slots) bytes
+      still_taken : (bytes : List ℕ) → IsTaken (run_of_shard shard) sources slots bytes
+          → IsTaken (run_of_shard shard) (set sources (part.number - 1) (Some at)) (filled_slots numbers rows slots) bytes
       still_taken bytes t =
           let ne : t.n - 1 ≢ part.number - 1 = other_shard bytes t in
           record {
             n = t.n;
             of = t.of;
             noted = ap is_some (get_or-set_other sources (part.number - 1) (t.n - 1) (Some at) None ne) ∙ t.noted;
-            has = map_agree (λ (m : ℕ). get_or (filled numbers rows slots) (m - 1) None)
+            has = map_agree (λ (m : ℕ). get_or (filled_slots numbers rows slots) (m - 1) None)
                 (λ (m : ℕ). get_or slots (m - 1) None) t.of.report.numbers
                 (λ q n there. filled_other numbers rows slots (n - 1) (apart bytes t q n there))
                 ∙ t.has;
           }
 
       new_source : (k a : ℕ) → get_or (set sources (part.number - 1) (Some at)) k None ≡ Some a
-          → IsSource (run_of shard) texts (at + 1) k a
+          → IsSource (run_of_shard shard) texts (at + 1) k a
       new_source k a e = elim (cases_eq k (part.number - 1)) [
         | inl here ↦
             let within = shard_within in
@@ -168,18 +168,18 @@ module _ (texts : List (List ℕ)) (at : ℕ) (shard : Shard) (sources : List (O
             (sym (get_or-set_same sources (part.number - 1) (Some at) None (omega arith))
             ∙ sym (ap (λ (j : ℕ). get_or (set sources (part.number - 1) (Some at)) j None) here) ∙ e) in
             let number : part.number ≡ k + 1 = omega arith in
-            let mine = shard_in (run_of shard) part.number in
+            let mine = shard_in (run_of_shard shard) part.number in
             record {
               within = omega arith;
-              of = subst (λ (j : ℕ). IsReportOf (extent.Shard (shard_in (run_of shard) j)) (text_at texts a)) number
-                  (subst (λ (j : ℕ). IsReportOf (extent.Shard mine) (text_at texts j)) found of);
+              of = subst (λ (j : ℕ). IsReportOf (extent.Shard (shard_in (run_of_shard shard) j)) (nth_text texts a)) number
+                  (subst (λ (j : ℕ). IsReportOf (extent.Shard mine) (nth_text texts j)) found of);
             }
         | inr other ↦
             later k a
             (h.from k a (sym (get_or-set_other sources (part.number - 1) k (Some at) None other) ∙ e))
       ]
 
-      pub holds_more : Holds texts (at + 1) shard (set sources (part.number - 1) (Some at)) (filled numbers rows slots)
+      pub holds_more : Holds texts (at + 1) shard (set sources (part.number - 1) (Some at)) (filled_slots numbers rows slots)
       holds_more = record {
         first = h.first;
         sources_long = length-set sources (part.number - 1) (Some at) ∙ h.sources_long;
@@ -187,25 +187,25 @@ module _ (texts : List (List ℕ)) (at : ℕ) (shard : Shard) (sources : List (O
         from = new_source;
         taken = λ i within. elim (cases_eq i at) [
           | inl here ↦
-              subst (λ (j : ℕ). IsTaken (run_of shard) (set sources (part.number - 1) (Some at))
-              (filled numbers rows slots) (text_at texts j)) (sym here) new_taken
-          | inr other ↦ still_taken (text_at texts i) (h.taken i (omega arith))
+              subst (λ (j : ℕ). IsTaken (run_of_shard shard) (set sources (part.number - 1) (Some at))
+              (filled_slots numbers rows slots) (nth_text texts j)) (sym here) new_taken
+          | inr other ↦ still_taken (nth_text texts i) (h.taken i (omega arith))
         ];
       }
 
     -- ---- another text of a shard
 
     pub are_two : (earlier : ℕ) → get_or sources (part.number - 1) None ≡ Some earlier
-        → (text_at texts earlier ≡ text_at texts at → ⊥)
-        → (earlier < at) × AreTwo (text_at texts earlier) (text_at texts at)
+        → (nth_text texts earlier ≡ nth_text texts at → ⊥)
+        → (earlier < at) × AreTwo (nth_text texts earlier) (nth_text texts at)
     are_two earlier e differ =
         let source = h.from (part.number - 1) earlier e in
         let within = shard_within in
         let number : part.number - 1 + 1 ≡ part.number = omega arith in (
           source.within,
           record {
-            shard = shard_in (run_of shard) part.number;
-            is = subst (λ (j : ℕ). IsReportOf (extent.Shard (shard_in (run_of shard) j)) (text_at texts earlier)) number
+            shard = shard_in (run_of_shard shard) part.number;
+            is = subst (λ (j : ℕ). IsReportOf (extent.Shard (shard_in (run_of_shard shard) j)) (nth_text texts earlier)) number
                 source.of;
             of = of;
             differ = differ;
@@ -223,7 +223,7 @@ read_some xs k o x within read is = get_or_default xs k None o within ∙ sym re
 
 -- a part of another run
 pub has_other_run : (texts : List (List ℕ)) (at : ℕ) (first part : Shard) (why : Flaw)
-    → IsReportOf (extent.Shard first) (text_at texts 0) → IsReportOf (extent.Shard part) (text_at texts at)
+    → IsReportOf (extent.Shard first) (nth_text texts 0) → IsReportOf (extent.Shard part) (nth_text texts at)
     → IsOtherRun why first part → HasFlaw texts at why
 has_other_run texts at first part flaw.OtherShards a b h =
     record { shard = first; other = part; is = a; of = b; differ = h }
@@ -240,7 +240,7 @@ has_other_run texts at first part (flaw.NameTwice n) a b h = absurd h
 
 -- a report that is no part
 pub has_other_kind : (texts : List (List ℕ)) (at : ℕ) (report : SavedReport) (why : Flaw)
-    → IsTextOf report (text_at texts at) → IsOtherKind why report.extent → HasFlaw texts at why
+    → IsTextOf report (nth_text texts at) → IsOtherKind why report.extent → HasFlaw texts at why
 has_other_kind texts at report flaw.Whole is h =
     record { report = report; saved = is.saved; text = is.text; extent = h }
 has_other_kind texts at report flaw.Choice is h =
@@ -256,8 +256,8 @@ has_other_kind texts at report (flaw.NameTwice n) is h = absurd h
 -- a text that is none of a report's
 pub is_unread : (place : ReadError) (bytes : List ℕ) → (place ≡ read.OutOfMemory → ⊥)
     → ((report : SavedReport) → IsSaved report → saved_text report ≡ bytes → place ≡ read.OutOfMemory)
-    → (report : SavedReport) × IsSaved report × Tells place (saved_text report) bytes
-    → IsPlace place (first_difference (saved_text (said bytes)) bytes) → IsUnread place bytes
+    → (report : SavedReport) × IsSaved report × BeginsAlike place (saved_text report) bytes
+    → IsSameReadError place (first_read_error (saved_text (lenient_report bytes)) bytes) → IsUnread place bytes
 is_unread place bytes other only begins told = record {
   none = λ report saved text. other (only report saved text);
   begins = begins;

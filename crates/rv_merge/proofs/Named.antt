@@ -5,9 +5,9 @@ use Rattle.std.specs.Prelude.{slice_get, is_some}
 use Rattle.std.proofs.lemmas.Bool.{and_parts, false≢true}
 use Rattle.std.proofs.lemmas.List.{append_assoc, append-nil, at_drop_all, at_drop_more}
 use Rattle.std.proofs.lemmas.Option.{same_Some, none-some}
-use Rattle.rv_jobs.specs.JobList.{place_in}
+use Rattle.rv_jobs.specs.Names.{place_in}
 use Rattle.rv_report.specs.declared.row.Row.{Row}
-use Rattle.rv_report.specs.Saved.{are_new, names_of}
+use Rattle.rv_report.specs.Saved.{are_new, row_names}
 
 not_true : (b : Bool) → not b ≡ true → b ≡ false
 not_true true e = sym e
@@ -31,38 +31,38 @@ new_at earlier (t ∷ ts) (suc k) text h at =
 -- ---- row by row
 
 names_taken : (rows : List Row) (i : ℕ) (row : Row) → i < length rows
-    → names_of (take (suc i) rows) ≡ names_of (take i rows) ++ (get_or rows i row).name ∷ []
+    → row_names (take (suc i) rows) ≡ row_names (take i rows) ++ (get_or rows i row).name ∷ []
 names_taken [] i row h = absurd (omega arith)
 names_taken (r ∷ rows) zero row h = refl
 names_taken (r ∷ rows) (suc i) row h =
     ap (λ (ts : List (List ℕ)). r.name ∷ ts) (names_taken rows i row (omega arith))
 
 pub names_on : (rows : List Row) (i : ℕ) (row : Row) (name : List ℕ) → i < length rows → name ≡ (get_or rows i row).name
-    → names_of (take (i + 1) rows) ≡ names_of (take i rows) ++ name ∷ []
+    → row_names (take (i + 1) rows) ≡ row_names (take i rows) ++ name ∷ []
 names_on rows i row name h is =
-    ap (λ (k : ℕ). names_of (take k rows)) (add-one i) ∙ names_taken rows i row h
-    ∙ ap (λ (n : List ℕ). names_of (take i rows) ++ n ∷ []) (sym is)
+    ap (λ (k : ℕ). row_names (take k rows)) (add-one i) ∙ names_taken rows i row h
+    ∙ ap (λ (n : List ℕ). row_names (take i rows) ++ n ∷ []) (sym is)
 
 fresh_step : (earlier : List (List ℕ)) (rows : List Row) (i : ℕ) (row : Row) → i < length rows
-    → are_new earlier (names_of (drop i rows))
+    → are_new earlier (row_names (drop i rows))
     ≡ (not (is_some (place_in earlier (get_or rows i row).name))
-    && are_new (earlier ++ (get_or rows i row).name ∷ []) (names_of (drop (i + 1) rows)))
+    && are_new (earlier ++ (get_or rows i row).name ∷ []) (row_names (drop (i + 1) rows)))
 unfolding are_new
-fresh_step earlier rows i row h = at_drop_more (λ (rs : List Row). are_new earlier (names_of rs)) rows i row h
+fresh_step earlier rows i row h = at_drop_more (λ (rs : List Row). are_new earlier (row_names rs)) rows i row h
 
 pub fresh_later : (earlier : List (List ℕ)) (rows : List Row) (i : ℕ) (row : Row) (name : List ℕ) → i < length rows
     → name ≡ (get_or rows i row).name → is_some (place_in earlier name) ≡ false
-    → are_new earlier (names_of (drop i rows)) ≡ are_new (earlier ++ name ∷ []) (names_of (drop (i + 1) rows))
+    → are_new earlier (row_names (drop i rows)) ≡ are_new (earlier ++ name ∷ []) (row_names (drop (i + 1) rows))
 fresh_later earlier rows i row name h is e =
     fresh_step earlier rows i row h
     ∙ ap (λ (n : List ℕ). not (is_some (place_in earlier n))
-    && are_new (earlier ++ n ∷ []) (names_of (drop (i + 1) rows))) (sym is)
-    ∙ ap (λ (t : Bool). not t && are_new (earlier ++ name ∷ []) (names_of (drop (i + 1) rows))) e
+    && are_new (earlier ++ n ∷ []) (row_names (drop (i + 1) rows))) (sym is)
+    ∙ ap (λ (t : Bool). not t && are_new (earlier ++ name ∷ []) (row_names (drop (i + 1) rows))) e
 
 pub fresh_end : (earlier : List (List ℕ)) (rows : List Row) (i : ℕ) → length rows ≤ i
-    → are_new earlier (names_of (drop i rows)) ≡ true
+    → are_new earlier (row_names (drop i rows)) ≡ true
 unfolding are_new
-fresh_end earlier rows i h = at_drop_all (λ (rs : List Row). are_new earlier (names_of rs)) rows i h
+fresh_end earlier rows i h = at_drop_all (λ (rs : List Row). are_new earlier (row_names rs)) rows i h
 
 pub nowhere : (o : Option ℕ) → is_some o ≡ false → o ≡ None
 nowhere None h = refl

@@ -6,19 +6,19 @@ use Rattle.std.specs.Result.{IsErrAnd}
 use Rattle.std.proofs.lemmas.Bool.{false≢true}
 use Rattle.std.proofs.lemmas.List.{take-map}
 use Rattle.std.proofs.lemmas.Option.{slice_get-map}
-use Rattle.rv_jobs.specs.JobList.{place_in}
+use Rattle.rv_jobs.specs.Names.{place_in}
 use Rattle.rv_report.specs.declared.row.Row.{Row}
 use Rattle.rv_report.specs.declared.saved.Extent.{Extent}
 use Rattle.rv_report.specs.declared.saved.Extent.TheVariants as extent
 use Rattle.rv_report.specs.declared.saved.Shard.{Shard}
 use Rattle.rv_report.specs.declared.saved.SavedReport.{SavedReport}
-use Rattle.rv_report.specs.Saved.{are_new, are_stepped, names_of, saved_text}
+use Rattle.rv_report.specs.Saved.{are_new, are_evenly_spaced, row_names, saved_text}
 use Rattle.rv_merge.specs.declared.error.Flaw.{Flaw}
 use Rattle.rv_merge.specs.declared.error.Flaw.TheVariants as flaw
 use Rattle.rv_merge.specs.declared.error.MergeError.{MergeError}
 use Rattle.rv_merge.specs.declared.error.MergeError.TheVariants as error
-use Rattle.rv_merge.specs.Parts.{AreParts, ArePartsIn, IsPart, Run, shard_in, text_at}
-use Rattle.rv_merge.specs.Refusals.{AreTwo, Differ, HasFlaw, IsMissing, IsNameTwice, IsRefused, Gives}
+use Rattle.rv_merge.specs.Parts.{AreParts, ArePartsIn, IsPart, Run, shard_in, nth_text}
+use Rattle.rv_merge.specs.Refusals.{AreTwo, Differ, HasFlaw, IsMissing, IsNameTwice, IsRefused, AnswersRows}
 use Rattle.rv_merge.proofs.Named.{new_at}
 use Rattle.rv_merge.proofs.OneList.{each_part, numbers_of_shard, one_extent, one_list, one_shard_of, same_run}
 use Rattle.rv_merge.proofs.OneList.{some_part}
@@ -48,7 +48,7 @@ same_part run rows n m bytes others x y is =
     let t = y.of.report in
     let a = numbers_of_shard (shard_in run n) r x.of.saved x.of.extent in
     let b = numbers_of_shard (shard_in run m) t y.of.saved y.of.extent in
-    let again = subst (λ (k : ℕ). are_stepped k run.shards run.jobs t.numbers ≡ true) (sym is) b.stepped in
+    let again = subst (λ (k : ℕ). are_evenly_spaced k run.shards run.jobs t.numbers ≡ true) (sym is) b.stepped in
     let numbers = stepped_same n run.shards run.jobs r.numbers t.numbers a.stepped again in
     let have : r.rows ≡ t.rows =
     same_rows r.rows t.rows (sym x.has ∙ ap (map (λ (k : ℕ). slice_get rows (k - 1))) numbers ∙ y.has) in
@@ -76,21 +76,21 @@ differ_never what run rows n m bytes others alike x y d =
 
 -- ---- names
 
-named_never : (rows : List Row) (place : ℕ) → are_new [] (names_of rows) ≡ true → IsNameTwice rows place → ⊥
+named_never : (rows : List Row) (place : ℕ) → are_new [] (row_names rows) ≡ true → IsNameTwice rows place → ⊥
 named_never rows place new h =
     let name = λ (row : Row). row.name in
-    let there : slice_get (names_of rows) place ≡ Some h.row.name =
+    let there : slice_get (row_names rows) place ≡ Some h.row.name =
     slice_get-map name rows place ∙ ap (option_map name) h.at in
-    let fresh : is_some (place_in ([] ++ take place (names_of rows)) h.row.name) ≡ false =
-    new_at [] (names_of rows) place h.row.name new there in
-    let same : take place (names_of rows) ≡ names_of (take place rows) = take-map name place rows in
+    let fresh : is_some (place_in ([] ++ take place (row_names rows)) h.row.name) ≡ false =
+    new_at [] (row_names rows) place h.row.name new there in
+    let same : take place (row_names rows) ≡ row_names (take place rows) = take-map name place rows in
     false≢true
     (sym fresh ∙ ap (λ (xs : List (List ℕ)). is_some (place_in xs h.row.name)) same ∙ h.twice)
 
 -- ---- each flaw
 
 flaw_never : (run : Run) (rows : List Row) (texts : List (List ℕ)) (at : ℕ) (why : Flaw) → ArePartsIn run rows texts
-    → are_new [] (names_of rows) ≡ true → at < length texts → HasFlaw texts at why → ⊥
+    → are_new [] (row_names rows) ≡ true → at < length texts → HasFlaw texts at why → ⊥
 flaw_never run rows texts at (flaw.Line line) parts new within h =
     let p = each_part run rows texts at parts within in
     h.none p.1.of.report p.1.of.saved p.1.of.text
@@ -99,32 +99,32 @@ flaw_never run rows texts at flaw.CutOff parts new within h =
     h.none p.1.of.report p.1.of.saved p.1.of.text
 flaw_never run rows texts at flaw.Whole parts new within h =
     let p = each_part run rows texts at parts within in
-    let e = one_extent extent.Whole (extent.Shard (shard_in run p.0)) (text_at texts at) h p.1.of in
+    let e = one_extent extent.Whole (extent.Shard (shard_in run p.0)) (nth_text texts at) h p.1.of in
     cc
 flaw_never run rows texts at flaw.Choice parts new within h =
     let p = each_part run rows texts at parts within in
-    let e = one_extent (extent.Choice h.0) (extent.Shard (shard_in run p.0)) (text_at texts at) h.1 p.1.of in
+    let e = one_extent (extent.Choice h.0) (extent.Shard (shard_in run p.0)) (nth_text texts at) h.1 p.1.of in
     cc
 flaw_never run rows texts at flaw.OtherShards parts new within h =
     let p = each_part run rows texts 0 parts (omega arith) in
     let q = each_part run rows texts at parts within in
-    differ_never (λ (s : Shard). s.shards) run rows p.0 q.0 (text_at texts 0) (text_at texts at) (λ k j. refl) p.1 q.1 h
+    differ_never (λ (s : Shard). s.shards) run rows p.0 q.0 (nth_text texts 0) (nth_text texts at) (λ k j. refl) p.1 q.1 h
 flaw_never run rows texts at flaw.OtherJobs parts new within h =
     let p = each_part run rows texts 0 parts (omega arith) in
     let q = each_part run rows texts at parts within in
-    differ_never (λ (s : Shard). s.jobs) run rows p.0 q.0 (text_at texts 0) (text_at texts at) (λ k j. refl) p.1 q.1 h
+    differ_never (λ (s : Shard). s.jobs) run rows p.0 q.0 (nth_text texts 0) (nth_text texts at) (λ k j. refl) p.1 q.1 h
 flaw_never run rows texts at flaw.OtherStamp parts new within h =
     let p = each_part run rows texts 0 parts (omega arith) in
     let q = each_part run rows texts at parts within in
-    differ_never (λ (s : Shard). s.stamp) run rows p.0 q.0 (text_at texts 0) (text_at texts at) (λ k j. refl) p.1 q.1 h
+    differ_never (λ (s : Shard). s.stamp) run rows p.0 q.0 (nth_text texts 0) (nth_text texts at) (λ k j. refl) p.1 q.1 h
 flaw_never run rows texts at (flaw.OtherText earlier) parts new within h =
     let low = h.0 in
     let p = each_part run rows texts earlier parts (omega arith) in
     let q = each_part run rows texts at parts within in
-    two_never run rows p.0 q.0 (text_at texts earlier) (text_at texts at) p.1 q.1 h.1
+    two_never run rows p.0 q.0 (nth_text texts earlier) (nth_text texts at) p.1 q.1 h.1
 flaw_never run rows texts at (flaw.NameTwice n) parts new within h =
     let e = one_list run h.run rows h.rows texts parts h.parts in
-    named_never h.rows (n - 1) (subst (λ (x : List Row). are_new [] (names_of x) ≡ true) e new) h.twice
+    named_never h.rows (n - 1) (subst (λ (x : List Row). are_new [] (row_names x) ≡ true) e new) h.twice
 
 -- ---- a missing shard
 
@@ -141,7 +141,7 @@ missing_never : (run : Run) (rows : List Row) (texts : List (List ℕ)) (n : ℕ
 missing_never run rows texts n parts m =
     let p = each_part run rows texts 0 parts m.some in
     let (other, of, differ) = m.each 0 [] m.some in
-    let one = one_shard_of (shard_in m.run other) (shard_in run p.0) (text_at texts 0) of p.1.of in
+    let one = one_shard_of (shard_in m.run other) (shard_in run p.0) (nth_text texts 0) of p.1.of in
     let runs = same_run m.run run other p.0 one in
     let high : n ≤ run.shards = subst (λ (r : Run). n ≤ r.shards) runs m.high in
     missing_any run rows texts n m (parts.all n m.low high)
@@ -166,13 +166,13 @@ found_only rows found texts parts others =
 
 -- so where it answers, and where it refuses, the answer is that list's or memory ran out
 pub gives : (texts : List (List ℕ)) (result : Result (List Row) MergeError) → IfOk result (λ rows. AreParts rows texts)
-    → IfErr result (IsRefused texts) → (rows : List Row) → AreParts rows texts → Gives rows result
+    → IfErr result (IsRefused texts) → (rows : List Row) → AreParts rows texts → AnswersRows rows result
 gives texts (Ok found) parts refused rows these = found_only rows found texts these parts
 gives texts (Err e) parts refused rows these = refused_only rows texts e these refused
 
 -- the exit with an error
 pub gives_err : (texts : List (List ℕ)) (result : Result (List Row) MergeError) (e : MergeError)
     → IsErrAnd result (λ error. error ≡ e) → IsRefused texts e → (rows : List Row) → AreParts rows texts
-    → Gives rows result
+    → AnswersRows rows result
 gives_err texts (Ok found) e is refused rows these = absurd is
 gives_err texts (Err error) e is refused rows these = is ∙ refused_only rows texts e these refused

@@ -6,16 +6,16 @@ use Rattle.std.proofs.Common.{inl, inr}
 use Rattle.std.proofs.lemmas.Bool.{and_parts, cases_lt, leb-true}
 use Rattle.std.proofs.lemmas.Option.{same_Some, slice_get_past}
 use Rattle.std.proofs.lemmas.List.{get_or_default}
-use Rattle.rv_jobs.specs.JobList.{is_name}
+use Rattle.rv_jobs.specs.Names.{is_name}
 use Rattle.rv_jobs.specs.Limits.{most_jobs}
 use Rattle.rv_report.specs.declared.row.Row.{Row}
 use Rattle.rv_report.specs.declared.saved.Extent.{Extent}
 use Rattle.rv_report.specs.declared.saved.Extent.TheVariants as extent
 use Rattle.rv_report.specs.declared.saved.Shard.{Shard}
 use Rattle.rv_report.specs.declared.saved.SavedReport.{SavedReport}
-use Rattle.rv_report.specs.Saved.{IsSaved, are_stepped, fits, is_shard}
+use Rattle.rv_report.specs.Saved.{IsSaved, are_evenly_spaced, fits_numbers, is_valid_shard}
 use Rattle.rv_report.proofs.Public.{same_reports}
-use Rattle.rv_merge.specs.Parts.{ArePartsIn, IsReportOf, IsPart, Run, run_of, shard_in, text_at}
+use Rattle.rv_merge.specs.Parts.{ArePartsIn, IsReportOf, IsPart, Run, run_of_shard, shard_in, nth_text}
 use Rattle.rv_merge.proofs.Slots.{same_by_get, under}
 use Rattle.rv_merge.proofs.Stepping.{shard_at, stepped_has}
 
@@ -28,8 +28,8 @@ pub record IsGood (s : Shard) : Type 0 where
   pub shards : s.shards ≤ most_jobs
   pub jobs : s.jobs ≤ most_jobs
 
-pub good_shard : (s : Shard) → is_shard s ≡ true → IsGood s
-unfolding is_shard
+pub good_shard : (s : Shard) → is_valid_shard s ≡ true → IsGood s
+unfolding is_valid_shard
 good_shard s h =
     let jobs = nat_le s.jobs most_jobs && is_name s.stamp in
     let shards = nat_le s.shards most_jobs && jobs in
@@ -49,17 +49,17 @@ good_shard s h =
 -- the numbers of a shard's report are those of its jobs
 pub record HasNumbers (s : Shard) (ns : List ℕ) : Type 0 where
   pub good : IsGood s
-  pub stepped : are_stepped s.number s.shards s.jobs ns ≡ true
+  pub stepped : are_evenly_spaced s.number s.shards s.jobs ns ≡ true
 
-fits_shard : (s : Shard) (ns : List ℕ) → fits (extent.Shard s) ns ≡ true → HasNumbers s ns
-unfolding fits
+fits_shard : (s : Shard) (ns : List ℕ) → fits_numbers (extent.Shard s) ns ≡ true → HasNumbers s ns
+unfolding fits_numbers
 fits_shard s ns h =
-    let p = and_parts (is_shard s) (are_stepped s.number s.shards s.jobs ns) h in
+    let p = and_parts (is_valid_shard s) (are_evenly_spaced s.number s.shards s.jobs ns) h in
     record { good = good_shard s p.0; stepped = p.1 }
 
 pub numbers_of_shard : (s : Shard) (r : SavedReport) → IsSaved r → r.extent ≡ extent.Shard s → HasNumbers s r.numbers
 numbers_of_shard s r saved is =
-    fits_shard s r.numbers (subst (λ (e : Extent). fits e r.numbers ≡ true) is saved.listed.fits)
+    fits_shard s r.numbers (subst (λ (e : Extent). fits_numbers e r.numbers ≡ true) is saved.listed.fits)
 
 -- ---- one text is that of one report
 
@@ -86,7 +86,7 @@ pub record HasJob (run : Run) (rows : List Row) (texts : List (List ℕ)) (place
   pub at : ℕ
   pub within : at < length texts
   pub n : ℕ
-  pub part : IsPart rows run n (text_at texts at)
+  pub part : IsPart rows run n (nth_text texts at)
   pub q : ℕ
   pub there : slice_get part.of.report.numbers q ≡ Some (place + 1)
 
@@ -100,14 +100,14 @@ part_has_job run rows n place bytes p low high same =
 any_job : (run : Run) (rows : List Row) (texts : List (List ℕ)) (n place : ℕ) → Any (IsPart rows run n) texts
     → n ≤ place + 1 → place < run.jobs → (place + 1) % run.shards ≡ n % run.shards → HasJob run rows texts place
 any_job run rows texts n place (k, x, within, is, p) low high same =
-    let here : x ≡ text_at texts k = sym is ∙ get_or_default texts k x [] within in
-    let part : IsPart rows run n (text_at texts k) = subst (λ (b : List ℕ). IsPart rows run n b) here p in
-    let there = part_has_job run rows n place (text_at texts k) part low high same in
+    let here : x ≡ nth_text texts k = sym is ∙ get_or_default texts k x [] within in
+    let part : IsPart rows run n (nth_text texts k) = subst (λ (b : List ℕ). IsPart rows run n b) here p in
+    let there = part_has_job run rows n place (nth_text texts k) part low high same in
     record { at = k; within = within; n = n; part = part; q = there.0; there = there.1 }
 
-pub job_in : (run : Run) (rows : List Row) (texts : List (List ℕ)) (place : ℕ) → ArePartsIn run rows texts
+pub job_from_table : (run : Run) (rows : List Row) (texts : List (List ℕ)) (place : ℕ) → ArePartsIn run rows texts
     → place < length rows → HasJob run rows texts place
-job_in run rows texts place parts within =
+job_from_table run rows texts place parts within =
     let shard = shard_at run.shards place parts.some in
     let jobs = parts.jobs in
     any_job run rows texts (place % run.shards + 1) place
@@ -127,12 +127,12 @@ pub record SomePart (run : Run) (rows : List Row) (texts : List (List ℕ)) : Ty
   pub at : ℕ
   pub within : at < length texts
   pub n : ℕ
-  pub part : IsPart rows run n (text_at texts at)
+  pub part : IsPart rows run n (nth_text texts at)
 
 some_any : (run : Run) (rows : List Row) (texts : List (List ℕ)) (n : ℕ) → Any (IsPart rows run n) texts
     → SomePart run rows texts
 some_any run rows texts n (k, x, within, is, p) =
-    let here : x ≡ text_at texts k = sym is ∙ get_or_default texts k x [] within in
+    let here : x ≡ nth_text texts k = sym is ∙ get_or_default texts k x [] within in
     record {
       at = k;
       within = within;
@@ -145,11 +145,11 @@ pub some_part : (run : Run) (rows : List Row) (texts : List (List ℕ)) → AreP
 some_part run rows texts parts = some_any run rows texts 1 (parts.all 1 (omega arith) parts.some)
 
 pub each_part : (run : Run) (rows : List Row) (texts : List (List ℕ)) (at : ℕ) → ArePartsIn run rows texts
-    → at < length texts → (n : ℕ) × IsPart rows run n (text_at texts at)
+    → at < length texts → (n : ℕ) × IsPart rows run n (nth_text texts at)
 each_part run rows texts at parts within = parts.each at [] within
 
 pub same_run : (run other : Run) (n m : ℕ) → shard_in run n ≡ shard_in other m → run ≡ other
-same_run run other n m e = ap run_of e
+same_run run other n m e = ap run_of_shard e
 
 -- texts are those of one run
 pub one_run : (run other : Run) (rows others : List Row) (texts : List (List ℕ)) → ArePartsIn run rows texts
@@ -158,16 +158,16 @@ one_run run other rows others texts parts more =
     let some = some_part run rows texts parts in
     let that = each_part other others texts some.at more some.within in
     same_run run other some.n that.0
-    (one_shard_of (shard_in run some.n) (shard_in other that.0) (text_at texts some.at) some.part.of that.1.of)
+    (one_shard_of (shard_in run some.n) (shard_in other that.0) (nth_text texts some.at) some.part.of that.1.of)
 
 same_row : (run other : Run) (rows others : List Row) (texts : List (List ℕ)) (place : ℕ) → ArePartsIn run rows texts
     → ArePartsIn other others texts → place < length rows → slice_get rows place ≡ slice_get others place
 same_row run other rows others texts place parts more within =
-    let job = job_in run rows texts place parts within in
+    let job = job_from_table run rows texts place parts within in
     let row = row_in run rows texts place job in
     let that = each_part other others texts job.at more job.within in
     let is : job.part.of.report ≡ that.1.of.report =
-    one_report (extent.Shard (shard_in run job.n)) (extent.Shard (shard_in other that.0)) (text_at texts job.at)
+    one_report (extent.Shard (shard_in run job.n)) (extent.Shard (shard_in other that.0)) (nth_text texts job.at)
     job.part.of that.1.of in
     let there : slice_get that.1.of.report.numbers job.q ≡ Some (place + 1) =
     subst (λ (r : SavedReport). slice_get r.numbers job.q ≡ Some (place + 1)) is job.there in

@@ -11,10 +11,10 @@ use Rattle.rv_report.specs.declared_error.ImageError.{ImageError}
 use Rattle.rv_report.specs.declared_error.ImageError.TheVariants as image
 use Rattle.rv_report.specs.declared_image.Segment.{Segment}
 use Rattle.rv_report.specs.declared_loading.LoadAt.{LoadAt}
-use Rattle.rv_report.specs.Rows.{Row, first_row, accepted}
-use Rattle.rv_report.specs.Image.{image_of, image_there, refusals}
+use Rattle.rv_report.specs.Rows.{RefusalRow, first_refusal, accepted}
+use Rattle.rv_report.specs.Image.{image_of, unchecked_image, refusals}
 use Rattle.rv_report.specs.Loading.{map_check, map_rows}
-use Rattle.rv_report.specs.Symbols.{symbol_of, symbol_rows, signature_check, is_bad_range}
+use Rattle.rv_report.specs.Symbols.{symbol_of, symbol_rows, signature_check, is_bad_signature_range}
 use Rattle.rv_jobs.specs.declared_job.Job.{Job}
 use Rattle.rv_jobs.specs.declared_job.Symbols.{Symbols}
 use Rattle.rv_jobs.specs.Reading.{◌>>=◌}
@@ -23,9 +23,9 @@ use Rattle.rv_jobs.specs.declared.kept.Kept.TheVariants as kept
 use Rattle.rv_report.specs.declared.row.Refusal.{Refusal}
 use Rattle.rv_report.specs.declared.row.Refusal.TheVariants as refusal
 use Rattle.rv_rows.specs.declared.outcome.SignatureRange.{SignatureRange}
-use Rattle.rv_rows.specs.Outcome.{content_of, reference_of, file_of, end_of_signature, range_of, range_if_asked}
-use Rattle.rv_rows.specs.Outcome.{loadable_of, end_of, outcome_of_run, refused_outcome, outcome_if_loadable}
-use Rattle.rv_rows.specs.Outcome.{loaded_state, file_outcome_of, outcome_if_there, outcome_of}
+use Rattle.rv_rows.specs.Outcome.{content_or_refusal, reference_or_refusal, image_file_or_refusal, end_of_signature, signature_range, range_if_asked}
+use Rattle.rv_rows.specs.Outcome.{loadable_image, row_end, outcome_of_run, refused_outcome, outcome_if_loadable}
+use Rattle.rv_rows.specs.Outcome.{loaded_state, file_outcome_of, outcome_if_readable, outcome_of}
 use Rattle.rv_rows.specs.declared.outcome.Loadable.{Loadable}
 use Rattle.rv_rows.specs.declared.outcome.Outcome.{Outcome}
 use Rattle.rv_report.specs.declared.row.RowEnd.TheVariants as ending
@@ -75,16 +75,16 @@ lasting_row : {X : Type 0} (b : Bool) (why : ImageError) (next : Result X ImageE
 lasting_row true why next h n = h
 lasting_row false why next h n = n
 
-lasting_first : {X : Type 0} (rows : List Row) (next : Result X ImageError)
-    → list_all (λ (row : Row). lasts row.1) rows ≡ true → Errs Lasting next → Errs Lasting (first_row rows next)
+lasting_first : {X : Type 0} (rows : List RefusalRow) (next : Result X ImageError)
+    → list_all (λ (row : RefusalRow). lasts row.1) rows ≡ true → Errs Lasting next → Errs Lasting (first_refusal rows next)
 lasting_first [] next h n = n
 lasting_first (row ∷ rows) next h n =
-    let parts = and_parts (lasts row.1) (list_all (λ (row : Row). lasts row.1) rows) h in
-    lasting_row row.0 row.1 (first_row rows next) parts.0 (lasting_first rows next parts.1 n)
+    let parts = and_parts (lasts row.1) (list_all (λ (row : RefusalRow). lasts row.1) rows) h in
+    lasting_row row.0 row.1 (first_refusal rows next) parts.0 (lasting_first rows next parts.1 n)
 
 lasting_image : (set : Isa) (file : List ℕ) → Errs Lasting (image_of set file)
 unfolding image_of
-lasting_image set file = lasting_first (refusals set file) (Ok (image_there file)) refl tt
+lasting_image set file = lasting_first (refusals set file) (Ok (unchecked_image file)) refl tt
 
 lasting_symbol : (file name : List ℕ) → Errs Lasting (symbol_of file name)
 unfolding symbol_of
@@ -98,15 +98,15 @@ lasting_end (Err why) h = h
 lasting_check : (begin end : ℕ) (regions : List Region) → Errs Lasting (signature_check begin end regions)
 unfolding signature_check
 lasting_check begin end regions =
-    lasting_first ((is_bad_range begin end regions, image.SignatureRange) ∷ []) accepted refl tt
+    lasting_first ((is_bad_signature_range begin end regions, image.SignatureRange) ∷ []) accepted refl tt
 
 lasting_range : (file : List ℕ) (regions : List Region) (names : Option Symbols)
     → Errs Lasting (range_if_asked file regions names)
-unfolding range_of
+unfolding signature_range
 lasting_range file regions None = tt
 lasting_range file regions (Some names) =
     let end = end_of_signature (symbol_of file names.end) in
-    errs_on Lasting (range_of file regions names) _ (
+    errs_on Lasting (signature_range file regions names) _ (
     errs_on Lasting (symbol_of file names.begin) _ (lasting_symbol file names.begin) (λ begin.
     errs_on Lasting end _ (lasting_end _ (lasting_symbol file names.end)) (λ end.
     errs_on Lasting (signature_check begin end regions) _ (lasting_check begin end regions) (λ unit. tt)))
@@ -117,8 +117,8 @@ lasting_map : (segments : List Segment) (regions : List Region) (at : LoadAt)
 unfolding map_check
 lasting_map segments regions at = lasting_first (map_rows segments regions at) accepted refl tt
 
-lasting_loadable : (job : Job) (file : List ℕ) → Errs Lasting (loadable_of job file)
-unfolding loadable_of
+lasting_loadable : (job : Job) (file : List ℕ) → Errs Lasting (loadable_image job file)
+unfolding loadable_image
 lasting_loadable job file =
     errs_on Lasting (image_of job.isa file) _ (lasting_image job.isa file) (λ found.
     errs_on Lasting (map_check found.segments job.regions job.load) _
@@ -127,24 +127,24 @@ lasting_loadable job file =
     (lasting_range file job.regions job.signature) (λ range. tt)))
 
 lasting_content : (k : Kept) (unreadable long : Refusal) → IsLasting unreadable → IsLasting long
-    → Errs IsLasting (content_of k unreadable long)
+    → Errs IsLasting (content_or_refusal k unreadable long)
 lasting_content (kept.Content bytes) unreadable long u l = tt
 lasting_content kept.Unreadable unreadable long u l = u
 lasting_content kept.TooLong unreadable long u l = l
 
-lasting_reference : (k : Option Kept) → Errs IsLasting (reference_of k)
+lasting_reference : (k : Option Kept) → Errs IsLasting (reference_or_refusal k)
 lasting_reference None = tt
 lasting_reference (Some k) =
-    errs_on IsLasting (content_of k refusal.ReferenceUnreadable refusal.ReferenceTooLong) _
+    errs_on IsLasting (content_or_refusal k refusal.ReferenceUnreadable refusal.ReferenceTooLong) _
     (lasting_content k refusal.ReferenceUnreadable refusal.ReferenceTooLong refl refl) (λ bytes. tt)
 
-lasting_file : (found : Kept) (reference console : Option Kept) → Errs IsLasting (file_of found reference console)
-unfolding file_of
+lasting_file : (found : Kept) (reference console : Option Kept) → Errs IsLasting (image_file_or_refusal found reference console)
+unfolding image_file_or_refusal
 lasting_file found reference console =
-    errs_on IsLasting (content_of found refusal.ImageUnreadable refusal.ImageTooLong) _
+    errs_on IsLasting (content_or_refusal found refusal.ImageUnreadable refusal.ImageTooLong) _
     (lasting_content found refusal.ImageUnreadable refusal.ImageTooLong refl refl) (λ file.
-    errs_on IsLasting (reference_of reference) _ (lasting_reference reference) (λ lines.
-    errs_on IsLasting (reference_of console) _ (lasting_reference console) (λ bytes. tt)))
+    errs_on IsLasting (reference_or_refusal reference) _ (lasting_reference reference) (λ lines.
+    errs_on IsLasting (reference_or_refusal console) _ (lasting_reference console) (λ bytes. tt)))
 
 -- ---- few words
 
@@ -161,7 +161,7 @@ oks_on P (Err e) f h = tt
 abbrev IsShort : Option SignatureRange → Type 0
 IsShort range = IfSome range (λ (r : SignatureRange). r.end - r.begin ≤ 0x4_0000)
 
-short_range : (begin end : ℕ) (regions : List Region) → is_bad_range begin end regions ≡ false
+short_range : (begin end : ℕ) (regions : List Region) → is_bad_signature_range begin end regions ≡ false
     → end - begin ≤ 0x4_0000
 short_range begin end regions e =
     let order = or_parts (nat_lt end begin) _ e in
@@ -178,20 +178,20 @@ short_range begin end regions e =
 short_checked : (begin end : ℕ) (regions : List Region) (u : Unit {0}) → signature_check begin end regions ≡ Ok u
     → end - begin ≤ 0x4_0000
 unfolding signature_check
-short_checked begin end regions u e = by_test (is_bad_range begin end regions) refl e
+short_checked begin end regions u e = by_test (is_bad_signature_range begin end regions) refl e
   where
-    by_test : (b : Bool) → is_bad_range begin end regions ≡ b
+    by_test : (b : Bool) → is_bad_signature_range begin end regions ≡ b
         → (if b then Err image.SignatureRange else accepted) ≡ Ok u → end - begin ≤ 0x4_0000
     by_test true is same = cc
     by_test false is same = short_range begin end regions is
 
 short_asked : (file : List ℕ) (regions : List Region) (names : Option Symbols)
     → Oks IsShort (range_if_asked file regions names)
-unfolding range_of
+unfolding signature_range
 short_asked file regions None = tt
 short_asked file regions (Some names) =
     let P : SignatureRange → Type 0 = λ r. r.end - r.begin ≤ 0x4_0000 in
-    on_range (range_of file regions names) (
+    on_range (signature_range file regions names) (
     oks_on P (symbol_of file names.begin) _ (λ begin a.
     oks_on P (end_of_signature (symbol_of file names.end)) _ (λ end b.
     oks_on P (signature_check begin end regions) _ (λ u c. short_checked begin end regions u c)))
@@ -215,7 +215,7 @@ fine_refused why h = record {
   words = λ words e. cc;
 }
 
-no_refusal : (end : Ending) (why : Refusal) → end_of end ≡ ending.Refused why → ⊥
+no_refusal : (end : Ending) (why : Refusal) → row_end end ≡ ending.Refused why → ⊥
 no_refusal (machine.Exit code) why e = cc
 no_refusal (machine.Fault kind pc value) why e = cc
 no_refusal machine.Budget why e = cc
@@ -245,8 +245,8 @@ fine_if_loadable job file (Ok loadable) h short =
     fine_run (run_of job.budget (loaded_state job file loadable.image)) loadable.range short
 fine_if_loadable job file (Err why) h short = fine_refused (refusal.Image why) h
 
-short_loadable : (job : Job) (file : List ℕ) → Oks (λ (l : Loadable). IsShort l.range) (loadable_of job file)
-unfolding loadable_of
+short_loadable : (job : Job) (file : List ℕ) → Oks (λ (l : Loadable). IsShort l.range) (loadable_image job file)
+unfolding loadable_image
 short_loadable job file =
     let P : Loadable → Type 0 = λ l. IsShort l.range in
     oks_on P (image_of job.isa file) _ (λ found a.
@@ -258,14 +258,14 @@ short_loadable job file =
     on_range found (Ok x) h = h
     on_range found (Err e) h = tt
 
-fine_if_there : (job : Job) (r : Result (List ℕ) Refusal) → Errs IsLasting r → IsFine (outcome_if_there job r)
+fine_if_there : (job : Job) (r : Result (List ℕ) Refusal) → Errs IsLasting r → IsFine (outcome_if_readable job r)
 unfolding file_outcome_of
 fine_if_there job (Ok file) h =
-    fine_if_loadable job file (loadable_of job file) (lasting_loadable job file) (short_loadable job file)
+    fine_if_loadable job file (loadable_image job file) (lasting_loadable job file) (short_loadable job file)
 fine_if_there job (Err why) h = fine_refused why h
 
 pub fine : (job : Job) (found : Kept) (reference console : Option Kept)
     → IsFine (outcome_of job found reference console)
 unfolding outcome_of
 fine job found reference console =
-    fine_if_there job (file_of found reference console) (lasting_file found reference console)
+    fine_if_there job (image_file_or_refusal found reference console) (lasting_file found reference console)

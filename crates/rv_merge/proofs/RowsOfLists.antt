@@ -11,14 +11,15 @@ use Rattle.rv_jobs.specs.declared.answers.Answer.{Answer}
 use Rattle.rv_jobs.specs.Plans.{Planned, kept_for}
 use Rattle.rv_jobs.specs.declared_job.Job.{Job}
 use Rattle.rv_jobs.specs.Jobs.{console_path}
-use Rattle.rv_jobs.specs.JobList.{is_name, job_list_of, names_of as job_names}
+use Rattle.rv_jobs.specs.JobList.{job_list_of, names_of_jobs as job_names}
+use Rattle.rv_jobs.specs.Names.{is_name}
 use Rattle.rv_report.specs.declared.row.Refusal.{Refusal}
 use Rattle.rv_report.specs.declared.row.Row.{Row}
 use Rattle.rv_report.specs.declared.row.RowEnd.{RowEnd}
 use Rattle.rv_report.specs.declared.row.RowEnd.TheVariants as ending
 use Rattle.rv_rows.specs.Rows.{row_of, rows_of}
-use Rattle.rv_rows.specs.Wholes.{planned}
-use Rattle.rv_report.specs.Saved.{AreWords, IsEnd, IsRow, most_words, are_new, names_of}
+use Rattle.rv_rows.specs.Wholes.{plan_of_jobs}
+use Rattle.rv_report.specs.Saved.{AreWords, IsEnd, IsRow, most_words, are_new, row_names}
 use Rattle.rv_merge.specs.Parts.{AreListed}
 use Rattle.rv_merge.specs.Numbers.{EndsInWords, HasNumbers, HasWords}
 use Rattle.rv_merge.proofs.ListNames.{are_read}
@@ -68,16 +69,16 @@ are_rows plan (job ∷ jobs) names has =
     let named = and_parts (is_name job.name) (list_all is_name (job_names jobs)) names in
     (is_row plan job named.0 has.0, are_rows plan jobs named.1 has.1)
 
-same_names : (plan : Planned) (jobs : List Job) → job_names jobs ≡ names_of (map (row_of plan) jobs)
+same_names : (plan : Planned) (jobs : List Job) → job_names jobs ≡ row_names (map (row_of plan) jobs)
 unfolding row_of
 same_names plan [] = refl
 same_names plan (job ∷ jobs) = ap (λ (ns : List (List ℕ)). job.name ∷ ns) (same_names plan jobs)
 
 pub listed : (bytes : List ℕ) (jobs : List Job) (answers : List Answer) (rows : List Row) → job_list_of bytes ≡ Ok jobs
-    → rows ≡ rows_of (planned jobs answers) → All HasNumbers rows → AreListed rows
+    → rows ≡ rows_of (plan_of_jobs jobs answers) → All HasNumbers rows → AreListed rows
 unfolding rows_of
 listed bytes jobs answers rows e is has =
-    let plan = planned jobs answers in
+    let plan = plan_of_jobs jobs answers in
     let read = are_read bytes jobs e in
     let few = read.few in
     let many = length-map jobs (row_of plan) in

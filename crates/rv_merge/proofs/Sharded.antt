@@ -11,18 +11,18 @@ use Rattle.std.proofs.lemmas.List.FromFn.{get_or-range_with_len, length-range_wi
 use Rattle.std.proofs.lemmas.Option.{get_or_from_slice_get, none-some, same_Some, slice_get-get_or, slice_get-map}
 use Rattle.std.proofs.lemmas.Option.{slice_get_within}
 use Rattle.rv_jobs.specs.declared_job.Job.{Job}
-use Rattle.rv_jobs.specs.JobList.{is_name}
+use Rattle.rv_jobs.specs.Names.{is_name}
 use Rattle.rv_jobs.specs.Limits.{most_jobs}
 use Rattle.rv_jobs.specs.Jobs.{single_job}
 use Rattle.rv_jobs.specs.declared.answers.Answer.{Answer}
-use Rattle.rv_jobs.specs.Choices.{marked}
-use Rattle.rv_jobs.specs.Plans.{Planned, needed_for}
+use Rattle.rv_jobs.specs.Choices.{marked_places}
+use Rattle.rv_jobs.specs.Plans.{Planned, jobs_needed_for}
 use Rattle.rv_report.specs.declared.row.Row.{Row}
 use Rattle.rv_rows.specs.Rows.{row_of, rows_at, rows_of}
-use Rattle.rv_rows.specs.Wholes.{KeepSame, planned}
+use Rattle.rv_rows.specs.Wholes.{KeepSame, plan_of_jobs}
 use Rattle.rv_report.specs.declared.saved.Extent.TheVariants as extent
 use Rattle.rv_report.specs.declared.saved.Shard.{Shard}
-use Rattle.rv_report.specs.Saved.{IsRow, IsSaved, are_stepped, fits, is_shard, names_of, saved_text}
+use Rattle.rv_report.specs.Saved.{IsRow, IsSaved, are_evenly_spaced, fits_numbers, is_valid_shard, row_names, saved_text}
 use Rattle.rv_merge.specs.Parts.{AreListed, AreParts, IsPart, Run, shard_in}
 use Rattle.rv_merge.specs.Shards.{AreTextsFrom, IsRunOf, IsTextFrom, is_in_shard, shard_places, shard_report}
 use Rattle.rv_merge.proofs.Sharing.{new_under, rising_from, stepped_from}
@@ -36,7 +36,7 @@ filter_on f g (x ∷ xs) h =
     ∙ ap (λ (ys : List ℕ). cond (g x) (x ∷ ys) ys) (filter_on f g xs h.1)
 
 pub marked_by : (f : ℕ → Bool) (count : ℕ)
-    → marked (map f (range_with_len 0 count)) count ≡ filter f (range_with_len 0 count)
+    → marked_places (map f (range_with_len 0 count)) count ≡ filter f (range_with_len 0 count)
 marked_by f count =
     filter_on (λ place. get_or (map f (range_with_len 0 count)) place false) f (range_with_len 0 count)
     (recursion_from_All (λ x. get_or (map f (range_with_len 0 count)) x false ≡ f x) (range_with_len 0 count) each)
@@ -87,9 +87,9 @@ length_at plan places = length-map places (λ i. row_of plan (get_or plan.jobs i
 
 -- ---- rows of a list under rising numbers
 
-named : (rows : List Row) → AllByRecursion IsRow rows → list_all is_name (names_of rows) ≡ true
+named : (rows : List Row) → AllByRecursion IsRow rows → list_all is_name (row_names rows) ≡ true
 named [] h = refl
-named (row ∷ rows) h = and_from (is_name row.name) (list_all is_name (names_of rows)) h.0.name (named rows h.1)
+named (row ∷ rows) h = and_from (is_name row.name) (list_all is_name (row_names rows)) h.0.name (named rows h.1)
 
 module _ (rows some : List Row) (ns : List ℕ) (has : map (λ m. slice_get rows (m - 1)) ns ≡ map Some some) where
   number_of : (k : ℕ) (row : Row) → slice_get some k ≡ Some row
@@ -114,12 +114,12 @@ module _ (rows some : List Row) (ns : List ℕ) (has : map (λ m. slice_get rows
       subst IsRow (get_or_from_slice_get rows (r.0 - 1) row row r.2)
       (good (r.0 - 1) row (slice_get_within rows (r.0 - 1) row r.2))
 
-  name_under : (k : ℕ) (t : List ℕ) → slice_get (names_of some) k ≡ Some t
-      → (n : ℕ) × (slice_get ns k ≡ Some n) × (slice_get (names_of rows) (n - 1) ≡ Some t)
+  name_under : (k : ℕ) (t : List ℕ) → slice_get (row_names some) k ≡ Some t
+      → (n : ℕ) × (slice_get ns k ≡ Some n) × (slice_get (row_names rows) (n - 1) ≡ Some t)
   name_under k t at = there (slice_get some k) refl (sym (slice_get-map (λ (row : Row). row.name) some k) ∙ at)
     where
       there : (o : Option Row) → slice_get some k ≡ o → option_map (λ (row : Row). row.name) o ≡ Some t
-          → (n : ℕ) × (slice_get ns k ≡ Some n) × (slice_get (names_of rows) (n - 1) ≡ Some t)
+          → (n : ℕ) × (slice_get ns k ≡ Some n) × (slice_get (row_names rows) (n - 1) ≡ Some t)
       there None e is = absurd (none-some t is)
       there (Some row) e is =
           let r = number_of k row e in (
@@ -131,8 +131,8 @@ module _ (rows some : List Row) (ns : List ℕ) (has : map (λ m. slice_get rows
 -- ---- a shard's report
 
 is_shard_in : (run : Run) (n : ℕ) → 0 < n → n ≤ run.shards → run.shards ≤ most_jobs → run.jobs ≤ most_jobs
-    → is_name run.stamp ≡ true → is_shard (shard_in run n) ≡ true
-unfolding is_shard
+    → is_name run.stamp ≡ true → is_valid_shard (shard_in run n) ≡ true
+unfolding is_valid_shard
 is_shard_in run n low high few jobs stamp =
     let a : nat_le 1 n ≡ true = grind (arith, nat_tests) in
     let b : nat_le n run.shards ≡ true = grind (arith, nat_tests) in
@@ -145,62 +145,62 @@ is_shard_in run n low high few jobs stamp =
     (and_from (nat_le run.shards most_jobs) last c
     (and_from (nat_le run.jobs most_jobs) (is_name run.stamp) d stamp)))
 
-fits_in : (s : Shard) (ns : List ℕ) → is_shard s ≡ true → are_stepped s.number s.shards s.jobs ns ≡ true
-    → fits (extent.Shard s) ns ≡ true
-unfolding fits
-fits_in s ns a b = and_from (is_shard s) (are_stepped s.number s.shards s.jobs ns) a b
+fits_in : (s : Shard) (ns : List ℕ) → is_valid_shard s ≡ true → are_evenly_spaced s.number s.shards s.jobs ns ≡ true
+    → fits_numbers (extent.Shard s) ns ≡ true
+unfolding fits_numbers
+fits_in s ns a b = and_from (is_valid_shard s) (are_evenly_spaced s.number s.shards s.jobs ns) a b
 
-module _ (list : List Job) (answers : List Answer) (run : Run) (listed : AreListed (rows_of (planned list answers)))
+module _ (list : List Job) (answers : List Answer) (run : Run) (listed : AreListed (rows_of (plan_of_jobs list answers)))
     (is : IsRunOf list run) where
   plan : Planned
-  plan = planned list answers
+  plan = plan_of_jobs list answers
 
   has_rows : (n : ℕ)
-      → map (λ m. slice_get (rows_of (planned list answers)) (m - 1))
+      → map (λ m. slice_get (rows_of (plan_of_jobs list answers)) (m - 1))
       (map (λ place. place + 1) (shard_places run.shards n run.jobs))
-      ≡ map Some (rows_at (planned list answers) (shard_places run.shards n run.jobs))
+      ≡ map Some (rows_at (plan_of_jobs list answers) (shard_places run.shards n run.jobs))
   has_rows n =
       let jobs = is.jobs in
-      rows_there (planned list answers) (shard_places run.shards n run.jobs)
+      rows_there (plan_of_jobs list answers) (shard_places run.shards n run.jobs)
       (places_within (is_in_shard run.shards n) 0 run.jobs (length list) (omega arith))
 
-  saved : (n : ℕ) → 0 < n → n ≤ run.shards → IsSaved (shard_report run n (planned list answers))
+  saved : (n : ℕ) → 0 < n → n ≤ run.shards → IsSaved (shard_report run n (plan_of_jobs list answers))
   saved n low high =
-      let rows = rows_of (planned list answers) in
+      let rows = rows_of (plan_of_jobs list answers) in
       let places = shard_places run.shards n run.jobs in
-      let some = rows_at (planned list answers) places in
+      let some = rows_at (plan_of_jobs list answers) places in
       let ns = map (λ place. place + 1) places in
       let few = listed.few in
-      let long = length_rows (planned list answers) in
+      let long = length_rows (plan_of_jobs list answers) in
       let jobs = is.jobs in
       let rises = rising_from (is_in_shard run.shards n) 0 most_jobs 0 run.jobs (omega arith) (omega arith) in
-      let stepped : are_stepped n run.shards (0 + run.jobs) ns ≡ true =
+      let stepped : are_evenly_spaced n run.shards (0 + run.jobs) ns ≡ true =
       stepped_from run.shards n n 0 run.jobs low high low (omega arith) refl in
       let last : 0 + run.jobs ≡ run.jobs = omega arith in
       let good = good_under rows some ns (has_rows n) (All-from_recursion IsRow rows listed.good) in
       let goods = recursion_from_All IsRow some good in
       record {
         listed = record {
-          counted = length-map places (λ place. place + 1) ∙ sym (length_at (planned list answers) places);
+          counted = length-map places (λ place. place + 1) ∙ sym (length_at (plan_of_jobs list answers) places);
           rising = rises;
           fits = fits_in (shard_in run n) ns
               (is_shard_in run n low high is.few (omega arith) is.stamp)
-              (subst (λ (k : ℕ). are_stepped n run.shards k ns ≡ true) last stepped);
+              (subst (λ (k : ℕ). are_evenly_spaced n run.shards k ns ≡ true) last stepped);
           names = named some goods;
-          new = new_under 0 most_jobs ns (names_of rows) (names_of some) listed.new rises
+          new = new_under 0 most_jobs ns (row_names rows) (row_names some) listed.new rises
               (name_under rows some ns (has_rows n));
         };
         rows = goods;
       }
 
-  part_from : ((places : List ℕ) (some : List Answer) → All (KeepSame some answers) (needed_for list places)
-      → rows_at (planned list some) places ≡ rows_at (planned list answers) places)
+  part_from : ((places : List ℕ) (some : List Answer) → All (KeepSame some answers) (jobs_needed_for list places)
+      → rows_at (plan_of_jobs list some) places ≡ rows_at (plan_of_jobs list answers) places)
       → (n : ℕ) (bytes : List ℕ) → IsTextFrom list answers run n bytes
-      → IsPart (rows_of (planned list answers)) run n bytes
+      → IsPart (rows_of (plan_of_jobs list answers)) run n bytes
   part_from law n bytes t =
       let places = shard_places run.shards n run.jobs in
       let same = law places t.kept t.same in
-      let report = shard_report run n (planned list answers) in
+      let report = shard_report run n (plan_of_jobs list answers) in
       record {
         of = record {
           report = report;
@@ -216,20 +216,20 @@ module _ (list : List Job) (answers : List Answer) (run : Run) (listed : AreList
       }
 
   any_from : ((bytes : List ℕ) (n : ℕ) → IsTextFrom list answers run n bytes
-      → IsPart (rows_of (planned list answers)) run n bytes)
+      → IsPart (rows_of (plan_of_jobs list answers)) run n bytes)
       → (n : ℕ) (texts : List (List ℕ)) → Any (IsTextFrom list answers run n) texts
-      → Any (IsPart (rows_of (planned list answers)) run n) texts
+      → Any (IsPart (rows_of (plan_of_jobs list answers)) run n) texts
   any_from f n texts (k, x, within, here, t) = (k, x, within, here, f x n t)
 
-  pub parts_from : ((places : List ℕ) (some : List Answer) → All (KeepSame some answers) (needed_for list places)
-      → rows_at (planned list some) places ≡ rows_at (planned list answers) places)
+  pub parts_from : ((places : List ℕ) (some : List Answer) → All (KeepSame some answers) (jobs_needed_for list places)
+      → rows_at (plan_of_jobs list some) places ≡ rows_at (plan_of_jobs list answers) places)
       → (texts : List (List ℕ)) → AreTextsFrom list answers run texts
-      → AreParts (rows_of (planned list answers)) texts
+      → AreParts (rows_of (plan_of_jobs list answers)) texts
   parts_from law texts from = record {
     listed = listed;
     run = run;
     parts = record {
-      jobs = is.jobs ∙ sym (length_rows (planned list answers));
+      jobs = is.jobs ∙ sym (length_rows (plan_of_jobs list answers));
       some = is.some;
       each = λ k d within.
           let t = from.each k d within in

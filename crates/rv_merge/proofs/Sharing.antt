@@ -10,8 +10,8 @@ use Rattle.std.proofs.lemmas.Option.{same_Some, none-some}
 use Rattle.std.proofs.lemmas.Slice.Eq.{bytes_eq-Decides}
 use Rattle.std.proofs.lemmas.List.{append_assoc, append-nil}
 use Rattle.std.proofs.Math.Nat.{add-mod_right, mod-add-mod, mod-lt}
-use Rattle.rv_jobs.specs.JobList.{place_in}
-use Rattle.rv_report.specs.Saved.{are_new, are_rising, are_stepped}
+use Rattle.rv_jobs.specs.Names.{place_in}
+use Rattle.rv_report.specs.Saved.{are_new, are_rising, are_evenly_spaced}
 use Rattle.rv_merge.specs.Shards.{is_in_shard}
 use Rattle.rv_merge.proofs.Named.{new_at}
 use Rattle.rv_merge.proofs.Stepping.{one_shard, rising_at, rising_parts, step_up}
@@ -35,8 +35,8 @@ residue_back shards n a low high e =
 -- a shard's numbers are stepped
 pub stepped_from : (shards n next a count : ℕ) → 0 < n → n ≤ shards → a < next → next ≤ a + shards
     → next % shards ≡ n % shards
-    → are_stepped next shards (a + count) (numbers_in (is_in_shard shards n) a count) ≡ true
-unfolding are_stepped
+    → are_evenly_spaced next shards (a + count) (numbers_in (is_in_shard shards n) a count) ≡ true
+unfolding are_evenly_spaced
 stepped_from shards n next a zero low high under over same = grind (arith, nat_tests)
 stepped_from shards n next a (suc count) low high under over same =
     let f = is_in_shard shards n in
@@ -50,17 +50,17 @@ stepped_from shards n next a (suc count) low high under over same =
           ] in
           let rest = stepped_from shards n (next + shards) (a + 1) count low high (omega arith) (omega arith)
           (add-mod_right next shards ∙ same) in
-          let later : are_stepped (next + shards) shards (a + suc count) (numbers_in f (a + 1) count) ≡ true =
-          subst (λ (k : ℕ). are_stepped (next + shards) shards k (numbers_in f (a + 1) count) ≡ true) last rest in
-          ap (λ (b : Bool). are_stepped next shards (a + suc count)
+          let later : are_evenly_spaced (next + shards) shards (a + suc count) (numbers_in f (a + 1) count) ≡ true =
+          subst (λ (k : ℕ). are_evenly_spaced (next + shards) shards k (numbers_in f (a + 1) count) ≡ true) last rest in
+          ap (λ (b : Bool). are_evenly_spaced next shards (a + suc count)
           (map (λ place. place + 1) (cond b (a ∷ filter f (range_with_len (a + 1) count))
           (filter f (range_with_len (a + 1) count))))) hit
           ∙ and_from ((a + 1) == next)
           (nat_le (a + 1) (a + suc count)
-          && are_stepped (next + shards) shards (a + suc count) (numbers_in f (a + 1) count))
+          && are_evenly_spaced (next + shards) shards (a + suc count) (numbers_in f (a + 1) count))
           (grind (arith, nat_tests))
           (and_from (nat_le (a + 1) (a + suc count))
-          (are_stepped (next + shards) shards (a + suc count) (numbers_in f (a + 1) count))
+          (are_evenly_spaced (next + shards) shards (a + suc count) (numbers_in f (a + 1) count))
           (grind (arith, nat_tests)) later)
       | inr miss ↦
           let other : next ≡ a + 1 → ⊥ = λ is.
@@ -68,9 +68,9 @@ stepped_from shards n next a (suc count) low high under over same =
           (sym miss ∙ eqb-same (a % shards) (n - 1)
           (residue_back shards n a low high (ap (λ (k : ℕ). k % shards) (sym is) ∙ same))) in
           let rest = stepped_from shards n next (a + 1) count low high (omega arith) (omega arith) same in
-          let later : are_stepped next shards (a + suc count) (numbers_in f (a + 1) count) ≡ true =
-          subst (λ (k : ℕ). are_stepped next shards k (numbers_in f (a + 1) count) ≡ true) last rest in
-          ap (λ (b : Bool). are_stepped next shards (a + suc count)
+          let later : are_evenly_spaced next shards (a + suc count) (numbers_in f (a + 1) count) ≡ true =
+          subst (λ (k : ℕ). are_evenly_spaced next shards k (numbers_in f (a + 1) count) ≡ true) last rest in
+          ap (λ (b : Bool). are_evenly_spaced next shards (a + suc count)
           (map (λ place. place + 1) (cond b (a ∷ filter f (range_with_len (a + 1) count))
           (filter f (range_with_len (a + 1) count))))) miss
           ∙ later

@@ -5,7 +5,7 @@ use Rattle.std.specs.Prelude.{slice_get}
 use Rattle.std.proofs.lemmas.List.{get_or-set_same, get_or-set_other, length-set}
 use Rattle.std.proofs.lemmas.Option.{same_Some, none-some, slice_get-map}
 use Rattle.rv_report.specs.Saved.{are_rising}
-use Rattle.rv_merge.specs.GatheredInside.{filled, present}
+use Rattle.rv_merge.specs.GatheredParts.{filled_slots, rows_from_slots}
 use Rattle.rv_merge.proofs.Stepping.{rising_at, rising_parts}
 
 -- two functions that agree at each element
@@ -40,7 +40,7 @@ under f ns rows q n e at =
 -- ---- rows that are put into slots
 
 pub length-filled : {R : Type 0} (ns : List ℕ) (rows : List R) (slots : List (Option R))
-    → length (filled ns rows slots) ≡ length slots
+    → length (filled_slots ns rows slots) ≡ length slots
 length-filled [] rows slots = refl
 length-filled (n ∷ ns) [] slots = refl
 length-filled (n ∷ ns) (row ∷ rows) slots =
@@ -49,7 +49,7 @@ length-filled (n ∷ ns) (row ∷ rows) slots =
 -- the other slots stay
 pub filled_other : {R : Type 0} (ns : List ℕ) (rows : List R) (slots : List (Option R)) (place : ℕ)
     → ((q n : ℕ) → slice_get ns q ≡ Some n → n - 1 ≡ place → ⊥)
-    → get_or (filled ns rows slots) place None ≡ get_or slots place None
+    → get_or (filled_slots ns rows slots) place None ≡ get_or slots place None
 filled_other [] rows slots place h = refl
 filled_other (n ∷ ns) [] slots place h = refl
 filled_other (n ∷ ns) (row ∷ rows) slots place h =
@@ -61,7 +61,7 @@ filled_other (n ∷ ns) (row ∷ rows) slots place h =
 pub filled_has : {R : Type 0} (before last : ℕ) (ns : List ℕ) (rows : List R) (slots : List (Option R))
     → are_rising before last ns ≡ true → length ns ≡ length rows
     → ((q n : ℕ) → slice_get ns q ≡ Some n → (0 < n) × (n ≤ length slots))
-    → map (λ n. get_or (filled ns rows slots) (n - 1) None) ns ≡ map Some rows
+    → map (λ n. get_or (filled_slots ns rows slots) (n - 1) None) ns ≡ map Some rows
 filled_has before last [] [] slots h even within = refl
 filled_has before last [] (row ∷ rows) slots h even within = absurd (omega arith)
 filled_has before last (n ∷ ns) [] slots h even within = absurd (omega arith)
@@ -70,11 +70,11 @@ filled_has before last (n ∷ ns) (row ∷ rows) slots h even within =
     let put = set slots (n - 1) (Some row) in
     let in' = within 0 n refl in
     let long = length-set slots (n - 1) (Some row) in
-    let first : get_or (filled ns rows put) (n - 1) None ≡ Some row =
+    let first : get_or (filled_slots ns rows put) (n - 1) None ≡ Some row =
     filled_other ns rows put (n - 1)
     (λ q m at e. let above = rising_at n last ns q m p.2 at in omega arith)
     ∙ get_or-set_same slots (n - 1) (Some row) None (omega arith) in
-    ap (λ o. o ∷ map (λ m. get_or (filled ns rows put) (m - 1) None) ns) first
+    ap (λ o. o ∷ map (λ m. get_or (filled_slots ns rows put) (m - 1) None) ns) first
     ∙ ap (λ os. Some row ∷ os)
     (filled_has n last ns rows put p.2 (omega arith)
     (λ q m at. let w = within (suc q) m at in (w.0, omega arith)))
@@ -83,7 +83,7 @@ filled_has before last (n ∷ ns) (row ∷ rows) slots h even within =
 
 pub present_all : {R : Type 0} (slots : List (Option R))
     → ((k : ℕ) → k < length slots → (row : R) × (get_or slots k None ≡ Some row))
-    → slots ≡ map Some (present slots)
+    → slots ≡ map Some (rows_from_slots slots)
 present_all [] h = refl
 present_all (None ∷ slots) h = let w = h 0 (omega arith) in absurd (none-some w.0 w.1)
 present_all (Some row ∷ slots) h =

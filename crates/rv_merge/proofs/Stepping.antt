@@ -5,25 +5,25 @@ use Rattle.std.specs.Prelude.{nat_le, nat_lt, slice_get}
 use Rattle.std.proofs.lemmas.Bool.{and_parts, eqb-true, leb-true, ltb-true, cases_lt, cases_eq}
 use Rattle.std.proofs.lemmas.Option.{same_Some, none-some}
 use Rattle.std.proofs.Math.Nat.{add-mod_right, mod-add-mod, div-add-mod', mul-le-mul_right, mod-lt, mod-le}
-use Rattle.rv_report.specs.Saved.{are_rising, are_stepped}
+use Rattle.rv_report.specs.Saved.{are_rising, are_evenly_spaced}
 
 -- the first is next, and the others go on from there
-pub stepped_parts : (next step last n : ℕ) (ns : List ℕ) → are_stepped next step last (n ∷ ns) ≡ true
-    → (n ≡ next) × (n ≤ last) × (are_stepped (next + step) step last ns ≡ true)
-unfolding are_stepped
+pub stepped_parts : (next step last n : ℕ) (ns : List ℕ) → are_evenly_spaced next step last (n ∷ ns) ≡ true
+    → (n ≡ next) × (n ≤ last) × (are_evenly_spaced (next + step) step last ns ≡ true)
+unfolding are_evenly_spaced
 stepped_parts next step last n ns h =
-    let later = are_stepped (next + step) step last ns in
+    let later = are_evenly_spaced (next + step) step last ns in
     let first = and_parts (n == next) (nat_le n last && later) h in
     let then = and_parts (nat_le n last) later first.1 in
     (eqb-true n next first.0, leb-true n last then.0, then.1)
 
-pub stepped_end : (next step last : ℕ) → are_stepped next step last [] ≡ true → last < next
-unfolding are_stepped
+pub stepped_end : (next step last : ℕ) → are_evenly_spaced next step last [] ≡ true → last < next
+unfolding are_evenly_spaced
 stepped_end next step last h = ltb-true last next h
 
 -- they are told by the first, the step and the last
-pub stepped_same : (next step last : ℕ) (ns ms : List ℕ) → are_stepped next step last ns ≡ true
-    → are_stepped next step last ms ≡ true → ns ≡ ms
+pub stepped_same : (next step last : ℕ) (ns ms : List ℕ) → are_evenly_spaced next step last ns ≡ true
+    → are_evenly_spaced next step last ms ≡ true → ns ≡ ms
 stepped_same next step last [] [] h k = refl
 stepped_same next step last [] (m ∷ ms) h k =
     let e = stepped_end next step last h in
@@ -40,7 +40,7 @@ stepped_same next step last (n ∷ ns) (m ∷ ms) h k =
     ap (λ (x : ℕ). x ∷ ns) (p.0 ∙ sym q.0) ∙ ap (λ (xs : List ℕ). m ∷ xs) rest
 
 -- each is one of those from the first to the last that leave the same when divided by the step
-pub stepped_at : (next step last : ℕ) (ns : List ℕ) (q n : ℕ) → are_stepped next step last ns ≡ true
+pub stepped_at : (next step last : ℕ) (ns : List ℕ) (q n : ℕ) → are_evenly_spaced next step last ns ≡ true
     → slice_get ns q ≡ Some n → (next ≤ n) × (n ≤ last) × (n % step ≡ next % step)
 stepped_at next step last [] q n h at = absurd (none-some n at)
 stepped_at next step last (m ∷ ns) zero n h at =
@@ -69,7 +69,7 @@ step_up next step n h same =
     ]
 
 -- and each of those is there
-pub stepped_has : (next step last : ℕ) (ns : List ℕ) (n : ℕ) → are_stepped next step last ns ≡ true → next ≤ n
+pub stepped_has : (next step last : ℕ) (ns : List ℕ) (n : ℕ) → are_evenly_spaced next step last ns ≡ true → next ≤ n
     → n ≤ last → n % step ≡ next % step → (q : ℕ) × (slice_get ns q ≡ Some n)
 stepped_has next step last [] n h low high same =
     let e = stepped_end next step last h in absurd (omega arith)

@@ -6,27 +6,27 @@ use Rattle.std.proofs.lemmas.Slice.Eq.{bytes_eq-Decides}
 use Rattle.rv_report.specs.declared.read.ReadError.{ReadError}
 use Rattle.rv_report.specs.declared.read.ReadError.TheVariants as read
 use Rattle.rv_report.specs.declared.saved.SavedReport.{SavedReport}
-use Rattle.rv_report.specs.Differences.{IsPlace, Tells, first_difference}
-use Rattle.rv_report.specs.Said.{said}
+use Rattle.rv_report.specs.Differences.{IsSameReadError, BeginsAlike, first_read_error}
+use Rattle.rv_report.specs.LenientReport.{lenient_report}
 use Rattle.rv_report.specs.Saved.{IsSaved, saved_text}
 use Rattle.rv_merge.specs.declared.error.Flaw.{Flaw}
-use Rattle.rv_merge.specs.GatheredInside.{IsOtherKind}
-use Rattle.rv_merge.specs.Parts.{bytes_of, text_at}
+use Rattle.rv_merge.specs.GatheredParts.{IsOtherKind}
+use Rattle.rv_merge.specs.Parts.{bytes_of_texts, nth_text}
 use Rattle.rv_merge.specs.Refusals.{HasFlaw, IsUnread}
 use Rattle.rv_merge.proofs.Gathering.{has_other_kind, is_unread}
 
-pub length-bytes_of : (texts : List (Bor (List ℕ))) → length (bytes_of texts) ≡ length texts
+pub length-bytes_of : (texts : List (Bor (List ℕ))) → length (bytes_of_texts texts) ≡ length texts
 length-bytes_of texts = length-map texts (λ (text : Bor (List ℕ)). text.now)
 
 pub text_at-bytes_of : (texts : List (Bor (List ℕ))) (at : ℕ) (d : Bor (List ℕ)) → at < length texts
-    → text_at (bytes_of texts) at ≡ (get_or texts at d).now
+    → nth_text (bytes_of_texts texts) at ≡ (get_or texts at d).now
 text_at-bytes_of texts at d within = get_or-map (λ (text : Bor (List ℕ)). text.now) texts at d [] within
 
 -- a test of two texts
 pub same_texts : (texts : List (Bor (List ℕ))) (at other : ℕ) (d : Bor (List ℕ)) (b : Bool) → at < length texts
     → other < length texts → b ≡ bytes_eq (get_or texts at d).now (get_or texts other d).now
-    → (IsTrue b → text_at (bytes_of texts) at ≡ text_at (bytes_of texts) other)
-    × (text_at (bytes_of texts) at ≡ text_at (bytes_of texts) other → IsTrue b)
+    → (IsTrue b → nth_text (bytes_of_texts texts) at ≡ nth_text (bytes_of_texts texts) other)
+    × (nth_text (bytes_of_texts texts) at ≡ nth_text (bytes_of_texts texts) other → IsTrue b)
 same_texts texts at other d b within inside is =
     let one = text_at-bytes_of texts at d within in
     let two = text_at-bytes_of texts other d inside in (
@@ -39,9 +39,9 @@ pub unread_at : (texts : List (Bor (List ℕ))) (at : ℕ) (d : Bor (List ℕ)) 
     → at < length texts → error ≡ place → (place ≡ read.OutOfMemory → ⊥)
     → ((report : SavedReport) → IsSaved report → saved_text report ≡ (get_or texts at d).now
     → error ≡ read.OutOfMemory)
-    → (report : SavedReport) × IsSaved report × Tells error (saved_text report) (get_or texts at d).now
-    → IsPlace error (first_difference (saved_text (said (get_or texts at d).now)) (get_or texts at d).now)
-    → (at < length (bytes_of texts)) × IsUnread place (text_at (bytes_of texts) at)
+    → (report : SavedReport) × IsSaved report × BeginsAlike error (saved_text report) (get_or texts at d).now
+    → IsSameReadError error (first_read_error (saved_text (lenient_report (get_or texts at d).now)) (get_or texts at d).now)
+    → (at < length (bytes_of_texts texts)) × IsUnread place (nth_text (bytes_of_texts texts) at)
 unread_at texts at d error place within is other only begins told = (
   omega (arith, length-bytes_of texts),
   subst (λ (b : List ℕ). IsUnread place b) (sym (text_at-bytes_of texts at d within))
@@ -53,9 +53,9 @@ unread_at texts at d error place within is other only begins told = (
 pub other_at : (texts : List (Bor (List ℕ))) (at : ℕ) (d : Bor (List ℕ)) (report : SavedReport) (why : Flaw)
     → at < length texts → IsSaved report × (saved_text report ≡ (get_or texts at d).now)
     → IsOtherKind why report.extent
-    → (at < length (bytes_of texts)) × HasFlaw (bytes_of texts) at why
+    → (at < length (bytes_of_texts texts)) × HasFlaw (bytes_of_texts texts) at why
 other_at texts at d report why within is h = (
   omega (arith, length-bytes_of texts),
-  has_other_kind (bytes_of texts) at report why
+  has_other_kind (bytes_of_texts texts) at report why
       (record { saved = is.0; text = is.1 ∙ sym (text_at-bytes_of texts at d within) }) h,
 )

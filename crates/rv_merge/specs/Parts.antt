@@ -9,15 +9,15 @@ use Rattle.rv_report.specs.declared.saved.Extent.{Extent}
 use Rattle.rv_report.specs.declared.saved.Extent.TheVariants as extent
 use Rattle.rv_report.specs.declared.saved.Shard.{Shard}
 use Rattle.rv_report.specs.declared.saved.SavedReport.{SavedReport}
-use Rattle.rv_report.specs.Saved.{IsRow, IsSaved, are_new, names_of, saved_text}
+use Rattle.rv_report.specs.Saved.{IsRow, IsSaved, are_new, row_names, saved_text}
 
 -- the bytes of texts, as a caller hands them over
-abbrev pub bytes_of : List (Bor (List ℕ)) → List (List ℕ)
-bytes_of texts = map (λ (text : Bor (List ℕ)). text.now) texts
+abbrev pub bytes_of_texts : List (Bor (List ℕ)) → List (List ℕ)
+bytes_of_texts texts = map (λ (text : Bor (List ℕ)). text.now) texts
 
 -- the text at a place
-abbrev pub text_at : List (List ℕ) → ℕ → List ℕ
-text_at texts at = slice_index_or texts at []
+abbrev pub nth_text : List (List ℕ) → ℕ → List ℕ
+nth_text texts at = slice_index_or texts at []
 
 -- a list of so many jobs that is run in so many shards, under a stamp
 pub record Run : Type 0 where
@@ -25,8 +25,8 @@ pub record Run : Type 0 where
   pub shards : ℕ
   pub stamp : List ℕ
 
-abbrev pub run_of : Shard → Run
-run_of shard = record { jobs = shard.jobs; shards = shard.shards; stamp = shard.stamp }
+abbrev pub run_of_shard : Shard → Run
+run_of_shard shard = record { jobs = shard.jobs; shards = shard.shards; stamp = shard.stamp }
 
 -- the shard of a number in a run
 abbrev pub shard_in : Run → ℕ → Shard
@@ -57,7 +57,7 @@ pub record ArePartsIn (run : Run) (rows : List Row) (texts : List (List ℕ)) : 
 pub record AreListed (rows : List Row) : Type 0 where
   pub few : length rows ≤ most_jobs
   pub good : AllByRecursion IsRow rows
-  pub new : are_new [] (names_of rows) ≡ true
+  pub new : are_new [] (row_names rows) ≡ true
 
 -- the texts are the parts of one run of these rows
 pub record AreParts (rows : List Row) (texts : List (List ℕ)) : Type 0 where

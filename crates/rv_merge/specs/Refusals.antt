@@ -2,32 +2,32 @@
 use Rattle.std.specs.Prelude.{◌≡◌, ◌-◌, ◌<◌, ◌≤◌, ℕ, true, List, [], length, take, Some, Result}
 use Rattle.std.specs.Prelude.{Ok, Err, is_some, slice_get}
 use Rattle.std.specs.List.{All}
-use Rattle.rv_jobs.specs.JobList.{place_in}
+use Rattle.rv_jobs.specs.Names.{place_in}
 use Rattle.rv_report.specs.declared.row.Row.{Row}
 use Rattle.rv_report.specs.declared.read.ReadError.{ReadError}
 use Rattle.rv_report.specs.declared.read.ReadError.TheVariants as read
 use Rattle.rv_report.specs.declared.saved.Extent.TheVariants as extent
 use Rattle.rv_report.specs.declared.saved.Shard.{Shard}
 use Rattle.rv_report.specs.declared.saved.SavedReport.{SavedReport}
-use Rattle.rv_report.specs.Differences.{IsPlace, Tells, first_difference}
-use Rattle.rv_report.specs.Said.{said}
-use Rattle.rv_report.specs.Saved.{IsSaved, names_of, saved_text}
+use Rattle.rv_report.specs.Differences.{IsSameReadError, BeginsAlike, first_read_error}
+use Rattle.rv_report.specs.LenientReport.{lenient_report}
+use Rattle.rv_report.specs.Saved.{IsSaved, row_names, saved_text}
 use Rattle.rv_merge.specs.declared.error.Flaw.{Flaw}
 use Rattle.rv_merge.specs.declared.error.Flaw.TheVariants as flaw
 use Rattle.rv_merge.specs.declared.error.MergeError.{MergeError}
 use Rattle.rv_merge.specs.declared.error.MergeError.TheVariants as error
-use Rattle.rv_merge.specs.Parts.{ArePartsIn, IsReportOf, Run, shard_in, text_at}
+use Rattle.rv_merge.specs.Parts.{ArePartsIn, IsReportOf, Run, shard_in, nth_text}
 
 -- the answer is these rows, unless memory ran out
-abbrev pub Gives : List Row → Result (List Row) MergeError → Type 0
-Gives rows (Ok found) = found ≡ rows
-Gives rows (Err e) = e ≡ error.OutOfMemory
+abbrev pub AnswersRows : List Row → Result (List Row) MergeError → Type 0
+AnswersRows rows (Ok found) = found ≡ rows
+AnswersRows rows (Err e) = e ≡ error.OutOfMemory
 
 -- no report has the text, which begins as one does up to the place that reading names
 pub record IsUnread (place : ReadError) (bytes : List ℕ) : Type 0 where
   pub none : (report : SavedReport) → IsSaved report → saved_text report ≡ bytes → ⊥
-  pub begins : (report : SavedReport) × IsSaved report × Tells place (saved_text report) bytes
-  pub told : IsPlace place (first_difference (saved_text (said bytes)) bytes)
+  pub begins : (report : SavedReport) × IsSaved report × BeginsAlike place (saved_text report) bytes
+  pub told : IsSameReadError place (first_read_error (saved_text (lenient_report bytes)) bytes)
 
 -- two texts are those of shards that differ in something
 pub record Differ {X : Type 0} (what : Shard → X) (bytes others : List ℕ) : Type 0 where
@@ -48,7 +48,7 @@ pub record AreTwo (bytes others : List ℕ) : Type 0 where
 pub record IsNameTwice (rows : List Row) (place : ℕ) : Type 0 where
   pub row : Row
   pub at : slice_get rows place ≡ Some row
-  pub twice : is_some (place_in (names_of (take place rows)) row.name) ≡ true
+  pub twice : is_some (place_in (row_names (take place rows)) row.name) ≡ true
 
 -- the texts are the parts of a run of some rows, where the name of a job is that of one before it,
 -- and the text has its row
@@ -64,19 +64,19 @@ pub record HasNameTwice (texts : List (List ℕ)) (bytes : List ℕ) (n : ℕ) :
 
 -- the text at a place has a flaw
 abbrev pub HasFlaw : List (List ℕ) → ℕ → Flaw → Type 0
-HasFlaw texts at (flaw.Line line) = IsUnread (read.Line line) (text_at texts at)
-HasFlaw texts at flaw.CutOff = IsUnread read.CutOff (text_at texts at)
-HasFlaw texts at flaw.Whole = IsReportOf extent.Whole (text_at texts at)
-HasFlaw texts at flaw.Choice = (jobs : ℕ) × IsReportOf (extent.Choice jobs) (text_at texts at)
+HasFlaw texts at (flaw.Line line) = IsUnread (read.Line line) (nth_text texts at)
+HasFlaw texts at flaw.CutOff = IsUnread read.CutOff (nth_text texts at)
+HasFlaw texts at flaw.Whole = IsReportOf extent.Whole (nth_text texts at)
+HasFlaw texts at flaw.Choice = (jobs : ℕ) × IsReportOf (extent.Choice jobs) (nth_text texts at)
 HasFlaw texts at flaw.OtherShards =
-    Differ (λ (s : Shard). s.shards) (text_at texts 0) (text_at texts at)
+    Differ (λ (s : Shard). s.shards) (nth_text texts 0) (nth_text texts at)
 HasFlaw texts at flaw.OtherJobs =
-    Differ (λ (s : Shard). s.jobs) (text_at texts 0) (text_at texts at)
+    Differ (λ (s : Shard). s.jobs) (nth_text texts 0) (nth_text texts at)
 HasFlaw texts at flaw.OtherStamp =
-    Differ (λ (s : Shard). s.stamp) (text_at texts 0) (text_at texts at)
+    Differ (λ (s : Shard). s.stamp) (nth_text texts 0) (nth_text texts at)
 HasFlaw texts at (flaw.OtherText earlier) =
-    (earlier < at) × AreTwo (text_at texts earlier) (text_at texts at)
-HasFlaw texts at (flaw.NameTwice n) = HasNameTwice texts (text_at texts at) n
+    (earlier < at) × AreTwo (nth_text texts earlier) (nth_text texts at)
+HasFlaw texts at (flaw.NameTwice n) = HasNameTwice texts (nth_text texts at) n
 
 -- the text is that of a shard of a run, but not of the shard of a number
 abbrev pub IsOtherPart : Run → ℕ → List ℕ → Type 0

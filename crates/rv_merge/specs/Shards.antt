@@ -3,12 +3,12 @@ use Rattle.std.specs.Prelude.{◌≡◌, ◌==◌, ◌+◌, ◌-◌, ◌%◌, �
 use Rattle.std.specs.Prelude.{map, Any}
 use Rattle.std.specs.List.{All, filter, range_with_len}
 use Rattle.rv_jobs.specs.declared_job.Job.{Job}
-use Rattle.rv_jobs.specs.JobList.{is_name}
+use Rattle.rv_jobs.specs.Names.{is_name}
 use Rattle.rv_jobs.specs.Limits.{most_jobs}
 use Rattle.rv_jobs.specs.declared.answers.Answer.{Answer}
-use Rattle.rv_jobs.specs.Plans.{Planned, needed_for}
+use Rattle.rv_jobs.specs.Plans.{Planned, jobs_needed_for}
 use Rattle.rv_rows.specs.Rows.{rows_at}
-use Rattle.rv_rows.specs.Wholes.{KeepSame, planned}
+use Rattle.rv_rows.specs.Wholes.{KeepSame, plan_of_jobs}
 use Rattle.rv_report.specs.declared.saved.Extent.TheVariants as extent
 use Rattle.rv_report.specs.declared.saved.SavedReport.{SavedReport}
 use Rattle.rv_report.specs.Saved.{saved_text}
@@ -48,8 +48,8 @@ pub record IsTextFrom (list : List Job) (answers : List Answer) (run : Run) (n :
   pub low : 0 < n
   pub high : n ≤ run.shards
   pub kept : List Answer
-  pub same : All (KeepSame kept answers) (needed_for list (shard_places run.shards n run.jobs))
-  pub text : bytes ≡ saved_text (shard_report run n (planned list kept))
+  pub same : All (KeepSame kept answers) (jobs_needed_for list (shard_places run.shards n run.jobs))
+  pub text : bytes ≡ saved_text (shard_report run n (plan_of_jobs list kept))
 
 -- each text is that of a shard, and each shard's is among them
 pub record AreTextsFrom (list : List Job) (answers : List Answer) (run : Run)

@@ -4,7 +4,7 @@ ghost use Rattle.std.specs.Prelude.{ℕ, List};
 ghost use Rattle.rv_jobs.specs.declared.answers.Answer.{Answer};
 ghost use Rattle.rv_jobs.specs.declared_job.Job.{Job};
 ghost use Rattle.rv_rows.specs.Rows.{rows_of};
-ghost use Rattle.rv_rows.specs.Wholes.{planned};
+ghost use Rattle.rv_rows.specs.Wholes.{plan_of_jobs};
 ghost use Rattle.rv_merge.specs.Parts.{AreListed, AreParts, Run};
 ghost use Rattle.rv_merge.specs.Shards.{AreTextsFrom, IsRunOf};
 
@@ -15,8 +15,8 @@ use rv_rows::parts_have_the_rows_of_the_whole;
 /// [`merge_parts`](crate::merge_parts) answers.
 pub fn shards_give_the_parts_of_the_whole()
     ensures { (list : List Job) (answers : List Answer) (run : Run) (texts : List (List ℕ))
-        → AreListed (rows_of (planned list answers)) → IsRunOf list run
-        → AreTextsFrom list answers run texts → AreParts (rows_of (planned list answers)) texts }
+        → AreListed (rows_of (plan_of_jobs list answers)) → IsRunOf list run
+        → AreTextsFrom list answers run texts → AreParts (rows_of (plan_of_jobs list answers)) texts }
 {
     parts_have_the_rows_of_the_whole();
 }

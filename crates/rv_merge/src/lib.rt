@@ -10,18 +10,18 @@
 #![tactic(auto)]
 
 mod error;
-mod gathered;
+mod gathered_parts;
 mod law;
-mod listed;
+mod list_rows;
 mod merge;
-mod merged;
 mod names;
 mod part;
 mod shards;
+mod whole_list_law;
 
 pub use error::{Flaw, MergeError};
 pub use law::shards_give_the_parts_of_the_whole;
-pub use listed::rows_are_those_of_a_list;
+pub use list_rows::rows_are_those_of_a_list;
 pub use merge::merge_parts;
-pub use merged::shards_give_the_whole;
 pub use shards::shard_marks;
+pub use whole_list_law::shards_give_the_whole;

@@ -3,14 +3,14 @@
 ghost use Rattle.std.specs.Prelude.{◌≡◌, ◌<◌, ◌+◌, ◌%◌, List, IfOk, IfErr, MatchOption, None, length};
 ghost use Rattle.std.specs.Prelude.{slice_index_or};
 ghost use Rattle.rv_report.specs.declared.row.Row.{Row};
-ghost use Rattle.rv_merge.specs.Parts.{AreParts, bytes_of};
-ghost use Rattle.rv_merge.specs.Refusals.{Gives, IsRefused};
-ghost use Rattle.rv_merge.specs.GatheredInside.{HaveSources, HoldsIn, IsComplete};
-ghost use Rattle.rv_merge.specs.GatheredInside.{IsUnfinished, present};
+ghost use Rattle.rv_merge.specs.Parts.{AreParts, bytes_of_texts};
+ghost use Rattle.rv_merge.specs.Refusals.{AnswersRows, IsRefused};
+ghost use Rattle.rv_merge.specs.GatheredParts.{HaveSources, HoldsIn, IsComplete};
+ghost use Rattle.rv_merge.specs.GatheredParts.{IsUnfinished, rows_from_slots};
 
 use crate::error::{Flaw, MergeError};
-use crate::gathered::{Gathered, add, no_rows};
-use crate::names::name_twice;
+use crate::gathered_parts::{Gathered, add_part, no_parts_of_run};
+use crate::names::first_repeated_name;
 use crate::part::part_at;
 use rv_rows::{Row, Rows};
 use std::alloc::{AllocError, Global};
@@ -19,11 +19,11 @@ use std::alloc::{AllocError, Global};
 /// rows, and for reading one text after the other.
 pub fn merge_parts(alloc: Global, texts: &[&[u8]]) -> Result<Rows, MergeError>
     // The texts are the parts of one run of these rows.
-    ensures found { IfOk result (λ rows. AreParts rows (bytes_of texts.now)) }
+    ensures found { IfOk result (λ rows. AreParts rows (bytes_of_texts texts.now)) }
     // Where they are the parts of one run of some rows, these are answered.
-    ensures only { (rows : List Row) → AreParts rows (bytes_of texts.now) → Gives rows result }
+    ensures only { (rows : List Row) → AreParts rows (bytes_of_texts texts.now) → AnswersRows rows result }
     // What an error says is so.
-    ensures err { IfErr result (IsRefused (bytes_of texts.now)) }
+    ensures err { IfErr result (IsRefused (bytes_of_texts texts.now)) }
 {
     if texts.is_empty() {
         return Err(MergeError::NoTexts);
@@ -35,15 +35,15 @@ pub fn merge_parts(alloc: Global, texts: &[&[u8]]) -> Result<Rows, MergeError>
 // What is gathered of all texts.
 fn gather_parts(alloc: Global, texts: &[&[u8]]) -> Result<Gathered, MergeError>
     requires { 0 < length texts.now }
-    ensures holds { IfOk result (λ g. HoldsIn (bytes_of texts.now) (length texts.now) g) }
-    ensures err { IfErr result (IsRefused (bytes_of texts.now)) }
+    ensures holds { IfOk result (λ g. HoldsIn (bytes_of_texts texts.now) (length texts.now) g) }
+    ensures err { IfErr result (IsRefused (bytes_of_texts texts.now)) }
 {
     let part = part_at(alloc, texts, 0)?;
-    let mut gathered = no_rows(alloc, &part.shard)?;
-    add(&mut gathered, texts, 0, part)?;
+    let mut gathered = no_parts_of_run(alloc, &part.shard)?;
+    add_part(&mut gathered, texts, 0, part)?;
     for at in 1..texts.len() {
         let part = part_at(alloc, texts, at)?;
-        add(&mut gathered, texts, at, part)?;
+        add_part(&mut gathered, texts, at, part)?;
     }
     Ok(gathered)
 }
@@ -55,18 +55,18 @@ fn rows_of_parts(alloc: Global, gathered: Gathered) -> Result<Rows, MergeError>
         rows) }
     ensures err { IfErr result (IsUnfinished gathered.sources.items gathered.slots.items) }
 {
-    if let Some(shard) = first_missing(&gathered.sources) {
+    if let Some(shard) = first_missing_shard(&gathered.sources) {
         return Err(MergeError::Missing(shard + 1));
     }
-    let rows = rows_in(alloc, gathered.slots)?;
-    match name_twice(alloc, &rows)? {
+    let rows = rows_from_slots(alloc, gathered.slots)?;
+    match first_repeated_name(alloc, &rows)? {
         None => Ok(Rows::new(rows)),
-        Some(place) => Err(name_error(&gathered.sources, place)),
+        Some(place) => Err(repeated_name_error(&gathered.sources, place)),
     }
 }
 
 // The first place where nothing stands.
-fn first_missing(sources: &[Option<usize>]) -> Option<usize>
+fn first_missing_shard(sources: &[Option<usize>]) -> Option<usize>
     ensures { MatchOption result (HaveSources sources.now)
         (λ at. (at < length sources.now) × (slice_index_or sources.now at None ≡ None)) }
 {
@@ -79,7 +79,7 @@ fn first_missing(sources: &[Option<usize>]) -> Option<usize>
 }
 
 // The name of the row at a place is that of a row before it.
-fn name_error(sources: &[Option<usize>], place: usize) -> MergeError
+fn repeated_name_error(sources: &[Option<usize>], place: usize) -> MergeError
     requires some { 0 < length sources.now }
     requires place { place < usize.MAX }
     ensures { MatchOption (slice_index_or sources.now (place % length sources.now) None)
@@ -94,8 +94,8 @@ fn name_error(sources: &[Option<usize>], place: usize) -> MergeError
 }
 
 // The rows that stand in slots.
-fn rows_in(alloc: Global, slots: Vec<Option<Row>>) -> Result<Vec<Row>, AllocError>
-    ensures { IfOk result (λ rows. rows.items ≡ present slots.items) }
+fn rows_from_slots(alloc: Global, slots: Vec<Option<Row>>) -> Result<Vec<Row>, AllocError>
+    ensures { IfOk result (λ rows. rows.items ≡ rows_from_slots slots.items) }
 {
     let mut rows = Vec::new(alloc);
     for slot in slots {

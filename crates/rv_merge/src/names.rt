@@ -1,7 +1,7 @@
 //! Names that stand in two rows.
 
 ghost use Rattle.std.specs.Prelude.{◌≡◌, ◌<◌, [], true, IfOk, IfSome, MatchOption};
-ghost use Rattle.rv_report.specs.Saved.{are_new, names_of};
+ghost use Rattle.rv_report.specs.Saved.{are_new, row_names};
 ghost use Rattle.rv_merge.specs.Refusals.{IsNameTwice};
 
 use rv_rows::Row;
@@ -9,8 +9,8 @@ use std::alloc::{AllocError, Global};
 use std::collections::BTreeMap;
 
 /// The place of a row whose name is that of a row before it, the first if there are any.
-pub(crate) fn name_twice(alloc: Global, rows: &[Row]) -> Result<Option<usize>, AllocError>
-    ensures twice { IfOk result (λ place. MatchOption place (are_new [] (names_of rows.now) ≡ true)
+pub(crate) fn first_repeated_name(alloc: Global, rows: &[Row]) -> Result<Option<usize>, AllocError>
+    ensures twice { IfOk result (λ place. MatchOption place (are_new [] (row_names rows.now) ≡ true)
         (IsNameTwice rows.now)) }
     ensures low { IfOk result (λ place. IfSome place (λ at. at < usize.MAX)) }
 {

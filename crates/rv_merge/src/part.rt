@@ -1,9 +1,9 @@
 //! A text as the part of a run that it is.
 
 ghost use Rattle.std.specs.Prelude.{◌≡◌, ◌<◌, IfOk, IfErr, length};
-ghost use Rattle.rv_merge.specs.Parts.{bytes_of, text_at};
+ghost use Rattle.rv_merge.specs.Parts.{bytes_of_texts, nth_text};
 ghost use Rattle.rv_merge.specs.Refusals.{IsRefused, HasFlaw};
-ghost use Rattle.rv_merge.specs.GatheredInside.{IsTextOf, IsOtherKind, report_of};
+ghost use Rattle.rv_merge.specs.GatheredParts.{IsTextOf, IsOtherKind, report_of_part};
 
 use crate::error::{Flaw, MergeError};
 use rv_report::{Extent, Numbers, ReadError, SavedReport, Shard, read_report};
@@ -21,12 +21,12 @@ pub(crate) struct Part {
 /// The part whose text stands at a place.
 pub(crate) fn part_at(alloc: Global, texts: &[&[u8]], at: usize) -> Result<Part, MergeError>
     requires { at < length texts.now }
-    ensures found { IfOk result (λ part. IsTextOf (report_of part)
-        (text_at (bytes_of texts.now) at)) }
-    ensures err { IfErr result (IsRefused (bytes_of texts.now)) }
+    ensures found { IfOk result (λ part. IsTextOf (report_of_part part)
+        (nth_text (bytes_of_texts texts.now) at)) }
+    ensures err { IfErr result (IsRefused (bytes_of_texts texts.now)) }
 {
     match read_report(alloc, texts[at]) {
-        Ok(report) => match part_of(report) {
+        Ok(report) => match part_of_report(report) {
             Ok(part) => Ok(part),
             Err(flaw) => Err(MergeError::Text(at, flaw)),
         },
@@ -37,8 +37,8 @@ pub(crate) fn part_at(alloc: Global, texts: &[&[u8]], at: usize) -> Result<Part,
 }
 
 // A report as a part, where it is that of a shard.
-fn part_of(report: SavedReport) -> Result<Part, Flaw>
-    ensures part { IfOk result (λ part. report_of part ≡ report) }
+fn part_of_report(report: SavedReport) -> Result<Part, Flaw>
+    ensures part { IfOk result (λ part. report_of_part part ≡ report) }
     ensures other { IfErr result (λ flaw. IsOtherKind flaw report.extent) }
 {
     let SavedReport {

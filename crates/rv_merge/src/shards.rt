@@ -1,7 +1,7 @@
 //! The jobs of a shard.
 
 ghost use Rattle.std.specs.Prelude.{◌≡◌, ◌<◌, ◌≤◌, IfOk, length};
-ghost use Rattle.rv_jobs.specs.Choices.{marked};
+ghost use Rattle.rv_jobs.specs.Choices.{marked_places};
 ghost use Rattle.rv_merge.specs.Shards.{shard_marks, shard_places};
 
 use std::alloc::{AllocError, Global};
@@ -19,7 +19,7 @@ pub fn shard_marks(
     ensures marks { IfOk result (λ marks. marks.items ≡ shard_marks shards number jobs) }
     ensures counted { IfOk result (λ marks. length marks.items ≡ jobs) }
     ensures places { IfOk result
-        (λ marks. marked marks.items jobs ≡ shard_places shards number jobs) }
+        (λ marks. marked_places marks.items jobs ≡ shard_places shards number jobs) }
 {
     let mut marks = Vec::new(alloc);
     for place in 0..jobs {

@@ -5,14 +5,14 @@ use Rattle.std.specs.Prelude.{nat_le, nat_lt, is_some}
 use Rattle.std.specs.List.{list_all}
 use Rattle.std.proofs.lemmas.Bool.{and_parts, and_from, cases_Bool}
 use Rattle.std.proofs.lemmas.Bool.Decides.{nat_tests}
-use Rattle.rv_lists.specs.JobList.{is_name, place_in}
+use Rattle.rv_base.specs.Names.{is_name, place_in}
 use Rattle.rv_base.specs.Limits.{most_jobs}
 use Rattle.rv_report.specs.declared.row.Row.{Row}
 use Rattle.rv_report.specs.declared.saved.Extent.{Extent}
 use Rattle.rv_report.specs.declared.saved.Extent.TheVariants.{Choice}
 use Rattle.rv_report.specs.declared.saved.SavedReport.{SavedReport}
-use Rattle.rv_report.specs.Said.{Gathered, rising_count, new_count, fitting, gathered, said}
-use Rattle.rv_report.specs.Saved.{IsSaved, are_rising, are_new, fits, names_of}
+use Rattle.rv_report.specs.LenientReport.{Gathered, rising_count, count_before_repeated_name, extent_or_choice, gather_rows, lenient_report}
+use Rattle.rv_report.specs.Saved.{IsSaved, are_rising, are_new, fits_numbers, row_names}
 use Rattle.rv_report.proofs.Drafts.{AreGood, gathered_good}
 
 -- the counts are not above the lengths
@@ -31,19 +31,19 @@ rising_within before (n ∷ ns) =
           omega arith
     ]
 
-new_within : (earlier texts : List (List ℕ)) → new_count earlier texts ≤ length texts
-unfolding new_count
+new_within : (earlier texts : List (List ℕ)) → count_before_repeated_name earlier texts ≤ length texts
+unfolding count_before_repeated_name
 new_within earlier [] = omega arith
 new_within earlier (t ∷ ts) =
     let k = new_within (earlier ++ t ∷ []) ts in
     elim (cases_Bool (is_some (place_in earlier t))) [
       | inl e ↦
-          let s : new_count earlier (t ∷ ts) ≡ 0 =
-          ap (λ (b : Bool). cond b 0 (new_count (earlier ++ t ∷ []) ts + 1)) e in
+          let s : count_before_repeated_name earlier (t ∷ ts) ≡ 0 =
+          ap (λ (b : Bool). cond b 0 (count_before_repeated_name (earlier ++ t ∷ []) ts + 1)) e in
           omega arith
       | inr e ↦
-          let s : new_count earlier (t ∷ ts) ≡ new_count (earlier ++ t ∷ []) ts + 1 =
-          ap (λ (b : Bool). cond b 0 (new_count (earlier ++ t ∷ []) ts + 1)) e in
+          let s : count_before_repeated_name earlier (t ∷ ts) ≡ count_before_repeated_name (earlier ++ t ∷ []) ts + 1 =
+          ap (λ (b : Bool). cond b 0 (count_before_repeated_name (earlier ++ t ∷ []) ts + 1)) e in
           omega arith
     ]
 
@@ -66,21 +66,21 @@ rising_taken before (suc count) (n ∷ ns) h =
           absurd (omega arith)
     ]
 
-new_taken : (earlier : List (List ℕ)) (count : ℕ) (rows : List Row) → count ≤ new_count earlier (names_of rows)
-    → are_new earlier (names_of (take count rows)) ≡ true
-unfolding new_count are_new
+new_taken : (earlier : List (List ℕ)) (count : ℕ) (rows : List Row) → count ≤ count_before_repeated_name earlier (row_names rows)
+    → are_new earlier (row_names (take count rows)) ≡ true
+unfolding count_before_repeated_name are_new
 new_taken earlier zero rows h = refl
 new_taken earlier (suc count) [] h = refl
 new_taken earlier (suc count) (row ∷ rows) h =
     let t = row.name in
-    let later = new_count (earlier ++ t ∷ []) (names_of rows) in
+    let later = count_before_repeated_name (earlier ++ t ∷ []) (row_names rows) in
     elim (cases_Bool (is_some (place_in earlier t))) [
       | inl e ↦
-          let s : new_count earlier (names_of (row ∷ rows)) ≡ 0 = ap (λ (b : Bool). cond b 0 (later + 1)) e in
+          let s : count_before_repeated_name earlier (row_names (row ∷ rows)) ≡ 0 = ap (λ (b : Bool). cond b 0 (later + 1)) e in
           absurd (omega arith)
       | inr e ↦
-          let s : new_count earlier (names_of (row ∷ rows)) ≡ later + 1 = ap (λ (b : Bool). cond b 0 (later + 1)) e in
-          and_from (not (is_some (place_in earlier t))) (are_new (earlier ++ t ∷ []) (names_of (take count rows)))
+          let s : count_before_repeated_name earlier (row_names (row ∷ rows)) ≡ later + 1 = ap (λ (b : Bool). cond b 0 (later + 1)) e in
+          and_from (not (is_some (place_in earlier t))) (are_new (earlier ++ t ∷ []) (row_names (take count rows)))
           (ap not e) (new_taken (earlier ++ t ∷ []) count rows (omega arith))
     ]
 
@@ -90,21 +90,21 @@ good_taken zero rows h = tt
 good_taken (suc count) [] h = tt
 good_taken (suc count) (row ∷ rows) h = (h.0, good_taken count rows h.1)
 
-named_good : (rows : List Row) → AreGood rows → list_all is_name (names_of rows) ≡ true
+named_good : (rows : List Row) → AreGood rows → list_all is_name (row_names rows) ≡ true
 named_good [] h = refl
 named_good (row ∷ rows) h =
-    and_from (is_name row.name) (list_all is_name (names_of rows)) h.0.name (named_good rows h.1)
+    and_from (is_name row.name) (list_all is_name (row_names rows)) h.0.name (named_good rows h.1)
 
 taken_within : {X : Type 0} (count : ℕ) (xs : List X) → length (take count xs) ≤ count
 taken_within zero xs = omega arith
 taken_within (suc count) [] = omega arith
 taken_within (suc count) (x ∷ xs) = let h = taken_within count xs in omega arith
 
-fitting_fits : (e : Extent) (ns : List ℕ) → are_rising 0 most_jobs ns ≡ true → fits (fitting e ns) ns ≡ true
-unfolding fitting fits
+fitting_fits : (e : Extent) (ns : List ℕ) → are_rising 0 most_jobs ns ≡ true → fits_numbers (extent_or_choice e ns) ns ≡ true
+unfolding extent_or_choice fits_numbers
 fitting_fits e ns h =
-    let P : Extent → Type 0 = λ x. fits x ns ≡ true in
-    elim (cases_Bool (fits e ns)) [
+    let P : Extent → Type 0 = λ x. fits_numbers x ns ≡ true in
+    elim (cases_Bool (fits_numbers e ns)) [
       | inl t ↦ subst P (sym (ap (λ (b : Bool). cond b e (Choice most_jobs)) t)) t
       | inr t ↦ subst P (sym (ap (λ (b : Bool). cond b e (Choice most_jobs)) t))
           (and_from (nat_le most_jobs most_jobs) (are_rising 0 most_jobs ns) refl h)
@@ -115,21 +115,21 @@ length-taken zero xs h = refl
 length-taken (suc count) [] h = absurd (omega arith)
 length-taken (suc count) (x ∷ xs) h = ap suc (length-taken count xs (omega arith))
 
-pub length-names : (rows : List Row) → length (names_of rows) ≡ length rows
+pub length-names : (rows : List Row) → length (row_names rows) ≡ length rows
 length-names [] = refl
 length-names (row ∷ rows) = ap suc (length-names rows)
 
 cut_saved : (g : Gathered) (rising : List Row) (count : ℕ) → rising ≡ take (rising_count 0 g.numbers) g.rows
-    → count ≡ new_count [] (names_of rising) → AreGood g.rows
+    → count ≡ count_before_repeated_name [] (row_names rising) → AreGood g.rows
     → IsSaved (record {
-      extent = fitting g.extent (take count g.numbers);
+      extent = extent_or_choice g.extent (take count g.numbers);
       numbers = take count g.numbers;
       rows = take count rising;
     })
 cut_saved g rising count r is good =
     let most = rising_count 0 g.numbers in
     let a = rising_within 0 g.numbers in
-    let b = new_within [] (names_of rising) in
+    let b = new_within [] (row_names rising) in
     let c = length-names rising in
     let d : length rising ≤ most =
     subst (λ (rows : List Row). length rows ≤ most) (sym r) (taken_within most g.rows) in
@@ -148,12 +148,12 @@ cut_saved g rising count r is good =
     }
 
 -- what a text says can be a report
-pub said_can_be : (text : List ℕ) → IsSaved (said text)
-unfolding said
+pub said_can_be : (text : List ℕ) → IsSaved (lenient_report text)
+unfolding lenient_report
 said_can_be text =
-    let g = gathered text in
+    let g = gather_rows text in
     let rising = take (rising_count 0 g.numbers) g.rows in
-    cut_saved g rising (new_count [] (names_of rising)) refl refl (gathered_good text)
+    cut_saved g rising (count_before_repeated_name [] (row_names rising)) refl refl (gathered_good text)
 
 -- ---- how many there are
 
@@ -173,10 +173,10 @@ pub few_numbers : (ns : List ℕ) → are_rising 0 most_jobs ns ≡ true → len
 few_numbers ns h = let k = within_last 0 most_jobs ns (omega arith) h in omega arith
 
 pub few_cut : (g : Gathered) (rising : List Row) (count : ℕ) → rising ≡ take (rising_count 0 g.numbers) g.rows
-    → count ≡ new_count [] (names_of rising) → length (take count g.numbers) ≤ most_jobs
+    → count ≡ count_before_repeated_name [] (row_names rising) → length (take count g.numbers) ≤ most_jobs
 few_cut g rising count r is =
     let most = rising_count 0 g.numbers in
-    let b = new_within [] (names_of rising) in
+    let b = new_within [] (row_names rising) in
     let c = length-names rising in
     let d : length rising ≤ most =
     subst (λ (rows : List Row). length rows ≤ most) (sym r) (taken_within most g.rows) in
@@ -184,16 +184,16 @@ few_cut g rising count r is =
 
 -- the same, of what was worked out piece by piece
 pub cut_made : (g : Gathered) (rising : List Row) (count : ℕ) (e : Extent) (ns : List ℕ) (rs : List Row)
-    → rising ≡ take (rising_count 0 g.numbers) g.rows → count ≡ new_count [] (names_of rising)
-    → ns ≡ take count g.numbers → rs ≡ take count rising → e ≡ fitting g.extent ns → AreGood g.rows
+    → rising ≡ take (rising_count 0 g.numbers) g.rows → count ≡ count_before_repeated_name [] (row_names rising)
+    → ns ≡ take count g.numbers → rs ≡ take count rising → e ≡ extent_or_choice g.extent ns → AreGood g.rows
     → IsSaved (record { extent = e; numbers = ns; rows = rs })
 cut_made g rising count e ns rs up is n r x good =
-    let e' = fitting g.extent (take count g.numbers) in
+    let e' = extent_or_choice g.extent (take count g.numbers) in
     subst (λ (y : SavedReport). IsSaved y)
-    (sym (ap (λ (t : Extent). record { extent = t; numbers = ns; rows = rs }) (x ∙ ap (fitting g.extent) n)
+    (sym (ap (λ (t : Extent). record { extent = t; numbers = ns; rows = rs }) (x ∙ ap (extent_or_choice g.extent) n)
     ∙ ap (λ (t : List ℕ). record { extent = e'; numbers = t; rows = rs }) n
     ∙ ap (λ (t : List Row). record { extent = e'; numbers = take count g.numbers; rows = t }) r))
     (cut_saved g rising count up is good)
 
-pub good_view : (g : Gathered) (text : List ℕ) → g ≡ gathered text → AreGood g.rows
+pub good_view : (g : Gathered) (text : List ℕ) → g ≡ gather_rows text → AreGood g.rows
 good_view g text is = subst (λ (x : Gathered). AreGood x.rows) (sym is) (gathered_good text)

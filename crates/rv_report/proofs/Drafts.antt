@@ -11,9 +11,9 @@ use Rattle.hex.specs.Hex.{IsBytes, decode_of}
 use Rattle.hex.specs.declared.error.FromHexError.{FromHexError}
 use Rattle.hex.proofs.HexLemmas.{decode_of-ok}
 use Rattle.rv_elf.specs.declared.error.ImageError.TheVariants as image
-use Rattle.rv_lists.specs.JobList.{is_name, is_name_byte}
+use Rattle.rv_base.specs.Names.{is_name, is_name_byte}
 use Rattle.rv_base.specs.Limits.{most_jobs}
-use Rattle.rv_report.specs.Report.{refusal_name, refusal_named, refusals}
+use Rattle.rv_report.specs.Report.{refusal_name, refusal_named, row_refusals}
 use Rattle.rv_report.specs.declared.row.Refusal.{Refusal}
 use Rattle.rv_report.specs.declared.row.Refusal.TheVariants as refusal
 use Rattle.rv_report.specs.declared.row.Row.{Row}
@@ -25,11 +25,11 @@ use Rattle.rv_report.specs.declared.gathering.Stage.{Stage}
 use Rattle.rv_report.specs.declared.gathering.Stage.TheVariants as stage
 use Rattle.rv_report.specs.declared.saved.Extent.{Extent}
 use Rattle.rv_report.specs.declared.saved.Extent.TheVariants.{Whole}
-use Rattle.rv_report.specs.Said.{lines, name_or_dash, job_of, name_of, after, number_on, number_of, digit_on}
-use Rattle.rv_report.specs.Said.{word_on, shifted, word_of, is_word, bytes_of, decoded, refusal_or_first, fault_of}
-use Rattle.rv_report.specs.Said.{ending_of, verdict_of, part_of, Gathered, whole, closed, over, next_row, padded}
-use Rattle.rv_report.specs.Said.{between, at_ending, at_steps, at_console, at_signature, at_words, with_line_at}
-use Rattle.rv_report.specs.Said.{with_line, with_lines, finished, gathered, hex_digit}
+use Rattle.rv_report.specs.LenientReport.{lines, name_or_dash, job_number_of_line, job_name_of_line, text_after_byte, decimal_number_on, decimal_number, with_digit}
+use Rattle.rv_report.specs.LenientReport.{hex_number, with_zero_digits, hex_word, is_hex_word, hex_bytes, bytes_if_decoded, refusal_or_first, fault_end_of_text}
+use Rattle.rv_report.specs.LenientReport.{row_end_of_line, verdict_of_line, extent_of_line, Gathered, gathering_between_rows, with_closed_row, with_stage_over, row_so_far, padded_words}
+use Rattle.rv_report.specs.LenientReport.{at_job_or_last_line, at_ending, at_steps, at_console, at_signature, at_words, with_line_at}
+use Rattle.rv_report.specs.LenientReport.{with_line, with_lines, with_unfinished_row, gather_rows, hex_digit_value}
 use Rattle.rv_report.specs.Saved.{most_words, IsWord, IsEnd, AreWords, IsRow}
 
 -- ---- names
@@ -46,44 +46,44 @@ name_or_dash_is_name text =
       | inr e ↦ subst P (sym (ap (λ (t : Bool). cond t text (codes "-")) e)) dash_is_name
     ]
 
-name_of_is_name : (line : List ℕ) → is_name (name_of line) ≡ true
-unfolding name_of
-name_of_is_name line = name_or_dash_is_name (after 32 (drop 4 line))
+name_of_is_name : (line : List ℕ) → is_name (job_name_of_line line) ≡ true
+unfolding job_name_of_line
+name_of_is_name line = name_or_dash_is_name (text_after_byte 32 (drop 4 line))
 
 -- ---- numbers
 
-digit_small : (base value digit : ℕ) → IsWord (digit_on base value digit)
+digit_small : (base value digit : ℕ) → IsWord (with_digit base value digit)
 digit_small base value digit = omega arith
 
-number_small : (value : ℕ) (text : List ℕ) → IsWord value → IsWord (number_on value text)
-unfolding number_on
+number_small : (value : ℕ) (text : List ℕ) → IsWord value → IsWord (decimal_number_on value text)
+unfolding decimal_number_on
 number_small value [] h = h
-number_small value (b ∷ bs) h = number_small (digit_on 10 value (b - 48)) bs (digit_small 10 value (b - 48))
+number_small value (b ∷ bs) h = number_small (with_digit 10 value (b - 48)) bs (digit_small 10 value (b - 48))
 
-word_on_small : (value : ℕ) (text : List ℕ) → IsWord value → IsWord (word_on value text)
-unfolding word_on
+word_on_small : (value : ℕ) (text : List ℕ) → IsWord value → IsWord (hex_number value text)
+unfolding hex_number
 word_on_small value [] h = h
 word_on_small value (b ∷ bs) h =
-    word_on_small (digit_on 16 value (hex_digit b)) bs (digit_small 16 value (hex_digit b))
+    word_on_small (with_digit 16 value (hex_digit_value b)) bs (digit_small 16 value (hex_digit_value b))
 
-shifted_small : (count value : ℕ) → IsWord value → IsWord (shifted count value)
-unfolding shifted
+shifted_small : (count value : ℕ) → IsWord value → IsWord (with_zero_digits count value)
+unfolding with_zero_digits
 shifted_small zero value h = h
-shifted_small (suc count) value h = shifted_small count (digit_on 16 value 0) (digit_small 16 value 0)
+shifted_small (suc count) value h = shifted_small count (with_digit 16 value 0) (digit_small 16 value 0)
 
-word_small : (text : List ℕ) → IsWord (word_of text)
-unfolding word_of
+word_small : (text : List ℕ) → IsWord (hex_word text)
+unfolding hex_word
 word_small text =
-    shifted_small (8 - length (take 8 text)) (word_on 0 (take 8 text)) (word_on_small 0 (take 8 text) (omega arith))
+    shifted_small (8 - length (take 8 text)) (hex_number 0 (take 8 text)) (word_on_small 0 (take 8 text) (omega arith))
 
 -- ---- bytes
 
-decoded_good : (text : List ℕ) (r : Result (List ℕ) FromHexError) → decode_of text ≡ r → IsBytes (decoded r)
+decoded_good : (text : List ℕ) (r : Result (List ℕ) FromHexError) → decode_of text ≡ r → IsBytes (bytes_if_decoded r)
 decoded_good text (Ok bytes) e = (decode_of-ok text bytes e).3
 decoded_good text (Err error) e = λ i. omega arith
 
-bytes_good : (text : List ℕ) → IsBytes (bytes_of text)
-unfolding bytes_of
+bytes_good : (text : List ℕ) → IsBytes (hex_bytes text)
+unfolding hex_bytes
 bytes_good text = decoded_good text (decode_of text) refl
 
 -- ---- endings
@@ -118,7 +118,7 @@ found_can p (why ∷ all) h =
 refusal_good : (name : List ℕ) → refusal_or_first (refusal_named name) ≡ refusal.Image image.OutOfMemory → ⊥
 unfolding can
 refusal_good name =
-    can_be (refusal_or_first (refusal_named name)) (found_can (λ r. bytes_eq name (refusal_name r)) refusals refl)
+    can_be (refusal_or_first (refusal_named name)) (found_can (λ r. bytes_eq name (refusal_name r)) row_refusals refl)
 
 pick : {X : Type 0} (P : X → Type 0) (b : Bool) (x y : X) → P x → P y → P (if b then x else y)
 pick P true x y h k = h
@@ -128,20 +128,20 @@ pick_if : {X : Type 0} (P : X → Type 0) (b : Bool) (x y : X) → (b ≡ true �
 pick_if P true x y h k = h refl
 pick_if P false x y h k = k
 
-fault_good : (text : List ℕ) → IsEnd (fault_of text)
-unfolding fault_of
+fault_good : (text : List ℕ) → IsEnd (fault_end_of_text text)
+unfolding fault_end_of_text
 fault_good text =
-    (word_small (take 8 (drop 3 (after 32 text))), word_small (drop 18 (after 32 text)))
+    (word_small (take 8 (drop 3 (text_after_byte 32 text))), word_small (drop 18 (text_after_byte 32 text)))
 
-ending_good : (line : List ℕ) → IsEnd (ending_of line)
-unfolding ending_of
+ending_good : (line : List ℕ) → IsEnd (row_end_of_line line)
+unfolding row_end_of_line
 ending_good line =
     let kind = slice_index line 4 in
     let refused = ending.Refused (refusal_or_first (refusal_named (drop 12 line))) in
     let last : RowEnd = if kind == 98 then ending.Budget else refused in
-    let next : RowEnd = if kind == 102 then fault_of (drop 10 line) else last in
-    pick IsEnd (kind == 101) (ending.Exit (number_of (drop 9 line))) next (number_small 0 (drop 9 line) (omega arith))
-    (pick IsEnd (kind == 102) (fault_of (drop 10 line)) last (fault_good (drop 10 line))
+    let next : RowEnd = if kind == 102 then fault_end_of_text (drop 10 line) else last in
+    pick IsEnd (kind == 101) (ending.Exit (decimal_number (drop 9 line))) next (number_small 0 (drop 9 line) (omega arith))
+    (pick IsEnd (kind == 102) (fault_end_of_text (drop 10 line)) last (fault_good (drop 10 line))
     (pick IsEnd (kind == 98) ending.Budget refused tt (refusal_good (drop 12 line))))
 
 -- ---- what is gathered
@@ -159,8 +159,8 @@ all-append : {X : Type 0} (P : X → Type 0) (xs ys : List X) → AllByRecursion
 all-append P [] ys h k = k
 all-append P (x ∷ xs) ys h k = (h.0, all-append P xs ys h.1 k)
 
-draft_whole : (numbers : List ℕ) (rows : List Row) (e : Extent) → AreGood rows → IsDraft (whole numbers rows e)
-unfolding whole
+draft_whole : (numbers : List ℕ) (rows : List Row) (e : Extent) → AreGood rows → IsDraft (gathering_between_rows numbers rows e)
+unfolding gathering_between_rows
 draft_whole numbers rows e h = (h, dash_is_name, tt, omega arith, (λ i. omega arith), omega arith, omega arith, tt)
 
 signature_good : (signed : Bool) (words : List ℕ) → length words ≤ most_words → AllByRecursion IsWord words
@@ -168,8 +168,8 @@ signature_good : (signed : Bool) (words : List ℕ) → length words ≤ most_wo
 signature_good true words few each = (few, each)
 signature_good false words few each = tt
 
-row_good : (v : Verdict) (g : Gathered) → IsDraft g → IsRow (next_row v g)
-unfolding next_row
+row_good : (v : Verdict) (g : Gathered) → IsDraft g → IsRow (row_so_far v g)
+unfolding row_so_far
 row_good v g h =
     let few = h.5 in
     let within = h.6 in
@@ -181,45 +181,45 @@ row_good v g h =
       signature = signature_good g.signed g.words (omega arith) h.7;
     }
 
-draft_closed : (v : Verdict) (g : Gathered) → IsDraft g → IsDraft (closed v g)
-unfolding closed
+draft_closed : (v : Verdict) (g : Gathered) → IsDraft g → IsDraft (with_closed_row v g)
+unfolding with_closed_row
 draft_closed v g h =
-    draft_whole (g.numbers ++ g.number ∷ []) (g.rows ++ next_row v g ∷ []) g.extent
-    (all-append IsRow g.rows (next_row v g ∷ []) h.0 (row_good v g h, tt))
+    draft_whole (g.numbers ++ g.number ∷ []) (g.rows ++ row_so_far v g ∷ []) g.extent
+    (all-append IsRow g.rows (row_so_far v g ∷ []) h.0 (row_good v g h, tt))
 
-draft_between : (line : List ℕ) (g : Gathered) → IsDraft g → IsDraft (between line g)
-unfolding between
+draft_between : (line : List ℕ) (g : Gathered) → IsDraft g → IsDraft (at_job_or_last_line line g)
+unfolding at_job_or_last_line
 draft_between line g h =
-    let job : Gathered = record g { number = job_of line; name = name_of line; begun = true; stage = stage.Ending } in
-    let part : Gathered = over (record g { extent = part_of line }) in
-    let other : Gathered = if slice_index line 0 == 112 then part else over g in
+    let job : Gathered = record g { number = job_number_of_line line; name = job_name_of_line line; begun = true; stage = stage.Ending } in
+    let part : Gathered = with_stage_over (record g { extent = extent_of_line line }) in
+    let other : Gathered = if slice_index line 0 == 112 then part else with_stage_over g in
     pick IsDraft ((slice_index line 0 == 106) && nat_lt (length g.rows) most_jobs) job other
     (h.0, name_of_is_name line, h.2, h.3, h.4, h.5, h.6, h.7)
-    (pick IsDraft (slice_index line 0 == 112) part (over g) h h)
+    (pick IsDraft (slice_index line 0 == 112) part (with_stage_over g) h h)
 
 draft_ending : (line : List ℕ) (g : Gathered) → IsDraft g → IsDraft (at_ending line g)
 unfolding at_ending
 draft_ending line g h =
-    pick IsDraft (slice_index line 0 == 101) (record g { ending = ending_of line; stage = stage.Steps }) (over g)
+    pick IsDraft (slice_index line 0 == 101) (record g { ending = row_end_of_line line; stage = stage.Steps }) (with_stage_over g)
     (h.0, h.1, ending_good line, h.3, h.4, h.5, h.6, h.7) h
 
 draft_steps : (line : List ℕ) (g : Gathered) → IsDraft g → IsDraft (at_steps line g)
 unfolding at_steps
 draft_steps line g h =
     pick IsDraft ((slice_index line 0 == 115) && (slice_index line 1 == 116))
-    (record g { steps = number_of (drop 6 line); stage = stage.Console }) (over g)
+    (record g { steps = decimal_number (drop 6 line); stage = stage.Console }) (with_stage_over g)
     (h.0, h.1, h.2, number_small 0 (drop 6 line) (omega arith), h.4, h.5, h.6, h.7) h
 
 draft_console : (line : List ℕ) (g : Gathered) → IsDraft g → IsDraft (at_console line g)
 unfolding at_console
 draft_console line g h =
-    pick IsDraft (slice_index line 0 == 99) (record g { console = bytes_of (drop 8 line); stage = stage.Signature })
-    (over g) (h.0, h.1, h.2, h.3, bytes_good (drop 8 line), h.5, h.6, h.7) h
+    pick IsDraft (slice_index line 0 == 99) (record g { console = hex_bytes (drop 8 line); stage = stage.Signature })
+    (with_stage_over g) (h.0, h.1, h.2, h.3, bytes_good (drop 8 line), h.5, h.6, h.7) h
 
 draft_signature : (line : List ℕ) (g : Gathered) → IsDraft g → IsDraft (at_signature line g)
 unfolding at_signature
 draft_signature line g h =
-    let count = number_of (drop 10 line) in
+    let count = decimal_number (drop 10 line) in
     let is : Bool = (slice_index line 0 == 115) && (slice_index line 1 == 105) in
     let begun : Gathered = record g {
       signed = not (slice_index line 10 == 45);
@@ -227,7 +227,7 @@ draft_signature line g h =
       words = [];
       stage = stage.Words;
     } in
-    pick_if IsDraft (is && nat_le count most_words) begun (over g)
+    pick_if IsDraft (is && nat_le count most_words) begun (with_stage_over g)
     (λ t. let few = (and_parts is (nat_le count most_words) t).1 in
     let small : count ≤ most_words = grind (arith, nat_tests) in
     (h.0, h.1, h.2, h.3, h.4, small, omega arith, tt)) h
@@ -235,17 +235,17 @@ draft_signature line g h =
 draft_words : (line : List ℕ) (g : Gathered) → IsDraft g → IsDraft (at_words line g)
 unfolding at_words
 draft_words line g h =
-    let word : Gathered = record g { words = g.words ++ word_of line ∷ [] } in
-    let row : Gathered = closed (verdict_of line) g in
+    let word : Gathered = record g { words = g.words ++ hex_word line ∷ [] } in
+    let row : Gathered = with_closed_row (verdict_of_line line) g in
     let ended : Bool = (slice_index line 0 == 118) && (length g.words == g.count) in
-    let other : Gathered = if ended then row else over g in
-    pick_if IsDraft (is_word line && nat_lt (length g.words) g.count) word other
-    (λ t. let room = (and_parts (is_word line) (nat_lt (length g.words) g.count) t).1 in
+    let other : Gathered = if ended then row else with_stage_over g in
+    pick_if IsDraft (is_hex_word line && nat_lt (length g.words) g.count) word other
+    (λ t. let room = (and_parts (is_hex_word line) (nat_lt (length g.words) g.count) t).1 in
     let more : length g.words < g.count = grind (arith, nat_tests) in
-    let longer = length-append g.words (word_of line ∷ []) in
-    let words = all-append IsWord g.words (word_of line ∷ []) h.7 (word_small line, tt) in
+    let longer = length-append g.words (hex_word line ∷ []) in
+    let words = all-append IsWord g.words (hex_word line ∷ []) h.7 (word_small line, tt) in
     (h.0, h.1, h.2, h.3, h.4, h.5, omega arith, words))
-    (pick IsDraft ended row (over g) (draft_closed (verdict_of line) g h) h)
+    (pick IsDraft ended row (with_stage_over g) (draft_closed (verdict_of_line line) g h) h)
 
 draft_at : (s : Stage) (line : List ℕ) (g : Gathered) → IsDraft g → IsDraft (with_line_at s line g)
 draft_at stage.Between line g h = draft_between line g h
@@ -269,8 +269,8 @@ length-zeros : (count : ℕ) → length {A = ℕ} (replicate count 0) ≡ count
 length-zeros zero = refl
 length-zeros (suc count) = ap suc (length-zeros count)
 
-draft_padded : (g : Gathered) → IsDraft g → IsDraft (record g { words = padded g.count g.words })
-unfolding padded
+draft_padded : (g : Gathered) → IsDraft g → IsDraft (record g { words = padded_words g.count g.words })
+unfolding padded_words
 draft_padded g h =
     let missing = g.count - length g.words in
     let a = length-append g.words (replicate missing 0) in
@@ -279,14 +279,14 @@ draft_padded g h =
     let words = all-append IsWord g.words (replicate missing 0) h.7 (zeros_good missing) in
     (h.0, h.1, h.2, h.3, h.4, h.5, omega arith, words)
 
-draft_finished : (g : Gathered) → IsDraft g → IsDraft (finished g)
-unfolding finished
+draft_finished : (g : Gathered) → IsDraft g → IsDraft (with_unfinished_row g)
+unfolding with_unfinished_row
 draft_finished g h =
-    let filled : Gathered = record g { words = padded g.count g.words } in
-    pick IsDraft g.begun (closed Unasked filled) g (draft_closed Unasked filled (draft_padded g h)) h
+    let filled : Gathered = record g { words = padded_words g.count g.words } in
+    pick IsDraft g.begun (with_closed_row Unasked filled) g (draft_closed Unasked filled (draft_padded g h)) h
 
-pub gathered_good : (text : List ℕ) → AreGood (gathered text).rows
-unfolding gathered
+pub gathered_good : (text : List ℕ) → AreGood (gather_rows text).rows
+unfolding gather_rows
 gathered_good text =
-    let start : Gathered = whole [] [] Whole in
+    let start : Gathered = gathering_between_rows [] [] Whole in
     (draft_finished (with_lines (lines text) start) (draft_lines (lines text) start (draft_whole [] [] Whole tt))).0

@@ -9,54 +9,55 @@ use Rattle.std.proofs.lemmas.Str.{IsUtf8-from_ascii}
 use Rattle.std.proofs.lemmas.Bool.{cases_Bool}
 use Rattle.std.specs.List.{onto_first, list_all}
 use Rattle.std.specs.Str.{IsAscii, IsUtf8}
-use Rattle.rv_lists.specs.JobList.{is_name, is_name_byte, is_within}
+use Rattle.rv_base.specs.Names.{is_name, is_name_byte}
+use Rattle.rv_base.specs.Limits.{is_within}
 use Rattle.std.specs.Prelude.{Result, Ok, Err, IfOk}
-use Rattle.rv_report.specs.Said.{Gathered, with_line, with_lines, lines, place_of, number_on, word_on, digit_on}
-use Rattle.rv_report.specs.Said.{hex_digit, shifted, all_hex, is_hex}
+use Rattle.rv_report.specs.LenientReport.{Gathered, with_line, with_lines, lines, place_of_byte, decimal_number_on, hex_number, with_digit}
+use Rattle.rv_report.specs.LenientReport.{hex_digit_value, with_zero_digits, all_hex, is_hex}
 use Rattle.rv_report.specs.declared.row.Row.{Row}
 use Rattle.std.specs.Prelude.{is_some}
 use Rattle.std.proofs.lemmas.Bool.{false≢true}
-use Rattle.rv_lists.specs.JobList.{place_in}
-use Rattle.rv_report.specs.Said.{new_count}
-use Rattle.rv_report.specs.Saved.{are_rising, are_stepped, names_of}
+use Rattle.rv_base.specs.Names.{place_in}
+use Rattle.rv_report.specs.LenientReport.{count_before_repeated_name}
+use Rattle.rv_report.specs.Saved.{are_rising, are_evenly_spaced, row_names}
 
 pub place_step : (byte : ℕ) (xs : List ℕ) (i : ℕ) → i < length xs
-    → place_of byte (drop i xs) ≡ cond (get_or xs i 0 == byte) 0 (place_of byte (drop (i + 1) xs) + 1)
-unfolding place_of
-place_step byte xs i h = at_drop_more (place_of byte) xs i 0 h
+    → place_of_byte byte (drop i xs) ≡ cond (get_or xs i 0 == byte) 0 (place_of_byte byte (drop (i + 1) xs) + 1)
+unfolding place_of_byte
+place_step byte xs i h = at_drop_more (place_of_byte byte) xs i 0 h
 
-pub place_end : (byte : ℕ) (xs : List ℕ) (i : ℕ) → length xs ≤ i → place_of byte (drop i xs) ≡ 0
-unfolding place_of
-place_end byte xs i h = at_drop_all (place_of byte) xs i h
+pub place_end : (byte : ℕ) (xs : List ℕ) (i : ℕ) → length xs ≤ i → place_of_byte byte (drop i xs) ≡ 0
+unfolding place_of_byte
+place_end byte xs i h = at_drop_all (place_of_byte byte) xs i h
 
 pub number_step : (value : ℕ) (xs : List ℕ) (i : ℕ) → i < length xs
-    → number_on value (drop i xs) ≡ number_on (digit_on 10 value (get_or xs i 0 - 48)) (drop (i + 1) xs)
-unfolding number_on
-number_step value xs i h = at_drop_more (number_on value) xs i 0 h
+    → decimal_number_on value (drop i xs) ≡ decimal_number_on (with_digit 10 value (get_or xs i 0 - 48)) (drop (i + 1) xs)
+unfolding decimal_number_on
+number_step value xs i h = at_drop_more (decimal_number_on value) xs i 0 h
 
-pub number_end : (value : ℕ) (xs : List ℕ) (i : ℕ) → length xs ≤ i → number_on value (drop i xs) ≡ value
-unfolding number_on
-number_end value xs i h = at_drop_all (number_on value) xs i h
+pub number_end : (value : ℕ) (xs : List ℕ) (i : ℕ) → length xs ≤ i → decimal_number_on value (drop i xs) ≡ value
+unfolding decimal_number_on
+number_end value xs i h = at_drop_all (decimal_number_on value) xs i h
 
 pub word_step : (value : ℕ) (xs : List ℕ) (i : ℕ) → i < length xs
-    → word_on value (drop i xs) ≡ word_on (digit_on 16 value (hex_digit (get_or xs i 0))) (drop (i + 1) xs)
-unfolding word_on
-word_step value xs i h = at_drop_more (word_on value) xs i 0 h
+    → hex_number value (drop i xs) ≡ hex_number (with_digit 16 value (hex_digit_value (get_or xs i 0))) (drop (i + 1) xs)
+unfolding hex_number
+word_step value xs i h = at_drop_more (hex_number value) xs i 0 h
 
-pub word_end : (value : ℕ) (xs : List ℕ) (i : ℕ) → length xs ≤ i → word_on value (drop i xs) ≡ value
-unfolding word_on
-word_end value xs i h = at_drop_all (word_on value) xs i h
+pub word_end : (value : ℕ) (xs : List ℕ) (i : ℕ) → length xs ≤ i → hex_number value (drop i xs) ≡ value
+unfolding hex_number
+word_end value xs i h = at_drop_all (hex_number value) xs i h
 
 -- missing digits are zeros
-pub shifted_step : (i value : ℕ) → i < 8 → shifted (8 - i) value ≡ shifted (8 - (i + 1)) (digit_on 16 value 0)
-unfolding shifted
+pub shifted_step : (i value : ℕ) → i < 8 → with_zero_digits (8 - i) value ≡ with_zero_digits (8 - (i + 1)) (with_digit 16 value 0)
+unfolding with_zero_digits
 shifted_step i value h =
     let e : 8 - i ≡ suc (8 - (i + 1)) = omega arith in
-    ap (λ (n : ℕ). shifted n value) e
+    ap (λ (n : ℕ). with_zero_digits n value) e
 
-pub shifted_end : (i value : ℕ) → 8 ≤ i → shifted (8 - i) value ≡ value
-unfolding shifted
-shifted_end i value h = let e : 8 - i ≡ 0 = omega arith in ap (λ (n : ℕ). shifted n value) e
+pub shifted_end : (i value : ℕ) → 8 ≤ i → with_zero_digits (8 - i) value ≡ value
+unfolding with_zero_digits
+shifted_end i value h = let e : 8 - i ≡ 0 = omega arith in ap (λ (n : ℕ). with_zero_digits n value) e
 
 pub hex_step : (xs : List ℕ) (i : ℕ) → i < length xs
     → all_hex (drop i xs) ≡ (is_hex (get_or xs i 0) && all_hex (drop (i + 1) xs))
@@ -83,9 +84,9 @@ name_is_text xs h = IsUtf8-from_ascii xs (bytes_are_ascii xs
     (and_parts (is_within 1 64 (length xs)) (list_all is_name_byte xs) h).1)
 
 -- the first line, by the place of its line feed
-pub first_line : (b : ℕ) (bs : List ℕ) (p : ℕ) → p ≡ place_of 10 (b ∷ bs)
+pub first_line : (b : ℕ) (bs : List ℕ) (p : ℕ) → p ≡ place_of_byte 10 (b ∷ bs)
     → lines (b ∷ bs) ≡ take p (b ∷ bs) ∷ lines (drop (suc p) (b ∷ bs))
-unfolding lines place_of
+unfolding lines place_of_byte
 first_line b [] p is =
     elim (cases_Bool (b == 10)) [
       | inl e ↦
@@ -98,32 +99,32 @@ first_line b [] p is =
 first_line b (c ∷ cs) p is =
     elim (cases_Bool (b == 10)) [
       | inl e ↦
-          let z : p ≡ 0 = is ∙ ap (λ (t : Bool). cond t 0 (place_of 10 (c ∷ cs) + 1)) e in
+          let z : p ≡ 0 = is ∙ ap (λ (t : Bool). cond t 0 (place_of_byte 10 (c ∷ cs) + 1)) e in
           rw z (ap (λ (t : Bool). cond t ([] ∷ lines (c ∷ cs)) (onto_first b (lines (c ∷ cs)))) e)
       | inr e ↦
-          let q = place_of 10 (c ∷ cs) in
+          let q = place_of_byte 10 (c ∷ cs) in
           let z : p ≡ suc q = is ∙ ap (λ (t : Bool). cond t 0 (q + 1)) e ∙ add-one q in
           rw z (ap (λ (t : Bool). cond t ([] ∷ lines (c ∷ cs)) (onto_first b (lines (c ∷ cs)))) e
           ∙ ap (onto_first b) (first_line c cs q refl))
     ]
 
-pub first_line_of : (text : List ℕ) (p : ℕ) → 0 < length text → p ≡ place_of 10 text
+pub first_line_of : (text : List ℕ) (p : ℕ) → 0 < length text → p ≡ place_of_byte 10 text
     → lines text ≡ take p text ∷ lines (drop (p + 1) text)
 first_line_of [] p h is = absurd (omega arith)
 first_line_of (b ∷ bs) p h is = rw (add-one p) (first_line b bs p is)
 
 -- ---- steps that a test decides
 
-pub place_here : (byte : ℕ) (xs : List ℕ) (i : ℕ) → i < length xs → get_or xs i 0 ≡ byte → place_of byte (drop i xs) ≡ 0
+pub place_here : (byte : ℕ) (xs : List ℕ) (i : ℕ) → i < length xs → get_or xs i 0 ≡ byte → place_of_byte byte (drop i xs) ≡ 0
 place_here byte xs i h is =
     let e : (get_or xs i 0 == byte) ≡ true = grind arith in
-    place_step byte xs i h ∙ ap (λ (t : Bool). cond t 0 (place_of byte (drop (i + 1) xs) + 1)) e
+    place_step byte xs i h ∙ ap (λ (t : Bool). cond t 0 (place_of_byte byte (drop (i + 1) xs) + 1)) e
 
 pub place_later : (byte : ℕ) (xs : List ℕ) (i : ℕ) → i < length xs → (get_or xs i 0 ≡ byte → ⊥)
-    → place_of byte (drop i xs) ≡ place_of byte (drop (i + 1) xs) + 1
+    → place_of_byte byte (drop i xs) ≡ place_of_byte byte (drop (i + 1) xs) + 1
 place_later byte xs i h other =
     let e : (get_or xs i 0 == byte) ≡ false = grind arith in
-    place_step byte xs i h ∙ ap (λ (t : Bool). cond t 0 (place_of byte (drop (i + 1) xs) + 1)) e
+    place_step byte xs i h ∙ ap (λ (t : Bool). cond t 0 (place_of_byte byte (drop (i + 1) xs) + 1)) e
 
 pub hex_no : (xs : List ℕ) (i : ℕ) → i < length xs → is_hex (get_or xs i 0) ≡ false → all_hex (drop i xs) ≡ false
 hex_no xs i h e = hex_step xs i h ∙ ap (λ (t : Bool). t && all_hex (drop (i + 1) xs)) e
@@ -134,7 +135,7 @@ hex_yes xs i h e = hex_step xs i h ∙ ap (λ (t : Bool). t && all_hex (drop (i 
 
 -- ---- lines, taken one by one
 
-pub said_step : (rest front behind : List ℕ) (p : ℕ) (g h : Gathered) → 0 < length rest → p ≡ place_of 10 rest
+pub said_step : (rest front behind : List ℕ) (p : ℕ) (g h : Gathered) → 0 < length rest → p ≡ place_of_byte 10 rest
     → front ≡ take p rest → behind ≡ drop (p + 1) rest
     → h ≡ with_line front g → with_lines (lines behind) h ≡ with_lines (lines rest) g
 unfolding with_lines
@@ -193,33 +194,33 @@ rising_on before last xs i h low high =
     rising_step before last xs i h ∙ ap (λ (t : Bool). t && (nat_le x last && later)) a
     ∙ ap (λ (t : Bool). t && later) b
 
-stepped_step : (next step last : ℕ) (xs : List ℕ) (i : ℕ) → i < length xs → are_stepped next step last (drop i xs)
+stepped_step : (next step last : ℕ) (xs : List ℕ) (i : ℕ) → i < length xs → are_evenly_spaced next step last (drop i xs)
     ≡ ((get_or xs i 0 == next) && (nat_le (get_or xs i 0) last
-    && are_stepped (next + step) step last (drop (i + 1) xs)))
-unfolding are_stepped
-stepped_step next step last xs i h = at_drop_more (are_stepped next step last) xs i 0 h
+    && are_evenly_spaced (next + step) step last (drop (i + 1) xs)))
+unfolding are_evenly_spaced
+stepped_step next step last xs i h = at_drop_more (are_evenly_spaced next step last) xs i 0 h
 
 pub stepped_end : (next step last : ℕ) (xs : List ℕ) (i : ℕ) → length xs ≤ i
-    → are_stepped next step last (drop i xs) ≡ nat_lt last next
-unfolding are_stepped
-stepped_end next step last xs i h = at_drop_all (are_stepped next step last) xs i h
+    → are_evenly_spaced next step last (drop i xs) ≡ nat_lt last next
+unfolding are_evenly_spaced
+stepped_end next step last xs i h = at_drop_all (are_evenly_spaced next step last) xs i h
 
 pub stepped_no : (next step last : ℕ) (xs : List ℕ) (i : ℕ) → i < length xs
-    → (get_or xs i 0 ≡ next → get_or xs i 0 ≤ last → ⊥) → are_stepped next step last (drop i xs) ≡ false
+    → (get_or xs i 0 ≡ next → get_or xs i 0 ≤ last → ⊥) → are_evenly_spaced next step last (drop i xs) ≡ false
 stepped_no next step last xs i h never =
     let x = get_or xs i 0 in
-    let later = are_stepped (next + step) step last (drop (i + 1) xs) in
+    let later = are_evenly_spaced (next + step) step last (drop (i + 1) xs) in
     stepped_step next step last xs i h
     ∙ both_false (x == next) (nat_le x last && later)
     (λ same high. never (grind (arith, nat_tests))
     (let first = (and_parts (nat_le x last) later high).0 in grind (arith, nat_tests)))
 
 pub stepped_on : (next step last : ℕ) (xs : List ℕ) (i : ℕ) → i < length xs → get_or xs i 0 ≡ next
-    → get_or xs i 0 ≤ last → are_stepped next step last (drop i xs)
-    ≡ are_stepped (next + step) step last (drop (i + 1) xs)
+    → get_or xs i 0 ≤ last → are_evenly_spaced next step last (drop i xs)
+    ≡ are_evenly_spaced (next + step) step last (drop (i + 1) xs)
 stepped_on next step last xs i h same high =
     let x = get_or xs i 0 in
-    let later = are_stepped (next + step) step last (drop (i + 1) xs) in
+    let later = are_evenly_spaced (next + step) step last (drop (i + 1) xs) in
     let a : (x == next) ≡ true = grind (arith, nat_tests) in
     let b : nat_le x last ≡ true = grind (arith, nat_tests) in
     stepped_step next step last xs i h ∙ ap (λ (t : Bool). t && (nat_le x last && later)) a
@@ -228,49 +229,49 @@ stepped_on next step last xs i h same high =
 -- ---- names that are there already
 
 names_taken : (rows : List Row) (i : ℕ) (row : Row) → i < length rows
-    → names_of (take (suc i) rows) ≡ names_of (take i rows) ++ (get_or rows i row).name ∷ []
+    → row_names (take (suc i) rows) ≡ row_names (take i rows) ++ (get_or rows i row).name ∷ []
 names_taken [] i row h = absurd (omega arith)
 names_taken (r ∷ rows) zero row h = refl
 names_taken (r ∷ rows) (suc i) row h =
     ap (λ (ts : List (List ℕ)). r.name ∷ ts) (names_taken rows i row (omega arith))
 
 new_step : (earlier : List (List ℕ)) (rows : List Row) (i : ℕ) (row : Row) → i < length rows
-    → new_count earlier (names_of (drop i rows))
+    → count_before_repeated_name earlier (row_names (drop i rows))
     ≡ cond (is_some (place_in earlier (get_or rows i row).name)) 0
-    (new_count (earlier ++ (get_or rows i row).name ∷ []) (names_of (drop (i + 1) rows)) + 1)
-unfolding new_count
-new_step earlier rows i row h = at_drop_more (λ (rs : List Row). new_count earlier (names_of rs)) rows i row h
+    (count_before_repeated_name (earlier ++ (get_or rows i row).name ∷ []) (row_names (drop (i + 1) rows)) + 1)
+unfolding count_before_repeated_name
+new_step earlier rows i row h = at_drop_more (λ (rs : List Row). count_before_repeated_name earlier (row_names rs)) rows i row h
 
 pub new_end : (earlier : List (List ℕ)) (rows : List Row) (i : ℕ) → length rows ≤ i
-    → new_count earlier (names_of (drop i rows)) ≡ 0
-unfolding new_count
-new_end earlier rows i h = at_drop_all (λ (rs : List Row). new_count earlier (names_of rs)) rows i h
+    → count_before_repeated_name earlier (row_names (drop i rows)) ≡ 0
+unfolding count_before_repeated_name
+new_end earlier rows i h = at_drop_all (λ (rs : List Row). count_before_repeated_name earlier (row_names rs)) rows i h
 
 pub new_here : (earlier : List (List ℕ)) (rows : List Row) (i : ℕ) (row : Row) (name : List ℕ) → i < length rows
     → name ≡ (get_or rows i row).name → is_some (place_in earlier name) ≡ true
-    → new_count earlier (names_of (drop i rows)) ≡ 0
+    → count_before_repeated_name earlier (row_names (drop i rows)) ≡ 0
 new_here earlier rows i row name h is e =
     new_step earlier rows i row h
-    ∙ ap (λ (t : Bool). cond t 0 (new_count (earlier ++ (get_or rows i row).name ∷ [])
-    (names_of (drop (i + 1) rows)) + 1))
+    ∙ ap (λ (t : Bool). cond t 0 (count_before_repeated_name (earlier ++ (get_or rows i row).name ∷ [])
+    (row_names (drop (i + 1) rows)) + 1))
     (ap (λ (n : List ℕ). is_some (place_in earlier n)) (sym is) ∙ e)
 
 pub new_later : (earlier : List (List ℕ)) (rows : List Row) (i : ℕ) (row : Row) (name : List ℕ) → i < length rows
     → name ≡ (get_or rows i row).name → is_some (place_in earlier name) ≡ false
-    → new_count earlier (names_of (drop i rows))
-    ≡ new_count (earlier ++ name ∷ []) (names_of (drop (i + 1) rows)) + 1
+    → count_before_repeated_name earlier (row_names (drop i rows))
+    ≡ count_before_repeated_name (earlier ++ name ∷ []) (row_names (drop (i + 1) rows)) + 1
 new_later earlier rows i row name h is e =
     new_step earlier rows i row h
-    ∙ ap (λ (t : Bool). cond t 0 (new_count (earlier ++ (get_or rows i row).name ∷ [])
-    (names_of (drop (i + 1) rows)) + 1))
+    ∙ ap (λ (t : Bool). cond t 0 (count_before_repeated_name (earlier ++ (get_or rows i row).name ∷ [])
+    (row_names (drop (i + 1) rows)) + 1))
     (ap (λ (n : List ℕ). is_some (place_in earlier n)) (sym is) ∙ e)
-    ∙ ap (λ (n : List ℕ). new_count (earlier ++ n ∷ []) (names_of (drop (i + 1) rows)) + 1) (sym is)
+    ∙ ap (λ (n : List ℕ). count_before_repeated_name (earlier ++ n ∷ []) (row_names (drop (i + 1) rows)) + 1) (sym is)
 
 pub names_on : (rows : List Row) (i : ℕ) (row : Row) (name : List ℕ) → i < length rows → name ≡ (get_or rows i row).name
-    → names_of (take (i + 1) rows) ≡ names_of (take i rows) ++ name ∷ []
+    → row_names (take (i + 1) rows) ≡ row_names (take i rows) ++ name ∷ []
 names_on rows i row name h is =
-    ap (λ (k : ℕ). names_of (take k rows)) (add-one i) ∙ names_taken rows i row h
-    ∙ ap (λ (n : List ℕ). names_of (take i rows) ++ n ∷ []) (sym is)
+    ap (λ (k : ℕ). row_names (take k rows)) (add-one i) ∙ names_taken rows i row h
+    ∙ ap (λ (n : List ℕ). row_names (take i rows) ++ n ∷ []) (sym is)
 
 pub nowhere : (o : Option ℕ) → is_some o ≡ false → o ≡ None
 nowhere None h = refl

@@ -7,87 +7,87 @@ use Rattle.std.proofs.lemmas.Bool.Decides.{nat_tests}
 use Rattle.rv_report.specs.declared.read.FirstWord.{FirstWord}
 use Rattle.rv_report.specs.declared.read.ReadError.TheVariants.{Line, CutOff}
 use Rattle.std.proofs.lemmas.Bool.{and_parts}
-use Rattle.rv_report.specs.Differences.{feeds, past, line_past, difference, difference_at}
+use Rattle.rv_report.specs.Differences.{count_of_line_feeds, word_after_byte, line_after_byte, read_error_from, read_error_at}
 use Rattle.rv_base.specs.Limits.{most_jobs}
 use Rattle.rv_report.specs.Report.{row_text}
 use Rattle.rv_report.specs.declared.row.Row.{Row}
-use Rattle.rv_report.specs.Said.{rising_count}
+use Rattle.rv_report.specs.LenientReport.{rising_count}
 use Rattle.rv_report.specs.Saved.{are_rising, numbered_text}
 
 pub feeds_step : (xs : List ℕ) (i : ℕ) → i < length xs
-    → feeds (drop i xs) ≡ cond (get_or xs i 0 == 10) (feeds (drop (i + 1) xs) + 1) (feeds (drop (i + 1) xs))
-feeds_step xs i h = at_drop_more feeds xs i 0 h
+    → count_of_line_feeds (drop i xs) ≡ cond (get_or xs i 0 == 10) (count_of_line_feeds (drop (i + 1) xs) + 1) (count_of_line_feeds (drop (i + 1) xs))
+feeds_step xs i h = at_drop_more count_of_line_feeds xs i 0 h
 
-pub feeds_end : (xs : List ℕ) (i : ℕ) → length xs ≤ i → feeds (drop i xs) ≡ 0
-feeds_end xs i h = at_drop_all feeds xs i h
+pub feeds_end : (xs : List ℕ) (i : ℕ) → length xs ≤ i → count_of_line_feeds (drop i xs) ≡ 0
+feeds_end xs i h = at_drop_all count_of_line_feeds xs i h
 
-pub feeds_here : (xs : List ℕ) (i : ℕ) → i < length xs → get_or xs i 0 ≡ 10 → 0 < feeds (drop i xs)
+pub feeds_here : (xs : List ℕ) (i : ℕ) → i < length xs → get_or xs i 0 ≡ 10 → 0 < count_of_line_feeds (drop i xs)
 feeds_here xs i h is =
     let e : (get_or xs i 0 == 10) ≡ true = grind arith in
-    let s = feeds_step xs i h ∙ ap (λ (t : Bool). cond t (feeds (drop (i + 1) xs) + 1) (feeds (drop (i + 1) xs))) e in
+    let s = feeds_step xs i h ∙ ap (λ (t : Bool). cond t (count_of_line_feeds (drop (i + 1) xs) + 1) (count_of_line_feeds (drop (i + 1) xs))) e in
     omega arith
 
 pub feeds_later : (xs : List ℕ) (i : ℕ) → i < length xs → (get_or xs i 0 ≡ 10 → ⊥)
-    → feeds (drop i xs) ≡ feeds (drop (i + 1) xs)
+    → count_of_line_feeds (drop i xs) ≡ count_of_line_feeds (drop (i + 1) xs)
 feeds_later xs i h other =
     let e : (get_or xs i 0 == 10) ≡ false = grind arith in
-    feeds_step xs i h ∙ ap (λ (t : Bool). cond t (feeds (drop (i + 1) xs) + 1) (feeds (drop (i + 1) xs))) e
+    feeds_step xs i h ∙ ap (λ (t : Bool). cond t (count_of_line_feeds (drop (i + 1) xs) + 1) (count_of_line_feeds (drop (i + 1) xs))) e
 
 -- ---- the first difference
 
 pub difference_end : (line : ℕ) (met : FirstWord) (text bytes : List ℕ) (i : ℕ) → length bytes ≤ i
-    → difference line met text (drop i bytes) ≡ CutOff
-unfolding difference
-difference_end line met [] bytes i h = at_drop_all (difference line met []) bytes i h
-difference_end line met (t ∷ ts) bytes i h = at_drop_all (difference line met (t ∷ ts)) bytes i h
+    → read_error_from line met text (drop i bytes) ≡ CutOff
+unfolding read_error_from
+difference_end line met [] bytes i h = at_drop_all (read_error_from line met []) bytes i h
+difference_end line met (t ∷ ts) bytes i h = at_drop_all (read_error_from line met (t ∷ ts)) bytes i h
 
 pub difference_past : (line : ℕ) (met : FirstWord) (text bytes : List ℕ) (i : ℕ) → length text ≤ i → i < length bytes
-    → difference line met (drop i text) (drop i bytes) ≡ Line line
-unfolding difference
+    → read_error_from line met (drop i text) (drop i bytes) ≡ Line line
+unfolding read_error_from
 difference_past line met text bytes i h k =
-    at_drop_all (λ (xs : List ℕ). difference line met xs (drop i bytes)) text i h
-    ∙ at_drop_more (difference line met []) bytes i 0 k
+    at_drop_all (λ (xs : List ℕ). read_error_from line met xs (drop i bytes)) text i h
+    ∙ at_drop_more (read_error_from line met []) bytes i 0 k
 
 difference_step : (line : ℕ) (met : FirstWord) (text bytes : List ℕ) (i : ℕ) → i < length text → i < length bytes
-    → difference line met (drop i text) (drop i bytes)
+    → read_error_from line met (drop i text) (drop i bytes)
     ≡ cond (get_or bytes i 0 == get_or text i 0)
-    (difference (line_past line (get_or bytes i 0)) (past met (get_or bytes i 0)) (drop (i + 1) text)
+    (read_error_from (line_after_byte line (get_or bytes i 0)) (word_after_byte met (get_or bytes i 0)) (drop (i + 1) text)
     (drop (i + 1) bytes))
-    (difference_at line met (get_or text i 0) (get_or bytes i 0 ∷ drop (i + 1) bytes))
-unfolding difference
+    (read_error_at line met (get_or text i 0) (get_or bytes i 0 ∷ drop (i + 1) bytes))
+unfolding read_error_from
 difference_step line met text bytes i h k =
-    at_drop_more (λ (xs : List ℕ). difference line met xs (drop i bytes)) text i 0 h
-    ∙ at_drop_more (difference line met (get_or text i 0 ∷ drop (i + 1) text)) bytes i 0 k
+    at_drop_more (λ (xs : List ℕ). read_error_from line met xs (drop i bytes)) text i 0 h
+    ∙ at_drop_more (read_error_from line met (get_or text i 0 ∷ drop (i + 1) text)) bytes i 0 k
 
 pub difference_here : (line : ℕ) (met : FirstWord) (text bytes : List ℕ) (i : ℕ) → i < length text → i < length bytes
     → (get_or bytes i 0 ≡ get_or text i 0 → ⊥)
-    → difference line met (drop i text) (drop i bytes) ≡ difference_at line met (get_or text i 0) (drop i bytes)
+    → read_error_from line met (drop i text) (drop i bytes) ≡ read_error_at line met (get_or text i 0) (drop i bytes)
 difference_here line met text bytes i h k other =
     let e : (get_or bytes i 0 == get_or text i 0) ≡ false = grind arith in
     difference_step line met text bytes i h k
     ∙ ap (λ (t : Bool). cond t
-    (difference (line_past line (get_or bytes i 0)) (past met (get_or bytes i 0)) (drop (i + 1) text)
+    (read_error_from (line_after_byte line (get_or bytes i 0)) (word_after_byte met (get_or bytes i 0)) (drop (i + 1) text)
     (drop (i + 1) bytes))
-    (difference_at line met (get_or text i 0) (get_or bytes i 0 ∷ drop (i + 1) bytes))) e
-    ∙ ap (difference_at line met (get_or text i 0)) (sym (drop_more bytes i 0 k))
+    (read_error_at line met (get_or text i 0) (get_or bytes i 0 ∷ drop (i + 1) bytes))) e
+    ∙ ap (read_error_at line met (get_or text i 0)) (sym (drop_more bytes i 0 k))
 
 pub difference_later : (line : ℕ) (met : FirstWord) (text bytes : List ℕ) (i : ℕ) → i < length text
     → i < length bytes → get_or bytes i 0 ≡ get_or text i 0
-    → difference line met (drop i text) (drop i bytes)
-    ≡ difference (line_past line (get_or bytes i 0)) (past met (get_or bytes i 0)) (drop (i + 1) text)
+    → read_error_from line met (drop i text) (drop i bytes)
+    ≡ read_error_from (line_after_byte line (get_or bytes i 0)) (word_after_byte met (get_or bytes i 0)) (drop (i + 1) text)
     (drop (i + 1) bytes)
 difference_later line met text bytes i h k same =
     let e : (get_or bytes i 0 == get_or text i 0) ≡ true = grind arith in
     difference_step line met text bytes i h k
     ∙ ap (λ (t : Bool). cond t
-    (difference (line_past line (get_or bytes i 0)) (past met (get_or bytes i 0)) (drop (i + 1) text)
+    (read_error_from (line_after_byte line (get_or bytes i 0)) (word_after_byte met (get_or bytes i 0)) (drop (i + 1) text)
     (drop (i + 1) bytes))
-    (difference_at line met (get_or text i 0) (get_or bytes i 0 ∷ drop (i + 1) bytes))) e
+    (read_error_at line met (get_or text i 0) (get_or bytes i 0 ∷ drop (i + 1) bytes))) e
 
-pub line_fed : (b line : ℕ) → b ≡ 10 → line_past line b ≡ line + 1
+pub line_fed : (b line : ℕ) → b ≡ 10 → line_after_byte line b ≡ line + 1
 line_fed b line is = let e : (b == 10) ≡ true = grind arith in ap (λ (t : Bool). cond t (line + 1) line) e
 
-pub line_same : (b line : ℕ) → (b ≡ 10 → ⊥) → line_past line b ≡ line
+pub line_same : (b line : ℕ) → (b ≡ 10 → ⊥) → line_after_byte line b ≡ line
 line_same b line other = let e : (b == 10) ≡ false = grind arith in ap (λ (t : Bool). cond t (line + 1) line) e
 
 -- ---- numbers of jobs

@@ -6,7 +6,7 @@ use Rattle.std.specs.Prelude.{codes, nat_le}
 use Rattle.std.proofs.lemmas.Bool.{and_parts}
 use Rattle.std.proofs.lemmas.Bool.Decides.{nat_tests}
 use Rattle.std.specs.Fmt.{decimal}
-use Rattle.rv_lists.specs.JobList.{is_name}
+use Rattle.rv_base.specs.Names.{is_name}
 use Rattle.rv_base.specs.Limits.{most_jobs}
 use Rattle.rv_report.specs.declared.row.Row.{Row}
 use Rattle.rv_report.specs.Report.{line, done_line}
@@ -14,9 +14,9 @@ use Rattle.rv_report.specs.declared.saved.Extent.{Extent}
 use Rattle.rv_report.specs.declared.saved.Extent.TheVariants.{Whole, Choice}
 use Rattle.rv_report.specs.declared.saved.Extent.TheVariants as extent
 use Rattle.rv_report.specs.declared.saved.Shard.{Shard}
-use Rattle.rv_report.specs.Said.{before, after, number_of, name_or_dash, shard_of, part_of, whole, over}
-use Rattle.rv_report.specs.Said.{between, with_line, place_of}
-use Rattle.rv_report.specs.Saved.{part_words, shard_words, last_line, is_shard, are_rising, are_stepped, fits}
+use Rattle.rv_report.specs.LenientReport.{text_before_byte, text_after_byte, decimal_number, name_or_dash, shard_of_text, extent_of_line, gathering_between_rows, with_stage_over}
+use Rattle.rv_report.specs.LenientReport.{at_job_or_last_line, with_line, place_of_byte}
+use Rattle.rv_report.specs.Saved.{part_words, shard_words, extent_line, is_valid_shard, are_rising, are_evenly_spaced, fits_numbers}
 use Rattle.rv_report.proofs.Pieces.{lacks, lacks-append, before_at, after_at}
 use Rattle.rv_report.proofs.Words.{lacks-decimal, number_of-decimal}
 use Rattle.rv_report.proofs.Spelled.{lacks-name, same_name}
@@ -33,8 +33,8 @@ HasNumbers extent.Whole = Unit {0}
 HasNumbers (extent.Choice jobs) = jobs ≤ most_jobs
 HasNumbers (extent.Shard s) = IsPart s
 
-pub is_part : (s : Shard) → is_shard s ≡ true → IsPart s
-unfolding is_shard
+pub is_part : (s : Shard) → is_valid_shard s ≡ true → IsPart s
+unfolding is_valid_shard
 is_part s h =
     let a = and_parts (nat_le 1 s.number) (nat_le s.number s.shards && (nat_le s.shards most_jobs
     && (nat_le s.jobs most_jobs && is_name s.stamp))) h in
@@ -47,13 +47,13 @@ is_part s h =
     let jobs : s.jobs ≤ most_jobs = grind (arith, nat_tests) in
     record { jobs = jobs; number = omega arith; shards = shards; stamp = d.1 }
 
-pub has_numbers : (e : Extent) (ns : List ℕ) → fits e ns ≡ true → HasNumbers e
-unfolding fits
-has_numbers extent.Whole ns h = tt
-has_numbers (extent.Choice jobs) ns h =
+pub row_has_word_numbers : (e : Extent) (ns : List ℕ) → fits_numbers e ns ≡ true → HasNumbers e
+unfolding fits_numbers
+row_has_word_numbers extent.Whole ns h = tt
+row_has_word_numbers (extent.Choice jobs) ns h =
     let first = (and_parts (nat_le jobs most_jobs) (are_rising 0 jobs ns) h).0 in grind (arith, nat_tests)
-has_numbers (extent.Shard s) ns h =
-    is_part s (and_parts (is_shard s) (are_stepped s.number s.shards s.jobs ns) h).0
+row_has_word_numbers (extent.Shard s) ns h =
+    is_part s (and_parts (is_valid_shard s) (are_evenly_spaced s.number s.shards s.jobs ns) h).0
 
 -- ---- the line without its line feed
 
@@ -62,8 +62,8 @@ last_words extent.Whole count = codes "done " ++ decimal count
 last_words (extent.Choice jobs) count = part_words count jobs
 last_words (extent.Shard s) count = part_words count s.jobs ++ shard_words s
 
-pub last_is_line : (e : Extent) (count : ℕ) → last_line e count ≡ line (last_words e count)
-unfolding last_line done_line
+pub last_is_line : (e : Extent) (count : ℕ) → extent_line e count ≡ line (last_words e count)
+unfolding extent_line done_line
 last_is_line extent.Whole count = refl
 last_is_line (extent.Choice jobs) count = refl
 last_is_line (extent.Shard s) count = refl
@@ -103,13 +103,13 @@ lacks-last (extent.Shard s) count h few =
 -- ---- what it says
 
 -- a byte that is not there
-place_of_none : (byte : ℕ) (xs : List ℕ) → lacks byte xs ≡ true → place_of byte xs ≡ length xs
-unfolding place_of
+place_of_none : (byte : ℕ) (xs : List ℕ) → lacks byte xs ≡ true → place_of_byte byte xs ≡ length xs
+unfolding place_of_byte
 place_of_none byte [] h = refl
 place_of_none byte (b ∷ bs) h =
     let parts = and_parts (not (b == byte)) (lacks byte bs) h in
     let other : (b == byte) ≡ false = grind arith in
-    ap (λ (t : Bool). cond t 0 (place_of byte bs + 1)) other
+    ap (λ (t : Bool). cond t 0 (place_of_byte byte bs + 1)) other
     ∙ ap (λ (n : ℕ). n + 1) (place_of_none byte bs parts.1) ∙ omega arith
 
 take_length : (xs : List ℕ) → take (length xs) xs ≡ xs
@@ -120,34 +120,34 @@ drop_past : (xs : List ℕ) → drop (suc (length xs)) xs ≡ []
 drop_past [] = refl
 drop_past (x ∷ xs) = drop_past xs
 
-before_none : (byte : ℕ) (xs : List ℕ) → lacks byte xs ≡ true → before byte xs ≡ xs
+before_none : (byte : ℕ) (xs : List ℕ) → lacks byte xs ≡ true → text_before_byte byte xs ≡ xs
 before_none byte xs h = ap (λ (n : ℕ). take n xs) (place_of_none byte xs h) ∙ take_length xs
 
-after_none : (byte : ℕ) (xs : List ℕ) → lacks byte xs ≡ true → after byte xs ≡ []
+after_none : (byte : ℕ) (xs : List ℕ) → lacks byte xs ≡ true → text_after_byte byte xs ≡ []
 after_none byte xs h =
     ap (λ (n : ℕ). drop n xs) (ap (λ (n : ℕ). n + 1) (place_of_none byte xs h) ∙ add-one (length xs)) ∙ drop_past xs
 
 -- the number of jobs and what follows it
 abbrev extent_from : List ℕ → List ℕ → Extent
 extent_from jobs shard =
-    cond (length shard == 0) (Choice (number_of jobs)) (shard_of (number_of jobs) shard)
+    cond (length shard == 0) (Choice (decimal_number jobs)) (shard_of_text (decimal_number jobs) shard)
 
 choice_regroup : (count jobs : List ℕ) → count ++ codes " of " ++ jobs ≡ count ++ 32 ∷ (codes "of " ++ jobs)
 choice_regroup count jobs = simp append_assoc
 
-choice_is : (count jobs : ℕ) → count < 2 ^ 32 → jobs ≤ most_jobs → part_of (part_words count jobs) ≡ Choice jobs
-unfolding part_of
+choice_is : (count jobs : ℕ) → count < 2 ^ 32 → jobs ≤ most_jobs → extent_of_line (part_words count jobs) ≡ Choice jobs
+unfolding extent_of_line
 choice_is count jobs few small =
     let js = decimal jobs in
     let rest = codes "of " ++ js in
     let plain : lacks 32 js ≡ true = lacks-decimal 32 jobs (omega arith) (omega arith) in
-    let from : List ℕ → Extent = λ t. extent_from (before 32 (drop 3 (after 32 t)))
-    (drop 6 (after 32 (drop 3 (after 32 t)))) in
+    let from : List ℕ → Extent = λ t. extent_from (text_before_byte 32 (drop 3 (text_after_byte 32 t)))
+    (drop 6 (text_after_byte 32 (drop 3 (text_after_byte 32 t)))) in
     ap from (choice_regroup (decimal count) js)
-    ∙ ap (λ (t : List ℕ). extent_from (before 32 (drop 3 t)) (drop 6 (after 32 (drop 3 t))))
+    ∙ ap (λ (t : List ℕ). extent_from (text_before_byte 32 (drop 3 t)) (drop 6 (text_after_byte 32 (drop 3 t))))
     (after_at 32 (decimal count) rest (lacks-decimal 32 count (omega arith) (omega arith)))
-    ∙ ap (λ (t : List ℕ). extent_from (before 32 js) (drop 6 t)) (after_none 32 js plain)
-    ∙ ap (λ (t : List ℕ). Choice (number_of t)) (before_none 32 js plain)
+    ∙ ap (λ (t : List ℕ). extent_from (text_before_byte 32 js) (drop 6 t)) (after_none 32 js plain)
+    ∙ ap (λ (t : List ℕ). Choice (decimal_number t)) (before_none 32 js plain)
     ∙ ap Choice (number_of-decimal jobs (omega arith))
 
 shard_regroup : (n jobs number shards stamp : List ℕ)
@@ -161,9 +161,9 @@ shard_made jobs number shards stamp =
     extent.Shard (record { jobs = jobs; number = number; shards = shards; stamp = name_or_dash stamp })
 
 shard_says : (jobs : ℕ) (s : Shard) → IsPart s
-    → shard_of jobs (decimal s.number ++ 47 ∷ (decimal s.shards ++ 32 ∷ (codes "stamp " ++ s.stamp)))
+    → shard_of_text jobs (decimal s.number ++ 47 ∷ (decimal s.shards ++ 32 ∷ (codes "stamp " ++ s.stamp)))
     ≡ extent.Shard (record s { jobs = jobs })
-unfolding shard_of
+unfolding shard_of_text
 shard_says jobs s is =
     let number = decimal s.number in
     let shards = decimal s.shards in
@@ -174,14 +174,14 @@ shard_says jobs s is =
     let hs = is.shards in
     let plain : lacks 47 number ≡ true = lacks-decimal 47 s.number (omega arith) (omega arith) in
     let spaced : lacks 32 shards ≡ true = lacks-decimal 32 s.shards (omega arith) (omega arith) in
-    ap (λ (t : List ℕ). shard_made jobs (number_of (before 47 t2)) (number_of (before 32 t)) (drop 6 (after 32 t)))
+    ap (λ (t : List ℕ). shard_made jobs (decimal_number (text_before_byte 47 t2)) (decimal_number (text_before_byte 32 t)) (drop 6 (text_after_byte 32 t)))
     (after_at 47 number t3 plain)
-    ∙ ap (λ (t : List ℕ). shard_made jobs (number_of (before 47 t2)) (number_of (before 32 t3)) (drop 6 t))
+    ∙ ap (λ (t : List ℕ). shard_made jobs (decimal_number (text_before_byte 47 t2)) (decimal_number (text_before_byte 32 t3)) (drop 6 t))
     (after_at 32 shards t4 spaced)
-    ∙ ap (λ (t : List ℕ). shard_made jobs (number_of t) (number_of (before 32 t3)) s.stamp)
+    ∙ ap (λ (t : List ℕ). shard_made jobs (decimal_number t) (decimal_number (text_before_byte 32 t3)) s.stamp)
     (before_at 47 number t3 plain)
-    ∙ ap (λ (t : List ℕ). shard_made jobs (number_of number) (number_of t) s.stamp) (before_at 32 shards t4 spaced)
-    ∙ ap (λ (t : ℕ). shard_made jobs t (number_of shards) s.stamp) (number_of-decimal s.number (omega arith))
+    ∙ ap (λ (t : List ℕ). shard_made jobs (decimal_number number) (decimal_number t) s.stamp) (before_at 32 shards t4 spaced)
+    ∙ ap (λ (t : ℕ). shard_made jobs t (decimal_number shards) s.stamp) (number_of-decimal s.number (omega arith))
     ∙ ap (λ (t : ℕ). shard_made jobs s.number t s.stamp) (number_of-decimal s.shards (omega arith))
     ∙ ap (λ (t : List ℕ). extent.Shard (record { jobs = jobs; number = s.number; shards = s.shards; stamp = t }))
     (same_name s.stamp is.stamp)
@@ -191,8 +191,8 @@ longer [] b ys = grind arith
 longer (x ∷ xs) b ys = grind arith
 
 shard_is : (count : ℕ) (s : Shard) → IsPart s → count < 2 ^ 32
-    → part_of (part_words count s.jobs ++ shard_words s) ≡ extent.Shard s
-unfolding part_of
+    → extent_of_line (part_words count s.jobs ++ shard_words s) ≡ extent.Shard s
+unfolding extent_of_line
 shard_is count s is few =
     let n = decimal count in
     let jobs = decimal s.jobs in
@@ -200,30 +200,30 @@ shard_is count s is few =
     let t1 = jobs ++ 32 ∷ (codes "shard " ++ t2) in
     let hj = is.jobs in
     let plain : lacks 32 jobs ≡ true = lacks-decimal 32 s.jobs (omega arith) (omega arith) in
-    let from : List ℕ → Extent = λ t. extent_from (before 32 (drop 3 (after 32 t)))
-    (drop 6 (after 32 (drop 3 (after 32 t)))) in
+    let from : List ℕ → Extent = λ t. extent_from (text_before_byte 32 (drop 3 (text_after_byte 32 t)))
+    (drop 6 (text_after_byte 32 (drop 3 (text_after_byte 32 t)))) in
     ap from (shard_regroup n jobs (decimal s.number) (decimal s.shards) s.stamp)
-    ∙ ap (λ (t : List ℕ). extent_from (before 32 (drop 3 t)) (drop 6 (after 32 (drop 3 t))))
+    ∙ ap (λ (t : List ℕ). extent_from (text_before_byte 32 (drop 3 t)) (drop 6 (text_after_byte 32 (drop 3 t))))
     (after_at 32 n (codes "of " ++ t1) (lacks-decimal 32 count (omega arith) (omega arith)))
-    ∙ ap (λ (t : List ℕ). extent_from (before 32 t1) (drop 6 t)) (after_at 32 jobs (codes "shard " ++ t2) plain)
+    ∙ ap (λ (t : List ℕ). extent_from (text_before_byte 32 t1) (drop 6 t)) (after_at 32 jobs (codes "shard " ++ t2) plain)
     ∙ ap (λ (t : List ℕ). extent_from t t2) (before_at 32 jobs (codes "shard " ++ t2) plain)
-    ∙ ap (λ (b : Bool). cond b (Choice (number_of jobs)) (shard_of (number_of jobs) t2))
+    ∙ ap (λ (b : Bool). cond b (Choice (decimal_number jobs)) (shard_of_text (decimal_number jobs) t2))
     (longer (decimal s.number) 47 (decimal s.shards ++ 32 ∷ (codes "stamp " ++ s.stamp)))
-    ∙ ap (λ (k : ℕ). shard_of k t2) (number_of-decimal s.jobs (omega arith))
+    ∙ ap (λ (k : ℕ). shard_of_text k t2) (number_of-decimal s.jobs (omega arith))
     ∙ shard_says s.jobs s is
 
-part_says : (text : List ℕ) (numbers : List ℕ) (rows : List Row) (e : Extent) → part_of (codes "part " ++ text) ≡ e
-    → with_line (codes "part " ++ text) (whole numbers rows Whole) ≡ over (whole numbers rows e)
-unfolding with_line between whole
-part_says text numbers rows e is = ap (λ (x : Extent). over (whole numbers rows x)) is
+part_says : (text : List ℕ) (numbers : List ℕ) (rows : List Row) (e : Extent) → extent_of_line (codes "part " ++ text) ≡ e
+    → with_line (codes "part " ++ text) (gathering_between_rows numbers rows Whole) ≡ with_stage_over (gathering_between_rows numbers rows e)
+unfolding with_line at_job_or_last_line gathering_between_rows
+part_says text numbers rows e is = ap (λ (x : Extent). with_stage_over (gathering_between_rows numbers rows x)) is
 
 done_says : (text numbers : List ℕ) (rows : List Row)
-    → with_line (codes "done " ++ text) (whole numbers rows Whole) ≡ over (whole numbers rows Whole)
-unfolding with_line between whole
+    → with_line (codes "done " ++ text) (gathering_between_rows numbers rows Whole) ≡ with_stage_over (gathering_between_rows numbers rows Whole)
+unfolding with_line at_job_or_last_line gathering_between_rows
 done_says text numbers rows = refl
 
 pub last_says : (e : Extent) (count : ℕ) (numbers : List ℕ) (rows : List Row) → HasNumbers e → count < 2 ^ 32
-    → with_line (last_words e count) (whole numbers rows Whole) ≡ over (whole numbers rows e)
+    → with_line (last_words e count) (gathering_between_rows numbers rows Whole) ≡ with_stage_over (gathering_between_rows numbers rows e)
 last_says extent.Whole count numbers rows h few = done_says (decimal count) numbers rows
 last_says (extent.Choice jobs) count numbers rows h few =
     part_says (decimal count ++ codes " of " ++ decimal jobs) numbers rows (Choice jobs) (choice_is count jobs few h)

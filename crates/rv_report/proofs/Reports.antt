@@ -6,21 +6,21 @@ use Rattle.std.specs.Prelude.{nat_le, nat_lt, is_some}
 use Rattle.std.specs.List.{AllByRecursion}
 use Rattle.std.proofs.lemmas.Bool.{and_parts}
 use Rattle.std.proofs.lemmas.Bool.Decides.{nat_tests}
-use Rattle.rv_lists.specs.JobList.{place_in}
+use Rattle.rv_base.specs.Names.{place_in}
 use Rattle.rv_base.specs.Limits.{most_jobs}
 use Rattle.rv_report.specs.declared.row.Row.{Row}
 use Rattle.rv_report.specs.Report.{line, row_text}
 use Rattle.rv_report.specs.declared.saved.Extent.{Extent}
 use Rattle.rv_report.specs.declared.saved.Extent.TheVariants.{Whole, Choice}
 use Rattle.rv_report.specs.declared.saved.SavedReport.{SavedReport}
-use Rattle.rv_report.specs.Said.{lines, Gathered, whole, over, with_line, with_lines, finished, gathered}
-use Rattle.rv_report.specs.Said.{said, rising_count, new_count, fitting}
-use Rattle.rv_report.specs.Saved.{IsRow, IsListed, IsSaved, are_rising, are_new, fits, names_of, numbered_text}
+use Rattle.rv_report.specs.LenientReport.{lines, Gathered, gathering_between_rows, with_stage_over, with_line, with_lines, with_unfinished_row, gather_rows}
+use Rattle.rv_report.specs.LenientReport.{lenient_report, rising_count, count_before_repeated_name, extent_or_choice}
+use Rattle.rv_report.specs.Saved.{IsRow, IsListed, IsSaved, are_rising, are_new, fits_numbers, row_names, numbered_text}
 use Rattle.rv_report.specs.Saved.{saved_text}
 use Rattle.rv_report.proofs.Cut.{few_numbers, length-names}
 use Rattle.rv_report.proofs.Pieces.{lacks}
 use Rattle.rv_report.proofs.Spelled.{says, says_line, row_says}
-use Rattle.rv_report.proofs.Parts.{has_numbers, last_words, last_is_line, last_says, lacks-last, HasNumbers}
+use Rattle.rv_report.proofs.Parts.{row_has_word_numbers, last_words, last_is_line, last_says, lacks-last, HasNumbers}
 
 rising_parts : (before last n : ℕ) (ns : List ℕ) → are_rising before last (n ∷ ns) ≡ true
     → (before < n) × (n ≤ last) × (are_rising n last ns ≡ true)
@@ -33,26 +33,26 @@ rising_parts before last n ns h =
 pub rows_say : (numbers : List ℕ) (rows : List Row) (rest earlier : List ℕ) (done : List Row) (e : Extent) (before : ℕ)
     → AllByRecursion IsRow rows → length numbers ≡ length rows → are_rising before most_jobs numbers ≡ true
     → length done + length rows ≤ most_jobs
-    → says (numbered_text numbers rows ++ rest) (whole earlier done e)
-    ≡ says rest (whole (earlier ++ numbers) (done ++ rows) e)
+    → says (numbered_text numbers rows ++ rest) (gathering_between_rows earlier done e)
+    ≡ says rest (gathering_between_rows (earlier ++ numbers) (done ++ rows) e)
 unfolding numbered_text
 rows_say [] [] rest earlier done e before each counted rising few =
-    ap (λ (ns : List ℕ). says rest (whole ns done e)) (sym (append-nil earlier))
-    ∙ ap (λ (t : List Row). says rest (whole (earlier ++ []) t e)) (sym (append-nil done))
+    ap (λ (ns : List ℕ). says rest (gathering_between_rows ns done e)) (sym (append-nil earlier))
+    ∙ ap (λ (t : List Row). says rest (gathering_between_rows (earlier ++ []) t e)) (sym (append-nil done))
 rows_say [] (row ∷ rows) rest earlier done e before each counted rising few = absurd (omega arith)
 rows_say (n ∷ ns) [] rest earlier done e before each counted rising few = absurd (omega arith)
 rows_say (n ∷ ns) (row ∷ rows) rest earlier done e before each counted rising few =
     let parts = rising_parts before most_jobs n ns rising in
     let low = parts.0 in
     let high = parts.1 in
-    ap (λ (t : List ℕ). says t (whole earlier done e))
+    ap (λ (t : List ℕ). says t (gathering_between_rows earlier done e))
     (append_assoc (row_text (n - 1) row) (numbered_text ns rows) rest)
     ∙ row_says (n - 1) n row (numbered_text ns rows ++ rest) earlier done e each.0 (omega arith) (omega arith)
     (omega arith)
     ∙ rows_say ns rows rest (earlier ++ n ∷ []) (done ++ row ∷ []) e n each.1 (omega arith) parts.2
     (let longer = length-append done (row ∷ []) in omega arith)
-    ∙ ap (λ (t : List ℕ). says rest (whole t ((done ++ row ∷ []) ++ rows) e)) (append_assoc earlier (n ∷ []) ns)
-    ∙ ap (λ (t : List Row). says rest (whole (earlier ++ n ∷ ns) t e)) (append_assoc done (row ∷ []) rows)
+    ∙ ap (λ (t : List ℕ). says rest (gathering_between_rows t ((done ++ row ∷ []) ++ rows) e)) (append_assoc earlier (n ∷ []) ns)
+    ∙ ap (λ (t : List Row). says rest (gathering_between_rows (earlier ++ n ∷ ns) t e)) (append_assoc done (row ∷ []) rows)
 
 -- the last line of all
 pub last_line_says : (xs : List ℕ) (g : Gathered) → lacks 10 xs ≡ true → says (line xs) g ≡ with_line xs g
@@ -61,20 +61,20 @@ last_line_says xs g h =
     ap (λ (t : List ℕ). says t g) (sym (append-nil (line xs))) ∙ says_line xs [] g h
 
 finished_all : (numbers : List ℕ) (rows : List Row) (e : Extent)
-    → finished (over (whole numbers rows e)) ≡ over (whole numbers rows e)
-unfolding finished whole
+    → with_unfinished_row (with_stage_over (gathering_between_rows numbers rows e)) ≡ with_stage_over (gathering_between_rows numbers rows e)
+unfolding with_unfinished_row gathering_between_rows
 finished_all numbers rows e = refl
 
 gathered_all : (r : SavedReport) → IsSaved r → HasNumbers r.extent → length r.rows ≤ most_jobs
-    → gathered (saved_text r) ≡ over (whole r.numbers r.rows r.extent)
-unfolding gathered saved_text
+    → gather_rows (saved_text r) ≡ with_stage_over (gathering_between_rows r.numbers r.rows r.extent)
+unfolding gather_rows saved_text
 gathered_all r h known few =
     let count = length r.rows in
-    ap (λ (t : List ℕ). finished (says (numbered_text r.numbers r.rows ++ t) (whole [] [] Whole)))
+    ap (λ (t : List ℕ). with_unfinished_row (says (numbered_text r.numbers r.rows ++ t) (gathering_between_rows [] [] Whole)))
     (last_is_line r.extent count)
-    ∙ ap finished (rows_say r.numbers r.rows (line (last_words r.extent count)) [] [] Whole 0 h.rows h.listed.counted
+    ∙ ap with_unfinished_row (rows_say r.numbers r.rows (line (last_words r.extent count)) [] [] Whole 0 h.rows h.listed.counted
     h.listed.rising (omega arith)
-    ∙ last_line_says (last_words r.extent count) (whole r.numbers r.rows Whole)
+    ∙ last_line_says (last_words r.extent count) (gathering_between_rows r.numbers r.rows Whole)
     (lacks-last r.extent count known (omega arith))
     ∙ last_says r.extent count r.numbers r.rows known (omega arith))
     ∙ finished_all r.numbers r.rows r.extent
@@ -95,44 +95,44 @@ not_not : (t : Bool) → not t ≡ true → t ≡ false
 not_not true h = sym h
 not_not false h = refl
 
-new_all : (earlier texts : List (List ℕ)) → are_new earlier texts ≡ true → new_count earlier texts ≡ length texts
-unfolding new_count are_new
+new_all : (earlier texts : List (List ℕ)) → are_new earlier texts ≡ true → count_before_repeated_name earlier texts ≡ length texts
+unfolding count_before_repeated_name are_new
 new_all earlier [] h = refl
 new_all earlier (t ∷ ts) h =
     let first = and_parts (not (is_some (place_in earlier t))) (are_new (earlier ++ t ∷ []) ts) h in
-    ap (λ (b : Bool). cond b 0 (new_count (earlier ++ t ∷ []) ts + 1)) (not_not (is_some (place_in earlier t)) first.0)
+    ap (λ (b : Bool). cond b 0 (count_before_repeated_name (earlier ++ t ∷ []) ts + 1)) (not_not (is_some (place_in earlier t)) first.0)
     ∙ ap (λ (k : ℕ). k + 1) (new_all (earlier ++ t ∷ []) ts first.1) ∙ omega arith
 
-fitting_same : (e : Extent) (ns : List ℕ) → fits e ns ≡ true → fitting e ns ≡ e
-unfolding fitting
+fitting_same : (e : Extent) (ns : List ℕ) → fits_numbers e ns ≡ true → extent_or_choice e ns ≡ e
+unfolding extent_or_choice
 fitting_same e ns h = ap (λ (t : Bool). cond t e (Choice most_jobs)) h
 
 -- what is kept of rows that were gathered
 abbrev kept : ℕ → List Row → Gathered → SavedReport
 kept count rows g = record {
-  extent = fitting g.extent (take count g.numbers);
+  extent = extent_or_choice g.extent (take count g.numbers);
   numbers = take count g.numbers;
   rows = take count rows;
 }
 
 abbrev said_of : List Row → Gathered → SavedReport
-said_of rising g = kept (new_count [] (names_of rising)) rising g
+said_of rising g = kept (count_before_repeated_name [] (row_names rising)) rising g
 
 kept_all : (r : SavedReport) (count : ℕ) → IsListed r → count ≡ length r.rows
-    → kept count r.rows (over (whole r.numbers r.rows r.extent)) ≡ r
-unfolding whole
+    → kept count r.rows (with_stage_over (gathering_between_rows r.numbers r.rows r.extent)) ≡ r
+unfolding gathering_between_rows
 kept_all r count h is =
     let ns : take count r.numbers ≡ r.numbers = let c = h.counted in take_all count r.numbers (omega arith) in
     let rows : take count r.rows ≡ r.rows = take_all count r.rows (omega arith) in
-    ap (λ (t : List ℕ). record { extent = fitting r.extent t; numbers = t; rows = take count r.rows }) ns
-    ∙ ap (λ (t : List Row). record { extent = fitting r.extent r.numbers; numbers = r.numbers; rows = t }) rows
+    ap (λ (t : List ℕ). record { extent = extent_or_choice r.extent t; numbers = t; rows = take count r.rows }) ns
+    ∙ ap (λ (t : List Row). record { extent = extent_or_choice r.extent r.numbers; numbers = r.numbers; rows = t }) rows
     ∙ ap (λ (e : Extent). record { extent = e; numbers = r.numbers; rows = r.rows })
     (fitting_same r.extent r.numbers h.fits)
 
 -- a report says itself
 pub said-saved : (r : SavedReport) → IsSaved r → HasNumbers r.extent → length r.rows ≤ most_jobs
-    → said (saved_text r) ≡ r
-unfolding said whole
+    → lenient_report (saved_text r) ≡ r
+unfolding lenient_report gathering_between_rows
 said-saved r h known few =
     let listed = h.listed in
     let counted = listed.counted in
@@ -140,16 +140,16 @@ said-saved r h known few =
     let rising : take (rising_count 0 r.numbers) r.rows ≡ r.rows =
     take_all (rising_count 0 r.numbers) r.rows (omega arith) in
     ap (λ (g : Gathered). said_of (take (rising_count 0 g.numbers) g.rows) g) (gathered_all r h known few)
-    ∙ ap (λ (rows : List Row). said_of rows (over (whole r.numbers r.rows r.extent))) rising
-    ∙ kept_all r (new_count [] (names_of r.rows)) listed
-    (new_all [] (names_of r.rows) listed.new ∙ length-names r.rows)
+    ∙ ap (λ (rows : List Row). said_of rows (with_stage_over (gathering_between_rows r.numbers r.rows r.extent))) rising
+    ∙ kept_all r (count_before_repeated_name [] (row_names r.rows)) listed
+    (new_all [] (row_names r.rows) listed.new ∙ length-names r.rows)
 
 -- a report that can be says itself
-pub says_itself : (r : SavedReport) → IsSaved r → said (saved_text r) ≡ r
+pub says_itself : (r : SavedReport) → IsSaved r → lenient_report (saved_text r) ≡ r
 says_itself r h =
     let counted = h.listed.counted in
     let few = few_numbers r.numbers h.listed.rising in
-    said-saved r h (has_numbers r.extent r.numbers h.listed.fits) (omega arith)
+    said-saved r h (row_has_word_numbers r.extent r.numbers h.listed.fits) (omega arith)
 
 pub same_reports : (r other : SavedReport) → IsSaved r → IsSaved other → saved_text r ≡ saved_text other → r ≡ other
-same_reports r other h k e = sym (says_itself r h) ∙ ap said e ∙ says_itself other k
+same_reports r other h k e = sym (says_itself r h) ∙ ap lenient_report e ∙ says_itself other k

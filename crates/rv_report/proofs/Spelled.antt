@@ -8,7 +8,8 @@ use Rattle.std.specs.List.{flat_map, list_all, AllByRecursion}
 use Rattle.std.specs.Fmt.{decimal}
 use Rattle.hex.specs.Hex.{IsBytes, encode_lower, encode_with, lower_digits}
 use Rattle.rv_elf.specs.declared.error.ImageError.TheVariants as image
-use Rattle.rv_lists.specs.JobList.{is_name, is_name_byte, is_within}
+use Rattle.rv_base.specs.Names.{is_name, is_name_byte}
+use Rattle.rv_base.specs.Limits.{is_within}
 use Rattle.rv_machine.specs.declared.ending.FaultKind.{FaultKind}
 use Rattle.rv_machine.specs.Faults.{fault_name, fault_named}
 use Rattle.rv_machine.proofs.Public.{every_fault, fault_named-name}
@@ -21,13 +22,13 @@ use Rattle.rv_report.specs.declared.row.Verdict.{Verdict}
 use Rattle.rv_report.specs.declared.row.Verdict.TheVariants as verdict
 use Rattle.rv_report.specs.Report.{line, word_line, refusal_name, refusal_named, verdict_name, end_line}
 use Rattle.rv_text.specs.Words.{word_digits}
-use Rattle.rv_report.specs.Report.{or_dash, console_line, signature_lines, row_text}
+use Rattle.rv_report.specs.Report.{dash_if_empty, console_line, signature_lines, row_text}
 use Rattle.rv_report.specs.declared.gathering.Stage.TheVariants as stage
 use Rattle.rv_report.specs.declared.saved.Extent.{Extent}
-use Rattle.rv_report.specs.Said.{lines, before, after, number_of, word_of, all_hex, bytes_of, name_or_dash}
-use Rattle.rv_report.specs.Said.{job_of, name_of, fault_or_first, refusal_or_first, fault_of, ending_of, verdict_of}
-use Rattle.rv_report.specs.Said.{number_on, Gathered, whole, closed, over, next_row, between, at_ending}
-use Rattle.rv_report.specs.Said.{at_steps, at_console, at_signature, at_words, with_line, with_lines}
+use Rattle.rv_report.specs.LenientReport.{lines, text_before_byte, text_after_byte, decimal_number, hex_word, all_hex, hex_bytes, name_or_dash}
+use Rattle.rv_report.specs.LenientReport.{job_number_of_line, job_name_of_line, fault_or_first, refusal_or_first, fault_end_of_text, row_end_of_line, verdict_of_line}
+use Rattle.rv_report.specs.LenientReport.{decimal_number_on, Gathered, gathering_between_rows, with_closed_row, with_stage_over, row_so_far, at_job_or_last_line, at_ending}
+use Rattle.rv_report.specs.LenientReport.{at_steps, at_console, at_signature, at_words, with_line, with_lines}
 use Rattle.rv_base.specs.Limits.{most_jobs}
 use Rattle.std.proofs.lemmas.Bool.Decides.{nat_tests}
 use Rattle.rv_report.specs.Saved.{most_words, IsWord, IsEnd, AreWords, IsRow}
@@ -142,30 +143,30 @@ pub same_name : (name : List ℕ) → is_name name ≡ true → name_or_dash nam
 same_name name h = ap (λ (t : Bool). cond t name (codes "-")) h
 
 job_name : (n : ℕ) (name : List ℕ) → n < 2 ^ 64 → is_name name ≡ true
-    → name_of (codes "job " ++ decimal n ++ codes " " ++ name) ≡ name
-unfolding name_of
+    → job_name_of_line (codes "job " ++ decimal n ++ codes " " ++ name) ≡ name
+unfolding job_name_of_line
 job_name n name h is =
-    ap (λ (text : List ℕ). name_or_dash (after 32 text)) (append_assoc (decimal n) (codes " ") name)
+    ap (λ (text : List ℕ). name_or_dash (text_after_byte 32 text)) (append_assoc (decimal n) (codes " ") name)
     ∙ ap name_or_dash (after_at 32 (decimal n) name (lacks-decimal 32 n (omega arith) h)) ∙ same_name name is
 
-job_number : (n : ℕ) (name : List ℕ) → n < 2 ^ 32 → job_of (codes "job " ++ decimal n ++ codes " " ++ name) ≡ n
+job_number : (n : ℕ) (name : List ℕ) → n < 2 ^ 32 → job_number_of_line (codes "job " ++ decimal n ++ codes " " ++ name) ≡ n
 job_number n name h =
-    ap (λ (text : List ℕ). number_of (before 32 text)) (append_assoc (decimal n) (codes " ") name)
-    ∙ ap number_of (before_at 32 (decimal n) name (lacks-decimal 32 n (omega arith) (omega arith)))
+    ap (λ (text : List ℕ). decimal_number (text_before_byte 32 text)) (append_assoc (decimal n) (codes " ") name)
+    ∙ ap decimal_number (before_at 32 (decimal n) name (lacks-decimal 32 n (omega arith) (omega arith)))
     ∙ number_of-decimal n h
 
 job_says : (n : ℕ) (name : List ℕ) (g : Gathered) → n < 2 ^ 32 → is_name name ≡ true → length g.rows < most_jobs
     → with_line (codes "job " ++ decimal n ++ codes " " ++ name) (record g { stage = stage.Between })
     ≡ record g { number = n; name = name; begun = true; stage = stage.Ending }
-unfolding with_line between
+unfolding with_line at_job_or_last_line
 job_says n name g h is few =
     let line = codes "job " ++ decimal n ++ codes " " ++ name in
     let room : nat_lt (length g.rows) most_jobs ≡ true = grind (arith, nat_tests) in
     ap (λ (t : Bool). cond t
-    (record g { number = job_of line; name = name_of line; begun = true; stage = stage.Ending }) (over g)) room
+    (record g { number = job_number_of_line line; name = job_name_of_line line; begun = true; stage = stage.Ending }) (with_stage_over g)) room
     ∙ ap (λ (t : ℕ). record g {
       number = t;
-      name = name_of (codes "job " ++ decimal n ++ codes " " ++ name);
+      name = job_name_of_line (codes "job " ++ decimal n ++ codes " " ++ name);
       begun = true;
       stage = stage.Ending;
     }) (job_number n name h)
@@ -223,29 +224,29 @@ unfolding word_digits encode_with
 second_word pc value = refl
 
 fault_says : (kind : FaultKind) (pc value : ℕ) → pc < 2 ^ 32 → value < 2 ^ 32
-    → fault_of (fault_name kind ++ codes " pc=" ++ word_digits pc ++ codes " value=" ++ word_digits value)
+    → fault_end_of_text (fault_name kind ++ codes " pc=" ++ word_digits pc ++ codes " value=" ++ word_digits value)
     ≡ ending.Fault kind pc value
-unfolding fault_of
+unfolding fault_end_of_text
 fault_says kind pc value hp hv =
     let name = fault_name kind in
     let plain = (and_parts (lacks 10 name) (lacks 32 name) (lacks-fault_name kind)).1 in
     let words = two_words pc value in
-    ap fault_of (fault_regroup name (word_digits pc) (word_digits value))
+    ap fault_end_of_text (fault_regroup name (word_digits pc) (word_digits value))
     ∙ ap (λ (t : List ℕ). ending.Fault (fault_or_first (fault_named t))
-    (word_of (take 8 (drop 3 (after 32 (name ++ 32 ∷ words))))) (word_of (drop 18 (after 32 (name ++ 32 ∷ words)))))
+    (hex_word (take 8 (drop 3 (text_after_byte 32 (name ++ 32 ∷ words))))) (hex_word (drop 18 (text_after_byte 32 (name ++ 32 ∷ words)))))
     (before_at 32 name words plain)
-    ∙ ap (λ (t : List ℕ). ending.Fault (fault_or_first (fault_named name)) (word_of (take 8 (drop 3 t)))
-    (word_of (drop 18 t))) (after_at 32 name words plain)
-    ∙ ap (λ (k : Option FaultKind). ending.Fault (fault_or_first k) (word_of (take 8 (drop 3 words)))
-    (word_of (drop 18 words))) (fault_named-name kind)
-    ∙ ap (λ (w : List ℕ). ending.Fault kind (word_of w) (word_of (drop 18 words))) (first_word pc value)
-    ∙ ap (λ (w : List ℕ). ending.Fault kind (word_of (word_digits pc)) (word_of w)) (second_word pc value)
-    ∙ ap (λ (w : ℕ). ending.Fault kind w (word_of (word_digits value))) (word_of-digits pc hp)
+    ∙ ap (λ (t : List ℕ). ending.Fault (fault_or_first (fault_named name)) (hex_word (take 8 (drop 3 t)))
+    (hex_word (drop 18 t))) (after_at 32 name words plain)
+    ∙ ap (λ (k : Option FaultKind). ending.Fault (fault_or_first k) (hex_word (take 8 (drop 3 words)))
+    (hex_word (drop 18 words))) (fault_named-name kind)
+    ∙ ap (λ (w : List ℕ). ending.Fault kind (hex_word w) (hex_word (drop 18 words))) (first_word pc value)
+    ∙ ap (λ (w : List ℕ). ending.Fault kind (hex_word (word_digits pc)) (hex_word w)) (second_word pc value)
+    ∙ ap (λ (w : ℕ). ending.Fault kind w (hex_word (word_digits value))) (word_of-digits pc hp)
     ∙ ap (λ (w : ℕ). ending.Fault kind pc w) (word_of-digits value hv)
 
 end_says : (e : RowEnd) (g : Gathered) → IsEnd e → with_line (end_words e) (record g { stage = stage.Ending })
     ≡ record g { ending = e; stage = stage.Steps }
-unfolding with_line at_ending ending_of
+unfolding with_line at_ending row_end_of_line
 end_says (ending.Exit code) g h = ap (λ (n : ℕ). record g { ending = ending.Exit n; stage = stage.Steps })
     (number_of-decimal code h)
 end_says (ending.Fault kind pc value) g h = ap (λ (e : RowEnd). record g { ending = e; stage = stage.Steps })
@@ -260,32 +261,32 @@ end_says (ending.Refused why) g h =
 not_empty : (n : ℕ) → (suc n == 0) ≡ false
 not_empty n = grind arith
 
-no_dash : (b : ℕ) (bs : List ℕ) → or_dash (b ∷ bs) ≡ b ∷ bs
+no_dash : (b : ℕ) (bs : List ℕ) → dash_if_empty (b ∷ bs) ≡ b ∷ bs
 no_dash b bs = ap (λ (t : Bool). cond t (codes "-") (b ∷ bs)) (not_empty (length bs))
 
-dash_of_encode : (b : ℕ) (bs : List ℕ) → or_dash (encode_lower (b ∷ bs)) ≡ encode_lower (b ∷ bs)
+dash_of_encode : (b : ℕ) (bs : List ℕ) → dash_if_empty (encode_lower (b ∷ bs)) ≡ encode_lower (b ∷ bs)
 unfolding encode_with
 dash_of_encode b bs = no_dash (slice_index lower_digits (b / 16)) (slice_index lower_digits (b % 16) ∷ encode_lower bs)
 
-bytes_of-shown : (bytes : List ℕ) → IsBytes bytes → bytes_of (or_dash (encode_lower bytes)) ≡ bytes
-unfolding bytes_of encode_with
+bytes_of-shown : (bytes : List ℕ) → IsBytes bytes → hex_bytes (dash_if_empty (encode_lower bytes)) ≡ bytes
+unfolding hex_bytes encode_with
 bytes_of-shown [] h = refl
-bytes_of-shown (b ∷ bs) h = ap bytes_of (dash_of_encode b bs) ∙ bytes_of-encode (b ∷ bs) h
+bytes_of-shown (b ∷ bs) h = ap hex_bytes (dash_of_encode b bs) ∙ bytes_of-encode (b ∷ bs) h
 
-lacks-shown : (bytes : List ℕ) → IsBytes bytes → lacks 10 (or_dash (encode_lower bytes)) ≡ true
+lacks-shown : (bytes : List ℕ) → IsBytes bytes → lacks 10 (dash_if_empty (encode_lower bytes)) ≡ true
 unfolding encode_with
 lacks-shown [] h = refl
 lacks-shown (b ∷ bs) h = ap (lacks 10) (dash_of_encode b bs) ∙ lacks-encode (b ∷ bs) h
 
 console_text_says : (text : List ℕ) (g : Gathered) → with_line (codes "console " ++ text)
-    (record g { stage = stage.Console }) ≡ record g { console = bytes_of text; stage = stage.Signature }
+    (record g { stage = stage.Console }) ≡ record g { console = hex_bytes text; stage = stage.Signature }
 unfolding with_line at_console
 console_text_says text g = refl
 
 console_says : (bytes : List ℕ) (g : Gathered) → IsBytes bytes
-    → with_line (codes "console " ++ or_dash (encode_lower bytes)) (record g { stage = stage.Console })
+    → with_line (codes "console " ++ dash_if_empty (encode_lower bytes)) (record g { stage = stage.Console })
     ≡ record g { console = bytes; stage = stage.Signature }
-console_says bytes g h = console_text_says (or_dash (encode_lower bytes)) g
+console_says bytes g h = console_text_says (dash_if_empty (encode_lower bytes)) g
     ∙ ap (λ (t : List ℕ). record g { console = t; stage = stage.Signature }) (bytes_of-shown bytes h)
 
 -- ---- the signature's lines
@@ -294,8 +295,8 @@ console_says bytes g h = console_text_says (or_dash (encode_lower bytes)) g
 abbrev no_word : List ℕ → Gathered → Gathered
 no_word line g =
     if (slice_index line 0 == 118) && (length g.words == g.count) then
-    closed (verdict_of line) (record g { stage = stage.Words })
-    else over g
+    with_closed_row (verdict_of_line line) (record g { stage = stage.Words })
+    else with_stage_over g
 
 word_says : (w : ℕ) (g : Gathered) → w < 2 ^ 32 → length g.words < g.count
     → with_line (word_digits w) (record g { stage = stage.Words })
@@ -304,9 +305,9 @@ unfolding with_line at_words
 word_says w g h more =
     let room : nat_lt (length g.words) g.count ≡ true = grind arith in
     ap (λ (t : Bool). cond (t && nat_lt (length g.words) g.count)
-    (record g { words = g.words ++ word_of (word_digits w) ∷ []; stage = stage.Words }) (no_word (word_digits w) g))
+    (record g { words = g.words ++ hex_word (word_digits w) ∷ []; stage = stage.Words }) (no_word (word_digits w) g))
     (is_word-digits w)
-    ∙ ap (λ (t : Bool). cond t (record g { words = g.words ++ word_of (word_digits w) ∷ []; stage = stage.Words })
+    ∙ ap (λ (t : Bool). cond t (record g { words = g.words ++ hex_word (word_digits w) ∷ []; stage = stage.Words })
     (no_word (word_digits w) g)) room
     ∙ ap (λ (v : ℕ). record g { words = g.words ++ v ∷ []; stage = stage.Words }) (word_of-digits w h)
 
@@ -328,16 +329,16 @@ abbrev words_or_nil : Option (List ℕ) → List ℕ
 words_or_nil None = []
 words_or_nil (Some words) = words
 
-signature_text_says : (text : List ℕ) (g : Gathered) → nat_le (number_of text) most_words ≡ true
+signature_text_says : (text : List ℕ) (g : Gathered) → nat_le (decimal_number text) most_words ≡ true
     → with_line (codes "signature " ++ text) (record g { stage = stage.Signature })
-    ≡ record g { signed = not (slice_index text 0 == 45); count = number_of text; words = []; stage = stage.Words }
+    ≡ record g { signed = not (slice_index text 0 == 45); count = decimal_number text; words = []; stage = stage.Words }
 unfolding with_line at_signature
 signature_text_says text g small = ap (λ (t : Bool). cond t (record g {
   signed = not (slice_index text 0 == 45);
-  count = number_of text;
+  count = decimal_number text;
   words = [];
   stage = stage.Words;
-}) (over g)) small
+}) (with_stage_over g)) small
 
 signature_says : (s : Option (List ℕ)) (rest : List ℕ) (g : Gathered) → AreWords s
     → says (signature_lines s ++ rest) (record g { stage = stage.Signature })
@@ -348,22 +349,22 @@ signature_says : (s : Option (List ℕ)) (rest : List ℕ) (g : Gathered) → Ar
       stage =
           stage.Words;
     })
-unfolding signature_lines number_on
+unfolding signature_lines decimal_number_on
 signature_says None rest g h =
     says_line (codes "signature -") rest (record g { stage = stage.Signature }) refl
     ∙ ap (says rest) (signature_text_says (codes "-") g refl)
 signature_says (Some ws) rest g h =
     let n = length ws in
     let few : length ws ≤ most_words = h.0 in
-    let value : number_of (decimal n) ≡ n = number_of-decimal n (omega arith) in
-    let small : nat_le (number_of (decimal n)) most_words ≡ true = grind (arith, nat_tests) in
+    let value : decimal_number (decimal n) ≡ n = number_of-decimal n (omega arith) in
+    let small : nat_le (decimal_number (decimal n)) most_words ≡ true = grind (arith, nat_tests) in
     ap (λ (t : List ℕ). says t (record g { stage = stage.Signature }))
     (append_assoc (line (codes "signature " ++ decimal n)) (flat_map word_line ws) rest)
     ∙ says_line (codes "signature " ++ decimal n) (flat_map word_line ws ++ rest) (record g { stage = stage.Signature })
     (lacks-decimal 10 n (omega arith) (omega arith))
     ∙ ap (says (flat_map word_line ws ++ rest)) (signature_text_says (decimal n) g small)
     ∙ ap (λ (t : Bool). says (flat_map word_line ws ++ rest)
-    (record g { signed = not t; count = number_of (decimal n); words = []; stage = stage.Words }))
+    (record g { signed = not t; count = decimal_number (decimal n); words = []; stage = stage.Words }))
     (first_is_other 45 (decimal n) (omega arith) (lacks-decimal 45 n (omega arith) (omega arith)))
     ∙ ap (λ (k : ℕ). says (flat_map word_line ws ++ rest)
     (record g { signed = true; count = k; words = []; stage = stage.Words }))
@@ -373,11 +374,11 @@ signature_says (Some ws) rest g h =
 -- ---- the verdict's line
 
 verdict_says : (v : Verdict) (g : Gathered) → (length g.words == g.count) ≡ true
-    → with_line (codes "verdict " ++ verdict_name v) (record g { stage = stage.Words }) ≡ closed v g
-unfolding with_line at_words all_hex verdict_of closed next_row
-verdict_says verdict.Unasked g full = ap (λ (t : Bool). cond t (closed verdict.Unasked g) (over g)) full
-verdict_says verdict.Pass g full = ap (λ (t : Bool). cond t (closed verdict.Pass g) (over g)) full
-verdict_says verdict.Fail g full = ap (λ (t : Bool). cond t (closed verdict.Fail g) (over g)) full
+    → with_line (codes "verdict " ++ verdict_name v) (record g { stage = stage.Words }) ≡ with_closed_row v g
+unfolding with_line at_words all_hex verdict_of_line with_closed_row row_so_far
+verdict_says verdict.Unasked g full = ap (λ (t : Bool). cond t (with_closed_row verdict.Unasked g) (with_stage_over g)) full
+verdict_says verdict.Pass g full = ap (λ (t : Bool). cond t (with_closed_row verdict.Pass g) (with_stage_over g)) full
+verdict_says verdict.Fail g full = ap (λ (t : Bool). cond t (with_closed_row verdict.Fail g) (with_stage_over g)) full
 
 lacks-verdict : (v : Verdict) → lacks 10 (codes "verdict " ++ verdict_name v) ≡ true
 lacks-verdict verdict.Unasked = refl
@@ -415,34 +416,34 @@ up_to_verdict n row numbers rows extent = record {
 }
 
 row_is : (n : ℕ) (row : Row) (numbers : List ℕ) (rows : List Row) (extent : Extent)
-    → next_row row.verdict (up_to_verdict n row numbers rows extent) ≡ row
-unfolding next_row
+    → row_so_far row.verdict (up_to_verdict n row numbers rows extent) ≡ row
+unfolding row_so_far
 row_is n row numbers rows extent = ap (λ (s : Option (List ℕ)). record row { signature = s })
     (same_signature row.signature)
 
 closed_is : (n : ℕ) (row : Row) (numbers : List ℕ) (rows : List Row) (extent : Extent)
-    → closed row.verdict (up_to_verdict n row numbers rows extent) ≡ whole (numbers ++ n ∷ []) (rows ++ row ∷ []) extent
-unfolding closed
+    → with_closed_row row.verdict (up_to_verdict n row numbers rows extent) ≡ gathering_between_rows (numbers ++ n ∷ []) (rows ++ row ∷ []) extent
+unfolding with_closed_row
 closed_is n row numbers rows extent =
-    ap (λ (r : Row). whole (numbers ++ n ∷ []) (rows ++ r ∷ []) extent) (row_is n row numbers rows extent)
+    ap (λ (r : Row). gathering_between_rows (numbers ++ n ∷ []) (rows ++ r ∷ []) extent) (row_is n row numbers rows extent)
 
 -- the row of the job of a number
 pub row_says : (place n : ℕ) (row : Row) (rest numbers : List ℕ) (rows : List Row) (extent : Extent) → IsRow row
     → place + 1 ≡ n → n < 2 ^ 32 → length rows < most_jobs
-    → says (row_text place row ++ rest) (whole numbers rows extent)
-    ≡ says rest (whole (numbers ++ n ∷ []) (rows ++ row ∷ []) extent)
-unfolding row_text console_line whole
+    → says (row_text place row ++ rest) (gathering_between_rows numbers rows extent)
+    ≡ says rest (gathering_between_rows (numbers ++ n ∷ []) (rows ++ row ∷ []) extent)
+unfolding row_text console_line gathering_between_rows
 row_says place n row rest numbers rows extent is same small few =
     let j = codes "job " ++ decimal n ++ codes " " ++ row.name in
     let e = end_words row.ending in
     let s = codes "steps " ++ decimal row.steps in
-    let c = codes "console " ++ or_dash (encode_lower row.console) in
+    let c = codes "console " ++ dash_if_empty (encode_lower row.console) in
     let v = codes "verdict " ++ verdict_name row.verdict in
     let t4 = line v ++ rest in
     let t3 = signature_lines row.signature ++ t4 in
     let t2 = line c ++ t3 in
     let t1 = line s ++ t2 in
-    let g0 = whole numbers rows extent in
+    let g0 = gathering_between_rows numbers rows extent in
     let g1 : Gathered = record g0 { number = n; name = row.name; begun = true; stage = stage.Ending } in
     let g2 : Gathered = record g1 { ending = row.ending; stage = stage.Steps } in
     let g3 : Gathered = record g2 { steps = row.steps; stage = stage.Console } in

@@ -10,9 +10,9 @@ use Rattle.std.specs.Int.{w32, to_be_bytes}
 use Rattle.hex.specs.Hex.{IsBytes, encode_lower, encode_with, lower_digits}
 use Rattle.hex.proofs.HexLemmas.{decode_of-encode_lower}
 use Rattle.rv_text.specs.Words.{word_digits}
-use Rattle.rv_report.specs.Said.{shifted, all_hex}
-use Rattle.rv_report.specs.Said.{number_on, number_of, digit_on, word_on, word_of, hex_digit, is_hex, is_word}
-use Rattle.rv_report.specs.Said.{bytes_of, decoded}
+use Rattle.rv_report.specs.LenientReport.{with_zero_digits, all_hex}
+use Rattle.rv_report.specs.LenientReport.{decimal_number_on, decimal_number, with_digit, hex_number, hex_word, hex_digit_value, is_hex, is_hex_word}
+use Rattle.rv_report.specs.LenientReport.{hex_bytes, bytes_if_decoded}
 use Rattle.rv_report.proofs.Pieces.{lacks, lacks-append}
 
 -- ---- decimal numbers
@@ -25,23 +25,23 @@ lacks-decimal byte n h small =
     decimal_by_steps (λ _ ds. lacks byte ds ≡ true) (λ m _. lacks_digit byte m h)
     (λ m ds _ so. lacks-append byte ds ((48 + m % 10) ∷ []) so (lacks_digit byte (m % 10) h)) n small
 
-number_push : (value : ℕ) (ds : List ℕ) (b : ℕ) → number_on value (ds ++ b ∷ [])
-    ≡ digit_on 10 (number_on value ds) (b - 48)
-unfolding number_on
+number_push : (value : ℕ) (ds : List ℕ) (b : ℕ) → decimal_number_on value (ds ++ b ∷ [])
+    ≡ with_digit 10 (decimal_number_on value ds) (b - 48)
+unfolding decimal_number_on
 number_push value [] b = refl
-number_push value (d ∷ ds) b = number_push (digit_on 10 value (d - 48)) ds b
+number_push value (d ∷ ds) b = number_push (with_digit 10 value (d - 48)) ds b
 
-one_digit : (n : ℕ) → n < 10 → number_on 0 ((48 + n) ∷ []) ≡ n
-unfolding number_on
+one_digit : (n : ℕ) → n < 10 → decimal_number_on 0 ((48 + n) ∷ []) ≡ n
+unfolding decimal_number_on
 one_digit n h = omega arith
 
-last_digit : (n value : ℕ) → n < 2 ^ 32 → value ≡ n / 10 → digit_on 10 value (48 + n % 10 - 48) ≡ n
+last_digit : (n value : ℕ) → n < 2 ^ 32 → value ≡ n / 10 → with_digit 10 value (48 + n % 10 - 48) ≡ n
 last_digit n value h is = omega arith
 
-pub number_of-decimal : (n : ℕ) → n < 2 ^ 32 → number_of (decimal n) ≡ n
+pub number_of-decimal : (n : ℕ) → n < 2 ^ 32 → decimal_number (decimal n) ≡ n
 number_of-decimal n small =
-    decimal_by_steps (λ m ds. m < 2 ^ 32 → number_on 0 ds ≡ m) (λ m h _. one_digit m h)
-    (λ m ds _ so h. number_push 0 ds (48 + m % 10) ∙ last_digit m (number_on 0 ds) h (so (omega arith))) n (omega arith)
+    decimal_by_steps (λ m ds. m < 2 ^ 32 → decimal_number_on 0 ds ≡ m) (λ m h _. one_digit m h)
+    (λ m ds _ so h. number_push 0 ds (48 + m % 10) ∙ last_digit m (decimal_number_on 0 ds) h (so (omega arith))) n (omega arith)
     small
 
 -- ---- words
@@ -62,9 +62,9 @@ holds_at p (suc n) k h lt =
           rw e parts.0
     ]
 
-digit_is : (d : ℕ) → d < 16 → hex_digit (slice_index lower_digits d) ≡ d
-digit_is d h = eqb-true (hex_digit (slice_index lower_digits d)) d
-    (holds_at (λ k. hex_digit (slice_index lower_digits k) == k) 16 d refl h)
+digit_is : (d : ℕ) → d < 16 → hex_digit_value (slice_index lower_digits d) ≡ d
+digit_is d h = eqb-true (hex_digit_value (slice_index lower_digits d)) d
+    (holds_at (λ k. hex_digit_value (slice_index lower_digits k) == k) 16 d refl h)
 
 digit_is_hex : (d : ℕ) → d < 16 → is_hex (slice_index lower_digits d) ≡ true
 digit_is_hex d h = holds_at (λ k. is_hex (slice_index lower_digits k)) 16 d refl h
@@ -90,20 +90,20 @@ lacks-encode (b ∷ bs) h =
 
 -- one byte more
 byte_on : (value b : ℕ) (bs : List ℕ) → b < 256 → value * 256 + b < 2 ^ 32
-    → word_on value (encode_lower (b ∷ bs)) ≡ word_on (value * 256 + b) (encode_lower bs)
-unfolding word_on encode_with
+    → hex_number value (encode_lower (b ∷ bs)) ≡ hex_number (value * 256 + b) (encode_lower bs)
+unfolding hex_number encode_with
 byte_on value b bs fits small =
     let high = digit_is (b / 16) (omega arith) in
     let low = digit_is (b % 16) (omega arith) in
-    let same : digit_on 16 (digit_on 16 value (b / 16)) (b % 16) ≡ value * 256 + b = omega arith in
-    ap (λ (d : ℕ). word_on (digit_on 16 (digit_on 16 value d) (hex_digit (slice_index lower_digits (b % 16))))
+    let same : with_digit 16 (with_digit 16 value (b / 16)) (b % 16) ≡ value * 256 + b = omega arith in
+    ap (λ (d : ℕ). hex_number (with_digit 16 (with_digit 16 value d) (hex_digit_value (slice_index lower_digits (b % 16))))
     (encode_lower bs)) high
-    ∙ ap (λ (d : ℕ). word_on (digit_on 16 (digit_on 16 value (b / 16)) d) (encode_lower bs)) low
-    ∙ ap (λ (v : ℕ). word_on v (encode_lower bs)) same
+    ∙ ap (λ (d : ℕ). hex_number (with_digit 16 (with_digit 16 value (b / 16)) d) (encode_lower bs)) low
+    ∙ ap (λ (v : ℕ). hex_number v (encode_lower bs)) same
 
 four_bytes : (a b c d : ℕ) → a < 256 → b < 256 → c < 256 → d < 256
-    → word_on 0 (encode_lower (a ∷ b ∷ c ∷ d ∷ [])) ≡ ((a * 256 + b) * 256 + c) * 256 + d
-unfolding word_on encode_with
+    → hex_number 0 (encode_lower (a ∷ b ∷ c ∷ d ∷ [])) ≡ ((a * 256 + b) * 256 + c) * 256 + d
+unfolding hex_number encode_with
 four_bytes a b c d fa fb fc fd =
     byte_on 0 a (b ∷ c ∷ d ∷ []) fa (omega arith)
     ∙ byte_on (0 * 256 + a) b (c ∷ d ∷ []) fb (omega arith)
@@ -112,11 +112,11 @@ four_bytes a b c d fa fb fc fd =
     ∙ omega arith
 
 -- eight digits lack none
-all_there : (a b c d : ℕ) → word_of (encode_lower (a ∷ b ∷ c ∷ d ∷ [])) ≡ word_on 0 (encode_lower (a ∷ b ∷ c ∷ d ∷ []))
-unfolding word_of shifted encode_with
+all_there : (a b c d : ℕ) → hex_word (encode_lower (a ∷ b ∷ c ∷ d ∷ [])) ≡ hex_number 0 (encode_lower (a ∷ b ∷ c ∷ d ∷ []))
+unfolding hex_word with_zero_digits encode_with
 all_there a b c d = refl
 
-pub word_of-digits : (w : ℕ) → w < 2 ^ 32 → word_of (word_digits w) ≡ w
+pub word_of-digits : (w : ℕ) → w < 2 ^ 32 → hex_word (word_digits w) ≡ w
 unfolding word_digits
 word_of-digits w h = all_there (w / 2 ^ 24 % 256) (w / 2 ^ 16 % 256) (w / 2 ^ 8 % 256) (w % 256)
     ∙ four_bytes (w / 2 ^ 24 % 256) (w / 2 ^ 16 % 256) (w / 2 ^ 8 % 256) (w % 256) (omega arith)
@@ -145,11 +145,11 @@ all_digits : (w : ℕ) → all_hex (word_digits w) ≡ true
 unfolding word_digits
 all_digits w = all_hex-encode (to_be_bytes w32 w) (fits_digits w)
 
-pub is_word-digits : (w : ℕ) → is_word (word_digits w) ≡ true
+pub is_word-digits : (w : ℕ) → is_hex_word (word_digits w) ≡ true
 is_word-digits w = and_from (nat_lt 0 (length (word_digits w))) (all_hex (word_digits w)) (some_digits w) (all_digits w)
 
 -- ---- bytes
 
-pub bytes_of-encode : (bs : List ℕ) → IsBytes bs → bytes_of (encode_lower bs) ≡ bs
-unfolding bytes_of
-bytes_of-encode bs h = ap decoded (decode_of-encode_lower bs h)
+pub bytes_of-encode : (bs : List ℕ) → IsBytes bs → hex_bytes (encode_lower bs) ≡ bs
+unfolding hex_bytes
+bytes_of-encode bs h = ap bytes_if_decoded (decode_of-encode_lower bs h)

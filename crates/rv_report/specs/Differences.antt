@@ -8,24 +8,24 @@ use Rattle.rv_report.specs.declared.read.ReadError.{ReadError}
 use Rattle.rv_report.specs.declared.read.ReadError.TheVariants.{OutOfMemory, Line, CutOff}
 
 -- how many line feeds a text has
-abbrev pub feeds : List ℕ → ℕ
-feeds [] = 0
-feeds (b ∷ bs) = if b == 10 then feeds bs + 1 else feeds bs
+abbrev pub count_of_line_feeds : List ℕ → ℕ
+count_of_line_feeds [] = 0
+count_of_line_feeds (b ∷ bs) = if b == 10 then count_of_line_feeds bs + 1 else count_of_line_feeds bs
 
 -- ---- how far the first word of a line was met
 
-abbrev pub begun : FirstWord → FirstWord
-begun word.Ahead = word.Begun
-begun word.Begun = word.Begun
-begun word.Ended = word.Ended
+abbrev pub word_after_letter : FirstWord → FirstWord
+word_after_letter word.Ahead = word.Begun
+word_after_letter word.Begun = word.Begun
+word_after_letter word.Ended = word.Ended
 
 -- behind one byte more: a line feed begins a line, and a space ends its first word
-abbrev pub past : FirstWord → ℕ → FirstWord
-past met b = if b == 10 then word.Ahead else if b == 32 then word.Ended else begun met
+abbrev pub word_after_byte : FirstWord → ℕ → FirstWord
+word_after_byte met b = if b == 10 then word.Ahead else if b == 32 then word.Ended else word_after_letter met
 
 -- the last line of a report is `done ..` or `part ..`
-abbrev pub is_last : ℕ → Bool
-is_last b = (b == 100) || (b == 112)
+abbrev pub begins_last_line : ℕ → Bool
+begins_last_line b = (b == 100) || (b == 112)
 
 -- a row begins with `job `; the text may end before
 abbrev pub begins_row : List ℕ → Bool
@@ -33,49 +33,49 @@ begins_row text = bytes_eq (take 4 text) (take (length text) (codes "job "))
 
 -- A line differs from a text's, which goes on with another byte. Its first word is the text's; or
 -- it begins a row where the text has its last line.
-abbrev pub may_go_on : FirstWord → ℕ → List ℕ → Bool
-may_go_on word.Ahead other rest = is_last other && begins_row rest
-may_go_on word.Begun other rest = false
-may_go_on word.Ended other rest = true
+abbrev pub can_begin_report_line : FirstWord → ℕ → List ℕ → Bool
+can_begin_report_line word.Ahead other rest = begins_last_line other && begins_row rest
+can_begin_report_line word.Begun other rest = false
+can_begin_report_line word.Ended other rest = true
 
 -- ---- the first difference
 
 -- where bytes differ from a text in a line: that line; or that they end in it, if its first word
 -- can be a report's
-abbrev pub difference_at : ℕ → FirstWord → ℕ → List ℕ → ReadError
-difference_at line met other rest =
-    if may_go_on met other rest && (feeds rest == 0) then CutOff else Line line
+abbrev pub read_error_at : ℕ → FirstWord → ℕ → List ℕ → ReadError
+read_error_at line met other rest =
+    if can_begin_report_line met other rest && (count_of_line_feeds rest == 0) then CutOff else Line line
 
-abbrev pub line_past : ℕ → ℕ → ℕ
-line_past line b = if b == 10 then line + 1 else line
+abbrev pub line_after_byte : ℕ → ℕ → ℕ
+line_after_byte line b = if b == 10 then line + 1 else line
 
 -- the first difference of bytes from a text, of which a line is next, or the rest of it
-unfoldable pub difference : ℕ → FirstWord → List ℕ → List ℕ → ReadError
-difference line met text [] = CutOff
-difference line met [] (b ∷ bs) = Line line
-difference line met (t ∷ ts) (b ∷ bs) =
-    if b == t then difference (line_past line b) (past met b) ts bs
-    else difference_at line met t (b ∷ bs)
+unfoldable pub read_error_from : ℕ → FirstWord → List ℕ → List ℕ → ReadError
+read_error_from line met text [] = CutOff
+read_error_from line met [] (b ∷ bs) = Line line
+read_error_from line met (t ∷ ts) (b ∷ bs) =
+    if b == t then read_error_from (line_after_byte line b) (word_after_byte met b) ts bs
+    else read_error_at line met t (b ∷ bs)
 
 -- the same of a whole text, whose first line is line 1
-abbrev pub first_difference : List ℕ → List ℕ → ReadError
-first_difference text bytes = difference 1 word.Ahead text bytes
+abbrev pub first_read_error : List ℕ → List ℕ → ReadError
+first_read_error text bytes = read_error_from 1 word.Ahead text bytes
 
 -- the bytes begin as the text does: up to the line, or up to their last line feed
-abbrev pub Tells : ReadError → List ℕ → List ℕ → Type 0
-Tells OutOfMemory text bytes = Unit {0}
-Tells (Line line) text bytes = (common more other : List ℕ) × (bytes ≡ common ++ more)
-    × (text ≡ common ++ other) × (feeds common + 1 ≡ line)
-Tells CutOff text bytes = (common more other : List ℕ) × (bytes ≡ common ++ more)
-    × (text ≡ common ++ other) × (feeds more ≡ 0)
+abbrev pub BeginsAlike : ReadError → List ℕ → List ℕ → Type 0
+BeginsAlike OutOfMemory text bytes = Unit {0}
+BeginsAlike (Line line) text bytes = (common more other : List ℕ) × (bytes ≡ common ++ more)
+    × (text ≡ common ++ other) × (count_of_line_feeds common + 1 ≡ line)
+BeginsAlike CutOff text bytes = (common more other : List ℕ) × (bytes ≡ common ++ more)
+    × (text ≡ common ++ other) × (count_of_line_feeds more ≡ 0)
 
 -- the answer is this, unless memory ran out
-abbrev pub Gives : {X : Type 0} → X → Result X ReadError → Type 0
-Gives x (Ok y) = y ≡ x
-Gives x (Err e) = e ≡ OutOfMemory
+abbrev pub AnswersUnlessMemory : {X : Type 0} → X → Result X ReadError → Type 0
+AnswersUnlessMemory x (Ok y) = y ≡ x
+AnswersUnlessMemory x (Err e) = e ≡ OutOfMemory
 
 -- the error is this, unless memory ran out
-abbrev pub IsPlace : ReadError → ReadError → Type 0
-IsPlace OutOfMemory place = Unit {0}
-IsPlace (Line line) place = place ≡ Line line
-IsPlace CutOff place = place ≡ CutOff
+abbrev pub IsSameReadError : ReadError → ReadError → Type 0
+IsSameReadError OutOfMemory place = Unit {0}
+IsSameReadError (Line line) place = place ≡ Line line
+IsSameReadError CutOff place = place ≡ CutOff

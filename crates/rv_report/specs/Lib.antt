@@ -1,6 +1,6 @@
 pub mod Report
 pub mod Saved
-pub mod Said
+pub mod LenientReport
 pub mod View
 pub mod Differences
 pub use Rattle.rv_elf.specs.Image

@@ -31,8 +31,8 @@ refusal_name refusal.ReferenceTooLong = codes "reference-too-long"
 refusal_name (refusal.Image why) = image_error_name why
 
 -- all that a row can have
-abbrev pub refusals : List Refusal
-refusals = refusal.ImageUnreadable ∷ refusal.ImageTooLong ∷ refusal.ReferenceUnreadable
+abbrev pub row_refusals : List Refusal
+row_refusals = refusal.ImageUnreadable ∷ refusal.ImageTooLong ∷ refusal.ReferenceUnreadable
     ∷ refusal.ReferenceTooLong ∷ map refusal.Image (image.ShortHeader ∷ image.BadMagic
     ∷ image.Not32Bit ∷ image.NotLittleEndian ∷ image.BadVersion ∷ image.NotExecutable
     ∷ image.NotRiscv ∷ image.ProgramTable ∷ image.Dynamic ∷ image.SegmentSizes ∷ image.SegmentFile
@@ -42,7 +42,7 @@ refusals = refusal.ImageUnreadable ∷ refusal.ImageTooLong ∷ refusal.Referenc
 
 -- the one of this name
 abbrev pub refusal_named : List ℕ → Option Refusal
-refusal_named name = find (λ r. bytes_eq name (refusal_name r)) refusals
+refusal_named name = find (λ r. bytes_eq name (refusal_name r)) row_refusals
 
 -- how the run ended
 unfoldable pub end_line : RowEnd → List ℕ
@@ -54,12 +54,12 @@ end_line ending.Budget = line (codes "end budget")
 end_line (ending.Refused why) = line (codes "end refused " ++ refusal_name why)
 
 -- a dash stands for no text
-abbrev pub or_dash : List ℕ → List ℕ
-or_dash text = if length text == 0 then codes "-" else text
+abbrev pub dash_if_empty : List ℕ → List ℕ
+dash_if_empty text = if length text == 0 then codes "-" else text
 
 -- the console's bytes as lower-case hexadecimal digits
 unfoldable pub console_line : List ℕ → List ℕ
-console_line bytes = line (codes "console " ++ or_dash (encode_lower bytes))
+console_line bytes = line (codes "console " ++ dash_if_empty (encode_lower bytes))
 
 -- a word of a signature on a line of its own
 abbrev pub word_line : ℕ → List ℕ

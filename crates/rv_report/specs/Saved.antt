@@ -7,7 +7,7 @@ use Rattle.std.specs.List.{AllByRecursion, list_all}
 use Rattle.std.specs.Fmt.{decimal}
 use Rattle.hex.specs.Hex.{IsBytes}
 use Rattle.rv_elf.specs.declared.error.ImageError.TheVariants as image
-use Rattle.rv_lists.specs.JobList.{is_name, place_in}
+use Rattle.rv_base.specs.Names.{is_name, place_in}
 use Rattle.rv_base.specs.Limits.{most_jobs}
 use Rattle.rv_report.specs.Report.{line, row_text, done_line}
 use Rattle.rv_report.specs.declared.row.Refusal.TheVariants as refusal
@@ -27,21 +27,21 @@ are_rising before last [] = true
 are_rising before last (n ∷ ns) = nat_lt before n && (nat_le n last && are_rising n last ns)
 
 -- this number and each that is so much greater, up to the last
-unfoldable pub are_stepped : ℕ → ℕ → ℕ → List ℕ → Bool
-are_stepped next step last [] = nat_lt last next
-are_stepped next step last (n ∷ ns) =
-    (n == next) && (nat_le n last && are_stepped (next + step) step last ns)
+unfoldable pub are_evenly_spaced : ℕ → ℕ → ℕ → List ℕ → Bool
+are_evenly_spaced next step last [] = nat_lt last next
+are_evenly_spaced next step last (n ∷ ns) =
+    (n == next) && (nat_le n last && are_evenly_spaced (next + step) step last ns)
 
 -- a shard's number is one of so many, and its stamp is a name
-unfoldable pub is_shard : Shard → Bool
-is_shard s = nat_le 1 s.number && (nat_le s.number s.shards && (nat_le s.shards most_jobs
+unfoldable pub is_valid_shard : Shard → Bool
+is_valid_shard s = nat_le 1 s.number && (nat_le s.number s.shards && (nat_le s.shards most_jobs
     && (nat_le s.jobs most_jobs && is_name s.stamp)))
 
 -- the numbers are those of a whole list, of some of its jobs, or of a shard
-unfoldable pub fits : Extent → List ℕ → Bool
-fits extent.Whole ns = are_stepped 1 1 (length ns) ns
-fits (extent.Choice jobs) ns = nat_le jobs most_jobs && are_rising 0 jobs ns
-fits (extent.Shard s) ns = is_shard s && are_stepped s.number s.shards s.jobs ns
+unfoldable pub fits_numbers : Extent → List ℕ → Bool
+fits_numbers extent.Whole ns = are_evenly_spaced 1 1 (length ns) ns
+fits_numbers (extent.Choice jobs) ns = nat_le jobs most_jobs && are_rising 0 jobs ns
+fits_numbers (extent.Shard s) ns = is_valid_shard s && are_evenly_spaced s.number s.shards s.jobs ns
 
 -- ---- the text
 
@@ -60,13 +60,13 @@ shard_words s = codes " shard " ++ decimal s.number ++ codes "/" ++ decimal s.sh
     ++ codes " stamp " ++ s.stamp
 
 -- what stands below so many rows
-unfoldable pub last_line : Extent → ℕ → List ℕ
-last_line extent.Whole count = done_line count
-last_line (extent.Choice jobs) count = line (part_words count jobs)
-last_line (extent.Shard s) count = line (part_words count s.jobs ++ shard_words s)
+unfoldable pub extent_line : Extent → ℕ → List ℕ
+extent_line extent.Whole count = done_line count
+extent_line (extent.Choice jobs) count = line (part_words count jobs)
+extent_line (extent.Shard s) count = line (part_words count s.jobs ++ shard_words s)
 
 unfoldable pub saved_text : SavedReport → List ℕ
-saved_text r = numbered_text r.numbers r.rows ++ last_line r.extent (length r.rows)
+saved_text r = numbered_text r.numbers r.rows ++ extent_line r.extent (length r.rows)
 
 -- ---- good reports
 
@@ -102,16 +102,16 @@ are_new earlier [] = true
 are_new earlier (text ∷ texts) =
     not (is_some (place_in earlier text)) && are_new (earlier ++ text ∷ []) texts
 
-abbrev pub names_of : List Row → List (List ℕ)
-names_of rows = map (λ (row : Row). row.name) rows
+abbrev pub row_names : List Row → List (List ℕ)
+row_names rows = map (λ (row : Row). row.name) rows
 
 -- its rows are those of up to 4,096 jobs, each with a name of its own
 pub record IsListed (r : SavedReport) : Type 0 where
   pub counted : length r.numbers ≡ length r.rows
   pub rising : are_rising 0 most_jobs r.numbers ≡ true
-  pub fits : fits r.extent r.numbers ≡ true
-  pub names : list_all is_name (names_of r.rows) ≡ true
-  pub new : are_new [] (names_of r.rows) ≡ true
+  pub fits : fits_numbers r.extent r.numbers ≡ true
+  pub names : list_all is_name (row_names r.rows) ≡ true
+  pub new : are_new [] (row_names r.rows) ≡ true
 
 -- a report that can be
 pub record IsSaved (r : SavedReport) : Type 0 where

@@ -1,10 +1,10 @@
 -- What is gathered, without where it lies in memory.
 use Rattle.std.specs.Prelude.{string_bytes}
 use Rattle.rv_report.specs.declared.gathering.Gathering.{Gathering}
-use Rattle.rv_report.specs.Said.{Gathered}
+use Rattle.rv_report.specs.LenientReport.{Gathered}
 
-abbrev pub view : Gathering → Gathered
-view g = record {
+abbrev pub gathering_view : Gathering → Gathered
+gathering_view g = record {
   numbers = g.numbers.items;
   rows = g.rows.items;
   extent = g.extent;

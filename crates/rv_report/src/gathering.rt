@@ -1,13 +1,18 @@
 //! What the lines of a text say together: rows with the numbers of their jobs, and a last line.
 
 ghost use Rattle.std.specs.Prelude.{◌≡◌, ◌++◌, ◌∷◌, [], OnOk, IfOk, string_bytes};
-ghost use Rattle.rv_report.specs.Said.{lines, whole, closed, over, between, at_ending, at_steps, at_console};
-ghost use Rattle.rv_report.specs.Said.{at_signature};
-ghost use Rattle.rv_report.specs.Said.{at_words, with_line, with_lines, next_row, padded, finished, gathered};
-ghost use Rattle.rv_report.specs.View.{view};
+ghost use Rattle.rv_report.specs.LenientReport.{lines, gathering_between_rows, with_closed_row, with_stage_over, at_job_or_last_line, at_ending, at_steps, at_console};
+ghost use Rattle.rv_report.specs.LenientReport.{at_signature};
+ghost use Rattle.rv_report.specs.LenientReport.{at_words, with_line, with_lines, row_so_far, padded_words, with_unfinished_row, gather_rows};
+ghost use Rattle.rv_report.specs.View.{gathering_view};
 
-use crate::fields::{behind, byte_at, bytes_of, front, is_word, number_of, place_of, word_of};
-use crate::lines::{ending_of, job_of, name_of, part_of, verdict_of};
+use crate::fields::{
+    byte_at, decimal_number, hex_bytes, hex_word, is_hex_word, leading_bytes, place_of_byte,
+    skip_bytes,
+};
+use crate::lines::{
+    extent_of_line, job_name_of_line, job_number_of_line, row_end_of_line, verdict_of_line,
+};
 use crate::row::{Row, RowEnd, Verdict, Words};
 use crate::saved::Extent;
 use rv_base::limits::MOST_JOBS;
@@ -52,24 +57,24 @@ pub(crate) enum Stage {
 const MOST_WORDS: u32 = 65_536;
 
 /// What the lines of a text say.
-#[tactic(auto, unfolding(crate::specs::Said::gathered))]
-pub fn gathered(alloc: Global, text: &[u8]) -> Result<Gathering, AllocError>
-    ensures { IfOk result (λ g. view g ≡ gathered text.now) }
+#[tactic(auto, unfolding(crate::specs::LenientReport::gather_rows))]
+pub fn gather_rows(alloc: Global, text: &[u8]) -> Result<Gathering, AllocError>
+    ensures { IfOk result (λ g. gathering_view g ≡ gather_rows text.now) }
 {
-    let mut gathering = no_rows(alloc)?;
+    let mut gathering = empty_gathering(alloc)?;
     let mut rest = text;
     while !rest.is_empty() {
-        let end = place_of(b'\n', rest);
-        add(alloc, &mut gathering, front(rest, end))?;
-        rest = behind(rest, end + 1);
+        let end = place_of_byte(b'\n', rest);
+        add_line(alloc, &mut gathering, leading_bytes(rest, end))?;
+        rest = skip_bytes(rest, end + 1);
     }
-    finish(alloc, &mut gathering)?;
+    close_unfinished_row(alloc, &mut gathering)?;
     Ok(gathering)
 }
 
-#[tactic(auto, unfolding(crate::specs::Said::whole))]
-fn no_rows(alloc: Global) -> Result<Gathering, AllocError>
-    ensures { IfOk result (λ g. view g ≡ whole [] [] Extent.Whole) }
+#[tactic(auto, unfolding(crate::specs::LenientReport::gathering_between_rows))]
+fn empty_gathering(alloc: Global) -> Result<Gathering, AllocError>
+    ensures { IfOk result (λ g. gathering_view g ≡ gathering_between_rows [] [] Extent.Whole) }
 {
     let name = String::from_str(alloc, "-")?;
     Ok(Gathering {
@@ -89,34 +94,38 @@ fn no_rows(alloc: Global) -> Result<Gathering, AllocError>
     })
 }
 
-#[tactic(auto, unfolding(crate::specs::Said::with_line))]
-fn add(alloc: Global, gathering: &mut Gathering, line: &[u8]) -> Result<(), AllocError>
-    ensures { OnOk result (view gathering.new ≡ with_line line.now (view gathering.old)) }
+#[tactic(auto, unfolding(crate::specs::LenientReport::with_line))]
+fn add_line(alloc: Global, gathering: &mut Gathering, line: &[u8]) -> Result<(), AllocError>
+    ensures { OnOk result (gathering_view gathering.new ≡ with_line line.now (gathering_view gathering.old)) }
 {
     match gathering.stage {
-        Stage::Between => add_between(alloc, gathering, line),
-        Stage::Ending => Ok(add_ending(gathering, line)),
-        Stage::Steps => Ok(add_steps(gathering, line)),
-        Stage::Console => add_console(alloc, gathering, line),
-        Stage::Signature => Ok(add_signature(gathering, line)),
-        Stage::Words => add_word(alloc, gathering, line),
+        Stage::Between => add_job_or_last_line(alloc, gathering, line),
+        Stage::Ending => Ok(add_end_line(gathering, line)),
+        Stage::Steps => Ok(add_steps_line(gathering, line)),
+        Stage::Console => add_console_line(alloc, gathering, line),
+        Stage::Signature => Ok(add_signature_line(gathering, line)),
+        Stage::Words => add_word_or_verdict_line(alloc, gathering, line),
         Stage::Over => Ok(()),
     }
 }
 
-#[tactic(auto, unfolding(crate::specs::Said::between))]
-fn add_between(alloc: Global, gathering: &mut Gathering, line: &[u8]) -> Result<(), AllocError>
-    ensures { OnOk result (view gathering.new ≡ between line.now (view gathering.old)) }
+#[tactic(auto, unfolding(crate::specs::LenientReport::at_job_or_last_line))]
+fn add_job_or_last_line(
+    alloc: Global,
+    gathering: &mut Gathering,
+    line: &[u8],
+) -> Result<(), AllocError>
+    ensures { OnOk result (gathering_view gathering.new ≡ at_job_or_last_line line.now (gathering_view gathering.old)) }
 {
     match byte_at(line, 0) {
         b'j' if gathering.rows.len() < MOST_JOBS => {
-            gathering.name = name_of(alloc, line)?;
-            gathering.number = job_of(line);
+            gathering.name = job_name_of_line(alloc, line)?;
+            gathering.number = job_number_of_line(line);
             gathering.begun = true;
             gathering.stage = Stage::Ending;
         }
         b'p' => {
-            gathering.extent = part_of(alloc, line)?;
+            gathering.extent = extent_of_line(alloc, line)?;
             gathering.stage = Stage::Over;
         }
         _ => gathering.stage = Stage::Over,
@@ -124,36 +133,36 @@ fn add_between(alloc: Global, gathering: &mut Gathering, line: &[u8]) -> Result<
     Ok(())
 }
 
-#[tactic(auto, unfolding(crate::specs::Said::at_ending))]
-fn add_ending(gathering: &mut Gathering, line: &[u8])
-    ensures { view gathering.new ≡ at_ending line.now (view gathering.old) }
+#[tactic(auto, unfolding(crate::specs::LenientReport::at_ending))]
+fn add_end_line(gathering: &mut Gathering, line: &[u8])
+    ensures { gathering_view gathering.new ≡ at_ending line.now (gathering_view gathering.old) }
 {
     if byte_at(line, 0) == b'e' {
-        gathering.ending = ending_of(line);
+        gathering.ending = row_end_of_line(line);
         gathering.stage = Stage::Steps;
     } else {
         gathering.stage = Stage::Over;
     }
 }
 
-#[tactic(auto, unfolding(crate::specs::Said::at_steps))]
-fn add_steps(gathering: &mut Gathering, line: &[u8])
-    ensures { view gathering.new ≡ at_steps line.now (view gathering.old) }
+#[tactic(auto, unfolding(crate::specs::LenientReport::at_steps))]
+fn add_steps_line(gathering: &mut Gathering, line: &[u8])
+    ensures { gathering_view gathering.new ≡ at_steps line.now (gathering_view gathering.old) }
 {
     if byte_at(line, 0) == b's' && byte_at(line, 1) == b't' {
-        gathering.steps = number_of(behind(line, 6));
+        gathering.steps = decimal_number(skip_bytes(line, 6));
         gathering.stage = Stage::Console;
     } else {
         gathering.stage = Stage::Over;
     }
 }
 
-#[tactic(auto, unfolding(crate::specs::Said::at_console))]
-fn add_console(alloc: Global, gathering: &mut Gathering, line: &[u8]) -> Result<(), AllocError>
-    ensures { OnOk result (view gathering.new ≡ at_console line.now (view gathering.old)) }
+#[tactic(auto, unfolding(crate::specs::LenientReport::at_console))]
+fn add_console_line(alloc: Global, gathering: &mut Gathering, line: &[u8]) -> Result<(), AllocError>
+    ensures { OnOk result (gathering_view gathering.new ≡ at_console line.now (gathering_view gathering.old)) }
 {
     if byte_at(line, 0) == b'c' {
-        gathering.console = bytes_of(alloc, behind(line, 8))?;
+        gathering.console = hex_bytes(alloc, skip_bytes(line, 8))?;
         gathering.stage = Stage::Signature;
     } else {
         gathering.stage = Stage::Over;
@@ -161,11 +170,11 @@ fn add_console(alloc: Global, gathering: &mut Gathering, line: &[u8]) -> Result<
     Ok(())
 }
 
-#[tactic(auto, unfolding(crate::specs::Said::at_signature))]
-fn add_signature(gathering: &mut Gathering, line: &[u8])
-    ensures { view gathering.new ≡ at_signature line.now (view gathering.old) }
+#[tactic(auto, unfolding(crate::specs::LenientReport::at_signature))]
+fn add_signature_line(gathering: &mut Gathering, line: &[u8])
+    ensures { gathering_view gathering.new ≡ at_signature line.now (gathering_view gathering.old) }
 {
-    let count = number_of(behind(line, 10));
+    let count = decimal_number(skip_bytes(line, 10));
     if byte_at(line, 0) == b's' && byte_at(line, 1) == b'i' && count <= MOST_WORDS {
         gathering.signed = byte_at(line, 10) != b'-';
         gathering.count = count;
@@ -176,15 +185,19 @@ fn add_signature(gathering: &mut Gathering, line: &[u8])
     }
 }
 
-#[tactic(auto, unfolding(crate::specs::Said::at_words))]
-fn add_word(alloc: Global, gathering: &mut Gathering, line: &[u8]) -> Result<(), AllocError>
-    ensures { OnOk result (view gathering.new ≡ at_words line.now (view gathering.old)) }
+#[tactic(auto, unfolding(crate::specs::LenientReport::at_words))]
+fn add_word_or_verdict_line(
+    alloc: Global,
+    gathering: &mut Gathering,
+    line: &[u8],
+) -> Result<(), AllocError>
+    ensures { OnOk result (gathering_view gathering.new ≡ at_words line.now (gathering_view gathering.old)) }
 {
-    if is_word(line) && gathering.words.len() < gathering.count as usize {
-        gathering.words.push(word_of(line))?;
+    if is_hex_word(line) && gathering.words.len() < gathering.count as usize {
+        gathering.words.push(hex_word(line))?;
         Ok(())
     } else if byte_at(line, 0) == b'v' && gathering.words.len() == gathering.count as usize {
-        close(alloc, gathering, verdict_of(line))
+        close_row(alloc, gathering, verdict_of_line(line))
     } else {
         gathering.stage = Stage::Over;
         Ok(())
@@ -192,21 +205,21 @@ fn add_word(alloc: Global, gathering: &mut Gathering, line: &[u8]) -> Result<(),
 }
 
 // A row that isn't whole at the end is one too.
-#[tactic(auto, unfolding(crate::specs::Said::finished))]
-fn finish(alloc: Global, gathering: &mut Gathering) -> Result<(), AllocError>
-    ensures { OnOk result (view gathering.new ≡ finished (view gathering.old)) }
+#[tactic(auto, unfolding(crate::specs::LenientReport::with_unfinished_row))]
+fn close_unfinished_row(alloc: Global, gathering: &mut Gathering) -> Result<(), AllocError>
+    ensures { OnOk result (gathering_view gathering.new ≡ with_unfinished_row (gathering_view gathering.old)) }
 {
     if !gathering.begun {
         return Ok(());
     }
-    pad(&mut gathering.words, gathering.count)?;
-    close(alloc, gathering, Verdict::Unasked)
+    pad_signature_words(&mut gathering.words, gathering.count)?;
+    close_row(alloc, gathering, Verdict::Unasked)
 }
 
 // Missing words are zeros.
-#[tactic(auto, unfolding(crate::specs::Said::padded))]
-fn pad(words: &mut Vec<u32>, count: u32) -> Result<(), AllocError>
-    ensures { OnOk result (words.new.items ≡ padded count words.old.items) }
+#[tactic(auto, unfolding(crate::specs::LenientReport::padded_words))]
+fn pad_signature_words(words: &mut Vec<u32>, count: u32) -> Result<(), AllocError>
+    ensures { OnOk result (words.new.items ≡ padded_words count words.old.items) }
 {
     while words.len() < count as usize {
         words.push(0)?;
@@ -215,9 +228,9 @@ fn pad(words: &mut Vec<u32>, count: u32) -> Result<(), AllocError>
 }
 
 // The row that was begun is one more.
-#[tactic(auto, unfolding(crate::specs::Said::closed, crate::specs::Said::whole, crate::specs::Said::next_row))]
-fn close(alloc: Global, gathering: &mut Gathering, verdict: Verdict) -> Result<(), AllocError>
-    ensures { OnOk result (view gathering.new ≡ closed verdict (view gathering.old)) }
+#[tactic(auto, unfolding(crate::specs::LenientReport::with_closed_row, crate::specs::LenientReport::gathering_between_rows, crate::specs::LenientReport::row_so_far))]
+fn close_row(alloc: Global, gathering: &mut Gathering, verdict: Verdict) -> Result<(), AllocError>
+    ensures { OnOk result (gathering_view gathering.new ≡ with_closed_row verdict (gathering_view gathering.old)) }
 {
     gathering.numbers.push(gathering.number)?;
     let row = take_row(alloc, gathering, verdict)?;
@@ -226,11 +239,11 @@ fn close(alloc: Global, gathering: &mut Gathering, verdict: Verdict) -> Result<(
 }
 
 // Takes the row that was begun, so that nothing is known of a next one.
-#[tactic(auto, unfolding(crate::specs::Said::whole, crate::specs::Said::next_row))]
+#[tactic(auto, unfolding(crate::specs::LenientReport::gathering_between_rows, crate::specs::LenientReport::row_so_far))]
 fn take_row(alloc: Global, gathering: &mut Gathering, verdict: Verdict) -> Result<Row, AllocError>
-    ensures row { IfOk result (λ row. row ≡ next_row verdict (view gathering.old)) }
-    ensures rest { OnOk result (view gathering.new ≡ whole (view gathering.old).numbers
-        (view gathering.old).rows (view gathering.old).extent) }
+    ensures row { IfOk result (λ row. row ≡ row_so_far verdict (gathering_view gathering.old)) }
+    ensures rest { OnOk result (gathering_view gathering.new ≡ gathering_between_rows (gathering_view gathering.old).numbers
+        (gathering_view gathering.old).rows (gathering_view gathering.old).extent) }
 {
     let dash = String::from_str(alloc, "-")?;
     let name = mem::replace(&mut gathering.name, dash);

@@ -10,22 +10,22 @@
 mod fields;
 mod gathering;
 mod law;
+mod lenient_reader;
 mod lines;
 mod names;
 mod read;
 mod report;
 mod row;
-mod said;
 mod saved;
+mod saved_report_text;
 mod saved_writer;
 mod signature_lines;
-mod text;
 
-pub use fields::is_name;
 pub use law::{one_text_one_report, whole_text_is_report_text};
 pub use read::{ReadError, read_report};
 pub use report::{Report, Rows, WriteError, write_report};
 pub use row::{Refusal, Row, RowEnd, Verdict, Words};
+pub use rv_base::is_name;
 pub use saved::{Extent, Numbers, SavedReport, Shard};
-pub use saved_writer::write_saved;
-pub use signature_lines::{LINE, are_word_lines, line_of};
+pub use saved_writer::write_saved_report;
+pub use signature_lines::{LINE, are_word_lines, word_line};

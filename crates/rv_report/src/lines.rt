@@ -1,12 +1,15 @@
 //! What single lines of a report say. Any line says something: the byte that tells it from others is enough.
 
 ghost use Rattle.std.specs.Prelude.{◌≡◌, IfOk, string_bytes};
-ghost use Rattle.rv_report.specs.Said.{job_of, name_of, fault_or_first, refusal_or_first, fault_of, ending_of};
-ghost use Rattle.rv_report.specs.Said.{verdict_of};
-ghost use Rattle.rv_report.specs.Said.{shard_of, part_of};
+ghost use Rattle.rv_report.specs.LenientReport.{job_number_of_line, job_name_of_line, fault_or_first, refusal_or_first, fault_end_of_text, row_end_of_line};
+ghost use Rattle.rv_report.specs.LenientReport.{verdict_of_line};
+ghost use Rattle.rv_report.specs.LenientReport.{shard_of_text, extent_of_line};
 ghost use Rattle.rv_report.specs.Report.{refusal_named};
 
-use crate::fields::{after, before, behind, byte_at, front, name_or_dash, number_of, word_of};
+use crate::fields::{
+    byte_at, decimal_number, hex_word, leading_bytes, name_or_dash, skip_bytes, text_after_byte,
+    text_before_byte,
+};
 use crate::row::{Refusal, RowEnd, Verdict};
 use crate::saved::{Extent, Shard};
 use rv_base::Text;
@@ -14,54 +17,54 @@ use rv_machine::FaultKind;
 use std::alloc::{AllocError, Global};
 
 /// The number of a job.
-pub(crate) fn job_of(line: &[u8]) -> u32
-    ensures { result ≡ job_of line.now }
+pub(crate) fn job_number_of_line(line: &[u8]) -> u32
+    ensures { result ≡ job_number_of_line line.now }
 {
-    number_of(before(b' ', behind(line, 4)))
+    decimal_number(text_before_byte(b' ', skip_bytes(line, 4)))
 }
 
 /// The name of a job.
-#[tactic(auto, unfolding(crate::specs::Said::name_of))]
-pub(crate) fn name_of(alloc: Global, line: &[u8]) -> Result<String, AllocError>
-    ensures { IfOk result (λ name. string_bytes name ≡ name_of line.now) }
+#[tactic(auto, unfolding(crate::specs::LenientReport::job_name_of_line))]
+pub(crate) fn job_name_of_line(alloc: Global, line: &[u8]) -> Result<String, AllocError>
+    ensures { IfOk result (λ name. string_bytes name ≡ job_name_of_line line.now) }
 {
-    name_or_dash(alloc, after(b' ', behind(line, 4)))
+    name_or_dash(alloc, text_after_byte(b' ', skip_bytes(line, 4)))
 }
 
 /// How a job ended.
-#[tactic(auto, unfolding(crate::specs::Said::ending_of))]
-pub(crate) fn ending_of(line: &[u8]) -> RowEnd
-    ensures { result ≡ ending_of line.now }
+#[tactic(auto, unfolding(crate::specs::LenientReport::row_end_of_line))]
+pub(crate) fn row_end_of_line(line: &[u8]) -> RowEnd
+    ensures { result ≡ row_end_of_line line.now }
 {
     match byte_at(line, 4) {
-        b'e' => RowEnd::Exit(number_of(behind(line, 9))),
-        b'f' => fault_of(behind(line, 10)),
+        b'e' => RowEnd::Exit(decimal_number(skip_bytes(line, 9))),
+        b'f' => fault_end_of_text(skip_bytes(line, 10)),
         b'b' => RowEnd::Budget,
-        _ => RowEnd::Refused(refusal_of(behind(line, 12))),
+        _ => RowEnd::Refused(refusal_or_unreadable(skip_bytes(line, 12))),
     }
 }
 
-#[tactic(auto, unfolding(crate::specs::Said::fault_of))]
-fn fault_of(text: &[u8]) -> RowEnd
-    ensures { result ≡ fault_of text.now }
+#[tactic(auto, unfolding(crate::specs::LenientReport::fault_end_of_text))]
+fn fault_end_of_text(text: &[u8]) -> RowEnd
+    ensures { result ≡ fault_end_of_text text.now }
 {
-    let words = after(b' ', text);
-    let pc = word_of(front(behind(words, 3), 8));
-    let value = word_of(behind(words, 18));
-    let kind = FaultKind::named(before(b' ', text)).unwrap_or(FaultKind::FetchAccess);
+    let words = text_after_byte(b' ', text);
+    let pc = hex_word(leading_bytes(skip_bytes(words, 3), 8));
+    let value = hex_word(skip_bytes(words, 18));
+    let kind = FaultKind::named(text_before_byte(b' ', text)).unwrap_or(FaultKind::FetchAccess);
     RowEnd::Fault(kind, pc, value)
 }
 
-fn refusal_of(name: &[u8]) -> Refusal
+fn refusal_or_unreadable(name: &[u8]) -> Refusal
     ensures { result ≡ refusal_or_first (refusal_named name.now) }
 {
-    Refusal::named(name).unwrap_or(Refusal::ImageUnreadable)
+    Refusal::from_name(name).unwrap_or(Refusal::ImageUnreadable)
 }
 
 /// The verdict on a job.
-#[tactic(auto, unfolding(crate::specs::Said::verdict_of))]
-pub(crate) fn verdict_of(line: &[u8]) -> Verdict
-    ensures { result ≡ verdict_of line.now }
+#[tactic(auto, unfolding(crate::specs::LenientReport::verdict_of_line))]
+pub(crate) fn verdict_of_line(line: &[u8]) -> Verdict
+    ensures { result ≡ verdict_of_line line.now }
 {
     match byte_at(line, 8) {
         b'n' => Verdict::Unasked,
@@ -71,30 +74,30 @@ pub(crate) fn verdict_of(line: &[u8]) -> Verdict
 }
 
 /// Which jobs a part has, by its last line.
-#[tactic(auto, unfolding(crate::specs::Said::part_of))]
-pub(crate) fn part_of(alloc: Global, line: &[u8]) -> Result<Extent, AllocError>
-    ensures { IfOk result (λ extent. extent ≡ part_of line.now) }
+#[tactic(auto, unfolding(crate::specs::LenientReport::extent_of_line))]
+pub(crate) fn extent_of_line(alloc: Global, line: &[u8]) -> Result<Extent, AllocError>
+    ensures { IfOk result (λ extent. extent ≡ extent_of_line line.now) }
 {
-    let jobs = behind(after(b' ', behind(line, 5)), 3);
-    let shard = behind(after(b' ', jobs), 6);
-    let count = number_of(before(b' ', jobs));
+    let jobs = skip_bytes(text_after_byte(b' ', skip_bytes(line, 5)), 3);
+    let shard = skip_bytes(text_after_byte(b' ', jobs), 6);
+    let count = decimal_number(text_before_byte(b' ', jobs));
     if shard.is_empty() {
         Ok(Extent::Choice(count))
     } else {
-        shard_of(alloc, count, shard)
+        shard_of_text(alloc, count, shard)
     }
 }
 
-#[tactic(auto, unfolding(crate::specs::Said::shard_of))]
-fn shard_of(alloc: Global, jobs: u32, text: &[u8]) -> Result<Extent, AllocError>
-    ensures { IfOk result (λ extent. extent ≡ shard_of jobs text.now) }
+#[tactic(auto, unfolding(crate::specs::LenientReport::shard_of_text))]
+fn shard_of_text(alloc: Global, jobs: u32, text: &[u8]) -> Result<Extent, AllocError>
+    ensures { IfOk result (λ extent. extent ≡ shard_of_text jobs text.now) }
 {
-    let shards = after(b'/', text);
-    let stamp = name_or_dash(alloc, behind(after(b' ', shards), 6))?;
+    let shards = text_after_byte(b'/', text);
+    let stamp = name_or_dash(alloc, skip_bytes(text_after_byte(b' ', shards), 6))?;
     Ok(Extent::Shard(Shard {
         jobs,
-        number: number_of(before(b'/', text)),
-        shards: number_of(before(b' ', shards)),
+        number: decimal_number(text_before_byte(b'/', text)),
+        shards: decimal_number(text_before_byte(b' ', shards)),
         stamp: Text::new(stamp),
     }))
 }

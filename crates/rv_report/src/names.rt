@@ -1,16 +1,16 @@
 //! Names that stand twice.
 
 ghost use Rattle.std.specs.Prelude.{◌≡◌, [], IfOk};
-ghost use Rattle.rv_report.specs.Said.{new_count};
-ghost use Rattle.rv_report.specs.Saved.{names_of};
+ghost use Rattle.rv_report.specs.LenientReport.{count_before_repeated_name};
+ghost use Rattle.rv_report.specs.Saved.{row_names};
 
 use crate::row::Row;
 use std::alloc::{AllocError, Global};
 use std::collections::BTreeMap;
 
 /// How many rows stand before the first whose name is there already.
-pub fn new_count(alloc: Global, rows: &[Row]) -> Result<usize, AllocError>
-    ensures { IfOk result (λ count. count ≡ new_count [] (names_of rows.now)) }
+pub fn count_before_repeated_name(alloc: Global, rows: &[Row]) -> Result<usize, AllocError>
+    ensures { IfOk result (λ count. count ≡ count_before_repeated_name [] (row_names rows.now)) }
 {
     let mut places: BTreeMap<&str, usize> = BTreeMap::new(alloc);
     for (at, row) in rows.iter().enumerate() {

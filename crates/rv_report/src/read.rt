@@ -3,16 +3,16 @@
 ghost use Rattle.std.specs.Prelude.{◌≡◌, ◌==◌, ◌≤◌, ◌^◌, ◌<◌, IfOk, IfErr, string_bytes, length, not};
 ghost use Rattle.rv_report.specs.declared.saved.SavedReport.{SavedReport as Saved};
 ghost use Rattle.rv_report.specs.Saved.{IsSaved, saved_text};
-ghost use Rattle.rv_report.specs.Differences.{feeds, past, begun, is_last, begins_row, may_go_on, difference};
-ghost use Rattle.rv_report.specs.Differences.{difference_at, Tells, Gives, IsPlace};
-ghost use Rattle.rv_report.specs.Said.{said};
+ghost use Rattle.rv_report.specs.Differences.{count_of_line_feeds, word_after_byte, word_after_letter, begins_last_line, begins_row, can_begin_report_line, read_error_from};
+ghost use Rattle.rv_report.specs.Differences.{read_error_at, BeginsAlike, AnswersUnlessMemory, IsSameReadError};
+ghost use Rattle.rv_report.specs.LenientReport.{lenient_report};
 ghost use Rattle.rv_report.specs.declared.read.ReadError.TheVariants.{OutOfMemory};
 ghost use Rattle.rv_report.specs.declared.read.FirstWord.TheVariants as word;
 
-use crate::fields::front;
-use crate::said::said;
+use crate::fields::leading_bytes;
+use crate::lenient_reader::lenient_report;
 use crate::saved::SavedReport;
-use crate::text::text_of;
+use crate::saved_report_text::saved_text;
 use std::alloc::{AllocError, Global};
 use thiserror::Error;
 
@@ -46,27 +46,27 @@ pub fn read_report(alloc: Global, bytes: &[u8]) -> Result<SavedReport, ReadError
     ensures found { IfOk result (λ report. IsSaved report × (saved_text report ≡ bytes.now)) }
     // What has this text is read.
     ensures only { (report : Saved) → IsSaved report → saved_text report ≡ bytes.now
-        → Gives report result }
+        → AnswersUnlessMemory report result }
     // Up to the place that the error names, the text begins as that of some report.
     ensures err { IfErr result (λ error. (report : Saved) × IsSaved report
-        × Tells error (saved_text report) bytes.now) }
+        × BeginsAlike error (saved_text report) bytes.now) }
     // The place is that of the first difference from the report of what the lines say.
-    ensures place { IfErr result (λ error. IsPlace error
-        (difference 1 word.Ahead (saved_text (said bytes.now)) bytes.now)) }
+    ensures place { IfErr result (λ error. IsSameReadError error
+        (read_error_from 1 word.Ahead (saved_text (lenient_report bytes.now)) bytes.now)) }
 {
-    let report = said(alloc, bytes)?;
-    let written = text_of(alloc, &report)?;
+    let report = lenient_report(alloc, bytes)?;
+    let written = saved_text(alloc, &report)?;
     let text = written.as_bytes();
     if text == bytes {
         Ok(report)
     } else {
-        Err(difference(text, bytes))
+        Err(first_read_error(text, bytes))
     }
 }
 
 // Where the bytes differ first from the text.
-fn difference(text: &[u8], bytes: &[u8]) -> ReadError
-    ensures { result ≡ difference 1 word.Ahead text.now bytes.now }
+fn first_read_error(text: &[u8], bytes: &[u8]) -> ReadError
+    ensures { result ≡ read_error_from 1 word.Ahead text.now bytes.now }
 {
     let mut line = 1;
     let mut met = FirstWord::Ahead;
@@ -75,29 +75,29 @@ fn difference(text: &[u8], bytes: &[u8]) -> ReadError
             return ReadError::Line(line);
         }
         if *b != text[at] {
-            return difference_at(line, met, text[at], &bytes[at..]);
+            return read_error_at(line, met, text[at], &bytes[at..]);
         }
         if *b == b'\n' {
             line += 1;
         }
-        met = met.past(*b);
+        met = met.word_after_byte(*b);
     }
     ReadError::CutOff
 }
 
 // What is told where the rest of the bytes differs from a text in its first byte.
-fn difference_at(line: usize, met: FirstWord, other: u8, rest: &[u8]) -> ReadError
-    ensures { result ≡ difference_at line met other rest.now }
+fn read_error_at(line: usize, met: FirstWord, other: u8, rest: &[u8]) -> ReadError
+    ensures { result ≡ read_error_at line met other rest.now }
 {
-    if met.may_go_on(other, rest) && !has_feed(rest) {
+    if met.can_begin_report_line(other, rest) && !has_line_feed(rest) {
         ReadError::CutOff
     } else {
         ReadError::Line(line)
     }
 }
 
-fn has_feed(text: &[u8]) -> bool
-    ensures { result ≡ not (feeds text.now == 0) }
+fn has_line_feed(text: &[u8]) -> bool
+    ensures { result ≡ not (count_of_line_feeds text.now == 0) }
 {
     for b in text {
         if *b == b'\n' {
@@ -117,18 +117,18 @@ pub(crate) enum FirstWord {
 
 impl FirstWord {
     // The same, one byte further.
-    fn past(self, b: u8) -> FirstWord
-        ensures { result ≡ past self b }
+    fn word_after_byte(self, b: u8) -> FirstWord
+        ensures { result ≡ word_after_byte self b }
     {
         match b {
             b'\n' => FirstWord::Ahead,
             b' ' => FirstWord::Ended,
-            _ => self.begun(),
+            _ => self.word_after_letter(),
         }
     }
 
-    fn begun(self) -> FirstWord
-        ensures { result ≡ begun self }
+    fn word_after_letter(self) -> FirstWord
+        ensures { result ≡ word_after_letter self }
     {
         match self {
             FirstWord::Ended => FirstWord::Ended,
@@ -137,11 +137,11 @@ impl FirstWord {
     }
 
     // Whether the first word of a line can be a report's though the line goes on otherwise than a text's.
-    fn may_go_on(self, other: u8, rest: &[u8]) -> bool
-        ensures { result ≡ may_go_on self other rest.now }
+    fn can_begin_report_line(self, other: u8, rest: &[u8]) -> bool
+        ensures { result ≡ can_begin_report_line self other rest.now }
     {
         match self {
-            FirstWord::Ahead => is_last(other) && begins_row(rest),
+            FirstWord::Ahead => begins_last_line(other) && begins_row(rest),
             FirstWord::Begun => false,
             FirstWord::Ended => true,
         }
@@ -149,8 +149,8 @@ impl FirstWord {
 }
 
 // Whether the last line of a report begins so.
-fn is_last(b: u8) -> bool
-    ensures { result ≡ is_last b }
+fn begins_last_line(b: u8) -> bool
+    ensures { result ≡ begins_last_line b }
 {
     b == b'd' || b == b'p'
 }
@@ -159,5 +159,5 @@ fn is_last(b: u8) -> bool
 fn begins_row(text: &[u8]) -> bool
     ensures { result ≡ begins_row text.now }
 {
-    front(text, 4) == front(b"job ", text.len())
+    leading_bytes(text, 4) == leading_bytes(b"job ", text.len())
 }

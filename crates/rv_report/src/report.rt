@@ -3,15 +3,15 @@
 ghost use Rattle.std.specs.Prelude.{◌≡◌, ◌++◌, ◌+◌, ◌<◌, ◌^◌, ◌-◌, [], OnOk, OnErr, IfErr, map, option_map};
 ghost use Rattle.std.specs.Prelude.{string_bytes};
 ghost use Rattle.std.specs.Io.KnownBytes.{Appends};
-ghost use Rattle.rv_report.specs.Report.{verdict_name, end_line, or_dash, console_line};
+ghost use Rattle.rv_report.specs.Report.{verdict_name, end_line, dash_if_empty, console_line};
 ghost use Rattle.rv_report.specs.Report.{signature_lines, row_text, rows_text, done_line, report_text};
-ghost use Rattle.rv_base.specs.Sinks.{AppendsBeginning, IsUnderWay};
-ghost use Rattle.rv_base.specs.Counts.{Rose};
+ghost use Rattle.rv_base.specs.Sinks.{AppendsBeginning, IsPartlySent};
+ghost use Rattle.rv_base.specs.Counts.{HasRisen};
 ghost use Rattle.rv_base.specs.Counts.{one_more};
 ghost use Rattle.rv_report.specs.declared.report.WriteError.TheVariants.{Failed, OutOfMemory};
 
 use crate::row::{Row, RowEnd, Verdict};
-use crate::signature_lines::{push_word, push_word_lines};
+use crate::signature_lines::{push_word_digits, push_word_lines};
 use rv_base::{Sequence, Sink, SinkFailed, put_all};
 use std::alloc::{AllocError, Global};
 use thiserror::Error;
@@ -63,12 +63,12 @@ pub fn write_report<W: Sink>(alloc: Global, report: &Report, out: &mut W) -> Res
     ensures part { OnErr result
         (AppendsBeginning (W.taken out.old) (W.taken out.new) (report_text report.now.rows)) }
     ensures failed { IfErr result (λ error. error ≡ WriteError.Failed
-        → Rose (W.failed out.old) (W.failed out.new)) }
+        → HasRisen (W.failed out.old) (W.failed out.new)) }
 {
     let rows = report.rows.as_slice();
     let mut text = String::new(alloc);
     put_rows(alloc, rows, &mut text, out)?;
-    push_done(&mut text, rows.len())?;
+    push_done_line(&mut text, rows.len())?;
     put_text(&mut text, out)?;
     Ok(())
 }
@@ -82,7 +82,7 @@ fn put_rows<W: Sink>(
 ) -> Result<(), WriteError>
     requires { string_bytes text.old ≡ [] }
     ensures under_way { OnOk result
-        (IsUnderWay (W.taken out.old) (W.taken out.new)
+        (IsPartlySent (W.taken out.old) (W.taken out.new)
         (string_bytes text.new) (rows_text 0 rows.now)) }
     ensures counted { OnOk result (W.failed out.new ≡ W.failed out.old) }
     ensures part { OnErr result
@@ -92,15 +92,15 @@ fn put_rows<W: Sink>(
 {
     for (place, row) in rows.iter().enumerate() {
         push_row(alloc, text, place, row)?;
-        put_if_enough(text, out)?;
+        put_text_if_enough(text, out)?;
     }
     Ok(())
 }
 
 /// Sends the gathered text where it is enough for a large put.
-pub(crate) fn put_if_enough<W: Sink>(text: &mut String, out: &mut W) -> Result<(), WriteError>
+pub(crate) fn put_text_if_enough<W: Sink>(text: &mut String, out: &mut W) -> Result<(), WriteError>
     ensures under_way { OnOk result
-        (IsUnderWay (W.taken out.old) (W.taken out.new)
+        (IsPartlySent (W.taken out.old) (W.taken out.new)
         (string_bytes text.new) (string_bytes text.old)) }
     ensures counted { OnOk result (W.failed out.new ≡ W.failed out.old) }
     ensures part { OnErr result
@@ -132,7 +132,7 @@ pub(crate) fn put_text<W: Sink>(text: &mut String, out: &mut W) -> Result<(), Wr
 
 /// Appends the last line of a report of so many rows.
 #[tactic(auto, unfolding(crate::specs::Report::done_line))]
-pub(crate) fn push_done(text: &mut String, count: usize) -> Result<(), AllocError>
+pub(crate) fn push_done_line(text: &mut String, count: usize) -> Result<(), AllocError>
     ensures { OnOk result (string_bytes text.new ≡ string_bytes text.old ++ done_line count) }
 {
     write!(text, "done {count}\n")
@@ -155,15 +155,15 @@ pub(crate) fn push_row(
     let steps = row.steps;
     let verdict = verdict_text(row.verdict);
     write!(text, "job {number} {name}\n")?;
-    push_end(alloc, text, row.ending)?;
+    push_end_line(alloc, text, row.ending)?;
     write!(text, "steps {steps}\n")?;
     push_console(alloc, text, row.console.as_slice())?;
-    push_signature(alloc, text, signature_of(row))?;
+    push_signature(alloc, text, row_signature(row))?;
     write!(text, "verdict {verdict}\n")
 }
 
 #[tactic(auto, unfolding(crate::specs::Report::end_line))]
-fn push_end(alloc: Global, text: &mut String, ending: RowEnd) -> Result<(), AllocError>
+fn push_end_line(alloc: Global, text: &mut String, ending: RowEnd) -> Result<(), AllocError>
     ensures { OnOk result (string_bytes text.new ≡ string_bytes text.old ++ end_line ending) }
 {
     match ending {
@@ -171,9 +171,9 @@ fn push_end(alloc: Global, text: &mut String, ending: RowEnd) -> Result<(), Allo
         RowEnd::Fault(kind, pc, value) => {
             let name = kind.name();
             write!(text, "end fault {name} pc=")?;
-            push_word(alloc, text, pc)?;
+            push_word_digits(alloc, text, pc)?;
             text.push_str(" value=")?;
-            push_word(alloc, text, value)?;
+            push_word_digits(alloc, text, value)?;
             text.push_str("\n")
         }
         RowEnd::Budget => text.push_str("end budget\n"),
@@ -195,12 +195,12 @@ fn push_console(alloc: Global, text: &mut String, console: &[u8]) -> Result<(), 
 }
 
 fn dash_if_empty(text: &str) -> &str
-    ensures { result.now ≡ or_dash text.now }
+    ensures { result.now ≡ dash_if_empty text.now }
 {
     if text.is_empty() { "-" } else { text }
 }
 
-fn signature_of(row: &Row) -> Option<&[u32]>
+fn row_signature(row: &Row) -> Option<&[u32]>
     ensures { option_map (λ words. words.now) result ≡ row.now.signature }
 {
     match &row.signature {

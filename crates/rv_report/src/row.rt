@@ -62,10 +62,10 @@ const REFUSALS: [Refusal; 27] = [
 
 impl Refusal {
     /// The refusal of a name, as [`name`](Refusal::name) gives it; its bytes need not be UTF-8.
-    pub fn named(name: &[u8]) -> Option<Refusal>
+    pub fn from_name(name: &[u8]) -> Option<Refusal>
         ensures { result ≡ refusal_named name.now }
     {
-        match find_named(&REFUSALS, name) {
+        match find_refusal(&REFUSALS, name) {
             Some(refusal) => Some(*refusal),
             None => None,
         }
@@ -85,7 +85,7 @@ impl Refusal {
     }
 }
 
-fn find_named<'a>(refusals: &'a [Refusal], name: &[u8]) -> Option<&'a Refusal>
+fn find_refusal<'a>(refusals: &'a [Refusal], name: &[u8]) -> Option<&'a Refusal>
     ensures { option_map (λ refusal. refusal.now) result
         ≡ find (λ refusal. bytes_eq name.now (refusal_name refusal)) refusals.now }
 {

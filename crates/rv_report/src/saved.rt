@@ -2,12 +2,11 @@
 
 ghost use Rattle.std.specs.Prelude.{◌≡◌, ◌≤◌, length};
 ghost use Rattle.rv_base.specs.Limits.{most_jobs};
-ghost use Rattle.rv_report.specs.Saved.{are_rising, are_stepped, is_shard, fits};
+ghost use Rattle.rv_report.specs.Saved.{are_rising, are_evenly_spaced, is_valid_shard, fits_numbers};
 
-use crate::fields::is_name;
 use crate::report::Rows;
 use rv_base::limits::MOST_JOBS;
-use rv_base::{Sequence, Text};
+use rv_base::{Sequence, Text, is_name};
 
 /// Numbers of jobs, of which contracts see their list.
 pub type Numbers = Sequence<u32>;
@@ -47,26 +46,26 @@ pub struct SavedReport {
 
 impl Extent {
     /// Whether the numbers of jobs, in list order, are those that it has.
-    #[tactic(auto, unfolding(crate::specs::Saved::fits))]
-    pub fn fits(&self, numbers: &[u32]) -> bool
+    #[tactic(auto, unfolding(crate::specs::Saved::fits_numbers))]
+    pub fn fits_numbers(&self, numbers: &[u32]) -> bool
         requires { length numbers.now ≤ most_jobs }
-        ensures { result ≡ fits self.now numbers.now }
+        ensures { result ≡ fits_numbers self.now numbers.now }
     {
         match self {
-            Extent::Whole => are_stepped(1, 1, numbers.len(), numbers),
+            Extent::Whole => are_evenly_spaced(1, 1, numbers.len(), numbers),
             Extent::Choice(jobs) => *jobs as usize <= MOST_JOBS && are_rising(0, *jobs, numbers),
-            Extent::Shard(shard) => shard.fits(numbers),
+            Extent::Shard(shard) => shard.fits_numbers(numbers),
         }
     }
 }
 
 impl Shard {
-    #[tactic(auto, unfolding(crate::specs::Saved::fits))]
-    fn fits(&self, numbers: &[u32]) -> bool
-        ensures { result ≡ fits (Extent.Shard self.now) numbers.now }
+    #[tactic(auto, unfolding(crate::specs::Saved::fits_numbers))]
+    fn fits_numbers(&self, numbers: &[u32]) -> bool
+        ensures { result ≡ fits_numbers (Extent.Shard self.now) numbers.now }
     {
-        self.is_shard()
-            && are_stepped(
+        self.is_valid_shard()
+            && are_evenly_spaced(
                 self.number as usize,
                 self.shards as usize,
                 self.jobs as usize,
@@ -74,9 +73,9 @@ impl Shard {
             )
     }
 
-    #[tactic(auto, unfolding(crate::specs::Saved::is_shard))]
-    fn is_shard(&self) -> bool
-        ensures { result ≡ is_shard self.now }
+    #[tactic(auto, unfolding(crate::specs::Saved::is_valid_shard))]
+    fn is_valid_shard(&self) -> bool
+        ensures { result ≡ is_valid_shard self.now }
     {
         1 <= self.number
             && self.number <= self.shards
@@ -101,11 +100,11 @@ fn are_rising(before: u32, last: u32, numbers: &[u32]) -> bool
 }
 
 // Whether the numbers are this and each that is so much greater, up to the last.
-fn are_stepped(first: usize, step: usize, last: usize, numbers: &[u32]) -> bool
+fn are_evenly_spaced(first: usize, step: usize, last: usize, numbers: &[u32]) -> bool
     requires first { first ≤ most_jobs }
     requires step { step ≤ most_jobs }
     requires last { last ≤ most_jobs }
-    ensures { result ≡ are_stepped first step last numbers.now }
+    ensures { result ≡ are_evenly_spaced first step last numbers.now }
 {
     let mut next = first;
     for number in numbers {

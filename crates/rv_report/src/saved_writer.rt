@@ -4,20 +4,20 @@ ghost use Rattle.std.specs.Prelude.{◌≡◌, ◌++◌, ◌≤◌, ◌<◌, ◌
 ghost use Rattle.std.specs.Io.KnownBytes.{Appends};
 ghost use Rattle.rv_base.specs.Limits.{most_jobs};
 ghost use Rattle.rv_base.specs.Counts.{one_more};
-ghost use Rattle.rv_base.specs.Sinks.{AppendsBeginning, IsUnderWay};
-ghost use Rattle.rv_base.specs.Counts.{Rose};
+ghost use Rattle.rv_base.specs.Sinks.{AppendsBeginning, IsPartlySent};
+ghost use Rattle.rv_base.specs.Counts.{HasRisen};
 ghost use Rattle.rv_report.specs.Saved.{are_rising, numbered_text, saved_text};
 
-use crate::report::{WriteError, push_row, put_if_enough, put_text};
+use crate::report::{WriteError, push_row, put_text, put_text_if_enough};
 use crate::row::Row;
 use crate::saved::SavedReport;
-use crate::text::push_last;
+use crate::saved_report_text::push_extent_line;
 use rv_base::Sink;
 use std::alloc::Global;
 
 /// Appends the text of a report to the sink, or a beginning of it: the text that
 /// [`read_report`](crate::read_report) reads, of a whole report, of a choice's and of a shard's.
-pub fn write_saved<W: Sink>(
+pub fn write_saved_report<W: Sink>(
     alloc: Global,
     report: &SavedReport,
     out: &mut W,
@@ -30,18 +30,18 @@ pub fn write_saved<W: Sink>(
     ensures part { OnErr result
         (AppendsBeginning (W.taken out.old) (W.taken out.new) (saved_text report.now)) }
     ensures failed { IfErr result (λ error. error ≡ WriteError.Failed
-        → Rose (W.failed out.old) (W.failed out.new)) }
+        → HasRisen (W.failed out.old) (W.failed out.new)) }
 {
     let rows = report.rows.as_slice();
     let mut text = String::new(alloc);
-    put_rows(alloc, report.numbers.as_slice(), rows, &mut text, out)?;
-    push_last(&mut text, &report.extent, rows.len())?;
+    put_numbered_rows(alloc, report.numbers.as_slice(), rows, &mut text, out)?;
+    push_extent_line(&mut text, &report.extent, rows.len())?;
     put_text(&mut text, out)?;
     Ok(())
 }
 
 // The rows' text: the first part of it goes out, the rest stands in `text`.
-fn put_rows<W: Sink>(
+fn put_numbered_rows<W: Sink>(
     alloc: Global,
     numbers: &[u32],
     rows: &[Row],
@@ -52,7 +52,7 @@ fn put_rows<W: Sink>(
     requires rising { are_rising 0 most_jobs numbers.now ≡ true }
     requires empty { string_bytes text.old ≡ [] }
     ensures under_way { OnOk result
-        (IsUnderWay (W.taken out.old) (W.taken out.new)
+        (IsPartlySent (W.taken out.old) (W.taken out.new)
         (string_bytes text.new) (numbered_text numbers.now rows.now)) }
     ensures counted { OnOk result (W.failed out.new ≡ W.failed out.old) }
     ensures part { OnErr result (AppendsBeginning (W.taken out.old) (W.taken out.new)
@@ -62,7 +62,7 @@ fn put_rows<W: Sink>(
 {
     for (at, row) in rows.iter().enumerate() {
         push_row(alloc, text, numbers[at] as usize - 1, row)?;
-        put_if_enough(text, out)?;
+        put_text_if_enough(text, out)?;
     }
     Ok(())
 }

@@ -13,7 +13,11 @@ pub const LINE: usize = 9;
 
 /// Appends a word's digits, the high ones first.
 #[tactic(auto, unfolding(rv_text::specs::Words::word_digits))]
-pub(crate) fn push_word(alloc: Global, text: &mut String, word: u32) -> Result<(), AllocError>
+pub(crate) fn push_word_digits(
+    alloc: Global,
+    text: &mut String,
+    word: u32,
+) -> Result<(), AllocError>
     ensures { OnOk result (string_bytes text.new ≡ string_bytes text.old ++ word_digits word) }
 {
     let digits = hex::encode(alloc, word.to_be_bytes().as_slice())?;
@@ -30,7 +34,7 @@ pub(crate) fn push_word_lines(
         ≡ string_bytes text.old ++ flat_map word_line words.now) }
 {
     for word in words {
-        push_word(alloc, text, *word)?;
+        push_word_digits(alloc, text, *word)?;
         text.push_str("\n")?;
     }
     Ok(())
@@ -42,7 +46,7 @@ pub fn are_word_lines(bytes: &[u8], words: &[u32]) -> bool
 {
     let mut rest = bytes;
     for word in words {
-        match rest.strip_prefix(line_of(*word).as_slice()) {
+        match rest.strip_prefix(word_line(*word).as_slice()) {
             Some(more) => rest = more,
             None => return false,
         }
@@ -52,7 +56,7 @@ pub fn are_word_lines(bytes: &[u8], words: &[u32]) -> bool
 
 /// The line of a word.
 #[tactic(auto, unfolding(rv_text::specs::Words::word_digits))]
-pub fn line_of(word: u32) -> [u8; LINE]
+pub fn word_line(word: u32) -> [u8; LINE]
     ensures { result ≡ word_line word }
 {
     let mut digits = [0u8; LINE - 1];

@@ -16,7 +16,7 @@ use Rattle.rv_memory.specs.Bus.{Contents, new_bus}
 use Rattle.rv_machine.specs.State.{State, at_reset, is_misaligned}
 use Rattle.rv_rows.specs.declared.outcome.Loadable.{Loadable}
 use Rattle.rv_rows.specs.declared.outcome.SignatureRange.{SignatureRange}
-use Rattle.rv_rows.specs.Outcome.{end_of_signature, loadable_of, loaded_state, range_if_asked, range_of}
+use Rattle.rv_rows.specs.Outcome.{end_of_signature, loadable_image, loaded_state, range_if_asked, signature_range}
 use Rattle.rv_jobs.specs.Reading.{◌>>=◌}
 
 -- a second step that was reached: the first gave a value
@@ -27,9 +27,9 @@ stepped (Err why) f y e = cc
 
 -- a range is given where it is checked
 ranged : (file : List ℕ) (regions : List Region) (names : Symbols) (range : SignatureRange)
-    → range_of file regions names ≡ Ok range
+    → signature_range file regions names ≡ Ok range
     → signature_check range.begin range.end regions ≡ accepted
-unfolding range_of
+unfolding signature_range
 ranged file regions names range e =
     let begin = stepped (symbol_of file names.begin) _ range e in
     let end = stepped (end_of_signature (symbol_of file names.end)) _ range begin.1.1 in
@@ -42,9 +42,9 @@ ranged_if_asked : (file : List ℕ) (regions : List Region) (names : Option Symb
     → IfSome range (λ loadable. signature_check loadable.begin loadable.end regions ≡ accepted)
 ranged_if_asked file regions None None e = tt
 ranged_if_asked file regions None (Some loadable) e = cc
-ranged_if_asked file regions (Some names) None e = let found = stepped (range_of file regions names) _ None e in cc
+ranged_if_asked file regions (Some names) None e = let found = stepped (signature_range file regions names) _ None e in cc
 ranged_if_asked file regions (Some names) (Some loadable) e =
-    let found = stepped (range_of file regions names) _ (Some loadable) e in
+    let found = stepped (signature_range file regions names) _ (Some loadable) e in
     let is : found.0 ≡ loadable = cc in
     rw (← is) (ranged file regions names found.0 found.1.0)
 
@@ -54,9 +54,9 @@ pub record IsLoadable (job : Job) (file : List ℕ) (loadable : Loadable) : Type
   pub fits : map_check loadable.image.segments job.regions job.load ≡ accepted
   pub range : IfSome loadable.range (λ range. signature_check range.begin range.end job.regions ≡ accepted)
 
-pub loadable_parts : (job : Job) (file : List ℕ) (loadable : Loadable) → loadable_of job file ≡ Ok loadable
+pub loadable_parts : (job : Job) (file : List ℕ) (loadable : Loadable) → loadable_image job file ≡ Ok loadable
     → IsLoadable job file loadable
-unfolding loadable_of
+unfolding loadable_image
 loadable_parts job file loadable e =
     let image = stepped (image_of job.isa file) _ loadable e in
     let unit = stepped (map_check image.0.segments job.regions job.load) _ loadable image.1.1 in
@@ -93,7 +93,7 @@ aligned isa entry h = go (has isa RV32C) refl
     go false is = rw (h is) refl
 
 -- in a loaded machine the range is checked against its own regions
-pub range_there : (job : Job) (file : List ℕ) (loadable : Loadable) (state : State) → loadable_of job file ≡ Ok loadable
+pub range_there : (job : Job) (file : List ℕ) (loadable : Loadable) (state : State) → loadable_image job file ≡ Ok loadable
     → state ≡ loaded_state job file loadable.image
     → IfSome loadable.range (λ range. signature_check range.begin range.end state.bus.regions ≡ accepted)
 unfolding new_bus

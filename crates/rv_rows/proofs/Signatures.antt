@@ -7,7 +7,7 @@ use Rattle.rv_memory.specs.Regions.{in_one}
 use Rattle.rv_elf.specs.declared.error.ImageError.{ImageError}
 use Rattle.rv_elf.specs.declared.error.ImageError.TheVariants.{SignatureRange}
 use Rattle.rv_elf.specs.Rows.{accepted}
-use Rattle.rv_elf.specs.Symbols.{is_bad_range, signature_check}
+use Rattle.rv_elf.specs.Symbols.{is_bad_signature_range, signature_check}
 
 -- what is known of a range that is checked
 pub record IsWords (begin end : ℕ) (regions : List Region) : Type 0 where
@@ -44,7 +44,7 @@ pub checked : (begin end : ℕ) (regions : List Region) → signature_check begi
     → IsWords begin end regions
 unfolding signature_check
 checked begin end regions e =
-    let bad = good (is_bad_range begin end regions) SignatureRange e in
+    let bad = good (is_bad_signature_range begin end regions) SignatureRange e in
     let first = or_parts (nat_lt end begin) _ bad in
     let second = or_parts (not (begin % 4 == 0)) _ first.1 in
     let third = or_parts (not (end % 4 == 0)) _ second.1 in

@@ -7,7 +7,7 @@ use Rattle.rv_rows.specs.declared.outcome.Attempt.{Attempt}
 use Rattle.rv_rows.specs.declared.outcome.Attempt.TheVariants.{Refused, Ran}
 use Rattle.rv_rows.specs.declared.outcome.EndedRun.{EndedRun}
 use Rattle.rv_rows.specs.declared.outcome.Outcome.{Outcome}
-use Rattle.rv_rows.specs.Outcome.{refused_outcome, signature_in}
+use Rattle.rv_rows.specs.Outcome.{refused_outcome, signature_words_between}
 
 -- the signature's range, where one is asked for, was checked against the map
 abbrev pub HasSignature : EndedRun → Type 0
@@ -20,7 +20,7 @@ outcome_in_bus run = record {
   ending = run.ending;
   steps = run.steps;
   console = run.bus.output;
-  signature = option_map (signature_in run.bus) run.range;
+  signature = option_map (signature_words_between run.bus) run.range;
 }
 
 -- the signature of a run can be read from its bus

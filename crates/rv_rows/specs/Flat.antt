@@ -12,7 +12,7 @@ use Rattle.rv_rows.specs.declared.outcome.Outcome.{Outcome}
 use Rattle.rv_report.specs.declared.row.Row.{Row}
 use Rattle.rv_report.specs.declared.row.Verdict.TheVariants as verdict
 use Rattle.rv_rows.specs.Outcome.{outcome_of_run, refused_outcome}
-use Rattle.rv_rows.specs.Rows.{row_with}
+use Rattle.rv_rows.specs.Rows.{row_of_outcome}
 
 -- the most bytes of a flat image: those of the region
 abbrev pub image_room : ℕ
@@ -44,4 +44,4 @@ flat_outcome_of bytes budget =
 
 -- and their row
 unfoldable pub flat_row_of : List ℕ → ℕ → Row
-flat_row_of bytes budget = row_with flat_name (flat_outcome_of bytes budget) verdict.Unasked
+flat_row_of bytes budget = row_of_outcome flat_name (flat_outcome_of bytes budget) verdict.Unasked

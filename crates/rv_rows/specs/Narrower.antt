@@ -24,8 +24,8 @@ widened_plan place plan = record plan { jobs = widened_jobs place plan.jobs }
 
 -- the image was not refused, and the run ended in no fault of what the set lacks: `illegal` or
 -- `fetch-misaligned`
-abbrev pub is_of_any_set : RowEnd → Bool
-is_of_any_set (Exit code) = true
-is_of_any_set (Fault kind pc value) = not (is_of_set kind)
-is_of_any_set Budget = true
-is_of_any_set (Refused why) = false
+abbrev pub is_end_of_any_set : RowEnd → Bool
+is_end_of_any_set (Exit code) = true
+is_end_of_any_set (Fault kind pc value) = not (is_of_set kind)
+is_end_of_any_set Budget = true
+is_end_of_any_set (Refused why) = false

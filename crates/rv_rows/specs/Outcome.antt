@@ -29,41 +29,41 @@ use Rattle.rv_report.specs.declared.row.RowEnd.TheVariants as ending
 -- ---- the files of a job
 
 -- the bytes that are kept of a path, or the refusal of a path that was unreadable or too long
-abbrev pub content_of : Kept → Refusal → Refusal → Result (List ℕ) Refusal
-content_of (kept.Content bytes) unreadable long = Ok bytes
-content_of kept.Unreadable unreadable long = Err unreadable
-content_of kept.TooLong unreadable long = Err long
+abbrev pub content_or_refusal : Kept → Refusal → Refusal → Result (List ℕ) Refusal
+content_or_refusal (kept.Content bytes) unreadable long = Ok bytes
+content_or_refusal kept.Unreadable unreadable long = Err unreadable
+content_or_refusal kept.TooLong unreadable long = Err long
 
 -- a reference, where one is named: that of a signature, or that of a console
-abbrev pub reference_of : Option Kept → Result (Option (List ℕ)) Refusal
-reference_of None = Ok None
-reference_of (Some kept) = do
-  bytes ← content_of kept refusal.ReferenceUnreadable refusal.ReferenceTooLong
+abbrev pub reference_or_refusal : Option Kept → Result (Option (List ℕ)) Refusal
+reference_or_refusal None = Ok None
+reference_or_refusal (Some kept) = do
+  bytes ← content_or_refusal kept refusal.ReferenceUnreadable refusal.ReferenceTooLong
   Ok (Some bytes)
 
 -- the image's bytes, if the references of the signature and of the console are there too
-unfoldable pub file_of : Kept → Option Kept → Option Kept → Result (List ℕ) Refusal
-file_of image reference console = do
-  file ← content_of image refusal.ImageUnreadable refusal.ImageTooLong
-  lines ← reference_of reference
-  bytes ← reference_of console
+unfoldable pub image_file_or_refusal : Kept → Option Kept → Option Kept → Result (List ℕ) Refusal
+image_file_or_refusal image reference console = do
+  file ← content_or_refusal image refusal.ImageUnreadable refusal.ImageTooLong
+  lines ← reference_or_refusal reference
+  bytes ← reference_or_refusal console
   Ok file
 
 -- ---- the image and the signature's range
 
 -- a second name that is missing is no end
-abbrev pub end_error : ImageError → ImageError
-end_error image.NoBegin = image.NoEnd
-end_error why = why
+abbrev pub end_symbol_error : ImageError → ImageError
+end_symbol_error image.NoBegin = image.NoEnd
+end_symbol_error why = why
 
 -- the address of the second name, or why there is none
 abbrev pub end_of_signature : Result ℕ ImageError → Result ℕ ImageError
 end_of_signature (Ok address) = Ok address
-end_of_signature (Err why) = Err (end_error why)
+end_of_signature (Err why) = Err (end_symbol_error why)
 
 -- the addresses of the two symbols, between which there may be a signature
-unfoldable pub range_of : List ℕ → List Region → Symbols → Result SignatureRange ImageError
-range_of file regions names = do
+unfoldable pub signature_range : List ℕ → List Region → Symbols → Result SignatureRange ImageError
+signature_range file regions names = do
   begin ← symbol_of file names.begin
   end ← end_of_signature (symbol_of file names.end)
   unit ← signature_check begin end regions
@@ -74,13 +74,13 @@ abbrev pub range_if_asked : List ℕ → List Region → Option Symbols
     → Result (Option SignatureRange) ImageError
 range_if_asked file regions None = Ok None
 range_if_asked file regions (Some names) = do
-  range ← range_of file regions names
+  range ← signature_range file regions names
   Ok (Some range)
 
 -- the image of a file, where the job's map takes it, and the range of the signature, where one is
 -- asked for
-unfoldable pub loadable_of : Job → List ℕ → Result Loadable ImageError
-loadable_of job file = do
+unfoldable pub loadable_image : Job → List ℕ → Result Loadable ImageError
+loadable_image job file = do
   image ← image_of job.isa file
   unit ← map_check image.segments job.regions job.load
   range ← range_if_asked file job.regions job.signature
@@ -100,22 +100,22 @@ abbrev pub loaded_state : Job → List ℕ → Image → State
 loaded_state job file image = at_reset (loaded_contents job file image) image.entry job.isa
 
 -- the ending of a machine as that of a row
-abbrev pub end_of : Ending → RowEnd
-end_of (machine.Exit code) = ending.Exit code
-end_of (machine.Fault kind pc value) = ending.Fault kind pc value
-end_of machine.Budget = ending.Budget
+abbrev pub row_end : Ending → RowEnd
+row_end (machine.Exit code) = ending.Exit code
+row_end (machine.Fault kind pc value) = ending.Fault kind pc value
+row_end machine.Budget = ending.Budget
 
 -- the words of a signature in memory
-abbrev pub signature_in : Contents → SignatureRange → List ℕ
-signature_in bus range = words_of bus.memory range.begin range.end
+abbrev pub signature_words_between : Contents → SignatureRange → List ℕ
+signature_words_between bus range = words_of bus.memory range.begin range.end
 
 -- what a run came to, with the signature of its last state
 abbrev pub outcome_of_run : Ran → Option SignatureRange → Outcome
 outcome_of_run ran range = record {
-  ending = end_of ran.ending;
+  ending = row_end ran.ending;
   steps = ran.steps;
   console = ran.state.bus.output;
-  signature = option_map (signature_in ran.state.bus) range;
+  signature = option_map (signature_words_between ran.state.bus) range;
 }
 
 -- a refusal has no steps, no console bytes and no signature
@@ -136,17 +136,17 @@ outcome_if_loadable job file (Err why) = refused_outcome (refusal.Image why)
 
 -- the outcome over the image's bytes
 unfoldable pub file_outcome_of : Job → List ℕ → Outcome
-file_outcome_of job file = outcome_if_loadable job file (loadable_of job file)
+file_outcome_of job file = outcome_if_loadable job file (loadable_image job file)
 
 -- what comes of the image's bytes, or of the refusal of a file
-abbrev pub outcome_if_there : Job → Result (List ℕ) Refusal → Outcome
-outcome_if_there job (Ok file) = file_outcome_of job file
-outcome_if_there job (Err why) = refused_outcome why
+abbrev pub outcome_if_readable : Job → Result (List ℕ) Refusal → Outcome
+outcome_if_readable job (Ok file) = file_outcome_of job file
+outcome_if_readable job (Err why) = refused_outcome why
 
 -- the outcome of a job over what is kept of the paths of its image, of its reference and of the
 -- file that its console is expected to hold
 unfoldable pub outcome_of : Job → Kept → Option Kept → Option Kept → Outcome
-outcome_of job image reference console = outcome_if_there job (file_of image reference console)
+outcome_of job image reference console = outcome_if_readable job (image_file_or_refusal image reference console)
 
 -- ---- the state in which a run begins
 
@@ -155,10 +155,10 @@ abbrev pub start_if_loadable : Job → List ℕ → Result Loadable ImageError �
 start_if_loadable job file (Ok loadable) = Ok (loaded_state job file loadable.image)
 start_if_loadable job file (Err why) = Err (refusal.Image why)
 
-abbrev pub start_if_there : Job → Result (List ℕ) Refusal → Result State Refusal
-start_if_there job (Ok file) = start_if_loadable job file (loadable_of job file)
-start_if_there job (Err why) = Err why
+abbrev pub start_if_readable : Job → Result (List ℕ) Refusal → Result State Refusal
+start_if_readable job (Ok file) = start_if_loadable job file (loadable_image job file)
+start_if_readable job (Err why) = Err why
 
 -- that of a job over what is kept of the same paths, or why it does not run
 unfoldable pub start_of : Job → Kept → Option Kept → Option Kept → Result State Refusal
-start_of job image reference console = start_if_there job (file_of image reference console)
+start_of job image reference console = start_if_readable job (image_file_or_refusal image reference console)

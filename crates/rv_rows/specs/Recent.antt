@@ -2,7 +2,7 @@
 use Rattle.std.specs.Prelude.{◌≡◌, ℕ, List, Option, Some, All, option_map, slice_get}
 use Rattle.rv_jobs.specs.Plans.{Planned}
 use Rattle.rv_rows.specs.declared.outcome.Outcome.{Outcome}
-use Rattle.rv_rows.specs.declared.recent.RecentOutcome.{RecentOutcome}
+use Rattle.rv_rows.specs.declared.recent_outcomes.RecentOutcome.{RecentOutcome}
 use Rattle.rv_rows.specs.Rows.{outcome_in}
 
 -- the outcome of the job at a place

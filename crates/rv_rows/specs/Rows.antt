@@ -28,26 +28,26 @@ start_in answers job =
     (option_map (kept_for answers) (console_path job.expect_console))
 
 -- the bytes of a reference, if it was read
-abbrev pub bytes_in : Option Kept → Option (List ℕ)
-bytes_in (Some (kept.Content bytes)) = Some bytes
-bytes_in _ = None
+abbrev pub content_if_read : Option Kept → Option (List ℕ)
+content_if_read (Some (kept.Content bytes)) = Some bytes
+content_if_read _ = None
 
 -- the bytes of a job's reference, where it has one and it was read
-abbrev pub reference_in : List Answer → Job → Option (List ℕ)
-reference_in answers job = bytes_in (option_map (kept_for answers) job.expect_signature)
+abbrev pub signature_reference_bytes : List Answer → Job → Option (List ℕ)
+signature_reference_bytes answers job = content_if_read (option_map (kept_for answers) job.expect_signature)
 
-abbrev pub console_in : List Answer → Job → Option (List ℕ)
-console_in answers job =
-    bytes_in (option_map (kept_for answers) (console_path job.expect_console))
+abbrev pub expected_console_bytes : List Answer → Job → Option (List ℕ)
+expected_console_bytes answers job =
+    content_if_read (option_map (kept_for answers) (console_path job.expect_console))
 
 -- the outcome (and not the verdict) of the job that a job names
-abbrev pub other_in : Planned → Job → Option Outcome
-other_in plan job =
+abbrev pub named_job_outcome : Planned → Job → Option Outcome
+named_job_outcome plan job =
     option_map (outcome_in plan.answers) (option_and_then (slice_get plan.jobs) job.same_as)
 
 -- the row of a name, an outcome and a verdict
-abbrev pub row_with : List ℕ → Outcome → Verdict → Row
-row_with name outcome verdict = record {
+abbrev pub row_of_outcome : List ℕ → Outcome → Verdict → Row
+row_of_outcome name outcome verdict = record {
   name = name;
   ending = outcome.ending;
   steps = outcome.steps;
@@ -60,9 +60,9 @@ row_with name outcome verdict = record {
 unfoldable pub row_of : Planned → Job → Row
 row_of plan job =
     let outcome = outcome_in plan.answers job in
-    row_with job.name outcome
-    (verdict_of job outcome (reference_in plan.answers job) (console_in plan.answers job)
-    (other_in plan job))
+    row_of_outcome job.name outcome
+    (verdict_of job outcome (signature_reference_bytes plan.answers job) (expected_console_bytes plan.answers job)
+    (named_job_outcome plan job))
 
 -- one row a job, in list order
 unfoldable pub rows_of : Planned → List Row

@@ -19,8 +19,8 @@ use Rattle.rv_report.specs.declared.row.Verdict.TheVariants as verdict
 use Rattle.rv_report.specs.Report.{word_line}
 
 -- a job expects something of its row
-abbrev pub is_asked : Job → Bool
-is_asked job =
+abbrev pub expects_anything : Job → Bool
+expects_anything job =
     is_some job.expect_exit || (is_some job.expect_end || (is_some job.expect_console
     || (is_some job.expect_signature || is_some job.same_as)))
 
@@ -40,9 +40,9 @@ exits_with code ending.Budget = false
 exits_with code (ending.Refused why) = false
 
 -- the run ended with the code that is expected, if one is
-abbrev pub holds_exit : Option ℕ → RowEnd → Bool
-holds_exit None end = true
-holds_exit (Some code) end = exits_with code end
+abbrev pub has_expected_exit : Option ℕ → RowEnd → Bool
+has_expected_exit None end = true
+has_expected_exit (Some code) end = exits_with code end
 
 -- ---- the end
 
@@ -53,85 +53,85 @@ ends_by (expected.Fault kind) (ending.Fault met pc value) = is_same_kind kind me
 ends_by _ _ = false
 
 -- the run ended as is expected, if something is
-abbrev pub holds_end : Option ExpectedEnd → RowEnd → Bool
-holds_end None end = true
-holds_end (Some how) end = ends_by how end
+abbrev pub has_expected_end : Option ExpectedEnd → RowEnd → Bool
+has_expected_end None end = true
+has_expected_end (Some how) end = ends_by how end
 
 -- ---- the console
 
 -- every ending but a refusal is that of a run
-abbrev pub is_run : RowEnd → Bool
-is_run (ending.Refused why) = false
-is_run _ = true
+abbrev pub did_run : RowEnd → Bool
+did_run (ending.Refused why) = false
+did_run _ = true
 
 -- the job ran, and its console has these bytes
-abbrev pub prints : List ℕ → Outcome → Bool
-prints bytes outcome = is_run outcome.ending && bytes_eq bytes outcome.console
+abbrev pub ran_with_console : List ℕ → Outcome → Bool
+ran_with_console bytes outcome = did_run outcome.ending && bytes_eq bytes outcome.console
 
 -- the bytes are those of the job itself, or of the file that it names, which was read
-abbrev pub holds_console : Option ExpectedConsole → Option (List ℕ) → Outcome → Bool
-holds_console None bytes outcome = true
-holds_console (Some (Text text)) bytes outcome = prints text outcome
-holds_console (Some (File path)) None outcome = false
-holds_console (Some (File path)) (Some bytes) outcome = prints bytes outcome
+abbrev pub has_expected_console : Option ExpectedConsole → Option (List ℕ) → Outcome → Bool
+has_expected_console None bytes outcome = true
+has_expected_console (Some (Text text)) bytes outcome = ran_with_console text outcome
+has_expected_console (Some (File path)) None outcome = false
+has_expected_console (Some (File path)) (Some bytes) outcome = ran_with_console bytes outcome
 
 -- ---- the reference
 
 -- each word of a signature as a line
-abbrev pub lines_of : Option (List ℕ) → List ℕ
-lines_of None = []
-lines_of (Some words) = flat_map word_line words
+abbrev pub lines_of_signature : Option (List ℕ) → List ℕ
+lines_of_signature None = []
+lines_of_signature (Some words) = flat_map word_line words
 
 -- the job ran, and the bytes of the reference, which was read, are its signature's lines
-abbrev pub holds_reference : Option (List ℕ) → Option (List ℕ) → Outcome → Bool
-holds_reference None bytes outcome = true
-holds_reference (Some path) None outcome = false
-holds_reference (Some path) (Some bytes) outcome = is_run outcome.ending
-    && bytes_eq bytes (lines_of outcome.signature)
+abbrev pub has_expected_signature : Option (List ℕ) → Option (List ℕ) → Outcome → Bool
+has_expected_signature None bytes outcome = true
+has_expected_signature (Some path) None outcome = false
+has_expected_signature (Some path) (Some bytes) outcome = did_run outcome.ending
+    && bytes_eq bytes (lines_of_signature outcome.signature)
 
 -- ---- another job
 
 -- two runs ended alike: by the same code, by the same kind of fault, or both by their budgets
-abbrev pub are_alike : RowEnd → RowEnd → Bool
-are_alike (ending.Exit m) (ending.Exit n) = m == n
-are_alike (ending.Fault kind pc value) (ending.Fault other at met) = is_same_kind kind other
-are_alike ending.Budget ending.Budget = true
-are_alike _ _ = false
+abbrev pub are_alike_endings : RowEnd → RowEnd → Bool
+are_alike_endings (ending.Exit m) (ending.Exit n) = m == n
+are_alike_endings (ending.Fault kind pc value) (ending.Fault other at met) = is_same_kind kind other
+are_alike_endings ending.Budget ending.Budget = true
+are_alike_endings _ _ = false
 
 -- neither has a signature, or both have the same words
-abbrev pub same_signature : Option (List ℕ) → Option (List ℕ) → Bool
-same_signature None None = true
-same_signature (Some words) (Some others) = bytes_eq words others
-same_signature _ _ = false
+abbrev pub are_same_signatures : Option (List ℕ) → Option (List ℕ) → Bool
+are_same_signatures None None = true
+are_same_signatures (Some words) (Some others) = bytes_eq words others
+are_same_signatures _ _ = false
 
 -- two outcomes are the same but for steps, addresses and values; a refused one is the same as no
 -- other, nor as itself
-abbrev pub are_same : Outcome → Outcome → Bool
-are_same outcome other = are_alike outcome.ending other.ending
-    && (bytes_eq outcome.console other.console && same_signature outcome.signature other.signature)
+abbrev pub are_same_outcomes : Outcome → Outcome → Bool
+are_same_outcomes outcome other = are_alike_endings outcome.ending other.ending
+    && (bytes_eq outcome.console other.console && are_same_signatures outcome.signature other.signature)
 
 -- the outcome is the same as that of the job that it names, if it names one. The named job stands
 -- earlier in the list, so that its outcome is there
-abbrev pub holds_same : Option ℕ → Option Outcome → Outcome → Bool
-holds_same None other outcome = true
-holds_same (Some place) None outcome = false
-holds_same (Some place) (Some other) outcome = are_same outcome other
+abbrev pub is_same_as_named : Option ℕ → Option Outcome → Outcome → Bool
+is_same_as_named None other outcome = true
+is_same_as_named (Some place) None outcome = false
+is_same_as_named (Some place) (Some other) outcome = are_same_outcomes outcome other
 
 -- ---- all of them
 
 -- each expectation holds or is not there, over the bytes of the references that were read, and the
 -- outcome of the job that it names
-abbrev pub holds_all : Job → Outcome → Option (List ℕ) → Option (List ℕ) → Option Outcome → Bool
-holds_all job outcome reference console other =
-    holds_exit job.expect_exit outcome.ending
-    && (holds_end job.expect_end outcome.ending
-    && (holds_console job.expect_console console outcome
-    && (holds_reference job.expect_signature reference outcome
-    && holds_same job.same_as other outcome)))
+abbrev pub meets_all_expectations : Job → Outcome → Option (List ℕ) → Option (List ℕ) → Option Outcome → Bool
+meets_all_expectations job outcome reference console other =
+    has_expected_exit job.expect_exit outcome.ending
+    && (has_expected_end job.expect_end outcome.ending
+    && (has_expected_console job.expect_console console outcome
+    && (has_expected_signature job.expect_signature reference outcome
+    && is_same_as_named job.same_as other outcome)))
 
 -- the verdict over the same
 unfoldable pub verdict_of :
     Job → Outcome → Option (List ℕ) → Option (List ℕ) → Option Outcome → Verdict
 verdict_of job outcome reference console other =
-    if not (is_asked job) then verdict.Unasked
-    else (if holds_all job outcome reference console other then verdict.Pass else verdict.Fail)
+    if not (expects_anything job) then verdict.Unasked
+    else (if meets_all_expectations job outcome reference console other then verdict.Pass else verdict.Fail)

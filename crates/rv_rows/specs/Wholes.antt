@@ -5,8 +5,8 @@ use Rattle.rv_jobs.specs.declared_job.Job.{Job}
 use Rattle.rv_jobs.specs.Jobs.{console_path}
 use Rattle.rv_jobs.specs.Plans.{Planned, kept_for}
 
-abbrev pub planned : List Job → List Answer → Planned
-planned jobs answers = record { jobs = jobs; answers = answers }
+abbrev pub plan_of_jobs : List Job → List Answer → Planned
+plan_of_jobs jobs answers = record { jobs = jobs; answers = answers }
 
 -- the same is kept of each path of a job
 pub record KeepSame (some others : List Answer) (job : Job) : Type 0 where

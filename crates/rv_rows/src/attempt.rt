@@ -9,12 +9,12 @@ ghost use Rattle.rv_base.specs.Limits.{most_script};
 ghost use Rattle.rv_machine.specs.Run.{run_of};
 ghost use Rattle.rv_machine.specs.Machine.{state_of};
 ghost use Rattle.rv_rows.specs.Attempt.{HasSignature, IsReadable, outcome_in_bus, outcome_of_attempt};
-ghost use Rattle.rv_rows.specs.Outcome.{end_of, end_of_signature, file_of, file_outcome_of, loadable_of, loaded_state};
-ghost use Rattle.rv_rows.specs.Outcome.{outcome_of, outcome_of_run, range_of, reference_of, refusal_in};
+ghost use Rattle.rv_rows.specs.Outcome.{row_end, end_of_signature, image_file_or_refusal, file_outcome_of, loadable_image, loaded_state};
+ghost use Rattle.rv_rows.specs.Outcome.{outcome_of, outcome_of_run, signature_range, reference_or_refusal, refusal_in};
 ghost use Rattle.rv_rows.specs.Outcome.{start_if_loadable, start_of};
 
 use crate::outcome::{Attempt, EndedRun, Loadable, SignatureRange};
-use crate::spare::Spare;
+use crate::spare_bus::Spare;
 use rv_elf::{Image, ImageError, check_map, check_signature, find_symbol, load, read_image};
 use rv_jobs::{Job, Kept, Symbols};
 use rv_machine::{Ending, Machine};
@@ -24,13 +24,13 @@ use std::alloc::{AllocError, Global};
 
 /// The image's bytes, over what is kept of the paths of the image, of the reference, and of the file that the console is
 /// expected to hold, or the first refusal of them.
-#[tactic(auto, unfolding(crate::specs::Outcome::file_of))]
-pub(crate) fn file_of<'a>(
+#[tactic(auto, unfolding(crate::specs::Outcome::image_file_or_refusal))]
+pub(crate) fn image_file_or_refusal<'a>(
     image: &'a Kept,
     reference: Option<&Kept>,
     console: Option<&Kept>,
 ) -> Result<&'a [u8], Refusal>
-    ensures { let found = file_of image.now (option_map (λ kept. kept.now) reference.entry)
+    ensures { let found = image_file_or_refusal image.now (option_map (λ kept. kept.now) reference.entry)
         (option_map (λ kept. kept.now) console.entry) in
         MatchResult result (λ file. found ≡ Ok file.now) (λ why. found ≡ Err why) }
 {
@@ -46,7 +46,7 @@ pub(crate) fn file_of<'a>(
 
 /// Why a job is refused over the same, if it is. Nothing is run.
 #[tactic(auto, unfolding(crate::specs::Outcome::outcome_of))]
-pub(crate) fn refusal_of(
+pub(crate) fn refusal_of_job(
     alloc: Global,
     job: &Job,
     image: &Kept,
@@ -59,7 +59,7 @@ pub(crate) fn refusal_of(
         ≡ refusal_in (outcome_of job.now image.now (option_map (λ kept. kept.now) reference.entry)
         (option_map (λ kept. kept.now) console.entry)).ending) }
 {
-    match file_of(image, reference, console) {
+    match image_file_or_refusal(image, reference, console) {
         Ok(file) => file_refusal(alloc, job, file),
         Err(why) => Ok(Some(why)),
     }
@@ -72,7 +72,7 @@ fn file_refusal(alloc: Global, job: &Job, file: &[u8]) -> Result<Option<Refusal>
     ensures { IfOk result
         (λ why. why ≡ refusal_in (file_outcome_of job.now file.now).ending) }
 {
-    match loadable_of(alloc, job, file) {
+    match loadable_image(alloc, job, file) {
         Ok(_) => Ok(None),
         Err(ImageError::OutOfMemory) => Err(AllocError),
         Err(error) => Ok(Some(Refusal::Image(error))),
@@ -81,7 +81,7 @@ fn file_refusal(alloc: Global, job: &Job, file: &[u8]) -> Result<Option<Refusal>
 
 /// The machine in which a job runs over the same, or why the job is refused. Nothing is run.
 #[tactic(auto, unfolding(crate::specs::Outcome::start_of))]
-pub(crate) fn machine_of(
+pub(crate) fn machine_of_job(
     alloc: Global,
     job: &Job,
     image: &Kept,
@@ -96,7 +96,7 @@ pub(crate) fn machine_of(
         IfOk result (λ found. MatchResult found (λ machine. start ≡ Ok (state_of machine))
         (λ why. start ≡ Err why)) }
 {
-    match file_of(image, reference, console) {
+    match image_file_or_refusal(image, reference, console) {
         Ok(file) => file_machine(alloc, job, file),
         Err(why) => Ok(Err(why)),
     }
@@ -110,11 +110,11 @@ fn file_machine(
     requires script { length job.now.script ≤ most_script }
     requires named { IfSome job.now.signature (λ names. (0 < length names.begin)
         × (0 < length names.end)) }
-    ensures { let start = start_if_loadable job.now file.now (loadable_of job.now file.now) in
+    ensures { let start = start_if_loadable job.now file.now (loadable_image job.now file.now) in
         IfOk result (λ found. MatchResult found (λ machine. start ≡ Ok (state_of machine))
         (λ why. start ≡ Err why)) }
 {
-    match loadable_of(alloc, job, file) {
+    match loadable_image(alloc, job, file) {
         Ok(loadable) => Ok(Ok(loaded_machine(alloc, job, file, &loadable, &mut Spare::new())?)),
         Err(ImageError::OutOfMemory) => Err(AllocError),
         Err(error) => Ok(Err(Refusal::Image(error))),
@@ -124,8 +124,8 @@ fn file_machine(
 // That a reference was read, where one is named.
 fn check_reference(reference: Option<&Kept>) -> Result<(), Refusal>
     ensures { MatchResult result
-        (λ _. IsOk (reference_of (option_map (λ kept. kept.now) reference.entry)))
-        (λ why. reference_of (option_map (λ kept. kept.now) reference.entry) ≡ Err why) }
+        (λ _. IsOk (reference_or_refusal (option_map (λ kept. kept.now) reference.entry)))
+        (λ why. reference_or_refusal (option_map (λ kept. kept.now) reference.entry) ≡ Err why) }
 {
     match reference {
         Some(Kept::Unreadable) => Err(Refusal::ReferenceUnreadable),
@@ -149,10 +149,10 @@ pub(crate) fn file_attempt(
         ≡ file_outcome_of job.now file.now) }
     ensures readable { IfOk result IsReadable }
 {
-    match loadable_of(alloc, job, file) {
+    match loadable_image(alloc, job, file) {
         Ok(loadable) => {
             let machine = loaded_machine(alloc, job, file, &loadable, spare)?;
-            Ok(Attempt::Ran(run(machine, job.budget, loadable.range)))
+            Ok(Attempt::Ran(run_machine(machine, job.budget, loadable.range)))
         }
         Err(ImageError::OutOfMemory) => Err(AllocError),
         Err(error) => Ok(Attempt::Refused(Refusal::Image(error))),
@@ -160,12 +160,12 @@ pub(crate) fn file_attempt(
 }
 
 // The image and the signature's range, or the first refusal.
-#[tactic(auto, unfolding(crate::specs::Outcome::loadable_of))]
-fn loadable_of(alloc: Global, job: &Job, file: &[u8]) -> Result<Loadable, ImageError>
+#[tactic(auto, unfolding(crate::specs::Outcome::loadable_image))]
+fn loadable_image(alloc: Global, job: &Job, file: &[u8]) -> Result<Loadable, ImageError>
     requires { IfSome job.now.signature (λ names. (0 < length names.begin)
         × (0 < length names.end)) }
-    ensures { MatchResult result (λ loadable. loadable_of job.now file.now ≡ Ok loadable)
-        (λ error. error ≢ OutOfMemory → loadable_of job.now file.now ≡ Err error) }
+    ensures { MatchResult result (λ loadable. loadable_image job.now file.now ≡ Ok loadable)
+        (λ error. error ≢ OutOfMemory → loadable_image job.now file.now ≡ Err error) }
 {
     let image = read_image(alloc, file, job.isa)?;
     check_map(&image, &job.regions, job.load)?;
@@ -176,7 +176,7 @@ fn loadable_of(alloc: Global, job: &Job, file: &[u8]) -> Result<Loadable, ImageE
     Ok(Loadable { image, range })
 }
 
-#[tactic(auto, unfolding(crate::specs::Outcome::range_of))]
+#[tactic(auto, unfolding(crate::specs::Outcome::signature_range))]
 fn signature_range(
     image: &Image,
     file: &[u8],
@@ -186,15 +186,15 @@ fn signature_range(
     requires image { IsImageOf file.now image.now }
     requires begins { 0 < length names.now.begin }
     requires ends { 0 < length names.now.end }
-    ensures { result ≡ range_of file.now regions.now names.now }
+    ensures { result ≡ signature_range file.now regions.now names.now }
 {
     let begin = find_symbol(image, file, names.begin.as_str().as_bytes())?;
-    let end = end_symbol(image, file, names.end.as_str().as_bytes())?;
+    let end = find_end_symbol(image, file, names.end.as_str().as_bytes())?;
     check_signature(begin, end, regions)?;
     Ok(SignatureRange { begin, end })
 }
 
-fn end_symbol(image: &Image, file: &[u8], name: &[u8]) -> Result<u32, ImageError>
+fn find_end_symbol(image: &Image, file: &[u8], name: &[u8]) -> Result<u32, ImageError>
     requires image { IsImageOf file.now image.now }
     requires named { 0 < length name.now }
     ensures { result ≡ end_of_signature (symbol_of file.now name.now) }
@@ -214,24 +214,24 @@ fn loaded_machine(
     spare: &mut Spare,
 ) -> Result<Machine, AllocError>
     requires script { length job.now.script ≤ most_script }
-    requires loadable { loadable_of job.now file.now ≡ Ok loadable.now }
+    requires loadable { loadable_image job.now file.now ≡ Ok loadable.now }
     ensures { IfOk result (λ machine. state_of machine
         ≡ loaded_state job.now file.now loadable.now.image) }
 {
-    let script = copied(alloc, job.script.as_slice())?;
+    let script = copy_bytes(alloc, job.script.as_slice())?;
     let mut bus = spare.new_bus(alloc, job.regions, script, job.misaligned)?;
     load(&loadable.image, file, job.load, &mut bus);
     Machine::new(alloc, bus, loadable.image.entry, job.isa)
 }
 
-fn copied(alloc: Global, bytes: &[u8]) -> Result<Vec<u8>, AllocError>
+fn copy_bytes(alloc: Global, bytes: &[u8]) -> Result<Vec<u8>, AllocError>
     ensures { IfOk result (λ copy. copy.items ≡ bytes.now) }
 {
     bytes.to_vec(alloc)
 }
 
 // What a run within a budget comes to.
-pub(crate) fn run(machine: Machine, budget: u32, range: Option<SignatureRange>) -> EndedRun
+pub(crate) fn run_machine(machine: Machine, budget: u32, range: Option<SignatureRange>) -> EndedRun
     requires { IfSome range
         (λ range. signature_check range.begin range.end (state_of machine).bus.regions ≡ accepted) }
     ensures outcome { outcome_in_bus result
@@ -249,7 +249,7 @@ pub(crate) fn run(machine: Machine, budget: u32, range: Option<SignatureRange>) 
 }
 
 fn row_end(ending: Ending) -> RowEnd
-    ensures { result ≡ end_of ending }
+    ensures { result ≡ row_end ending }
 {
     match ending {
         Ending::Exit(code) => RowEnd::Exit(code),

@@ -5,9 +5,9 @@ ghost use Rattle.rv_memory.specs.Bus.{byte_at};
 ghost use Rattle.rv_machine.specs.Machine.{state_of};
 ghost use Rattle.rv_rows.specs.Flat.{flat_byte, flat_contents, flat_outcome_of, flat_row_of, flat_state, image_room};
 
-use crate::attempt::run;
-use crate::outcome::{Outcome, refused};
-use crate::plan_rows::row_with;
+use crate::attempt::run_machine;
+use crate::outcome::{Outcome, refused_outcome};
+use crate::plan_rows::row_of_outcome;
 use rv_isa::Isa;
 use rv_machine::Machine;
 use rv_memory::{Bus, Map, Misaligned};
@@ -27,16 +27,16 @@ pub fn flat_row(alloc: Global, bytes: &[u8], budget: u32) -> Result<Row, AllocEr
     ensures { IfOk result (λ row. row ≡ flat_row_of bytes.now budget) }
 {
     let outcome = flat_outcome(alloc, bytes, budget)?;
-    row_with(alloc, "raw", outcome, Verdict::Unasked)
+    row_of_outcome(alloc, "raw", outcome, Verdict::Unasked)
 }
 
 fn flat_outcome(alloc: Global, bytes: &[u8], budget: u32) -> Result<Outcome, AllocError>
     ensures { IfOk result (λ outcome. outcome ≡ flat_outcome_of bytes.now budget) }
 {
     if IMAGE_ROOM < bytes.len() {
-        return Ok(refused(alloc, Refusal::ImageTooLong));
+        return Ok(refused_outcome(alloc, Refusal::ImageTooLong));
     }
-    run(flat_machine(alloc, bytes)?, budget, None).outcome(alloc)
+    run_machine(flat_machine(alloc, bytes)?, budget, None).outcome(alloc)
 }
 
 fn flat_machine(alloc: Global, bytes: &[u8]) -> Result<Machine, AllocError>

@@ -4,7 +4,7 @@ ghost use Rattle.std.specs.Prelude.{◌≡◌, IfOk, IfSome, option_map};
 ghost use Rattle.rv_elf.specs.Rows.{accepted};
 ghost use Rattle.rv_elf.specs.Symbols.{signature_check};
 ghost use Rattle.rv_rows.specs.Attempt.{HasSignature, IsReadable, outcome_in_bus, outcome_of_attempt};
-ghost use Rattle.rv_rows.specs.Outcome.{refused_outcome, signature_in};
+ghost use Rattle.rv_rows.specs.Outcome.{refused_outcome, signature_words_between};
 
 use rv_elf::Image;
 use rv_jobs::Bytes;
@@ -62,7 +62,7 @@ impl Attempt {
         ensures { IfOk result (λ outcome. outcome ≡ outcome_of_attempt self.now) }
     {
         match self {
-            Attempt::Refused(why) => Ok(refused(alloc, *why)),
+            Attempt::Refused(why) => Ok(refused_outcome(alloc, *why)),
             Attempt::Ran(run) => run.outcome(alloc),
         }
     }
@@ -83,7 +83,7 @@ impl EndedRun {
         ensures { IfOk result (λ outcome. outcome ≡ outcome_in_bus self.now) }
     {
         let console = self.bus.console().to_vec(alloc)?;
-        let signature = signature_in(alloc, &self.bus, self.range)?;
+        let signature = signature_if_asked(alloc, &self.bus, self.range)?;
         Ok(Outcome {
             ending: self.ending,
             steps: self.steps,
@@ -129,7 +129,7 @@ impl Outcome {
 }
 
 /// The outcome of a job that didn't run.
-pub(crate) fn refused(alloc: Global, why: Refusal) -> Outcome
+pub(crate) fn refused_outcome(alloc: Global, why: Refusal) -> Outcome
     ensures { result ≡ refused_outcome why }
 {
     Outcome {
@@ -141,24 +141,28 @@ pub(crate) fn refused(alloc: Global, why: Refusal) -> Outcome
 }
 
 // The words of a signature in memory.
-fn signature_in(
+fn signature_if_asked(
     alloc: Global,
     bus: &Bus,
     range: Option<SignatureRange>,
 ) -> Result<Option<Words>, AllocError>
     requires { IfSome range (λ at. signature_check at.begin at.end bus.now.regions
         ≡ accepted) }
-    ensures { IfOk result (λ words. words ≡ option_map (signature_in bus.now) range) }
+    ensures { IfOk result (λ words. words ≡ option_map (signature_words_between bus.now) range) }
 {
     match range {
-        Some(range) => Ok(Some(words_between(alloc, bus, range)?)),
+        Some(range) => Ok(Some(signature_words_between(alloc, bus, range)?)),
         None => Ok(None),
     }
 }
 
-fn words_between(alloc: Global, bus: &Bus, range: SignatureRange) -> Result<Words, AllocError>
+fn signature_words_between(
+    alloc: Global,
+    bus: &Bus,
+    range: SignatureRange,
+) -> Result<Words, AllocError>
     requires { signature_check range.begin range.end bus.now.regions ≡ accepted }
-    ensures { IfOk result (λ words. words ≡ signature_in bus.now range) }
+    ensures { IfOk result (λ words. words ≡ signature_words_between bus.now range) }
 {
     Ok(Words::new(bus.words(alloc, range.begin, range.end)?))
 }

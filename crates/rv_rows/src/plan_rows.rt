@@ -7,15 +7,15 @@ ghost use Rattle.rv_machine.specs.Machine.{state_of};
 ghost use Rattle.rv_rows.specs.Attempt.{IsReadable, outcome_of_attempt};
 ghost use Rattle.rv_rows.specs.Outcome.{refusal_in};
 ghost use Rattle.rv_rows.specs.Recent.{AreOutcomes, outcome_at};
-ghost use Rattle.rv_rows.specs.Rows.{bytes_in, console_in, other_in, outcome_in, reference_in, row_of, row_with};
+ghost use Rattle.rv_rows.specs.Rows.{content_if_read, expected_console_bytes, named_job_outcome, outcome_in, signature_reference_bytes, row_of, row_of_outcome};
 ghost use Rattle.rv_rows.specs.Rows.{rows_of, start_in};
-ghost use Rattle.rv_rows.specs.Verdict.{are_same, holds_same};
+ghost use Rattle.rv_rows.specs.Verdict.{are_same_outcomes, is_same_as_named};
 
-use crate::attempt::{file_attempt, file_of, machine_of, refusal_of};
+use crate::attempt::{file_attempt, image_file_or_refusal, machine_of_job, refusal_of_job};
 use crate::outcome::{Attempt, Outcome};
-use crate::recent::{MOST, Recent};
-use crate::spare::Spare;
-use crate::verdict::{are_same, is_same, verdict};
+use crate::recent_outcomes::{MOST, Recent};
+use crate::spare_bus::Spare;
+use crate::verdict::{are_same_outcomes, is_same_as_attempt, verdict_of};
 use rv_jobs::{Job, Kept, Plan, Text};
 use rv_machine::Machine;
 use rv_report::{Refusal, Report, Row, Rows, Verdict};
@@ -29,12 +29,12 @@ pub fn row_at(alloc: Global, plan: &Plan, i: usize) -> Result<Row, AllocError>
     ensures { IfOk result (λ row. (d : AJob) → row
         ≡ row_of plan.now (slice_index_or plan.now.jobs i d)) }
 {
-    next_row(alloc, plan, i, &mut Spare::new(), &mut Recent::new(alloc))
+    row_at_with_recent(alloc, plan, i, &mut Spare::new(), &mut Recent::new(alloc))
 }
 
 /// The same, in the memory of the last run and with the outcomes that are kept of the last jobs.
 #[tactic(auto, unfolding(crate::specs::Rows::row_of))]
-pub fn next_row(
+pub fn row_at_with_recent(
     alloc: Global,
     plan: &Plan,
     i: usize,
@@ -49,16 +49,16 @@ pub fn next_row(
 {
     let job = plan.job(i);
     let outcome = outcome_at(alloc, plan, i, spare)?;
-    let same = holds_same(plan, job, &outcome, spare, recent)?;
-    let verdict = verdict(
+    let same = is_same_as_named(plan, job, &outcome, spare, recent)?;
+    let verdict = verdict_of(
         job,
         &outcome,
-        reference_bytes(plan, i),
-        console_bytes(plan, i),
+        signature_reference_bytes(plan, i),
+        expected_console_bytes(plan, i),
         same,
     );
-    keep_if_named(alloc, plan, i, &outcome, recent)?;
-    row_with(alloc, job.name.as_str(), outcome, verdict)
+    keep_outcome_if_named(alloc, plan, i, &outcome, recent)?;
+    row_of_outcome(alloc, job.name.as_str(), outcome, verdict)
 }
 
 // The outcome of the job at a place.
@@ -93,7 +93,7 @@ fn attempt_at(
     ensures readable { IfOk result IsReadable }
 {
     let job = plan.job(i);
-    match file_of(plan.image(i), plan.reference(i), plan.console_reference(i)) {
+    match image_file_or_refusal(plan.image(i), plan.reference(i), plan.console_reference(i)) {
         Ok(file) => file_attempt(alloc, job, file, spare),
         Err(why) => Ok(Attempt::Refused(why)),
     }
@@ -105,7 +105,7 @@ pub fn refusal_at(alloc: Global, plan: &Plan, i: usize) -> Result<Option<Refusal
     ensures { IfOk result (λ why. (d : AJob) → why
         ≡ refusal_in (outcome_in plan.now.answers (slice_index_or plan.now.jobs i d)).ending) }
 {
-    refusal_of(
+    refusal_of_job(
         alloc,
         plan.job(i),
         plan.image(i),
@@ -127,7 +127,7 @@ pub fn machine_at(
         ≡ Ok (state_of machine))
         (λ why. start_in plan.now.answers (slice_index_or plan.now.jobs i d) ≡ Err why)) }
 {
-    machine_of(
+    machine_of_job(
         alloc,
         plan.job(i),
         plan.image(i),
@@ -137,7 +137,7 @@ pub fn machine_at(
 }
 
 // Whether an outcome is the same as that of the job that a job names, if it names one.
-fn holds_same(
+fn is_same_as_named(
     plan: &Plan,
     job: &Job,
     outcome: &Outcome,
@@ -147,17 +147,17 @@ fn holds_same(
     requires place { IfSome job.now.same_as (λ place. place < length plan.now.jobs) }
     requires recent { AreOutcomes plan.now recent.old }
     ensures same { IfOk result
-        (λ same. same ≡ holds_same job.now.same_as (other_in plan.now job.now) outcome.now) }
+        (λ same. same ≡ is_same_as_named job.now.same_as (named_job_outcome plan.now job.now) outcome.now) }
     ensures recent { OnOk result (AreOutcomes plan.now recent.new) }
 {
     match job.same_as {
-        Some(place) => is_same_as(plan, place, outcome, spare, recent),
+        Some(place) => is_same_as_job_at(plan, place, outcome, spare, recent),
         None => Ok(true),
     }
 }
 
 // Whether an outcome is the same as that of the job at a place, which is run again unless its outcome is kept.
-fn is_same_as(
+fn is_same_as_job_at(
     plan: &Plan,
     place: usize,
     outcome: &Outcome,
@@ -167,16 +167,16 @@ fn is_same_as(
     requires place { place < length plan.now.jobs }
     requires recent { AreOutcomes plan.now recent.old }
     ensures same { IfOk result (λ same. (d : AJob) → same
-        ≡ are_same outcome.now
+        ≡ are_same_outcomes outcome.now
         (outcome_in plan.now.answers (slice_index_or plan.now.jobs place d))) }
     ensures recent { OnOk result (AreOutcomes plan.now recent.new) }
 {
     if let Some(other) = recent.find(place) {
-        return Ok(are_same(outcome, other));
+        return Ok(are_same_outcomes(outcome, other));
     }
     let alloc = recent.alloc();
     let other = attempt_at(alloc, plan, place, spare)?;
-    let same = is_same(outcome, &other);
+    let same = is_same_as_attempt(outcome, &other);
     if recent.make_room(other.size()) {
         recent.keep(place, other.outcome(alloc)?)?;
     }
@@ -185,7 +185,7 @@ fn is_same_as(
 }
 
 // Keeps a copy of a row's outcome where it is small enough, and one of the next jobs names it.
-fn keep_if_named(
+fn keep_outcome_if_named(
     alloc: Global,
     plan: &Plan,
     i: usize,
@@ -197,14 +197,14 @@ fn keep_if_named(
     requires recent { AreOutcomes plan.now recent.old }
     ensures { OnOk result (AreOutcomes plan.now recent.new) }
 {
-    if is_named_soon(plan, i) && recent.make_room(outcome.size()) {
+    if is_named_by_next_jobs(plan, i) && recent.make_room(outcome.size()) {
         recent.keep(i, outcome.copy(alloc)?)?;
     }
     Ok(())
 }
 
 // Whether one of the next jobs names the job at a place.
-fn is_named_soon(plan: &Plan, i: usize) -> bool
+fn is_named_by_next_jobs(plan: &Plan, i: usize) -> bool
     requires { i < length plan.now.jobs }
 {
     let end = plan.jobs().min(i + 1 + MOST);
@@ -217,26 +217,26 @@ fn is_named_soon(plan: &Plan, i: usize) -> bool
 }
 
 /// The bytes of the file with which the signature of the job at a place is compared, where it was read.
-pub fn reference_bytes(plan: &Plan, i: usize) -> Option<&[u8]>
+pub fn signature_reference_bytes(plan: &Plan, i: usize) -> Option<&[u8]>
     requires { i < length plan.now.jobs }
     ensures { (d : AJob) → option_map (λ bytes. bytes.now) result
-        ≡ reference_in plan.now.answers (slice_index_or plan.now.jobs i d) }
+        ≡ signature_reference_bytes plan.now.answers (slice_index_or plan.now.jobs i d) }
 {
-    content_of(plan.reference(i))
+    content_if_read(plan.reference(i))
 }
 
 /// The bytes of the file with which the console of the job at a place is compared, where it was read.
-pub fn console_bytes(plan: &Plan, i: usize) -> Option<&[u8]>
+pub fn expected_console_bytes(plan: &Plan, i: usize) -> Option<&[u8]>
     requires { i < length plan.now.jobs }
     ensures { (d : AJob) → option_map (λ bytes. bytes.now) result
-        ≡ console_in plan.now.answers (slice_index_or plan.now.jobs i d) }
+        ≡ expected_console_bytes plan.now.answers (slice_index_or plan.now.jobs i d) }
 {
-    content_of(plan.console_reference(i))
+    content_if_read(plan.console_reference(i))
 }
 
-fn content_of(kept: Option<&Kept>) -> Option<&[u8]>
+fn content_if_read(kept: Option<&Kept>) -> Option<&[u8]>
     ensures { option_map (λ bytes. bytes.now) result
-        ≡ bytes_in (option_map (λ one. one.now) kept.entry) }
+        ≡ content_if_read (option_map (λ one. one.now) kept.entry) }
 {
     match kept {
         Some(Kept::Content(bytes)) => Some(bytes.as_slice()),
@@ -245,13 +245,13 @@ fn content_of(kept: Option<&Kept>) -> Option<&[u8]>
 }
 
 /// A row of an outcome and a verdict.
-pub(crate) fn row_with(
+pub(crate) fn row_of_outcome(
     alloc: Global,
     name: &str,
     outcome: Outcome,
     verdict: Verdict,
 ) -> Result<Row, AllocError>
-    ensures { IfOk result (λ row. row ≡ row_with name.now outcome verdict) }
+    ensures { IfOk result (λ row. row ≡ row_of_outcome name.now outcome verdict) }
 {
     Ok(Row {
         name: Text::new(String::from_str(alloc, name)?),
@@ -272,7 +272,7 @@ pub fn run_one(alloc: Global, plan: &Plan) -> Result<Report, AllocError>
     let mut spare = Spare::new();
     let mut recent = Recent::new(alloc);
     for i in 0..plan.jobs() {
-        rows.push(next_row(alloc, plan, i, &mut spare, &mut recent)?)?;
+        rows.push(row_at_with_recent(alloc, plan, i, &mut spare, &mut recent)?)?;
     }
     Ok(Report {
         rows: Rows::new(rows),

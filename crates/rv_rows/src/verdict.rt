@@ -3,9 +3,9 @@
 ghost use Rattle.std.specs.Prelude.{◌≡◌, Option, bytes_eq, option_map};
 ghost use Rattle.rv_rows.specs.declared.outcome.Outcome.{Outcome as AnOutcome};
 ghost use Rattle.rv_rows.specs.Attempt.{HasSignature, IsReadable, outcome_in_bus, outcome_of_attempt};
-ghost use Rattle.rv_rows.specs.Verdict.{are_alike, are_same, ends_by, exits_with, holds_console};
-ghost use Rattle.rv_rows.specs.Verdict.{holds_end, holds_exit, holds_reference};
-ghost use Rattle.rv_rows.specs.Verdict.{holds_same, is_asked, is_run, lines_of, prints, same_signature, verdict_of};
+ghost use Rattle.rv_rows.specs.Verdict.{are_alike_endings, are_same_outcomes, ends_by, exits_with, has_expected_console};
+ghost use Rattle.rv_rows.specs.Verdict.{has_expected_end, has_expected_exit, has_expected_signature};
+ghost use Rattle.rv_rows.specs.Verdict.{is_same_as_named, expects_anything, did_run, lines_of_signature, ran_with_console, are_same_signatures, verdict_of};
 
 use crate::outcome::{Attempt, EndedRun, Outcome};
 use rv_jobs::{ExpectedConsole, ExpectedEnd, Job, Text};
@@ -14,7 +14,7 @@ use rv_report::{RowEnd, Verdict, Words, are_word_lines};
 /// Whether an outcome is what the job expects, over the bytes of its references, where they were read, and whether it
 /// is the same as the outcome of the job that it names, if it names one.
 #[tactic(auto, unfolding(crate::specs::Verdict::verdict_of))]
-pub(crate) fn verdict(
+pub(crate) fn verdict_of(
     job: &Job,
     outcome: &Outcome,
     reference: Option<&[u8]>,
@@ -22,23 +22,23 @@ pub(crate) fn verdict(
     same: bool,
 ) -> Verdict
     // Whatever the outcome of the named job is, where `same` says of it whether it is the same.
-    ensures { (other : Option AnOutcome) → same ≡ holds_same job.now.same_as other outcome.now
+    ensures { (other : Option AnOutcome) → same ≡ is_same_as_named job.now.same_as other outcome.now
         → result ≡ verdict_of job.now outcome.now (option_map (λ bytes. bytes.now) reference.entry)
         (option_map (λ bytes. bytes.now) console.entry) other }
 {
-    if !is_asked(job) {
+    if !expects_anything(job) {
         return Verdict::Unasked;
     }
-    if !holds_exit(job.expect_exit, outcome.ending) {
+    if !has_expected_exit(job.expect_exit, outcome.ending) {
         return Verdict::Fail;
     }
-    if !holds_end(job.expect_end, outcome.ending) {
+    if !has_expected_end(job.expect_end, outcome.ending) {
         return Verdict::Fail;
     }
-    if !holds_console(&job.expect_console, console, outcome) {
+    if !has_expected_console(&job.expect_console, console, outcome) {
         return Verdict::Fail;
     }
-    if !holds_reference(&job.expect_signature, reference, outcome) {
+    if !has_expected_signature(&job.expect_signature, reference, outcome) {
         return Verdict::Fail;
     }
     if !same {
@@ -48,8 +48,8 @@ pub(crate) fn verdict(
 }
 
 /// Whether a job expects something of its row.
-pub fn is_asked(job: &Job) -> bool
-    ensures { result ≡ is_asked job.now }
+pub fn expects_anything(job: &Job) -> bool
+    ensures { result ≡ expects_anything job.now }
 {
     job.expect_exit.is_some()
         || job.expect_end.is_some()
@@ -59,8 +59,8 @@ pub fn is_asked(job: &Job) -> bool
 }
 
 /// Whether a run ended with the code that is expected, if one is.
-pub fn holds_exit(expected: Option<u32>, ending: RowEnd) -> bool
-    ensures { result ≡ holds_exit expected ending }
+pub fn has_expected_exit(expected: Option<u32>, ending: RowEnd) -> bool
+    ensures { result ≡ has_expected_exit expected ending }
 {
     match expected {
         Some(code) => exits_with(code, ending),
@@ -80,8 +80,8 @@ fn exits_with(code: u32, ending: RowEnd) -> bool
 }
 
 /// Whether a run ended as is expected, if something is.
-pub fn holds_end(expected: Option<ExpectedEnd>, ending: RowEnd) -> bool
-    ensures { result ≡ holds_end expected ending }
+pub fn has_expected_end(expected: Option<ExpectedEnd>, ending: RowEnd) -> bool
+    ensures { result ≡ has_expected_end expected ending }
 {
     match expected {
         Some(expected) => ends_by(expected, ending),
@@ -101,28 +101,36 @@ fn ends_by(expected: ExpectedEnd, ending: RowEnd) -> bool
 }
 
 // Whether the job ran, and its console is the one that is expected.
-fn holds_console(expected: &Option<ExpectedConsole>, file: Option<&[u8]>, outcome: &Outcome) -> bool
-    ensures { result ≡ holds_console expected.now (option_map (λ bytes. bytes.now) file.entry)
+fn has_expected_console(
+    expected: &Option<ExpectedConsole>,
+    file: Option<&[u8]>,
+    outcome: &Outcome,
+) -> bool
+    ensures { result ≡ has_expected_console expected.now (option_map (λ bytes. bytes.now) file.entry)
         outcome.now }
 {
     match (expected, file) {
         (None, _) => true,
-        (Some(ExpectedConsole::Text(text)), _) => prints(text.as_slice(), outcome),
-        (Some(ExpectedConsole::File(_)), Some(bytes)) => prints(bytes, outcome),
+        (Some(ExpectedConsole::Text(text)), _) => ran_with_console(text.as_slice(), outcome),
+        (Some(ExpectedConsole::File(_)), Some(bytes)) => ran_with_console(bytes, outcome),
         (Some(ExpectedConsole::File(_)), None) => false,
     }
 }
 
-fn prints(bytes: &[u8], outcome: &Outcome) -> bool
-    ensures { result ≡ prints bytes.now outcome.now }
+fn ran_with_console(bytes: &[u8], outcome: &Outcome) -> bool
+    ensures { result ≡ ran_with_console bytes.now outcome.now }
 {
-    is_run(outcome.ending) && bytes == outcome.console.as_slice()
+    did_run(outcome.ending) && bytes == outcome.console.as_slice()
 }
 
 // Whether the job ran, and the reference is its signature's lines.
-fn holds_reference(expected: &Option<Text>, reference: Option<&[u8]>, outcome: &Outcome) -> bool
+fn has_expected_signature(
+    expected: &Option<Text>,
+    reference: Option<&[u8]>,
+    outcome: &Outcome,
+) -> bool
     ensures { result
-        ≡ holds_reference expected.now (option_map (λ bytes. bytes.now) reference.entry)
+        ≡ has_expected_signature expected.now (option_map (λ bytes. bytes.now) reference.entry)
         outcome.now }
 {
     let Some(_) = expected else {
@@ -131,19 +139,19 @@ fn holds_reference(expected: &Option<Text>, reference: Option<&[u8]>, outcome: &
     let Some(bytes) = reference else {
         return false;
     };
-    is_run(outcome.ending) && are_lines_of(bytes, &outcome.signature)
+    did_run(outcome.ending) && are_signature_lines(bytes, &outcome.signature)
 }
 
 /// Whether an ending is that of a run: any but a refusal.
-pub fn is_run(ending: RowEnd) -> bool
-    ensures { result ≡ is_run ending }
+pub fn did_run(ending: RowEnd) -> bool
+    ensures { result ≡ did_run ending }
 {
     !matches!(ending, RowEnd::Refused(_))
 }
 
 // Whether these bytes are the lines of a signature's words.
-fn are_lines_of(bytes: &[u8], signature: &Option<Words>) -> bool
-    ensures { result ≡ bytes_eq bytes.now (lines_of signature.now) }
+fn are_signature_lines(bytes: &[u8], signature: &Option<Words>) -> bool
+    ensures { result ≡ bytes_eq bytes.now (lines_of_signature signature.now) }
 {
     match signature {
         Some(words) => are_word_lines(bytes, words.as_slice()),
@@ -152,46 +160,46 @@ fn are_lines_of(bytes: &[u8], signature: &Option<Words>) -> bool
 }
 
 /// Whether two outcomes are the same, but for steps, addresses and values.
-pub fn are_same(outcome: &Outcome, other: &Outcome) -> bool
-    ensures { result ≡ are_same outcome.now other.now }
+pub fn are_same_outcomes(outcome: &Outcome, other: &Outcome) -> bool
+    ensures { result ≡ are_same_outcomes outcome.now other.now }
 {
-    if !are_alike(outcome.ending, other.ending) {
+    if !are_alike_endings(outcome.ending, other.ending) {
         return false;
     }
     if outcome.console.as_slice() != other.console.as_slice() {
         return false;
     }
-    same_signature(&outcome.signature, &other.signature)
+    are_same_signatures(&outcome.signature, &other.signature)
 }
 
 /// The same, where nothing of the other is copied.
-pub(crate) fn is_same(outcome: &Outcome, other: &Attempt) -> bool
+pub(crate) fn is_same_as_attempt(outcome: &Outcome, other: &Attempt) -> bool
     requires { IsReadable other.now }
-    ensures { result ≡ are_same outcome.now (outcome_of_attempt other.now) }
+    ensures { result ≡ are_same_outcomes outcome.now (outcome_of_attempt other.now) }
 {
     match other {
-        Attempt::Refused(why) => are_alike(outcome.ending, RowEnd::Refused(*why)),
-        Attempt::Ran(run) => is_same_run(outcome, run),
+        Attempt::Refused(why) => are_alike_endings(outcome.ending, RowEnd::Refused(*why)),
+        Attempt::Ran(run) => is_same_as_run(outcome, run),
     }
 }
 
-fn is_same_run(outcome: &Outcome, run: &EndedRun) -> bool
+fn is_same_as_run(outcome: &Outcome, run: &EndedRun) -> bool
     requires { HasSignature run.now }
-    ensures { result ≡ are_same outcome.now (outcome_in_bus run.now) }
+    ensures { result ≡ are_same_outcomes outcome.now (outcome_in_bus run.now) }
 {
-    if !are_alike(outcome.ending, run.ending) {
+    if !are_alike_endings(outcome.ending, run.ending) {
         return false;
     }
     if outcome.console.as_slice() != run.bus.console() {
         return false;
     }
-    has_signature(run, &outcome.signature)
+    run_signature_is(run, &outcome.signature)
 }
 
 // Whether the words of a run's signature are these.
-fn has_signature(run: &EndedRun, signature: &Option<Words>) -> bool
+fn run_signature_is(run: &EndedRun, signature: &Option<Words>) -> bool
     requires { HasSignature run.now }
-    ensures { result ≡ same_signature signature.now (outcome_in_bus run.now).signature }
+    ensures { result ≡ are_same_signatures signature.now (outcome_in_bus run.now).signature }
 {
     match (signature, run.range) {
         (Some(words), Some(range)) => {
@@ -203,8 +211,8 @@ fn has_signature(run: &EndedRun, signature: &Option<Words>) -> bool
 }
 
 /// Whether two runs ended alike: by the same code, by the same kind of fault, or both by their budgets.
-pub fn are_alike(ending: RowEnd, other: RowEnd) -> bool
-    ensures { result ≡ are_alike ending other }
+pub fn are_alike_endings(ending: RowEnd, other: RowEnd) -> bool
+    ensures { result ≡ are_alike_endings ending other }
 {
     match (ending, other) {
         (RowEnd::Exit(code), RowEnd::Exit(exit)) => code == exit,
@@ -214,8 +222,8 @@ pub fn are_alike(ending: RowEnd, other: RowEnd) -> bool
     }
 }
 
-fn same_signature(signature: &Option<Words>, other: &Option<Words>) -> bool
-    ensures { result ≡ same_signature signature.now other.now }
+fn are_same_signatures(signature: &Option<Words>, other: &Option<Words>) -> bool
+    ensures { result ≡ are_same_signatures signature.now other.now }
 {
     match (signature, other) {
         (Some(words), Some(others)) => words.as_slice() == others.as_slice(),

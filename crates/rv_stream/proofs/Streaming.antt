@@ -12,7 +12,7 @@ use Rattle.std.proofs.lemmas.List.{take_all, take_min}
 use Rattle.std.proofs.lemmas.List.Folds.{concat-append}
 use Rattle.rv_rows.specs.Sinks.{AppendsBeginning}
 use Rattle.rv_stream.specs.declared.error.StreamError.{StreamError}
-use Rattle.rv_stream.specs.Streams.{IsOut, told_before, told_in}
+use Rattle.rv_stream.specs.Streams.{IsOut, text_before_piece, text_of_piece}
 use Rattle.rv_fleet.proofs.Public.{chunk_more}
 
 -- a slice that goes on to the end
@@ -25,7 +25,7 @@ parts_of_all texts n = ap concat (sym (take-append-drop n texts)) ∙ concat-app
 
 -- the texts of one piece more
 pub next_texts : (texts : List (List ℕ)) (group next : ℕ)
-    → told_before texts group (next + 1) ≡ told_before texts group next ++ told_in texts group next
+    → text_before_piece texts group (next + 1) ≡ text_before_piece texts group next ++ text_of_piece texts group next
 next_texts texts group next =
     ap concat (sym (chunk_more texts group next (take (next * group) texts)
     (take (next * group) texts ++ slice_chunk texts group next) (slice_chunk texts group next) refl refl refl))
@@ -33,8 +33,8 @@ next_texts texts group next =
 
 -- the texts up to a piece, and those of that piece
 pub one_more_told : (texts : List (List ℕ)) (group next : ℕ) (had text more now : List ℕ)
-    → told_before texts group next ≡ had ++ text → more ≡ told_in texts group next → now ≡ text ++ more
-    → told_before texts group (next + 1) ≡ had ++ now
+    → text_before_piece texts group next ≡ had ++ text → more ≡ text_of_piece texts group next → now ≡ text ++ more
+    → text_before_piece texts group (next + 1) ≡ had ++ now
 one_more_told texts group next had text more now so piece pushed =
     next_texts texts group next
     ∙ ((λ i. so i ++ sym piece i) ∙ (append_assoc had text more ∙ ap (λ l. had ++ l) (sym pushed)))
@@ -82,7 +82,7 @@ module _ (texts : List (List ℕ)) (group : ℕ) (before now : Option (List ℕ)
   pub begun : (failed : Option StreamError) → IsOut texts group before now next failed
       → AppendsBeginning before now (concat texts)
   begun None sent = record {
-    part = told_before texts group next;
+    part = text_before_piece texts group next;
     rest = concat (drop (next * group) texts);
     whole = parts_of_all texts (next * group);
     appended = sent;
@@ -91,27 +91,27 @@ module _ (texts : List (List ℕ)) (group : ℕ) (before now : Option (List ℕ)
 
   -- where nothing failed, the texts of the pieces before the next one are out
   unfailed : (failed : Option StreamError) → is_some failed ≡ false → IsOut texts group before now next failed
-      → Appends before now (told_before texts group next)
+      → Appends before now (text_before_piece texts group next)
   unfailed None is sent = sent
   unfailed (Some error) is sent = cc
 
   -- the texts that were due went out
   pub sent_on : (after : Option (List ℕ)) (text : List ℕ) (then : ℕ) (failed : Option StreamError)
       → is_some failed ≡ false → IsOut texts group before now next failed
-      → told_before texts group then ≡ told_before texts group next ++ text → Appends now after text
+      → text_before_piece texts group then ≡ text_before_piece texts group next ++ text → Appends now after text
       → IsOut texts group before after then failed
   sent_on after text then None is sent these more = subst (Appends before after) (sym these)
-      (Appends-trans before now after (told_before texts group next) text sent more)
+      (Appends-trans before now after (text_before_piece texts group next) text sent more)
   sent_on after text then (Some error) is sent these more = cc
 
   -- a beginning of the texts that were due went out
   pub stopped : (after : Option (List ℕ)) (text : List ℕ) (then : ℕ) (failed : Option StreamError)
       → is_some failed ≡ false → IsOut texts group before now next failed
-      → told_before texts group then ≡ told_before texts group next ++ text → AppendsBeginning now after text
+      → text_before_piece texts group then ≡ text_before_piece texts group next ++ text → AppendsBeginning now after text
       → AppendsBeginning before after (concat texts)
   stopped after text then failed is sent these part =
       let rest : List ℕ = concat (drop (then * group) texts) in
-      begun_on before now after (told_before texts group next) text rest (concat texts)
+      begun_on before now after (text_before_piece texts group next) text rest (concat texts)
       (parts_of_all texts (then * group) ∙ ap (λ l. l ++ rest) these) (unfailed failed is sent) part
 
 -- the texts of the pieces before one end where the rest begins, at the end if they are all

@@ -5,7 +5,7 @@ use Rattle.rv_stream.specs.declared.error.StreamError.{StreamError}
 use Rattle.rv_stream.specs.declared.error.StreamError.TheVariants as stream
 
 -- the error of a stream that an error of its run is; the run is stopped after a failed put alone
-abbrev pub of_places : PlacesError → StreamError
-of_places places.OutOfMemory = stream.OutOfMemory
-of_places places.NoWorker = stream.NoWorker
-of_places places.Stopped = stream.Failed
+abbrev pub stream_error_of_places : PlacesError → StreamError
+stream_error_of_places places.OutOfMemory = stream.OutOfMemory
+stream_error_of_places places.NoWorker = stream.NoWorker
+stream_error_of_places places.Stopped = stream.Failed

@@ -12,33 +12,33 @@ use Rattle.rv_fleet.specs.declared.batch.Batch.{Batch}
 use Rattle.rv_stream.specs.declared.error.StreamError.{StreamError}
 
 -- a text for each row, told of the job at its place
-abbrev pub texts_of : (ℕ → Row → List ℕ) → List ℕ → List Row → List (List ℕ)
-texts_of line [] rows = []
-texts_of line (place ∷ places) [] = []
-texts_of line (place ∷ places) (row ∷ rows) = line place row ∷ texts_of line places rows
+abbrev pub row_text_list : (ℕ → Row → List ℕ) → List ℕ → List Row → List (List ℕ)
+row_text_list line [] rows = []
+row_text_list line (place ∷ places) [] = []
+row_text_list line (place ∷ places) (row ∷ rows) = line place row ∷ row_text_list line places rows
 
 -- the texts of rows, one after the other
-abbrev pub told : (ℕ → Row → List ℕ) → List ℕ → List Row → List ℕ
-told line places rows = concat (texts_of line places rows)
+abbrev pub joined_row_texts : (ℕ → Row → List ℕ) → List ℕ → List Row → List ℕ
+joined_row_texts line places rows = concat (row_text_list line places rows)
 
 -- the texts of a piece
-abbrev pub told_in : List (List ℕ) → ℕ → ℕ → List ℕ
-told_in texts group k = concat (slice_chunk texts group k)
+abbrev pub text_of_piece : List (List ℕ) → ℕ → ℕ → List ℕ
+text_of_piece texts group k = concat (slice_chunk texts group k)
 
 -- the texts of the pieces before one
-abbrev pub told_before : List (List ℕ) → ℕ → ℕ → List ℕ
-told_before texts group k = concat (take (k * group) texts)
+abbrev pub text_before_piece : List (List ℕ) → ℕ → ℕ → List ℕ
+text_before_piece texts group k = concat (take (k * group) texts)
 
 -- what went out: the texts of the pieces before the next one; after a failure a beginning of all
 abbrev pub IsOut : List (List ℕ) → ℕ → Option (List ℕ) → Option (List ℕ) → ℕ → Option StreamError
     → Type 0
-IsOut texts group before now next None = Appends before now (told_before texts group next)
+IsOut texts group before now next None = Appends before now (text_before_piece texts group next)
 IsOut texts group before now next (Some error) = AppendsBeginning before now (concat texts)
 
 -- the texts that came early, each at its piece's place
 abbrev pub AreTexts : List (List ℕ) → ℕ → List (Option (Vec ℕ Global)) → Type 0
 AreTexts texts group early = (k : ℕ)
-    → IfSome (slice_index_or early k None) (λ text. text.items ≡ told_in texts group k)
+    → IfSome (slice_index_or early k None) (λ text. text.items ≡ text_of_piece texts group k)
 
 -- what is known of a stream: what went out, and what waits
 pub record IsInOrder (texts : List (List ℕ)) (group : ℕ) (before now : Option (List ℕ)) (next : ℕ)
@@ -50,10 +50,10 @@ pub record IsInOrder (texts : List (List ℕ)) (group : ℕ) (before now : Optio
 pub record CanBeTold (texts : List (List ℕ)) (group : ℕ) (line : ℕ → Row → List ℕ) (places : List ℕ)
     (size k : ℕ) (rows : List Row) : Type 0 where
   pub within : k * size + length rows ≤ length places
-  pub told_so : told line (drop (k * size) places) rows ≡ told_in texts group k
+  pub told_so : joined_row_texts line (drop (k * size) places) rows ≡ text_of_piece texts group k
 
 -- a run of a batch, whose texts these are, in pieces of this size
 pub record IsStreamOf (texts : List (List ℕ)) (size : ℕ) (line : ℕ → Row → List ℕ) (batch : Batch)
     (group : ℕ) : Type 0 where
-  pub texts_told : texts ≡ texts_of line batch.places.now (batch_rows batch)
+  pub texts_told : texts ≡ row_text_list line batch.places.now (batch_rows batch)
   pub size_given : size ≡ group

@@ -1,7 +1,7 @@
 //! Why not all texts went out.
 
 ghost use Rattle.std.specs.Prelude.{◌≡◌};
-ghost use Rattle.rv_stream.specs.Errors.{of_places};
+ghost use Rattle.rv_stream.specs.Errors.{stream_error_of_places};
 ghost use Rattle.rv_stream.specs.declared.error.StreamError.TheVariants.{OutOfMemory};
 
 use rv_fleet::PlacesError;
@@ -32,7 +32,7 @@ impl From<AllocError> for StreamError {
 
 // A stream stops its run after a failure alone, and is asked for that failure before the run is.
 impl From<PlacesError> for StreamError {
-    ghost from_gives = { λ error given. given ≡ of_places error };
+    ghost from_gives = { λ error given. given ≡ stream_error_of_places error };
 
     fn from(error: PlacesError) -> StreamError {
         match error {

@@ -2,22 +2,22 @@
 //!
 //! [`stream_places`] runs a [`Batch`](rv_fleet::Batch) by a [`Crew`](rv_fleet::Crew). What is told of a row is a caller's [`Telling`], and goes
 //! out as soon as that of all rows before it is out. With `Ok` the sink took the texts of all rows, in order, for every
-//! number of workers and of jobs in a piece; with an error it took a beginning of them. [`put_told`] sends what is told of
+//! number of workers and of jobs in a piece; with an error it took a beginning of them. [`put_row_texts`] sends what is told of
 //! [`PlacedRows`] that are there already, in few large puts. [`is_chosen`] says which jobs of a list a person chooses.
 #![tactic(auto)]
 
 mod choice;
 mod error;
-mod gathered;
-mod in_order;
-mod placed;
+mod ordered_texts;
+mod placed_rows;
+mod row_text_puts;
+mod row_texts;
 mod stream;
-mod telling;
 
 pub use choice::is_chosen;
 pub use error::StreamError;
-pub use gathered::put_told;
-pub use in_order::Streamed;
-pub use placed::PlacedRows;
+pub use ordered_texts::Streamed;
+pub use placed_rows::PlacedRows;
+pub use row_text_puts::put_row_texts;
+pub use rv_rows::Telling;
 pub use stream::stream_places;
-pub use telling::Telling;

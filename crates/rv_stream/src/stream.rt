@@ -5,13 +5,14 @@ ghost use Rattle.std.specs.Io.KnownBytes.{Appends};
 ghost use Rattle.std.specs.List.{concat};
 ghost use Rattle.rv_fleet.specs.Batches.{batch_rows};
 ghost use Rattle.rv_rows.specs.Sinks.{AppendsBeginning};
-ghost use Rattle.rv_stream.specs.Streams.{IsStreamOf, texts_of, told, told_before};
+ghost use Rattle.rv_stream.specs.Streams.{IsStreamOf, row_text_list, joined_row_texts, text_before_piece};
 
 use crate::error::StreamError;
-use crate::in_order::{InOrder, Streamed, empty_texts};
-use crate::placed::PlacedRows;
-use crate::telling::{Telling, text_of};
+use crate::ordered_texts::{InOrder, Streamed, empty_text_slots};
+use crate::placed_rows::PlacedRows;
+use crate::row_texts::joined_row_texts;
 use rv_fleet::{Batch, Crew, Gate, PlacesError, Rows, Sink, put_all, run_places};
+use rv_rows::Telling;
 use std::alloc::Global;
 use std::marker::Brand;
 use std::sync::{Mutex, Wait};
@@ -40,16 +41,16 @@ impl<'a, J: Streamed + Send, R: Wait + Sync, T: Telling + Sync, W: Sink + Drop +
 
     fn enter(&self, _piece: u64) {}
 
-    fn made(&self, piece: u64, rows: &Rows) -> bool {
+    fn on_piece_made(&self, piece: u64, rows: &Rows) -> bool {
         let start = piece as usize * self.group;
         let placed = PlacedRows {
             places: &self.places[start..],
             rows: rows.as_slice(),
         };
-        let text = text_of(self.alloc, self.telling, &placed);
+        let text = joined_row_texts(self.alloc, self.telling, &placed);
         let mut texts = self.texts.lock(self.rt);
         match text {
-            Ok(text) => texts.put(piece, text),
+            Ok(text) => texts.put_piece_text(piece, text),
             Err(error) => {
                 texts.give_up(StreamError::from(error));
                 false
@@ -62,7 +63,7 @@ impl<'a, J: Streamed, R: Wait, T: Telling, W: Sink + Drop> Stream<'a, J, R, T, W
     // The sink, and the piece whose text goes out next, or why no more went out.
     fn finish(self) -> (W, Result<usize, StreamError>)
         ensures sent { IfOk result.1
-            (λ next. Appends J.before (W.taken result.0) (told_before J.texts J.group next)) }
+            (λ next. Appends J.before (W.taken result.0) (text_before_piece J.texts J.group next)) }
         ensures part { AppendsBeginning J.before (W.taken result.0) (concat J.texts) }
     {
         let Stream {
@@ -88,9 +89,9 @@ pub fn stream_places<R: Threads + Wait + Sync, T: Telling + Sync, W: Sink + Drop
 ) -> (W, Result<Rows, StreamError>)
     ensures rows { IfOk result.1 (λ rows. rows ≡ batch_rows batch.now) }
     ensures all { OnOk result.1 (Appends (W.taken out) (W.taken result.0)
-        (told (T.line telling.now) batch.now.places.now (batch_rows batch.now))) }
+        (joined_row_texts (T.line telling.now) batch.now.places.now (batch_rows batch.now))) }
     ensures part { OnErr result.1 (AppendsBeginning (W.taken out) (W.taken result.0)
-        (told (T.line telling.now) batch.now.places.now (batch_rows batch.now))) }
+        (joined_row_texts (T.line telling.now) batch.now.places.now (batch_rows batch.now))) }
 {
     stream_in_order::<Brand, R, T, W>(crew, batch, telling, out)
 }
@@ -120,7 +121,7 @@ fn stream_in_order<
         places: batch.places,
         rows: rows.as_slice(),
     };
-    match send_from(crew.alloc, telling, &all, from, &mut out) {
+    match send_rows_from(crew.alloc, telling, &all, from, &mut out) {
         Ok(()) => (out, Ok(rows)),
         Err(error) => (out, Err(error)),
     }
@@ -142,12 +143,12 @@ fn run_in_order<
     requires before { J.before ≡ W.taken out }
     ensures rows { IfOk result.1 (λ ran. ran.0 ≡ batch_rows batch.now) }
     ensures sent { IfOk result.1
-        (λ ran. Appends J.before (W.taken result.0) (told_before J.texts J.group ran.1)) }
+        (λ ran. Appends J.before (W.taken result.0) (text_before_piece J.texts J.group ran.1)) }
     ensures part { AppendsBeginning J.before (W.taken result.0) (concat J.texts) }
 {
     let alloc = crew.alloc;
     let group = crew.group as usize;
-    let early = match empty_texts(alloc, batch.places.len().div_ceil(group)) {
+    let early = match empty_text_slots(alloc, batch.places.len().div_ceil(group)) {
         Ok(early) => early,
         Err(error) => return (out, Err(StreamError::from(error))),
     };
@@ -161,12 +162,12 @@ fn run_in_order<
     };
     let rows = run_places(crew, batch, &stream);
     let (out, sent) = stream.finish();
-    (out, rows_and_next(rows, sent))
+    (out, rows_and_next_piece(rows, sent))
 }
 
 // The rows, and the piece whose text goes out next; or why there are none. What the stream says goes first, since it
 // stopped the run.
-fn rows_and_next(
+fn rows_and_next_piece(
     rows: Result<Rows, PlacesError>,
     sent: Result<usize, StreamError>,
 ) -> Result<(Rows, usize), StreamError>
@@ -178,7 +179,7 @@ fn rows_and_next(
 }
 
 // Sends what is told of the rows from one on. A run that ends well has told of all of them, and then this is nothing.
-fn send_from<T: Telling, W: Sink>(
+fn send_rows_from<T: Telling, W: Sink>(
     alloc: Global,
     telling: &T,
     all: &PlacedRows<'_>,
@@ -187,15 +188,15 @@ fn send_from<T: Telling, W: Sink>(
 ) -> Result<(), StreamError>
     requires { from ≤ length all.now.rows.now }
     ensures all { OnOk result (Appends (W.taken out.old) (W.taken out.new)
-        (concat (drop from (texts_of (T.line telling.now) all.now.places.now all.now.rows.now)))) }
+        (concat (drop from (row_text_list (T.line telling.now) all.now.places.now all.now.rows.now)))) }
     ensures part { OnErr result (AppendsBeginning (W.taken out.old) (W.taken out.new)
-        (concat (drop from (texts_of (T.line telling.now) all.now.places.now all.now.rows.now)))) }
+        (concat (drop from (row_text_list (T.line telling.now) all.now.places.now all.now.rows.now)))) }
 {
     let rest = PlacedRows {
         places: &all.places[from..],
         rows: &all.rows[from..],
     };
-    let text = text_of(alloc, telling, &rest)?;
+    let text = joined_row_texts(alloc, telling, &rest)?;
     match put_all(out, text.as_slice()) {
         Ok(()) => Ok(()),
         Err(_) => Err(StreamError::Failed),

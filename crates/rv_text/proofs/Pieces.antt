@@ -4,26 +4,26 @@ use Rattle.std.proofs.Common.{arith, ◌==◌, ne_eqb, false, cond}
 use Rattle.std.proofs.lemmas.Bool.{false_from_ne_true, le-ltb, lt-ltb}
 use Rattle.std.proofs.lemmas.Str.{IsUtf8-from_is_utf8}
 use Rattle.std.specs.Str.{IsUtf8, is_utf8}
-use Rattle.rv_text.specs.Shown.{behind_front, escape, first_width, front_shown, plain_len}
-use Rattle.rv_text.specs.Shown.{shown_from, shown_within}
+use Rattle.rv_text.specs.Printable.{behind_printable_front, escape, front_width, printable_front, plain_front_len}
+use Rattle.rv_text.specs.Printable.{printable_from, printable_within}
 
 -- what is left of a character goes out as it is
-shown_from-left : (left : ℕ) (text : List ℕ) →
-    shown_from left text ≡ take left text ++ shown_from 0 (drop left text)
-unfolding shown_from
-shown_from-left zero [] = refl
-shown_from-left zero (byte ∷ rest) = refl
-shown_from-left (suc left) [] = refl
-shown_from-left (suc left) (byte ∷ rest) = ap (λ xs. byte ∷ xs) (shown_from-left left rest)
+printable_from-left : (left : ℕ) (text : List ℕ) →
+    printable_from left text ≡ take left text ++ printable_from 0 (drop left text)
+unfolding printable_from
+printable_from-left zero [] = refl
+printable_from-left zero (byte ∷ rest) = refl
+printable_from-left (suc left) [] = refl
+printable_from-left (suc left) (byte ∷ rest) = ap (λ xs. byte ∷ xs) (printable_from-left left rest)
 
-shown_within-left : (room left : ℕ) (text : List ℕ) →
-    shown_within room left text ≡ take left text ++ shown_within room 0 (drop left text)
-unfolding shown_within
-shown_within-left room zero [] = refl
-shown_within-left room zero (byte ∷ rest) = refl
-shown_within-left room (suc left) [] = refl
-shown_within-left room (suc left) (byte ∷ rest) =
-    ap (λ xs. byte ∷ xs) (shown_within-left room left rest)
+printable_within-left : (room left : ℕ) (text : List ℕ) →
+    printable_within room left text ≡ take left text ++ printable_within room 0 (drop left text)
+unfolding printable_within
+printable_within-left room zero [] = refl
+printable_within-left room zero (byte ∷ rest) = refl
+printable_within-left room (suc left) [] = refl
+printable_within-left room (suc left) (byte ∷ rest) =
+    ap (λ xs. byte ∷ xs) (printable_within-left room left rest)
 
 -- a piece, and then what is made of the text behind it: for any such function of what is left and a text
 piece : (f : ℕ → List ℕ → List ℕ) →
@@ -40,38 +40,38 @@ piece f splits byte rest (suc count) =
 
 -- a text is its first piece and what is behind it
 pub shown-front : (text : List ℕ) → 0 < length text →
-    shown_from 0 text ≡ front_shown text ++ shown_from 0 (behind_front text)
-unfolding shown_from
+    printable_from 0 text ≡ printable_front text ++ printable_from 0 (behind_printable_front text)
+unfolding printable_from
 shown-front [] some = absurd (omega arith)
-shown-front (byte ∷ rest) some = piece shown_from shown_from-left byte rest (plain_len (byte ∷ rest))
+shown-front (byte ∷ rest) some = piece printable_from printable_from-left byte rest (plain_front_len (byte ∷ rest))
 
 -- the same where there is room for the piece
-pub shown_within-front : (room : ℕ) (text : List ℕ) → 0 < length text → first_width text ≤ room →
-    shown_within room 0 text
-    ≡ front_shown text ++ shown_within (room - first_width text) 0 (behind_front text)
-unfolding shown_within
-shown_within-front room [] some fits = absurd (omega arith)
-shown_within-front room (byte ∷ rest) some fits =
-    let width = first_width (byte ∷ rest) in
-    rw (le-ltb room width fits) (piece (shown_within (room - width)) (shown_within-left (room - width)) byte rest
-    (plain_len (byte ∷ rest)))
+pub printable_within-front : (room : ℕ) (text : List ℕ) → 0 < length text → front_width text ≤ room →
+    printable_within room 0 text
+    ≡ printable_front text ++ printable_within (room - front_width text) 0 (behind_printable_front text)
+unfolding printable_within
+printable_within-front room [] some fits = absurd (omega arith)
+printable_within-front room (byte ∷ rest) some fits =
+    let width = front_width (byte ∷ rest) in
+    rw (le-ltb room width fits) (piece (printable_within (room - width)) (printable_within-left (room - width)) byte rest
+    (plain_front_len (byte ∷ rest)))
 
 -- and where there is none
-pub shown_within-full : (room : ℕ) (text : List ℕ) → room < first_width text → shown_within room 0 text ≡ []
-unfolding shown_within
-shown_within-full room [] full = refl
-shown_within-full room (byte ∷ rest) full = rw (lt-ltb room (first_width (byte ∷ rest)) full) refl
+pub printable_within-full : (room : ℕ) (text : List ℕ) → room < front_width text → printable_within room 0 text ≡ []
+unfolding printable_within
+printable_within-full room [] full = refl
+printable_within-full room (byte ∷ rest) full = rw (lt-ltb room (front_width (byte ∷ rest)) full) refl
 
 -- nothing is shown of an empty text
-pub shown-empty : (text : List ℕ) → length text ≡ 0 → shown_from 0 text ≡ []
-unfolding shown_from
+pub shown-empty : (text : List ℕ) → length text ≡ 0 → printable_from 0 text ≡ []
+unfolding printable_from
 shown-empty [] none = refl
 shown-empty (byte ∷ rest) none = absurd (omega arith)
 
-pub shown_within-empty : (room : ℕ) (text : List ℕ) → length text ≡ 0 → shown_within room 0 text ≡ []
-unfolding shown_within
-shown_within-empty room [] none = refl
-shown_within-empty room (byte ∷ rest) none = absurd (omega arith)
+pub printable_within-empty : (room : ℕ) (text : List ℕ) → length text ≡ 0 → printable_within room 0 text ≡ []
+unfolding printable_within
+printable_within-empty room [] none = refl
+printable_within-empty room (byte ∷ rest) none = absurd (omega arith)
 
 -- what is not UTF-8 is not by the test
 pub is_utf8-false : (text : List ℕ) → ¬ (IsUtf8 text) → is_utf8 text ≡ false

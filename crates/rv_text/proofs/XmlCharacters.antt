@@ -16,8 +16,8 @@ use Rattle.std.proofs.lemmas.Str.{encodes-IsAscii, encodes-append}
 use Rattle.hex.specs.Hex.{IsBytes}
 use Rattle.rv_text.specs.declared.xml.Within.{Within}
 use Rattle.rv_text.specs.declared.xml.Within.TheVariants.{Attribute, Element}
-use Rattle.rv_text.specs.Xml.{IsXmlCharacters, by_reference, character_text, escaped, is_xml_character}
-use Rattle.rv_text.specs.Xml.{reference, space_reference}
+use Rattle.rv_text.specs.Xml.{IsXmlCharacters, reference_or_character, character_text, xml_text, is_xml_character}
+use Rattle.rv_text.specs.Xml.{character_reference, space_reference}
 use Rattle.rv_text.proofs.XmlTexts.{text_escaped}
 
 pub xml_nil : IsXmlCharacters []
@@ -91,7 +91,7 @@ xml_space Attribute c =
     (if_reference IsXmlCharacters (c == 0xA) (codes "&#10;") None (xml_plain (codes "&#10;") refl) tt)
 xml_space Element c = tt
 
-xml_reference : (within : Within) (c : ℕ) → IfSome (reference within c) IsXmlCharacters
+xml_reference : (within : Within) (c : ℕ) → IfSome (character_reference within c) IsXmlCharacters
 xml_reference within c =
     let P = IsXmlCharacters in
     if_reference P (c == 60) (codes "&lt;") _ (xml_plain (codes "&lt;") refl)
@@ -101,7 +101,7 @@ xml_reference within c =
     (if_reference P (c == 0xD) (codes "&#13;") _ (xml_plain (codes "&#13;") refl) (xml_space within c)))))
 
 by_either : (c : ℕ) (text : Option (List ℕ)) → IfSome text IsXmlCharacters → is_xml_character c ≡ true →
-    IsXmlCharacters (by_reference text c)
+    IsXmlCharacters (reference_or_character text c)
 by_either c (Some text) holds taken = holds
 by_either c None holds taken = xml_one c taken
 
@@ -111,10 +111,10 @@ xml_texts within [] all = xml_nil
 xml_texts within (c ∷ characters) all =
     let parts = and_parts _ _ all in
     xml_append (character_text within c) (flat_map (character_text within) characters)
-    (by_either c (reference within c) (xml_reference within c) parts.0)
+    (by_either c (character_reference within c) (xml_reference within c) parts.0)
     (xml_texts within characters parts.1)
 
-pub xml_escaped : (within : Within) (bytes : List ℕ) → IsBytes bytes → IsXmlCharacters (escaped within bytes)
+pub xml_escaped : (within : Within) (bytes : List ℕ) → IsBytes bytes → IsXmlCharacters (xml_text within bytes)
 xml_escaped within bytes are =
     let text = text_escaped within 0 bytes are in
     rw text.written (xml_texts within text.characters text.taken)

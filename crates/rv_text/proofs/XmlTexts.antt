@@ -16,40 +16,40 @@ use Rattle.hex.specs.Hex.{IsBytes, encode_with, lower_digits}
 use Rattle.std.proofs.lemmas.Str.{IsUtf8-from_is_utf8, len_utf8_bounds}
 use Rattle.rv_text.specs.declared.xml.Within.{Within}
 use Rattle.rv_text.specs.declared.xml.Within.TheVariants.{Attribute, Element}
-use Rattle.rv_text.specs.Xml.{IsXmlText, behind_front, character_or_escape, character_text, escape, escaped_from}
-use Rattle.rv_text.specs.Xml.{front_character, front_of, front_text, is_xml_character, more_len, xml_only}
+use Rattle.rv_text.specs.Xml.{IsXmlText, behind_xml_front, character_or_escape, character_text, escape, xml_text_from}
+use Rattle.rv_text.specs.Xml.{front_character, xml_front_bytes, xml_front_text, is_xml_character, more_front_bytes, if_xml_character}
 
 -- what is not UTF-8 is not by the test
 pub is_utf8-false : (bytes : List ℕ) → ¬ (IsUtf8 bytes) → is_utf8 bytes ≡ false
 is_utf8-false bytes refused = false_from_ne_true _ (λ is. refused (IsUtf8-from_is_utf8 bytes is))
 
 -- the bytes that are left of a character are passed over
-escaped_from-left : (within : Within) (left : ℕ) (bytes : List ℕ) →
-    escaped_from within left bytes ≡ escaped_from within 0 (drop left bytes)
-unfolding escaped_from
-escaped_from-left within zero [] = refl
-escaped_from-left within zero (byte ∷ rest) = refl
-escaped_from-left within (suc left) [] = refl
-escaped_from-left within (suc left) (byte ∷ rest) = escaped_from-left within left rest
+xml_text_from-left : (within : Within) (left : ℕ) (bytes : List ℕ) →
+    xml_text_from within left bytes ≡ xml_text_from within 0 (drop left bytes)
+unfolding xml_text_from
+xml_text_from-left within zero [] = refl
+xml_text_from-left within zero (byte ∷ rest) = refl
+xml_text_from-left within (suc left) [] = refl
+xml_text_from-left within (suc left) (byte ∷ rest) = xml_text_from-left within left rest
 
 -- the piece in front, and what is behind it
 pub escaped-front : (within : Within) (bytes : List ℕ) → 0 < length bytes →
-    escaped_from within 0 bytes ≡ front_text within bytes ++ escaped_from within 0 (behind_front bytes)
-unfolding escaped_from
+    xml_text_from within 0 bytes ≡ xml_front_text within bytes ++ xml_text_from within 0 (behind_xml_front bytes)
+unfolding xml_text_from
 escaped-front within [] some = absurd (omega arith)
 escaped-front within (byte ∷ rest) some =
     let front = front_character (byte ∷ rest) in
     rw add-one (ap (λ xs. character_or_escape within byte front ++ xs)
-    (escaped_from-left within (more_len front) rest))
+    (xml_text_from-left within (more_front_bytes front) rest))
 
-pub escaped-empty : (within : Within) (bytes : List ℕ) → length bytes ≡ 0 → escaped_from within 0 bytes ≡ []
-unfolding escaped_from
+pub escaped-empty : (within : Within) (bytes : List ℕ) → length bytes ≡ 0 → xml_text_from within 0 bytes ≡ []
+unfolding xml_text_from
 escaped-empty within [] none = refl
 escaped-empty within (byte ∷ rest) none = absurd (omega arith)
 
 -- a character has a byte or more
-pub more_len-of : (c : ℕ) → more_len (Some c) + 1 ≡ len_utf8 c
-more_len-of c = let bounds = len_utf8_bounds c in omega (arith, bounds.0)
+pub more_front_bytes-of : (c : ℕ) → more_front_bytes (Some c) + 1 ≡ len_utf8 c
+more_front_bytes-of c = let bounds = len_utf8_bounds c in omega (arith, bounds.0)
 
 -- ---- what stands in a document
 
@@ -130,7 +130,7 @@ text_taken within byte c true is below = record {
 text_taken within byte c false is below = text_escape within byte below
 
 text_of_front : (within : Within) (byte : ℕ) (utf8 : Bool) (c : Option ℕ) → byte < 256 →
-    IsXmlText within (character_or_escape within byte (cond utf8 (xml_only c) None))
+    IsXmlText within (character_or_escape within byte (cond utf8 (if_xml_character c) None))
 text_of_front within byte false c below = text_escape within byte below
 text_of_front within byte true None below = text_escape within byte below
 text_of_front within byte true (Some c) below =
@@ -140,15 +140,15 @@ text_front : (within : Within) (byte : ℕ) (bytes : List ℕ) → byte < 256 �
     IsXmlText within (character_or_escape within byte (front_character bytes))
 unfolding front_character
 text_front within byte bytes below =
-    text_of_front within byte (is_utf8 (front_of bytes)) (slice_get (chars (front_of bytes)) 0) below
+    text_of_front within byte (is_utf8 (xml_front_bytes bytes)) (slice_get (chars (xml_front_bytes bytes)) 0) below
 
 pub text_escaped : (within : Within) (left : ℕ) (bytes : List ℕ) → IsBytes bytes →
-    IsXmlText within (escaped_from within left bytes)
-unfolding escaped_from
+    IsXmlText within (xml_text_from within left bytes)
+unfolding xml_text_from
 text_escaped within left [] are = text_nil within
 text_escaped within zero (byte ∷ rest) are =
     let front = front_character (byte ∷ rest) in
-    text_append within (character_or_escape within byte front) (escaped_from within (more_len front) rest)
+    text_append within (character_or_escape within byte front) (xml_text_from within (more_front_bytes front) rest)
     (text_front within byte (byte ∷ rest) (are 0))
-    (text_escaped within (more_len front) rest (λ i. are (suc i)))
+    (text_escaped within (more_front_bytes front) rest (λ i. are (suc i)))
 text_escaped within (suc left) (byte ∷ rest) are = text_escaped within left rest (λ i. are (suc i))

@@ -1,5 +1,5 @@
 pub mod Words
-pub mod Shown
+pub mod Printable
 pub mod Spans
 pub mod Symbol
 pub mod Xml

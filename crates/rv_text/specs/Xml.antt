@@ -25,35 +25,35 @@ space_reference Attribute c =
 space_reference Element c = None
 
 -- what stands for a character that is markup, or that a reader changes
-abbrev pub reference : Within → ℕ → Option (List ℕ)
-reference within c =
+abbrev pub character_reference : Within → ℕ → Option (List ℕ)
+character_reference within c =
     if c == 60 then Some (codes "&lt;") else if c == 62 then Some (codes "&gt;")
     else if c == 38 then Some (codes "&amp;") else if c == 34 then Some (codes "&quot;")
     else if c == 0xD then Some (codes "&#13;") else space_reference within c
 
 -- a character by its reference, or as it is
-abbrev pub by_reference : Option (List ℕ) → ℕ → List ℕ
-by_reference (Some text) c = text
-by_reference None c = encode_utf8 c
+abbrev pub reference_or_character : Option (List ℕ) → ℕ → List ℕ
+reference_or_character (Some text) c = text
+reference_or_character None c = encode_utf8 c
 
 abbrev pub character_text : Within → ℕ → List ℕ
-character_text within c = by_reference (reference within c) c
+character_text within c = reference_or_character (character_reference within c) c
 
 -- ---- the character in front
 
 -- as many bytes as the character has which the first of them begins, or all where there are fewer
-abbrev pub front_of : List ℕ → List ℕ
-front_of [] = []
-front_of (byte ∷ rest) = take (continuation_len byte + 1) (byte ∷ rest)
+abbrev pub xml_front_bytes : List ℕ → List ℕ
+xml_front_bytes [] = []
+xml_front_bytes (byte ∷ rest) = take (continuation_len byte + 1) (byte ∷ rest)
 
-abbrev pub xml_only : Option ℕ → Option ℕ
-xml_only None = None
-xml_only (Some c) = if is_xml_character c then Some c else None
+abbrev pub if_xml_character : Option ℕ → Option ℕ
+if_xml_character None = None
+if_xml_character (Some c) = if is_xml_character c then Some c else None
 
 -- the character of XML that bytes begin with, if they begin with one
 unfoldable pub front_character : List ℕ → Option ℕ
-front_character bytes = let front = front_of bytes in
-    if is_utf8 front then xml_only (slice_get (chars front) 0) else None
+front_character bytes = let front = xml_front_bytes bytes in
+    if is_utf8 front then if_xml_character (slice_get (chars front) 0) else None
 
 -- a byte that is of none
 abbrev pub escape : ℕ → List ℕ
@@ -64,30 +64,30 @@ character_or_escape within byte (Some c) = character_text within c
 character_or_escape within byte None = escape byte
 
 -- how many more bytes are of it
-abbrev pub more_len : Option ℕ → ℕ
-more_len (Some c) = len_utf8 c - 1
-more_len None = 0
+abbrev pub more_front_bytes : Option ℕ → ℕ
+more_front_bytes (Some c) = len_utf8 c - 1
+more_front_bytes None = 0
 
 -- ---- the text
 
 -- the bytes of which so many are still of the character before them
-unfoldable pub escaped_from : Within → ℕ → List ℕ → List ℕ
-escaped_from within left [] = []
-escaped_from within zero (byte ∷ rest) = let front = front_character (byte ∷ rest) in
-    character_or_escape within byte front ++ escaped_from within (more_len front) rest
-escaped_from within (suc left) (byte ∷ rest) = escaped_from within left rest
+unfoldable pub xml_text_from : Within → ℕ → List ℕ → List ℕ
+xml_text_from within left [] = []
+xml_text_from within zero (byte ∷ rest) = let front = front_character (byte ∷ rest) in
+    character_or_escape within byte front ++ xml_text_from within (more_front_bytes front) rest
+xml_text_from within (suc left) (byte ∷ rest) = xml_text_from within left rest
 
 -- bytes as XML takes them
-abbrev pub escaped : Within → List ℕ → List ℕ
-escaped within bytes = escaped_from within 0 bytes
+abbrev pub xml_text : Within → List ℕ → List ℕ
+xml_text within bytes = xml_text_from within 0 bytes
 
 -- ---- the piece in front: a character or one byte
 
-abbrev pub front_text : Within → List ℕ → List ℕ
-front_text within bytes = character_or_escape within (slice_index bytes 0) (front_character bytes)
+abbrev pub xml_front_text : Within → List ℕ → List ℕ
+xml_front_text within bytes = character_or_escape within (slice_index bytes 0) (front_character bytes)
 
-abbrev pub behind_front : List ℕ → List ℕ
-behind_front bytes = drop (more_len (front_character bytes) + 1) bytes
+abbrev pub behind_xml_front : List ℕ → List ℕ
+behind_xml_front bytes = drop (more_front_bytes (front_character bytes) + 1) bytes
 
 -- ---- what can stand in a document
 

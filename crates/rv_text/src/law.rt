@@ -3,11 +3,11 @@
 ghost use Rattle.std.specs.Prelude.{ℕ, List};
 ghost use Rattle.hex.specs.Hex.{IsBytes};
 ghost use Rattle.rv_text.specs.declared.xml.Within.{Within};
-ghost use Rattle.rv_text.specs.Xml.{IsXmlText, escaped};
+ghost use Rattle.rv_text.specs.Xml.{IsXmlText, xml_text};
 
 /// What is written for bytes is characters of XML 1.0 alone, and none of them is markup: each is there by its reference,
 /// where it has one, and else as it is in UTF-8.
 pub fn escaped_bytes_are_xml()
     ensures { (within : Within) (bytes : List ℕ) → IsBytes bytes
-        → IsXmlText within (escaped within bytes) }
+        → IsXmlText within (xml_text within bytes) }
 {}

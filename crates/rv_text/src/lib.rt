@@ -1,23 +1,23 @@
 //! Bytes as people and tools read them.
 //!
-//! [`push_spans`] appends what a line is put together from: text, numbers, words, and text from files. [`push_shown`] shows such
-//! text, so that a terminal takes it as text: control characters and bytes of no character as `\xNN`. [`push_escaped`]
+//! [`push_spans`] appends what a line is put together from: text, numbers, words, and text from files. [`push_printable_text`] shows such
+//! text, so that a terminal takes it as text: control characters and bytes of no character as `\xNN`. [`push_xml_text`]
 //! appends bytes as XML 1.0 takes them, so that none of them is markup, and only characters of XML stand there, whatever the
 //! bytes are ([`escaped_bytes_are_xml`]).
 #![tactic(auto)]
 
 mod law;
-mod parts;
-mod shown;
+mod printable;
 mod slices;
 mod spans;
 mod symbol;
+mod text_and_numbers;
 mod xml;
 
 pub use law::escaped_bytes_are_xml;
-pub use parts::{push_number, push_text, push_word};
-pub use shown::{VALUE_ROOM, push_shown, push_shown_value};
-pub use slices::{behind, sides_from};
-pub use spans::{Span, push_spans, text_of};
-pub use symbol::{push_place, push_symbol};
-pub use xml::{Within, push_escaped};
+pub use printable::{VALUE_ROOM, push_printable_text, push_printable_value};
+pub use slices::{met_and_expected_from, tail_from};
+pub use spans::{Span, push_spans, text_of_spans};
+pub use symbol::{push_symbol, push_symbol_in_brackets};
+pub use text_and_numbers::{push_number, push_text, push_word_digits};
+pub use xml::{Within, push_xml_text};

@@ -10,7 +10,7 @@ pub(crate) fn byte_at(text: &[u8], place: usize) -> u8
 }
 
 /// What stands behind the first bytes: nothing where there are no more.
-pub fn behind(text: &[u8], count: usize) -> &[u8]
+pub fn tail_from(text: &[u8], count: usize) -> &[u8]
     ensures { result.now ≡ drop count text.now }
 {
     if count < text.len() {
@@ -21,9 +21,13 @@ pub fn behind(text: &[u8], count: usize) -> &[u8]
 }
 
 /// What was met and what is expected, from a place on.
-pub fn sides_from<'a>(place: usize, met: &'a [u8], expected: &'a [u8]) -> (&'a [u8], &'a [u8])
+pub fn met_and_expected_from<'a>(
+    place: usize,
+    met: &'a [u8],
+    expected: &'a [u8],
+) -> (&'a [u8], &'a [u8])
     ensures met { result.0.now ≡ drop place met.now }
     ensures expected { result.1.now ≡ drop place expected.now }
 {
-    (behind(met, place), behind(expected, place))
+    (tail_from(met, place), tail_from(expected, place))
 }

@@ -4,8 +4,8 @@ ghost use Rattle.std.specs.Prelude.{◌≡◌, ◌++◌, IfOk, OnOk};
 ghost use Rattle.std.specs.List.{flat_map};
 ghost use Rattle.rv_text.specs.Spans.{span_text};
 
-use crate::parts::{push_number, push_text, push_word};
-use crate::shown::{push_shown, push_shown_value};
+use crate::printable::{push_printable_text, push_printable_value};
+use crate::text_and_numbers::{push_number, push_text, push_word_digits};
 use std::alloc::{AllocError, Global};
 
 /// A span of a line.
@@ -17,9 +17,9 @@ pub enum Span<'a> {
     Number(u64),
     /// A word's eight lower-case hexadecimal digits.
     Word(u32),
-    /// Text from a file, as [`push_shown`] shows it.
+    /// Text from a file, as [`push_printable_text`] shows it.
     Shown(&'a [u8]),
-    /// A value, as [`push_shown_value`] shows it.
+    /// A value, as [`push_printable_value`] shows it.
     Value(&'a [u8]),
 }
 
@@ -34,7 +34,7 @@ pub fn push_spans(bytes: &mut Vec<u8>, spans: &[Span<'_>]) -> Result<(), AllocEr
 }
 
 /// A text of spans.
-pub fn text_of(alloc: Global, spans: &[Span<'_>]) -> Result<Vec<u8>, AllocError>
+pub fn text_of_spans(alloc: Global, spans: &[Span<'_>]) -> Result<Vec<u8>, AllocError>
     ensures { IfOk result (λ text. text.items ≡ flat_map span_text spans.now) }
 {
     let mut text = Vec::new(alloc);
@@ -48,8 +48,8 @@ fn push_span(bytes: &mut Vec<u8>, span: Span<'_>) -> Result<(), AllocError>
     match span {
         Span::Text(text) => push_text(bytes, text),
         Span::Number(number) => push_number(bytes, number),
-        Span::Word(word) => push_word(bytes, word),
-        Span::Shown(text) => push_shown(bytes, text),
-        Span::Value(value) => push_shown_value(bytes, value),
+        Span::Word(word) => push_word_digits(bytes, word),
+        Span::Shown(text) => push_printable_text(bytes, text),
+        Span::Value(value) => push_printable_value(bytes, value),
     }
 }

@@ -1,20 +1,20 @@
 //! A place by a symbol.
 
 ghost use Rattle.std.specs.Prelude.{◌≡◌, ◌++◌, OnOk, option_map};
-ghost use Rattle.rv_text.specs.Symbol.{place_text, symbol_text};
+ghost use Rattle.rv_text.specs.Symbol.{symbol_in_brackets, symbol_text};
 
 use crate::spans::{Span, push_spans};
 use rv_elf::SymbolAt;
 use std::alloc::{AllocError, Global};
 
 /// Appends a place in brackets behind a space, where there is a symbol.
-pub fn push_place(
+pub fn push_symbol_in_brackets(
     alloc: Global,
     bytes: &mut Vec<u8>,
     place: Option<SymbolAt<'_>>,
 ) -> Result<(), AllocError>
     ensures { OnOk result (bytes.new.items ≡ bytes.old.items
-        ++ place_text (option_map (λ s. (s.name.now, s.offset)) place.entry)) }
+        ++ symbol_in_brackets (option_map (λ s. (s.name.now, s.offset)) place.entry)) }
 {
     match place {
         Some(symbol) => push_symbol_between(alloc, bytes, " (", symbol, ")"),
@@ -22,7 +22,7 @@ pub fn push_place(
     }
 }
 
-/// Appends a place by the name of a symbol, shown as [`push_shown`](crate::shown::push_shown) does, and the bytes past it: `main+0x1c`.
+/// Appends a place by the name of a symbol, shown as [`push_shown`](crate::printable::push_shown) does, and the bytes past it: `main+0x1c`.
 pub fn push_symbol(
     alloc: Global,
     bytes: &mut Vec<u8>,

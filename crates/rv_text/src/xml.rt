@@ -2,8 +2,8 @@
 
 ghost use Rattle.std.specs.Prelude.{◌≡◌, ◌<◌, ◌≤◌, ◌+◌, ◌++◌, IfOk, OnOk, drop, length, option_map, string_bytes};
 ghost use Rattle.std.specs.Str.{continuation_len};
-ghost use Rattle.rv_text.specs.Xml.{behind_front, character_text, escape, escaped, front_character, front_of};
-ghost use Rattle.rv_text.specs.Xml.{front_text, is_xml_character, reference, xml_only};
+ghost use Rattle.rv_text.specs.Xml.{behind_xml_front, character_text, escape, xml_text, front_character, xml_front_bytes};
+ghost use Rattle.rv_text.specs.Xml.{xml_front_text, is_xml_character, character_reference, if_xml_character};
 
 use std::alloc::{AllocError, Global};
 
@@ -18,24 +18,24 @@ pub enum Within {
 
 /// Appends a text as XML takes it: characters as they are or by their reference, and each byte that is of no character
 /// of XML as `\xNN`.
-pub fn push_escaped(
+pub fn push_xml_text(
     alloc: Global,
     text: &mut String,
     within: Within,
     bytes: &[u8],
 ) -> Result<(), AllocError>
     ensures { OnOk result (string_bytes text.new
-        ≡ string_bytes text.old ++ escaped within bytes.now) }
+        ≡ string_bytes text.old ++ xml_text within bytes.now) }
 {
     let mut rest = bytes;
     while !rest.is_empty() {
-        rest = push_front(alloc, text, within, rest)?;
+        rest = push_xml_front(alloc, text, within, rest)?;
     }
     Ok(())
 }
 
 // Appends what stands for the character or the byte in front; answers the bytes behind it.
-fn push_front<'a>(
+fn push_xml_front<'a>(
     alloc: Global,
     text: &mut String,
     within: Within,
@@ -43,24 +43,24 @@ fn push_front<'a>(
 ) -> Result<&'a [u8], AllocError>
     requires { 0 < length bytes.now }
     ensures text { OnOk result (string_bytes text.new
-        ≡ string_bytes text.old ++ front_text within bytes.now) }
-    ensures behind { IfOk result (λ rest. rest.now ≡ behind_front bytes.now) }
+        ≡ string_bytes text.old ++ xml_front_text within bytes.now) }
+    ensures behind { IfOk result (λ rest. rest.now ≡ behind_xml_front bytes.now) }
     ensures shorter { IfOk result (λ rest. length rest.now < length bytes.now) }
 {
     match front_character(bytes) {
         Some(character) => {
             push_character(text, within, character)?;
-            Ok(behind(bytes, character.len_utf8()))
+            Ok(bytes_behind(bytes, character.len_utf8()))
         }
         None => {
             push_escape(alloc, text, bytes[0])?;
-            Ok(behind(bytes, 1))
+            Ok(bytes_behind(bytes, 1))
         }
     }
 }
 
 // What stands behind the first bytes: nothing where there are no more.
-fn behind(bytes: &[u8], count: usize) -> &[u8]
+fn bytes_behind(bytes: &[u8], count: usize) -> &[u8]
     ensures { result.now ≡ drop count bytes.now }
 {
     if count < bytes.len() {
@@ -74,14 +74,14 @@ fn behind(bytes: &[u8], count: usize) -> &[u8]
 fn front_character(bytes: &[u8]) -> Option<char>
     ensures { result ≡ front_character bytes.now }
 {
-    match str::from_utf8(front_of(bytes)) {
-        Ok(front) => xml_only(front.chars().next()),
+    match str::from_utf8(xml_front_bytes(bytes)) {
+        Ok(front) => if_xml_character(front.chars().next()),
         Err(_) => None,
     }
 }
 
-fn xml_only(character: Option<char>) -> Option<char>
-    ensures { result ≡ xml_only character }
+fn if_xml_character(character: Option<char>) -> Option<char>
+    ensures { result ≡ if_xml_character character }
 {
     match character {
         Some(character) if is_xml_character(character) => Some(character),
@@ -90,8 +90,8 @@ fn xml_only(character: Option<char>) -> Option<char>
 }
 
 // As many bytes as the character has which the first of them begins, or all where there are fewer.
-fn front_of(bytes: &[u8]) -> &[u8]
-    ensures { result.now ≡ front_of bytes.now }
+fn xml_front_bytes(bytes: &[u8]) -> &[u8]
+    ensures { result.now ≡ xml_front_bytes bytes.now }
 {
     let Some(first) = bytes.first() else {
         return bytes;
@@ -134,15 +134,15 @@ fn push_character(text: &mut String, within: Within, character: char) -> Result<
     ensures { OnOk result (string_bytes text.new
         ≡ string_bytes text.old ++ character_text within character) }
 {
-    match reference(within, character) {
+    match character_reference(within, character) {
         Some(reference) => text.push_str(reference),
         None => text.push(character),
     }
 }
 
 // What stands for a character that does not stand for itself.
-fn reference(within: Within, character: char) -> Option<&'static str>
-    ensures { option_map (λ text. text.now) result ≡ reference within character }
+fn character_reference(within: Within, character: char) -> Option<&'static str>
+    ensures { option_map (λ text. text.now) result ≡ character_reference within character }
 {
     match (within, character) {
         (_, '<') => Some("&lt;"),

@@ -10,15 +10,15 @@ use Rattle.rv_machine.specs.State.{State}
 use Rattle.rv_rows.specs.declared.outcome.Loadable.{Loadable}
 use Rattle.rv_rows.specs.declared.outcome.Outcome.{Outcome}
 use Rattle.rv_rows.specs.declared_row.Refusal.{Refusal}
-use Rattle.rv_rows.specs.Outcome.{end_of, file_of, file_outcome_of, loadable_of, loaded_state, outcome_if_loadable}
-use Rattle.rv_rows.specs.Outcome.{outcome_if_there, outcome_of, start_if_loadable, start_if_there, start_of}
+use Rattle.rv_rows.specs.Outcome.{row_end, image_file_or_refusal, file_outcome_of, loadable_image, loaded_state, outcome_if_loadable}
+use Rattle.rv_rows.specs.Outcome.{outcome_if_readable, outcome_of, start_if_loadable, start_if_readable, start_of}
 use Rattle.rv_rows.specs.Rows.{outcome_in, row_of, start_in}
 use Rattle.rv_trace.specs.declared.trace.Trace.{Trace}
 use Rattle.rv_trace.specs.Trace.{trace_in, trace_of}
 
 -- an outcome tells of a run
 record Tells (outcome : Outcome) (ran : Ran) : Type 0 where
-  ending : outcome.ending ≡ end_of ran.ending
+  ending : outcome.ending ≡ row_end ran.ending
   steps : outcome.steps ≡ ran.steps
 
 module _ (job : Job) (s : State) where
@@ -27,25 +27,25 @@ module _ (job : Job) (s : State) where
   loaded_tells file (Ok loadable) e =
       let same : loaded_state job file loadable.image ≡ s = cc in
       record {
-        ending = ap (λ t. end_of (run_of job.budget t).ending) same;
+        ending = ap (λ t. row_end (run_of job.budget t).ending) same;
         steps = ap (λ t. (run_of job.budget t).steps) same;
       }
   loaded_tells file (Err why) e = cc
 
-  there_tells : (r : Result (List ℕ) Refusal) → start_if_there job r ≡ Ok s
-      → Tells (outcome_if_there job r) (run_of job.budget s)
+  there_tells : (r : Result (List ℕ) Refusal) → start_if_readable job r ≡ Ok s
+      → Tells (outcome_if_readable job r) (run_of job.budget s)
   unfolding file_outcome_of
-  there_tells (Ok file) e = loaded_tells file (loadable_of job file) e
+  there_tells (Ok file) e = loaded_tells file (loadable_image job file) e
   there_tells (Err why) e = cc
 
   module _ (plan : Planned) (e : start_in plan.answers job ≡ Ok s) where
     tells : Tells (outcome_in plan.answers job) (run_of job.budget s)
     unfolding outcome_of start_of
-    tells = there_tells (file_of (kept_for plan.answers job.image)
+    tells = there_tells (image_file_or_refusal (kept_for plan.answers job.image)
         (option_map (kept_for plan.answers) job.expect_signature)
         (option_map (kept_for plan.answers) (console_path job.expect_console))) e
 
-    ending_told : (row_of plan job).ending ≡ end_of (run_of job.budget s).ending
+    ending_told : (row_of plan job).ending ≡ row_end (run_of job.budget s).ending
     unfolding row_of
     ending_told = tells.ending
 
@@ -54,7 +54,7 @@ module _ (job : Job) (s : State) where
     steps_told = tells.steps
 
 pub ending_is : (plan : Planned) (job : Job) (s : State) → start_in plan.answers job ≡ Ok s
-    → (row_of plan job).ending ≡ end_of (run_of job.budget s).ending
+    → (row_of plan job).ending ≡ row_end (run_of job.budget s).ending
 ending_is plan job s e = ending_told job s plan e
 
 pub steps_are : (plan : Planned) (job : Job) (s : State) → start_in plan.answers job ≡ Ok s

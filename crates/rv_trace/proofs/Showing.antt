@@ -7,7 +7,7 @@ use Rattle.rv_trace.specs.declared.step.TracedStep.{TracedStep}
 use Rattle.rv_trace.specs.Code.{code_at}
 use Rattle.rv_trace.specs.Showing.{EndsThere, ShowsTheEnd}
 use Rattle.rv_trace.specs.Steps.{steps_from, traced_step}
-use Rattle.rv_trace.specs.Trace.{after, registers_of, trace_of}
+use Rattle.rv_trace.specs.Trace.{state_after, registers_of, trace_of}
 use Rattle.rv_trace.proofs.Runs.{after_more, completes, each_completes, ends, line_at, lines_count, same_end}
 use Rattle.rv_trace.proofs.Runs.{steps_more}
 
@@ -24,21 +24,21 @@ module _ (budget last : ℕ) (s : State) where
     in_front : (run_of front s).steps ≡ front
     in_front = completes budget front s (omega arith)
 
-    all_shown : (run_of shown (after front s)).steps ≡ shown
+    all_shown : (run_of shown (state_after front s)).steps ≡ shown
     all_shown = let whole = completes budget (front + shown) s (omega arith) in
         let more = steps_more front shown s in_front in omega arith
 
-    end_is : after shown (after front s) ≡ (run_of budget s).state
-    end_is = sym (after_more front shown s in_front) ∙ ap (λ k. after k s) is ∙ same_end budget s
+    end_is : state_after shown (state_after front s) ≡ (run_of budget s).state
+    end_is = sym (after_more front shown s in_front) ∙ ap (λ k. state_after k s) is ∙ same_end budget s
 
     one_line : (k : ℕ) (d : TracedStep) → k < shown
-        → get_or (steps_from shown (after front s)) k d ≡ traced_step (after (front + k) s) (after (front + k + 1) s)
+        → get_or (steps_from shown (state_after front s)) k d ≡ traced_step (state_after (front + k) s) (state_after (front + k + 1) s)
     one_line k d h =
-        let within : k < (run_of shown (after front s)).steps = rw all_shown h in
+        let within : k < (run_of shown (state_after front s)).steps = rw all_shown h in
         let next : front + k + 1 ≡ front + (k + 1) = omega arith in
-        line_at shown k (after front s) d within
+        line_at shown k (state_after front s) d within
         ∙ (λ i. traced_step (sym (after_more front k s in_front) i)
-        ((sym (after_more front (k + 1) s in_front) ∙ ap (λ m. after m s) (sym next)) i))
+        ((sym (after_more front (k + 1) s in_front) ∙ ap (λ m. state_after m s) (sym next)) i))
 
   pub shows : ShowsTheEnd (trace_of (run_of budget s).steps last s) last (run_of budget s) s
   unfolding trace_of
@@ -50,8 +50,8 @@ module _ (budget last : ℕ) (s : State) where
       record {
         pc = ap (λ t. t.pc) end;
         code = ap (λ t. code_at t.bus t.pc) end;
-        registers = λ n h. register_at (after shown (after front s)) n h ∙ ap (λ t. register t n) end;
-        count = lines_count shown (after front s) ∙ all_shown front shown is;
+        registers = λ n h. register_at (state_after shown (state_after front s)) n h ∙ ap (λ t. register t n) end;
+        count = lines_count shown (state_after front s) ∙ all_shown front shown is;
         lines = one_line front shown is;
       }
 

@@ -15,15 +15,15 @@ use Rattle.rv_memory.specs.declared.access.Width.{Width}
 use Rattle.rv_memory.specs.declared.access.Width.TheVariants.{Byte, Half, Word}
 use Rattle.rv_memory.specs.declared.faults.BusFault.{BusFault}
 use Rattle.rv_memory.specs.declared.faults.BusFault.TheVariants as bus
-use Rattle.rv_machine.specs.Effect.{address, after_store, effect, effect_of, next_pc, rs2, store}
+use Rattle.rv_machine.specs.Effect.{address, after_store, effect, effect_of, next_pc, rs2_value, store}
 use Rattle.rv_machine.specs.Fetch.{Fetched, fetch}
 use Rattle.rv_machine.specs.Run.{after_fetch, step_of}
 use Rattle.rv_machine.specs.State.{State, at_pc, with_bus}
-use Rattle.rv_trace.specs.declared.aim.Access.{Access}
-use Rattle.rv_trace.specs.declared.aim.Access.TheVariants as access
-use Rattle.rv_trace.specs.declared.aim.Aim.TheVariants as aim
+use Rattle.rv_trace.specs.declared.write_targets.Access.{Access}
+use Rattle.rv_trace.specs.declared.write_targets.Access.TheVariants as access
+use Rattle.rv_trace.specs.declared.write_targets.Aim.TheVariants as aim
 use Rattle.rv_trace.specs.declared.step.Wrote.TheVariants as wrote
-use Rattle.rv_trace.specs.Steps.{access_of, aim_by, aim_of, traced_step, wrote_in}
+use Rattle.rv_trace.specs.Steps.{access_of, instruction_write_target, write_target, traced_step, completed_write}
 use Rattle.rv_trace.proofs.Fetched.{code_is_fetched}
 
 -- ---- memory
@@ -94,23 +94,23 @@ stores_as op.Sw w i next s e = let same : Word ≡ w = cc in ap (λ x. store x s
 stores_as _ w i next s e = cc
 
 nothing_stored : (b : Bool) (n a : ℕ) (w : Width) (v : ℕ) (t : State) (P : Type 0)
-    → wrote_in (cond b aim.Nothing (aim.Register n)) t ≡ wrote.Stored a w v → P
+    → completed_write (cond b aim.Nothing (aim.Register n)) t ≡ wrote.Stored a w v → P
 nothing_stored true n a w v t P e = cc
 nothing_stored false n a w v t P e = cc
 
 module _ (s t : State) (i : Instr) (next a v : ℕ) (w : Width) where
   -- what a store leaves at its address
-  left_there : (r : Result Contents BusFault) → store_to s.bus (address s i) w (rs2 s i) ≡ r
+  left_there : (r : Result Contents BusFault) → store_to s.bus (address s i) w (rs2_value s i) ≡ r
       → after_store r s i next ≡ Ok t → touches_console (address s i) (size_of w) ≡ false
-      → value_at t.bus.memory (address s i) w ≡ rs2 s i % 2 ^ (8 * size_of w)
+      → value_at t.bus.memory (address s i) w ≡ rs2_value s i % 2 ^ (8 * size_of w)
   left_there (Ok d) is e outside =
       let same : at_pc (with_bus s d) next ≡ t = cc in
-      let bus : t.bus ≡ put s.bus (address s i) w (rs2 s i) =
-      sym (ap (λ u. u.bus) same) ∙ store_leaves s.bus d (address s i) w (rs2 s i) outside is in
-      ap (λ c. value_at c.memory (address s i) w) bus ∙ value_put s.bus (address s i) w (rs2 s i)
+      let bus : t.bus ≡ put s.bus (address s i) w (rs2_value s i) =
+      sym (ap (λ u. u.bus) same) ∙ store_leaves s.bus d (address s i) w (rs2_value s i) outside is in
+      ap (λ c. value_at c.memory (address s i) w) bus ∙ value_put s.bus (address s i) w (rs2_value s i)
   left_there (Err fault) is e outside = cc
 
-  by_access : (x : Access) → access_of i.op ≡ x → wrote_in (aim_by x i s) t ≡ wrote.Stored a w v
+  by_access : (x : Access) → access_of i.op ≡ x → completed_write (instruction_write_target x i s) t ≡ wrote.Stored a w v
       → effect_of i.op i next s ≡ Ok t → touches_console a (size_of w) ≡ false → value_at t.bus.memory a w ≡ v
   by_access access.Load is e done outside = cc
   by_access access.Neither is e done outside =
@@ -118,13 +118,13 @@ module _ (s t : State) (i : Instr) (next a v : ℕ) (w : Width) where
   by_access (access.Store u) is e done outside =
       let at : address s i ≡ a = cc in
       let wide : u ≡ w = cc in
-      let value : rs2 s i % 2 ^ (8 * size_of u) ≡ v = cc in
+      let value : rs2_value s i % 2 ^ (8 * size_of u) ≡ v = cc in
       let stores : store w s i next ≡ Ok t =
       sym (stores_as i.op w i next s (is ∙ ap (λ x. access.Store x) wide)) ∙ done in
-      let there = left_there (store_to s.bus (address s i) w (rs2 s i)) refl stores
+      let there = left_there (store_to s.bus (address s i) w (rs2_value s i)) refl stores
       (ap (λ b. touches_console b (size_of w)) at ∙ outside) in
       ap (λ b. value_at t.bus.memory b w) (sym at) ∙ there
-      ∙ sym (ap (λ x. rs2 s i % 2 ^ (8 * size_of x)) wide) ∙ value
+      ∙ sym (ap (λ x. rs2_value s i % 2 ^ (8 * size_of x)) wide) ∙ value
 
 module _ (s t : State) (a v : ℕ) (w : Width) (e : (traced_step s t).wrote ≡ wrote.Stored a w v)
     (outside : touches_console a (size_of w) ≡ false) where
@@ -133,7 +133,7 @@ module _ (s t : State) (a v : ℕ) (w : Width) (e : (traced_step s t).wrote ≡ 
   by_fetch (Ok p) is done =
       let same = (code_is_fetched s p.0 p.1 is).1.same in
       by_access s t p.0 (next_pc s p.1) a v w (access_of p.0.op) refl
-      (sym (ap (λ o. wrote_in (aim_of o s) t) same) ∙ e) done outside
+      (sym (ap (λ o. completed_write (write_target o s) t) same) ∙ e) done outside
   by_fetch (Err f) is done = cc
 
   stands : step_of s ≡ Ok t → value_at t.bus.memory a w ≡ v

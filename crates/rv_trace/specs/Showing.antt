@@ -9,7 +9,7 @@ use Rattle.rv_trace.specs.declared.step.TracedStep.{TracedStep}
 use Rattle.rv_trace.specs.declared.trace.Trace.{Trace}
 use Rattle.rv_trace.specs.Code.{code_at, size_of_code}
 use Rattle.rv_trace.specs.Steps.{instr_at, traced_step}
-use Rattle.rv_trace.specs.Trace.{after}
+use Rattle.rv_trace.specs.Trace.{state_after}
 
 -- a trace shows a run from a state on, and of its instructions the last ones, so many or all: where it
 -- ended, with the registers there, and each of these instructions, which completed, by the states in front
@@ -21,12 +21,12 @@ pub record ShowsTheEnd (trace : Trace) (last : ℕ) (ran : Ran) (s : State) : Ty
   pub count : length trace.steps ≡ min ran.steps last
   pub lines : (k : ℕ) (d : TracedStep) → k < min ran.steps last
       → let place = ran.steps - min ran.steps last + k in
-      slice_index_or trace.steps k d ≡ traced_step (after place s) (after (place + 1) s)
+      slice_index_or trace.steps k d ≡ traced_step (state_after place s) (state_after (place + 1) s)
 
 -- the instructions in front of the end of a run are those that completed, and the one at its end did
 -- not, unless the budget was used up in front of it
 pub record EndsThere (ran : Ran) (s : State) : Type 0 where
-  pub completed : (k : ℕ) → k < ran.steps → step_of (after k s) ≡ Ok (after (k + 1) s)
+  pub completed : (k : ℕ) → k < ran.steps → step_of (state_after k s) ≡ Ok (state_after (k + 1) s)
   pub ended : (ran.ending ≡ Budget) ⊎ (step_of ran.state ≡ Err ran.ending)
 
 -- the code at a state is that of the instruction which a fetch gives there, with its length

@@ -7,13 +7,13 @@ use Rattle.rv_isa.specs.declared.instruction.Op.TheVariants as op
 use Rattle.rv_memory.specs.Bus.{size_of}
 use Rattle.rv_memory.specs.declared.access.Width.TheVariants as width
 use Rattle.rv_machine.specs.declared.ending.Ending.{Ending}
-use Rattle.rv_machine.specs.Effect.{address, rs2}
+use Rattle.rv_machine.specs.Effect.{address, rs2_value}
 use Rattle.rv_machine.specs.Run.{step_of}
 use Rattle.rv_machine.specs.State.{State, register}
-use Rattle.rv_trace.specs.declared.aim.Access.{Access}
-use Rattle.rv_trace.specs.declared.aim.Access.TheVariants as access
-use Rattle.rv_trace.specs.declared.aim.Aim.{Aim}
-use Rattle.rv_trace.specs.declared.aim.Aim.TheVariants as aim
+use Rattle.rv_trace.specs.declared.write_targets.Access.{Access}
+use Rattle.rv_trace.specs.declared.write_targets.Access.TheVariants as access
+use Rattle.rv_trace.specs.declared.write_targets.Aim.{Aim}
+use Rattle.rv_trace.specs.declared.write_targets.Aim.TheVariants as aim
 use Rattle.rv_trace.specs.declared.step.TracedStep.{TracedStep}
 use Rattle.rv_trace.specs.declared.step.Wrote.{Wrote}
 use Rattle.rv_trace.specs.declared.step.Wrote.TheVariants as wrote
@@ -35,15 +35,15 @@ access_of _ = access.Neither
 
 -- a load takes its address into a register, and a store the low bytes of rs2 to its address; every
 -- other instruction writes a register, of which x0 is none
-abbrev pub aim_by : Access → Instr → State → Aim
-aim_by access.Load i s = aim.Load i.rd (address s i)
-aim_by (access.Store width) i s =
-    aim.Store (address s i) width (rs2 s i % 2 ^ (8 * size_of width))
-aim_by access.Neither i s = if i.rd == 0 then aim.Nothing else aim.Register i.rd
+abbrev pub instruction_write_target : Access → Instr → State → Aim
+instruction_write_target access.Load i s = aim.Load i.rd (address s i)
+instruction_write_target (access.Store width) i s =
+    aim.Store (address s i) width (rs2_value s i % 2 ^ (8 * size_of width))
+instruction_write_target access.Neither i s = if i.rd == 0 then aim.Nothing else aim.Register i.rd
 
-abbrev pub aim_of : Option Instr → State → Aim
-aim_of None s = aim.Nothing
-aim_of (Some i) s = aim_by (access_of i.op) i s
+abbrev pub write_target : Option Instr → State → Aim
+write_target None s = aim.Nothing
+write_target (Some i) s = instruction_write_target (access_of i.op) i s
 
 -- the number of a register that is aimed at is that of one
 abbrev pub HasRegister : Aim → Type 0
@@ -54,11 +54,11 @@ HasRegister _ = Unit {0}
 -- ---- what it wrote
 
 -- the same with the values that stand in the state behind it
-abbrev pub wrote_in : Aim → State → Wrote
-wrote_in aim.Nothing t = wrote.Nothing
-wrote_in (aim.Register number) t = wrote.Register number (register t number)
-wrote_in (aim.Load number address) t = wrote.Loaded number (register t number) address
-wrote_in (aim.Store address width value) t = wrote.Stored address width value
+abbrev pub completed_write : Aim → State → Wrote
+completed_write aim.Nothing t = wrote.Nothing
+completed_write (aim.Register number) t = wrote.Register number (register t number)
+completed_write (aim.Load number address) t = wrote.Loaded number (register t number) address
+completed_write (aim.Store address width value) t = wrote.Stored address width value
 
 -- the instruction at the pc of a state, in RV32IMC
 abbrev pub instr_at : State → Option Instr
@@ -69,7 +69,7 @@ abbrev pub traced_step : State → State → TracedStep
 traced_step s t = record {
   pc = s.pc;
   code = code_at s.bus s.pc;
-  wrote = wrote_in (aim_of (instr_at s) s) t;
+  wrote = completed_write (write_target (instr_at s) s) t;
 }
 
 -- ---- one after another

@@ -3,11 +3,11 @@ use Rattle.std.specs.Prelude.{◌==◌, ◌+◌, ◌-◌, ℕ, Bool, true, false
 use Rattle.std.specs.Prelude.{if◌then◌else◌, length, replicate, Option, Some, None}
 use Rattle.std.specs.Fmt.{decimal}
 use Rattle.std.specs.List.{flat_map}
-use Rattle.rv_disasm.specs.Assembly.{no_instruction, text16, text32}
+use Rattle.rv_disasm.specs.Assembly.{no_instruction, assembly16, assembly32}
 use Rattle.rv_disasm.specs.Operands.{register_name}
 use Rattle.rv_elf.specs.declared.image.Image.{Image}
-use Rattle.rv_elf.specs.Nearest.{symbol_at, symbol_of_value}
-use Rattle.rv_text.specs.Symbol.{place_text, symbol_text}
+use Rattle.rv_elf.specs.SymbolSearch.{symbol_at, symbol_of_value}
+use Rattle.rv_text.specs.Symbol.{symbol_in_brackets, symbol_text}
 use Rattle.rv_machine.specs.declared.ending.FaultKind.{FaultKind}
 use Rattle.rv_machine.specs.declared.ending.FaultKind.TheVariants as fault
 use Rattle.rv_machine.specs.Faults.{fault_name}
@@ -50,14 +50,14 @@ code_text (Half half) = drop 4 (word_digits half)
 code_text (Word word) = word_digits word
 
 unfoldable pub assembly : ℕ → Code → List ℕ
-assembly pc (Half half) = text16 half pc
-assembly pc (Word word) = text32 word pc
+assembly pc (Half half) = assembly16 half pc
+assembly pc (Word word) = assembly32 word pc
 
 -- two digits a byte
-unfoldable pub value_text : Width → ℕ → List ℕ
-value_text width.Byte value = drop 6 (word_digits value)
-value_text width.Half value = drop 4 (word_digits value)
-value_text width.Word value = word_digits value
+unfoldable pub stored_value_text : Width → ℕ → List ℕ
+stored_value_text width.Byte value = drop 6 (word_digits value)
+stored_value_text width.Half value = drop 4 (word_digits value)
+stored_value_text width.Word value = word_digits value
 
 abbrev pub register_text : ℕ → ℕ → List ℕ
 register_text number value = register_name number ++ codes " <- " ++ word_digits value
@@ -73,23 +73,23 @@ wrote_text (wrote.Register number value) = register_text number value
 wrote_text (wrote.Loaded number value address) =
     loaded_text number value ++ codes "from " ++ word_digits address
 wrote_text (wrote.Stored address width value) =
-    word_digits address ++ codes " <- " ++ value_text width value
+    word_digits address ++ codes " <- " ++ stored_value_text width value
 
 -- a text, and behind it what is told, where that is anything
-abbrev pub text_and_more : List ℕ → List ℕ → List ℕ
-text_and_more text told = if length told == 0 then text else padded_text 24 text ++ gap ++ told
+abbrev pub text_columns : List ℕ → List ℕ → List ℕ
+text_columns text told = if length told == 0 then text else padded_text 24 text ++ gap ++ told
 
 -- the code, the text of it, and what became of it, where there is something to say
-unfoldable pub columns : Option Code → List ℕ → List ℕ → List ℕ
-columns None text told = told
-columns (Some code) text told = padded_text 8 (code_text code) ++ gap ++ text_and_more text told
+unfoldable pub code_columns : Option Code → List ℕ → List ℕ → List ℕ
+code_columns None text told = told
+code_columns (Some code) text told = padded_text 8 (code_text code) ++ gap ++ text_columns text told
 
 -- the line of an instruction at an address
 unfoldable pub instruction_line :
     Option (List ℕ × ℕ) → ℕ → Option Code → List ℕ → List ℕ → List ℕ
 instruction_line symbol pc code text told =
     line (margin ++ word_digits pc ++ gap ++ padded_text 20 (symbol_or_none symbol) ++ gap
-    ++ columns code text told)
+    ++ code_columns code text told)
 
 abbrev pub assembly_or_none : ℕ → Option Code → List ℕ
 assembly_or_none pc None = []
@@ -104,47 +104,47 @@ step_line image file step =
 -- ---- the end
 
 -- what a fault met: of most an address
-unfoldable pub met_text : FaultKind → ℕ → List ℕ
-met_text fault.Illegal value = []
-met_text fault.Breakpoint value = []
-met_text fault.UnknownCall value = codes ", value " ++ word_digits value
-met_text fault.ConsoleFull value = codes ", value " ++ word_digits value
-met_text _ value = codes " at " ++ word_digits value
+unfoldable pub fault_value_text : FaultKind → ℕ → List ℕ
+fault_value_text fault.Illegal value = []
+fault_value_text fault.Breakpoint value = []
+fault_value_text fault.UnknownCall value = codes ", value " ++ word_digits value
+fault_value_text fault.ConsoleFull value = codes ", value " ++ word_digits value
+fault_value_text _ value = codes " at " ++ word_digits value
 
 -- what became of the instruction at the end
-unfoldable pub end_text : RowEnd → List ℕ
-end_text (ending.Exit code) = codes "exit " ++ decimal code
-end_text (ending.Fault kind pc value) = fault_name kind ++ met_text kind value
-end_text ending.Budget = codes "not run: the budget is used up"
-end_text (ending.Refused why) = refusal_name why
+unfoldable pub end_reason : RowEnd → List ℕ
+end_reason (ending.Exit code) = codes "exit " ++ decimal code
+end_reason (ending.Fault kind pc value) = fault_name kind ++ fault_value_text kind value
+end_reason ending.Budget = codes "not run: the budget is used up"
+end_reason (ending.Refused why) = refusal_name why
 
 -- it has no row in the set of the job, which may be a narrower one than the text is of
-abbrev pub is_illegal : RowEnd → Bool
-is_illegal (ending.Fault fault.Illegal pc value) = true
-is_illegal _ = false
+abbrev pub ends_by_illegal : RowEnd → Bool
+ends_by_illegal (ending.Fault fault.Illegal pc value) = true
+ends_by_illegal _ = false
 
 abbrev pub end_assembly : RowEnd → ℕ → Option Code → List ℕ
-end_assembly end pc code = if is_illegal end then no_instruction else assembly_or_none pc code
+end_assembly end pc code = if ends_by_illegal end then no_instruction else assembly_or_none pc code
 
-unfoldable pub end_line : Image → List ℕ → ℕ → Option Code → RowEnd → List ℕ
-end_line image file pc code end =
-    instruction_line (symbol_at image file pc) pc code (end_assembly end pc code) (end_text end)
+unfoldable pub end_instruction_line : Image → List ℕ → ℕ → Option Code → RowEnd → List ℕ
+end_instruction_line image file pc code end =
+    instruction_line (symbol_at image file pc) pc code (end_assembly end pc code) (end_reason end)
 
-unfoldable pub place_line : Image → List ℕ → ℕ → List ℕ
-place_line image file pc =
-    line (codes "     ended at " ++ word_digits pc ++ place_text (symbol_at image file pc))
+unfoldable pub ended_at_line : Image → List ℕ → ℕ → List ℕ
+ended_at_line image file pc =
+    line (codes "     ended at " ++ word_digits pc ++ symbol_in_brackets (symbol_at image file pc))
 
 -- ---- the registers
 
 -- what a value points to, behind it
-abbrev pub behind_value : Option (List ℕ × ℕ) → List ℕ
-behind_value None = []
-behind_value (Some place) = gap ++ symbol_text place
+abbrev pub symbol_behind_value : Option (List ℕ × ℕ) → List ℕ
+symbol_behind_value None = []
+symbol_behind_value (Some place) = gap ++ symbol_text place
 
 unfoldable pub register_line : Image → List ℕ → ℕ → ℕ → List ℕ
 register_line image file number value =
     line (margin ++ padded_text 4 (register_name number) ++ gap ++ word_digits value
-    ++ behind_value (symbol_of_value image file value))
+    ++ symbol_behind_value (symbol_of_value image file value))
 
 -- those of registers from a number on
 unfoldable pub register_lines : Image → List ℕ → ℕ → List ℕ → List ℕ
@@ -156,5 +156,5 @@ register_lines image file number (value ∷ values) =
 
 unfoldable pub trace_text : Image → List ℕ → Trace → RowEnd → List ℕ
 trace_text image file trace end =
-    place_line image file trace.pc ++ register_lines image file 0 trace.registers
-    ++ flat_map (step_line image file) trace.steps ++ end_line image file trace.pc trace.code end
+    ended_at_line image file trace.pc ++ register_lines image file 0 trace.registers
+    ++ flat_map (step_line image file) trace.steps ++ end_instruction_line image file trace.pc trace.code end

@@ -17,15 +17,15 @@ abbrev pub job_at : Planned → ℕ → Job → Job
 job_at plan place other = slice_index_or plan.jobs place other
 
 -- the state after at most n steps of a run
-abbrev pub after : ℕ → State → State
-after n s = (run_of n s).state
+abbrev pub state_after : ℕ → State → State
+state_after n s = (run_of n s).state
 
 unfoldable pub registers_of : State → List ℕ
 registers_of s = map (register s) (range_with_len 0 32)
 
 -- some steps, and the state behind them
-abbrev pub trace_to : List TracedStep → State → Trace
-trace_to steps s = record {
+abbrev pub trace_up_to : List TracedStep → State → Trace
+trace_up_to steps s = record {
   steps = steps;
   pc = s.pc;
   code = code_at s.bus s.pc;
@@ -37,8 +37,8 @@ trace_to steps s = record {
 unfoldable pub trace_of : ℕ → ℕ → State → Trace
 trace_of steps last s =
     let shown = min steps last in
-    let t = after (steps - shown) s in
-    trace_to (steps_from shown t) (after shown t)
+    let t = state_after (steps - shown) s in
+    trace_up_to (steps_from shown t) (state_after shown t)
 
 -- that of the run of a job of a plan, where it is not refused
 unfoldable pub trace_in : Planned → Job → ℕ → ℕ → Option Trace

@@ -2,11 +2,11 @@
 
 ghost use Rattle.std.specs.Prelude.{◌≡◌, ◌++◌, OnOk, drop, option_map, replicate};
 ghost use Rattle.rv_text.specs.Words.{word_digits};
-ghost use Rattle.rv_trace.specs.Text.{code_text, columns, instruction_line, padded_text, symbol_or_none, text_and_more};
+ghost use Rattle.rv_trace.specs.Text.{code_text, code_columns, instruction_line, padded_text, symbol_or_none, text_columns};
 
 use crate::code::Code;
 use rv_elf::SymbolAt;
-use rv_text::{Span, behind, push_spans, push_symbol, push_text, push_word};
+use rv_text::{Span, push_spans, push_symbol, push_text, push_word_digits, tail_from};
 use std::alloc::{AllocError, Global};
 
 /// What separates two columns.
@@ -29,7 +29,7 @@ pub(crate) struct Instruction<'a> {
 
 /// Appends the line of an instruction.
 #[tactic(auto, unfolding(crate::specs::Text::instruction_line))]
-pub(crate) fn push_instruction(
+pub(crate) fn push_instruction_line(
     alloc: Global,
     bytes: &mut Vec<u8>,
     shown: &Instruction<'_>,
@@ -42,13 +42,13 @@ pub(crate) fn push_instruction(
         bytes,
         &[Span::Text(MARGIN), Span::Word(shown.pc), Span::Text(GAP)],
     )?;
-    push_place(alloc, bytes, shown.symbol)?;
+    push_symbol_column(alloc, bytes, shown.symbol)?;
     push_text(bytes, GAP)?;
-    push_columns(alloc, bytes, shown.code, shown.text, shown.told)?;
+    push_code_columns(alloc, bytes, shown.code, shown.text, shown.told)?;
     push_text(bytes, "\n")
 }
 
-fn push_place(
+fn push_symbol_column(
     alloc: Global,
     bytes: &mut Vec<u8>,
     symbol: Option<SymbolAt<'_>>,
@@ -60,44 +60,44 @@ fn push_place(
     if let Some(symbol) = symbol {
         push_symbol(alloc, &mut text, symbol)?;
     }
-    push_padded(bytes, 20, &text)
+    push_padded_text(bytes, 20, &text)
 }
 
-#[tactic(auto, unfolding(crate::specs::Text::columns))]
-fn push_columns(
+#[tactic(auto, unfolding(crate::specs::Text::code_columns))]
+fn push_code_columns(
     alloc: Global,
     bytes: &mut Vec<u8>,
     code: Option<Code>,
     text: &[u8],
     told: &[u8],
 ) -> Result<(), AllocError>
-    ensures { OnOk result (bytes.new.items ≡ bytes.old.items ++ columns code text.now told.now) }
+    ensures { OnOk result (bytes.new.items ≡ bytes.old.items ++ code_columns code text.now told.now) }
 {
     let Some(code) = code else {
         return bytes.extend_from_slice(told);
     };
-    push_code(alloc, bytes, code)?;
+    push_code_column(alloc, bytes, code)?;
     push_text(bytes, GAP)?;
-    push_text_and_more(bytes, text, told)
+    push_text_columns(bytes, text, told)
 }
 
-fn push_text_and_more(bytes: &mut Vec<u8>, text: &[u8], told: &[u8]) -> Result<(), AllocError>
-    ensures { OnOk result (bytes.new.items ≡ bytes.old.items ++ text_and_more text.now told.now) }
+fn push_text_columns(bytes: &mut Vec<u8>, text: &[u8], told: &[u8]) -> Result<(), AllocError>
+    ensures { OnOk result (bytes.new.items ≡ bytes.old.items ++ text_columns text.now told.now) }
 {
     if told.is_empty() {
         return bytes.extend_from_slice(text);
     }
-    push_padded(bytes, 24, text)?;
+    push_padded_text(bytes, 24, text)?;
     push_text(bytes, GAP)?;
     bytes.extend_from_slice(told)
 }
 
-fn push_code(alloc: Global, bytes: &mut Vec<u8>, code: Code) -> Result<(), AllocError>
+fn push_code_column(alloc: Global, bytes: &mut Vec<u8>, code: Code) -> Result<(), AllocError>
     ensures { OnOk result (bytes.new.items ≡ bytes.old.items ++ padded_text 8 (code_text code)) }
 {
     let mut digits = Vec::new(alloc);
     push_code_digits(alloc, &mut digits, code)?;
-    push_padded(bytes, 8, &digits)
+    push_padded_text(bytes, 8, &digits)
 }
 
 #[tactic(auto, unfolding(crate::specs::Text::code_text))]
@@ -105,13 +105,13 @@ fn push_code_digits(alloc: Global, bytes: &mut Vec<u8>, code: Code) -> Result<()
     ensures { OnOk result (bytes.new.items ≡ bytes.old.items ++ code_text code) }
 {
     match code {
-        Code::Half(half) => push_digits_behind(alloc, bytes, u32::from(half), 4),
-        Code::Word(word) => push_word(bytes, word),
+        Code::Half(half) => push_digits_after_first(alloc, bytes, u32::from(half), 4),
+        Code::Word(word) => push_word_digits(bytes, word),
     }
 }
 
 /// Appends the digits of a word but for the first ones, so many.
-pub(crate) fn push_digits_behind(
+pub(crate) fn push_digits_after_first(
     alloc: Global,
     bytes: &mut Vec<u8>,
     word: u32,
@@ -120,13 +120,17 @@ pub(crate) fn push_digits_behind(
     ensures { OnOk result (bytes.new.items ≡ bytes.old.items ++ drop count (word_digits word)) }
 {
     let mut digits = Vec::new(alloc);
-    push_word(&mut digits, word)?;
-    bytes.extend_from_slice(behind(&digits, count))
+    push_word_digits(&mut digits, word)?;
+    bytes.extend_from_slice(tail_from(&digits, count))
 }
 
 /// Appends a text with spaces behind it, up to a width.
 #[tactic(auto, unfolding(crate::specs::Text::padded_text))]
-pub(crate) fn push_padded(bytes: &mut Vec<u8>, width: usize, text: &[u8]) -> Result<(), AllocError>
+pub(crate) fn push_padded_text(
+    bytes: &mut Vec<u8>,
+    width: usize,
+    text: &[u8],
+) -> Result<(), AllocError>
     ensures { OnOk result (bytes.new.items ≡ bytes.old.items ++ padded_text width text.now) }
 {
     bytes.extend_from_slice(text)?;

@@ -2,7 +2,7 @@
 
 ghost use Rattle.std.specs.Prelude.{◌≡◌, Ok, option_map};
 ghost use Rattle.rv_elf.specs.Image.{image_of};
-ghost use Rattle.rv_elf.specs.Nearest.{symbol_at, symbol_of_value};
+ghost use Rattle.rv_elf.specs.SymbolSearch.{symbol_at, symbol_of_value};
 
 use rv_elf::{Image, SymbolAt};
 use rv_isa::Isa;

@@ -7,7 +7,7 @@ ghost use Rattle.rv_jobs.specs.Plans.{Planned};
 ghost use Rattle.rv_machine.specs.Fetch.{fetch};
 ghost use Rattle.rv_machine.specs.Run.{run_of, step_of};
 ghost use Rattle.rv_machine.specs.State.{State};
-ghost use Rattle.rv_rows.specs.Outcome.{end_of};
+ghost use Rattle.rv_rows.specs.Outcome.{row_end};
 ghost use Rattle.rv_rows.specs.Rows.{row_of, start_in};
 ghost use Rattle.rv_memory.specs.Bus.{size_of, touches_console, value_at};
 ghost use Rattle.rv_memory.specs.declared.access.Width.{Width};
@@ -44,7 +44,7 @@ pub fn stored_values_stand()
 /// it completed.
 pub fn rows_are_of_the_run()
     ensures ending { (plan : Planned) (job : Job) (s : State) → start_in plan.answers job ≡ Ok s
-        → (row_of plan job).ending ≡ end_of (run_of job.budget s).ending }
+        → (row_of plan job).ending ≡ row_end (run_of job.budget s).ending }
     ensures steps { (plan : Planned) (job : Job) (s : State) → start_in plan.answers job ≡ Ok s
         → (row_of plan job).steps ≡ (run_of job.budget s).steps }
 {}

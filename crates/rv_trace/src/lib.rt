@@ -2,23 +2,23 @@
 //! end, and the registers there.
 //!
 //! A run is exact, so the state in front of its last instructions is that of the same run with a smaller budget.
-//! [`trace_run`] runs a machine so far, and then step by step; [`trace_at`] does so for a job of a plan.
+//! [`trace_run`] runs a machine so far, and then step by step; [`trace_job`] does so for a job of a plan.
 //! [`push_trace`] appends the text of it, with the symbols of an [`ElfFile`].
 #![tactic(auto)]
 
-mod aim;
 mod code;
 mod columns;
 mod elf_file;
+mod instruction_text;
 mod law;
 mod step;
-mod text;
-mod told;
 mod trace;
+mod trace_lines;
+mod write_targets;
 
 pub use code::{Code, code_at};
 pub use elf_file::ElfFile;
 pub use law::{codes_are_fetched, rows_are_of_the_run, stored_values_stand, traces_show_the_end};
 pub use step::{TracedStep, TracedSteps, Wrote};
-pub use text::push_trace;
-pub use trace::{Trace, trace_at, trace_run};
+pub use trace::{Trace, trace_job, trace_run};
+pub use trace_lines::push_trace;

@@ -5,8 +5,8 @@ ghost use Rattle.rv_machine.specs.Machine.{state_of};
 ghost use Rattle.rv_machine.specs.Run.{step_of};
 ghost use Rattle.rv_trace.specs.Steps.{traced_step};
 
-use crate::aim::aim_of;
 use crate::code::{Code, code_at};
+use crate::write_targets::write_target;
 use rv_base::Sequence;
 use rv_machine::Machine;
 use rv_memory::Width;
@@ -36,7 +36,7 @@ pub struct TracedStep {
 pub type TracedSteps = Sequence<TracedStep>;
 
 /// The next instruction of a machine, which is done, if it completes.
-pub(crate) fn next_step(machine: &mut Machine) -> Option<TracedStep>
+pub(crate) fn trace_next_step(machine: &mut Machine) -> Option<TracedStep>
     ensures { MatchOption result
         ((is_ok (step_of (state_of machine.old)) ≡ false)
         × (state_of machine.new ≡ state_of machine.old))
@@ -45,14 +45,14 @@ pub(crate) fn next_step(machine: &mut Machine) -> Option<TracedStep>
 {
     let pc = machine.pc();
     let code = code_at(machine.bus(), pc);
-    let aim = aim_of(machine, code);
+    let aim = write_target(machine, code);
     if !steps_once(machine) {
         return None;
     }
     Some(TracedStep {
         pc,
         code,
-        wrote: aim.wrote(machine),
+        wrote: aim.completed_write(machine),
     })
 }
 

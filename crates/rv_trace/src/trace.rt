@@ -4,10 +4,10 @@ ghost use Rattle.std.specs.Prelude.{◌≡◌, ◌<◌, IfOk, OnOk, length};
 ghost use Rattle.rv_jobs.specs.declared_job.Job.{Job as AJob};
 ghost use Rattle.rv_machine.specs.Machine.{state_of};
 ghost use Rattle.rv_trace.specs.Steps.{steps_from};
-ghost use Rattle.rv_trace.specs.Trace.{after, job_at, registers_of, trace_in, trace_of};
+ghost use Rattle.rv_trace.specs.Trace.{state_after, job_at, registers_of, trace_in, trace_of};
 
 use crate::code::{Code, code_at};
-use crate::step::{TracedStep, TracedSteps, next_step};
+use crate::step::{TracedStep, TracedSteps, trace_next_step};
 use rv_jobs::Plan;
 use rv_machine::Machine;
 use rv_rows::machine_at;
@@ -52,7 +52,7 @@ pub fn trace_run(
 
 /// The same of the job at a place, counted from 0, whose row has so many steps; nothing where the job is refused.
 #[tactic(auto, unfolding(crate::specs::Trace::trace_in))]
-pub fn trace_at(
+pub fn trace_job(
     alloc: Global,
     plan: &Plan,
     place: usize,
@@ -77,11 +77,11 @@ fn steps_from(
 ) -> Result<Vec<TracedStep>, AllocError>
     ensures steps { IfOk result
         (λ steps. steps.items ≡ steps_from count (state_of machine.old)) }
-    ensures after { OnOk result (state_of machine.new ≡ after count (state_of machine.old)) }
+    ensures after { OnOk result (state_of machine.new ≡ state_after count (state_of machine.old)) }
 {
     let mut steps = Vec::new(alloc);
     for _ in 0..count {
-        let Some(step) = next_step(machine) else {
+        let Some(step) = trace_next_step(machine) else {
             break;
         };
         steps.push(step)?;

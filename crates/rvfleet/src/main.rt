@@ -3,7 +3,7 @@
 
 use rv_files::{FileStore, StreamSink};
 use rv_fleet::FreeGate;
-use rvfleet_app::{run_words, unread_status};
+use rvfleet_app::{refuse_unreadable_words, run_words};
 use std::env::Env;
 use std::process::ExitCode;
 use std::{env, io};
@@ -11,9 +11,9 @@ use std::{env, io};
 // The answer to the process's own words, over its own streams and files.
 fn main(rt: HostRuntime) -> ExitCode {
     let mut errors = StreamSink::new(rt.stderr());
-    let texts = match texts(&rt) {
+    let texts = match words_of_process(&rt) {
         Ok(texts) => texts,
-        Err(error) => return ExitCode::from(unread_status(&error, &mut errors)),
+        Err(error) => return ExitCode::from(refuse_unreadable_words(&error, &mut errors)),
     };
     let status = run_words(
         &rt,
@@ -31,7 +31,7 @@ fn main(rt: HostRuntime) -> ExitCode {
 // The process's own words. It stands as a function of its own for the place of the loop of steps, which what stands before it
 // decides: docs/PERFORMANCE.md, "What must hold of the machine code".
 #[inline(never)]
-fn texts(rt: &(impl Env + AllocGlobal)) -> io::Result<Vec<String>> {
+fn words_of_process(rt: &(impl Env + AllocGlobal)) -> io::Result<Vec<String>> {
     let mut texts = Vec::new(rt.alloc());
     for text in env::args(rt)? {
         texts.push(text)?;

@@ -7,35 +7,35 @@ use Rattle.clap.specs.declared.error.kind.ErrorKind.{ErrorKind}
 use Rattle.clap.specs.declared.error.kind.ErrorKind.TheVariants.{OutOfMemory}
 use Rattle.rv_jobs.specs.Files.{FileContents}
 use Rattle.rvfleet_app.proofs.Failing.{any_why}
-use Rattle.rvfleet_app.specs.Answers.{IsQuiet, Tells, TellsFailure, is_refused}
-use Rattle.rv_cli.specs.RvfleetCommand.{IsToAnswer, Request, asked_of, fleet_app, is_taken, request_beside, request_of}
-use Rattle.rvfleet_app.specs.Lines.{Told, bad_words_line}
+use Rattle.rvfleet_app.specs.Answers.{IsQuiet, TellsWhy, TellsFailure, is_request_refused}
+use Rattle.rv_cli.specs.RvfleetCommand.{IsToAnswer, Request, faultless_request, fleet_app, are_words_taken, request_beside_faults, request_of}
+use Rattle.rvfleet_app.specs.Lines.{IsLinePut, bad_words_line}
 use Rattle.rv_cli.specs.RvfleetRequests.{request}
 use Rattle.rv_cli.specs.declared.rvfleet.Request.{Request as Value}
 
 -- words in which no fault is found ask for what they say
-asked_without_fault : (words : List Text) → fault_of fleet_app words ≡ [] → asked_of words ≡ request_of words
-unfolding asked_of
-asked_without_fault words none = ap (λ kinds. request_beside kinds (request_of words)) none
+asked_without_fault : (words : List Text) → fault_of fleet_app words ≡ [] → faultless_request words ≡ request_of words
+unfolding faultless_request
+asked_without_fault words none = ap (λ kinds. request_beside_faults kinds (request_of words)) none
 
 -- and so what was read of them is asked for
 pub asked_as_read : (words : List Text) (read asked : Option Value) → fault_of fleet_app words ≡ []
-    → option_map request read ≡ request_of words → read ≡ asked → asked_of words ≡ option_map request asked
+    → option_map request read ≡ request_of words → read ≡ asked → faultless_request words ≡ option_map request asked
 asked_as_read words read asked none reads same =
     asked_without_fault words none ∙ (sym reads ∙ ap (option_map request) same)
 
 nothing_beside : (kind : ErrorKind) (kinds : Kinds) (request : Option Request) → IsAmong kind kinds
-    → request_beside kinds request ≡ None
+    → request_beside_faults kinds request ≡ None
 nothing_beside kind [] request among = absurd among
 nothing_beside kind (fault ∷ more) request among = refl
 
 -- words with a fault ask for nothing
-nothing_asked : (words : List Text) (kind : ErrorKind) → IsAmong kind (fault_of fleet_app words) → asked_of words ≡ None
-unfolding asked_of
+nothing_asked : (words : List Text) (kind : ErrorKind) → IsAmong kind (fault_of fleet_app words) → faultless_request words ≡ None
+unfolding faultless_request
 nothing_asked words kind among = nothing_beside kind (fault_of fleet_app words) (request_of words) among
 
 -- words that are to be answered have no error but want of memory
-pub error_is_memory : (words : List Text) (kind : ErrorKind) → (is_taken words ≡ true → kind ≡ OutOfMemory)
+pub error_is_memory : (words : List Text) (kind : ErrorKind) → (are_words_taken words ≡ true → kind ≡ OutOfMemory)
     → (kind ≡ OutOfMemory) ⊎ IsAmong kind (fault_of fleet_app words) → IsToAnswer words → kind ≡ OutOfMemory
 error_is_memory words kind taken why (inl is) = taken is
 error_is_memory words kind taken (inl out) (inr some) = out
@@ -45,8 +45,8 @@ error_is_memory words kind taken (inr among) (inr some) =
 -- what asks for nothing that the program does is refused as bad words
 pub bad_words : (request : Option Request) (known : Option FileContents) (before after : Option (List ℕ))
     (failures_before failures_after : ℕ) (status : ℕ)
-    → status ≡ 2 → is_refused request ≡ true → Told before after failures_before failures_after bad_words_line
-    → Tells request known before after failures_before failures_after status
+    → status ≡ 2 → is_request_refused request ≡ true → IsLinePut before after failures_before failures_after bad_words_line
+    → TellsWhy request known before after failures_before failures_after status
 bad_words request known before after failures_before failures_after status two bad line = record {
   quiet = λ low. elim low [ inl nought ↦ absurd (omega arith) | inr one ↦ absurd (omega arith) ];
   refused = λ _. inl (bad, line);
@@ -58,10 +58,10 @@ pub error_told : (words : List Text) (known : Option FileContents) (before after
     (failures_before failures_after : ℕ) (status : ℕ) (kind : ErrorKind)
     → (kind ≡ OutOfMemory → status ≡ 3) → (kind ≡ OutOfMemory) ⊎ IsAmong kind (fault_of fleet_app words)
     → (status ≡ 0 → IsQuiet before after failures_before failures_after)
-    → (status ≡ 2 → Told before after failures_before failures_after bad_words_line)
+    → (status ≡ 2 → IsLinePut before after failures_before failures_after bad_words_line)
     → (status ≡ 3 → TellsFailure None before after failures_before failures_after)
     → status ≡ 0 ⊎ status ≡ 2 ⊎ status ≡ 3
-    → Tells (asked_of words) known before after failures_before failures_after status
+    → TellsWhy (faultless_request words) known before after failures_before failures_after status
 error_told words known before after failures_before failures_after status kind memory why quiet refused failed range =
     record {
       quiet = λ low. elim low [
@@ -77,11 +77,11 @@ error_told words known before after failures_before failures_after status kind m
           | inl out ↦
               let three : status ≡ 3 = memory out in
               absurd (omega arith)
-          | inr among ↦ ap is_refused (nothing_asked words kind among)
+          | inr among ↦ ap is_request_refused (nothing_asked words kind among)
         ],
         refused two,
       );
       failed = λ three.
           let told = failed three in
-          (told.0, (any_why (asked_of words) told.0 told.1.0, told.1.1));
+          (told.0, (any_why (faultless_request words) told.0 told.1.0, told.1.1));
     }

@@ -13,31 +13,31 @@ use Rattle.rv_jobs.specs.declared_job.Job.{Job}
 use Rattle.rv_jobs.specs.Files.{FileContents}
 use Rattle.rv_cli.specs.RvfleetCommand.{Request, one, raw, run}
 use Rattle.rvfleet_app.specs.declared.error.Failure.{Failure}
-use Rattle.rvfleet_app.specs.Failures.{is_of_list, is_of_raw, is_of_sending}
-use Rattle.rvfleet_app.specs.Lines.{Told, bad_words_line, failure_line, fault_line}
-use Rattle.rvfleet_app.specs.One.{bytes_of, is_bad_one, is_bad_path, one_jobs}
+use Rattle.rvfleet_app.specs.Failures.{is_failure_of_list, is_failure_of_raw, is_failure_of_sending}
+use Rattle.rvfleet_app.specs.Lines.{IsLinePut, bad_words_line, failure_line, fault_line}
+use Rattle.rvfleet_app.specs.ElfImage.{script_bytes, is_bad_image_request, is_bad_path, single_image_jobs}
 use Rattle.rvfleet_app.specs.Plans.{AreJobRows, MayFault, MayList, Stored}
-use Rattle.rvfleet_app.specs.Raw.{AreRawRows}
+use Rattle.rvfleet_app.specs.FlatImage.{AreRawRows}
 
 -- ---- which words are refused
 
 -- nothing is asked for, or a path or digits are refused
-abbrev pub is_refused : Option Request → Bool
-is_refused (Some (raw budget)) = false
-is_refused (Some (one path budget digits)) = is_bad_one path digits
-is_refused (Some (run path workers group)) = is_bad_path path
-is_refused None = true
+abbrev pub is_request_refused : Option Request → Bool
+is_request_refused (Some (raw budget)) = false
+is_request_refused (Some (one path budget digits)) = is_bad_image_request path digits
+is_request_refused (Some (run path workers group)) = is_bad_path path
+is_request_refused None = true
 
 -- the fault of a list that the store may hold for the request
-abbrev pub IsFaultOf : Option Request → Option FileContents → JobError → Type 0
-IsFaultOf (Some (raw budget)) known error = ⊥
-IsFaultOf (Some (one path budget digits)) known error = ⊥
-IsFaultOf (Some (run path workers group)) known error = MayFault known path error
-IsFaultOf None known error = ⊥
+abbrev pub IsFaultOfRequest : Option Request → Option FileContents → JobError → Type 0
+IsFaultOfRequest (Some (raw budget)) known error = ⊥
+IsFaultOfRequest (Some (one path budget digits)) known error = ⊥
+IsFaultOfRequest (Some (run path workers group)) known error = MayFault known path error
+IsFaultOfRequest None known error = ⊥
 
 -- a list that the store may hold for the request has a fault
 abbrev pub HasFault : Option Request → Stored → Type 0
-HasFault request store = (error : JobError) × IsFaultOf request store.known error
+HasFault request store = (error : JobError) × IsFaultOfRequest request store.known error
 
 -- ---- which rows are owed
 
@@ -56,9 +56,9 @@ reads_input (Some (run path workers group)) = false
 reads_input None = false
 
 -- the rows of the one job of a path and the script that digits stand for
-abbrev pub AreOneRows : Stored → List ℕ → ℕ → Option (List ℕ) → List Row → Type 0
-AreOneRows store path budget digits rows = (script : List ℕ) × ((bytes_of digits ≡ Ok script)
-    × AreJobRows store (one_jobs path budget script) rows)
+abbrev pub AreImageRows : Stored → List ℕ → ℕ → Option (List ℕ) → List Row → Type 0
+AreImageRows store path budget digits rows = (script : List ℕ) × ((script_bytes digits ≡ Ok script)
+    × AreJobRows store (single_image_jobs path budget script) rows)
 
 -- the rows of the jobs of a list that the store may hold at a path
 abbrev pub AreListRows : Stored → List ℕ → List Row → Type 0
@@ -68,32 +68,32 @@ AreListRows store path rows =
 -- the rows of a request, over what the input has and the store may answer
 abbrev pub AreRows : Option Request → Option (List ℕ) → Stored → List Row → Type 0
 AreRows (Some (raw budget)) input store rows = AreRawRows input budget rows
-AreRows (Some (one path budget digits)) input store rows = AreOneRows store path budget digits rows
+AreRows (Some (one path budget digits)) input store rows = AreImageRows store path budget digits rows
 AreRows (Some (run path workers group)) input store rows = AreListRows store path rows
 AreRows None input store rows = ⊥
 
 -- ---- the report
 
-abbrev pub is_fail : Verdict → Bool
-is_fail verdict.Unasked = false
-is_fail verdict.Pass = false
-is_fail verdict.Fail = true
+abbrev pub is_fail_verdict : Verdict → Bool
+is_fail_verdict verdict.Unasked = false
+is_fail_verdict verdict.Pass = false
+is_fail_verdict verdict.Fail = true
 
-abbrev pub has_fail : List Row → Bool
-has_fail rows = list_any (λ row. is_fail row.verdict) rows
+abbrev pub has_failed_row : List Row → Bool
+has_failed_row rows = list_any (λ row. is_fail_verdict row.verdict) rows
 
 -- 1 where some verdict is fail, else 0
-abbrev pub status_of : List Row → ℕ
-status_of rows = if has_fail rows then 1 else 0
+abbrev pub verdicts_status : List Row → ℕ
+verdicts_status rows = if has_failed_row rows then 1 else 0
 
 -- the report of these rows went out, and the status is its own
-pub record Reported (before after : Option (List ℕ)) (status : ℕ) (rows : List Row) : Type 0 where
+pub record IsReportSent (before after : Option (List ℕ)) (status : ℕ) (rows : List Row) : Type 0 where
   pub appended : Appends before after (report_text rows)
-  pub verdicts : status ≡ status_of rows
+  pub verdicts : status ≡ verdicts_status rows
 
 -- a beginning of their report went out
-abbrev pub Began : Option (List ℕ) → Option (List ℕ) → List Row → Type 0
-Began before after rows = AppendsBeginning before after (report_text rows)
+abbrev pub IsReportBegun : Option (List ℕ) → Option (List ℕ) → List Row → Type 0
+IsReportBegun before after rows = AppendsBeginning before after (report_text rows)
 
 -- ---- the answer
 
@@ -102,12 +102,12 @@ Began before after rows = AppendsBeginning before after (report_text rows)
 pub record Answers (request : Option Request) (input : Option (List ℕ)) (store : Stored)
     (before after : Option (List ℕ)) (status : ℕ) : Type 0 where
   pub reported : status ≡ 0 ⊎ status ≡ 1
-      → (rows : List Row) × (AreRows request input store rows × Reported before after status rows)
-  pub accepted : status ≡ 0 ⊎ status ≡ 1 → is_refused request ≡ false
+      → (rows : List Row) × (AreRows request input store rows × IsReportSent before after status rows)
+  pub accepted : status ≡ 0 ⊎ status ≡ 1 → is_request_refused request ≡ false
   pub refused : status ≡ 2
-      → Keeps before after × (is_refused request ≡ true ⊎ HasFault request store)
+      → Keeps before after × (is_request_refused request ≡ true ⊎ HasFault request store)
   pub failed : status ≡ 3 → Keeps before after
-      ⊎ ((rows : List Row) × (AreRows request input store rows × Began before after rows))
+      ⊎ ((rows : List Row) × (AreRows request input store rows × IsReportBegun before after rows))
 
 -- ---- what standard error says
 
@@ -115,23 +115,23 @@ pub record Answers (request : Option Request) (input : Option (List ℕ)) (store
 abbrev pub TellsRefusal : Option Request → Option FileContents
     → Option (List ℕ) → Option (List ℕ) → ℕ → ℕ → Type 0
 TellsRefusal request known before after failures_before failures_after =
-    ((is_refused request ≡ true)
-    × Told before after failures_before failures_after bad_words_line)
-    ⊎ ((error : JobError) × (IsFaultOf request known error
-    × Told before after failures_before failures_after (fault_line error)))
+    ((is_request_refused request ≡ true)
+    × IsLinePut before after failures_before failures_after bad_words_line)
+    ⊎ ((error : JobError) × (IsFaultOfRequest request known error
+    × IsLinePut before after failures_before failures_after (fault_line error)))
 
 -- the request may fail so
 abbrev pub may_fail : Option Request → Failure → Bool
-may_fail (Some (raw budget)) failure = is_of_raw failure
-may_fail (Some (one path budget digits)) failure = is_of_sending failure
-may_fail (Some (run path workers group)) failure = is_of_list failure
-may_fail None failure = is_of_sending failure
+may_fail (Some (raw budget)) failure = is_failure_of_raw failure
+may_fail (Some (one path budget digits)) failure = is_failure_of_sending failure
+may_fail (Some (run path workers group)) failure = is_failure_of_list failure
+may_fail None failure = is_failure_of_sending failure
 
 -- the line of a failure is told that the request may have
 abbrev pub TellsFailure : Option Request → Option (List ℕ) → Option (List ℕ) → ℕ → ℕ → Type 0
 TellsFailure request before after failures_before failures_after =
     (failure : Failure) × ((may_fail request failure ≡ true)
-    × Told before after failures_before failures_after (failure_line failure))
+    × IsLinePut before after failures_before failures_after (failure_line failure))
 
 -- nothing is said, and no put failed
 abbrev pub IsQuiet : Option (List ℕ) → Option (List ℕ) → ℕ → ℕ → Type 0
@@ -139,7 +139,7 @@ IsQuiet before after failures_before failures_after =
     Keeps before after × (failures_after ≡ failures_before)
 
 -- why the status is 2 or 3; beside 0 and 1 nothing is said
-pub record Tells (request : Option Request) (known : Option FileContents)
+pub record TellsWhy (request : Option Request) (known : Option FileContents)
     (before after : Option (List ℕ)) (failures_before failures_after : ℕ) (status : ℕ)
     : Type 0 where
   pub quiet : status ≡ 0 ⊎ status ≡ 1 → IsQuiet before after failures_before failures_after

@@ -16,9 +16,9 @@ use Rattle.rvfleet_app.specs.declared.error.RunError.{RunError}
 use Rattle.rvfleet_app.specs.declared.error.RunError.TheVariants as run
 
 -- a failed read of the input
-abbrev pub read_failure : InputError → RunError
-read_failure input.OutOfMemory = run.OutOfMemory
-read_failure (input.Failed reason) = run.ReadFailed
+abbrev pub input_read_failure : InputError → RunError
+input_read_failure input.OutOfMemory = run.OutOfMemory
+input_read_failure (input.Failed reason) = run.ReadFailed
 
 -- a report that didn't go out
 abbrev pub write_failure : WriteError → RunError
@@ -42,27 +42,27 @@ send_failure write.OutOfMemory = failure.OutOfMemory
 send_failure write.Failed = failure.WriteFailed
 
 -- sending a report, or help, may fail so
-abbrev pub is_of_sending : Failure → Bool
-is_of_sending failure.OutOfMemory = true
-is_of_sending failure.WriteFailed = true
-is_of_sending _ = false
+abbrev pub is_failure_of_sending : Failure → Bool
+is_failure_of_sending failure.OutOfMemory = true
+is_failure_of_sending failure.WriteFailed = true
+is_failure_of_sending _ = false
 
 -- a flat image may fail so, whose input is read
-abbrev pub is_of_raw : Failure → Bool
-is_of_raw failure.OutOfMemory = true
-is_of_raw failure.ReadFailed = true
-is_of_raw failure.WriteFailed = true
-is_of_raw _ = false
+abbrev pub is_failure_of_raw : Failure → Bool
+is_failure_of_raw failure.OutOfMemory = true
+is_failure_of_raw failure.ReadFailed = true
+is_failure_of_raw failure.WriteFailed = true
+is_failure_of_raw _ = false
 
 -- a job list may fail so, which has a file and workers, and for which the input isn't read
-abbrev pub is_of_list : Failure → Bool
-is_of_list failure.ReadFailed = false
-is_of_list _ = true
+abbrev pub is_failure_of_list : Failure → Bool
+is_failure_of_list failure.ReadFailed = false
+is_failure_of_list _ = true
 
 -- reading a list failed so, if it did
 abbrev pub IsListFailure : ListError → Type 0
 IsListFailure (Refused error) = Unit {0}
-IsListFailure (Failed failure) = is_of_list failure ≡ true
+IsListFailure (Failed failure) = is_failure_of_list failure ≡ true
 
 -- a list that is refused for this; want of memory is a failure of the program
 abbrev pub IsListError : JobError → ListError → Type 0

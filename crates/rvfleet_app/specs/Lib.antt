@@ -1,6 +1,6 @@
 pub mod Answers
 pub mod Failures
 pub mod Lines
-pub mod One
+pub mod ElfImage
 pub mod Plans
-pub mod Raw
+pub mod FlatImage

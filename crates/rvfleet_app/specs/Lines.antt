@@ -37,7 +37,7 @@ failure_line failure = program_line (failure_name failure)
 
 -- the whole line went out and no put failed; or one put failed, and a beginning of the line went
 -- out
-unfoldable pub Told : Option (List ℕ) → Option (List ℕ) → ℕ → ℕ → List ℕ → Type 0
-Told before after failures_before failures_after line =
+unfoldable pub IsLinePut : Option (List ℕ) → Option (List ℕ) → ℕ → ℕ → List ℕ → Type 0
+IsLinePut before after failures_before failures_after line =
     (Appends before after line × (failures_after ≡ failures_before))
     ⊎ (AppendsBeginning before after line × (failures_after ≡ one_more failures_before))

@@ -6,7 +6,7 @@ use Rattle.rv_jobs.specs.declared_error.JobError.{JobError}
 use Rattle.rv_jobs.specs.declared_job.Job.{Job}
 use Rattle.rv_jobs.specs.declared.kept.Kept.TheVariants.{Content}
 use Rattle.rv_jobs.specs.JobList.{job_list_of}
-use Rattle.rv_jobs.specs.Plans.{AreKept, Planned, more, paths_of, paths_used, unreadables}
+use Rattle.rv_jobs.specs.Plans.{AreKept, Planned, one_more_times, paths_of, paths_used, unreadable_count}
 use Rattle.rv_jobs.specs.Files.{FileContents}
 use Rattle.rv_jobs.specs.Kept.{IsKeptOf}
 use Rattle.rvfleet_app.specs.declared.error.ListError.{ListError}
@@ -18,8 +18,8 @@ pub record Stored : Type 0 where
   pub before : ℕ
   pub after : ℕ
 
-abbrev pub stored : Option FileContents → ℕ → ℕ → Stored
-stored known before after = record { known = known; before = before; after = after }
+abbrev pub stored_contents : Option FileContents → ℕ → ℕ → Stored
+stored_contents known before after = record { known = known; before = before; after = after }
 
 -- a plan of jobs over answers that the store may give: one for each of their paths, and one more
 -- fault for each that is unreadable
@@ -27,7 +27,7 @@ pub record MayPlan (store : Stored) (list : List Job) (plan : Planned) : Type 0 
   pub jobs : plan.jobs ≡ list
   pub paths : paths_of plan.answers ≡ paths_used list
   pub kept : AreKept store.known plan.answers
-  pub faults : store.after ≡ more store.before (unreadables plan.answers)
+  pub faults : store.after ≡ one_more_times store.before (unreadable_count plan.answers)
 
 -- the rows of jobs, over answers that the store may give
 abbrev pub AreJobRows : Stored → List Job → List Row → Type 0
@@ -44,6 +44,6 @@ MayFault known path error =
     (list : List ℕ) × (IsKeptOf known path (Content list) × (job_list_of list ≡ Err error))
 
 -- the fault of a list that was read; a list that wasn't read has none
-abbrev pub OfFault : Option FileContents → List ℕ → ListError → Type 0
-OfFault known path (Refused error) = MayFault known path error
-OfFault known path (Failed failure) = Unit {0}
+abbrev pub IsListFault : Option FileContents → List ℕ → ListError → Type 0
+IsListFault known path (Refused error) = MayFault known path error
+IsListFault known path (Failed failure) = Unit {0}

@@ -65,9 +65,9 @@ impl From<AllocError> for RunError {
 }
 
 impl From<InputError> for RunError {
-    ghost use Rattle.rvfleet_app.specs.Failures.{read_failure};
+    ghost use Rattle.rvfleet_app.specs.Failures.{input_read_failure};
 
-    ghost from_gives = { λ error run. run ≡ read_failure error };
+    ghost from_gives = { λ error run. run ≡ input_read_failure error };
 
     fn from(error: InputError) -> RunError {
         match error {

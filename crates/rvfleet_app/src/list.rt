@@ -3,13 +3,13 @@
 ghost use Rattle.std.specs.Prelude.{true, List, ◌≡◌, ◌≤◌, ◌⊎◌, IfErr, IfOk, OnErr, OnOk};
 ghost use Rattle.std.specs.Io.KnownBytes.{Keeps};
 ghost use Rattle.rv_fleet.specs.declared_row.Row.{Row as ARow};
-ghost use Rattle.rv_jobs.specs.Counts.{Rose};
-ghost use Rattle.rvfleet_app.specs.Answers.{Began, Reported};
-ghost use Rattle.rvfleet_app.specs.Failures.{IsListError, IsListFailure, is_of_list};
-ghost use Rattle.rvfleet_app.specs.Plans.{AreJobRows, MayList, OfFault, stored};
+ghost use Rattle.rv_jobs.specs.Counts.{HasRisen};
+ghost use Rattle.rvfleet_app.specs.Answers.{IsReportBegun, IsReportSent};
+ghost use Rattle.rvfleet_app.specs.Failures.{IsListError, IsListFailure, is_failure_of_list};
+ghost use Rattle.rvfleet_app.specs.Plans.{AreJobRows, MayList, IsListFault, stored_contents};
 
 use crate::error::{Failure, ListError};
-use crate::sending::send;
+use crate::report_output::send_report;
 use rv_fleet::{Crew, Gate, Sink, run_fleet};
 use rv_jobs::{JobError, JobList, ReadError, Store, What, gather, read_jobs};
 use std::alloc::Global;
@@ -21,21 +21,21 @@ pub fn read_list<S: Store>(alloc: Global, store: &mut S, path: &str) -> Result<J
     ensures same { S.contents store.new ≡ S.contents store.old }
     ensures listed { IfOk result (MayList (S.contents store.old) path.now) }
     ensures unfaulted { OnOk result (S.faulted store.new ≡ S.faulted store.old) }
-    ensures refused { IfErr result (OfFault (S.contents store.old) path.now) }
+    ensures refused { IfErr result (IsListFault (S.contents store.old) path.now) }
     ensures why { IfErr result IsListFailure }
 {
     let bytes = match store.read(alloc, path) {
         Ok(bytes) => bytes,
-        Err(error) => return Err(ListError::Failed(unread_list(error))),
+        Err(error) => return Err(ListError::Failed(list_read_failure(error))),
     };
     match read_jobs(alloc, bytes.as_slice()) {
         Ok(jobs) => Ok(jobs),
-        Err(error) => Err(list_error(error)),
+        Err(error) => Err(job_list_error(error)),
     }
 }
 
-fn unread_list(error: ReadError) -> Failure
-    ensures { is_of_list result ≡ true }
+fn list_read_failure(error: ReadError) -> Failure
+    ensures { is_failure_of_list result ≡ true }
 {
     match error {
         ReadError::Unreadable => Failure::ListUnreadable,
@@ -45,7 +45,7 @@ fn unread_list(error: ReadError) -> Failure
 }
 
 // Want of memory is no fault of the list.
-fn list_error(error: JobError) -> ListError
+fn job_list_error(error: JobError) -> ListError
     ensures { IsListError error result }
 {
     match error.what {
@@ -65,23 +65,23 @@ pub fn run_jobs<R: Threads + Wait, S: Store, O: Sink, G: Gate>(
     gate: &G,
 ) -> Result<u8, Failure>
     ensures reported { IfOk result (λ status. (rows : List ARow)
-        × (AreJobRows (stored (S.contents store.old) (S.faulted store.old) (S.faulted store.new))
+        × (AreJobRows (stored_contents (S.contents store.old) (S.faulted store.old) (S.faulted store.new))
         jobs rows
-        × Reported (O.taken out.old) (O.taken out.new) status rows)) }
+        × IsReportSent (O.taken out.old) (O.taken out.new) status rows)) }
     ensures range { IfOk result (λ status. status ≤ 1) }
     ensures counted { OnOk result (O.failed out.new ≡ O.failed out.old) }
-    ensures why { IfErr result (λ failure. is_of_list failure ≡ true) }
+    ensures why { IfErr result (λ failure. is_failure_of_list failure ≡ true) }
     ensures part { OnErr result (Keeps (O.taken out.old) (O.taken out.new)
         ⊎ ((rows : List ARow)
-        × (AreJobRows (stored (S.contents store.old) (S.faulted store.old) (S.faulted store.new))
+        × (AreJobRows (stored_contents (S.contents store.old) (S.faulted store.old) (S.faulted store.new))
         jobs rows
-        × Began (O.taken out.old) (O.taken out.new) rows))) }
+        × IsReportBegun (O.taken out.old) (O.taken out.new) rows))) }
     ensures failed { IfErr result
-        (λ error. error ≡ Failure.WriteFailed → Rose (O.failed out.old) (O.failed out.new)) }
+        (λ error. error ≡ Failure.WriteFailed → HasRisen (O.failed out.old) (O.failed out.new)) }
     ensures same { S.contents store.new ≡ S.contents store.old }
 {
     let alloc = crew.alloc;
     let plan = gather(alloc, jobs, store)?;
     let report = run_fleet(crew.rt, alloc, &plan, crew.workers, crew.group, gate)?;
-    send(alloc, &report, out)
+    send_report(alloc, &report, out)
 }

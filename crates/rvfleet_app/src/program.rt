@@ -6,20 +6,20 @@ ghost use Rattle.std.specs.Prelude.{true, false};
 ghost use Rattle.std.specs.Io.KnownBytes.{Keeps};
 ghost use Rattle.clap.specs.Words.{kind_of};
 ghost use Rattle.rv_fleet.specs.declared_row.Row.{Row};
-ghost use Rattle.rvfleet_app.specs.Answers.{Answers, Began, IsQuiet, Reported, Tells, TellsFailure};
+ghost use Rattle.rvfleet_app.specs.Answers.{Answers, IsReportBegun, IsQuiet, IsReportSent, TellsWhy, TellsFailure};
 ghost use Rattle.rvfleet_app.specs.Answers.{reads_input, reads_store};
-ghost use Rattle.rv_cli.specs.RvfleetCommand.{AsksHelp, IsToAnswer, asked_of, is_taken, one};
+ghost use Rattle.rv_cli.specs.RvfleetCommand.{AsksHelp, IsToAnswer, faultless_request, are_words_taken, one};
 ghost use Rattle.rv_cli.specs.RvfleetCommand.{raw, request_of, run};
-ghost use Rattle.rvfleet_app.specs.Lines.{Told, bad_words_line};
-ghost use Rattle.rvfleet_app.specs.Plans.{stored};
-ghost use Rattle.rvfleet_app.specs.Raw.{AreRawRows};
-ghost use Rattle.rv_cli.specs.RvfleetRequests.{AreWithin, request};
+ghost use Rattle.rvfleet_app.specs.Lines.{IsLinePut, bad_words_line};
+ghost use Rattle.rvfleet_app.specs.Plans.{stored_contents};
+ghost use Rattle.rvfleet_app.specs.FlatImage.{AreRawRows};
+ghost use Rattle.rv_cli.specs.RvfleetRequests.{IsRequestInRange, request};
 
+use crate::elf_image::{ImageRun, ScriptError, is_bad_path, read_script, run_image};
 use crate::error::{Failure, ListError};
+use crate::flat_image::run_flat_image;
 use crate::list::{read_list, run_jobs};
-use crate::one::{ImageRun, ScriptError, is_bad_path, read_script, run_image};
-use crate::raw::run_raw;
-use crate::status::{BAD_WORDS, DONE, FAILED, failed, refused, refused_list};
+use crate::status::{BAD_WORDS, DONE, FAILED, put_failure, refuse_list, refuse_words};
 use clap::Error;
 use clap::error::ErrorKind;
 use rv_cli::rvfleet::{Request, read_words};
@@ -46,29 +46,29 @@ pub fn run_words<'a, R: Threads + Wait, T: AsStr, S: Store, I: Read, O: Sink, E:
     gate: &G,
 ) -> u8
     // Words that the command takes ask for something.
-    ensures asked { is_taken (map T.text words.entry.now) ≡ true
+    ensures asked { are_words_taken (map T.text words.entry.now) ≡ true
         → is_some (request_of (map T.text words.entry.now)) ≡ true }
     // Words that it takes, or in which it finds no fault, are answered: a report of what they ask for
     // went out whole, in part, or not at all, as the status says.
     ensures answers { IsToAnswer (map T.text words.entry.now)
         → Answers (request_of (map T.text words.entry.now)) (I.remaining input.old)
-        (stored (S.contents store.old) (S.faulted store.old) (S.faulted store.new))
+        (stored_contents (S.contents store.old) (S.faulted store.old) (S.faulted store.new))
         (O.taken out.old) (O.taken out.new) result }
     // No put of `out` failed where the status is 0 or 1.
     ensures counted { result ≡ 0 ⊎ result ≡ 1 → O.failed out.new ≡ O.failed out.old }
     // A line on `errors` says why the status is 2 or 3, for any words; else nothing is said there.
-    ensures told { Tells (asked_of (map T.text words.entry.now)) (S.contents store.old)
+    ensures told { TellsWhy (faultless_request (map T.text words.entry.now)) (S.contents store.old)
         (E.taken errors.old) (E.taken errors.new)
         (E.failed errors.old) (E.failed errors.new) result }
     // Status 0 or 1 is for words that ask for something, or for help.
     ensures helped { result ≡ 0 ⊎ result ≡ 1
-        → is_some (asked_of (map T.text words.entry.now)) ≡ true
+        → is_some (faultless_request (map T.text words.entry.now)) ≡ true
         ⊎ AsksHelp (map T.text words.entry.now) }
     // Words that ask for no file have none read.
-    ensures unread { reads_store (asked_of (map T.text words.entry.now)) ≡ false
+    ensures unread { reads_store (faultless_request (map T.text words.entry.now)) ≡ false
         → S.faulted store.new ≡ S.faulted store.old }
     // Words that don't ask for the input leave it as it is.
-    ensures untaken { reads_input (asked_of (map T.text words.entry.now)) ≡ false
+    ensures untaken { reads_input (faultless_request (map T.text words.entry.now)) ≡ false
         → I.remaining input.new ≡ I.remaining input.old }
     // The status is 0, 1, 2 or 3.
     ensures range { result ≤ 3 }
@@ -76,10 +76,10 @@ pub fn run_words<'a, R: Threads + Wait, T: AsStr, S: Store, I: Read, O: Sink, E:
     match read_words(alloc, words) {
         Ok(Some(asked)) => {
             let host = Host { rt, alloc, gate };
-            host.asked_status(asked, store, input, out, errors)
+            host.answer_request(asked, store, input, out, errors)
         }
-        Ok(None) => refused(errors),
-        Err(error) => error_status(alloc, &error, out, errors),
+        Ok(None) => refuse_words(errors),
+        Err(error) => answer_clap_error(alloc, &error, out, errors),
     }
 }
 
@@ -108,7 +108,7 @@ struct ListAsked<'a> {
 }
 
 impl<'a, R: Threads + Wait, G: Gate> Host<'a, R, G> {
-    fn asked_status<S: Store, I: Read, O: Sink, E: Sink>(
+    fn answer_request<S: Store, I: Read, O: Sink, E: Sink>(
         &self,
         asked: Request<'_>,
         store: &mut S,
@@ -116,11 +116,11 @@ impl<'a, R: Threads + Wait, G: Gate> Host<'a, R, G> {
         out: &mut O,
         errors: &mut E,
     ) -> u8
-        requires { AreWithin asked }
+        requires { IsRequestInRange asked }
         ensures answers { Answers (Some (request asked.entry)) (I.remaining input.old)
-            (stored (S.contents store.old) (S.faulted store.old) (S.faulted store.new))
+            (stored_contents (S.contents store.old) (S.faulted store.old) (S.faulted store.new))
             (O.taken out.old) (O.taken out.new) result }
-        ensures told { Tells (Some (request asked.entry)) (S.contents store.old)
+        ensures told { TellsWhy (Some (request asked.entry)) (S.contents store.old)
             (E.taken errors.old) (E.taken errors.new)
             (E.failed errors.old) (E.failed errors.new) result }
         ensures counted { result ≡ 0 ⊎ result ≡ 1 → O.failed out.new ≡ O.failed out.old }
@@ -131,7 +131,7 @@ impl<'a, R: Threads + Wait, G: Gate> Host<'a, R, G> {
         ensures range { result ≤ 3 }
     {
         match asked {
-            Request::Raw { budget } => raw_status(self.alloc, budget, input, out, errors),
+            Request::Raw { budget } => answer_raw(self.alloc, budget, input, out, errors),
             Request::One {
                 image,
                 budget,
@@ -142,7 +142,7 @@ impl<'a, R: Threads + Wait, G: Gate> Host<'a, R, G> {
                     budget,
                     digits: input_hex,
                 };
-                one_status(self.alloc, &asked, store, out, errors)
+                answer_image(self.alloc, &asked, store, out, errors)
             }
             Request::Run {
                 jobs,
@@ -154,13 +154,13 @@ impl<'a, R: Threads + Wait, G: Gate> Host<'a, R, G> {
                     workers,
                     group,
                 };
-                self.list_status(&asked, store, out, errors)
+                self.answer_list(&asked, store, out, errors)
             }
         }
     }
 
     // The list is read, and refused if it has a fault, before the files of its jobs are.
-    fn list_status<S: Store, O: Sink, E: Sink>(
+    fn answer_list<S: Store, O: Sink, E: Sink>(
         &self,
         asked: &ListAsked<'_>,
         store: &mut S,
@@ -171,9 +171,9 @@ impl<'a, R: Threads + Wait, G: Gate> Host<'a, R, G> {
         requires group { (1 ≤ asked.now.group) × (asked.now.group ≤ most_group) }
         ensures answers { Answers
             (Some (run asked.now.path.now asked.now.workers asked.now.group)) None
-            (stored (S.contents store.old) (S.faulted store.old) (S.faulted store.new))
+            (stored_contents (S.contents store.old) (S.faulted store.old) (S.faulted store.new))
             (O.taken out.old) (O.taken out.new) result }
-        ensures told { Tells
+        ensures told { TellsWhy
             (Some (run asked.now.path.now asked.now.workers asked.now.group))
             (S.contents store.old) (E.taken errors.old) (E.taken errors.new)
             (E.failed errors.old) (E.failed errors.new) result }
@@ -181,23 +181,23 @@ impl<'a, R: Threads + Wait, G: Gate> Host<'a, R, G> {
         ensures range { result ≤ 3 }
     {
         if is_bad_path(asked.path) {
-            return refused(errors);
+            return refuse_words(errors);
         }
         let jobs = match read_list(self.alloc, store, asked.path) {
             Ok(jobs) => jobs,
-            Err(ListError::Refused(error)) => return refused_list(self.alloc, errors, error),
-            Err(ListError::Failed(failure)) => return failed(errors, failure),
+            Err(ListError::Refused(error)) => return refuse_list(self.alloc, errors, error),
+            Err(ListError::Failed(failure)) => return put_failure(errors, failure),
         };
         let crew = Crew::new(self.rt, self.alloc, asked.workers, asked.group);
         match run_jobs(&crew, jobs, store, out, self.gate) {
             Ok(status) => status,
-            Err(failure) => failed(errors, failure),
+            Err(failure) => put_failure(errors, failure),
         }
     }
 }
 
 #[tactic(auto, using(crate::proofs::Failing::raw_why))]
-fn raw_status<I: Read, O: Sink, E: Sink>(
+fn answer_raw<I: Read, O: Sink, E: Sink>(
     alloc: Global,
     budget: u32,
     input: &mut I,
@@ -206,25 +206,25 @@ fn raw_status<I: Read, O: Sink, E: Sink>(
 ) -> u8
     ensures reported { result ≡ DONE
         → (rows : List Row) × (AreRawRows (I.remaining input.old) budget rows
-        × Reported (O.taken out.old) (O.taken out.new) DONE rows) }
+        × IsReportSent (O.taken out.old) (O.taken out.new) DONE rows) }
     ensures counted { result ≡ DONE → O.failed out.new ≡ O.failed out.old }
     ensures part { result ≡ FAILED → Keeps (O.taken out.old) (O.taken out.new)
         ⊎ ((rows : List Row) × (AreRawRows (I.remaining input.old) budget rows
-        × Began (O.taken out.old) (O.taken out.new) rows)) }
+        × IsReportBegun (O.taken out.old) (O.taken out.new) rows)) }
     ensures quiet { result ≡ DONE → IsQuiet (E.taken errors.old) (E.taken errors.new)
         (E.failed errors.old) (E.failed errors.new) }
     ensures told { result ≡ FAILED → TellsFailure (Some (raw budget))
         (E.taken errors.old) (E.taken errors.new) (E.failed errors.old) (E.failed errors.new) }
     ensures range { result ≡ DONE ⊎ result ≡ FAILED }
 {
-    match run_raw(alloc, input, out, budget) {
+    match run_flat_image(alloc, input, out, budget) {
         Ok(()) => DONE,
-        Err(error) => failed(errors, Failure::from(error)),
+        Err(error) => put_failure(errors, Failure::from(error)),
     }
 }
 
 // Both the path and the digits are asked before the store is read.
-fn one_status<S: Store, O: Sink, E: Sink>(
+fn answer_image<S: Store, O: Sink, E: Sink>(
     alloc: Global,
     asked: &ImageAsked<'_>,
     store: &mut S,
@@ -235,9 +235,9 @@ fn one_status<S: Store, O: Sink, E: Sink>(
     ensures answers { Answers
         (Some (one asked.now.path.now asked.now.budget
         (option_map (λ text. text.now) asked.now.digits))) None
-        (stored (S.contents store.old) (S.faulted store.old) (S.faulted store.new))
+        (stored_contents (S.contents store.old) (S.faulted store.old) (S.faulted store.new))
         (O.taken out.old) (O.taken out.new) result }
-    ensures told { Tells
+    ensures told { TellsWhy
         (Some (one asked.now.path.now asked.now.budget
         (option_map (λ text. text.now) asked.now.digits)))
         (S.contents store.old) (E.taken errors.old) (E.taken errors.new)
@@ -246,12 +246,12 @@ fn one_status<S: Store, O: Sink, E: Sink>(
     ensures range { result ≤ 3 }
 {
     if is_bad_path(asked.path) {
-        return refused(errors);
+        return refuse_words(errors);
     }
     let script = match read_script(alloc, asked.digits) {
         Ok(script) => script,
-        Err(ScriptError::Refused) => return refused(errors),
-        Err(ScriptError::OutOfMemory) => return failed(errors, Failure::OutOfMemory),
+        Err(ScriptError::Refused) => return refuse_words(errors),
+        Err(ScriptError::OutOfMemory) => return put_failure(errors, Failure::OutOfMemory),
     };
     let run = ImageRun {
         path: asked.path,
@@ -260,12 +260,17 @@ fn one_status<S: Store, O: Sink, E: Sink>(
     };
     match run_image(alloc, run, store, out) {
         Ok(status) => status,
-        Err(failure) => failed(errors, failure),
+        Err(failure) => put_failure(errors, failure),
     }
 }
 
 // Help is an error of `clap`, and goes to `out`; any other but want of memory refuses the words.
-fn error_status<O: Sink, E: Sink>(alloc: Global, error: &Error, out: &mut O, errors: &mut E) -> u8
+fn answer_clap_error<O: Sink, E: Sink>(
+    alloc: Global,
+    error: &Error,
+    out: &mut O,
+    errors: &mut E,
+) -> u8
     ensures memory { kind_of error.now ≡ ErrorKind.OutOfMemory → (result ≡ FAILED)
         × Keeps (O.taken out.old) (O.taken out.new) }
     ensures helped { result ≡ DONE → kind_of error.now ≡ ErrorKind.DisplayHelp }
@@ -273,20 +278,20 @@ fn error_status<O: Sink, E: Sink>(alloc: Global, error: &Error, out: &mut O, err
     ensures quiet { result ≡ DONE → IsQuiet (E.taken errors.old) (E.taken errors.new)
         (E.failed errors.old) (E.failed errors.new) }
     ensures refused { result ≡ BAD_WORDS
-        → Told (E.taken errors.old) (E.taken errors.new)
+        → IsLinePut (E.taken errors.old) (E.taken errors.new)
         (E.failed errors.old) (E.failed errors.new) bad_words_line }
     ensures told { result ≡ FAILED → TellsFailure None (E.taken errors.old) (E.taken errors.new)
         (E.failed errors.old) (E.failed errors.new) }
     ensures range { result ≡ DONE ⊎ result ≡ BAD_WORDS ⊎ result ≡ FAILED }
 {
     match error.kind() {
-        ErrorKind::OutOfMemory => failed(errors, Failure::OutOfMemory),
-        ErrorKind::DisplayHelp => help_status(alloc, error, out, errors),
-        _ => refused(errors),
+        ErrorKind::OutOfMemory => put_failure(errors, Failure::OutOfMemory),
+        ErrorKind::DisplayHelp => put_help(alloc, error, out, errors),
+        _ => refuse_words(errors),
     }
 }
 
-fn help_status<O: Sink, E: Sink>(alloc: Global, help: &Error, out: &mut O, errors: &mut E) -> u8
+fn put_help<O: Sink, E: Sink>(alloc: Global, help: &Error, out: &mut O, errors: &mut E) -> u8
     ensures counted { result ≡ DONE → O.failed out.new ≡ O.failed out.old }
     ensures quiet { result ≡ DONE → IsQuiet (E.taken errors.old) (E.taken errors.new)
         (E.failed errors.old) (E.failed errors.new) }
@@ -296,10 +301,10 @@ fn help_status<O: Sink, E: Sink>(alloc: Global, help: &Error, out: &mut O, error
 {
     let Ok(help) = help.to_string(alloc) else {
         // Out of memory: `to_string` fails by that alone.
-        return failed(errors, Failure::OutOfMemory);
+        return put_failure(errors, Failure::OutOfMemory);
     };
     match put_all(out, help.as_bytes()) {
         Ok(()) => DONE,
-        Err(_) => failed(errors, Failure::WriteFailed),
+        Err(_) => put_failure(errors, Failure::WriteFailed),
     }
 }

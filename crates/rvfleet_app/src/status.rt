@@ -1,7 +1,7 @@
 //! The statuses of the program, and the lines of standard error, each with the status that it tells of.
 
 ghost use Rattle.std.specs.Prelude.{◌≡◌, ◌⊎◌};
-ghost use Rattle.rvfleet_app.specs.Lines.{Told, bad_words_line, failure_line, fault_line};
+ghost use Rattle.rvfleet_app.specs.Lines.{IsLinePut, bad_words_line, failure_line, fault_line};
 
 use crate::error::Failure;
 use rv_fleet::{Sink, put_all};
@@ -22,60 +22,60 @@ pub const BAD_WORDS: u8 = 2;
 pub const FAILED: u8 = 3;
 
 /// Says that words are refused, and gives the status.
-pub fn refused<E: Sink>(errors: &mut E) -> u8
+pub fn refuse_words<E: Sink>(errors: &mut E) -> u8
     ensures status { result ≡ BAD_WORDS }
-    ensures told { Told (E.taken errors.old) (E.taken errors.new)
+    ensures told { IsLinePut (E.taken errors.old) (E.taken errors.new)
         (E.failed errors.old) (E.failed errors.new) bad_words_line }
 {
-    say(errors, "rvfleet: bad words\n");
+    put_error_line(errors, "rvfleet: bad words\n");
     BAD_WORDS
 }
 
 /// Says what is wrong with a job list, and gives the status.
-pub fn refused_list<E: Sink>(alloc: Global, errors: &mut E, error: JobError) -> u8
+pub fn refuse_list<E: Sink>(alloc: Global, errors: &mut E, error: JobError) -> u8
     ensures status { result ≡ BAD_WORDS ⊎ result ≡ FAILED }
     ensures told { result ≡ BAD_WORDS
-        → Told (E.taken errors.old) (E.taken errors.new)
+        → IsLinePut (E.taken errors.old) (E.taken errors.new)
         (E.failed errors.old) (E.failed errors.new) (fault_line error) }
-    ensures failed { result ≡ FAILED → Told (E.taken errors.old) (E.taken errors.new)
+    ensures failed { result ≡ FAILED → IsLinePut (E.taken errors.old) (E.taken errors.new)
         (E.failed errors.old) (E.failed errors.new) (failure_line Failure.OutOfMemory) }
 {
     let JobError { job, what } = error;
     let Ok(line) = format!(in alloc; "rvfleet: job {job}: {}\n", what.name()) else {
         // Out of memory: `format!` fails by that alone.
-        return failed(errors, Failure::OutOfMemory);
+        return put_failure(errors, Failure::OutOfMemory);
     };
-    say(errors, line.as_str());
+    put_error_line(errors, line.as_str());
     BAD_WORDS
 }
 
 /// Says why the program failed, and gives the status.
-pub fn failed<E: Sink>(errors: &mut E, failure: Failure) -> u8
+pub fn put_failure<E: Sink>(errors: &mut E, failure: Failure) -> u8
     ensures status { result ≡ FAILED }
-    ensures told { Told (E.taken errors.old) (E.taken errors.new)
+    ensures told { IsLinePut (E.taken errors.old) (E.taken errors.new)
         (E.failed errors.old) (E.failed errors.new) (failure_line failure) }
 {
-    say(errors, line_of(failure));
+    put_error_line(errors, failure_line(failure));
     FAILED
 }
 
 /// The same of words that the process doesn't give: words that aren't UTF-8 are bad words.
-pub fn unread_status<E: Sink>(error: &io::Error, errors: &mut E) -> u8
+pub fn refuse_unreadable_words<E: Sink>(error: &io::Error, errors: &mut E) -> u8
     ensures status { result ≡ BAD_WORDS ⊎ result ≡ FAILED }
     ensures refused { result ≡ BAD_WORDS
-        → Told (E.taken errors.old) (E.taken errors.new)
+        → IsLinePut (E.taken errors.old) (E.taken errors.new)
         (E.failed errors.old) (E.failed errors.new) bad_words_line }
     ensures failed { result ≡ FAILED
-        → Told (E.taken errors.old) (E.taken errors.new)
+        → IsLinePut (E.taken errors.old) (E.taken errors.new)
         (E.failed errors.old) (E.failed errors.new) (failure_line Failure.OutOfMemory) }
 {
     match error.kind() {
-        ErrorKind::OutOfMemory => failed(errors, Failure::OutOfMemory),
-        _ => refused(errors),
+        ErrorKind::OutOfMemory => put_failure(errors, Failure::OutOfMemory),
+        _ => refuse_words(errors),
     }
 }
 
-fn line_of(failure: Failure) -> &'static str
+fn failure_line(failure: Failure) -> &'static str
     ensures { result.now ≡ failure_line failure }
 {
     match failure {
@@ -89,8 +89,8 @@ fn line_of(failure: Failure) -> &'static str
 }
 
 // A failed put of the line changes no status.
-fn say<E: Sink>(errors: &mut E, line: &str)
-    ensures { Told (E.taken errors.old) (E.taken errors.new)
+fn put_error_line<E: Sink>(errors: &mut E, line: &str)
+    ensures { IsLinePut (E.taken errors.old) (E.taken errors.new)
         (E.failed errors.old) (E.failed errors.new) line.now }
 {
     let _ = put_all(errors, line.as_bytes());

@@ -1,7 +1,7 @@
 //! The program `rvtest`: hands the process's own words, files and streams to the library, and ends with its status.
 #![tactic(auto)]
 
-use rvtest_app::{Streams, run_test_words, unread_status};
+use rvtest_app::{Streams, refuse_unreadable_words, run_rvtest};
 use std::env::Env;
 use std::io::{IsTerminal, Stderr, Stdout};
 use std::process::ExitCode;
@@ -42,15 +42,15 @@ fn main(rt: HostRuntime) -> ExitCode {
         out: rt.stdout(),
         errors: rt.stderr(),
     };
-    let texts = match texts(&rt) {
+    let texts = match words_of_process(&rt) {
         Ok(texts) => texts,
-        Err(error) => return ExitCode::from(unread_status(&error, &streams)),
+        Err(error) => return ExitCode::from(refuse_unreadable_words(&error, &streams)),
     };
-    ExitCode::from(run_test_words(&rt, rt.alloc(), texts.as_slice(), &streams))
+    ExitCode::from(run_rvtest(&rt, rt.alloc(), texts.as_slice(), &streams))
 }
 
 // The process's own words.
-fn texts(rt: &(impl Env + AllocGlobal)) -> io::Result<Vec<String>> {
+fn words_of_process(rt: &(impl Env + AllocGlobal)) -> io::Result<Vec<String>> {
     let mut texts = Vec::new(rt.alloc());
     for text in env::args(rt)? {
         texts.push(text)?;

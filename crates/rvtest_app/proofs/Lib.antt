@@ -4,3 +4,5 @@ mod Numbers
 pub mod SavedRows
 mod Sent
 mod Statuses
+pub mod Chosen
+mod Results

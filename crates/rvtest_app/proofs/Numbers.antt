@@ -7,7 +7,7 @@ use Rattle.std.specs.List.{All}
 use Rattle.std.specs.List.Sorted.{IsStrictlyIncreasing}
 use Rattle.rv_lists.specs.Limits.{most_jobs}
 use Rattle.rv_report.specs.Saved.{are_rising}
-use Rattle.rvtest_app.specs.Shown.{numbers_of}
+use Rattle.rvtest_app.specs.RunOutput.{job_numbers}
 
 behind : (p : ℕ) (ps : List ℕ) → IsStrictlyIncreasing (p ∷ ps) → IsStrictlyIncreasing ps
 behind p ps up k inside =
@@ -21,7 +21,7 @@ next p ps up some =
 
 rising_behind : (before last : ℕ) (places : List ℕ) → IsStrictlyIncreasing places
     → All (λ place. place < last) places → (0 < length places → before ≤ get_or places 0 0)
-    → are_rising before last (numbers_of places) ≡ true
+    → are_rising before last (job_numbers places) ≡ true
 unfolding are_rising
 rising_behind before last [] up within low = refl
 rising_behind before last (p ∷ ps) up within low =
@@ -34,6 +34,6 @@ rising_behind before last (p ∷ ps) up within low =
 
 -- places of so many jobs that rise have numbers that rise, up to the greatest of a list
 pub rising_numbers : (places : List ℕ) (jobs : ℕ) → jobs ≤ most_jobs → IsStrictlyIncreasing places
-    → All (λ place. place < jobs) places → are_rising 0 most_jobs (numbers_of places) ≡ true
+    → All (λ place. place < jobs) places → are_rising 0 most_jobs (job_numbers places) ≡ true
 rising_numbers places jobs few up within = rising_behind 0 most_jobs places up
     (λ k d inside. let w = within k d inside in omega arith) (λ some. omega arith)

@@ -5,13 +5,13 @@ use Rattle.rv_expect.specs.Passing.{has_passed}
 use Rattle.rv_expect.specs.declared.passing.Rule.{Rule}
 use Rattle.rv_lists.specs.declared.job.Job.{Job}
 use Rattle.rv_rows.specs.Rows.{rows_at}
-use Rattle.rvtest_app.specs.Runs.{IsStatusOf, places_of}
+use Rattle.rvtest_app.specs.Runs.{IsMarkedRunStatus, places_of_marks}
 
 at_most_one : (passed : Bool) → (if passed then 0 else 1) ≤ 1
 at_most_one true = omega arith
 at_most_one false = omega arith
 
-pub low_status : (rule : Rule) (jobs : List Job) (marks : List Bool) (status : ℕ) → IsStatusOf rule jobs marks status
+pub low_status : (rule : Rule) (jobs : List Job) (marks : List Bool) (status : ℕ) → IsMarkedRunStatus rule jobs marks status
     → status ≤ 1
 low_status rule jobs marks status is =
-    rw is.judged (at_most_one (list_all (has_passed rule) (rows_at is.plan (places_of marks))))
+    rw is.judged (at_most_one (list_all (has_passed rule) (rows_at is.plan (places_of_marks marks))))

@@ -6,7 +6,7 @@ use Rattle.std.specs.List.{prefix_len}
 use denote.Ref.{Bor}
 use Rattle.rv_report.specs.declared.row.Row.{Row}
 use Rattle.rv_diff.proofs.Public.{now}
-use Rattle.rvtest_app.specs.ReportSummary.{by_steps, ranked}
+use Rattle.rvtest_app.specs.ReportSummary.{rows_by_steps, inserted_by_steps}
 
 take-take_one : {X : Type 0} (n : ℕ) (x : X) (xs : List X) → take n (x ∷ take n xs) ≡ take n (x ∷ xs)
 take-take_one zero x xs = refl
@@ -18,15 +18,15 @@ take-take_one (suc n) x xs = ap (λ ys. x ∷ ys) (take-take_more n xs)
     take-take_more (suc n) (x ∷ xs) = ap (λ ys. x ∷ ys) (take-take_more n xs)
 
 ranked_step : (n : ℕ) (more : Bool) (row first : Row) (some all : List Row) →
-    take n (first ∷ some) ≡ take n (first ∷ all) → take n (ranked row some) ≡ take n (ranked row all) →
-    take (suc n) (cond more (first ∷ ranked row some) (row ∷ first ∷ some))
-    ≡ take (suc n) (cond more (first ∷ ranked row all) (row ∷ first ∷ all))
+    take n (first ∷ some) ≡ take n (first ∷ all) → take n (inserted_by_steps row some) ≡ take n (inserted_by_steps row all) →
+    take (suc n) (cond more (first ∷ inserted_by_steps row some) (row ∷ first ∷ some))
+    ≡ take (suc n) (cond more (first ∷ inserted_by_steps row all) (row ∷ first ∷ all))
 ranked_step n true row first some all same behind = ap (λ rows. first ∷ rows) behind
 ranked_step n false row first some all same behind = ap (λ rows. row ∷ rows) same
 
 -- only the first so many rows have to be kept
 pub take-ranked : (n : ℕ) (row : Row) (rows : List Row) →
-    take n (ranked row (take n rows)) ≡ take n (ranked row rows)
+    take n (inserted_by_steps row (take n rows)) ≡ take n (inserted_by_steps row rows)
 take-ranked zero row rows = refl
 take-ranked (suc n) row [] = refl
 take-ranked (suc n) row (first ∷ more) =
@@ -38,15 +38,15 @@ abbrev pub rank_in : ℕ → List (Bor Row) → ℕ
 rank_in steps rows = prefix_len (λ row. nat_lt steps row.now.steps) rows
 
 insert_step : (more : Bool) (row first : Bor Row) (rows : List (Bor Row)) (place : ℕ) →
-    ranked row.now (map now rows) ≡ map now (insert rows place row) →
-    cond more (first.now ∷ ranked row.now (map now rows)) (row.now ∷ first.now ∷ map now rows)
+    inserted_by_steps row.now (map now rows) ≡ map now (insert rows place row) →
+    cond more (first.now ∷ inserted_by_steps row.now (map now rows)) (row.now ∷ first.now ∷ map now rows)
     ≡ map now (insert (first ∷ rows) (cond more (1 + place) 0) row)
 insert_step true row first rows place is =
     let one : 1 + place ≡ suc place = omega arith in rw one (ap (λ rows. first.now ∷ rows) is)
 insert_step false row first rows place is = refl
 
 pub ranked-insert : (row : Bor Row) (rows : List (Bor Row)) →
-    ranked row.now (map now rows) ≡ map now (insert rows (rank_in row.now.steps rows) row)
+    inserted_by_steps row.now (map now rows) ≡ map now (insert rows (rank_in row.now.steps rows) row)
 ranked-insert row [] = refl
 ranked-insert row (first ∷ rows) =
     insert_step (nat_lt row.now.steps first.now.steps) row first rows (rank_in row.now.steps rows)
@@ -67,17 +67,17 @@ take-insert_last (suc n) x [] is = absurd (omega arith)
 take-insert_last (suc n) x (first ∷ xs) is = ap (λ ys. first ∷ ys) (take-insert_last n x xs (omega arith))
 
 -- the rows from one on, by steps
-pub by_steps-more : (rows : List Row) (left : ℕ) (row : Row) → drop (left - 1) rows ≡ row ∷ drop left rows →
-    by_steps (drop (left - 1) rows) ≡ ranked row (by_steps (drop left rows))
-unfolding by_steps
-by_steps-more rows left row is = rw is refl
+pub rows_by_steps-more : (rows : List Row) (left : ℕ) (row : Row) → drop (left - 1) rows ≡ row ∷ drop left rows →
+    rows_by_steps (drop (left - 1) rows) ≡ inserted_by_steps row (rows_by_steps (drop left rows))
+unfolding rows_by_steps
+rows_by_steps-more rows left row is = rw is refl
 
-pub by_steps-none : (rows : List Row) (left : ℕ) → length rows ≤ left → by_steps (drop left rows) ≡ []
-unfolding by_steps
-by_steps-none [] zero past = refl
-by_steps-none [] (suc left) past = refl
-by_steps-none (row ∷ rows) zero past = absurd (omega arith)
-by_steps-none (row ∷ rows) (suc left) past = by_steps-none rows left (omega arith)
+pub rows_by_steps-none : (rows : List Row) (left : ℕ) → length rows ≤ left → rows_by_steps (drop left rows) ≡ []
+unfolding rows_by_steps
+rows_by_steps-none [] zero past = refl
+rows_by_steps-none [] (suc left) past = refl
+rows_by_steps-none (row ∷ rows) zero past = absurd (omega arith)
+rows_by_steps-none (row ∷ rows) (suc left) past = rows_by_steps-none rows left (omega arith)
 
 pub map-take : (n : ℕ) (rows : List (Bor Row)) → take n (map now rows) ≡ map now (take n rows)
 map-take zero rows = refl

@@ -17,23 +17,25 @@ use Rattle.rvtest_app.specs.declared.stop.Lines.{Lines}
 use Rattle.rvtest_app.specs.declared.stop.Lines.TheVariants as lines
 use Rattle.rvtest_app.specs.declared.stop.Stop.{Stop}
 use Rattle.rvtest_app.specs.declared.stop.Stop.TheVariants as stop
+use Rattle.rv_stream.specs.declared.error.StreamError.{StreamError}
+use Rattle.rv_stream.specs.declared.error.StreamError.TheVariants as stream
 use Rattle.rv_diff.specs.Diff.{differing_count}
 use Rattle.rv_diff.specs.declared.diff.Differing.{Differing}
 
 -- the rule by which jobs fail, with --lenient or without
-abbrev pub rule_for : Bool → Rule
-rule_for true = Lenient
-rule_for false = Strict
+abbrev pub failure_rule : Bool → Rule
+failure_rule true = Lenient
+failure_rule false = Strict
 
 -- what is shown of jobs, with --verbose or without, and with --quiet or without
-abbrev pub verbosity_for : Bool → Bool → Verbosity
-verbosity_for verbose true = Quiet
-verbosity_for true false = All
-verbosity_for false false = Failures
+abbrev pub requested_verbosity : Bool → Bool → Verbosity
+requested_verbosity verbose true = Quiet
+requested_verbosity true false = All
+requested_verbosity false false = Failures
 
 -- the names of the rows that failed, in their order
-abbrev pub failed_in : Rule → List Row → List (List ℕ)
-failed_in rule rows =
+abbrev pub failed_job_names : Rule → List Row → List (List ℕ)
+failed_job_names rule rows =
     map (λ (row : Row). row.name) (filter (λ (row : Row). not (has_passed rule row)) rows)
 
 -- the status of two reports: 0 where no job differs, else 1
@@ -41,16 +43,16 @@ abbrev pub diff_status : Differing → ℕ
 diff_status counts = if differing_count counts == 0 then 0 else 1
 
 -- a job of a plan is refused before it runs
-abbrev pub is_refused : Planned → Job → Bool
-is_refused plan job = is_some (refusal_in (outcome_in plan.answers job).ending)
+abbrev pub is_job_refused : Planned → Job → Bool
+is_job_refused plan job = is_some (refusal_in (outcome_in plan.answers job).ending)
 
 -- how many jobs of a plan are refused
-abbrev pub refused_in : Planned → ℕ
-refused_in plan = length (filter (is_refused plan) plan.jobs)
+abbrev pub refused_job_count : Planned → ℕ
+refused_job_count plan = length (filter (is_job_refused plan) plan.jobs)
 
 -- how many jobs of a plan expect two ends, so that they never pass
-abbrev pub warned_in : Planned → ℕ
-warned_in plan = length (filter expects_two_ends plan.jobs)
+abbrev pub warned_job_count : Planned → ℕ
+warned_job_count plan = length (filter expects_two_ends plan.jobs)
 
 -- the status of a plan whose files were looked at: 2 where a job is refused, else 0
 abbrev pub check_status : ℕ → ℕ
@@ -60,17 +62,20 @@ check_status refused = if refused == 0 then 0 else 2
 abbrev pub passing_status : Bool → ℕ
 passing_status passed = if passed then 0 else 1
 
--- The statuses of lines that end a command: 0 where help or the version is asked for and standard
--- output takes it, 2 where what is asked for is refused, 3 where the system failed.
-abbrev pub IsStatusOfLines : Lines → ℕ → Type 0
-IsStatusOfLines lines.Help status = (status ≡ 0) ⊎ (status ≡ 3)
-IsStatusOfLines lines.Refusal status = status ≡ 2
-IsStatusOfLines lines.Failure status = status ≡ 3
+-- the status of lines that end a command: 2 where what is asked for is refused, 3 where the system failed
+abbrev pub lines_status : Lines → ℕ
+lines_status lines.Refusal = 2
+lines_status lines.Failure = 3
 
--- The statuses of a command that ends before its work is done. A run without a job is 0.
-abbrev pub IsStopStatus : Stop → ℕ → Type 0
-IsStopStatus (stop.Told lines text) status = IsStatusOfLines lines status
-IsStopStatus stop.NoJob status = status ≡ 0
-IsStopStatus stop.OutOfMemory status = status ≡ 3
-IsStopStatus stop.NoWorker status = status ≡ 3
-IsStopStatus stop.WriteFailed status = status ≡ 3
+-- the status of a command that ends before its work is done
+abbrev pub stop_status : Stop → ℕ
+stop_status (stop.Told lines text) = lines_status lines
+stop_status stop.OutOfMemory = 3
+stop_status stop.NoWorker = 3
+stop_status stop.WriteFailed = 3
+
+-- why a run ends that stopped on its way
+abbrev pub stop_of_stream : StreamError → Stop
+stop_of_stream stream.OutOfMemory = stop.OutOfMemory
+stop_of_stream stream.NoWorker = stop.NoWorker
+stop_of_stream stream.Failed = stop.WriteFailed

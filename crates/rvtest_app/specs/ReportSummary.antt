@@ -5,10 +5,9 @@ use Rattle.std.specs.List.{flat_map}
 use Rattle.rv_report.specs.declared.row.Row.{Row}
 use Rattle.rv_report.specs.Report.{line}
 use Rattle.rv_expect.specs.declared.passing.Rule.{Rule}
-use Rattle.rv_job_text.specs.LastLine.{last_line}
+use Rattle.rv_job_text.specs.TotalsLine.{totals_line}
 use Rattle.rv_expect.specs.Passing.{has_passed}
 use Rattle.rv_job_text.specs.ResultLine.{result_line}
-use Rattle.rvtest_app.specs.declared.most_steps.TheConstants.{MOST_SHOWN}
 
 -- the line of a row that failed, as far as a report knows it
 abbrev pub failed_line : Rule → Row → List ℕ
@@ -17,27 +16,31 @@ failed_line rule row = if has_passed rule row then [] else result_line rule row 
 -- ---- the most steps
 
 -- a row behind those in front that have more steps
-abbrev pub ranked : Row → List Row → List Row
-ranked row [] = row ∷ []
-ranked row (first ∷ more) =
-    if nat_lt row.steps first.steps then first ∷ ranked row more else row ∷ first ∷ more
+abbrev pub inserted_by_steps : Row → List Row → List Row
+inserted_by_steps row [] = row ∷ []
+inserted_by_steps row (first ∷ more) =
+    if nat_lt row.steps first.steps then first ∷ inserted_by_steps row more else row ∷ first ∷ more
 
 -- rows with the most steps first, and of equal ones in their order
-unfoldable pub by_steps : List Row → List Row
-by_steps [] = []
-by_steps (row ∷ rows) = ranked row (by_steps rows)
+unfoldable pub rows_by_steps : List Row → List Row
+rows_by_steps [] = []
+rows_by_steps (row ∷ rows) = inserted_by_steps row (rows_by_steps rows)
 
-abbrev pub most_steps : List Row → List Row
-most_steps rows = take MOST_SHOWN (by_steps rows)
+-- how many rows are shown of those with the most steps
+abbrev pub most_rows_shown : ℕ
+most_rows_shown = 10
+
+abbrev pub rows_with_most_steps : List Row → List Row
+rows_with_most_steps rows = take most_rows_shown (rows_by_steps rows)
 
 unfoldable pub steps_line : Row → List ℕ
 steps_line row = line (codes "  " ++ decimal row.steps ++ codes " " ++ row.name)
 
 -- ---- the text
 
-abbrev pub most_text : List Row → List ℕ
-most_text rows = line (codes "most steps:") ++ flat_map steps_line (most_steps rows)
+abbrev pub most_steps_text : List Row → List ℕ
+most_steps_text rows = line (codes "most steps:") ++ flat_map steps_line (rows_with_most_steps rows)
 
-unfoldable pub show_text : Rule → List Row → List ℕ
-show_text rule rows =
-    flat_map (failed_line rule) rows ++ last_line rule rows ++ most_text rows
+unfoldable pub summary_text : Rule → List Row → List ℕ
+summary_text rule rows =
+    flat_map (failed_line rule) rows ++ totals_line rule rows ++ most_steps_text rows

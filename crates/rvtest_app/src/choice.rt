@@ -3,8 +3,8 @@
 ghost use Rattle.std.specs.Prelude.{◌≡◌, IfOk, not, option_map};
 ghost use Rattle.std.specs.List.{find};
 ghost use Rattle.regex.specs.Strings.{matcher_pattern};
-ghost use Rattle.rvtest_app.specs.Choice.{by_names, by_pattern, has_job, is_among, is_wanted};
-ghost use Rattle.rvtest_app.specs.Choice.{marks_for, names_of, pattern_of, texts_of};
+ghost use Rattle.rvtest_app.specs.Choice.{choice_by_names, choice_by_pattern, has_job_named, is_among_names, is_chosen_name};
+ghost use Rattle.rvtest_app.specs.Choice.{chosen_marks, borrowed_names, pattern_of, optional_names};
 
 use regex::{Matcher, Regex};
 use rv_jobs::Job;
@@ -28,13 +28,13 @@ pub(crate) fn chosen_marks(
     jobs: &[Job],
     wanted: Wanted<'_>,
 ) -> Result<Vec<bool>, AllocError>
-    ensures { IfOk result (λ marks. marks.items ≡ marks_for (texts_of wanted.entry.only)
-        (pattern_of wanted.entry.pattern) (texts_of wanted.entry.failed) jobs.now) }
+    ensures { IfOk result (λ marks. marks.items ≡ chosen_marks (optional_names wanted.entry.only)
+        (pattern_of wanted.entry.pattern) (optional_names wanted.entry.failed) jobs.now) }
 {
     let mut matcher = matcher_of(alloc, wanted.pattern)?;
     let mut marks = Vec::new(alloc);
     for place in 0..jobs.len() {
-        marks.push(is_wanted(wanted, &mut matcher, jobs[place].name.as_str()))?;
+        marks.push(is_chosen_name(wanted, &mut matcher, jobs[place].name.as_str()))?;
     }
     Ok(marks)
 }
@@ -49,36 +49,36 @@ fn matcher_of(alloc: Global, pattern: Option<&Regex>) -> Result<Option<Matcher<'
     }
 }
 
-fn is_wanted(wanted: Wanted<'_>, matcher: &mut Option<Matcher<'_>>, name: &str) -> bool
+fn is_chosen_name(wanted: Wanted<'_>, matcher: &mut Option<Matcher<'_>>, name: &str) -> bool
     requires { option_map matcher_pattern matcher.old ≡ pattern_of wanted.pattern }
-    ensures chosen { result ≡ is_wanted (texts_of wanted.entry.only)
-        (pattern_of wanted.entry.pattern) (texts_of wanted.entry.failed) name.now }
+    ensures chosen { result ≡ is_chosen_name (optional_names wanted.entry.only)
+        (pattern_of wanted.entry.pattern) (optional_names wanted.entry.failed) name.now }
     ensures same { option_map matcher_pattern matcher.new ≡ option_map matcher_pattern matcher.old }
 {
     is_chosen(
-        by_names(wanted.only, name),
-        by_pattern(matcher, name),
-        by_names(wanted.failed, name),
+        choice_by_names(wanted.only, name),
+        choice_by_pattern(matcher, name),
+        choice_by_names(wanted.failed, name),
     )
 }
 
-fn by_names(names: Option<&[&str]>, name: &str) -> Option<bool>
-    ensures { result ≡ by_names (texts_of names.entry) name.now }
+fn choice_by_names(names: Option<&[&str]>, name: &str) -> Option<bool>
+    ensures { result ≡ choice_by_names (optional_names names.entry) name.now }
 {
     match names {
-        Some(names) => Some(is_among(names, name)),
+        Some(names) => Some(is_among_names(names, name)),
         None => None,
     }
 }
 
-fn is_among(names: &[&str], name: &str) -> bool
-    ensures { result ≡ is_among (names_of names.now) name.now }
+fn is_among_names(names: &[&str], name: &str) -> bool
+    ensures { result ≡ is_among_names (borrowed_names names.now) name.now }
 {
     names.contains(&name)
 }
 
-fn by_pattern(matcher: &mut Option<Matcher<'_>>, name: &str) -> Option<bool>
-    ensures found { result ≡ by_pattern (option_map matcher_pattern matcher.old) name.now }
+fn choice_by_pattern(matcher: &mut Option<Matcher<'_>>, name: &str) -> Option<bool>
+    ensures found { result ≡ choice_by_pattern (option_map matcher_pattern matcher.old) name.now }
     ensures same { option_map matcher_pattern matcher.new ≡ option_map matcher_pattern matcher.old }
 {
     match matcher {
@@ -88,19 +88,19 @@ fn by_pattern(matcher: &mut Option<Matcher<'_>>, name: &str) -> Option<bool>
 }
 
 /// The first of these names that no job has.
-pub(crate) fn first_unknown<'a>(jobs: &[Job], names: &[&'a str]) -> Option<&'a str>
+pub(crate) fn first_unknown_name<'a>(jobs: &[Job], names: &[&'a str]) -> Option<&'a str>
     ensures { option_map (λ name. name.now) result ≡ option_map (λ name. name.now)
-        (find (λ name. not (has_job jobs.now name.now)) names.now) }
+        (find (λ name. not (has_job_named jobs.now name.now)) names.now) }
 {
-    match names.iter().find(|name| !has_job(jobs, name)) {
+    match names.iter().find(|name| !has_job_named(jobs, name)) {
         Some(name) => Some(*name),
         None => None,
     }
 }
 
 /// Whether a job has the name.
-pub(crate) fn has_job(jobs: &[Job], name: &str) -> bool
-    ensures { result ≡ has_job jobs.now name.now }
+pub(crate) fn has_job_named(jobs: &[Job], name: &str) -> bool
+    ensures { result ≡ has_job_named jobs.now name.now }
 {
     jobs.iter().any(|job| job.name.as_str() == name)
 }

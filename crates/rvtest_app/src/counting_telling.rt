@@ -36,15 +36,15 @@ impl<'a, C: Clock, T: Telling, W: Write + Drop> CountingTelling<'a, C, T, W> {
 impl<'a, C: Clock, T: Telling, W: Write + Drop> Telling for CountingTelling<'a, C, T, W> {
     ghost line = { λ counting place row. T.line counting.telling.now place row };
 
-    fn push(
+    fn push_row_text(
         &self,
         alloc: Global,
         place: usize,
         row: &Row,
         text: &mut Vec<u8>,
     ) -> Result<(), AllocError> {
-        self.telling.push(alloc, place, row, text)?;
-        self.progress.count(self.clock, alloc, row);
+        self.telling.push_row_text(alloc, place, row, text)?;
+        self.progress.count_row(self.clock, alloc, row);
         Ok(())
     }
 }

@@ -1,11 +1,12 @@
 //! The command `diff`.
 
-ghost use Rattle.std.specs.Prelude.{◌≡◌, ◌≤◌, ◌<◌, ◌^◌, IfOk, length};
+ghost use Rattle.std.specs.Prelude.{◌≡◌, ◌≤◌, ◌<◌, ◌^◌, IfOk, MatchResult, length};
 ghost use Rattle.rvtest_app.specs.Commands.{diff_status};
-ghost use Rattle.rv_diff.specs.Diff.{diff_text, differing};
+ghost use Rattle.rvtest_app.specs.Reports.{IsDiffOf, requested_comparison};
+ghost use Rattle.rv_diff.specs.Diff.{diff_text, counts_of_differing};
 
-use crate::failed_before::read_saved;
-use crate::found::Found;
+use crate::findings::Found;
+use crate::saved_report::{parse_report, read_report_text};
 use crate::status::{DONE, SOME_FAIL};
 use crate::stop::Stop;
 use rv_cli::rvtest::DiffAsked;
@@ -15,29 +16,43 @@ use std::alloc::Global;
 use std::rt::Files;
 
 /// In which jobs two reports differ. The status is 1 where they do in any.
-pub(crate) fn diff<R: Files>(files: &R, alloc: Global, asked: DiffAsked<'_>) -> Result<Found, Stop>
-    ensures { IfOk result (λ found. found.status ≤ 1) }
-{
-    let old = read_saved(files, alloc, asked.old)?;
-    diff_from(files, alloc, asked, old.rows.as_slice())
-}
-
-// The same of the rows of the first, once the second is read.
-fn diff_from<R: Files>(
+pub(crate) fn diff_reports<R: Files>(
     files: &R,
     alloc: Global,
     asked: DiffAsked<'_>,
-    old: &[Row],
 ) -> Result<Found, Stop>
-    requires { length old.now < 2 ^ 32 }
     ensures { IfOk result (λ found. found.status ≤ 1) }
 {
-    let new = read_saved(files, alloc, asked.new)?;
-    comparison(alloc, compare_by(asked.steps), old, new.rows.as_slice())
+    let old = read_report_text(files, alloc, asked.old)?;
+    let new = read_report_text(files, alloc, asked.new);
+    diff_report_texts(alloc, asked, old.as_slice(), new)
+}
+
+// The same of the texts of the two. What is wrong with the old one comes before what kept the new one from being read.
+fn diff_report_texts(
+    alloc: Global,
+    asked: DiffAsked<'_>,
+    old: &[u8],
+    new: Result<Vec<u8>, Stop>,
+) -> Result<Found, Stop>
+    ensures diff { IfOk result (λ found. MatchResult new
+        (λ new. IsDiffOf (requested_comparison asked.entry.steps) old.now new.items
+        found.text.items found.status) (λ stop. ⊥)) }
+    ensures low { IfOk result (λ found. found.status ≤ 1) }
+{
+    let old = parse_report(alloc, asked.old, old)?;
+    let new_text = new?;
+    let new = parse_report(alloc, asked.new, new_text.as_slice())?;
+    let compare = requested_comparison(asked.steps);
+    let old_rows = old.rows.as_slice();
+    let new_rows = new.rows.as_slice();
+    diff_rows(alloc, compare, old_rows, new_rows)
 }
 
 // What `--steps` asks for.
-fn compare_by(steps: bool) -> Compare {
+fn requested_comparison(steps: bool) -> Compare
+    ensures { result ≡ requested_comparison steps }
+{
     if steps {
         Compare::Steps
     } else {
@@ -46,25 +61,29 @@ fn compare_by(steps: bool) -> Compare {
 }
 
 // The same of the rows of the two.
-fn comparison(alloc: Global, compare: Compare, old: &[Row], new: &[Row]) -> Result<Found, Stop>
+fn diff_rows(alloc: Global, compare: Compare, old: &[Row], new: &[Row]) -> Result<Found, Stop>
     requires old { length old.now < 2 ^ 32 }
     requires new { length new.now < 2 ^ 32 }
     ensures low { IfOk result (λ found. found.status ≤ 1) }
     ensures text { IfOk result (λ found. found.text.items ≡ diff_text compare old.now new.now) }
     ensures judged { IfOk result
-        (λ found. found.status ≡ diff_status (differing compare old.now new.now)) }
+        (λ found. found.status ≡ diff_status (counts_of_differing compare old.now new.now)) }
 {
     let mut text = Vec::new(alloc);
     let counts = push_diff(alloc, &mut text, compare, old, new)?;
     Ok(Found {
         text,
-        status: status_of(counts),
+        status: diff_status(counts),
     })
 }
 
-fn status_of(counts: Differing) -> u8
+fn diff_status(counts: Differing) -> u8
     ensures value { result ≡ diff_status counts }
     ensures low { result ≤ 1 }
 {
-    if counts.is_any() { SOME_FAIL } else { DONE }
+    if counts.has_differences() {
+        SOME_FAIL
+    } else {
+        DONE
+    }
 }

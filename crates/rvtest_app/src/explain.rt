@@ -1,17 +1,19 @@
 //! The command `explain`.
 
-ghost use Rattle.std.specs.Prelude.{◌≡◌, ◌≤◌, ◌<◌, IfOk, IfSome, length, position, slice_index_or};
+ghost use Rattle.std.specs.Prelude.{◌≡◌, ◌≤◌, ◌<◌, IfOk, IfSome, Ok, length, position, slice_index_or};
 ghost use Rattle.std.specs.Str.{bytes_eq};
 ghost use Rattle.rv_lists.specs.declared.job.Job.{Job as AJob};
 ghost use Rattle.rv_expect.specs.declared.passing.Rule.TheVariants.{Strict};
 ghost use Rattle.rv_expect.specs.Passing.{has_passed};
 ghost use Rattle.rv_rows.specs.Rows.{row_of};
-ghost use Rattle.rv_job_text.specs.Telling.{explained};
+ghost use Rattle.rv_job_text.specs.Telling.{explanation_text};
+ghost use Rattle.rv_lists.specs.JobList.{job_list_of};
 ghost use Rattle.rvtest_app.specs.Commands.{passing_status};
+ghost use Rattle.rvtest_app.specs.Reports.{IsExplanationOf, IsFirstNamed, IsJobExplained};
 
-use crate::choosing::unknown_name;
-use crate::found::Found;
-use crate::list::read_list;
+use crate::findings::Found;
+use crate::list::{parse_list, read_list_text};
+use crate::requested_jobs::unknown_name_stop;
 use crate::status::{DONE, SOME_FAIL};
 use crate::stop::Stop;
 use rv_cli::rvtest::ExplainAsked;
@@ -23,22 +25,54 @@ use rv_rows::row_at;
 use std::alloc::Global;
 use std::rt::Files;
 
+// The jobs of a list, and the place of one of them.
+#[derive(Drop)]
+struct NamedJob {
+    jobs: JobList,
+    place: usize,
+}
+
 /// How the job of a name ends and comes there, which is run for that. The status is 1 where it failed.
-pub(crate) fn explain<R: Files>(
+pub(crate) fn explain_named_job<R: Files>(
     files: &R,
     alloc: Global,
     asked: ExplainAsked<'_>,
 ) -> Result<Found, Stop>
     ensures { IfOk result (λ found. found.status ≤ 1) }
 {
-    let jobs = read_list(files, alloc, asked.list)?;
-    match place_of(jobs.as_slice(), asked.name) {
-        Some(place) => explain_at(files, alloc, asked, jobs, place),
-        None => Err(unknown_name(alloc, asked.list, jobs.as_slice(), asked.name)),
+    let text = read_list_text(files, alloc, asked.list)?;
+    explain_job_of_text(files, alloc, asked, text.as_slice())
+}
+
+// The same of the list's text.
+fn explain_job_of_text<R: Files>(
+    files: &R,
+    alloc: Global,
+    asked: ExplainAsked<'_>,
+    text: &[u8],
+) -> Result<Found, Stop>
+    ensures explanation { IfOk result (λ found. IsExplanationOf text.now asked.entry.name.now
+        asked.entry.last found.text.items found.status) }
+    ensures low { IfOk result (λ found. found.status ≤ 1) }
+{
+    let NamedJob { jobs, place } = find_named_job(alloc, asked, text)?;
+    explain_job_at(files, alloc, asked, jobs, place)
+}
+
+// The jobs of a list's text, and the place of the first of the name that is asked for.
+fn find_named_job(alloc: Global, asked: ExplainAsked<'_>, text: &[u8]) -> Result<NamedJob, Stop>
+    ensures listed { IfOk result (λ named. job_list_of text.now ≡ Ok named.jobs) }
+    ensures first { IfOk result (λ named. IsFirstNamed named.jobs asked.entry.name.now named.place) }
+    ensures within { IfOk result (λ named. named.place < length named.jobs) }
+{
+    let jobs = parse_list(alloc, asked.list, text)?;
+    match named_job_place(jobs.as_slice(), asked.name) {
+        Some(place) => Ok(NamedJob { jobs, place }),
+        None => Err(unknown_name_stop(alloc, asked.list, jobs.as_slice(), asked.name)),
     }
 }
 
-fn place_of(jobs: &[Job], name: &str) -> Option<usize>
+fn named_job_place(jobs: &[Job], name: &str) -> Option<usize>
     ensures within { IfSome result (λ place. place < length jobs.now) }
     ensures named { result ≡ position (λ job. bytes_eq job.name name.now) jobs.now }
 {
@@ -46,7 +80,7 @@ fn place_of(jobs: &[Job], name: &str) -> Option<usize>
 }
 
 // The same of the job at a place.
-fn explain_at<R: Files>(
+fn explain_job_at<R: Files>(
     files: &R,
     alloc: Global,
     asked: ExplainAsked<'_>,
@@ -54,16 +88,18 @@ fn explain_at<R: Files>(
     place: usize,
 ) -> Result<Found, Stop>
     requires { place < length jobs }
-    ensures { IfOk result (λ found. found.status ≤ 1) }
+    ensures explained { IfOk result (λ found. IsJobExplained jobs place asked.entry.last
+        found.text.items found.status) }
+    ensures low { IfOk result (λ found. found.status ≤ 1) }
 {
     let places = vec![in alloc; place; 1]?;
     let mut store = NotingStore::new(files, alloc, asked.root);
     let plan = gather_places(alloc, jobs, places, &mut store)?;
-    explain_job(alloc, &plan, store.unread(), place, asked.last)
+    explain_planned_job(alloc, &plan, store.unread_paths(), place, asked.last)
 }
 
 // The same of a plan.
-fn explain_job(
+fn explain_planned_job(
     alloc: Global,
     plan: &Plan,
     unread: &[Unread],
@@ -72,7 +108,7 @@ fn explain_job(
 ) -> Result<Found, Stop>
     requires { place < length plan.now.jobs }
     ensures text { IfOk result (λ found. (d : AJob) → found.text.items
-        ≡ explained plan.now unread.now Strict (slice_index_or plan.now.jobs place d)
+        ≡ explanation_text plan.now unread.now Strict (slice_index_or plan.now.jobs place d)
         (row_of plan.now (slice_index_or plan.now.jobs place d)) last) }
     ensures status { IfOk result (λ found. (d : AJob) → found.status
         ≡ passing_status (has_passed Strict
@@ -88,12 +124,12 @@ fn explain_job(
         last: None,
     };
     let mut text = Vec::new(alloc);
-    telling.push_explained(alloc, place, &row, last, &mut text)?;
-    let status = status_of(has_passed(Rule::Strict, &row));
+    telling.push_job_explanation(alloc, place, &row, last, &mut text)?;
+    let status = passing_status(has_passed(Rule::Strict, &row));
     Ok(Found { text, status })
 }
 
-fn status_of(passed: bool) -> u8
+fn passing_status(passed: bool) -> u8
     ensures value { result ≡ passing_status passed }
     ensures low { result ≤ 1 }
 {

@@ -4,7 +4,7 @@ ghost use Rattle.std.specs.Prelude.{◌≡◌, ◌++◌, OnOk};
 ghost use Rattle.rvtest_app.specs.ReportSummary.{failed_line};
 
 use rv_expect::{Rule, has_passed};
-use rv_job_text::{EndDetail, push_result};
+use rv_job_text::{EndDetail, push_result_line};
 use rv_rows::Row;
 use rv_stream::Telling;
 use std::alloc::{AllocError, Global};
@@ -20,7 +20,7 @@ impl Telling for FailedLines {
 
     ghost line = { λ told _ row. failed_line told.rule row };
 
-    fn push(
+    fn push_row_text(
         &self,
         alloc: Global,
         _place: usize,
@@ -47,5 +47,5 @@ pub(crate) fn push_failed_line(
         symbol: None,
         reason: None,
     };
-    push_result(alloc, text, rule, row, &detail)
+    push_result_line(alloc, text, rule, row, &detail)
 }

@@ -1,10 +1,11 @@
 //! The list of jobs that a command is given.
 
-ghost use Rattle.std.specs.Prelude.{◌≡◌, IfOk, Ok};
+ghost use Rattle.std.specs.Prelude.{◌≡◌, [], IfOk, Ok, length};
+ghost use Rattle.rv_list_errors.specs.Lines.{PutsLines};
 ghost use Rattle.rv_lists.specs.JobList.{job_list_of};
 
 use crate::files::read_file;
-use crate::messages::told_of;
+use crate::messages::path_message;
 use crate::stop::Stop;
 use rv_jobs::limits::MOST_BYTES;
 use rv_jobs::{JobError, JobList, What, read_jobs};
@@ -13,45 +14,45 @@ use std::alloc::{AllocError, Global};
 use std::rt::Files;
 
 /// The text of the list at a path.
-pub(crate) fn read_text<R: Files>(files: &R, alloc: Global, path: &str) -> Result<Vec<u8>, Stop> {
+pub(crate) fn read_list_text<R: Files>(
+    files: &R,
+    alloc: Global,
+    path: &str,
+) -> Result<Vec<u8>, Stop> {
     let text = read_file(files, alloc, path, MOST_BYTES + 1)?;
     if text.len() > MOST_BYTES {
         let what = "the file has more than 16777216 bytes";
-        return Err(Stop::failed(told_of(alloc, path, what)));
+        return Err(Stop::of_failure(path_message(alloc, path, what)));
     }
     Ok(text)
 }
 
-/// The jobs of the list at a path.
-pub(crate) fn read_list<R: Files>(files: &R, alloc: Global, path: &str) -> Result<JobList, Stop> {
-    let text = read_text(files, alloc, path)?;
-    jobs_of(alloc, path, text.as_slice())
-}
-
 /// The jobs of a list's text, or what is wrong with the list.
-pub(crate) fn jobs_of(alloc: Global, path: &str, text: &[u8]) -> Result<JobList, Stop>
+pub(crate) fn parse_list(alloc: Global, path: &str, text: &[u8]) -> Result<JobList, Stop>
     ensures { IfOk result (λ jobs. job_list_of text.now ≡ Ok jobs) }
 {
     match read_jobs(alloc, text) {
         Ok(jobs) => Ok(jobs),
-        Err(error) => Err(fault_stop(alloc, path, text, error)),
+        Err(error) => Err(list_fault_stop(alloc, path, text, error)),
     }
 }
 
-fn fault_stop(alloc: Global, path: &str, text: &[u8], fault: JobError) -> Stop {
+fn list_fault_stop(alloc: Global, path: &str, text: &[u8], fault: JobError) -> Stop {
     match fault.what {
         What::OutOfMemory => Stop::OutOfMemory,
-        _ => Stop::refused(told_of_faults(alloc, path, text, &[fault])),
+        _ => Stop::of_refusal(list_faults_text(alloc, path, text, &[fault])),
     }
 }
 
 /// A line for each fault of a list.
-pub(crate) fn told_of_faults(
+pub(crate) fn list_faults_text(
     alloc: Global,
     path: &str,
     text: &[u8],
     faults: &[JobError],
-) -> Result<Vec<u8>, AllocError> {
+) -> Result<Vec<u8>, AllocError>
+    ensures { IfOk result (λ lines. PutsLines (length faults.now) [] lines.items) }
+{
     let mut told = Vec::new(alloc);
     push_faults(alloc, &mut told, path, text, faults)?;
     Ok(told)

@@ -1,6 +1,6 @@
 //! The two files that a command may write.
 
-use crate::report::ReportTo;
+use crate::report_target::ReportTo;
 use crate::stop::Stop;
 use std::alloc::Global;
 use std::rt::Files;
@@ -23,23 +23,23 @@ impl<'a, R: Files> Outputs<'a, R> {
         let report = ReportTo::open(files, alloc, report)?;
         match ReportTo::open(files, alloc, junit) {
             Ok(junit) => Ok(Outputs { report, junit }),
-            Err(stop) => Err(report.abandoned(stop)),
+            Err(stop) => Err(report.abandon_with(stop)),
         }
     }
 
     /// Whether one of them goes to standard output.
-    pub(crate) fn is_out(&self) -> bool {
-        self.report.is_out() || self.junit.is_out()
+    pub(crate) fn is_to_stdout(&self) -> bool {
+        self.report.is_to_stdout() || self.junit.is_to_stdout()
     }
 
     /// Neither is written, for this reason.
-    pub(crate) fn abandoned(self, stop: Stop) -> Stop {
-        self.junit.abandoned(self.report.abandoned(stop))
+    pub(crate) fn abandon_with(self, stop: Stop) -> Stop {
+        self.junit.abandon_with(self.report.abandon_with(stop))
     }
 }
 
 /// The name of a file without its folders and its ending, as the class of its jobs.
-pub(crate) fn class_of(path: &str) -> &str {
+pub(crate) fn junit_class_name(path: &str) -> &str {
     let name = match path.rsplit_once('/') {
         Some((_, name)) => name,
         None => path,

@@ -38,7 +38,7 @@ impl<W: Write + Drop> Progress<W> {
             is_terminal,
             done: AtomicU64::new(0),
             failed: AtomicU64::new(0),
-            tenth: AtomicU64::new(tenth_of(clock).unwrap_or(0)),
+            tenth: AtomicU64::new(clock_tenths(clock).unwrap_or(0)),
             line: Mutex::new(Line::new(out)),
         }
     }
@@ -61,7 +61,7 @@ impl<W: Write + Drop> Progress<W> {
 
     /// Counts a row. Where a tenth of a second has passed since the line was shown last, and no other thread writes to
     /// the terminal, it is shown again.
-    pub(crate) fn count<C: Clock>(&self, clock: &C, alloc: Global, row: &Row) {
+    pub(crate) fn count_row<C: Clock>(&self, clock: &C, alloc: Global, row: &Row) {
         if !self.is_terminal {
             return;
         }
@@ -69,17 +69,17 @@ impl<W: Write + Drop> Progress<W> {
         if !has_passed(self.rule, row) {
             self.failed.fetch_add(1, Ordering::SeqCst);
         }
-        if !self.is_due(clock) {
+        if !self.claim_line_turn(clock) {
             return;
         }
         if let Some(mut line) = self.line.try_lock() {
-            line.show(alloc, self.counts());
+            line.show_counts(alloc, self.counts());
         }
     }
 
     // Whether no line was shown in this tenth of a second. Of the threads that ask in one, one is answered so.
-    fn is_due<C: Clock>(&self, clock: &C) -> bool {
-        match tenth_of(clock) {
+    fn claim_line_turn<C: Clock>(&self, clock: &C) -> bool {
+        match clock_tenths(clock) {
             Some(now) => self.tenth.fetch_max(now, Ordering::SeqCst) < now,
             None => false,
         }
@@ -96,7 +96,7 @@ impl<W: Write + Drop> Progress<W> {
     }
 
     /// The line, for one thread at a time.
-    pub(crate) fn lock<R: Wait>(&self, rt: &R) -> MutexGuard<'_, Line<W>> {
+    pub(crate) fn lock_line<R: Wait>(&self, rt: &R) -> MutexGuard<'_, Line<W>> {
         self.line.lock(rt)
     }
 
@@ -107,7 +107,7 @@ impl<W: Write + Drop> Progress<W> {
 }
 
 // The clock's time in tenths of a second.
-fn tenth_of<C: Clock>(clock: &C) -> Option<u64> {
+fn clock_tenths<C: Clock>(clock: &C) -> Option<u64> {
     match clock.monotonic() {
         Ok(time) => {
             let tenths = u64::from(time.subsec_millis() / 100);

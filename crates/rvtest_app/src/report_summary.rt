@@ -2,31 +2,31 @@
 
 ghost use Rattle.std.specs.Prelude.{◌≡◌, ◌++◌, ◌<◌, ◌^◌, OnOk, length};
 ghost use Rattle.std.specs.List.{flat_map};
-ghost use Rattle.rvtest_app.specs.ReportSummary.{failed_line, most_text, show_text, steps_line};
+ghost use Rattle.rvtest_app.specs.ReportSummary.{failed_line, most_steps_text, summary_text, steps_line};
 
 use crate::failed_lines::push_failed_line;
-use crate::most_steps::most_steps;
+use crate::rows_with_most_steps::rows_with_most_steps;
 use rv_expect::Rule;
-use rv_job_text::push_last_line;
+use rv_job_text::push_totals_line;
 use rv_rows::Row;
 use rv_text::{Span, push_spans, push_text};
 use std::alloc::{AllocError, Global};
 
 /// Appends what is shown of a report's rows: the line of each that failed, the counts of all, and the jobs with the most
 /// steps, of which those of equal steps stand in their order.
-#[tactic(auto, unfolding(crate::specs::ReportSummary::show_text))]
-pub fn push_show(
+#[tactic(auto, unfolding(crate::specs::ReportSummary::summary_text))]
+pub fn push_summary(
     alloc: Global,
     text: &mut Vec<u8>,
     rule: Rule,
     rows: &[Row],
 ) -> Result<(), AllocError>
     requires { length rows.now < 2 ^ 32 }
-    ensures { OnOk result (text.new.items ≡ text.old.items ++ show_text rule rows.now) }
+    ensures { OnOk result (text.new.items ≡ text.old.items ++ summary_text rule rows.now) }
 {
     push_failed_lines(alloc, text, rule, rows)?;
-    push_last_line(text, rule, rows)?;
-    push_most(alloc, text, rows)
+    push_totals_line(text, rule, rows)?;
+    push_most_steps(alloc, text, rows)
 }
 
 fn push_failed_lines(
@@ -45,10 +45,10 @@ fn push_failed_lines(
 }
 
 // Appends the jobs with the most steps.
-fn push_most(alloc: Global, text: &mut Vec<u8>, rows: &[Row]) -> Result<(), AllocError>
-    ensures { OnOk result (text.new.items ≡ text.old.items ++ most_text rows.now) }
+fn push_most_steps(alloc: Global, text: &mut Vec<u8>, rows: &[Row]) -> Result<(), AllocError>
+    ensures { OnOk result (text.new.items ≡ text.old.items ++ most_steps_text rows.now) }
 {
-    let most = most_steps(alloc, rows)?;
+    let most = rows_with_most_steps(alloc, rows)?;
     push_text(text, "most steps:\n")?;
     push_steps_lines(text, most.as_slice())
 }

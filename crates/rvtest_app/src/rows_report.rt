@@ -5,29 +5,29 @@ ghost use Rattle.std.specs.Io.KnownBytes.{Appends};
 ghost use Rattle.std.specs.List.{All};
 ghost use Rattle.rv_lists.specs.Limits.{most_jobs};
 ghost use Rattle.rv_lists.specs.Sinks.{AppendsBeginning};
-ghost use Rattle.rv_lists.specs.Counts.{Rose};
-ghost use Rattle.rvtest_app.specs.Shown.{numbers_of, part_text, report_of};
+ghost use Rattle.rv_lists.specs.Counts.{HasRisen};
+ghost use Rattle.rvtest_app.specs.RunOutput.{job_numbers, part_text, chosen_report_text};
 
 use crate::chosen_rows::ChosenRows;
 use rv_fleet::{Report, Sink, WriteError, write_report};
-use rv_report::{Extent, Numbers, SavedReport, Shard, write_saved};
+use rv_report::{Extent, Numbers, SavedReport, Shard, write_saved_report};
 use std::alloc::{AllocError, Global};
 
 /// Appends the report of the rows of chosen jobs: that of a shard, where these are its jobs; else the whole report where they
 /// are all, else that of a choice. After an error a beginning of it is out.
-pub(crate) fn write_rows<W: Sink>(
+pub(crate) fn write_chosen_report<W: Sink>(
     alloc: Global,
     chosen: ChosenRows<'_>,
     shard: Option<Shard>,
     out: &mut W,
 ) -> Result<(), WriteError>
     ensures all { OnOk result (Appends (W.taken out.old) (W.taken out.new)
-        (report_of chosen.entry.jobs chosen.entry.places.now shard chosen.entry.rows)) }
+        (chosen_report_text chosen.entry.jobs chosen.entry.places.now shard chosen.entry.rows)) }
     ensures counted { OnOk result (W.failed out.new ≡ W.failed out.old) }
     ensures part { OnErr result (AppendsBeginning (W.taken out.old) (W.taken out.new)
-        (report_of chosen.entry.jobs chosen.entry.places.now shard chosen.entry.rows)) }
+        (chosen_report_text chosen.entry.jobs chosen.entry.places.now shard chosen.entry.rows)) }
     ensures failed { IfErr result (λ error. error ≡ WriteError.Failed
-        → Rose (W.failed out.old) (W.failed out.new)) }
+        → HasRisen (W.failed out.old) (W.failed out.new)) }
 {
     let extent = match shard {
         Some(shard) => Extent::Shard(shard),
@@ -36,11 +36,11 @@ pub(crate) fn write_rows<W: Sink>(
         }
         None => Extent::Choice(chosen.jobs as u32),
     };
-    write_part(alloc, extent, chosen, out)
+    write_part_report(alloc, extent, chosen, out)
 }
 
 // The report of a part of a list.
-fn write_part<W: Sink>(
+fn write_part_report<W: Sink>(
     alloc: Global,
     extent: Extent,
     chosen: ChosenRows<'_>,
@@ -52,20 +52,20 @@ fn write_part<W: Sink>(
     ensures part { OnErr result (AppendsBeginning (W.taken out.old) (W.taken out.new)
         (part_text extent chosen.entry.places.now chosen.entry.rows)) }
     ensures failed { IfErr result (λ error. error ≡ WriteError.Failed
-        → Rose (W.failed out.old) (W.failed out.new)) }
+        → HasRisen (W.failed out.old) (W.failed out.new)) }
 {
     let report = SavedReport {
         extent,
-        numbers: Numbers::new(numbers_of(alloc, chosen.places)?),
+        numbers: Numbers::new(job_numbers(alloc, chosen.places)?),
         rows: chosen.rows,
     };
-    write_saved(alloc, &report, out)
+    write_saved_report(alloc, &report, out)
 }
 
 // The numbers of the jobs at some places, from 1.
-fn numbers_of(alloc: Global, places: &[usize]) -> Result<Vec<u32>, AllocError>
+fn job_numbers(alloc: Global, places: &[usize]) -> Result<Vec<u32>, AllocError>
     requires { All (λ place. place < most_jobs) places.now }
-    ensures { IfOk result (λ numbers. numbers.items ≡ numbers_of places.now) }
+    ensures { IfOk result (λ numbers. numbers.items ≡ job_numbers places.now) }
 {
     let mut numbers = Vec::new(alloc);
     for at in 0..places.len() {

@@ -5,11 +5,11 @@ ghost use Rattle.std.specs.Str.Parse.{digits_value};
 ghost use Rattle.hex.specs.Hex.{encode_lower};
 ghost use Rattle.sha2.specs.Sha256.{sha256};
 ghost use Rattle.rv_lists.specs.Limits.{most_jobs};
-ghost use Rattle.rvtest_app.specs.Runs.{IsShardOf, number_before_slash, number_behind_slash};
+ghost use Rattle.rvtest_app.specs.Runs.{IsShardOf, number_before_slash, number_behind_slash, stamp_for};
 
 use crate::stop::Stop;
 use clap::error::ErrorKind;
-use rv_cli::rvtest::{RunAsked, refusal, run_command};
+use rv_cli::rvtest::{RunAsked, run_command, usage_error};
 use rv_jobs::Text;
 use rv_jobs::limits::MOST_JOBS;
 use rv_report::{Shard, is_name};
@@ -18,7 +18,7 @@ use std::alloc::{AllocError, Global};
 
 /// The shard that is asked for of a list of so many jobs, if one is. Without a stamp it has the first 16 digits of the SHA-256 of the
 /// list's text.
-pub(crate) fn shard_asked(
+pub(crate) fn requested_shard(
     alloc: Global,
     asked: &RunAsked<'_>,
     text: &[u8],
@@ -26,19 +26,21 @@ pub(crate) fn shard_asked(
 ) -> Result<Option<Shard>, Stop>
     requires { jobs ≤ most_jobs }
     ensures asked { IfOk result (IsShardOf asked.now.shard) }
+    ensures stamped { IfOk result (λ shard. IfSome shard (λ s.
+        s.stamp ≡ stamp_for asked.now.stamp text.now)) }
     ensures within { IfOk result (λ shard. IfSome shard (λ s.
         (s.jobs ≡ jobs) × (0 < s.number) × (s.number ≤ s.shards) × (s.shards ≤ most_jobs))) }
 {
     let Some(words) = asked.shard else {
         return Ok(None);
     };
-    let Some((number, shards)) = numbers_of(words) else {
-        return Err(bad_shard(alloc, words));
+    let Some((number, shards)) = shard_numbers(words) else {
+        return Err(bad_shard_stop(alloc, words));
     };
     let stamp = match asked.stamp {
         Some(stamp) if is_name(stamp.as_bytes()) => String::from_str(alloc, stamp)?,
-        Some(stamp) => return Err(bad_stamp(alloc, stamp)),
-        None => digest_of(alloc, text)?,
+        Some(stamp) => return Err(bad_stamp_stop(alloc, stamp)),
+        None => list_digest(alloc, text)?,
     };
     Ok(Some(Shard {
         jobs: jobs as u32,
@@ -49,14 +51,14 @@ pub(crate) fn shard_asked(
 }
 
 // K and N of `K/N`, where 1 <= K <= N <= 4096.
-fn numbers_of(words: &str) -> Option<(u32, u32)>
+fn shard_numbers(words: &str) -> Option<(u32, u32)>
     ensures numbers { IfSome result (λ n. (n.0 ≡ number_before_slash words.now)
         × (n.1 ≡ number_behind_slash words.now)) }
     ensures within { IfSome result (λ n. (0 < n.0) × (n.0 ≤ n.1) × (n.1 ≤ most_jobs)) }
 {
     let (number, shards) = words.split_once('/')?;
-    let number = number_of(number)?;
-    let shards = number_of(shards)?;
+    let number = parse_digits(number)?;
+    let shards = parse_digits(shards)?;
     if 1 <= number && number <= shards && shards as usize <= MOST_JOBS {
         Some((number, shards))
     } else {
@@ -65,7 +67,7 @@ fn numbers_of(words: &str) -> Option<(u32, u32)>
 }
 
 // A number of digits alone.
-fn number_of(words: &str) -> Option<u32>
+fn parse_digits(words: &str) -> Option<u32>
     ensures { IfSome result (λ number. number ≡ digits_value 10 words.now) }
 {
     if words.as_bytes().iter().all(|byte| byte.is_ascii_digit()) {
@@ -75,7 +77,7 @@ fn number_of(words: &str) -> Option<u32>
     }
 }
 
-fn digest_of(alloc: Global, text: &[u8]) -> Result<String, AllocError>
+fn list_digest(alloc: Global, text: &[u8]) -> Result<String, AllocError>
     ensures { IfOk result (λ digits. string_bytes digits
         ≡ encode_lower (take 8 (sha256 text.now))) }
 {
@@ -83,8 +85,8 @@ fn digest_of(alloc: Global, text: &[u8]) -> Result<String, AllocError>
     hex::encode(alloc, &digest[..8])
 }
 
-fn bad_shard(alloc: Global, words: &str) -> Stop {
-    refused_value(
+fn bad_shard_stop(alloc: Global, words: &str) -> Stop {
+    bad_value_stop(
         alloc,
         format!(in alloc;
             "invalid value '{words}' for '--shard <K/N>': K and N are numbers, 1 <= K <= N <= 4096"
@@ -92,8 +94,8 @@ fn bad_shard(alloc: Global, words: &str) -> Stop {
     )
 }
 
-fn bad_stamp(alloc: Global, stamp: &str) -> Stop {
-    refused_value(
+fn bad_stamp_stop(alloc: Global, stamp: &str) -> Stop {
+    bad_value_stop(
         alloc,
         format!(in alloc;
             "invalid value '{stamp}' for '--stamp <TEXT>': 1 to 64 letters, digits, '.', '_' and '-'"
@@ -102,11 +104,11 @@ fn bad_stamp(alloc: Global, stamp: &str) -> Stop {
 }
 
 /// That a value of `run` is none, as these words say, where there was memory for them.
-pub(crate) fn refused_value(alloc: Global, what: Result<String, AllocError>) -> Stop {
+pub(crate) fn bad_value_stop(alloc: Global, what: Result<String, AllocError>) -> Stop {
     match what {
         Ok(what) => {
             let kind = ErrorKind::ValueValidation;
-            Stop::of_words(alloc, &refusal(run_command(alloc), kind, what.as_str()))
+            Stop::of_clap_error(alloc, &usage_error(run_command(alloc), kind, what.as_str()))
         }
         Err(error) => Stop::from(error),
     }

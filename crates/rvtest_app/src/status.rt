@@ -1,7 +1,7 @@
 //! The status of rows.
 
 ghost use Rattle.std.specs.Prelude.{◌≡◌};
-ghost use Rattle.rvtest_app.specs.Shown.{status_of};
+ghost use Rattle.rvtest_app.specs.RunOutput.{rows_status};
 
 use rv_expect::{Rule, have_passed};
 use rv_rows::Row;
@@ -13,8 +13,8 @@ pub(crate) const DONE: u8 = 0;
 pub(crate) const SOME_FAIL: u8 = 1;
 
 /// [`SOME_FAIL`] where some job failed, else [`DONE`].
-pub(crate) fn status_of(rule: Rule, rows: &[Row]) -> u8
-    ensures { result ≡ status_of rule rows.now }
+pub(crate) fn rows_status(rule: Rule, rows: &[Row]) -> u8
+    ensures { result ≡ rows_status rule rows.now }
 {
     if have_passed(rule, rows) {
         DONE

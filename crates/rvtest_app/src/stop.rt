@@ -1,5 +1,7 @@
 //! Why a command ends before its work is done.
 
+ghost use Rattle.std.specs.Prelude.{◌≡◌};
+
 use clap::Error;
 use clap::error::ErrorKind;
 use rv_stream::StreamError;
@@ -10,8 +12,6 @@ use std::alloc::{AllocError, Global};
 pub(crate) enum Stop {
     /// As these lines say.
     Told(Lines, Vec<u8>),
-    /// No job is left to run, as was said.
-    NoJob,
     /// A growth was refused.
     OutOfMemory,
     /// The start of a thread was refused.
@@ -23,8 +23,6 @@ pub(crate) enum Stop {
 /// What the lines say that end a command.
 #[derive(Clone, Copy)]
 pub(crate) enum Lines {
-    /// Help or the version, which was asked for.
-    Help,
     /// Why what is asked for is refused.
     Refusal,
     /// How the system failed.
@@ -32,29 +30,28 @@ pub(crate) enum Lines {
 }
 
 impl Stop {
-    /// What an error of `clap`, or of its form, comes to. Help and the version are such errors, too.
-    pub(crate) fn of_words(alloc: Global, error: &Error) -> Stop {
+    /// What an error of `clap`, or of its form, comes to, but help and the version: it refuses the words.
+    pub(crate) fn of_clap_error(alloc: Global, error: &Error) -> Stop {
         match error.kind() {
             ErrorKind::OutOfMemory => Stop::OutOfMemory,
             _ => match error.to_string(alloc) {
-                Ok(text) if error.use_stderr() => Stop::Told(Lines::Refusal, text.into_bytes()),
-                Ok(text) => Stop::Told(Lines::Help, text.into_bytes()),
+                Ok(text) => Stop::Told(Lines::Refusal, text.into_bytes()),
                 Err(error) => Stop::from(error),
             },
         }
     }
 
     /// What is asked for is refused, as these lines say, where there was memory for them.
-    pub(crate) fn refused(told: Result<Vec<u8>, AllocError>) -> Stop {
-        Stop::told(Lines::Refusal, told)
+    pub(crate) fn of_refusal(told: Result<Vec<u8>, AllocError>) -> Stop {
+        Stop::of_lines(Lines::Refusal, told)
     }
 
     /// The system failed, as these lines say, where there was memory for them.
-    pub(crate) fn failed(told: Result<Vec<u8>, AllocError>) -> Stop {
-        Stop::told(Lines::Failure, told)
+    pub(crate) fn of_failure(told: Result<Vec<u8>, AllocError>) -> Stop {
+        Stop::of_lines(Lines::Failure, told)
     }
 
-    fn told(lines: Lines, told: Result<Vec<u8>, AllocError>) -> Stop {
+    fn of_lines(lines: Lines, told: Result<Vec<u8>, AllocError>) -> Stop {
         match told {
             Ok(text) => Stop::Told(lines, text),
             Err(error) => Stop::from(error),
@@ -63,12 +60,20 @@ impl Stop {
 }
 
 impl From<AllocError> for Stop {
+    ghost use Rattle.rvtest_app.specs.declared.stop.Stop.TheVariants.{OutOfMemory};
+
+    ghost from_gives = { λ _ stop. stop ≡ OutOfMemory };
+
     fn from(_: AllocError) -> Stop {
         Stop::OutOfMemory
     }
 }
 
 impl From<StreamError> for Stop {
+    ghost use Rattle.rvtest_app.specs.Commands.{stop_of_stream};
+
+    ghost from_gives = { λ error stop. stop ≡ stop_of_stream error };
+
     fn from(error: StreamError) -> Stop {
         match error {
             StreamError::OutOfMemory => Stop::OutOfMemory,

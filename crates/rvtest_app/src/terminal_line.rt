@@ -1,7 +1,7 @@
 //! A line on a terminal.
 
 ghost use Rattle.std.specs.Prelude.{◌≡◌, ◌++◌, ◌∷◌, ◌-◌, IsTrue, OnOk, length, slice_get};
-ghost use Rattle.rvtest_app.specs.ProgressLine.{counts_text, is_held_by};
+ghost use Rattle.rvtest_app.specs.ProgressLine.{progress_text, is_mid_line};
 
 use rv_text::{Span, push_spans};
 use std::alloc::{AllocError, Global};
@@ -41,7 +41,7 @@ impl<W: Write + Drop> Line<W> {
     }
 
     /// Writes the counts over those that stand there. They never have fewer digits.
-    pub(crate) fn show(&mut self, alloc: Global, counts: Counts)
+    pub(crate) fn show_counts(&mut self, alloc: Global, counts: Counts)
         // In the middle of a line of other text nothing is written.
         ensures { IsTrue self.old.is_held → self.new ≡ self.old }
     {
@@ -49,8 +49,8 @@ impl<W: Write + Drop> Line<W> {
             return;
         }
         let mut text = Vec::new(alloc);
-        if push_counts(&mut text, counts).is_ok() {
-            self.write(text.as_slice());
+        if push_progress_text(&mut text, counts).is_ok() {
+            self.write_and_flush(text.as_slice());
             self.is_shown = true;
         }
     }
@@ -59,32 +59,32 @@ impl<W: Write + Drop> Line<W> {
     pub(crate) fn take_away(&mut self) -> bool {
         let was_shown = self.is_shown;
         if was_shown {
-            self.write(CLEAR);
+            self.write_and_flush(CLEAR);
             self.is_shown = false;
         }
         was_shown
     }
 
     /// Other text went to the terminal. Until it ends with a line feed nothing is shown.
-    pub(crate) fn note(&mut self, text: &[u8])
+    pub(crate) fn note_other_text(&mut self, text: &[u8])
         ensures { self.new.is_held
-            ≡ is_held_by self.old.is_held (slice_get text.now (length text.now - 1)) }
+            ≡ is_mid_line self.old.is_held (slice_get text.now (length text.now - 1)) }
     {
         if let Some(last) = text.last() {
             self.is_held = *last != b'\n';
         }
     }
 
-    fn write(&mut self, bytes: &[u8]) {
+    fn write_and_flush(&mut self, bytes: &[u8]) {
         let _ = self.out.write_all(bytes);
         let _ = self.out.flush();
     }
 }
 
 // Appends the counts, in the place of what stands on the line.
-fn push_counts(text: &mut Vec<u8>, counts: Counts) -> Result<(), AllocError>
+fn push_progress_text(text: &mut Vec<u8>, counts: Counts) -> Result<(), AllocError>
     ensures { OnOk result (text.new.items
-        ≡ text.old.items ++ 13 ∷ counts_text counts.done counts.jobs counts.failed) }
+        ≡ text.old.items ++ 13 ∷ progress_text counts.done counts.jobs counts.failed) }
 {
     push_spans(
         text,

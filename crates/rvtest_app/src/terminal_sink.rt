@@ -55,14 +55,14 @@ impl<'a, R: Wait, S: Sink + Drop, W: Write + Drop> Sink for TerminalSink<'a, R, 
         let Some(progress) = self.progress else {
             return self.sink.put(bytes);
         };
-        let mut line = progress.lock(self.rt);
+        let mut line = progress.lock_line(self.rt);
         let was_shown = line.take_away();
         let put = self.sink.put(bytes);
         if let Ok(count) = put {
-            line.note(&bytes[..count]);
+            line.note_other_text(&bytes[..count]);
         }
         if was_shown {
-            line.show(self.alloc, progress.counts());
+            line.show_counts(self.alloc, progress.counts());
         }
         put
     }

@@ -2,12 +2,12 @@
 
 ghost use Rattle.std.specs.Prelude.{◌≡◌, false};
 ghost use Rattle.clap.specs.Words.{App, rule_of};
-ghost use Rattle.rv_cli.specs.Building.{IsBuilt};
-ghost use Rattle.rv_cli.specs.RvtestCommand.{flag_rule, number_rule, rule_for};
+ghost use Rattle.rv_cli.specs.CommandBuilder.{IsBuilt};
+ghost use Rattle.rv_cli.specs.RvtestCommand.{flag_rule, number_rule, argument_rule};
 ghost use Rattle.rv_cli.specs.RvtestCommand.{with_arguments};
 
-use crate::arguments::{group, option, word};
-use crate::building::{Built, with_argument};
+use crate::arguments::{group_argument, option_argument, word_argument};
+use crate::command_builder::{Built, with_argument};
 use clap::builder::ValueParser;
 use clap::{Arg, ArgAction};
 use std::alloc::Global;
@@ -39,21 +39,23 @@ pub(crate) enum Argument<'a> {
 }
 
 impl<'a> Argument<'a> {
-    fn arg(&self, alloc: Global) -> Arg<'a>
-        ensures { (rule_of result ≡ rule_for self.now) × (result.global ≡ false) }
+    fn clap_argument(&self, alloc: Global) -> Arg<'a>
+        ensures { (rule_of result ≡ argument_rule self.now) × (result.global ≡ false) }
     {
         match *self {
-            Argument::Word(name, value, help) => word(alloc, name, value, help),
+            Argument::Word(name, value, help) => word_argument(alloc, name, value, help),
             Argument::Words(name, value, help) => {
-                word(alloc, name, value, help).action(ArgAction::Append)
+                word_argument(alloc, name, value, help).action(ArgAction::Append)
             }
-            Argument::Option(name, value, help) => option(alloc, name, value, help),
+            Argument::Option(name, value, help) => option_argument(alloc, name, value, help),
             Argument::Again(name, value, help) => {
-                option(alloc, name, value, help).action(ArgAction::Append)
+                option_argument(alloc, name, value, help).action(ArgAction::Append)
             }
-            Argument::Flag(name, help) => flag(alloc, name, help),
-            Argument::Number(name, help, bounds, usual) => number(alloc, name, help, bounds, usual),
-            Argument::Group => group(alloc),
+            Argument::Flag(name, help) => flag_argument(alloc, name, help),
+            Argument::Number(name, help, bounds, usual) => number_argument(
+                alloc, name, help, bounds, usual,
+            ),
+            Argument::Group => group_argument(alloc),
         }
     }
 }
@@ -69,12 +71,12 @@ pub(crate) fn with_arguments<'a>(
 {
     let mut command = command;
     for argument in arguments {
-        command = with_argument(command, argument.arg(alloc));
+        command = with_argument(command, argument.clap_argument(alloc));
     }
     command
 }
 
-fn flag<'a>(alloc: Global, name: &'a str, help: &'a str) -> Arg<'a>
+fn flag_argument<'a>(alloc: Global, name: &'a str, help: &'a str) -> Arg<'a>
     ensures { (rule_of result ≡ flag_rule name.entry.now) × (result.global ≡ false) }
 {
     Arg::new(alloc, name)
@@ -83,7 +85,7 @@ fn flag<'a>(alloc: Global, name: &'a str, help: &'a str) -> Arg<'a>
         .help(help)
 }
 
-fn number<'a>(
+fn number_argument<'a>(
     alloc: Global,
     name: &'a str,
     help: &'a str,
@@ -93,7 +95,7 @@ fn number<'a>(
     ensures { (rule_of result ≡ number_rule name.entry.now bounds.least bounds.most usual.entry.now)
         × (result.global ≡ false) }
 {
-    option(alloc, name, "N", help)
+    option_argument(alloc, name, "N", help)
         .value_parser(ValueParser::Signed(bounds.least, bounds.most))
         .default_values(usual)
 }

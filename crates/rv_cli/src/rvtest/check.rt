@@ -1,10 +1,10 @@
 //! The words of `check`.
 
 ghost use Rattle.clap.specs.Words.{found_of, rows_of};
-ghost use Rattle.rv_cli.specs.RvtestWords.{AsksFor, check_in};
+ghost use Rattle.rv_cli.specs.RvtestWords.{AsksFor, check_request};
 
-use crate::rvtest::asked::Asked;
-use crate::values::text;
+use crate::rvtest::requests::Asked;
+use crate::values::text_value;
 use clap::ArgMatches;
 
 /// The list of which all that is wrong is to be said.
@@ -17,10 +17,10 @@ pub struct CheckAsked<'a> {
 }
 
 /// What the values of `check` ask for.
-pub(crate) fn check_asked<'a>(values: &ArgMatches<'a>) -> Option<Asked<'a>>
-    ensures { AsksFor (check_in (rows_of (found_of values.now))) result }
+pub(crate) fn check_request<'a>(values: &ArgMatches<'a>) -> Option<Asked<'a>>
+    ensures { AsksFor (check_request (rows_of (found_of values.now))) result }
 {
-    let list = text(values, "list")?;
-    let root = text(values, "root");
+    let list = text_value(values, "list")?;
+    let root = text_value(values, "root");
     Some(Asked::Check(CheckAsked { list, root }))
 }

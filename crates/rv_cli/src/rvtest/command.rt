@@ -3,11 +3,11 @@
 ghost use Rattle.std.specs.Prelude.{◌≡◌, IfOk, false};
 ghost use Rattle.clap.specs.Words.{App, app_of, new_app};
 ghost use Rattle.clap.specs.declared.builder.command.Command.TheViews.{out-Command};
-ghost use Rattle.rv_cli.specs.Building.{HasApp, IsBuilt};
-ghost use Rattle.rv_cli.specs.RvtestCommand.{app_stated, merge_app, run_app, test_app};
-ghost use Rattle.rv_cli.specs.RvtestCommand.{top_app, with_commands};
+ghost use Rattle.rv_cli.specs.CommandBuilder.{HasApp, IsBuilt};
+ghost use Rattle.rv_cli.specs.RvtestCommand.{subcommand_app, merge_app, test_run_app, test_app};
+ghost use Rattle.rv_cli.specs.RvtestCommand.{test_top_app, with_commands};
 
-use crate::building::{Built, with_command};
+use crate::command_builder::{Built, with_command};
 use crate::rvtest::arguments::{Argument, with_arguments};
 use crate::rvtest::table::{COMMANDS, MERGE, RUN};
 use clap::Command;
@@ -31,7 +31,7 @@ pub(crate) fn test_command<'a>(alloc: Global) -> Result<Command<'a>, AllocError>
 }
 
 fn top_command<'a>(alloc: Global) -> Built<'a>
-    ensures { IsBuilt top_app result }
+    ensures { IsBuilt test_top_app result }
 {
     Command::new(alloc, "rvtest")
         .subcommand_required(true)
@@ -48,13 +48,13 @@ fn with_commands<'a>(alloc: Global, command: Built<'a>, stated: &[Subcommand<'a>
 {
     let mut command = command;
     for below in stated {
-        command = with_command(command, command_of(alloc, below));
+        command = with_command(command, subcommand_of_table(alloc, below));
     }
     command
 }
 
-fn command_of<'a>(alloc: Global, stated: &Subcommand<'a>) -> Built<'a>
-    ensures { IsBuilt (app_stated stated.now) result }
+fn subcommand_of_table<'a>(alloc: Global, stated: &Subcommand<'a>) -> Built<'a>
+    ensures { IsBuilt (subcommand_app stated.now) result }
 {
     let command = bare_command(alloc, stated.name, stated.about, stated.usage);
     with_arguments(alloc, command, stated.arguments)
@@ -69,9 +69,9 @@ fn bare_command<'a>(alloc: Global, name: &'a str, about: &'a str, usage: &'a str
 /// The command `rvtest run`, whose usage a refusal of its words shows.
 pub fn run_command<'a>(alloc: Global) -> Result<Command<'a>, AllocError>
     ensures { IfOk result (λ command.
-        (app_of command ≡ run_app) × ((out-Command command).has_globals ≡ false)) }
+        (app_of command ≡ test_run_app) × ((out-Command command).has_globals ≡ false)) }
 {
-    command_of(alloc, &RUN)
+    subcommand_of_table(alloc, &RUN)
 }
 
 /// The command `rvtest merge`, whose usage a refusal of its words shows.
@@ -79,5 +79,5 @@ pub fn merge_command<'a>(alloc: Global) -> Result<Command<'a>, AllocError>
     ensures { IfOk result (λ command.
         (app_of command ≡ merge_app) × ((out-Command command).has_globals ≡ false)) }
 {
-    command_of(alloc, &MERGE)
+    subcommand_of_table(alloc, &MERGE)
 }

@@ -1,10 +1,10 @@
 //! The words of `diff`.
 
 ghost use Rattle.clap.specs.Words.{found_of, rows_of};
-ghost use Rattle.rv_cli.specs.RvtestWords.{AsksFor, diff_in};
+ghost use Rattle.rv_cli.specs.RvtestWords.{AsksFor, diff_request};
 
-use crate::rvtest::asked::Asked;
-use crate::values::{flag, text};
+use crate::rvtest::requests::Asked;
+use crate::values::{is_flag_set, text_value};
 use clap::ArgMatches;
 
 /// Two reports that are to be compared.
@@ -19,11 +19,11 @@ pub struct DiffAsked<'a> {
 }
 
 /// What the values of `diff` ask for.
-pub(crate) fn diff_asked<'a>(values: &ArgMatches<'a>) -> Option<Asked<'a>>
-    ensures { AsksFor (diff_in (rows_of (found_of values.now))) result }
+pub(crate) fn diff_request<'a>(values: &ArgMatches<'a>) -> Option<Asked<'a>>
+    ensures { AsksFor (diff_request (rows_of (found_of values.now))) result }
 {
-    let old = text(values, "old")?;
-    let new = text(values, "new")?;
-    let steps = flag(values, "steps");
+    let old = text_value(values, "old")?;
+    let new = text_value(values, "new")?;
+    let steps = is_flag_set(values, "steps");
     Some(Asked::Diff(DiffAsked { old, new, steps }))
 }

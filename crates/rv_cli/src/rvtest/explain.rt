@@ -1,10 +1,10 @@
 //! The words of `explain`.
 
 ghost use Rattle.clap.specs.Words.{found_of, rows_of};
-ghost use Rattle.rv_cli.specs.RvtestWords.{AsksFor, explain_in};
+ghost use Rattle.rv_cli.specs.RvtestWords.{AsksFor, explain_request};
 
-use crate::rvtest::asked::Asked;
-use crate::values::{number, text};
+use crate::rvtest::requests::Asked;
+use crate::values::{number_value, text_value};
 use clap::ArgMatches;
 
 /// The job whose end is to be explained.
@@ -21,13 +21,13 @@ pub struct ExplainAsked<'a> {
 }
 
 /// What the values of `explain` ask for.
-pub(crate) fn explain_asked<'a>(values: &ArgMatches<'a>) -> Option<Asked<'a>>
-    ensures { AsksFor (explain_in (rows_of (found_of values.now))) result }
+pub(crate) fn explain_request<'a>(values: &ArgMatches<'a>) -> Option<Asked<'a>>
+    ensures { AsksFor (explain_request (rows_of (found_of values.now))) result }
 {
-    let list = text(values, "list")?;
-    let name = text(values, "name")?;
-    let last = number(values, "last", 0, 100_000)?;
-    let root = text(values, "root");
+    let list = text_value(values, "list")?;
+    let name = text_value(values, "name")?;
+    let last = number_value(values, "last", 0, 100_000)?;
+    let root = text_value(values, "root");
     Some(Asked::Explain(ExplainAsked {
         list,
         name,

@@ -2,12 +2,12 @@
 
 ghost use Rattle.std.specs.Prelude.{[], Some};
 ghost use Rattle.clap.specs.Words.{found_of, rows_of};
-ghost use Rattle.rv_cli.specs.RvtestWords.{Reads, kinds_of, merge_in, one_file};
+ghost use Rattle.rv_cli.specs.RvtestWords.{ReadsRequest, misuse_kinds, merge_request, one_file_misuse};
 
-use crate::rvtest::asked::Asked;
 use crate::rvtest::command::merge_command;
-use crate::rvtest::refusals::one_file;
-use crate::values::{all, flag, text};
+use crate::rvtest::refusals::one_file_misuse;
+use crate::rvtest::requests::Asked;
+use crate::values::{argument_values, is_flag_set, text_value};
 use clap::{ArgMatches, Error};
 use std::alloc::Global;
 
@@ -25,26 +25,29 @@ pub struct MergeAsked<'a> {
 }
 
 /// What the values of `merge` ask for, or which rule its options break.
-pub(crate) fn merge_asked<'a>(
+pub(crate) fn merge_request<'a>(
     alloc: Global,
     values: &ArgMatches<'a>,
 ) -> Result<Option<Asked<'a>>, Error>
-    ensures { Reads (Some (merge_in (rows_of (found_of values.now))))
-        (kinds_of (one_file (rows_of (found_of values.now)))) result }
+    ensures { ReadsRequest (Some (merge_request (rows_of (found_of values.now))))
+        (misuse_kinds (one_file_misuse (rows_of (found_of values.now)))) result }
 {
-    match one_file(values) {
-        Some(misuse) => Err(misuse.error(merge_command(alloc))),
-        None => merge_read(alloc, values),
+    match one_file_misuse(values) {
+        Some(misuse) => Err(misuse.misuse_error(merge_command(alloc))),
+        None => valid_merge_request(alloc, values),
     }
 }
 
-fn merge_read<'a>(alloc: Global, values: &ArgMatches<'a>) -> Result<Option<Asked<'a>>, Error>
-    ensures { Reads (Some (merge_in (rows_of (found_of values.now)))) [] result }
+fn valid_merge_request<'a>(
+    alloc: Global,
+    values: &ArgMatches<'a>,
+) -> Result<Option<Asked<'a>>, Error>
+    ensures { ReadsRequest (Some (merge_request (rows_of (found_of values.now)))) [] result }
 {
-    let report = text(values, "report");
-    let junit = text(values, "junit");
-    let lenient = flag(values, "lenient");
-    let parts = all(alloc, values, "part")?;
+    let report = text_value(values, "report");
+    let junit = text_value(values, "junit");
+    let lenient = is_flag_set(values, "lenient");
+    let parts = argument_values(alloc, values, "part")?;
     Ok(Some(Asked::Merge(MergeAsked {
         parts,
         report,

@@ -2,9 +2,9 @@
 
 ghost use Rattle.std.specs.Prelude.{◌≡◌, [], ◌∷◌, Some};
 ghost use Rattle.clap.specs.Words.{HasKind, found_of, rows_of};
-ghost use Rattle.rv_cli.specs.RvtestWords.{is_report, kinds_of, one_file};
+ghost use Rattle.rv_cli.specs.RvtestWords.{is_report_path, misuse_kinds, one_file_misuse};
 
-use crate::values::text;
+use crate::values::text_value;
 use clap::error::ErrorKind;
 use clap::{ArgMatches, Command, Error};
 use std::alloc::AllocError;
@@ -24,14 +24,14 @@ pub(crate) enum Misuse {
 
 impl Misuse {
     /// The error that says so, with the usage of the command.
-    pub(crate) fn error(self, command: Result<Command<'_>, AllocError>) -> Error
-        ensures { HasKind (kinds_of (Some self)) result }
+    pub(crate) fn misuse_error(self, command: Result<Command<'_>, AllocError>) -> Error
+        ensures { HasKind (misuse_kinds (Some self)) result }
     {
-        refusal(command, self.kind(), self.text())
+        usage_error(command, self.misuse_error_kind(), self.misuse_text())
     }
 
-    fn kind(self) -> ErrorKind
-        ensures { kinds_of (Some self) ≡ result ∷ [] }
+    fn misuse_error_kind(self) -> ErrorKind
+        ensures { misuse_kinds (Some self) ≡ result ∷ [] }
     {
         match self {
             Misuse::StampAlone => ErrorKind::MissingRequiredArgument,
@@ -41,7 +41,7 @@ impl Misuse {
         }
     }
 
-    fn text(self) -> &'static str {
+    fn misuse_text(self) -> &'static str {
         match self {
             Misuse::VerboseAndQuiet => "the argument '--verbose' cannot be used with '--quiet'",
             Misuse::ShardAndChoice => {
@@ -58,19 +58,19 @@ impl Misuse {
 }
 
 /// A report and JUnit's XML may not go to one file.
-pub(crate) fn one_file(values: &ArgMatches<'_>) -> Option<Misuse>
-    ensures { result ≡ one_file (rows_of (found_of values.now)) }
+pub(crate) fn one_file_misuse(values: &ArgMatches<'_>) -> Option<Misuse>
+    ensures { result ≡ one_file_misuse (rows_of (found_of values.now)) }
 {
-    match text(values, "junit") {
-        Some(path) if is_report(values, path) => Some(Misuse::OneFile),
+    match text_value(values, "junit") {
+        Some(path) if is_report_path(values, path) => Some(Misuse::OneFile),
         _ => None,
     }
 }
 
-fn is_report(values: &ArgMatches<'_>, path: &str) -> bool
-    ensures { result ≡ is_report path.now (rows_of (found_of values.now)) }
+fn is_report_path(values: &ArgMatches<'_>, path: &str) -> bool
+    ensures { result ≡ is_report_path path.now (rows_of (found_of values.now)) }
 {
-    match text(values, "report") {
+    match text_value(values, "report") {
         Some(report) => path == report,
         None => false,
     }
@@ -78,7 +78,7 @@ fn is_report(values: &ArgMatches<'_>, path: &str) -> bool
 
 /// An error in the form of `clap`'s own: `error: ` and the text, the usage of the command, and where help is; or want of memory,
 /// where there is no command for that. The text has no line feed at its end.
-pub fn refusal(command: Result<Command<'_>, AllocError>, kind: ErrorKind, text: &str) -> Error
+pub fn usage_error(command: Result<Command<'_>, AllocError>, kind: ErrorKind, text: &str) -> Error
     // It is of that kind, or memory ran out while it was made.
     ensures { HasKind (kind ∷ []) result }
 {

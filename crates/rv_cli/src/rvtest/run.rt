@@ -2,14 +2,14 @@
 
 ghost use Rattle.std.specs.Prelude.{◌≡◌, []};
 ghost use Rattle.clap.specs.Words.{found_of, rows_of};
-ghost use Rattle.rv_cli.specs.RvtestWords.{Reads, is_choice, kinds_of, misuse_in, run_in, run_words};
+ghost use Rattle.rv_cli.specs.RvtestWords.{ReadsRequest, is_choice_given, misuse_kinds, run_misuse, test_run_request, run_words};
 
-use crate::rvtest::asked::Asked;
 use crate::rvtest::command::run_command;
-use crate::rvtest::refusals::{Misuse, one_file};
-use crate::values::{all, flag, is_given, number, text};
+use crate::rvtest::refusals::{Misuse, one_file_misuse};
+use crate::rvtest::requests::Asked;
+use crate::values::{argument_values, is_flag_set, is_option_given, number_value, text_value};
 use clap::{ArgMatches, Error};
-use rv_lists::limits::{MOST_GROUP, MOST_WORKERS};
+use rv_base::limits::{MOST_GROUP, MOST_WORKERS};
 use std::alloc::Global;
 
 /// The jobs of a list that are to run, and how.
@@ -48,65 +48,67 @@ pub struct RunAsked<'a> {
 }
 
 /// What the values of `run` ask for, or which rule its options break.
-pub(crate) fn run_asked<'a>(
+pub(crate) fn test_run_request<'a>(
     alloc: Global,
     values: &ArgMatches<'a>,
 ) -> Result<Option<Asked<'a>>, Error>
-    ensures { Reads (run_in (rows_of (found_of values.now)))
-        (kinds_of (misuse_in (rows_of (found_of values.now)))) result }
+    ensures { ReadsRequest (test_run_request (rows_of (found_of values.now)))
+        (misuse_kinds (run_misuse (rows_of (found_of values.now)))) result }
 {
-    match misuse_of_run(values) {
-        Some(misuse) => Err(misuse.error(run_command(alloc))),
-        None => run_read(alloc, values),
+    match run_misuse(values) {
+        Some(misuse) => Err(misuse.misuse_error(run_command(alloc))),
+        None => valid_run_request(alloc, values),
     }
 }
 
 #[tactic(auto, unfolding(crate::specs::RvtestWords::run_words))]
-fn run_read<'a>(alloc: Global, values: &ArgMatches<'a>) -> Result<Option<Asked<'a>>, Error>
-    ensures { Reads (run_in (rows_of (found_of values.now))) [] result }
+fn valid_run_request<'a>(alloc: Global, values: &ArgMatches<'a>) -> Result<Option<Asked<'a>>, Error>
+    ensures { ReadsRequest (test_run_request (rows_of (found_of values.now))) [] result }
 {
-    let Some(list) = text(values, "list") else {
+    let Some(list) = text_value(values, "list") else {
         return Ok(None);
     };
-    let Some(group) = number(values, "group", 1, MOST_GROUP) else {
+    let Some(group) = number_value(values, "group", 1, MOST_GROUP) else {
         return Ok(None);
     };
     Ok(Some(Asked::Run(RunAsked {
         list,
-        pattern: text(values, "match"),
-        failed: text(values, "failed"),
-        shard: text(values, "shard"),
-        stamp: text(values, "stamp"),
-        workers: number(values, "workers", 1, MOST_WORKERS),
+        pattern: text_value(values, "match"),
+        failed: text_value(values, "failed"),
+        shard: text_value(values, "shard"),
+        stamp: text_value(values, "stamp"),
+        workers: number_value(values, "workers", 1, MOST_WORKERS),
         group,
-        root: text(values, "root"),
-        report: text(values, "report"),
-        junit: text(values, "junit"),
-        lenient: flag(values, "lenient"),
-        verbose: flag(values, "verbose"),
-        quiet: flag(values, "quiet"),
-        last: number(values, "last", 0, 100_000),
-        only: all(alloc, values, "only")?,
+        root: text_value(values, "root"),
+        report: text_value(values, "report"),
+        junit: text_value(values, "junit"),
+        lenient: is_flag_set(values, "lenient"),
+        verbose: is_flag_set(values, "verbose"),
+        quiet: is_flag_set(values, "quiet"),
+        last: number_value(values, "last", 0, 100_000),
+        only: argument_values(alloc, values, "only")?,
     })))
 }
 
 // The first rule that the options of `run` break.
-fn misuse_of_run(values: &ArgMatches<'_>) -> Option<Misuse>
-    ensures { result ≡ misuse_in (rows_of (found_of values.now)) }
+fn run_misuse(values: &ArgMatches<'_>) -> Option<Misuse>
+    ensures { result ≡ run_misuse (rows_of (found_of values.now)) }
 {
-    if flag(values, "verbose") && flag(values, "quiet") {
+    if is_flag_set(values, "verbose") && is_flag_set(values, "quiet") {
         Some(Misuse::VerboseAndQuiet)
-    } else if is_given(values, "shard") && is_choice(values) {
+    } else if is_option_given(values, "shard") && is_choice_given(values) {
         Some(Misuse::ShardAndChoice)
-    } else if is_given(values, "stamp") && !is_given(values, "shard") {
+    } else if is_option_given(values, "stamp") && !is_option_given(values, "shard") {
         Some(Misuse::StampAlone)
     } else {
-        one_file(values)
+        one_file_misuse(values)
     }
 }
 
-fn is_choice(values: &ArgMatches<'_>) -> bool
-    ensures { result ≡ is_choice (rows_of (found_of values.now)) }
+fn is_choice_given(values: &ArgMatches<'_>) -> bool
+    ensures { result ≡ is_choice_given (rows_of (found_of values.now)) }
 {
-    is_given(values, "only") || is_given(values, "match") || is_given(values, "failed")
+    is_option_given(values, "only")
+        || is_option_given(values, "match")
+        || is_option_given(values, "failed")
 }

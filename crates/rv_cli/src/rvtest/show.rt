@@ -1,10 +1,10 @@
 //! The words of `show`.
 
 ghost use Rattle.clap.specs.Words.{found_of, rows_of};
-ghost use Rattle.rv_cli.specs.RvtestWords.{AsksFor, show_in};
+ghost use Rattle.rv_cli.specs.RvtestWords.{AsksFor, show_request};
 
-use crate::rvtest::asked::Asked;
-use crate::values::{flag, text};
+use crate::rvtest::requests::Asked;
+use crate::values::{is_flag_set, text_value};
 use clap::ArgMatches;
 
 /// A report that is to be shown.
@@ -19,12 +19,12 @@ pub struct ShowAsked<'a> {
 }
 
 /// What the values of `show` ask for.
-pub(crate) fn show_asked<'a>(values: &ArgMatches<'a>) -> Option<Asked<'a>>
-    ensures { AsksFor (show_in (rows_of (found_of values.now))) result }
+pub(crate) fn show_request<'a>(values: &ArgMatches<'a>) -> Option<Asked<'a>>
+    ensures { AsksFor (show_request (rows_of (found_of values.now))) result }
 {
-    let report = text(values, "report")?;
-    let junit = text(values, "junit");
-    let lenient = flag(values, "lenient");
+    let report = text_value(values, "report")?;
+    let junit = text_value(values, "junit");
+    let lenient = is_flag_set(values, "lenient");
     Some(Asked::Show(ShowAsked {
         report,
         junit,

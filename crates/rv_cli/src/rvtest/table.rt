@@ -2,7 +2,7 @@
 
 use crate::rvtest::arguments::{Argument, Bounds};
 use crate::rvtest::command::Subcommand;
-use rv_lists::limits::MOST_WORKERS;
+use rv_base::limits::MOST_WORKERS;
 
 /// The commands of `rvtest`, in the order in which help names them.
 pub(crate) const COMMANDS: [Subcommand<'static>; 6] = [RUN, EXPLAIN, CHECK, MERGE, DIFF, SHOW];

@@ -1,7 +1,7 @@
 //! Fleets of small jobs, and runs of a choice of them, behind a gate that shows which pieces were under way at the same
 //! time, is told of each, and may stop the run.
 ghost use Rattle.std.specs.List.Sorted.{IsStrictlyIncreasing};
-ghost use Rattle.rv_fleet.specs.Choices.{AreWithin};
+ghost use Rattle.rv_fleet.specs.Choices.{AreJobPlaces};
 
 use super::gate::NotingGate;
 use super::{chosen, crew_of, push_rows};
@@ -45,7 +45,7 @@ fn ran<R: Threads + Wait>(
     line: &str,
     gate: &NotingGate,
 ) -> Result<Rows, PlacesError>
-    requires within { AreWithin plan.now places.now }
+    requires within { AreJobPlaces plan.now places.now }
     requires rising { IsStrictlyIncreasing places.now }
 {
     let (workers, group) = crew_of(line);

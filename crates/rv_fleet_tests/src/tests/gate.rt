@@ -84,7 +84,7 @@ impl Gate for NotingGate {
         self.late.store(true, Ordering::SeqCst);
     }
 
-    fn made(&self, _piece: u64, rows: &Rows) -> bool {
+    fn on_piece_made(&self, _piece: u64, rows: &Rows) -> bool {
         self.rows
             .fetch_add(rows.as_slice().len() as u64, Ordering::SeqCst);
         self.pieces.fetch_add(1, Ordering::SeqCst).saturating_add(1) < self.last

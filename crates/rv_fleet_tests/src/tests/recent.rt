@@ -4,7 +4,7 @@ ghost use Rattle.std.specs.Prelude.{◌<◌, length};
 use super::{number_in, plan_in};
 use rv_fleet::{Outcome, RowEnd, Words};
 use rv_jobs::{Bytes, Plan};
-use rv_rows::{Recent, Spare, next_row};
+use rv_rows::{Recent, Spare, row_at_with_recent};
 use samples::cell_of;
 use std::alloc::{AllocError, Global};
 use std::test::Fail;
@@ -98,7 +98,7 @@ fn keeps_named(alloc: Global, plan: &Plan, place: usize) -> Result<bool, Fail>
     requires { place < length plan.now.jobs }
 {
     let mut recent = Recent::new(alloc);
-    next_row(alloc, plan, place, &mut Spare::new(), &mut recent)?;
+    row_at_with_recent(alloc, plan, place, &mut Spare::new(), &mut recent)?;
     Ok(recent.find(place.saturating_sub(1)).is_some())
 }
 

@@ -22,7 +22,7 @@ impl<'a> Telling for Names<'a> {
 
     ghost line = { λ _ _ row. if nat_lt row.steps 2 then [] else (row.name ++ (59 ∷ [])) };
 
-    fn push(
+    fn push_row_text(
         &self,
         _alloc: Global,
         _place: usize,

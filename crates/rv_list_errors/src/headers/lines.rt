@@ -3,7 +3,7 @@
 ghost use Rattle.std.specs.Prelude.{◌≡◌, ◌≤◌, ◌<◌, count_by, length};
 ghost use Rattle.std.specs.List.{All};
 ghost use Rattle.std.specs.List.Sorted.{IsNonDecreasing};
-ghost use Rattle.rv_list_errors.specs.Places.{is_feed, line_at, lines_in};
+ghost use Rattle.rv_list_errors.specs.Places.{is_feed, line_at, text_line_count};
 
 use std::alloc::{AllocError, Global};
 
@@ -34,20 +34,20 @@ impl<'a> Lines<'a> {
     }
 
     /// Notes the line of the place behind which so many bytes are left, or where the last one stands if that is behind it.
-    pub(crate) fn note(&mut self, left: usize) -> Result<(), AllocError>
+    pub(crate) fn note_line(&mut self, left: usize) -> Result<(), AllocError>
         ensures { self.new.text.now ≡ self.old.text.now }
     {
         let place = self.text.len().saturating_sub(left).max(self.counted);
-        let line = self.line + feeds(&self.text[self.counted..place]);
+        let line = self.line + line_feed_count(&self.text[self.counted..place]);
         self.counted = place;
         self.line = line;
         self.noted.push(line)?;
         Ok(())
     }
 
-    pub(crate) fn into_noted(self) -> Vec<usize>
+    pub(crate) fn into_line_numbers(self) -> Vec<usize>
         ensures rising { IsNonDecreasing result.items }
-        ensures within { All (λ line. (0 < line) × (line ≤ lines_in self.entry.text.now))
+        ensures within { All (λ line. (0 < line) × (line ≤ text_line_count self.entry.text.now))
             result.items }
     {
         self.noted
@@ -63,12 +63,12 @@ pub struct Place {
 }
 
 /// The place behind so many bytes of a text, or behind all of them.
-pub fn place_of(text: &[u8], count: usize) -> Place
+pub fn line_and_column(text: &[u8], count: usize) -> Place
     ensures { result.line ≡ line_at count text.now }
 {
     let before = &text[..count.min(text.len())];
     Place {
-        line: feeds(before) + 1,
+        line: line_feed_count(before) + 1,
         column: characters_of_last_line(before) + 1,
     }
 }
@@ -89,7 +89,7 @@ fn characters_of_last_line(text: &[u8]) -> usize
 }
 
 // How many line feeds a text has.
-fn feeds(text: &[u8]) -> usize
+fn line_feed_count(text: &[u8]) -> usize
     ensures { result ≡ count_by is_feed text.now }
 {
     let mut count = 0;

@@ -4,30 +4,30 @@ ghost use Rattle.std.specs.Prelude.{◌≡◌, ◌≤◌, ◌<◌, IfOk, length,
 ghost use Rattle.std.specs.List.{All};
 ghost use Rattle.std.specs.List.Sorted.{IsNonDecreasing};
 ghost use Rattle.toml_parser.specs.Lexical.{left_bracket};
-ghost use Rattle.rv_list_errors.specs.Places.{lines_in};
+ghost use Rattle.rv_list_errors.specs.Places.{text_line_count};
 
 use crate::headers::lines::Lines;
-use crate::headers::values::behind_value;
+use crate::headers::values::skip_value;
 use std::alloc::{AllocError, Global};
 use toml_parser::text::{byte_at, first, skip, skip_blank, skip_ws};
 use toml_parser::{ErrorKind, ParseError, dotted_key};
 
 /// The line, counted from 1, on which each job of a list begins: that of its header, or where the list is an array that of
 /// the element. A text that is no TOML is walked over up to where no header, entry or element stands.
-pub fn job_lines(alloc: Global, text: &str) -> Result<Vec<usize>, AllocError>
+pub fn job_line_numbers(alloc: Global, text: &str) -> Result<Vec<usize>, AllocError>
     ensures rising { IfOk result (λ lines. IsNonDecreasing lines.items) }
     ensures within { IfOk result (λ lines. All
-        (λ line. (0 < line) × (line ≤ lines_in text.now)) lines.items) }
+        (λ line. (0 < line) × (line ≤ text_line_count text.now)) lines.items) }
 {
     let mut lines = Lines::new(alloc, text);
-    match note_jobs(alloc, behind_mark(text), &mut lines) {
+    match note_job_lines(alloc, skip_byte_order_mark(text), &mut lines) {
         Err(ParseError::OutOfMemory) => Err(AllocError),
-        Ok(()) | Err(_) => Ok(lines.into_noted()),
+        Ok(()) | Err(_) => Ok(lines.into_line_numbers()),
     }
 }
 
 // The text behind a byte order mark, if it begins with one.
-fn behind_mark(text: &str) -> &str {
+fn skip_byte_order_mark(text: &str) -> &str {
     text.strip_prefix('\u{feff}').unwrap_or(text)
 }
 
@@ -49,15 +49,15 @@ struct Step<'a> {
     rest: &'a str,
 }
 
-fn note_jobs(alloc: Global, text: &str, lines: &mut Lines<'_>) -> Result<(), ParseError>
+fn note_job_lines(alloc: Global, text: &str, lines: &mut Lines<'_>) -> Result<(), ParseError>
     ensures { lines.new.text.now ≡ lines.old.text.now }
 {
     let mut here = skip_blank(text, true);
     let mut what = Next::Top;
     'steps: while !here.is_empty() {
-        let Step { is_job, next, rest } = step_over(alloc, here, what)?;
+        let Step { is_job, next, rest } = scan_step(alloc, here, what)?;
         if is_job {
-            lines.note(here.len())?;
+            lines.note_line(here.len())?;
         }
         what = next;
         here = rest;
@@ -65,36 +65,36 @@ fn note_jobs(alloc: Global, text: &str, lines: &mut Lines<'_>) -> Result<(), Par
     Ok(())
 }
 
-fn step_over(alloc: Global, text: &str, next: Next) -> Result<Step<'_>, ParseError>
+fn scan_step(alloc: Global, text: &str, next: Next) -> Result<Step<'_>, ParseError>
     ensures { IfOk result (λ step. length step.rest.now < length text.now) }
 {
     match next {
-        Next::Element => over_element(alloc, text),
-        _ if first(text) == b'[' => over_header(alloc, text),
-        _ => over_entry(alloc, text, next),
+        Next::Element => scan_element(alloc, text),
+        _ if first(text) == b'[' => scan_header(alloc, text),
+        _ => scan_entry(alloc, text, next),
     }
 }
 
 // At an element, or at the bracket behind the last one.
-fn over_element(alloc: Global, text: &str) -> Result<Step<'_>, ParseError>
+fn scan_element(alloc: Global, text: &str) -> Result<Step<'_>, ParseError>
     ensures { IfOk result (λ step. length step.rest.now < length text.now) }
 {
     if first(text) == b']' {
         return Ok(Step {
             is_job: false,
             next: Next::Top,
-            rest: behind_line(skip(text, 1)),
+            rest: skip_line_end(skip(text, 1)),
         });
     }
-    let rest = behind_value(alloc, text)?;
+    let rest = skip_value(alloc, text)?;
     Ok(Step {
         is_job: true,
         next: Next::Element,
-        rest: behind_comma(rest),
+        rest: skip_comma(rest),
     })
 }
 
-fn over_header(alloc: Global, text: &str) -> Result<Step<'_>, ParseError>
+fn scan_header(alloc: Global, text: &str) -> Result<Step<'_>, ParseError>
     requires { slice_index text.now 0 ≡ left_bracket }
     ensures { IfOk result (λ step. length step.rest.now < length text.now) }
 {
@@ -103,12 +103,12 @@ fn over_header(alloc: Global, text: &str) -> Result<Step<'_>, ParseError>
     } else {
         (Header::Table, skip(text, 1))
     };
-    let (is_job, rest) = behind_key(alloc, skip_ws(inside))?;
-    let rest = behind_closing(rest, header)?;
+    let (is_job, rest) = scan_key(alloc, skip_ws(inside))?;
+    let rest = skip_closing_brackets(rest, header)?;
     Ok(Step {
         is_job: is_job && matches!(header, Header::Element),
         next: Next::Table,
-        rest: behind_line(rest),
+        rest: skip_line_end(rest),
     })
 }
 
@@ -122,7 +122,7 @@ enum Header {
 }
 
 // The text behind the brackets that close a header.
-fn behind_closing(text: &str, header: Header) -> Result<&str, ParseError>
+fn skip_closing_brackets(text: &str, header: Header) -> Result<&str, ParseError>
     ensures { IfOk result (λ rest. length rest.now < length text.now) }
 {
     match header {
@@ -133,11 +133,11 @@ fn behind_closing(text: &str, header: Header) -> Result<&str, ParseError>
 }
 
 // At the top, an array of `job` is the list: its elements come next.
-fn over_entry(alloc: Global, text: &str, next: Next) -> Result<Step<'_>, ParseError>
+fn scan_entry(alloc: Global, text: &str, next: Next) -> Result<Step<'_>, ParseError>
     ensures { IfOk result (λ step. length step.rest.now < length text.now) }
 {
-    let (is_job, rest) = behind_key(alloc, text)?;
-    let value = behind_equals(rest);
+    let (is_job, rest) = scan_key(alloc, text)?;
+    let value = skip_equals_sign(rest);
     if is_job && matches!(next, Next::Top) && first(value) == b'[' {
         return Ok(Step {
             is_job: false,
@@ -145,16 +145,16 @@ fn over_entry(alloc: Global, text: &str, next: Next) -> Result<Step<'_>, ParseEr
             rest: skip_blank(skip(value, 1), true),
         });
     }
-    let rest = behind_value(alloc, value)?;
+    let rest = skip_value(alloc, value)?;
     Ok(Step {
         is_job: false,
         next,
-        rest: behind_line(rest),
+        rest: skip_line_end(rest),
     })
 }
 
 // The value of an entry; nothing where no sign parts it from the key.
-fn behind_equals(text: &str) -> &str
+fn skip_equals_sign(text: &str) -> &str
     ensures { length result.now ≤ length text.now }
 {
     if first(text) == b'=' {
@@ -165,7 +165,7 @@ fn behind_equals(text: &str) -> &str
 }
 
 // The next element, or the bracket behind the last one.
-fn behind_comma(text: &str) -> &str
+fn skip_comma(text: &str) -> &str
     ensures { length result.now ≤ length text.now }
 {
     let rest = skip_blank(text, true);
@@ -177,7 +177,7 @@ fn behind_comma(text: &str) -> &str
 }
 
 // The next header or entry; nothing where the line does not end with a comment or nothing more.
-fn behind_line(text: &str) -> &str
+fn skip_line_end(text: &str) -> &str
     ensures { length result.now ≤ length text.now }
 {
     let end = skip_ws(text);
@@ -189,7 +189,7 @@ fn behind_line(text: &str) -> &str
 }
 
 // Whether a key is `job`, and the text behind it. The key itself ends here, so that it is alive at no other way out.
-fn behind_key(alloc: Global, text: &str) -> Result<(bool, &str), ParseError>
+fn scan_key(alloc: Global, text: &str) -> Result<(bool, &str), ParseError>
     ensures { IfOk result (λ found. length found.1.now < length text.now) }
 {
     let (key, rest) = dotted_key(alloc, text)?;

@@ -8,25 +8,25 @@ use toml_parser::text::{byte_at, first, skip, skip_blank};
 use toml_parser::{ErrorKind, ParseError, quoted, starts_string};
 
 /// The text behind a value.
-pub(crate) fn behind_value(alloc: Global, text: &str) -> Result<&str, ParseError>
+pub(crate) fn skip_value(alloc: Global, text: &str) -> Result<&str, ParseError>
     ensures { IfOk result (λ rest. length rest.now < length text.now) }
 {
     if matches!(first(text), b'[' | b'{') {
-        behind_brackets(alloc, text)
+        skip_brackets(alloc, text)
     } else {
-        behind_plain(alloc, text)
+        skip_string_or_word(alloc, text)
     }
 }
 
 // The text behind an array or an inline table: behind the bracket that leaves none open.
-fn behind_brackets(alloc: Global, text: &str) -> Result<&str, ParseError>
+fn skip_brackets(alloc: Global, text: &str) -> Result<&str, ParseError>
     ensures { IfOk result (λ rest. length rest.now < length text.now) }
 {
     let mut rest = text;
     let mut depth = 0usize;
     'tokens: loop {
-        depth = depth_behind(depth, first(rest));
-        rest = behind_token(alloc, rest)?;
+        depth = bracket_depth_after(depth, first(rest));
+        rest = skip_token(alloc, rest)?;
         if depth == 0 {
             return Ok(rest);
         }
@@ -35,7 +35,7 @@ fn behind_brackets(alloc: Global, text: &str) -> Result<&str, ParseError>
 }
 
 // How many brackets are open behind a byte.
-fn depth_behind(depth: usize, byte: u8) -> usize {
+fn bracket_depth_after(depth: usize, byte: u8) -> usize {
     match byte {
         b'[' | b'{' => depth.saturating_add(1),
         b']' | b'}' => depth.saturating_sub(1),
@@ -44,34 +44,34 @@ fn depth_behind(depth: usize, byte: u8) -> usize {
 }
 
 // The text behind a sign, a string or a word.
-fn behind_token(alloc: Global, text: &str) -> Result<&str, ParseError>
+fn skip_token(alloc: Global, text: &str) -> Result<&str, ParseError>
     ensures { IfOk result (λ rest. length rest.now < length text.now) }
 {
     if matches!(first(text), b'[' | b']' | b'{' | b'}' | b',' | b'=') {
         Ok(skip(text, 1))
     } else {
-        behind_plain(alloc, text)
+        skip_string_or_word(alloc, text)
     }
 }
 
 // The text behind a string or a word.
-fn behind_plain(alloc: Global, text: &str) -> Result<&str, ParseError>
+fn skip_string_or_word(alloc: Global, text: &str) -> Result<&str, ParseError>
     ensures { IfOk result (λ rest. length rest.now < length text.now) }
 {
     if starts_string(text) {
         let (_, rest) = quoted(alloc, text)?;
         Ok(rest)
     } else {
-        behind_word(text)
+        skip_word(text)
     }
 }
 
 // The text behind a key without quotes, or a value that is no text.
-fn behind_word(text: &str) -> Result<&str, ParseError>
+fn skip_word(text: &str) -> Result<&str, ParseError>
     ensures { IfOk result (λ rest. length rest.now < length text.now) }
 {
     let mut rest = text;
-    'letters: while starts_word(rest) {
+    'letters: while is_in_word(rest) {
         rest = skip(rest, 1);
     }
     if rest.len() == text.len() {
@@ -81,7 +81,7 @@ fn behind_word(text: &str) -> Result<&str, ParseError>
 }
 
 // Whether a word begins or goes on: in that of a date and a time a space may part the two.
-fn starts_word(text: &str) -> bool
+fn is_in_word(text: &str) -> bool
     ensures some { IsTrue result → 0 < slice_index text.now 0 }
     ensures ascii { IsTrue result → slice_index text.now 0 < 128 }
 {

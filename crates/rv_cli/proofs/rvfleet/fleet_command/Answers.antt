@@ -5,5 +5,5 @@ pub returns : goal.returns
 returns c =
     let top = its_app _ _ c.top_command.ensures in
     let first = c.with_command-command.ensures _ _ top c.raw_command.ensures in
-    let second = c.with_command-command-2.ensures _ _ first c.one_command.ensures in
+    let second = c.with_command-command-2.ensures _ _ first c.one_image_command.ensures in
     c.with_command.ensures _ _ second c.run_command.ensures

@@ -1,7 +1,7 @@
 use Rattle.std.proofs.Common.{◌∙◌, ◌+◌, ◌++◌, length}
 use Rattle.std.specs.List.{flat_map}
 use Rattle.rv_diff.specs.ByName.{row_named}
-use Rattle.rv_diff.specs.Diff.{count_line, diff_text, differing, gone_line, lines_of_new}
+use Rattle.rv_diff.specs.Diff.{count_line, diff_text, counts_of_differing, gone_line, changes_of_row}
 use Rattle.rv_diff.proofs.OneMore.{more}
 use Rattle.rv_diff.proofs.diff.push_diff.Goals as goal
 
@@ -13,17 +13,17 @@ returns-clause-text c =
     let new = c.args.new.now in
     let compare = c.args.compare in
     let gone = flat_map (λ row. gone_line (row_named new row.name) row) old in
-    let others = flat_map (λ row. lines_of_new compare (row_named old row.name) row) new in
-    let counts = differing compare old new in
+    let others = flat_map (λ row. changes_of_row compare (row_named old row.name) row) new in
+    let counts = counts_of_differing compare old new in
     let counted = c.in_ok-gone.ensures.count in
     let added = c.in_ok-added.ensures.added in
     let changed = c.in_ok-added.ensures.changed in
-    more begun c.push_new.new.text.items c.push_count_line.new.text.items (gone ++ others)
+    more begun c.push_added_and_changed.new.text.items c.push_count_line.new.text.items (gone ++ others)
     (count_line (length new + counts.gone) counts)
-    (more begun c.push_gone.new.text.items c.push_new.new.text.items gone others c.in_ok-gone.ensures.text
+    (more begun c.push_gone_lines.new.text.items c.push_added_and_changed.new.text.items gone others c.in_ok-gone.ensures.text
     c.in_ok-added.ensures.text)
     (c.in_ok-push_count_line.ensures
-    ∙ (λ i. c.push_new.new.text.items
+    ∙ (λ i. c.push_added_and_changed.new.text.items
     ++ count_line (length new + counted i) (record { gone = counted i; added = added i; changed = changed i })))
 
 pub returns-clause-counts : goal.returns-clause-counts

@@ -1,5 +1,5 @@
 use Rattle.std.proofs.Common.{◌++◌, ℕ, List}
-use Rattle.rv_rows.specs.Verdict.{same_signature}
+use Rattle.rv_rows.specs.Verdict.{are_same_signatures}
 use Rattle.rv_diff.specs.Change.{same_console, same_ending, same_steps, same_verdict}
 use Rattle.rv_diff.specs.Differences.{becomes, change_line, change_lines, console_words, ending_words}
 use Rattle.rv_diff.specs.Differences.{signature_words, steps_words, verdict_words}
@@ -16,7 +16,7 @@ returns c =
     (becomes (ending_words old.ending) (ending_words new.ending)) in
     let counts : List ℕ = change_line new.name (same_steps compare old new) (steps_words old.steps new.steps) in
     let console : List ℕ = change_line new.name (same_console old new) (console_words old.console new.console) in
-    let signature : List ℕ = change_line new.name (same_signature old.signature new.signature)
+    let signature : List ℕ = change_line new.name (are_same_signatures old.signature new.signature)
     (signature_words old.signature new.signature) in
     let verdict : List ℕ = change_line new.name (same_verdict old.verdict new.verdict)
     (verdict_words old.verdict new.verdict) in

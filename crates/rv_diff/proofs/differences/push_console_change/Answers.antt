@@ -1,8 +1,8 @@
 use Rattle.std.proofs.Common.{◌≡◌, ◌∙◌, ap, codes, drop, false, sym, Some}
 use Rattle.std.specs.Fmt.{decimal}
 use Rattle.rv_diff.specs.Change.{same_console}
-use Rattle.rv_text.specs.Shown.{shown_value}
-use Rattle.rv_diff.specs.Differences.{console_words, first_place}
+use Rattle.rv_text.specs.Printable.{printable_value}
+use Rattle.rv_diff.specs.Differences.{console_words, first_differing_place}
 use Rattle.rv_diff.proofs.Told.{byte_told, told}
 use Rattle.rv_diff.proofs.differences.push_console_change.Goals as goal
 
@@ -11,17 +11,17 @@ unfolding console_words
 returns-in-Some c =
     let place = c.in-Some.place in
     let differ : same_console c.args.old.now c.args.new.now ≡ false = sym c.same_console.ensures ∙ c.if-same_console.false in
-    let first : first_place c.args.old.now.console c.args.new.now.console ≡ Some place =
-    (λ i. first_place (sym c.as_slice-before.ensures i) (sym c.as_slice-after.ensures i))
-    ∙ sym c.first_byte.ensures ∙ c.in-Some.is in
+    let first : first_differing_place c.args.old.now.console c.args.new.now.console ≡ Some place =
+    (λ i. first_differing_place (sym c.as_slice-before.ensures i) (sym c.as_slice-after.ensures i))
+    ∙ sym c.first_differing_byte.ensures ∙ c.in-Some.is in
     rw (
       differ,
       first,
-      ← (c.behind.ensures ∙ ap (drop place) c.as_slice-before.ensures),
-      ← (c.behind-in-Some.ensures ∙ ap (drop place) c.as_slice-after.ensures),
+      ← (c.tail_from.ensures ∙ ap (drop place) c.as_slice-before.ensures),
+      ← (c.tail_from-in-Some.ensures ∙ ap (drop place) c.as_slice-after.ensures),
       ← c.as_str.ensures,
     )
     (told c.push_spans.result c.args.text.now.items c.push_spans.new.bytes.items _ _
     (byte_told (codes "! ") c.as_str.result.now (codes ": ") (codes "console ") (codes "byte ")
-    (decimal place) (codes "\"") (shown_value c.behind.result.now) (codes " -> ")
-    (shown_value c.behind-in-Some.result.now) (codes "\n")) c.push_spans.ensures)
+    (decimal place) (codes "\"") (printable_value c.tail_from.result.now) (codes " -> ")
+    (printable_value c.tail_from-in-Some.result.now) (codes "\n")) c.push_spans.ensures)

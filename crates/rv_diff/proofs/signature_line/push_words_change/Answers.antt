@@ -6,15 +6,15 @@ use Rattle.rv_diff.proofs.signature_line.push_words_change.Goals as goal
 
 pub returns-in-Some : goal.returns-in-Some
 returns-in-Some c =
-    rw (sym c.first_word.ensures ∙ c.in-Some.is, ← c.word_at.ensures, ← c.word_at-in-Some.ensures)
+    rw (sym c.first_differing_word.ensures ∙ c.in-Some.is, ← c.word_or_zero.ensures, ← c.word_or_zero-in-Some.ensures)
     (told c.push_spans.result c.args.text.now.items c.push_spans.new.bytes.items _ _
     (word_told (codes "! ") c.args.name.now (codes ": ") (codes "signature ") (codes "word ")
-    (decimal c.in-Some.place) (word_digits c.word_at.result) (codes " -> ") (word_digits c.word_at-in-Some.result)
+    (decimal c.in-Some.place) (word_digits c.word_or_zero.result) (codes " -> ") (word_digits c.word_or_zero-in-Some.result)
     (codes "\n")) c.push_spans.ensures)
 
 pub returns-in-None : goal.returns-in-None
 returns-in-None c =
-    rw (sym c.first_word.ensures ∙ c.in-None.is)
+    rw (sym c.first_differing_word.ensures ∙ c.in-None.is)
     (told c.push_spans-in-None.result c.args.text.now.items c.push_spans-in-None.new.bytes.items _ _
     (counts_told (codes "! ") c.args.name.now (codes ": ") (codes "signature ")
     (decimal (length c.args.old.now)) (codes " ") (codes "words") (codes " -> ") (decimal (length c.args.new.now))

@@ -18,14 +18,14 @@ pub returns-then-has_bad_version-clause-value : goal.returns-then-has_bad_versio
 unfolding header_check
 returns-then-has_bad_version-clause-value c = search rules
 
-pub returns-then-half-ne-ET_EXEC-clause-value : goal.returns-then-half-ne-ET_EXEC-clause-value
+pub returns-then-half_field-ne-ET_EXEC-clause-value : goal.returns-then-half_field-ne-ET_EXEC-clause-value
 unfolding header_check
-returns-then-half-ne-ET_EXEC-clause-value c = search rules
+returns-then-half_field-ne-ET_EXEC-clause-value c = search rules
 
-pub returns-then-half-ne-EM_RISCV-clause-value : goal.returns-then-half-ne-EM_RISCV-clause-value
+pub returns-then-half_field-ne-EM_RISCV-clause-value : goal.returns-then-half_field-ne-EM_RISCV-clause-value
 unfolding header_check
-returns-then-half-ne-EM_RISCV-clause-value c = search rules
+returns-then-half_field-ne-EM_RISCV-clause-value c = search rules
 
-pub returns-then-has_bad_table-clause-value : goal.returns-then-has_bad_table-clause-value
+pub returns-then-has_bad_program_table-clause-value : goal.returns-then-has_bad_program_table-clause-value
 unfolding header_check
-returns-then-has_bad_table-clause-value c = search rules
+returns-then-has_bad_program_table-clause-value c = search rules

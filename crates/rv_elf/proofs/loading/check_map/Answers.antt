@@ -1,8 +1,8 @@
 use Rattle.std.proofs.Common.{◌∙◌, ap, sym}
-use Rattle.rv_elf.specs.Loading.{any_share}
+use Rattle.rv_elf.specs.Loading.{any_segments_overlap}
 use Rattle.rv_elf.proofs.Sharing.{at_most_one}
 use Rattle.rv_elf.proofs.loading.check_map.Goals as goal
 
 pub returns-clause-once : goal.returns-clause-once
 returns-clause-once c = λ a. at_most_one c.args.at a c.args.image.now.segments
-    (ap (any_share c.args.at) (sym c.as_slice-segments.ensures) ∙ sym c.any_share.ensures ∙ c.if-any_share.false)
+    (ap (any_segments_overlap c.args.at) (sym c.as_slice-segments.ensures) ∙ sym c.any_segments_overlap.ensures ∙ c.if-any_segments_overlap.false)

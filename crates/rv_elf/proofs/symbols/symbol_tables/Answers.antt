@@ -3,58 +3,58 @@ use Rattle.rv_elf.proofs.Naming.{sections_there, no_section_table, no_symbol_tab
 use Rattle.rv_elf.proofs.Naming.{no_string_table, past_string_table, tables_good, tables_found}
 use Rattle.rv_elf.proofs.symbols.symbol_tables.Goals as goal
 
-pub returns-then-has_bad_sections-clause-checked : goal.returns-then-has_bad_sections-clause-checked
-returns-then-has_bad_sections-clause-checked c =
-    no_section_table c.args.file.now (sym c.has_bad_sections.ensures ∙ c.if-has_bad_sections.true)
+pub returns-then-has_bad_section_table-clause-checked : goal.returns-then-has_bad_section_table-clause-checked
+returns-then-has_bad_section_table-clause-checked c =
+    no_section_table c.args.file.now (sym c.has_bad_section_table.ensures ∙ c.if-has_bad_section_table.true)
 
 pub symbol_table-requires : goal.symbol_table-requires
 symbol_table-requires c = sections_there c.args.file.now
     c.requires
-    (sym c.has_bad_sections.ensures ∙ c.if-has_bad_sections.false)
+    (sym c.has_bad_section_table.ensures ∙ c.if-has_bad_section_table.false)
 
 pub string_table-requires : goal.string_table-requires
 string_table-requires c = sections_there c.args.file.now
     c.requires
-    (sym c.has_bad_sections.ensures ∙ c.if-has_bad_sections.false)
+    (sym c.has_bad_section_table.ensures ∙ c.if-has_bad_section_table.false)
 
 pub returns-in_default-clause-checked : goal.returns-in_default-clause-checked
 returns-in_default-clause-checked c =
-    no_symbol_table c.args.file.now (sym c.has_bad_sections.ensures ∙ c.if-has_bad_sections.false)
+    no_symbol_table c.args.file.now (sym c.has_bad_section_table.ensures ∙ c.if-has_bad_section_table.false)
     (sym c.in_default.ensures)
 
-pub returns-then-is_bad_symbols-clause-checked : goal.returns-then-is_bad_symbols-clause-checked
-returns-then-is_bad_symbols-clause-checked c =
+pub returns-then-is_bad_symbol_table-clause-checked : goal.returns-then-is_bad_symbol_table-clause-checked
+returns-then-is_bad_symbol_table-clause-checked c =
     bad_symbol_table c.args.file.now
-    (sym c.has_bad_sections.ensures ∙ c.if-has_bad_sections.false) c.in-Some.symbols (sym c.in-Some.ensures)
-    (sym c.is_bad_symbols.ensures ∙ c.if-is_bad_symbols.true)
+    (sym c.has_bad_section_table.ensures ∙ c.if-has_bad_section_table.false) c.in-Some.symbols (sym c.in-Some.ensures)
+    (sym c.is_bad_symbol_table.ensures ∙ c.if-is_bad_symbol_table.true)
 
 pub returns-in_default-string_table-clause-checked : goal.returns-in_default-string_table-clause-checked
 returns-in_default-string_table-clause-checked c =
     no_string_table c.args.file.now
-    (sym c.has_bad_sections.ensures ∙ c.if-has_bad_sections.false) c.in-Some.symbols (sym c.in-Some.ensures)
-    (sym c.is_bad_symbols.ensures ∙ c.if-is_bad_symbols.false)
+    (sym c.has_bad_section_table.ensures ∙ c.if-has_bad_section_table.false) c.in-Some.symbols (sym c.in-Some.ensures)
+    (sym c.is_bad_symbol_table.ensures ∙ c.if-is_bad_symbol_table.false)
     (sym c.in_default-string_table.ensures)
 
-pub returns-then-is_bad_strings-clause-checked : goal.returns-then-is_bad_strings-clause-checked
-returns-then-is_bad_strings-clause-checked c =
+pub returns-then-is_bad_string_table-clause-checked : goal.returns-then-is_bad_string_table-clause-checked
+returns-then-is_bad_string_table-clause-checked c =
     past_string_table c.args.file.now
-    (sym c.has_bad_sections.ensures ∙ c.if-has_bad_sections.false) c.in-Some.symbols (sym c.in-Some.ensures)
-    (sym c.is_bad_symbols.ensures ∙ c.if-is_bad_symbols.false)
+    (sym c.has_bad_section_table.ensures ∙ c.if-has_bad_section_table.false) c.in-Some.symbols (sym c.in-Some.ensures)
+    (sym c.is_bad_symbol_table.ensures ∙ c.if-is_bad_symbol_table.false)
     c.in-Some-string_table.strings (sym c.in-Some-string_table.ensures)
-    (sym c.is_bad_strings.ensures ∙ c.if-is_bad_strings.true)
+    (sym c.is_bad_string_table.ensures ∙ c.if-is_bad_string_table.true)
 
 pub returns-clause-checked : goal.returns-clause-checked
 returns-clause-checked c =
     tables_good c.args.file.now
-    (sym c.has_bad_sections.ensures ∙ c.if-has_bad_sections.false) c.in-Some.symbols (sym c.in-Some.ensures)
-    (sym c.is_bad_symbols.ensures ∙ c.if-is_bad_symbols.false)
+    (sym c.has_bad_section_table.ensures ∙ c.if-has_bad_section_table.false) c.in-Some.symbols (sym c.in-Some.ensures)
+    (sym c.is_bad_symbol_table.ensures ∙ c.if-is_bad_symbol_table.false)
     c.in-Some-string_table.strings (sym c.in-Some-string_table.ensures)
-    (sym c.is_bad_strings.ensures ∙ c.if-is_bad_strings.false)
+    (sym c.is_bad_string_table.ensures ∙ c.if-is_bad_string_table.false)
 
 pub returns-clause-there : goal.returns-clause-there
 returns-clause-there c =
     tables_found c.args.file.now
-    (sym c.has_bad_sections.ensures ∙ c.if-has_bad_sections.false) c.in-Some.symbols (sym c.in-Some.ensures)
-    (sym c.is_bad_symbols.ensures ∙ c.if-is_bad_symbols.false)
+    (sym c.has_bad_section_table.ensures ∙ c.if-has_bad_section_table.false) c.in-Some.symbols (sym c.in-Some.ensures)
+    (sym c.is_bad_symbol_table.ensures ∙ c.if-is_bad_symbol_table.false)
     c.in-Some-string_table.strings (sym c.in-Some-string_table.ensures)
-    _ _ c.bytes_in.ensures c.bytes_in-2.ensures
+    _ _ c.section_bytes.ensures c.section_bytes-2.ensures

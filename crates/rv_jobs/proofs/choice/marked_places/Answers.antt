@@ -1,7 +1,7 @@
 use Rattle.std.proofs.Common.{◌≡◌, ◌∙◌, ◌∷◌, ◌++◌, [], ℕ, Vec, Global, ap, sym, subst, arith, ◌<◌, length}
 use Rattle.std.specs.List.{All}
 use Rattle.std.specs.List.Sorted.{IsStrictlyIncreasing}
-use Rattle.rv_jobs.specs.Choices.{marked}
+use Rattle.rv_jobs.specs.Choices.{marked_places}
 use Rattle.rv_jobs.proofs.Choosing.{one_marked, none_marked, marked_within, marked_rising}
 use Rattle.rv_jobs.proofs.choice.marked_places.Goals.{then-marks-place+in_ok-push, else-marks-place}
 use Rattle.rv_jobs.proofs.choice.marked_places.Goals as goal
@@ -23,7 +23,7 @@ pub returns-clause-within : goal.returns-clause-within
 returns-clause-within c =
     let last : c.loop-place.place ≡ length c.args.marks.now = omega arith in
     subst (All (λ place. place < length c.args.marks.now))
-    (sym (c.loop-place.invariant ∙ ap (marked c.args.marks.now) last))
+    (sym (c.loop-place.invariant ∙ ap (marked_places c.args.marks.now) last))
     (marked_within c.args.marks.now (length c.args.marks.now))
 
 pub returns-clause-rising : goal.returns-clause-rising

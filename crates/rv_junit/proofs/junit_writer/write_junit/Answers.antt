@@ -1,25 +1,25 @@
 use Rattle.std.proofs.Common.{◌∙◌, ◌++◌, ap}
 use Rattle.std.proofs.lemmas.Result.{err_from_is_err_and}
 use Rattle.rv_base.proofs.Public.{beginning_of_longer, ended_under_way, failed_under_way, stopped_under_way}
-use Rattle.rv_junit.specs.Junit.{begin_text, end_text}
+use Rattle.rv_junit.specs.Junit.{suite_begin_text, suite_end_text}
 use Rattle.rv_junit.proofs.Cases.{junit_begun, nothing_out}
 use Rattle.rv_junit.proofs.junit_writer.write_junit.Goals as goal
 
-pub returns-in_err-push_begin-clause-part : goal.returns-in_err-push_begin-clause-part
-returns-in_err-push_begin-clause-part g c =
+pub returns-in_err-push_suite_begin-clause-part : goal.returns-in_err-push_suite_begin-clause-part
+returns-in_err-push_suite_begin-clause-part g c =
     let error = err_from_is_err_and c.from_residual.result c.from_residual.ensures.1 in
     rw error.1 (nothing_out _ _)
 
-pub returns-in_err-put_told-clause-part : goal.returns-in_err-put_told-clause-part
-returns-in_err-put_told-clause-part g c =
+pub returns-in_err-put_row_texts-clause-part : goal.returns-in_err-put_row_texts-clause-part
+returns-in_err-put_row_texts-clause-part g c =
     let class = c.args.suite.now.name.now in
     let rule = c.args.suite.now.rule in
     let rows = c.args.rows.now.rows.now in
-    let begun = ap (λ v. v.items) c.into_bytes-text.ensures.value ∙ c.in_ok-push_begin.ensures
-    ∙ ap (λ xs. xs ++ begin_text class rule rows) c.new-begin.ensures.bytes in
-    let error = err_from_is_err_and c.from_residual-in_err-put_told.result
-    c.from_residual-in_err-put_told.ensures.1 in
-    rw error.1 (beginning_of_longer _ _ _ end_text _ c.in_err-put_told.ensures.part
+    let begun = ap (λ v. v.items) c.into_bytes-text.ensures.value ∙ c.in_ok-push_suite_begin.ensures
+    ∙ ap (λ xs. xs ++ suite_begin_text class rule rows) c.new-begin.ensures.bytes in
+    let error = err_from_is_err_and c.from_residual-in_err-put_row_texts.result
+    c.from_residual-in_err-put_row_texts.ensures.1 in
+    rw error.1 (beginning_of_longer _ _ _ suite_end_text _ c.in_err-put_row_texts.ensures.part
     (junit_begun class rule (g.T.Telling.line c.args.telling.now) c.args.rows.now.places.now rows
     c.into_bytes-text.result.items begun))
 
@@ -28,11 +28,11 @@ returns-in_err-push_text-clause-part g c =
     let class = c.args.suite.now.name.now in
     let rule = c.args.suite.now.rule in
     let rows = c.args.rows.now.rows.now in
-    let begun = ap (λ v. v.items) c.into_bytes-text.ensures.value ∙ c.in_ok-push_begin.ensures
-    ∙ ap (λ xs. xs ++ begin_text class rule rows) c.new-begin.ensures.bytes in
+    let begun = ap (λ v. v.items) c.into_bytes-text.ensures.value ∙ c.in_ok-push_suite_begin.ensures
+    ∙ ap (λ xs. xs ++ suite_begin_text class rule rows) c.new-begin.ensures.bytes in
     let error = err_from_is_err_and c.from_residual-in_err-push_text.result
     c.from_residual-in_err-push_text.ensures.1 in
-    rw error.1 (stopped_under_way _ _ _ _ end_text _ c.in_ok-put_told.ensures.under_way
+    rw error.1 (stopped_under_way _ _ _ _ suite_end_text _ c.in_ok-put_row_texts.ensures.under_way
     (junit_begun class rule (g.T.Telling.line c.args.telling.now) c.args.rows.now.places.now rows
     c.into_bytes-text.result.items begun))
 
@@ -41,11 +41,11 @@ returns-in_err-put_all-clause-part g c =
     let class = c.args.suite.now.name.now in
     let rule = c.args.suite.now.rule in
     let rows = c.args.rows.now.rows.now in
-    let begun = ap (λ v. v.items) c.into_bytes-text.ensures.value ∙ c.in_ok-push_begin.ensures
-    ∙ ap (λ xs. xs ++ begin_text class rule rows) c.new-begin.ensures.bytes in
+    let begun = ap (λ v. v.items) c.into_bytes-text.ensures.value ∙ c.in_ok-push_suite_begin.ensures
+    ∙ ap (λ xs. xs ++ suite_begin_text class rule rows) c.new-begin.ensures.bytes in
     let error = err_from_is_err_and c.from_residual-in_err-put_all.result
     c.from_residual-in_err-put_all.ensures.1 in
-    rw error.1 (failed_under_way _ _ _ _ end_text _ _ _ c.in_ok-put_told.ensures.under_way
+    rw error.1 (failed_under_way _ _ _ _ suite_end_text _ _ _ c.in_ok-put_row_texts.ensures.under_way
     c.in_ok-push_text.ensures (rw c.as_slice.ensures.value at c.in_err-put_all.ensures.part)
     (junit_begun class rule (g.T.Telling.line c.args.telling.now) c.args.rows.now.places.now rows
     c.into_bytes-text.result.items begun))
@@ -55,9 +55,9 @@ returns-clause-appended g c =
     let class = c.args.suite.now.name.now in
     let rule = c.args.suite.now.rule in
     let rows = c.args.rows.now.rows.now in
-    let begun = ap (λ v. v.items) c.into_bytes-text.ensures.value ∙ c.in_ok-push_begin.ensures
-    ∙ ap (λ xs. xs ++ begin_text class rule rows) c.new-begin.ensures.bytes in
+    let begun = ap (λ v. v.items) c.into_bytes-text.ensures.value ∙ c.in_ok-push_suite_begin.ensures
+    ∙ ap (λ xs. xs ++ suite_begin_text class rule rows) c.new-begin.ensures.bytes in
     rw (junit_begun class rule (g.T.Telling.line c.args.telling.now) c.args.rows.now.places.now rows
     c.into_bytes-text.result.items begun)
-    (ended_under_way _ _ _ _ end_text _ _ c.in_ok-put_told.ensures.under_way
+    (ended_under_way _ _ _ _ suite_end_text _ _ c.in_ok-put_row_texts.ensures.under_way
     c.in_ok-push_text.ensures (rw c.as_slice.ensures.value at c.in_ok-put_all.ensures.appended))

@@ -1,4 +1,4 @@
-use Rattle.rv_lists.specs.ListFaults.{faults_in, list_faults}
+use Rattle.rv_lists.specs.ListFaults.{faults_of_document, list_faults}
 use Rattle.rv_lists.proofs.Steps.{read_document, refused_document}
 use Rattle.rv_lists.proofs.all_faults.read_faults.Goals as goal
 
@@ -8,7 +8,7 @@ returns-in-Ok c =
     rw (read_document c.args.bytes.now _ c.in-Ok.ensures.ok.0 c.in-Ok.ensures.ok.1) c.faults_of_table.ensures
 
 pub returns-else-is_memory : goal.returns-else-is_memory
-unfolding faults_in list_faults
+unfolding faults_of_document list_faults
 returns-else-is_memory c = rw
     (refused_document c.args.bytes.now (c.in-Err.ensures.refused (λ m. cc (c.if-is_memory.ensures.1 m))))
-    c.one_fault.ensures
+    c.single_list_fault.ensures

@@ -3,31 +3,31 @@ use Rattle.std.proofs.Common.{sym, arith, subst}
 use Rattle.std.proofs.lemmas.Bool.{eqb-true, false≢true}
 use Rattle.std.proofs.lemmas.List.{nil_from_length}
 use Rattle.rv_merge.specs.declared.error.MergeError.TheVariants as error
-use Rattle.rv_merge.specs.GatheredInside.{HoldsIn}
-use Rattle.rv_merge.specs.declared.gathered.Gathered.{Gathered}
-use Rattle.rv_merge.specs.Parts.{AreParts, bytes_of}
+use Rattle.rv_merge.specs.GatheredParts.{HoldsIn}
+use Rattle.rv_merge.specs.declared.gathered_parts.Gathered.{Gathered}
+use Rattle.rv_merge.specs.Parts.{AreParts, bytes_of_texts}
 use Rattle.rv_merge.specs.Refusals.{IsRefused}
-use Rattle.rv_merge.proofs.Ends.{found_in, refused_in, sources_some}
+use Rattle.rv_merge.proofs.Ends.{found_in, refused_job_count, sources_some}
 use Rattle.rv_merge.proofs.Never.{gives, gives_err, refused_only}
 use Rattle.rv_merge.proofs.Texts.{length-bytes_of}
 use Rattle.rv_merge.proofs.merge.merge_parts.Goals as goal
 
-none_there : (c : goal.Then-is_empty) → bytes_of c.args.texts.now ≡ []
+none_there : (c : goal.Then-is_empty) → bytes_of_texts c.args.texts.now ≡ []
 none_there c =
-    nil_from_length (bytes_of c.args.texts.now)
+    nil_from_length (bytes_of_texts c.args.texts.now)
     (length-bytes_of c.args.texts.now
     ∙ eqb-true (length c.args.texts.now) 0 (sym c.is_empty.ensures ∙ c.if-is_empty.true))
 
 pub returns-then-is_empty-clause-only : goal.returns-then-is_empty-clause-only
 returns-then-is_empty-clause-only c = λ rows parts.
-    refused_only rows (bytes_of c.args.texts.now) error.NoTexts parts (none_there c)
+    refused_only rows (bytes_of_texts c.args.texts.now) error.NoTexts parts (none_there c)
 
 pub returns-then-is_empty-clause-err : goal.returns-then-is_empty-clause-err
 returns-then-is_empty-clause-err c = none_there c
 
 pub returns-in_err-gathered-clause-only : goal.returns-in_err-gathered-clause-only
 returns-in_err-gathered-clause-only c =
-    gives_err (bytes_of c.args.texts.now) c.from_residual.result c.in_err-gathered.field-0.0 c.from_residual.ensures.1
+    gives_err (bytes_of_texts c.args.texts.now) c.from_residual.result c.in_err-gathered.field-0.0 c.from_residual.ensures.1
     c.in_err-gathered.ensures.err
 
 some_there : (n : ℕ) → (n == 0) ≡ false → 0 < n
@@ -35,12 +35,12 @@ some_there zero e = absurd (false≢true (sym e))
 some_there (suc n) e = omega arith
 
 -- all texts are gathered, and there are some
-all_held : (texts : List (Bor (List ℕ))) (g : Gathered) → HoldsIn (bytes_of texts) (length texts) g
-    → HoldsIn (bytes_of texts) (length (bytes_of texts)) g
-all_held texts g h = subst (λ (n : ℕ). HoldsIn (bytes_of texts) n g) (sym (length-bytes_of texts)) h
+all_held : (texts : List (Bor (List ℕ))) (g : Gathered) → HoldsIn (bytes_of_texts texts) (length texts) g
+    → HoldsIn (bytes_of_texts texts) (length (bytes_of_texts texts)) g
+all_held texts g h = subst (λ (n : ℕ). HoldsIn (bytes_of_texts texts) n g) (sym (length-bytes_of texts)) h
 
 some_held : (texts : List (Bor (List ℕ))) (b : Bool) → b ≡ (length texts == 0) → b ≡ false
-    → 0 < length (bytes_of texts)
+    → 0 < length (bytes_of_texts texts)
 some_held texts b is no' =
     let some = some_there (length texts) (sym is ∙ no') in
     omega (arith, length-bytes_of texts)
@@ -48,22 +48,22 @@ some_held texts b is no' =
 pub rows_of_parts-requires : goal.rows_of_parts-requires
 rows_of_parts-requires c =
     let g = c.in_ok-gathered.gathered in
-    sources_some (bytes_of c.args.texts.now) g.first g.sources.items g.slots.items
+    sources_some (bytes_of_texts c.args.texts.now) g.first g.sources.items g.slots.items
     (all_held c.args.texts.now g c.in_ok-gathered.ensures.holds)
     (some_held c.args.texts.now c.is_empty.result c.is_empty.ensures c.if-is_empty.false)
 
-found : (c : goal.After-rows_of_parts) → IfOk c.rows_of_parts.result (λ rows. AreParts rows (bytes_of c.args.texts.now))
+found : (c : goal.After-rows_of_parts) → IfOk c.rows_of_parts.result (λ rows. AreParts rows (bytes_of_texts c.args.texts.now))
 found c =
     let g = c.in_ok-gathered.gathered in
-    found_in (bytes_of c.args.texts.now) g.first g.sources.items g.slots.items
+    found_in (bytes_of_texts c.args.texts.now) g.first g.sources.items g.slots.items
     (all_held c.args.texts.now g c.in_ok-gathered.ensures.holds)
     (some_held c.args.texts.now c.is_empty.result c.is_empty.ensures c.if-is_empty.false) c.rows_of_parts.result
     c.rows_of_parts.ensures.rows
 
-refused : (c : goal.After-rows_of_parts) → IfErr c.rows_of_parts.result (IsRefused (bytes_of c.args.texts.now))
+refused : (c : goal.After-rows_of_parts) → IfErr c.rows_of_parts.result (IsRefused (bytes_of_texts c.args.texts.now))
 refused c =
     let g = c.in_ok-gathered.gathered in
-    refused_in (bytes_of c.args.texts.now) g.first g.sources.items g.slots.items
+    refused_job_count (bytes_of_texts c.args.texts.now) g.first g.sources.items g.slots.items
     (all_held c.args.texts.now g c.in_ok-gathered.ensures.holds)
     (some_held c.args.texts.now c.is_empty.result c.is_empty.ensures c.if-is_empty.false) c.rows_of_parts.result
     c.rows_of_parts.ensures.err
@@ -72,7 +72,7 @@ pub returns-clause-found : goal.returns-clause-found
 returns-clause-found c = found c
 
 pub returns-clause-only : goal.returns-clause-only
-returns-clause-only c = gives (bytes_of c.args.texts.now) c.rows_of_parts.result (found c) (refused c)
+returns-clause-only c = gives (bytes_of_texts c.args.texts.now) c.rows_of_parts.result (found c) (refused c)
 
 pub returns-clause-err : goal.returns-clause-err
 returns-clause-err c = refused c

@@ -2,7 +2,7 @@ use Rattle.std.proofs.Common.{◌≡◌, ◌∙◌, ◌+◌, ◌∷◌, ◌++◌
 use Rattle.std.specs.List.{range_with_len}
 use Rattle.std.proofs.lemmas.List.{length-map}
 use Rattle.std.proofs.lemmas.List.FromFn.{length-range_with_len, map-range_with_len_more}
-use Rattle.rv_jobs.specs.Choices.{marked}
+use Rattle.rv_jobs.specs.Choices.{marked_places}
 use Rattle.rv_merge.specs.Shards.{is_in_shard, shard_marks}
 use Rattle.rv_merge.proofs.Sharded.{marked_by}
 use Rattle.rv_merge.proofs.shards.shard_marks.Goals as goal
@@ -25,6 +25,6 @@ returns-clause-counted c =
 pub returns-clause-places : goal.returns-clause-places
 returns-clause-places c =
     let last : c.loop-place.place ≡ c.args.jobs = omega arith in
-    ap (λ (l : List Bool). marked l c.args.jobs)
+    ap (λ (l : List Bool). marked_places l c.args.jobs)
     (c.loop-place.invariant ∙ ap (shard_marks c.args.shards c.args.number) last)
     ∙ marked_by (is_in_shard c.args.shards c.args.number) c.args.jobs

@@ -1,5 +1,5 @@
 use Rattle.std.proofs.Common.{◌≡◌, drop}
-use Rattle.rv_report.specs.Said.{all_hex}
+use Rattle.rv_report.specs.LenientReport.{all_hex}
 use Rattle.rv_report.proofs.fields.all_hex.Given as goal
 
 abbrev pub invariant-loop-b : goal.invariant-loop-b

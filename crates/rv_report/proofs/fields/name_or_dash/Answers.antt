@@ -1,5 +1,5 @@
 use Rattle.std.proofs.Common.{◌≡◌, ◌∙◌, true, sym}
-use Rattle.rv_lists.specs.JobList.{is_name}
+use Rattle.rv_base.specs.Names.{is_name}
 use Rattle.rv_report.proofs.FieldLoops.{name_is_text, ok_mono}
 use Rattle.rv_report.proofs.Spelled.{same_name}
 use Rattle.rv_report.proofs.fields.name_or_dash.Goals as goal

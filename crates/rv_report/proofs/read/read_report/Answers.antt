@@ -14,8 +14,8 @@ returns-then-eq-clause-found c =
 pub returns-else-eq-clause-place : goal.returns-else-eq-clause-place
 returns-else-eq-clause-place c =
     let written = c.as_bytes-text.ensures.value ∙ c.in_ok-written.ensures in
-    place_is c.args.bytes.now c.as_bytes-text.result.now c.in_ok-report.report c.difference.result
-    c.in_ok-report.ensures.value written c.difference.ensures
+    place_is c.args.bytes.now c.as_bytes-text.result.now c.in_ok-report.report c.first_read_error.result
+    c.in_ok-report.ensures.value written c.first_read_error.ensures
 
 pub returns-then-eq-clause-only : goal.returns-then-eq-clause-only
 returns-then-eq-clause-only c = only_is c.args.bytes.now c.in_ok-report.report c.in_ok-report.ensures.value
@@ -29,6 +29,6 @@ returns-else-eq-clause-only c = λ r h e.
 pub returns-else-eq-clause-err : goal.returns-else-eq-clause-err
 returns-else-eq-clause-err c =
     let written = c.as_bytes-text.ensures.value ∙ c.in_ok-written.ensures in
-    err_is c.args.bytes.now c.as_bytes-text.result.now c.in_ok-report.report c.difference.result
+    err_is c.args.bytes.now c.as_bytes-text.result.now c.in_ok-report.report c.first_read_error.result
     c.in_ok-report.ensures.value
-    written c.difference.ensures
+    written c.first_read_error.ensures

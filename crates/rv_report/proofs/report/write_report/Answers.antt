@@ -10,11 +10,11 @@ returns-in_err-put_rows-clause-part g c =
     let error = err_from_is_err_and c.from_residual.result c.from_residual.ensures.1 in
     rw (error.1, ← c.as_slice-rows.ensures) (beginning_of_longer _ _ _ _ _ c.in_err-put_rows.ensures.part refl)
 
-pub returns-in_err-push_done-clause-part : goal.returns-in_err-push_done-clause-part
+pub returns-in_err-push_done_line-clause-part : goal.returns-in_err-push_done_line-clause-part
 unfolding report_text
-returns-in_err-push_done-clause-part g c =
-    let error = err_from_is_err_and c.from_residual-in_err-push_done.result
-    c.from_residual-in_err-push_done.ensures.1 in
+returns-in_err-push_done_line-clause-part g c =
+    let error = err_from_is_err_and c.from_residual-in_err-push_done_line.result
+    c.from_residual-in_err-push_done_line.ensures.1 in
     rw (error.1, ← c.as_slice-rows.ensures) (stopped_under_way _ _ _ _ _ _ c.in_ok-put_rows.ensures.under_way refl)
 
 pub returns-in_err-put_text-clause-part : goal.returns-in_err-put_text-clause-part
@@ -22,12 +22,12 @@ unfolding report_text
 returns-in_err-put_text-clause-part g c =
     let error = err_from_is_err_and c.from_residual-in_err-put_text.result c.from_residual-in_err-put_text.ensures.1 in
     rw (error.1, ← c.as_slice-rows.ensures)
-    (failed_under_way _ _ _ _ _ _ _ _ c.in_ok-put_rows.ensures.under_way c.in_ok-push_done.ensures
+    (failed_under_way _ _ _ _ _ _ _ _ c.in_ok-put_rows.ensures.under_way c.in_ok-push_done_line.ensures
     c.in_err-put_text.ensures.part refl)
 
 pub returns-clause-appended : goal.returns-clause-appended
 unfolding report_text
 returns-clause-appended g c =
     rw (← c.as_slice-rows.ensures)
-    (ended_under_way _ _ _ _ _ _ _ c.in_ok-put_rows.ensures.under_way c.in_ok-push_done.ensures
+    (ended_under_way _ _ _ _ _ _ _ c.in_ok-put_rows.ensures.under_way c.in_ok-push_done_line.ensures
     c.in_ok-put_text.ensures.appended)

@@ -13,8 +13,8 @@ loop-i-preserved c =
     let more = map_more (row_of c.args.plan.now) c.args.plan.now.jobs c.loop-i.i any
     (omega (arith, c.jobs-i-end.ensures.value)) in
     record {
-      rows = c.in_ok-push.ensures.items ∙ ap (λ rows. rows ++ c.in_ok-next_row.field-0 ∷ []) c.loop-i.invariant.rows
+      rows = c.in_ok-push.ensures.items ∙ ap (λ rows. rows ++ c.in_ok-row_at_with_recent.field-0 ∷ []) c.loop-i.invariant.rows
           ∙ ap (λ row. map (row_of c.args.plan.now) (take c.loop-i.i c.args.plan.now.jobs) ++ row ∷ [])
-          (c.in_ok-next_row.ensures.row any) ∙ sym more;
-      recent = c.in_ok-next_row.ensures.recent;
+          (c.in_ok-row_at_with_recent.ensures.row any) ∙ sym more;
+      recent = c.in_ok-row_at_with_recent.ensures.recent;
     }

@@ -8,14 +8,14 @@ use Rattle.rv_text.proofs.xml.front_character.Goals as goal
 pub returns-in-Ok : goal.returns-in-Ok
 unfolding front_character
 returns-in-Ok c =
-    let yes : is_utf8 c.front_of.result.now ≡ true =
-    is_utf8-from_IsUtf8 c.front_of.result.now c.in-Ok.ensures.cases.1 in
-    rw (← c.front_of.ensures, yes)
-    (cc (c.xml_only.ensures, c.next.ensures.steps.2, c.chars.ensures.rest, c.in-Ok.ensures.cases.0))
+    let yes : is_utf8 c.xml_front_bytes.result.now ≡ true =
+    is_utf8-from_IsUtf8 c.xml_front_bytes.result.now c.in-Ok.ensures.cases.1 in
+    rw (← c.xml_front_bytes.ensures, yes)
+    (cc (c.if_xml_character.ensures, c.next.ensures.steps.2, c.chars.ensures.rest, c.in-Ok.ensures.cases.0))
 
 pub returns-in-Err : goal.returns-in-Err
 unfolding front_character
 returns-in-Err c =
-    let no : is_utf8 c.front_of.result.now ≡ false =
-    is_utf8-false c.front_of.result.now c.in-Err.ensures.cases.0 in
-    rw (← c.front_of.ensures, no) refl
+    let no : is_utf8 c.xml_front_bytes.result.now ≡ false =
+    is_utf8-false c.xml_front_bytes.result.now c.in-Err.ensures.cases.0 in
+    rw (← c.xml_front_bytes.ensures, no) refl

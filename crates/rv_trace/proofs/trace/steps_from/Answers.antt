@@ -8,7 +8,7 @@ use Rattle.rv_trace.proofs.trace.steps_from.Goals.{else-loop-test, then-loop-tes
 pub loop-preserved : goal.loop-preserved
 loop-preserved c =
     let s = state_of c.loop.machine in
-    let t = state_of c.next_step.new.machine in
+    let t = state_of c.trace_next_step.new.machine in
     record {
       shown =
           ap (λ ls. ls ++ steps_from (c.args.count - (c.loop.counter + 1)) t)

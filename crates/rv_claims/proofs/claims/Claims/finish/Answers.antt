@@ -8,7 +8,7 @@ pub returns-clause-all : goal.returns-clause-all
 returns-clause-all c is_whole =
     subst (λ (h : PassView). AreAll h.draws) c.pass.view_is
     (ends_whole _ _ _ _ _ _ _ c.pass.invariant c.close_with-closed.ensures.values.2
-    (c.has_each-all.ensures.held is_whole))
+    (c.has_all_seats-all.ensures.held is_whole))
 
 pub returns-clause-pieces : goal.returns-clause-pieces
 returns-clause-pieces c is_whole over x low =
@@ -17,5 +17,5 @@ returns-clause-pieces c is_whole over x low =
 
 pub returns-clause-full : goal.returns-clause-full
 returns-clause-full c all =
-    c.has_each-all.ensures.full
+    c.has_all_seats-all.ensures.full
     (λ p low _. c.pass.invariant.set p (subst (λ (h : PassView). IsIn p h.places) (sym c.pass.view_is) (all p low)))

@@ -1,5 +1,5 @@
 use Rattle.std.proofs.Common.{◌≡◌, ℕ, ◌∙◌, sym, ap, subst, arith}
-use Rattle.rv_claims.specs.Draws.{past_count, first_of, entry}
+use Rattle.rv_claims.specs.Draws.{past_count, first_place_of, entry}
 use Rattle.rv_claims.specs.Passes.{PassView, SharedDraw, with_draw, AllBelow}
 use Rattle.rv_claims.proofs.Keeps.{draws}
 use Rattle.rv_claims.proofs.Passes.{none_past, drew_pass, goes_on, ends_now, seen_drew, is_piece, no_piece}
@@ -24,7 +24,7 @@ invariant_of-pass c =
     (ap (λ (h : PassView). h.draw) c.pass.view_is ∙ (c.requires ∙ sym c.self.view_is)) in
     let v = c.pass.inside.seat.me.0 in
     drew_pass _ _ _ _ _ _ c.pass.invariant c.fetch_add-number.ensures.2
-    (c.if-pass.false ∙ goes_on _ v.draws (entry (first_of v.places) c.fetch_add-number.result)
+    (c.if-pass.false ∙ goes_on _ v.draws (entry (first_place_of v.places) c.fetch_add-number.result)
     (sym c.pass.invariant.stopped ∙ c.if-pass.false) (omega (arith, same, c.if-number-self.true)))
 
 pub invariant_of-pass-else-number-self : goal.invariant_of-pass-else-number-self
@@ -33,7 +33,7 @@ invariant_of-pass-else-number-self c =
     (ap (λ (h : PassView). h.draw) c.pass.view_is ∙ (c.requires ∙ sym c.self.view_is)) in
     let v = c.pass.inside.seat.me.0 in
     drew_pass _ _ _ _ _ _ c.pass.invariant c.fetch_add-number.ensures.2
-    (ends_now _ v.draws (entry (first_of v.places) c.fetch_add-number.result)
+    (ends_now _ v.draws (entry (first_place_of v.places) c.fetch_add-number.result)
     (omega (arith, same, c.if-number-self.false)))
 
 pub returns-then-number-self-clause-drawn : goal.returns-then-number-self-clause-drawn

@@ -1,6 +1,6 @@
 use Rattle.std.proofs.Common.{subst, sym}
 use Rattle.std.proofs.lemmas.List.Sums.{fold_more}
-use Rattle.rv_cli.specs.Building.{IsBuilt}
+use Rattle.rv_cli.specs.CommandBuilder.{IsBuilt}
 use Rattle.rv_cli.specs.RvtestCommand.{with_argument}
 use Rattle.rv_cli.proofs.rvtest.arguments.with_arguments.Goals as goal
 
@@ -10,4 +10,4 @@ loop-argument-preserved c =
     let one_more = fold_more with_argument app c.args.arguments.now c.loop-argument.argument-index _
     c.loop-argument-test.true in
     subst (λ new. IsBuilt new c.with_argument-command.result) (sym one_more)
-    (c.with_argument-command.ensures _ _ c.arg.ensures (c.loop-argument.invariant app built))
+    (c.with_argument-command.ensures _ _ c.clap_argument.ensures (c.loop-argument.invariant app built))

@@ -1,6 +1,6 @@
 use Rattle.std.proofs.Common.{take}
 use Rattle.clap.specs.Words.{App}
-use Rattle.rv_cli.specs.Building.{IsBuilt}
+use Rattle.rv_cli.specs.CommandBuilder.{IsBuilt}
 use Rattle.rv_cli.specs.RvtestCommand.{with_arguments}
 use Rattle.rv_cli.proofs.rvtest.arguments.with_arguments.Given as goal
 

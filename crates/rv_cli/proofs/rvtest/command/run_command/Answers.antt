@@ -1,4 +1,4 @@
 use Rattle.rv_cli.proofs.rvtest.command.run_command.Goals as goal
 
 pub returns : goal.returns
-returns c = c.command_of.ensures
+returns c = c.subcommand_of_table.ensures

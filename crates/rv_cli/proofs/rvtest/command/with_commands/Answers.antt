@@ -1,13 +1,13 @@
 use Rattle.std.proofs.Common.{subst, sym}
 use Rattle.std.proofs.lemmas.List.Sums.{fold_more}
-use Rattle.rv_cli.specs.Building.{HasApp}
-use Rattle.rv_cli.specs.RvtestCommand.{with_stated}
+use Rattle.rv_cli.specs.CommandBuilder.{HasApp}
+use Rattle.rv_cli.specs.RvtestCommand.{with_table_command}
 use Rattle.rv_cli.proofs.rvtest.command.with_commands.Goals as goal
 
 pub loop-below-preserved : goal.loop-below-preserved
 loop-below-preserved c =
     λ app has.
-    let one_more = fold_more with_stated app c.args.stated.now c.loop-below.below-index _
+    let one_more = fold_more with_table_command app c.args.stated.now c.loop-below.below-index _
     c.loop-below-test.true in
     subst (λ new. HasApp new c.with_command-command.result) (sym one_more)
-    (c.with_command-command.ensures _ _ (c.loop-below.invariant app has) c.command_of.ensures)
+    (c.with_command-command.ensures _ _ (c.loop-below.invariant app has) c.subcommand_of_table.ensures)

@@ -1,6 +1,6 @@
 use Rattle.std.proofs.Common.{take}
 use Rattle.clap.specs.Words.{App}
-use Rattle.rv_cli.specs.Building.{HasApp}
+use Rattle.rv_cli.specs.CommandBuilder.{HasApp}
 use Rattle.rv_cli.specs.RvtestCommand.{with_commands}
 use Rattle.rv_cli.proofs.rvtest.command.with_commands.Given as goal
 

@@ -19,8 +19,8 @@ joined d rs now e f = λ i. with_both d rs now (e i) (f i)
 pub invariant_of-self : goal.invariant_of-self
 invariant_of-self c =
     let s = c.self.inside in
-    let bytes = with_items_is s.bytes c.write.new.bytes
-    (omega (arith, c.write.auto.bytes, c.deref_mut.ensures.len)) ∙ c.write.ensures
+    let bytes = with_items_is s.bytes c.write_value.new.bytes
+    (omega (arith, c.write_value.auto.bytes, c.deref_mut.ensures.len)) ∙ c.write_value.ensures
     ∙ ap (λ x. written_at x c.args.place.at c.args.width c.args.value) c.deref_mut.ensures.value in
     let marks = with_items_is s.marks c.mark.new.marks
     (omega (arith, c.mark.auto.marks, c.deref_mut-2.ensures.len)) ∙ c.mark.ensures
@@ -45,8 +45,8 @@ returns c =
     let w = c.args.width in
     let place = subst (λ (x : Contents). IsPlace x.regions c.args.addr (size_of w) at c.args.place.writable)
     (sym c.self.view_is) c.requires in
-    let bytes = with_items_is s.bytes c.write.new.bytes
-    (omega (arith, c.write.auto.bytes, c.deref_mut.ensures.len)) ∙ c.write.ensures
+    let bytes = with_items_is s.bytes c.write_value.new.bytes
+    (omega (arith, c.write_value.auto.bytes, c.deref_mut.ensures.len)) ∙ c.write_value.ensures
     ∙ ap (λ x. written_at x at w c.args.value) c.deref_mut.ensures.value in
     let marks = with_items_is s.marks c.mark.new.marks
     (omega (arith, c.mark.auto.marks, c.deref_mut-2.ensures.len)) ∙ c.mark.ensures

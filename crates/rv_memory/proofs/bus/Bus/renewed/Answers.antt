@@ -7,8 +7,8 @@ invariant_of-result c = record {
   map = search rules;
   bytes = search rules;
   marks = search rules;
-  older = λ k. let below = c.unmarked-marks.ensures.older k in omega arith;
-  generation = let below = c.unmarked-marks.ensures.older 0 in omega arith;
+  older = λ k. let below = c.next_generation-marks.ensures.older k in omega arith;
+  generation = let below = c.next_generation-marks.ensures.older 0 in omega arith;
   taken = search rules;
   short = search rules;
   room = search rules;
@@ -17,6 +17,6 @@ invariant_of-result c = record {
 
 pub returns : goal.returns
 returns c =
-    renewed_is c.args.map _ c.unmarked-marks.result.1 c.fill.new.self.items c.unmarked-marks.result.0.items
+    renewed_is c.args.map _ c.next_generation-marks.result.1 c.fill.new.self.items c.next_generation-marks.result.0.items
     c.args.script.items c.clear.new.self.items c.args.misaligned
-    (c.fill.ensures.items (λ y e. e)) c.unmarked-marks.ensures.older c.clear.ensures.items
+    (c.fill.ensures.items (λ y e. e)) c.next_generation-marks.ensures.older c.clear.ensures.items

@@ -1,7 +1,7 @@
 use Rattle.std.proofs.Common.{ap}
 use Rattle.rv_rows.specs.Rows.{rows_at}
 use Rattle.std.proofs.lemmas.List.Elements.{All-push, All-rest, All-same}
-use Rattle.rv_fleet.specs.declared.worked.Works.{Works}
+use Rattle.rv_fleet.specs.declared.worker_promise.Works.{Works}
 use Rattle.rv_fleet.specs.Promised.{IsFresh}
 use Rattle.rv_fleet.specs.Started.{IsStarted}
 use Rattle.rv_fleet.proofs.threads.fn.run_workers.scope.Goals as goal

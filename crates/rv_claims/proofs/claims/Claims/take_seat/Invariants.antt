@@ -1,0 +1,6 @@
+use Rattle.std.proofs.Common.{◌≡◌, []}
+use Rattle.rv_claims.specs.Draws.{view}
+use Rattle.rv_claims.proofs.claims.Claims.take_seat.Given as goal
+
+abbrev pub invariant-loop-place : goal.invariant-loop-place
+invariant-loop-place l = (l.seat.table_id ≡ l.self.table) × (l.seat.me ≡ (view l.self.pieces [] [] [], []))

@@ -1,4 +1,0 @@
-use Rattle.rv_cli.proofs.rvtest.command.command_of.Goals as goal
-
-pub returns : goal.returns
-returns c = c.with_arguments.ensures _ c.bare_command-command.ensures

@@ -1,0 +1,20 @@
+use Rattle.std.proofs.Common.{refl}
+use Rattle.rv_cli.proofs.rvtest.requests.subcommand_request.Goals as goal
+
+pub returns-in-run : goal.returns-in-run
+returns-in-run c = rw c.in-run.is c.test_run_request.ensures
+
+pub returns-in-explain : goal.returns-in-explain
+returns-in-explain c = rw c.in-explain.is (c.explain_request.ensures, refl)
+
+pub returns-in-check : goal.returns-in-check
+returns-in-check c = rw c.in-check.is (c.check_request.ensures, refl)
+
+pub returns-in-merge : goal.returns-in-merge
+returns-in-merge c = rw c.in-merge.is c.merge_request.ensures
+
+pub returns-in-diff : goal.returns-in-diff
+returns-in-diff c = rw c.in-diff.is (c.diff_request.ensures, refl)
+
+pub returns-in-show : goal.returns-in-show
+returns-in-show c = rw c.in-show.is (c.show_request.ensures, refl)

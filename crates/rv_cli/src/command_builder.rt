@@ -1,0 +1,29 @@
+//! Commands on their way, for `clap`.
+
+ghost use Rattle.std.specs.Prelude.{◌≡◌, false};
+ghost use Rattle.clap.specs.Words.{App, Rule, rule_of, with_rule, with_subcommand};
+ghost use Rattle.rv_cli.specs.CommandBuilder.{HasApp, IsBuilt};
+
+use clap::{Arg, Command};
+use std::alloc::AllocError;
+
+/// A command on its way. It goes through all calls as it is, since each `?` beside a command costs the prover ten seconds.
+pub type Built<'a> = Result<Command<'a>, AllocError>;
+
+/// A command with one more below it.
+pub fn with_command<'a>(command: Built<'a>, below: Built<'a>) -> Built<'a>
+    ensures { (app : App) → (under : App) → HasApp app command.entry → IsBuilt under below.entry
+        → HasApp (with_subcommand app under.top) result }
+{
+    let command = command?;
+    command.subcommand(below?)
+}
+
+/// A command with one more argument.
+pub fn with_argument<'a>(command: Built<'a>, argument: Arg<'a>) -> Built<'a>
+    ensures { (app : App) → (rule : Rule)
+        → (rule_of argument.entry ≡ rule) × (argument.entry.global ≡ false)
+        → IsBuilt app command.entry → IsBuilt (with_rule app rule) result }
+{
+    command?.arg(argument)
+}

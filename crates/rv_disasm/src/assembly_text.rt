@@ -1,0 +1,110 @@
+//! The text of an instruction.
+ghost use Rattle.std.specs.Prelude.{◌≡◌, ◌++◌, OnOk};
+ghost use Rattle.rv_isa.specs.Words.{IsWellFormed};
+ghost use Rattle.rv_disasm.specs.Assembly.{operands_text, assembly16, assembly32, form_text};
+ghost use Rattle.rv_disasm.specs.Forms.{form_of_code};
+ghost use Rattle.rv_disasm.specs.Operands.{operand_text};
+
+use crate::form::{Fetched, Form, Operand, Operands};
+use crate::operand::{push_literal, push_operand};
+use crate::rows16::form16;
+use crate::rows32::form32;
+use rv_isa::{Isa, decode16, decode32};
+use std::alloc::{AllocError, Global};
+
+const NO_INSTRUCTION: &str = "no instruction";
+
+/// Appends the assembly text of a 32-bit word that was fetched at `pc`, as `lw a0, 8(sp)`, or `no instruction` where no
+/// row of RV32IM with Zifencei fits it.
+#[tactic(auto, unfolding(crate::specs::Assembly::assembly32))]
+pub fn push_assembly32(
+    alloc: Global,
+    bytes: &mut Vec<u8>,
+    word: u32,
+    pc: u32,
+) -> Result<(), AllocError>
+    ensures { OnOk result (bytes.new.items ≡ bytes.old.items ++ assembly32 word pc) }
+{
+    let code = word;
+    match decode32(word, Isa::Imc) {
+        Some(instr) => { push_form(alloc, bytes, form32(instr.op), Fetched { instr, code, pc }) }
+        None => push_literal(bytes, NO_INSTRUCTION),
+    }
+}
+
+/// Appends the assembly text of a halfword that was fetched at `pc`, as `c.lw a0, 8(a0)`, or `no instruction` where no
+/// row of the C extension fits it.
+#[tactic(auto, unfolding(crate::specs::Assembly::assembly16))]
+pub fn push_assembly16(
+    alloc: Global,
+    bytes: &mut Vec<u8>,
+    half: u16,
+    pc: u32,
+) -> Result<(), AllocError>
+    ensures { OnOk result (bytes.new.items ≡ bytes.old.items ++ assembly16 half pc) }
+{
+    let code = u32::from(half);
+    match (form16(code), decode16(half, Isa::Imc)) {
+        (Some(form), Some(instr)) => { push_form(alloc, bytes, form, Fetched { instr, code, pc }) }
+        _ => push_literal(bytes, NO_INSTRUCTION),
+    }
+}
+
+// Appends the name of a row and its operands.
+#[tactic(auto, unfolding(crate::specs::Assembly::form_text))]
+fn push_form(
+    alloc: Global,
+    bytes: &mut Vec<u8>,
+    form: Form,
+    fetched: Fetched,
+) -> Result<(), AllocError>
+    requires { IsWellFormed fetched.instr }
+    ensures { OnOk result (bytes.new.items
+        ≡ bytes.old.items ++ form_text (form_of_code form) fetched) }
+{
+    let Form(mnemonic, operands) = form;
+    push_literal(bytes, mnemonic)?;
+    push_operands(alloc, bytes, operands, fetched)
+}
+
+// Appends the operands behind a space, with commas between them.
+#[tactic(auto, unfolding(crate::specs::Assembly::operands_text))]
+fn push_operands(
+    alloc: Global,
+    bytes: &mut Vec<u8>,
+    operands: Operands,
+    fetched: Fetched,
+) -> Result<(), AllocError>
+    requires { IsWellFormed fetched.instr }
+    ensures { OnOk result (bytes.new.items ≡ bytes.old.items ++ operands_text operands fetched) }
+{
+    match operands {
+        Operands::Absent => Ok(()),
+        Operands::One(only) => push_separated_operand(alloc, bytes, " ", only, fetched),
+        Operands::Two(first, last) => {
+            push_separated_operand(alloc, bytes, " ", first, fetched)?;
+            push_separated_operand(alloc, bytes, ", ", last, fetched)
+        }
+        Operands::Three(first, second, last) => {
+            push_separated_operand(alloc, bytes, " ", first, fetched)?;
+            push_separated_operand(alloc, bytes, ", ", second, fetched)?;
+            push_separated_operand(alloc, bytes, ", ", last, fetched)
+        }
+    }
+}
+
+// Appends an operand behind what separates it from the one before.
+fn push_separated_operand(
+    alloc: Global,
+    bytes: &mut Vec<u8>,
+    separator: &str,
+    operand: Operand,
+    fetched: Fetched,
+) -> Result<(), AllocError>
+    requires { IsWellFormed fetched.instr }
+    ensures { OnOk result (bytes.new.items
+        ≡ bytes.old.items ++ (separator.now ++ operand_text operand fetched)) }
+{
+    push_literal(bytes, separator)?;
+    push_operand(alloc, bytes, operand, fetched)
+}

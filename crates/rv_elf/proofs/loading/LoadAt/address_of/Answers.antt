@@ -1,4 +1,0 @@
-use Rattle.rv_elf.proofs.loading.LoadAt.address_of.Goals as goal
-
-pub returns-in-Physical : goal.returns-in-Physical
-returns-in-Physical c = rw c.in-Physical.is

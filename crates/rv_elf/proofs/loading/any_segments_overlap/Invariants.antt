@@ -1,0 +1,6 @@
+use Rattle.std.proofs.Common.{◌≡◌, drop}
+use Rattle.rv_elf.specs.Loading.{any_segments_overlap}
+use Rattle.rv_elf.proofs.loading.any_segments_overlap.Given as goal
+
+abbrev pub invariant-loop-k : goal.invariant-loop-k
+invariant-loop-k l = any_segments_overlap l.at (drop l.k l.segments) ≡ any_segments_overlap l.at l.segments

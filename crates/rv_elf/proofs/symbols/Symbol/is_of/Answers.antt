@@ -1,5 +1,0 @@
-use Rattle.std.proofs.Common.{rules}
-use Rattle.rv_elf.proofs.symbols.Symbol.is_of.Goals as goal
-
-pub returns-then-self-addr-2 : goal.returns-then-self-addr-2
-returns-then-self-addr-2 c = search rules

@@ -1,5 +1,0 @@
-use Rattle.std.proofs.Common.{rules}
-use Rattle.rv_expect.proofs.ways.fails_by.Goals as goal
-
-pub returns-then-not-has_passed : goal.returns-then-not-has_passed
-returns-then-not-has_passed c = search rules

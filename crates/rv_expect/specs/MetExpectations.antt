@@ -1,0 +1,31 @@
+-- Which expectations a run meets: those that its job has and that are not among the unmet ones.
+use Rattle.std.specs.Prelude.{◌&&◌, Bool, true, false, not, List, is_some}
+use Rattle.std.specs.List.{list_any}
+use Rattle.rv_expect.specs.declared.met_expectations.Expectation.{Expectation}
+use Rattle.rv_expect.specs.declared.met_expectations.Expectation.TheVariants as expectation
+use Rattle.rv_expect.specs.declared.unmet.Unmet.{Unmet}
+use Rattle.rv_expect.specs.declared.unmet.Unmet.TheVariants as unmet
+use Rattle.rv_jobs.specs.declared_job.Job.{Job}
+use Rattle.rv_rows.specs.Verdict.{expects_anything}
+
+-- a job has an expectation; one that has no other expects exit code 0
+unfoldable pub job_expects : Job → Expectation → Bool
+job_expects job expectation.Exit = is_some job.expect_exit
+job_expects job expectation.End = is_some job.expect_end
+job_expects job expectation.Console = is_some job.expect_console
+job_expects job expectation.Signature = is_some job.expect_signature
+job_expects job expectation.Same = is_some job.same_as
+job_expects job expectation.Nothing = not (expects_anything job)
+
+-- it is the one that is not met
+unfoldable pub is_same_expectation : Expectation → Unmet → Bool
+is_same_expectation expectation.Exit unmet.Exit = true
+is_same_expectation expectation.End unmet.End = true
+is_same_expectation expectation.Console (unmet.Console difference) = true
+is_same_expectation expectation.Signature (unmet.Signature difference) = true
+is_same_expectation expectation.Same (unmet.Same difference) = true
+is_same_expectation expectation.Nothing unmet.Nothing = true
+is_same_expectation _ _ = false
+
+abbrev pub is_expectation_met : Job → List Unmet → Expectation → Bool
+is_expectation_met job unmet one = job_expects job one && not (list_any (is_same_expectation one) unmet)

@@ -1,0 +1,27 @@
+-- The expectations that the run of a plan's job does not meet.
+use Rattle.std.specs.Prelude.{List, Option, option_and_then, option_map, slice_get}
+use Rattle.rv_jobs.specs.declared_job.Job.{Job}
+use Rattle.rv_jobs.specs.Plans.{Planned}
+use Rattle.rv_rows.specs.declared_row.Row.{Row}
+use Rattle.rv_rows.specs.Rows.{expected_console_bytes, signature_reference_bytes, row_of}
+use Rattle.rv_expect.specs.Comparisons.{Sides}
+use Rattle.rv_expect.specs.declared.unmet.Unmet.{Unmet}
+use Rattle.rv_expect.specs.Unmet.{unmet_of}
+
+-- the row of the job that a job names
+abbrev pub row_of_same_as_job : Planned → Job → Option Row
+row_of_same_as_job plan job =
+    option_map (row_of plan) (option_and_then (slice_get plan.jobs) job.same_as)
+
+-- a row of a job, beside what the plan keeps of its files and the row of the job that it names
+abbrev pub sides_in : Planned → Job → Row → Sides
+sides_in plan job row = record {
+  job = job;
+  row = row;
+  console = expected_console_bytes plan.answers job;
+  reference = signature_reference_bytes plan.answers job;
+  other = row_of_same_as_job plan job;
+}
+
+abbrev pub unmet_in : Planned → Job → Row → List Unmet
+unmet_in plan job row = unmet_of (sides_in plan job row)

@@ -1,0 +1,63 @@
+//! Which expectations a run meets.
+
+ghost use Rattle.std.specs.Prelude.{◌≡◌};
+ghost use Rattle.std.specs.List.{list_any};
+ghost use Rattle.rv_expect.specs.MetExpectations.{job_expects, is_expectation_met, is_same_expectation};
+
+use crate::unmet::Unmet;
+use rv_jobs::Job;
+use rv_rows::expects_anything;
+
+/// What a job may expect.
+#[derive(Clone, Copy)]
+pub enum Expectation {
+    Exit,
+    End,
+    Console,
+    Signature,
+    Same,
+    /// Exit code 0, where it expects nothing else.
+    Nothing,
+}
+
+/// Whether a job has an expectation that is not among those that its run does not meet.
+pub fn is_expectation_met(job: &Job, unmet: &[Unmet], one: Expectation) -> bool
+    ensures { result ≡ is_expectation_met job.now unmet.now one }
+{
+    job_expects(job, one) && !is_expectation_unmet(unmet, one)
+}
+
+fn is_expectation_unmet(unmet: &[Unmet], one: Expectation) -> bool
+    ensures { result ≡ list_any (is_same_expectation one) unmet.now }
+{
+    unmet.iter().any(|other| is_same_expectation(one, *other))
+}
+
+#[tactic(auto, unfolding(crate::specs::MetExpectations::job_expects))]
+fn job_expects(job: &Job, one: Expectation) -> bool
+    ensures { result ≡ job_expects job.now one }
+{
+    match one {
+        Expectation::Exit => job.expect_exit.is_some(),
+        Expectation::End => job.expect_end.is_some(),
+        Expectation::Console => job.expect_console.is_some(),
+        Expectation::Signature => job.expect_signature.is_some(),
+        Expectation::Same => job.same_as.is_some(),
+        Expectation::Nothing => !expects_anything(job),
+    }
+}
+
+#[tactic(auto, unfolding(crate::specs::MetExpectations::is_same_expectation))]
+fn is_same_expectation(one: Expectation, unmet: Unmet) -> bool
+    ensures { result ≡ is_same_expectation one unmet }
+{
+    match (one, unmet) {
+        (Expectation::Exit, Unmet::Exit)
+        | (Expectation::End, Unmet::End)
+        | (Expectation::Console, Unmet::Console(_))
+        | (Expectation::Signature, Unmet::Signature(_))
+        | (Expectation::Same, Unmet::Same(_))
+        | (Expectation::Nothing, Unmet::Nothing) => true,
+        _ => false,
+    }
+}

@@ -1,5 +1,0 @@
-use Rattle.std.proofs.Common.{rules}
-use Rattle.rv_files.proofs.streams.StreamSink.fail.Goals as goal
-
-pub returns-clause-counted : goal.returns-clause-counted
-returns-clause-counted c = search rules

@@ -1,0 +1,25 @@
+-- What a store over files notes, and which file a path is.
+use Rattle.std.specs.Prelude.{ℕ, List, [], ◌∷◌, Option, Some, None}
+use Rattle.std.specs.declared.io.ErrorKind.{ErrorKind}
+use Rattle.std.specs.Path.{path_join}
+use Rattle.rv_files.specs.declared.file_store.WholeError.{WholeError}
+use Rattle.rv_files.specs.declared.file_store.WholeError.TheVariants as whole
+use Rattle.rv_files.specs.declared.noting_store.Unread.{Unread}
+
+-- the place of a path's file: below the folder, where one is given and the path is not absolute
+abbrev pub resolved_path : Option (List ℕ) → List ℕ → List ℕ
+resolved_path (Some folder) path = path_join folder path
+resolved_path None path = path
+
+-- a path was unreadable for a reason
+abbrev pub unread_entry : List ℕ → ErrorKind → Unread
+unread_entry path reason = record {
+  path = path;
+  reason = reason;
+}
+
+-- what is noted of a path that was not read
+abbrev pub unread_entries : List ℕ → WholeError → List Unread
+unread_entries path (whole.Failed reason) = unread_entry path reason ∷ []
+unread_entries path whole.TooLong = []
+unread_entries path whole.OutOfMemory = []

@@ -1,0 +1,150 @@
+//! The system's files as a store.
+
+ghost use Rattle.std.specs.Prelude.{◌≡◌, ◌≤◌, ◌<◌, None, IfErr, IfOk, IfSome, MatchResult, length};
+ghost use Rattle.rv_base.specs.Files.{faults_after};
+ghost use Rattle.rv_base.specs.Limits.{most_bytes};
+ghost use Rattle.rv_base.specs.Counts.{one_more};
+
+use crate::input::{InputError, read_at_most};
+use rv_base::limits::MOST_BYTES;
+use rv_base::{ReadError, Store};
+use std::alloc::{AllocError, Global};
+use std::fs;
+use std::io::{ErrorKind, Read};
+use std::rt::Files;
+
+/// Why not all that a reader has was read.
+#[derive(Clone, Copy, Debug, PartialEq, Eq)]
+pub enum WholeError {
+    /// The file was not opened, or a read failed, for this reason.
+    Failed(ErrorKind),
+    /// There are more than 16,777,216 bytes.
+    TooLong,
+    /// A growth was refused.
+    OutOfMemory,
+}
+
+impl From<InputError> for WholeError {
+    ghost use Rattle.rv_files.specs.Input.{input_failure};
+
+    ghost from_gives = { λ input error. error ≡ input_failure input };
+
+    fn from(error: InputError) -> WholeError {
+        match error {
+            InputError::OutOfMemory => WholeError::OutOfMemory,
+            InputError::Failed(reason) => WholeError::Failed(reason),
+        }
+    }
+}
+
+impl From<AllocError> for WholeError {
+    ghost use Rattle.rv_files.specs.declared.file_store.WholeError.TheVariants.{OutOfMemory};
+
+    ghost from_gives = { λ _ error. error ≡ OutOfMemory };
+
+    fn from(_: AllocError) -> WholeError {
+        WholeError::OutOfMemory
+    }
+}
+
+impl From<WholeError> for ReadError {
+    ghost use Rattle.rv_files.specs.Input.{read_failure};
+
+    ghost from_gives = { λ whole error. error ≡ read_failure whole };
+
+    fn from(error: WholeError) -> ReadError {
+        match error {
+            WholeError::Failed(_) => ReadError::Unreadable,
+            WholeError::TooLong => ReadError::TooLong,
+            WholeError::OutOfMemory => ReadError::OutOfMemory,
+        }
+    }
+}
+
+/// A store over files: an answer is that of `read_whole` to the file that is opened at the path as
+/// it is given. What the world outside holds isn't known, so the store tells no contents.
+#[derive(Drop)]
+pub struct FileStore<'a, R: Files> {
+    files: &'a R,
+    faults: u64,
+}
+
+impl<'a, R: Files> FileStore<'a, R> {
+    pub fn new(files: &'a R) -> FileStore<'a, R> {
+        FileStore { files, faults: 0 }
+    }
+
+    // The answer for the file that is opened at the path, whose bytes are all that some file of
+    // the system has.
+    fn read_counting_faults(&mut self, alloc: Global, path: &str) -> Result<Vec<u8>, ReadError>
+        ensures opened { IfOk result (λ bytes. (file : R.File)
+            × IfSome (R.File.remaining file) (λ known. bytes.items ≡ known)) }
+        ensures within { IfOk result (λ bytes. length bytes.items ≤ most_bytes) }
+        ensures long { IfErr result (λ error. error ≡ ReadError.TooLong → (file : R.File)
+            × IfSome (R.File.remaining file) (λ known. most_bytes < length known)) }
+        ensures counted { MatchResult result (λ _. self.new.faults ≡ self.old.faults)
+            (λ error. self.new.faults ≡ faults_after error self.old.faults) }
+    {
+        match read_file(self.files, alloc, path) {
+            Err(WholeError::Failed(_)) => Err(self.count_fault()),
+            answer => Ok(answer?),
+        }
+    }
+
+    fn count_fault(&mut self) -> ReadError
+        ensures counted { self.new.faults ≡ one_more self.old.faults }
+        ensures value { result ≡ ReadError.Unreadable }
+    {
+        self.faults = self.faults.saturating_add(1);
+        ReadError::Unreadable
+    }
+}
+
+impl<'a, R: Files> Store for FileStore<'a, R> {
+    ghost contents = { λ _. None };
+
+    ghost faulted = { λ store. store.faults };
+
+    fn read(&mut self, alloc: Global, path: &str) -> Result<Vec<u8>, ReadError> {
+        self.read_counting_faults(alloc, path)
+    }
+
+    fn faults(&self) -> u64 {
+        self.faults
+    }
+}
+
+/// The answer of `read_whole` for the file that is opened at the path as it is given.
+pub(crate) fn read_file<R: Files>(
+    files: &R,
+    alloc: Global,
+    path: &str,
+) -> Result<Vec<u8>, WholeError>
+    ensures opened { IfOk result (λ bytes. (file : R.File)
+        × IfSome (R.File.remaining file) (λ known. bytes.items ≡ known)) }
+    ensures within { IfOk result (λ bytes. length bytes.items ≤ most_bytes) }
+    ensures long { IfErr result (λ error. error ≡ WholeError.TooLong → (file : R.File)
+        × IfSome (R.File.remaining file) (λ known. most_bytes < length known)) }
+{
+    match fs::open(files, path) {
+        Ok(mut file) => read_whole(alloc, &mut file),
+        Err(error) => Err(WholeError::Failed(error.kind())),
+    }
+}
+
+/// All that a reader has left, where that is at most 16,777,216 bytes. One that has more is read one
+/// byte further, and no more.
+pub fn read_whole<R: Read>(alloc: Global, file: &mut R) -> Result<Vec<u8>, WholeError>
+    ensures whole { IfOk result (λ bytes. IfSome (R.remaining file.old)
+        (λ known. bytes.items ≡ known)) }
+    ensures within { IfOk result (λ bytes. length bytes.items ≤ most_bytes) }
+    ensures long { IfErr result
+        (λ error. error ≡ WholeError.TooLong → IfSome (R.remaining file.old)
+        (λ known. most_bytes < length known)) }
+{
+    let bytes = read_at_most(alloc, file, MOST_BYTES + 1)?;
+    if bytes.len() > MOST_BYTES {
+        return Err(WholeError::TooLong);
+    }
+    Ok(bytes)
+}

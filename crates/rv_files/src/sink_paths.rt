@@ -1,0 +1,72 @@
+//! Where a file stands while it is written, and in the end.
+
+ghost use Rattle.std.specs.Prelude.{◌≡◌, ◌++◌, IfOk, codes};
+ghost use Rattle.std.specs.Path.{path_buf_bytes};
+
+use crate::file_sink::FileError;
+use std::alloc::{AllocError, Global};
+use std::io::{self, ErrorKind};
+use std::path::{Path, PathBuf};
+use std::rt::Files;
+
+/// Where a file stands while it is written, and where in the end.
+#[derive(Drop)]
+pub(crate) struct Places {
+    pub(crate) new: PathBuf,
+    pub(crate) whole: PathBuf,
+}
+
+/// The places of a file that is to stand at a path. None where something is there that is no regular file.
+pub(crate) fn temporary_and_final_path<R: Files>(
+    files: &R,
+    alloc: Global,
+    path: &str,
+) -> Result<Option<Places>, FileError> {
+    if !is_replaceable(files, path)? {
+        return Ok(None);
+    }
+    let whole = follow_links(files, alloc, path)?;
+    let new = with_new_suffix(alloc, whole.as_str())?;
+    Ok(Some(Places { new, whole }))
+}
+
+// Whether nothing is at the path, or a regular file; of a link the place that it leads to is asked.
+fn is_replaceable<R: Files>(files: &R, path: &str) -> io::Result<bool> {
+    match files.metadata(path) {
+        Ok(met) => Ok(met.is_file()),
+        Err(error) if error.kind() == ErrorKind::NotFound && !path.is_empty() => Ok(true),
+        Err(error) => Err(error),
+    }
+}
+
+// Links that are followed, one behind the other: as many as Linux follows.
+const MOST_LINKS: u32 = 40;
+
+// The place that a path leads to.
+fn follow_links<R: Files>(files: &R, alloc: Global, path: &str) -> Result<PathBuf, FileError> {
+    let mut place = PathBuf::from_str(alloc, path)?;
+    for _ in 0..MOST_LINKS {
+        if !is_link(files, place.as_str()) {
+            return Ok(place);
+        }
+        let target = files.read_link(alloc, place.as_str())?;
+        place = Path::new(place.as_str()).with_file_name(alloc, target.as_str())?;
+    }
+    Err(FileError::Failed(ErrorKind::FilesystemLoop))
+}
+
+fn is_link<R: Files>(files: &R, path: &str) -> bool {
+    match files.symlink_metadata(path) {
+        Ok(met) => met.is_symlink(),
+        Err(_) => false,
+    }
+}
+
+// The path with `.new` behind it.
+fn with_new_suffix(alloc: Global, path: &str) -> Result<PathBuf, AllocError>
+    ensures { IfOk result (λ place. path_buf_bytes place ≡ path.now ++ codes ".new") }
+{
+    let mut text = String::from_str(alloc, path)?;
+    text.push_str(".new")?;
+    PathBuf::from_str(alloc, text.as_str())
+}

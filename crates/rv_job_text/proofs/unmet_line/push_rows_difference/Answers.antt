@@ -1,0 +1,34 @@
+use Rattle.std.proofs.Common.{◌++◌, append_assoc, codes, sym}
+use Rattle.rv_text.proofs.Public.{ended, told}
+use Rattle.rv_job_text.specs.UnmetLines.{bytes_difference_text, row_end_text, rows_difference_text, signatures_difference_text}
+use Rattle.rv_job_text.proofs.unmet_line.push_rows_difference.Goals as goal
+
+pub returns-in_ok-push_row_end-in-Ending : goal.returns-in_ok-push_row_end-in-Ending
+unfolding rows_difference_text
+returns-in_ok-push_row_end-in-Ending c =
+    let other = codes "it ended with " ++ row_end_text c.args.other.now.ending in
+    rw c.in-Ending.is
+    (told _ _ _ _ _ (sym (append_assoc other (codes ", this with ") (row_end_text c.args.row.now.ending)))
+    (ended _ _ _ _ _ _ c.in_ok-push_row_end-in-Ending.ensures c.push_row_end-in-Ending.ensures))
+
+pub returns-in_ok-push_text-in-Console : goal.returns-in_ok-push_text-in-Console
+unfolding rows_difference_text
+returns-in_ok-push_text-in-Console c =
+    let met = c.as_slice.result.now in
+    let wanted = c.as_slice-in-Console.result.now in
+    rw (c.in-Console.is, ← c.as_slice.ensures, ← c.as_slice-in-Console.ensures)
+    (ended _ _ _ _ (codes "console: ") (bytes_difference_text c.in-Console.difference met wanted)
+    c.in_ok-push_text-in-Console.ensures c.push_bytes_difference.ensures)
+
+pub returns-in_ok-push_text-in-Signature : goal.returns-in_ok-push_text-in-Signature
+unfolding rows_difference_text
+returns-in_ok-push_text-in-Signature c =
+    let met = c.args.row.now.signature in
+    let wanted = c.args.other.now.signature in
+    rw c.in-Signature.is
+    (ended _ _ _ _ (codes "signature: ") (signatures_difference_text c.args.first met wanted c.in-Signature.difference)
+    c.in_ok-push_text-in-Signature.ensures c.push_signatures_difference.ensures)
+
+pub returns-in-Absent : goal.returns-in-Absent
+unfolding rows_difference_text
+returns-in-Absent c = rw c.in-Absent.is c.push_text-in-Absent.ensures

@@ -1,0 +1,14 @@
+use Rattle.std.proofs.Common.{◌++◌, ℕ, List, codes}
+use Rattle.rv_expect.specs.Comparisons.{sides_of}
+use Rattle.rv_job_text.specs.UnmetLines.{unmet_line, unmet_expectation_text}
+use Rattle.rv_text.proofs.Public.{ended, more}
+use Rattle.rv_job_text.proofs.unmet_line.push_unmet_line.Goals as goal
+
+pub returns : goal.returns
+unfolding unmet_line
+returns c =
+    let margin : List ℕ = codes "     expected " in
+    let text : List ℕ = unmet_expectation_text c.args.address (sides_of c.args.comparison.now) c.args.unmet in
+    ended _ _ _ _ (margin ++ text) (codes "\n")
+    (more _ _ _ margin text c.in_ok-push_text.ensures c.in_ok-push_unmet_expectation.ensures)
+    c.push_text-2.ensures

@@ -1,0 +1,44 @@
+-- What the image of a job says of its run: the symbol of a fault's place, and where a signature
+-- stands.
+use Rattle.std.specs.Prelude.{ℕ, List, Option, Some, None, Result, Ok, Err}
+use Rattle.rv_elf.specs.declared.error.ImageError.{ImageError}
+use Rattle.rv_elf.specs.declared.image.Image.{Image}
+use Rattle.rv_elf.specs.Image.{image_of}
+use Rattle.rv_elf.specs.SymbolSearch.{symbol_at}
+use Rattle.rv_elf.specs.Symbols.{symbol_of}
+use Rattle.rv_isa.specs.declared.sets.Isa.{Isa}
+use Rattle.rv_jobs.specs.declared_job.Symbols.{Symbols}
+use Rattle.rv_rows.specs.declared_row.RowEnd.{RowEnd}
+use Rattle.rv_rows.specs.declared_row.RowEnd.TheVariants as ending
+
+-- ---- a fault's place
+
+-- the symbol that stands before an address, in a file that can be read as an image
+abbrev pub symbol_in_image : Result Image ImageError → List ℕ → ℕ → Option (List ℕ × ℕ)
+symbol_in_image (Ok image) file address = symbol_at image file address
+symbol_in_image (Err why) file address = None
+
+unfoldable pub symbol_in_file : Isa → Option (List ℕ) → ℕ → Option (List ℕ × ℕ)
+symbol_in_file isa None address = None
+symbol_in_file isa (Some file) address = symbol_in_image (image_of isa file) file address
+
+-- that of the place of a fault, by the bytes of the job's image
+unfoldable pub fault_symbol : Isa → Option (List ℕ) → RowEnd → Option (List ℕ × ℕ)
+fault_symbol isa file (ending.Fault kind pc value) = symbol_in_file isa file pc
+fault_symbol isa file _ = None
+
+-- ---- a signature's address
+
+abbrev pub value_if_defined : Result ℕ ImageError → Option ℕ
+value_if_defined (Ok address) = Some address
+value_if_defined (Err why) = None
+
+-- the value of the symbol that a signature begins with, in a file that can be read as an image
+abbrev pub signature_begin_in_image : Result Image ImageError → List ℕ → Symbols → Option ℕ
+signature_begin_in_image (Ok image) file names = value_if_defined (symbol_of file names.begin)
+signature_begin_in_image (Err why) file names = None
+
+unfoldable pub signature_begin : Isa → Option (List ℕ) → Option Symbols → Option ℕ
+signature_begin isa None names = None
+signature_begin isa (Some file) None = None
+signature_begin isa (Some file) (Some names) = signature_begin_in_image (image_of isa file) file names

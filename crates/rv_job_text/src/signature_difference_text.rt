@@ -1,0 +1,202 @@
+//! What differs first between the words of a signature and those that are expected, as text.
+
+ghost use Rattle.std.specs.Prelude.{◌≡◌, ◌++◌, ◌+◌, ◌*◌, ◌%◌, ◌^◌, OnOk, option_map};
+ghost use Rattle.rv_text.specs.Spans.{span_text};
+ghost use Rattle.rv_job_text.specs.UnmetLines.{absent_signature_text, bad_reference_line_text, reference_digits_at, word_place_text, reference_difference_text};
+ghost use Rattle.rv_job_text.specs.UnmetLines.{signature_difference_text, signatures_difference_text, signature_word_digits, word_difference_text};
+
+use crate::difference_text::{bytes_or_empty, push_compared_name, push_count_difference};
+use rv_expect::{Comparison, Difference, SignatureDifference, signature_words_or_empty};
+use rv_rows::{LINE, Words};
+use rv_text::{Span, push_spans, push_text};
+use std::alloc::AllocError;
+
+/// A reference: its path, and its bytes.
+#[derive(Clone, Copy)]
+struct ReferenceFile<'a> {
+    path: &'a str,
+    bytes: &'a [u8],
+}
+
+/// What differs from the signature that is expected. The address is that of its first word, where it is known.
+#[tactic(auto, unfolding(crate::specs::UnmetLines::signature_difference_text))]
+pub(crate) fn push_signature_difference(
+    bytes: &mut Vec<u8>,
+    comparison: &Comparison<'_, '_>,
+    address: Option<u32>,
+    difference: SignatureDifference,
+) -> Result<(), AllocError>
+    ensures { OnOk result (bytes.new.items ≡ bytes.old.items
+        ++ signature_difference_text address comparison.now.job.now.expect_signature
+        comparison.now.row.now.signature
+        (option_map (λ bytes. bytes.now) comparison.now.reference) difference) }
+{
+    let Some(path) = &comparison.job.expect_signature else {
+        return push_text(bytes, "no signature");
+    };
+    let path = path.as_str();
+    push_compared_name(bytes, "the signature of ", path)?;
+    let words = signature_words_or_empty(&comparison.row.signature);
+    let reference = ReferenceFile {
+        path,
+        bytes: bytes_or_empty(comparison.reference),
+    };
+    push_reference_difference(bytes, address, words, &reference, difference)
+}
+
+#[tactic(auto, unfolding(crate::specs::UnmetLines::reference_difference_text))]
+fn push_reference_difference(
+    bytes: &mut Vec<u8>,
+    first: Option<u32>,
+    words: &[u32],
+    reference: &ReferenceFile<'_>,
+    difference: SignatureDifference,
+) -> Result<(), AllocError>
+    ensures { OnOk result (bytes.new.items ≡ bytes.old.items
+        ++ reference_difference_text first reference.now.path.now words.now reference.now.bytes.now
+        difference) }
+{
+    let text = reference.bytes;
+    match difference {
+        SignatureDifference::Line(number) => push_bad_reference_line(bytes, number, reference.path),
+        SignatureDifference::Word(place) => {
+            let wanted = Span::Shown(reference_digits_at(text, place));
+            push_word_difference(
+                bytes,
+                first,
+                place,
+                signature_word_digits(words, place),
+                wanted,
+            )
+        }
+        SignatureDifference::Count => push_count_difference(
+            bytes,
+            words.len(),
+            " words",
+            text.len() / LINE,
+        ),
+        SignatureDifference::Absent => push_text(bytes, "it was not read"),
+    }
+}
+
+#[tactic(auto, unfolding(crate::specs::UnmetLines::bad_reference_line_text))]
+fn push_bad_reference_line(bytes: &mut Vec<u8>, number: usize, path: &str) -> Result<(), AllocError>
+    ensures { OnOk result (bytes.new.items ≡ bytes.old.items ++ bad_reference_line_text number path.now) }
+{
+    push_spans(
+        bytes,
+        &[
+            Span::Text("line "),
+            Span::Number(number as u64),
+            Span::Text(" of "),
+            Span::Shown(path.as_bytes()),
+            Span::Text(" is not eight lower-case digits and a line feed"),
+        ],
+    )
+}
+
+/// What differs between two signatures, of which one may be absent.
+#[tactic(auto, unfolding(crate::specs::UnmetLines::signatures_difference_text))]
+pub(crate) fn push_signatures_difference(
+    bytes: &mut Vec<u8>,
+    first: Option<u32>,
+    words: &Option<Words>,
+    others: &Option<Words>,
+    difference: Difference,
+) -> Result<(), AllocError>
+    ensures { OnOk result (bytes.new.items ≡ bytes.old.items
+        ++ signatures_difference_text first words.now others.now difference) }
+{
+    let met = signature_words_or_empty(words);
+    let wanted = signature_words_or_empty(others);
+    match difference {
+        Difference::At(place) => {
+            let wanted = signature_word_digits(wanted, place);
+            push_word_difference(
+                bytes,
+                first,
+                place,
+                signature_word_digits(met, place),
+                wanted,
+            )
+        }
+        Difference::Lengths => push_count_difference(bytes, met.len(), " words", wanted.len()),
+        Difference::Absent => push_text(bytes, absent_signature_text(words)),
+    }
+}
+
+// That one of two signatures is absent.
+fn absent_signature_text(words: &Option<Words>) -> &'static str
+    ensures { result.now ≡ absent_signature_text words.now }
+{
+    match words {
+        Some(_) => "there is one, expected none",
+        None => "there is none, expected one",
+    }
+}
+
+// What a word is at a place, and what is expected there.
+fn push_word_difference<'a>(
+    bytes: &mut Vec<u8>,
+    first: Option<u32>,
+    place: usize,
+    met: Span<'a>,
+    wanted: Span<'a>,
+) -> Result<(), AllocError>
+    ensures { OnOk result (bytes.new.items ≡ bytes.old.items
+        ++ word_difference_text first place (span_text met.entry) (span_text wanted.entry)) }
+{
+    push_word_place(bytes, first, place)?;
+    push_spans(bytes, &[met, Span::Text(", expected "), wanted])
+}
+
+// The number of a word, and its address where that of the first is known.
+#[tactic(auto, unfolding(crate::specs::UnmetLines::word_place_text))]
+fn push_word_place(bytes: &mut Vec<u8>, first: Option<u32>, place: usize) -> Result<(), AllocError>
+    ensures { OnOk result (bytes.new.items ≡ bytes.old.items ++ word_place_text first place) }
+{
+    let number = Span::Number(place as u64);
+    match first {
+        Some(first) => push_spans(
+            bytes,
+            &[
+                Span::Text("word "),
+                number,
+                Span::Text(" (at "),
+                Span::Word(word_address(first, place)),
+                Span::Text(") is "),
+            ],
+        ),
+        None => push_spans(bytes, &[Span::Text("word "), number, Span::Text(" is ")]),
+    }
+}
+
+fn word_address(first: u32, place: usize) -> u32
+    ensures { result ≡ (first + 4 * place) % 2 ^ 32 }
+{
+    ((first as u128 + 4 * place as u128) % 0x1_0000_0000) as u32
+}
+
+// The digits of the word at a place, if there is one.
+#[tactic(auto, unfolding(crate::specs::UnmetLines::signature_word_digits))]
+fn signature_word_digits(words: &[u32], place: usize) -> Span<'static>
+    ensures { span_text result ≡ signature_word_digits words.now place }
+{
+    if place < words.len() {
+        Span::Word(words[place])
+    } else {
+        Span::Text("")
+    }
+}
+
+// The digits of the line at a place.
+#[tactic(auto, unfolding(crate::specs::UnmetLines::reference_digits_at))]
+fn reference_digits_at(text: &[u8], place: usize) -> &[u8]
+    ensures { result.now ≡ reference_digits_at text.now place }
+{
+    if place < text.len() / LINE {
+        &text[place * LINE..place * LINE + (LINE - 1)]
+    } else {
+        &[]
+    }
+}

@@ -1,0 +1,10 @@
+use Rattle.std.proofs.Common.{◌≤◌, length}
+use denote.Shadow.{shadow}
+use denote.Text.{Utf8}
+use Rattle.rv_list_errors.proofs.headers.values.skip_word.Given as goal
+
+abbrev pub invariant-letters : goal.invariant-letters
+invariant-letters l = shadow (Utf8 l.rest) × (length l.rest ≤ length l.text)
+
+abbrev pub decreases-letters : goal.decreases-letters
+decreases-letters l = length l.rest

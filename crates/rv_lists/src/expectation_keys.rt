@@ -1,0 +1,115 @@
+//! What a job of a list expects of its row: the keys `expect_exit`, `expect_end`, `expect_console`,
+//! `expect_console_file` and `expect_signature`.
+
+ghost use Rattle.std.specs.Prelude.{◌≡◌};
+ghost use Rattle.toml.specs.View.{table_view};
+ghost use Rattle.rv_lists.specs.Reading.{Gives};
+ghost use Rattle.rv_lists.specs.JobList.{exit_from_table, reference_from_table, console_from_text, console_from_path, console_from_table};
+ghost use Rattle.rv_lists.specs.JobList.{end_from_text, end_from_table};
+
+use crate::error::What;
+use crate::job::{ExpectedConsole, ExpectedEnd};
+use crate::keys::{number_at_key, text_at_key};
+use crate::texts::is_path;
+use rv_base::limits::MOST_CONSOLE;
+use rv_base::{Bytes, Text};
+use rv_machine::FaultKind;
+use std::alloc::Global;
+use toml::Table;
+
+#[tactic(auto, unfolding(crate::specs::JobList::exit_from_table))]
+pub(crate) fn exit_from_table(table: &Table) -> Result<Option<u32>, What>
+    ensures { result ≡ exit_from_table (table_view table.now) }
+{
+    match number_at_key(table, "expect_exit") {
+        Some(n) => {
+            if 0 <= n && n <= 0xffff_ffff {
+                Ok(Some(n as u32))
+            } else {
+                Err(What::Expect)
+            }
+        }
+        None => Ok(None),
+    }
+}
+
+#[tactic(auto, unfolding(crate::specs::JobList::reference_from_table))]
+pub(crate) fn reference_from_table(
+    alloc: Global,
+    asked: bool,
+    table: &Table,
+) -> Result<Option<Text>, What>
+    ensures { Gives result (reference_from_table asked (table_view table.now)) }
+{
+    match text_at_key(table, "expect_signature") {
+        Some(path) => {
+            if asked && is_path(path) {
+                Ok(Some(Text::copy(alloc, path)?))
+            } else {
+                Err(What::Expect)
+            }
+        }
+        None => Ok(None),
+    }
+}
+
+#[tactic(auto, unfolding(crate::specs::JobList::console_from_table))]
+pub(crate) fn console_from_table(
+    alloc: Global,
+    table: &Table,
+) -> Result<Option<ExpectedConsole>, What>
+    ensures { Gives result (console_from_table (table_view table.now)) }
+{
+    match (
+        text_at_key(table, "expect_console"),
+        text_at_key(table, "expect_console_file"),
+    ) {
+        (None, None) => Ok(None),
+        (Some(text), None) => console_from_text(alloc, text.as_bytes()),
+        (None, Some(path)) => console_from_path(alloc, path),
+        (Some(_), Some(_)) => Err(What::Expect),
+    }
+}
+
+fn console_from_text(alloc: Global, text: &[u8]) -> Result<Option<ExpectedConsole>, What>
+    ensures { Gives result (console_from_text text.now) }
+{
+    if text.len() <= MOST_CONSOLE {
+        let bytes = Bytes::new(text.to_vec(alloc)?);
+        Ok(Some(ExpectedConsole::Text(bytes)))
+    } else {
+        Err(What::Expect)
+    }
+}
+
+fn console_from_path(alloc: Global, path: &str) -> Result<Option<ExpectedConsole>, What>
+    ensures { Gives result (console_from_path path.now) }
+{
+    if is_path(path) {
+        Ok(Some(ExpectedConsole::File(Text::copy(alloc, path)?)))
+    } else {
+        Err(What::Expect)
+    }
+}
+
+#[tactic(auto, unfolding(crate::specs::JobList::end_from_table))]
+pub(crate) fn end_from_table(table: &Table) -> Result<Option<ExpectedEnd>, What>
+    ensures { result ≡ end_from_table (table_view table.now) }
+{
+    match text_at_key(table, "expect_end") {
+        Some(text) => end_from_text(text),
+        None => Ok(None),
+    }
+}
+
+fn end_from_text(text: &str) -> Result<Option<ExpectedEnd>, What>
+    ensures { result ≡ end_from_text text.now }
+{
+    if text == "budget" {
+        return Ok(Some(ExpectedEnd::Budget));
+    }
+    match FaultKind::named(text.as_bytes()) {
+        Some(kind) => Ok(Some(ExpectedEnd::Fault(kind))),
+        None => Err(What::Expect),
+    }
+}

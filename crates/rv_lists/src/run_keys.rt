@@ -1,0 +1,105 @@
+//! How a job runs and is to end: the last four keys of a job, in the order of their faults.
+
+ghost use Rattle.std.specs.Prelude.{◌≡◌, ◌<◌, IfOk, IfSome, length};
+ghost use Rattle.toml.specs.View.{table_view};
+ghost use Rattle.rv_lists.specs.JobList.{names_of_jobs, same_as_from_table, isa_from_text, isa_from_table, misaligned_from_text, misaligned_from_table};
+ghost use Rattle.rv_lists.specs.JobSteps.{manner_from_table};
+
+use crate::earlier_jobs::EarlierJobs;
+use crate::error::What;
+use crate::expectation_keys::end_from_table;
+use crate::job::ExpectedEnd;
+use crate::keys::text_at_key;
+use rv_isa::Isa;
+use rv_memory::Misaligned;
+use toml::Table;
+
+/// How a job runs and is to end.
+#[derive(Clone, Copy)]
+pub(crate) struct Manner {
+    pub(crate) expect_end: Option<ExpectedEnd>,
+    pub(crate) same_as: Option<usize>,
+    pub(crate) isa: Isa,
+    pub(crate) misaligned: Misaligned,
+}
+
+/// The last four keys of a job, behind the jobs that are read so far.
+#[tactic(auto, unfolding(crate::specs::JobSteps::manner_from_table))]
+pub(crate) fn manner_from_table(earlier: &EarlierJobs, table: &Table) -> Result<Manner, What>
+    ensures value { result ≡ manner_from_table (names_of_jobs earlier.now) (table_view table.now) }
+    ensures earlier { IfOk result
+        (λ manner. IfSome manner.same_as (λ place. place < length earlier.now)) }
+{
+    let expect_end = end_from_table(table)?;
+    let same_as = same_as_from_table(earlier, table)?;
+    let isa = isa_from_table(table)?;
+    let misaligned = misaligned_from_table(table)?;
+    Ok(Manner {
+        expect_end,
+        same_as,
+        isa,
+        misaligned,
+    })
+}
+
+#[tactic(auto, unfolding(crate::specs::JobList::same_as_from_table))]
+fn same_as_from_table(earlier: &EarlierJobs, table: &Table) -> Result<Option<usize>, What>
+    ensures value { result ≡ same_as_from_table (names_of_jobs earlier.now) (table_view table.now) }
+    ensures earlier { IfOk result (λ o. IfSome o (λ k. k < length earlier.now)) }
+{
+    match text_at_key(table, "same_as") {
+        Some(name) => match earlier.place_of_name(name) {
+            Some(place) => Ok(Some(place)),
+            None => Err(What::SameAs),
+        },
+        None => Ok(None),
+    }
+}
+
+#[tactic(auto, unfolding(crate::specs::JobList::isa_from_table))]
+fn isa_from_table(table: &Table) -> Result<Isa, What>
+    ensures { result ≡ isa_from_table (table_view table.now) }
+{
+    match text_at_key(table, "isa") {
+        Some(text) => isa_from_text(text),
+        None => Ok(Isa::Imc),
+    }
+}
+
+fn isa_from_text(text: &str) -> Result<Isa, What>
+    ensures { result ≡ isa_from_text text.now }
+{
+    if text == "rv32i" {
+        Ok(Isa::I)
+    } else if text == "rv32im" {
+        Ok(Isa::Im)
+    } else if text == "rv32ic" {
+        Ok(Isa::Ic)
+    } else if text == "rv32imc" {
+        Ok(Isa::Imc)
+    } else {
+        Err(What::Isa)
+    }
+}
+
+#[tactic(auto, unfolding(crate::specs::JobList::misaligned_from_table))]
+fn misaligned_from_table(table: &Table) -> Result<Misaligned, What>
+    ensures { result ≡ misaligned_from_table (table_view table.now) }
+{
+    match text_at_key(table, "misaligned") {
+        Some(text) => misaligned_from_text(text),
+        None => Ok(Misaligned::Fault),
+    }
+}
+
+fn misaligned_from_text(text: &str) -> Result<Misaligned, What>
+    ensures { result ≡ misaligned_from_text text.now }
+{
+    if text == "fault" {
+        Ok(Misaligned::Fault)
+    } else if text == "allow" {
+        Ok(Misaligned::Allow)
+    } else {
+        Err(What::Misaligned)
+    }
+}

@@ -1,0 +1,125 @@
+//! What is gathered of the parts of a run, text by text.
+
+ghost use Rattle.std.specs.Prelude.{◌≡◌, ◌<◌, ◌≤◌, ◌+◌, ◌↔◌, IfOk, IfErr, OnOk, MatchOption, None, IsTrue, length};
+ghost use Rattle.std.specs.Prelude.{replicate, vec_len};
+ghost use Rattle.std.specs.List.{All};
+ghost use Rattle.rv_merge.specs.Parts.{bytes_of_texts, run_of_shard, nth_text};
+ghost use Rattle.rv_merge.specs.Refusals.{IsRefused};
+ghost use Rattle.rv_merge.specs.GatheredParts.{IsTextOf, IsOtherRun, HoldsIn, filled_slots, report_of_part};
+
+use crate::error::{Flaw, MergeError};
+use crate::part::Part;
+use rv_jobs::Text;
+use rv_report::Shard;
+use rv_rows::Row;
+use std::alloc::{AllocError, Global};
+
+/// The rows of the texts so far, each in the slot of its job.
+#[derive(Drop)]
+pub(crate) struct Gathered {
+    /// The shard of the first text.
+    pub(crate) first: Shard,
+    /// For each shard the place of its text, where it came.
+    pub(crate) sources: Vec<Option<usize>>,
+    /// For each job its row, where it came.
+    pub(crate) slots: Vec<Option<Row>>,
+}
+
+/// No rows of the run of a shard.
+pub(crate) fn no_parts_of_run(alloc: Global, shard: &Shard) -> Result<Gathered, AllocError>
+    ensures first { IfOk result (λ g. g.first ≡ shard.now) }
+    ensures sources { IfOk result (λ g. g.sources.items ≡ replicate shard.now.shards None) }
+    ensures slots { IfOk result (λ g. g.slots.items ≡ replicate shard.now.jobs None) }
+{
+    let stamp = String::from_str(alloc, shard.stamp.as_str())?;
+    let sources = vacant_slots(alloc, shard.shards)?;
+    let slots = vacant_slots(alloc, shard.jobs)?;
+    Ok(Gathered {
+        first: Shard {
+            jobs: shard.jobs,
+            number: shard.number,
+            shards: shard.shards,
+            stamp: Text::new(stamp),
+        },
+        sources,
+        slots,
+    })
+}
+
+fn vacant_slots<T: Drop>(alloc: Global, count: u32) -> Result<Vec<Option<T>>, AllocError>
+    ensures { IfOk result (λ slots. slots.items ≡ replicate count None) }
+{
+    let mut slots = Vec::new(alloc);
+    for _ in 0..count {
+        slots.push(None)?;
+    }
+    Ok(slots)
+}
+
+/// Takes the rows of the part whose text stands at a place, unless the same text came before.
+pub(crate) fn add_part(
+    gathered: &mut Gathered,
+    texts: &[&[u8]],
+    at: usize,
+    part: Part,
+) -> Result<(), MergeError>
+    requires at { at < length texts.now }
+    requires text { IsTextOf (report_of_part part) (nth_text (bytes_of_texts texts.now) at) }
+    requires holds { HoldsIn (bytes_of_texts texts.now) at gathered.old }
+    ensures added { OnOk result (HoldsIn (bytes_of_texts texts.now) (at + 1) gathered.new) }
+    ensures err { IfErr result (IsRefused (bytes_of_texts texts.now)) }
+{
+    if let Some(flaw) = other_run_flaw(&gathered.first, &part.shard) {
+        return Err(MergeError::Text(at, flaw));
+    }
+    let shard = part.shard.number as usize - 1;
+    match gathered.sources[shard] {
+        None => {
+            gathered.sources[shard] = Some(at);
+            let rows = part.rows.into_vec();
+            put_rows_in_slots(&mut gathered.slots, part.numbers.as_slice(), rows);
+            Ok(())
+        }
+        Some(earlier) if are_same_texts(texts, earlier, at) => Ok(()),
+        Some(earlier) => Err(MergeError::Text(at, Flaw::OtherText(earlier))),
+    }
+}
+
+// What tells the run of a shard from that of the first text.
+fn other_run_flaw(first: &Shard, shard: &Shard) -> Option<Flaw>
+    ensures { MatchOption result (run_of_shard shard.now ≡ run_of_shard first.now)
+        (λ flaw. IsOtherRun flaw first.now shard.now) }
+{
+    if shard.shards != first.shards {
+        return Some(Flaw::OtherShards);
+    }
+    if shard.jobs != first.jobs {
+        return Some(Flaw::OtherJobs);
+    }
+    if shard.stamp.as_str() != first.stamp.as_str() {
+        return Some(Flaw::OtherStamp);
+    }
+    None
+}
+
+fn are_same_texts(texts: &[&[u8]], place: usize, other: usize) -> bool
+    requires place { place < length texts.now }
+    requires other { other < length texts.now }
+    ensures { IsTrue result ↔ (nth_text (bytes_of_texts texts.now) place
+        ≡ nth_text (bytes_of_texts texts.now) other) }
+{
+    texts[place] == texts[other]
+}
+
+// Puts rows into the slots of their jobs.
+fn put_rows_in_slots(slots: &mut Vec<Option<Row>>, numbers: &[u32], rows: Vec<Row>)
+    requires numbers { All (λ n. (0 < n) × (n ≤ vec_len slots.old)) numbers.now }
+    requires counted { length numbers.now ≡ vec_len rows }
+    ensures { slots.new.items ≡ filled_slots numbers.now rows.items slots.old.items }
+{
+    let mut at = 0;
+    for row in rows {
+        slots[numbers[at] as usize - 1] = Some(row);
+        at += 1;
+    }
+}

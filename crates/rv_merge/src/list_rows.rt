@@ -1,0 +1,89 @@
+//! The rows that a machine gives for a list that was read.
+
+ghost use Rattle.std.specs.Prelude.{◌≡◌, ◌<◌, ◌^◌, ℕ, List, Ok};
+ghost use Rattle.std.specs.List.{All, AllByRecursion};
+ghost use Rattle.hex.specs.Hex.{IsBytes};
+ghost use Rattle.rv_jobs.specs.declared.answers.Answer.{Answer};
+ghost use Rattle.rv_jobs.specs.declared_job.Job.{Job};
+ghost use Rattle.rv_jobs.specs.JobList.{job_list_of};
+ghost use Rattle.rv_merge.specs.Parts.{AreListed};
+ghost use Rattle.rv_report.specs.Saved.{IsWord};
+ghost use Rattle.rv_rows.specs.Rows.{rows_of};
+ghost use Rattle.rv_rows.specs.Wholes.{plan_of_jobs};
+ghost use Rattle.rv_merge.specs.Numbers.{EndsInWords, HasNumbers, HasWords};
+
+use rv_jobs::Bytes;
+use rv_rows::{Row, RowEnd, Words};
+
+/// The rows that a machine gives for a list that was read, whatever it kept of the list's paths, are those of a list:
+/// up to 4,096, with names by the list's rule that are all different, numbers of 32 bits, consoles of bytes,
+/// signatures of at most 65,536 words, and no refusal for want of memory.
+pub fn rows_are_those_of_a_list(rows: &[Row])
+    ensures { (bytes : List ℕ) (list : List Job) (answers : List Answer)
+        → job_list_of bytes ≡ Ok list → rows.now ≡ rows_of (plan_of_jobs list answers)
+        → AreListed rows.now }
+{
+    rows_have_word_numbers(rows);
+}
+
+fn rows_have_word_numbers(rows: &[Row])
+    ensures { All HasNumbers rows.now }
+{
+    for row in rows {
+        row_has_word_numbers(row);
+    }
+}
+
+fn row_has_word_numbers(row: &Row)
+    ensures { HasNumbers row.now }
+{
+    ending_has_word_numbers(row.ending);
+    number_is_word(row.steps);
+    console_is_bytes(&row.console);
+    signature_is_words(&row.signature);
+}
+
+fn ending_has_word_numbers(ending: RowEnd)
+    ensures { EndsInWords ending }
+{
+    match ending {
+        RowEnd::Exit(code) => number_is_word(code),
+        RowEnd::Fault(_, pc, value) => {
+            number_is_word(pc);
+            number_is_word(value);
+        }
+        RowEnd::Budget | RowEnd::Refused(_) => {}
+    }
+}
+
+fn number_is_word(number: u32)
+    ensures { IsWord number }
+{
+    let _read = number;
+}
+
+fn console_is_bytes(console: &Bytes)
+    ensures { IsBytes console.now }
+{
+    slice_is_bytes(console.as_slice());
+}
+
+fn slice_is_bytes(bytes: &[u8])
+    ensures { IsBytes bytes.now }
+{
+    let _read = bytes;
+}
+
+fn signature_is_words(signature: &Option<Words>)
+    ensures { HasWords signature.now }
+{
+    if let Some(words) = signature {
+        slice_is_words(words.as_slice());
+    }
+}
+
+fn slice_is_words(words: &[u32])
+    ensures { AllByRecursion IsWord words.now }
+{
+    let _read = words;
+}

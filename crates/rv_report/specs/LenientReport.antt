@@ -1,0 +1,328 @@
+-- What the lines of a text say. Any text says something: whether it is a report is seen by writing
+-- what it says.
+use Rattle.std.specs.Prelude.{◌==◌, if◌then◌else◌, ◌+◌, ◌-◌, ◌*◌, ◌^◌, ◌&&◌, ◌||◌, ℕ, zero, suc}
+use Rattle.std.specs.Prelude.{nat_lt, nat_le, min, Bool, true, false, not, List, [], ◌∷◌, ◌++◌}
+use Rattle.std.specs.Prelude.{length, replicate, take, drop, slice_index, Option, Some, None}
+use Rattle.std.specs.Prelude.{Result, Ok, Err, codes, is_some}
+use Rattle.std.specs.List.{onto_first}
+use Rattle.hex.specs.Hex.{decode_of}
+use Rattle.hex.specs.declared.error.FromHexError.{FromHexError}
+use Rattle.rv_base.specs.Names.{is_name, place_in}
+use Rattle.rv_base.specs.Limits.{most_jobs}
+use Rattle.rv_machine.specs.declared.ending.FaultKind.{FaultKind}
+use Rattle.rv_machine.specs.declared.ending.FaultKind.TheVariants as fault
+use Rattle.rv_machine.specs.Faults.{fault_named}
+use Rattle.rv_report.specs.Report.{refusal_named}
+use Rattle.rv_report.specs.declared.row.Refusal.{Refusal}
+use Rattle.rv_report.specs.declared.row.Refusal.TheVariants as refusal
+use Rattle.rv_report.specs.declared.row.Row.{Row}
+use Rattle.rv_report.specs.declared.row.RowEnd.{RowEnd}
+use Rattle.rv_report.specs.declared.row.RowEnd.TheVariants as ending
+use Rattle.rv_report.specs.declared.row.Verdict.{Verdict}
+use Rattle.rv_report.specs.declared.row.Verdict.TheVariants as verdict
+use Rattle.rv_report.specs.declared.gathering.Stage.{Stage}
+use Rattle.rv_report.specs.declared.gathering.Stage.TheVariants as stage
+use Rattle.rv_report.specs.declared.saved.Extent.{Extent}
+use Rattle.rv_report.specs.declared.saved.Extent.TheVariants as extent
+use Rattle.rv_report.specs.declared.saved.SavedReport.{SavedReport}
+use Rattle.rv_report.specs.Saved.{fits_numbers, row_names, most_words}
+
+-- ---- lines, and the parts of a line
+
+-- the lines, without their line feeds
+unfoldable pub lines : List ℕ → List (List ℕ)
+lines [] = []
+lines (b ∷ bs) = if b == 10 then [] ∷ lines bs else onto_first b (lines bs)
+
+-- the place of a byte, or the length where it isn't there
+unfoldable pub place_of_byte : ℕ → List ℕ → ℕ
+place_of_byte byte [] = 0
+place_of_byte byte (b ∷ bs) = if b == byte then 0 else place_of_byte byte bs + 1
+
+abbrev pub text_before_byte : ℕ → List ℕ → List ℕ
+text_before_byte byte text = take (place_of_byte byte text) text
+
+abbrev pub text_after_byte : ℕ → List ℕ → List ℕ
+text_after_byte byte text = drop (place_of_byte byte text + 1) text
+
+-- ---- numbers and words; what is too large is the greatest
+
+abbrev pub most : ℕ
+most = 2 ^ 32 - 1
+
+abbrev pub with_digit : ℕ → ℕ → ℕ → ℕ
+with_digit base value digit = min (min (value * base) most + digit) most
+
+unfoldable pub decimal_number_on : ℕ → List ℕ → ℕ
+decimal_number_on value [] = value
+decimal_number_on value (b ∷ bs) = decimal_number_on (with_digit 10 value (b - 48)) bs
+
+abbrev pub decimal_number : List ℕ → ℕ
+decimal_number text = decimal_number_on 0 text
+
+abbrev pub hex_digit_value : ℕ → ℕ
+hex_digit_value b = if nat_lt b 97 then b - 48 else b - 87
+
+unfoldable pub hex_number : ℕ → List ℕ → ℕ
+hex_number value [] = value
+hex_number value (b ∷ bs) = hex_number (with_digit 16 value (hex_digit_value b)) bs
+
+-- a value with so many zeros behind it
+unfoldable pub with_zero_digits : ℕ → ℕ → ℕ
+with_zero_digits zero value = value
+with_zero_digits (suc count) value = with_zero_digits count (with_digit 16 value 0)
+
+-- digits that are missing of eight are zeros: so a word that is cut off differs from its report
+-- behind the cut
+unfoldable pub hex_word : List ℕ → ℕ
+hex_word text = with_zero_digits (8 - length (take 8 text)) (hex_number 0 (take 8 text))
+
+abbrev pub is_hex : ℕ → Bool
+is_hex b = (nat_le 48 b && nat_le b 57) || (nat_le 97 b && nat_le b 102)
+
+-- whether each byte is a lower-case hexadecimal digit
+unfoldable pub all_hex : List ℕ → Bool
+all_hex [] = true
+all_hex (b ∷ bs) = is_hex b && all_hex bs
+
+-- a word, or a beginning of one, as no other line of a report is
+abbrev pub is_hex_word : List ℕ → Bool
+is_hex_word line = nat_lt 0 (length line) && all_hex line
+
+abbrev pub bytes_if_decoded : Result (List ℕ) FromHexError → List ℕ
+bytes_if_decoded (Ok bytes) = bytes
+bytes_if_decoded (Err error) = []
+
+-- a dash is no hexadecimal text, and so says no bytes
+unfoldable pub hex_bytes : List ℕ → List ℕ
+hex_bytes text = bytes_if_decoded (decode_of text)
+
+-- ---- names
+
+-- the text itself where it is a name
+abbrev pub name_or_dash : List ℕ → List ℕ
+name_or_dash text = if is_name text then text else codes "-"
+
+-- the fault of a name, or any
+abbrev pub fault_or_first : Option FaultKind → FaultKind
+fault_or_first (Some kind) = kind
+fault_or_first None = fault.FetchAccess
+
+-- the refusal of a name, or any
+abbrev pub refusal_or_first : Option Refusal → Refusal
+refusal_or_first (Some why) = why
+refusal_or_first None = refusal.ImageUnreadable
+
+-- ---- what each line says; the byte that tells it from others is enough
+
+-- job NUMBER NAME
+abbrev pub job_number_of_line : List ℕ → ℕ
+job_number_of_line line = decimal_number (text_before_byte 32 (drop 4 line))
+
+unfoldable pub job_name_of_line : List ℕ → List ℕ
+job_name_of_line line = name_or_dash (text_after_byte 32 (drop 4 line))
+
+-- KIND pc=WORD value=WORD
+unfoldable pub fault_end_of_text : List ℕ → RowEnd
+fault_end_of_text text =
+    let words = text_after_byte 32 text in
+    ending.Fault (fault_or_first (fault_named (text_before_byte 32 text))) (hex_word (take 8 (drop 3 words)))
+    (hex_word (drop 18 words))
+
+-- end ..
+unfoldable pub row_end_of_line : List ℕ → RowEnd
+row_end_of_line line =
+    let kind = slice_index line 4 in
+    if kind == 101 then ending.Exit (decimal_number (drop 9 line))
+    else if kind == 102 then fault_end_of_text (drop 10 line)
+    else if kind == 98 then ending.Budget
+    else ending.Refused (refusal_or_first (refusal_named (drop 12 line)))
+
+-- verdict ..
+unfoldable pub verdict_of_line : List ℕ → Verdict
+verdict_of_line line =
+    let first = slice_index line 8 in
+    if first == 110 then verdict.Unasked
+    else if first == 112 then verdict.Pass
+    else verdict.Fail
+
+-- SHARD/SHARDS stamp STAMP
+unfoldable pub shard_of_text : ℕ → List ℕ → Extent
+shard_of_text jobs text =
+    let shards = text_after_byte 47 text in
+    extent.Shard (record {
+      jobs = jobs;
+      number = decimal_number (text_before_byte 47 text);
+      shards = decimal_number (text_before_byte 32 shards);
+      stamp = name_or_dash (drop 6 (text_after_byte 32 shards));
+    })
+
+-- part ROWS of JOBS, and of a shard more
+unfoldable pub extent_of_line : List ℕ → Extent
+extent_of_line line =
+    let jobs = drop 3 (text_after_byte 32 (drop 5 line)) in
+    let shard = drop 6 (text_after_byte 32 jobs) in
+    if length shard == 0 then extent.Choice (decimal_number (text_before_byte 32 jobs))
+    else shard_of_text (decimal_number (text_before_byte 32 jobs)) shard
+
+-- ---- what lines say together
+
+-- The rows so far and the numbers of their jobs, the last line, and what is known of the next row.
+-- The stage says which line comes next.
+pub record Gathered : Type 0 where
+  pub numbers : List ℕ
+  pub rows : List Row
+  pub extent : Extent
+  pub number : ℕ
+  pub name : List ℕ
+  pub ending : RowEnd
+  pub steps : ℕ
+  pub console : List ℕ
+  pub signed : Bool
+  pub count : ℕ
+  pub words : List ℕ
+  pub begun : Bool
+  pub stage : Stage
+
+-- rows with numbers and what the last line says, and nothing of a next row
+unfoldable pub gathering_between_rows : List ℕ → List Row → Extent → Gathered
+gathering_between_rows numbers rows extent = record {
+  numbers = numbers;
+  rows = rows;
+  extent = extent;
+  number = 0;
+  name = codes "-";
+  ending = ending.Budget;
+  steps = 0;
+  console = [];
+  signed = false;
+  count = 0;
+  words = [];
+  begun = false;
+  stage = stage.Between;
+}
+
+-- words that are missing are zeros: so a signature that is cut off differs from its report behind
+-- the cut
+unfoldable pub padded_words : ℕ → List ℕ → List ℕ
+padded_words count words = words ++ replicate (count - length words) 0
+
+unfoldable pub row_so_far : Verdict → Gathered → Row
+row_so_far verdict g = record {
+  name = g.name;
+  ending = g.ending;
+  steps = g.steps;
+  console = g.console;
+  signature = if g.signed then Some g.words else None;
+  verdict = verdict;
+}
+
+-- the row that was begun is one more
+unfoldable pub with_closed_row : Verdict → Gathered → Gathered
+with_closed_row verdict g =
+    gathering_between_rows (g.numbers ++ g.number ∷ []) (g.rows ++ row_so_far verdict g ∷ []) g.extent
+
+-- a line that doesn't come next: it is read no further
+abbrev pub with_stage_over : Gathered → Gathered
+with_stage_over g = record g { stage = stage.Over }
+
+-- a job's first line, if there can be one more, or the last of all
+unfoldable pub at_job_or_last_line : List ℕ → Gathered → Gathered
+at_job_or_last_line line g =
+    if (slice_index line 0 == 106) && nat_lt (length g.rows) most_jobs then
+    record g { number = job_number_of_line line; name = job_name_of_line line; begun = true; stage = stage.Ending }
+    else if slice_index line 0 == 112 then with_stage_over (record g { extent = extent_of_line line })
+    else with_stage_over g
+
+unfoldable pub at_ending : List ℕ → Gathered → Gathered
+at_ending line g =
+    if slice_index line 0 == 101 then record g { ending = row_end_of_line line; stage = stage.Steps }
+    else with_stage_over g
+
+unfoldable pub at_steps : List ℕ → Gathered → Gathered
+at_steps line g =
+    if (slice_index line 0 == 115) && (slice_index line 1 == 116) then
+    record g { steps = decimal_number (drop 6 line); stage = stage.Console }
+    else with_stage_over g
+
+unfoldable pub at_console : List ℕ → Gathered → Gathered
+at_console line g =
+    if slice_index line 0 == 99 then
+    record g { console = hex_bytes (drop 8 line); stage = stage.Signature }
+    else with_stage_over g
+
+-- a dash stands for no signature, and says 0 words
+unfoldable pub at_signature : List ℕ → Gathered → Gathered
+at_signature line g =
+    if ((slice_index line 0 == 115) && (slice_index line 1 == 105))
+    && nat_le (decimal_number (drop 10 line)) most_words then
+    record g {
+      signed = not (slice_index line 10 == 45);
+      count = decimal_number (drop 10 line);
+      words = [];
+      stage = stage.Words;
+    }
+    else with_stage_over g
+
+-- a word of the signature, or the verdict once all words are there
+unfoldable pub at_words : List ℕ → Gathered → Gathered
+at_words line g =
+    if is_hex_word line && nat_lt (length g.words) g.count then
+    record g { words = g.words ++ hex_word line ∷ [] }
+    else if (slice_index line 0 == 118) && (length g.words == g.count) then
+    with_closed_row (verdict_of_line line) g
+    else with_stage_over g
+
+abbrev pub with_line_at : Stage → List ℕ → Gathered → Gathered
+with_line_at stage.Between line g = at_job_or_last_line line g
+with_line_at stage.Ending line g = at_ending line g
+with_line_at stage.Steps line g = at_steps line g
+with_line_at stage.Console line g = at_console line g
+with_line_at stage.Signature line g = at_signature line g
+with_line_at stage.Words line g = at_words line g
+with_line_at stage.Over line g = g
+
+unfoldable pub with_line : List ℕ → Gathered → Gathered
+with_line line g = with_line_at g.stage line g
+
+unfoldable pub with_lines : List (List ℕ) → Gathered → Gathered
+with_lines [] g = g
+with_lines (line ∷ lines) g = with_lines lines (with_line line g)
+
+-- a row that isn't whole at the end is one too
+unfoldable pub with_unfinished_row : Gathered → Gathered
+with_unfinished_row g =
+    if g.begun then with_closed_row verdict.Unasked (record g { words = padded_words g.count g.words }) else g
+
+unfoldable pub gather_rows : List ℕ → Gathered
+gather_rows text = with_unfinished_row (with_lines (lines text) (gathering_between_rows [] [] extent.Whole))
+
+-- ---- and up to the first row that can't stand there
+
+-- how many of the numbers rise, up to the most jobs of a list
+unfoldable pub rising_count : ℕ → List ℕ → ℕ
+rising_count text_before_byte [] = 0
+rising_count text_before_byte (n ∷ ns) =
+    if nat_lt text_before_byte n && nat_le n most_jobs then rising_count n ns + 1 else 0
+
+-- how many texts stand before the first that is there already
+unfoldable pub count_before_repeated_name : List (List ℕ) → List (List ℕ) → ℕ
+count_before_repeated_name earlier [] = 0
+count_before_repeated_name earlier (text ∷ texts) =
+    if is_some (place_in earlier text) then 0 else count_before_repeated_name (earlier ++ text ∷ []) texts + 1
+
+-- any extent that these numbers fit, where they don't fit the given one
+unfoldable pub extent_or_choice : Extent → List ℕ → Extent
+extent_or_choice e numbers = if fits_numbers e numbers then e else extent.Choice most_jobs
+
+-- what a text says
+unfoldable pub lenient_report : List ℕ → SavedReport
+lenient_report text =
+    let g = gather_rows text in
+    let rising = take (rising_count 0 g.numbers) g.rows in
+    let count = count_before_repeated_name [] (row_names rising) in
+    record {
+      extent = extent_or_choice g.extent (take count g.numbers);
+      numbers = take count g.numbers;
+      rows = take count rising;
+    }

@@ -1,0 +1,64 @@
+//! What a text says: its lines, up to the first row that can't stand where it does.
+
+ghost use Rattle.std.specs.Prelude.{◌≡◌, ◌≤◌, IfOk, length};
+ghost use Rattle.rv_report.specs.LenientReport.{rising_count, extent_or_choice, lenient_report};
+ghost use Rattle.rv_base.specs.Limits.{most_jobs};
+ghost use Rattle.rv_report.specs.Saved.{IsSaved};
+
+use crate::gathering::gather_rows;
+use crate::names::count_before_repeated_name;
+use crate::report::Rows;
+use crate::saved::{Extent, Numbers, SavedReport};
+use rv_base::limits::MOST_JOBS;
+use std::alloc::{AllocError, Global};
+
+/// What a text says.
+#[tactic(auto, unfolding(crate::specs::LenientReport::lenient_report))]
+pub(crate) fn lenient_report(alloc: Global, text: &[u8]) -> Result<SavedReport, AllocError>
+    ensures value { IfOk result (λ report. report ≡ lenient_report text.now) }
+    ensures good { IfOk result (λ report. IsSaved report) }
+{
+    let gathering = gather_rows(alloc, text)?;
+    let mut numbers = gathering.numbers;
+    let mut rows = gathering.rows;
+    rows.truncate(rising_count(&numbers));
+    let count = count_before_repeated_name(alloc, &rows)?;
+    numbers.truncate(count);
+    rows.truncate(count);
+    let extent = extent_or_choice(gathering.extent, &numbers);
+    Ok(SavedReport {
+        extent,
+        numbers: Numbers::new(numbers),
+        rows: Rows::new(rows),
+    })
+}
+
+// Any extent that these numbers fit, where they don't fit the given one.
+#[tactic(auto, unfolding(crate::specs::LenientReport::extent_or_choice))]
+fn extent_or_choice(extent: Extent, numbers: &[u32]) -> Extent
+    requires { length numbers.now ≤ most_jobs }
+    ensures { result ≡ extent_or_choice extent numbers.now }
+{
+    if extent.fits_numbers(numbers) {
+        extent
+    } else {
+        Extent::Choice(MOST_JOBS as u32)
+    }
+}
+
+// How many of the numbers rise, up to the most jobs of a list.
+fn rising_count(numbers: &[u32]) -> usize
+    ensures { result ≡ rising_count 0 numbers.now }
+{
+    let mut before = 0;
+    for (at, number) in numbers.iter().enumerate() {
+        if *number <= before {
+            return at;
+        }
+        if MOST_JOBS < *number as usize {
+            return at;
+        }
+        before = *number;
+    }
+    numbers.len()
+}

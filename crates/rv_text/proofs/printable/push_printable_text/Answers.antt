@@ -1,0 +1,21 @@
+use Rattle.std.proofs.Common.{◌≡◌, arith, append_assoc, append-nil, length}
+use Rattle.std.proofs.lemmas.Grind.{common_steps}
+use Rattle.rv_text.specs.Printable.{behind_printable_front, printable_front, printable_from}
+use Rattle.rv_text.proofs.Pieces.{shown-empty, shown-front}
+use Rattle.rv_text.proofs.printable.push_printable_text.Goals as goal
+
+pub loop-rest-preserved : goal.loop-rest-preserved
+loop-rest-preserved c =
+    let text = c.loop-rest.rest.now in
+    cc (
+      shown-front text (omega (arith, c.in_ok-rest.ensures.shorter)),
+      c.loop-rest.invariant,
+      c.in_ok-rest.ensures.shown,
+      c.in_ok-rest.ensures.behind,
+      append_assoc c.loop-rest.bytes.items (printable_front text) (printable_from 0 (behind_printable_front text)),
+    )
+
+pub returns : goal.returns
+returns c =
+    let empty : length c.loop-rest.rest.now ≡ 0 = grind (arith, common_steps) in
+    cc (shown-empty c.loop-rest.rest.now empty, append-nil c.loop-rest.bytes.items)

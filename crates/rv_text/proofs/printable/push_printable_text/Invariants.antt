@@ -1,0 +1,9 @@
+use Rattle.std.proofs.Common.{◌≡◌, ◌++◌, length}
+use Rattle.rv_text.specs.Printable.{printable_text}
+use Rattle.rv_text.proofs.printable.push_printable_text.Given as goal
+
+abbrev pub invariant-loop-rest : goal.invariant-loop-rest
+invariant-loop-rest l = l.bytes.items ++ printable_text l.rest ≡ l.initial.bytes.items ++ printable_text l.text
+
+abbrev pub decreases-loop-rest : goal.decreases-loop-rest
+decreases-loop-rest l = length l.rest

@@ -1,0 +1,30 @@
+use Rattle.std.proofs.Common.{◌≡◌, ◌-◌, arith, append_assoc, append-nil, length}
+use Rattle.std.proofs.lemmas.Grind.{common_steps}
+use Rattle.rv_text.specs.Printable.{behind_printable_front, front_width, printable_front, printable_within}
+use Rattle.rv_text.proofs.Pieces.{printable_within-empty, printable_within-front, printable_within-full}
+use Rattle.rv_text.proofs.printable.push_printable_value.Goals as goal
+
+pub returns-then-room-width : goal.returns-then-room-width
+returns-then-room-width c =
+    cc (
+      printable_within-full c.loop-rest.room c.loop-rest.rest.now (omega arith),
+      append-nil c.loop-rest.bytes.items,
+    )
+
+pub loop-rest-preserved : goal.loop-rest-preserved
+loop-rest-preserved c =
+    let text = c.loop-rest.rest.now in
+    let room = c.loop-rest.room in
+    cc (
+      printable_within-front room text (omega (arith, c.in_ok-rest.ensures.shorter)) (omega arith),
+      c.loop-rest.invariant,
+      c.in_ok-rest.ensures.shown,
+      c.in_ok-rest.ensures.behind,
+      append_assoc c.loop-rest.bytes.items (printable_front text)
+          (printable_within (room - front_width text) 0 (behind_printable_front text)),
+    )
+
+pub returns : goal.returns
+returns c =
+    let empty : length c.loop-rest.rest.now ≡ 0 = grind (arith, common_steps) in
+    cc (printable_within-empty c.loop-rest.room c.loop-rest.rest.now empty, append-nil c.loop-rest.bytes.items)

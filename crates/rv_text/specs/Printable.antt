@@ -1,0 +1,70 @@
+-- Text that comes from files, as it is shown to a person: characters as they are; control characters,
+-- and bytes that are of no character, each byte as a backslash, an x and two lower-case hexadecimal
+-- digits.
+use Rattle.std.specs.Prelude.{◌==◌, ◌&&◌, ◌||◌, ◌+◌, ◌-◌, ℕ, zero, suc, Bool, List, [], ◌∷◌, ◌++◌}
+use Rattle.std.specs.Prelude.{if◌then◌else◌, nat_lt, not, codes, drop, length, take, slice_index}
+use Rattle.rv_text.specs.declared.printable.TheConstants.{VALUE_ROOM}
+use Rattle.std.specs.Str.{continuation_len, is_utf8}
+use Rattle.hex.specs.Hex.{encode_lower}
+
+-- whether a control character stands in front: below U+0020, U+007F, or U+0080 to U+009F, of which
+-- each has the bytes 0xC2 and its number
+abbrev pub begins_with_control : List ℕ → Bool
+begins_with_control text = let first = slice_index text 0 in
+    nat_lt first 0x20 || first == 0x7F || (first == 0xC2 && nat_lt (slice_index text 1) 0xA0)
+
+-- as many bytes as the character has which the first of them begins, or all where there are fewer
+abbrev pub front_character_bytes : List ℕ → List ℕ
+front_character_bytes text = take (continuation_len (slice_index text 0) + 1) text
+
+-- how many bytes in front are shown as they are: those of one character, if it is no control
+-- character
+unfoldable pub plain_front_len : List ℕ → ℕ
+plain_front_len text =
+    if is_utf8 (front_character_bytes text) && not (begins_with_control text) then length (front_character_bytes text) else 0
+
+-- a byte as it is shown where it is not shown as it is
+abbrev pub escape : ℕ → List ℕ
+escape byte = codes "\\x" ++ encode_lower (byte ∷ [])
+
+-- what the first byte of a text is shown as
+abbrev pub printable_first : List ℕ → ℕ → List ℕ
+printable_first text byte = if plain_front_len text == 0 then escape byte else byte ∷ []
+
+-- the text of which so many bytes are still those of a character that is shown as it is
+unfoldable pub printable_from : ℕ → List ℕ → List ℕ
+printable_from left [] = []
+printable_from zero (byte ∷ rest) = printable_first (byte ∷ rest) byte
+    ++ printable_from (plain_front_len (byte ∷ rest) - 1) rest
+printable_from (suc left) (byte ∷ rest) = byte ∷ printable_from left rest
+
+-- a text as it is shown
+abbrev pub printable_text : List ℕ → List ℕ
+printable_text text = printable_from 0 text
+
+-- how many characters the first byte of a text takes where it is shown: one for its character, or the
+-- four of an escape
+abbrev pub front_width : List ℕ → ℕ
+front_width text = if plain_front_len text == 0 then 4 else 1
+
+-- the same text as far as whole characters, and escapes of whole bytes, fit into so many characters
+unfoldable pub printable_within : ℕ → ℕ → List ℕ → List ℕ
+printable_within room left [] = []
+printable_within room zero (byte ∷ rest) =
+    if nat_lt room (front_width (byte ∷ rest)) then []
+    else printable_first (byte ∷ rest) byte
+    ++ printable_within (room - front_width (byte ∷ rest)) (plain_front_len (byte ∷ rest) - 1) rest
+printable_within room (suc left) (byte ∷ rest) = byte ∷ printable_within room left rest
+
+-- a value that was met or is expected, as it is shown
+abbrev pub printable_value : List ℕ → List ℕ
+printable_value text = printable_within VALUE_ROOM 0 text
+
+-- ---- the piece in front: a character that is shown as it is, or one byte
+
+abbrev pub printable_front : List ℕ → List ℕ
+printable_front text =
+    if plain_front_len text == 0 then escape (slice_index text 0) else take (plain_front_len text) text
+
+abbrev pub behind_printable_front : List ℕ → List ℕ
+behind_printable_front text = if plain_front_len text == 0 then drop 1 text else drop (plain_front_len text) text

@@ -1,0 +1,132 @@
+//! Text that comes from files, as it is shown to a person.
+
+ghost use Rattle.std.specs.Prelude.{◌≡◌, ◌<◌, ◌≤◌, ◌+◌, ◌++◌, IfOk, OnOk, length};
+ghost use Rattle.std.specs.Str.{continuation_len, is_utf8};
+ghost use Rattle.rv_text.specs.Printable.{behind_printable_front, escape, front_width, front_character_bytes, printable_front, begins_with_control};
+ghost use Rattle.rv_text.specs.Printable.{plain_front_len, printable_text, printable_value};
+
+use crate::slices::{byte_at, tail_from};
+use std::alloc::AllocError;
+
+/// Appends a text as it is shown: characters as they are, and each byte of a control character and of what is no
+/// character as `\xNN`.
+pub fn push_printable_text(bytes: &mut Vec<u8>, text: &[u8]) -> Result<(), AllocError>
+    ensures { OnOk result (bytes.new.items ≡ bytes.old.items ++ printable_text text.now) }
+{
+    let mut rest = text;
+    while !rest.is_empty() {
+        rest = push_printable_front(bytes, rest)?;
+    }
+    Ok(())
+}
+
+/// How many characters of a value are shown at most.
+pub const VALUE_ROOM: usize = 80;
+
+/// Appends a value that was met or is expected as it is shown: as [`push_printable_text`] does, but only as far as whole
+/// characters, and `\xNN` of whole bytes, fit into [`VALUE_ROOM`] characters.
+pub fn push_printable_value(bytes: &mut Vec<u8>, value: &[u8]) -> Result<(), AllocError>
+    ensures { OnOk result (bytes.new.items ≡ bytes.old.items ++ printable_value value.now) }
+{
+    let mut rest = value;
+    let mut room = VALUE_ROOM;
+    while !rest.is_empty() {
+        let width = front_width(rest);
+        if room < width {
+            return Ok(());
+        }
+        room -= width;
+        rest = push_printable_front(bytes, rest)?;
+    }
+    Ok(())
+}
+
+// How many characters are shown of the piece in front.
+fn front_width(text: &[u8]) -> usize
+    ensures { result ≡ front_width text.now }
+{
+    if plain_front_len(text) == 0 { 4 } else { 1 }
+}
+
+// Appends what is shown of the piece in front, which is a character or one byte; answers the text behind it.
+fn push_printable_front<'a>(bytes: &mut Vec<u8>, text: &'a [u8]) -> Result<&'a [u8], AllocError>
+    requires { 0 < length text.now }
+    ensures shown { OnOk result (bytes.new.items ≡ bytes.old.items ++ printable_front text.now) }
+    ensures behind { IfOk result (λ rest. rest.now ≡ behind_printable_front text.now) }
+    ensures shorter { IfOk result (λ rest. length rest.now < length text.now) }
+{
+    let plain = plain_front_len(text);
+    if plain == 0 {
+        push_escape(bytes, text[0])?;
+        return Ok(tail_from(text, 1));
+    }
+    bytes.extend_from_slice(&text[..plain])?;
+    Ok(tail_from(text, plain))
+}
+
+// How many bytes in front are shown as they are: those of one character, if it is no control character.
+#[tactic(auto, unfolding(crate::specs::Printable::plain_front_len))]
+fn plain_front_len(text: &[u8]) -> usize
+    ensures value { result ≡ plain_front_len text.now }
+    ensures within { result ≤ length text.now }
+{
+    let front = front_character_bytes(text);
+    if is_utf8(front) && !begins_with_control(text) {
+        front.len()
+    } else {
+        0
+    }
+}
+
+// As many bytes as the character has which the first of them begins, or all where there are fewer.
+fn front_character_bytes(text: &[u8]) -> &[u8]
+    ensures front { result.now ≡ front_character_bytes text.now }
+    ensures within { length result.now ≤ length text.now }
+{
+    let len = char_len(byte_at(text, 0));
+    if len <= text.len() {
+        &text[..len]
+    } else {
+        text
+    }
+}
+
+fn is_utf8(text: &[u8]) -> bool
+    ensures { result ≡ is_utf8 text.now }
+{
+    match str::from_utf8(text) {
+        Ok(_) => true,
+        Err(_) => false,
+    }
+}
+
+// How many bytes the character has which a byte begins.
+fn char_len(first: u8) -> usize
+    ensures { result ≡ continuation_len first + 1 }
+{
+    if first < 0x80 {
+        1
+    } else if first < 0xE0 {
+        2
+    } else if first < 0xF0 {
+        3
+    } else {
+        4
+    }
+}
+
+fn begins_with_control(text: &[u8]) -> bool
+    ensures { result ≡ begins_with_control text.now }
+{
+    let first = byte_at(text, 0);
+    first < 0x20 || first == 0x7F || (first == 0xC2 && byte_at(text, 1) < 0xA0)
+}
+
+fn push_escape(bytes: &mut Vec<u8>, byte: u8) -> Result<(), AllocError>
+    ensures { OnOk result (bytes.new.items ≡ bytes.old.items ++ escape byte) }
+{
+    let mut digits = [0u8; 2];
+    hex::encode_to_slice([byte].as_slice(), &mut digits).unwrap();
+    bytes.extend_from_slice(b"\\x")?;
+    bytes.extend_from_slice(&digits)
+}

@@ -1,0 +1,15 @@
+use Rattle.std.proofs.Common.{slice_index_or}
+use Rattle.rv_machine.specs.Machine.{state_of}
+use Rattle.rv_trace.proofs.Rows.{no_trace, trace_found}
+use Rattle.rv_trace.proofs.trace.trace_job.Goals as goal
+
+pub returns-in_ok-trace_run-in-Ok : goal.returns-in_ok-trace_run-in-Ok
+returns-in_ok-trace_run-in-Ok c = λ d.
+    trace_found c.args.plan.now (slice_index_or c.args.plan.now.jobs c.args.place d) c.args.steps c.args.last
+    (state_of c.in-Ok.machine) c.in_ok-trace_run-in-Ok.field-0
+    (rw c.in-Ok.is at (c.in_ok-machine.ensures d)) c.in_ok-trace_run-in-Ok.ensures
+
+pub returns-in-Err : goal.returns-in-Err
+returns-in-Err c = λ d.
+    no_trace c.args.plan.now (slice_index_or c.args.plan.now.jobs c.args.place d) c.args.steps c.args.last
+    c.in-Err.field-0 (rw c.in-Err.is at (c.in_ok-machine.ensures d))

@@ -1,0 +1,175 @@
+//! What is told of an instruction: its assembly text, what it wrote, and how it ended the run.
+
+ghost use Rattle.std.specs.Prelude.{◌≡◌, ◌++◌, OnOk};
+ghost use Rattle.rv_disasm.specs.Operands.{register_name};
+ghost use Rattle.rv_trace.specs.Text.{assembly, assembly_or_none, end_assembly, end_reason, ends_by_illegal, loaded_text};
+ghost use Rattle.rv_trace.specs.Text.{fault_value_text, register_text, stored_value_text, wrote_text};
+
+use crate::code::Code;
+use crate::columns::push_digits_after_first;
+use crate::step::Wrote;
+use rv_disasm::{push_assembly16, push_assembly32};
+use rv_machine::FaultKind;
+use rv_memory::Width;
+use rv_rows::RowEnd;
+use rv_text::{Span, push_spans, push_text, push_word_digits};
+use std::alloc::{AllocError, Global};
+
+/// Appends the assembly text of a code at an address, where there is one.
+pub(crate) fn push_assembly(
+    alloc: Global,
+    bytes: &mut Vec<u8>,
+    pc: u32,
+    code: Option<Code>,
+) -> Result<(), AllocError>
+    ensures { OnOk result (bytes.new.items ≡ bytes.old.items ++ assembly_or_none pc code) }
+{
+    match code {
+        Some(code) => push_assembly_of_code(alloc, bytes, pc, code),
+        None => Ok(()),
+    }
+}
+
+#[tactic(auto, unfolding(crate::specs::Text::assembly))]
+fn push_assembly_of_code(
+    alloc: Global,
+    bytes: &mut Vec<u8>,
+    pc: u32,
+    code: Code,
+) -> Result<(), AllocError>
+    ensures { OnOk result (bytes.new.items ≡ bytes.old.items ++ assembly pc code) }
+{
+    match code {
+        Code::Half(half) => push_assembly16(alloc, bytes, half, pc),
+        Code::Word(word) => push_assembly32(alloc, bytes, word, pc),
+    }
+}
+
+/// Appends what an instruction wrote.
+#[tactic(auto, unfolding(crate::specs::Text::wrote_text))]
+pub(crate) fn push_wrote_text(
+    alloc: Global,
+    bytes: &mut Vec<u8>,
+    wrote: Wrote,
+) -> Result<(), AllocError>
+    ensures { OnOk result (bytes.new.items ≡ bytes.old.items ++ wrote_text wrote) }
+{
+    match wrote {
+        Wrote::Nothing => Ok(()),
+        Wrote::Register(number, value) => push_register(bytes, number, value),
+        Wrote::Loaded(number, value, address) => {
+            push_loaded_text(bytes, number, value)?;
+            push_spans(bytes, &[Span::Text("from "), Span::Word(address)])
+        }
+        Wrote::Stored(address, width, value) => {
+            push_spans(bytes, &[Span::Word(address), Span::Text(" <- ")])?;
+            push_stored_value(alloc, bytes, width, value)
+        }
+    }
+}
+
+fn push_register(bytes: &mut Vec<u8>, number: u8, value: u32) -> Result<(), AllocError>
+    ensures { OnOk result (bytes.new.items ≡ bytes.old.items ++ register_text number value) }
+{
+    push_spans(
+        bytes,
+        &[
+            Span::Text(register_name_or_empty(number)),
+            Span::Text(" <- "),
+            Span::Word(value),
+        ],
+    )
+}
+
+fn push_loaded_text(bytes: &mut Vec<u8>, number: u8, value: u32) -> Result<(), AllocError>
+    ensures { OnOk result (bytes.new.items ≡ bytes.old.items ++ loaded_text number value) }
+{
+    if number == 0 {
+        return Ok(());
+    }
+    push_register(bytes, number, value)?;
+    push_text(bytes, " ")
+}
+
+/// The name of a register, none where there is no such register.
+pub(crate) fn register_name_or_empty(number: u8) -> &'static str
+    ensures { result.now ≡ register_name number }
+{
+    if number < 32 {
+        rv_disasm::register_name(number)
+    } else {
+        ""
+    }
+}
+
+#[tactic(auto, unfolding(crate::specs::Text::stored_value_text))]
+fn push_stored_value(
+    alloc: Global,
+    bytes: &mut Vec<u8>,
+    width: Width,
+    value: u32,
+) -> Result<(), AllocError>
+    ensures { OnOk result (bytes.new.items ≡ bytes.old.items ++ stored_value_text width value) }
+{
+    match width {
+        Width::Byte => push_digits_after_first(alloc, bytes, value, 6),
+        Width::Half => push_digits_after_first(alloc, bytes, value, 4),
+        Width::Word => push_word_digits(bytes, value),
+    }
+}
+
+/// Appends the assembly text of the instruction at the end of a run.
+pub(crate) fn push_end_assembly(
+    alloc: Global,
+    bytes: &mut Vec<u8>,
+    pc: u32,
+    code: Option<Code>,
+    end: RowEnd,
+) -> Result<(), AllocError>
+    ensures { OnOk result (bytes.new.items ≡ bytes.old.items ++ end_assembly end pc code) }
+{
+    if ends_by_illegal(end) {
+        return push_text(bytes, "no instruction");
+    }
+    push_assembly(alloc, bytes, pc, code)
+}
+
+fn ends_by_illegal(end: RowEnd) -> bool
+    ensures { result ≡ ends_by_illegal end }
+{
+    match end {
+        RowEnd::Fault(FaultKind::Illegal, _, _) => true,
+        _ => false,
+    }
+}
+
+/// Appends how an instruction ended the run.
+#[tactic(auto, unfolding(crate::specs::Text::end_reason))]
+pub(crate) fn push_end_reason(bytes: &mut Vec<u8>, end: RowEnd) -> Result<(), AllocError>
+    ensures { OnOk result (bytes.new.items ≡ bytes.old.items ++ end_reason end) }
+{
+    match end {
+        RowEnd::Exit(code) => push_spans(
+            bytes,
+            &[Span::Text("exit "), Span::Number(u64::from(code))],
+        ),
+        RowEnd::Fault(kind, _, value) => {
+            push_text(bytes, kind.name())?;
+            push_value_of_fault(bytes, kind, value)
+        }
+        RowEnd::Budget => push_text(bytes, "not run: the budget is used up"),
+        RowEnd::Refused(why) => push_text(bytes, why.name()),
+    }
+}
+
+#[tactic(auto, unfolding(crate::specs::Text::fault_value_text))]
+fn push_value_of_fault(bytes: &mut Vec<u8>, kind: FaultKind, value: u32) -> Result<(), AllocError>
+    ensures { OnOk result (bytes.new.items ≡ bytes.old.items ++ fault_value_text kind value) }
+{
+    let before = match kind {
+        FaultKind::Illegal | FaultKind::Breakpoint => return Ok(()),
+        FaultKind::UnknownCall | FaultKind::ConsoleFull => ", value ",
+        _ => " at ",
+    };
+    push_spans(bytes, &[Span::Text(before), Span::Word(value)])
+}

@@ -1,0 +1,196 @@
+//! The text of a trace.
+
+ghost use Rattle.std.specs.Prelude.{◌≡◌, ◌++◌, OnOk, option_map};
+ghost use Rattle.std.specs.List.{flat_map};
+ghost use Rattle.rv_elf.specs.SymbolSearch.{symbol_at, symbol_of_value};
+ghost use Rattle.rv_trace.specs.Text.{symbol_behind_value, end_instruction_line, ended_at_line, register_line, register_lines, step_line};
+ghost use Rattle.rv_text.specs.Symbol.{symbol_in_brackets};
+ghost use Rattle.rv_trace.specs.Text.{trace_text};
+
+use crate::columns::{GAP, Instruction, MARGIN, push_instruction_line, push_padded_text};
+use crate::elf_file::ElfFile;
+use crate::instruction_text::{
+    push_assembly, push_end_assembly, push_end_reason, push_wrote_text, register_name_or_empty,
+};
+use crate::step::TracedStep;
+use crate::trace::Trace;
+use rv_elf::SymbolAt;
+use rv_rows::RowEnd;
+use rv_text::{Span, push_spans, push_symbol, push_symbol_in_brackets, push_text};
+use std::alloc::{AllocError, Global};
+
+/// Appends the text of a trace: where the run ended, the 32 registers with the symbols that they point to, a line for each
+/// instruction that completed, and one for that at the end, with how it ended the run. Symbols are those of the job's
+/// file, and the ending is that of the row.
+#[tactic(auto, unfolding(crate::specs::Text::trace_text))]
+pub fn push_trace(
+    alloc: Global,
+    bytes: &mut Vec<u8>,
+    elf: &ElfFile<'_>,
+    trace: &Trace,
+    end: RowEnd,
+) -> Result<(), AllocError>
+    ensures { OnOk result (bytes.new.items ≡ bytes.old.items
+        ++ trace_text elf.now.image.now elf.now.bytes.now trace.now end) }
+{
+    push_ended_at_line(alloc, bytes, elf, trace.pc)?;
+    push_registers(alloc, bytes, elf, &trace.registers)?;
+    push_steps(alloc, bytes, elf, trace.steps.as_slice())?;
+    push_end_instruction_line(alloc, bytes, elf, trace, end)
+}
+
+#[tactic(auto, unfolding(crate::specs::Text::ended_at_line))]
+fn push_ended_at_line(
+    alloc: Global,
+    bytes: &mut Vec<u8>,
+    elf: &ElfFile<'_>,
+    pc: u32,
+) -> Result<(), AllocError>
+    ensures { OnOk result (bytes.new.items ≡ bytes.old.items
+        ++ ended_at_line elf.now.image.now elf.now.bytes.now pc) }
+{
+    push_spans(bytes, &[Span::Text("     ended at "), Span::Word(pc)])?;
+    push_symbol_of_pc(alloc, bytes, elf, pc)?;
+    push_text(bytes, "\n")
+}
+
+fn push_symbol_of_pc(
+    alloc: Global,
+    bytes: &mut Vec<u8>,
+    elf: &ElfFile<'_>,
+    pc: u32,
+) -> Result<(), AllocError>
+    ensures { OnOk result (bytes.new.items ≡ bytes.old.items
+        ++ symbol_in_brackets (symbol_at elf.now.image.now elf.now.bytes.now pc)) }
+{
+    push_symbol_in_brackets(alloc, bytes, elf.symbol_at(pc))
+}
+
+// ---- registers
+
+fn push_registers(
+    alloc: Global,
+    bytes: &mut Vec<u8>,
+    elf: &ElfFile<'_>,
+    values: &[u32; 32],
+) -> Result<(), AllocError>
+    ensures { OnOk result (bytes.new.items ≡ bytes.old.items
+        ++ register_lines elf.now.image.now elf.now.bytes.now 0 values.now) }
+{
+    for n in 0..32u8 {
+        push_register_line(alloc, bytes, elf, n, values[n as usize])?;
+    }
+    Ok(())
+}
+
+#[tactic(auto, unfolding(crate::specs::Text::register_line))]
+fn push_register_line(
+    alloc: Global,
+    bytes: &mut Vec<u8>,
+    elf: &ElfFile<'_>,
+    number: u8,
+    value: u32,
+) -> Result<(), AllocError>
+    ensures { OnOk result (bytes.new.items ≡ bytes.old.items
+        ++ register_line elf.now.image.now elf.now.bytes.now number value) }
+{
+    push_text(bytes, MARGIN)?;
+    push_padded_text(bytes, 4, register_name_or_empty(number).as_bytes())?;
+    push_spans(bytes, &[Span::Text(GAP), Span::Word(value)])?;
+    push_symbol_of_value(alloc, bytes, elf, value)?;
+    push_text(bytes, "\n")
+}
+
+// What a value points to, behind it.
+fn push_symbol_of_value(
+    alloc: Global,
+    bytes: &mut Vec<u8>,
+    elf: &ElfFile<'_>,
+    value: u32,
+) -> Result<(), AllocError>
+    ensures { OnOk result (bytes.new.items ≡ bytes.old.items
+        ++ symbol_behind_value (symbol_of_value elf.now.image.now elf.now.bytes.now value)) }
+{
+    push_symbol_behind_value(alloc, bytes, elf.symbol_of_value(value))
+}
+
+fn push_symbol_behind_value(
+    alloc: Global,
+    bytes: &mut Vec<u8>,
+    place: Option<SymbolAt<'_>>,
+) -> Result<(), AllocError>
+    ensures { OnOk result (bytes.new.items ≡ bytes.old.items
+        ++ symbol_behind_value (option_map (λ s. (s.name.now, s.offset)) place.entry)) }
+{
+    let Some(symbol) = place else {
+        return Ok(());
+    };
+    push_text(bytes, GAP)?;
+    push_symbol(alloc, bytes, symbol)
+}
+
+// ---- instructions
+
+fn push_steps(
+    alloc: Global,
+    bytes: &mut Vec<u8>,
+    elf: &ElfFile<'_>,
+    steps: &[TracedStep],
+) -> Result<(), AllocError>
+    ensures { OnOk result (bytes.new.items ≡ bytes.old.items
+        ++ flat_map (step_line elf.now.image.now elf.now.bytes.now) steps.now) }
+{
+    for step in steps {
+        push_step(alloc, bytes, elf, step)?;
+    }
+    Ok(())
+}
+
+#[tactic(auto, unfolding(crate::specs::Text::step_line))]
+fn push_step(
+    alloc: Global,
+    bytes: &mut Vec<u8>,
+    elf: &ElfFile<'_>,
+    step: &TracedStep,
+) -> Result<(), AllocError>
+    ensures { OnOk result (bytes.new.items ≡ bytes.old.items
+        ++ step_line elf.now.image.now elf.now.bytes.now step.now) }
+{
+    let mut text = Vec::new(alloc);
+    push_assembly(alloc, &mut text, step.pc, step.code)?;
+    let mut told = Vec::new(alloc);
+    push_wrote_text(alloc, &mut told, step.wrote)?;
+    let shown = Instruction {
+        symbol: elf.symbol_at(step.pc),
+        pc: step.pc,
+        code: step.code,
+        text: &text,
+        told: &told,
+    };
+    push_instruction_line(alloc, bytes, &shown)
+}
+
+#[tactic(auto, unfolding(crate::specs::Text::end_instruction_line))]
+fn push_end_instruction_line(
+    alloc: Global,
+    bytes: &mut Vec<u8>,
+    elf: &ElfFile<'_>,
+    trace: &Trace,
+    end: RowEnd,
+) -> Result<(), AllocError>
+    ensures { OnOk result (bytes.new.items ≡ bytes.old.items
+        ++ end_instruction_line elf.now.image.now elf.now.bytes.now trace.now.pc trace.now.code end) }
+{
+    let mut text = Vec::new(alloc);
+    push_end_assembly(alloc, &mut text, trace.pc, trace.code, end)?;
+    let mut told = Vec::new(alloc);
+    push_end_reason(&mut told, end)?;
+    let shown = Instruction {
+        symbol: elf.symbol_at(trace.pc),
+        pc: trace.pc,
+        code: trace.code,
+        text: &text,
+        told: &told,
+    };
+    push_instruction_line(alloc, bytes, &shown)
+}

@@ -1,0 +1,113 @@
+//! What an instruction is about to write.
+
+ghost use Rattle.std.specs.Prelude.{◌≡◌, ◌%◌, ◌^◌, ◌*◌};
+ghost use Rattle.rv_isa.specs.Words.{IsWellFormed};
+ghost use Rattle.rv_machine.specs.Effect.{address};
+ghost use Rattle.rv_machine.specs.Machine.{state_of};
+ghost use Rattle.rv_memory.specs.Bus.{size_of};
+ghost use Rattle.rv_trace.specs.Code.{code_at};
+ghost use Rattle.rv_trace.specs.Steps.{access_of, instruction_write_target, write_target, instr_at, completed_write, HasRegister};
+
+use crate::code::{Code, instr_of};
+use crate::step::Wrote;
+use rv_isa::{Instr, Op};
+use rv_machine::Machine;
+use rv_memory::Width;
+
+/// How an instruction reaches memory.
+#[derive(Clone, Copy)]
+pub(crate) enum Access {
+    Load,
+    Store(Width),
+    Neither,
+}
+
+/// What an instruction is about to write.
+#[derive(Clone, Copy)]
+pub(crate) enum Aim {
+    Nothing,
+    /// A register that is not x0.
+    Register(u8),
+    /// A register, which may be x0, from an address.
+    Load(u8, u32),
+    /// A value of this width, to an address.
+    Store(u32, Width, u32),
+}
+
+pub(crate) fn access_of(op: Op) -> Access
+    ensures { result ≡ access_of op }
+{
+    match op {
+        Op::Lb | Op::Lh | Op::Lw | Op::Lbu | Op::Lhu => Access::Load,
+        Op::Sb => Access::Store(Width::Byte),
+        Op::Sh => Access::Store(Width::Half),
+        Op::Sw => Access::Store(Width::Word),
+        _ => Access::Neither,
+    }
+}
+
+/// What the instruction of a code is about to write.
+pub(crate) fn write_target(machine: &Machine, code: Option<Code>) -> Aim
+    requires { code ≡ code_at (state_of machine.now).bus (state_of machine.now).pc }
+    ensures value { result ≡ write_target (instr_at (state_of machine.now)) (state_of machine.now) }
+    ensures register { HasRegister result }
+{
+    let Some(code) = code else {
+        return Aim::Nothing;
+    };
+    match instr_of(code) {
+        Some(instr) => instruction_write_target(access_of(instr.op), instr, machine),
+        None => Aim::Nothing,
+    }
+}
+
+fn instruction_write_target(access: Access, instr: Instr, machine: &Machine) -> Aim
+    requires { IsWellFormed instr }
+    ensures value { result ≡ instruction_write_target access instr (state_of machine.now) }
+    ensures register { HasRegister result }
+{
+    match access {
+        Access::Load => Aim::Load(instr.rd, accessed_address(machine, instr)),
+        Access::Store(width) => {
+            let value = low_bytes(machine.reg(instr.rs2), width);
+            Aim::Store(accessed_address(machine, instr), width, value)
+        }
+        Access::Neither if instr.rd == 0 => Aim::Nothing,
+        Access::Neither => Aim::Register(instr.rd),
+    }
+}
+
+fn accessed_address(machine: &Machine, instr: Instr) -> u32
+    requires { IsWellFormed instr }
+    ensures { result ≡ address (state_of machine.now) instr }
+{
+    machine
+        .reg(instr.rs1)
+        .wrapping_add(instr.imm.cast_unsigned())
+}
+
+// As many of the low bytes as the width has.
+fn low_bytes(value: u32, width: Width) -> u32
+    ensures { result ≡ value % 2 ^ (8 * size_of width) }
+{
+    match width {
+        Width::Byte => value % 0x100,
+        Width::Half => value % 0x1_0000,
+        Width::Word => value,
+    }
+}
+
+impl Aim {
+    /// What was written, by the machine behind the instruction.
+    pub(crate) fn completed_write(self, machine: &Machine) -> Wrote
+        requires { HasRegister self }
+        ensures { result ≡ completed_write self (state_of machine.now) }
+    {
+        match self {
+            Aim::Nothing => Wrote::Nothing,
+            Aim::Register(number) => Wrote::Register(number, machine.reg(number)),
+            Aim::Load(number, address) => Wrote::Loaded(number, machine.reg(number), address),
+            Aim::Store(address, width, value) => Wrote::Stored(address, width, value),
+        }
+    }
+}

@@ -1,0 +1,103 @@
+//! One ELF image of a store.
+
+ghost use Rattle.rv_jobs.specs.Limits.{most_budget};
+ghost use Rattle.std.specs.Prelude.{List, ◌≡◌, ◌≢◌, ◌<◌, ◌≤◌, ◌⊎◌, Ok, IfErr, IfOk, OnErr, OnOk};
+ghost use Rattle.std.specs.Prelude.{length, option_map, true, vec_len};
+ghost use Rattle.std.specs.Io.KnownBytes.{Keeps};
+ghost use Rattle.rv_fleet.specs.declared_row.Row.{Row as ARow};
+ghost use Rattle.rv_jobs.specs.Counts.{HasRisen};
+ghost use Rattle.rv_jobs.specs.Limits.{most_path, most_script};
+ghost use Rattle.rvfleet_app.specs.Answers.{IsReportBegun, IsReportSent};
+ghost use Rattle.rvfleet_app.specs.Failures.{is_failure_of_sending};
+ghost use Rattle.rvfleet_app.specs.ElfImage.{script_bytes, is_bad_path, is_bad_script, single_image_jobs};
+ghost use Rattle.rvfleet_app.specs.Plans.{AreJobRows, stored_contents};
+
+use crate::error::Failure;
+use crate::report_output::send_report;
+use hex::FromHexError;
+use rv_fleet::{Sink, run_one};
+use rv_jobs::limits::{MOST_PATH, MOST_SCRIPT};
+use rv_jobs::{JobList, Store, gather};
+use std::alloc::Global;
+
+/// Why digits are no script.
+#[derive(Clone, Copy, Debug, PartialEq, Eq)]
+pub enum ScriptError {
+    /// They aren't hexadecimal, they are odd in number, or they stand for more than 65,536 bytes.
+    Refused,
+    /// A growth was refused.
+    OutOfMemory,
+}
+
+/// A run of one ELF image: its path in a store, how many steps it may take, and what it reads from its console.
+#[derive(Drop)]
+pub struct ImageRun<'a> {
+    pub path: &'a str,
+    pub budget: u32,
+    pub script: Vec<u8>,
+    pub ghost named: { 0 < length path.now },
+    pub ghost short: { length path.now ≤ most_path },
+    pub ghost budget_fits: { (1 ≤ budget) × (budget ≤ most_budget) },
+    pub ghost script_fits: { vec_len script ≤ most_script },
+}
+
+/// Whether a path is empty or has more than 4,096 bytes.
+pub fn is_bad_path(path: &str) -> bool
+    ensures { result ≡ is_bad_path path.now }
+{
+    path.is_empty() || MOST_PATH < path.len()
+}
+
+/// The script that hexadecimal digits of either case stand for; it is empty without digits.
+pub fn read_script(alloc: Global, digits: Option<&str>) -> Result<Vec<u8>, ScriptError>
+    ensures value { IfOk result
+        (λ script. script_bytes (option_map (λ text. text.now) digits.entry) ≡ Ok script.items) }
+    ensures room { IfOk result (λ script. vec_len script ≤ most_script) }
+    ensures refused { IfErr result
+        (λ error. error ≡ ScriptError.Refused
+        → is_bad_script (script_bytes (option_map (λ text. text.now) digits.entry)) ≡ true) }
+{
+    let Some(digits) = digits else {
+        return Ok(Vec::new(alloc));
+    };
+    match hex::decode(alloc, digits) {
+        Ok(script) if script.len() <= MOST_SCRIPT => Ok(script),
+        Err(FromHexError::OutOfMemory) => Err(ScriptError::OutOfMemory),
+        Ok(_) | Err(_) => Err(ScriptError::Refused),
+    }
+}
+
+/// Runs an ELF image of the store, whose path is read once, and appends its report to the sink. A path that can't be
+/// read is a row of the report. The answer is the status of the report's verdicts.
+pub fn run_image<S: Store, O: Sink>(
+    alloc: Global,
+    run: ImageRun<'_>,
+    store: &mut S,
+    out: &mut O,
+) -> Result<u8, Failure>
+    ensures reported { IfOk result (λ status. (rows : List ARow)
+        × (AreJobRows (stored_contents (S.contents store.old) (S.faulted store.old) (S.faulted store.new))
+        (single_image_jobs run.entry.path.now run.entry.budget run.entry.script.items) rows
+        × IsReportSent (O.taken out.old) (O.taken out.new) status rows)) }
+    ensures range { IfOk result (λ status. status ≤ 1) }
+    ensures counted { OnOk result (O.failed out.new ≡ O.failed out.old) }
+    ensures why { IfErr result (λ failure. is_failure_of_sending failure ≡ true) }
+    ensures part { OnErr result (Keeps (O.taken out.old) (O.taken out.new)
+        ⊎ ((rows : List ARow)
+        × (AreJobRows (stored_contents (S.contents store.old) (S.faulted store.old) (S.faulted store.new))
+        (single_image_jobs run.entry.path.now run.entry.budget run.entry.script.items) rows
+        × IsReportBegun (O.taken out.old) (O.taken out.new) rows))) }
+    ensures failed { IfErr result
+        (λ error. error ≡ Failure.WriteFailed → HasRisen (O.failed out.old) (O.failed out.new)) }
+    ensures same { S.contents store.new ≡ S.contents store.old }
+{
+    let ImageRun {
+        path,
+        budget,
+        script,
+    } = run;
+    let jobs = JobList::single(alloc, path, budget, script)?;
+    let plan = gather(alloc, jobs, store)?;
+    let report = run_one(alloc, &plan)?;
+    send_report(alloc, &report, out)
+}

@@ -1,0 +1,67 @@
+//! A flat image from a reader.
+
+ghost use Rattle.std.specs.Prelude.{◌≡◌, ◌⊎◌, List, [], ◌∷◌, IfErr, IfOk, OnErr, OnOk};
+ghost use Rattle.std.specs.Io.KnownBytes.{Appends, Keeps};
+ghost use Rattle.rv_fleet.specs.declared_row.Row.{Row as ARow};
+ghost use Rattle.rv_fleet.specs.Flat.{flat_row_of};
+ghost use Rattle.rv_fleet.specs.Report.{report_text};
+ghost use Rattle.rv_jobs.specs.Counts.{HasRisen};
+ghost use Rattle.rv_files.specs.Input.{TookFirstBytes};
+ghost use Rattle.rvfleet_app.specs.Answers.{IsReportBegun};
+ghost use Rattle.rvfleet_app.specs.FlatImage.{AreRawRows, IsInputBeginning, most_read};
+
+use crate::error::RunError;
+use rv_files::{InputError, read_at_most};
+use rv_fleet::{Report, Rows, Sink, flat_row, write_report};
+use std::alloc::{AllocError, Global};
+use std::io::Read;
+
+// One byte more than an image may have.
+const MOST_READ: usize = 1_048_577;
+
+/// Runs the reader's bytes as a flat image, and appends its report to the sink. No more than
+/// 1,048,577 bytes are taken from the reader.
+pub fn run_flat_image<R: Read, O: Sink>(
+    alloc: Global,
+    input: &mut R,
+    out: &mut O,
+    budget: u32,
+) -> Result<(), RunError>
+    ensures appended { OnOk result ((rows : List ARow)
+        × (AreRawRows (R.remaining input.old) budget rows
+        × Appends (O.taken out.old) (O.taken out.new) (report_text rows))) }
+    ensures left { OnOk result
+        (TookFirstBytes most_read (R.remaining input.old) (R.remaining input.new)) }
+    ensures counted { OnOk result (O.failed out.new ≡ O.failed out.old) }
+    ensures unread { IfErr result
+        (λ error. error ≡ RunError.ReadFailed → Keeps (O.taken out.old) (O.taken out.new)) }
+    ensures part { OnErr result (Keeps (O.taken out.old) (O.taken out.new)
+        ⊎ ((rows : List ARow) × (AreRawRows (R.remaining input.old) budget rows
+        × IsReportBegun (O.taken out.old) (O.taken out.new) rows))) }
+    ensures failed { IfErr result
+        (λ error. error ≡ RunError.WriteFailed → HasRisen (O.failed out.old) (O.failed out.new)) }
+{
+    let bytes = read_flat_image(alloc, input)?;
+    let report = flat_report(alloc, bytes.as_slice(), budget)?;
+    write_report(alloc, &report, out)?;
+    Ok(())
+}
+
+// The reader's first bytes: so many that a longer image is told from one that fits.
+fn read_flat_image<R: Read>(alloc: Global, input: &mut R) -> Result<Vec<u8>, InputError>
+    ensures first { IfOk result (λ bytes. IsInputBeginning (R.remaining input.old) bytes.items) }
+    ensures left { OnOk result
+        (TookFirstBytes most_read (R.remaining input.old) (R.remaining input.new)) }
+{
+    read_at_most(alloc, input, MOST_READ)
+}
+
+fn flat_report(alloc: Global, bytes: &[u8], budget: u32) -> Result<Report, AllocError>
+    ensures { IfOk result (λ report. report.rows ≡ flat_row_of bytes.now budget ∷ []) }
+{
+    let mut rows = Vec::new(alloc);
+    rows.push(flat_row(alloc, bytes, budget)?)?;
+    Ok(Report {
+        rows: Rows::new(rows),
+    })
+}

@@ -1,0 +1,50 @@
+//! A report and its status.
+
+ghost use Rattle.std.specs.Prelude.{true, ◌≡◌, ◌≤◌, IfErr, IfOk, OnErr, OnOk};
+ghost use Rattle.rv_jobs.specs.Counts.{HasRisen};
+ghost use Rattle.rvfleet_app.specs.Answers.{IsReportBegun, IsReportSent, has_failed_row, is_fail_verdict, verdicts_status};
+ghost use Rattle.rvfleet_app.specs.Failures.{is_failure_of_sending};
+
+use crate::error::Failure;
+use crate::status::{DONE, SOME_FAIL};
+use rv_fleet::{Report, Row, Sink, Verdict, write_report};
+use std::alloc::Global;
+
+/// Appends a report to the sink, and gives the status of its verdicts.
+#[tactic(auto, using(crate::proofs::Failing::send_why))]
+pub fn send_report<O: Sink>(alloc: Global, report: &Report, out: &mut O) -> Result<u8, Failure>
+    ensures reported { IfOk result
+        (λ status. IsReportSent (O.taken out.old) (O.taken out.new) status report.now.rows) }
+    ensures range { IfOk result (λ status. status ≤ 1) }
+    ensures counted { OnOk result (O.failed out.new ≡ O.failed out.old) }
+    ensures why { IfErr result (λ failure. is_failure_of_sending failure ≡ true) }
+    ensures part { OnErr result (IsReportBegun (O.taken out.old) (O.taken out.new) report.now.rows) }
+    ensures failed { IfErr result
+        (λ error. error ≡ Failure.WriteFailed → HasRisen (O.failed out.old) (O.failed out.new)) }
+{
+    write_report(alloc, report, out)?;
+    Ok(verdicts_status(report.rows.as_slice()))
+}
+
+fn verdicts_status(rows: &[Row]) -> u8
+    ensures value { result ≡ verdicts_status rows.now }
+    ensures range { result ≤ 1 }
+{
+    if has_failed_row(rows) {
+        SOME_FAIL
+    } else {
+        DONE
+    }
+}
+
+fn has_failed_row(rows: &[Row]) -> bool
+    ensures { result ≡ has_failed_row rows.now }
+{
+    rows.iter().any(|row| is_row_failed(row))
+}
+
+fn is_row_failed(row: &Row) -> bool
+    ensures { result ≡ is_fail_verdict row.now.verdict }
+{
+    matches!(row.verdict, Verdict::Fail)
+}

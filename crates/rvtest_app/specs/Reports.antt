@@ -1,0 +1,85 @@
+-- What the commands make of the texts of reports and lists, once these are read.
+use Rattle.std.specs.Prelude.{◌≡◌, ℕ, Bool, true, false, List, [], ◌∷◌, length, Some, Ok, position}
+use Rattle.std.specs.Prelude.{slice_index_or}
+use Rattle.std.specs.Str.{bytes_eq}
+use Rattle.rv_diff.specs.Diff.{counts_of_differing, diff_text}
+use Rattle.rv_diff.specs.declared.change.Compare.{Compare}
+use Rattle.rv_diff.specs.declared.change.Compare.TheVariants.{Outcomes, Steps}
+use Rattle.rv_expect.specs.Passing.{has_passed}
+use Rattle.rv_expect.specs.declared.passing.Rule.TheVariants.{Strict}
+use Rattle.rv_files.specs.declared.noting_store.Unread.{Unread}
+use Rattle.rv_job_text.specs.Telling.{explanation_text}
+use Rattle.rv_jobs.specs.Plans.{Planned, jobs_needed_for, paths_of, paths_used}
+use Rattle.rv_list_errors.specs.Lines.{PutsLines}
+use Rattle.rv_lists.specs.JobList.{job_list_of}
+use Rattle.rv_lists.specs.declared.error.JobError.{JobError}
+use Rattle.rv_lists.specs.declared.job.Job.{Job}
+use Rattle.rv_report.specs.Saved.{IsSaved, saved_text}
+use Rattle.rv_report.specs.declared.saved.SavedReport.{SavedReport}
+use Rattle.rv_rows.specs.Rows.{row_of}
+use Rattle.rvtest_app.specs.Commands.{check_status, diff_status, passing_status, refused_job_count}
+
+-- the report that a text is, of which there is at most one
+pub record IsReportOf (bytes : List ℕ) (report : SavedReport) : Type 0 where
+  pub saved : IsSaved report
+  pub text : saved_text report ≡ bytes
+
+-- ---- diff
+
+-- what is compared, with --steps or without
+abbrev pub requested_comparison : Bool → Compare
+requested_comparison true = Steps
+requested_comparison false = Outcomes
+
+-- the output and the status are those of the rows of the reports that two texts are
+pub record IsDiffOf (compare : Compare) (old new output : List ℕ) (status : ℕ) : Type 0 where
+  pub before : SavedReport
+  pub before_is : IsReportOf old before
+  pub after : SavedReport
+  pub after_is : IsReportOf new after
+  pub text : output ≡ diff_text compare before.rows after.rows
+  pub judged : status ≡ diff_status (counts_of_differing compare before.rows after.rows)
+
+-- ---- check
+
+-- the status is that of a plan of the jobs of a list, with answers for all their paths
+pub record IsPlanStatusOf (bytes : List ℕ) (status : ℕ) : Type 0 where
+  pub plan : Planned
+  pub listed : job_list_of bytes ≡ Ok plan.jobs
+  pub paths : paths_of plan.answers ≡ paths_used plan.jobs
+  pub judged : status ≡ check_status (refused_job_count plan)
+
+-- the output has a line for each fault, of which there is one at least, and then the status is 2;
+-- a list without faults has the status of a plan
+abbrev pub IsCheckOf : List JobError → List ℕ → List ℕ → ℕ → Type 0
+IsCheckOf [] bytes output status = IsPlanStatusOf bytes status
+IsCheckOf (fault ∷ faults) bytes output status =
+    PutsLines (length (fault ∷ faults)) [] output × (status ≡ 2)
+
+-- ---- explain
+
+-- the output and the status are those of the explanation of the job at a place, over answers for the
+-- paths that its row needs
+pub record IsJobExplained (jobs : List Job) (place last : ℕ) (output : List ℕ) (status : ℕ)
+    : Type 0 where
+  pub plan : Planned
+  pub listed : plan.jobs ≡ jobs
+  pub paths : paths_of plan.answers ≡ paths_used (jobs_needed_for jobs (place ∷ []))
+  pub unread : List Unread
+  pub text : (d : Job) → output ≡ explanation_text plan unread Strict
+      (slice_index_or plan.jobs place d) (row_of plan (slice_index_or plan.jobs place d)) last
+  pub judged : (d : Job) → status ≡ passing_status
+      (has_passed Strict (row_of plan (slice_index_or plan.jobs place d)))
+
+-- the place is that of the first job of a name
+abbrev pub IsFirstNamed : List Job → List ℕ → ℕ → Type 0
+IsFirstNamed jobs name place = position (λ (job : Job). bytes_eq job.name name) jobs ≡ Some place
+
+-- the same of the first job of a name in the list that a text is
+pub record IsExplanationOf (bytes name : List ℕ) (last : ℕ) (output : List ℕ) (status : ℕ)
+    : Type 0 where
+  pub jobs : List Job
+  pub listed : job_list_of bytes ≡ Ok jobs
+  pub place : ℕ
+  pub first : IsFirstNamed jobs name place
+  pub explained : IsJobExplained jobs place last output status

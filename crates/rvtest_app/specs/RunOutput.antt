@@ -1,0 +1,42 @@
+-- What a run of chosen jobs shows, its report and its status.
+use Rattle.std.specs.Prelude.{ℕ, List, ◌++◌, ◌+◌, ◌==◌, if◌then◌else◌, length, map}
+use Rattle.std.specs.Prelude.{Option, Some, None}
+use Rattle.std.specs.List.{list_all}
+use Rattle.rv_expect.specs.declared.passing.Rule.{Rule}
+use Rattle.rv_job_text.specs.TotalsLine.{totals_line}
+use Rattle.rv_expect.specs.Passing.{has_passed}
+use Rattle.rv_report.specs.declared.saved.Extent.{Extent}
+use Rattle.rv_report.specs.declared.saved.Extent.TheVariants as extent
+use Rattle.rv_report.specs.declared.saved.Shard.{Shard}
+use Rattle.rv_report.specs.Saved.{saved_text}
+use Rattle.rv_report.specs.declared.row.Row.{Row}
+use Rattle.rv_report.specs.Report.{report_text}
+use Rattle.rv_stream.specs.Streams.{joined_row_texts}
+
+-- what is told of the rows of the jobs at some places, and the line that counts them
+abbrev pub run_output_text : (ℕ → Row → List ℕ) → Rule → List ℕ → List Row → List ℕ
+run_output_text line rule places rows = joined_row_texts line places rows ++ totals_line rule rows
+
+-- 1 where some job failed, else 0
+abbrev pub rows_status : Rule → List Row → ℕ
+rows_status rule rows = if list_all (has_passed rule) rows then 0 else 1
+
+-- the numbers of the jobs at some places, from 1
+abbrev pub job_numbers : List ℕ → List ℕ
+job_numbers places = map (λ place. place + 1) places
+
+-- the text of the rows of some jobs of a list
+abbrev pub part_text : Extent → List ℕ → List Row → List ℕ
+part_text jobs places rows = saved_text (record {
+  extent = jobs;
+  numbers = job_numbers places;
+  rows = rows;
+})
+
+-- the report of a shard, if it is one; else the whole report where these are all jobs of the list,
+-- else that of a choice
+abbrev pub chosen_report_text : ℕ → List ℕ → Option Shard → List Row → List ℕ
+chosen_report_text jobs places (Some shard) rows = part_text (extent.Shard shard) places rows
+chosen_report_text jobs places None rows =
+    if length places == jobs then report_text rows
+    else part_text (extent.Choice jobs) places rows

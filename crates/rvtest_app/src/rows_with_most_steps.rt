@@ -1,0 +1,54 @@
+//! The rows with the most steps.
+
+ghost use Rattle.std.specs.Prelude.{◌≡◌, ◌≤◌, ◌<◌, ◌+◌, IfOk, OnOk, length, map, nat_lt, take};
+ghost use Rattle.std.specs.List.{prefix_len};
+ghost use Rattle.rvtest_app.specs.ReportSummary.{rows_with_most_steps, inserted_by_steps};
+
+use rv_rows::Row;
+use std::alloc::{AllocError, Global};
+
+/// How many rows are shown of those with the most steps.
+pub const MOST_SHOWN: usize = 10;
+
+/// The rows with the most steps, the most first, and of equal ones in their order: [`MOST_SHOWN`] or, where there are
+/// fewer, all.
+pub(crate) fn rows_with_most_steps(alloc: Global, rows: &[Row]) -> Result<Vec<&Row>, AllocError>
+    ensures { IfOk result (λ most. map (λ row. row.now) most.items ≡ rows_with_most_steps rows.now) }
+{
+    let mut most = Vec::new(alloc);
+    let mut left = rows.len();
+    while left > 0 {
+        left -= 1;
+        insert_by_steps(&mut most, &rows[left])?;
+    }
+    Ok(most)
+}
+
+// Puts a row before the first that has no more steps, and takes away what there is then no room for.
+fn insert_by_steps<'a>(most: &mut Vec<&'a Row>, row: &'a Row) -> Result<(), AllocError>
+    requires { length most.old.items ≤ MOST_SHOWN }
+    ensures rows { OnOk result (map (λ row. row.now) most.new.items
+        ≡ take MOST_SHOWN (inserted_by_steps row.now (map (λ row. row.now) most.old.items))) }
+    ensures few { OnOk result (length most.new.items ≤ MOST_SHOWN) }
+{
+    let place = rank_by_steps(most.as_slice(), row.steps);
+    if place == MOST_SHOWN {
+        return Ok(());
+    }
+    most.truncate(MOST_SHOWN - 1);
+    most.insert(place, row)?;
+    Ok(())
+}
+
+// How many rows in front have more steps.
+fn rank_by_steps(most: &[&Row], steps: u32) -> usize
+    ensures place { result ≡ prefix_len (λ row. nat_lt steps row.now.steps) most.now }
+    ensures within { result ≤ length most.now }
+{
+    for (place, row) in most.iter().enumerate() {
+        if row.steps <= steps {
+            return place;
+        }
+    }
+    most.len()
+}
