@@ -112,6 +112,8 @@ class Facts:
             "tables": len(tables),
             "rows": sum(rows_in(self.read(path)) for path in tables),
             "commands": int(commands[1]) if commands else 0,
+            "engines": sum(1 for path in self.files if re.fullmatch(r"engines/\w+/README\.md", path)),
+            "lists": sum(1 for path in self.files if re.fullmatch(r"examples/\w+\.toml", path)),
         }
 
 

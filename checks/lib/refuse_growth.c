@@ -1,8 +1,12 @@
 /* Preloaded into a process, refuses one growth of its memory: the one with the number REFUSED_GROWTH, counted from 1
    over all threads. Where the process comes to that growth, the file GROWTH_MET is made. A growth is a call of malloc,
-   calloc, realloc, memalign, aligned_alloc or posix_memalign. */
+   calloc, realloc, memalign, aligned_alloc or posix_memalign. In the end the file THREADS_STARTED has a byte for each
+   thread that was started. */
+#define _GNU_SOURCE
+#include <dlfcn.h>
 #include <errno.h>
 #include <fcntl.h>
+#include <pthread.h>
 #include <stdatomic.h>
 #include <stdlib.h>
 #include <unistd.h>
@@ -16,11 +20,16 @@ void *__libc_memalign(size_t alignment, size_t size);
 static atomic_ulong growths;
 static unsigned long refused;
 static const char *met;
+static int started = -1;
+static int (*create)(pthread_t *, const pthread_attr_t *, void *(*)(void *), void *);
 
 /* Runs before main: what the loader took is not counted. */
 __attribute__((constructor)) static void begin(void) {
     const char *number = getenv("REFUSED_GROWTH");
+    const char *threads = getenv("THREADS_STARTED");
     met = getenv("GROWTH_MET");
+    create = (int (*)(pthread_t *, const pthread_attr_t *, void *(*)(void *), void *))dlsym(RTLD_NEXT, "pthread_create");
+    started = threads ? open(threads, O_WRONLY | O_CREAT | O_TRUNC | O_CLOEXEC, 0666) : -1;
     growths = 0;
     refused = number && met ? strtoul(number, NULL, 10) : 0;
 }
@@ -51,4 +60,12 @@ int posix_memalign(void **place, size_t alignment, size_t size) {
     }
     *place = found;
     return 0;
+}
+
+int pthread_create(pthread_t *thread, const pthread_attr_t *how, void *(*work)(void *), void *of) {
+    int status = create(thread, how, work, of);
+    if (!status && started >= 0 && write(started, ".", 1) != 1) {
+        abort();
+    }
+    return status;
 }
