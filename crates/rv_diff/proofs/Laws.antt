@@ -8,7 +8,7 @@ use Rattle.rv_rows.specs.declared_row.Row.{Row}
 use Rattle.rv_rows.specs.Report.{line}
 use Rattle.rv_rows.specs.Verdict.{are_same_signatures}
 use Rattle.rv_diff.specs.declared.change.Compare.{Compare}
-use Rattle.rv_diff.specs.Change.{rows_agree, same_console, same_ending, same_steps, same_verdict}
+use Rattle.rv_diff.specs.Change.{rows_agree, have_same_console, are_same_endings, agree_in_steps, are_same_verdicts}
 use Rattle.rv_diff.specs.ByName.{row_named}
 use Rattle.rv_diff.specs.Diff.{difference_lines, counts_of_differing, differing_count, gone_line, is_changed, changes_of_row}
 use Rattle.rv_diff.specs.Differences.{becomes, change_begin, change_line, change_lines, console_words, ending_words}
@@ -30,25 +30,25 @@ pub agree_where_none : (compare : Compare) (old new : Row) →
     (length (change_lines compare old new) == 0) ≡ rows_agree compare old new
 unfolding change_lines rows_agree
 agree_where_none compare old new =
-    let ending = change_line new.name (same_ending compare old.ending new.ending)
+    let ending = change_line new.name (are_same_endings compare old.ending new.ending)
     (becomes (ending_words old.ending) (ending_words new.ending)) in
-    let counts = change_line new.name (same_steps compare old new) (steps_words old.steps new.steps) in
-    let console = change_line new.name (same_console old new) (console_words old.console new.console) in
+    let counts = change_line new.name (agree_in_steps compare old new) (steps_words old.steps new.steps) in
+    let console = change_line new.name (have_same_console old new) (console_words old.console new.console) in
     let signature = change_line new.name (are_same_signatures old.signature new.signature)
     (signature_words old.signature new.signature) in
-    let verdict = change_line new.name (same_verdict old.verdict new.verdict)
+    let verdict = change_line new.name (are_same_verdicts old.verdict new.verdict)
     (verdict_words old.verdict new.verdict) in
     no_text (ending ++ counts ++ console ++ signature) verdict
     ∙ ap (λ b. b && (length verdict == 0)) (no_text (ending ++ counts ++ console) signature
     ∙ ap (λ b. b && (length signature == 0)) (no_text (ending ++ counts) console
     ∙ ap (λ b. b && (length console == 0)) (no_text ending counts)))
-    ∙ (λ i. change_due new.name (same_ending compare old.ending new.ending)
+    ∙ (λ i. change_due new.name (are_same_endings compare old.ending new.ending)
     (becomes (ending_words old.ending) (ending_words new.ending)) i
-    && change_due new.name (same_steps compare old new) (steps_words old.steps new.steps) i
-    && change_due new.name (same_console old new) (console_words old.console new.console) i
+    && change_due new.name (agree_in_steps compare old new) (steps_words old.steps new.steps) i
+    && change_due new.name (have_same_console old new) (console_words old.console new.console) i
     && change_due new.name (are_same_signatures old.signature new.signature)
     (signature_words old.signature new.signature) i
-    && change_due new.name (same_verdict old.verdict new.verdict) (verdict_words old.verdict new.verdict) i)
+    && change_due new.name (are_same_verdicts old.verdict new.verdict) (verdict_words old.verdict new.verdict) i)
 
 -- texts of elements are nothing where all weigh nothing
 none_of_all : {X : Type 0} (text : X → List ℕ) (weight : X → ℕ) →

@@ -16,36 +16,36 @@ use Rattle.rv_diff.specs.declared.change.Change.TheVariants.{Gone, Added, Change
 
 -- both ended by the same code, by the same kind of fault, by their budgets, or were refused for the
 -- same
-abbrev pub same_end_kind : RowEnd → RowEnd → Bool
-same_end_kind (ending.Refused why) (ending.Refused because) =
+abbrev pub are_same_end_kinds : RowEnd → RowEnd → Bool
+are_same_end_kinds (ending.Refused why) (ending.Refused because) =
     bytes_eq (refusal_name why) (refusal_name because)
-same_end_kind old new = are_alike_endings old new
+are_same_end_kinds old new = are_alike_endings old new
 
 -- two faults have the same address and the same value
-abbrev pub same_fault_values : RowEnd → RowEnd → Bool
-same_fault_values (ending.Fault kind pc value) (ending.Fault other at met) = pc == at && value == met
-same_fault_values old new = true
+abbrev pub agree_in_fault_values : RowEnd → RowEnd → Bool
+agree_in_fault_values (ending.Fault kind pc value) (ending.Fault other at met) = pc == at && value == met
+agree_in_fault_values old new = true
 
 -- where steps are not compared, nor are the addresses and the values of faults
-abbrev pub same_ending : Compare → RowEnd → RowEnd → Bool
-same_ending Outcomes old new = same_end_kind old new
-same_ending Steps old new = same_end_kind old new && same_fault_values old new
+abbrev pub are_same_endings : Compare → RowEnd → RowEnd → Bool
+are_same_endings Outcomes old new = are_same_end_kinds old new
+are_same_endings Steps old new = are_same_end_kinds old new && agree_in_fault_values old new
 
-abbrev pub same_steps : Compare → Row → Row → Bool
-same_steps Outcomes old new = true
-same_steps Steps old new = old.steps == new.steps
+abbrev pub agree_in_steps : Compare → Row → Row → Bool
+agree_in_steps Outcomes old new = true
+agree_in_steps Steps old new = old.steps == new.steps
 
-abbrev pub same_console : Row → Row → Bool
-same_console old new = bytes_eq old.console new.console
+abbrev pub have_same_console : Row → Row → Bool
+have_same_console old new = bytes_eq old.console new.console
 
-abbrev pub same_verdict : Verdict → Verdict → Bool
-same_verdict old new = bytes_eq (verdict_name old) (verdict_name new)
+abbrev pub are_same_verdicts : Verdict → Verdict → Bool
+are_same_verdicts old new = bytes_eq (verdict_name old) (verdict_name new)
 
 -- two rows agree, by all that is compared
 unfoldable pub rows_agree : Compare → Row → Row → Bool
-rows_agree compare old new = same_ending compare old.ending new.ending && same_steps compare old new
-    && same_console old new && are_same_signatures old.signature new.signature
-    && same_verdict old.verdict new.verdict
+rows_agree compare old new = are_same_endings compare old.ending new.ending && agree_in_steps compare old new
+    && have_same_console old new && are_same_signatures old.signature new.signature
+    && are_same_verdicts old.verdict new.verdict
 
 -- ---- what became of a job
 

@@ -13,7 +13,7 @@ use Rattle.rv_rows.specs.Report.{line, refusal_name, verdict_name}
 use Rattle.rv_text.specs.Words.{word_digits}
 use Rattle.rv_rows.specs.Verdict.{are_same_signatures}
 use Rattle.rv_diff.specs.declared.change.Compare.{Compare}
-use Rattle.rv_diff.specs.Change.{same_console, same_ending, same_steps, same_verdict}
+use Rattle.rv_diff.specs.Change.{have_same_console, are_same_endings, agree_in_steps, are_same_verdicts}
 
 -- ---- what changed
 
@@ -88,11 +88,11 @@ change_line name same words = if same then [] else line (change_begin name ++ wo
 -- for each part that differs: the ending, the steps, the console, the signature, the verdict
 unfoldable pub change_lines : Compare → Row → Row → List ℕ
 change_lines compare old new =
-    change_line new.name (same_ending compare old.ending new.ending)
+    change_line new.name (are_same_endings compare old.ending new.ending)
     (becomes (ending_words old.ending) (ending_words new.ending))
-    ++ change_line new.name (same_steps compare old new) (steps_words old.steps new.steps)
-    ++ change_line new.name (same_console old new) (console_words old.console new.console)
+    ++ change_line new.name (agree_in_steps compare old new) (steps_words old.steps new.steps)
+    ++ change_line new.name (have_same_console old new) (console_words old.console new.console)
     ++ change_line new.name (are_same_signatures old.signature new.signature)
     (signature_words old.signature new.signature)
-    ++ change_line new.name (same_verdict old.verdict new.verdict)
+    ++ change_line new.name (are_same_verdicts old.verdict new.verdict)
     (verdict_words old.verdict new.verdict)

@@ -3,8 +3,8 @@
 ghost use Rattle.std.specs.Prelude.{◌≡◌, option_map};
 ghost use Rattle.rv_rows.specs.Report.{verdict_name};
 ghost use Rattle.rv_rows.specs.Verdict.{are_same_signatures};
-ghost use Rattle.rv_diff.specs.Change.{change_of, rows_agree, same_console, same_ending, same_end_kind, same_fault_values};
-ghost use Rattle.rv_diff.specs.Change.{same_steps, same_verdict};
+ghost use Rattle.rv_diff.specs.Change.{change_of, rows_agree, have_same_console, are_same_endings, are_same_end_kinds, agree_in_fault_values};
+ghost use Rattle.rv_diff.specs.Change.{agree_in_steps, are_same_verdicts};
 
 use rv_rows::{Row, RowEnd, Verdict, Words, are_alike_endings};
 
@@ -48,26 +48,26 @@ pub fn change_of(compare: Compare, old: Option<&Row>, new: Option<&Row>) -> Chan
 fn rows_agree(compare: Compare, old: &Row, new: &Row) -> bool
     ensures { result ≡ rows_agree compare old.now new.now }
 {
-    same_ending(compare, old.ending, new.ending)
-        && same_steps(compare, old, new)
-        && same_console(old, new)
-        && same_signature(&old.signature, &new.signature)
-        && same_verdict(old.verdict, new.verdict)
+    are_same_endings(compare, old.ending, new.ending)
+        && agree_in_steps(compare, old, new)
+        && have_same_console(old, new)
+        && are_same_signatures(&old.signature, &new.signature)
+        && are_same_verdicts(old.verdict, new.verdict)
 }
 
 /// Whether two rows ended the same way: by the same code, the same kind of fault, their budgets, or the same refusal; and
 /// where steps are compared, a fault with the same address and value.
-pub fn same_ending(compare: Compare, old: RowEnd, new: RowEnd) -> bool
-    ensures { result ≡ same_ending compare old new }
+pub fn are_same_endings(compare: Compare, old: RowEnd, new: RowEnd) -> bool
+    ensures { result ≡ are_same_endings compare old new }
 {
     match compare {
-        Compare::Outcomes => same_end_kind(old, new),
-        Compare::Steps => same_end_kind(old, new) && same_fault_values(old, new),
+        Compare::Outcomes => are_same_end_kinds(old, new),
+        Compare::Steps => are_same_end_kinds(old, new) && agree_in_fault_values(old, new),
     }
 }
 
-fn same_end_kind(old: RowEnd, new: RowEnd) -> bool
-    ensures { result ≡ same_end_kind old new }
+fn are_same_end_kinds(old: RowEnd, new: RowEnd) -> bool
+    ensures { result ≡ are_same_end_kinds old new }
 {
     match (old, new) {
         (RowEnd::Refused(why), RowEnd::Refused(because)) => why.name() == because.name(),
@@ -75,8 +75,8 @@ fn same_end_kind(old: RowEnd, new: RowEnd) -> bool
     }
 }
 
-fn same_fault_values(old: RowEnd, new: RowEnd) -> bool
-    ensures { result ≡ same_fault_values old new }
+fn agree_in_fault_values(old: RowEnd, new: RowEnd) -> bool
+    ensures { result ≡ agree_in_fault_values old new }
 {
     match (old, new) {
         (RowEnd::Fault(_, pc, value), RowEnd::Fault(_, at, met)) => pc == at && value == met,
@@ -85,8 +85,8 @@ fn same_fault_values(old: RowEnd, new: RowEnd) -> bool
 }
 
 /// Whether two rows have the same steps, where these are compared.
-pub fn same_steps(compare: Compare, old: &Row, new: &Row) -> bool
-    ensures { result ≡ same_steps compare old.now new.now }
+pub fn agree_in_steps(compare: Compare, old: &Row, new: &Row) -> bool
+    ensures { result ≡ agree_in_steps compare old.now new.now }
 {
     match compare {
         Compare::Outcomes => true,
@@ -95,14 +95,14 @@ pub fn same_steps(compare: Compare, old: &Row, new: &Row) -> bool
 }
 
 /// Whether two rows have the same console.
-pub fn same_console(old: &Row, new: &Row) -> bool
-    ensures { result ≡ same_console old.now new.now }
+pub fn have_same_console(old: &Row, new: &Row) -> bool
+    ensures { result ≡ have_same_console old.now new.now }
 {
     old.console.as_slice() == new.console.as_slice()
 }
 
 /// Whether two signatures are the same, or both absent.
-pub fn same_signature(old: &Option<Words>, new: &Option<Words>) -> bool
+pub fn are_same_signatures(old: &Option<Words>, new: &Option<Words>) -> bool
     ensures { result ≡ are_same_signatures old.now new.now }
 {
     match (old, new) {
@@ -113,8 +113,8 @@ pub fn same_signature(old: &Option<Words>, new: &Option<Words>) -> bool
 }
 
 /// Whether two verdicts are the same.
-pub fn same_verdict(old: Verdict, new: Verdict) -> bool
-    ensures { result ≡ same_verdict old new }
+pub fn are_same_verdicts(old: Verdict, new: Verdict) -> bool
+    ensures { result ≡ are_same_verdicts old new }
 {
     verdict_text(old) == verdict_text(new)
 }

@@ -1,11 +1,11 @@
 //! The lines that say in what two rows of one name differ.
 
 ghost use Rattle.std.specs.Prelude.{◌≡◌, ◌++◌, OnOk};
-ghost use Rattle.rv_diff.specs.Change.{same_console, same_ending, same_steps, same_verdict};
+ghost use Rattle.rv_diff.specs.Change.{have_same_console, are_same_endings, agree_in_steps, are_same_verdicts};
 ghost use Rattle.rv_diff.specs.Differences.{becomes, change_line, change_lines, console_words};
 ghost use Rattle.rv_diff.specs.Differences.{ending_words, first_differing_place, steps_words, verdict_words};
 
-use crate::change::{Compare, same_console, same_ending, same_steps, same_verdict, verdict_text};
+use crate::change::{Compare, have_same_console, are_same_endings, agree_in_steps, are_same_verdicts, verdict_text};
 use crate::signature_line::push_signature_change;
 use rv_rows::{Row, RowEnd};
 use rv_text::{Span, push_spans, tail_from};
@@ -36,10 +36,10 @@ fn push_ending_change(
     new: &Row,
 ) -> Result<(), AllocError>
     ensures { OnOk result (text.new.items ≡ text.old.items
-        ++ change_line new.now.name (same_ending compare old.now.ending new.now.ending)
+        ++ change_line new.now.name (are_same_endings compare old.now.ending new.now.ending)
         (becomes (ending_words old.now.ending) (ending_words new.now.ending))) }
 {
-    if same_ending(compare, old.ending, new.ending) {
+    if are_same_endings(compare, old.ending, new.ending) {
         return Ok(());
     }
     push_spans(
@@ -100,10 +100,10 @@ fn push_steps_change(
     new: &Row,
 ) -> Result<(), AllocError>
     ensures { OnOk result (text.new.items ≡ text.old.items
-        ++ change_line new.now.name (same_steps compare old.now new.now)
+        ++ change_line new.now.name (agree_in_steps compare old.now new.now)
         (steps_words old.now.steps new.now.steps)) }
 {
-    if same_steps(compare, old, new) {
+    if agree_in_steps(compare, old, new) {
         return Ok(());
     }
     let before = old.steps;
@@ -126,10 +126,10 @@ fn push_steps_change(
 #[tactic(auto, unfolding(crate::specs::Differences::console_words))]
 fn push_console_change<'a>(text: &mut Vec<u8>, old: &'a Row, new: &'a Row) -> Result<(), AllocError>
     ensures { OnOk result (text.new.items ≡ text.old.items
-        ++ change_line new.now.name (same_console old.now new.now)
+        ++ change_line new.now.name (have_same_console old.now new.now)
         (console_words old.now.console new.now.console)) }
 {
-    if same_console(old, new) {
+    if have_same_console(old, new) {
         return Ok(());
     }
     let before = old.console.as_slice();
@@ -172,10 +172,10 @@ fn first_differing_byte(old: &[u8], new: &[u8]) -> Option<usize>
 
 fn push_verdict_change(text: &mut Vec<u8>, old: &Row, new: &Row) -> Result<(), AllocError>
     ensures { OnOk result (text.new.items ≡ text.old.items
-        ++ change_line new.now.name (same_verdict old.now.verdict new.now.verdict)
+        ++ change_line new.now.name (are_same_verdicts old.now.verdict new.now.verdict)
         (verdict_words old.now.verdict new.now.verdict)) }
 {
-    if same_verdict(old.verdict, new.verdict) {
+    if are_same_verdicts(old.verdict, new.verdict) {
         return Ok(());
     }
     push_spans(

@@ -5,7 +5,7 @@ ghost use Rattle.rv_rows.specs.Report.{line};
 ghost use Rattle.rv_rows.specs.Verdict.{are_same_signatures};
 ghost use Rattle.rv_diff.specs.Differences.{change_begin, change_line, first_differing_place, signature_words, word_change_words};
 
-use crate::change::same_signature;
+use crate::change::are_same_signatures;
 use rv_rows::{Row, Words};
 use rv_text::{Span, push_spans};
 use std::alloc::AllocError;
@@ -20,7 +20,7 @@ pub(crate) fn push_signature_change(
         ++ change_line new.now.name (are_same_signatures old.now.signature new.now.signature)
         (signature_words old.now.signature new.now.signature)) }
 {
-    if same_signature(&old.signature, &new.signature) {
+    if are_same_signatures(&old.signature, &new.signature) {
         return Ok(());
     }
     push_signature_line(text, new.name.as_str(), &old.signature, &new.signature)

@@ -5,7 +5,7 @@ pub mod Unmet
 pub mod Telling
 pub mod UnmetInPlan
 pub mod Passing
-pub mod Ways
+pub mod EndKinds
 pub mod MetExpectations
 pub mod Refusal
 pub mod Problem

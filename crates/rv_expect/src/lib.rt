@@ -20,7 +20,7 @@ mod same_as_job;
 mod two_ends;
 mod unfit_segments;
 mod unmet;
-mod ways;
+mod end_kind;
 
 pub use comparison::Comparison;
 pub use difference::{Difference, SameDifference, SignatureDifference};
@@ -36,4 +36,4 @@ pub use same_as_job::row_of_same_as_job;
 pub use two_ends::{expects_two_ends, two_ends_fail};
 pub use unfit_segments::{has_file_bytes_in_region, load_address, unfit_segment};
 pub use unmet::{Unmet, unmet_expectations};
-pub use ways::{Way, fails_in_way};
+pub use end_kind::{EndKind, fails_with_end_kind};

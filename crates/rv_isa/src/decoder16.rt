@@ -76,15 +76,15 @@ fn expanded_word(half: u16) -> Option<u32>
 {
     let half = u32::from(half);
     match field(half, 1, 0) {
-        0 => quadrant0(half),
-        1 => quadrant1(half),
-        2 => quadrant2(half),
+        0 => quadrant0_word(half),
+        1 => quadrant1_word(half),
+        2 => quadrant2_word(half),
         _ => None, // begins a 32-bit instruction
     }
 }
 
 #[tactic(auto, using(crate::proofs::ByQuadrant::by_quadrant))]
-fn quadrant0(half: u32) -> Option<u32>
+fn quadrant0_word(half: u32) -> Option<u32>
     requires { bits_of half 1 0 ≡ 0 }
     ensures { Expands half result }
 {
@@ -99,7 +99,7 @@ fn quadrant0(half: u32) -> Option<u32>
 }
 
 #[tactic(auto, using(crate::proofs::ByQuadrant::by_quadrant))]
-fn quadrant1(half: u32) -> Option<u32>
+fn quadrant1_word(half: u32) -> Option<u32>
     requires { bits_of half 1 0 ≡ 1 }
     ensures { Expands half result }
 {
@@ -109,8 +109,8 @@ fn quadrant1(half: u32) -> Option<u32>
         0 => Some(addi(rd, rd, widen(imm_ci(half), 6, 12))),
         1 => Some(jal(1, widen(imm_cj(half), 12, 21))),
         2 => Some(addi(rd, 0, widen(imm_ci(half), 6, 12))),
-        3 => upper_immediate_word(half),
-        4 => arithmetic_word(half),
+        3 => lui_or_addi16sp_word(half),
+        4 => misc_alu_word(half),
         5 => Some(jal(0, widen(imm_cj(half), 12, 21))),
         6 => Some(beq(high, 0, widen(imm_cb(half), 9, 13))),
         _ => Some(bne(high, 0, widen(imm_cb(half), 9, 13))),
@@ -119,7 +119,7 @@ fn quadrant1(half: u32) -> Option<u32>
 
 // C.ADDI16SP and C.LUI. The two take their immediates from the same bits, so both are 0 together.
 #[tactic(auto, using(crate::proofs::ByQuadrant::by_quadrant))]
-fn upper_immediate_word(half: u32) -> Option<u32>
+fn lui_or_addi16sp_word(half: u32) -> Option<u32>
     requires quadrant { bits_of half 1 0 ≡ 1 }
     requires top { bits_of half 15 13 ≡ 3 }
     ensures { Expands half result }
@@ -136,7 +136,7 @@ fn upper_immediate_word(half: u32) -> Option<u32>
 }
 
 #[tactic(auto, using(crate::proofs::ByQuadrant::by_quadrant))]
-fn arithmetic_word(half: u32) -> Option<u32>
+fn misc_alu_word(half: u32) -> Option<u32>
     requires quadrant { bits_of half 1 0 ≡ 1 }
     requires top { bits_of half 15 13 ≡ 4 }
     ensures { Expands half result }
@@ -158,7 +158,7 @@ fn arithmetic_word(half: u32) -> Option<u32>
 }
 
 #[tactic(auto, using(crate::proofs::ByQuadrant::by_quadrant))]
-fn quadrant2(half: u32) -> Option<u32>
+fn quadrant2_word(half: u32) -> Option<u32>
     requires { bits_of half 1 0 ≡ 2 }
     ensures { Expands half result }
 {

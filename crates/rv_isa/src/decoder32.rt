@@ -45,22 +45,22 @@ fn instr_of_word(word: u32, isa: Isa) -> Option<Instr>
         AUIPC => Some(type_u(Op::Auipc, word)),
         JAL => Some(type_j(Op::Jal, word)),
         JALR if funct3 == 0 => Some(type_i(Op::Jalr, word)),
-        BRANCH => Some(type_b(branch(funct3)?, word)),
-        LOAD => Some(type_i(load(funct3)?, word)),
-        STORE => Some(type_s(store(funct3)?, word)),
+        BRANCH => Some(type_b(branch_op(funct3)?, word)),
+        LOAD => Some(type_i(load_op(funct3)?, word)),
+        STORE => Some(type_s(store_op(funct3)?, word)),
         OP_IMM if funct3 == 0b001 || funct3 == 0b101 => {
-            Some(type_shift(shift(funct7, funct3)?, word))
+            Some(type_shift(shift_op(funct7, funct3)?, word))
         }
-        OP_IMM => Some(type_i(immediate(funct3)?, word)),
-        OP => Some(type_r(register(funct7, funct3, isa)?, word)),
-        MISC_MEM => Some(no_operands(fence(funct3)?)),
-        SYSTEM => system(word, isa),
+        OP_IMM => Some(type_i(immediate_op(funct3)?, word)),
+        OP => Some(type_r(register_op(funct7, funct3, isa)?, word)),
+        MISC_MEM => Some(no_operands(fence_op(funct3)?)),
+        SYSTEM => system_instr(word, isa),
         _ => None,
     }
 }
 
 #[inline]
-fn branch(funct3: u32) -> Option<Op>
+fn branch_op(funct3: u32) -> Option<Op>
     ensures { result ≡ name_at branches funct3 }
 {
     match funct3 {
@@ -75,7 +75,7 @@ fn branch(funct3: u32) -> Option<Op>
 }
 
 #[inline]
-fn load(funct3: u32) -> Option<Op>
+fn load_op(funct3: u32) -> Option<Op>
     ensures { result ≡ name_at loads funct3 }
 {
     match funct3 {
@@ -89,7 +89,7 @@ fn load(funct3: u32) -> Option<Op>
 }
 
 #[inline]
-fn store(funct3: u32) -> Option<Op>
+fn store_op(funct3: u32) -> Option<Op>
     ensures { result ≡ name_at stores funct3 }
 {
     match funct3 {
@@ -101,7 +101,7 @@ fn store(funct3: u32) -> Option<Op>
 }
 
 #[inline]
-fn immediate(funct3: u32) -> Option<Op>
+fn immediate_op(funct3: u32) -> Option<Op>
     ensures { result ≡ name_at immediates funct3 }
 {
     match funct3 {
@@ -116,7 +116,7 @@ fn immediate(funct3: u32) -> Option<Op>
 }
 
 #[inline]
-fn shift(funct7: u32, funct3: u32) -> Option<Op>
+fn shift_op(funct7: u32, funct3: u32) -> Option<Op>
     ensures { result ≡ (if funct7 == 0 then name_at shifts funct3
         else if funct7 == 0x20 then name_at arithmetic_shifts funct3
         else None) }
@@ -130,22 +130,22 @@ fn shift(funct7: u32, funct3: u32) -> Option<Op>
 }
 
 #[inline]
-fn register(funct7: u32, funct3: u32, isa: Isa) -> Option<Op>
+fn register_op(funct7: u32, funct3: u32, isa: Isa) -> Option<Op>
     ensures { result ≡ (if funct7 == 0 then name_at registers funct3
         else if funct7 == 0x20 then name_at registers_alternate funct3
         else if (funct7 == 1) && has isa RV32M then name_at products funct3
         else None) }
 {
     match funct7 {
-        0x00 => register_plain(funct3),
-        0x20 => register_alternate(funct3),
-        0x01 if isa.has_m() => product(funct3),
+        0x00 => register_plain_op(funct3),
+        0x20 => register_alternate_op(funct3),
+        0x01 if isa.has_m() => product_op(funct3),
         _ => None,
     }
 }
 
 #[inline]
-fn register_plain(funct3: u32) -> Option<Op>
+fn register_plain_op(funct3: u32) -> Option<Op>
     ensures { result ≡ name_at registers funct3 }
 {
     match funct3 {
@@ -162,7 +162,7 @@ fn register_plain(funct3: u32) -> Option<Op>
 }
 
 #[inline]
-fn register_alternate(funct3: u32) -> Option<Op>
+fn register_alternate_op(funct3: u32) -> Option<Op>
     ensures { result ≡ name_at registers_alternate funct3 }
 {
     match funct3 {
@@ -173,7 +173,7 @@ fn register_alternate(funct3: u32) -> Option<Op>
 }
 
 #[inline]
-fn product(funct3: u32) -> Option<Op>
+fn product_op(funct3: u32) -> Option<Op>
     ensures { result ≡ name_at products funct3 }
 {
     match funct3 {
@@ -190,7 +190,7 @@ fn product(funct3: u32) -> Option<Op>
 }
 
 #[inline]
-fn fence(funct3: u32) -> Option<Op>
+fn fence_op(funct3: u32) -> Option<Op>
     ensures { result ≡ name_at (fences ++ instruction_fences) funct3 }
 {
     match funct3 {
@@ -202,7 +202,7 @@ fn fence(funct3: u32) -> Option<Op>
 
 #[inline]
 #[tactic(auto, using(crate::proofs::ByOpcode::by_opcode))]
-fn system(word: u32, isa: Isa) -> Option<Instr>
+fn system_instr(word: u32, isa: Isa) -> Option<Instr>
     requires { bits_of word 6 0 ≡ 0x73 }
     ensures { result ≡ meaning32 isa word }
 {

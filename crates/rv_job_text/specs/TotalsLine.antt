@@ -8,41 +8,41 @@ use Rattle.rv_rows.specs.declared_row.Row.{Row}
 use Rattle.rv_rows.specs.Report.{line}
 use Rattle.rv_expect.specs.declared.passing.Rule.{Rule}
 use Rattle.rv_expect.specs.Passing.{has_passed}
-use Rattle.rv_expect.specs.declared.ways.Way.{Way}
-use Rattle.rv_expect.specs.declared.ways.Way.TheVariants as way
-use Rattle.rv_expect.specs.Ways.{fails_in_way, way_at, way_count}
+use Rattle.rv_expect.specs.declared.end_kind.EndKind.{EndKind}
+use Rattle.rv_expect.specs.declared.end_kind.EndKind.TheVariants as end_kind
+use Rattle.rv_expect.specs.EndKinds.{fails_with_end_kind, end_kind_at, end_kind_count}
 
--- ---- ways to end
+-- ---- kinds of ends
 
 -- the word for one
-abbrev pub way_name : Way → List ℕ
-way_name way.Exit = codes "exit"
-way_name way.Budget = codes "budget"
-way_name (way.Fault kind) = fault_name kind
-way_name way.Refused = codes "refused"
+abbrev pub end_kind_name : EndKind → List ℕ
+end_kind_name end_kind.Exit = codes "exit"
+end_kind_name end_kind.Budget = codes "budget"
+end_kind_name (end_kind.Fault kind) = fault_name kind
+end_kind_name end_kind.Refused = codes "refused"
 
 -- ---- counts
 
 abbrev pub passed_count : Rule → List Row → ℕ
 passed_count rule rows = count_by (has_passed rule) rows
 
-abbrev pub failed_way_count : Rule → List Row → Way → ℕ
-failed_way_count rule rows how = count_by (fails_in_way rule how) rows
+abbrev pub failure_count_of_end_kind : Rule → List Row → EndKind → ℕ
+failure_count_of_end_kind rule rows how = count_by (fails_with_end_kind rule how) rows
 
 abbrev pub total_steps : List Row → ℕ
 total_steps rows = sum_by (λ row. row.steps) rows
 
 -- ---- the line
 
--- a way in which jobs failed, and how many: told where there are any
-abbrev pub failed_way_texts : (Way → ℕ) → Way → List (List ℕ)
-failed_way_texts count how =
-    if count how == 0 then [] else (decimal (count how) ++ codes " " ++ way_name how) ∷ []
+-- how many jobs failed with a kind of end: told where there are any
+abbrev pub failure_text_of_end_kind : (EndKind → ℕ) → EndKind → List (List ℕ)
+failure_text_of_end_kind count how =
+    if count how == 0 then [] else (decimal (count how) ++ codes " " ++ end_kind_name how) ∷ []
 
--- of the ways below a place, in order
-unfoldable pub failed_ways_below : (Way → ℕ) → ℕ → List (List ℕ)
-failed_ways_below count zero = []
-failed_ways_below count (suc place) = failed_ways_below count place ++ failed_way_texts count (way_at place)
+-- of the kinds below a place, in order
+unfoldable pub failure_texts_below : (EndKind → ℕ) → ℕ → List (List ℕ)
+failure_texts_below count zero = []
+failure_texts_below count (suc place) = failure_texts_below count place ++ failure_text_of_end_kind count (end_kind_at place)
 
 -- in brackets, with commas between; nothing where there is nothing
 abbrev pub open_bracket_text : List (List ℕ) → List ℕ
@@ -60,5 +60,5 @@ passed_counts_text jobs passed = decimal jobs ++ codes " jobs: " ++ decimal pass
 -- the last line of what a person sees of rows
 unfoldable pub totals_line : Rule → List Row → List ℕ
 totals_line rule rows = line (passed_counts_text (length rows) (passed_count rule rows)
-    ++ bracket_text (failed_ways_below (failed_way_count rule rows) way_count)
+    ++ bracket_text (failure_texts_below (failure_count_of_end_kind rule rows) end_kind_count)
     ++ codes ", " ++ decimal (total_steps rows) ++ codes " steps")

@@ -176,7 +176,7 @@ fn push_signature_ends(
     let begin = names.begin.as_str().as_bytes();
     let end = names.end.as_str().as_bytes();
     let (begin_at, begin_address) = symbol_address_spans(file, image, begin);
-    let (end_at, load_end_address) = symbol_address_spans(file, image, end);
+    let (end_at, end_address) = symbol_address_spans(file, image, end);
     push_spans(
         bytes,
         &[
@@ -187,7 +187,7 @@ fn push_signature_ends(
             Span::Text(" to "),
             Span::Shown(end),
             end_at,
-            load_end_address,
+            end_address,
             Span::Text(" is not up to 65536 whole words of one region:"),
         ],
     )

@@ -11,7 +11,7 @@
 
 mod console_tail;
 mod difference_text;
-mod failed_ways;
+mod failures_by_end_kind;
 mod image_reason;
 mod image_symbols;
 mod job_row;

@@ -29,7 +29,7 @@ pub struct EndDetail<'a, 'b> {
 
 /// Appends the line of a row: `PASS` or `FAIL`, the job's name, and how it ended. A fault's address is told by a symbol
 /// too where one is given, and a refusal by its reason where that is given. The symbol's name and the reason are shown as
-/// [`push_shown`](rv_text::push_shown) does.
+/// [`push_printable_text`](rv_text::push_printable_text) does.
 #[tactic(auto, unfolding(crate::specs::ResultLine::result_line))]
 pub fn push_result_line(
     alloc: Global,

@@ -169,10 +169,10 @@ fn first_overlapping_segment<'a>(
 {
     others
         .iter()
-        .find(|other| are_segments_overlapping(at, one, other))
+        .find(|other| segments_overlap(at, one, other))
 }
 
-fn are_segments_overlapping(at: LoadAt, one: &Segment, other: &Segment) -> bool
+fn segments_overlap(at: LoadAt, one: &Segment, other: &Segment) -> bool
     ensures { result ≡ segments_overlap at one.now other.now }
 {
     let start = load_address(at, one).max(load_address(at, other));

@@ -4,7 +4,7 @@ ghost use Rattle.std.specs.Prelude.{◌≡◌, ◌≤◌, ◌<◌, ◌-◌, ◌^
 ghost use Rattle.std.specs.Fmt.{decimal};
 ghost use Rattle.rv_job_text.specs.TotalsLine.{totals_line, passed_counts_text, passed_count, total_steps};
 
-use crate::failed_ways::push_failed_ways;
+use crate::failures_by_end_kind::push_failures_by_end_kind;
 use rv_expect::{Rule, has_passed};
 use rv_rows::Row;
 use rv_text::{Span, push_spans};
@@ -18,7 +18,7 @@ pub fn push_totals_line(bytes: &mut Vec<u8>, rule: Rule, rows: &[Row]) -> Result
     ensures { OnOk result (bytes.new.items ≡ bytes.old.items ++ totals_line rule rows.now) }
 {
     push_passed_counts(bytes, rows.len(), passed_count(rule, rows))?;
-    push_failed_ways(bytes, rule, rows)?;
+    push_failures_by_end_kind(bytes, rule, rows)?;
     push_total_steps(bytes, total_steps(rows))
 }
 

@@ -297,15 +297,15 @@ module _ (all : List Answer) (ps : List (List ℕ)) (ks : List Kept) (even : len
         length-map (answers_with ps ks) (λ (a : Answer). a.kept),
       )
 
-  same_fault_values : (p : List ℕ) → place_in (paths_of all) p ≡ at → place_in ps p ≡ at
-  same_fault_values p placed = ap (λ l. place_in l p) (sym (paths-with ps ks even) ∙ ap paths_of view) ∙ placed
+  same_place : (p : List ℕ) → place_in (paths_of all) p ≡ at → place_in ps p ≡ at
+  same_place p placed = ap (λ l. place_in l p) (sym (paths-with ps ks even) ∙ ap paths_of view) ∙ placed
 
   pub kept_in : (k : ℕ) (x : Kept) (p : List ℕ) → at ≡ Some k → x ≡ get_or ks k x
       → place_in (paths_of all) p ≡ at
       → x ≡ kept_for all p
   kept_in k x p is there placed =
       sym (ap (λ (a : List Answer). kept_for a p) (sym view)
-      ∙ ap (λ o. unwrap_or o Unreadable) (kept_there ps ks p k x even (same_fault_values p placed ∙ is) there))
+      ∙ ap (λ o. unwrap_or o Unreadable) (kept_there ps ks p k x even (same_place p placed ∙ is) there))
 
   pub kept_not_in : (x : Kept) (p : List ℕ) → at ≡ None → x ≡ Unreadable → place_in (paths_of all) p ≡ at
       → x ≡ kept_for all p

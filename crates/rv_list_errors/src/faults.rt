@@ -26,7 +26,7 @@ pub fn push_faults(
 {
     match toml::table_from_slice(alloc, text) {
         Ok(table) => {
-            let list = List::of(alloc, text, &table)?;
+            let list = List::from_table(alloc, text, &table)?;
             push_fault_lines(alloc, bytes, file, &Look::List(list), faults)
         }
         Err(error) => {

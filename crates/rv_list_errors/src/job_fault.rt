@@ -9,7 +9,7 @@ use crate::keys::push_unknown_job_key;
 use crate::kinds::push_wrong_kind;
 use crate::list::List;
 use crate::message::Message;
-use crate::names::{Suggestion, push_name_owner, push_unknown_same_as};
+use crate::names::{Suggestion, push_name_fault, push_unknown_same_as};
 use crate::regions::push_region_fault;
 use crate::values::table_text;
 use rv_lists::What;
@@ -25,7 +25,7 @@ pub(crate) fn push_job_fault(
 ) {
     match list.jobs.get(place) {
         Some(Value::Table(table)) => match what {
-            What::Duplicate => push_name_owner(message, list, table, "name", FREE),
+            What::Duplicate => push_name_fault(message, list, table, "name", FREE),
             What::SameAs => push_unknown_same_as(message, list, table, place, suggestion),
             _ => push_fault_within_job(message, table, what),
         },

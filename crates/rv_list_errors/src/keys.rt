@@ -44,7 +44,7 @@ fn is_job_key(key: &str) -> bool {
 }
 
 /// Appends that a key is not known.
-pub(crate) fn push_key_is_unknown(message: &mut Message, key: &str) {
+pub(crate) fn push_unknown_key(message: &mut Message, key: &str) {
     message.push("unknown key ");
     message.push_quoted(key);
 }
@@ -54,7 +54,7 @@ pub(crate) fn push_key_is_unknown(message: &mut Message, key: &str) {
 pub(crate) fn push_unknown_job_key(message: &mut Message, table: &Table) {
     match unknown_key(table, Owner::Job) {
         Some(key) => {
-            push_key_is_unknown(message, key);
+            push_unknown_key(message, key);
             push_nearest_key(message, key);
         }
         None => push_unknown_region_key(message, table),
@@ -75,7 +75,7 @@ fn push_unknown_region_key(message: &mut Message, table: &Table) {
         if let Some(key) = unknown_region_key(region) {
             push_region_number(message, at);
             message.push(": ");
-            push_key_is_unknown(message, key);
+            push_unknown_key(message, key);
             return message.push(": the keys of a region are base, size and write");
         }
     }

@@ -19,7 +19,7 @@ pub(crate) struct List<'a> {
 
 impl<'a> List<'a> {
     /// The list of a text and its table.
-    pub(crate) fn of(alloc: Global, text: &[u8], table: &'a Table) -> Result<List<'a>, AllocError> {
+    pub(crate) fn from_table(alloc: Global, text: &[u8], table: &'a Table) -> Result<List<'a>, AllocError> {
         let jobs = table_elements(table, "job");
         Ok(List {
             table,

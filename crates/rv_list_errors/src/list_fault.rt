@@ -1,7 +1,7 @@
 //! Faults of a whole list.
 
 use crate::headers::line_and_column;
-use crate::keys::{Owner, push_key_is_unknown, unknown_key};
+use crate::keys::{Owner, push_unknown_key, unknown_key};
 use crate::list::List;
 use crate::message::Message;
 use crate::values::push_wanted_value;
@@ -44,7 +44,7 @@ fn push_no_jobs(message: &mut Message, table: &Table) {
     );
     if let Some(key) = unknown_key(table, Owner::List) {
         message.push(", and there is an ");
-        push_key_is_unknown(message, key);
+        push_unknown_key(message, key);
     }
 }
 
@@ -56,7 +56,7 @@ fn push_too_many_jobs(message: &mut Message, jobs: usize) {
 fn push_unknown_list_key(message: &mut Message, table: &Table) {
     match unknown_key(table, Owner::List) {
         Some(key) => {
-            push_key_is_unknown(message, key);
+            push_unknown_key(message, key);
             message.push(": the only key of a list is job");
         }
         None => message.push(What::UnknownKey.name()),

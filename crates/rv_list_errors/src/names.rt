@@ -7,7 +7,7 @@ use rv_lists::limits::MOST_NAME;
 use toml::Table;
 
 /// Appends a key with a name, which earlier job has it, if one does, and what is wanted.
-pub(crate) fn push_name_owner(
+pub(crate) fn push_name_fault(
     message: &mut Message,
     list: &List<'_>,
     table: &Table,
@@ -38,7 +38,7 @@ pub(crate) fn push_unknown_same_as(
     place: usize,
     suggestion: Suggestion,
 ) {
-    push_name_owner(
+    push_name_fault(
         message,
         list,
         table,

@@ -109,7 +109,7 @@ fn push_unaligned_region(message: &mut Message, regions: &[Region]) {
             return message.push(BASE);
         }
         if region.size % 4 != 0 {
-            return push_region_size(message, at, region.size);
+            return push_wrong_region_size(message, at, region.size);
         }
     }
 }
@@ -119,7 +119,7 @@ fn push_region_size_fault(message: &mut Message, regions: &[Region]) {
     let mut total = 0u64;
     for (at, region) in regions.iter().enumerate() {
         if region.size < 4 {
-            return push_region_size(message, at, region.size);
+            return push_wrong_region_size(message, at, region.size);
         }
         if region_end(region) > 0x1_0000_0000 {
             return push_region_past_end(message, at, region);
@@ -145,7 +145,7 @@ fn push_region_base(message: &mut Message, at: usize, base: u32) {
     message.push_hex_word(base);
 }
 
-fn push_region_size(message: &mut Message, at: usize, size: u32) {
+fn push_wrong_region_size(message: &mut Message, at: usize, size: u32) {
     push_region_number(message, at);
     message.push_number_between(": size = ", u64::from(size), ": ");
     message.push(SIZE);

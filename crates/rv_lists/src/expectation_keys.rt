@@ -108,7 +108,7 @@ fn end_from_text(text: &str) -> Result<Option<ExpectedEnd>, What>
     if text == "budget" {
         return Ok(Some(ExpectedEnd::Budget));
     }
-    match FaultKind::named(text.as_bytes()) {
+    match FaultKind::from_name(text.as_bytes()) {
         Some(kind) => Ok(Some(ExpectedEnd::Fault(kind))),
         None => Err(What::Expect),
     }

@@ -6,10 +6,10 @@ ghost use Rattle.rv_machine.specs.Effect.{address, load as load_of, load_value, 
 ghost use Rattle.rv_machine.specs.KeptTable.{with_asleep_over};
 ghost use Rattle.rv_machine.specs.State.{at_pc};
 
+use crate::alu::add_offset;
 use crate::ending::Ends;
 use crate::hart::{Hart, jump};
 use crate::kept::KeptTable;
-use crate::transfers::offset;
 use rv_isa::{Instr, sign_extend};
 use rv_memory::Width;
 
@@ -39,7 +39,7 @@ impl Hart {
             (λ _. (is_ok (load_of width extend (at_pc self.old pc.old) instr next) ≡ false)
             × (self.new ≡ self.old) × (pc.new ≡ pc.old)) }
     {
-        let address = offset(self.registers[instr.rs1 as usize], instr.imm);
+        let address = add_offset(self.registers[instr.rs1 as usize], instr.imm);
         match self.bus.load(address, width) {
             Ok(value) => self.complete(pc, instr.rd, load_value(value, width, extend), next),
             Err(_) => Err(Ends),
@@ -64,7 +64,7 @@ impl Hart {
             (λ _. (is_ok (store_of width (at_pc self.old pc.old) instr next) ≡ false)
             × (self.new ≡ self.old) × (pc.new ≡ pc.old) × (table.new ≡ table.old)) }
     {
-        let address = offset(self.registers[instr.rs1 as usize], instr.imm);
+        let address = add_offset(self.registers[instr.rs1 as usize], instr.imm);
         let value = self.registers[instr.rs2 as usize];
         match self.bus.store(address, width, value) {
             Ok(()) => {

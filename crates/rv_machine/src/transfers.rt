@@ -1,11 +1,11 @@
 //! Where an instruction leads: the next one, or the target of a jump or a branch.
-ghost use Rattle.std.specs.Prelude.{◌≡◌, ◌+◌, ◌%◌, ◌⊎◌, MatchResult, false, is_ok, Ok, pos, ◌+ℤ◌};
-ghost use Rattle.rv_isa.specs.Bits.{wrap};
+ghost use Rattle.std.specs.Prelude.{◌≡◌, ◌+◌, ◌%◌, ◌⊎◌, MatchResult, false, is_ok, Ok};
 ghost use Rattle.rv_isa.specs.Words.{IsWellFormed};
 ghost use Rattle.rv_machine.specs.Arithmetic.{even};
 ghost use Rattle.rv_machine.specs.Effect.{address, after_branch, after_jump};
 ghost use Rattle.rv_machine.specs.State.{at_pc};
 
+use crate::alu::add_offset;
 use crate::ending::Ends;
 use crate::hart::{Hart, jump};
 use rv_isa::Instr;
@@ -45,7 +45,7 @@ impl Hart {
             ≡ false)
             × (self.new ≡ self.old) × (pc.new ≡ pc.old)) }
     {
-        let target = offset(self.registers[instr.rs1 as usize], instr.imm) / 2 * 2;
+        let target = add_offset(self.registers[instr.rs1 as usize], instr.imm) / 2 * 2;
         self.link(pc, instr, next, target)
     }
 
@@ -91,7 +91,7 @@ impl Hart {
             × (self.new ≡ self.old) × (pc.new ≡ pc.old)) }
     {
         if taken {
-            let target = offset(here, instr.imm);
+            let target = add_offset(here, instr.imm);
             if self.is_misaligned(target) {
                 return Err(Ends);
             }
@@ -99,12 +99,4 @@ impl Hart {
         }
         jump(pc, next)
     }
-}
-
-/// The word at a signed distance from another, modulo 2^32.
-#[inline]
-pub(crate) fn offset(from: u32, by: i32) -> u32
-    ensures { result ≡ wrap (pos from +ℤ by) }
-{
-    from.wrapping_add(by.cast_unsigned())
 }

@@ -38,51 +38,51 @@ fn row_has_word_numbers(row: &Row)
     ensures { HasNumbers row.now }
 {
     ending_has_word_numbers(row.ending);
-    number_is_word(row.steps);
-    console_is_bytes(&row.console);
-    signature_is_words(&row.signature);
+    prove_number_is_word(row.steps);
+    prove_console_is_bytes(&row.console);
+    prove_signature_is_words(&row.signature);
 }
 
 fn ending_has_word_numbers(ending: RowEnd)
     ensures { EndsInWords ending }
 {
     match ending {
-        RowEnd::Exit(code) => number_is_word(code),
+        RowEnd::Exit(code) => prove_number_is_word(code),
         RowEnd::Fault(_, pc, value) => {
-            number_is_word(pc);
-            number_is_word(value);
+            prove_number_is_word(pc);
+            prove_number_is_word(value);
         }
         RowEnd::Budget | RowEnd::Refused(_) => {}
     }
 }
 
-fn number_is_word(number: u32)
+fn prove_number_is_word(number: u32)
     ensures { IsWord number }
 {
     let _read = number;
 }
 
-fn console_is_bytes(console: &Bytes)
+fn prove_console_is_bytes(console: &Bytes)
     ensures { IsBytes console.now }
 {
-    slice_is_bytes(console.as_slice());
+    prove_slice_is_bytes(console.as_slice());
 }
 
-fn slice_is_bytes(bytes: &[u8])
+fn prove_slice_is_bytes(bytes: &[u8])
     ensures { IsBytes bytes.now }
 {
     let _read = bytes;
 }
 
-fn signature_is_words(signature: &Option<Words>)
+fn prove_signature_is_words(signature: &Option<Words>)
     ensures { HasWords signature.now }
 {
     if let Some(words) = signature {
-        slice_is_words(words.as_slice());
+        prove_slice_is_words(words.as_slice());
     }
 }
 
-fn slice_is_words(words: &[u32])
+fn prove_slice_is_words(words: &[u32])
     ensures { AllByRecursion IsWord words.now }
 {
     let _read = words;

@@ -26,8 +26,8 @@ use Rattle.rv_report.specs.declared.gathering.Stage.TheVariants as stage
 use Rattle.rv_report.specs.declared.saved.Extent.{Extent}
 use Rattle.rv_report.specs.declared.saved.Extent.TheVariants.{Whole}
 use Rattle.rv_report.specs.LenientReport.{lines, name_or_dash, job_number_of_line, job_name_of_line, text_after_byte, decimal_number_on, decimal_number, with_digit}
-use Rattle.rv_report.specs.LenientReport.{hex_number, with_zero_digits, hex_word, is_hex_word, hex_bytes, bytes_if_decoded, refusal_or_first, fault_end_of_text}
-use Rattle.rv_report.specs.LenientReport.{row_end_of_line, verdict_of_line, extent_of_line, Gathered, gathering_between_rows, with_closed_row, with_stage_over, row_so_far, padded_words}
+use Rattle.rv_report.specs.LenientReport.{hex_number, with_zero_digits, hex_word, is_hex_word, hex_bytes, bytes_if_decoded, refusal_or_first, fault_ending_of_text}
+use Rattle.rv_report.specs.LenientReport.{row_ending_of_line, verdict_of_line, part_extent_of_line, Gathered, gathering_between_rows, with_closed_row, with_stage_over, row_so_far, padded_words}
 use Rattle.rv_report.specs.LenientReport.{at_job_or_last_line, at_ending, at_steps, at_console, at_signature, at_words, with_line_at}
 use Rattle.rv_report.specs.LenientReport.{with_line, with_lines, with_unfinished_row, gather_rows, hex_digit_value}
 use Rattle.rv_report.specs.Saved.{most_words, IsWord, IsEnd, AreWords, IsRow}
@@ -128,20 +128,20 @@ pick_if : {X : Type 0} (P : X → Type 0) (b : Bool) (x y : X) → (b ≡ true �
 pick_if P true x y h k = h refl
 pick_if P false x y h k = k
 
-fault_good : (text : List ℕ) → IsEnd (fault_end_of_text text)
-unfolding fault_end_of_text
+fault_good : (text : List ℕ) → IsEnd (fault_ending_of_text text)
+unfolding fault_ending_of_text
 fault_good text =
     (word_small (take 8 (drop 3 (text_after_byte 32 text))), word_small (drop 18 (text_after_byte 32 text)))
 
-ending_good : (line : List ℕ) → IsEnd (row_end_of_line line)
-unfolding row_end_of_line
+ending_good : (line : List ℕ) → IsEnd (row_ending_of_line line)
+unfolding row_ending_of_line
 ending_good line =
     let kind = slice_index line 4 in
     let refused = ending.Refused (refusal_or_first (refusal_named (drop 12 line))) in
     let last : RowEnd = if kind == 98 then ending.Budget else refused in
-    let next : RowEnd = if kind == 102 then fault_end_of_text (drop 10 line) else last in
+    let next : RowEnd = if kind == 102 then fault_ending_of_text (drop 10 line) else last in
     pick IsEnd (kind == 101) (ending.Exit (decimal_number (drop 9 line))) next (number_small 0 (drop 9 line) (omega arith))
-    (pick IsEnd (kind == 102) (fault_end_of_text (drop 10 line)) last (fault_good (drop 10 line))
+    (pick IsEnd (kind == 102) (fault_ending_of_text (drop 10 line)) last (fault_good (drop 10 line))
     (pick IsEnd (kind == 98) ending.Budget refused tt (refusal_good (drop 12 line))))
 
 -- ---- what is gathered
@@ -191,7 +191,7 @@ draft_between : (line : List ℕ) (g : Gathered) → IsDraft g → IsDraft (at_j
 unfolding at_job_or_last_line
 draft_between line g h =
     let job : Gathered = record g { number = job_number_of_line line; name = job_name_of_line line; begun = true; stage = stage.Ending } in
-    let part : Gathered = with_stage_over (record g { extent = extent_of_line line }) in
+    let part : Gathered = with_stage_over (record g { extent = part_extent_of_line line }) in
     let other : Gathered = if slice_index line 0 == 112 then part else with_stage_over g in
     pick IsDraft ((slice_index line 0 == 106) && nat_lt (length g.rows) most_jobs) job other
     (h.0, name_of_is_name line, h.2, h.3, h.4, h.5, h.6, h.7)
@@ -200,7 +200,7 @@ draft_between line g h =
 draft_ending : (line : List ℕ) (g : Gathered) → IsDraft g → IsDraft (at_ending line g)
 unfolding at_ending
 draft_ending line g h =
-    pick IsDraft (slice_index line 0 == 101) (record g { ending = row_end_of_line line; stage = stage.Steps }) (with_stage_over g)
+    pick IsDraft (slice_index line 0 == 101) (record g { ending = row_ending_of_line line; stage = stage.Steps }) (with_stage_over g)
     (h.0, h.1, ending_good line, h.3, h.4, h.5, h.6, h.7) h
 
 draft_steps : (line : List ℕ) (g : Gathered) → IsDraft g → IsDraft (at_steps line g)

@@ -14,7 +14,7 @@ use Rattle.rv_report.specs.declared.saved.Extent.{Extent}
 use Rattle.rv_report.specs.declared.saved.Extent.TheVariants.{Whole, Choice}
 use Rattle.rv_report.specs.declared.saved.Extent.TheVariants as extent
 use Rattle.rv_report.specs.declared.saved.Shard.{Shard}
-use Rattle.rv_report.specs.LenientReport.{text_before_byte, text_after_byte, decimal_number, name_or_dash, shard_of_text, extent_of_line, gathering_between_rows, with_stage_over}
+use Rattle.rv_report.specs.LenientReport.{text_before_byte, text_after_byte, decimal_number, name_or_dash, shard_of_text, part_extent_of_line, gathering_between_rows, with_stage_over}
 use Rattle.rv_report.specs.LenientReport.{at_job_or_last_line, with_line, place_of_byte}
 use Rattle.rv_report.specs.Saved.{part_words, shard_words, extent_line, is_valid_shard, are_rising, are_evenly_spaced, fits_numbers}
 use Rattle.rv_report.proofs.Pieces.{lacks, lacks-append, before_at, after_at}
@@ -135,8 +135,8 @@ extent_from jobs shard =
 choice_regroup : (count jobs : List ℕ) → count ++ codes " of " ++ jobs ≡ count ++ 32 ∷ (codes "of " ++ jobs)
 choice_regroup count jobs = simp append_assoc
 
-choice_is : (count jobs : ℕ) → count < 2 ^ 32 → jobs ≤ most_jobs → extent_of_line (part_words count jobs) ≡ Choice jobs
-unfolding extent_of_line
+choice_is : (count jobs : ℕ) → count < 2 ^ 32 → jobs ≤ most_jobs → part_extent_of_line (part_words count jobs) ≡ Choice jobs
+unfolding part_extent_of_line
 choice_is count jobs few small =
     let js = decimal jobs in
     let rest = codes "of " ++ js in
@@ -191,8 +191,8 @@ longer [] b ys = grind arith
 longer (x ∷ xs) b ys = grind arith
 
 shard_is : (count : ℕ) (s : Shard) → IsPart s → count < 2 ^ 32
-    → extent_of_line (part_words count s.jobs ++ shard_words s) ≡ extent.Shard s
-unfolding extent_of_line
+    → part_extent_of_line (part_words count s.jobs ++ shard_words s) ≡ extent.Shard s
+unfolding part_extent_of_line
 shard_is count s is few =
     let n = decimal count in
     let jobs = decimal s.jobs in
@@ -212,7 +212,7 @@ shard_is count s is few =
     ∙ ap (λ (k : ℕ). shard_of_text k t2) (number_of-decimal s.jobs (omega arith))
     ∙ shard_says s.jobs s is
 
-part_says : (text : List ℕ) (numbers : List ℕ) (rows : List Row) (e : Extent) → extent_of_line (codes "part " ++ text) ≡ e
+part_says : (text : List ℕ) (numbers : List ℕ) (rows : List Row) (e : Extent) → part_extent_of_line (codes "part " ++ text) ≡ e
     → with_line (codes "part " ++ text) (gathering_between_rows numbers rows Whole) ≡ with_stage_over (gathering_between_rows numbers rows e)
 unfolding with_line at_job_or_last_line gathering_between_rows
 part_says text numbers rows e is = ap (λ (x : Extent). with_stage_over (gathering_between_rows numbers rows x)) is

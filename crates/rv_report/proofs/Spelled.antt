@@ -26,7 +26,7 @@ use Rattle.rv_report.specs.Report.{dash_if_empty, console_line, signature_lines,
 use Rattle.rv_report.specs.declared.gathering.Stage.TheVariants as stage
 use Rattle.rv_report.specs.declared.saved.Extent.{Extent}
 use Rattle.rv_report.specs.LenientReport.{lines, text_before_byte, text_after_byte, decimal_number, hex_word, all_hex, hex_bytes, name_or_dash}
-use Rattle.rv_report.specs.LenientReport.{job_number_of_line, job_name_of_line, fault_or_first, refusal_or_first, fault_end_of_text, row_end_of_line, verdict_of_line}
+use Rattle.rv_report.specs.LenientReport.{job_number_of_line, job_name_of_line, fault_or_first, refusal_or_first, fault_ending_of_text, row_ending_of_line, verdict_of_line}
 use Rattle.rv_report.specs.LenientReport.{decimal_number_on, Gathered, gathering_between_rows, with_closed_row, with_stage_over, row_so_far, at_job_or_last_line, at_ending}
 use Rattle.rv_report.specs.LenientReport.{at_steps, at_console, at_signature, at_words, with_line, with_lines}
 use Rattle.rv_base.specs.Limits.{most_jobs}
@@ -224,14 +224,14 @@ unfolding word_digits encode_with
 second_word pc value = refl
 
 fault_says : (kind : FaultKind) (pc value : ℕ) → pc < 2 ^ 32 → value < 2 ^ 32
-    → fault_end_of_text (fault_name kind ++ codes " pc=" ++ word_digits pc ++ codes " value=" ++ word_digits value)
+    → fault_ending_of_text (fault_name kind ++ codes " pc=" ++ word_digits pc ++ codes " value=" ++ word_digits value)
     ≡ ending.Fault kind pc value
-unfolding fault_end_of_text
+unfolding fault_ending_of_text
 fault_says kind pc value hp hv =
     let name = fault_name kind in
     let plain = (and_parts (lacks 10 name) (lacks 32 name) (lacks-fault_name kind)).1 in
     let words = two_words pc value in
-    ap fault_end_of_text (fault_regroup name (word_digits pc) (word_digits value))
+    ap fault_ending_of_text (fault_regroup name (word_digits pc) (word_digits value))
     ∙ ap (λ (t : List ℕ). ending.Fault (fault_or_first (fault_named t))
     (hex_word (take 8 (drop 3 (text_after_byte 32 (name ++ 32 ∷ words))))) (hex_word (drop 18 (text_after_byte 32 (name ++ 32 ∷ words)))))
     (before_at 32 name words plain)
@@ -246,7 +246,7 @@ fault_says kind pc value hp hv =
 
 end_says : (e : RowEnd) (g : Gathered) → IsEnd e → with_line (end_words e) (record g { stage = stage.Ending })
     ≡ record g { ending = e; stage = stage.Steps }
-unfolding with_line at_ending row_end_of_line
+unfolding with_line at_ending row_ending_of_line
 end_says (ending.Exit code) g h = ap (λ (n : ℕ). record g { ending = ending.Exit n; stage = stage.Steps })
     (number_of-decimal code h)
 end_says (ending.Fault kind pc value) g h = ap (λ (e : RowEnd). record g { ending = e; stage = stage.Steps })

@@ -123,18 +123,18 @@ unfoldable pub job_name_of_line : List ℕ → List ℕ
 job_name_of_line line = name_or_dash (text_after_byte 32 (drop 4 line))
 
 -- KIND pc=WORD value=WORD
-unfoldable pub fault_end_of_text : List ℕ → RowEnd
-fault_end_of_text text =
+unfoldable pub fault_ending_of_text : List ℕ → RowEnd
+fault_ending_of_text text =
     let words = text_after_byte 32 text in
     ending.Fault (fault_or_first (fault_named (text_before_byte 32 text))) (hex_word (take 8 (drop 3 words)))
     (hex_word (drop 18 words))
 
 -- end ..
-unfoldable pub row_end_of_line : List ℕ → RowEnd
-row_end_of_line line =
+unfoldable pub row_ending_of_line : List ℕ → RowEnd
+row_ending_of_line line =
     let kind = slice_index line 4 in
     if kind == 101 then ending.Exit (decimal_number (drop 9 line))
-    else if kind == 102 then fault_end_of_text (drop 10 line)
+    else if kind == 102 then fault_ending_of_text (drop 10 line)
     else if kind == 98 then ending.Budget
     else ending.Refused (refusal_or_first (refusal_named (drop 12 line)))
 
@@ -158,8 +158,8 @@ shard_of_text jobs text =
     })
 
 -- part ROWS of JOBS, and of a shard more
-unfoldable pub extent_of_line : List ℕ → Extent
-extent_of_line line =
+unfoldable pub part_extent_of_line : List ℕ → Extent
+part_extent_of_line line =
     let jobs = drop 3 (text_after_byte 32 (drop 5 line)) in
     let shard = drop 6 (text_after_byte 32 jobs) in
     if length shard == 0 then extent.Choice (decimal_number (text_before_byte 32 jobs))
@@ -231,12 +231,12 @@ unfoldable pub at_job_or_last_line : List ℕ → Gathered → Gathered
 at_job_or_last_line line g =
     if (slice_index line 0 == 106) && nat_lt (length g.rows) most_jobs then
     record g { number = job_number_of_line line; name = job_name_of_line line; begun = true; stage = stage.Ending }
-    else if slice_index line 0 == 112 then with_stage_over (record g { extent = extent_of_line line })
+    else if slice_index line 0 == 112 then with_stage_over (record g { extent = part_extent_of_line line })
     else with_stage_over g
 
 unfoldable pub at_ending : List ℕ → Gathered → Gathered
 at_ending line g =
-    if slice_index line 0 == 101 then record g { ending = row_end_of_line line; stage = stage.Steps }
+    if slice_index line 0 == 101 then record g { ending = row_ending_of_line line; stage = stage.Steps }
     else with_stage_over g
 
 unfoldable pub at_steps : List ℕ → Gathered → Gathered

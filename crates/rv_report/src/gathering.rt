@@ -11,7 +11,7 @@ use crate::fields::{
     skip_bytes,
 };
 use crate::lines::{
-    extent_of_line, job_name_of_line, job_number_of_line, row_end_of_line, verdict_of_line,
+    part_extent_of_line, job_name_of_line, job_number_of_line, row_ending_of_line, verdict_of_line,
 };
 use crate::row::{Row, RowEnd, Verdict, Words};
 use crate::saved::Extent;
@@ -125,7 +125,7 @@ fn add_job_or_last_line(
             gathering.stage = Stage::Ending;
         }
         b'p' => {
-            gathering.extent = extent_of_line(alloc, line)?;
+            gathering.extent = part_extent_of_line(alloc, line)?;
             gathering.stage = Stage::Over;
         }
         _ => gathering.stage = Stage::Over,
@@ -138,7 +138,7 @@ fn add_end_line(gathering: &mut Gathering, line: &[u8])
     ensures { gathering_view gathering.new ≡ at_ending line.now (gathering_view gathering.old) }
 {
     if byte_at(line, 0) == b'e' {
-        gathering.ending = row_end_of_line(line);
+        gathering.ending = row_ending_of_line(line);
         gathering.stage = Stage::Steps;
     } else {
         gathering.stage = Stage::Over;

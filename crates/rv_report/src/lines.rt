@@ -1,9 +1,9 @@
 //! What single lines of a report say. Any line says something: the byte that tells it from others is enough.
 
 ghost use Rattle.std.specs.Prelude.{◌≡◌, IfOk, string_bytes};
-ghost use Rattle.rv_report.specs.LenientReport.{job_number_of_line, job_name_of_line, fault_or_first, refusal_or_first, fault_end_of_text, row_end_of_line};
+ghost use Rattle.rv_report.specs.LenientReport.{job_number_of_line, job_name_of_line, fault_or_first, refusal_or_first, fault_ending_of_text, row_ending_of_line};
 ghost use Rattle.rv_report.specs.LenientReport.{verdict_of_line};
-ghost use Rattle.rv_report.specs.LenientReport.{shard_of_text, extent_of_line};
+ghost use Rattle.rv_report.specs.LenientReport.{shard_of_text, part_extent_of_line};
 ghost use Rattle.rv_report.specs.Report.{refusal_named};
 
 use crate::fields::{
@@ -32,26 +32,26 @@ pub(crate) fn job_name_of_line(alloc: Global, line: &[u8]) -> Result<String, All
 }
 
 /// How a job ended.
-#[tactic(auto, unfolding(crate::specs::LenientReport::row_end_of_line))]
-pub(crate) fn row_end_of_line(line: &[u8]) -> RowEnd
-    ensures { result ≡ row_end_of_line line.now }
+#[tactic(auto, unfolding(crate::specs::LenientReport::row_ending_of_line))]
+pub(crate) fn row_ending_of_line(line: &[u8]) -> RowEnd
+    ensures { result ≡ row_ending_of_line line.now }
 {
     match byte_at(line, 4) {
         b'e' => RowEnd::Exit(decimal_number(skip_bytes(line, 9))),
-        b'f' => fault_end_of_text(skip_bytes(line, 10)),
+        b'f' => fault_ending_of_text(skip_bytes(line, 10)),
         b'b' => RowEnd::Budget,
         _ => RowEnd::Refused(refusal_or_unreadable(skip_bytes(line, 12))),
     }
 }
 
-#[tactic(auto, unfolding(crate::specs::LenientReport::fault_end_of_text))]
-fn fault_end_of_text(text: &[u8]) -> RowEnd
-    ensures { result ≡ fault_end_of_text text.now }
+#[tactic(auto, unfolding(crate::specs::LenientReport::fault_ending_of_text))]
+fn fault_ending_of_text(text: &[u8]) -> RowEnd
+    ensures { result ≡ fault_ending_of_text text.now }
 {
     let words = text_after_byte(b' ', text);
     let pc = hex_word(leading_bytes(skip_bytes(words, 3), 8));
     let value = hex_word(skip_bytes(words, 18));
-    let kind = FaultKind::named(text_before_byte(b' ', text)).unwrap_or(FaultKind::FetchAccess);
+    let kind = FaultKind::from_name(text_before_byte(b' ', text)).unwrap_or(FaultKind::FetchAccess);
     RowEnd::Fault(kind, pc, value)
 }
 
@@ -74,9 +74,9 @@ pub(crate) fn verdict_of_line(line: &[u8]) -> Verdict
 }
 
 /// Which jobs a part has, by its last line.
-#[tactic(auto, unfolding(crate::specs::LenientReport::extent_of_line))]
-pub(crate) fn extent_of_line(alloc: Global, line: &[u8]) -> Result<Extent, AllocError>
-    ensures { IfOk result (λ extent. extent ≡ extent_of_line line.now) }
+#[tactic(auto, unfolding(crate::specs::LenientReport::part_extent_of_line))]
+pub(crate) fn part_extent_of_line(alloc: Global, line: &[u8]) -> Result<Extent, AllocError>
+    ensures { IfOk result (λ extent. extent ≡ part_extent_of_line line.now) }
 {
     let jobs = skip_bytes(text_after_byte(b' ', skip_bytes(line, 5)), 3);
     let shard = skip_bytes(text_after_byte(b' ', jobs), 6);

@@ -73,7 +73,7 @@ impl Recent {
         if ROOM < size {
             return false;
         }
-        while !self.items.is_empty() && self.is_full(size) {
+        while !self.items.is_empty() && self.lacks_room_for(size) {
             self.items.remove(0);
         }
         true
@@ -90,7 +90,7 @@ impl Recent {
     }
 
     // Whether one more of this size is too much.
-    fn is_full(&self, size: usize) -> bool {
+    fn lacks_room_for(&self, size: usize) -> bool {
         let mut total = size;
         for kept in &self.items {
             total = total.saturating_add(kept.outcome.size());

@@ -179,11 +179,11 @@ pub(crate) fn is_same_as_attempt(outcome: &Outcome, other: &Attempt) -> bool
 {
     match other {
         Attempt::Refused(why) => are_alike_endings(outcome.ending, RowEnd::Refused(*why)),
-        Attempt::Ran(run) => is_same_as_run(outcome, run),
+        Attempt::Ran(run) => has_same_outcome_as_run(outcome, run),
     }
 }
 
-fn is_same_as_run(outcome: &Outcome, run: &EndedRun) -> bool
+fn has_same_outcome_as_run(outcome: &Outcome, run: &EndedRun) -> bool
     requires { HasSignature run.now }
     ensures { result ≡ are_same_outcomes outcome.now (outcome_in_bus run.now) }
 {

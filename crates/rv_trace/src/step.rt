@@ -46,7 +46,7 @@ pub(crate) fn trace_next_step(machine: &mut Machine) -> Option<TracedStep>
     let pc = machine.pc();
     let code = code_at(machine.bus(), pc);
     let aim = write_target(machine, code);
-    if !steps_once(machine) {
+    if !step_once(machine) {
         return None;
     }
     Some(TracedStep {
@@ -58,7 +58,7 @@ pub(crate) fn trace_next_step(machine: &mut Machine) -> Option<TracedStep>
 
 // Does the next instruction of a machine, and tells whether it completed. It is a run of one step: so what an
 // instruction does has one caller in this program, too, the loop of a run, and the compiler joins the two.
-fn steps_once(machine: &mut Machine) -> bool
+fn step_once(machine: &mut Machine) -> bool
     ensures { MatchBool result (step_of (state_of machine.old) ≡ Ok (state_of machine.new))
         ((is_ok (step_of (state_of machine.old)) ≡ false)
         × (state_of machine.new ≡ state_of machine.old)) }

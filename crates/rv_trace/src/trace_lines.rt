@@ -141,13 +141,13 @@ fn push_steps(
         ++ flat_map (step_line elf.now.image.now elf.now.bytes.now) steps.now) }
 {
     for step in steps {
-        push_step(alloc, bytes, elf, step)?;
+        push_step_line(alloc, bytes, elf, step)?;
     }
     Ok(())
 }
 
 #[tactic(auto, unfolding(crate::specs::Text::step_line))]
-fn push_step(
+fn push_step_line(
     alloc: Global,
     bytes: &mut Vec<u8>,
     elf: &ElfFile<'_>,

@@ -7,9 +7,9 @@ ghost use Rattle.toml_parser.specs.Lexical.{left_bracket};
 ghost use Rattle.rv_list_errors.specs.Places.{text_line_count};
 
 use crate::headers::lines::Lines;
-use crate::headers::values::skip_value;
+use crate::headers::values::{skip_blank_lines, skip_value};
 use std::alloc::{AllocError, Global};
-use toml_parser::text::{byte_at, first, skip, skip_blank, skip_ws};
+use toml_parser::text::{byte_at, first, skip, skip_ws};
 use toml_parser::{ErrorKind, ParseError, dotted_key};
 
 /// The line, counted from 1, on which each job of a list begins: that of its header, or where the list is an array that of
@@ -52,7 +52,7 @@ struct Step<'a> {
 fn note_job_lines(alloc: Global, text: &str, lines: &mut Lines<'_>) -> Result<(), ParseError>
     ensures { lines.new.text.now ≡ lines.old.text.now }
 {
-    let mut here = skip_blank(text, true);
+    let mut here = skip_blank_lines(text);
     let mut what = Next::Top;
     'steps: while !here.is_empty() {
         let Step { is_job, next, rest } = scan_step(alloc, here, what)?;
@@ -142,7 +142,7 @@ fn scan_entry(alloc: Global, text: &str, next: Next) -> Result<Step<'_>, ParseEr
         return Ok(Step {
             is_job: false,
             next: Next::Element,
-            rest: skip_blank(skip(value, 1), true),
+            rest: skip_blank_lines(skip(value, 1)),
         });
     }
     let rest = skip_value(alloc, value)?;
@@ -168,9 +168,9 @@ fn skip_equals_sign(text: &str) -> &str
 fn skip_comma(text: &str) -> &str
     ensures { length result.now ≤ length text.now }
 {
-    let rest = skip_blank(text, true);
+    let rest = skip_blank_lines(text);
     if first(rest) == b',' {
-        skip_blank(skip(rest, 1), true)
+        skip_blank_lines(skip(rest, 1))
     } else {
         rest
     }
@@ -182,7 +182,7 @@ fn skip_line_end(text: &str) -> &str
 {
     let end = skip_ws(text);
     if matches!(first(end), b'#' | b'\n' | b'\r') {
-        skip_blank(end, true)
+        skip_blank_lines(end)
     } else {
         ""
     }

@@ -30,8 +30,15 @@ fn skip_brackets(alloc: Global, text: &str) -> Result<&str, ParseError>
         if depth == 0 {
             return Ok(rest);
         }
-        rest = skip_blank(rest, true);
+        rest = skip_blank_lines(rest);
     }
+}
+
+// The text behind blanks, line ends and comments.
+pub(crate) fn skip_blank_lines(text: &str) -> &str
+    ensures { length result.now ≤ length text.now }
+{
+    skip_blank(text, true)
 }
 
 // How many brackets are open behind a byte.
@@ -71,7 +78,7 @@ fn skip_word(text: &str) -> Result<&str, ParseError>
     ensures { IfOk result (λ rest. length rest.now < length text.now) }
 {
     let mut rest = text;
-    'letters: while is_in_word(rest) {
+    'letters: while bare_word_goes_on(rest) {
         rest = skip(rest, 1);
     }
     if rest.len() == text.len() {
@@ -81,7 +88,7 @@ fn skip_word(text: &str) -> Result<&str, ParseError>
 }
 
 // Whether a word begins or goes on: in that of a date and a time a space may part the two.
-fn is_in_word(text: &str) -> bool
+fn bare_word_goes_on(text: &str) -> bool
     ensures some { IsTrue result → 0 < slice_index text.now 0 }
     ensures ascii { IsTrue result → slice_index text.now 0 < 128 }
 {

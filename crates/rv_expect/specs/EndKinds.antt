@@ -1,0 +1,40 @@
+-- The kinds of ends that jobs have: exit, budget, each kind of fault, refused.
+use Rattle.std.specs.Prelude.{◌==◌, ◌&&◌, ◌+◌, ◌-◌, ℕ, Bool, true, false, not, if◌then◌else◌}
+use Rattle.std.specs.Prelude.{Option, Some, None, length, slice_get}
+use Rattle.rv_machine.specs.declared.ending.FaultKind.{FaultKind}
+use Rattle.rv_machine.specs.Faults.{fault_kinds}
+use Rattle.rv_rows.specs.declared_row.Row.{Row}
+use Rattle.rv_rows.specs.declared_row.RowEnd.{RowEnd}
+use Rattle.rv_rows.specs.declared_row.RowEnd.TheVariants as ending
+use Rattle.rv_rows.specs.Verdict.{is_same_kind}
+use Rattle.rv_expect.specs.declared.passing.Rule.{Rule}
+use Rattle.rv_expect.specs.declared.end_kind.EndKind.{EndKind}
+use Rattle.rv_expect.specs.declared.end_kind.EndKind.TheVariants as end_kind
+use Rattle.rv_expect.specs.Passing.{has_passed}
+
+-- how many there are
+abbrev pub end_kind_count : ℕ
+end_kind_count = length fault_kinds + 3
+
+-- a kind of fault, or what stands behind the last of them
+abbrev pub fault_or_refused : Option FaultKind → EndKind
+fault_or_refused (Some kind) = end_kind.Fault kind
+fault_or_refused None = end_kind.Refused
+
+-- the kind at a place among them
+abbrev pub end_kind_at : ℕ → EndKind
+end_kind_at place =
+    if place == 0 then end_kind.Exit
+    else (if place == 1 then end_kind.Budget else fault_or_refused (slice_get fault_kinds (place - 2)))
+
+-- whether an ending is of the kind
+abbrev pub has_end_kind : EndKind → RowEnd → Bool
+has_end_kind end_kind.Exit (ending.Exit code) = true
+has_end_kind end_kind.Budget ending.Budget = true
+has_end_kind (end_kind.Fault kind) (ending.Fault met pc value) = is_same_kind kind met
+has_end_kind end_kind.Refused (ending.Refused why) = true
+has_end_kind _ _ = false
+
+-- a job failed, and ended so
+abbrev pub fails_with_end_kind : Rule → EndKind → Row → Bool
+fails_with_end_kind rule how row = not (has_passed rule row) && has_end_kind how row.ending

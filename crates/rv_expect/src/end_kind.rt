@@ -1,0 +1,68 @@
+//! The kinds of ends that jobs have.
+
+ghost use Rattle.std.specs.Prelude.{◌≡◌, slice_get};
+ghost use Rattle.rv_machine.specs.Faults.{fault_kinds};
+ghost use Rattle.rv_expect.specs.EndKinds.{fails_with_end_kind, fault_or_refused, has_end_kind, end_kind_at};
+
+use crate::passing::{Rule, has_passed};
+use rv_machine::FaultKind;
+use rv_rows::{Row, RowEnd};
+
+/// A kind of end of a job.
+#[derive(Clone, Copy)]
+pub enum EndKind {
+    /// By the exit call, with any code.
+    Exit,
+    /// The budget is used up.
+    Budget,
+    /// By a fault of the kind.
+    Fault(FaultKind),
+    /// The image is refused.
+    Refused,
+}
+
+impl EndKind {
+    /// How many there are.
+    pub const COUNT: usize = FaultKind::ALL.len() + 3;
+
+    /// The kind at a place below [`COUNT`](EndKind::COUNT), in the order exit, budget, each kind of fault, refused.
+    pub fn from_place(place: usize) -> EndKind
+        ensures { result ≡ end_kind_at place }
+    {
+        if place == 0 {
+            EndKind::Exit
+        } else if place == 1 {
+            EndKind::Budget
+        } else {
+            fault_or_refused(place - 2)
+        }
+    }
+}
+
+fn fault_or_refused(place: usize) -> EndKind
+    ensures { result ≡ fault_or_refused (slice_get fault_kinds place) }
+{
+    match FaultKind::ALL.get(place) {
+        Some(kind) => EndKind::Fault(*kind),
+        None => EndKind::Refused,
+    }
+}
+
+/// Whether a job failed, and its end is of a kind.
+pub fn fails_with_end_kind(rule: Rule, kind: EndKind, row: &Row) -> bool
+    ensures { result ≡ fails_with_end_kind rule kind row.now }
+{
+    !has_passed(rule, row) && has_end_kind(kind, row.ending)
+}
+
+fn has_end_kind(kind: EndKind, ending: RowEnd) -> bool
+    ensures { result ≡ has_end_kind kind ending }
+{
+    match (kind, ending) {
+        (EndKind::Exit, RowEnd::Exit(_)) => true,
+        (EndKind::Budget, RowEnd::Budget) => true,
+        (EndKind::Fault(fault), RowEnd::Fault(met, ..)) => fault == met,
+        (EndKind::Refused, RowEnd::Refused(_)) => true,
+        _ => false,
+    }
+}
