@@ -18,12 +18,12 @@ with_argument old arg app rule (Ok new) adds is added =
     (adds.shape added.1 ∙ (λ i. with_rule (is.0 i) (added.0 i)), adds.globals ∙ (λ i. is.1 i || added.1 i))
 with_argument old arg app rule (Err e) adds is added = tt
 
-pub with_command : (old sub : Command) (app below : App) (answer : Result Command AllocError)
+pub with_subcommand_lem : (old sub : Command) (app below : App) (answer : Result Command AllocError)
     → IfOk answer (λ new. AddsSubcommand old sub new) → app_of old ≡ app → Is below sub
     → IfOk answer (λ new. app_of new ≡ with_subcommand app below.top)
-with_command old sub app below (Ok new) adds is added =
+with_subcommand_lem old sub app below (Ok new) adds is added =
     adds.shape added.1 ∙ (λ i. with_subcommand (is i) (added.0 i).top)
-with_command old sub app below (Err e) adds is added = tt
+with_subcommand_lem old sub app below (Err e) adds is added = tt
 
 pub its_app : (app : App) (built : Result Command AllocError) → IsBuilt app built → HasApp app built
 its_app app (Ok command) is = is.0

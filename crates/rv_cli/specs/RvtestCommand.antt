@@ -76,8 +76,8 @@ subcommand_app stated = with_arguments (new_app stated.name.now) stated.argument
 abbrev pub with_table_command : App → Subcommand → App
 with_table_command app stated = with_subcommand app (subcommand_app stated).top
 
-abbrev pub with_commands : App → List Subcommand → App
-with_commands = fold with_table_command
+abbrev pub with_subcommands : App → List Subcommand → App
+with_subcommands = fold with_table_command
 
 -- [--only <NAME>].. [--match <REGEX>] [--failed <REPORT>]
 abbrev pub with_choice : App → App

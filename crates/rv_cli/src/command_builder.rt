@@ -11,7 +11,7 @@ use std::alloc::AllocError;
 pub type Built<'a> = Result<Command<'a>, AllocError>;
 
 /// A command with one more below it.
-pub fn with_command<'a>(command: Built<'a>, below: Built<'a>) -> Built<'a>
+pub fn with_subcommand<'a>(command: Built<'a>, below: Built<'a>) -> Built<'a>
     ensures { (app : App) → (under : App) → HasApp app command.entry → IsBuilt under below.entry
         → HasApp (with_subcommand app under.top) result }
 {

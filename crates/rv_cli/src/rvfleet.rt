@@ -12,7 +12,7 @@ ghost use Rattle.rv_cli.specs.RvfleetCommand.{request_of, are_words_taken};
 ghost use Rattle.rv_cli.specs.RvfleetRequests.{IsRequestInRange, request};
 
 use crate::arguments::{group_argument, option_argument, word_argument};
-use crate::command_builder::{Built, with_argument, with_command};
+use crate::command_builder::{Built, with_argument, with_subcommand};
 use crate::values::{number_value, text_value};
 use clap::error::ErrorKind;
 use clap::{Arg, ArgMatches, Command, Error, value_parser};
@@ -69,9 +69,9 @@ pub fn read_words<'a, T: AsStr>(alloc: Global, words: &'a [T]) -> Result<Option<
 fn fleet_command<'a>(alloc: Global) -> Result<Command<'a>, AllocError>
     ensures { IfOk result (λ command. app_of command ≡ fleet_app) }
 {
-    let command = with_command(top_command(alloc), raw_command(alloc));
-    let command = with_command(command, one_image_command(alloc));
-    with_command(command, run_command(alloc))
+    let command = with_subcommand(top_command(alloc), raw_command(alloc));
+    let command = with_subcommand(command, one_image_command(alloc));
+    with_subcommand(command, run_command(alloc))
 }
 
 fn top_command<'a>(alloc: Global) -> Built<'a>

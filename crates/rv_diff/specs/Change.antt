@@ -22,14 +22,14 @@ are_same_end_kinds (ending.Refused why) (ending.Refused because) =
 are_same_end_kinds old new = are_alike_endings old new
 
 -- two faults have the same address and the same value
-abbrev pub agree_in_fault_values : RowEnd → RowEnd → Bool
-agree_in_fault_values (ending.Fault kind pc value) (ending.Fault other at met) = pc == at && value == met
-agree_in_fault_values old new = true
+abbrev pub agree_in_fault_pc_and_value : RowEnd → RowEnd → Bool
+agree_in_fault_pc_and_value (ending.Fault kind pc value) (ending.Fault other at met) = pc == at && value == met
+agree_in_fault_pc_and_value old new = true
 
 -- where steps are not compared, nor are the addresses and the values of faults
 abbrev pub are_same_endings : Compare → RowEnd → RowEnd → Bool
 are_same_endings Outcomes old new = are_same_end_kinds old new
-are_same_endings Steps old new = are_same_end_kinds old new && agree_in_fault_values old new
+are_same_endings Steps old new = are_same_end_kinds old new && agree_in_fault_pc_and_value old new
 
 abbrev pub agree_in_steps : Compare → Row → Row → Bool
 agree_in_steps Outcomes old new = true

@@ -1,12 +1,10 @@
 //! What became of a job from one report to another.
 
 ghost use Rattle.std.specs.Prelude.{◌≡◌, option_map};
-ghost use Rattle.rv_rows.specs.Report.{verdict_name};
-ghost use Rattle.rv_rows.specs.Verdict.{are_same_signatures};
-ghost use Rattle.rv_diff.specs.Change.{change_of, rows_agree, have_same_console, are_same_endings, are_same_end_kinds, agree_in_fault_values};
+ghost use Rattle.rv_diff.specs.Change.{change_of, rows_agree, have_same_console, are_same_endings, are_same_end_kinds, agree_in_fault_pc_and_value};
 ghost use Rattle.rv_diff.specs.Change.{agree_in_steps, are_same_verdicts};
 
-use rv_rows::{Row, RowEnd, Verdict, Words, are_alike_endings};
+use rv_rows::{Row, RowEnd, Verdict, are_alike_endings, are_same_signatures};
 
 /// What became of a job from one report to another.
 #[derive(Clone, Copy)]
@@ -62,7 +60,7 @@ pub fn are_same_endings(compare: Compare, old: RowEnd, new: RowEnd) -> bool
 {
     match compare {
         Compare::Outcomes => are_same_end_kinds(old, new),
-        Compare::Steps => are_same_end_kinds(old, new) && agree_in_fault_values(old, new),
+        Compare::Steps => are_same_end_kinds(old, new) && agree_in_fault_pc_and_value(old, new),
     }
 }
 
@@ -75,8 +73,8 @@ fn are_same_end_kinds(old: RowEnd, new: RowEnd) -> bool
     }
 }
 
-fn agree_in_fault_values(old: RowEnd, new: RowEnd) -> bool
-    ensures { result ≡ agree_in_fault_values old new }
+fn agree_in_fault_pc_and_value(old: RowEnd, new: RowEnd) -> bool
+    ensures { result ≡ agree_in_fault_pc_and_value old new }
 {
     match (old, new) {
         (RowEnd::Fault(_, pc, value), RowEnd::Fault(_, at, met)) => pc == at && value == met,
@@ -101,31 +99,9 @@ pub fn have_same_console(old: &Row, new: &Row) -> bool
     old.console.as_slice() == new.console.as_slice()
 }
 
-/// Whether two signatures are the same, or both absent.
-pub fn are_same_signatures(old: &Option<Words>, new: &Option<Words>) -> bool
-    ensures { result ≡ are_same_signatures old.now new.now }
-{
-    match (old, new) {
-        (Some(old), Some(new)) => old.as_slice() == new.as_slice(),
-        (None, None) => true,
-        _ => false,
-    }
-}
-
 /// Whether two verdicts are the same.
 pub fn are_same_verdicts(old: Verdict, new: Verdict) -> bool
     ensures { result ≡ are_same_verdicts old new }
 {
-    verdict_text(old) == verdict_text(new)
-}
-
-/// The word for a verdict, as a report has it.
-pub fn verdict_text(verdict: Verdict) -> &'static str
-    ensures { result.now ≡ verdict_name verdict }
-{
-    match verdict {
-        Verdict::Unasked => "none",
-        Verdict::Pass => "pass",
-        Verdict::Fail => "fail",
-    }
+    old.name() == new.name()
 }

@@ -52,7 +52,7 @@ pub fn push_diff(
     ensures counts { IfOk result (λ counts. counts ≡ counts_of_differing compare old.now new.now) }
 {
     let gone = push_gone_lines(alloc, text, compare, old, new)?;
-    let (added, changed) = push_added_and_changed(alloc, text, compare, old, new)?;
+    let (added, changed) = push_added_and_changed_lines(alloc, text, compare, old, new)?;
     let counts = Differing {
         gone,
         added,
@@ -87,7 +87,7 @@ fn push_gone_lines(
 }
 
 // Appends the lines of the jobs of the new report, and counts those that only it has and those that changed.
-fn push_added_and_changed(
+fn push_added_and_changed_lines(
     alloc: Global,
     text: &mut Vec<u8>,
     compare: Compare,

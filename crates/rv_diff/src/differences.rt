@@ -5,7 +5,9 @@ ghost use Rattle.rv_diff.specs.Change.{have_same_console, are_same_endings, agre
 ghost use Rattle.rv_diff.specs.Differences.{becomes, change_line, change_lines, console_words};
 ghost use Rattle.rv_diff.specs.Differences.{ending_words, first_differing_place, steps_words, verdict_words};
 
-use crate::change::{Compare, have_same_console, are_same_endings, agree_in_steps, are_same_verdicts, verdict_text};
+use crate::change::{
+    Compare, agree_in_steps, are_same_endings, are_same_verdicts, have_same_console,
+};
 use crate::signature_line::push_signature_change;
 use rv_rows::{Row, RowEnd};
 use rv_text::{Span, push_spans, tail_from};
@@ -184,9 +186,9 @@ fn push_verdict_change(text: &mut Vec<u8>, old: &Row, new: &Row) -> Result<(), A
             Span::Text("! "),
             Span::Text(new.name.as_str()),
             Span::Text(": verdict "),
-            Span::Text(verdict_text(old.verdict)),
+            Span::Text(old.verdict.name()),
             Span::Text(" -> "),
-            Span::Text(verdict_text(new.verdict)),
+            Span::Text(new.verdict.name()),
             Span::Text("\n"),
         ],
     )

@@ -47,8 +47,8 @@ fn quadrant1_form(half: u32) -> Option<Form>
         0 => Some(Form("c.nop", Operands::Absent)),
         1 => Some(Form("c.jal", Operands::One(Operand::Target))),
         2 => Some(Form("c.li", REGISTER_IMMEDIATE)),
-        3 => upper_immediate_form(half),
-        4 => arithmetic_form(half),
+        3 => lui_or_addi16sp_form(half),
+        4 => misc_alu_form(half),
         5 => Some(Form("c.j", Operands::One(Operand::Target))),
         6 => Some(Form("c.beqz", TEST_OF_ZERO)),
         _ => Some(Form("c.bnez", TEST_OF_ZERO)),
@@ -64,7 +64,7 @@ fn has_ci_immediate(half: u32) -> bool
 
 // C.ADDI16SP and C.LUI.
 #[tactic(auto, using(crate::proofs::HalfwordForms::by_quadrant))]
-fn upper_immediate_form(half: u32) -> Option<Form>
+fn lui_or_addi16sp_form(half: u32) -> Option<Form>
     requires quadrant { bits_of half 1 0 ≡ 1 }
     requires top { bits_of half 15 13 ≡ 3 }
     ensures { option_map form_of_code result ≡ form16 half }
@@ -79,7 +79,7 @@ fn upper_immediate_form(half: u32) -> Option<Form>
 }
 
 #[tactic(auto, using(crate::proofs::HalfwordForms::by_quadrant))]
-fn arithmetic_form(half: u32) -> Option<Form>
+fn misc_alu_form(half: u32) -> Option<Form>
     requires quadrant { bits_of half 1 0 ≡ 1 }
     requires top { bits_of half 15 13 ≡ 4 }
     ensures { option_map form_of_code result ≡ form16 half }
@@ -106,7 +106,7 @@ fn quadrant2_form(half: u32) -> Option<Form>
     match field(half, 15, 13) {
         0 if field(half, 12, 12) == 0 => Some(Form("c.slli", REGISTER_IMMEDIATE)),
         2 if field(half, 11, 7) != 0 => Some(Form("c.lwsp", LOAD)),
-        4 => register_form(half),
+        4 => cr_format_form(half),
         6 => Some(Form("c.swsp", STORE)),
         _ => None,
     }
@@ -114,7 +114,7 @@ fn quadrant2_form(half: u32) -> Option<Form>
 
 // C.JR, C.MV, C.EBREAK, C.JALR and C.ADD.
 #[tactic(auto, using(crate::proofs::HalfwordForms::by_quadrant))]
-fn register_form(half: u32) -> Option<Form>
+fn cr_format_form(half: u32) -> Option<Form>
     requires quadrant { bits_of half 1 0 ≡ 2 }
     requires top { bits_of half 15 13 ≡ 4 }
     ensures { option_map form_of_code result ≡ form16 half }

@@ -14,9 +14,9 @@ use Rattle.rv_elf.specs.declared.symbols.Symbol.{Symbol}
 use Rattle.rv_elf.specs.Image.{image_of, IsImageOf}
 use Rattle.rv_elf.specs.ImageParts.{header_rows, image_behind_header}
 use Rattle.rv_elf.specs.Rows.{accepted}
-use Rattle.rv_elf.specs.Sections.{e_shnum, e_shoff, e_shentsize, has_bad_section_table, symbol_table, string_table}
+use Rattle.rv_elf.specs.Sections.{e_shnum, e_shoff, e_shentsize, has_bad_section_table, symbol_table_section, string_table_section}
 use Rattle.rv_elf.specs.Sections.{is_bad_symbol_table, is_bad_string_table, section_bytes, symbol_named, HasSections}
-use Rattle.rv_elf.specs.Symbols.{has_bad_string_table, table_rows, table_check, tables_of_section, symbol_tables, symbol_of_name}
+use Rattle.rv_elf.specs.Symbols.{has_bad_string_table, table_rows, table_check, tables_of_section, symbol_and_string_bytes, symbol_of_name}
 use Rattle.rv_elf.specs.Symbols.{symbol_of}
 use Rattle.rv_elf.proofs.FirstRow.{none_refused, none_refuses, refusal_stays}
 
@@ -49,12 +49,12 @@ module _ (file : List ℕ) where
   no_section_table e = refused _ _ _ e
 
   module _ (sections : has_bad_section_table file ≡ false) where
-    pub no_symbol_table : symbol_table file ≡ None → table_check file ≡ Err NoSymbols
+    pub no_symbol_table : symbol_table_section file ≡ None → table_check file ≡ Err NoSymbols
     unfolding table_check
     no_symbol_table e = passed _ _ _ sections ∙ refused _ _ _ (ap is_none e)
 
-    module _ (t : Section) (is : symbol_table file ≡ Some t) where
-      at_table : (f : Section → Bool) (b : Bool) → f t ≡ b → option_map_or f (symbol_table file) false ≡ b
+    module _ (t : Section) (is : symbol_table_section file ≡ Some t) where
+      at_table : (f : Section → Bool) (b : Bool) → f t ≡ b → option_map_or f (symbol_table_section file) false ≡ b
       at_table f b e = ap (λ o. option_map_or f o false) is ∙ e
 
       pub bad_symbol_table : is_bad_symbol_table (length file) t ≡ true → table_check file ≡ Err SymbolTable
@@ -70,10 +70,10 @@ module _ (file : List ℕ) where
             ∙ passed _ _ _ (at_table (is_bad_symbol_table (length file)) false good)
             ∙ refused _ _ _ (at_table (has_bad_string_table file) true e)
 
-        pub no_string_table : string_table file t ≡ None → table_check file ≡ Err StringTable
+        pub no_string_table : string_table_section file t ≡ None → table_check file ≡ Err StringTable
         no_string_table e = bad_string_table (ap (λ o. option_map_or (is_bad_string_table (length file)) o true) e)
 
-        module _ (s : Section) (strings : string_table file t ≡ Some s) where
+        module _ (s : Section) (strings : string_table_section file t ≡ Some s) where
           pub past_string_table : is_bad_string_table (length file) s ≡ true → table_check file ≡ Err StringTable
           past_string_table e = bad_string_table
               (ap (λ o. option_map_or (is_bad_string_table (length file)) o true) strings ∙ e)
@@ -89,7 +89,7 @@ module _ (file : List ℕ) where
               (ap (λ o. option_map_or (is_bad_string_table (length file)) o true) strings ∙ e))
 
           pub tables_found : (table names : List ℕ) → table ≡ section_bytes file t → names ≡ section_bytes file s
-              → symbol_tables file ≡ Some (table, names)
+              → symbol_and_string_bytes file ≡ Some (table, names)
           tables_found table names e f =
               let there : Option Section → Option (List ℕ × List ℕ) =
               λ o. option_map (λ x. (section_bytes file t, section_bytes file x)) o in
@@ -118,7 +118,7 @@ module _ (file name : List ℕ) where
 
   -- and else the answer is what the search in them finds
   pub name_looked_up : (table strings : List ℕ) (v : Option ℕ) → table_check file ≡ accepted
-      → symbol_tables file ≡ Some (table, strings)
+      → symbol_and_string_bytes file ≡ Some (table, strings)
       → v ≡ option_map (λ y. y.value) (symbol_named table strings name)
       → symbol_of file name ≡ cond (is_none v) (Err NoBegin) (Ok (unwrap_or v 0))
   name_looked_up table strings v e there found =

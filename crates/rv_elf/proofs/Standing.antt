@@ -13,8 +13,8 @@ use Rattle.rv_elf.specs.declared.symbol_search.Sought.TheVariants.{Code, Value}
 use Rattle.rv_elf.specs.declared.symbols.Symbol.{Symbol}
 use Rattle.rv_elf.specs.Rows.{accepted}
 use Rattle.rv_elf.specs.Sections.{text_before_zero}
-use Rattle.rv_elf.specs.Symbols.{table_check, symbol_tables}
-use Rattle.rv_elf.specs.SymbolSearch.{may_be_code, is_function, is_object, has_section, has_usable_name, covers_address, in_one_segment}
+use Rattle.rv_elf.specs.Symbols.{table_check, symbol_and_string_bytes}
+use Rattle.rv_elf.specs.SymbolSearch.{may_be_code, is_function, is_object, has_section, has_usable_name, covers_address, are_in_one_segment}
 use Rattle.rv_elf.specs.SymbolSearch.{is_candidate, candidates, nearest_candidate, name_and_offset, symbol_before, nearest_symbol}
 
 -- what lies in a symbol or is its value is not below it
@@ -26,7 +26,7 @@ of_below addr value sized within e = grind (arith, nat_tests)
 pub candidate_below : (sought : Sought) (segments : List Segment) (strings : List ℕ) (addr : ℕ) (s : Symbol)
     → is_candidate sought segments strings addr s ≡ true → s.value ≤ addr
 candidate_below Code segments strings addr s e =
-    let named = has_usable_name strings s && in_one_segment segments s.value addr in
+    let named = has_usable_name strings s && are_in_one_segment segments s.value addr in
     let placed = (and_parts (may_be_code s) (has_section s && (leb s.value addr && named)) e).1 in
     let below = (and_parts (has_section s) (leb s.value addr && named) placed).1 in
     leb-true s.value addr (and_parts (leb s.value addr) named below).0
@@ -41,10 +41,10 @@ module _ (sought : Sought) (image : Image) (file : List ℕ) (addr : ℕ) where
   pub no_tables : (w : ImageError) → table_check file ≡ Err w → nearest_symbol sought image file addr ≡ None
   unfolding nearest_symbol
   no_tables w e = ap (λ r. cond (is_ok r) (option_and_then (λ t. symbol_before sought image.segments addr t.0 t.1)
-      (symbol_tables file)) None) e
+      (symbol_and_string_bytes file)) None) e
 
   module _ (table strings : List ℕ) (good : table_check file ≡ accepted)
-      (there : symbol_tables file ≡ Some (table, strings)) (segments : List Segment)
+      (there : symbol_and_string_bytes file ≡ Some (table, strings)) (segments : List Segment)
       (same : segments ≡ image.segments) (found : Option Symbol)
       (is : found ≡ nearest_candidate (candidates sought segments strings addr table)) where
     -- else the name and the place of what was found
@@ -52,7 +52,7 @@ module _ (sought : Sought) (image : Image) (file : List ℕ) (addr : ℕ) where
     unfolding nearest_symbol
     by_nearest =
         ap (λ r. cond (is_ok r) (option_and_then (λ t. symbol_before sought image.segments addr t.0 t.1)
-        (symbol_tables file)) None) good
+        (symbol_and_string_bytes file)) None) good
         ∙ ap (option_and_then (λ t. symbol_before sought image.segments addr t.0 t.1)) there
         ∙ sym (ap (option_and_then (name_and_offset strings addr)) (is
         ∙ ap (λ ss. nearest_candidate (candidates sought ss strings addr table)) same))

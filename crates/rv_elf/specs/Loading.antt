@@ -1,7 +1,8 @@
 -- Which images fit a map, and the memory that holds a loaded one (System V ABI, "Program Loading").
 use Rattle.std.specs.Prelude.{ℕ, ◌+◌, ◌-◌, ◌&&◌, ◌||◌, Bool, false, not, nat_lt, nat_le, min, max}
 use Rattle.std.specs.Prelude.{if◌then◌else◌, List, [], ◌∷◌, take, drop, slice_index, Result}
-use Rattle.std.specs.List.{list_any, list_all}
+use Rattle.std.specs.Prelude.{Option}
+use Rattle.std.specs.List.{find, list_any, list_all}
 use Rattle.std.specs.Ordering.{nat_cmp}
 use Rattle.std.specs.FinMap as fin
 use Rattle.rv_memory.specs.declared.map.Region.{Region}
@@ -22,6 +23,10 @@ load_address Virtual s = s.vaddr
 -- address; no bytes always do
 abbrev pub segment_fits : List Region → LoadAt → Segment → Bool
 segment_fits regions at s = in_one regions (load_address at s) s.filesz && in_one regions s.vaddr s.memsz
+
+-- the first segment that does not fit a map
+abbrev pub unfit_segment : List Region → LoadAt → List Segment → Option Segment
+unfit_segment regions at segments = find (λ segment. not (segment_fits regions at segment)) segments
 
 -- the file bytes of both, placed at their load addresses, share a byte: the later start is before
 -- the earlier end

@@ -77,8 +77,8 @@ abbrev pub is_symbol_section : Section → Bool
 is_symbol_section s = s.sh_type == 2
 
 -- the first symbol table
-unfoldable pub symbol_table : List ℕ → Option Section
-symbol_table file = find is_symbol_section (sections file)
+unfoldable pub symbol_table_section : List ℕ → Option Section
+symbol_table_section file = find is_symbol_section (sections file)
 
 -- its entries have another size, its size is no whole number of them, or it goes past a file of n
 -- bytes
@@ -118,8 +118,8 @@ symbols_of table = map (λ k. symbol_entry table (16 * k)) (range_with_len 0 (le
 -- ---- its string table
 
 -- the section that a symbol table's link names, if there are so many
-abbrev pub string_table : List ℕ → Section → Option Section
-string_table file symbols =
+abbrev pub string_table_section : List ℕ → Section → Option Section
+string_table_section file symbols =
     if nat_lt symbols.link (e_shnum file) then Some (section_of_index file symbols.link) else None
 
 -- not SHT_STRTAB, or past a file of n bytes

@@ -12,7 +12,7 @@ use Rattle.rv_elf.specs.declared.symbol_search.Sought.{Sought}
 use Rattle.rv_elf.specs.declared.symbol_search.Sought.TheVariants.{Code, Value}
 use Rattle.rv_elf.specs.declared.symbols.Symbol.{Symbol}
 use Rattle.rv_elf.specs.Sections.{text_before_zero, symbols_of}
-use Rattle.rv_elf.specs.Symbols.{table_check, symbol_tables}
+use Rattle.rv_elf.specs.Symbols.{table_check, symbol_and_string_bytes}
 
 -- ---- which symbols stand for a place
 
@@ -46,8 +46,8 @@ abbrev pub segment_holds_address : ℕ → Segment → Bool
 segment_holds_address a segment = nat_le segment.vaddr a && nat_lt a (segment.vaddr + segment.memsz)
 
 -- both addresses lie in one of the segments
-abbrev pub in_one_segment : List Segment → ℕ → ℕ → Bool
-in_one_segment segments a b = list_any (λ segment. segment_holds_address a segment && segment_holds_address b segment) segments
+abbrev pub are_in_one_segment : List Segment → ℕ → ℕ → Bool
+are_in_one_segment segments a b = list_any (λ segment. segment_holds_address a segment && segment_holds_address b segment) segments
 
 -- STT_OBJECT
 abbrev pub is_object : Symbol → Bool
@@ -66,7 +66,7 @@ covers_address addr s = (s.value == addr) || ((is_function s || is_object s) && 
 -- untyped symbol which it is of
 abbrev pub is_candidate : Sought → List Segment → List ℕ → ℕ → Symbol → Bool
 is_candidate Code segments strings addr s = may_be_code s && (has_section s && (nat_le s.value addr
-    && (has_usable_name strings s && in_one_segment segments s.value addr)))
+    && (has_usable_name strings s && are_in_one_segment segments s.value addr)))
 is_candidate Value segments strings addr s = (may_be_code s || is_object s) && (has_section s
     && (covers_address addr s && has_usable_name strings s))
 
@@ -102,7 +102,7 @@ symbol_before sought segments addr table strings = option_and_then (name_and_off
 -- those of the first symbol table of an image's file; none where a table is refused
 unfoldable pub nearest_symbol : Sought → Image → List ℕ → ℕ → Option (List ℕ × ℕ)
 nearest_symbol sought image file addr = if is_ok (table_check file)
-    then option_and_then (λ t. symbol_before sought image.segments addr t.0 t.1) (symbol_tables file)
+    then option_and_then (λ t. symbol_before sought image.segments addr t.0 t.1) (symbol_and_string_bytes file)
     else None
 
 -- the symbol that an address of code belongs to

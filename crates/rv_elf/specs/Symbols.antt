@@ -14,21 +14,21 @@ use Rattle.rv_elf.specs.declared.error.ImageError.TheVariants.{StringTable, NoBe
 use Rattle.rv_elf.specs.declared.sections.Section.{Section}
 use Rattle.rv_elf.specs.declared.symbols.Symbol.{Symbol}
 use Rattle.rv_elf.specs.Rows.{RefusalRow, first_refusal, accepted}
-use Rattle.rv_elf.specs.Sections.{has_bad_section_table, symbol_table, string_table, is_bad_symbol_table}
+use Rattle.rv_elf.specs.Sections.{has_bad_section_table, symbol_table_section, string_table_section, is_bad_symbol_table}
 use Rattle.rv_elf.specs.Sections.{is_bad_string_table, section_bytes, symbol_named}
 
 -- the string table of a symbol table is missing, is none, or goes past the file
 abbrev pub has_bad_string_table : List ℕ → Section → Bool
 has_bad_string_table file symbols =
-    option_map_or (is_bad_string_table (length file)) (string_table file symbols) true
+    option_map_or (is_bad_string_table (length file)) (string_table_section file symbols) true
 
 -- the refusals of a file's symbols, in their order; what is asked of a symbol table is asked where
 -- there is one
 abbrev pub table_rows : List ℕ → List RefusalRow
 table_rows file = (has_bad_section_table file, SectionTable)
-    ∷ (is_none (symbol_table file), NoSymbols)
-    ∷ (option_map_or (is_bad_symbol_table (length file)) (symbol_table file) false, SymbolTable)
-    ∷ (option_map_or (has_bad_string_table file) (symbol_table file) false, StringTable)
+    ∷ (is_none (symbol_table_section file), NoSymbols)
+    ∷ (option_map_or (is_bad_symbol_table (length file)) (symbol_table_section file) false, SymbolTable)
+    ∷ (option_map_or (has_bad_string_table file) (symbol_table_section file) false, StringTable)
     ∷ []
 
 -- the first of them that applies, if one does
@@ -39,15 +39,15 @@ table_check file = first_refusal (table_rows file) accepted
 abbrev pub tables_of_section : List ℕ → Section → Option (List ℕ × List ℕ)
 tables_of_section file symbols =
     option_map (λ strings. (section_bytes file symbols, section_bytes file strings))
-    (string_table file symbols)
+    (string_table_section file symbols)
 
 -- those of the first symbol table
-abbrev pub symbol_tables : List ℕ → Option (List ℕ × List ℕ)
-symbol_tables file = option_and_then (tables_of_section file) (symbol_table file)
+abbrev pub symbol_and_string_bytes : List ℕ → Option (List ℕ × List ℕ)
+symbol_and_string_bytes file = option_and_then (tables_of_section file) (symbol_table_section file)
 
 -- the first symbol of that name in them
 abbrev pub symbol_of_name : List ℕ → List ℕ → Option Symbol
-symbol_of_name file name = option_and_then (λ t. symbol_named t.0 t.1 name) (symbol_tables file)
+symbol_of_name file name = option_and_then (λ t. symbol_named t.0 t.1 name) (symbol_and_string_bytes file)
 
 -- the refusals of a name, in their order
 abbrev pub symbol_rows : List ℕ → List ℕ → List RefusalRow

@@ -2,11 +2,12 @@
 //!
 //! [`read_image`] reads a file's bytes as an [`Image`], its entry and its loadable segments, or names
 //! the first refusal that applies ([`ImageError`]). [`check_map`] says whether an image fits the
-//! regions of a map, and [`load`] places its bytes into a new bus. [`find_symbol`] gives the value of a
-//! symbol, [`symbol_at`] the symbol that an address of code belongs to, and [`symbol_of_value`] the one
-//! that a value is the address of or points into. Each answer is exactly what the
-//! definitions in `specs/` say: they read the fields by the offsets of the System V ABI and keep no
-//! state from one test to the next. Only [`read_image`] takes memory.
+//! regions of a map, [`unfit_segment`] gives the first segment that does not, and [`load`] places the
+//! bytes of an image into a new bus. [`find_symbol`] gives the value of a symbol, [`symbol_at`] the
+//! symbol that an address of code belongs to, and [`symbol_of_value`] the one that a value is the
+//! address of or points into. Each answer is exactly what the definitions in `specs/` say: they read
+//! the fields by the offsets of the System V ABI and keep no state from one test to the next. Only
+//! [`read_image`] takes memory.
 #![tactic(auto)]
 
 mod error;
@@ -21,6 +22,6 @@ mod symbols;
 
 pub use error::ImageError;
 pub use image::{Image, Segment, Segments, read_image};
-pub use loading::{LoadAt, check_map, load};
+pub use loading::{LoadAt, check_map, load, segment_fits, segments_overlap, unfit_segment};
 pub use symbol_search::{SymbolAt, symbol_at, symbol_of_value};
 pub use symbols::{check_signature, find_symbol};

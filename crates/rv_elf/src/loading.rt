@@ -1,12 +1,12 @@
 //! Whether an image fits a map, and how its bytes come into a bus.
-ghost use Rattle.std.specs.Prelude.{◌≡◌, ◌+◌, ◌<◌, ◌≤◌, ℕ, IsTrue, OnOk, length, count_by};
+ghost use Rattle.std.specs.Prelude.{◌≡◌, ◌+◌, ◌<◌, ◌≤◌, ℕ, IsTrue, OnOk, length, count_by, option_map};
 ghost use Rattle.std.specs.List.{list_all, list_any};
 ghost use Rattle.rv_memory.specs.Regions.{in_one};
 ghost use Rattle.rv_memory.specs.Bus.{new_bus, with_bytes};
 ghost use Rattle.rv_elf.specs.Rows.{accepted};
 ghost use Rattle.rv_elf.specs.Image.{IsImageOf};
 ghost use Rattle.rv_elf.specs.Loading.{load_address, segment_fits, segments_overlap, any_segments_overlap, segment_fills, map_check, opening_memory};
-ghost use Rattle.rv_elf.specs.Loading.{file_bytes};
+ghost use Rattle.rv_elf.specs.Loading.{file_bytes, unfit_segment};
 
 use crate::error::ImageError;
 use crate::image::{Image, Segment};
@@ -52,7 +52,8 @@ pub fn load(image: &Image, file: &[u8], at: LoadAt, bus: &mut Bus)
 }
 
 impl LoadAt {
-    fn load_address(self, segment: &Segment) -> u32
+    /// Where a segment's file bytes go.
+    pub fn load_address(self, segment: &Segment) -> u32
         ensures { result ≡ load_address self segment.now }
     {
         match self {
@@ -61,8 +62,8 @@ impl LoadAt {
         }
     }
 
-    // The address past the last file byte.
-    fn load_end(self, segment: &Segment) -> u64
+    /// The address past a segment's last file byte; of a segment without file bytes its load address.
+    pub fn load_end(self, segment: &Segment) -> u64
         ensures { result ≡ load_address self segment.now + segment.now.filesz }
     {
         u64::from(self.load_address(segment)) + u64::from(segment.filesz)
@@ -72,10 +73,26 @@ impl LoadAt {
 fn all_segments_fit(segments: &[Segment], map: &Map, at: LoadAt) -> bool
     ensures { result ≡ list_all (segment_fits map.now at) segments.now }
 {
-    segments.iter().all(|segment| {
-        map.in_one(at.load_address(segment), segment.filesz)
-            && map.in_one(segment.vaddr, segment.memsz)
-    })
+    segments
+        .iter()
+        .all(|segment| segment_fits(map, at, segment))
+}
+
+/// The first segment that does not fit a map.
+pub fn unfit_segment<'a>(map: &Map, at: LoadAt, segments: &'a [Segment]) -> Option<&'a Segment>
+    ensures { option_map (λ segment. segment.now) result ≡ unfit_segment map.now at segments.now }
+{
+    segments
+        .iter()
+        .find(|segment| !segment_fits(map, at, segment))
+}
+
+/// Whether a segment fits a map: its file bytes at the load address lie in one region, and so does its memory at the
+/// virtual address.
+pub fn segment_fits(map: &Map, at: LoadAt, segment: &Segment) -> bool
+    ensures { result ≡ segment_fits map.now at segment.now }
+{
+    map.in_one(at.load_address(segment), segment.filesz) && map.in_one(segment.vaddr, segment.memsz)
 }
 
 // Whether two of the segments get a byte of memory in common.
@@ -95,10 +112,11 @@ fn overlaps_any_segment(segment: &Segment, others: &[Segment], at: LoadAt) -> bo
 {
     others
         .iter()
-        .any(|other| segments_overlap(segment, other, at))
+        .any(|other| segments_overlap(at, segment, other))
 }
 
-fn segments_overlap(one: &Segment, other: &Segment, at: LoadAt) -> bool
+/// Whether the file bytes of two segments get a byte of memory in common.
+pub fn segments_overlap(at: LoadAt, one: &Segment, other: &Segment) -> bool
     ensures { result ≡ segments_overlap at one.now other.now }
 {
     let start = at.load_address(one).max(at.load_address(other));

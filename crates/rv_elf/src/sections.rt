@@ -3,7 +3,7 @@ ghost use Rattle.std.specs.Prelude.{◌≡◌, ◌+◌, ◌*◌, ◌<◌, ◌≤
 ghost use Rattle.std.specs.Prelude.{length, MatchOption};
 ghost use Rattle.std.specs.List.{find, slice_get};
 ghost use Rattle.rv_elf.specs.Fields.{half_at, word_at};
-ghost use Rattle.rv_elf.specs.Sections.{section_at, section_of_index, has_bad_section_table, symbol_table, string_table, is_section_past_file};
+ghost use Rattle.rv_elf.specs.Sections.{section_at, section_of_index, has_bad_section_table, symbol_table_section, string_table_section, is_section_past_file};
 ghost use Rattle.rv_elf.specs.Sections.{is_bad_symbol_table, is_bad_string_table, section_bytes, is_symbol_section, e_shnum, HasSections};
 
 use crate::fields::{
@@ -76,9 +76,9 @@ pub(crate) fn has_bad_section_table(file: &[u8]) -> bool
 }
 
 /// The first symbol table of the file.
-pub(crate) fn symbol_table(file: &[u8]) -> Option<Section>
+pub(crate) fn symbol_table_section(file: &[u8]) -> Option<Section>
     requires { HasSections file.now }
-    ensures { result ≡ symbol_table file.now }
+    ensures { result ≡ symbol_table_section file.now }
 {
     for index in 0..u32::from(half_field(file, E_SHNUM)) {
         let section = section_of_index(file, index);
@@ -90,9 +90,9 @@ pub(crate) fn symbol_table(file: &[u8]) -> Option<Section>
 }
 
 /// The section that a symbol table's link names, where there is one of that index.
-pub(crate) fn string_table(file: &[u8], symbols: &Section) -> Option<Section>
+pub(crate) fn string_table_section(file: &[u8], symbols: &Section) -> Option<Section>
     requires { HasSections file.now }
-    ensures { result ≡ string_table file.now symbols.now }
+    ensures { result ≡ string_table_section file.now symbols.now }
 {
     if symbols.link >= u32::from(half_field(file, E_SHNUM)) {
         return None;

@@ -5,11 +5,13 @@ ghost use Rattle.std.specs.Option.{option_map_or};
 ghost use Rattle.rv_elf.specs.Image.{IsImageOf};
 ghost use Rattle.rv_elf.specs.Sections.{text_before_zero};
 ghost use Rattle.rv_elf.specs.SymbolSearch.{symbol_at, symbol_of_value, nearest_symbol, nearest_candidate, candidates};
-ghost use Rattle.rv_elf.specs.SymbolSearch.{is_candidate, in_one_segment, segment_holds_address, is_nearer, precedence, covers_address};
+ghost use Rattle.rv_elf.specs.SymbolSearch.{is_candidate, are_in_one_segment, segment_holds_address, is_nearer, precedence, covers_address};
 ghost use Rattle.rv_elf.specs.SymbolSearch.{is_function, is_object, may_be_code, has_section, has_usable_name, IsNamesEnd};
 
 use crate::image::{Image, Segment};
-use crate::symbols::{SHN_UNDEF, SYMBOL_SIZE, Symbol, bytes_from, symbol_entry, symbol_tables};
+use crate::symbols::{
+    SHN_UNDEF, SYMBOL_SIZE, Symbol, bytes_from, symbol_and_string_bytes, symbol_entry,
+};
 
 /// A place by a symbol.
 #[derive(Clone, Copy)]
@@ -81,7 +83,7 @@ fn nearest_symbol<'a>(
     ensures { MatchOption result (nearest_symbol sought image.now file.now addr ≡ None)
         (λ s. nearest_symbol sought image.now file.now addr ≡ Some (s.name.now, s.offset)) }
 {
-    let Ok((table, strings)) = symbol_tables(file) else {
+    let Ok((table, strings)) = symbol_and_string_bytes(file) else {
         return None;
     };
     let symbol = nearest_candidate(table, strings, image.segments.as_slice(), addr, sought)?;
@@ -175,7 +177,7 @@ impl Symbol {
                     && self.has_section()
                     && self.value <= addr
                     && self.has_usable_name(strings, end)
-                    && in_one_segment(segments, self.value, addr)
+                    && are_in_one_segment(segments, self.value, addr)
             }
             Sought::Value => {
                 (self.may_be_code() || self.is_object())
@@ -231,8 +233,8 @@ impl Symbol {
     }
 }
 
-fn in_one_segment(segments: &[Segment], one: u32, other: u32) -> bool
-    ensures { result ≡ in_one_segment segments.now one other }
+fn are_in_one_segment(segments: &[Segment], one: u32, other: u32) -> bool
+    ensures { result ≡ are_in_one_segment segments.now one other }
 {
     segments.iter().any(|segment| segment_holds_address(one, segment)
         && segment_holds_address(other, segment))

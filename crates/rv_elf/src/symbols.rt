@@ -5,12 +5,12 @@ ghost use Rattle.std.specs.Prelude.{option_map, drop};
 ghost use Rattle.rv_elf.specs.Rows.{accepted};
 ghost use Rattle.rv_elf.specs.Image.{IsImageOf};
 ghost use Rattle.rv_elf.specs.Sections.{symbol_entry, symbol_named, begins_with_name, is_named};
-ghost use Rattle.rv_elf.specs.Symbols.{table_check, symbol_tables, symbol_of, signature_check, is_bad_signature_range};
+ghost use Rattle.rv_elf.specs.Symbols.{table_check, symbol_and_string_bytes, symbol_of, signature_check, is_bad_signature_range};
 
 use crate::error::ImageError;
 use crate::fields::{ST_INFO, ST_NAME, ST_SHNDX, ST_SIZE, ST_VALUE, half_field, word_field};
 use crate::image::Image;
-use crate::sections::{has_bad_section_table, string_table, symbol_table};
+use crate::sections::{has_bad_section_table, string_table_section, symbol_table_section};
 use rv_memory::Map;
 
 /// An entry of a symbol table, as far as it is looked at (System V ABI, "Symbol Table").
@@ -46,7 +46,7 @@ pub fn find_symbol(image: &Image, file: &[u8], name: &[u8]) -> Result<u32, Image
     ensures { result ≡ symbol_of file.now name.now }
 {
     let _ = image;
-    let (table, strings) = symbol_tables(file)?;
+    let (table, strings) = symbol_and_string_bytes(file)?;
     match value_of_symbol_name(table, strings, name) {
         Some(value) => Ok(value),
         None => Err(ImageError::NoBegin),
@@ -75,22 +75,22 @@ fn is_bad_signature_range(begin: u32, end: u32, map: &Map) -> bool
 }
 
 /// The bytes of the first symbol table and of its string table, or the first of their refusals.
-pub(crate) fn symbol_tables(file: &[u8]) -> Result<(&[u8], &[u8]), ImageError>
+pub(crate) fn symbol_and_string_bytes(file: &[u8]) -> Result<(&[u8], &[u8]), ImageError>
     requires { 52 ≤ length file.now }
     ensures checked { MatchResult result (λ _. table_check file.now ≡ accepted)
         (λ e. table_check file.now ≡ Err e) }
-    ensures there { IfOk result (λ t. symbol_tables file.now ≡ Some (t.0.now, t.1.now)) }
+    ensures there { IfOk result (λ t. symbol_and_string_bytes file.now ≡ Some (t.0.now, t.1.now)) }
 {
     if has_bad_section_table(file) {
         return Err(ImageError::SectionTable);
     }
-    let Some(symbols) = symbol_table(file) else {
+    let Some(symbols) = symbol_table_section(file) else {
         return Err(ImageError::NoSymbols);
     };
     if symbols.is_bad_symbol_table(file.len()) {
         return Err(ImageError::SymbolTable);
     }
-    let Some(strings) = string_table(file, &symbols) else {
+    let Some(strings) = string_table_section(file, &symbols) else {
         return Err(ImageError::StringTable);
     };
     if strings.is_bad_string_table(file.len()) {

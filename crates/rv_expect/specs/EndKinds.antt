@@ -35,6 +35,6 @@ has_end_kind (end_kind.Fault kind) (ending.Fault met pc value) = is_same_kind ki
 has_end_kind end_kind.Refused (ending.Refused why) = true
 has_end_kind _ _ = false
 
--- a job failed, and ended so
+-- a job failed, and its end is of the kind
 abbrev pub fails_with_end_kind : Rule → EndKind → Row → Bool
-fails_with_end_kind rule how row = not (has_passed rule row) && has_end_kind how row.ending
+fails_with_end_kind rule kind row = not (has_passed rule row) && has_end_kind kind row.ending

@@ -7,6 +7,5 @@ pub mod UnmetInPlan
 pub mod Passing
 pub mod EndKinds
 pub mod MetExpectations
-pub mod Refusal
 pub mod Problem
 pub mod TwoEnds

@@ -8,16 +8,16 @@ use crate::passing::{Rule, has_passed};
 use rv_machine::FaultKind;
 use rv_rows::{Row, RowEnd};
 
-/// A kind of end of a job.
+/// The kind of a job's end: without the code, the address or the value that it has.
 #[derive(Clone, Copy)]
 pub enum EndKind {
-    /// By the exit call, with any code.
+    /// The exit call.
     Exit,
-    /// The budget is used up.
+    /// The budget was used up.
     Budget,
-    /// By a fault of the kind.
+    /// A fault of the kind.
     Fault(FaultKind),
-    /// The image is refused.
+    /// The job was refused, and did not run.
     Refused,
 }
 
@@ -48,7 +48,7 @@ fn fault_or_refused(place: usize) -> EndKind
     }
 }
 
-/// Whether a job failed, and its end is of a kind.
+/// Whether a job failed by the rule, and its end is of the kind.
 pub fn fails_with_end_kind(rule: Rule, kind: EndKind, row: &Row) -> bool
     ensures { result ≡ fails_with_end_kind rule kind row.now }
 {

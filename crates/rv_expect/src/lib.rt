@@ -11,6 +11,7 @@
 
 mod comparison;
 mod difference;
+mod end_kind;
 mod law;
 mod met_expectations;
 mod passing;
@@ -18,12 +19,11 @@ mod problem;
 mod reference;
 mod same_as_job;
 mod two_ends;
-mod unfit_segments;
 mod unmet;
-mod end_kind;
 
 pub use comparison::Comparison;
 pub use difference::{Difference, SameDifference, SignatureDifference};
+pub use end_kind::{EndKind, fails_with_end_kind};
 pub use law::{
     differences_are_first, nothing_is_unmet_where_a_job_passes, references_are_lines_of_words,
     unmet_is_what_does_not_hold, unmet_of_a_plan_is_what_does_not_hold,
@@ -34,6 +34,4 @@ pub use problem::{is_error, is_failure};
 pub use reference::signature_words_or_empty;
 pub use same_as_job::row_of_same_as_job;
 pub use two_ends::{expects_two_ends, two_ends_fail};
-pub use unfit_segments::{has_file_bytes_in_region, load_address, unfit_segment};
 pub use unmet::{Unmet, unmet_expectations};
-pub use end_kind::{EndKind, fails_with_end_kind};

@@ -10,9 +10,8 @@ use Rattle.rv_elf.specs.declared.image.Image.{Image}
 use Rattle.rv_elf.specs.declared.image.Segment.{Segment}
 use Rattle.rv_elf.specs.declared.loading.LoadAt.{LoadAt}
 use Rattle.rv_elf.specs.Image.{image_of}
-use Rattle.rv_elf.specs.Loading.{load_address, segments_overlap}
+use Rattle.rv_elf.specs.Loading.{load_address, segments_overlap, unfit_segment}
 use Rattle.rv_elf.specs.Symbols.{symbol_of}
-use Rattle.rv_expect.specs.Refusal.{unfit_segment}
 use Rattle.rv_jobs.specs.declared_job.Job.{Job}
 use Rattle.rv_jobs.specs.declared_job.Symbols.{Symbols}
 use Rattle.rv_text.specs.Printable.{printable_text}
@@ -129,7 +128,7 @@ image_error_sentence image.OutOfMemory = codes "out of memory"
 -- the details of a refusal by the map, or of a signature, of an image that was read
 unfoldable pub image_details_text : Job → List ℕ → Image → ImageError → List ℕ
 image_details_text job file there image.SegmentMap =
-    unfit_segment_text job (unfit_segment job there.segments)
+    unfit_segment_text job (unfit_segment job.regions job.load there.segments)
 image_details_text job file there image.SegmentOverlap =
     segment_overlap_text job.load (overlapping_segments job.load there.segments)
 image_details_text job file there image.SignatureRange =

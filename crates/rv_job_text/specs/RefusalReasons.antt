@@ -14,7 +14,7 @@ use Rattle.rv_rows.specs.declared_row.Refusal.TheVariants as refusal
 use Rattle.rv_rows.specs.declared_row.RowEnd.{RowEnd}
 use Rattle.rv_rows.specs.declared_row.RowEnd.TheVariants as ending
 use Rattle.rv_rows.specs.Rows.{content_if_read, expected_console_bytes, signature_reference_bytes}
-use Rattle.rv_job_text.specs.UnreadFiles.{long_file_text, unread_file_text}
+use Rattle.rv_job_text.specs.UnreadFiles.{too_long_file_text, unread_file_text}
 
 -- a path, where none of its bytes were read
 abbrev pub path_if_unread : Option (List ℕ) → Option (List ℕ) → Option (List ℕ)
@@ -37,11 +37,11 @@ image_refusal_text answers job why =
 -- read
 unfoldable pub refusal_reason : List Answer → List Unread → Job → Refusal → Option (List ℕ)
 refusal_reason answers unread job refusal.ImageUnreadable = Some (unread_file_text unread job.image)
-refusal_reason answers unread job refusal.ImageTooLong = Some (long_file_text job.image)
+refusal_reason answers unread job refusal.ImageTooLong = Some (too_long_file_text job.image)
 refusal_reason answers unread job refusal.ReferenceUnreadable =
     option_map (unread_file_text unread) (unread_reference_path answers job)
 refusal_reason answers unread job refusal.ReferenceTooLong =
-    option_map long_file_text (unread_reference_path answers job)
+    option_map too_long_file_text (unread_reference_path answers job)
 refusal_reason answers unread job (refusal.Image why) = image_refusal_text answers job why
 
 unfoldable pub ending_reason : List Answer → List Unread → Job → RowEnd → Option (List ℕ)

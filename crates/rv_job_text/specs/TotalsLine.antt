@@ -27,7 +27,7 @@ abbrev pub passed_count : Rule → List Row → ℕ
 passed_count rule rows = count_by (has_passed rule) rows
 
 abbrev pub failure_count_of_end_kind : Rule → List Row → EndKind → ℕ
-failure_count_of_end_kind rule rows how = count_by (fails_with_end_kind rule how) rows
+failure_count_of_end_kind rule rows kind = count_by (fails_with_end_kind rule kind) rows
 
 abbrev pub total_steps : List Row → ℕ
 total_steps rows = sum_by (λ row. row.steps) rows
@@ -36,8 +36,8 @@ total_steps rows = sum_by (λ row. row.steps) rows
 
 -- how many jobs failed with a kind of end: told where there are any
 abbrev pub failure_text_of_end_kind : (EndKind → ℕ) → EndKind → List (List ℕ)
-failure_text_of_end_kind count how =
-    if count how == 0 then [] else (decimal (count how) ++ codes " " ++ end_kind_name how) ∷ []
+failure_text_of_end_kind count kind =
+    if count kind == 0 then [] else (decimal (count kind) ++ codes " " ++ end_kind_name kind) ∷ []
 
 -- of the kinds below a place, in order
 unfoldable pub failure_texts_below : (EndKind → ℕ) → ℕ → List (List ℕ)

@@ -38,6 +38,6 @@ unread_note_text (Some one) = io_error_text one.reason
 unfoldable pub unread_file_text : List Unread → List ℕ → List ℕ
 unread_file_text unread path = path ++ codes ": " ++ unread_note_text (unread_note unread path)
 
-unfoldable pub long_file_text : List ℕ → List ℕ
-long_file_text path =
+unfoldable pub too_long_file_text : List ℕ → List ℕ
+too_long_file_text path =
     path ++ codes ": the file has more than " ++ decimal most_bytes ++ codes " bytes"

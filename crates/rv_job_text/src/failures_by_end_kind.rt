@@ -5,7 +5,7 @@ ghost use Rattle.std.specs.Fmt.{decimal};
 ghost use Rattle.rv_expect.specs.EndKinds.{end_kind_count};
 ghost use Rattle.rv_job_text.specs.TotalsLine.{bracket_text, failure_count_of_end_kind, failure_texts_below, end_kind_name};
 
-use rv_expect::{Rule, EndKind, fails_with_end_kind};
+use rv_expect::{EndKind, Rule, fails_with_end_kind};
 use rv_rows::Row;
 use rv_text::{Span, push_spans};
 use std::alloc::AllocError;

@@ -8,8 +8,7 @@ ghost use Rattle.rv_job_text.specs.ImageReasons.{symbol_address_text, signature_
 ghost use Rattle.rv_job_text.specs.ImageReasons.{signature_range_text};
 
 use crate::segment_reason::{push_regions, push_segment_overlap, push_unfit_segment};
-use rv_elf::{Image, ImageError, find_symbol, read_image};
-use rv_expect::unfit_segment;
+use rv_elf::{Image, ImageError, find_symbol, read_image, unfit_segment};
 use rv_jobs::{Job, Symbols};
 use rv_memory::Region;
 use rv_text::{Span, push_spans, push_text};
@@ -54,7 +53,9 @@ fn push_image_details(
 {
     let segments = image.segments.as_slice();
     match why {
-        ImageError::SegmentMap => push_unfit_segment(bytes, job, unfit_segment(job, segments)),
+        ImageError::SegmentMap => {
+            push_unfit_segment(bytes, job, unfit_segment(&job.regions, job.load, segments))
+        },
         ImageError::SegmentOverlap => push_segment_overlap(bytes, job.load, segments),
         ImageError::SignatureRange => {
             push_signature_range(bytes, job.regions.as_slice(), file, image, &job.signature)

@@ -5,12 +5,12 @@ ghost use Rattle.rv_jobs.specs.declared_job.Job.{Job as AJob};
 ghost use Rattle.rv_trace.specs.Trace.{job_at};
 ghost use Rattle.rv_job_text.specs.RefusalReasons.{image_refusal_text, path_if_unread, ending_reason, refusal_reason};
 ghost use Rattle.rv_job_text.specs.RefusalReasons.{unread_reference_path};
-ghost use Rattle.rv_job_text.specs.UnreadFiles.{long_file_text, unread_file_text};
+ghost use Rattle.rv_job_text.specs.UnreadFiles.{too_long_file_text, unread_file_text};
 
 use crate::image_reason::push_image_reason;
 use crate::image_symbols::image_bytes;
 use crate::paths::{console_path, reference_path};
-use crate::unread_files::{long_file_text, unread_file_text};
+use crate::unread_files::{too_long_file_text, unread_file_text};
 use rv_elf::ImageError;
 use rv_files::Unread;
 use rv_jobs::Plan;
@@ -50,17 +50,20 @@ fn refusal_reason(
 {
     let image = plan.job(place).image.as_str();
     match why {
-        Refusal::ImageUnreadable => unread_path_reason(alloc, unread, Some(image)),
-        Refusal::ImageTooLong => long_path_reason(alloc, Some(image)),
+        Refusal::ImageUnreadable => unread_file_reason(alloc, unread, Some(image)),
+        Refusal::ImageTooLong => too_long_file_reason(alloc, Some(image)),
         Refusal::ReferenceUnreadable => {
-            unread_path_reason(alloc, unread, unread_reference_path(plan, place))
+            unread_file_reason(alloc, unread, unread_reference_path(plan, place))
         }
-        Refusal::ReferenceTooLong => long_path_reason(alloc, unread_reference_path(plan, place)),
+        Refusal::ReferenceTooLong => too_long_file_reason(
+            alloc,
+            unread_reference_path(plan, place),
+        ),
         Refusal::Image(why) => image_refusal_text(alloc, plan, place, why),
     }
 }
 
-fn unread_path_reason(
+fn unread_file_reason(
     alloc: Global,
     unread: &[Unread],
     path: Option<&str>,
@@ -74,12 +77,12 @@ fn unread_path_reason(
     }
 }
 
-fn long_path_reason(alloc: Global, path: Option<&str>) -> Result<Option<Vec<u8>>, AllocError>
+fn too_long_file_reason(alloc: Global, path: Option<&str>) -> Result<Option<Vec<u8>>, AllocError>
     ensures { IfOk result (λ reason. option_map (λ text. text.items) reason
-        ≡ option_map long_file_text (option_map (λ path. path.now) path.entry)) }
+        ≡ option_map too_long_file_text (option_map (λ path. path.now) path.entry)) }
 {
     match path {
-        Some(path) => Ok(Some(long_file_text(alloc, path)?)),
+        Some(path) => Ok(Some(too_long_file_text(alloc, path)?)),
         None => Ok(None),
     }
 }

@@ -8,8 +8,7 @@ ghost use Rattle.rv_text.specs.Spans.{span_text};
 ghost use Rattle.rv_job_text.specs.ImageReasons.{last_address_text, unfit_segment_text, outside_segment_text, segment_overlap_text, segment_pair_text, address_range_text};
 ghost use Rattle.rv_job_text.specs.ImageReasons.{regions_text, overlapping_segments};
 
-use rv_elf::{LoadAt, Segment};
-use rv_expect::{has_file_bytes_in_region, load_address};
+use rv_elf::{LoadAt, Segment, segments_overlap};
 use rv_jobs::Job;
 use rv_memory::Region;
 use rv_text::{Span, push_spans, push_text};
@@ -41,19 +40,14 @@ fn push_outside_segment(bytes: &mut Vec<u8>, job: &Job, segment: &Segment) -> Re
         segment.now.filesz) job.now.load segment.now ++ codes ", do not lie in one region:")) }
 {
     let behind = ", do not lie in one region:";
-    let is_file_inside = has_file_bytes_in_region(job, segment);
+    let from = job.load.load_address(segment);
+    let is_file_inside = job.regions.in_one(from, segment.filesz);
     if is_file_inside {
         let what = "a segment's bytes in memory, ";
         push_address_range(bytes, what, segment.vaddr, segment.memsz, behind)
     } else {
         let what = "a segment's bytes from the file, ";
-        push_address_range(
-            bytes,
-            what,
-            load_address(job.load, segment),
-            segment.filesz,
-            behind,
-        )
+        push_address_range(bytes, what, from, segment.filesz, behind)
     }
 }
 
@@ -128,8 +122,8 @@ fn push_segment_pair(
         ++ (codes "the file bytes of two segments share addresses: "
         ++ segment_pair_text at one.now other.now)) }
 {
-    let from = load_address(at, one);
-    let other_from = load_address(at, other);
+    let from = at.load_address(one);
+    let other_from = at.load_address(other);
     push_spans(
         bytes,
         &[
@@ -167,21 +161,5 @@ fn first_overlapping_segment<'a>(
 ) -> Option<&'a Segment>
     ensures { option_map (λ segment. segment.now) result ≡ find (segments_overlap at one.now) others.now }
 {
-    others
-        .iter()
-        .find(|other| segments_overlap(at, one, other))
-}
-
-fn segments_overlap(at: LoadAt, one: &Segment, other: &Segment) -> bool
-    ensures { result ≡ segments_overlap at one.now other.now }
-{
-    let start = load_address(at, one).max(load_address(at, other));
-    u64::from(start) < load_end_address(at, one).min(load_end_address(at, other))
-}
-
-// The address past the last file byte.
-fn load_end_address(at: LoadAt, segment: &Segment) -> u64
-    ensures { result ≡ load_address at segment.now + segment.now.filesz }
-{
-    u64::from(load_address(at, segment)) + u64::from(segment.filesz)
+    others.iter().find(|other| segments_overlap(at, one, other))
 }

@@ -1,7 +1,7 @@
 //! What is told of a file that was not read.
 
 ghost use Rattle.std.specs.Prelude.{◌≡◌, IfOk, option_map};
-ghost use Rattle.rv_job_text.specs.UnreadFiles.{io_error_text, long_file_text, unread_note, unread_note_text, unread_file_text};
+ghost use Rattle.rv_job_text.specs.UnreadFiles.{io_error_text, too_long_file_text, unread_note, unread_note_text, unread_file_text};
 
 use rv_files::Unread;
 use rv_jobs::limits::MOST_BYTES;
@@ -26,9 +26,9 @@ pub(crate) fn unread_file_text(
 }
 
 /// A path, and that its file is too long.
-#[tactic(auto, unfolding(crate::specs::UnreadFiles::long_file_text))]
-pub(crate) fn long_file_text(alloc: Global, path: &str) -> Result<Vec<u8>, AllocError>
-    ensures { IfOk result (λ text. text.items ≡ long_file_text path.now) }
+#[tactic(auto, unfolding(crate::specs::UnreadFiles::too_long_file_text))]
+pub(crate) fn too_long_file_text(alloc: Global, path: &str) -> Result<Vec<u8>, AllocError>
+    ensures { IfOk result (λ text. text.items ≡ too_long_file_text path.now) }
 {
     text_of_spans(
         alloc,

@@ -4,13 +4,13 @@
 use crate::explanations::{
     EXPECT_CONSOLE, EXPECT_CONSOLE_FILE, EXPECT_END, EXPECT_EXIT, EXPECT_SIGNATURE, Told, UNASKED,
 };
-use crate::values::{table_text, table_value, table_word};
+use crate::values::{text_at_key, value_at_key, word_at_key};
 use rv_lists::limits::{MOST_CONSOLE, MOST_PATH};
 use toml::Table;
 
 /// What is told of the expectation of a job that is bad.
 pub(crate) fn expectation_explanation(table: &Table) -> Told {
-    if table_value(table, "expect_exit").is_some() && table_word(table, "expect_exit").is_none() {
+    if value_at_key(table, "expect_exit").is_some() && word_at_key(table, "expect_exit").is_none() {
         Told::Wanted(&EXPECT_EXIT)
     } else if has_reference_without_signature(table) {
         Told::Wanted(&UNASKED)
@@ -23,20 +23,20 @@ pub(crate) fn expectation_explanation(table: &Table) -> Told {
 
 // Whether a signature is expected of a job that has none.
 fn has_reference_without_signature(table: &Table) -> bool {
-    table_text(table, "expect_signature").is_some() && table_value(table, "signature").is_none()
+    text_at_key(table, "expect_signature").is_some() && value_at_key(table, "signature").is_none()
 }
 
 // Whether the text at a key is no path.
 fn has_bad_path(table: &Table, key: &str) -> bool {
-    match table_text(table, key) {
+    match text_at_key(table, key) {
         Some(path) => path.is_empty() || MOST_PATH < path.len(),
         None => false,
     }
 }
 
 fn console_or_end_explanation(table: &Table) -> Told {
-    let text = table_text(table, "expect_console");
-    let is_file = table_text(table, "expect_console_file").is_some();
+    let text = text_at_key(table, "expect_console");
+    let is_file = text_at_key(table, "expect_console_file").is_some();
     match text {
         Some(_) if is_file => Told::Text(BOTH),
         Some(text) if MOST_CONSOLE < text.len() => Told::Wanted(&EXPECT_CONSOLE),

@@ -1,7 +1,7 @@
 //! What is wanted of the values of keys.
 
 use crate::message::Message;
-use crate::values::{push_key_and_value, table_text};
+use crate::values::{push_key_and_value, text_at_key};
 use rv_lists::limits::{MOST_BUDGET, MOST_CONSOLE, MOST_NAME, MOST_PATH, MOST_SCRIPT, MOST_SYMBOL};
 use rv_machine::FaultKind;
 use toml::Table;
@@ -213,7 +213,7 @@ fn push_fault_kinds(message: &mut Message) {
 
 // The bytes of the text at a key, where they are told.
 fn reported_byte_count(table: &Table, wanted: &Wanted) -> u64 {
-    let len = match table_text(table, wanted.key) {
+    let len = match text_at_key(table, wanted.key) {
         Some(text) => text.len() as u64,
         None => 0,
     };

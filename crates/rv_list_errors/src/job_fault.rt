@@ -11,7 +11,7 @@ use crate::list::List;
 use crate::message::Message;
 use crate::names::{Suggestion, push_name_fault, push_unknown_same_as};
 use crate::regions::push_region_fault;
-use crate::values::table_text;
+use crate::values::text_at_key;
 use rv_lists::What;
 use toml::{Table, Value};
 
@@ -66,7 +66,7 @@ fn key_explanation(table: &Table, what: What) -> Told {
 }
 
 fn input_explanation(table: &Table) -> Told {
-    match (table_text(table, "input"), table_text(table, "input_hex")) {
+    match (text_at_key(table, "input"), text_at_key(table, "input_hex")) {
         (Some(_), Some(_)) => Told::Text("input and input_hex both stand: one of them is taken"),
         (Some(_), None) => Told::Wanted(&INPUT),
         (None, Some(digits)) if are_hex_digit_pairs(digits) => Told::Wanted(&INPUT_HEX),

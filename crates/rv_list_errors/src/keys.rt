@@ -3,7 +3,7 @@
 use crate::message::Message;
 use crate::names::push_nearest_name;
 use crate::regions::push_region_number;
-use crate::values::table_elements;
+use crate::values::elements_at_key;
 use rv_lists::JOB_KEYS;
 use toml::{Table, Value};
 
@@ -71,7 +71,7 @@ fn push_nearest_key(message: &mut Message, text: &str) {
 }
 
 fn push_unknown_region_key(message: &mut Message, table: &Table) {
-    for (at, region) in table_elements(table, "region").iter().enumerate() {
+    for (at, region) in elements_at_key(table, "region").iter().enumerate() {
         if let Some(key) = unknown_region_key(region) {
             push_region_number(message, at);
             message.push(": ");

@@ -2,7 +2,7 @@
 
 use crate::message::Message;
 use crate::regions::push_region_number;
-use crate::values::{push_wanted_value, table_elements, table_value};
+use crate::values::{elements_at_key, push_wanted_value, value_at_key};
 use rv_lists::{JOB_KEYS, Kind};
 use toml::{Table, Value};
 
@@ -19,7 +19,7 @@ pub(crate) fn push_wrong_kind(message: &mut Message, table: &Table) {
 
 // Whether the value at a key is of another kind.
 fn is_value_of_other_kind(table: &Table, key: &str, kind: Kind) -> bool {
-    match table_value(table, key) {
+    match value_at_key(table, key) {
         Some(value) => !is_of_toml_kind(kind, value),
         None => false,
     }
@@ -67,11 +67,11 @@ fn is_region(value: &Value) -> bool {
 
 // The first key of a region whose value is of another kind, and what is wanted of it.
 fn region_key_of_wrong_kind(table: &Table) -> Option<(&'static str, &'static str)> {
-    if is_other_than_number(table_value(table, "base")) {
+    if is_other_than_number(value_at_key(table, "base")) {
         Some(("base", NUMBER))
-    } else if is_other_than_number(table_value(table, "size")) {
+    } else if is_other_than_number(value_at_key(table, "size")) {
         Some(("size", NUMBER))
-    } else if is_other_than_boolean(table_value(table, "write")) {
+    } else if is_other_than_boolean(value_at_key(table, "write")) {
         Some(("write", "true or false is wanted"))
     } else {
         None
@@ -105,7 +105,7 @@ fn push_value_of_wrong_kind(message: &mut Message, table: &Table, key: &str, kin
 }
 
 fn push_regions_of_wrong_kind(message: &mut Message, table: &Table, key: &str) {
-    for (at, region) in table_elements(table, key).iter().enumerate() {
+    for (at, region) in elements_at_key(table, key).iter().enumerate() {
         if !is_region(region) {
             push_region_number(message, at);
             return push_region_of_wrong_kind(message, region);

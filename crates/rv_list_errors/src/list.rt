@@ -1,7 +1,7 @@
 //! A list whose faults are told, as a look at its text finds it.
 
 use crate::headers::job_line_numbers;
-use crate::values::{table_elements, table_text};
+use crate::values::{elements_at_key, text_at_key};
 use std::alloc::{AllocError, Global};
 use toml::{Table, Value};
 
@@ -19,8 +19,12 @@ pub(crate) struct List<'a> {
 
 impl<'a> List<'a> {
     /// The list of a text and its table.
-    pub(crate) fn from_table(alloc: Global, text: &[u8], table: &'a Table) -> Result<List<'a>, AllocError> {
-        let jobs = table_elements(table, "job");
+    pub(crate) fn from_table(
+        alloc: Global,
+        text: &[u8],
+        table: &'a Table,
+    ) -> Result<List<'a>, AllocError> {
+        let jobs = elements_at_key(table, "job");
         Ok(List {
             table,
             jobs,
@@ -50,7 +54,7 @@ fn element_names(alloc: Global, jobs: &[Value]) -> Result<Vec<Option<&str>>, All
 
 fn element_name(job: &Value) -> Option<&str> {
     match job {
-        Value::Table(table) => table_text(table, "name"),
+        Value::Table(table) => text_at_key(table, "name"),
         _ => None,
     }
 }

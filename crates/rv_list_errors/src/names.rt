@@ -2,7 +2,7 @@
 
 use crate::list::List;
 use crate::message::Message;
-use crate::values::{push_key_and_value, table_text};
+use crate::values::{push_key_and_value, text_at_key};
 use rv_lists::limits::MOST_NAME;
 use toml::Table;
 
@@ -16,7 +16,7 @@ pub(crate) fn push_name_fault(
 ) {
     push_key_and_value(message, table, key);
     message.push(": ");
-    if let Some(number) = list.job_number_of_name(table_text(table, key)) {
+    if let Some(number) = list.job_number_of_name(text_at_key(table, key)) {
         message.push_number_between("job ", number, " has this name, and ");
     }
     message.push(wanted);
@@ -46,7 +46,12 @@ pub(crate) fn push_unknown_same_as(
         "the name of an earlier job is wanted",
     );
     match suggestion {
-        Suggestion::Nearest => push_nearest_job(message, list, table_text(table, "same_as"), place),
+        Suggestion::Nearest => push_nearest_job(
+            message,
+            list,
+            text_at_key(table, "same_as"),
+            place,
+        ),
         Suggestion::Nothing => {}
     }
 }

@@ -1,7 +1,7 @@
 //! Regions that are no map.
 
 use crate::message::Message;
-use crate::values::{push_wanted_value, table_elements, table_word};
+use crate::values::{elements_at_key, push_wanted_value, word_at_key};
 use rv_lists::What;
 use rv_memory::{Map, MapError, Region};
 use toml::{Table, Value};
@@ -24,7 +24,7 @@ pub(crate) fn push_region_number(message: &mut Message, at: usize) {
 
 /// Appends why the regions of a job are no map.
 pub(crate) fn push_region_fault(message: &mut Message, table: &Table) {
-    let elements = table_elements(table, "region");
+    let elements = elements_at_key(table, "region");
     for (at, element) in elements.iter().enumerate() {
         if region_of_element(element).is_none() {
             return push_bad_base_or_size(message, at, element);
@@ -61,7 +61,7 @@ fn region_of_element(element: &Value) -> Option<Region> {
     let Value::Table(table) = element else {
         return None;
     };
-    match (table_word(table, "base"), table_word(table, "size")) {
+    match (word_at_key(table, "base"), word_at_key(table, "size")) {
         (Some(base), Some(size)) => Some(Region {
             base,
             size,
@@ -76,7 +76,7 @@ fn push_bad_base_or_size(message: &mut Message, at: usize, element: &Value) {
     push_region_number(message, at);
     message.push(": ");
     match element {
-        Value::Table(table) if table_word(table, "base").is_some() => {
+        Value::Table(table) if word_at_key(table, "base").is_some() => {
             push_wanted_value(message, table, "size", SIZE)
         }
         Value::Table(table) => push_wanted_value(message, table, "base", BASE),

@@ -4,29 +4,29 @@ use crate::message::Message;
 use toml::{Table, Value};
 
 /// The value at a key.
-pub(crate) fn table_value<'a>(table: &'a Table, key: &str) -> Option<&'a Value> {
+pub(crate) fn value_at_key<'a>(table: &'a Table, key: &str) -> Option<&'a Value> {
     table.get(key)
 }
 
 /// The text at a key.
-pub(crate) fn table_text<'a>(table: &'a Table, key: &str) -> Option<&'a str> {
-    match table_value(table, key) {
+pub(crate) fn text_at_key<'a>(table: &'a Table, key: &str) -> Option<&'a str> {
+    match value_at_key(table, key) {
         Some(value) => value.as_str(),
         None => None,
     }
 }
 
 /// The number at a key, where it is one of 32 bits.
-pub(crate) fn table_word(table: &Table, key: &str) -> Option<u32> {
-    match table_value(table, key) {
+pub(crate) fn word_at_key(table: &Table, key: &str) -> Option<u32> {
+    match value_at_key(table, key) {
         Some(Value::Integer(number)) => u32::try_from(*number).ok(),
         _ => None,
     }
 }
 
 /// The elements of the array at a key; none where there is no array.
-pub(crate) fn table_elements<'a>(table: &'a Table, key: &str) -> &'a [Value] {
-    match table_value(table, key) {
+pub(crate) fn elements_at_key<'a>(table: &'a Table, key: &str) -> &'a [Value] {
+    match value_at_key(table, key) {
         Some(Value::Array(elements)) => elements.as_slice(),
         _ => &[],
     }
@@ -35,7 +35,7 @@ pub(crate) fn table_elements<'a>(table: &'a Table, key: &str) -> &'a [Value] {
 /// Appends a key and its value, or that it is absent.
 pub(crate) fn push_key_and_value(message: &mut Message, table: &Table, key: &str) {
     message.push(key);
-    match table_value(table, key) {
+    match value_at_key(table, key) {
         Some(value) => {
             message.push(" = ");
             message.push_value(value);

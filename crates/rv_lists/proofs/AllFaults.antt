@@ -12,9 +12,9 @@ use Rattle.rv_lists.specs.declared.error.What.{What}
 use Rattle.rv_lists.specs.declared.error.What.TheVariants as what
 use Rattle.rv_lists.specs.declared.error.JobError.{JobError}
 use Rattle.rv_lists.specs.declared.job.Job.{Job}
-use Rattle.rv_lists.specs.Keys.{has_unknown_key, has_wrong_kind}
+use Rattle.rv_lists.specs.Keys.{has_unknown_job_or_region_key, has_wrong_kind}
 use Rattle.rv_lists.specs.Reading.{◌>>=◌, fault_if, numbered_reading}
-use Rattle.rv_lists.specs.JobList.{job_from_table, name_from_table, image_from_table, budget_from_table, script_from_table, regions_from_table, load_from_table}
+use Rattle.rv_lists.specs.JobList.{job_from_table, name_from_table, image_from_table, budget_from_table, script_from_table, map_from_table, load_from_table}
 use Rattle.rv_base.specs.Names.{place_in}
 use Rattle.rv_lists.specs.JobList.{signature_from_table, exit_from_table, reference_from_table, console_from_table, end_from_table, same_as_from_table, isa_from_table}
 use Rattle.rv_lists.specs.JobList.{misaligned_from_table, job_from_element, jobs_of_elements, job_elements, jobs_of_document, job_list_of, document_of}
@@ -41,14 +41,14 @@ job_takes : (names : List (List ℕ)) (ms : Members)
 unfolding job_from_table
 job_takes names ms =
     let P : Job → Type 0 = λ job. untaken_name names (name_from_table ms) ≡ Some job.name in
-    reads P (fault_if (has_unknown_key ms) what.UnknownKey) _ (λ known is1.
+    reads P (fault_if (has_unknown_job_or_region_key ms) what.UnknownKey) _ (λ known is1.
     reads P (fault_if (has_wrong_kind ms) what.WrongType) _ (λ typed is2.
     reads P (name_from_table ms) _ (λ name named.
     reads P (fault_if (is_some (place_in names name)) what.Duplicate) _ (λ fresh free.
     reads P (image_from_table ms) _ (λ image is5.
     reads P (budget_from_table ms) _ (λ budget is6.
     reads P (script_from_table ms) _ (λ script is7.
-    reads P (regions_from_table ms) _ (λ regions is8.
+    reads P (map_from_table ms) _ (λ regions is8.
     reads P (load_from_table ms) _ (λ load is9.
     reads P (signature_from_table ms) _ (λ signature is10.
     reads P (exit_from_table ms) _ (λ exit is11.

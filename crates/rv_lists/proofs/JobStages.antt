@@ -13,8 +13,8 @@ use Rattle.rv_lists.specs.declared.results.Results.{Results}
 use Rattle.rv_lists.specs.declared.setup.Setup.{Setup}
 use Rattle.rv_elf.specs.declared.loading.LoadAt.{LoadAt}
 use Rattle.rv_memory.specs.declared.map.Region.{Region}
-use Rattle.rv_lists.specs.Keys.{has_unknown_key, has_wrong_kind}
-use Rattle.rv_lists.specs.JobList.{job_from_table, name_from_table, image_from_table, budget_from_table, script_from_table, regions_from_table, load_from_table}
+use Rattle.rv_lists.specs.Keys.{has_unknown_job_or_region_key, has_wrong_kind}
+use Rattle.rv_lists.specs.JobList.{job_from_table, name_from_table, image_from_table, budget_from_table, script_from_table, map_from_table, load_from_table}
 use Rattle.rv_base.specs.Names.{place_in}
 use Rattle.rv_lists.specs.JobList.{signature_from_table, exit_from_table, reference_from_table, console_from_table, end_from_table, same_as_from_table, isa_from_table}
 use Rattle.rv_lists.specs.JobList.{misaligned_from_table}
@@ -71,7 +71,7 @@ result_steps (Ok s) (Ok e) reference console k = on_reference (reference s)
 
 -- a job whose keys and kinds are in order is the one that is described, where no earlier job has its name
 pub job_described : (earlier : List (List ℕ)) (ms : Members) (name image : List ℕ) (budget : ℕ)
-    → has_unknown_key ms ≡ false → has_wrong_kind ms ≡ false → name_from_table ms ≡ Ok name
+    → has_unknown_job_or_region_key ms ≡ false → has_wrong_kind ms ≡ false → name_from_table ms ≡ Ok name
     → is_some (place_in earlier name) ≡ false → image_from_table ms ≡ Ok image → budget_from_table ms ≡ Ok budget
     → job_from_table earlier ms ≡ job_from_remaining_keys earlier name image budget ms
 unfolding job_from_table job_from_remaining_keys manner_from_table setup_from_table results_from_table
@@ -98,7 +98,7 @@ job_described earlier ms name image budget known typed named fresh imaged budget
     misaligned_from_table ms >>= λ choice.
     described setup results (record { expect_end = end; same_as = same; isa = set; misaligned = choice })) in
     simp (known, typed, named, fresh, imaged, budgeted) (
-    setup_steps (script_from_table ms) (regions_from_table ms) (load_from_table ms) (λ setup.
+    setup_steps (script_from_table ms) (map_from_table ms) (load_from_table ms) (λ setup.
     signature_from_table ms >>= λ signature. exit_from_table ms >>= λ exit. reference_from_table (is_some signature) ms >>= λ reference.
     console_from_table ms >>= λ console.
     judged setup (record { signature = signature; exit = exit; reference = reference; console = console }))

@@ -38,7 +38,7 @@ use Rattle.rv_base.specs.Names.{is_name, place_in}
 use Rattle.rv_lists.specs.Jobs.{default_regions}
 use Rattle.rv_lists.specs.Reading.{◌>>=◌, fault_if, passing_value, reading_or_default, numbered_reading}
 use Rattle.rv_lists.specs.Keys.{any_unknown_key, is_list_key, item_count, text_at_key, number_at_key}
-use Rattle.rv_lists.specs.Keys.{boolean_at_key, array_at_key, has_wrong_kind, has_unknown_key}
+use Rattle.rv_lists.specs.Keys.{boolean_at_key, array_at_key, has_wrong_kind, has_unknown_job_or_region_key}
 
 -- ---- name, image, budget
 
@@ -113,8 +113,8 @@ regions_if_map regions (Some e) = Err what.Region
 unfoldable pub map_from_elements : Items → Result (List Region) What
 map_from_elements ds = regions_from_elements ds >>= (λ regions. regions_if_map regions (map_error regions))
 
-unfoldable pub regions_from_table : Members → Result (List Region) What
-regions_from_table ms = reading_or_default map_from_elements default_regions (array_at_key (codes "region") ms)
+unfoldable pub map_from_table : Members → Result (List Region) What
+map_from_table ms = reading_or_default map_from_elements default_regions (array_at_key (codes "region") ms)
 
 -- ---- where the image is loaded
 
@@ -229,14 +229,14 @@ misaligned_from_table ms = reading_or_default misaligned_from_text Fault (text_a
 -- the job of a table behind jobs of these names, or the fault of the lowest number
 unfoldable pub job_from_table : List (List ℕ) → Members → Result Job What
 job_from_table earlier ms = do
-  known ← fault_if (has_unknown_key ms) what.UnknownKey
+  known ← fault_if (has_unknown_job_or_region_key ms) what.UnknownKey
   typed ← fault_if (has_wrong_kind ms) what.WrongType
   name ← name_from_table ms
   fresh ← fault_if (is_some (place_in earlier name)) what.Duplicate
   image ← image_from_table ms
   budget ← budget_from_table ms
   script ← script_from_table ms
-  regions ← regions_from_table ms
+  regions ← map_from_table ms
   load ← load_from_table ms
   signature ← signature_from_table ms
   expect_exit ← exit_from_table ms

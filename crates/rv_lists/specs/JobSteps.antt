@@ -6,7 +6,7 @@ use Rattle.rv_lists.specs.declared.job.Job.{Job}
 use Rattle.rv_lists.specs.declared.run_keys.Manner.{Manner}
 use Rattle.rv_lists.specs.declared.results.Results.{Results}
 use Rattle.rv_lists.specs.declared.setup.Setup.{Setup}
-use Rattle.rv_lists.specs.JobList.{script_from_table, regions_from_table, load_from_table, signature_from_table, exit_from_table}
+use Rattle.rv_lists.specs.JobList.{script_from_table, map_from_table, load_from_table, signature_from_table, exit_from_table}
 use Rattle.rv_lists.specs.JobList.{reference_from_table, console_from_table}
 use Rattle.rv_lists.specs.JobList.{end_from_table, same_as_from_table, isa_from_table, misaligned_from_table}
 use Rattle.rv_lists.specs.Reading.{◌>>=◌}
@@ -24,7 +24,7 @@ manner_from_table earlier ms = do
 unfoldable pub setup_from_table : Members → Result Setup What
 setup_from_table ms = do
   script ← script_from_table ms
-  regions ← regions_from_table ms
+  regions ← map_from_table ms
   load ← load_from_table ms
   Ok (record { script = script; regions = regions; load = load })
 

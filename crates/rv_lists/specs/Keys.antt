@@ -142,5 +142,5 @@ regions_have_unknown_key ms =
     option_map_or (any_item region_has_unknown_key) (array_at_key (codes "region") ms) false
 
 -- a key that no job has, or in a region that no region has
-unfoldable pub has_unknown_key : Members → Bool
-has_unknown_key ms = any_unknown_key is_job_key ms || regions_have_unknown_key ms
+unfoldable pub has_unknown_job_or_region_key : Members → Bool
+has_unknown_job_or_region_key ms = any_unknown_key is_job_key ms || regions_have_unknown_key ms

@@ -13,7 +13,7 @@ use crate::earlier_jobs::EarlierJobs;
 use crate::error::What;
 use crate::job::Job;
 use crate::keys::{number_at_key, text_at_key};
-use crate::kinds::{has_unknown_key, has_wrong_kind};
+use crate::kinds::{has_unknown_job_or_region_key, has_wrong_kind};
 use crate::results::{Results, results_from_table};
 use crate::run_keys::{Manner, manner_from_table};
 use crate::setup::{Setup, setup_from_table};
@@ -46,7 +46,7 @@ fn job_from_table(alloc: Global, earlier: &EarlierJobs, table: &Table) -> Result
     ensures good { IfOk result (IsJob (length earlier.now)) }
     ensures fresh { IfOk result (λ job. place_in (names_of_jobs earlier.now) job.name ≡ None) }
 {
-    if has_unknown_key(table) {
+    if has_unknown_job_or_region_key(table) {
         return Err(What::UnknownKey);
     }
     if has_wrong_kind(table) {

@@ -1,8 +1,7 @@
 //! The keys of a list's tables and their values, and which keys no table has.
 
-ghost use Rattle.std.specs.Prelude.{◌≡◌, not, string_bytes, option_map};
+ghost use Rattle.std.specs.Prelude.{◌≡◌, option_map};
 ghost use Rattle.std.specs.List.{list_any};
-ghost use Rattle.std.specs.BTreeMap.{keys};
 ghost use Rattle.std.specs.Str.{bytes_eq};
 ghost use Rattle.toml.specs.Data.{get_member};
 ghost use Rattle.toml.specs.View.{view, table_view, array_view};
@@ -89,37 +88,19 @@ pub(crate) fn array_at_key<'a>(table: &'a Table, key: &str) -> Option<&'a Array>
 pub(crate) fn has_unknown_job_key(table: &Table) -> bool
     ensures { result ≡ any_unknown_key is_job_key (table_view table.now) }
 {
-    any_unknown_job_key(table)
+    table.keys().any(|key| !is_job_key(key.as_str()))
 }
 
 /// Whether a region has one.
 pub(crate) fn has_unknown_region_key(table: &Table) -> bool
     ensures { result ≡ any_unknown_key is_region_key (table_view table.now) }
 {
-    any_unknown_region_key(table)
+    table.keys().any(|key| !is_region_key(key.as_str()))
 }
 
 /// Whether the whole list has a key beside `job`.
 pub(crate) fn has_unknown_list_key(table: &Table) -> bool
     ensures { result ≡ any_unknown_key is_list_key (table_view table.now) }
-{
-    any_unknown_list_key(table)
-}
-
-fn any_unknown_job_key(table: &Table) -> bool
-    ensures { result ≡ list_any (λ k. not (is_job_key (string_bytes k))) (keys table.now) }
-{
-    table.keys().any(|key| !is_job_key(key.as_str()))
-}
-
-fn any_unknown_region_key(table: &Table) -> bool
-    ensures { result ≡ list_any (λ k. not (is_region_key (string_bytes k))) (keys table.now) }
-{
-    table.keys().any(|key| !is_region_key(key.as_str()))
-}
-
-fn any_unknown_list_key(table: &Table) -> bool
-    ensures { result ≡ list_any (λ k. not (is_list_key (string_bytes k))) (keys table.now) }
 {
     table.keys().any(|key| !(key.as_str() == "job"))
 }

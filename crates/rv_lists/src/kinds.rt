@@ -6,7 +6,7 @@ ghost use Rattle.toml.specs.View.{view, table_view};
 ghost use Rattle.rv_lists.specs.Keys.{absent_or, has_kinds_of_keys, region_keys, job_keys, is_text};
 ghost use Rattle.rv_lists.specs.Keys.{is_number};
 ghost use Rattle.rv_lists.specs.Keys.{is_boolean, is_text_array, is_region, is_region_array, region_has_unknown_key};
-ghost use Rattle.rv_lists.specs.Keys.{regions_have_unknown_key, has_wrong_kind, has_unknown_key};
+ghost use Rattle.rv_lists.specs.Keys.{regions_have_unknown_key, has_wrong_kind, has_unknown_job_or_region_key};
 ghost use Rattle.rv_lists.specs.KeysInside.{is_value_of_kind};
 
 use crate::keys::{
@@ -15,9 +15,9 @@ use crate::keys::{
 use toml::{Table, Value};
 
 /// Whether a job or one of its regions has a key that the format does not have.
-#[tactic(auto, unfolding(crate::specs::Keys::has_unknown_key))]
-pub(crate) fn has_unknown_key(table: &Table) -> bool
-    ensures { result ≡ has_unknown_key (table_view table.now) }
+#[tactic(auto, unfolding(crate::specs::Keys::has_unknown_job_or_region_key))]
+pub(crate) fn has_unknown_job_or_region_key(table: &Table) -> bool
+    ensures { result ≡ has_unknown_job_or_region_key (table_view table.now) }
 {
     has_unknown_job_key(table) || regions_have_unknown_key(table)
 }

@@ -5,7 +5,7 @@ ghost use Rattle.rv_lists.specs.declared.error.What.TheVariants.{OutOfMemory};
 ghost use Rattle.toml.specs.View.{view, table_view, items_view};
 ghost use Rattle.rv_lists.specs.Reading.{Gives};
 ghost use Rattle.rv_lists.specs.JobList.{region_word, region_from_table, region_from_element, regions_from_elements, map_from_elements};
-ghost use Rattle.rv_lists.specs.JobList.{regions_from_table};
+ghost use Rattle.rv_lists.specs.JobList.{map_from_table};
 
 use crate::error::What;
 use crate::keys::{array_at_key, boolean_at_key, number_at_key};
@@ -14,9 +14,9 @@ use std::alloc::Global;
 use toml::{Table, Value};
 
 /// The map of a job's regions, the default one where it has none.
-#[tactic(auto, unfolding(crate::specs::JobList::regions_from_table))]
-pub(crate) fn regions_from_table(alloc: Global, table: &Table) -> Result<Map, What>
-    ensures { Gives result (regions_from_table (table_view table.now)) }
+#[tactic(auto, unfolding(crate::specs::JobList::map_from_table))]
+pub(crate) fn map_from_table(alloc: Global, table: &Table) -> Result<Map, What>
+    ensures { Gives result (map_from_table (table_view table.now)) }
 {
     match array_at_key(table, "region") {
         Some(regions) => map_from_elements(alloc, regions.as_slice()),

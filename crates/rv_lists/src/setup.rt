@@ -11,7 +11,7 @@ ghost use Rattle.rv_lists.specs.Reading.{Gives};
 
 use crate::error::What;
 use crate::keys::text_at_key;
-use crate::regions::regions_from_table;
+use crate::regions::map_from_table;
 use hex::FromHexError;
 use rv_base::Bytes;
 use rv_base::limits::MOST_SCRIPT;
@@ -35,7 +35,7 @@ pub(crate) fn setup_from_table(alloc: Global, table: &Table) -> Result<Setup, Wh
     ensures short { IfOk result (λ setup. length setup.script ≤ most_script) }
 {
     let script = script_from_table(alloc, table)?;
-    let regions = regions_from_table(alloc, table)?;
+    let regions = map_from_table(alloc, table)?;
     let load = load_from_table(table)?;
     Ok(Setup {
         script,

@@ -8,7 +8,7 @@ ghost use Rattle.rv_machine.specs.State.{at_pc};
 
 use crate::alu::add_offset;
 use crate::ending::Ends;
-use crate::hart::{Hart, jump};
+use crate::hart::{Hart, set_pc};
 use crate::kept::KeptTable;
 use rv_isa::{Instr, sign_extend};
 use rv_memory::Width;
@@ -69,7 +69,7 @@ impl Hart {
         match self.bus.store(address, width, value) {
             Ok(()) => {
                 table.sleep_over(address, width);
-                jump(pc, next)
+                set_pc(pc, next)
             }
             Err(_) => Err(Ends),
         }

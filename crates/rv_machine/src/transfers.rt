@@ -7,7 +7,7 @@ ghost use Rattle.rv_machine.specs.State.{at_pc};
 
 use crate::alu::add_offset;
 use crate::ending::Ends;
-use crate::hart::{Hart, jump};
+use crate::hart::{Hart, set_pc};
 use rv_isa::Instr;
 
 impl Hart {
@@ -29,7 +29,7 @@ impl Hart {
 
     /// JALR: the target is read before the link is written, and its lowest bit is cleared.
     #[inline]
-    pub(crate) fn jump_by_register(
+    pub(crate) fn jump_and_link_register(
         &mut self,
         pc: &mut u32,
         instr: Instr,
@@ -46,12 +46,12 @@ impl Hart {
             × (self.new ≡ self.old) × (pc.new ≡ pc.old)) }
     {
         let target = add_offset(self.registers[instr.rs1 as usize], instr.imm) / 2 * 2;
-        self.link(pc, instr, next, target)
+        self.jump_and_link(pc, instr, next, target)
     }
 
     /// A jump: the link is written where the target is reached.
     #[inline]
-    pub(crate) fn link(
+    pub(crate) fn jump_and_link(
         &mut self,
         pc: &mut u32,
         instr: Instr,
@@ -95,8 +95,8 @@ impl Hart {
             if self.is_misaligned(target) {
                 return Err(Ends);
             }
-            return jump(pc, target);
+            return set_pc(pc, target);
         }
-        jump(pc, next)
+        set_pc(pc, next)
     }
 }

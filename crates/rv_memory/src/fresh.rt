@@ -23,7 +23,7 @@ impl Bus {
         requires { vec_len script ≤ 0x1_0000 }
         ensures { IfOk result (λ b. b ≡ new_bus map script.items misaligned) }
     {
-        let total = map.total_bytes();
+        let total = map.total_size();
         let bytes = vec![in alloc; 0u8; total]?;
         let marks = vec![in alloc; 0u16; total]?;
         let console = Vec::with_capacity(alloc, CONSOLE_ROOM)?;
@@ -51,7 +51,7 @@ impl Bus {
         requires { vec_len script ≤ 0x1_0000 }
         ensures { IfOk result (λ bus. bus ≡ new_bus map script.items misaligned) }
     {
-        if self.bytes.len() != map.total_bytes() {
+        if self.bytes.len() != map.total_size() {
             drop(self);
             return Bus::new(alloc, map, script, misaligned);
         }

@@ -9,9 +9,9 @@ use Rattle.rv_jobs.specs.declared_error.What.{What}
 use Rattle.rv_jobs.specs.declared_job.Job.{Job}
 use Rattle.rv_jobs.specs.Limits.{most_jobs}
 use Rattle.rv_jobs.specs.declared_error.What.TheVariants as what
-use Rattle.rv_jobs.specs.Keys.{any_unknown_key, item_count, has_unknown_key, has_wrong_kind, is_list_key}
+use Rattle.rv_jobs.specs.Keys.{any_unknown_key, item_count, has_unknown_job_or_region_key, has_wrong_kind, is_list_key}
 use Rattle.rv_jobs.specs.Reading.{◌>>=◌, fault_if, passing_value, numbered_reading}
-use Rattle.rv_jobs.specs.JobList.{name_from_table, names_of_jobs, image_from_table, budget_from_table, script_from_table, regions_from_table}
+use Rattle.rv_jobs.specs.JobList.{name_from_table, names_of_jobs, image_from_table, budget_from_table, script_from_table, map_from_table}
 use Rattle.rv_jobs.specs.Names.{is_name, place_in}
 use Rattle.rv_jobs.specs.JobList.{load_from_table, signature_from_table, exit_from_table, reference_from_table, console_from_table, end_from_table, same_as_from_table, isa_from_table}
 use Rattle.rv_jobs.specs.JobList.{misaligned_from_table, job_from_table, job_from_element, jobs_of_elements, has_no_jobs, has_too_many_jobs, array_elements}
@@ -52,14 +52,14 @@ job_named : (earlier : List (List ℕ)) (ms : Members) (job : Job) → job_from_
     → (is_name job.name ≡ true) × (not (is_some (place_in earlier job.name)) ≡ true)
 unfolding job_from_table
 job_named earlier ms job e =
-    let known = taken (fault_if (has_unknown_key ms) what.UnknownKey) _ job e in
+    let known = taken (fault_if (has_unknown_job_or_region_key ms) what.UnknownKey) _ job e in
     let typed = taken (fault_if (has_wrong_kind ms) what.WrongType) _ job known.1.1 in
     let name = taken (name_from_table ms) _ job typed.1.1 in
     let fresh = taken (fault_if (is_some (place_in earlier name.0)) what.Duplicate) _ job name.1.1 in
     let image = taken (image_from_table ms) _ job fresh.1.1 in
     let budget = taken (budget_from_table ms) _ job image.1.1 in
     let script = taken (script_from_table ms) _ job budget.1.1 in
-    let regions = taken (regions_from_table ms) _ job script.1.1 in
+    let regions = taken (map_from_table ms) _ job script.1.1 in
     let load = taken (load_from_table ms) _ job regions.1.1 in
     let signature = taken (signature_from_table ms) _ job load.1.1 in
     let exit = taken (exit_from_table ms) _ job signature.1.1 in

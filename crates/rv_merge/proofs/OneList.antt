@@ -13,7 +13,7 @@ use Rattle.rv_report.specs.declared.saved.Extent.{Extent}
 use Rattle.rv_report.specs.declared.saved.Extent.TheVariants as extent
 use Rattle.rv_report.specs.declared.saved.Shard.{Shard}
 use Rattle.rv_report.specs.declared.saved.SavedReport.{SavedReport}
-use Rattle.rv_report.specs.Saved.{IsSaved, are_evenly_spaced, fits_numbers, is_valid_shard}
+use Rattle.rv_report.specs.Saved.{IsSaved, are_evenly_spaced, matches_job_numbers, is_valid_shard}
 use Rattle.rv_report.proofs.Public.{same_reports}
 use Rattle.rv_merge.specs.Parts.{ArePartsIn, IsReportOf, IsPart, Run, run_of_shard, shard_in, nth_text}
 use Rattle.rv_merge.proofs.Slots.{same_by_get, under}
@@ -51,15 +51,15 @@ pub record HasNumbers (s : Shard) (ns : List ℕ) : Type 0 where
   pub good : IsGood s
   pub stepped : are_evenly_spaced s.number s.shards s.jobs ns ≡ true
 
-fits_shard : (s : Shard) (ns : List ℕ) → fits_numbers (extent.Shard s) ns ≡ true → HasNumbers s ns
-unfolding fits_numbers
+fits_shard : (s : Shard) (ns : List ℕ) → matches_job_numbers (extent.Shard s) ns ≡ true → HasNumbers s ns
+unfolding matches_job_numbers
 fits_shard s ns h =
     let p = and_parts (is_valid_shard s) (are_evenly_spaced s.number s.shards s.jobs ns) h in
     record { good = good_shard s p.0; stepped = p.1 }
 
 pub numbers_of_shard : (s : Shard) (r : SavedReport) → IsSaved r → r.extent ≡ extent.Shard s → HasNumbers s r.numbers
 numbers_of_shard s r saved is =
-    fits_shard s r.numbers (subst (λ (e : Extent). fits_numbers e r.numbers ≡ true) is saved.listed.fits)
+    fits_shard s r.numbers (subst (λ (e : Extent). matches_job_numbers e r.numbers ≡ true) is saved.listed.fits)
 
 -- ---- one text is that of one report
 

@@ -22,7 +22,7 @@ use Rattle.rv_rows.specs.Rows.{row_of, rows_at, rows_of}
 use Rattle.rv_rows.specs.Wholes.{KeepSame, plan_of_jobs}
 use Rattle.rv_report.specs.declared.saved.Extent.TheVariants as extent
 use Rattle.rv_report.specs.declared.saved.Shard.{Shard}
-use Rattle.rv_report.specs.Saved.{IsRow, IsSaved, are_evenly_spaced, fits_numbers, is_valid_shard, row_names, saved_text}
+use Rattle.rv_report.specs.Saved.{IsRow, IsSaved, are_evenly_spaced, matches_job_numbers, is_valid_shard, row_names, saved_text}
 use Rattle.rv_merge.specs.Parts.{AreListed, AreParts, IsPart, Run, shard_in}
 use Rattle.rv_merge.specs.Shards.{AreTextsFrom, IsRunOf, IsTextFrom, is_in_shard, shard_places, shard_report}
 use Rattle.rv_merge.proofs.Sharing.{new_under, rising_from, stepped_from}
@@ -146,8 +146,8 @@ is_shard_in run n low high few jobs stamp =
     (and_from (nat_le run.jobs most_jobs) (is_name run.stamp) d stamp)))
 
 fits_in : (s : Shard) (ns : List ℕ) → is_valid_shard s ≡ true → are_evenly_spaced s.number s.shards s.jobs ns ≡ true
-    → fits_numbers (extent.Shard s) ns ≡ true
-unfolding fits_numbers
+    → matches_job_numbers (extent.Shard s) ns ≡ true
+unfolding matches_job_numbers
 fits_in s ns a b = and_from (is_valid_shard s) (are_evenly_spaced s.number s.shards s.jobs ns) a b
 
 module _ (list : List Job) (answers : List Answer) (run : Run) (listed : AreListed (rows_of (plan_of_jobs list answers)))

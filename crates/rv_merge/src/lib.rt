@@ -12,7 +12,7 @@
 mod error;
 mod gathered_parts;
 mod law;
-mod list_rows;
+mod list_rows_law;
 mod merge;
 mod names;
 mod part;
@@ -21,7 +21,7 @@ mod whole_list_law;
 
 pub use error::{Flaw, MergeError};
 pub use law::shards_give_the_parts_of_the_whole;
-pub use list_rows::rows_are_those_of_a_list;
+pub use list_rows_law::rows_are_those_of_a_list;
 pub use merge::merge_parts;
 pub use shards::shard_marks;
 pub use whole_list_law::shards_give_the_whole;

@@ -10,7 +10,7 @@ ghost use Rattle.rv_rows.specs.Rows.{rows_of};
 ghost use Rattle.rv_rows.specs.Wholes.{plan_of_jobs};
 
 use crate::law::shards_give_the_parts_of_the_whole;
-use crate::list_rows::rows_are_those_of_a_list;
+use crate::list_rows_law::rows_are_those_of_a_list;
 use rv_rows::Row;
 
 /// Where a list that was read ran in shards, and each machine kept the same of the paths that its jobs need as one

@@ -12,7 +12,7 @@ use Rattle.rv_report.specs.declared.saved.Extent.{Extent}
 use Rattle.rv_report.specs.declared.saved.Extent.TheVariants.{Choice}
 use Rattle.rv_report.specs.declared.saved.SavedReport.{SavedReport}
 use Rattle.rv_report.specs.LenientReport.{Gathered, rising_count, count_before_repeated_name, extent_or_choice, gather_rows, lenient_report}
-use Rattle.rv_report.specs.Saved.{IsSaved, are_rising, are_new, fits_numbers, row_names}
+use Rattle.rv_report.specs.Saved.{IsSaved, are_rising, are_new, matches_job_numbers, row_names}
 use Rattle.rv_report.proofs.Drafts.{AreGood, gathered_good}
 
 -- the counts are not above the lengths
@@ -100,11 +100,11 @@ taken_within zero xs = omega arith
 taken_within (suc count) [] = omega arith
 taken_within (suc count) (x ∷ xs) = let h = taken_within count xs in omega arith
 
-fitting_fits : (e : Extent) (ns : List ℕ) → are_rising 0 most_jobs ns ≡ true → fits_numbers (extent_or_choice e ns) ns ≡ true
-unfolding extent_or_choice fits_numbers
+fitting_fits : (e : Extent) (ns : List ℕ) → are_rising 0 most_jobs ns ≡ true → matches_job_numbers (extent_or_choice e ns) ns ≡ true
+unfolding extent_or_choice matches_job_numbers
 fitting_fits e ns h =
-    let P : Extent → Type 0 = λ x. fits_numbers x ns ≡ true in
-    elim (cases_Bool (fits_numbers e ns)) [
+    let P : Extent → Type 0 = λ x. matches_job_numbers x ns ≡ true in
+    elim (cases_Bool (matches_job_numbers e ns)) [
       | inl t ↦ subst P (sym (ap (λ (b : Bool). cond b e (Choice most_jobs)) t)) t
       | inr t ↦ subst P (sym (ap (λ (b : Bool). cond b e (Choice most_jobs)) t))
           (and_from (nat_le most_jobs most_jobs) (are_rising 0 most_jobs ns) refl h)

@@ -13,7 +13,7 @@ use Rattle.rv_base.specs.Names.{is_name, is_name_byte}
 use Rattle.rv_base.specs.Limits.{is_within}
 use Rattle.std.specs.Prelude.{Result, Ok, Err, IfOk}
 use Rattle.rv_report.specs.LenientReport.{Gathered, with_line, with_lines, lines, place_of_byte, decimal_number_on, hex_number, with_digit}
-use Rattle.rv_report.specs.LenientReport.{hex_digit_value, with_zero_digits, all_hex, is_hex}
+use Rattle.rv_report.specs.LenientReport.{hex_digit_value, with_zero_digits, are_hex_digits, is_hex_digit}
 use Rattle.rv_report.specs.declared.row.Row.{Row}
 use Rattle.std.specs.Prelude.{is_some}
 use Rattle.std.proofs.lemmas.Bool.{false≢true}
@@ -60,13 +60,13 @@ unfolding with_zero_digits
 shifted_end i value h = let e : 8 - i ≡ 0 = omega arith in ap (λ (n : ℕ). with_zero_digits n value) e
 
 pub hex_step : (xs : List ℕ) (i : ℕ) → i < length xs
-    → all_hex (drop i xs) ≡ (is_hex (get_or xs i 0) && all_hex (drop (i + 1) xs))
-unfolding all_hex
-hex_step xs i h = at_drop_more all_hex xs i 0 h
+    → are_hex_digits (drop i xs) ≡ (is_hex_digit (get_or xs i 0) && are_hex_digits (drop (i + 1) xs))
+unfolding are_hex_digits
+hex_step xs i h = at_drop_more are_hex_digits xs i 0 h
 
-pub hex_end : (xs : List ℕ) (i : ℕ) → length xs ≤ i → all_hex (drop i xs) ≡ true
-unfolding all_hex
-hex_end xs i h = at_drop_all all_hex xs i h
+pub hex_end : (xs : List ℕ) (i : ℕ) → length xs ≤ i → are_hex_digits (drop i xs) ≡ true
+unfolding are_hex_digits
+hex_end xs i h = at_drop_all are_hex_digits xs i h
 
 -- a name is a text
 byte_is_ascii : (b : ℕ) → is_name_byte b ≡ true → b < 128
@@ -126,12 +126,12 @@ place_later byte xs i h other =
     let e : (get_or xs i 0 == byte) ≡ false = grind arith in
     place_step byte xs i h ∙ ap (λ (t : Bool). cond t 0 (place_of_byte byte (drop (i + 1) xs) + 1)) e
 
-pub hex_no : (xs : List ℕ) (i : ℕ) → i < length xs → is_hex (get_or xs i 0) ≡ false → all_hex (drop i xs) ≡ false
-hex_no xs i h e = hex_step xs i h ∙ ap (λ (t : Bool). t && all_hex (drop (i + 1) xs)) e
+pub hex_no : (xs : List ℕ) (i : ℕ) → i < length xs → is_hex_digit (get_or xs i 0) ≡ false → are_hex_digits (drop i xs) ≡ false
+hex_no xs i h e = hex_step xs i h ∙ ap (λ (t : Bool). t && are_hex_digits (drop (i + 1) xs)) e
 
-pub hex_yes : (xs : List ℕ) (i : ℕ) → i < length xs → is_hex (get_or xs i 0) ≡ true
-    → all_hex (drop i xs) ≡ all_hex (drop (i + 1) xs)
-hex_yes xs i h e = hex_step xs i h ∙ ap (λ (t : Bool). t && all_hex (drop (i + 1) xs)) e
+pub hex_yes : (xs : List ℕ) (i : ℕ) → i < length xs → is_hex_digit (get_or xs i 0) ≡ true
+    → are_hex_digits (drop i xs) ≡ are_hex_digits (drop (i + 1) xs)
+hex_yes xs i h e = hex_step xs i h ∙ ap (λ (t : Bool). t && are_hex_digits (drop (i + 1) xs)) e
 
 -- ---- lines, taken one by one
 

@@ -16,7 +16,7 @@ use Rattle.rv_report.specs.declared.saved.Extent.TheVariants as extent
 use Rattle.rv_report.specs.declared.saved.Shard.{Shard}
 use Rattle.rv_report.specs.LenientReport.{text_before_byte, text_after_byte, decimal_number, name_or_dash, shard_of_text, part_extent_of_line, gathering_between_rows, with_stage_over}
 use Rattle.rv_report.specs.LenientReport.{at_job_or_last_line, with_line, place_of_byte}
-use Rattle.rv_report.specs.Saved.{part_words, shard_words, extent_line, is_valid_shard, are_rising, are_evenly_spaced, fits_numbers}
+use Rattle.rv_report.specs.Saved.{part_words, shard_words, extent_line, is_valid_shard, are_rising, are_evenly_spaced, matches_job_numbers}
 use Rattle.rv_report.proofs.Pieces.{lacks, lacks-append, before_at, after_at}
 use Rattle.rv_report.proofs.Words.{lacks-decimal, number_of-decimal}
 use Rattle.rv_report.proofs.Spelled.{lacks-name, same_name}
@@ -47,8 +47,8 @@ is_part s h =
     let jobs : s.jobs ≤ most_jobs = grind (arith, nat_tests) in
     record { jobs = jobs; number = omega arith; shards = shards; stamp = d.1 }
 
-pub row_has_word_numbers : (e : Extent) (ns : List ℕ) → fits_numbers e ns ≡ true → HasNumbers e
-unfolding fits_numbers
+pub row_has_word_numbers : (e : Extent) (ns : List ℕ) → matches_job_numbers e ns ≡ true → HasNumbers e
+unfolding matches_job_numbers
 row_has_word_numbers extent.Whole ns h = tt
 row_has_word_numbers (extent.Choice jobs) ns h =
     let first = (and_parts (nat_le jobs most_jobs) (are_rising 0 jobs ns) h).0 in grind (arith, nat_tests)

@@ -15,7 +15,7 @@ use Rattle.rv_report.specs.declared.saved.Extent.TheVariants.{Whole, Choice}
 use Rattle.rv_report.specs.declared.saved.SavedReport.{SavedReport}
 use Rattle.rv_report.specs.LenientReport.{lines, Gathered, gathering_between_rows, with_stage_over, with_line, with_lines, with_unfinished_row, gather_rows}
 use Rattle.rv_report.specs.LenientReport.{lenient_report, rising_count, count_before_repeated_name, extent_or_choice}
-use Rattle.rv_report.specs.Saved.{IsRow, IsListed, IsSaved, are_rising, are_new, fits_numbers, row_names, numbered_text}
+use Rattle.rv_report.specs.Saved.{IsRow, IsListed, IsSaved, are_rising, are_new, matches_job_numbers, row_names, numbered_text}
 use Rattle.rv_report.specs.Saved.{saved_text}
 use Rattle.rv_report.proofs.Cut.{few_numbers, length-names}
 use Rattle.rv_report.proofs.Pieces.{lacks}
@@ -103,7 +103,7 @@ new_all earlier (t ∷ ts) h =
     ap (λ (b : Bool). cond b 0 (count_before_repeated_name (earlier ++ t ∷ []) ts + 1)) (not_not (is_some (place_in earlier t)) first.0)
     ∙ ap (λ (k : ℕ). k + 1) (new_all (earlier ++ t ∷ []) ts first.1) ∙ omega arith
 
-fitting_same : (e : Extent) (ns : List ℕ) → fits_numbers e ns ≡ true → extent_or_choice e ns ≡ e
+fitting_same : (e : Extent) (ns : List ℕ) → matches_job_numbers e ns ≡ true → extent_or_choice e ns ≡ e
 unfolding extent_or_choice
 fitting_same e ns h = ap (λ (t : Bool). cond t e (Choice most_jobs)) h
 

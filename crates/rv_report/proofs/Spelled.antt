@@ -25,7 +25,7 @@ use Rattle.rv_text.specs.Words.{word_digits}
 use Rattle.rv_report.specs.Report.{dash_if_empty, console_line, signature_lines, row_text}
 use Rattle.rv_report.specs.declared.gathering.Stage.TheVariants as stage
 use Rattle.rv_report.specs.declared.saved.Extent.{Extent}
-use Rattle.rv_report.specs.LenientReport.{lines, text_before_byte, text_after_byte, decimal_number, hex_word, all_hex, hex_bytes, name_or_dash}
+use Rattle.rv_report.specs.LenientReport.{lines, text_before_byte, text_after_byte, decimal_number, hex_word, are_hex_digits, hex_bytes, name_or_dash}
 use Rattle.rv_report.specs.LenientReport.{job_number_of_line, job_name_of_line, fault_or_first, refusal_or_first, fault_ending_of_text, row_ending_of_line, verdict_of_line}
 use Rattle.rv_report.specs.LenientReport.{decimal_number_on, Gathered, gathering_between_rows, with_closed_row, with_stage_over, row_so_far, at_job_or_last_line, at_ending}
 use Rattle.rv_report.specs.LenientReport.{at_steps, at_console, at_signature, at_words, with_line, with_lines}
@@ -375,7 +375,7 @@ signature_says (Some ws) rest g h =
 
 verdict_says : (v : Verdict) (g : Gathered) → (length g.words == g.count) ≡ true
     → with_line (codes "verdict " ++ verdict_name v) (record g { stage = stage.Words }) ≡ with_closed_row v g
-unfolding with_line at_words all_hex verdict_of_line with_closed_row row_so_far
+unfolding with_line at_words are_hex_digits verdict_of_line with_closed_row row_so_far
 verdict_says verdict.Unasked g full = ap (λ (t : Bool). cond t (with_closed_row verdict.Unasked g) (with_stage_over g)) full
 verdict_says verdict.Pass g full = ap (λ (t : Bool). cond t (with_closed_row verdict.Pass g) (with_stage_over g)) full
 verdict_says verdict.Fail g full = ap (λ (t : Bool). cond t (with_closed_row verdict.Fail g) (with_stage_over g)) full

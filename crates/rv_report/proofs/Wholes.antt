@@ -8,7 +8,7 @@ use Rattle.rv_report.specs.Report.{row_text, rows_text, done_line, report_text}
 use Rattle.rv_report.specs.declared.saved.Extent.{Extent}
 use Rattle.rv_report.specs.declared.saved.Extent.TheVariants.{Whole}
 use Rattle.rv_report.specs.declared.saved.SavedReport.{SavedReport}
-use Rattle.rv_report.specs.Saved.{IsSaved, are_evenly_spaced, fits_numbers, numbered_text, extent_line, saved_text}
+use Rattle.rv_report.specs.Saved.{IsSaved, are_evenly_spaced, matches_job_numbers, numbered_text, extent_line, saved_text}
 
 numbered_is_rows : (place last : ℕ) (ns : List ℕ) (rows : List Row) → are_evenly_spaced (place + 1) 1 last ns ≡ true
     → length ns ≡ length rows → numbered_text ns rows ≡ rows_text place rows
@@ -25,10 +25,10 @@ numbered_is_rows place last (n ∷ ns) (row ∷ rows) h even =
     (numbered_is_rows (place + 1) last ns rows (and_parts (nat_le n last) later first.1).1 (omega arith))
 
 pub whole_text : (r : SavedReport) → IsSaved r → r.extent ≡ Whole → saved_text r ≡ report_text r.rows
-unfolding saved_text report_text fits_numbers extent_line
+unfolding saved_text report_text matches_job_numbers extent_line
 whole_text r h is =
     let stepped : are_evenly_spaced 1 1 (length r.numbers) r.numbers ≡ true =
-    subst (λ (e : Extent). fits_numbers e r.numbers ≡ true) is h.listed.fits in
+    subst (λ (e : Extent). matches_job_numbers e r.numbers ≡ true) is h.listed.fits in
     ap (λ (e : Extent). numbered_text r.numbers r.rows ++ extent_line e (length r.rows)) is
     ∙ ap (λ (t : List ℕ). t ++ done_line (length r.rows))
     (numbered_is_rows 0 (length r.numbers) r.numbers r.rows stepped h.listed.counted)

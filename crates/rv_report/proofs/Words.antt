@@ -10,8 +10,8 @@ use Rattle.std.specs.Int.{w32, to_be_bytes}
 use Rattle.hex.specs.Hex.{IsBytes, encode_lower, encode_with, lower_digits}
 use Rattle.hex.proofs.HexLemmas.{decode_of-encode_lower}
 use Rattle.rv_text.specs.Words.{word_digits}
-use Rattle.rv_report.specs.LenientReport.{with_zero_digits, all_hex}
-use Rattle.rv_report.specs.LenientReport.{decimal_number_on, decimal_number, with_digit, hex_number, hex_word, hex_digit_value, is_hex, is_hex_word}
+use Rattle.rv_report.specs.LenientReport.{with_zero_digits, are_hex_digits}
+use Rattle.rv_report.specs.LenientReport.{decimal_number_on, decimal_number, with_digit, hex_number, hex_word, hex_digit_value, is_hex_digit, is_hex_word}
 use Rattle.rv_report.specs.LenientReport.{hex_bytes, bytes_if_decoded}
 use Rattle.rv_report.proofs.Pieces.{lacks, lacks-append}
 
@@ -66,19 +66,19 @@ digit_is : (d : ℕ) → d < 16 → hex_digit_value (slice_index lower_digits d)
 digit_is d h = eqb-true (hex_digit_value (slice_index lower_digits d)) d
     (holds_at (λ k. hex_digit_value (slice_index lower_digits k) == k) 16 d refl h)
 
-digit_is_hex : (d : ℕ) → d < 16 → is_hex (slice_index lower_digits d) ≡ true
-digit_is_hex d h = holds_at (λ k. is_hex (slice_index lower_digits k)) 16 d refl h
+digit_is_hex : (d : ℕ) → d < 16 → is_hex_digit (slice_index lower_digits d) ≡ true
+digit_is_hex d h = holds_at (λ k. is_hex_digit (slice_index lower_digits k)) 16 d refl h
 
 digit_is_no_feed : (d : ℕ) → d < 16 → not (slice_index lower_digits d == 10) ≡ true
 digit_is_no_feed d h = holds_at (λ k. not (slice_index lower_digits k == 10)) 16 d refl h
 
-pub all_hex-encode : (bs : List ℕ) → IsBytes bs → all_hex (encode_lower bs) ≡ true
-unfolding all_hex encode_with
-all_hex-encode [] h = refl
-all_hex-encode (b ∷ bs) h =
+pub are_hex_digits-encode : (bs : List ℕ) → IsBytes bs → are_hex_digits (encode_lower bs) ≡ true
+unfolding are_hex_digits encode_with
+are_hex_digits-encode [] h = refl
+are_hex_digits-encode (b ∷ bs) h =
     let fits : b < 256 = h 0 in
     and_from _ _ (digit_is_hex (b / 16) (omega arith))
-    (and_from _ _ (digit_is_hex (b % 16) (omega arith)) (all_hex-encode bs (λ i. h (suc i))))
+    (and_from _ _ (digit_is_hex (b % 16) (omega arith)) (are_hex_digits-encode bs (λ i. h (suc i))))
 
 pub lacks-encode : (bs : List ℕ) → IsBytes bs → lacks 10 (encode_lower bs) ≡ true
 unfolding encode_with
@@ -141,12 +141,12 @@ some_digits : (w : ℕ) → nat_lt 0 (length (word_digits w)) ≡ true
 unfolding word_digits encode_with
 some_digits w = refl
 
-all_digits : (w : ℕ) → all_hex (word_digits w) ≡ true
+all_digits : (w : ℕ) → are_hex_digits (word_digits w) ≡ true
 unfolding word_digits
-all_digits w = all_hex-encode (to_be_bytes w32 w) (fits_digits w)
+all_digits w = are_hex_digits-encode (to_be_bytes w32 w) (fits_digits w)
 
 pub is_word-digits : (w : ℕ) → is_hex_word (word_digits w) ≡ true
-is_word-digits w = and_from (nat_lt 0 (length (word_digits w))) (all_hex (word_digits w)) (some_digits w) (all_digits w)
+is_word-digits w = and_from (nat_lt 0 (length (word_digits w))) (are_hex_digits (word_digits w)) (some_digits w) (all_digits w)
 
 -- ---- bytes
 

@@ -25,7 +25,7 @@ use Rattle.rv_report.specs.declared.gathering.Stage.TheVariants as stage
 use Rattle.rv_report.specs.declared.saved.Extent.{Extent}
 use Rattle.rv_report.specs.declared.saved.Extent.TheVariants as extent
 use Rattle.rv_report.specs.declared.saved.SavedReport.{SavedReport}
-use Rattle.rv_report.specs.Saved.{fits_numbers, row_names, most_words}
+use Rattle.rv_report.specs.Saved.{matches_job_numbers, row_names, most_words}
 
 -- ---- lines, and the parts of a line
 
@@ -77,17 +77,17 @@ with_zero_digits (suc count) value = with_zero_digits count (with_digit 16 value
 unfoldable pub hex_word : List ℕ → ℕ
 hex_word text = with_zero_digits (8 - length (take 8 text)) (hex_number 0 (take 8 text))
 
-abbrev pub is_hex : ℕ → Bool
-is_hex b = (nat_le 48 b && nat_le b 57) || (nat_le 97 b && nat_le b 102)
+abbrev pub is_hex_digit : ℕ → Bool
+is_hex_digit b = (nat_le 48 b && nat_le b 57) || (nat_le 97 b && nat_le b 102)
 
 -- whether each byte is a lower-case hexadecimal digit
-unfoldable pub all_hex : List ℕ → Bool
-all_hex [] = true
-all_hex (b ∷ bs) = is_hex b && all_hex bs
+unfoldable pub are_hex_digits : List ℕ → Bool
+are_hex_digits [] = true
+are_hex_digits (b ∷ bs) = is_hex_digit b && are_hex_digits bs
 
 -- a word, or a beginning of one, as no other line of a report is
 abbrev pub is_hex_word : List ℕ → Bool
-is_hex_word line = nat_lt 0 (length line) && all_hex line
+is_hex_word line = nat_lt 0 (length line) && are_hex_digits line
 
 abbrev pub bytes_if_decoded : Result (List ℕ) FromHexError → List ℕ
 bytes_if_decoded (Ok bytes) = bytes
@@ -313,7 +313,7 @@ count_before_repeated_name earlier (text ∷ texts) =
 
 -- any extent that these numbers fit, where they don't fit the given one
 unfoldable pub extent_or_choice : Extent → List ℕ → Extent
-extent_or_choice e numbers = if fits_numbers e numbers then e else extent.Choice most_jobs
+extent_or_choice e numbers = if matches_job_numbers e numbers then e else extent.Choice most_jobs
 
 -- what a text says
 unfoldable pub lenient_report : List ℕ → SavedReport

@@ -38,10 +38,10 @@ is_valid_shard s = nat_le 1 s.number && (nat_le s.number s.shards && (nat_le s.s
     && (nat_le s.jobs most_jobs && is_name s.stamp)))
 
 -- the numbers are those of a whole list, of some of its jobs, or of a shard
-unfoldable pub fits_numbers : Extent → List ℕ → Bool
-fits_numbers extent.Whole ns = are_evenly_spaced 1 1 (length ns) ns
-fits_numbers (extent.Choice jobs) ns = nat_le jobs most_jobs && are_rising 0 jobs ns
-fits_numbers (extent.Shard s) ns = is_valid_shard s && are_evenly_spaced s.number s.shards s.jobs ns
+unfoldable pub matches_job_numbers : Extent → List ℕ → Bool
+matches_job_numbers extent.Whole ns = are_evenly_spaced 1 1 (length ns) ns
+matches_job_numbers (extent.Choice jobs) ns = nat_le jobs most_jobs && are_rising 0 jobs ns
+matches_job_numbers (extent.Shard s) ns = is_valid_shard s && are_evenly_spaced s.number s.shards s.jobs ns
 
 -- ---- the text
 
@@ -109,7 +109,7 @@ row_names rows = map (λ (row : Row). row.name) rows
 pub record IsListed (r : SavedReport) : Type 0 where
   pub counted : length r.numbers ≡ length r.rows
   pub rising : are_rising 0 most_jobs r.numbers ≡ true
-  pub fits : fits_numbers r.extent r.numbers ≡ true
+  pub fits : matches_job_numbers r.extent r.numbers ≡ true
   pub names : list_all is_name (row_names r.rows) ≡ true
   pub new : are_new [] (row_names r.rows) ≡ true
 

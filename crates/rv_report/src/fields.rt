@@ -1,30 +1,13 @@
 //! Parts of a line.
 
-ghost use Rattle.std.specs.Prelude.{◌≡◌, ◌≤◌, IfOk, take, drop, slice_index, string_bytes, length};
-ghost use Rattle.rv_report.specs.LenientReport.{all_hex, hex_number, place_of_byte, text_before_byte, text_after_byte, decimal_number, hex_digit_value, hex_word};
-ghost use Rattle.rv_report.specs.LenientReport.{is_hex, is_hex_word, hex_bytes, name_or_dash};
+ghost use Rattle.std.specs.Prelude.{◌≡◌, ◌≤◌, IfOk, take, string_bytes, length};
+ghost use Rattle.rv_report.specs.LenientReport.{are_hex_digits, hex_number, place_of_byte, text_before_byte, text_after_byte, decimal_number, hex_digit_value, hex_word};
+ghost use Rattle.rv_report.specs.LenientReport.{is_hex_digit, is_hex_word, hex_bytes, name_or_dash};
 
 use hex::FromHexError;
 use rv_base::is_name;
+use rv_text::tail_from;
 use std::alloc::{AllocError, Global};
-
-/// The byte at a place, or 0 behind the end.
-pub(crate) fn byte_at(text: &[u8], place: usize) -> u8
-    ensures { result ≡ slice_index text.now place }
-{
-    if place < text.len() { text[place] } else { 0 }
-}
-
-/// What stands behind the first bytes.
-pub(crate) fn skip_bytes(text: &[u8], count: usize) -> &[u8]
-    ensures { result.now ≡ drop count text.now }
-{
-    if count <= text.len() {
-        &text[count..]
-    } else {
-        &text[text.len()..]
-    }
-}
 
 /// The first bytes, or all where there are fewer.
 pub fn leading_bytes(text: &[u8], count: usize) -> &[u8]
@@ -59,7 +42,7 @@ pub(crate) fn text_before_byte(byte: u8, text: &[u8]) -> &[u8]
 pub(crate) fn text_after_byte(byte: u8, text: &[u8]) -> &[u8]
     ensures { result.now ≡ text_after_byte byte text.now }
 {
-    skip_bytes(text, place_of_byte(byte, text) + 1)
+    tail_from(text, place_of_byte(byte, text) + 1)
 }
 
 /// The number that decimal digits write.
@@ -106,8 +89,8 @@ fn hex_number(digits: &[u8]) -> u32
     value
 }
 
-fn is_hex(b: u8) -> bool
-    ensures { result ≡ is_hex b }
+fn is_hex_digit(b: u8) -> bool
+    ensures { result ≡ is_hex_digit b }
 {
     (48 <= b && b <= 57) || (97 <= b && b <= 102)
 }
@@ -116,14 +99,14 @@ fn is_hex(b: u8) -> bool
 pub(crate) fn is_hex_word(text: &[u8]) -> bool
     ensures { result ≡ is_hex_word text.now }
 {
-    !text.is_empty() && all_hex(text)
+    !text.is_empty() && are_hex_digits(text)
 }
 
-fn all_hex(text: &[u8]) -> bool
-    ensures { result ≡ all_hex text.now }
+fn are_hex_digits(text: &[u8]) -> bool
+    ensures { result ≡ are_hex_digits text.now }
 {
     for b in text {
-        if !is_hex(*b) {
+        if !is_hex_digit(*b) {
             return false;
         }
     }

@@ -7,16 +7,16 @@ ghost use Rattle.rv_report.specs.LenientReport.{at_words, with_line, with_lines,
 ghost use Rattle.rv_report.specs.View.{gathering_view};
 
 use crate::fields::{
-    byte_at, decimal_number, hex_bytes, hex_word, is_hex_word, leading_bytes, place_of_byte,
-    skip_bytes,
+    decimal_number, hex_bytes, hex_word, is_hex_word, leading_bytes, place_of_byte,
 };
 use crate::lines::{
-    part_extent_of_line, job_name_of_line, job_number_of_line, row_ending_of_line, verdict_of_line,
+    job_name_of_line, job_number_of_line, part_extent_of_line, row_ending_of_line, verdict_of_line,
 };
 use crate::row::{Row, RowEnd, Verdict, Words};
 use crate::saved::Extent;
 use rv_base::limits::MOST_JOBS;
 use rv_base::{Bytes, Text};
+use rv_text::{byte_at, tail_from};
 use std::alloc::{AllocError, Global};
 use std::mem;
 
@@ -66,7 +66,7 @@ pub fn gather_rows(alloc: Global, text: &[u8]) -> Result<Gathering, AllocError>
     while !rest.is_empty() {
         let end = place_of_byte(b'\n', rest);
         add_line(alloc, &mut gathering, leading_bytes(rest, end))?;
-        rest = skip_bytes(rest, end + 1);
+        rest = tail_from(rest, end + 1);
     }
     close_unfinished_row(alloc, &mut gathering)?;
     Ok(gathering)
@@ -150,7 +150,7 @@ fn add_steps_line(gathering: &mut Gathering, line: &[u8])
     ensures { gathering_view gathering.new ≡ at_steps line.now (gathering_view gathering.old) }
 {
     if byte_at(line, 0) == b's' && byte_at(line, 1) == b't' {
-        gathering.steps = decimal_number(skip_bytes(line, 6));
+        gathering.steps = decimal_number(tail_from(line, 6));
         gathering.stage = Stage::Console;
     } else {
         gathering.stage = Stage::Over;
@@ -162,7 +162,7 @@ fn add_console_line(alloc: Global, gathering: &mut Gathering, line: &[u8]) -> Re
     ensures { OnOk result (gathering_view gathering.new ≡ at_console line.now (gathering_view gathering.old)) }
 {
     if byte_at(line, 0) == b'c' {
-        gathering.console = hex_bytes(alloc, skip_bytes(line, 8))?;
+        gathering.console = hex_bytes(alloc, tail_from(line, 8))?;
         gathering.stage = Stage::Signature;
     } else {
         gathering.stage = Stage::Over;
@@ -174,7 +174,7 @@ fn add_console_line(alloc: Global, gathering: &mut Gathering, line: &[u8]) -> Re
 fn add_signature_line(gathering: &mut Gathering, line: &[u8])
     ensures { gathering_view gathering.new ≡ at_signature line.now (gathering_view gathering.old) }
 {
-    let count = decimal_number(skip_bytes(line, 10));
+    let count = decimal_number(tail_from(line, 10));
     if byte_at(line, 0) == b's' && byte_at(line, 1) == b'i' && count <= MOST_WORDS {
         gathering.signed = byte_at(line, 10) != b'-';
         gathering.count = count;

@@ -39,7 +39,7 @@ fn extent_or_choice(extent: Extent, numbers: &[u32]) -> Extent
     requires { length numbers.now ≤ most_jobs }
     ensures { result ≡ extent_or_choice extent numbers.now }
 {
-    if extent.fits_numbers(numbers) {
+    if extent.matches_job_numbers(numbers) {
         extent
     } else {
         Extent::Choice(MOST_JOBS as u32)

@@ -7,20 +7,20 @@ ghost use Rattle.rv_report.specs.LenientReport.{shard_of_text, part_extent_of_li
 ghost use Rattle.rv_report.specs.Report.{refusal_named};
 
 use crate::fields::{
-    byte_at, decimal_number, hex_word, leading_bytes, name_or_dash, skip_bytes, text_after_byte,
-    text_before_byte,
+    decimal_number, hex_word, leading_bytes, name_or_dash, text_after_byte, text_before_byte,
 };
 use crate::row::{Refusal, RowEnd, Verdict};
 use crate::saved::{Extent, Shard};
 use rv_base::Text;
 use rv_machine::FaultKind;
+use rv_text::{byte_at, tail_from};
 use std::alloc::{AllocError, Global};
 
 /// The number of a job.
 pub(crate) fn job_number_of_line(line: &[u8]) -> u32
     ensures { result ≡ job_number_of_line line.now }
 {
-    decimal_number(text_before_byte(b' ', skip_bytes(line, 4)))
+    decimal_number(text_before_byte(b' ', tail_from(line, 4)))
 }
 
 /// The name of a job.
@@ -28,7 +28,7 @@ pub(crate) fn job_number_of_line(line: &[u8]) -> u32
 pub(crate) fn job_name_of_line(alloc: Global, line: &[u8]) -> Result<String, AllocError>
     ensures { IfOk result (λ name. string_bytes name ≡ job_name_of_line line.now) }
 {
-    name_or_dash(alloc, text_after_byte(b' ', skip_bytes(line, 4)))
+    name_or_dash(alloc, text_after_byte(b' ', tail_from(line, 4)))
 }
 
 /// How a job ended.
@@ -37,10 +37,10 @@ pub(crate) fn row_ending_of_line(line: &[u8]) -> RowEnd
     ensures { result ≡ row_ending_of_line line.now }
 {
     match byte_at(line, 4) {
-        b'e' => RowEnd::Exit(decimal_number(skip_bytes(line, 9))),
-        b'f' => fault_ending_of_text(skip_bytes(line, 10)),
+        b'e' => RowEnd::Exit(decimal_number(tail_from(line, 9))),
+        b'f' => fault_ending_of_text(tail_from(line, 10)),
         b'b' => RowEnd::Budget,
-        _ => RowEnd::Refused(refusal_or_unreadable(skip_bytes(line, 12))),
+        _ => RowEnd::Refused(refusal_or_unreadable(tail_from(line, 12))),
     }
 }
 
@@ -49,8 +49,8 @@ fn fault_ending_of_text(text: &[u8]) -> RowEnd
     ensures { result ≡ fault_ending_of_text text.now }
 {
     let words = text_after_byte(b' ', text);
-    let pc = hex_word(leading_bytes(skip_bytes(words, 3), 8));
-    let value = hex_word(skip_bytes(words, 18));
+    let pc = hex_word(leading_bytes(tail_from(words, 3), 8));
+    let value = hex_word(tail_from(words, 18));
     let kind = FaultKind::from_name(text_before_byte(b' ', text)).unwrap_or(FaultKind::FetchAccess);
     RowEnd::Fault(kind, pc, value)
 }
@@ -78,8 +78,8 @@ pub(crate) fn verdict_of_line(line: &[u8]) -> Verdict
 pub(crate) fn part_extent_of_line(alloc: Global, line: &[u8]) -> Result<Extent, AllocError>
     ensures { IfOk result (λ extent. extent ≡ part_extent_of_line line.now) }
 {
-    let jobs = skip_bytes(text_after_byte(b' ', skip_bytes(line, 5)), 3);
-    let shard = skip_bytes(text_after_byte(b' ', jobs), 6);
+    let jobs = tail_from(text_after_byte(b' ', tail_from(line, 5)), 3);
+    let shard = tail_from(text_after_byte(b' ', jobs), 6);
     let count = decimal_number(text_before_byte(b' ', jobs));
     if shard.is_empty() {
         Ok(Extent::Choice(count))
@@ -93,7 +93,7 @@ fn shard_of_text(alloc: Global, jobs: u32, text: &[u8]) -> Result<Extent, AllocE
     ensures { IfOk result (λ extent. extent ≡ shard_of_text jobs text.now) }
 {
     let shards = text_after_byte(b'/', text);
-    let stamp = name_or_dash(alloc, skip_bytes(text_after_byte(b' ', shards), 6))?;
+    let stamp = name_or_dash(alloc, tail_from(text_after_byte(b' ', shards), 6))?;
     Ok(Extent::Shard(Shard {
         jobs,
         number: decimal_number(text_before_byte(b'/', text)),

@@ -3,14 +3,14 @@
 ghost use Rattle.std.specs.Prelude.{◌≡◌, ◌++◌, ◌+◌, ◌<◌, ◌^◌, ◌-◌, [], OnOk, OnErr, IfErr, map, option_map};
 ghost use Rattle.std.specs.Prelude.{string_bytes};
 ghost use Rattle.std.specs.Io.KnownBytes.{Appends};
-ghost use Rattle.rv_report.specs.Report.{verdict_name, end_line, dash_if_empty, console_line};
+ghost use Rattle.rv_report.specs.Report.{end_line, dash_if_empty, console_line};
 ghost use Rattle.rv_report.specs.Report.{signature_lines, row_text, rows_text, done_line, report_text};
 ghost use Rattle.rv_base.specs.Sinks.{AppendsBeginning, IsPartlySent};
 ghost use Rattle.rv_base.specs.Counts.{HasRisen};
 ghost use Rattle.rv_base.specs.Counts.{one_more};
 ghost use Rattle.rv_report.specs.declared.report.WriteError.TheVariants.{Failed, OutOfMemory};
 
-use crate::row::{Row, RowEnd, Verdict};
+use crate::row::{Row, RowEnd};
 use crate::signature_lines::{push_word_digits, push_word_lines};
 use rv_base::{Sequence, Sink, SinkFailed, put_all};
 use std::alloc::{AllocError, Global};
@@ -153,12 +153,12 @@ pub(crate) fn push_row(
     let number = place + 1;
     let name = row.name.as_str();
     let steps = row.steps;
-    let verdict = verdict_text(row.verdict);
+    let verdict = row.verdict.name();
     write!(text, "job {number} {name}\n")?;
     push_end_line(alloc, text, row.ending)?;
     write!(text, "steps {steps}\n")?;
-    push_console(alloc, text, row.console.as_slice())?;
-    push_signature(alloc, text, row_signature(row))?;
+    push_console_line(alloc, text, row.console.as_slice())?;
+    push_signature_lines(alloc, text, row_signature(row))?;
     write!(text, "verdict {verdict}\n")
 }
 
@@ -185,7 +185,7 @@ fn push_end_line(alloc: Global, text: &mut String, ending: RowEnd) -> Result<(),
 }
 
 #[tactic(auto, unfolding(crate::specs::Report::console_line))]
-fn push_console(alloc: Global, text: &mut String, console: &[u8]) -> Result<(), AllocError>
+fn push_console_line(alloc: Global, text: &mut String, console: &[u8]) -> Result<(), AllocError>
     ensures { OnOk result (string_bytes text.new
         ≡ string_bytes text.old ++ console_line console.now) }
 {
@@ -210,7 +210,7 @@ fn row_signature(row: &Row) -> Option<&[u32]>
 }
 
 #[tactic(auto, unfolding(crate::specs::Report::signature_lines))]
-fn push_signature(
+fn push_signature_lines(
     alloc: Global,
     text: &mut String,
     signature: Option<&[u32]>,
@@ -226,15 +226,5 @@ fn push_signature(
             push_word_lines(alloc, text, words)
         }
         None => text.push_str("signature -\n"),
-    }
-}
-
-fn verdict_text(verdict: Verdict) -> &'static str
-    ensures { result.now ≡ verdict_name verdict }
-{
-    match verdict {
-        Verdict::Unasked => "none",
-        Verdict::Pass => "pass",
-        Verdict::Fail => "fail",
     }
 }

@@ -3,7 +3,7 @@
 ghost use Rattle.std.specs.Prelude.{◌≡◌, option_map};
 ghost use Rattle.std.specs.List.{find};
 ghost use Rattle.std.specs.Str.{bytes_eq};
-ghost use Rattle.rv_report.specs.Report.{refusal_name, refusal_named};
+ghost use Rattle.rv_report.specs.Report.{refusal_name, refusal_named, verdict_name};
 
 use rv_base::{Bytes, Sequence, Text};
 use rv_elf::ImageError;
@@ -116,6 +116,19 @@ pub enum Verdict {
     Pass,
     /// Something that is expected doesn't hold.
     Fail,
+}
+
+impl Verdict {
+    /// The word for it in a report.
+    pub fn name(self) -> &'static str
+        ensures { result.now ≡ verdict_name self }
+    {
+        match self {
+            Verdict::Unasked => "none",
+            Verdict::Pass => "pass",
+            Verdict::Fail => "fail",
+        }
+    }
 }
 
 /// One job's part of a report. A refused row has 0 steps, no console bytes and no signature.

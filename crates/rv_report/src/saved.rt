@@ -2,7 +2,7 @@
 
 ghost use Rattle.std.specs.Prelude.{◌≡◌, ◌≤◌, length};
 ghost use Rattle.rv_base.specs.Limits.{most_jobs};
-ghost use Rattle.rv_report.specs.Saved.{are_rising, are_evenly_spaced, is_valid_shard, fits_numbers};
+ghost use Rattle.rv_report.specs.Saved.{are_rising, are_evenly_spaced, is_valid_shard, matches_job_numbers};
 
 use crate::report::Rows;
 use rv_base::limits::MOST_JOBS;
@@ -46,23 +46,23 @@ pub struct SavedReport {
 
 impl Extent {
     /// Whether the numbers of jobs, in list order, are those that it has.
-    #[tactic(auto, unfolding(crate::specs::Saved::fits_numbers))]
-    pub fn fits_numbers(&self, numbers: &[u32]) -> bool
+    #[tactic(auto, unfolding(crate::specs::Saved::matches_job_numbers))]
+    pub fn matches_job_numbers(&self, numbers: &[u32]) -> bool
         requires { length numbers.now ≤ most_jobs }
-        ensures { result ≡ fits_numbers self.now numbers.now }
+        ensures { result ≡ matches_job_numbers self.now numbers.now }
     {
         match self {
             Extent::Whole => are_evenly_spaced(1, 1, numbers.len(), numbers),
             Extent::Choice(jobs) => *jobs as usize <= MOST_JOBS && are_rising(0, *jobs, numbers),
-            Extent::Shard(shard) => shard.fits_numbers(numbers),
+            Extent::Shard(shard) => shard.matches_job_numbers(numbers),
         }
     }
 }
 
 impl Shard {
-    #[tactic(auto, unfolding(crate::specs::Saved::fits_numbers))]
-    fn fits_numbers(&self, numbers: &[u32]) -> bool
-        ensures { result ≡ fits_numbers (Extent.Shard self.now) numbers.now }
+    #[tactic(auto, unfolding(crate::specs::Saved::matches_job_numbers))]
+    fn matches_job_numbers(&self, numbers: &[u32]) -> bool
+        ensures { result ≡ matches_job_numbers (Extent.Shard self.now) numbers.now }
     {
         self.is_valid_shard()
             && are_evenly_spaced(

@@ -52,12 +52,12 @@ pub(crate) fn push_extent_line(
     match extent {
         Extent::Whole => push_done_line(text, count),
         Extent::Choice(jobs) => write!(text, "part {count} of {jobs}\n"),
-        Extent::Shard(shard) => push_shard(text, shard, count),
+        Extent::Shard(shard) => push_shard_line(text, shard, count),
     }
 }
 
 #[tactic(auto, unfolding(crate::specs::Saved::extent_line))]
-fn push_shard(text: &mut String, shard: &Shard, count: usize) -> Result<(), AllocError>
+fn push_shard_line(text: &mut String, shard: &Shard, count: usize) -> Result<(), AllocError>
     ensures { OnOk result (string_bytes text.new
         ≡ string_bytes text.old ++ extent_line (Extent.Shard shard.now) count) }
 {

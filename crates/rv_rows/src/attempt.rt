@@ -39,8 +39,8 @@ pub(crate) fn image_file_or_refusal<'a>(
         Kept::Unreadable => return Err(Refusal::ImageUnreadable),
         Kept::TooLong => return Err(Refusal::ImageTooLong),
     };
-    check_reference(reference)?;
-    check_reference(console)?;
+    check_file_was_read(reference)?;
+    check_file_was_read(console)?;
     Ok(file)
 }
 
@@ -60,13 +60,13 @@ pub(crate) fn refusal_of_job(
         (option_map (λ kept. kept.now) console.entry)).ending) }
 {
     match image_file_or_refusal(image, reference, console) {
-        Ok(file) => file_refusal(alloc, job, file),
+        Ok(file) => refusal_over_image(alloc, job, file),
         Err(why) => Ok(Some(why)),
     }
 }
 
 #[tactic(auto, unfolding(crate::specs::Outcome::file_outcome_of))]
-fn file_refusal(alloc: Global, job: &Job, file: &[u8]) -> Result<Option<Refusal>, AllocError>
+fn refusal_over_image(alloc: Global, job: &Job, file: &[u8]) -> Result<Option<Refusal>, AllocError>
     requires { IfSome job.now.signature (λ names. (0 < length names.begin)
         × (0 < length names.end)) }
     ensures { IfOk result
@@ -97,12 +97,12 @@ pub(crate) fn machine_of_job(
         (λ why. start ≡ Err why)) }
 {
     match image_file_or_refusal(image, reference, console) {
-        Ok(file) => file_machine(alloc, job, file),
+        Ok(file) => machine_over_image(alloc, job, file),
         Err(why) => Ok(Err(why)),
     }
 }
 
-fn file_machine(
+fn machine_over_image(
     alloc: Global,
     job: &Job,
     file: &[u8],
@@ -121,13 +121,13 @@ fn file_machine(
     }
 }
 
-// That a reference was read, where one is named.
-fn check_reference(reference: Option<&Kept>) -> Result<(), Refusal>
+// That a file was read, where one is named: the reference, or the one with which the console is compared.
+fn check_file_was_read(file: Option<&Kept>) -> Result<(), Refusal>
     ensures { MatchResult result
-        (λ _. IsOk (reference_or_refusal (option_map (λ kept. kept.now) reference.entry)))
-        (λ why. reference_or_refusal (option_map (λ kept. kept.now) reference.entry) ≡ Err why) }
+        (λ _. IsOk (reference_or_refusal (option_map (λ kept. kept.now) file.entry)))
+        (λ why. reference_or_refusal (option_map (λ kept. kept.now) file.entry) ≡ Err why) }
 {
-    match reference {
+    match file {
         Some(Kept::Unreadable) => Err(Refusal::ReferenceUnreadable),
         Some(Kept::TooLong) => Err(Refusal::ReferenceTooLong),
         Some(Kept::Content(_)) | None => Ok(()),
@@ -136,7 +136,7 @@ fn check_reference(reference: Option<&Kept>) -> Result<(), Refusal>
 
 /// What a job comes to over its image's bytes.
 #[tactic(auto, unfolding(crate::specs::Outcome::file_outcome_of))]
-pub(crate) fn file_attempt(
+pub(crate) fn attempt_over_image(
     alloc: Global,
     job: &Job,
     file: &[u8],

@@ -32,6 +32,6 @@ pub use rv_report::{
 pub use spare_bus::Spare;
 pub use telling::Telling;
 pub use verdict::{
-    are_alike_endings, are_same_outcomes, did_run, expects_anything, has_expected_end,
-    has_expected_exit,
+    are_alike_endings, are_same_outcomes, are_same_signatures, did_run, expects_anything,
+    has_expected_end, has_expected_exit,
 };

@@ -11,7 +11,7 @@ ghost use Rattle.rv_rows.specs.Rows.{content_if_read, expected_console_bytes, na
 ghost use Rattle.rv_rows.specs.Rows.{rows_of, start_in};
 ghost use Rattle.rv_rows.specs.Verdict.{are_same_outcomes, is_same_as_named};
 
-use crate::attempt::{file_attempt, image_file_or_refusal, machine_of_job, refusal_of_job};
+use crate::attempt::{attempt_over_image, image_file_or_refusal, machine_of_job, refusal_of_job};
 use crate::outcome::{Attempt, Outcome};
 use crate::recent_outcomes::{MOST, Recent};
 use crate::spare_bus::Spare;
@@ -94,7 +94,7 @@ fn attempt_at(
 {
     let job = plan.job(i);
     match image_file_or_refusal(plan.image(i), plan.reference(i), plan.console_reference(i)) {
-        Ok(file) => file_attempt(alloc, job, file, spare),
+        Ok(file) => attempt_over_image(alloc, job, file, spare),
         Err(why) => Ok(Attempt::Refused(why)),
     }
 }

@@ -193,11 +193,11 @@ fn has_same_outcome_as_run(outcome: &Outcome, run: &EndedRun) -> bool
     if outcome.console.as_slice() != run.bus.console() {
         return false;
     }
-    run_signature_is(run, &outcome.signature)
+    has_run_signature(run, &outcome.signature)
 }
 
 // Whether the words of a run's signature are these.
-fn run_signature_is(run: &EndedRun, signature: &Option<Words>) -> bool
+fn has_run_signature(run: &EndedRun, signature: &Option<Words>) -> bool
     requires { HasSignature run.now }
     ensures { result ≡ are_same_signatures signature.now (outcome_in_bus run.now).signature }
 {
@@ -222,7 +222,8 @@ pub fn are_alike_endings(ending: RowEnd, other: RowEnd) -> bool
     }
 }
 
-fn are_same_signatures(signature: &Option<Words>, other: &Option<Words>) -> bool
+/// Whether two signatures are the same, or both absent.
+pub fn are_same_signatures(signature: &Option<Words>, other: &Option<Words>) -> bool
     ensures { result ≡ are_same_signatures signature.now other.now }
 {
     match (signature, other) {

@@ -17,7 +17,7 @@ use Rattle.std.proofs.lemmas.Str.{IsUtf8-from_is_utf8, len_utf8_bounds}
 use Rattle.rv_text.specs.declared.xml.Within.{Within}
 use Rattle.rv_text.specs.declared.xml.Within.TheVariants.{Attribute, Element}
 use Rattle.rv_text.specs.Xml.{IsXmlText, behind_xml_front, character_or_escape, character_text, escape, xml_text_from}
-use Rattle.rv_text.specs.Xml.{front_character, xml_front_bytes, xml_front_text, is_xml_character, more_front_bytes, if_xml_character}
+use Rattle.rv_text.specs.Xml.{front_xml_character, xml_front_bytes, xml_front_text, is_xml_character, more_front_bytes, filter_xml_character}
 
 -- what is not UTF-8 is not by the test
 pub is_utf8-false : (bytes : List ℕ) → ¬ (IsUtf8 bytes) → is_utf8 bytes ≡ false
@@ -38,7 +38,7 @@ pub escaped-front : (within : Within) (bytes : List ℕ) → 0 < length bytes �
 unfolding xml_text_from
 escaped-front within [] some = absurd (omega arith)
 escaped-front within (byte ∷ rest) some =
-    let front = front_character (byte ∷ rest) in
+    let front = front_xml_character (byte ∷ rest) in
     rw add-one (ap (λ xs. character_or_escape within byte front ++ xs)
     (xml_text_from-left within (more_front_bytes front) rest))
 
@@ -130,15 +130,15 @@ text_taken within byte c true is below = record {
 text_taken within byte c false is below = text_escape within byte below
 
 text_of_front : (within : Within) (byte : ℕ) (utf8 : Bool) (c : Option ℕ) → byte < 256 →
-    IsXmlText within (character_or_escape within byte (cond utf8 (if_xml_character c) None))
+    IsXmlText within (character_or_escape within byte (cond utf8 (filter_xml_character c) None))
 text_of_front within byte false c below = text_escape within byte below
 text_of_front within byte true None below = text_escape within byte below
 text_of_front within byte true (Some c) below =
     text_taken within byte c (is_xml_character c) refl below
 
 text_front : (within : Within) (byte : ℕ) (bytes : List ℕ) → byte < 256 →
-    IsXmlText within (character_or_escape within byte (front_character bytes))
-unfolding front_character
+    IsXmlText within (character_or_escape within byte (front_xml_character bytes))
+unfolding front_xml_character
 text_front within byte bytes below =
     text_of_front within byte (is_utf8 (xml_front_bytes bytes)) (slice_get (chars (xml_front_bytes bytes)) 0) below
 
@@ -147,7 +147,7 @@ pub text_escaped : (within : Within) (left : ℕ) (bytes : List ℕ) → IsBytes
 unfolding xml_text_from
 text_escaped within left [] are = text_nil within
 text_escaped within zero (byte ∷ rest) are =
-    let front = front_character (byte ∷ rest) in
+    let front = front_xml_character (byte ∷ rest) in
     text_append within (character_or_escape within byte front) (xml_text_from within (more_front_bytes front) rest)
     (text_front within byte (byte ∷ rest) (are 0))
     (text_escaped within (more_front_bytes front) rest (λ i. are (suc i)))

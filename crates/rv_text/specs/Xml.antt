@@ -46,14 +46,14 @@ abbrev pub xml_front_bytes : List ℕ → List ℕ
 xml_front_bytes [] = []
 xml_front_bytes (byte ∷ rest) = take (continuation_len byte + 1) (byte ∷ rest)
 
-abbrev pub if_xml_character : Option ℕ → Option ℕ
-if_xml_character None = None
-if_xml_character (Some c) = if is_xml_character c then Some c else None
+abbrev pub filter_xml_character : Option ℕ → Option ℕ
+filter_xml_character None = None
+filter_xml_character (Some c) = if is_xml_character c then Some c else None
 
 -- the character of XML that bytes begin with, if they begin with one
-unfoldable pub front_character : List ℕ → Option ℕ
-front_character bytes = let front = xml_front_bytes bytes in
-    if is_utf8 front then if_xml_character (slice_get (chars front) 0) else None
+unfoldable pub front_xml_character : List ℕ → Option ℕ
+front_xml_character bytes = let front = xml_front_bytes bytes in
+    if is_utf8 front then filter_xml_character (slice_get (chars front) 0) else None
 
 -- a byte that is of none
 abbrev pub escape : ℕ → List ℕ
@@ -73,7 +73,7 @@ more_front_bytes None = 0
 -- the bytes of which so many are still of the character before them
 unfoldable pub xml_text_from : Within → ℕ → List ℕ → List ℕ
 xml_text_from within left [] = []
-xml_text_from within zero (byte ∷ rest) = let front = front_character (byte ∷ rest) in
+xml_text_from within zero (byte ∷ rest) = let front = front_xml_character (byte ∷ rest) in
     character_or_escape within byte front ++ xml_text_from within (more_front_bytes front) rest
 xml_text_from within (suc left) (byte ∷ rest) = xml_text_from within left rest
 
@@ -84,10 +84,10 @@ xml_text within bytes = xml_text_from within 0 bytes
 -- ---- the piece in front: a character or one byte
 
 abbrev pub xml_front_text : Within → List ℕ → List ℕ
-xml_front_text within bytes = character_or_escape within (slice_index bytes 0) (front_character bytes)
+xml_front_text within bytes = character_or_escape within (slice_index bytes 0) (front_xml_character bytes)
 
 abbrev pub behind_xml_front : List ℕ → List ℕ
-behind_xml_front bytes = drop (more_front_bytes (front_character bytes) + 1) bytes
+behind_xml_front bytes = drop (more_front_bytes (front_xml_character bytes) + 1) bytes
 
 -- ---- what can stand in a document
 

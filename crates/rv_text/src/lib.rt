@@ -16,7 +16,7 @@ mod xml;
 
 pub use law::escaped_bytes_are_xml;
 pub use printable::{VALUE_ROOM, push_printable_text, push_printable_value};
-pub use slices::{met_and_expected_from, tail_from};
+pub use slices::{byte_at, met_and_expected_from, tail_from};
 pub use spans::{Span, push_spans, text_of_spans};
 pub use symbol::{push_symbol, push_symbol_in_brackets};
 pub use text_and_numbers::{push_number, push_text, push_word_digits};

@@ -1,11 +1,11 @@
 //! Text that comes from files, as it is shown to a person.
 
-ghost use Rattle.std.specs.Prelude.{◌≡◌, ◌<◌, ◌≤◌, ◌+◌, ◌++◌, IfOk, OnOk, length};
-ghost use Rattle.std.specs.Str.{continuation_len, is_utf8};
+ghost use Rattle.std.specs.Prelude.{◌≡◌, ◌<◌, ◌≤◌, ◌++◌, IfOk, OnOk, length};
+ghost use Rattle.std.specs.Str.{is_utf8};
 ghost use Rattle.rv_text.specs.Printable.{behind_printable_front, escape, front_width, front_character_bytes, printable_front, begins_with_control};
 ghost use Rattle.rv_text.specs.Printable.{plain_front_len, printable_text, printable_value};
 
-use crate::slices::{byte_at, tail_from};
+use crate::slices::{byte_at, char_len, tail_from};
 use std::alloc::AllocError;
 
 /// Appends a text as it is shown: characters as they are, and each byte of a control character and of what is no
@@ -97,21 +97,6 @@ fn is_utf8(text: &[u8]) -> bool
     match str::from_utf8(text) {
         Ok(_) => true,
         Err(_) => false,
-    }
-}
-
-// How many bytes the character has which a byte begins.
-fn char_len(first: u8) -> usize
-    ensures { result ≡ continuation_len first + 1 }
-{
-    if first < 0x80 {
-        1
-    } else if first < 0xE0 {
-        2
-    } else if first < 0xF0 {
-        3
-    } else {
-        4
     }
 }
 

@@ -1,9 +1,10 @@
 //! Parts of texts.
 
-ghost use Rattle.std.specs.Prelude.{◌≡◌, drop, slice_index};
+ghost use Rattle.std.specs.Prelude.{◌≡◌, ◌+◌, drop, slice_index};
+ghost use Rattle.std.specs.Str.{continuation_len};
 
 /// The byte at a place, or 0 behind the end.
-pub(crate) fn byte_at(text: &[u8], place: usize) -> u8
+pub fn byte_at(text: &[u8], place: usize) -> u8
     ensures { result ≡ slice_index text.now place }
 {
     if place < text.len() { text[place] } else { 0 }
@@ -17,6 +18,21 @@ pub fn tail_from(text: &[u8], count: usize) -> &[u8]
         &text[count..]
     } else {
         &text[text.len()..]
+    }
+}
+
+/// How many bytes the character has which a byte begins.
+pub(crate) fn char_len(first: u8) -> usize
+    ensures { result ≡ continuation_len first + 1 }
+{
+    if first < 0x80 {
+        1
+    } else if first < 0xE0 {
+        2
+    } else if first < 0xF0 {
+        3
+    } else {
+        4
     }
 }
 

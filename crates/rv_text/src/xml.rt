@@ -1,10 +1,10 @@
 //! Text as XML 1.0 takes it.
 
-ghost use Rattle.std.specs.Prelude.{◌≡◌, ◌<◌, ◌≤◌, ◌+◌, ◌++◌, IfOk, OnOk, drop, length, option_map, string_bytes};
-ghost use Rattle.std.specs.Str.{continuation_len};
-ghost use Rattle.rv_text.specs.Xml.{behind_xml_front, character_text, escape, xml_text, front_character, xml_front_bytes};
-ghost use Rattle.rv_text.specs.Xml.{xml_front_text, is_xml_character, character_reference, if_xml_character};
+ghost use Rattle.std.specs.Prelude.{◌≡◌, ◌<◌, ◌≤◌, ◌++◌, IfOk, OnOk, length, option_map, string_bytes};
+ghost use Rattle.rv_text.specs.Xml.{behind_xml_front, character_text, escape, xml_text, front_xml_character, xml_front_bytes};
+ghost use Rattle.rv_text.specs.Xml.{xml_front_text, is_xml_character, character_reference, filter_xml_character};
 
+use crate::slices::{char_len, tail_from};
 use std::alloc::{AllocError, Global};
 
 /// Where in a document a text stands.
@@ -47,41 +47,30 @@ fn push_xml_front<'a>(
     ensures behind { IfOk result (λ rest. rest.now ≡ behind_xml_front bytes.now) }
     ensures shorter { IfOk result (λ rest. length rest.now < length bytes.now) }
 {
-    match front_character(bytes) {
+    match front_xml_character(bytes) {
         Some(character) => {
             push_character(text, within, character)?;
-            Ok(bytes_behind(bytes, character.len_utf8()))
+            Ok(tail_from(bytes, character.len_utf8()))
         }
         None => {
             push_escape(alloc, text, bytes[0])?;
-            Ok(bytes_behind(bytes, 1))
+            Ok(tail_from(bytes, 1))
         }
-    }
-}
-
-// What stands behind the first bytes: nothing where there are no more.
-fn bytes_behind(bytes: &[u8], count: usize) -> &[u8]
-    ensures { result.now ≡ drop count bytes.now }
-{
-    if count < bytes.len() {
-        &bytes[count..]
-    } else {
-        &bytes[bytes.len()..]
     }
 }
 
 // The character of XML that stands in front, if one does.
-fn front_character(bytes: &[u8]) -> Option<char>
-    ensures { result ≡ front_character bytes.now }
+fn front_xml_character(bytes: &[u8]) -> Option<char>
+    ensures { result ≡ front_xml_character bytes.now }
 {
     match str::from_utf8(xml_front_bytes(bytes)) {
-        Ok(front) => if_xml_character(front.chars().next()),
+        Ok(front) => filter_xml_character(front.chars().next()),
         Err(_) => None,
     }
 }
 
-fn if_xml_character(character: Option<char>) -> Option<char>
-    ensures { result ≡ if_xml_character character }
+fn filter_xml_character(character: Option<char>) -> Option<char>
+    ensures { result ≡ filter_xml_character character }
 {
     match character {
         Some(character) if is_xml_character(character) => Some(character),
@@ -101,21 +90,6 @@ fn xml_front_bytes(bytes: &[u8]) -> &[u8]
         &bytes[..len]
     } else {
         bytes
-    }
-}
-
-// How many bytes the character has which a byte begins.
-fn char_len(first: u8) -> usize
-    ensures { result ≡ continuation_len first + 1 }
-{
-    if first < 0x80 {
-        1
-    } else if first < 0xE0 {
-        2
-    } else if first < 0xF0 {
-        3
-    } else {
-        4
     }
 }
 

@@ -40,7 +40,7 @@ pub fn trace_run(
     let mut machine = machine;
     let shown = steps.min(last);
     let _ = machine.run(steps - shown);
-    let steps = steps_from(alloc, &mut machine, shown)?;
+    let steps = trace_next_steps(alloc, &mut machine, shown)?;
     let pc = machine.pc();
     Ok(Trace {
         steps: TracedSteps::new(steps),
@@ -70,7 +70,7 @@ pub fn trace_job(
 }
 
 // The next instructions, as far as they complete.
-fn steps_from(
+fn trace_next_steps(
     alloc: Global,
     machine: &mut Machine,
     count: u32,

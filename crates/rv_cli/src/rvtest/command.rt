@@ -5,9 +5,9 @@ ghost use Rattle.clap.specs.Words.{App, app_of, new_app};
 ghost use Rattle.clap.specs.declared.builder.command.Command.TheViews.{out-Command};
 ghost use Rattle.rv_cli.specs.CommandBuilder.{HasApp, IsBuilt};
 ghost use Rattle.rv_cli.specs.RvtestCommand.{subcommand_app, merge_app, test_run_app, test_app};
-ghost use Rattle.rv_cli.specs.RvtestCommand.{test_top_app, with_commands};
+ghost use Rattle.rv_cli.specs.RvtestCommand.{test_top_app, with_subcommands};
 
-use crate::command_builder::{Built, with_command};
+use crate::command_builder::{Built, with_subcommand};
 use crate::rvtest::arguments::{Argument, with_arguments};
 use crate::rvtest::table::{COMMANDS, MERGE, RUN};
 use clap::Command;
@@ -27,7 +27,7 @@ pub(crate) struct Subcommand<'a> {
 pub(crate) fn test_command<'a>(alloc: Global) -> Result<Command<'a>, AllocError>
     ensures { IfOk result (λ command. app_of command ≡ test_app) }
 {
-    with_commands(alloc, top_command(alloc), &COMMANDS)
+    with_subcommands(alloc, top_command(alloc), &COMMANDS)
 }
 
 fn top_command<'a>(alloc: Global) -> Built<'a>
@@ -42,13 +42,13 @@ fn top_command<'a>(alloc: Global) -> Built<'a>
 }
 
 // A command with these below it more, in their order.
-fn with_commands<'a>(alloc: Global, command: Built<'a>, stated: &[Subcommand<'a>]) -> Built<'a>
+fn with_subcommands<'a>(alloc: Global, command: Built<'a>, stated: &[Subcommand<'a>]) -> Built<'a>
     ensures { (app : App) → HasApp app command.entry
-        → HasApp (with_commands app stated.now) result }
+        → HasApp (with_subcommands app stated.now) result }
 {
     let mut command = command;
     for below in stated {
-        command = with_command(command, subcommand_of_table(alloc, below));
+        command = with_subcommand(command, subcommand_of_table(alloc, below));
     }
     command
 }

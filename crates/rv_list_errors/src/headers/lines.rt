@@ -69,12 +69,12 @@ pub fn line_and_column(text: &[u8], count: usize) -> Place
     let before = &text[..count.min(text.len())];
     Place {
         line: line_feed_count(before) + 1,
-        column: characters_of_last_line(before) + 1,
+        column: character_count_of_last_line(before) + 1,
     }
 }
 
 // How many characters stand behind the last line feed.
-fn characters_of_last_line(text: &[u8]) -> usize
+fn character_count_of_last_line(text: &[u8]) -> usize
     ensures { result ≤ length text.now }
 {
     let mut count = 0;

@@ -18,12 +18,12 @@ returns-clause-text c =
     let counted = c.in_ok-gone.ensures.count in
     let added = c.in_ok-added.ensures.added in
     let changed = c.in_ok-added.ensures.changed in
-    more begun c.push_added_and_changed.new.text.items c.push_count_line.new.text.items (gone ++ others)
+    more begun c.push_added_and_changed_lines.new.text.items c.push_count_line.new.text.items (gone ++ others)
     (count_line (length new + counts.gone) counts)
-    (more begun c.push_gone_lines.new.text.items c.push_added_and_changed.new.text.items gone others c.in_ok-gone.ensures.text
+    (more begun c.push_gone_lines.new.text.items c.push_added_and_changed_lines.new.text.items gone others c.in_ok-gone.ensures.text
     c.in_ok-added.ensures.text)
     (c.in_ok-push_count_line.ensures
-    ∙ (λ i. c.push_added_and_changed.new.text.items
+    ∙ (λ i. c.push_added_and_changed_lines.new.text.items
     ++ count_line (length new + counted i) (record { gone = counted i; added = added i; changed = changed i })))
 
 pub returns-clause-counts : goal.returns-clause-counts

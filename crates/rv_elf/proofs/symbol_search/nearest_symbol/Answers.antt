@@ -3,8 +3,8 @@ use Rattle.rv_elf.proofs.Naming.{header_there}
 use Rattle.rv_elf.proofs.Standing.{no_tables, by_nearest, by_name}
 use Rattle.rv_elf.proofs.symbol_search.nearest_symbol.Goals as goal
 
-pub symbol_tables-requires : goal.symbol_tables-requires
-symbol_tables-requires c = header_there c.args.file.now c.args.image.now c.requires.image
+pub symbol_and_string_bytes-requires : goal.symbol_and_string_bytes-requires
+symbol_and_string_bytes-requires c = header_there c.args.file.now c.args.image.now c.requires.image
 
 pub returns-in_default : goal.returns-in_default
 returns-in_default c =

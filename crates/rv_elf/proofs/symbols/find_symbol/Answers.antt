@@ -3,8 +3,8 @@ use Rattle.std.proofs.lemmas.Result.{err_from_is_err_and}
 use Rattle.rv_elf.proofs.Naming.{header_there, name_refused, name_looked_up}
 use Rattle.rv_elf.proofs.symbols.find_symbol.Goals as goal
 
-pub symbol_tables-requires : goal.symbol_tables-requires
-symbol_tables-requires c = header_there c.args.file.now c.args.image.now c.requires.image
+pub symbol_and_string_bytes-requires : goal.symbol_and_string_bytes-requires
+symbol_and_string_bytes-requires c = header_there c.args.file.now c.args.image.now c.requires.image
 
 pub returns-in_err-table : goal.returns-in_err-table
 returns-in_err-table c =
