@@ -1,4 +1,5 @@
 pub mod Pieces
+pub mod PrintableTexts
 pub mod Appended
 pub mod XmlTexts
 pub mod XmlCharacters

@@ -1,10 +1,11 @@
 -- Text that comes from files, as it is shown to a person: characters as they are; control characters,
 -- and bytes that are of no character, each byte as a backslash, an x and two lower-case hexadecimal
 -- digits.
-use Rattle.std.specs.Prelude.{◌==◌, ◌&&◌, ◌||◌, ◌+◌, ◌-◌, ℕ, zero, suc, Bool, List, [], ◌∷◌, ◌++◌}
+use Rattle.std.specs.Prelude.{◌≡◌, ◌==◌, ◌&&◌, ◌||◌, ◌+◌, ◌-◌, ℕ, zero, suc, Bool, false, List, [], ◌∷◌, ◌++◌}
 use Rattle.std.specs.Prelude.{if◌then◌else◌, nat_lt, not, codes, drop, length, take, slice_index}
-use Rattle.rv_text.specs.declared.printable.TheConstants.{VALUE_ROOM}
-use Rattle.std.specs.Str.{continuation_len, is_utf8}
+use Rattle.std.specs.Char.{is_control}
+use Rattle.std.specs.List.{All}
+use Rattle.std.specs.Str.{IsUtf8, chars, continuation_len, is_utf8}
 use Rattle.hex.specs.Hex.{encode_lower}
 
 -- whether a control character stands in front: below U+0020, U+007F, or U+0080 to U+009F, of which
@@ -56,9 +57,13 @@ printable_within room zero (byte ∷ rest) =
     ++ printable_within (room - front_width (byte ∷ rest)) (plain_front_len (byte ∷ rest) - 1) rest
 printable_within room (suc left) (byte ∷ rest) = byte ∷ printable_within room left rest
 
+-- how many characters of a value are shown at most
+abbrev pub most_shown_characters : ℕ
+most_shown_characters = 80
+
 -- a value that was met or is expected, as it is shown
 abbrev pub printable_value : List ℕ → List ℕ
-printable_value text = printable_within VALUE_ROOM 0 text
+printable_value text = printable_within most_shown_characters 0 text
 
 -- ---- the piece in front: a character that is shown as it is, or one byte
 
@@ -68,3 +73,10 @@ printable_front text =
 
 abbrev pub behind_printable_front : List ℕ → List ℕ
 behind_printable_front text = if plain_front_len text == 0 then drop 1 text else drop (plain_front_len text) text
+
+-- ---- what a terminal takes as text
+
+-- UTF-8 of which no character is a control character
+pub record IsUtf8WithoutControls (text : List ℕ) : Type 0 where
+  pub utf8 : IsUtf8 text
+  pub without_controls : All (λ character. is_control character ≡ false) (chars text)

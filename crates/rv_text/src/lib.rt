@@ -1,9 +1,9 @@
 //! Bytes as people and tools read them.
 //!
 //! [`push_spans`] appends what a line is put together from: text, numbers, words, and text from files. [`push_printable_text`] shows such
-//! text, so that a terminal takes it as text: control characters and bytes of no character as `\xNN`. [`push_xml_text`]
-//! appends bytes as XML 1.0 takes them, so that none of them is markup, and only characters of XML stand there, whatever the
-//! bytes are ([`escaped_bytes_are_xml`]).
+//! text so that a terminal takes it as text: control characters and bytes of no character as `\xNN`. What is shown is UTF-8 without a
+//! control character, whatever the bytes are ([`printable_text_is_utf8_without_controls`]). [`push_xml_text`] appends bytes as XML 1.0
+//! takes them, so that none of them is markup, and only characters of XML stand there ([`escaped_bytes_are_xml`]).
 #![tactic(auto)]
 
 mod law;
@@ -14,7 +14,7 @@ mod symbol;
 mod text_and_numbers;
 mod xml;
 
-pub use law::escaped_bytes_are_xml;
+pub use law::{escaped_bytes_are_xml, printable_text_is_utf8_without_controls};
 pub use printable::{VALUE_ROOM, push_printable_text, push_printable_value};
 pub use slices::{byte_at, met_and_expected_from, tail_from};
 pub use spans::{Span, push_spans, text_of_spans};
