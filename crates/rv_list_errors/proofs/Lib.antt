@@ -1,2 +1,3 @@
 pub mod Counting
+pub mod JobTurns
 pub mod OneMore

@@ -1,3 +1,5 @@
 pub mod Places
+pub mod JobPlaces
+pub mod Steps
 pub mod Lines
 pub mod NearestJob

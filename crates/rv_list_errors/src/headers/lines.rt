@@ -1,9 +1,9 @@
 //! The lines of places in a text.
 
-ghost use Rattle.std.specs.Prelude.{◌≡◌, ◌≤◌, ◌<◌, count_by, length};
-ghost use Rattle.std.specs.List.{All};
+ghost use Rattle.std.specs.Prelude.{◌≡◌, ◌≤◌, ◌<◌, ◌-◌, [], ◌∷◌, ◌++◌, OnOk, count_by, length, max};
+ghost use Rattle.std.specs.List.{All, after_last};
 ghost use Rattle.std.specs.List.Sorted.{IsNonDecreasing};
-ghost use Rattle.rv_list_errors.specs.Places.{is_feed, line_at, text_line_count};
+ghost use Rattle.rv_list_errors.specs.Places.{begins_character, column_at, is_feed, line_at, text_line_count};
 
 use std::alloc::{AllocError, Global};
 
@@ -23,7 +23,9 @@ pub(crate) struct Lines<'a> {
 
 impl<'a> Lines<'a> {
     pub(crate) fn new(alloc: Global, text: &'a str) -> Lines<'a>
-        ensures { result.text.now ≡ text.now }
+        ensures text { result.text.now ≡ text.now }
+        ensures counted { result.counted ≡ 0 }
+        ensures noted { result.noted.items ≡ [] }
     {
         Lines {
             text: text.as_bytes(),
@@ -35,7 +37,10 @@ impl<'a> Lines<'a> {
 
     /// Notes the line of the place behind which so many bytes are left, or where the last one stands if that is behind it.
     pub(crate) fn note_line(&mut self, left: usize) -> Result<(), AllocError>
-        ensures { self.new.text.now ≡ self.old.text.now }
+        ensures text { self.new.text.now ≡ self.old.text.now }
+        ensures counted { self.new.counted ≡ max (length self.old.text.now - left) self.old.counted }
+        ensures noted { OnOk result (self.new.noted.items
+            ≡ self.old.noted.items ++ line_at self.new.counted self.old.text.now ∷ []) }
     {
         let place = self.text.len().saturating_sub(left).max(self.counted);
         let line = self.line + line_feed_count(&self.text[self.counted..place]);
@@ -46,6 +51,7 @@ impl<'a> Lines<'a> {
     }
 
     pub(crate) fn into_line_numbers(self) -> Vec<usize>
+        ensures lines { result.items ≡ self.entry.noted.items }
         ensures rising { IsNonDecreasing result.items }
         ensures within { All (λ line. (0 < line) × (line ≤ text_line_count self.entry.text.now))
             result.items }
@@ -64,7 +70,8 @@ pub struct Place {
 
 /// The place behind so many bytes of a text, or behind all of them.
 pub fn line_and_column(text: &[u8], count: usize) -> Place
-    ensures { result.line ≡ line_at count text.now }
+    ensures line { result.line ≡ line_at count text.now }
+    ensures column { result.column ≡ column_at count text.now }
 {
     let before = &text[..count.min(text.len())];
     Place {
@@ -75,7 +82,8 @@ pub fn line_and_column(text: &[u8], count: usize) -> Place
 
 // How many characters stand behind the last line feed.
 fn character_count_of_last_line(text: &[u8]) -> usize
-    ensures { result ≤ length text.now }
+    ensures characters { result ≡ count_by begins_character (after_last is_feed text.now) }
+    ensures within { result ≤ length text.now }
 {
     let mut count = 0;
     for byte in text {

@@ -1,10 +1,15 @@
 //! A walk over the headers and entries of a text.
 
-ghost use Rattle.std.specs.Prelude.{◌≡◌, ◌≤◌, ◌<◌, IfOk, length, slice_index};
+ghost use Rattle.std.specs.Prelude.{◌≡◌, ◌≤◌, ◌<◌, ◌+◌, ◌++◌, IfOk, drop, if◌then◌else◌, length, map, option_map, slice_index};
 ghost use Rattle.std.specs.List.{All};
 ghost use Rattle.std.specs.List.Sorted.{IsNonDecreasing};
 ghost use Rattle.toml_parser.specs.Lexical.{left_bracket};
+ghost use Rattle.toml_parser.specs.Reading.{Reads};
+ghost use Rattle.toml_parser.specs.Strings.{key};
+ghost use Rattle.toml.specs.Parse.{skip_bom};
+ghost use Rattle.rv_list_errors.specs.JobPlaces as spec;
 ghost use Rattle.rv_list_errors.specs.Places.{text_line_count};
+ghost use Rattle.rv_list_errors.specs.Steps.{GivesStep, GivesText, UnlessMemory};
 
 use crate::headers::lines::Lines;
 use crate::headers::values::{skip_blank_lines, skip_value};
@@ -15,6 +20,7 @@ use toml_parser::{ErrorKind, ParseError, dotted_key};
 /// The line, counted from 1, on which each job of a list begins: that of its header, or where the list is an array that of
 /// the element. A text that is no TOML is walked over up to where no header, entry or element stands.
 pub fn job_line_numbers(alloc: Global, text: &str) -> Result<Vec<usize>, AllocError>
+    ensures lines { IfOk result (λ lines. lines.items ≡ spec.job_lines text.now) }
     ensures rising { IfOk result (λ lines. IsNonDecreasing lines.items) }
     ensures within { IfOk result (λ lines. All
         (λ line. (0 < line) × (line ≤ text_line_count text.now)) lines.items) }
@@ -27,7 +33,10 @@ pub fn job_line_numbers(alloc: Global, text: &str) -> Result<Vec<usize>, AllocEr
 }
 
 // The text behind a byte order mark, if it begins with one.
-fn skip_byte_order_mark(text: &str) -> &str {
+fn skip_byte_order_mark(text: &str) -> &str
+    ensures text { result.now ≡ skip_bom text.now }
+    ensures within { length result.now ≤ length text.now }
+{
     text.strip_prefix('\u{feff}').unwrap_or(text)
 }
 
@@ -50,7 +59,10 @@ struct Step<'a> {
 }
 
 fn note_job_lines(alloc: Global, text: &str, lines: &mut Lines<'_>) -> Result<(), ParseError>
-    ensures { lines.new.text.now ≡ lines.old.text.now }
+    requires { lines.old.counted + length text.now ≤ length lines.old.text.now }
+    ensures text { lines.new.text.now ≡ lines.old.text.now }
+    ensures noted { UnlessMemory result (lines.new.noted.items ≡ lines.old.noted.items
+        ++ map (spec.line_of_rest lines.old.text.now) (spec.jobs_of_text text.now)) }
 {
     let mut here = skip_blank_lines(text);
     let mut what = Next::Top;
@@ -65,8 +77,10 @@ fn note_job_lines(alloc: Global, text: &str, lines: &mut Lines<'_>) -> Result<()
     Ok(())
 }
 
+#[tactic(auto, unfolding(crate::specs::JobPlaces::step))]
 fn scan_step(alloc: Global, text: &str, next: Next) -> Result<Step<'_>, ParseError>
-    ensures { IfOk result (λ step. length step.rest.now < length text.now) }
+    ensures step { GivesStep result (spec.step next text.now) }
+    ensures shorter { IfOk result (λ step. length step.rest.now < length text.now) }
 {
     match next {
         Next::Element => scan_element(alloc, text),
@@ -76,8 +90,10 @@ fn scan_step(alloc: Global, text: &str, next: Next) -> Result<Step<'_>, ParseErr
 }
 
 // At an element, or at the bracket behind the last one.
+#[tactic(auto, unfolding(crate::specs::JobPlaces::element))]
 fn scan_element(alloc: Global, text: &str) -> Result<Step<'_>, ParseError>
-    ensures { IfOk result (λ step. length step.rest.now < length text.now) }
+    ensures step { GivesStep result (spec.element text.now) }
+    ensures shorter { IfOk result (λ step. length step.rest.now < length text.now) }
 {
     if first(text) == b']' {
         return Ok(Step {
@@ -96,45 +112,57 @@ fn scan_element(alloc: Global, text: &str) -> Result<Step<'_>, ParseError>
 
 fn scan_header(alloc: Global, text: &str) -> Result<Step<'_>, ParseError>
     requires { slice_index text.now 0 ≡ left_bracket }
-    ensures { IfOk result (λ step. length step.rest.now < length text.now) }
+    ensures step { GivesStep result (spec.header text.now) }
+    ensures shorter { IfOk result (λ step. length step.rest.now < length text.now) }
 {
-    let (header, inside) = if byte_at(text, 1) == b'[' {
-        (Header::Element, skip(text, 2))
+    if byte_at(text, 1) == b'[' {
+        scan_array_header(alloc, skip(text, 2))
     } else {
-        (Header::Table, skip(text, 1))
-    };
-    let (is_job, rest) = scan_key(alloc, skip_ws(inside))?;
-    let rest = skip_closing_brackets(rest, header)?;
-    Ok(Step {
-        is_job: is_job && matches!(header, Header::Element),
-        next: Next::Table,
-        rest: skip_line_end(rest),
-    })
+        scan_table_header(alloc, skip(text, 1))
+    }
 }
 
-// What a header begins.
-#[derive(Clone, Copy)]
-enum Header {
-    // A table, between single brackets.
-    Table,
-    // An element of an array of tables, between double brackets.
-    Element,
-}
-
-// The text behind the brackets that close a header.
-fn skip_closing_brackets(text: &str, header: Header) -> Result<&str, ParseError>
-    ensures { IfOk result (λ rest. length rest.now < length text.now) }
+// Behind the brackets that open the header of an element of an array of tables.
+#[tactic(auto, unfolding(crate::specs::JobPlaces::array_header))]
+fn scan_array_header(alloc: Global, inside: &str) -> Result<Step<'_>, ParseError>
+    ensures step { GivesStep result (spec.array_header inside.now) }
+    ensures shorter { IfOk result (λ step. length step.rest.now < length inside.now) }
 {
-    match header {
-        Header::Table if first(text) == b']' => Ok(skip(text, 1)),
-        Header::Element if first(text) == b']' && byte_at(text, 1) == b']' => Ok(skip(text, 2)),
-        _ => Err(ParseError::at(ErrorKind::UnclosedTable, text)),
+    let (is_job, rest) = scan_key(alloc, skip_ws(inside))?;
+    if first(rest) == b']' && byte_at(rest, 1) == b']' {
+        Ok(Step {
+            is_job,
+            next: Next::Table,
+            rest: skip_line_end(skip(rest, 2)),
+        })
+    } else {
+        Err(ParseError::at(ErrorKind::UnclosedTable, rest))
+    }
+}
+
+// Behind the bracket that opens the header of a table.
+#[tactic(auto, unfolding(crate::specs::JobPlaces::table_header))]
+fn scan_table_header(alloc: Global, inside: &str) -> Result<Step<'_>, ParseError>
+    ensures step { GivesStep result (spec.table_header inside.now) }
+    ensures shorter { IfOk result (λ step. length step.rest.now < length inside.now) }
+{
+    let (_, rest) = scan_key(alloc, skip_ws(inside))?;
+    if first(rest) == b']' {
+        Ok(Step {
+            is_job: false,
+            next: Next::Table,
+            rest: skip_line_end(skip(rest, 1)),
+        })
+    } else {
+        Err(ParseError::at(ErrorKind::UnclosedTable, rest))
     }
 }
 
 // At the top, an array of `job` is the list: its elements come next.
+#[tactic(auto, unfolding(crate::specs::JobPlaces::entry))]
 fn scan_entry(alloc: Global, text: &str, next: Next) -> Result<Step<'_>, ParseError>
-    ensures { IfOk result (λ step. length step.rest.now < length text.now) }
+    ensures step { GivesStep result (spec.entry next text.now) }
+    ensures shorter { IfOk result (λ step. length step.rest.now < length text.now) }
 {
     let (is_job, rest) = scan_key(alloc, text)?;
     let value = skip_equals_sign(rest);
@@ -154,8 +182,10 @@ fn scan_entry(alloc: Global, text: &str, next: Next) -> Result<Step<'_>, ParseEr
 }
 
 // The value of an entry; nothing where no sign parts it from the key.
+#[tactic(auto, unfolding(crate::specs::JobPlaces::behind_equals))]
 fn skip_equals_sign(text: &str) -> &str
-    ensures { length result.now ≤ length text.now }
+    ensures text { result.now ≡ spec.behind_equals text.now }
+    ensures within { length result.now ≤ length text.now }
 {
     if first(text) == b'=' {
         skip_ws(skip(text, 1))
@@ -165,8 +195,10 @@ fn skip_equals_sign(text: &str) -> &str
 }
 
 // The next element, or the bracket behind the last one.
+#[tactic(auto, unfolding(crate::specs::JobPlaces::behind_comma))]
 fn skip_comma(text: &str) -> &str
-    ensures { length result.now ≤ length text.now }
+    ensures text { result.now ≡ spec.behind_comma text.now }
+    ensures within { length result.now ≤ length text.now }
 {
     let rest = skip_blank_lines(text);
     if first(rest) == b',' {
@@ -177,8 +209,10 @@ fn skip_comma(text: &str) -> &str
 }
 
 // The next header or entry; nothing where the line does not end with a comment or nothing more.
+#[tactic(auto, unfolding(crate::specs::JobPlaces::behind_line))]
 fn skip_line_end(text: &str) -> &str
-    ensures { length result.now ≤ length text.now }
+    ensures text { result.now ≡ spec.behind_line text.now }
+    ensures within { length result.now ≤ length text.now }
 {
     let end = skip_ws(text);
     if matches!(first(end), b'#' | b'\n' | b'\r') {
@@ -190,7 +224,9 @@ fn skip_line_end(text: &str) -> &str
 
 // Whether a key is `job`, and the text behind it. The key itself ends here, so that it is alive at no other way out.
 fn scan_key(alloc: Global, text: &str) -> Result<(bool, &str), ParseError>
-    ensures { IfOk result (λ found. length found.1.now < length text.now) }
+    ensures key { Reads (λ is_job. is_job) result
+        (option_map (λ name. (spec.is_job name.0, name.1)) (key text.now)) }
+    ensures shorter { IfOk result (λ found. length found.1.now < length text.now) }
 {
     let (key, rest) = dotted_key(alloc, text)?;
     Ok((key.path.is_empty() && key.last.as_str() == "job", rest))

@@ -1,6 +1,10 @@
 //! What stands behind a value.
 
-ghost use Rattle.std.specs.Prelude.{◌≡◌, ◌<◌, ◌≤◌, IfOk, IsTrue, length, slice_index};
+ghost use Rattle.std.specs.Prelude.{◌≡◌, ◌-◌, ◌^◌, ◌<◌, ◌≤◌, IfOk, length, min, slice_index, suc};
+ghost use Rattle.rv_list_errors.specs.JobPlaces.{behind_brackets, behind_string_or_word, behind_token, behind_value};
+ghost use Rattle.toml_parser.specs.Lexical.{skip_blank as behind_blank};
+ghost use Rattle.rv_list_errors.specs.JobPlaces.{behind_word, depth_behind, is_in_word, is_opening};
+ghost use Rattle.rv_list_errors.specs.Steps.{GivesText};
 
 use std::alloc::Global;
 use toml_parser::bytes::is_word;
@@ -8,8 +12,10 @@ use toml_parser::text::{byte_at, first, skip, skip_blank};
 use toml_parser::{ErrorKind, ParseError, quoted, starts_string};
 
 /// The text behind a value.
+#[tactic(auto, unfolding(crate::specs::JobPlaces::behind_value))]
 pub(crate) fn skip_value(alloc: Global, text: &str) -> Result<&str, ParseError>
-    ensures { IfOk result (λ rest. length rest.now < length text.now) }
+    ensures value { GivesText result (behind_value text.now) }
+    ensures shorter { IfOk result (λ rest. length rest.now < length text.now) }
 {
     if matches!(first(text), b'[' | b'{') {
         skip_brackets(alloc, text)
@@ -20,7 +26,8 @@ pub(crate) fn skip_value(alloc: Global, text: &str) -> Result<&str, ParseError>
 
 // The text behind an array or an inline table: behind the bracket that leaves none open.
 fn skip_brackets(alloc: Global, text: &str) -> Result<&str, ParseError>
-    ensures { IfOk result (λ rest. length rest.now < length text.now) }
+    ensures value { GivesText result (behind_brackets (suc (length text.now)) 0 text.now) }
+    ensures shorter { IfOk result (λ rest. length rest.now < length text.now) }
 {
     let mut rest = text;
     let mut depth = 0usize;
@@ -36,13 +43,16 @@ fn skip_brackets(alloc: Global, text: &str) -> Result<&str, ParseError>
 
 // The text behind blanks, line ends and comments.
 pub(crate) fn skip_blank_lines(text: &str) -> &str
-    ensures { length result.now ≤ length text.now }
+    ensures rest { result.now ≡ behind_blank text.now }
+    ensures within { length result.now ≤ length text.now }
 {
     skip_blank(text, true)
 }
 
 // How many brackets are open behind a byte.
-fn bracket_depth_after(depth: usize, byte: u8) -> usize {
+fn bracket_depth_after(depth: usize, byte: u8) -> usize
+    ensures { result ≡ min (depth_behind depth byte) (2 ^ 64 - 1) }
+{
     match byte {
         b'[' | b'{' => depth.saturating_add(1),
         b']' | b'}' => depth.saturating_sub(1),
@@ -51,8 +61,10 @@ fn bracket_depth_after(depth: usize, byte: u8) -> usize {
 }
 
 // The text behind a sign, a string or a word.
+#[tactic(auto, unfolding(crate::specs::JobPlaces::behind_token))]
 fn skip_token(alloc: Global, text: &str) -> Result<&str, ParseError>
-    ensures { IfOk result (λ rest. length rest.now < length text.now) }
+    ensures value { GivesText result (behind_token text.now) }
+    ensures shorter { IfOk result (λ rest. length rest.now < length text.now) }
 {
     if matches!(first(text), b'[' | b']' | b'{' | b'}' | b',' | b'=') {
         Ok(skip(text, 1))
@@ -62,8 +74,10 @@ fn skip_token(alloc: Global, text: &str) -> Result<&str, ParseError>
 }
 
 // The text behind a string or a word.
+#[tactic(auto, unfolding(crate::specs::JobPlaces::behind_string_or_word))]
 fn skip_string_or_word(alloc: Global, text: &str) -> Result<&str, ParseError>
-    ensures { IfOk result (λ rest. length rest.now < length text.now) }
+    ensures value { GivesText result (behind_string_or_word text.now) }
+    ensures shorter { IfOk result (λ rest. length rest.now < length text.now) }
 {
     if starts_string(text) {
         let (_, rest) = quoted(alloc, text)?;
@@ -75,7 +89,8 @@ fn skip_string_or_word(alloc: Global, text: &str) -> Result<&str, ParseError>
 
 // The text behind a key without quotes, or a value that is no text.
 fn skip_word(text: &str) -> Result<&str, ParseError>
-    ensures { IfOk result (λ rest. length rest.now < length text.now) }
+    ensures value { GivesText result (behind_word text.now) }
+    ensures shorter { IfOk result (λ rest. length rest.now < length text.now) }
 {
     let mut rest = text;
     'letters: while bare_word_goes_on(rest) {
@@ -89,8 +104,7 @@ fn skip_word(text: &str) -> Result<&str, ParseError>
 
 // Whether a word begins or goes on: in that of a date and a time a space may part the two.
 fn bare_word_goes_on(text: &str) -> bool
-    ensures some { IsTrue result → 0 < slice_index text.now 0 }
-    ensures ascii { IsTrue result → slice_index text.now 0 < 128 }
+    ensures { result ≡ is_in_word (slice_index text.now 0) (slice_index text.now 1) }
 {
     is_word(first(text)) || (first(text) == b' ' && byte_at(text, 1).is_ascii_digit())
 }
