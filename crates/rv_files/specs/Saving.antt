@@ -1,8 +1,8 @@
 -- Why a file is not written.
 use Rattle.std.specs.declared.io.ErrorKind.{ErrorKind}
 use Rattle.std.specs.declared.io.ErrorKind.TheVariants as kind
-use Rattle.rv_files.specs.declared.file_sink.FileError.{FileError}
-use Rattle.rv_files.specs.declared.file_sink.FileError.TheVariants.{OutOfMemory, Failed}
+use Rattle.rv_files.specs.declared.file_error.FileError.{FileError}
+use Rattle.rv_files.specs.declared.file_error.FileError.TheVariants.{OutOfMemory, Failed}
 
 -- the error for what the system said
 abbrev pub file_error : ErrorKind → FileError

@@ -1,7 +1,8 @@
 -- What a store over files notes, and which file a path is.
-use Rattle.std.specs.Prelude.{ℕ, List, [], ◌∷◌, Option, Some, None}
+use Rattle.std.specs.Prelude.{ℕ, List, [], ◌∷◌, Option, Some, None, option_map}
 use Rattle.std.specs.declared.io.ErrorKind.{ErrorKind}
 use Rattle.std.specs.Path.{path_join}
+use Rattle.rv_base.specs.Files.{FileContents}
 use Rattle.rv_files.specs.declared.file_store.WholeError.{WholeError}
 use Rattle.rv_files.specs.declared.file_store.WholeError.TheVariants as whole
 use Rattle.rv_files.specs.declared.noting_store.Unread.{Unread}
@@ -10,6 +11,10 @@ use Rattle.rv_files.specs.declared.noting_store.Unread.{Unread}
 abbrev pub resolved_path : Option (List ℕ) → List ℕ → List ℕ
 resolved_path (Some folder) path = path_join folder path
 resolved_path None path = path
+
+-- what each path holds, taken from that folder, where it is told
+abbrev pub contents_below : Option (List ℕ) → Option FileContents → Option FileContents
+contents_below folder known = option_map (λ files path. files (resolved_path folder path)) known
 
 -- a path was unreadable for a reason
 abbrev pub unread_entry : List ℕ → ErrorKind → Unread

@@ -1,20 +1,34 @@
-//! The system's files as a store, and the process's streams and files that are written as sinks.
+//! The system's files and streams, and files in memory: what a command reads, and where it writes.
 //!
-//! What the world outside holds is not known, so contracts speak of any reader and any writer:
-//! [`read_at_most`] and [`read_whole`] give what a reader has, and a [`StreamSink`] puts what its
-//! writer takes. [`FileStore`] opens a file and reads it by these; a [`NotingStore`] notes why a file
-//! was unreadable, too. A [`FileSink`] writes a file that is there whole in the end, or not at all.
+//! What the world outside holds is not known, so contracts speak of any reader and any writer: [`read_at_most`] and
+//! [`read_whole`] give what a reader has, and a [`StreamSink`] puts what its writer takes. A command that is generic over
+//! [`Inputs`] and [`Outputs`] says in its contract what it read and which files it wrote: [`SystemInputs`] and
+//! [`SystemOutputs`] are the system's, [`MemoryInputs`] and [`MemoryOutputs`] are for tests. [`FileStore`] opens a file
+//! and reads it; a [`NotingStore`] reads inputs and notes why a file was unreadable, too.
 #![tactic(auto)]
 
+mod file_error;
 mod file_sink;
 mod file_store;
 mod input;
+mod inputs;
+mod io_errors;
+mod memory_files;
 mod noting_store;
+mod outputs;
 mod sink_paths;
 mod streams;
+mod system_outputs;
+#[cfg(test)]
+mod tests;
 
-pub use file_sink::{FileError, FileSink};
+pub use file_error::FileError;
 pub use file_store::{FileStore, WholeError, read_whole};
 pub use input::{InputError, read_at_most};
+pub use inputs::{Inputs, SystemInputs, read_whole_up_to};
+pub use io_errors::io_error_text;
+pub use memory_files::{MemoryFile, MemoryInputs, MemoryOutputs};
 pub use noting_store::{NotingStore, Unread};
+pub use outputs::Outputs;
 pub use streams::StreamSink;
+pub use system_outputs::SystemOutputs;

@@ -1,17 +1,19 @@
-//! The system's files as a store that notes why a path was unreadable.
+//! A store that notes why a path was unreadable.
 
-ghost use Rattle.std.specs.Prelude.{◌≡◌, ◌≤◌, ◌<◌, ◌++◌, ◌∷◌, [], None, IfErr, IfOk, IfSome, MatchResult, OnErr};
-ghost use Rattle.std.specs.Prelude.{OnOk, length, option_map};
+ghost use Rattle.std.specs.Prelude.{◌≡◌, ◌≤◌, ◌<◌, ◌++◌, ◌∷◌, [], Some, length};
+ghost use Rattle.std.specs.Prelude.{IfErr, IfOk, IfSome, IsSomeAnd, MatchResult, OnErr, OnOk};
+ghost use Rattle.std.specs.Option.{option_copied};
 ghost use Rattle.std.specs.Path.{path_buf_bytes};
 ghost use Rattle.rv_base.specs.Limits.{most_bytes};
-ghost use Rattle.rv_files.specs.UnreadPaths.{unread_entry, unread_entries, resolved_path};
+ghost use Rattle.rv_files.specs.UnreadPaths.{contents_below, unread_entry, unread_entries, resolved_path};
 
-use crate::file_store::{WholeError, read_file};
+use crate::file_store::WholeError;
+use crate::inputs::{Inputs, read_whole_up_to};
+use rv_base::limits::MOST_BYTES;
 use rv_base::{ReadError, Store, Text};
 use std::alloc::{AllocError, Global};
 use std::io::ErrorKind;
 use std::path::{Path, PathBuf};
-use std::rt::Files;
 
 /// A path that was unreadable, and why.
 #[derive(Debug, Drop)]
@@ -22,24 +24,24 @@ pub struct Unread {
     pub reason: ErrorKind,
 }
 
-/// A store over files, as [`FileStore`](crate::FileStore) is, that notes each path that was
-/// unreadable, and why: as often as it counts a fault. Where a folder is given, paths are taken from
-/// there, as std's `Path::join` does: one that begins with `/` stays as it is.
+/// A store over inputs that notes each path that was unreadable, and why: as often as it counts a fault. Where a folder
+/// is given, paths are taken from there, as std's `Path::join` does: one that begins with `/` stays as it is.
 #[derive(Drop)]
-pub struct NotingStore<'a, R: Files> {
-    files: &'a R,
+pub struct NotingStore<'a, D: Inputs> {
+    inputs: &'a D,
     folder: Option<&'a str>,
     unread: Vec<Unread>,
 }
 
-impl<'a, R: Files> NotingStore<'a, R> {
+impl<'a, D: Inputs> NotingStore<'a, D> {
     /// Takes no memory.
-    pub fn new(files: &'a R, alloc: Global, folder: Option<&'a str>) -> NotingStore<'a, R>
+    pub fn new(inputs: &'a D, alloc: Global, folder: Option<&'a str>) -> NotingStore<'a, D>
+        ensures inputs { result.inputs ≡ inputs.entry }
         ensures folder { result.folder ≡ folder.entry }
         ensures nothing { result.unread.items ≡ [] }
     {
         NotingStore {
-            files,
+            inputs,
             folder,
             unread: Vec::new(alloc),
         }
@@ -52,29 +54,48 @@ impl<'a, R: Files> NotingStore<'a, R> {
         &self.unread
     }
 
-    // The answer for the file that is opened at the path's place.
+    // What stands at the path's place; a path that is unreadable is noted.
     fn read_noting_failure(&mut self, alloc: Global, path: &str) -> Result<Vec<u8>, WholeError>
-        ensures opened { IfOk result (λ bytes. (file : R.File)
-            × IfSome (R.File.remaining file) (λ known. bytes.items ≡ known)) }
+        ensures same { (self.new.inputs ≡ self.old.inputs) × (self.new.folder ≡ self.old.folder) }
+        ensures known { IfOk result (λ bytes.
+            IfSome (contents_below (option_copied self.old.folder) (D.contents self.old.inputs.now))
+            (λ files. files path.now ≡ Some bytes.items)) }
         ensures within { IfOk result (λ bytes. length bytes.items ≤ most_bytes) }
-        ensures long { IfErr result (λ error. error ≡ WholeError.TooLong → (file : R.File)
-            × IfSome (R.File.remaining file) (λ known. most_bytes < length known)) }
+        ensures long { IfErr result (λ error. error ≡ WholeError.TooLong →
+            IfSome (contents_below (option_copied self.old.folder) (D.contents self.old.inputs.now))
+            (λ files. IsSomeAnd (files path.now) (λ bytes. most_bytes < length bytes))) }
         ensures noted { MatchResult result (λ _. self.new.unread.items ≡ self.old.unread.items)
             (λ error. self.new.unread.items
             ≡ self.old.unread.items ++ unread_entries path.now error) }
     {
-        let place = self.resolved_path(alloc, path)?;
-        let answer = read_file(self.files, alloc, place.as_str());
+        let answer = self.read_place(alloc, path);
         if let Err(WholeError::Failed(reason)) = answer {
             self.note_unread(alloc, path, reason)?;
         }
         answer
     }
 
+    // What stands at the path's place.
+    fn read_place(&self, alloc: Global, path: &str) -> Result<Vec<u8>, WholeError>
+        ensures known { IfOk result (λ bytes.
+            IfSome (contents_below (option_copied self.now.folder) (D.contents self.now.inputs.now))
+            (λ files. files path.now ≡ Some bytes.items)) }
+        ensures within { IfOk result (λ bytes. length bytes.items ≤ most_bytes) }
+        ensures long { IfErr result (λ error. error ≡ WholeError.TooLong →
+            IfSome (contents_below (option_copied self.now.folder) (D.contents self.now.inputs.now))
+            (λ files. IsSomeAnd (files path.now) (λ bytes. most_bytes < length bytes))) }
+    {
+        let place = self.resolved_path(alloc, path)?;
+        match read_whole_up_to(self.inputs, alloc, place.as_str(), MOST_BYTES)? {
+            Some(bytes) => Ok(bytes),
+            None => Err(WholeError::TooLong),
+        }
+    }
+
     // Where a path leads.
     fn resolved_path(&self, alloc: Global, path: &str) -> Result<PathBuf, AllocError>
         ensures { IfOk result (λ place. path_buf_bytes place
-            ≡ resolved_path (option_map (λ folder. folder.now) self.now.folder) path.now) }
+            ≡ resolved_path (option_copied self.now.folder) path.now) }
     {
         match self.folder {
             Some(folder) => Path::new(folder).join(alloc, path),
@@ -88,6 +109,7 @@ impl<'a, R: Files> NotingStore<'a, R> {
         path: &str,
         reason: ErrorKind,
     ) -> Result<(), AllocError>
+        ensures inputs { (self.new.inputs ≡ self.old.inputs) × (self.new.folder ≡ self.old.folder) }
         ensures noted { OnOk result
             (self.new.unread.items ≡ self.old.unread.items ++ unread_entry path.now reason ∷ []) }
         ensures same { OnErr result (self.new.unread.items ≡ self.old.unread.items) }
@@ -98,8 +120,8 @@ impl<'a, R: Files> NotingStore<'a, R> {
     }
 }
 
-impl<'a, R: Files> Store for NotingStore<'a, R> {
-    ghost contents = { λ _. None };
+impl<'a, D: Inputs> Store for NotingStore<'a, D> {
+    ghost contents = { λ store. contents_below (option_copied store.folder) (D.contents store.inputs.now) };
 
     ghost faulted = { λ store. length store.unread.items };
 

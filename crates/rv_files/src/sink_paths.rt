@@ -1,9 +1,9 @@
 //! Where a file stands while it is written, and in the end.
 
-ghost use Rattle.std.specs.Prelude.{◌≡◌, ◌++◌, IfOk, codes};
+ghost use Rattle.std.specs.Prelude.{◌≡◌, ◌≢◌, ◌++◌, IfErr, IfOk, codes};
 ghost use Rattle.std.specs.Path.{path_buf_bytes};
 
-use crate::file_sink::FileError;
+use crate::file_error::FileError;
 use std::alloc::{AllocError, Global};
 use std::io::{self, ErrorKind};
 use std::path::{Path, PathBuf};
@@ -21,7 +21,9 @@ pub(crate) fn temporary_and_final_path<R: Files>(
     files: &R,
     alloc: Global,
     path: &str,
-) -> Result<Option<Places>, FileError> {
+) -> Result<Option<Places>, FileError>
+    ensures { IfErr result (λ error. error ≢ FileError.SamePlace) }
+{
     if !is_replaceable(files, path)? {
         return Ok(None);
     }
@@ -43,7 +45,9 @@ fn is_replaceable<R: Files>(files: &R, path: &str) -> io::Result<bool> {
 const MOST_LINKS: u32 = 40;
 
 // The place that a path leads to.
-fn follow_links<R: Files>(files: &R, alloc: Global, path: &str) -> Result<PathBuf, FileError> {
+fn follow_links<R: Files>(files: &R, alloc: Global, path: &str) -> Result<PathBuf, FileError>
+    ensures { IfErr result (λ error. error ≢ FileError.SamePlace) }
+{
     let mut place = PathBuf::from_str(alloc, path)?;
     for _ in 0..MOST_LINKS {
         if !is_link(files, place.as_str()) {
@@ -62,11 +66,33 @@ fn is_link<R: Files>(files: &R, path: &str) -> bool {
     }
 }
 
-// The path with `.new` behind it.
-fn with_new_suffix(alloc: Global, path: &str) -> Result<PathBuf, AllocError>
+/// The path with `.new` behind it.
+pub(crate) fn with_new_suffix(alloc: Global, path: &str) -> Result<PathBuf, AllocError>
     ensures { IfOk result (λ place. path_buf_bytes place ≡ path.now ++ codes ".new") }
 {
     let mut text = String::from_str(alloc, path)?;
     text.push_str(".new")?;
     PathBuf::from_str(alloc, text.as_str())
+}
+
+/// Whether two paths lead to the same place.
+pub(crate) fn is_same_place<R: Files>(
+    files: &R,
+    alloc: Global,
+    path: &str,
+    other: &str,
+) -> io::Result<bool> {
+    let place = real_path(files, alloc, path)?;
+    let other = real_path(files, alloc, other)?;
+    Ok(place.as_str() == other.as_str())
+}
+
+// The place of a path. Where nothing is there, or the system tells no places, it is the path as it stands.
+fn real_path<R: Files>(files: &R, alloc: Global, path: &str) -> io::Result<PathBuf> {
+    match files.canonicalize(alloc, path) {
+        Err(error) if matches!(error.kind(), ErrorKind::NotFound | ErrorKind::Unsupported) => {
+            Ok(PathBuf::from_str(alloc, path)?)
+        }
+        answer => answer,
+    }
 }

@@ -33,5 +33,4 @@ pub use refusal_reasons::ending_reason;
 pub use result_line::{EndDetail, push_result_line};
 pub use row_telling::RowTelling;
 pub use totals_line::push_totals_line;
-pub use unread_files::io_error_text;
 pub use verbosity::Verbosity;

@@ -1,13 +1,12 @@
 //! What is told of a file that was not read.
 
 ghost use Rattle.std.specs.Prelude.{◌≡◌, IfOk, option_map};
-ghost use Rattle.rv_job_text.specs.UnreadFiles.{io_error_text, too_long_file_text, unread_note, unread_note_text, unread_file_text};
+ghost use Rattle.rv_job_text.specs.UnreadFiles.{too_long_file_text, unread_note, unread_note_text, unread_file_text};
 
-use rv_files::Unread;
+use rv_files::{Unread, io_error_text};
 use rv_jobs::limits::MOST_BYTES;
 use rv_text::{Span, text_of_spans};
 use std::alloc::{AllocError, Global};
-use std::io::ErrorKind;
 
 /// A path, and why its file was unreadable.
 #[tactic(auto, unfolding(crate::specs::UnreadFiles::unread_file_text))]
@@ -54,29 +53,5 @@ fn unread_note_text(noted: Option<&Unread>) -> &'static str
     match noted {
         Some(one) => io_error_text(one.reason),
         None => "not readable",
-    }
-}
-
-/// What the system said when a file was opened or read.
-#[tactic(auto, unfolding(crate::specs::UnreadFiles::io_error_text))]
-pub fn io_error_text(kind: ErrorKind) -> &'static str
-    ensures { result.now ≡ io_error_text kind }
-{
-    match kind {
-        ErrorKind::NotFound => "missing",
-        ErrorKind::IsADirectory => "a folder",
-        ErrorKind::PermissionDenied => "no permission",
-        ErrorKind::NotADirectory => "not a directory",
-        ErrorKind::FilesystemLoop => "filesystem loop or indirection limit (e.g. symlink loop)",
-        ErrorKind::InvalidFilename => "invalid filename",
-        ErrorKind::InvalidInput => "invalid input parameter",
-        ErrorKind::StaleNetworkFileHandle => "stale network file handle",
-        ErrorKind::ResourceBusy => "resource busy",
-        ErrorKind::WouldBlock => "operation would block",
-        ErrorKind::Interrupted => "operation interrupted",
-        ErrorKind::TimedOut => "timed out",
-        ErrorKind::Unsupported => "unsupported",
-        ErrorKind::OutOfMemory => "out of memory",
-        _ => "not readable",
     }
 }

@@ -1,52 +1,35 @@
 //! The program `rvtest`: hands the process's own words, files and streams to the library, and ends with its status.
 #![tactic(auto)]
 
-use rvtest_app::{Streams, refuse_unreadable_words, run_rvtest};
+use rv_files::{StreamSink, SystemInputs, SystemOutputs};
+use rvtest_app::{Destinations, Host, Terminals, refuse_unreadable_words, run_rvtest};
 use std::env::Env;
-use std::io::{IsTerminal, Stderr, Stdout};
+use std::io::IsTerminal;
 use std::process::ExitCode;
 use std::{env, io};
 
-// The process's own streams.
-#[derive(Drop)]
-struct ProcessStreams {
-    out: Stdout,
-    errors: Stderr,
-}
-
-impl Streams for ProcessStreams {
-    type Out = Stdout;
-
-    type Errors = Stderr;
-
-    fn out(&self) -> Stdout {
-        self.out
-    }
-
-    fn errors(&self) -> Stderr {
-        self.errors
-    }
-
-    fn is_out_terminal(&self) -> bool {
-        self.out.is_terminal()
-    }
-
-    fn is_errors_terminal(&self) -> bool {
-        self.errors.is_terminal()
-    }
-}
-
 // The answer to the process's own words, over its own streams and files.
 fn main(rt: HostRuntime) -> ExitCode {
-    let streams = ProcessStreams {
-        out: rt.stdout(),
-        errors: rt.stderr(),
-    };
+    let (out, mut errors) = (StreamSink::new(rt.stdout()), StreamSink::new(rt.stderr()));
     let texts = match words_of_process(&rt) {
         Ok(texts) => texts,
-        Err(error) => return ExitCode::from(refuse_unreadable_words(&error, &streams)),
+        Err(error) => return ExitCode::from(refuse_unreadable_words(&error, &mut errors)),
     };
-    ExitCode::from(run_rvtest(&rt, rt.alloc(), texts.as_slice(), &streams))
+    let inputs = SystemInputs::new(&rt);
+    let host = Host {
+        rt: &rt,
+        alloc: rt.alloc(),
+        inputs: &inputs,
+    };
+    let files = SystemOutputs::new(&rt, rt.alloc());
+    let terminals = Terminals {
+        is_out_terminal: rt.stdout().is_terminal(),
+        is_errors_terminal: rt.stderr().is_terminal(),
+        progress: rt.stderr(),
+    };
+    let to = Destinations { files, out, errors };
+    let (_, status) = run_rvtest(&host, texts.as_slice(), to, terminals);
+    ExitCode::from(status)
 }
 
 // The process's own words.

@@ -1,8 +1,8 @@
 pub mod StepRanks
-mod Names
 mod Numbers
-pub mod SavedRows
 mod Sent
 mod Statuses
-pub mod Chosen
 mod Results
+mod PutTexts
+mod Requested
+mod PartTexts

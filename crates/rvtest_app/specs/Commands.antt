@@ -1,24 +1,16 @@
 -- What words ask of commands, and the statuses.
-use Rattle.std.specs.Prelude.{◌≡◌, ◌==◌, ◌⊎◌, ℕ, Bool, true, false, not, List, length, map}
+use Rattle.std.specs.Prelude.{◌==◌, ℕ, Bool, true, false, length}
 use Rattle.std.specs.Prelude.{if◌then◌else◌, is_some}
 use Rattle.std.specs.List.{filter}
 use Rattle.rv_expect.specs.declared.passing.Rule.{Rule}
 use Rattle.rv_expect.specs.declared.passing.Rule.TheVariants.{Strict, Lenient}
-use Rattle.rv_expect.specs.Passing.{has_passed}
 use Rattle.rv_expect.specs.TwoEnds.{expects_two_ends}
 use Rattle.rv_jobs.specs.Plans.{Planned}
 use Rattle.rv_lists.specs.declared.job.Job.{Job}
-use Rattle.rv_report.specs.declared.row.Row.{Row}
 use Rattle.rv_rows.specs.Outcome.{refusal_in}
 use Rattle.rv_rows.specs.Rows.{outcome_in}
 use Rattle.rv_job_text.specs.declared.verbosity.Verbosity.{Verbosity}
 use Rattle.rv_job_text.specs.declared.verbosity.Verbosity.TheVariants.{Quiet, Failures, All}
-use Rattle.rvtest_app.specs.declared.stop.Lines.{Lines}
-use Rattle.rvtest_app.specs.declared.stop.Lines.TheVariants as lines
-use Rattle.rvtest_app.specs.declared.stop.Stop.{Stop}
-use Rattle.rvtest_app.specs.declared.stop.Stop.TheVariants as stop
-use Rattle.rv_stream.specs.declared.error.StreamError.{StreamError}
-use Rattle.rv_stream.specs.declared.error.StreamError.TheVariants as stream
 use Rattle.rv_diff.specs.Diff.{differing_count}
 use Rattle.rv_diff.specs.declared.diff.Differing.{Differing}
 
@@ -32,11 +24,6 @@ abbrev pub requested_verbosity : Bool → Bool → Verbosity
 requested_verbosity verbose true = Quiet
 requested_verbosity true false = All
 requested_verbosity false false = Failures
-
--- the names of the rows that failed, in their order
-abbrev pub failed_job_names : Rule → List Row → List (List ℕ)
-failed_job_names rule rows =
-    map (λ (row : Row). row.name) (filter (λ (row : Row). not (has_passed rule row)) rows)
 
 -- the status of two reports: 0 where no job differs, else 1
 abbrev pub diff_status : Differing → ℕ
@@ -61,21 +48,3 @@ check_status refused = if refused == 0 then 0 else 2
 -- the status of one job
 abbrev pub passing_status : Bool → ℕ
 passing_status passed = if passed then 0 else 1
-
--- the status of lines that end a command: 2 where what is asked for is refused, 3 where the system failed
-abbrev pub lines_status : Lines → ℕ
-lines_status lines.Refusal = 2
-lines_status lines.Failure = 3
-
--- the status of a command that ends before its work is done
-abbrev pub stop_status : Stop → ℕ
-stop_status (stop.Told lines text) = lines_status lines
-stop_status stop.OutOfMemory = 3
-stop_status stop.NoWorker = 3
-stop_status stop.WriteFailed = 3
-
--- why a run ends that stopped on its way
-abbrev pub stop_of_stream : StreamError → Stop
-stop_of_stream stream.OutOfMemory = stop.OutOfMemory
-stop_of_stream stream.NoWorker = stop.NoWorker
-stop_of_stream stream.Failed = stop.WriteFailed

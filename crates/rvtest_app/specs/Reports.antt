@@ -1,28 +1,29 @@
--- What the commands make of the texts of reports and lists, once these are read.
-use Rattle.std.specs.Prelude.{◌≡◌, ℕ, Bool, true, false, List, [], ◌∷◌, length, Some, Ok, position}
+-- What the commands that run no list find, in what stands at the paths that they read.
+use Rattle.std.specs.Prelude.{◌≡◌, ℕ, Bool, true, false, List, [], ◌∷◌, length, Option, Some, Ok, position}
 use Rattle.std.specs.Prelude.{slice_index_or}
 use Rattle.std.specs.Str.{bytes_eq}
+use Rattle.rv_base.specs.Files.{FileContents}
+use Rattle.rv_cli.specs.declared.rvtest.check.CheckAsked.{CheckAsked}
+use Rattle.rv_cli.specs.declared.rvtest.diff.DiffAsked.{DiffAsked}
+use Rattle.rv_cli.specs.declared.rvtest.explain.ExplainAsked.{ExplainAsked}
+use Rattle.rv_command.specs.Texts.{IsReportOf, IsTextAt, optional_text}
 use Rattle.rv_diff.specs.Diff.{counts_of_differing, diff_text}
 use Rattle.rv_diff.specs.declared.change.Compare.{Compare}
 use Rattle.rv_diff.specs.declared.change.Compare.TheVariants.{Outcomes, Steps}
 use Rattle.rv_expect.specs.Passing.{has_passed}
 use Rattle.rv_expect.specs.declared.passing.Rule.TheVariants.{Strict}
+use Rattle.rv_files.specs.UnreadPaths.{contents_below}
 use Rattle.rv_files.specs.declared.noting_store.Unread.{Unread}
 use Rattle.rv_job_text.specs.Telling.{explanation_text}
-use Rattle.rv_jobs.specs.Plans.{Planned, jobs_needed_for, paths_of, paths_used}
+use Rattle.rv_jobs.specs.Plans.{AreKept, Planned, jobs_needed_for, paths_of, paths_used}
 use Rattle.rv_list_errors.specs.Lines.{PutsLines}
 use Rattle.rv_lists.specs.JobList.{job_list_of}
+use Rattle.rv_lists.specs.ListFaults.{list_faults}
 use Rattle.rv_lists.specs.declared.error.JobError.{JobError}
 use Rattle.rv_lists.specs.declared.job.Job.{Job}
-use Rattle.rv_report.specs.Saved.{IsSaved, saved_text}
 use Rattle.rv_report.specs.declared.saved.SavedReport.{SavedReport}
 use Rattle.rv_rows.specs.Rows.{row_of}
 use Rattle.rvtest_app.specs.Commands.{check_status, diff_status, passing_status, refused_job_count}
-
--- the report that a text is, of which there is at most one
-pub record IsReportOf (bytes : List ℕ) (report : SavedReport) : Type 0 where
-  pub saved : IsSaved report
-  pub text : saved_text report ≡ bytes
 
 -- ---- diff
 
@@ -40,31 +41,48 @@ pub record IsDiffOf (compare : Compare) (old new output : List ℕ) (status : �
   pub text : output ≡ diff_text compare before.rows after.rows
   pub judged : status ≡ diff_status (counts_of_differing compare before.rows after.rows)
 
+-- the same of what stands at the two paths that words name
+pub record IsDiffAt (known : Option FileContents) (words : DiffAsked) (output : List ℕ) (status : ℕ) : Type 0 where
+  pub old : List ℕ
+  pub old_read : IsTextAt known words.old.now old
+  pub new : List ℕ
+  pub new_read : IsTextAt known words.new.now new
+  pub diff : IsDiffOf (requested_comparison words.steps) old new output status
+
 -- ---- check
 
--- the status is that of a plan of the jobs of a list, with answers for all their paths
-pub record IsPlanStatusOf (bytes : List ℕ) (status : ℕ) : Type 0 where
+-- the status is that of a plan of the jobs of a list, with answers for all their paths that agree with what stands there
+pub record IsPlanCheckOf (known : Option FileContents) (bytes : List ℕ) (status : ℕ) : Type 0 where
   pub plan : Planned
   pub listed : job_list_of bytes ≡ Ok plan.jobs
   pub paths : paths_of plan.answers ≡ paths_used plan.jobs
+  pub kept : AreKept known plan.answers
   pub judged : status ≡ check_status (refused_job_count plan)
 
--- the output has a line for each fault, of which there is one at least, and then the status is 2;
--- a list without faults has the status of a plan
-abbrev pub IsCheckOf : List JobError → List ℕ → List ℕ → ℕ → Type 0
-IsCheckOf [] bytes output status = IsPlanStatusOf bytes status
-IsCheckOf (fault ∷ faults) bytes output status =
+-- the output has a line for each fault, of which there is one at least, and then the status is 2; a list without faults has
+-- the status of a plan
+abbrev pub IsCheckOf : Option FileContents → List JobError → List ℕ → List ℕ → ℕ → Type 0
+IsCheckOf known [] bytes output status = IsPlanCheckOf known bytes status
+IsCheckOf known (fault ∷ faults) bytes output status =
     PutsLines (length (fault ∷ faults)) [] output × (status ≡ 2)
+
+-- the same of the list at the path that words name
+pub record IsCheckAt (known : Option FileContents) (words : CheckAsked) (output : List ℕ) (status : ℕ) : Type 0 where
+  pub bytes : List ℕ
+  pub read : IsTextAt known words.list.now bytes
+  pub check : IsCheckOf (contents_below (optional_text words.root) known) (list_faults bytes)
+      bytes output status
 
 -- ---- explain
 
 -- the output and the status are those of the explanation of the job at a place, over answers for the
--- paths that its row needs
-pub record IsJobExplained (jobs : List Job) (place last : ℕ) (output : List ℕ) (status : ℕ)
-    : Type 0 where
+-- paths that its row needs, which agree with what stands there
+pub record IsJobExplained (known : Option FileContents) (jobs : List Job) (place last : ℕ) (output : List ℕ)
+    (status : ℕ) : Type 0 where
   pub plan : Planned
   pub listed : plan.jobs ≡ jobs
   pub paths : paths_of plan.answers ≡ paths_used (jobs_needed_for jobs (place ∷ []))
+  pub kept : AreKept known plan.answers
   pub unread : List Unread
   pub text : (d : Job) → output ≡ explanation_text plan unread Strict
       (slice_index_or plan.jobs place d) (row_of plan (slice_index_or plan.jobs place d)) last
@@ -76,10 +94,18 @@ abbrev pub IsFirstNamed : List Job → List ℕ → ℕ → Type 0
 IsFirstNamed jobs name place = position (λ (job : Job). bytes_eq job.name name) jobs ≡ Some place
 
 -- the same of the first job of a name in the list that a text is
-pub record IsExplanationOf (bytes name : List ℕ) (last : ℕ) (output : List ℕ) (status : ℕ)
-    : Type 0 where
+pub record IsExplanationOf (known : Option FileContents) (bytes name : List ℕ) (last : ℕ) (output : List ℕ)
+    (status : ℕ) : Type 0 where
   pub jobs : List Job
   pub listed : job_list_of bytes ≡ Ok jobs
   pub place : ℕ
   pub first : IsFirstNamed jobs name place
-  pub explained : IsJobExplained jobs place last output status
+  pub explained : IsJobExplained known jobs place last output status
+
+-- the same of the list at the path that words name
+pub record IsExplanationAt (known : Option FileContents) (words : ExplainAsked) (output : List ℕ) (status : ℕ)
+    : Type 0 where
+  pub bytes : List ℕ
+  pub read : IsTextAt known words.list.now bytes
+  pub explained : IsExplanationOf (contents_below (optional_text words.root) known) bytes words.name.now words.last
+      output status

@@ -3,16 +3,15 @@
 ghost use Rattle.std.specs.Prelude.{◌≡◌, ◌≤◌, ◌<◌, IfOk, length};
 ghost use Rattle.rv_lists.specs.ListFaults.{list_faults};
 ghost use Rattle.rvtest_app.specs.Commands.{check_status, refused_job_count, warned_job_count};
-ghost use Rattle.rvtest_app.specs.Reports.{IsCheckOf, IsPlanStatusOf};
+ghost use Rattle.rv_files.specs.UnreadPaths.{contents_below};
+ghost use Rattle.rvtest_app.specs.Reports.{IsCheckAt, IsCheckOf, IsPlanCheckOf};
+ghost use Rattle.rv_command.specs.Texts.{optional_text};
 
 use crate::findings::Found;
-use crate::list::{list_faults_text, parse_list, read_list_text};
-use crate::messages::REFUSED;
-use crate::status::DONE;
-use crate::stop::Stop;
 use rv_cli::rvtest::CheckAsked;
+use rv_command::{DONE, REFUSED, Stop, list_faults_text, parse_list, read_list_text};
 use rv_expect::expects_two_ends;
-use rv_files::{NotingStore, Unread};
+use rv_files::{Inputs, NotingStore, Unread};
 use rv_job_text::ending_reason;
 use rv_jobs::{ExpectedEnd, Job, Plan, gather};
 use rv_list_errors::job_line_numbers;
@@ -20,34 +19,36 @@ use rv_lists::read_faults;
 use rv_rows::{Refusal, RowEnd, refusal_at};
 use rv_text::{Span, push_spans, push_text};
 use std::alloc::{AllocError, Global};
-use std::rt::Files;
 
 /// All that is wrong with a list, or with the files of its jobs; nothing is run. The status is 2 where anything is.
-pub(crate) fn check_list<R: Files>(
-    files: &R,
+pub(crate) fn check_list<D: Inputs>(
+    inputs: &D,
     alloc: Global,
     asked: CheckAsked<'_>,
 ) -> Result<Found, Stop>
-    ensures { IfOk result (λ found. found.status ≤ 2) }
+    ensures checked { IfOk result (λ found. IsCheckAt (D.contents inputs.now) asked.entry
+        found.text.items found.status) }
+    ensures low { IfOk result (λ found. found.status ≤ 2) }
 {
-    let text = read_list_text(files, alloc, asked.list)?;
-    check_list_text(files, alloc, asked, text.as_slice())
+    let text = read_list_text(inputs, alloc, asked.list)?;
+    check_list_text(inputs, alloc, asked, text.as_slice())
 }
 
 // The same of the list's text.
-fn check_list_text<R: Files>(
-    files: &R,
+fn check_list_text<D: Inputs>(
+    inputs: &D,
     alloc: Global,
     asked: CheckAsked<'_>,
     text: &[u8],
 ) -> Result<Found, Stop>
-    ensures check { IfOk result (λ found. IsCheckOf (list_faults text.now) text.now
-        found.text.items found.status) }
+    ensures check { IfOk result (λ found. IsCheckOf
+        (contents_below (optional_text asked.entry.root) (D.contents inputs.now)) (list_faults text.now)
+        text.now found.text.items found.status) }
     ensures low { IfOk result (λ found. found.status ≤ 2) }
 {
     let faults = read_faults(alloc, text)?;
     if faults.is_empty() {
-        return check_files(files, alloc, asked, text);
+        return check_files(inputs, alloc, asked, text);
     }
     let text = list_faults_text(alloc, asked.list, text, faults.as_slice())?;
     Ok(Found {
@@ -57,17 +58,18 @@ fn check_list_text<R: Files>(
 }
 
 // Which jobs of a list are refused for their files.
-fn check_files<R: Files>(
-    files: &R,
+fn check_files<D: Inputs>(
+    inputs: &D,
     alloc: Global,
     asked: CheckAsked<'_>,
     text: &[u8],
 ) -> Result<Found, Stop>
-    ensures plan { IfOk result (λ found. IsPlanStatusOf text.now found.status) }
+    ensures plan { IfOk result (λ found. IsPlanCheckOf
+        (contents_below (optional_text asked.entry.root) (D.contents inputs.now)) text.now found.status) }
     ensures low { IfOk result (λ found. found.status ≤ 2) }
 {
     let jobs = parse_list(alloc, asked.list, text)?;
-    let mut store = NotingStore::new(files, alloc, asked.root);
+    let mut store = NotingStore::new(inputs, alloc, asked.root);
     let plan = gather(alloc, jobs, &mut store)?;
     check_plan(alloc, asked.list, text, &plan, store.unread_paths())
 }

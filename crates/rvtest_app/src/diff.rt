@@ -2,29 +2,29 @@
 
 ghost use Rattle.std.specs.Prelude.{◌≡◌, ◌≤◌, ◌<◌, ◌^◌, IfOk, MatchResult, length};
 ghost use Rattle.rvtest_app.specs.Commands.{diff_status};
-ghost use Rattle.rvtest_app.specs.Reports.{IsDiffOf, requested_comparison};
+ghost use Rattle.rvtest_app.specs.Reports.{IsDiffAt, IsDiffOf, requested_comparison};
 ghost use Rattle.rv_diff.specs.Diff.{diff_text, counts_of_differing};
 
 use crate::findings::Found;
-use crate::saved_report::{parse_report, read_report_text};
-use crate::status::{DONE, SOME_FAIL};
-use crate::stop::Stop;
 use rv_cli::rvtest::DiffAsked;
+use rv_command::{DONE, SOME_FAIL, Stop, parse_report, read_file};
 use rv_diff::{Compare, Differing, push_diff};
+use rv_files::Inputs;
 use rv_rows::Row;
 use std::alloc::Global;
-use std::rt::Files;
 
 /// In which jobs two reports differ. The status is 1 where they do in any.
-pub(crate) fn diff_reports<R: Files>(
-    files: &R,
+pub(crate) fn diff_reports<D: Inputs>(
+    inputs: &D,
     alloc: Global,
     asked: DiffAsked<'_>,
 ) -> Result<Found, Stop>
-    ensures { IfOk result (λ found. found.status ≤ 1) }
+    ensures diff { IfOk result (λ found. IsDiffAt (D.contents inputs.now) asked.entry
+        found.text.items found.status) }
+    ensures low { IfOk result (λ found. found.status ≤ 1) }
 {
-    let old = read_report_text(files, alloc, asked.old)?;
-    let new = read_report_text(files, alloc, asked.new);
+    let old = read_file(inputs, alloc, asked.old)?;
+    let new = read_file(inputs, alloc, asked.new);
     diff_report_texts(alloc, asked, old.as_slice(), new)
 }
 

@@ -9,21 +9,20 @@ ghost use Rattle.rv_rows.specs.Rows.{row_of};
 ghost use Rattle.rv_job_text.specs.Telling.{explanation_text};
 ghost use Rattle.rv_lists.specs.JobList.{job_list_of};
 ghost use Rattle.rvtest_app.specs.Commands.{passing_status};
-ghost use Rattle.rvtest_app.specs.Reports.{IsExplanationOf, IsFirstNamed, IsJobExplained};
+ghost use Rattle.rv_files.specs.UnreadPaths.{contents_below};
+ghost use Rattle.rvtest_app.specs.Reports.{IsExplanationAt, IsExplanationOf, IsFirstNamed, IsJobExplained};
+ghost use Rattle.rv_command.specs.Texts.{optional_text};
 
 use crate::findings::Found;
-use crate::list::{parse_list, read_list_text};
-use crate::requested_jobs::unknown_name_stop;
-use crate::status::{DONE, SOME_FAIL};
-use crate::stop::Stop;
+use rv_choice::unknown_name_stop;
 use rv_cli::rvtest::ExplainAsked;
+use rv_command::{DONE, SOME_FAIL, Stop, parse_list, read_list_text};
 use rv_expect::{Rule, has_passed};
-use rv_files::{NotingStore, Unread};
+use rv_files::{Inputs, NotingStore, Unread};
 use rv_job_text::{RowTelling, Verbosity};
 use rv_jobs::{Job, JobList, Plan, gather_places};
 use rv_rows::row_at;
 use std::alloc::Global;
-use std::rt::Files;
 
 // The jobs of a list, and the place of one of them.
 #[derive(Drop)]
@@ -33,30 +32,33 @@ struct NamedJob {
 }
 
 /// How the job of a name ends and comes there, which is run for that. The status is 1 where it failed.
-pub(crate) fn explain_named_job<R: Files>(
-    files: &R,
+pub(crate) fn explain_named_job<D: Inputs>(
+    inputs: &D,
     alloc: Global,
     asked: ExplainAsked<'_>,
 ) -> Result<Found, Stop>
-    ensures { IfOk result (λ found. found.status ≤ 1) }
+    ensures explained { IfOk result (λ found. IsExplanationAt (D.contents inputs.now) asked.entry
+        found.text.items found.status) }
+    ensures low { IfOk result (λ found. found.status ≤ 1) }
 {
-    let text = read_list_text(files, alloc, asked.list)?;
-    explain_job_of_text(files, alloc, asked, text.as_slice())
+    let text = read_list_text(inputs, alloc, asked.list)?;
+    explain_job_of_text(inputs, alloc, asked, text.as_slice())
 }
 
 // The same of the list's text.
-fn explain_job_of_text<R: Files>(
-    files: &R,
+fn explain_job_of_text<D: Inputs>(
+    inputs: &D,
     alloc: Global,
     asked: ExplainAsked<'_>,
     text: &[u8],
 ) -> Result<Found, Stop>
-    ensures explanation { IfOk result (λ found. IsExplanationOf text.now asked.entry.name.now
-        asked.entry.last found.text.items found.status) }
+    ensures explanation { IfOk result (λ found.
+        IsExplanationOf (contents_below (optional_text asked.entry.root) (D.contents inputs.now))
+        text.now asked.entry.name.now asked.entry.last found.text.items found.status) }
     ensures low { IfOk result (λ found. found.status ≤ 1) }
 {
     let NamedJob { jobs, place } = find_named_job(alloc, asked, text)?;
-    explain_job_at(files, alloc, asked, jobs, place)
+    explain_job_at(inputs, alloc, asked, jobs, place)
 }
 
 // The jobs of a list's text, and the place of the first of the name that is asked for.
@@ -80,20 +82,21 @@ fn named_job_place(jobs: &[Job], name: &str) -> Option<usize>
 }
 
 // The same of the job at a place.
-fn explain_job_at<R: Files>(
-    files: &R,
+fn explain_job_at<D: Inputs>(
+    inputs: &D,
     alloc: Global,
     asked: ExplainAsked<'_>,
     jobs: JobList,
     place: usize,
 ) -> Result<Found, Stop>
     requires { place < length jobs }
-    ensures explained { IfOk result (λ found. IsJobExplained jobs place asked.entry.last
-        found.text.items found.status) }
+    ensures explained { IfOk result (λ found.
+        IsJobExplained (contents_below (optional_text asked.entry.root) (D.contents inputs.now))
+        jobs place asked.entry.last found.text.items found.status) }
     ensures low { IfOk result (λ found. found.status ≤ 1) }
 {
     let places = vec![in alloc; place; 1]?;
-    let mut store = NotingStore::new(files, alloc, asked.root);
+    let mut store = NotingStore::new(inputs, alloc, asked.root);
     let plan = gather_places(alloc, jobs, places, &mut store)?;
     explain_planned_job(alloc, &plan, store.unread_paths(), place, asked.last)
 }

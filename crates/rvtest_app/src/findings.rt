@@ -1,10 +1,11 @@
 //! What a command found that runs no list.
 
-ghost use Rattle.std.specs.Prelude.{◌≡◌, ◌≤◌, IfOk};
+ghost use Rattle.std.specs.Prelude.{◌≡◌, IfOk, OnErr, OnOk};
+ghost use Rattle.std.specs.Io.KnownBytes.{Appends};
+ghost use Rattle.rv_base.specs.Sinks.{AppendsBeginning};
 
-use crate::messages::put_stdout;
-use crate::stop::Stop;
-use crate::streams::Streams;
+use rv_command::{Stop, put_results};
+use rv_rows::Sink;
 
 /// What a command found: the text that goes to standard output, and the status.
 #[derive(Drop)]
@@ -13,13 +14,13 @@ pub(crate) struct Found {
     pub(crate) status: u8,
 }
 
-/// Puts the text to standard output, where the command came to one, and hands the status on.
-pub(crate) fn put_findings<S: Streams>(streams: &S, found: Result<Found, Stop>) -> Result<u8, Stop>
-    requires { IfOk found (λ found. found.status ≤ 2) }
-    ensures low { IfOk result (λ status. status ≤ 2) }
-    ensures same { IfOk result (λ status. IfOk found (λ found. status ≡ found.status)) }
+/// Puts the text of what a command found, and hands its status on.
+pub(crate) fn put_findings<O: Sink>(out: &mut O, found: Found) -> Result<u8, Stop>
+    ensures status { IfOk result (λ status. status ≡ found.status) }
+    ensures put { OnOk result (Appends (O.taken out.old) (O.taken out.new) found.text.items) }
+    ensures counted { OnOk result (O.failed out.new ≡ O.failed out.old) }
+    ensures part { OnErr result (AppendsBeginning (O.taken out.old) (O.taken out.new) found.text.items) }
 {
-    let found = found?;
-    put_stdout(streams, found.text.as_slice())?;
+    put_results(out, found.text.as_slice())?;
     Ok(found.status)
 }

@@ -1,27 +1,30 @@
 //! The command `merge`.
 
-ghost use Rattle.std.specs.Prelude.{◌≡◌, ◌≤◌, IfOk, length, map};
+ghost use Rattle.std.specs.Prelude.{◌≡◌, ◌≤◌, ◌++◌, ◌∷◌, [], IfOk, OnOk, length, map};
 ghost use Rattle.rv_job_text.specs.TotalsLine.{totals_line};
 ghost use Rattle.rv_lists.specs.Limits.{most_jobs};
 ghost use Rattle.rv_merge.specs.Parts.{AreParts, bytes_of_texts};
 ghost use Rattle.rvtest_app.specs.Commands.{failure_rule};
+ghost use Rattle.rvtest_app.specs.Merges.{AreTextsAt, merged_report_path};
 ghost use Rattle.rvtest_app.specs.RunOutput.{rows_status};
+ghost use Rattle.rv_command.specs.Texts.{optional_text};
 
-use crate::failed_lines::FailedLines;
-use crate::files::read_file;
-use crate::messages::{path_message, path_number_message, put_stdout_or_stderr};
-use crate::outputs::{Outputs, junit_class_name};
-use crate::rules::failure_rule;
-use crate::status::rows_status;
-use crate::stop::Stop;
-use crate::streams::Streams;
+use crate::destinations::Destinations;
+use crate::junit_class::junit_class;
+use crate::outlets::{abandon_outlets, open_outlets};
+use crate::puts::put_shown;
+use crate::rules::{failure_rule, rows_status};
+use crate::whole_files::put_whole_files;
 use rv_cli::rvtest::MergeAsked;
+use rv_command::{Stop, path_message, path_number_message, read_file};
+use rv_files::{Inputs, Outputs};
 use rv_fleet::Rows;
 use rv_job_text::push_totals_line;
+use rv_junit::Suite;
 use rv_merge::{Flaw, MergeError, merge_parts};
+use rv_rows::Sink;
 use rv_text::{Span, text_of_spans};
 use std::alloc::{AllocError, Global};
-use std::rt::Files;
 
 // The rows of a whole list, with the line that counts them and their status.
 #[derive(Drop)]
@@ -32,22 +35,24 @@ struct Merged {
 }
 
 /// Makes the whole report of the parts of one run. The status is 1 where a job of it failed.
-pub(crate) fn merge_reports<R: Files, S: Streams>(
-    files: &R,
+pub(crate) fn merge_reports<D: Inputs, F: Outputs + Drop, O: Sink + Drop, E: Sink + Drop>(
+    inputs: &D,
     alloc: Global,
-    streams: &S,
     asked: &MergeAsked<'_>,
+    to: &mut Destinations<F, O, E>,
 ) -> Result<u8, Stop>
-    ensures { IfOk result (λ status. status ≤ 1) }
+    ensures low { IfOk result (λ status. status ≤ 1) }
 {
-    let texts = read_part_texts(files, alloc, asked)?;
+    let texts = read_part_texts(inputs, alloc, asked)?;
     let merged = merge_part_texts(alloc, asked, texts.as_slice())?;
-    let outputs = Outputs::open(files, alloc, merged_report_path(asked), asked.junit)?;
-    write_merged_outputs(alloc, streams, asked, outputs, merged)
+    put_merged(alloc, asked, merged, to)
 }
 
 // Standard output has the report where nothing else is asked for.
-fn merged_report_path<'a>(asked: &MergeAsked<'a>) -> Option<&'a str> {
+fn merged_report_path<'a>(asked: &MergeAsked<'a>) -> Option<&'a str>
+    ensures { optional_text result ≡ merged_report_path (optional_text asked.now.report)
+        (optional_text asked.now.junit) }
+{
     match (asked.report, asked.junit) {
         (None, Some("-")) => None,
         (None, _) => Some("-"),
@@ -94,20 +99,25 @@ fn rows_of_part_texts(
 }
 
 // What the parts' files have.
-fn read_part_texts<R: Files>(
-    files: &R,
+fn read_part_texts<D: Inputs>(
+    inputs: &D,
     alloc: Global,
     asked: &MergeAsked<'_>,
-) -> Result<Vec<Vec<u8>>, Stop> {
+) -> Result<Vec<Vec<u8>>, Stop>
+    ensures { IfOk result (λ texts. AreTextsAt (D.contents inputs.now)
+        asked.now.parts.items (map (λ text. text.items) texts.items)) }
+{
     let mut texts = Vec::new(alloc);
     for path in &asked.parts {
-        let text = read_file(files, alloc, path, usize::MAX)?;
+        let text = read_file(inputs, alloc, path)?;
         add_part_text(&mut texts, text)?;
     }
     Ok(texts)
 }
 
-fn add_part_text(texts: &mut Vec<Vec<u8>>, text: Vec<u8>) -> Result<(), AllocError> {
+fn add_part_text(texts: &mut Vec<Vec<u8>>, text: Vec<u8>) -> Result<(), AllocError>
+    ensures { OnOk result (texts.new.items ≡ texts.old.items ++ text ∷ []) }
+{
     texts.push(text)?;
     Ok(())
 }
@@ -123,41 +133,27 @@ fn text_slices(alloc: Global, texts: &[Vec<u8>]) -> Result<Vec<&[u8]>, AllocErro
     Ok(slices)
 }
 
-// Writes what is asked for, puts the last line, and hands the status on. The line goes to standard error where a file
-// goes to standard output.
-fn write_merged_outputs<R: Files, S: Streams>(
+// Puts what is asked for, and hands the status on.
+fn put_merged<F: Outputs + Drop, O: Sink + Drop, E: Sink + Drop>(
     alloc: Global,
-    streams: &S,
     asked: &MergeAsked<'_>,
-    outputs: Outputs<'_, R>,
     merged: Merged,
+    to: &mut Destinations<F, O, E>,
 ) -> Result<u8, Stop>
-    ensures { IfOk result (λ status. status ≡ merged.status) }
+    ensures status { IfOk result (λ status. status ≡ merged.status) }
 {
     let Merged { rows, line, status } = merged;
-    if let Err(stop) = put_stdout_or_stderr(streams, line.as_slice(), outputs.is_to_stdout()) {
-        return Err(outputs.abandon_with(stop));
+    let outlets = open_outlets(&mut to.files, alloc, merged_report_path(asked), asked.junit)?;
+    if let Err(stop) = put_shown(to, line.as_slice(), outlets.use_stdout()) {
+        abandon_outlets(&mut to.files, outlets);
+        return Err(stop);
     }
-    write_merged_files(alloc, streams, asked, outputs, rows)?;
-    Ok(status)
-}
-
-fn write_merged_files<R: Files, S: Streams>(
-    alloc: Global,
-    streams: &S,
-    asked: &MergeAsked<'_>,
-    outputs: Outputs<'_, R>,
-    rows: Rows,
-) -> Result<(), Stop> {
-    let Outputs { report, junit } = outputs;
-    let class = junit_class_name(asked.report.unwrap_or("merged")).as_bytes();
-    let lines = FailedLines {
+    let suite = Suite {
+        name: junit_class(asked.report.unwrap_or("merged")).as_bytes(),
         rule: failure_rule(asked.lenient),
     };
-    if let Err(stop) = junit.write_rows_as_junit(alloc, streams, class, &lines, rows.as_slice()) {
-        return Err(report.abandon_with(stop));
-    }
-    report.write_whole_report(alloc, streams, rows)
+    put_whole_files(alloc, to, outlets, suite, rows)?;
+    Ok(status)
 }
 
 // Why the parts are not those of one run.

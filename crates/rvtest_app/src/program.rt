@@ -1,87 +1,141 @@
-//! The whole program, over a runtime and streams.
+//! The whole program, over files, sinks and terminals.
 
 ghost use Rattle.std.specs.Prelude.{◌≤◌, IfOk};
 
 use crate::check::check_list;
+use crate::destinations::Destinations;
 use crate::diff::diff_reports;
 use crate::explain::explain_named_job;
 use crate::findings::put_findings;
 use crate::help::answer_clap_error;
+use crate::host::Host;
 use crate::merge::merge_reports;
-use crate::messages::{FAILED, REFUSED, put_stderr, put_stop_message};
 use crate::run::run_requested_jobs;
 use crate::show::show_report;
-use crate::stop::Stop;
-use crate::streams::Streams;
+use crate::terminals::Terminals;
 use rv_cli::rvtest::{Asked, read_words};
+use rv_command::{REFUSED, Stop, put_message, put_stop_message};
+use rv_files::{Inputs, Outputs};
+use rv_rows::Sink;
 use std::alloc::Global;
 use std::convert::AsStr;
-use std::io::{self, ErrorKind};
-use std::rt::Files;
+use std::io::{self, ErrorKind, Write};
 use std::sync::Wait;
 use std::thread::Threads;
 use std::time::Clock;
 
 /// Answers words, the first of which is the program's name, with the status of the program.
-pub fn run_rvtest<'a, R: Threads + Wait + Sync + Files + Clock, T: AsStr, S: Streams>(
-    rt: &R,
-    alloc: Global,
+pub fn run_rvtest<
+    'a,
+    R: Threads + Wait + Sync + Clock,
+    D: Inputs,
+    T: AsStr,
+    F: Outputs + Drop,
+    O: Sink + Drop + Send,
+    E: Sink + Drop + Send,
+    P: Write + Drop + Send,
+>(
+    host: &Host<'_, R, D>,
     words: &'a [T],
-    streams: &S,
-) -> u8
-    ensures { result ≤ 3 }
+    to: Destinations<F, O, E>,
+    terminals: Terminals<P>,
+) -> (Destinations<F, O, E>, u8)
+    ensures { result.1 ≤ 3 }
 {
-    match answer_words(rt, alloc, words, streams) {
-        Ok(status) => status,
-        Err(stop) => put_stop_message(streams, stop),
+    let (mut to, answer) = answer_words(host, words, to, terminals);
+    match answer {
+        Ok(status) => (to, status),
+        Err(stop) => {
+            let status = put_stop_message(&mut to.errors, stop);
+            (to, status)
+        }
     }
 }
 
-fn answer_words<'a, R: Threads + Wait + Sync + Files + Clock, T: AsStr, S: Streams>(
-    rt: &R,
-    alloc: Global,
+fn answer_words<
+    'a,
+    R: Threads + Wait + Sync + Clock,
+    D: Inputs,
+    T: AsStr,
+    F: Outputs + Drop,
+    O: Sink + Drop + Send,
+    E: Sink + Drop + Send,
+    P: Write + Drop + Send,
+>(
+    host: &Host<'_, R, D>,
     words: &'a [T],
-    streams: &S,
-) -> Result<u8, Stop>
-    ensures { IfOk result (λ status. status ≤ 2) }
+    to: Destinations<F, O, E>,
+    terminals: Terminals<P>,
+) -> (Destinations<F, O, E>, Result<u8, Stop>)
+    ensures { IfOk result.1 (λ status. status ≤ 2) }
 {
-    match read_words(alloc, words) {
-        Ok(Some(asked)) => run_subcommand(rt, alloc, streams, asked),
-        Ok(None) => Ok(REFUSED),
-        Err(error) => answer_clap_error(alloc, streams, &error),
+    match read_words(host.alloc, words) {
+        Ok(Some(asked)) => run_subcommand(host, asked, to, terminals),
+        Ok(None) => (to, Ok(REFUSED)),
+        Err(error) => {
+            let mut to = to;
+            let answer = answer_clap_error(host.alloc, &mut to.out, &error);
+            (to, answer)
+        }
     }
 }
 
 // Does what words ask for.
-fn run_subcommand<R: Threads + Wait + Sync + Files + Clock, S: Streams>(
-    rt: &R,
-    alloc: Global,
-    streams: &S,
+fn run_subcommand<
+    R: Threads + Wait + Sync + Clock,
+    D: Inputs,
+    F: Outputs + Drop,
+    O: Sink + Drop + Send,
+    E: Sink + Drop + Send,
+    P: Write + Drop + Send,
+>(
+    host: &Host<'_, R, D>,
     asked: Asked<'_>,
+    to: Destinations<F, O, E>,
+    terminals: Terminals<P>,
+) -> (Destinations<F, O, E>, Result<u8, Stop>)
+    ensures { IfOk result.1 (λ status. status ≤ 2) }
+{
+    match asked {
+        Asked::Run(asked) => run_requested_jobs(host, &asked, to, terminals),
+        Asked::Explain(_) | Asked::Check(_) | Asked::Merge(_) | Asked::Diff(_) | Asked::Show(_) => {
+            let mut to = to;
+            let answer = answer_without_run(host.inputs, host.alloc, asked, &mut to);
+            (to, answer)
+        }
+    }
+}
+
+// The commands that run no list.
+fn answer_without_run<D: Inputs, F: Outputs + Drop, O: Sink + Drop, E: Sink + Drop>(
+    inputs: &D,
+    alloc: Global,
+    asked: Asked<'_>,
+    to: &mut Destinations<F, O, E>,
 ) -> Result<u8, Stop>
     ensures { IfOk result (λ status. status ≤ 2) }
 {
     match asked {
-        Asked::Run(asked) => run_requested_jobs(rt, alloc, streams, &asked),
-        Asked::Explain(asked) => put_findings(streams, explain_named_job(rt, alloc, asked)),
-        Asked::Check(asked) => put_findings(streams, check_list(rt, alloc, asked)),
-        Asked::Merge(asked) => merge_reports(rt, alloc, streams, &asked),
-        Asked::Diff(asked) => put_findings(streams, diff_reports(rt, alloc, asked)),
-        Asked::Show(asked) => show_report(rt, alloc, streams, asked),
+        Asked::Run(_) => Ok(REFUSED),
+        Asked::Explain(asked) => put_findings(
+            &mut to.out,
+            explain_named_job(inputs, alloc, asked)?,
+        ),
+        Asked::Check(asked) => put_findings(&mut to.out, check_list(inputs, alloc, asked)?),
+        Asked::Merge(asked) => merge_reports(inputs, alloc, &asked, to),
+        Asked::Diff(asked) => put_findings(&mut to.out, diff_reports(inputs, alloc, asked)?),
+        Asked::Show(asked) => show_report(inputs, alloc, asked, to),
     }
 }
 
 /// The status of words that the process doesn't give: words that aren't UTF-8 are refused.
-pub fn refuse_unreadable_words<S: Streams>(error: &io::Error, streams: &S) -> u8
+pub fn refuse_unreadable_words<E: Sink>(error: &io::Error, errors: &mut E) -> u8
     ensures { result ≤ 3 }
 {
     match error.kind() {
-        ErrorKind::OutOfMemory => {
-            put_stderr(streams, b"rvtest: out of memory\n");
-            FAILED
-        }
+        ErrorKind::OutOfMemory => put_stop_message(errors, Stop::OutOfMemory),
         _ => {
-            put_stderr(streams, b"rvtest: a word is no UTF-8 text\n");
+            put_message(errors, b"rvtest: a word is no UTF-8 text\n");
             REFUSED
         }
     }

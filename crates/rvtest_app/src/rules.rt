@@ -1,9 +1,12 @@
-//! Which rows are failures.
+//! Which rows are failures, and the status of rows.
 
-ghost use Rattle.std.specs.Prelude.{◌≡◌};
+ghost use Rattle.std.specs.Prelude.{◌≡◌, ◌≤◌};
 ghost use Rattle.rvtest_app.specs.Commands.{failure_rule};
+ghost use Rattle.rvtest_app.specs.RunOutput.{rows_status};
 
-use rv_expect::Rule;
+use rv_command::{DONE, SOME_FAIL};
+use rv_expect::{Rule, have_passed};
+use rv_rows::Row;
 
 /// The rule that words ask for.
 pub(crate) fn failure_rule(is_lenient: bool) -> Rule
@@ -13,5 +16,17 @@ pub(crate) fn failure_rule(is_lenient: bool) -> Rule
         Rule::Lenient
     } else {
         Rule::Strict
+    }
+}
+
+/// [`SOME_FAIL`] where some job failed, else [`DONE`].
+pub(crate) fn rows_status(rule: Rule, rows: &[Row]) -> u8
+    ensures value { result ≡ rows_status rule rows.now }
+    ensures low { result ≤ 1 }
+{
+    if have_passed(rule, rows) {
+        DONE
+    } else {
+        SOME_FAIL
     }
 }

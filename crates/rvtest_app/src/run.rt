@@ -1,249 +1,367 @@
 //! The command `run`.
 
 ghost use Rattle.rv_lists.specs.Limits.{most_workers};
-ghost use Rattle.std.specs.Prelude.{◌≡◌, ◌≤◌, ◌<◌, IfOk, IfSome, length, option_map};
+ghost use Rattle.std.specs.Prelude.{◌≡◌, ◌≤◌, ◌<◌, ℕ, List, None, Some, IfOk, IfSome, IsSome, OnOk, length};
+ghost use Rattle.std.specs.Io.KnownBytes.{Appends};
+ghost use Rattle.std.specs.List.{All};
 ghost use Rattle.std.specs.List.Sorted.{IsStrictlyIncreasing};
+ghost use Rattle.rv_choice.specs.Chosen.{IsChoice};
+ghost use Rattle.rv_command.specs.Texts.{optional_text};
+ghost use Rattle.rv_files.specs.UnreadPaths.{contents_below};
 ghost use Rattle.rv_fleet.specs.Choices.{AreJobPlaces};
-ghost use Rattle.rv_jobs.specs.Choices.{marked_places};
+ghost use Rattle.rv_jobs.specs.Plans.{AreKept, jobs_needed_for, paths_of, paths_used};
+ghost use Rattle.rv_job_text.specs.Telling.{row_lines_at, telling_of};
+ghost use Rattle.rv_lists.specs.declared.job.Job.{Job as AJob};
+ghost use Rattle.rv_merge.specs.Shards.{shard_marks};
 ghost use Rattle.rv_rows.specs.Rows.{rows_at};
-ghost use Rattle.rvtest_app.specs.Runs.{AreRequestedMarks, IsListRunStatus, IsMarkedRunStatus};
-ghost use Rattle.rvtest_app.specs.Commands.{requested_verbosity};
-ghost use Rattle.rvtest_app.specs.RunOutput.{rows_status};
+ghost use Rattle.rvtest_app.specs.Commands.{failure_rule, requested_verbosity};
+ghost use Rattle.rvtest_app.specs.Outlets.{has_no_failure};
+ghost use Rattle.rvtest_app.specs.RunOutput.{rows_status, run_output_text};
+ghost use Rattle.rvtest_app.specs.Runs.{AreRequestedJobs, IsMarkedStatus, IsRunStatus};
 
 use crate::chosen_rows::ChosenRows;
-use crate::counting_telling::CountingTelling;
-use crate::list::{parse_list, read_list_text};
-use crate::outputs::{Outputs, junit_class_name};
-use crate::progress::Progress;
-use crate::rules::failure_rule;
+use crate::destinations::Destinations;
+use crate::file_texts::FileTexts;
+use crate::host::Host;
+use crate::junit_class::junit_class;
+use crate::outlets::{Outlets, abandon_outlets, open_outlets};
+use crate::planned_run::{MarkedJobs, PlannedRun};
+use crate::puts::put_files;
+use crate::report_texts::ReportText;
+use crate::rules::{failure_rule, rows_status};
 use crate::run_output::put_run_output;
-use crate::shard::requested_shard;
-use crate::status::{DONE, rows_status};
-use crate::stop::Stop;
-use crate::streams::Streams;
-use crate::terminal_sink::TerminalSink;
+use crate::terminals::Terminals;
+use rv_choice::{Choice, Chooser, requested_shard};
 use rv_cli::rvtest::RunAsked;
+use rv_command::{DONE, Stop, parse_list, put_message, read_list_text};
 use rv_expect::Rule;
-use rv_files::{NotingStore, StreamSink};
+use rv_files::{Inputs, NotingStore, Outputs};
 use rv_fleet::{Batch, Crew, Rows};
 use rv_job_text::{RowTelling, Verbosity};
 use rv_jobs::limits::{MOST_GROUP, MOST_WORKERS};
-use rv_jobs::{Job, JobList, Plan, gather_places, marked_places};
-use rv_junit::{PlacedRows, Suite};
+use rv_jobs::{JobList, Plan, Store, gather_places, marked_places};
+use rv_junit::Suite;
 use rv_merge::shard_marks;
+use rv_progress::{CountingTelling, Progress, TerminalSink};
 use rv_report::Shard;
-use std::alloc::Global;
+use rv_rows::Sink;
+use std::alloc::{AllocError, Global};
 use std::io::Write;
-use std::rt::Files;
 use std::sync::Wait;
 use std::thread::{self, Threads};
 use std::time::Clock;
 
-/// A run of a list that words ask for, over a runtime and streams.
+/// A run of a list that words ask for.
 #[derive(Drop)]
-pub(crate) struct ListRun<'x, R, S> {
-    pub(crate) rt: &'x R,
-    pub(crate) alloc: Global,
-    pub(crate) streams: &'x S,
-    pub(crate) asked: &'x RunAsked<'x>,
-    /// Which rows are failures.
-    pub(crate) rule: Rule,
+struct ListRun<'x, R, D> {
+    host: &'x Host<'x, R, D>,
+    asked: &'x RunAsked<'x>,
+    // Which rows are failures.
+    rule: Rule,
 }
 
 /// Runs the jobs that are asked for, shows them, and writes their report. The status is 1 where one of them failed.
-pub(crate) fn run_requested_jobs<R: Threads + Wait + Sync + Files + Clock, S: Streams>(
-    rt: &R,
-    alloc: Global,
-    streams: &S,
+pub(crate) fn run_requested_jobs<
+    R: Threads + Wait + Sync + Clock,
+    D: Inputs,
+    F: Outputs + Drop,
+    O: Sink + Drop + Send,
+    E: Sink + Drop + Send,
+    P: Write + Drop + Send,
+>(
+    host: &Host<'_, R, D>,
     asked: &RunAsked<'_>,
-) -> Result<u8, Stop>
-    ensures { IfOk result (λ status. status ≤ 1) }
+    to: Destinations<F, O, E>,
+    terminals: Terminals<P>,
+) -> (Destinations<F, O, E>, Result<u8, Stop>)
+    ensures run { IfOk result.1 (IsRunStatus (D.contents host.now.inputs.now) asked.now) }
+    ensures low { IfOk result.1 (λ status. status ≤ 1) }
 {
-    let text = read_list_text(rt, alloc, asked.list)?;
     let run = ListRun {
-        rt,
-        alloc,
-        streams,
+        host,
         asked,
         rule: failure_rule(asked.lenient),
     };
-    run.run_list_text(text.as_slice())
+    let mut to = to;
+    match run.choose_jobs(&mut to.errors) {
+        Ok(Some(marked)) => run.run_marked_jobs(marked, to, terminals),
+        Ok(None) => (to, Ok(DONE)),
+        Err(stop) => (to, Err(stop)),
+    }
 }
 
-impl<'x, R: Threads + Wait + Sync + Files + Clock, S: Streams> ListRun<'x, R, S> {
-    // The same of the list's text.
-    fn run_list_text(&self, text: &[u8]) -> Result<u8, Stop>
-        ensures run { IfOk result
-            (λ status. IsListRunStatus self.now.asked.now self.now.rule text.now status) }
-        ensures low { IfOk result (λ status. status ≤ 1) }
+impl<'x, R, D: Inputs> ListRun<'x, R, D> {
+    // The jobs of the list that are to run, if any are; what is to be said of the choice goes to standard error.
+    fn choose_jobs<E: Sink>(&self, errors: &mut E) -> Result<Option<MarkedJobs>, Stop>
+        requires { self.now.rule ≡ failure_rule self.now.asked.now.lenient }
+        ensures some { IfOk result (λ marked. IfSome marked (λ marked. (notes : List ℕ)
+            × AreRequestedJobs (D.contents self.now.host.now.inputs.now) self.now.asked.now marked.jobs
+            (Some marked.marks.items) marked.shard notes)) }
+        ensures none { IfOk result (λ marked. marked ≡ None → (jobs : List AJob) × ((notes : List ℕ)
+            × AreRequestedJobs (D.contents self.now.host.now.inputs.now) self.now.asked.now jobs None None notes)) }
     {
-        let jobs = parse_list(self.alloc, self.asked.list, text)?;
-        let shard = requested_shard(self.alloc, self.asked, text, jobs.as_slice().len())?;
-        match self.shard_or_requested_marks(&shard, jobs.as_slice())? {
-            Some(marks) => self.run_marked_jobs(jobs, marks.as_slice(), shard),
-            None => Ok(DONE),
+        let (alloc, asked) = (self.host.alloc, self.asked);
+        let text = read_list_text(self.host.inputs, alloc, asked.list)?;
+        let jobs = parse_list(alloc, asked.list, text.as_slice())?;
+        match requested_shard(alloc, asked, text.as_slice(), jobs.as_slice().len())? {
+            Some(shard) => self.jobs_of_shard(jobs, shard),
+            None => self.jobs_of_choice(jobs, errors),
         }
     }
 
-    // Runs the jobs that are marked, once the files that they need are read.
-    fn run_marked_jobs(
+    fn jobs_of_shard(&self, jobs: JobList, shard: Shard) -> Result<Option<MarkedJobs>, Stop>
+        requires { (0 < shard.number) × (shard.number ≤ shard.shards) }
+        ensures some { IfOk result (λ marked. IfSome marked (λ marked. (marked.jobs ≡ jobs)
+            × (marked.shard ≡ Some shard)
+            × (marked.marks.items ≡ shard_marks shard.shards shard.number (length jobs)))) }
+        ensures shard { IfOk result (λ marked. IsSome marked) }
+    {
+        let marks = shard_marks(
+            self.host.alloc,
+            jobs.as_slice().len(),
+            shard.number,
+            shard.shards,
+        )?;
+        Ok(Some(MarkedJobs {
+            jobs,
+            marks,
+            shard: Some(shard),
+        }))
+    }
+
+    fn jobs_of_choice<E: Sink>(
         &self,
         jobs: JobList,
-        marks: &[bool],
-        shard: Option<Shard>,
-    ) -> Result<u8, Stop>
-        requires { length marks.now ≡ length jobs }
-        ensures { IfOk result (IsMarkedRunStatus self.now.rule jobs marks.now) }
+        errors: &mut E,
+    ) -> Result<Option<MarkedJobs>, Stop>
+        ensures some { IfOk result (λ marked. IfSome marked (λ marked. (notes : List ℕ)
+            × ((marked.jobs ≡ jobs) × (marked.shard ≡ None)
+            × IsChoice (D.contents self.now.host.now.inputs.now) self.now.asked.now self.now.rule jobs
+            (Some marked.marks.items) notes))) }
+        ensures none { IfOk result (λ marked. marked ≡ None → (notes : List ℕ)
+            × IsChoice (D.contents self.now.host.now.inputs.now) self.now.asked.now self.now.rule jobs None notes) }
     {
-        let places = marked_places(self.alloc, marks)?;
-        let needed = marked_places(self.alloc, marks)?;
-        let mut store = NotingStore::new(self.rt, self.alloc, self.asked.root);
-        let plan = gather_places(self.alloc, jobs, needed, &mut store)?;
+        let chooser = Chooser {
+            inputs: self.host.inputs,
+            alloc: self.host.alloc,
+            asked: self.asked,
+            rule: self.rule,
+        };
+        let Choice { marks, notes } = chooser.choose(jobs.as_slice())?;
+        put_message(errors, notes.as_slice());
+        match marks {
+            Some(marks) => Ok(Some(MarkedJobs {
+                jobs,
+                marks,
+                shard: None,
+            })),
+            None => Ok(None),
+        }
+    }
+}
+
+impl<'x, R: Threads + Wait + Sync + Clock, D: Inputs> ListRun<'x, R, D> {
+    // Runs the jobs that are marked, once the files that they need are read.
+    fn run_marked_jobs<
+        F: Outputs + Drop,
+        O: Sink + Drop + Send,
+        E: Sink + Drop + Send,
+        P: Write + Drop + Send,
+    >(
+        &self,
+        marked: MarkedJobs,
+        to: Destinations<F, O, E>,
+        terminals: Terminals<P>,
+    ) -> (Destinations<F, O, E>, Result<u8, Stop>)
+        ensures { IfOk result.1 (IsMarkedStatus
+            (contents_below (optional_text self.now.asked.now.root) (D.contents self.now.host.now.inputs.now))
+            self.now.rule marked.jobs (Some marked.marks.items)) }
+    {
+        let MarkedJobs {
+            jobs,
+            marks,
+            shard,
+            ..
+        } = marked;
+        let (alloc, asked) = (self.host.alloc, self.asked);
+        let places = match marked_places(alloc, marks.as_slice()) {
+            Ok(places) => places,
+            Err(error) => return (to, Err(Stop::from(error))),
+        };
+        let mut store = NotingStore::new(self.host.inputs, alloc, asked.root);
+        let plan = match gather_jobs_at(alloc, jobs, places.as_slice(), &mut store) {
+            Ok(plan) => plan,
+            Err(error) => return (to, Err(Stop::from(error))),
+        };
         let telling = RowTelling {
             plan: &plan,
             unread: store.unread_paths(),
             rule: self.rule,
-            verbosity: requested_verbosity(self.asked),
-            last: self.asked.last,
+            verbosity: requested_verbosity(asked),
+            last: asked.last,
         };
-        self.run_planned_jobs(&telling, places.as_slice(), shard)
+        let planned = PlannedRun {
+            telling: &telling,
+            places: places.as_slice(),
+        };
+        self.run_planned_jobs(planned, shard, to, terminals)
     }
 
     // Runs the jobs at some places of a plan. Both files are opened before the first of them runs.
-    fn run_planned_jobs(
+    fn run_planned_jobs<
+        F: Outputs + Drop,
+        O: Sink + Drop + Send,
+        E: Sink + Drop + Send,
+        P: Write + Drop + Send,
+    >(
         &self,
-        telling: &RowTelling<'_>,
-        places: &[usize],
+        planned: PlannedRun<'_>,
         shard: Option<Shard>,
-    ) -> Result<u8, Stop>
-        requires within { AreJobPlaces telling.now.plan.now places.now }
-        requires rising { IsStrictlyIncreasing places.now }
-        ensures { IfOk result (λ status. status
-            ≡ rows_status telling.now.rule (rows_at telling.now.plan.now places.now)) }
+        to: Destinations<F, O, E>,
+        terminals: Terminals<P>,
+    ) -> (Destinations<F, O, E>, Result<u8, Stop>)
+        ensures { IfOk result.1 (λ status. status ≡ rows_status planned.entry.telling.now.rule
+            (rows_at planned.entry.telling.now.plan.now planned.entry.places.now)) }
     {
-        let asked = self.asked;
-        let outputs = Outputs::open(self.rt, self.alloc, asked.report, asked.junit)?;
-        match self.run_and_show(telling, places, outputs.is_to_stdout()) {
-            Ok(rows) => self.write_run_files(outputs, telling, places, shard, rows),
-            Err(stop) => Err(outputs.abandon_with(stop)),
-        }
+        let (alloc, asked) = (self.host.alloc, self.asked);
+        let mut to = to;
+        let outlets = match open_outlets(&mut to.files, alloc, asked.report, asked.junit) {
+            Ok(outlets) => outlets,
+            Err(stop) => return (to, Err(stop)),
+        };
+        let (mut to, ran) = self.run_and_show(planned, outlets.use_stdout(), to, terminals);
+        let put = match ran {
+            Ok(rows) => self.put_run_files(planned, shard, rows, outlets, &mut to),
+            Err(stop) => {
+                abandon_outlets(&mut to.files, outlets);
+                Err(stop)
+            }
+        };
+        (to, put)
     }
-}
 
-impl<'x, R: Threads + Wait + Sync + Clock, S: Streams> ListRun<'x, R, S> {
-    // Runs the jobs at some places, and shows them: on standard error where the report goes to standard output.
-    fn run_and_show(
+    // Runs the jobs at some places, and shows them: on standard error where a file goes to standard output.
+    fn run_and_show<F: Drop, O: Sink + Drop + Send, E: Sink + Drop + Send, P: Write + Drop + Send>(
         &self,
-        telling: &RowTelling<'_>,
-        places: &[usize],
+        planned: PlannedRun<'_>,
         is_beside: bool,
-    ) -> Result<Rows, Stop>
-        requires within { AreJobPlaces telling.now.plan.now places.now }
-        requires rising { IsStrictlyIncreasing places.now }
-        ensures { IfOk result (λ rows. rows ≡ rows_at telling.now.plan.now places.now) }
+        to: Destinations<F, O, E>,
+        terminals: Terminals<P>,
+    ) -> (Destinations<F, O, E>, Result<Rows, Stop>)
+        ensures { IfOk result.1 (λ rows. rows
+            ≡ rows_at planned.entry.telling.now.plan.now planned.entry.places.now) }
     {
-        let streams = self.streams;
+        let Destinations { files, out, errors } = to;
         if is_beside {
-            let is_terminal = streams.is_errors_terminal();
-            self.run_and_show_on(telling, places, streams.errors(), is_terminal)
+            let is_terminal = terminals.is_errors_terminal;
+            let (errors, ran) = self.run_and_show_on(planned, errors, is_terminal, terminals);
+            (Destinations { files, out, errors }, ran)
         } else {
-            let is_terminal = streams.is_out_terminal();
-            self.run_and_show_on(telling, places, streams.out(), is_terminal)
+            let is_terminal = terminals.is_out_terminal;
+            let (out, ran) = self.run_and_show_on(planned, out, is_terminal, terminals);
+            (Destinations { files, out, errors }, ran)
         }
     }
 
-    // The same on a stream, and how far the run is on standard error.
-    fn run_and_show_on<W: Write + Drop + Send>(
+    // The same on one of the streams, and how far the run is on standard error.
+    fn run_and_show_on<W: Sink + Drop + Send, P: Write + Drop + Send>(
         &self,
-        telling: &RowTelling<'_>,
-        places: &[usize],
+        planned: PlannedRun<'_>,
         out: W,
         is_terminal: bool,
-    ) -> Result<Rows, Stop>
-        requires within { AreJobPlaces telling.now.plan.now places.now }
-        requires rising { IsStrictlyIncreasing places.now }
-        ensures { IfOk result (λ rows. rows ≡ rows_at telling.now.plan.now places.now) }
+        terminals: Terminals<P>,
+    ) -> (W, Result<Rows, Stop>)
+        ensures rows { IfOk result.1 (λ rows. rows
+            ≡ rows_at planned.entry.telling.now.plan.now planned.entry.places.now) }
+        ensures shown { OnOk result.1 (Appends (W.taken out) (W.taken result.0)
+            (run_output_text (row_lines_at (telling_of planned.entry.telling.now))
+            planned.entry.telling.now.rule planned.entry.places.now
+            (rows_at planned.entry.telling.now.plan.now planned.entry.places.now))) }
     {
-        let (rt, alloc, rule) = (self.rt, self.alloc, telling.rule);
-        let errors = self.streams.errors();
-        let is_shown = self.streams.is_errors_terminal();
-        let progress = Progress::new(rt, places.len(), rule, errors, is_shown);
+        let (rt, alloc) = (self.host.rt, self.host.alloc);
+        let PlannedRun {
+            telling,
+            places,
+            ..
+        } = planned;
+        let Terminals {
+            is_errors_terminal,
+            progress,
+            ..
+        } = terminals;
+        let progress = Progress::new(rt, places.len(), telling.rule, progress, is_errors_terminal);
         let counting = CountingTelling::new(rt, telling, &progress);
-        let sink = TerminalSink::new(rt, alloc, StreamSink::new(out), is_terminal, &progress);
-        let workers = worker_count(rt, self.asked);
+        let sink = TerminalSink::new(rt, alloc, out, is_terminal, &progress);
         let group = self.asked.group.clamp(1, MOST_GROUP);
-        let crew = Crew::new(rt, alloc, workers, group);
+        let crew = Crew::new(rt, alloc, worker_count(rt, self.asked), group);
         let batch = Batch::new(telling.plan, places);
-        let (sink, ran) = put_run_output(&crew, &batch, rule, &counting, sink);
-        sink.into_inner();
+        let (sink, ran) = put_run_output(&crew, &batch, telling.rule, &counting, sink);
+        let out = sink.into_inner();
         progress.finish();
-        Ok(ran?)
-    }
-}
-
-impl<'x, R: Files, S: Streams> ListRun<'x, R, S> {
-    // A mark for each job of the shard, or for each that is asked for; none where no job is to run.
-    fn shard_or_requested_marks(
-        &self,
-        shard: &Option<Shard>,
-        jobs: &[Job],
-    ) -> Result<Option<Vec<bool>>, Stop>
-        requires { IfSome shard.now (λ s. (0 < s.number) × (s.number ≤ s.shards)) }
-        ensures marks { IfOk result (λ choice. AreRequestedMarks shard.now self.now.asked.now
-            self.now.rule jobs.now (option_map (λ marks. marks.items) choice)) }
-        ensures counted { IfOk result (λ choice.
-            IfSome choice (λ marks. length marks.items ≡ length jobs.now)) }
-    {
-        let Some(shard) = shard else {
-            return self.requested_marks(jobs);
-        };
-        match shard_marks(self.alloc, jobs.len(), shard.number, shard.shards) {
-            Ok(marks) => Ok(Some(marks)),
-            Err(error) => Err(Stop::from(error)),
+        match ran {
+            Ok(rows) => (out, Ok(rows)),
+            Err(error) => (out, Err(Stop::from(error))),
         }
     }
 
-    // Writes the two files of the rows of the jobs at some places; without the first the second is not there either.
-    fn write_run_files(
+    // Puts the two files of the rows of the jobs at some places, and gives the status of the rows.
+    fn put_run_files<F: Outputs + Drop, O: Sink + Drop, E: Sink + Drop>(
         &self,
-        outputs: Outputs<'_, R>,
-        telling: &RowTelling<'_>,
-        places: &[usize],
+        planned: PlannedRun<'_>,
         shard: Option<Shard>,
         rows: Rows,
+        outlets: Outlets<'_, F::Place, F::File>,
+        to: &mut Destinations<F, O, E>,
     ) -> Result<u8, Stop>
-        requires within { AreJobPlaces telling.now.plan.now places.now }
-        requires rising { IsStrictlyIncreasing places.now }
-        requires counted { length rows ≡ length places.now }
-        ensures { IfOk result (λ status. status ≡ rows_status telling.now.rule rows) }
+        requires counted { length rows ≡ length planned.places.now }
+        requires report { has_no_failure F.File.failed outlets.report }
+        requires junit { has_no_failure F.File.failed outlets.junit }
+        ensures { IfOk result (λ status. status ≡ rows_status planned.entry.telling.now.rule rows) }
     {
-        let (alloc, streams) = (self.alloc, self.streams);
-        let Outputs { report, junit } = outputs;
+        let PlannedRun {
+            telling,
+            places,
+            ..
+        } = planned;
+        let status = rows_status(telling.rule, rows.as_slice());
         let told = RowTelling {
             verbosity: Verbosity::Failures,
             ..*telling
         };
-        let suite = Suite {
-            name: junit_class_name(self.asked.list).as_bytes(),
-            rule: told.rule,
-        };
-        let items = rows.as_slice();
-        let status = rows_status(told.rule, items);
-        let placed = PlacedRows {
-            places,
-            rows: items,
-        };
-        if let Err(stop) = junit.write_junit(alloc, streams, &suite, &told, &placed) {
-            return Err(report.abandon_with(stop));
-        }
         let chosen = ChosenRows {
             jobs: telling.plan.jobs(),
             places,
             rows,
         };
-        report.write_chosen_rows(alloc, streams, chosen, shard)?;
+        let texts = FileTexts {
+            suite: Suite {
+                name: junit_class(self.asked.list).as_bytes(),
+                rule: told.rule,
+            },
+            telling: &told,
+            places,
+            report: ReportText::Chosen(chosen, shard),
+        };
+        put_files(self.host.alloc, to, outlets, texts)?;
         Ok(status)
     }
+}
+
+// The plan of the jobs at some places.
+fn gather_jobs_at<S: Store>(
+    alloc: Global,
+    jobs: JobList,
+    places: &[usize],
+    store: &mut S,
+) -> Result<Plan, AllocError>
+    requires { All (λ place. place < length jobs) places.now }
+    ensures same { S.contents store.new ≡ S.contents store.old }
+    ensures jobs { IfOk result (λ plan. plan.jobs ≡ jobs) }
+    ensures paths { IfOk result (λ plan. paths_of plan.answers
+        ≡ paths_used (jobs_needed_for jobs places.now)) }
+    ensures kept { IfOk result (λ plan. AreKept (S.contents store.old) plan.answers) }
+{
+    gather_places(alloc, jobs, Vec::from_slice(alloc, places)?, store)
 }
 
 fn requested_verbosity(asked: &RunAsked<'_>) -> Verbosity

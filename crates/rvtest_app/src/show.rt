@@ -1,27 +1,26 @@
 //! The command `show`.
 
-ghost use Rattle.std.specs.Prelude.{◌≡◌, ◌≤◌, ◌<◌, ◌^◌, IfOk, length};
-ghost use Rattle.rvtest_app.specs.Reports.{IsReportOf};
+ghost use Rattle.std.specs.Prelude.{◌≡◌, ◌≤◌, ◌<◌, ◌^◌, IfOk, OnOk, length};
+ghost use Rattle.rv_command.specs.Texts.{IsReportAt, IsReportOf};
 ghost use Rattle.rvtest_app.specs.Commands.{failure_rule};
 ghost use Rattle.rvtest_app.specs.RunOutput.{rows_status};
 ghost use Rattle.rvtest_app.specs.ReportSummary.{summary_text};
 
-use crate::failed_lines::FailedLines;
-use crate::messages::put_stdout_or_stderr;
-use crate::outputs::junit_class_name;
+use crate::destinations::Destinations;
+use crate::junit_class::junit_class;
+use crate::outlets::{abandon_outlets, open_outlets};
+use crate::puts::put_shown;
 use crate::report_summary::push_summary;
-use crate::report_target::ReportTo;
-use crate::rules::failure_rule;
-use crate::saved_report::{parse_report, read_report_text};
-use crate::status::rows_status;
-use crate::stop::Stop;
-use crate::streams::Streams;
+use crate::rules::{failure_rule, rows_status};
+use crate::whole_files::put_whole_files;
 use rv_cli::rvtest::ShowAsked;
+use rv_command::{Stop, read_report_file};
 use rv_expect::Rule;
+use rv_files::{Inputs, Outputs};
+use rv_junit::Suite;
 use rv_report::SavedReport;
-use rv_rows::Row;
+use rv_rows::{Row, Sink};
 use std::alloc::{AllocError, Global};
-use std::rt::Files;
 
 // A report that was read, with its summary and its status.
 #[derive(Drop)]
@@ -32,33 +31,33 @@ struct SummarizedReport {
 }
 
 /// Shows what failed in a report, its counts and the jobs with the most steps. The status is 1 where a job failed.
-pub(crate) fn show_report<R: Files, S: Streams>(
-    files: &R,
+pub(crate) fn show_report<D: Inputs, F: Outputs + Drop, O: Sink + Drop, E: Sink + Drop>(
+    inputs: &D,
     alloc: Global,
-    streams: &S,
     asked: ShowAsked<'_>,
+    to: &mut Destinations<F, O, E>,
 ) -> Result<u8, Stop>
-    ensures { IfOk result (λ status. status ≤ 1) }
+    ensures low { IfOk result (λ status. status ≤ 1) }
 {
-    let text = read_report_text(files, alloc, asked.report)?;
-    let summarized = summarize_report_text(alloc, asked, text.as_slice())?;
-    put_summarized_report(files, alloc, streams, asked, summarized)
+    let report = read_report_file(inputs, alloc, asked.report)?;
+    let summarized = summarize_report(alloc, asked, report)?;
+    put_summarized_report(alloc, asked, summarized, to)
 }
 
-// The report that a text is, with its summary and its status.
-fn summarize_report_text(
+// A report with its summary and its status.
+fn summarize_report(
     alloc: Global,
     asked: ShowAsked<'_>,
-    text: &[u8],
-) -> Result<SummarizedReport, Stop>
-    ensures report { IfOk result (λ summarized. IsReportOf text.now summarized.report) }
+    report: SavedReport,
+) -> Result<SummarizedReport, AllocError>
+    requires { length report.rows < 2 ^ 32 }
+    ensures report { IfOk result (λ summarized. summarized.report ≡ report) }
     ensures summary { IfOk result (λ summarized. summarized.summary.items
-        ≡ summary_text (failure_rule asked.entry.lenient) summarized.report.rows) }
+        ≡ summary_text (failure_rule asked.entry.lenient) report.rows) }
     ensures judged { IfOk result (λ summarized. summarized.status
-        ≡ rows_status (failure_rule asked.entry.lenient) summarized.report.rows) }
+        ≡ rows_status (failure_rule asked.entry.lenient) report.rows) }
     ensures low { IfOk result (λ summarized. summarized.status ≤ 1) }
 {
-    let report = parse_report(alloc, asked.report, text)?;
     let rule = failure_rule(asked.lenient);
     let summary = summary_text(alloc, rule, report.rows.as_slice())?;
     let status = rows_status(rule, report.rows.as_slice());
@@ -69,28 +68,31 @@ fn summarize_report_text(
     })
 }
 
-// Puts the summary, writes the rows as JUnit's XML where that is asked for, and hands the status on.
-fn put_summarized_report<R: Files, S: Streams>(
-    files: &R,
+// Puts the summary, and the rows as JUnit's XML where that is asked for, and hands the status on.
+fn put_summarized_report<F: Outputs + Drop, O: Sink + Drop, E: Sink + Drop>(
     alloc: Global,
-    streams: &S,
     asked: ShowAsked<'_>,
     summarized: SummarizedReport,
+    to: &mut Destinations<F, O, E>,
 ) -> Result<u8, Stop>
-    ensures { IfOk result (λ status. status ≡ summarized.status) }
+    ensures status { IfOk result (λ status. status ≡ summarized.status) }
 {
-    let junit = ReportTo::open(files, alloc, asked.junit)?;
-    let summary = summarized.summary.as_slice();
-    if let Err(stop) = put_stdout_or_stderr(streams, summary, junit.is_to_stdout()) {
-        return Err(junit.abandon_with(stop));
+    let SummarizedReport {
+        report,
+        summary,
+        status,
+    } = summarized;
+    let outlets = open_outlets(&mut to.files, alloc, None, asked.junit)?;
+    if let Err(stop) = put_shown(to, summary.as_slice(), outlets.use_stdout()) {
+        abandon_outlets(&mut to.files, outlets);
+        return Err(stop);
     }
-    let class = junit_class_name(asked.report).as_bytes();
-    let lines = FailedLines {
+    let suite = Suite {
+        name: junit_class(asked.report).as_bytes(),
         rule: failure_rule(asked.lenient),
     };
-    let rows = summarized.report.rows.as_slice();
-    junit.write_rows_as_junit(alloc, streams, class, &lines, rows)?;
-    Ok(summarized.status)
+    put_whole_files(alloc, to, outlets, suite, report.rows)?;
+    Ok(status)
 }
 
 fn summary_text(alloc: Global, rule: Rule, rows: &[Row]) -> Result<Vec<u8>, AllocError>

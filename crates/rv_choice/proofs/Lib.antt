@@ -1,0 +1,2 @@
+pub mod Counted
+mod Names

@@ -1,0 +1,71 @@
+-- The jobs of a list that a person chooses.
+use Rattle.std.specs.Prelude.{◌≡◌, ℕ, Bool, true, IfSome, List, [], ◌∷◌, Option, Some, None, is_some, map, not}
+use Rattle.std.specs.Prelude.{option_map}
+use Rattle.std.specs.Borrow.{Bor}
+use Rattle.std.specs.List.{filter, list_any}
+use Rattle.std.specs.Str.{bytes_eq}
+use Rattle.regex.specs.Patterns.{Re, default_config, find_str}
+use Rattle.regex.specs.Strings.{IsReadFromSource, regex_config, regex_pattern, regex_source}
+use Rattle.regex.specs.declared.string.regex.Regex.{Regex}
+use Rattle.rv_expect.specs.declared.passing.Rule.{Rule}
+use Rattle.rv_lists.specs.declared.job.Job.{Job}
+use Rattle.rv_report.specs.declared.row.Row.{Row}
+use Rattle.rv_stream.specs.Choices.{is_chosen}
+use Rattle.rv_expect.specs.Passing.{has_passed}
+
+abbrev pub ChosenNames : Type 0
+ChosenNames = List (List ℕ)
+
+-- a name is one of these
+abbrev pub is_among_names : ChosenNames → List ℕ → Bool
+is_among_names names name = list_any (λ other. bytes_eq other name) names
+
+-- whether names choose the job of a name, where they are asked
+abbrev pub choice_by_names : Option ChosenNames → List ℕ → Option Bool
+choice_by_names names name = option_map (λ names. is_among_names names name) names
+
+-- whether a pattern does, where it is asked: it is found in the name, wherever that is
+abbrev pub choice_by_pattern : Option Re → List ℕ → Option Bool
+choice_by_pattern pattern name = option_map (λ pattern. is_some (find_str pattern name 0)) pattern
+
+-- the job of a name is chosen by exact names, by a pattern and by the names of a report's failed
+-- jobs, where these are asked
+abbrev pub is_chosen_name : Option ChosenNames → Option Re → Option ChosenNames → List ℕ → Bool
+is_chosen_name only pattern failed name =
+    is_chosen (choice_by_names only name) (choice_by_pattern pattern name) (choice_by_names failed name)
+
+-- a mark for each job, set where it is chosen
+unfoldable pub chosen_marks : Option ChosenNames → Option Re → Option ChosenNames → List Job → List Bool
+chosen_marks only pattern failed jobs = map (λ job. is_chosen_name only pattern failed job.name) jobs
+
+-- names as a caller hands them over
+abbrev pub borrowed_names : List (Bor (List ℕ)) → ChosenNames
+borrowed_names names = map (λ name. name.now) names
+
+abbrev pub optional_names : Option (Bor (List (Bor (List ℕ)))) → Option ChosenNames
+optional_names names = option_map (λ names. borrowed_names names.now) names
+
+abbrev pub pattern_of : Option (Bor Regex) → Option Re
+pattern_of pattern = option_map (λ regex. regex_pattern regex.now) pattern
+
+-- a pattern is what its text reads as, under the default options
+abbrev pub IsReadByDefault : Regex → Type 0
+IsReadByDefault regex = (regex_config regex ≡ default_config) × IsReadFromSource regex
+
+-- the names of the rows that failed, in their order
+abbrev pub failed_job_names : Rule → List Row → List (List ℕ)
+failed_job_names rule rows =
+    map (λ (row : Row). row.name) (filter (λ (row : Row). not (has_passed rule row)) rows)
+
+-- exact names are asked where there are any
+abbrev pub requested_names : List (Bor (List ℕ)) → Option ChosenNames
+requested_names [] = None
+requested_names (name ∷ more) = Some (borrowed_names (name ∷ more))
+
+-- a pattern is found in the name of some job
+abbrev pub is_found_in_names : Re → List Job → Bool
+is_found_in_names pattern jobs = list_any (λ job. is_some (find_str pattern job.name 0)) jobs
+
+-- a job has the name
+abbrev pub has_job_named : List Job → List ℕ → Bool
+has_job_named jobs name = list_any (λ job. bytes_eq job.name name) jobs

@@ -1,0 +1,52 @@
+-- The marks of the jobs of a list that words choose, and what is said beside that.
+use Rattle.std.specs.Prelude.{◌≡◌, ℕ, Bool, IfSome, List, [], Option, Some, None, is_some, option_map}
+use Rattle.regex.specs.Patterns.{Re}
+use Rattle.regex.specs.Strings.{regex_pattern, regex_source}
+use Rattle.regex.specs.declared.string.regex.Regex.{Regex}
+use Rattle.std.specs.Borrow.{Bor}
+use Rattle.rv_base.specs.Files.{FileContents}
+use Rattle.rv_cli.specs.RvtestWords.{borrowed_text}
+use Rattle.rv_cli.specs.declared.rvtest.run.RunAsked.{RunAsked}
+use Rattle.rv_command.specs.Texts.{IsReportAt}
+use Rattle.rv_expect.specs.declared.passing.Rule.{Rule}
+use Rattle.rv_lists.specs.declared.job.Job.{Job}
+use Rattle.rv_report.specs.declared.saved.SavedReport.{SavedReport}
+use Rattle.rv_choice.specs.Choice.{ChosenNames, IsReadByDefault, chosen_marks, failed_job_names, requested_names}
+use Rattle.rv_choice.specs.FailedJobNotes.{failed_job_notes}
+
+-- by exact names, by a pattern, and among the jobs of these names, which failed in the report at a path; there are no marks
+-- where words ask for the jobs that failed in a report and in no other way, and none failed
+pub record AreChosenFrom (path : List ℕ) (failed : ChosenNames) (pattern : Option Re) (words : RunAsked)
+    (jobs : List Job) (marks : Option (List Bool)) (notes : List ℕ) : Type 0 where
+  pub told : notes ≡ failed_job_notes path jobs failed
+  pub marked : IfSome marks (λ marks. marks
+      ≡ chosen_marks (requested_names words.only.items) pattern (Some failed) jobs)
+  pub none : marks ≡ None → (failed ≡ []) × (words.only.items ≡ []) × (pattern ≡ None)
+
+-- the same of what a report that stands at a path has as failed
+pub record AreChosenFromReport (known : Option FileContents) (path : List ℕ) (pattern : Option Re) (words : RunAsked)
+    (rule : Rule) (jobs : List Job) (marks : Option (List Bool)) (notes : List ℕ) : Type 0 where
+  pub report : SavedReport
+  pub read : IsReportAt known path report
+  pub chosen : AreChosenFrom path (failed_job_names rule report.rows) pattern words jobs marks notes
+
+-- beside a pattern: from a report where one is asked, else by exact names alone, with nothing said
+abbrev pub AreChosenBeside : Option FileContents → Option (Bor (List ℕ)) → Option Re → RunAsked → Rule → List Job
+    → Option (List Bool) → List ℕ → Type 0
+AreChosenBeside known None pattern words rule jobs marks notes =
+    (marks ≡ Some (chosen_marks (requested_names words.only.items) pattern None jobs)) × (notes ≡ [])
+AreChosenBeside known (Some path) pattern words rule jobs marks notes =
+    AreChosenFromReport known path.now pattern words rule jobs marks notes
+
+abbrev pub AreChosenBy : Option FileContents → Option Re → RunAsked → Rule → List Job
+    → Option (List Bool) → List ℕ → Type 0
+AreChosenBy known pattern words rule jobs marks notes =
+    AreChosenBeside known words.failed pattern words rule jobs marks notes
+
+-- with the pattern that their text is read as where they have one
+pub record IsChoice (known : Option FileContents) (words : RunAsked) (rule : Rule) (jobs : List Job)
+    (marks : Option (List Bool)) (notes : List ℕ) : Type 0 where
+  pub pattern : Option Regex
+  pub source : option_map regex_source pattern ≡ borrowed_text words.pattern
+  pub read : IfSome pattern IsReadByDefault
+  pub by : AreChosenBy known (option_map regex_pattern pattern) words rule jobs marks notes

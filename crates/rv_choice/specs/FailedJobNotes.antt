@@ -1,0 +1,24 @@
+-- What is said of the jobs that failed in a report.
+use Rattle.std.specs.Prelude.{ℕ, List, [], ◌∷◌, ◌++◌, codes, if◌then◌else◌}
+use Rattle.std.specs.List.{flat_map}
+use Rattle.rv_lists.specs.declared.job.Job.{Job}
+use Rattle.rv_text.specs.Printable.{printable_text}
+use Rattle.rv_choice.specs.Choice.{has_job_named}
+use Rattle.rv_command.specs.Messages.{path_message}
+
+-- a job failed in the report at a path, and no job of the list has its name
+abbrev pub removed_job_note : List ℕ → List ℕ → List ℕ
+removed_job_note path name = codes "rvtest: " ++ printable_text path ++ codes ": job " ++ name
+    ++ codes " failed there, and is no job of the list any more\n"
+
+-- where no job has the name of one that failed, that is said
+abbrev pub note_of_failed_job : List ℕ → List Job → List ℕ → List ℕ
+note_of_failed_job path jobs name = if has_job_named jobs name then [] else removed_job_note path name
+
+abbrev pub removed_job_notes : List ℕ → List Job → List (List ℕ) → List ℕ
+removed_job_notes path jobs names = flat_map (note_of_failed_job path jobs) names
+
+-- where none failed, that is said
+abbrev pub failed_job_notes : List ℕ → List Job → List (List ℕ) → List ℕ
+failed_job_notes path jobs [] = path_message path (codes "no job failed there")
+failed_job_notes path jobs (name ∷ more) = removed_job_notes path jobs (name ∷ more)

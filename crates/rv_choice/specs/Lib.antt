@@ -1,0 +1,4 @@
+pub mod Choice
+pub mod Chosen
+pub mod FailedJobNotes
+pub mod Shard

@@ -1,0 +1,265 @@
+//! The jobs that words choose.
+
+ghost use Rattle.std.specs.Prelude.{◌≡◌, IfOk, IfSome, MatchOption, None, OnOk, Some, [], true, not, length};
+ghost use Rattle.std.specs.List.{find, list_any};
+ghost use Rattle.std.specs.Prelude.{is_some, option_map};
+ghost use Rattle.regex.specs.Strings.{regex_pattern, regex_source};
+ghost use Rattle.rv_choice.specs.Choice.{IsReadByDefault, borrowed_names, chosen_marks, failed_job_names, has_job_named};
+ghost use Rattle.rv_choice.specs.Choice.{is_found_in_names, optional_names, pattern_of, requested_names};
+ghost use Rattle.rv_choice.specs.Chosen.{AreChosenBy, AreChosenFrom, IsChoice};
+ghost use Rattle.rv_choice.specs.FailedJobNotes.{failed_job_notes};
+ghost use Rattle.rv_cli.specs.RvtestWords.{borrowed_text};
+
+use crate::failed_jobs::{failed_job_names, failed_job_notes};
+use crate::marks::{Wanted, chosen_marks, first_unknown_name};
+use crate::shard::bad_value_stop;
+use regex::Regex;
+use rv_cli::rvtest::RunAsked;
+use rv_command::{Stop, read_report_file};
+use rv_expect::Rule;
+use rv_files::Inputs;
+use rv_jobs::Job;
+use rv_list_errors::nearest_job;
+use rv_rows::Row;
+use rv_text::{Span, text_of_spans};
+use std::alloc::{AllocError, Global};
+
+/// What chooses the jobs of a list: words, and by which rule the jobs of a report failed.
+#[derive(Drop)]
+pub struct Chooser<'x, D> {
+    pub inputs: &'x D,
+    pub alloc: Global,
+    pub asked: &'x RunAsked<'x>,
+    /// Which rows are failures.
+    pub rule: Rule,
+}
+
+/// The jobs of a list that are chosen.
+#[derive(Drop)]
+pub struct Choice {
+    /// A mark for each job, which is set where the job is to run. There are none where the jobs that failed in a report are asked
+    /// for, and in no other way, and none failed.
+    pub marks: Option<Vec<bool>>,
+    /// What is to be said of the jobs that failed in a report: lines, or nothing.
+    pub notes: Vec<u8>,
+}
+
+impl<'x, D: Inputs> Chooser<'x, D> {
+    /// The jobs that words choose.
+    pub fn choose(&self, jobs: &[Job]) -> Result<Choice, Stop>
+        ensures { IfOk result (λ choice. IsChoice (D.contents self.now.inputs.now) self.now.asked.now
+            self.now.rule jobs.now (option_map (λ marks. marks.items) choice.marks) choice.notes.items) }
+    {
+        self.check_exact_names(jobs)?;
+        let pattern = self.requested_pattern(jobs)?;
+        self.choose_by_pattern(pattern.as_ref(), jobs)
+    }
+
+    // Each exact name is one of the list's.
+    fn check_exact_names(&self, jobs: &[Job]) -> Result<(), Stop>
+        ensures { OnOk result (option_map (λ name. name.now)
+            (find (λ name. not (has_job_named jobs.now name.now)) self.now.asked.now.only.items) ≡ None) }
+    {
+        match first_unknown_name(jobs, self.asked.only.as_slice()) {
+            Some(name) => Err(unknown_name_stop(self.alloc, self.asked.list, jobs, name)),
+            None => Ok(()),
+        }
+    }
+
+    // The pattern that jobs' names are asked for, which is found in the name of some job.
+    fn requested_pattern(&self, jobs: &[Job]) -> Result<Option<Regex>, Stop>
+        ensures source { IfOk result (λ pattern.
+            option_map regex_source pattern ≡ borrowed_text self.now.asked.now.pattern) }
+        ensures read { IfOk result (λ pattern. IfSome pattern IsReadByDefault) }
+        ensures found { IfOk result (λ pattern. IfSome pattern
+            (λ regex. is_found_in_names (regex_pattern regex) jobs.now ≡ true)) }
+    {
+        let Some(text) = self.asked.pattern else {
+            return Ok(None);
+        };
+        let pattern = compile_pattern(self.alloc, text)?;
+        if is_found_in_job_names(self.alloc, &pattern, jobs)? {
+            Ok(Some(pattern))
+        } else {
+            let told = unmatched_pattern_message(self.alloc, self.asked.list, text);
+            Err(Stop::of_refusal(told))
+        }
+    }
+
+    // The choice by a pattern, or by none, that the jobs' names were asked for.
+    fn choose_by_pattern(&self, pattern: Option<&Regex>, jobs: &[Job]) -> Result<Choice, Stop>
+        requires { is_some pattern ≡ is_some self.now.asked.now.pattern }
+        ensures { IfOk result (λ choice. AreChosenBy (D.contents self.now.inputs.now)
+            (pattern_of pattern.entry) self.now.asked.now self.now.rule jobs.now
+            (option_map (λ marks. marks.items) choice.marks) choice.notes.items) }
+    {
+        let Some(path) = self.asked.failed else {
+            let marks = self.combined_marks(pattern, None, jobs)?;
+            return Ok(Choice {
+                marks: Some(marks),
+                notes: Vec::new(self.alloc),
+            });
+        };
+        let report = read_report_file(self.inputs, self.alloc, path)?;
+        self.choose_from_failed_rows(path, report.rows.as_slice(), pattern, jobs)
+    }
+
+    // The same among the jobs that failed in the rows of the report at a path.
+    fn choose_from_failed_rows(
+        &self,
+        path: &str,
+        rows: &[Row],
+        pattern: Option<&Regex>,
+        jobs: &[Job],
+    ) -> Result<Choice, Stop>
+        ensures { IfOk result (λ choice. AreChosenFrom path.now (failed_job_names self.now.rule rows.now)
+            (pattern_of pattern.entry) self.now.asked.now jobs.now
+            (option_map (λ marks. marks.items) choice.marks) choice.notes.items) }
+    {
+        let failed = failed_job_names(self.alloc, self.rule, rows)?;
+        self.choose_from_failed_names(path, failed.as_slice(), pattern, jobs)
+    }
+
+    // The same among the jobs of these names, which the report at a path has as failed.
+    fn choose_from_failed_names(
+        &self,
+        path: &str,
+        failed: &[&str],
+        pattern: Option<&Regex>,
+        jobs: &[Job],
+    ) -> Result<Choice, Stop>
+        ensures { IfOk result (λ choice. AreChosenFrom path.now (borrowed_names failed.now)
+            (pattern_of pattern.entry) self.now.asked.now jobs.now
+            (option_map (λ marks. marks.items) choice.marks) choice.notes.items) }
+    {
+        let notes = failed_job_notes(self.alloc, path, jobs, failed)?;
+        if failed.is_empty() && self.asked.only.is_empty() && pattern.is_none() {
+            return Ok(Choice { marks: None, notes });
+        }
+        let marks = Some(self.combined_marks(pattern, Some(failed), jobs)?);
+        Ok(Choice { marks, notes })
+    }
+
+    fn combined_marks(
+        &self,
+        pattern: Option<&Regex>,
+        failed: Option<&[&str]>,
+        jobs: &[Job],
+    ) -> Result<Vec<bool>, AllocError>
+        ensures { IfOk result (λ marks. marks.items
+            ≡ chosen_marks (requested_names self.now.asked.now.only.items) (pattern_of pattern.entry)
+            (optional_names failed.entry) jobs.now) }
+    {
+        let wanted = Wanted {
+            only: requested_names(self.asked),
+            pattern,
+            failed,
+        };
+        chosen_marks(self.alloc, jobs, wanted)
+    }
+}
+
+// The exact names, where there are any.
+fn requested_names<'a>(asked: &'a RunAsked<'_>) -> Option<&'a [&'a str]>
+    ensures { optional_names result ≡ requested_names asked.now.only.items }
+{
+    if asked.only.is_empty() {
+        None
+    } else {
+        Some(asked.only.as_slice())
+    }
+}
+
+/// That no job of a list has a name, and which name is nearest.
+pub fn unknown_name_stop(alloc: Global, list: &str, jobs: &[Job], name: &str) -> Stop {
+    Stop::of_refusal(unknown_name_message(alloc, list, jobs, name))
+}
+
+fn unknown_name_message(
+    alloc: Global,
+    list: &str,
+    jobs: &[Job],
+    name: &str,
+) -> Result<Vec<u8>, AllocError> {
+    match nearest_job(alloc, jobs, name)? {
+        Some(place) => {
+            let near = jobs[place].name.as_str();
+            no_such_job_message(alloc, list, name, "; the nearest name is ", near)
+        }
+        None => no_such_job_message(alloc, list, name, "", ""),
+    }
+}
+
+fn no_such_job_message<'a>(
+    alloc: Global,
+    list: &'a str,
+    name: &'a str,
+    but: &'a str,
+    near: &'a str,
+) -> Result<Vec<u8>, AllocError> {
+    text_of_spans(
+        alloc,
+        &[
+            Span::Text("rvtest: "),
+            Span::Shown(list.as_bytes()),
+            Span::Text(": no job is called "),
+            Span::Value(name.as_bytes()),
+            Span::Text(but),
+            Span::Text(near),
+            Span::Text("\n"),
+        ],
+    )
+}
+
+fn compile_pattern(alloc: Global, text: &str) -> Result<Regex, Stop>
+    ensures source { IfOk result (λ pattern. regex_source pattern ≡ text.now) }
+    ensures read { IfOk result IsReadByDefault }
+{
+    match Regex::new(alloc, text) {
+        Ok(pattern) => Ok(pattern),
+        Err(regex::Error::OutOfMemory) => Err(Stop::OutOfMemory),
+        Err(error) => Err(bad_value_stop(
+            alloc,
+            format!(in alloc; "invalid value '{text}' for '--match <REGEX>': {error}"),
+        )),
+    }
+}
+
+// A pattern is found in the name of some job.
+#[tactic(auto, using(crate::proofs::Names::found_marks))]
+fn is_found_in_job_names(alloc: Global, pattern: &Regex, jobs: &[Job]) -> Result<bool, AllocError>
+    ensures { IfOk result
+        (λ found. found ≡ is_found_in_names (regex_pattern pattern.now) jobs.now) }
+{
+    let wanted = Wanted {
+        only: None,
+        pattern: Some(pattern),
+        failed: None,
+    };
+    let marks = chosen_marks(alloc, jobs, wanted)?;
+    Ok(has_mark(marks.as_slice()))
+}
+
+// Some mark is set.
+fn has_mark(marks: &[bool]) -> bool
+    ensures { result ≡ list_any (λ mark. mark) marks.now }
+{
+    marks.iter().any(|mark| *mark)
+}
+
+fn unmatched_pattern_message<'a>(
+    alloc: Global,
+    list: &'a str,
+    pattern: &'a str,
+) -> Result<Vec<u8>, AllocError> {
+    text_of_spans(
+        alloc,
+        &[
+            Span::Text("rvtest: "),
+            Span::Shown(list.as_bytes()),
+            Span::Text(": no job's name matches '"),
+            Span::Value(pattern.as_bytes()),
+            Span::Text("'\n"),
+        ],
+    )
+}

@@ -1,0 +1,95 @@
+//! The jobs that failed in a report.
+
+ghost use Rattle.std.specs.Prelude.{◌≡◌, ◌++◌, IfOk, OnOk, map};
+ghost use Rattle.rv_choice.specs.Choice.{borrowed_names, failed_job_names};
+ghost use Rattle.rv_choice.specs.FailedJobNotes.{failed_job_notes, note_of_failed_job, removed_job_note, removed_job_notes};
+
+use crate::marks::has_job_named;
+use rv_command::path_message;
+use rv_expect::{Rule, has_passed};
+use rv_jobs::Job;
+use rv_rows::Row;
+use rv_text::{Span, push_spans};
+use std::alloc::{AllocError, Global};
+
+/// The names of the jobs that failed.
+pub(crate) fn failed_job_names(
+    alloc: Global,
+    rule: Rule,
+    rows: &[Row],
+) -> Result<Vec<&str>, AllocError>
+    ensures { IfOk result (λ names. map (λ name. name.now) names.items ≡ failed_job_names rule rows.now) }
+{
+    let mut names = Vec::new(alloc);
+    for row in rows {
+        if !has_passed(rule, row) {
+            names.push(row.name.as_str())?;
+        }
+    }
+    Ok(names)
+}
+
+/// What is said of the jobs that failed in the report at a path: that there are none, or of which no job has the name any more.
+pub(crate) fn failed_job_notes(
+    alloc: Global,
+    path: &str,
+    jobs: &[Job],
+    names: &[&str],
+) -> Result<Vec<u8>, AllocError>
+    ensures { IfOk result (λ notes. notes.items ≡ failed_job_notes path.now jobs.now (borrowed_names names.now)) }
+{
+    if names.is_empty() {
+        return path_message(alloc, path, "no job failed there");
+    }
+    removed_job_notes(alloc, path, jobs, names)
+}
+
+fn removed_job_notes(
+    alloc: Global,
+    path: &str,
+    jobs: &[Job],
+    names: &[&str],
+) -> Result<Vec<u8>, AllocError>
+    ensures { IfOk result (λ notes. notes.items ≡ removed_job_notes path.now jobs.now (borrowed_names names.now)) }
+{
+    let mut notes = Vec::new(alloc);
+    for name in names {
+        push_note_of_failed_job(&mut notes, path, jobs, name)?;
+    }
+    Ok(notes)
+}
+
+// Appends a note where no job has the name of one that failed.
+fn push_note_of_failed_job(
+    notes: &mut Vec<u8>,
+    path: &str,
+    jobs: &[Job],
+    name: &str,
+) -> Result<(), AllocError>
+    ensures { OnOk result
+        (notes.new.items ≡ notes.old.items ++ note_of_failed_job path.now jobs.now name.now) }
+{
+    if has_job_named(jobs, name) {
+        return Ok(());
+    }
+    push_removed_job_note(notes, path, name)
+}
+
+fn push_removed_job_note<'a>(
+    notes: &mut Vec<u8>,
+    path: &'a str,
+    name: &'a str,
+) -> Result<(), AllocError>
+    ensures { OnOk result (notes.new.items ≡ notes.old.items ++ removed_job_note path.now name.now) }
+{
+    push_spans(
+        notes,
+        &[
+            Span::Text("rvtest: "),
+            Span::Shown(path.as_bytes()),
+            Span::Text(": job "),
+            Span::Text(name),
+            Span::Text(" failed there, and is no job of the list any more\n"),
+        ],
+    )
+}

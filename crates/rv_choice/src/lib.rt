@@ -1,0 +1,12 @@
+//! The jobs of a list that words choose: by names, by a pattern, by the failures of a report, or as a part of the list.
+//!
+//! [`Chooser::choose`] gives a mark for each job, and [`requested_shard`] the part that is asked for.
+#![tactic(auto)]
+
+mod chooser;
+mod failed_jobs;
+mod marks;
+mod shard;
+
+pub use chooser::{Choice, Chooser, unknown_name_stop};
+pub use shard::requested_shard;

@@ -1,0 +1,106 @@
+//! The jobs that are chosen, by a mark for each.
+
+ghost use Rattle.std.specs.Prelude.{◌≡◌, IfOk, not, option_map};
+ghost use Rattle.std.specs.List.{find};
+ghost use Rattle.regex.specs.Strings.{matcher_pattern};
+ghost use Rattle.rv_choice.specs.Choice.{choice_by_names, choice_by_pattern, has_job_named, is_among_names, is_chosen_name};
+ghost use Rattle.rv_choice.specs.Choice.{chosen_marks, borrowed_names, pattern_of, optional_names};
+
+use regex::{Matcher, Regex};
+use rv_jobs::Job;
+use rv_stream::is_chosen;
+use std::alloc::{AllocError, Global};
+
+/// What chooses jobs: a job is chosen where one of them chooses it. Where nothing is given, each job is chosen.
+#[derive(Clone, Copy)]
+pub(crate) struct Wanted<'a> {
+    /// The exact names of jobs.
+    pub(crate) only: Option<&'a [&'a str]>,
+    /// A pattern: it chooses the jobs in whose names it is found, wherever it is.
+    pub(crate) pattern: Option<&'a Regex>,
+    /// The names of the jobs that failed in a report; where there is none among them, the report chooses no job.
+    pub(crate) failed: Option<&'a [&'a str]>,
+}
+
+/// A mark for each job, in list order, which is set where the job is chosen.
+pub(crate) fn chosen_marks(
+    alloc: Global,
+    jobs: &[Job],
+    wanted: Wanted<'_>,
+) -> Result<Vec<bool>, AllocError>
+    ensures { IfOk result (λ marks. marks.items ≡ chosen_marks (optional_names wanted.entry.only)
+        (pattern_of wanted.entry.pattern) (optional_names wanted.entry.failed) jobs.now) }
+{
+    let mut matcher = matcher_of(alloc, wanted.pattern)?;
+    let mut marks = Vec::new(alloc);
+    for place in 0..jobs.len() {
+        marks.push(is_chosen_name(wanted, &mut matcher, jobs[place].name.as_str()))?;
+    }
+    Ok(marks)
+}
+
+fn matcher_of(alloc: Global, pattern: Option<&Regex>) -> Result<Option<Matcher<'_>>, AllocError>
+    ensures { IfOk result
+        (λ matcher. option_map matcher_pattern matcher ≡ pattern_of pattern.entry) }
+{
+    match pattern {
+        Some(regex) => Ok(Some(regex.matcher(alloc)?)),
+        None => Ok(None),
+    }
+}
+
+fn is_chosen_name(wanted: Wanted<'_>, matcher: &mut Option<Matcher<'_>>, name: &str) -> bool
+    requires { option_map matcher_pattern matcher.old ≡ pattern_of wanted.pattern }
+    ensures chosen { result ≡ is_chosen_name (optional_names wanted.entry.only)
+        (pattern_of wanted.entry.pattern) (optional_names wanted.entry.failed) name.now }
+    ensures same { option_map matcher_pattern matcher.new ≡ option_map matcher_pattern matcher.old }
+{
+    is_chosen(
+        choice_by_names(wanted.only, name),
+        choice_by_pattern(matcher, name),
+        choice_by_names(wanted.failed, name),
+    )
+}
+
+fn choice_by_names(names: Option<&[&str]>, name: &str) -> Option<bool>
+    ensures { result ≡ choice_by_names (optional_names names.entry) name.now }
+{
+    match names {
+        Some(names) => Some(is_among_names(names, name)),
+        None => None,
+    }
+}
+
+fn is_among_names(names: &[&str], name: &str) -> bool
+    ensures { result ≡ is_among_names (borrowed_names names.now) name.now }
+{
+    names.contains(&name)
+}
+
+fn choice_by_pattern(matcher: &mut Option<Matcher<'_>>, name: &str) -> Option<bool>
+    ensures found { result ≡ choice_by_pattern (option_map matcher_pattern matcher.old) name.now }
+    ensures same { option_map matcher_pattern matcher.new ≡ option_map matcher_pattern matcher.old }
+{
+    match matcher {
+        Some(matcher) => Some(matcher.is_match(name)),
+        None => None,
+    }
+}
+
+/// The first of these names that no job has.
+pub(crate) fn first_unknown_name<'a>(jobs: &[Job], names: &[&'a str]) -> Option<&'a str>
+    ensures { option_map (λ name. name.now) result ≡ option_map (λ name. name.now)
+        (find (λ name. not (has_job_named jobs.now name.now)) names.now) }
+{
+    match names.iter().find(|name| !has_job_named(jobs, name)) {
+        Some(name) => Some(*name),
+        None => None,
+    }
+}
+
+/// Whether a job has the name.
+pub(crate) fn has_job_named(jobs: &[Job], name: &str) -> bool
+    ensures { result ≡ has_job_named jobs.now name.now }
+{
+    jobs.iter().any(|job| job.name.as_str() == name)
+}

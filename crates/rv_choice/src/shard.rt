@@ -1,0 +1,115 @@
+//! The part of a list that words ask for, and its stamp.
+
+ghost use Rattle.std.specs.Prelude.{◌≡◌, ◌≤◌, ◌<◌, IfOk, IfSome, string_bytes, take};
+ghost use Rattle.std.specs.Str.Parse.{digits_value};
+ghost use Rattle.hex.specs.Hex.{encode_lower};
+ghost use Rattle.sha2.specs.Sha256.{sha256};
+ghost use Rattle.rv_lists.specs.Limits.{most_jobs};
+ghost use Rattle.rv_choice.specs.Shard.{IsShardOf, number_before_slash, number_behind_slash, stamp_for};
+
+use clap::error::ErrorKind;
+use rv_cli::rvtest::{RunAsked, run_command, usage_error};
+use rv_command::Stop;
+use rv_jobs::Text;
+use rv_jobs::limits::MOST_JOBS;
+use rv_report::{Shard, is_name};
+use sha2::{Digest, Sha256};
+use std::alloc::{AllocError, Global};
+
+/// The shard that is asked for of a list of so many jobs, if one is. Without a stamp it has the first 16 digits of the SHA-256 of the
+/// list's text.
+pub fn requested_shard(
+    alloc: Global,
+    asked: &RunAsked<'_>,
+    text: &[u8],
+    jobs: usize,
+) -> Result<Option<Shard>, Stop>
+    requires { jobs ≤ most_jobs }
+    ensures asked { IfOk result (IsShardOf asked.now.shard) }
+    ensures stamped { IfOk result (λ shard. IfSome shard (λ s.
+        s.stamp ≡ stamp_for asked.now.stamp text.now)) }
+    ensures within { IfOk result (λ shard. IfSome shard (λ s.
+        (s.jobs ≡ jobs) × (0 < s.number) × (s.number ≤ s.shards) × (s.shards ≤ most_jobs))) }
+{
+    let Some(words) = asked.shard else {
+        return Ok(None);
+    };
+    let Some((number, shards)) = shard_numbers(words) else {
+        return Err(bad_shard_stop(alloc, words));
+    };
+    let stamp = match asked.stamp {
+        Some(stamp) if is_name(stamp.as_bytes()) => String::from_str(alloc, stamp)?,
+        Some(stamp) => return Err(bad_stamp_stop(alloc, stamp)),
+        None => list_digest(alloc, text)?,
+    };
+    Ok(Some(Shard {
+        jobs: jobs as u32,
+        number,
+        shards,
+        stamp: Text::new(stamp),
+    }))
+}
+
+// K and N of `K/N`, where 1 <= K <= N <= 4096.
+fn shard_numbers(words: &str) -> Option<(u32, u32)>
+    ensures numbers { IfSome result (λ n. (n.0 ≡ number_before_slash words.now)
+        × (n.1 ≡ number_behind_slash words.now)) }
+    ensures within { IfSome result (λ n. (0 < n.0) × (n.0 ≤ n.1) × (n.1 ≤ most_jobs)) }
+{
+    let (number, shards) = words.split_once('/')?;
+    let number = parse_digits(number)?;
+    let shards = parse_digits(shards)?;
+    if 1 <= number && number <= shards && shards as usize <= MOST_JOBS {
+        Some((number, shards))
+    } else {
+        None
+    }
+}
+
+// A number of digits alone.
+fn parse_digits(words: &str) -> Option<u32>
+    ensures { IfSome result (λ number. number ≡ digits_value 10 words.now) }
+{
+    if words.as_bytes().iter().all(|byte| byte.is_ascii_digit()) {
+        words.parse::<u32>().ok()
+    } else {
+        None
+    }
+}
+
+fn list_digest(alloc: Global, text: &[u8]) -> Result<String, AllocError>
+    ensures { IfOk result (λ digits. string_bytes digits
+        ≡ encode_lower (take 8 (sha256 text.now))) }
+{
+    let digest = Sha256::digest(text);
+    hex::encode(alloc, &digest[..8])
+}
+
+fn bad_shard_stop(alloc: Global, words: &str) -> Stop {
+    bad_value_stop(
+        alloc,
+        format!(in alloc;
+            "invalid value '{words}' for '--shard <K/N>': K and N are numbers, 1 <= K <= N <= 4096"
+        ),
+    )
+}
+
+fn bad_stamp_stop(alloc: Global, stamp: &str) -> Stop {
+    bad_value_stop(
+        alloc,
+        format!(in alloc;
+            "invalid value '{stamp}' for '--stamp <TEXT>': 1 to 64 letters, digits, '.', '_' and '-'"
+        ),
+    )
+}
+
+/// That a value of `run` is none, as these words say, where there was memory for them.
+pub(crate) fn bad_value_stop(alloc: Global, what: Result<String, AllocError>) -> Stop {
+    match what {
+        Ok(what) => {
+            let kind = ErrorKind::ValueValidation;
+            Stop::of_clap_error(alloc, &usage_error(run_command(alloc), kind, what.as_str()))
+        }
+        Err(error) => Stop::from(error),
+    }
+}

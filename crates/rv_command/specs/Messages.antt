@@ -1,0 +1,31 @@
+-- The messages that go to standard error.
+use Rattle.std.specs.Prelude.{◌≡◌, ◌⊎◌, ◌++◌, ℕ, List, Option, codes}
+use Rattle.std.specs.Fmt.{decimal}
+use Rattle.std.specs.Io.KnownBytes.{Appends}
+use Rattle.rv_base.specs.Counts.{one_more}
+use Rattle.rv_base.specs.Sinks.{AppendsBeginning}
+use Rattle.rv_text.specs.Printable.{printable_text}
+use Rattle.rv_command.specs.declared.stop.Stop.{Stop}
+use Rattle.rv_command.specs.declared.stop.Stop.TheVariants as stop
+
+-- the whole message went out and no put failed; or one put failed, and a beginning of it went out
+abbrev pub IsMessagePut : Option (List ℕ) → Option (List ℕ) → ℕ → ℕ → List ℕ → Type 0
+IsMessagePut before after failures_before failures_after text =
+    (Appends before after text × (failures_after ≡ failures_before))
+    ⊎ (AppendsBeginning before after text × (failures_after ≡ one_more failures_before))
+
+-- what is wrong with what stands at a path
+abbrev pub path_message : List ℕ → List ℕ → List ℕ
+path_message path what = codes "rvtest: " ++ printable_text path ++ codes ": " ++ what ++ codes "\n"
+
+-- what is wrong with a line or a job of it
+abbrev pub path_number_message : List ℕ → List ℕ → ℕ → List ℕ → List ℕ
+path_number_message path place number what =
+    codes "rvtest: " ++ printable_text path ++ place ++ decimal number ++ what
+
+-- why a command ended before its work was done
+abbrev pub stop_message : Stop → List ℕ
+stop_message (stop.Told lines text) = text.items
+stop_message stop.OutOfMemory = codes "rvtest: out of memory\n"
+stop_message stop.NoWorker = codes "rvtest: no thread could be started\n"
+stop_message stop.WriteFailed = codes "rvtest: the results: write failed\n"

@@ -1,0 +1,25 @@
+-- The texts that commands read.
+use Rattle.std.specs.Prelude.{◌≡◌, ℕ, List, IfSome, Option, Some, option_map}
+use Rattle.std.specs.Borrow.{Bor}
+use Rattle.rv_base.specs.Files.{FileContents}
+use Rattle.rv_report.specs.Saved.{IsSaved, saved_text}
+use Rattle.rv_report.specs.declared.saved.SavedReport.{SavedReport}
+
+-- the text is what stands at the path, where that is known
+abbrev pub IsTextAt : Option FileContents → List ℕ → List ℕ → Type 0
+IsTextAt known path text = IfSome known (λ files. files path ≡ Some text)
+
+-- the bytes of a text, where there is one
+abbrev pub optional_text : Option (Bor (List ℕ)) → Option (List ℕ)
+optional_text text = option_map (λ text. text.now) text
+
+-- the report that a text is, of which there is at most one
+pub record IsReportOf (bytes : List ℕ) (report : SavedReport) : Type 0 where
+  pub saved : IsSaved report
+  pub text : saved_text report ≡ bytes
+
+-- the report that stands at a path
+pub record IsReportAt (known : Option FileContents) (path : List ℕ) (report : SavedReport) : Type 0 where
+  pub bytes : List ℕ
+  pub read : IsTextAt known path bytes
+  pub of : IsReportOf bytes report

@@ -1,0 +1,59 @@
+//! Files that are read whole.
+
+ghost use Rattle.std.specs.Prelude.{◌≡◌, ◌≤◌, ◌<◌, ◌+◌, ◌^◌, IfOk, IfSome, length};
+ghost use Rattle.rv_command.specs.Texts.{IsTextAt};
+
+use crate::messages::path_message;
+use crate::stop::Stop;
+use rv_files::{FileError, InputError, Inputs, io_error_text, read_whole_up_to};
+use std::alloc::Global;
+use std::io::ErrorKind;
+
+/// The bytes of what stands at a path, where there are at most so many.
+pub(crate) fn read_file_up_to<D: Inputs>(
+    inputs: &D,
+    alloc: Global,
+    path: &str,
+    most: usize,
+) -> Result<Option<Vec<u8>>, Stop>
+    requires { most + 1 < 2 ^ 64 }
+    ensures whole { IfOk result
+        (λ found. IfSome found (λ bytes. IsTextAt (D.contents inputs.now) path.now bytes.items)) }
+    ensures within { IfOk result (λ found. IfSome found (λ bytes. length bytes.items ≤ most)) }
+{
+    match read_whole_up_to(inputs, alloc, path, most) {
+        Ok(found) => Ok(found),
+        Err(InputError::OutOfMemory) => Err(Stop::OutOfMemory),
+        Err(InputError::Failed(reason)) => Err(io_error_stop(alloc, path, reason)),
+    }
+}
+
+// More bytes than memory has.
+const MOST_OF_MEMORY: usize = usize::MAX - 1;
+
+/// The bytes of what stands at a path, whatever its size.
+pub fn read_file<D: Inputs>(inputs: &D, alloc: Global, path: &str) -> Result<Vec<u8>, Stop>
+    ensures { IfOk result (λ bytes. IsTextAt (D.contents inputs.now) path.now bytes.items) }
+{
+    match read_file_up_to(inputs, alloc, path, MOST_OF_MEMORY)? {
+        Some(bytes) => Ok(bytes),
+        None => Err(Stop::OutOfMemory),
+    }
+}
+
+/// The file at a path cannot be written.
+pub fn file_error_stop(alloc: Global, path: &str, error: FileError) -> Stop {
+    match error {
+        FileError::OutOfMemory => Stop::OutOfMemory,
+        FileError::SamePlace => {
+            let what = "another file of this command goes to the same place";
+            Stop::of_refusal(path_message(alloc, path, what))
+        }
+        FileError::Failed(reason) => io_error_stop(alloc, path, reason),
+    }
+}
+
+// A path cannot be read or written, for a reason of the system's.
+fn io_error_stop(alloc: Global, path: &str, reason: ErrorKind) -> Stop {
+    Stop::of_failure(path_message(alloc, path, io_error_text(reason)))
+}

@@ -1,0 +1,18 @@
+//! What the commands of `rvtest` share: their statuses, why they end early, and the lists and reports that they read.
+//!
+//! A [`Stop`] says why a command ended before its work was done; [`put_stop_message`] tells it and gives the status, 2 or 3.
+#![tactic(auto)]
+
+mod files;
+mod list;
+mod messages;
+mod saved_report;
+mod status;
+mod stop;
+
+pub use files::{file_error_stop, read_file};
+pub use list::{list_faults_text, parse_list, read_list_text};
+pub use messages::{path_message, path_number_message, put_message, put_results, put_stop_message};
+pub use saved_report::{parse_report, read_report_file};
+pub use status::{DONE, FAILED, REFUSED, SOME_FAIL};
+pub use stop::{Lines, Stop};

@@ -1,0 +1,61 @@
+//! The list of jobs that a command is given.
+
+ghost use Rattle.std.specs.Prelude.{◌≡◌, ◌≤◌, [], IfOk, Ok, length};
+ghost use Rattle.rv_base.specs.Limits.{most_bytes};
+ghost use Rattle.rv_command.specs.Texts.{IsTextAt};
+ghost use Rattle.rv_list_errors.specs.Lines.{PutsLines};
+ghost use Rattle.rv_lists.specs.JobList.{job_list_of};
+
+use crate::files::read_file_up_to;
+use crate::messages::path_message;
+use crate::stop::Stop;
+use rv_files::Inputs;
+use rv_jobs::limits::MOST_BYTES;
+use rv_jobs::{JobError, JobList, What, read_jobs};
+use rv_list_errors::push_faults;
+use std::alloc::{AllocError, Global};
+
+/// The text of the list at a path.
+pub fn read_list_text<D: Inputs>(inputs: &D, alloc: Global, path: &str) -> Result<Vec<u8>, Stop>
+    ensures read { IfOk result (λ text. IsTextAt (D.contents inputs.now) path.now text.items) }
+    ensures within { IfOk result (λ text. length text.items ≤ most_bytes) }
+{
+    match read_file_up_to(inputs, alloc, path, MOST_BYTES)? {
+        Some(text) => Ok(text),
+        None => {
+            let what = "the file has more than 16777216 bytes";
+            Err(Stop::of_failure(path_message(alloc, path, what)))
+        }
+    }
+}
+
+/// The jobs of a list's text, or what is wrong with the list.
+pub fn parse_list(alloc: Global, path: &str, text: &[u8]) -> Result<JobList, Stop>
+    ensures { IfOk result (λ jobs. job_list_of text.now ≡ Ok jobs) }
+{
+    match read_jobs(alloc, text) {
+        Ok(jobs) => Ok(jobs),
+        Err(error) => Err(list_fault_stop(alloc, path, text, error)),
+    }
+}
+
+fn list_fault_stop(alloc: Global, path: &str, text: &[u8], fault: JobError) -> Stop {
+    match fault.what {
+        What::OutOfMemory => Stop::OutOfMemory,
+        _ => Stop::of_refusal(list_faults_text(alloc, path, text, &[fault])),
+    }
+}
+
+/// A line for each fault of a list.
+pub fn list_faults_text(
+    alloc: Global,
+    path: &str,
+    text: &[u8],
+    faults: &[JobError],
+) -> Result<Vec<u8>, AllocError>
+    ensures { IfOk result (λ lines. PutsLines (length faults.now) [] lines.items) }
+{
+    let mut told = Vec::new(alloc);
+    push_faults(alloc, &mut told, path, text, faults)?;
+    Ok(told)
+}

@@ -1,0 +1,111 @@
+//! What goes to standard error, and the statuses.
+
+ghost use Rattle.std.specs.Prelude.{◌≡◌, ◌≤◌, ◌++◌, OnErr, OnOk, IfErr, IfOk};
+ghost use Rattle.std.specs.Io.KnownBytes.{Appends, Keeps};
+ghost use Rattle.rv_base.specs.Counts.{one_more};
+ghost use Rattle.rv_base.specs.Sinks.{AppendsBeginning};
+ghost use Rattle.rv_command.specs.Stops.{lines_status, stop_status};
+ghost use Rattle.rv_command.specs.Messages.{IsMessagePut, path_message, path_number_message, stop_message};
+
+use crate::status::{FAILED, REFUSED};
+use crate::stop::{Lines, Stop};
+use rv_rows::{Sink, put_all};
+use rv_text::{Span, text_of_spans};
+use std::alloc::{AllocError, Global};
+
+/// A line that says what is wrong with what stands at a path.
+pub fn path_message<'a>(alloc: Global, path: &'a str, what: &'a str) -> Result<Vec<u8>, AllocError>
+    ensures { IfOk result (λ text. text.items ≡ path_message path.now what.now) }
+{
+    text_of_spans(
+        alloc,
+        &[
+            Span::Text("rvtest: "),
+            Span::Shown(path.as_bytes()),
+            Span::Text(": "),
+            Span::Text(what),
+            Span::Text("\n"),
+        ],
+    )
+}
+
+/// A line that says what is wrong with the line or the job of a number in what stands at a path.
+pub fn path_number_message<'a>(
+    alloc: Global,
+    path: &'a str,
+    place: &'a str,
+    number: usize,
+    what: &'a str,
+) -> Result<Vec<u8>, AllocError>
+    ensures { IfOk result (λ text. text.items ≡ path_number_message path.now place.now number what.now) }
+{
+    text_of_spans(
+        alloc,
+        &[
+            Span::Text("rvtest: "),
+            Span::Shown(path.as_bytes()),
+            Span::Text(place),
+            Span::Number(number as u64),
+            Span::Text(what),
+        ],
+    )
+}
+
+/// Puts a message. Where that fails nothing else changes.
+pub fn put_message<E: Sink>(errors: &mut E, text: &[u8])
+    ensures { IsMessagePut (E.taken errors.old) (E.taken errors.new)
+        (E.failed errors.old) (E.failed errors.new) text.now }
+{
+    let _ = put_all(errors, text);
+}
+
+/// Puts results.
+pub fn put_results<O: Sink>(out: &mut O, text: &[u8]) -> Result<(), Stop>
+    ensures put { OnOk result (Appends (O.taken out.old) (O.taken out.new) text.now) }
+    ensures counted { OnOk result (O.failed out.new ≡ O.failed out.old) }
+    ensures part { OnErr result (AppendsBeginning (O.taken out.old) (O.taken out.new) text.now) }
+    ensures failed { IfErr result (λ stop.
+        (stop ≡ Stop.WriteFailed) × (O.failed out.new ≡ one_more (O.failed out.old))) }
+{
+    match put_all(out, text) {
+        Ok(()) => Ok(()),
+        Err(_) => Err(Stop::WriteFailed),
+    }
+}
+
+/// Says why a command ended before its work was done, and gives the status: 2 or 3.
+pub fn put_stop_message<E: Sink>(errors: &mut E, stop: Stop) -> u8
+    ensures status { result ≡ stop_status stop }
+    ensures told { IsMessagePut (E.taken errors.old) (E.taken errors.new)
+        (E.failed errors.old) (E.failed errors.new) (stop_message stop) }
+    ensures low { result ≤ 3 }
+{
+    match stop {
+        Stop::Told(lines, text) => {
+            put_message(errors, text.as_slice());
+            lines_status(lines)
+        }
+        Stop::OutOfMemory => put_failure_message(errors, "rvtest: out of memory\n"),
+        Stop::NoWorker => put_failure_message(errors, "rvtest: no thread could be started\n"),
+        Stop::WriteFailed => put_failure_message(errors, "rvtest: the results: write failed\n"),
+    }
+}
+
+fn lines_status(lines: Lines) -> u8
+    ensures { result ≡ lines_status lines }
+{
+    match lines {
+        Lines::Refusal => REFUSED,
+        Lines::Failure => FAILED,
+    }
+}
+
+/// Says how the system failed, and gives the status.
+pub fn put_failure_message<E: Sink>(errors: &mut E, text: &str) -> u8
+    ensures status { result ≡ FAILED }
+    ensures told { IsMessagePut (E.taken errors.old) (E.taken errors.new)
+        (E.failed errors.old) (E.failed errors.new) text.now }
+{
+    put_message(errors, text.as_bytes());
+    FAILED
+}

@@ -1,0 +1,45 @@
+//! Reports that are read.
+
+ghost use Rattle.std.specs.Prelude.{◌≡◌, ◌≤◌, IfOk, length};
+ghost use Rattle.rv_base.specs.Limits.{most_jobs};
+ghost use Rattle.rv_command.specs.Texts.{IsReportAt, IsReportOf};
+
+use crate::files::read_file;
+use crate::messages::{path_message, path_number_message};
+use crate::stop::Stop;
+use rv_files::Inputs;
+use rv_report::{ReadError, SavedReport, read_report};
+use std::alloc::{AllocError, Global};
+
+/// The report at a path: a whole one, or that of a part of a list.
+pub fn read_report_file<D: Inputs>(
+    inputs: &D,
+    alloc: Global,
+    path: &str,
+) -> Result<SavedReport, Stop>
+    ensures read { IfOk result (IsReportAt (D.contents inputs.now) path.now) }
+    ensures few { IfOk result (λ report. length report.rows ≤ most_jobs) }
+{
+    let text = read_file(inputs, alloc, path)?;
+    parse_report(alloc, path, text.as_slice())
+}
+
+/// The report that a text is, which was read at a path.
+pub fn parse_report(alloc: Global, path: &str, text: &[u8]) -> Result<SavedReport, Stop>
+    ensures report { IfOk result (IsReportOf text.now) }
+    ensures few { IfOk result (λ report. length report.rows ≤ most_jobs) }
+{
+    match read_report(alloc, text) {
+        Ok(report) => Ok(report),
+        Err(ReadError::OutOfMemory) => Err(Stop::OutOfMemory),
+        Err(ReadError::CutOff) => {
+            let told = path_message(alloc, path, "the report is cut off");
+            Err(Stop::of_refusal(told))
+        }
+        Err(ReadError::Line(line)) => Err(Stop::of_refusal(report_line_message(alloc, path, line))),
+    }
+}
+
+fn report_line_message(alloc: Global, path: &str, line: usize) -> Result<Vec<u8>, AllocError> {
+    path_number_message(alloc, path, ":", line, ": no report has this line here\n")
+}

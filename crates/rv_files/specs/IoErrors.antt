@@ -1,0 +1,23 @@
+-- What people are told of an error of the system's.
+use Rattle.std.specs.Prelude.{ℕ, List, codes}
+use Rattle.std.specs.declared.io.ErrorKind.{ErrorKind}
+use Rattle.std.specs.declared.io.ErrorKind.TheVariants as kind
+
+-- what the system said when a file was opened or read: three things in plain words, others that it
+-- may say of a file as the standard library words them
+unfoldable pub io_error_text : ErrorKind → List ℕ
+io_error_text kind.NotFound = codes "missing"
+io_error_text kind.IsADirectory = codes "a folder"
+io_error_text kind.PermissionDenied = codes "no permission"
+io_error_text kind.NotADirectory = codes "not a directory"
+io_error_text kind.FilesystemLoop = codes "filesystem loop or indirection limit (e.g. symlink loop)"
+io_error_text kind.InvalidFilename = codes "invalid filename"
+io_error_text kind.InvalidInput = codes "invalid input parameter"
+io_error_text kind.StaleNetworkFileHandle = codes "stale network file handle"
+io_error_text kind.ResourceBusy = codes "resource busy"
+io_error_text kind.WouldBlock = codes "operation would block"
+io_error_text kind.Interrupted = codes "operation interrupted"
+io_error_text kind.TimedOut = codes "timed out"
+io_error_text kind.Unsupported = codes "unsupported"
+io_error_text kind.OutOfMemory = codes "out of memory"
+io_error_text _ = codes "not readable"

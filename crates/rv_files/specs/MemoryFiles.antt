@@ -1,0 +1,15 @@
+-- Files in memory.
+use Rattle.std.specs.Prelude.{List, find, map, option_map}
+use Rattle.std.specs.Str.{bytes_eq}
+use Rattle.rv_base.specs.Files.{FileContents}
+use Rattle.rv_files.specs.declared.memory_files.MemoryFile.{MemoryFile}
+use Rattle.rv_files.specs.Placed.{PlacedFile, placed_file}
+
+-- the bytes of the first file of each path
+abbrev pub memory_contents : List MemoryFile → FileContents
+memory_contents files path = option_map (λ (file : MemoryFile). file.bytes.items)
+    (find (λ (file : MemoryFile). bytes_eq path file.path) files)
+
+-- the files as they are told
+abbrev pub memory_placed : List MemoryFile → List PlacedFile
+memory_placed files = map (λ (file : MemoryFile). placed_file file.path file.bytes.items) files

@@ -1,0 +1,78 @@
+//! Where a command reads texts from: a list, a report, the files of jobs.
+
+ghost use Rattle.std.specs.Prelude.{◌≡◌, ◌≢◌, ◌≤◌, ◌<◌, ◌+◌, ◌^◌, None, Option, Some, length, take};
+ghost use Rattle.std.specs.Prelude.{IfErr, IfNone, IfOk, IfSome, IsSomeAnd};
+ghost use Rattle.rv_base.specs.Files.{FileContents};
+
+use crate::input::{InputError, read_at_most};
+use std::alloc::Global;
+use std::fs;
+use std::rt::Files;
+
+/// Something that reads what stands at a path.
+pub trait Inputs {
+    // What each path holds, where that is told. No read changes it.
+    ghost contents: { Self → Option FileContents };
+
+    /// The first `most` bytes of what stands at a path, or all of them where there are fewer.
+    fn read_up_to(&self, alloc: Global, path: &str, most: usize) -> Result<Vec<u8>, InputError>
+        ensures within { IfOk result (λ bytes. length bytes.items ≤ most) }
+        ensures known { IfOk result (λ bytes. IfSome (contents self.now)
+            (λ files. IsSomeAnd (files path.now) (λ whole. bytes.items ≡ take most whole))) }
+        ensures missing { IfErr result (λ error. error ≢ InputError.OutOfMemory → IfSome (contents self.now)
+            (λ files. files path.now ≡ None)) };
+}
+
+/// The system's files. What the world outside holds is not known, so they tell no contents.
+#[derive(Drop)]
+pub struct SystemInputs<'a, R: Files> {
+    files: &'a R,
+}
+
+impl<'a, R: Files> SystemInputs<'a, R> {
+    pub fn new(files: &'a R) -> SystemInputs<'a, R>
+        ensures { result.files ≡ files.entry }
+    {
+        SystemInputs { files }
+    }
+}
+
+impl<'a, R: Files> Inputs for SystemInputs<'a, R> {
+    ghost contents = { λ _. None };
+
+    fn read_up_to(&self, alloc: Global, path: &str, most: usize) -> Result<Vec<u8>, InputError>
+        ensures within { IfOk result (λ bytes. length bytes.items ≤ most) }
+
+        // The bytes are those that some file of the system has.
+        ensures opened { IfOk result (λ bytes. (file : R.File)
+            × IfSome (R.File.remaining file) (λ known. bytes.items ≡ take most known)) }
+    {
+        match fs::open(self.files, path) {
+            Ok(mut file) => read_at_most(alloc, &mut file, most),
+            Err(error) => Err(InputError::Failed(error.kind())),
+        }
+    }
+}
+
+/// All that stands at a path, where that is at most `most` bytes, and none where there are more.
+pub fn read_whole_up_to<D: Inputs>(
+    inputs: &D,
+    alloc: Global,
+    path: &str,
+    most: usize,
+) -> Result<Option<Vec<u8>>, InputError>
+    requires { most + 1 < 2 ^ 64 }
+    ensures within { IfOk result (λ read. IfSome read (λ bytes. length bytes.items ≤ most)) }
+    ensures whole { IfOk result (λ read. IfSome read (λ bytes. IfSome (D.contents inputs.now)
+        (λ files. files path.now ≡ Some bytes.items))) }
+    ensures long { IfOk result (λ read. IfNone read (IfSome (D.contents inputs.now)
+        (λ files. IsSomeAnd (files path.now) (λ bytes. most < length bytes)))) }
+    ensures missing { IfErr result (λ error. error ≢ InputError.OutOfMemory → IfSome (D.contents inputs.now)
+        (λ files. files path.now ≡ None)) }
+{
+    let bytes = inputs.read_up_to(alloc, path, most + 1)?;
+    if bytes.len() > most {
+        return Ok(None);
+    }
+    Ok(Some(bytes))
+}

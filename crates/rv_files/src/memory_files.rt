@@ -1,0 +1,167 @@
+//! Files in memory, as inputs and as outputs. They tell all bytes, so they show that the contracts of both can be met.
+
+ghost use Rattle.std.specs.Prelude.{◌≡◌, ◌+◌, [], Some, MatchResult, option_map};
+ghost use Rattle.rv_files.specs.MemoryFiles.{memory_contents, memory_placed};
+
+use crate::file_error::FileError;
+use crate::input::InputError;
+use crate::inputs::Inputs;
+use crate::outputs::Outputs;
+use rv_base::{Sink, SinkFailed, Text};
+use std::alloc::Global;
+use std::io::ErrorKind;
+
+/// A file in memory.
+#[derive(Debug, Drop)]
+pub struct MemoryFile {
+    pub path: Text,
+    pub bytes: Vec<u8>,
+}
+
+/// Files that are read. Of several with the same path the first is.
+#[derive(Debug, Drop)]
+pub struct MemoryInputs {
+    files: Vec<MemoryFile>,
+}
+
+impl MemoryInputs {
+    /// Takes no memory.
+    pub fn new(files: Vec<MemoryFile>) -> MemoryInputs
+        ensures { result.files ≡ files }
+    {
+        MemoryInputs { files }
+    }
+
+    fn file_at(&self, path: &str) -> Option<&MemoryFile>
+        ensures { option_map (λ file. file.now.bytes.items) result
+            ≡ memory_contents self.now.files.items path.now }
+    {
+        self.files.iter().find(|file| path == file.path.as_str())
+    }
+}
+
+impl Inputs for MemoryInputs {
+    ghost contents = { λ inputs. Some (memory_contents inputs.files.items) };
+
+    fn read_up_to(&self, alloc: Global, path: &str, most: usize) -> Result<Vec<u8>, InputError> {
+        let Some(file) = self.file_at(path) else {
+            return Err(InputError::Failed(ErrorKind::NotFound));
+        };
+        let count = file.bytes.len().min(most);
+        Ok(Vec::from_slice(alloc, &file.bytes[..count])?)
+    }
+}
+
+/// A file of [`MemoryOutputs`] that takes bytes.
+#[derive(Debug, Drop)]
+pub struct MemorySink {
+    bytes: Vec<u8>,
+    failures: u64,
+}
+
+impl Sink for MemorySink {
+    ghost taken = { λ sink. Some sink.bytes.items };
+
+    ghost failed = { λ sink. sink.failures };
+
+    fn put(&mut self, bytes: &[u8]) -> Result<usize, SinkFailed> {
+        match self.bytes.extend_from_slice(bytes) {
+            Ok(()) => Ok(bytes.len()),
+            Err(_) => {
+                self.failures = self.failures.saturating_add(1);
+                Err(SinkFailed)
+            }
+        }
+    }
+
+    fn failures(&self) -> u64 {
+        self.failures
+    }
+}
+
+/// Files that are written.
+#[derive(Debug, Drop)]
+pub struct MemoryOutputs {
+    placed: Vec<MemoryFile>,
+    steps_left: u64,
+}
+
+impl MemoryOutputs {
+    /// Takes no memory.
+    pub fn new(alloc: Global) -> MemoryOutputs
+        ensures { result.placed.items ≡ [] }
+    {
+        MemoryOutputs::with_steps(alloc, u64::MAX)
+    }
+
+    /// Outputs that take so many steps, and refuse each one behind them. It is a step that a file is created, handed to the
+    /// disk, or placed. Takes no memory.
+    pub fn with_steps(alloc: Global, steps: u64) -> MemoryOutputs
+        ensures nothing { result.placed.items ≡ [] }
+        ensures steps { result.steps_left ≡ steps }
+    {
+        MemoryOutputs {
+            placed: Vec::new(alloc),
+            steps_left: steps,
+        }
+    }
+
+    /// The files that stand in their places, in the order in which they were put there.
+    pub fn placed_files(&self) -> &[MemoryFile]
+        ensures { result.now ≡ self.now.placed.items }
+    {
+        &self.placed
+    }
+
+    fn take_step(&mut self) -> Result<(), FileError>
+        ensures same { self.new.placed ≡ self.old.placed }
+        ensures taken { MatchResult result (λ _. self.new.steps_left + 1 ≡ self.old.steps_left)
+            (λ error. (self.old.steps_left ≡ 0) × (error ≡ FileError.Failed ErrorKind.StorageFull)) }
+    {
+        match self.steps_left.checked_sub(1) {
+            Some(left) => {
+                self.steps_left = left;
+                Ok(())
+            }
+            None => Err(FileError::Failed(ErrorKind::StorageFull)),
+        }
+    }
+}
+
+impl Outputs for MemoryOutputs {
+    type Place = Text;
+
+    type File = MemorySink;
+
+    type Synced = Vec<u8>;
+
+    ghost placed = { λ outputs. Some (memory_placed outputs.placed.items) };
+
+    ghost place_path = { λ path. path };
+
+    ghost synced_bytes = { λ bytes. Some bytes.items };
+
+    fn create(&mut self, alloc: Global, path: &str) -> Result<(Text, MemorySink), FileError> {
+        self.take_step()?;
+        let file = MemorySink {
+            bytes: Vec::new(alloc),
+            failures: 0,
+        };
+        Ok((Text::copy(alloc, path)?, file))
+    }
+
+    fn sync(&mut self, file: MemorySink) -> Result<Vec<u8>, FileError> {
+        self.take_step()?;
+        Ok(file.bytes)
+    }
+
+    fn place(&mut self, path: Text, bytes: Vec<u8>) -> Result<(), FileError> {
+        self.take_step()?;
+        match self.placed.push(MemoryFile { path, bytes }) {
+            Ok(()) => Ok(()),
+            Err(_) => Err(FileError::OutOfMemory),
+        }
+    }
+
+    fn abandon(&mut self, _place: Text) {}
+}

@@ -1,0 +1,195 @@
+//! The system's files as outputs.
+
+ghost use Rattle.std.specs.Prelude.{◌≡◌, ◌<◌, [], None, IfErr, IfOk, vec_len};
+
+use crate::file_error::FileError;
+use crate::file_sink::FileSink;
+use crate::outputs::Outputs;
+use crate::sink_paths::{Places, is_same_place, temporary_and_final_path, with_new_suffix};
+use crate::streams::StreamSink;
+use rv_base::Text;
+use std::alloc::{AllocError, Global};
+use std::fs::{self, OpenFile, OpenOptions};
+use std::io::{self, ErrorKind};
+use std::path::PathBuf;
+use std::rt::Files;
+
+/// The system's files. What is at a file's path stays as it is until the file is placed: the bytes go to a file of the
+/// same path with `.new` behind it, and one that an earlier run left there gives way. Of a link the place that it leads to
+/// is written so, whether something is there or not. What is there and no regular file, as a pipe, is written as it is.
+/// Where a file cannot be placed, the one that took its bytes is taken away.
+#[derive(Drop)]
+pub struct SystemOutputs<'a, R: Files> {
+    files: &'a R,
+    // The paths, with `.new` behind them, of the files that are neither placed nor abandoned.
+    unplaced: Vec<PathBuf>,
+}
+
+/// Where a file of the system is to stand.
+#[derive(Drop)]
+pub struct SystemPlace {
+    // The path as it was given.
+    given: Text,
+    // None where the bytes go to what stands at the path.
+    places: Option<Places>,
+}
+
+/// A file of the system that the disk has.
+#[derive(Drop)]
+pub struct SyncedFile {
+    // Keeps others from making one.
+    sealed: (),
+}
+
+impl<'a, R: Files> SystemOutputs<'a, R> {
+    /// Takes no memory.
+    pub fn new(files: &'a R, alloc: Global) -> SystemOutputs<'a, R>
+        ensures files { result.files ≡ files.entry }
+        ensures nothing { result.unplaced.items ≡ [] }
+    {
+        SystemOutputs {
+            files,
+            unplaced: Vec::new(alloc),
+        }
+    }
+
+    // Opens the file that takes the bytes.
+    fn open_file(
+        &mut self,
+        alloc: Global,
+        path: &str,
+        places: Option<&Places>,
+    ) -> Result<R::File, FileError>
+        ensures first { IfErr result (λ error. error ≡ FileError.SamePlace → 0 < vec_len self.old.unplaced) }
+    {
+        let _streams = (
+            open_null_device(self.files),
+            open_null_device(self.files),
+            open_null_device(self.files),
+        );
+        match places {
+            Some(places) => self.create_unplaced(alloc, places),
+            None => Ok(OpenOptions::new().write(true).open(self.files, path)?),
+        }
+    }
+
+    // A new file at the first of its places, which is noted.
+    fn create_unplaced(&mut self, alloc: Global, places: &Places) -> Result<R::File, FileError>
+        ensures first { IfErr result (λ error. error ≡ FileError.SamePlace → 0 < vec_len self.old.unplaced) }
+    {
+        self.refuse_same_place(alloc, places)?;
+        self.note_unplaced(alloc, places.new.as_str())?;
+        match replace_file(self.files, places.new.as_str()) {
+            Ok(file) => Ok(file),
+            Err(error) => {
+                self.unplaced.pop();
+                Err(FileError::from(error))
+            }
+        }
+    }
+
+    // No place of a file is one of a file that is not yet placed: neither would be there whole.
+    fn refuse_same_place(&self, alloc: Global, places: &Places) -> Result<(), FileError>
+        ensures first { IfErr result (λ error. error ≡ FileError.SamePlace → 0 < vec_len self.now.unplaced) }
+    {
+        // Where the other file is to stand at this one's first place, the other's first place is this.
+        let newer = with_new_suffix(alloc, places.new.as_str())?;
+        for other in &self.unplaced {
+            for path in [&places.new, &places.whole, &newer] {
+                if is_same_place(self.files, alloc, path.as_str(), other.as_str())? {
+                    return Err(FileError::SamePlace);
+                }
+            }
+        }
+        Ok(())
+    }
+
+    fn note_unplaced(&mut self, alloc: Global, new: &str) -> Result<(), AllocError> {
+        self.unplaced.push(PathBuf::from_str(alloc, new)?)?;
+        Ok(())
+    }
+
+    fn forget_unplaced(&mut self, new: &str) {
+        self.unplaced.retain(|path| path.as_str() != new);
+    }
+}
+
+// A file that is open. Three of them take the places of standard streams that are closed, so that the file which is
+// opened behind them takes none, and what goes to the streams is not written to it.
+fn open_null_device<R: Files>(files: &R) -> io::Result<R::File> {
+    fs::open(files, "/dev/null")
+}
+
+// A new file: what stands at its path gives way.
+fn replace_file<R: Files>(files: &R, path: &str) -> io::Result<R::File> {
+    match files.remove_file(path) {
+        Ok(()) => {}
+        Err(error) if error.kind() == ErrorKind::NotFound => {}
+        Err(error) => return Err(error),
+    }
+    OpenOptions::new()
+        .write(true)
+        .create_new(true)
+        .open(files, path)
+}
+
+// What the world outside holds is not known, so it is not told what is placed.
+impl<'a, R: Files> Outputs for SystemOutputs<'a, R> {
+    type Place = SystemPlace;
+
+    type File = FileSink<R::File>;
+
+    type Synced = SyncedFile;
+
+    ghost placed = { λ _. None };
+
+    ghost place_path = { λ place. place.given };
+
+    ghost synced_bytes = { λ _. None };
+
+    fn create(
+        &mut self,
+        alloc: Global,
+        path: &str,
+    ) -> Result<(SystemPlace, FileSink<R::File>), FileError>
+        ensures path { IfOk result (λ made. made.0.given ≡ path.now) }
+        ensures unfailed { IfOk result (λ made. made.1.stream.failures ≡ 0) }
+        ensures first { IfErr result (λ error. error ≡ FileError.SamePlace → 0 < vec_len self.old.unplaced) }
+    {
+        let given = Text::copy(alloc, path)?;
+        let places = temporary_and_final_path(self.files, alloc, path)?;
+        let file = self.open_file(alloc, path, places.as_ref())?;
+        let file = FileSink {
+            stream: StreamSink::new(file),
+            is_on_disk: places.is_some(),
+        };
+        Ok((SystemPlace { given, places }, file))
+    }
+
+    fn sync(&mut self, file: FileSink<R::File>) -> Result<SyncedFile, FileError> {
+        if file.is_on_disk {
+            file.stream.into_inner().sync_all()?;
+        }
+        Ok(SyncedFile { sealed: () })
+    }
+
+    fn place(&mut self, place: SystemPlace, _file: SyncedFile) -> Result<(), FileError> {
+        let Some(places) = &place.places else {
+            return Ok(());
+        };
+        let (new, whole) = (places.new.as_str(), places.whole.as_str());
+        let placed = self.files.rename(new, whole);
+        if placed.is_err() {
+            let _ = self.files.remove_file(new);
+        }
+        self.forget_unplaced(new);
+        Ok(placed?)
+    }
+
+    fn abandon(&mut self, place: SystemPlace) {
+        if let Some(places) = &place.places {
+            let _ = self.files.remove_file(places.new.as_str());
+            self.forget_unplaced(places.new.as_str());
+        }
+    }
+}

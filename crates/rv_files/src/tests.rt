@@ -1,0 +1,149 @@
+//! Files of one command over the system's files, and files in memory.
+
+ghost use Rattle.std.specs.Prelude.{◌≡◌, ◌++◌, ◌∷◌, [], Some, IfSome, OnOk};
+ghost use Rattle.rv_files.specs.Placed.{placed_file};
+
+use crate::{
+    FileError, Inputs, MemoryFile, MemoryInputs, MemoryOutputs, NotingStore, Outputs, SystemInputs,
+    SystemOutputs,
+};
+use rv_base::{Store, Text, put_all};
+use std::alloc::{AllocError, Global};
+use std::fs;
+use std::process::Abort;
+use std::rt::Files;
+use std::test::Fail;
+
+// Writes a file. The contract shows that the clauses of outputs are enough to name what is written.
+fn write_file<F: Outputs>(
+    outputs: &mut F,
+    alloc: Global,
+    path: &str,
+    bytes: &[u8],
+) -> Result<(), FileError>
+    ensures { OnOk result (IfSome (F.placed outputs.old)
+        (λ earlier. F.placed outputs.new ≡ Some (earlier ++ placed_file path.now bytes.now ∷ []))) }
+{
+    let (place, mut file) = outputs.create(alloc, path)?;
+    if put_all(&mut file, bytes).is_err() {
+        outputs.abandon(place);
+        return Err(FileError::OutOfMemory);
+    }
+    let synced = outputs.sync(file)?;
+    outputs.place(place, synced)
+}
+
+fn answer_text(answer: Result<(), FileError>) -> &'static str {
+    match answer {
+        Ok(()) => "placed",
+        Err(FileError::SamePlace) => "the same place",
+        Err(FileError::Failed(_)) => "failed",
+        Err(FileError::OutOfMemory) => "out of memory",
+    }
+}
+
+// Two files of one command, of which the second is written before the first is placed: their paths | what comes of the
+// second | what stands at the first path in the end.
+const PAIRS: &str = "\
+report|junit|placed|first
+report|report|the same place|first
+report|./report|the same place|first
+report|link|the same place|first
+link|report|the same place|first
+report|report.new|the same place|first
+report.new|report|the same place|first
+report|missing/report|failed|first
+/dev/null|/dev/null|placed|
+";
+
+fn writes_pair<R: Files + Abort>(rt: &R, alloc: Global, line: &str) -> Result<(), Fail> {
+    let mut cells = line.split('|');
+    let first = cells.next().unwrap_or("");
+    let second = cells.next().unwrap_or("");
+    let wanted = cells.next().unwrap_or("");
+    let text = cells.next().unwrap_or("");
+    let mut outputs = SystemOutputs::new(rt, alloc);
+    let (place, mut file) = outputs.create(alloc, first)?;
+    put_all(&mut file, b"first")?;
+    let answer = answer_text(write_file(&mut outputs, alloc, second, b"second"));
+    assert_eq!(rt; answer, wanted, "{line}");
+    let synced = outputs.sync(file)?;
+    outputs.place(place, synced)?;
+    let read = SystemInputs::new(rt).read_up_to(alloc, first, 9)?;
+    assert_eq!(rt; read.as_slice(), text.as_bytes(), "{line}");
+    // The place is free again.
+    write_file(&mut outputs, alloc, first, b"again")?;
+    Ok(())
+}
+
+#[test]
+fn files_of_one_command(rt: HostRuntime) -> Result<(), Fail> {
+    for line in PAIRS.lines() {
+        fs::write(&rt, "report", "old")?;
+        rt.symlink("report", "link")?;
+        writes_pair(&rt, rt.alloc(), line)?;
+        for path in ["report", "link", "junit", "report.new"] {
+            let _ = fs::remove_file(&rt, path);
+        }
+    }
+    Ok(())
+}
+
+#[test]
+fn a_file_is_abandoned(rt: HostRuntime) -> Result<(), Fail> {
+    fs::write(&rt, "kept", "old")?;
+    let mut outputs = SystemOutputs::new(&rt, rt.alloc());
+    let (place, mut file) = outputs.create(rt.alloc(), "kept")?;
+    put_all(&mut file, b"lost")?;
+    outputs.abandon(place);
+    assert_eq!(rt; fs::read(&rt, "kept")?.as_slice(), b"old".as_slice());
+    assert!(rt; fs::read(&rt, "kept.new").is_err());
+    write_file(&mut outputs, rt.alloc(), "kept", b"new")?;
+    assert_eq!(rt; fs::read(&rt, "kept")?.as_slice(), b"new".as_slice());
+    fs::remove_file(&rt, "kept")?;
+    Ok(())
+}
+
+#[test]
+fn steps_are_refused(rt: HostRuntime) -> Result<(), Fail> {
+    for (steps, wanted, count) in [
+        (0, "failed", 0),
+        (1, "failed", 0),
+        (2, "failed", 0),
+        (3, "placed", 1),
+    ] {
+        let mut outputs = MemoryOutputs::with_steps(rt.alloc(), steps);
+        let answer = answer_text(write_file(&mut outputs, rt.alloc(), "path", b"bytes"));
+        assert_eq!(rt; answer, wanted, "{steps} steps");
+        assert_eq!(rt; outputs.placed_files().len(), count, "{steps} steps");
+    }
+    Ok(())
+}
+
+fn memory_file(alloc: Global, path: &str, bytes: &[u8]) -> Result<MemoryFile, AllocError> {
+    Ok(MemoryFile {
+        path: Text::copy(alloc, path)?,
+        bytes: bytes.to_vec(alloc)?,
+    })
+}
+
+#[test]
+fn memory_is_read(rt: HostRuntime) -> Result<(), Fail> {
+    let mut files = Vec::new(rt.alloc());
+    files.push(memory_file(rt.alloc(), "image", b"here")?)?;
+    files.push(memory_file(rt.alloc(), "folder/image", b"below")?)?;
+    let inputs = MemoryInputs::new(files);
+    for (folder, path, wanted) in [
+        (None, "image", "here"),
+        (Some("folder"), "image", "below"),
+        (Some("folder"), "/image", "unread"),
+        (None, "folder", "unread"),
+    ] {
+        let mut store = NotingStore::new(&inputs, rt.alloc(), folder);
+        match store.read(rt.alloc(), path) {
+            Ok(bytes) => assert_eq!(rt; bytes.as_slice(), wanted.as_bytes(), "{path}"),
+            Err(_) => assert_eq!(rt; store.unread_paths().len(), 1, "{path}"),
+        }
+    }
+    Ok(())
+}

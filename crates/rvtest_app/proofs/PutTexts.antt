@@ -1,0 +1,93 @@
+-- What outlets took, by the paths that they are for.
+use Rattle.std.proofs.Common.{◌≡◌, ◌∙◌, ◌++◌, ◌∷◌, ℕ, List, [], Option, Some, None, IfSome, ap, refl, sym, false, true}
+use Rattle.std.proofs.Common.{append-nil, arith, length, map}
+use Rattle.std.proofs.lemmas.Grind.{common_steps}
+use Rattle.std.specs.Io.KnownBytes.{Appends}
+use Rattle.rv_base.specs.Sinks.{AppendsBeginning}
+use Rattle.rv_files.specs.Placed.{PlacedFile}
+use Rattle.rvtest_app.specs.Outlets.{ArePlaced, HasTaken, IsPutInto, both_files, file_at, files_of, has_no_failure, is_stdout}
+use Rattle.rvtest_app.specs.Outlets.{stdout_at, stdout_part}
+use Rattle.rv_report.specs.declared.row.Row.{Row}
+use Rattle.rv_stream.specs.Streams.{row_text_list}
+use Rattle.rvtest_app.specs.declared.outlets.Outlet.{Outlet}
+use Rattle.rvtest_app.specs.declared.outlets.Outlet.TheVariants as outlet
+
+module _ {P W : Type 0} (place_path : P → List ℕ) (taken : W → Option (List ℕ)) (failed : W → ℕ) where
+  -- no put failed after a text was put, where none had failed before
+  pub unfailed_after : (before after : Outlet P W) (text : List ℕ) → IsPutInto taken failed before after text
+      → has_no_failure failed before → has_no_failure failed after
+  unfailed_after outlet.Nowhere outlet.Nowhere text put none = none
+  unfailed_after outlet.Out outlet.Out text put none = none
+  unfailed_after (outlet.File before) (outlet.File after) text put none = put.1.1 ∙ none
+  unfailed_after outlet.Nowhere outlet.Out text put none = elim put [ ]
+  unfailed_after outlet.Nowhere (outlet.File after) text put none = elim put [ ]
+  unfailed_after outlet.Out outlet.Nowhere text put none = elim put [ ]
+  unfailed_after outlet.Out (outlet.File after) text put none = elim put [ ]
+  unfailed_after (outlet.File before) outlet.Nowhere text put none = elim put [ ]
+  unfailed_after (outlet.File before) outlet.Out text put none = elim put [ ]
+
+  pub unfailed : (placed : Option (List PlacedFile)) (path : Option (List ℕ)) (text : List ℕ) (o : Outlet P W)
+      → HasTaken place_path taken failed placed path text o → has_no_failure failed o
+  unfailed placed path text outlet.Nowhere has = tt
+  unfailed placed path text outlet.Out has = tt
+  unfailed placed path text (outlet.File file) has = has.1.1.1
+
+  -- what goes to standard output is told by the path
+  pub stdout_told : (placed : Option (List PlacedFile)) (path : Option (List ℕ)) (o : Outlet P W) (text : List ℕ)
+      → HasTaken place_path taken failed placed path [] o → stdout_part o text ≡ stdout_at path text
+  stdout_told placed path outlet.Nowhere text has = rw has refl
+  stdout_told placed path outlet.Out text has = rw has refl
+  stdout_told placed path (outlet.File file) text has = rw (has.0, has.1.0) refl
+
+  taken_text : (before after : Option (List ℕ)) (text : List ℕ) → before ≡ Some [] → Appends before after text
+      → after ≡ Some text
+  taken_text None after text is more = absurd cc
+  taken_text (Some bytes) None text is more = absurd more
+  taken_text (Some bytes) (Some now) text is more = grind (arith, common_steps)
+
+  -- the file that an outlet makes is told by the path
+  pub file_told : (placed : List PlacedFile) (path : Option (List ℕ)) (before after : Outlet P W) (text : List ℕ)
+      → HasTaken place_path taken failed (Some placed) path [] before → IsPutInto taken failed before after text
+      → files_of place_path taken after ≡ Some (file_at path text)
+  file_told placed path outlet.Nowhere outlet.Nowhere text has put = rw has refl
+  file_told placed path outlet.Out outlet.Out text has put = rw has refl
+  file_told placed path (outlet.File before) (outlet.File after) text has put =
+      rw (taken_text (taken before.sink) (taken after.sink) text has.1.1.0 put.1.0, put.0, has.0, has.1.0) refl
+  file_told placed path outlet.Nowhere outlet.Out text has put = elim put [ ]
+  file_told placed path outlet.Nowhere (outlet.File after) text has put = elim put [ ]
+  file_told placed path outlet.Out outlet.Nowhere text has put = elim put [ ]
+  file_told placed path outlet.Out (outlet.File after) text has put = elim put [ ]
+  file_told placed path (outlet.File before) outlet.Nowhere text has put = elim put [ ]
+  file_told placed path (outlet.File before) outlet.Out text has put = elim put [ ]
+
+  -- both files stand in their places, where it is told which do
+  pub both_placed : (before after : Option (List PlacedFile)) (junit_path report_path : Option (List ℕ))
+      (junit junit_after report report_after : Outlet P W) (junit_text report_text : List ℕ)
+      → HasTaken place_path taken failed before junit_path [] junit
+      → HasTaken place_path taken failed before report_path [] report
+      → IsPutInto taken failed junit junit_after junit_text → IsPutInto taken failed report report_after report_text
+      → ArePlaced before after (both_files (files_of place_path taken junit_after) (files_of place_path taken report_after))
+      → ArePlaced before after (Some (file_at junit_path junit_text ++ file_at report_path report_text))
+  both_placed None after junit_path report_path junit junit_after report report_after jt rt hj hr pj pr are = tt
+  both_placed (Some placed) after junit_path report_path junit junit_after report report_after jt rt hj hr pj pr are =
+      rw (
+        file_told placed junit_path junit junit_after jt hj pj,
+        file_told placed report_path report report_after rt hr pr,
+      ) at are
+
+-- nothing went out
+pub appends_nothing : (known : Option (List ℕ)) → Appends known known []
+appends_nothing None = tt
+appends_nothing (Some bytes) = sym (append-nil bytes)
+
+pub begins_nothing : (known : Option (List ℕ)) → AppendsBeginning known known []
+begins_nothing known = record { part = []; rest = []; whole = refl; appended = appends_nothing known }
+
+-- what is told of rows, whatever their places are
+pub texts_of_rows : (line : Row → List ℕ) (places : List ℕ) (rows : List Row) → length places ≡ length rows
+    → row_text_list (λ place row. line row) places rows ≡ map line rows
+texts_of_rows line [] [] even = refl
+texts_of_rows line [] (row ∷ rows) even = absurd (omega (arith, even))
+texts_of_rows line (place ∷ places) [] even = refl
+texts_of_rows line (place ∷ places) (row ∷ rows) even =
+    ap (λ texts. line row ∷ texts) (texts_of_rows line places rows (omega (arith, even)))

@@ -1,7 +1,0 @@
-use Rattle.std.proofs.Common.{◌≡◌, map, take}
-use Rattle.rvtest_app.specs.Commands.{failed_job_names}
-use Rattle.rvtest_app.proofs.saved_report.failed_job_names.Given as goal
-
-abbrev pub invariant-loop-row : goal.invariant-loop-row
-invariant-loop-row l =
-    map (λ name. name.now) l.names.items ≡ failed_job_names l.rule (take l.row-index l.rows)

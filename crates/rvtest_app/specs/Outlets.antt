@@ -1,0 +1,93 @@
+-- Where texts of rows go: to standard output, to the file at a path, or nowhere.
+use Rattle.std.specs.Prelude.{◌≡◌, ◌||◌, ℕ, Bool, true, false, List, [], ◌∷◌, ◌++◌, Option, Some, None, IfSome, option_map, option_and_then, ⊤}
+use Rattle.std.specs.Prelude.{codes, if◌then◌else◌}
+use Rattle.std.specs.Str.{bytes_eq}
+use Rattle.std.specs.Io.KnownBytes.{Appends}
+use Rattle.rv_files.specs.Placed.{PlacedFile}
+use Rattle.rvtest_app.specs.declared.outlets.OpenFile.{OpenFile}
+use Rattle.rvtest_app.specs.declared.outlets.Outlet.{Outlet}
+use Rattle.rvtest_app.specs.declared.outlets.Outlet.TheVariants as outlet
+use Rattle.rvtest_app.specs.declared.outlets.Outlets.{Outlets}
+use Rattle.rvtest_app.specs.declared.outlets.SyncedFile.{SyncedFile}
+
+-- a path that stands for standard output
+abbrev pub is_stdout : List ℕ → Bool
+is_stdout path = bytes_eq path (codes "-")
+
+-- ---- by paths
+
+-- the file that a text makes at a path, if one is given that is not standard output
+abbrev pub file_at : Option (List ℕ) → List ℕ → List PlacedFile
+file_at None text = []
+file_at (Some path) text = if is_stdout path then [] else record { path = path; bytes = text } ∷ []
+
+-- what of it goes to standard output
+abbrev pub stdout_at : Option (List ℕ) → List ℕ → List ℕ
+stdout_at None text = []
+stdout_at (Some path) text = if is_stdout path then text else []
+
+-- whether a path is given that stands for standard output
+abbrev pub is_stdout_at : Option (List ℕ) → Bool
+is_stdout_at None = false
+is_stdout_at (Some path) = is_stdout path
+
+-- ---- outlets
+
+module _ {P W : Type 0} where
+  abbrev pub is_out : Outlet P W → Bool
+  is_out outlet.Nowhere = false
+  is_out outlet.Out = true
+  is_out (outlet.File file) = false
+
+  abbrev pub uses_stdout : Outlets P W → Bool
+  uses_stdout outlets = is_out outlets.report || is_out outlets.junit
+
+  -- what of a text that is put into an outlet goes to standard output
+  abbrev pub stdout_part : Outlet P W → List ℕ → List ℕ
+  stdout_part outlet.Nowhere text = []
+  stdout_part outlet.Out text = text
+  stdout_part (outlet.File file) text = []
+
+  abbrev pub has_no_failure : (W → ℕ) → Outlet P W → Type 0
+  has_no_failure failed outlet.Nowhere = ⊤
+  has_no_failure failed outlet.Out = ⊤
+  has_no_failure failed (outlet.File file) = failed file.sink ≡ 0
+
+  -- the outlet is for a path, and took this text so far, where it is told what is placed
+  abbrev pub HasTaken : (P → List ℕ) → (W → Option (List ℕ)) → (W → ℕ) → Option (List PlacedFile)
+      → Option (List ℕ) → List ℕ → Outlet P W → Type 0
+  HasTaken place_path taken failed placed path text outlet.Nowhere = path ≡ None
+  HasTaken place_path taken failed placed path text outlet.Out = path ≡ Some (codes "-")
+  HasTaken place_path taken failed placed path text (outlet.File file) =
+      (path ≡ Some (place_path file.place)) × ((is_stdout (place_path file.place) ≡ false)
+      × (IfSome placed (λ _. taken file.sink ≡ Some text) × (failed file.sink ≡ 0)))
+
+  -- a text was put into the outlet, and no put failed
+  abbrev pub IsPutInto : (W → Option (List ℕ)) → (W → ℕ) → Outlet P W → Outlet P W → List ℕ → Type 0
+  IsPutInto taken failed outlet.Nowhere outlet.Nowhere text = ⊤
+  IsPutInto taken failed outlet.Out outlet.Out text = ⊤
+  IsPutInto taken failed (outlet.File before) (outlet.File after) text =
+      (after.place ≡ before.place) × (Appends (taken before.sink) (taken after.sink) text
+      × (failed after.sink ≡ failed before.sink))
+  IsPutInto taken failed _ _ text = ⊥
+
+  -- the files that outlets make, where it is told what they took
+  abbrev pub files_of : (P → List ℕ) → (W → Option (List ℕ)) → Outlet P W → Option (List PlacedFile)
+  files_of place_path taken outlet.Nowhere = Some []
+  files_of place_path taken outlet.Out = Some []
+  files_of place_path taken (outlet.File file) =
+      option_map (λ bytes. record { path = place_path file.place; bytes = bytes } ∷ []) (taken file.sink)
+
+module _ {P S : Type 0} where
+  abbrev pub synced_files : (P → List ℕ) → (S → Option (List ℕ)) → Option (SyncedFile P S) → Option (List PlacedFile)
+  synced_files place_path bytes None = Some []
+  synced_files place_path bytes (Some file) =
+      option_map (λ bytes. record { path = place_path file.place; bytes = bytes } ∷ []) (bytes file.file)
+
+-- files were put in their places, behind those that stood there
+abbrev pub ArePlaced : Option (List PlacedFile) → Option (List PlacedFile) → Option (List PlacedFile) → Type 0
+ArePlaced before after files = IfSome before (λ earlier. IfSome files (λ files. after ≡ Some (earlier ++ files)))
+
+-- the files of the first and then those of the second
+abbrev pub both_files : Option (List PlacedFile) → Option (List PlacedFile) → Option (List PlacedFile)
+both_files first second = option_and_then (λ first. option_map (λ second. first ++ second) second) first

@@ -1,0 +1,15 @@
+-- The texts of reports.
+use Rattle.std.specs.Prelude.{ℕ, List}
+use Rattle.rv_report.specs.Report.{report_text}
+use Rattle.rv_report.specs.declared.row.Row.{Row}
+use Rattle.rvtest_app.specs.RunOutput.{chosen_report_text}
+use Rattle.rvtest_app.specs.declared.report_texts.ReportText.{ReportText}
+use Rattle.rvtest_app.specs.declared.report_texts.ReportText.TheVariants as report
+
+abbrev pub report_text_of : ReportText → List ℕ
+report_text_of (report.Whole rows) = report_text rows
+report_text_of (report.Chosen chosen shard) = chosen_report_text chosen.jobs chosen.places.now shard chosen.rows
+
+abbrev pub report_rows : ReportText → List Row
+report_rows (report.Whole rows) = rows
+report_rows (report.Chosen chosen shard) = chosen.rows

@@ -1,0 +1,9 @@
+//! Where a command's texts go.
+
+/// Where a command's texts go: files, and standard output and standard error as sinks.
+#[derive(Drop)]
+pub struct Destinations<F: Drop, O: Drop, E: Drop> {
+    pub files: F,
+    pub out: O,
+    pub errors: E,
+}

@@ -1,0 +1,17 @@
+//! What goes to files.
+
+ghost use Rattle.std.specs.Prelude.{◌≤◌, length};
+ghost use Rattle.rvtest_app.specs.ReportTexts.{report_rows};
+
+use crate::report_texts::ReportText;
+use rv_junit::Suite;
+
+/// What goes to files: a report, and its rows as JUnit's XML with the lines that are told of the jobs at some places.
+#[derive(Drop)]
+pub(crate) struct FileTexts<'s, 't, 'p, T> {
+    pub(crate) suite: Suite<'s>,
+    pub(crate) telling: &'t T,
+    pub(crate) places: &'p [usize],
+    pub(crate) report: ReportText<'p>,
+    ghost placed: { length (report_rows report) ≤ length places.now },
+}

@@ -1,0 +1,322 @@
+//! Where texts of rows go: a report, and JUnit's XML.
+
+ghost use Rattle.std.specs.Prelude.{◌≡◌, [], Some, false, IfOk, IsErr, IsOk, MatchResult, OnErr, OnOk};
+ghost use Rattle.std.specs.Io.KnownBytes.{Appends};
+ghost use Rattle.rv_base.specs.Sinks.{AppendsBeginning};
+ghost use Rattle.rv_command.specs.Texts.{optional_text};
+ghost use Rattle.rvtest_app.specs.Outlets.{ArePlaced, HasTaken, IsPutInto, both_files, files_of, has_no_failure, is_out, is_stdout};
+ghost use Rattle.rvtest_app.specs.Outlets.{stdout_part, synced_files, uses_stdout};
+ghost use Rattle.rv_junit.specs.Junit.{junit_text};
+ghost use Rattle.rv_stream.specs.Streams.{row_text_list};
+ghost use Rattle.rvtest_app.specs.ReportTexts.{report_text_of};
+
+use crate::report_texts::ReportText;
+use rv_command::{Stop, file_error_stop, path_message};
+use rv_files::Outputs;
+use rv_junit::{PlacedRows, Suite, write_junit};
+use rv_rows::{Sink, Telling, WriteError};
+use std::alloc::Global;
+
+/// A file that is written, and the path by which messages name it.
+#[derive(Drop)]
+pub(crate) struct OpenFile<'a, P: Drop, W: Drop> {
+    pub(crate) path: &'a str,
+    pub(crate) place: P,
+    pub(crate) sink: W,
+}
+
+/// Where a text of rows goes.
+#[derive(Drop)]
+pub(crate) enum Outlet<'a, P: Drop, W: Drop> {
+    Nowhere,
+    /// To standard output.
+    Out,
+    File(OpenFile<'a, P, W>),
+}
+
+/// Where the report goes, and JUnit's XML.
+#[derive(Drop)]
+pub(crate) struct Outlets<'a, P: Drop, W: Drop> {
+    pub(crate) report: Outlet<'a, P, W>,
+    pub(crate) junit: Outlet<'a, P, W>,
+}
+
+/// Opens both, or neither is left.
+pub(crate) fn open_outlets<'a, F: Outputs>(
+    files: &mut F,
+    alloc: Global,
+    report: Option<&'a str>,
+    junit: Option<&'a str>,
+) -> Result<Outlets<'a, F::Place, F::File>, Stop>
+    ensures same { F.placed files.new ≡ F.placed files.old }
+    ensures report { IfOk result (λ outlets. HasTaken F.place_path F.File.taken F.File.failed
+        (F.placed files.old) (optional_text report.entry) [] outlets.report) }
+    ensures junit { IfOk result (λ outlets. HasTaken F.place_path F.File.taken F.File.failed
+        (F.placed files.old) (optional_text junit.entry) [] outlets.junit) }
+    ensures unfailed { IfOk result (λ outlets. has_no_failure F.File.failed outlets.report
+        × has_no_failure F.File.failed outlets.junit) }
+{
+    let report = open_outlet(files, alloc, report)?;
+    match open_outlet(files, alloc, junit) {
+        Ok(junit) => Ok(Outlets { report, junit }),
+        Err(stop) => {
+            abandon_outlet(files, report);
+            Err(stop)
+        }
+    }
+}
+
+// A new file for the path, but where there is none; `-` is standard output.
+fn open_outlet<'a, F: Outputs>(
+    files: &mut F,
+    alloc: Global,
+    path: Option<&'a str>,
+) -> Result<Outlet<'a, F::Place, F::File>, Stop>
+    ensures same { F.placed files.new ≡ F.placed files.old }
+    ensures open { IfOk result (HasTaken F.place_path F.File.taken F.File.failed
+        (F.placed files.old) (optional_text path.entry) []) }
+{
+    match path {
+        None => Ok(Outlet::Nowhere),
+        Some(path) if is_stdout(path) => Ok(Outlet::Out),
+        Some(path) => open_file(files, alloc, path),
+    }
+}
+
+fn is_stdout(path: &str) -> bool
+    ensures { result ≡ is_stdout path.now }
+{
+    path == "-"
+}
+
+fn open_file<'a, F: Outputs>(
+    files: &mut F,
+    alloc: Global,
+    path: &'a str,
+) -> Result<Outlet<'a, F::Place, F::File>, Stop>
+    requires { is_stdout path.now ≡ false }
+    ensures same { F.placed files.new ≡ F.placed files.old }
+    ensures open { IfOk result (HasTaken F.place_path F.File.taken F.File.failed
+        (F.placed files.old) (Some path.now) []) }
+{
+    match files.create(alloc, path) {
+        Ok((place, sink)) => Ok(Outlet::File(OpenFile { path, place, sink })),
+        Err(error) => Err(file_error_stop(alloc, path, error)),
+    }
+}
+
+impl<'a, P: Drop, W: Sink + Drop> Outlets<'a, P, W> {
+    /// Whether one of them goes to standard output.
+    pub(crate) fn use_stdout(&self) -> bool
+        ensures { result ≡ uses_stdout self.now }
+    {
+        self.report.is_out() || self.junit.is_out()
+    }
+}
+
+impl<'a, P: Drop, W: Sink + Drop> Outlet<'a, P, W> {
+    fn is_out(&self) -> bool
+        ensures { result ≡ is_out self.now }
+    {
+        matches!(self, Outlet::Out)
+    }
+
+    /// Puts a report.
+    pub(crate) fn put_report<O: Sink>(
+        &mut self,
+        alloc: Global,
+        out: &mut O,
+        report: ReportText<'_>,
+    ) -> Result<(), Stop>
+        ensures put { OnOk result
+            (IsPutInto W.taken W.failed self.old self.new (report_text_of report.entry)) }
+        ensures out { OnOk result (Appends (O.taken out.old) (O.taken out.new)
+            (stdout_part self.old (report_text_of report.entry))) }
+        ensures counted { OnOk result (O.failed out.new ≡ O.failed out.old) }
+        ensures part { OnErr result (AppendsBeginning (O.taken out.old) (O.taken out.new)
+            (stdout_part self.old (report_text_of report.entry))) }
+    {
+        match self {
+            Outlet::Nowhere => Ok(()),
+            Outlet::Out => stdout_result(report.write(alloc, out)),
+            Outlet::File(file) => file_result(
+                alloc,
+                file.path,
+                report.write(alloc, &mut file.sink),
+            ),
+        }
+    }
+
+    /// Puts rows as JUnit's XML, each with the lines that are told of it.
+    pub(crate) fn put_junit<T: Telling, O: Sink>(
+        &mut self,
+        alloc: Global,
+        out: &mut O,
+        suite: &Suite<'_>,
+        telling: &T,
+        rows: &PlacedRows<'_>,
+    ) -> Result<(), Stop>
+        ensures put { OnOk result (IsPutInto W.taken W.failed self.old self.new
+            (junit_text suite.now.name.now suite.now.rule
+            (row_text_list (T.line telling.now) rows.now.places.now rows.now.rows.now) rows.now.rows.now)) }
+        ensures out { OnOk result (Appends (O.taken out.old) (O.taken out.new) (stdout_part self.old
+            (junit_text suite.now.name.now suite.now.rule
+            (row_text_list (T.line telling.now) rows.now.places.now rows.now.rows.now) rows.now.rows.now))) }
+        ensures counted { OnOk result (O.failed out.new ≡ O.failed out.old) }
+    {
+        match self {
+            Outlet::Nowhere => Ok(()),
+            Outlet::Out => stdout_result(write_junit(alloc, suite, telling, rows, out)),
+            Outlet::File(file) => {
+                let written = write_junit(alloc, suite, telling, rows, &mut file.sink);
+                file_result(alloc, file.path, written)
+            }
+        }
+    }
+}
+
+// What a text that was written to standard output came to.
+fn stdout_result(written: Result<(), WriteError>) -> Result<(), Stop>
+    ensures { MatchResult written (λ _. IsOk result) (λ _. IsErr result) }
+{
+    match written {
+        Ok(()) => Ok(()),
+        Err(WriteError::OutOfMemory) => Err(Stop::OutOfMemory),
+        Err(WriteError::Failed) => Err(Stop::WriteFailed),
+    }
+}
+
+// What a text that was written to a file came to.
+fn file_result(alloc: Global, path: &str, written: Result<(), WriteError>) -> Result<(), Stop>
+    ensures { MatchResult written (λ _. IsOk result) (λ _. IsErr result) }
+{
+    match written {
+        Ok(()) => Ok(()),
+        Err(WriteError::OutOfMemory) => Err(Stop::OutOfMemory),
+        Err(WriteError::Failed) => Err(Stop::of_failure(path_message(alloc, path, "write failed"))),
+    }
+}
+
+/// Neither file is to be there.
+pub(crate) fn abandon_outlets<F: Outputs>(files: &mut F, outlets: Outlets<'_, F::Place, F::File>)
+    ensures { F.placed files.new ≡ F.placed files.old }
+{
+    let Outlets { report, junit } = outlets;
+    abandon_outlet(files, junit);
+    abandon_outlet(files, report);
+}
+
+fn abandon_outlet<F: Outputs>(files: &mut F, outlet: Outlet<'_, F::Place, F::File>)
+    ensures { F.placed files.new ≡ F.placed files.old }
+{
+    if let Outlet::File(file) = outlet {
+        files.abandon(file.place);
+    }
+}
+
+// A file that the disk has, and the path by which messages name it.
+#[derive(Drop)]
+struct SyncedFile<'a, P: Drop, S: Drop> {
+    path: &'a str,
+    place: P,
+    file: S,
+}
+
+/// Hands the files to the disk, and then puts both in their places, JUnit's first. Neither is there where the disk does not
+/// take them both.
+pub(crate) fn place_outlets<F: Outputs>(
+    files: &mut F,
+    alloc: Global,
+    outlets: Outlets<'_, F::Place, F::File>,
+) -> Result<(), Stop>
+    requires report { has_no_failure F.File.failed outlets.report }
+    requires junit { has_no_failure F.File.failed outlets.junit }
+    ensures { OnOk result (ArePlaced (F.placed files.old) (F.placed files.new)
+        (both_files (files_of F.place_path F.File.taken outlets.entry.junit)
+        (files_of F.place_path F.File.taken outlets.entry.report))) }
+{
+    let Outlets { report, junit } = outlets;
+    let junit = match sync_outlet(files, alloc, junit) {
+        Ok(junit) => junit,
+        Err(stop) => {
+            abandon_outlet(files, report);
+            return Err(stop);
+        }
+    };
+    match sync_outlet(files, alloc, report) {
+        Ok(report) => place_both(files, alloc, junit, report),
+        Err(stop) => {
+            abandon_synced(files, junit);
+            Err(stop)
+        }
+    }
+}
+
+fn sync_outlet<'a, F: Outputs>(
+    files: &mut F,
+    alloc: Global,
+    outlet: Outlet<'a, F::Place, F::File>,
+) -> Result<Option<SyncedFile<'a, F::Place, F::Synced>>, Stop>
+    requires { has_no_failure F.File.failed outlet }
+    ensures same { F.placed files.new ≡ F.placed files.old }
+    ensures synced { IfOk result (λ synced. synced_files F.place_path F.synced_bytes synced
+        ≡ files_of F.place_path F.File.taken outlet.entry) }
+{
+    let Outlet::File(file) = outlet else {
+        return Ok(None);
+    };
+    let OpenFile { path, place, sink } = file;
+    match files.sync(sink) {
+        Ok(file) => Ok(Some(SyncedFile { path, place, file })),
+        Err(error) => {
+            files.abandon(place);
+            Err(file_error_stop(alloc, path, error))
+        }
+    }
+}
+
+fn abandon_synced<F: Outputs>(files: &mut F, synced: Option<SyncedFile<'_, F::Place, F::Synced>>)
+    ensures { F.placed files.new ≡ F.placed files.old }
+{
+    if let Some(synced) = synced {
+        files.abandon(synced.place);
+    }
+}
+
+fn place_both<F: Outputs>(
+    files: &mut F,
+    alloc: Global,
+    first: Option<SyncedFile<'_, F::Place, F::Synced>>,
+    second: Option<SyncedFile<'_, F::Place, F::Synced>>,
+) -> Result<(), Stop>
+    ensures { OnOk result (ArePlaced (F.placed files.old) (F.placed files.new)
+        (both_files (synced_files F.place_path F.synced_bytes first.entry)
+        (synced_files F.place_path F.synced_bytes second.entry))) }
+{
+    match place_synced(files, alloc, first) {
+        Ok(()) => place_synced(files, alloc, second),
+        Err(stop) => {
+            abandon_synced(files, second);
+            Err(stop)
+        }
+    }
+}
+
+fn place_synced<F: Outputs>(
+    files: &mut F,
+    alloc: Global,
+    synced: Option<SyncedFile<'_, F::Place, F::Synced>>,
+) -> Result<(), Stop>
+    ensures placed { OnOk result (ArePlaced (F.placed files.old) (F.placed files.new)
+        (synced_files F.place_path F.synced_bytes synced.entry)) }
+    ensures same { OnErr result (F.placed files.new ≡ F.placed files.old) }
+{
+    let Some(synced) = synced else {
+        return Ok(());
+    };
+    let SyncedFile { path, place, file } = synced;
+    match files.place(place, file) {
+        Ok(()) => Ok(()),
+        Err(error) => Err(file_error_stop(alloc, path, error)),
+    }
+}

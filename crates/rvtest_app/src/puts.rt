@@ -1,0 +1,94 @@
+//! What a command puts: what it shows, and the two files.
+
+ghost use Rattle.std.specs.Prelude.{◌≡◌, ◌++◌, [], ℕ, List, Option, OnOk, Some};
+ghost use Rattle.std.specs.Io.KnownBytes.{Appends};
+ghost use Rattle.rvtest_app.specs.Outlets.{ArePlaced, HasTaken, IsPutInto, file_at, has_no_failure, stdout_at, stdout_part};
+ghost use Rattle.rvtest_app.specs.Puts.{IsShown, junit_of};
+ghost use Rattle.rvtest_app.specs.ReportTexts.{report_text_of};
+
+use crate::destinations::Destinations;
+use crate::file_texts::FileTexts;
+use crate::outlets::{Outlets, abandon_outlets, place_outlets};
+use rv_command::{Stop, put_message, put_results};
+use rv_files::Outputs;
+use rv_junit::PlacedRows;
+use rv_rows::{Sink, Telling};
+use std::alloc::Global;
+
+/// Puts what a command shows: to standard error where a file goes to standard output, else there.
+pub(crate) fn put_shown<F: Drop, O: Sink + Drop, E: Sink + Drop>(
+    to: &mut Destinations<F, O, E>,
+    text: &[u8],
+    is_beside: bool,
+) -> Result<(), Stop>
+    ensures files { to.new.files ≡ to.old.files }
+    ensures shown { OnOk result (IsShown is_beside text.now (O.taken to.old.out) (O.taken to.new.out)
+        (E.taken to.old.errors) (E.taken to.new.errors)) }
+{
+    if is_beside {
+        put_message(&mut to.errors, text);
+        return Ok(());
+    }
+    put_results(&mut to.out, text)
+}
+
+/// Puts both files and then puts them in their places, JUnit's first. After an error neither is there, but where the second could
+/// not be put in its place.
+pub(crate) fn put_files<F: Outputs + Drop, O: Sink + Drop, E: Sink + Drop, T: Telling>(
+    alloc: Global,
+    to: &mut Destinations<F, O, E>,
+    outlets: Outlets<'_, F::Place, F::File>,
+    texts: FileTexts<'_, '_, '_, T>,
+) -> Result<(), Stop>
+    requires report { has_no_failure F.File.failed outlets.report }
+    requires junit { has_no_failure F.File.failed outlets.junit }
+    ensures errors { to.new.errors ≡ to.old.errors }
+    ensures put { (report_path junit_path : Option (List ℕ))
+        → HasTaken F.place_path F.File.taken F.File.failed (F.placed to.old.files) report_path [] outlets.entry.report
+        → HasTaken F.place_path F.File.taken F.File.failed (F.placed to.old.files) junit_path [] outlets.entry.junit
+        → OnOk result (Appends (O.taken to.old.out) (O.taken to.new.out)
+        (stdout_at junit_path (junit_of T.line texts.entry) ++ stdout_at report_path (report_text_of texts.entry.report))) }
+    ensures placed { (report_path junit_path : Option (List ℕ))
+        → HasTaken F.place_path F.File.taken F.File.failed (F.placed to.old.files) report_path [] outlets.entry.report
+        → HasTaken F.place_path F.File.taken F.File.failed (F.placed to.old.files) junit_path [] outlets.entry.junit
+        → OnOk result (ArePlaced (F.placed to.old.files) (F.placed to.new.files)
+        (Some (file_at junit_path (junit_of T.line texts.entry) ++ file_at report_path (report_text_of texts.entry.report)))) }
+{
+    let mut outlets = outlets;
+    match put_texts(alloc, &mut to.out, &mut outlets, texts) {
+        Ok(()) => place_outlets(&mut to.files, alloc, outlets),
+        Err(stop) => {
+            abandon_outlets(&mut to.files, outlets);
+            Err(stop)
+        }
+    }
+}
+
+fn put_texts<P: Drop, W: Sink + Drop, O: Sink, T: Telling>(
+    alloc: Global,
+    out: &mut O,
+    outlets: &mut Outlets<'_, P, W>,
+    texts: FileTexts<'_, '_, '_, T>,
+) -> Result<(), Stop>
+    ensures junit { OnOk result
+        (IsPutInto W.taken W.failed outlets.old.junit outlets.new.junit (junit_of T.line texts.entry)) }
+    ensures report { OnOk result (IsPutInto W.taken W.failed outlets.old.report outlets.new.report
+        (report_text_of texts.entry.report)) }
+    ensures out { OnOk result (Appends (O.taken out.old) (O.taken out.new)
+        (stdout_part outlets.old.junit (junit_of T.line texts.entry)
+        ++ stdout_part outlets.old.report (report_text_of texts.entry.report))) }
+{
+    let FileTexts {
+        suite,
+        telling,
+        places,
+        report,
+        ..
+    } = texts;
+    let rows = PlacedRows {
+        places,
+        rows: report.rows(),
+    };
+    outlets.junit.put_junit(alloc, out, &suite, telling, &rows)?;
+    outlets.report.put_report(alloc, out, report)
+}

@@ -1,0 +1,61 @@
+//! The files of all rows of a report, of which no more is known than their text.
+
+ghost use Rattle.std.specs.Prelude.{◌≡◌, ◌++◌, [], ℕ, List, Option, OnOk, Some};
+ghost use Rattle.std.specs.Io.KnownBytes.{Appends};
+ghost use Rattle.rv_report.specs.Report.{report_text};
+ghost use Rattle.rvtest_app.specs.Outlets.{ArePlaced, HasTaken, file_at, has_no_failure, stdout_at};
+ghost use Rattle.rvtest_app.specs.Said.{failures_junit};
+
+use crate::destinations::Destinations;
+use crate::failed_lines::FailedLines;
+use crate::file_texts::FileTexts;
+use crate::outlets::{Outlets, abandon_outlets};
+use crate::puts::put_files;
+use crate::report_texts::ReportText;
+use rv_command::Stop;
+use rv_files::Outputs;
+use rv_fleet::Rows;
+use rv_junit::Suite;
+use rv_rows::Sink;
+use std::alloc::Global;
+
+/// Puts the report of rows, and their JUnit file, and puts both in their places.
+pub(crate) fn put_whole_files<F: Outputs + Drop, O: Sink + Drop, E: Sink + Drop>(
+    alloc: Global,
+    to: &mut Destinations<F, O, E>,
+    outlets: Outlets<'_, F::Place, F::File>,
+    suite: Suite<'_>,
+    rows: Rows,
+) -> Result<(), Stop>
+    requires report { has_no_failure F.File.failed outlets.report }
+    requires junit { has_no_failure F.File.failed outlets.junit }
+    ensures errors { to.new.errors ≡ to.old.errors }
+    ensures put { (report_path junit_path : Option (List ℕ))
+        → HasTaken F.place_path F.File.taken F.File.failed (F.placed to.old.files) report_path [] outlets.entry.report
+        → HasTaken F.place_path F.File.taken F.File.failed (F.placed to.old.files) junit_path [] outlets.entry.junit
+        → OnOk result (Appends (O.taken to.old.out) (O.taken to.new.out)
+        (stdout_at junit_path (failures_junit suite.entry.name.now suite.entry.rule rows)
+        ++ stdout_at report_path (report_text rows))) }
+    ensures placed { (report_path junit_path : Option (List ℕ))
+        → HasTaken F.place_path F.File.taken F.File.failed (F.placed to.old.files) report_path [] outlets.entry.report
+        → HasTaken F.place_path F.File.taken F.File.failed (F.placed to.old.files) junit_path [] outlets.entry.junit
+        → OnOk result (ArePlaced (F.placed to.old.files) (F.placed to.new.files)
+        (Some (file_at junit_path (failures_junit suite.entry.name.now suite.entry.rule rows)
+        ++ file_at report_path (report_text rows)))) }
+{
+    let places = match vec![in alloc; 0usize; rows.as_slice().len()] {
+        Ok(places) => places,
+        Err(error) => {
+            abandon_outlets(&mut to.files, outlets);
+            return Err(Stop::from(error));
+        }
+    };
+    let lines = FailedLines { rule: suite.rule };
+    let texts = FileTexts {
+        suite,
+        telling: &lines,
+        places: places.as_slice(),
+        report: ReportText::Whole(rows),
+    };
+    put_files(alloc, to, outlets, texts)
+}
