@@ -49,7 +49,7 @@ fn follow_links<R: Files>(files: &R, alloc: Global, path: &str) -> Result<PathBu
     ensures { IfErr result (λ error. error ≢ FileError.SamePlace) }
 {
     let mut place = PathBuf::from_str(alloc, path)?;
-    for _ in 0..MOST_LINKS {
+    for _ in 0..=MOST_LINKS {
         if !is_link(files, place.as_str()) {
             return Ok(place);
         }
