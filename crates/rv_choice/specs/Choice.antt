@@ -1,6 +1,6 @@
 -- The jobs of a list that a person chooses.
 use Rattle.std.specs.Prelude.{◌≡◌, ℕ, Bool, true, IfSome, List, [], ◌∷◌, Option, Some, None, is_some, map, not}
-use Rattle.std.specs.Prelude.{option_map}
+use Rattle.std.specs.Prelude.{◌||◌, false, option_map, unwrap_or}
 use Rattle.std.specs.Borrow.{Bor}
 use Rattle.std.specs.List.{filter, list_any}
 use Rattle.std.specs.Str.{bytes_eq}
@@ -10,7 +10,6 @@ use Rattle.regex.specs.declared.string.regex.Regex.{Regex}
 use Rattle.rv_expect.specs.declared.passing.Rule.{Rule}
 use Rattle.rv_lists.specs.declared.job.Job.{Job}
 use Rattle.rv_report.specs.declared.row.Row.{Row}
-use Rattle.rv_stream.specs.Choices.{is_chosen}
 use Rattle.rv_expect.specs.Passing.{has_passed}
 
 abbrev pub ChosenNames : Type 0
@@ -27,6 +26,13 @@ choice_by_names names name = option_map (λ names. is_among_names names name) na
 -- whether a pattern does, where it is asked: it is found in the name, wherever that is
 abbrev pub choice_by_pattern : Option Re → List ℕ → Option Bool
 choice_by_pattern pattern name = option_map (λ pattern. is_some (find_str pattern name 0)) pattern
+
+-- a job is chosen where one way to choose says so, by exact names, by a pattern or by the failures
+-- of a report, and where none of them is asked
+abbrev pub is_chosen : Option Bool → Option Bool → Option Bool → Bool
+is_chosen None None None = true
+is_chosen by_name by_pattern by_report =
+    unwrap_or by_name false || (unwrap_or by_pattern false || unwrap_or by_report false)
 
 -- the job of a name is chosen by exact names, by a pattern and by the names of a report's failed
 -- jobs, where these are asked

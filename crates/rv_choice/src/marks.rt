@@ -3,12 +3,11 @@
 ghost use Rattle.std.specs.Prelude.{◌≡◌, IfOk, not, option_map};
 ghost use Rattle.std.specs.List.{find};
 ghost use Rattle.regex.specs.Strings.{matcher_pattern};
-ghost use Rattle.rv_choice.specs.Choice.{choice_by_names, choice_by_pattern, has_job_named, is_among_names, is_chosen_name};
+ghost use Rattle.rv_choice.specs.Choice.{choice_by_names, choice_by_pattern, has_job_named, is_among_names, is_chosen, is_chosen_name};
 ghost use Rattle.rv_choice.specs.Choice.{chosen_marks, borrowed_names, pattern_of, optional_names};
 
 use regex::{Matcher, Regex};
 use rv_jobs::Job;
-use rv_stream::is_chosen;
 use std::alloc::{AllocError, Global};
 
 /// What chooses jobs: a job is chosen where one of them chooses it. Where nothing is given, each job is chosen.
@@ -60,6 +59,19 @@ fn is_chosen_name(wanted: Wanted<'_>, matcher: &mut Option<Matcher<'_>>, name: &
         choice_by_pattern(matcher, name),
         choice_by_names(wanted.failed, name),
     )
+}
+
+// Whether a job is chosen, by what three ways to choose say of it, where they are asked: exact names, a pattern, and the failures
+// of a report. It is where one of them chooses it, and where none is asked.
+fn is_chosen(by_name: Option<bool>, by_pattern: Option<bool>, by_report: Option<bool>) -> bool
+    ensures { result ≡ is_chosen by_name by_pattern by_report }
+{
+    match (by_name, by_pattern, by_report) {
+        (None, None, None) => true,
+        _ => {
+            by_name.unwrap_or(false) || by_pattern.unwrap_or(false) || by_report.unwrap_or(false)
+        }
+    }
 }
 
 fn choice_by_names(names: Option<&[&str]>, name: &str) -> Option<bool>

@@ -4,8 +4,6 @@ use Rattle.rv_command.specs.declared.stop.Lines.{Lines}
 use Rattle.rv_command.specs.declared.stop.Lines.TheVariants as lines
 use Rattle.rv_command.specs.declared.stop.Stop.{Stop}
 use Rattle.rv_command.specs.declared.stop.Stop.TheVariants as stop
-use Rattle.rv_stream.specs.declared.error.StreamError.{StreamError}
-use Rattle.rv_stream.specs.declared.error.StreamError.TheVariants as stream
 
 -- the status of lines that end a command: 2 where what is asked for is refused, 3 where the system failed
 abbrev pub lines_status : Lines → ℕ
@@ -18,9 +16,3 @@ stop_status (stop.Told lines text) = lines_status lines
 stop_status stop.OutOfMemory = 3
 stop_status stop.NoWorker = 3
 stop_status stop.WriteFailed = 3
-
--- why a run ends that stopped on its way
-abbrev pub stop_of_stream : StreamError → Stop
-stop_of_stream stream.OutOfMemory = stop.OutOfMemory
-stop_of_stream stream.NoWorker = stop.NoWorker
-stop_of_stream stream.Failed = stop.WriteFailed

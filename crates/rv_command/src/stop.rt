@@ -4,7 +4,6 @@ ghost use Rattle.std.specs.Prelude.{◌≡◌};
 
 use clap::Error;
 use clap::error::ErrorKind;
-use rv_stream::StreamError;
 use std::alloc::{AllocError, Global};
 
 /// Why a command ends before its work is done.
@@ -66,19 +65,5 @@ impl From<AllocError> for Stop {
 
     fn from(_: AllocError) -> Stop {
         Stop::OutOfMemory
-    }
-}
-
-impl From<StreamError> for Stop {
-    ghost use Rattle.rv_command.specs.Stops.{stop_of_stream};
-
-    ghost from_gives = { λ error stop. stop ≡ stop_of_stream error };
-
-    fn from(error: StreamError) -> Stop {
-        match error {
-            StreamError::OutOfMemory => Stop::OutOfMemory,
-            StreamError::NoWorker => Stop::NoWorker,
-            StreamError::Failed => Stop::WriteFailed,
-        }
     }
 }

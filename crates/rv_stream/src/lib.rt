@@ -3,10 +3,9 @@
 //! [`stream_places`] runs a [`Batch`](rv_fleet::Batch) by a [`Crew`](rv_fleet::Crew). What is told of a row is a caller's [`Telling`], and goes
 //! out as soon as that of all rows before it is out. With `Ok` the sink took the texts of all rows, in order, for every
 //! number of workers and of jobs in a piece; with an error it took a beginning of them. [`put_row_texts`] sends what is told of
-//! [`PlacedRows`] that are there already, in few large puts. [`is_chosen`] says which jobs of a list a person chooses.
+//! [`PlacedRows`] that are there already, in few large puts.
 #![tactic(auto)]
 
-mod choice;
 mod error;
 mod ordered_texts;
 mod placed_rows;
@@ -14,7 +13,6 @@ mod row_text_puts;
 mod row_texts;
 mod stream;
 
-pub use choice::is_chosen;
 pub use error::StreamError;
 pub use ordered_texts::Streamed;
 pub use placed_rows::PlacedRows;

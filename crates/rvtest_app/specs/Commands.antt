@@ -11,6 +11,10 @@ use Rattle.rv_rows.specs.Outcome.{refusal_in}
 use Rattle.rv_rows.specs.Rows.{outcome_in}
 use Rattle.rv_job_text.specs.declared.verbosity.Verbosity.{Verbosity}
 use Rattle.rv_job_text.specs.declared.verbosity.Verbosity.TheVariants.{Quiet, Failures, All}
+use Rattle.rv_command.specs.declared.stop.Stop.{Stop}
+use Rattle.rv_command.specs.declared.stop.Stop.TheVariants as stop
+use Rattle.rv_stream.specs.declared.error.StreamError.{StreamError}
+use Rattle.rv_stream.specs.declared.error.StreamError.TheVariants as stream
 use Rattle.rv_diff.specs.Diff.{differing_count}
 use Rattle.rv_diff.specs.declared.diff.Differing.{Differing}
 
@@ -48,3 +52,9 @@ check_status refused = if refused == 0 then 0 else 2
 -- the status of one job
 abbrev pub passing_status : Bool → ℕ
 passing_status passed = if passed then 0 else 1
+
+-- why a run ends that stopped on its way
+abbrev pub stop_of_stream : StreamError → Stop
+stop_of_stream stream.OutOfMemory = stop.OutOfMemory
+stop_of_stream stream.NoWorker = stop.NoWorker
+stop_of_stream stream.Failed = stop.WriteFailed

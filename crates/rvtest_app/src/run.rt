@@ -29,7 +29,7 @@ use crate::planned_run::{MarkedJobs, PlannedRun};
 use crate::puts::put_files;
 use crate::report_texts::ReportText;
 use crate::rules::{failure_rule, rows_status};
-use crate::run_output::put_run_output;
+use crate::run_output::{put_run_output, stop_of_stream};
 use crate::terminals::Terminals;
 use rv_choice::{Choice, Chooser, requested_shard};
 use rv_cli::rvtest::RunAsked;
@@ -300,7 +300,7 @@ impl<'x, R: Threads + Wait + Sync + Clock, D: Inputs> ListRun<'x, R, D> {
         progress.finish();
         match ran {
             Ok(rows) => (out, Ok(rows)),
-            Err(error) => (out, Err(Stop::from(error))),
+            Err(error) => (out, Err(stop_of_stream(error))),
         }
     }
 

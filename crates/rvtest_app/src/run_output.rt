@@ -5,8 +5,10 @@ ghost use Rattle.std.specs.Io.KnownBytes.{Appends};
 ghost use Rattle.rv_fleet.specs.Batches.{batch_rows};
 ghost use Rattle.rv_job_text.specs.TotalsLine.{totals_line};
 ghost use Rattle.rv_lists.specs.Sinks.{AppendsBeginning};
+ghost use Rattle.rvtest_app.specs.Commands.{stop_of_stream};
 ghost use Rattle.rvtest_app.specs.RunOutput.{run_output_text};
 
+use rv_command::Stop;
 use rv_expect::Rule;
 use rv_fleet::{Batch, Crew, Row, Rows, Sink, put_all};
 use rv_job_text::push_totals_line;
@@ -59,5 +61,16 @@ fn put_totals_line<W: Sink>(
     match put_all(out, line.as_slice()) {
         Ok(()) => Ok(()),
         Err(_) => Err(StreamError::Failed),
+    }
+}
+
+/// Why a run ends that stopped on its way.
+pub(crate) fn stop_of_stream(error: StreamError) -> Stop
+    ensures { result ≡ stop_of_stream error }
+{
+    match error {
+        StreamError::OutOfMemory => Stop::OutOfMemory,
+        StreamError::NoWorker => Stop::NoWorker,
+        StreamError::Failed => Stop::WriteFailed,
     }
 }
