@@ -1,7 +1,8 @@
 /* Preloaded into a process, refuses one growth of its memory: the one with the number REFUSED_GROWTH, counted from 1
    over all threads. Where the process comes to that growth, the file GROWTH_MET is made. A growth is a call of malloc,
    calloc, realloc, memalign, aligned_alloc or posix_memalign. In the end the file THREADS_STARTED has a byte for each
-   thread that was started. */
+   thread that was started, and the file FILES_CHANGED one for each call that changes what a disk has: s for fsync, r for
+   rename, u for unlink, in their order. */
 #define _GNU_SOURCE
 #include <dlfcn.h>
 #include <errno.h>
@@ -21,15 +22,18 @@ static atomic_ulong growths;
 static unsigned long refused;
 static const char *met;
 static int started = -1;
+static int changed = -1;
 static int (*create)(pthread_t *, const pthread_attr_t *, void *(*)(void *), void *);
 
 /* Runs before main: what the loader took is not counted. */
 __attribute__((constructor)) static void begin(void) {
     const char *number = getenv("REFUSED_GROWTH");
     const char *threads = getenv("THREADS_STARTED");
+    const char *files = getenv("FILES_CHANGED");
     met = getenv("GROWTH_MET");
     create = (int (*)(pthread_t *, const pthread_attr_t *, void *(*)(void *), void *))dlsym(RTLD_NEXT, "pthread_create");
     started = threads ? open(threads, O_WRONLY | O_CREAT | O_TRUNC | O_CLOEXEC, 0666) : -1;
+    changed = files ? open(files, O_WRONLY | O_CREAT | O_TRUNC | O_CLOEXEC, 0666) : -1;
     growths = 0;
     refused = number && met ? strtoul(number, NULL, 10) : 0;
 }
@@ -68,4 +72,25 @@ int pthread_create(pthread_t *thread, const pthread_attr_t *how, void *(*work)(v
         abort();
     }
     return status;
+}
+
+static void note(const char *call) {
+    if (changed >= 0 && write(changed, call, 1) != 1) {
+        abort();
+    }
+}
+
+int fsync(int file) {
+    note("s");
+    return ((int (*)(int))dlsym(RTLD_NEXT, "fsync"))(file);
+}
+
+int rename(const char *from, const char *to) {
+    note("r");
+    return ((int (*)(const char *, const char *))dlsym(RTLD_NEXT, "rename"))(from, to);
+}
+
+int unlink(const char *path) {
+    note("u");
+    return ((int (*)(const char *))dlsym(RTLD_NEXT, "unlink"))(path);
 }
