@@ -5,7 +5,7 @@ use Rattle.std.proofs.lemmas.Grind.{common_steps}
 use Rattle.std.specs.Io.KnownBytes.{Appends}
 use Rattle.rv_base.specs.Sinks.{AppendsBeginning}
 use Rattle.rv_files.specs.Placed.{PlacedFile}
-use Rattle.rvtest_app.specs.Outlets.{ArePlaced, HasTaken, IsPutInto, both_files, file_at, files_of, has_no_failure, is_stdout}
+use Rattle.rvtest_app.specs.Outlets.{ArePlaced, HasTaken, IsPutInto, both_files, file_at, files_of, has_no_failure, is_out, is_stdout, is_stdout_at}
 use Rattle.rvtest_app.specs.Outlets.{stdout_at, stdout_part}
 use Rattle.rv_report.specs.declared.row.Row.{Row}
 use Rattle.rv_stream.specs.Streams.{row_text_list}
@@ -38,6 +38,13 @@ module _ {P W : Type 0} (place_path : P → List ℕ) (taken : W → Option (Lis
   stdout_told placed path outlet.Nowhere text has = rw has refl
   stdout_told placed path outlet.Out text has = rw has refl
   stdout_told placed path (outlet.File file) text has = rw (has.0, has.1.0) refl
+
+  -- an outlet is standard output where its path stands for that
+  pub out_told : (placed : Option (List PlacedFile)) (path : Option (List ℕ)) (o : Outlet P W) (text : List ℕ)
+      → HasTaken place_path taken failed placed path text o → is_out o ≡ is_stdout_at path
+  out_told placed path outlet.Nowhere text has = rw has refl
+  out_told placed path outlet.Out text has = rw has refl
+  out_told placed path (outlet.File file) text has = rw (has.0, has.1.0) refl
 
   taken_text : (before after : Option (List ℕ)) (text : List ℕ) → before ≡ Some [] → Appends before after text
       → after ≡ Some text

@@ -29,3 +29,7 @@ IfSome-map None P Q f p = tt
 pub IfOk-map : {X Y : Type 0} (r : Result X Y) (P Q : X → Type 0) → ((x : X) → P x → Q x) → IfOk r P → IfOk r Q
 IfOk-map (Ok x) P Q f p = f x p
 IfOk-map (Err e) P Q f p = tt
+
+pub OnOk-both : {X Y : Type 0} (r : Result X Y) (P Q R : Type 0) → (P → Q → R) → OnOk r P → OnOk r Q → OnOk r R
+OnOk-both (Ok x) P Q R f p q = f p q
+OnOk-both (Err e) P Q R f p q = tt

@@ -7,15 +7,21 @@ use Rattle.rv_cli.specs.declared.rvtest.run.RunAsked.{RunAsked}
 use Rattle.rv_command.specs.Texts.{IsTextAt, optional_text}
 use Rattle.rv_expect.specs.declared.passing.Rule.{Rule}
 use Rattle.rv_files.specs.UnreadPaths.{contents_below}
+use Rattle.rv_job_text.specs.Telling.{Telling, row_lines_at}
+use Rattle.rv_job_text.specs.declared.verbosity.Verbosity.TheVariants.{Failures}
+use Rattle.rv_junit.specs.Junit.{junit_text}
 use Rattle.rv_jobs.specs.Choices.{marked_places}
 use Rattle.rv_jobs.specs.Plans.{AreKept, Planned, jobs_needed_for, paths_of, paths_used}
 use Rattle.rv_lists.specs.JobList.{job_list_of}
 use Rattle.rv_lists.specs.declared.job.Job.{Job}
 use Rattle.rv_merge.specs.Shards.{shard_marks}
 use Rattle.rv_report.specs.declared.saved.Shard.{Shard}
+use Rattle.rv_report.specs.declared.row.Row.{Row}
 use Rattle.rv_rows.specs.Rows.{rows_at}
+use Rattle.rv_stream.specs.Streams.{row_text_list}
 use Rattle.rvtest_app.specs.Commands.{failure_rule}
 use Rattle.rvtest_app.specs.RunOutput.{rows_status}
+use Rattle.rvtest_app.specs.Said.{junit_class}
 
 -- the places of the jobs that are marked
 abbrev pub places_of_marks : List Bool → List ℕ
@@ -63,3 +69,8 @@ pub record IsRunStatus (known : Option FileContents) (words : RunAsked) (status 
   pub asked : AreRequestedJobs known words jobs marks shard notes
   pub judged : IsMarkedStatus (contents_below (optional_text words.root) known) (failure_rule words.lenient)
       jobs marks status
+
+-- the document of the rows of the jobs at some places, with the lines that are told of those that failed
+abbrev pub run_junit : List ℕ → Telling → List ℕ → List Row → List ℕ
+run_junit list telling places rows = junit_text (junit_class list) telling.rule
+    (row_text_list (row_lines_at (record telling { verbosity = Failures })) places rows) rows

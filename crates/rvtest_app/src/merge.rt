@@ -5,7 +5,10 @@ ghost use Rattle.rv_job_text.specs.TotalsLine.{totals_line};
 ghost use Rattle.rv_lists.specs.Limits.{most_jobs};
 ghost use Rattle.rv_merge.specs.Parts.{AreParts, bytes_of_texts};
 ghost use Rattle.rvtest_app.specs.Commands.{failure_rule};
-ghost use Rattle.rvtest_app.specs.Merges.{AreTextsAt, merged_report_path};
+ghost use Rattle.rv_report.specs.Report.{report_text};
+ghost use Rattle.rvtest_app.specs.Merges.{AreTextsAt, merged_class, merged_report_path};
+ghost use Rattle.rvtest_app.specs.Puts.{WentOut};
+ghost use Rattle.rvtest_app.specs.Said.{failures_junit};
 ghost use Rattle.rvtest_app.specs.RunOutput.{rows_status};
 ghost use Rattle.rv_command.specs.Texts.{optional_text};
 
@@ -45,7 +48,9 @@ pub(crate) fn merge_reports<D: Inputs, F: Outputs + Drop, O: Sink + Drop, E: Sin
 {
     let texts = read_part_texts(inputs, alloc, asked)?;
     let merged = merge_part_texts(alloc, asked, texts.as_slice())?;
-    put_merged(alloc, asked, merged, to)
+    let status = merged.status;
+    put_merged(alloc, asked, merged, to)?;
+    Ok(status)
 }
 
 // Standard output has the report where nothing else is asked for.
@@ -133,27 +138,43 @@ fn text_slices(alloc: Global, texts: &[Vec<u8>]) -> Result<Vec<&[u8]>, AllocErro
     Ok(slices)
 }
 
-// Puts what is asked for, and hands the status on.
+// Puts the last line, and the files that are asked for.
 fn put_merged<F: Outputs + Drop, O: Sink + Drop, E: Sink + Drop>(
     alloc: Global,
     asked: &MergeAsked<'_>,
     merged: Merged,
     to: &mut Destinations<F, O, E>,
-) -> Result<u8, Stop>
-    ensures status { IfOk result (λ status. status ≡ merged.status) }
+) -> Result<(), Stop>
+    ensures { OnOk result (WentOut
+        (merged_report_path (optional_text asked.now.report) (optional_text asked.now.junit))
+        (optional_text asked.now.junit) merged.line.items (report_text merged.rows)
+        (failures_junit (merged_class (optional_text asked.now.report)) (failure_rule asked.now.lenient) merged.rows)
+        (O.taken to.old.out) (O.taken to.new.out) (E.taken to.old.errors) (E.taken to.new.errors)
+        (F.placed to.old.files) (F.placed to.new.files)) }
 {
-    let Merged { rows, line, status } = merged;
+    let Merged { rows, line, .. } = merged;
     let outlets = open_outlets(&mut to.files, alloc, merged_report_path(asked), asked.junit)?;
-    if let Err(stop) = put_shown(to, line.as_slice(), outlets.use_stdout()) {
-        abandon_outlets(&mut to.files, outlets);
-        return Err(stop);
-    }
     let suite = Suite {
-        name: junit_class(asked.report.unwrap_or("merged")).as_bytes(),
+        name: merged_class(asked).as_bytes(),
         rule: failure_rule(asked.lenient),
     };
-    put_whole_files(alloc, to, outlets, suite, rows)?;
-    Ok(status)
+    match put_shown(to, line.as_slice(), outlets.use_stdout()) {
+        Ok(()) => put_whole_files(alloc, to, outlets, suite, rows),
+        Err(stop) => {
+            abandon_outlets(&mut to.files, outlets);
+            Err(stop)
+        }
+    }
+}
+
+// The class of the jobs in JUnit's XML: by the report's path, if one is given.
+fn merged_class<'a>(asked: &MergeAsked<'a>) -> &'a str
+    ensures { result.now ≡ merged_class (optional_text asked.now.report) }
+{
+    match asked.report {
+        Some(path) => junit_class(path),
+        None => "merged",
+    }
 }
 
 // Why the parts are not those of one run.

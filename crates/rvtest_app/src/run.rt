@@ -1,7 +1,7 @@
 //! The command `run`.
 
 ghost use Rattle.rv_lists.specs.Limits.{most_workers};
-ghost use Rattle.std.specs.Prelude.{◌≡◌, ◌≤◌, ◌<◌, ℕ, List, None, Some, IfOk, IfSome, IsSome, OnOk, length};
+ghost use Rattle.std.specs.Prelude.{◌≡◌, ◌≤◌, ◌<◌, ◌++◌, [], ℕ, List, None, Option, Some, IfOk, IfSome, IsSome, OnOk, length};
 ghost use Rattle.std.specs.Io.KnownBytes.{Appends};
 ghost use Rattle.std.specs.List.{All};
 ghost use Rattle.std.specs.List.Sorted.{IsStrictlyIncreasing};
@@ -15,9 +15,10 @@ ghost use Rattle.rv_lists.specs.declared.job.Job.{Job as AJob};
 ghost use Rattle.rv_merge.specs.Shards.{shard_marks};
 ghost use Rattle.rv_rows.specs.Rows.{rows_at};
 ghost use Rattle.rvtest_app.specs.Commands.{failure_rule, requested_verbosity};
-ghost use Rattle.rvtest_app.specs.Outlets.{has_no_failure};
-ghost use Rattle.rvtest_app.specs.RunOutput.{rows_status, run_output_text};
-ghost use Rattle.rvtest_app.specs.Runs.{AreRequestedJobs, IsMarkedStatus, IsRunStatus};
+ghost use Rattle.rvtest_app.specs.Outlets.{ArePlaced, HasTaken, file_at, has_no_failure, stdout_at};
+ghost use Rattle.rvtest_app.specs.Puts.{IsShown, WentOut};
+ghost use Rattle.rvtest_app.specs.RunOutput.{chosen_report_text, rows_status, run_output_text};
+ghost use Rattle.rvtest_app.specs.Runs.{AreRequestedJobs, IsMarkedStatus, IsRunStatus, run_junit};
 
 use crate::chosen_rows::ChosenRows;
 use crate::destinations::Destinations;
@@ -220,8 +221,19 @@ impl<'x, R: Threads + Wait + Sync + Clock, D: Inputs> ListRun<'x, R, D> {
         to: Destinations<F, O, E>,
         terminals: Terminals<P>,
     ) -> (Destinations<F, O, E>, Result<u8, Stop>)
-        ensures { IfOk result.1 (λ status. status ≡ rows_status planned.entry.telling.now.rule
+        ensures status { IfOk result.1 (λ status. status ≡ rows_status planned.entry.telling.now.rule
             (rows_at planned.entry.telling.now.plan.now planned.entry.places.now)) }
+        ensures said { OnOk result.1 (WentOut (optional_text self.now.asked.now.report)
+            (optional_text self.now.asked.now.junit)
+            (run_output_text (row_lines_at (telling_of planned.entry.telling.now))
+            planned.entry.telling.now.rule planned.entry.places.now
+            (rows_at planned.entry.telling.now.plan.now planned.entry.places.now))
+            (chosen_report_text (length planned.entry.telling.now.plan.now.jobs) planned.entry.places.now shard
+            (rows_at planned.entry.telling.now.plan.now planned.entry.places.now))
+            (run_junit self.now.asked.now.list.now (telling_of planned.entry.telling.now)
+            planned.entry.places.now (rows_at planned.entry.telling.now.plan.now planned.entry.places.now))
+            (O.taken to.out) (O.taken result.0.out) (E.taken to.errors) (E.taken result.0.errors)
+            (F.placed to.files) (F.placed result.0.files)) }
     {
         let (alloc, asked) = (self.host.alloc, self.asked);
         let mut to = to;
@@ -230,14 +242,16 @@ impl<'x, R: Threads + Wait + Sync + Clock, D: Inputs> ListRun<'x, R, D> {
             Err(stop) => return (to, Err(stop)),
         };
         let (mut to, ran) = self.run_and_show(planned, outlets.use_stdout(), to, terminals);
-        let put = match ran {
-            Ok(rows) => self.put_run_files(planned, shard, rows, outlets, &mut to),
+        match ran {
+            Ok(rows) => {
+                let put = self.put_run_files(planned, shard, rows, outlets, &mut to);
+                (to, put)
+            }
             Err(stop) => {
                 abandon_outlets(&mut to.files, outlets);
-                Err(stop)
+                (to, Err(stop))
             }
-        };
-        (to, put)
+        }
     }
 
     // Runs the jobs at some places, and shows them: on standard error where a file goes to standard output.
@@ -248,8 +262,13 @@ impl<'x, R: Threads + Wait + Sync + Clock, D: Inputs> ListRun<'x, R, D> {
         to: Destinations<F, O, E>,
         terminals: Terminals<P>,
     ) -> (Destinations<F, O, E>, Result<Rows, Stop>)
-        ensures { IfOk result.1 (λ rows. rows
+        ensures rows { IfOk result.1 (λ rows. rows
             ≡ rows_at planned.entry.telling.now.plan.now planned.entry.places.now) }
+        ensures files { result.0.files ≡ to.files }
+        ensures shown { OnOk result.1 (IsShown is_beside (run_output_text
+            (row_lines_at (telling_of planned.entry.telling.now)) planned.entry.telling.now.rule
+            planned.entry.places.now (rows_at planned.entry.telling.now.plan.now planned.entry.places.now))
+            (O.taken to.out) (O.taken result.0.out) (E.taken to.errors) (E.taken result.0.errors)) }
     {
         let Destinations { files, out, errors } = to;
         if is_beside {
@@ -316,7 +335,22 @@ impl<'x, R: Threads + Wait + Sync + Clock, D: Inputs> ListRun<'x, R, D> {
         requires counted { length rows ≡ length planned.places.now }
         requires report { has_no_failure F.File.failed outlets.report }
         requires junit { has_no_failure F.File.failed outlets.junit }
-        ensures { IfOk result (λ status. status ≡ rows_status planned.entry.telling.now.rule rows) }
+        ensures status { IfOk result (λ status. status ≡ rows_status planned.entry.telling.now.rule rows) }
+        ensures errors { to.new.errors ≡ to.old.errors }
+        ensures put { (report_path junit_path : Option (List ℕ))
+            → HasTaken F.place_path F.File.taken F.File.failed (F.placed to.old.files) report_path [] outlets.entry.report
+            → HasTaken F.place_path F.File.taken F.File.failed (F.placed to.old.files) junit_path [] outlets.entry.junit
+            → OnOk result (Appends (O.taken to.old.out) (O.taken to.new.out)
+            (stdout_at junit_path (run_junit self.now.asked.now.list.now (telling_of planned.entry.telling.now)
+            planned.entry.places.now rows) ++ stdout_at report_path (chosen_report_text
+            (length planned.entry.telling.now.plan.now.jobs) planned.entry.places.now shard rows))) }
+        ensures placed { (report_path junit_path : Option (List ℕ))
+            → HasTaken F.place_path F.File.taken F.File.failed (F.placed to.old.files) report_path [] outlets.entry.report
+            → HasTaken F.place_path F.File.taken F.File.failed (F.placed to.old.files) junit_path [] outlets.entry.junit
+            → OnOk result (ArePlaced (F.placed to.old.files) (F.placed to.new.files)
+            (Some (file_at junit_path (run_junit self.now.asked.now.list.now (telling_of planned.entry.telling.now)
+            planned.entry.places.now rows) ++ file_at report_path (chosen_report_text
+            (length planned.entry.telling.now.plan.now.jobs) planned.entry.places.now shard rows)))) }
     {
         let PlannedRun {
             telling,

@@ -1,7 +1,10 @@
 //! The command `show`.
 
-ghost use Rattle.std.specs.Prelude.{◌≡◌, ◌≤◌, ◌<◌, ◌^◌, IfOk, OnOk, length};
-ghost use Rattle.rv_command.specs.Texts.{IsReportAt, IsReportOf};
+ghost use Rattle.std.specs.Prelude.{◌≡◌, ◌≤◌, ◌<◌, ◌^◌, None, IfOk, OnOk, length};
+ghost use Rattle.rv_command.specs.Texts.{optional_text};
+ghost use Rattle.rv_report.specs.Report.{report_text};
+ghost use Rattle.rvtest_app.specs.Puts.{WentOut};
+ghost use Rattle.rvtest_app.specs.Said.{failures_junit, junit_class};
 ghost use Rattle.rvtest_app.specs.Commands.{failure_rule};
 ghost use Rattle.rvtest_app.specs.RunOutput.{rows_status};
 ghost use Rattle.rvtest_app.specs.ReportSummary.{summary_text};
@@ -41,7 +44,9 @@ pub(crate) fn show_report<D: Inputs, F: Outputs + Drop, O: Sink + Drop, E: Sink 
 {
     let report = read_report_file(inputs, alloc, asked.report)?;
     let summarized = summarize_report(alloc, asked, report)?;
-    put_summarized_report(alloc, asked, summarized, to)
+    let status = summarized.status;
+    put_summarized_report(alloc, asked, summarized, to)?;
+    Ok(status)
 }
 
 // A report with its summary and its status.
@@ -68,31 +73,37 @@ fn summarize_report(
     })
 }
 
-// Puts the summary, and the rows as JUnit's XML where that is asked for, and hands the status on.
+// Puts the summary, and the rows as JUnit's XML where that is asked for.
 fn put_summarized_report<F: Outputs + Drop, O: Sink + Drop, E: Sink + Drop>(
     alloc: Global,
     asked: ShowAsked<'_>,
     summarized: SummarizedReport,
     to: &mut Destinations<F, O, E>,
-) -> Result<u8, Stop>
-    ensures status { IfOk result (λ status. status ≡ summarized.status) }
+) -> Result<(), Stop>
+    ensures { OnOk result (WentOut None (optional_text asked.entry.junit) summarized.summary.items
+        (report_text summarized.report.rows)
+        (failures_junit (junit_class asked.entry.report.now) (failure_rule asked.entry.lenient)
+        summarized.report.rows)
+        (O.taken to.old.out) (O.taken to.new.out) (E.taken to.old.errors) (E.taken to.new.errors)
+        (F.placed to.old.files) (F.placed to.new.files)) }
 {
     let SummarizedReport {
         report,
         summary,
-        status,
+        ..
     } = summarized;
     let outlets = open_outlets(&mut to.files, alloc, None, asked.junit)?;
-    if let Err(stop) = put_shown(to, summary.as_slice(), outlets.use_stdout()) {
-        abandon_outlets(&mut to.files, outlets);
-        return Err(stop);
-    }
     let suite = Suite {
         name: junit_class(asked.report).as_bytes(),
         rule: failure_rule(asked.lenient),
     };
-    put_whole_files(alloc, to, outlets, suite, report.rows)?;
-    Ok(status)
+    match put_shown(to, summary.as_slice(), outlets.use_stdout()) {
+        Ok(()) => put_whole_files(alloc, to, outlets, suite, report.rows),
+        Err(stop) => {
+            abandon_outlets(&mut to.files, outlets);
+            Err(stop)
+        }
+    }
 }
 
 fn summary_text(alloc: Global, rule: Rule, rows: &[Row]) -> Result<Vec<u8>, AllocError>

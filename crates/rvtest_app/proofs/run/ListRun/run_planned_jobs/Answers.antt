@@ -1,7 +1,39 @@
 use Rattle.std.proofs.Common.{◌∙◌, ap, length}
+use Rattle.rv_command.specs.Texts.{optional_text}
 use Rattle.rv_fleet.proofs.Public.{rows_count}
+use Rattle.rvtest_app.proofs.PutTexts.{out_told}
+use Rattle.rvtest_app.proofs.Results.{OnOk-both}
 use Rattle.rvtest_app.proofs.run.ListRun.run_planned_jobs.Goals as goal
 
 pub put_run_files-put-requires-clause-counted : goal.put_run_files-put-requires-clause-counted
 put_run_files-put-requires-clause-counted g c κs within =
-    ap length (rw c.in-Ok-ran.is at c.run_and_show-to.ensures) ∙ rows_count _ c.args.planned.places.now
+    ap length (rw c.in-Ok-ran.is at c.run_and_show-to.ensures.rows) ∙ rows_count _ c.args.planned.places.now
+
+pub returns-in-Ok-ran-clause-said : goal.returns-in-Ok-ran-clause-said
+returns-in-Ok-ran-clause-said g c =
+    let path = g.F.Outputs.place_path in
+    let taken = g.F.File.Sink.taken in
+    let failed = g.F.File.Sink.failed in
+    let outlets = c.in-Ok.outlets in
+    let report_path = optional_text c.args.self.now.asked.now.report in
+    let junit_path = optional_text c.args.self.now.asked.now.junit in
+    let report = c.in-Ok.ensures.report in
+    let junit = c.in-Ok.ensures.junit in
+    let same = ap g.F.Outputs.placed c.run_and_show-to.ensures.files ∙ c.in-Ok.ensures.same in
+    let rows = rw c.in-Ok-ran.is at c.run_and_show-to.ensures.rows in
+    let seen = rw (
+      c.use_stdout.ensures,
+      out_told path taken failed _ _ outlets.report _ report,
+      out_told path taken failed _ _ outlets.junit _ junit,
+    ) at (rw c.in-Ok-ran.is at c.run_and_show-to.ensures.shown) in
+    let out = rw rows at (c.put_run_files-put.ensures.put report_path junit_path (rw same report) (rw same junit)) in
+    let placed = rw (same, rows)
+    at (c.put_run_files-put.ensures.placed report_path junit_path (rw same report) (rw same junit)) in
+    OnOk-both c.put_run_files-put.result _ _ _
+    (λ p q. record {
+      middle = g.O.Sink.taken (c.run_and_show-to.result.0).out;
+      seen = rw c.put_run_files-put.ensures.errors seen;
+      out = p;
+      placed = q;
+    })
+    out placed

@@ -1,0 +1,35 @@
+use Rattle.std.proofs.Common.{◌∙◌, None, ap}
+use Rattle.rv_command.specs.Texts.{optional_text}
+use Rattle.rvtest_app.proofs.PutTexts.{out_told}
+use Rattle.rvtest_app.proofs.Results.{OnOk-both}
+use Rattle.rvtest_app.proofs.show.put_summarized_report.Goals as goal
+
+pub returns-in-Ok : goal.returns-in-Ok
+returns-in-Ok g c =
+    let path = g.F.Outputs.place_path in
+    let taken = g.F.File.Sink.taken in
+    let failed = g.F.File.Sink.failed in
+    let outlets = c.in_ok-outlets.outlets in
+    let junit_path = optional_text c.args.asked.junit in
+    let report_path = None in
+    let report = c.in_ok-outlets.ensures.report in
+    let junit = c.in_ok-outlets.ensures.junit in
+    let same = ap g.F.Outputs.placed c.in-Ok.ensures.files ∙ c.in_ok-outlets.ensures.same in
+    let seen = rw (
+      c.use_stdout.ensures,
+      out_told path taken failed _ _ outlets.report _ report,
+      out_told path taken failed _ _ outlets.junit _ junit,
+      c.as_slice.ensures.value,
+    ) at c.in-Ok.ensures.shown in
+    let out = rw (c.as_bytes.ensures.value, c.junit_class.ensures, c.failure_rule.ensures)
+    at (c.put_whole_files.ensures.put report_path junit_path (rw same report) (rw same junit)) in
+    let placed = rw (same, c.as_bytes.ensures.value, c.junit_class.ensures, c.failure_rule.ensures)
+    at (c.put_whole_files.ensures.placed report_path junit_path (rw same report) (rw same junit)) in
+    OnOk-both c.put_whole_files.result _ _ _
+    (λ p q. record {
+      middle = g.O.Sink.taken c.put_shown.new.to.out;
+      seen = rw c.put_whole_files.ensures.errors seen;
+      out = p;
+      placed = q;
+    })
+    out placed
