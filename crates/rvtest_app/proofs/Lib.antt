@@ -6,3 +6,4 @@ mod Results
 mod PutTexts
 mod Requested
 mod PartTexts
+mod Messages

@@ -33,3 +33,9 @@ IfOk-map (Err e) P Q f p = tt
 pub OnOk-both : {X Y : Type 0} (r : Result X Y) (P Q R : Type 0) → (P → Q → R) → OnOk r P → OnOk r Q → OnOk r R
 OnOk-both (Ok x) P Q R f p q = f p q
 OnOk-both (Err e) P Q R f p q = tt
+
+-- a fact on the value, and one on what went well
+pub IfOk-beside : {X Y : Type 0} (r : Result X Y) (P R : X → Type 0) (Q : Type 0) → ((x : X) → P x → Q → R x)
+    → IfOk r P → OnOk r Q → IfOk r R
+IfOk-beside (Ok x) P R Q beside p q = beside x p q
+IfOk-beside (Err e) P R Q beside p q = tt

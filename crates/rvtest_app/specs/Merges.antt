@@ -1,10 +1,19 @@
--- What `merge` reads, and where its report goes.
+-- What `merge` reads, and what it puts where.
 use Rattle.std.specs.Prelude.{◌≡◌, ℕ, List, [], ◌∷◌, Option, Some, None, codes, if◌then◌else◌, ⊤}
 use Rattle.std.specs.Borrow.{Bor}
 use Rattle.rv_base.specs.Files.{FileContents}
-use Rattle.rv_command.specs.Texts.{IsTextAt}
+use Rattle.rv_cli.specs.declared.rvtest.merge.MergeAsked.{MergeAsked}
+use Rattle.rv_command.specs.Texts.{IsTextAt, optional_text}
+use Rattle.rv_files.specs.Placed.{PlacedFile}
+use Rattle.rv_job_text.specs.TotalsLine.{totals_line}
+use Rattle.rv_merge.specs.Parts.{AreParts}
+use Rattle.rv_report.specs.Report.{report_text}
+use Rattle.rv_report.specs.declared.row.Row.{Row}
+use Rattle.rvtest_app.specs.Commands.{failure_rule}
 use Rattle.rvtest_app.specs.Outlets.{is_stdout}
-use Rattle.rvtest_app.specs.Said.{junit_class}
+use Rattle.rvtest_app.specs.Puts.{WentOut}
+use Rattle.rvtest_app.specs.RunOutput.{rows_status}
+use Rattle.rvtest_app.specs.Said.{failures_junit, junit_class}
 
 -- the texts are what stands at the paths, in order
 abbrev pub AreTextsAt : Option FileContents → List (Bor (List ℕ)) → List (List ℕ) → Type 0
@@ -22,3 +31,18 @@ merged_report_path None (Some junit) = if is_stdout junit then None else Some (c
 abbrev pub merged_class : Option (List ℕ) → List ℕ
 merged_class (Some path) = junit_class path
 merged_class None = codes "merged"
+
+-- of the rows of the list whose parts stand at the paths that words name, the line that counts them went out, the report, and
+-- where it is asked for JUnit's document; the status is by these rows
+pub record IsMergedAt (known : Option FileContents) (words : MergeAsked) (status : ℕ)
+    (out_before out_after errors_before errors_after : Option (List ℕ))
+    (placed_before placed_after : Option (List PlacedFile)) : Type 0 where
+  pub texts : List (List ℕ)
+  pub read : AreTextsAt known words.parts.items texts
+  pub rows : List Row
+  pub parts : AreParts rows texts
+  pub judged : status ≡ rows_status (failure_rule words.lenient) rows
+  pub put : WentOut (merged_report_path (optional_text words.report) (optional_text words.junit))
+      (optional_text words.junit) (totals_line (failure_rule words.lenient) rows) (report_text rows)
+      (failures_junit (merged_class (optional_text words.report)) (failure_rule words.lenient) rows)
+      out_before out_after errors_before errors_after placed_before placed_after

@@ -1,12 +1,15 @@
 -- The rows of a run of some jobs of a list, and its status.
 use Rattle.std.specs.Prelude.{◌≡◌, ℕ, Bool, List, [], Ok, Option, Some, None, IfSome, length}
 use Rattle.rv_base.specs.Files.{FileContents}
+use Rattle.rv_base.specs.Sinks.{AppendsBeginning}
 use Rattle.rv_choice.specs.Chosen.{IsChoice}
 use Rattle.rv_choice.specs.Shard.{IsShardOf, stamp_for}
 use Rattle.rv_cli.specs.declared.rvtest.run.RunAsked.{RunAsked}
 use Rattle.rv_command.specs.Texts.{IsTextAt, optional_text}
 use Rattle.rv_expect.specs.declared.passing.Rule.{Rule}
+use Rattle.rv_files.specs.Placed.{PlacedFile}
 use Rattle.rv_files.specs.UnreadPaths.{contents_below}
+use Rattle.rv_files.specs.declared.noting_store.Unread.{Unread}
 use Rattle.rv_job_text.specs.Telling.{Telling, row_lines_at}
 use Rattle.rv_job_text.specs.declared.verbosity.Verbosity.TheVariants.{Failures}
 use Rattle.rv_junit.specs.Junit.{junit_text}
@@ -19,8 +22,9 @@ use Rattle.rv_report.specs.declared.saved.Shard.{Shard}
 use Rattle.rv_report.specs.declared.row.Row.{Row}
 use Rattle.rv_rows.specs.Rows.{rows_at}
 use Rattle.rv_stream.specs.Streams.{row_text_list}
-use Rattle.rvtest_app.specs.Commands.{failure_rule}
-use Rattle.rvtest_app.specs.RunOutput.{rows_status}
+use Rattle.rvtest_app.specs.Commands.{failure_rule, requested_verbosity}
+use Rattle.rvtest_app.specs.Puts.{WentOut}
+use Rattle.rvtest_app.specs.RunOutput.{chosen_report_text, rows_status, run_output_text}
 use Rattle.rvtest_app.specs.Said.{junit_class}
 
 -- the places of the jobs that are marked
@@ -53,24 +57,58 @@ pub record IsPlanFor (known : Option FileContents) (jobs : List Job) (places : L
   pub paths : paths_of plan.answers ≡ paths_used (jobs_needed_for jobs places)
   pub kept : AreKept known plan.answers
 
--- over such a plan of the jobs that are marked, the status is that of their rows; it is 0 where none are to run
-abbrev pub IsMarkedStatus : Option FileContents → Rule → List Job → Option (List Bool) → ℕ → Type 0
-IsMarkedStatus known rule jobs None status = status ≡ 0
-IsMarkedStatus known rule jobs (Some marks) status = (plan : Planned)
-    × (IsPlanFor known jobs (places_of_marks marks) plan
-    × (status ≡ rows_status rule (rows_at plan (places_of_marks marks))))
+-- the document of the rows of the jobs at some places, with the lines that are told of those that failed
+abbrev pub run_junit : List ℕ → Telling → List ℕ → List Row → List ℕ
+run_junit list telling places rows = junit_text (junit_class list) telling.rule
+    (row_text_list (row_lines_at (record telling { verbosity = Failures })) places rows) rows
 
--- a run of what words ask for has a status by the rows of the jobs that they choose
-pub record IsRunStatus (known : Option FileContents) (words : RunAsked) (status : ℕ) : Type 0 where
+-- how the rows of a run are told
+abbrev pub run_telling : RunAsked → Planned → List Unread → Telling
+run_telling words plan unread = record {
+  plan = plan;
+  unread = unread;
+  rule = failure_rule words.lenient;
+  verbosity = requested_verbosity words.verbose words.quiet;
+  last = words.last;
+}
+
+-- over such a plan, the rows of the jobs at some places went out as words ask for them: their lines with the totals, the
+-- report, and JUnit's document; the status is by these rows
+pub record IsRunOf (known : Option FileContents) (words : RunAsked) (jobs : List Job) (places : List ℕ)
+    (shard : Option Shard) (status : ℕ) (out_before out_after errors_before errors_after : Option (List ℕ))
+    (placed_before placed_after : Option (List PlacedFile)) : Type 0 where
+  pub plan : Planned
+  pub planned : IsPlanFor (contents_below (optional_text words.root) known) jobs places plan
+  pub unread : List Unread
+  pub judged : status ≡ rows_status (failure_rule words.lenient) (rows_at plan places)
+  pub put : WentOut (optional_text words.report) (optional_text words.junit)
+      (run_output_text (row_lines_at (run_telling words plan unread)) (failure_rule words.lenient) places
+      (rows_at plan places))
+      (chosen_report_text (length plan.jobs) places shard (rows_at plan places))
+      (run_junit words.list.now (run_telling words plan unread) places (rows_at plan places))
+      out_before out_after errors_before errors_after placed_before placed_after
+
+-- the same of the jobs that are marked; where none are to run, the status is 0 and nothing more is said
+abbrev pub IsRunOfMarked : Option FileContents → RunAsked → List Job → Option (List Bool) → Option Shard → ℕ
+    → Option (List ℕ) → Option (List ℕ) → Option (List ℕ) → Option (List ℕ)
+    → Option (List PlacedFile) → Option (List PlacedFile) → Type 0
+IsRunOfMarked known words jobs None shard status out_before out_after errors_before errors_after placed_before placed_after =
+    (status ≡ 0) × (out_after ≡ out_before) × (errors_after ≡ errors_before) × (placed_after ≡ placed_before)
+IsRunOfMarked known words jobs (Some marks) shard status
+    out_before out_after errors_before errors_after placed_before placed_after =
+    IsRunOf known words jobs (places_of_marks marks) shard status
+    out_before out_after errors_before errors_after placed_before placed_after
+
+-- a run of what words ask for: what is said of the choice goes to standard error, and then the jobs run
+pub record IsRunAt (known : Option FileContents) (words : RunAsked) (status : ℕ)
+    (out_before out_after errors_before errors_after : Option (List ℕ))
+    (placed_before placed_after : Option (List PlacedFile)) : Type 0 where
   pub jobs : List Job
   pub marks : Option (List Bool)
   pub shard : Option Shard
   pub notes : List ℕ
   pub asked : AreRequestedJobs known words jobs marks shard notes
-  pub judged : IsMarkedStatus (contents_below (optional_text words.root) known) (failure_rule words.lenient)
-      jobs marks status
-
--- the document of the rows of the jobs at some places, with the lines that are told of those that failed
-abbrev pub run_junit : List ℕ → Telling → List ℕ → List Row → List ℕ
-run_junit list telling places rows = junit_text (junit_class list) telling.rule
-    (row_text_list (row_lines_at (record telling { verbosity = Failures })) places rows) rows
+  pub middle : Option (List ℕ)
+  pub told : AppendsBeginning errors_before middle notes
+  pub ran : IsRunOfMarked known words jobs marks shard status
+      out_before out_after middle errors_after placed_before placed_after

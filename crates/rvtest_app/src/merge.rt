@@ -6,7 +6,7 @@ ghost use Rattle.rv_lists.specs.Limits.{most_jobs};
 ghost use Rattle.rv_merge.specs.Parts.{AreParts, bytes_of_texts};
 ghost use Rattle.rvtest_app.specs.Commands.{failure_rule};
 ghost use Rattle.rv_report.specs.Report.{report_text};
-ghost use Rattle.rvtest_app.specs.Merges.{AreTextsAt, merged_class, merged_report_path};
+ghost use Rattle.rvtest_app.specs.Merges.{AreTextsAt, IsMergedAt, merged_class, merged_report_path};
 ghost use Rattle.rvtest_app.specs.Puts.{WentOut};
 ghost use Rattle.rvtest_app.specs.Said.{failures_junit};
 ghost use Rattle.rvtest_app.specs.RunOutput.{rows_status};
@@ -45,6 +45,9 @@ pub(crate) fn merge_reports<D: Inputs, F: Outputs + Drop, O: Sink + Drop, E: Sin
     to: &mut Destinations<F, O, E>,
 ) -> Result<u8, Stop>
     ensures low { IfOk result (λ status. status ≤ 1) }
+    ensures merged { IfOk result (λ status. IsMergedAt (D.contents inputs.now) asked.now status
+        (O.taken to.old.out) (O.taken to.new.out) (E.taken to.old.errors) (E.taken to.new.errors)
+        (F.placed to.old.files) (F.placed to.new.files)) }
 {
     let texts = read_part_texts(inputs, alloc, asked)?;
     let merged = merge_part_texts(alloc, asked, texts.as_slice())?;

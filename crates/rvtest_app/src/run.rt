@@ -1,7 +1,7 @@
 //! The command `run`.
 
 ghost use Rattle.rv_lists.specs.Limits.{most_workers};
-ghost use Rattle.std.specs.Prelude.{◌≡◌, ◌≤◌, ◌<◌, ◌++◌, [], ℕ, List, None, Option, Some, IfOk, IfSome, IsSome, OnOk, length};
+ghost use Rattle.std.specs.Prelude.{◌≡◌, ◌≤◌, ◌<◌, ◌++◌, [], ℕ, List, None, Option, Some, IfOk, IfSome, OnOk, length, option_map};
 ghost use Rattle.std.specs.Io.KnownBytes.{Appends};
 ghost use Rattle.std.specs.List.{All};
 ghost use Rattle.std.specs.List.Sorted.{IsStrictlyIncreasing};
@@ -18,7 +18,7 @@ ghost use Rattle.rvtest_app.specs.Commands.{failure_rule, requested_verbosity};
 ghost use Rattle.rvtest_app.specs.Outlets.{ArePlaced, HasTaken, file_at, has_no_failure, stdout_at};
 ghost use Rattle.rvtest_app.specs.Puts.{IsShown, WentOut};
 ghost use Rattle.rvtest_app.specs.RunOutput.{chosen_report_text, rows_status, run_output_text};
-ghost use Rattle.rvtest_app.specs.Runs.{AreRequestedJobs, IsMarkedStatus, IsRunStatus, run_junit};
+ghost use Rattle.rvtest_app.specs.Runs.{AreRequestedJobs, IsRunAt, IsRunOfMarked, run_junit};
 
 use crate::chosen_rows::ChosenRows;
 use crate::destinations::Destinations;
@@ -26,7 +26,7 @@ use crate::file_texts::FileTexts;
 use crate::host::Host;
 use crate::junit_class::junit_class;
 use crate::outlets::{Outlets, abandon_outlets, open_outlets};
-use crate::planned_run::{MarkedJobs, PlannedRun};
+use crate::planned_run::{MarkedJobs, PlannedRun, RequestedJobs};
 use crate::puts::put_files;
 use crate::report_texts::ReportText;
 use crate::rules::{failure_rule, rows_status};
@@ -75,7 +75,9 @@ pub(crate) fn run_requested_jobs<
     to: Destinations<F, O, E>,
     terminals: Terminals<P>,
 ) -> (Destinations<F, O, E>, Result<u8, Stop>)
-    ensures run { IfOk result.1 (IsRunStatus (D.contents host.now.inputs.now) asked.now) }
+    ensures run { IfOk result.1 (λ status. IsRunAt (D.contents host.now.inputs.now) asked.now status
+        (O.taken to.out) (O.taken result.0.out) (E.taken to.errors) (E.taken result.0.errors)
+        (F.placed to.files) (F.placed result.0.files)) }
     ensures low { IfOk result.1 (λ status. status ≤ 1) }
 {
     let run = ListRun {
@@ -84,63 +86,60 @@ pub(crate) fn run_requested_jobs<
         rule: failure_rule(asked.lenient),
     };
     let mut to = to;
-    match run.choose_jobs(&mut to.errors) {
-        Ok(Some(marked)) => run.run_marked_jobs(marked, to, terminals),
-        Ok(None) => (to, Ok(DONE)),
-        Err(stop) => (to, Err(stop)),
+    let RequestedJobs {
+        jobs,
+        marks,
+        shard,
+        notes,
+        ..
+    } = match run.requested_jobs() {
+        Ok(requested) => requested,
+        Err(stop) => return (to, Err(stop)),
+    };
+    put_message(&mut to.errors, notes.as_slice());
+    match marks {
+        Some(marks) => run.run_marked_jobs(MarkedJobs { jobs, marks, shard }, to, terminals),
+        None => (to, Ok(DONE)),
     }
 }
 
 impl<'x, R, D: Inputs> ListRun<'x, R, D> {
-    // The jobs of the list that are to run, if any are; what is to be said of the choice goes to standard error.
-    fn choose_jobs<E: Sink>(&self, errors: &mut E) -> Result<Option<MarkedJobs>, Stop>
+    // The jobs of the list, with marks for those that are to run.
+    fn requested_jobs(&self) -> Result<RequestedJobs, Stop>
         requires { self.now.rule ≡ failure_rule self.now.asked.now.lenient }
-        ensures some { IfOk result (λ marked. IfSome marked (λ marked. (notes : List ℕ)
-            × AreRequestedJobs (D.contents self.now.host.now.inputs.now) self.now.asked.now marked.jobs
-            (Some marked.marks.items) marked.shard notes)) }
-        ensures none { IfOk result (λ marked. marked ≡ None → (jobs : List AJob) × ((notes : List ℕ)
-            × AreRequestedJobs (D.contents self.now.host.now.inputs.now) self.now.asked.now jobs None None notes)) }
+        ensures { IfOk result (λ requested. AreRequestedJobs (D.contents self.now.host.now.inputs.now)
+            self.now.asked.now requested.jobs (option_map (λ marks. marks.items) requested.marks)
+            requested.shard requested.notes.items) }
     {
         let (alloc, asked) = (self.host.alloc, self.asked);
         let text = read_list_text(self.host.inputs, alloc, asked.list)?;
         let jobs = parse_list(alloc, asked.list, text.as_slice())?;
         match requested_shard(alloc, asked, text.as_slice(), jobs.as_slice().len())? {
             Some(shard) => self.jobs_of_shard(jobs, shard),
-            None => self.jobs_of_choice(jobs, errors),
+            None => self.jobs_of_choice(jobs),
         }
     }
 
-    fn jobs_of_shard(&self, jobs: JobList, shard: Shard) -> Result<Option<MarkedJobs>, Stop>
+    fn jobs_of_shard(&self, jobs: JobList, shard: Shard) -> Result<RequestedJobs, Stop>
         requires { (0 < shard.number) × (shard.number ≤ shard.shards) }
-        ensures some { IfOk result (λ marked. IfSome marked (λ marked. (marked.jobs ≡ jobs)
-            × (marked.shard ≡ Some shard)
-            × (marked.marks.items ≡ shard_marks shard.shards shard.number (length jobs)))) }
-        ensures shard { IfOk result (λ marked. IsSome marked) }
+        ensures { IfOk result (λ requested. (requested.jobs ≡ jobs) × (requested.shard ≡ Some shard)
+            × (option_map (λ marks. marks.items) requested.marks
+            ≡ Some (shard_marks shard.shards shard.number (length jobs))) × (requested.notes.items ≡ [])) }
     {
-        let marks = shard_marks(
-            self.host.alloc,
-            jobs.as_slice().len(),
-            shard.number,
-            shard.shards,
-        )?;
-        Ok(Some(MarkedJobs {
+        let alloc = self.host.alloc;
+        let marks = shard_marks(alloc, jobs.as_slice().len(), shard.number, shard.shards)?;
+        Ok(RequestedJobs {
             jobs,
-            marks,
+            marks: Some(marks),
             shard: Some(shard),
-        }))
+            notes: Vec::new(alloc),
+        })
     }
 
-    fn jobs_of_choice<E: Sink>(
-        &self,
-        jobs: JobList,
-        errors: &mut E,
-    ) -> Result<Option<MarkedJobs>, Stop>
-        ensures some { IfOk result (λ marked. IfSome marked (λ marked. (notes : List ℕ)
-            × ((marked.jobs ≡ jobs) × (marked.shard ≡ None)
+    fn jobs_of_choice(&self, jobs: JobList) -> Result<RequestedJobs, Stop>
+        ensures { IfOk result (λ requested. (requested.jobs ≡ jobs) × (requested.shard ≡ None)
             × IsChoice (D.contents self.now.host.now.inputs.now) self.now.asked.now self.now.rule jobs
-            (Some marked.marks.items) notes))) }
-        ensures none { IfOk result (λ marked. marked ≡ None → (notes : List ℕ)
-            × IsChoice (D.contents self.now.host.now.inputs.now) self.now.asked.now self.now.rule jobs None notes) }
+            (option_map (λ marks. marks.items) requested.marks) requested.notes.items) }
     {
         let chooser = Chooser {
             inputs: self.host.inputs,
@@ -149,15 +148,12 @@ impl<'x, R, D: Inputs> ListRun<'x, R, D> {
             rule: self.rule,
         };
         let Choice { marks, notes } = chooser.choose(jobs.as_slice())?;
-        put_message(errors, notes.as_slice());
-        match marks {
-            Some(marks) => Ok(Some(MarkedJobs {
-                jobs,
-                marks,
-                shard: None,
-            })),
-            None => Ok(None),
-        }
+        Ok(RequestedJobs {
+            jobs,
+            marks,
+            shard: None,
+            notes,
+        })
     }
 }
 
@@ -174,9 +170,11 @@ impl<'x, R: Threads + Wait + Sync + Clock, D: Inputs> ListRun<'x, R, D> {
         to: Destinations<F, O, E>,
         terminals: Terminals<P>,
     ) -> (Destinations<F, O, E>, Result<u8, Stop>)
-        ensures { IfOk result.1 (IsMarkedStatus
-            (contents_below (optional_text self.now.asked.now.root) (D.contents self.now.host.now.inputs.now))
-            self.now.rule marked.jobs (Some marked.marks.items)) }
+        requires { self.now.rule ≡ failure_rule self.now.asked.now.lenient }
+        ensures { IfOk result.1 (λ status. IsRunOfMarked (D.contents self.now.host.now.inputs.now) self.now.asked.now
+            marked.jobs (Some marked.marks.items) marked.shard status
+            (O.taken to.out) (O.taken result.0.out) (E.taken to.errors) (E.taken result.0.errors)
+            (F.placed to.files) (F.placed result.0.files)) }
     {
         let MarkedJobs {
             jobs,

@@ -8,6 +8,7 @@ ghost use Rattle.rvtest_app.specs.Said.{failures_junit, junit_class};
 ghost use Rattle.rvtest_app.specs.Commands.{failure_rule};
 ghost use Rattle.rvtest_app.specs.RunOutput.{rows_status};
 ghost use Rattle.rvtest_app.specs.ReportSummary.{summary_text};
+ghost use Rattle.rvtest_app.specs.Shows.{IsShownAt};
 
 use crate::destinations::Destinations;
 use crate::junit_class::junit_class;
@@ -41,6 +42,9 @@ pub(crate) fn show_report<D: Inputs, F: Outputs + Drop, O: Sink + Drop, E: Sink 
     to: &mut Destinations<F, O, E>,
 ) -> Result<u8, Stop>
     ensures low { IfOk result (λ status. status ≤ 1) }
+    ensures shown { IfOk result (λ status. IsShownAt (D.contents inputs.now) asked.entry status
+        (O.taken to.old.out) (O.taken to.new.out) (E.taken to.old.errors) (E.taken to.new.errors)
+        (F.placed to.old.files) (F.placed to.new.files)) }
 {
     let report = read_report_file(inputs, alloc, asked.report)?;
     let summarized = summarize_report(alloc, asked, report)?;

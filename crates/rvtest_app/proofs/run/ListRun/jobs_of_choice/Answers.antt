@@ -4,6 +4,6 @@ use Rattle.rvtest_app.proofs.run.ListRun.jobs_of_choice.Goals as goal
 
 pub invariant_of-result : goal.invariant_of-result
 invariant_of-result g c = record {
-  counted = choice_count _ c.args.self.now.asked.now c.args.self.now.rule c.as_slice.result.now c.in-Some.marks.items _
-      (rw c.in-Some.is at c.in_ok-marks.ensures) ∙ ap length c.as_slice.ensures.value;
+  counted = λ marks is. choice_count _ c.args.self.now.asked.now c.args.self.now.rule c.as_slice.result.now marks.items _
+      (rw is at c.in_ok-marks.ensures) ∙ ap length c.as_slice.ensures.value;
 }
