@@ -1,4 +1,5 @@
 pub mod StepRanks
+mod StepOrder
 mod Numbers
 mod Sent
 mod Statuses

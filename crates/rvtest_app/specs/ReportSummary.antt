@@ -1,7 +1,8 @@
 -- What a person is shown of a report: its failed rows, the counts, and the jobs with the most steps.
-use Rattle.std.specs.Prelude.{ℕ, List, [], ◌∷◌, ◌++◌, None, codes, if◌then◌else◌, nat_lt, take}
+use Rattle.std.specs.Prelude.{◌≡◌, ◌==◌, ◌≤◌, ℕ, List, [], ◌∷◌, ◌++◌, None, codes, filter, if◌then◌else◌, nat_lt, take}
 use Rattle.std.specs.Fmt.{decimal}
-use Rattle.std.specs.List.{flat_map}
+use Rattle.std.specs.List.{AllPairs, flat_map}
+use Rattle.std.specs.List.Sorted.{IsPermutation}
 use Rattle.rv_report.specs.declared.row.Row.{Row}
 use Rattle.rv_report.specs.Report.{line}
 use Rattle.rv_expect.specs.declared.passing.Rule.{Rule}
@@ -25,6 +26,13 @@ inserted_by_steps row (first ∷ more) =
 unfoldable pub rows_by_steps : List Row → List Row
 rows_by_steps [] = []
 rows_by_steps (row ∷ rows) = inserted_by_steps row (rows_by_steps rows)
+
+-- the same rows, of which none has fewer steps than one behind it, and those of equal steps stand
+-- as they stood
+pub record AreSortedBySteps (rows sorted : List Row) : Type 0 where
+  pub same_rows : IsPermutation rows sorted
+  pub most_first : AllPairs (λ row behind. behind.steps ≤ row.steps) sorted
+  pub stable : (steps : ℕ) → filter (λ row. row.steps == steps) sorted ≡ filter (λ row. row.steps == steps) rows
 
 -- how many rows are shown of those with the most steps
 abbrev pub most_rows_shown : ℕ

@@ -1,6 +1,6 @@
 //! What a command found that runs no list.
 
-ghost use Rattle.std.specs.Prelude.{◌≡◌, IfOk, OnErr, OnOk};
+ghost use Rattle.std.specs.Prelude.{◌≡◌, IfOk, MatchResult, OnErr, OnOk};
 ghost use Rattle.std.specs.Io.KnownBytes.{Appends};
 ghost use Rattle.rv_base.specs.Sinks.{AppendsBeginning};
 
@@ -15,12 +15,15 @@ pub(crate) struct Found {
 }
 
 /// Puts the text of what a command found, and hands its status on.
-pub(crate) fn put_findings<O: Sink>(out: &mut O, found: Found) -> Result<u8, Stop>
-    ensures status { IfOk result (λ status. status ≡ found.status) }
-    ensures put { OnOk result (Appends (O.taken out.old) (O.taken out.new) found.text.items) }
+pub(crate) fn put_findings<O: Sink>(out: &mut O, found: Result<Found, Stop>) -> Result<u8, Stop>
+    ensures put { IfOk result (λ status. MatchResult found (λ found. (status ≡ found.status)
+        × Appends (O.taken out.old) (O.taken out.new) found.text.items) (λ stop. ⊥)) }
     ensures counted { OnOk result (O.failed out.new ≡ O.failed out.old) }
-    ensures part { OnErr result (AppendsBeginning (O.taken out.old) (O.taken out.new) found.text.items) }
+    ensures part { OnErr result (MatchResult found
+        (λ found. AppendsBeginning (O.taken out.old) (O.taken out.new) found.text.items)
+        (λ stop. O.taken out.new ≡ O.taken out.old)) }
 {
-    put_results(out, found.text.as_slice())?;
-    Ok(found.status)
+    let Found { text, status } = found?;
+    put_results(out, text.as_slice())?;
+    Ok(status)
 }

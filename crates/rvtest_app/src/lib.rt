@@ -16,6 +16,7 @@ mod findings;
 mod help;
 mod host;
 mod junit_class;
+mod law;
 mod merge;
 mod outlets;
 mod planned_run;
@@ -34,5 +35,6 @@ mod whole_files;
 
 pub use destinations::Destinations;
 pub use host::Host;
+pub use law::rows_by_steps_are_sorted;
 pub use program::{refuse_unreadable_words, run_rvtest};
 pub use terminals::Terminals;

@@ -1,6 +1,7 @@
 //! The whole program, over files, sinks and terminals.
 
 ghost use Rattle.std.specs.Prelude.{◌≤◌, IfOk};
+ghost use Rattle.rvtest_app.specs.Answers.{IsDone};
 
 use crate::check::check_list;
 use crate::destinations::Destinations;
@@ -17,7 +18,6 @@ use rv_cli::rvtest::{Asked, read_words};
 use rv_command::{REFUSED, Stop, put_message, put_stop_message};
 use rv_files::{Inputs, Outputs};
 use rv_rows::Sink;
-use std::alloc::Global;
 use std::convert::AsStr;
 use std::io::{self, ErrorKind, Write};
 use std::sync::Wait;
@@ -94,38 +94,24 @@ fn run_subcommand<
     to: Destinations<F, O, E>,
     terminals: Terminals<P>,
 ) -> (Destinations<F, O, E>, Result<u8, Stop>)
-    ensures { IfOk result.1 (λ status. status ≤ 2) }
+    ensures low { IfOk result.1 (λ status. status ≤ 2) }
+    ensures done { IfOk result.1 (λ status. IsDone (D.contents host.now.inputs.now) asked.entry status
+        (O.taken to.out) (O.taken result.0.out) (E.taken to.errors) (E.taken result.0.errors)
+        (F.placed to.files) (F.placed result.0.files)) }
 {
-    match asked {
-        Asked::Run(asked) => run_requested_jobs(host, &asked, to, terminals),
-        Asked::Explain(_) | Asked::Check(_) | Asked::Merge(_) | Asked::Diff(_) | Asked::Show(_) => {
-            let mut to = to;
-            let answer = answer_without_run(host.inputs, host.alloc, asked, &mut to);
-            (to, answer)
+    let (inputs, alloc) = (host.inputs, host.alloc);
+    let mut to = to;
+    let answer = match asked {
+        Asked::Run(asked) => return run_requested_jobs(host, &asked, to, terminals),
+        Asked::Explain(asked) => {
+            put_findings(&mut to.out, explain_named_job(inputs, alloc, asked))
         }
-    }
-}
-
-// The commands that run no list.
-fn answer_without_run<D: Inputs, F: Outputs + Drop, O: Sink + Drop, E: Sink + Drop>(
-    inputs: &D,
-    alloc: Global,
-    asked: Asked<'_>,
-    to: &mut Destinations<F, O, E>,
-) -> Result<u8, Stop>
-    ensures { IfOk result (λ status. status ≤ 2) }
-{
-    match asked {
-        Asked::Run(_) => Ok(REFUSED),
-        Asked::Explain(asked) => put_findings(
-            &mut to.out,
-            explain_named_job(inputs, alloc, asked)?,
-        ),
-        Asked::Check(asked) => put_findings(&mut to.out, check_list(inputs, alloc, asked)?),
-        Asked::Merge(asked) => merge_reports(inputs, alloc, &asked, to),
-        Asked::Diff(asked) => put_findings(&mut to.out, diff_reports(inputs, alloc, asked)?),
-        Asked::Show(asked) => show_report(inputs, alloc, asked, to),
-    }
+        Asked::Check(asked) => put_findings(&mut to.out, check_list(inputs, alloc, asked)),
+        Asked::Merge(asked) => merge_reports(inputs, alloc, &asked, &mut to),
+        Asked::Diff(asked) => put_findings(&mut to.out, diff_reports(inputs, alloc, asked)),
+        Asked::Show(asked) => show_report(inputs, alloc, asked, &mut to),
+    };
+    (to, answer)
 }
 
 /// The status of words that the process doesn't give: words that aren't UTF-8 are refused.

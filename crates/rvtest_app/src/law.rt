@@ -1,0 +1,10 @@
+//! The law of rows by steps, with nothing to run.
+
+ghost use Rattle.std.specs.Prelude.{List};
+ghost use Rattle.rv_report.specs.declared.row.Row.{Row};
+ghost use Rattle.rvtest_app.specs.ReportSummary.{AreSortedBySteps, rows_by_steps};
+
+/// Of a report's rows those with the most steps stand first, each row once, and rows of equal steps in their order.
+pub fn rows_by_steps_are_sorted()
+    ensures { (rows : List Row) → AreSortedBySteps rows (rows_by_steps rows) }
+{}
