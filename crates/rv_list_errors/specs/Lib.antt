@@ -1,5 +1,6 @@
 pub mod Places
 pub mod JobPlaces
+pub mod JobBegins
 pub mod Steps
 pub mod Lines
 pub mod NearestJob

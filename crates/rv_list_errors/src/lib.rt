@@ -14,6 +14,7 @@ mod headers;
 mod job_fault;
 mod keys;
 mod kinds;
+mod law;
 mod list;
 mod list_fault;
 mod message;
@@ -24,4 +25,5 @@ mod values;
 
 pub use faults::push_faults;
 pub use headers::{Place, job_line_numbers, line_and_column};
+pub use law::job_lines_are_of_headers_and_elements;
 pub use name_search::nearest_job;

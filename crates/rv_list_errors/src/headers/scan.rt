@@ -1,6 +1,6 @@
 //! A walk over the headers and entries of a text.
 
-ghost use Rattle.std.specs.Prelude.{◌≡◌, ◌≤◌, ◌<◌, ◌+◌, ◌++◌, IfOk, drop, if◌then◌else◌, length, map, option_map, slice_index};
+ghost use Rattle.std.specs.Prelude.{◌≡◌, ◌≤◌, ◌<◌, ◌+◌, ◌++◌, IfOk, length, map, option_map, slice_index};
 ghost use Rattle.std.specs.List.{All};
 ghost use Rattle.std.specs.List.Sorted.{IsNonDecreasing};
 ghost use Rattle.toml_parser.specs.Lexical.{left_bracket};
@@ -9,7 +9,7 @@ ghost use Rattle.toml_parser.specs.Strings.{key};
 ghost use Rattle.toml.specs.Parse.{skip_bom};
 ghost use Rattle.rv_list_errors.specs.JobPlaces as spec;
 ghost use Rattle.rv_list_errors.specs.Places.{text_line_count};
-ghost use Rattle.rv_list_errors.specs.Steps.{GivesStep, GivesText, UnlessMemory};
+ghost use Rattle.rv_list_errors.specs.Steps.{GivesStep, UnlessMemory};
 
 use crate::headers::lines::Lines;
 use crate::headers::values::{skip_blank_lines, skip_value};

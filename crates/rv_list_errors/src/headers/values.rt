@@ -3,7 +3,7 @@
 ghost use Rattle.std.specs.Prelude.{◌≡◌, ◌-◌, ◌^◌, ◌<◌, ◌≤◌, IfOk, length, min, slice_index, suc};
 ghost use Rattle.rv_list_errors.specs.JobPlaces.{behind_brackets, behind_string_or_word, behind_token, behind_value};
 ghost use Rattle.toml_parser.specs.Lexical.{skip_blank as behind_blank};
-ghost use Rattle.rv_list_errors.specs.JobPlaces.{behind_word, depth_behind, is_in_word, is_opening};
+ghost use Rattle.rv_list_errors.specs.JobPlaces.{behind_word, depth_behind, is_in_word};
 ghost use Rattle.rv_list_errors.specs.Steps.{GivesText};
 
 use std::alloc::Global;
