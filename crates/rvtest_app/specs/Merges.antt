@@ -13,7 +13,7 @@ use Rattle.rvtest_app.specs.Commands.{failure_rule}
 use Rattle.rvtest_app.specs.Outlets.{is_stdout}
 use Rattle.rvtest_app.specs.Puts.{WentOut}
 use Rattle.rvtest_app.specs.RunOutput.{rows_status}
-use Rattle.rvtest_app.specs.Said.{failures_junit, junit_class}
+use Rattle.rvtest_app.specs.JunitTexts.{failures_junit, junit_class}
 
 -- the texts are what stands at the paths, in order
 abbrev pub AreTextsAt : Option FileContents → List (Bor (List ℕ)) → List (List ℕ) → Type 0

@@ -25,7 +25,7 @@ use Rattle.rv_stream.specs.Streams.{row_text_list}
 use Rattle.rvtest_app.specs.Commands.{failure_rule, requested_verbosity}
 use Rattle.rvtest_app.specs.Puts.{WentOut}
 use Rattle.rvtest_app.specs.RunOutput.{chosen_report_text, rows_status, run_output_text}
-use Rattle.rvtest_app.specs.Said.{junit_class}
+use Rattle.rvtest_app.specs.JunitTexts.{junit_class}
 
 -- the places of the jobs that are marked
 abbrev pub places_of_marks : List Bool → List ℕ

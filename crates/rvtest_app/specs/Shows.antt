@@ -10,7 +10,7 @@ use Rattle.rvtest_app.specs.Commands.{failure_rule}
 use Rattle.rvtest_app.specs.Puts.{WentOut}
 use Rattle.rvtest_app.specs.ReportSummary.{summary_text}
 use Rattle.rvtest_app.specs.RunOutput.{rows_status}
-use Rattle.rvtest_app.specs.Said.{failures_junit, junit_class}
+use Rattle.rvtest_app.specs.JunitTexts.{failures_junit, junit_class}
 
 -- of the report at the path that words name, the summary went out, and where it is asked for JUnit's document; the status is
 -- by its rows

@@ -1,7 +1,7 @@
 //! The class of a list's jobs in JUnit's XML.
 
 ghost use Rattle.std.specs.Prelude.{◌≡◌};
-ghost use Rattle.rvtest_app.specs.Said.{junit_class};
+ghost use Rattle.rvtest_app.specs.JunitTexts.{junit_class};
 
 use std::path::Path;
 

@@ -8,7 +8,7 @@ ghost use Rattle.rvtest_app.specs.Commands.{failure_rule};
 ghost use Rattle.rv_report.specs.Report.{report_text};
 ghost use Rattle.rvtest_app.specs.Merges.{AreTextsAt, IsMergedAt, merged_class, merged_report_path};
 ghost use Rattle.rvtest_app.specs.Puts.{WentOut};
-ghost use Rattle.rvtest_app.specs.Said.{failures_junit};
+ghost use Rattle.rvtest_app.specs.JunitTexts.{failures_junit};
 ghost use Rattle.rvtest_app.specs.RunOutput.{rows_status};
 ghost use Rattle.rv_command.specs.Texts.{optional_text};
 

@@ -1,7 +1,7 @@
 //! The whole program, over files, sinks and terminals.
 
-ghost use Rattle.std.specs.Prelude.{◌≤◌, IfOk};
-ghost use Rattle.rvtest_app.specs.Answers.{IsDone};
+ghost use Rattle.std.specs.Prelude.{◌≤◌, IfOk, map};
+ghost use Rattle.rvtest_app.specs.Answers.{IsAnswered, IsDone};
 
 use crate::check::check_list;
 use crate::destinations::Destinations;
@@ -40,7 +40,11 @@ pub fn run_rvtest<
     to: Destinations<F, O, E>,
     terminals: Terminals<P>,
 ) -> (Destinations<F, O, E>, u8)
-    ensures { result.1 ≤ 3 }
+    ensures low { result.1 ≤ 3 }
+    // A status of 0 or 1 says that all went out.
+    ensures answered { result.1 ≤ 1 → IsAnswered (D.contents host.now.inputs.now) (map T.text words.entry.now)
+        result.1 (O.taken to.out) (O.taken result.0.out) (E.taken to.errors) (E.taken result.0.errors)
+        (F.placed to.files) (F.placed result.0.files) }
 {
     let (mut to, answer) = answer_words(host, words, to, terminals);
     match answer {
@@ -67,7 +71,10 @@ fn answer_words<
     to: Destinations<F, O, E>,
     terminals: Terminals<P>,
 ) -> (Destinations<F, O, E>, Result<u8, Stop>)
-    ensures { IfOk result.1 (λ status. status ≤ 2) }
+    ensures low { IfOk result.1 (λ status. status ≤ 2) }
+    ensures answered { IfOk result.1 (λ status. IsAnswered (D.contents host.now.inputs.now)
+        (map T.text words.entry.now) status (O.taken to.out) (O.taken result.0.out)
+        (E.taken to.errors) (E.taken result.0.errors) (F.placed to.files) (F.placed result.0.files)) }
 {
     match read_words(host.alloc, words) {
         Ok(Some(asked)) => run_subcommand(host, asked, to, terminals),

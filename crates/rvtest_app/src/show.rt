@@ -4,7 +4,7 @@ ghost use Rattle.std.specs.Prelude.{◌≡◌, ◌≤◌, ◌<◌, ◌^◌, None
 ghost use Rattle.rv_command.specs.Texts.{optional_text};
 ghost use Rattle.rv_report.specs.Report.{report_text};
 ghost use Rattle.rvtest_app.specs.Puts.{WentOut};
-ghost use Rattle.rvtest_app.specs.Said.{failures_junit, junit_class};
+ghost use Rattle.rvtest_app.specs.JunitTexts.{failures_junit, junit_class};
 ghost use Rattle.rvtest_app.specs.Commands.{failure_rule};
 ghost use Rattle.rvtest_app.specs.RunOutput.{rows_status};
 ghost use Rattle.rvtest_app.specs.ReportSummary.{summary_text};

@@ -4,7 +4,7 @@ ghost use Rattle.std.specs.Prelude.{◌≡◌, ◌++◌, [], ℕ, List, Option, 
 ghost use Rattle.std.specs.Io.KnownBytes.{Appends};
 ghost use Rattle.rv_report.specs.Report.{report_text};
 ghost use Rattle.rvtest_app.specs.Outlets.{ArePlaced, HasTaken, file_at, has_no_failure, stdout_at};
-ghost use Rattle.rvtest_app.specs.Said.{failures_junit};
+ghost use Rattle.rvtest_app.specs.JunitTexts.{failures_junit};
 
 use crate::destinations::Destinations;
 use crate::failed_lines::FailedLines;
