@@ -1,2 +1,3 @@
-pub mod Counted
+mod Counted
 mod Names
+pub mod Public

@@ -37,6 +37,7 @@ pub fn read_file<D: Inputs>(inputs: &D, alloc: Global, path: &str) -> Result<Vec
 {
     match read_file_up_to(inputs, alloc, path, MOST_OF_MEMORY)? {
         Some(bytes) => Ok(bytes),
+        // Out of memory: the file has more bytes than there are addresses.
         None => Err(Stop::OutOfMemory),
     }
 }

@@ -1,5 +1,5 @@
 use Rattle.std.proofs.Common.{◌∙◌, ap, length}
-use Rattle.rv_choice.proofs.Counted.{choice_count}
+use Rattle.rv_choice.proofs.Public.{choice_count}
 use Rattle.rvtest_app.proofs.run.ListRun.jobs_of_choice.Goals as goal
 
 pub invariant_of-result : goal.invariant_of-result
