@@ -14,7 +14,7 @@ abbrev pub optional_text : Option (Bor (List ℕ)) → Option (List ℕ)
 optional_text text = option_map (λ text. text.now) text
 
 -- the report that a text is, of which there is at most one
-pub record IsReportOf (bytes : List ℕ) (report : SavedReport) : Type 0 where
+pub record IsReportText (bytes : List ℕ) (report : SavedReport) : Type 0 where
   pub saved : IsSaved report
   pub text : saved_text report ≡ bytes
 
@@ -22,4 +22,4 @@ pub record IsReportOf (bytes : List ℕ) (report : SavedReport) : Type 0 where
 pub record IsReportAt (known : Option FileContents) (path : List ℕ) (report : SavedReport) : Type 0 where
   pub bytes : List ℕ
   pub read : IsTextAt known path bytes
-  pub of : IsReportOf bytes report
+  pub of : IsReportText bytes report

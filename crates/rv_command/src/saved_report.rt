@@ -2,7 +2,7 @@
 
 ghost use Rattle.std.specs.Prelude.{◌≡◌, ◌≤◌, IfOk, length};
 ghost use Rattle.rv_base.specs.Limits.{most_jobs};
-ghost use Rattle.rv_command.specs.Texts.{IsReportAt, IsReportOf};
+ghost use Rattle.rv_command.specs.Texts.{IsReportAt, IsReportText};
 
 use crate::files::read_file;
 use crate::messages::{path_message, path_number_message};
@@ -26,7 +26,7 @@ pub fn read_report_file<D: Inputs>(
 
 /// The report that a text is, which was read at a path.
 pub fn parse_report(alloc: Global, path: &str, text: &[u8]) -> Result<SavedReport, Stop>
-    ensures report { IfOk result (IsReportOf text.now) }
+    ensures report { IfOk result (IsReportText text.now) }
     ensures few { IfOk result (λ report. length report.rows ≤ most_jobs) }
 {
     match read_report(alloc, text) {

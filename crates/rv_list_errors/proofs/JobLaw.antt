@@ -15,7 +15,7 @@ use Rattle.rv_list_errors.specs.declared.headers.scan.Next.{Next}
 use Rattle.rv_list_errors.specs.declared.headers.scan.Next.TheVariants.{Element, Table, Top}
 use Rattle.rv_list_errors.specs.JobBegins.{BeginsWithElement, BeginsWithJobHeader, IsInJobArray, IsLineOfJob, behind, opened}
 use Rattle.rv_list_errors.specs.JobPlaces.{Step, array_header, behind_comma, behind_equals, behind_line, behind_value, element}
-use Rattle.rv_list_errors.specs.JobPlaces.{entry, header, is_job, is_top, job_lines, jobs_from, jobs_of_step}
+use Rattle.rv_list_errors.specs.JobPlaces.{header, is_job, is_top, job_lines, jobs_from, jobs_of_step, keyed_entry}
 use Rattle.rv_list_errors.specs.JobPlaces.{jobs_of_text, line_of_rest, step, table_header}
 use Rattle.rv_list_errors.proofs.Tails.{IsEnd, LeavesEnd, behind_comma-end, behind_equals-end, behind_line-end, behind_value-end}
 use Rattle.rv_list_errors.proofs.Tails.{end_drop, end_of_end, key-end, skip_bom-end, skip_from-end, skip_ws-end}
@@ -112,8 +112,8 @@ equals_read text name read is open_now =
     ]
 
 entry-is : (list text : List ℕ) (next : Next) → ((rest : List ℕ) → Comes list next rest) → IsEnd list text →
-    IfSome (entry next text) (StepIs list text)
-unfolding entry
+    IfSome (keyed_entry next text) (StepIs list text)
+unfolding keyed_entry
 entry-is list text next comes ends =
     some_then (LeavesEnd text) (StepIs list text) (key text)
     (λ name. let value = behind_equals name.1 in
@@ -171,10 +171,10 @@ step-is : (list text : List ℕ) (next : Next) → IsEnd list text → Comes lis
 unfolding step
 step-is list text Element ends comes = element-is list text comes
 step-is list text Top ends comes =
-    some_either (StepIs list text) (first text == left_bracket) (header text) (entry Top text) (λ one. header-is list text one)
+    some_either (StepIs list text) (first text == left_bracket) (header text) (keyed_entry Top text) (λ one. header-is list text one)
     (λ _. entry-is list text Top (λ rest. tt) ends)
 step-is list text Table ends comes =
-    some_either (StepIs list text) (first text == left_bracket) (header text) (entry Table text) (λ one. header-is list text one)
+    some_either (StepIs list text) (first text == left_bracket) (header text) (keyed_entry Table text) (λ one. header-is list text one)
     (λ _. entry-is list text Table (λ rest. tt) ends)
 
 -- the end of a list at which a job begins

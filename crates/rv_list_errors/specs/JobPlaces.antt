@@ -106,8 +106,8 @@ is_top Table = false
 is_top Element = false
 
 -- above the first header an array of `job` is the list: its elements come next
-unfoldable pub entry : Next → List ℕ → Option Step
-entry next text = key text >>= (λ name. let value = behind_equals name.1 in
+unfoldable pub keyed_entry : Next → List ℕ → Option Step
+keyed_entry next text = key text >>= (λ name. let value = behind_equals name.1 in
     if (is_job name.0 && is_top next) && first value == left_bracket
     then Some (false, Element, skip_blank (drop 1 value))
     else option_map (λ rest. (false, next, behind_line rest)) (behind_value value))
@@ -119,7 +119,7 @@ element text =
     else option_map (λ rest. (true, Element, behind_comma rest)) (behind_value text)
 
 abbrev pub header_or_entry : Next → List ℕ → Option Step
-header_or_entry next text = if first text == left_bracket then header text else entry next text
+header_or_entry next text = if first text == left_bracket then header text else keyed_entry next text
 
 unfoldable pub step : Next → List ℕ → Option Step
 step Element text = element text

@@ -5,7 +5,7 @@ use Rattle.std.proofs.lemmas.Grind.{common_steps}
 use Rattle.std.specs.Io.KnownBytes.{Appends}
 use Rattle.rv_base.specs.Sinks.{AppendsBeginning}
 use Rattle.rv_files.specs.Placed.{PlacedFile}
-use Rattle.rvtest_app.specs.Outlets.{ArePlaced, HasTaken, IsPutInto, both_files, file_at, files_of, has_no_failure, is_out, is_stdout, is_stdout_at}
+use Rattle.rvtest_app.specs.Outlets.{AreFilesPlaced, HasTaken, IsPutInto, both_files, file_at, files_of, has_no_failure, is_out, is_stdout, is_stdout_at}
 use Rattle.rvtest_app.specs.Outlets.{stdout_at, stdout_part}
 use Rattle.rv_report.specs.declared.row.Row.{Row}
 use Rattle.rv_stream.specs.Streams.{row_text_list}
@@ -73,8 +73,8 @@ module _ {P W : Type 0} (place_path : P → List ℕ) (taken : W → Option (Lis
       → HasTaken place_path taken failed before junit_path [] junit
       → HasTaken place_path taken failed before report_path [] report
       → IsPutInto taken failed junit junit_after junit_text → IsPutInto taken failed report report_after report_text
-      → ArePlaced before after (both_files (files_of place_path taken junit_after) (files_of place_path taken report_after))
-      → ArePlaced before after (Some (file_at junit_path junit_text ++ file_at report_path report_text))
+      → AreFilesPlaced before after (both_files (files_of place_path taken junit_after) (files_of place_path taken report_after))
+      → AreFilesPlaced before after (Some (file_at junit_path junit_text ++ file_at report_path report_text))
   both_placed None after junit_path report_path junit junit_after report report_after jt rt hj hr pj pr are = tt
   both_placed (Some placed) after junit_path report_path junit junit_after report report_after jt rt hj hr pj pr are =
       rw (

@@ -85,8 +85,8 @@ module _ {P S : Type 0} where
       option_map (λ bytes. record { path = place_path file.place; bytes = bytes } ∷ []) (bytes file.file)
 
 -- files were put in their places, behind those that stood there
-abbrev pub ArePlaced : Option (List PlacedFile) → Option (List PlacedFile) → Option (List PlacedFile) → Type 0
-ArePlaced before after files = IfSome before (λ earlier. IfSome files (λ files. after ≡ Some (earlier ++ files)))
+abbrev pub AreFilesPlaced : Option (List PlacedFile) → Option (List PlacedFile) → Option (List PlacedFile) → Type 0
+AreFilesPlaced before after files = IfSome before (λ earlier. IfSome files (λ files. after ≡ Some (earlier ++ files)))
 
 -- the files of the first and then those of the second
 abbrev pub both_files : Option (List PlacedFile) → Option (List PlacedFile) → Option (List PlacedFile)

@@ -7,7 +7,7 @@ use Rattle.rv_junit.specs.Junit.{junit_text}
 use Rattle.rv_report.specs.declared.row.Row.{Row}
 use Rattle.rv_stream.specs.Streams.{row_text_list}
 use Rattle.rvtest_app.specs.declared.file_texts.FileTexts.{FileTexts}
-use Rattle.rvtest_app.specs.Outlets.{ArePlaced, file_at, is_stdout_at, stdout_at}
+use Rattle.rvtest_app.specs.Outlets.{AreFilesPlaced, file_at, is_stdout_at, stdout_at}
 use Rattle.rvtest_app.specs.ReportTexts.{report_rows}
 
 -- the text went to standard error, or a beginning of it, where a file goes to standard output; else it went there
@@ -30,4 +30,4 @@ pub record WentOut (report_path junit_path : Option (List ℕ)) (shown report ju
   pub middle : Option (List ℕ)
   pub seen : IsShown (is_stdout_at report_path || is_stdout_at junit_path) shown out_before middle errors_before errors_after
   pub out : Appends middle out_after (stdout_at junit_path junit ++ stdout_at report_path report)
-  pub placed : ArePlaced placed_before placed_after (Some (file_at junit_path junit ++ file_at report_path report))
+  pub placed : AreFilesPlaced placed_before placed_after (Some (file_at junit_path junit ++ file_at report_path report))

@@ -6,7 +6,7 @@ use Rattle.rv_base.specs.Files.{FileContents}
 use Rattle.rv_cli.specs.declared.rvtest.check.CheckAsked.{CheckAsked}
 use Rattle.rv_cli.specs.declared.rvtest.diff.DiffAsked.{DiffAsked}
 use Rattle.rv_cli.specs.declared.rvtest.explain.ExplainAsked.{ExplainAsked}
-use Rattle.rv_command.specs.Texts.{IsReportOf, IsTextAt, optional_text}
+use Rattle.rv_command.specs.Texts.{IsReportText, IsTextAt, optional_text}
 use Rattle.rv_diff.specs.Diff.{counts_of_differing, diff_text}
 use Rattle.rv_diff.specs.declared.change.Compare.{Compare}
 use Rattle.rv_diff.specs.declared.change.Compare.TheVariants.{Outcomes, Steps}
@@ -35,9 +35,9 @@ requested_comparison false = Outcomes
 -- the output and the status are those of the rows of the reports that two texts are
 pub record IsDiffOf (compare : Compare) (old new output : List ℕ) (status : ℕ) : Type 0 where
   pub before : SavedReport
-  pub before_is : IsReportOf old before
+  pub before_is : IsReportText old before
   pub after : SavedReport
-  pub after_is : IsReportOf new after
+  pub after_is : IsReportText new after
   pub text : output ≡ diff_text compare before.rows after.rows
   pub judged : status ≡ diff_status (counts_of_differing compare before.rows after.rows)
 

@@ -74,7 +74,7 @@ run_telling words plan unread = record {
 
 -- over such a plan, the rows of the jobs at some places went out as words ask for them: their lines with the totals, the
 -- report, and JUnit's document; the status is by these rows
-pub record IsRunOf (known : Option FileContents) (words : RunAsked) (jobs : List Job) (places : List ℕ)
+pub record IsRunOfPlaces (known : Option FileContents) (words : RunAsked) (jobs : List Job) (places : List ℕ)
     (shard : Option Shard) (status : ℕ) (out_before out_after errors_before errors_after : Option (List ℕ))
     (placed_before placed_after : Option (List PlacedFile)) : Type 0 where
   pub plan : Planned
@@ -96,7 +96,7 @@ IsRunOfMarked known words jobs None shard status out_before out_after errors_bef
     (status ≡ 0) × (out_after ≡ out_before) × (errors_after ≡ errors_before) × (placed_after ≡ placed_before)
 IsRunOfMarked known words jobs (Some marks) shard status
     out_before out_after errors_before errors_after placed_before placed_after =
-    IsRunOf known words jobs (places_of_marks marks) shard status
+    IsRunOfPlaces known words jobs (places_of_marks marks) shard status
     out_before out_after errors_before errors_after placed_before placed_after
 
 -- a run of what words ask for: what is said of the choice goes to standard error, and then the jobs run

@@ -4,7 +4,7 @@ ghost use Rattle.std.specs.Prelude.{◌≡◌, [], Some, false, IfOk, IsErr, IsO
 ghost use Rattle.std.specs.Io.KnownBytes.{Appends};
 ghost use Rattle.rv_base.specs.Sinks.{AppendsBeginning};
 ghost use Rattle.rv_command.specs.Texts.{optional_text};
-ghost use Rattle.rvtest_app.specs.Outlets.{ArePlaced, HasTaken, IsPutInto, both_files, files_of, has_no_failure, is_out, is_stdout};
+ghost use Rattle.rvtest_app.specs.Outlets.{AreFilesPlaced, HasTaken, IsPutInto, both_files, files_of, has_no_failure, is_out, is_stdout};
 ghost use Rattle.rvtest_app.specs.Outlets.{stdout_part, synced_files, uses_stdout};
 ghost use Rattle.rv_junit.specs.Junit.{junit_text};
 ghost use Rattle.rv_stream.specs.Streams.{row_text_list};
@@ -231,7 +231,7 @@ pub(crate) fn place_outlets<F: Outputs>(
 ) -> Result<(), Stop>
     requires report { has_no_failure F.File.failed outlets.report }
     requires junit { has_no_failure F.File.failed outlets.junit }
-    ensures { OnOk result (ArePlaced (F.placed files.old) (F.placed files.new)
+    ensures { OnOk result (AreFilesPlaced (F.placed files.old) (F.placed files.new)
         (both_files (files_of F.place_path F.File.taken outlets.entry.junit)
         (files_of F.place_path F.File.taken outlets.entry.report))) }
 {
@@ -289,7 +289,7 @@ fn place_both<F: Outputs>(
     first: Option<SyncedFile<'_, F::Place, F::Synced>>,
     second: Option<SyncedFile<'_, F::Place, F::Synced>>,
 ) -> Result<(), Stop>
-    ensures { OnOk result (ArePlaced (F.placed files.old) (F.placed files.new)
+    ensures { OnOk result (AreFilesPlaced (F.placed files.old) (F.placed files.new)
         (both_files (synced_files F.place_path F.synced_bytes first.entry)
         (synced_files F.place_path F.synced_bytes second.entry))) }
 {
@@ -307,7 +307,7 @@ fn place_synced<F: Outputs>(
     alloc: Global,
     synced: Option<SyncedFile<'_, F::Place, F::Synced>>,
 ) -> Result<(), Stop>
-    ensures placed { OnOk result (ArePlaced (F.placed files.old) (F.placed files.new)
+    ensures placed { OnOk result (AreFilesPlaced (F.placed files.old) (F.placed files.new)
         (synced_files F.place_path F.synced_bytes synced.entry)) }
     ensures same { OnErr result (F.placed files.new ≡ F.placed files.old) }
 {

@@ -2,7 +2,7 @@
 
 ghost use Rattle.std.specs.Prelude.{◌≡◌, ◌++◌, [], ℕ, List, Option, OnOk, Some};
 ghost use Rattle.std.specs.Io.KnownBytes.{Appends};
-ghost use Rattle.rvtest_app.specs.Outlets.{ArePlaced, HasTaken, IsPutInto, file_at, has_no_failure, stdout_at, stdout_part};
+ghost use Rattle.rvtest_app.specs.Outlets.{AreFilesPlaced, HasTaken, IsPutInto, file_at, has_no_failure, stdout_at, stdout_part};
 ghost use Rattle.rvtest_app.specs.Puts.{IsShown, junit_of};
 ghost use Rattle.rvtest_app.specs.ReportTexts.{report_text_of};
 
@@ -51,7 +51,7 @@ pub(crate) fn put_files<F: Outputs + Drop, O: Sink + Drop, E: Sink + Drop, T: Te
     ensures placed { (report_path junit_path : Option (List ℕ))
         → HasTaken F.place_path F.File.taken F.File.failed (F.placed to.old.files) report_path [] outlets.entry.report
         → HasTaken F.place_path F.File.taken F.File.failed (F.placed to.old.files) junit_path [] outlets.entry.junit
-        → OnOk result (ArePlaced (F.placed to.old.files) (F.placed to.new.files)
+        → OnOk result (AreFilesPlaced (F.placed to.old.files) (F.placed to.new.files)
         (Some (file_at junit_path (junit_of T.line texts.entry) ++ file_at report_path (report_text_of texts.entry.report)))) }
 {
     let mut outlets = outlets;

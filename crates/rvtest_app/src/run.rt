@@ -15,7 +15,7 @@ ghost use Rattle.rv_lists.specs.declared.job.Job.{Job as AJob};
 ghost use Rattle.rv_merge.specs.Shards.{shard_marks};
 ghost use Rattle.rv_rows.specs.Rows.{rows_at};
 ghost use Rattle.rvtest_app.specs.Commands.{failure_rule, requested_verbosity};
-ghost use Rattle.rvtest_app.specs.Outlets.{ArePlaced, HasTaken, file_at, has_no_failure, stdout_at};
+ghost use Rattle.rvtest_app.specs.Outlets.{AreFilesPlaced, HasTaken, file_at, has_no_failure, stdout_at};
 ghost use Rattle.rvtest_app.specs.Puts.{IsShown, WentOut};
 ghost use Rattle.rvtest_app.specs.RunOutput.{chosen_report_text, rows_status, run_output_text};
 ghost use Rattle.rvtest_app.specs.Runs.{AreRequestedJobs, IsRunAt, IsRunOfMarked, run_junit};
@@ -345,7 +345,7 @@ impl<'x, R: Threads + Wait + Sync + Clock, D: Inputs> ListRun<'x, R, D> {
         ensures placed { (report_path junit_path : Option (List ℕ))
             → HasTaken F.place_path F.File.taken F.File.failed (F.placed to.old.files) report_path [] outlets.entry.report
             → HasTaken F.place_path F.File.taken F.File.failed (F.placed to.old.files) junit_path [] outlets.entry.junit
-            → OnOk result (ArePlaced (F.placed to.old.files) (F.placed to.new.files)
+            → OnOk result (AreFilesPlaced (F.placed to.old.files) (F.placed to.new.files)
             (Some (file_at junit_path (run_junit self.now.asked.now.list.now (telling_of planned.entry.telling.now)
             planned.entry.places.now rows) ++ file_at report_path (chosen_report_text
             (length planned.entry.telling.now.plan.now.jobs) planned.entry.places.now shard rows)))) }

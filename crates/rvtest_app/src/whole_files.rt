@@ -3,7 +3,7 @@
 ghost use Rattle.std.specs.Prelude.{◌≡◌, ◌++◌, [], ℕ, List, Option, OnOk, Some};
 ghost use Rattle.std.specs.Io.KnownBytes.{Appends};
 ghost use Rattle.rv_report.specs.Report.{report_text};
-ghost use Rattle.rvtest_app.specs.Outlets.{ArePlaced, HasTaken, file_at, has_no_failure, stdout_at};
+ghost use Rattle.rvtest_app.specs.Outlets.{AreFilesPlaced, HasTaken, file_at, has_no_failure, stdout_at};
 ghost use Rattle.rvtest_app.specs.JunitTexts.{failures_junit};
 
 use crate::destinations::Destinations;
@@ -39,7 +39,7 @@ pub(crate) fn put_whole_files<F: Outputs + Drop, O: Sink + Drop, E: Sink + Drop>
     ensures placed { (report_path junit_path : Option (List ℕ))
         → HasTaken F.place_path F.File.taken F.File.failed (F.placed to.old.files) report_path [] outlets.entry.report
         → HasTaken F.place_path F.File.taken F.File.failed (F.placed to.old.files) junit_path [] outlets.entry.junit
-        → OnOk result (ArePlaced (F.placed to.old.files) (F.placed to.new.files)
+        → OnOk result (AreFilesPlaced (F.placed to.old.files) (F.placed to.new.files)
         (Some (file_at junit_path (failures_junit suite.entry.name.now suite.entry.rule rows)
         ++ file_at report_path (report_text rows)))) }
 {

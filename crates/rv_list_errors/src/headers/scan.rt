@@ -159,9 +159,9 @@ fn scan_table_header(alloc: Global, inside: &str) -> Result<Step<'_>, ParseError
 }
 
 // At the top, an array of `job` is the list: its elements come next.
-#[tactic(auto, unfolding(crate::specs::JobPlaces::entry))]
+#[tactic(auto, unfolding(crate::specs::JobPlaces::keyed_entry))]
 fn scan_entry(alloc: Global, text: &str, next: Next) -> Result<Step<'_>, ParseError>
-    ensures step { GivesStep result (spec.entry next text.now) }
+    ensures step { GivesStep result (spec.keyed_entry next text.now) }
     ensures shorter { IfOk result (λ step. length step.rest.now < length text.now) }
 {
     let (is_job, rest) = scan_key(alloc, text)?;
