@@ -39,9 +39,8 @@ REPORTS = {
 }
 
 
-def check_words(row):
-    """The status of words, what goes out, what is said, and files that are written, each with its last line."""
-    words = row["words"]
+def write_all(row):
+    """Makes the images, lists and reports that words name."""
     for folder in ("fw", "out"):
         (row.folder / folder).mkdir()
     for name, words_of_image in IMAGES.items():
@@ -50,6 +49,12 @@ def check_words(row):
         row.write(name, text)
     for name, text in REPORTS.items():
         row.write(name, report_bytes(text))
+
+
+def check_words(row):
+    """The status of words, what goes out, what is said, and files that are written, each with its last line."""
+    words = row["words"]
+    write_all(row)
     out = report_bytes(row["shown"]) if row["shown"] else ""
     shape = squeezed if words.startswith("explain") else bytes
     row.wants(words.split(), int(row["status"]), out, lines(*lines_in(row["said"])), shape)
@@ -57,6 +62,19 @@ def check_words(row):
         found = (row.folder / name).read_text(encoding="utf-8").splitlines()[-1]
         if found != last:
             raise ValueError(f"{name} ends with {found}, and not with {last}")
+
+
+def check_full_disk(row):
+    """What is said where standard output takes no byte, and which files are there all the same."""
+    write_all(row)
+    words = row["words"].split()
+    status, said = row.run_onto_full_disk(words)
+    wanted = lines(*lines_in(row["said"]), "rvtest: the results: write failed").encode()
+    if (status, said) != (3, wanted):
+        row.fails(words, (3, b"", wanted), (status, b"", said))
+    for name in row["not_there"].split():
+        if (row.folder / name).exists():
+            raise ValueError(f"{name} is there")
 
 
 # ---- words that are refused, and help
@@ -110,6 +128,7 @@ def fronts(out):
 
 FORMS = {
     "choices": Form(check_choice, "jobs words failed status chosen said"),
+    "full": Form(check_full_disk, "words said not_there"),
     "help": Form(check_help, "words shown"),
     "lines": Form(check_lines, "list begins"),
     "misused": Form(check_misused, "words begins has"),

@@ -4,7 +4,6 @@ What is there stands in words: `report=old` is a file with a text, `last>report`
 `~null` what is neither file nor folder. The text `new` is that of the run's report.
 """
 import os
-import subprocess
 
 import images
 from rows import Form, lines
@@ -57,10 +56,9 @@ def check_place(row):
         row.wants(words, 0, lines(SHOWN))
     elif told == "full":
         # Standard output is full: the report is not put in its place.
-        with open("/dev/full", "wb") as full:
-            done = subprocess.run([row.rvtest, *words], cwd=row.folder, stdout=full, stderr=subprocess.PIPE, check=False)
-        if done.returncode != 3:
-            raise ValueError(f"status {done.returncode}, {done.stderr}")
+        status, said = row.run_onto_full_disk(words)
+        if status != 3:
+            raise ValueError(f"status {status}, {said}")
     else:
         row.wants(words, 3, lines(SHOWN) if path == "/dev/full" else "", lines(f"rvtest: {path}: {told}"))
     for word in row["then"].split():

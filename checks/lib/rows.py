@@ -48,14 +48,20 @@ class Row:
         """Makes a file."""
         (self.folder / name).write_bytes(as_bytes(data))
 
-    def run(self, words):
-        """Runs the program: its status, its output, and what it says beside that."""
+    def run(self, words, out=subprocess.PIPE):
+        """Runs the program: its status, its output where that is not a file, and what it says beside that."""
         # To become another user takes longer than most runs, so that is done beside the file that nobody may read alone.
         user = USER if (self.folder / "secret").exists() else {}
         done = subprocess.run(
-            [self.rvtest, *words], cwd=self.folder, stdin=subprocess.DEVNULL, capture_output=True, check=False, **user
+            [self.rvtest, *words], cwd=self.folder, stdin=subprocess.DEVNULL, stdout=out, stderr=subprocess.PIPE, check=False, **user
         )
         return done.returncode, done.stdout, done.stderr
+
+    def run_onto_full_disk(self, words):
+        """Runs the program with a standard output that takes no byte: its status, and what it says beside that."""
+        with open("/dev/full", "wb") as full:
+            status, _, said = self.run(words, full)
+        return status, said
 
     def wants(self, words, status, out, errors="", shape=bytes):
         """Runs the program, and compares its output in a shape, what it says beside that, and its status."""

@@ -19,9 +19,9 @@ use rv_command::{Stop, read_report_file};
 use rv_expect::Rule;
 use rv_files::Inputs;
 use rv_jobs::Job;
-use rv_list_errors::nearest_job;
+use rv_list_errors::near_job;
 use rv_rows::Row;
-use rv_text::{Span, text_of_spans};
+use rv_text::{Span, push_spans, push_text, text_of_spans};
 use std::alloc::{AllocError, Global};
 
 /// What chooses the jobs of a list: words, and by which rule the jobs of a report failed.
@@ -170,7 +170,7 @@ fn requested_names<'a>(asked: &'a RunAsked<'_>) -> Option<&'a [&'a str]>
     }
 }
 
-/// That no job of a list has a name, and which name is nearest.
+/// That no job of a list has a name, and which name is nearest, or which names there are where none is near.
 pub fn unknown_name_stop(alloc: Global, list: &str, jobs: &[Job], name: &str) -> Stop {
     Stop::of_refusal(unknown_name_message(alloc, list, jobs, name))
 }
@@ -181,34 +181,48 @@ fn unknown_name_message(
     jobs: &[Job],
     name: &str,
 ) -> Result<Vec<u8>, AllocError> {
-    match nearest_job(alloc, jobs, name)? {
-        Some(place) => {
-            let near = jobs[place].name.as_str();
-            no_such_job_message(alloc, list, name, "; the nearest name is ", near)
-        }
-        None => no_such_job_message(alloc, list, name, "", ""),
-    }
-}
-
-fn no_such_job_message<'a>(
-    alloc: Global,
-    list: &'a str,
-    name: &'a str,
-    but: &'a str,
-    near: &'a str,
-) -> Result<Vec<u8>, AllocError> {
-    text_of_spans(
+    let mut message = text_of_spans(
         alloc,
         &[
             Span::Text("rvtest: "),
             Span::Shown(list.as_bytes()),
             Span::Text(": no job is called "),
             Span::Value(name.as_bytes()),
-            Span::Text(but),
-            Span::Text(near),
-            Span::Text("\n"),
         ],
-    )
+    )?;
+    match near_job(alloc, jobs, name)? {
+        Some(place) => {
+            let near = jobs[place].name.as_str();
+            push_spans(
+                &mut message,
+                &[Span::Text("; the nearest name is "), Span::Text(near)],
+            )?;
+        }
+        None => push_job_names(&mut message, jobs)?,
+    }
+    push_text(&mut message, "\n")?;
+    Ok(message)
+}
+
+// How many names are told at most.
+const MOST_TOLD: usize = 20;
+
+// Appends the names of jobs, the first of them where there are many, and how many there are beside them.
+fn push_job_names(message: &mut Vec<u8>, jobs: &[Job]) -> Result<(), AllocError> {
+    let told = jobs.len().min(MOST_TOLD);
+    for (place, job) in jobs[..told].iter().enumerate() {
+        let before = match place {
+            0 => "; the names are ",
+            _ if place + 1 == jobs.len() => " and ",
+            _ => ", ",
+        };
+        push_spans(message, &[Span::Text(before), Span::Text(job.name.as_str())])?;
+    }
+    if told < jobs.len() {
+        let left = (jobs.len() - told) as u64;
+        push_spans(message, &[Span::Text(" and "), Span::Number(left), Span::Text(" more")])?;
+    }
+    Ok(())
 }
 
 fn compile_pattern(alloc: Global, text: &str) -> Result<Regex, Stop>

@@ -41,8 +41,18 @@ fn console_or_end_explanation(table: &Table) -> Told {
         Some(_) if is_file => Told::Text(BOTH),
         Some(text) if MOST_CONSOLE < text.len() => Told::Wanted(&EXPECT_CONSOLE),
         None if has_bad_path(table, "expect_console_file") => Told::Wanted(&EXPECT_CONSOLE_FILE),
-        _ => Told::Wanted(&EXPECT_END),
+        _ => end_explanation(table),
     }
 }
 
 const BOTH: &str = "expect_console and expect_console_file both stand: one of them is taken";
+
+// An exit is expected by a key of its own.
+fn end_explanation(table: &Table) -> Told {
+    match text_at_key(table, "expect_end") {
+        Some("exit") => Told::Text(EXIT),
+        _ => Told::Wanted(&EXPECT_END),
+    }
+}
+
+const EXIT: &str = "expect_end = \"exit\": an exit is expected by its code: use expect_exit";

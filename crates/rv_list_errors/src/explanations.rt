@@ -161,6 +161,30 @@ pub(crate) const ISA: Wanted = Wanted {
     bytes: Bytes::Untold,
 };
 
+pub(crate) const ISA_WITH_A: Wanted = Wanted {
+    key: "isa",
+    before: "A is not simulated: \"rv32i\", \"rv32im\", \"rv32ic\" or \"rv32imc\" is wanted",
+    rest: Rest::Nothing,
+    behind: "",
+    bytes: Bytes::Untold,
+};
+
+pub(crate) const ISA_WITH_FLOATS: Wanted = Wanted {
+    key: "isa",
+    before: "F and D are not simulated: \"rv32i\", \"rv32im\", \"rv32ic\" or \"rv32imc\" is wanted",
+    rest: Rest::Nothing,
+    behind: "",
+    bytes: Bytes::Untold,
+};
+
+pub(crate) const ISA_OF_64_BITS: Wanted = Wanted {
+    key: "isa",
+    before: "RV64 is not simulated: \"rv32i\", \"rv32im\", \"rv32ic\" or \"rv32imc\" is wanted",
+    rest: Rest::Nothing,
+    behind: "",
+    bytes: Bytes::Untold,
+};
+
 pub(crate) const MISALIGNED: Wanted = Wanted {
     key: "misaligned",
     before: "\"fault\" or \"allow\" is wanted",
@@ -168,6 +192,17 @@ pub(crate) const MISALIGNED: Wanted = Wanted {
     behind: "",
     bytes: Bytes::Untold,
 };
+
+/// What is wanted of the value of a key that takes a few texts alone.
+pub(crate) fn taken_texts(key: &str) -> Option<&'static Wanted> {
+    match key {
+        "load" => Some(&LOAD),
+        "isa" => Some(&ISA),
+        "misaligned" => Some(&MISALIGNED),
+        "expect_end" => Some(&EXPECT_END),
+        _ => None,
+    }
+}
 
 /// Appends what is told.
 pub(crate) fn push_explanation(message: &mut Message, table: &Table, told: Told) {

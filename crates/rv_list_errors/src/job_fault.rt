@@ -2,8 +2,8 @@
 
 use crate::expectation_fault::expectation_explanation;
 use crate::explanations::{
-    BUDGET, IMAGE, INPUT, INPUT_HEX, ISA, LOAD, MISALIGNED, NAME, PAIRS, SIGNATURE, Told,
-    push_explanation,
+    BUDGET, IMAGE, INPUT, INPUT_HEX, ISA, ISA_OF_64_BITS, ISA_WITH_A, ISA_WITH_FLOATS, LOAD, MISALIGNED,
+    NAME, PAIRS, SIGNATURE, Told, push_explanation,
 };
 use crate::keys::push_unknown_job_key;
 use crate::kinds::push_wrong_kind;
@@ -59,10 +59,28 @@ fn key_explanation(table: &Table, what: What) -> Told {
         What::Load => Told::Wanted(&LOAD),
         What::Signature => Told::Wanted(&SIGNATURE),
         What::Expect => expectation_explanation(table),
-        What::Isa => Told::Wanted(&ISA),
+        What::Isa => isa_explanation(table),
         What::Misaligned => Told::Wanted(&MISALIGNED),
         _ => Told::Text(what.name()),
     }
+}
+
+// Of the sets that people ask for most, which part is not simulated.
+fn isa_explanation(table: &Table) -> Told {
+    match text_at_key(table, "isa") {
+        Some(isa) if isa.starts_with("rv64") => Told::Wanted(&ISA_OF_64_BITS),
+        Some(isa) if isa.starts_with("rv32") => match unsimulated_letter(isa) {
+            Some('a') => Told::Wanted(&ISA_WITH_A),
+            Some('f') | Some('d') => Told::Wanted(&ISA_WITH_FLOATS),
+            _ => Told::Wanted(&ISA),
+        },
+        _ => Told::Wanted(&ISA),
+    }
+}
+
+// The first letter of a set of 32 bits that stands for none of I, M and C.
+fn unsimulated_letter(isa: &str) -> Option<char> {
+    isa.chars().skip(4).find(|letter| !matches!(letter, 'i' | 'm' | 'c'))
 }
 
 fn input_explanation(table: &Table) -> Told {

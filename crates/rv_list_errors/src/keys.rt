@@ -1,7 +1,7 @@
 //! Keys that the format does not have.
 
 use crate::message::Message;
-use crate::names::push_nearest_name;
+use crate::names::{near_name, push_names};
 use crate::regions::push_region_number;
 use crate::values::elements_at_key;
 use rv_lists::JOB_KEYS;
@@ -50,7 +50,7 @@ pub(crate) fn push_unknown_key(message: &mut Message, key: &str) {
 }
 
 /// Appends the first key of a job, or of one of its regions, that the format does not have, and those that it has: of the
-/// keys of a job the nearest.
+/// keys of a job the nearest, where one is near.
 pub(crate) fn push_unknown_job_key(message: &mut Message, table: &Table) {
     match unknown_key(table, Owner::Job) {
         Some(key) => {
@@ -61,13 +61,22 @@ pub(crate) fn push_unknown_job_key(message: &mut Message, table: &Table) {
     }
 }
 
-// Appends the key of a job that is nearest to a text.
+// Appends the key of a job that is nearest to a text, or all keys where none is near.
 fn push_nearest_key(message: &mut Message, text: &str) {
     let mut names = [None; 16];
     for at in 0..names.len() {
         names[at] = Some(JOB_KEYS[at].0);
     }
-    push_nearest_name(message, &names, text, ": the nearest key is ");
+    match near_name(message, &names, text) {
+        Some(key) => {
+            message.push(": the nearest key is ");
+            message.push_quoted(key);
+        }
+        None => {
+            message.push(": the keys of a job are ");
+            push_names(message, &names);
+        }
+    }
 }
 
 fn push_unknown_region_key(message: &mut Message, table: &Table) {

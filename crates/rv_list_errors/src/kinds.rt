@@ -1,5 +1,6 @@
 //! Values of another TOML kind than their key has.
 
+use crate::explanations::{Told, push_explanation, taken_texts};
 use crate::message::Message;
 use crate::regions::push_region_number;
 use crate::values::{elements_at_key, push_wanted_value, value_at_key};
@@ -97,10 +98,18 @@ const NUMBER: &str = "a whole number is wanted";
 // Appends the value of a key, which is of another kind than this.
 fn push_value_of_wrong_kind(message: &mut Message, table: &Table, key: &str, kind: Kind) {
     match kind {
-        Kind::Text => push_wanted_value(message, table, key, "a text is wanted"),
+        Kind::Text => push_text_of_wrong_kind(message, table, key),
         Kind::Number => push_wanted_value(message, table, key, NUMBER),
         Kind::Texts => push_wanted_value(message, table, key, "an array of texts is wanted"),
         Kind::Regions => push_regions_of_wrong_kind(message, table, key),
+    }
+}
+
+// Appends the value of a key that wants a text, and which texts it takes, where these are few.
+fn push_text_of_wrong_kind(message: &mut Message, table: &Table, key: &str) {
+    match taken_texts(key) {
+        Some(wanted) => push_explanation(message, table, Told::Wanted(wanted)),
+        None => push_wanted_value(message, table, key, "a text is wanted"),
     }
 }
 

@@ -2,8 +2,8 @@
 //!
 //! [`push_faults`] appends a line for each fault, in the manner of compilers: the file and the line where the job begins, the job's
 //! number and name, the key with the value that was met, and what is taken instead. No contract says what a line tells: the texts
-//! are tested. [`job_line_numbers`] answers where the jobs of a list begin in its text, and [`nearest_job`] the job that is probably meant by a
-//! name that no job has.
+//! are tested. [`job_line_numbers`] answers where the jobs of a list begin in its text, and [`near_job`] the job that is probably meant by a
+//! name that no job has, where one is near.
 #![tactic(auto)]
 
 mod expectation_fault;
@@ -26,4 +26,4 @@ mod values;
 pub use faults::push_faults;
 pub use headers::{Place, job_line_numbers, line_and_column};
 pub use law::job_lines_are_of_headers_and_elements;
-pub use name_search::nearest_job;
+pub use name_search::near_job;

@@ -1,15 +1,48 @@
 //! The job whose name is nearest to a text: the one that a person probably meant.
 
-ghost use Rattle.std.specs.Prelude.{◌≡◌, ◌<◌, IfOk, MatchOption, length};
-ghost use Rattle.rv_list_errors.specs.NearestJob.{IsNearestJob, job_name_distance};
+ghost use Rattle.std.specs.Prelude.{◌≡◌, ◌↔◌, ◌<◌, ℕ, IfOk, IsTrue, MatchOption, length};
+ghost use Rattle.rv_list_errors.specs.NearestJob.{IsNear, IsNearJob, IsNearestJob, job_name_distance};
 
 use rv_lists::Job;
 use std::alloc::{AllocError, Global};
 use strsim::levenshtein;
 
-/// The place of the job whose name is nearest to a text, counted from 0: the first of those from whose names the fewest
-/// characters must be put in, taken out or changed. None where there is no job.
-pub fn nearest_job(alloc: Global, jobs: &[Job], text: &str) -> Result<Option<usize>, AllocError>
+/// The place of the job that a person probably meant by a text, counted from 0: the one whose name is nearest, where at most a third
+/// of the characters of that name differ.
+pub fn near_job(alloc: Global, jobs: &[Job], text: &str) -> Result<Option<usize>, AllocError>
+    ensures { IfOk result (λ near. MatchOption near
+        ((place : ℕ) → IsNearestJob jobs.now text.now place → IsNearJob jobs.now text.now place → ⊥)
+        (λ place. IsNearestJob jobs.now text.now place × IsNearJob jobs.now text.now place)) }
+{
+    match nearest_job(alloc, jobs, text)? {
+        Some(place) if is_job_near(alloc, jobs, text, place)? => Ok(Some(place)),
+        _ => Ok(None),
+    }
+}
+
+fn is_job_near(
+    alloc: Global,
+    jobs: &[Job],
+    text: &str,
+    place: usize,
+) -> Result<bool, AllocError>
+    requires { place < length jobs.now }
+    ensures { IfOk result (λ near. IsTrue near ↔ IsNearJob jobs.now text.now place) }
+{
+    let distance = job_name_distance(alloc, jobs, text, place)?;
+    Ok(is_near(distance, jobs[place].name.as_str()))
+}
+
+/// Whether so many characters that differ are at most a third of a name's. A name is ASCII: a byte is a character.
+pub(crate) fn is_near(distance: usize, name: &str) -> bool
+    ensures { IsTrue result ↔ IsNear distance name.now }
+{
+    distance <= name.len() / 3
+}
+
+// The place of the job whose name is nearest to a text: the first of those from whose names the fewest characters must be put in,
+// taken out or changed. None where there is no job.
+fn nearest_job(alloc: Global, jobs: &[Job], text: &str) -> Result<Option<usize>, AllocError>
     ensures { IfOk result (λ nearest. MatchOption nearest (length jobs.now ≡ 0)
         (λ place. IsNearestJob jobs.now text.now place)) }
 {

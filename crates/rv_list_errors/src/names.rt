@@ -2,6 +2,7 @@
 
 use crate::list::List;
 use crate::message::Message;
+use crate::name_search::is_near;
 use crate::values::{push_key_and_value, text_at_key};
 use rv_lists::limits::MOST_NAME;
 use toml::Table;
@@ -56,24 +57,33 @@ pub(crate) fn push_unknown_same_as(
     }
 }
 
-// Appends which of the jobs before a place has the name that is nearest to one that no job has.
+// Appends which of the jobs before a place has the name that is nearest to one that no job has, or which names they have.
 fn push_nearest_job(message: &mut Message, list: &List<'_>, wanted: Option<&str>, place: usize) {
-    if list.job_number_of_name(wanted).is_none() {
-        let names = list.names.as_slice();
-        let earlier = &names[..place.min(names.len())];
-        push_nearest_name(message, earlier, wanted.unwrap_or(""), "; the nearest is ");
+    if list.job_number_of_name(wanted).is_some() {
+        return;
+    }
+    let names = list.names.as_slice();
+    let earlier = &names[..place.min(names.len())];
+    match near_name(message, earlier, wanted.unwrap_or("")) {
+        Some(name) => {
+            message.push("; the nearest is ");
+            message.push_quoted(name);
+        }
+        None if earlier.is_empty() => {}
+        None => {
+            message.push("; the earlier jobs are ");
+            push_names(message, earlier);
+        }
     }
 }
 
-/// Appends which of these names is the nearest to a text, behind other words, if one is: the first of those from which the fewest
-/// characters must be put in, taken out or changed. What is longer than a name may be is near to nothing, so that a look has its
-/// bound.
-pub(crate) fn push_nearest_name(
+/// The name that is nearest to a text, if one is near: the first of those from which the fewest characters must be put in, taken out or
+/// changed. What is longer than a name may be is near to nothing, so that a look has its bound.
+pub(crate) fn near_name<'a>(
     message: &mut Message,
-    names: &[Option<&str>],
+    names: &[Option<&'a str>],
     text: &str,
-    before: &str,
-) {
+) -> Option<&'a str> {
     let mut nearest = None;
     let mut least = usize::MAX;
     for name in names {
@@ -83,9 +93,34 @@ pub(crate) fn push_nearest_name(
             least = distance;
         }
     }
-    if let Some(name) = nearest {
-        message.push(before);
-        message.push_quoted(name);
+    match nearest {
+        Some(name) if is_near(least, name) => Some(name),
+        _ => None,
+    }
+}
+
+// How many names are told at most.
+const MOST_TOLD: usize = 20;
+
+/// Appends names in quotes, the first of them where there are many, and how many there are beside them.
+pub(crate) fn push_names(message: &mut Message, names: &[Option<&str>]) {
+    let count = names.iter().filter(|name| name.is_some()).count();
+    let mut told = 0;
+    for name in names {
+        if let Some(name) = name
+            && told < MOST_TOLD
+        {
+            message.push(match told {
+                0 => "",
+                _ if told + 1 == count => " and ",
+                _ => ", ",
+            });
+            message.push_quoted(name);
+            told += 1;
+        }
+    }
+    if told < count {
+        message.push_number_between(" and ", (count - told) as u64, " more");
     }
 }
 

@@ -1,5 +1,5 @@
 -- The line that says how many jobs are done, and how many of those failed.
-use Rattle.std.specs.Prelude.{ℕ, Bool, List, Option, Some, None, ◌++◌, ◌==◌, codes, not}
+use Rattle.std.specs.Prelude.{ℕ, Bool, List, Option, Some, None, ◌++◌, ◌-◌, ◌==◌, codes, length, not, slice_get}
 use Rattle.std.specs.Fmt.{decimal}
 
 -- behind the jobs that are done
@@ -14,3 +14,6 @@ progress_text done jobs failed = decimal done ++ codes " of " ++ jobs_and_failed
 abbrev pub is_mid_line : Bool → Option ℕ → Bool
 is_mid_line held None = held
 is_mid_line held (Some last) = not (last == 10)
+
+abbrev pub last_byte : List ℕ → Option ℕ
+last_byte text = slice_get text (length text - 1)

@@ -6,33 +6,34 @@ use crate::progress::Progress;
 use rv_rows::{Row, Telling};
 use std::alloc::{AllocError, Global};
 use std::io::Write;
+use std::sync::Wait;
 use std::time::Clock;
 
 /// Tells what another telling tells, and counts each row that is told.
 #[derive(Drop)]
-pub struct CountingTelling<'a, C: Clock, T: Telling, W: Drop> {
-    clock: &'a C,
+pub struct CountingTelling<'a, R: Clock + Wait, T: Telling, W: Drop> {
+    rt: &'a R,
     telling: &'a T,
     progress: &'a Progress<W>,
 }
 
-impl<'a, C: Clock, T: Telling, W: Write + Drop> CountingTelling<'a, C, T, W> {
+impl<'a, R: Clock + Wait, T: Telling, W: Write + Drop> CountingTelling<'a, R, T, W> {
     pub fn new(
-        clock: &'a C,
+        rt: &'a R,
         telling: &'a T,
         progress: &'a Progress<W>,
-    ) -> CountingTelling<'a, C, T, W>
+    ) -> CountingTelling<'a, R, T, W>
         ensures { result.telling.now ≡ telling.now }
     {
         CountingTelling {
-            clock,
+            rt,
             telling,
             progress,
         }
     }
 }
 
-impl<'a, C: Clock, T: Telling, W: Write + Drop> Telling for CountingTelling<'a, C, T, W> {
+impl<'a, R: Clock + Wait, T: Telling, W: Write + Drop> Telling for CountingTelling<'a, R, T, W> {
     ghost line = { λ counting place row. T.line counting.telling.now place row };
 
     fn push_row_text(
@@ -43,7 +44,7 @@ impl<'a, C: Clock, T: Telling, W: Write + Drop> Telling for CountingTelling<'a, 
         text: &mut Vec<u8>,
     ) -> Result<(), AllocError> {
         self.telling.push_row_text(alloc, place, row, text)?;
-        self.progress.count_row(self.clock, alloc, row);
+        self.progress.count_row(self.rt, alloc, row);
         Ok(())
     }
 }

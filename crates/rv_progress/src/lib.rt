@@ -6,6 +6,7 @@
 
 mod counting_telling;
 mod progress;
+mod tally;
 mod terminal_line;
 mod terminal_sink;
 

@@ -1,7 +1,8 @@
 //! How many jobs are done and failed, and the line that says so.
 
+use crate::tally::Tally;
 use crate::terminal_line::{Counts, Line};
-use rv_expect::{Rule, has_passed};
+use rv_expect::Rule;
 use rv_rows::Row;
 use std::alloc::Global;
 use std::io::Write;
@@ -15,8 +16,8 @@ pub struct Progress<W: Drop> {
     jobs: u64,
     rule: Rule,
     is_terminal: bool,
-    done: AtomicU64,
-    failed: AtomicU64,
+    // A lock of its own: to count waits for no terminal.
+    tally: Mutex<Tally>,
     // The tenth of a second, by the clock, in which the line was shown last.
     tenth: AtomicU64,
     line: Mutex<Line<W>>,
@@ -36,8 +37,7 @@ impl<W: Write + Drop> Progress<W> {
             jobs: jobs as u64,
             rule,
             is_terminal,
-            done: AtomicU64::new(0),
-            failed: AtomicU64::new(0),
+            tally: Mutex::new(Tally::new()),
             tenth: AtomicU64::new(clock_tenths(clock).unwrap_or(0)),
             line: Mutex::new(Line::new(out)),
         }
@@ -49,8 +49,7 @@ impl<W: Write + Drop> Progress<W> {
             jobs: _,
             rule: _,
             is_terminal: _,
-            done: _,
-            failed: _,
+            tally: _,
             tenth: _,
             line,
         } = self;
@@ -61,19 +60,18 @@ impl<W: Write + Drop> Progress<W> {
 
     /// Counts a row. Where a tenth of a second has passed since the line was shown last, and no other thread writes to
     /// the terminal, it is shown again.
-    pub(crate) fn count_row<C: Clock>(&self, clock: &C, alloc: Global, row: &Row) {
+    pub(crate) fn count_row<R: Clock + Wait>(&self, rt: &R, alloc: Global, row: &Row) {
         if !self.is_terminal {
             return;
         }
-        self.done.fetch_add(1, Ordering::SeqCst);
-        if !has_passed(self.rule, row) {
-            self.failed.fetch_add(1, Ordering::SeqCst);
-        }
-        if !self.claim_line_turn(clock) {
+        let mut tally = self.tally.lock(rt);
+        tally.count_row(self.rule, row);
+        drop(tally);
+        if !self.claim_line_turn(rt) {
             return;
         }
         if let Some(mut line) = self.line.try_lock() {
-            line.show_counts(alloc, self.counts());
+            line.show_counts(alloc, self.counts(rt));
         }
     }
 
@@ -85,13 +83,12 @@ impl<W: Write + Drop> Progress<W> {
         }
     }
 
-    /// The failed ones are read first, so that they are never more than those that are done.
-    pub(crate) fn counts(&self) -> Counts {
-        let failed = self.failed.load(Ordering::SeqCst);
+    /// The counts of the rows so far.
+    pub(crate) fn counts<R: Wait>(&self, rt: &R) -> Counts {
+        let tally = *self.tally.lock(rt);
         Counts {
-            done: self.done.load(Ordering::SeqCst),
+            tally,
             jobs: self.jobs,
-            failed,
         }
     }
 

@@ -1,18 +1,18 @@
 //! A line on a terminal.
 
-ghost use Rattle.std.specs.Prelude.{◌≡◌, ◌++◌, ◌∷◌, ◌-◌, IsTrue, OnOk, length, slice_get};
-ghost use Rattle.rv_progress.specs.ProgressLine.{progress_text, is_mid_line};
+ghost use Rattle.std.specs.Prelude.{◌≡◌, ◌++◌, ◌∷◌, IsTrue, OnOk, false};
+ghost use Rattle.rv_progress.specs.ProgressLine.{is_mid_line, last_byte, progress_text};
 
+use crate::tally::Tally;
 use rv_text::{Span, push_spans};
 use std::alloc::{AllocError, Global};
 use std::io::Write;
 
-/// How many jobs are done, and how many of those failed.
+/// How many jobs of a run are done, and how many of those failed.
 #[derive(Clone, Copy)]
 pub(crate) struct Counts {
-    pub(crate) done: u64,
+    pub(crate) tally: Tally,
     pub(crate) jobs: u64,
-    pub(crate) failed: u64,
 }
 
 // Back to the line's beginning, and what stands behind it erased.
@@ -55,27 +55,37 @@ impl<W: Write + Drop> Line<W> {
         }
     }
 
-    /// Takes the line away. Answers whether it stood there.
-    pub(crate) fn take_away(&mut self) -> bool {
-        let was_shown = self.is_shown;
-        if was_shown {
+    pub(crate) fn is_shown(&self) -> bool
+        ensures { result ≡ self.now.is_shown }
+    {
+        self.is_shown
+    }
+
+    /// Takes the line away, where it stands there.
+    pub(crate) fn take_away(&mut self)
+        ensures away { self.new.is_shown ≡ false }
+        ensures held { self.new.is_held ≡ self.old.is_held }
+    {
+        if self.is_shown {
             self.write_and_flush(CLEAR);
             self.is_shown = false;
         }
-        was_shown
     }
 
     /// Other text went to the terminal. Until it ends with a line feed nothing is shown.
     pub(crate) fn note_other_text(&mut self, text: &[u8])
-        ensures { self.new.is_held
-            ≡ is_mid_line self.old.is_held (slice_get text.now (length text.now - 1)) }
+        ensures held { self.new.is_held ≡ is_mid_line self.old.is_held (last_byte text.now) }
+        ensures shown { self.new.is_shown ≡ self.old.is_shown }
     {
         if let Some(last) = text.last() {
             self.is_held = *last != b'\n';
         }
     }
 
-    fn write_and_flush(&mut self, bytes: &[u8]) {
+    fn write_and_flush(&mut self, bytes: &[u8])
+        ensures shown { self.new.is_shown ≡ self.old.is_shown }
+        ensures held { self.new.is_held ≡ self.old.is_held }
+    {
         let _ = self.out.write_all(bytes);
         let _ = self.out.flush();
     }
@@ -84,17 +94,17 @@ impl<W: Write + Drop> Line<W> {
 // Appends the counts, in the place of what stands on the line.
 fn push_progress_text(text: &mut Vec<u8>, counts: Counts) -> Result<(), AllocError>
     ensures { OnOk result (text.new.items
-        ≡ text.old.items ++ 13 ∷ progress_text counts.done counts.jobs counts.failed) }
+        ≡ text.old.items ++ 13 ∷ progress_text counts.tally.done counts.jobs counts.tally.failed) }
 {
     push_spans(
         text,
         &[
             Span::Text("\r"),
-            Span::Number(counts.done),
+            Span::Number(counts.tally.done),
             Span::Text(" of "),
             Span::Number(counts.jobs),
             Span::Text(" jobs done, "),
-            Span::Number(counts.failed),
+            Span::Number(counts.tally.failed),
             Span::Text(" failed"),
         ],
     )
