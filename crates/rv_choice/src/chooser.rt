@@ -181,7 +181,25 @@ fn unknown_name_message(
     jobs: &[Job],
     name: &str,
 ) -> Result<Vec<u8>, AllocError> {
-    let mut message = text_of_spans(
+    let mut message = no_such_job_message(alloc, list, name)?;
+    match near_job(alloc, jobs, name)? {
+        Some(place) => {
+            let near = jobs[place].name.as_str();
+            let spans = [Span::Text("; the nearest name is "), Span::Text(near)];
+            push_spans(&mut message, &spans)?;
+        }
+        None => push_job_names(&mut message, jobs)?,
+    }
+    push_text(&mut message, "\n")?;
+    Ok(message)
+}
+
+fn no_such_job_message<'a>(
+    alloc: Global,
+    list: &'a str,
+    name: &'a str,
+) -> Result<Vec<u8>, AllocError> {
+    text_of_spans(
         alloc,
         &[
             Span::Text("rvtest: "),
@@ -189,19 +207,7 @@ fn unknown_name_message(
             Span::Text(": no job is called "),
             Span::Value(name.as_bytes()),
         ],
-    )?;
-    match near_job(alloc, jobs, name)? {
-        Some(place) => {
-            let near = jobs[place].name.as_str();
-            push_spans(
-                &mut message,
-                &[Span::Text("; the nearest name is "), Span::Text(near)],
-            )?;
-        }
-        None => push_job_names(&mut message, jobs)?,
-    }
-    push_text(&mut message, "\n")?;
-    Ok(message)
+    )
 }
 
 // How many names are told at most.
@@ -216,11 +222,17 @@ fn push_job_names(message: &mut Vec<u8>, jobs: &[Job]) -> Result<(), AllocError>
             _ if place + 1 == jobs.len() => " and ",
             _ => ", ",
         };
-        push_spans(message, &[Span::Text(before), Span::Text(job.name.as_str())])?;
+        push_spans(
+            message,
+            &[Span::Text(before), Span::Text(job.name.as_str())],
+        )?;
     }
     if told < jobs.len() {
         let left = (jobs.len() - told) as u64;
-        push_spans(message, &[Span::Text(" and "), Span::Number(left), Span::Text(" more")])?;
+        push_spans(
+            message,
+            &[Span::Text(" and "), Span::Number(left), Span::Text(" more")],
+        )?;
     }
     Ok(())
 }

@@ -18,11 +18,7 @@ pub struct CountingTelling<'a, R: Clock + Wait, T: Telling, W: Drop> {
 }
 
 impl<'a, R: Clock + Wait, T: Telling, W: Write + Drop> CountingTelling<'a, R, T, W> {
-    pub fn new(
-        rt: &'a R,
-        telling: &'a T,
-        progress: &'a Progress<W>,
-    ) -> CountingTelling<'a, R, T, W>
+    pub fn new(rt: &'a R, telling: &'a T, progress: &'a Progress<W>) -> CountingTelling<'a, R, T, W>
         ensures { result.telling.now ≡ telling.now }
     {
         CountingTelling {
