@@ -1,1 +1,2 @@
 pub mod HalfwordForms
+pub mod Rows

@@ -10,6 +10,8 @@ use Rattle.rv_disasm.specs.declared.form.Operands.{Operands}
 use Rattle.rv_disasm.specs.declared.form.Operands.TheVariants.{Absent, One, Two, Three}
 use Rattle.rv_disasm.specs.Operands.{operand_text}
 use Rattle.rv_disasm.specs.Forms.{Form, form16, form32}
+use Rattle.rv_disasm.specs.Illegal.{unsimulated_text}
+use Rattle.rv_disasm.specs.Unsimulated.{unsimulated16, unsimulated32}
 
 -- behind a space, with commas between them
 unfoldable pub operands_text : Operands → Fetched → List ℕ
@@ -23,25 +25,21 @@ operands_text (Three a b c) f =
 unfoldable pub form_text : Form → Fetched → List ℕ
 form_text form f = form.mnemonic ++ operands_text form.operands f
 
--- where no row fits
-abbrev pub no_instruction : List ℕ
-no_instruction = codes "no instruction"
-
 abbrev pub fetched_instr : Instr → ℕ → ℕ → Fetched
 fetched_instr i code pc = record { instr = i; code = code; pc = pc }
 
--- the text of a word's instruction, by the form of its name
+-- the text of a word's instruction, by the form of its name, or of a word that has none
 abbrev pub text_by_name : Option Instr → ℕ → ℕ → List ℕ
-text_by_name None word pc = no_instruction
+text_by_name None word pc = unsimulated_text (unsimulated32 word)
 text_by_name (Some i) word pc = form_text (form32 i.op) (fetched_instr i word pc)
 
 unfoldable pub assembly32 : ℕ → ℕ → List ℕ
 assembly32 word pc = text_by_name (meaning32 set.Imc word) word pc
 
--- the text of a halfword's instruction, by the form of its row
+-- the text of a halfword's instruction, by the form of its row, or of a halfword that has none
 abbrev pub text_by_row : Option Form → Option Instr → ℕ → ℕ → List ℕ
-text_by_row None i half pc = no_instruction
-text_by_row (Some form) None half pc = no_instruction
+text_by_row None i half pc = unsimulated_text (unsimulated16 half)
+text_by_row (Some form) None half pc = unsimulated_text (unsimulated16 half)
 text_by_row (Some form) (Some i) half pc = form_text form (fetched_instr i half pc)
 
 unfoldable pub assembly16 : ℕ → ℕ → List ℕ

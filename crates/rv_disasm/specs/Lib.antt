@@ -1,3 +1,5 @@
 pub mod Operands
 pub mod Forms
+pub mod Unsimulated
+pub mod Illegal
 pub mod Assembly

@@ -6,16 +6,16 @@ ghost use Rattle.rv_disasm.specs.Forms.{form_of_code};
 ghost use Rattle.rv_disasm.specs.Operands.{operand_text};
 
 use crate::form::{Fetched, Form, Operand, Operands};
+use crate::illegal_text::push_unsimulated;
 use crate::operand::{push_literal, push_operand};
 use crate::rows16::form16;
 use crate::rows32::form32;
+use crate::unsimulated::{unsimulated16, unsimulated32};
 use rv_isa::{Isa, decode16, decode32};
 use std::alloc::{AllocError, Global};
 
-const NO_INSTRUCTION: &str = "no instruction";
-
-/// Appends the assembly text of a 32-bit word that was fetched at `pc`, as `lw a0, 8(sp)`, or `no instruction` where no
-/// row of RV32IM with Zifencei fits it.
+/// Appends the assembly text of a 32-bit word that was fetched at `pc`, as `lw a0, 8(sp)`. A word without a row in RV32IM
+/// with Zifencei is told as `csrrw (Zicsr: not simulated)`, or `no instruction` where no listing here has it.
 #[tactic(auto, unfolding(crate::specs::Assembly::assembly32))]
 pub fn push_assembly32(
     alloc: Global,
@@ -28,12 +28,12 @@ pub fn push_assembly32(
     let code = word;
     match decode32(word, Isa::Imc) {
         Some(instr) => { push_form(alloc, bytes, form32(instr.op), Fetched { instr, code, pc }) }
-        None => push_literal(bytes, NO_INSTRUCTION),
+        None => push_unsimulated(bytes, unsimulated32(word)),
     }
 }
 
-/// Appends the assembly text of a halfword that was fetched at `pc`, as `c.lw a0, 8(a0)`, or `no instruction` where no
-/// row of the C extension fits it.
+/// Appends the assembly text of a halfword that was fetched at `pc`, as `c.lw a0, 8(a0)`. A halfword without a row in the C
+/// extension of RV32I is told as `c.flw (F: not simulated)`, or `no instruction`.
 #[tactic(auto, unfolding(crate::specs::Assembly::assembly16))]
 pub fn push_assembly16(
     alloc: Global,
@@ -46,7 +46,7 @@ pub fn push_assembly16(
     let code = u32::from(half);
     match (form16(code), decode16(half, Isa::Imc)) {
         (Some(form), Some(instr)) => { push_form(alloc, bytes, form, Fetched { instr, code, pc }) }
-        _ => push_literal(bytes, NO_INSTRUCTION),
+        _ => push_unsimulated(bytes, unsimulated16(code)),
     }
 }
 

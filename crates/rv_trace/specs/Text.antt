@@ -3,7 +3,8 @@ use Rattle.std.specs.Prelude.{◌==◌, ◌+◌, ◌-◌, ℕ, Bool, true, false
 use Rattle.std.specs.Prelude.{if◌then◌else◌, length, replicate, Option, Some, None}
 use Rattle.std.specs.Fmt.{decimal}
 use Rattle.std.specs.List.{flat_map}
-use Rattle.rv_disasm.specs.Assembly.{no_instruction, assembly16, assembly32}
+use Rattle.rv_disasm.specs.Assembly.{assembly16, assembly32}
+use Rattle.rv_disasm.specs.Illegal.{illegal_text16, illegal_text32}
 use Rattle.rv_disasm.specs.Operands.{register_name}
 use Rattle.rv_elf.specs.declared.image.Image.{Image}
 use Rattle.rv_elf.specs.SymbolSearch.{symbol_at, symbol_of_value}
@@ -66,14 +67,24 @@ register_text number value = register_name number ++ codes " <- " ++ word_digits
 abbrev pub loaded_text : ℕ → ℕ → List ℕ
 loaded_text number value = if number == 0 then [] else register_text number value ++ codes " "
 
+-- a symbol, and a space behind it
+abbrev pub symbol_and_space : Option (List ℕ × ℕ) → List ℕ
+symbol_and_space None = []
+symbol_and_space (Some place) = symbol_text place ++ codes " "
+
+-- an address that was loaded from or stored to, behind the symbol that it is of
+abbrev pub address_text : Image → List ℕ → ℕ → List ℕ
+address_text image file address =
+    symbol_and_space (symbol_of_value image file address) ++ word_digits address
+
 -- what an instruction wrote
-unfoldable pub wrote_text : Wrote → List ℕ
-wrote_text wrote.Nothing = []
-wrote_text (wrote.Register number value) = register_text number value
-wrote_text (wrote.Loaded number value address) =
-    loaded_text number value ++ codes "from " ++ word_digits address
-wrote_text (wrote.Stored address width value) =
-    word_digits address ++ codes " <- " ++ stored_value_text width value
+unfoldable pub wrote_text : Image → List ℕ → Wrote → List ℕ
+wrote_text image file wrote.Nothing = []
+wrote_text image file (wrote.Register number value) = register_text number value
+wrote_text image file (wrote.Loaded number value address) =
+    loaded_text number value ++ codes "from " ++ address_text image file address
+wrote_text image file (wrote.Stored address width value) =
+    address_text image file address ++ codes " <- " ++ stored_value_text width value
 
 -- a text, and behind it what is told, where that is anything
 abbrev pub text_columns : List ℕ → List ℕ → List ℕ
@@ -99,7 +110,7 @@ assembly_or_none pc (Some code) = assembly pc code
 unfoldable pub step_line : Image → List ℕ → TracedStep → List ℕ
 step_line image file step =
     instruction_line (symbol_at image file step.pc) step.pc step.code
-    (assembly_or_none step.pc step.code) (wrote_text step.wrote)
+    (assembly_or_none step.pc step.code) (wrote_text image file step.wrote)
 
 -- ---- the end
 
@@ -118,13 +129,19 @@ end_reason (ending.Fault kind pc value) = fault_name kind ++ fault_value_text ki
 end_reason ending.Budget = codes "not run: the budget is used up"
 end_reason (ending.Refused why) = refusal_name why
 
--- it has no row in the set of the job, which may be a narrower one than the text is of
+-- the job's set has no instruction for the code there
 abbrev pub ends_by_illegal : RowEnd → Bool
 ends_by_illegal (ending.Fault fault.Illegal pc value) = true
 ends_by_illegal _ = false
 
+unfoldable pub illegal_text : Code → List ℕ
+illegal_text (Half half) = illegal_text16 half
+illegal_text (Word word) = illegal_text32 word
+
+-- the text of the code there
 abbrev pub end_assembly : RowEnd → ℕ → Option Code → List ℕ
-end_assembly end pc code = if ends_by_illegal end then no_instruction else assembly_or_none pc code
+end_assembly end pc None = []
+end_assembly end pc (Some code) = if ends_by_illegal end then illegal_text code else assembly pc code
 
 unfoldable pub end_instruction_line : Image → List ℕ → ℕ → Option Code → RowEnd → List ℕ
 end_instruction_line image file pc code end =

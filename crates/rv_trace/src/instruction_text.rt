@@ -1,18 +1,21 @@
 //! What is told of an instruction: its assembly text, what it wrote, and how it ended the run.
 
-ghost use Rattle.std.specs.Prelude.{◌≡◌, ◌++◌, OnOk};
+ghost use Rattle.std.specs.Prelude.{◌≡◌, ◌++◌, OnOk, option_map};
 ghost use Rattle.rv_disasm.specs.Operands.{register_name};
-ghost use Rattle.rv_trace.specs.Text.{assembly, assembly_or_none, end_assembly, end_reason, ends_by_illegal, loaded_text};
-ghost use Rattle.rv_trace.specs.Text.{fault_value_text, register_text, stored_value_text, wrote_text};
+ghost use Rattle.rv_trace.specs.Text.{assembly, assembly_or_none, end_assembly, end_reason, ends_by_illegal, illegal_text};
+ghost use Rattle.rv_trace.specs.Text.{address_text, fault_value_text, loaded_text, register_text, stored_value_text, symbol_and_space};
+ghost use Rattle.rv_trace.specs.Text.{wrote_text};
 
 use crate::code::Code;
 use crate::columns::push_digits_after_first;
+use crate::elf_file::ElfFile;
 use crate::step::Wrote;
-use rv_disasm::{push_assembly16, push_assembly32};
+use rv_disasm::{push_assembly16, push_assembly32, push_illegal16, push_illegal32};
+use rv_elf::SymbolAt;
 use rv_machine::FaultKind;
 use rv_memory::Width;
 use rv_rows::RowEnd;
-use rv_text::{Span, push_spans, push_text, push_word_digits};
+use rv_text::{Span, push_spans, push_symbol, push_text, push_word_digits};
 use std::alloc::{AllocError, Global};
 
 /// Appends the assembly text of a code at an address, where there is one.
@@ -50,19 +53,23 @@ fn push_assembly_of_code(
 pub(crate) fn push_wrote_text(
     alloc: Global,
     bytes: &mut Vec<u8>,
+    elf: &ElfFile<'_>,
     wrote: Wrote,
 ) -> Result<(), AllocError>
-    ensures { OnOk result (bytes.new.items ≡ bytes.old.items ++ wrote_text wrote) }
+    ensures { OnOk result (bytes.new.items ≡ bytes.old.items
+        ++ wrote_text elf.now.image.now elf.now.bytes.now wrote) }
 {
     match wrote {
         Wrote::Nothing => Ok(()),
         Wrote::Register(number, value) => push_register(bytes, number, value),
-        Wrote::Loaded(number, value, address) => {
+        Wrote::Loaded(number, value, from) => {
             push_loaded_text(bytes, number, value)?;
-            push_spans(bytes, &[Span::Text("from "), Span::Word(address)])
+            push_text(bytes, "from ")?;
+            push_address(alloc, bytes, elf, from)
         }
         Wrote::Stored(address, width, value) => {
-            push_spans(bytes, &[Span::Word(address), Span::Text(" <- ")])?;
+            push_address(alloc, bytes, elf, address)?;
+            push_text(bytes, " <- ")?;
             push_stored_value(alloc, bytes, width, value)
         }
     }
@@ -88,6 +95,34 @@ fn push_loaded_text(bytes: &mut Vec<u8>, number: u8, value: u32) -> Result<(), A
         return Ok(());
     }
     push_register(bytes, number, value)?;
+    push_text(bytes, " ")
+}
+
+fn push_address(
+    alloc: Global,
+    bytes: &mut Vec<u8>,
+    elf: &ElfFile<'_>,
+    address: u32,
+) -> Result<(), AllocError>
+    ensures { OnOk result (bytes.new.items ≡ bytes.old.items
+        ++ address_text elf.now.image.now elf.now.bytes.now address) }
+{
+    push_symbol_and_space(alloc, bytes, elf.symbol_of_value(address))?;
+    push_word_digits(bytes, address)
+}
+
+fn push_symbol_and_space(
+    alloc: Global,
+    bytes: &mut Vec<u8>,
+    place: Option<SymbolAt<'_>>,
+) -> Result<(), AllocError>
+    ensures { OnOk result (bytes.new.items ≡ bytes.old.items
+        ++ symbol_and_space (option_map (λ s. (s.name.now, s.offset)) place.entry)) }
+{
+    let Some(symbol) = place else {
+        return Ok(());
+    };
+    push_symbol(alloc, bytes, symbol)?;
     push_text(bytes, " ")
 }
 
@@ -118,7 +153,7 @@ fn push_stored_value(
     }
 }
 
-/// Appends the assembly text of the instruction at the end of a run.
+/// Appends the text of the code at the end of a run, where there is one.
 pub(crate) fn push_end_assembly(
     alloc: Global,
     bytes: &mut Vec<u8>,
@@ -128,10 +163,21 @@ pub(crate) fn push_end_assembly(
 ) -> Result<(), AllocError>
     ensures { OnOk result (bytes.new.items ≡ bytes.old.items ++ end_assembly end pc code) }
 {
-    if ends_by_illegal(end) {
-        return push_text(bytes, "no instruction");
+    match code {
+        Some(code) if ends_by_illegal(end) => push_illegal(bytes, code),
+        Some(code) => push_assembly_of_code(alloc, bytes, pc, code),
+        None => Ok(()),
     }
-    push_assembly(alloc, bytes, pc, code)
+}
+
+#[tactic(auto, unfolding(crate::specs::Text::illegal_text))]
+fn push_illegal(bytes: &mut Vec<u8>, code: Code) -> Result<(), AllocError>
+    ensures { OnOk result (bytes.new.items ≡ bytes.old.items ++ illegal_text code) }
+{
+    match code {
+        Code::Half(half) => push_illegal16(bytes, half),
+        Code::Word(word) => push_illegal32(bytes, word),
+    }
 }
 
 fn ends_by_illegal(end: RowEnd) -> bool

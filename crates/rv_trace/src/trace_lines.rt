@@ -159,7 +159,7 @@ fn push_step_line(
     let mut text = Vec::new(alloc);
     push_assembly(alloc, &mut text, step.pc, step.code)?;
     let mut told = Vec::new(alloc);
-    push_wrote_text(alloc, &mut told, step.wrote)?;
+    push_wrote_text(alloc, &mut told, elf, step.wrote)?;
     let shown = Instruction {
         symbol: elf.symbol_at(step.pc),
         pc: step.pc,

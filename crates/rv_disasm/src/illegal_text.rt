@@ -1,0 +1,76 @@
+//! What is told of a code that has no instruction.
+ghost use Rattle.std.specs.Prelude.{◌≡◌, ◌++◌, OnOk, option_map};
+ghost use Rattle.rv_disasm.specs.Illegal.{illegal_text16, illegal_text32, missing_text, name_and_reason, unsimulated_text};
+ghost use Rattle.rv_disasm.specs.Unsimulated.{row_of_code};
+
+use crate::form::Form;
+use crate::operand::push_literal;
+use crate::rows16::form16;
+use crate::rows32::form32;
+use crate::unsimulated::{Row, unsimulated16, unsimulated32};
+use rv_isa::{Isa, decode32};
+use std::alloc::AllocError;
+
+/// Appends what is told of a 32-bit word for which a job's set has no instruction: its name and its extension, as
+/// `mul (M: not in this job's set)` or `csrrw (Zicsr: not simulated)`, or `no instruction`.
+#[tactic(auto, unfolding(crate::specs::Illegal::illegal_text32))]
+pub fn push_illegal32(bytes: &mut Vec<u8>, word: u32) -> Result<(), AllocError>
+    ensures { OnOk result (bytes.new.items ≡ bytes.old.items ++ illegal_text32 word) }
+{
+    match decode32(word, Isa::Imc) {
+        Some(instr) => push_missing(bytes, form32(instr.op), "M"),
+        None => push_unsimulated(bytes, unsimulated32(word)),
+    }
+}
+
+/// The same of a halfword, as `c.li (C: not in this job's set)` or `c.flw (F: not simulated)`.
+#[tactic(auto, unfolding(crate::specs::Illegal::illegal_text16))]
+pub fn push_illegal16(bytes: &mut Vec<u8>, half: u16) -> Result<(), AllocError>
+    ensures { OnOk result (bytes.new.items ≡ bytes.old.items ++ illegal_text16 half) }
+{
+    let half = u32::from(half);
+    match form16(half) {
+        Some(form) => push_missing(bytes, form, "C"),
+        None => push_unsimulated(bytes, unsimulated16(half)),
+    }
+}
+
+// Appends the name of a row that a set leaves out.
+fn push_missing(bytes: &mut Vec<u8>, form: Form, extension: &str) -> Result<(), AllocError>
+    ensures { OnOk result (bytes.new.items
+        ≡ bytes.old.items ++ missing_text form.0.now extension.now) }
+{
+    let Form(mnemonic, _) = form;
+    push_name_and_reason(bytes, mnemonic, extension, "not in this job's set")
+}
+
+/// Appends the name of a row that is not simulated, or `no instruction` where there is none.
+pub(crate) fn push_unsimulated(bytes: &mut Vec<u8>, row: Option<Row>) -> Result<(), AllocError>
+    ensures { OnOk result (bytes.new.items
+        ≡ bytes.old.items ++ unsimulated_text (option_map row_of_code row)) }
+{
+    match row {
+        Some(Row(_, _, mnemonic, extension)) => {
+            push_name_and_reason(bytes, mnemonic, extension, "not simulated")
+        }
+        None => push_literal(bytes, "no instruction"),
+    }
+}
+
+#[tactic(auto, unfolding(crate::specs::Illegal::name_and_reason))]
+fn push_name_and_reason(
+    bytes: &mut Vec<u8>,
+    mnemonic: &str,
+    extension: &str,
+    reason: &str,
+) -> Result<(), AllocError>
+    ensures { OnOk result (bytes.new.items
+        ≡ bytes.old.items ++ name_and_reason mnemonic.now extension.now reason.now) }
+{
+    push_literal(bytes, mnemonic)?;
+    push_literal(bytes, " (")?;
+    push_literal(bytes, extension)?;
+    push_literal(bytes, ": ")?;
+    push_literal(bytes, reason)?;
+    push_literal(bytes, ")")
+}
