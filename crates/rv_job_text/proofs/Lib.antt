@@ -1,3 +1,4 @@
+pub mod ReadImages
 pub mod Chains
 pub mod Told
 pub mod ConsoleLines

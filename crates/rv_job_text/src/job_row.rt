@@ -1,16 +1,25 @@
 //! The row of a job of a plan.
 
-ghost use Rattle.std.specs.Prelude.{◌<◌, length};
+ghost use Rattle.std.specs.Prelude.{◌≡◌, ◌<◌, Some, length, option_map};
+ghost use Rattle.rv_jobs.specs.declared_job.Job.{Job as AJob};
+ghost use Rattle.rv_jobs.specs.Plans.{kept_for};
+ghost use Rattle.rv_rows.specs.Rows.{content_if_read};
+ghost use Rattle.rv_trace.specs.Trace.{job_at};
 
+use crate::job_file::JobFile;
 use rv_jobs::Plan;
 use rv_rows::Row;
 
-/// The row of the job at a place of a plan.
+/// The row of the job at a place of a plan, beside the file of the job's image.
 #[derive(Clone, Copy)]
 pub(crate) struct JobRow<'a> {
     pub(crate) plan: &'a Plan,
     /// Counted from 0.
     pub(crate) place: usize,
     pub(crate) row: &'a Row,
+    pub(crate) file: &'a JobFile<'a>,
     ghost within: { place < length plan.now.jobs },
+    ghost isa: { (d : AJob) → file.now.isa ≡ (job_at plan.now place d).isa },
+    ghost bytes: { (d : AJob) → option_map (λ bytes. bytes.now) file.now.bytes
+        ≡ content_if_read (Some (kept_for plan.now.answers (job_at plan.now place d).image)) },
 }

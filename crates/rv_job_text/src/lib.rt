@@ -14,6 +14,7 @@ mod difference_text;
 mod failures_by_end_kind;
 mod image_reason;
 mod image_symbols;
+mod job_file;
 mod job_row;
 mod met_line;
 mod paths;

@@ -8,7 +8,7 @@ ghost use Rattle.rv_job_text.specs.RefusalReasons.{unread_reference_path};
 ghost use Rattle.rv_job_text.specs.UnreadFiles.{too_long_file_text, unread_file_text};
 
 use crate::image_reason::push_image_reason;
-use crate::image_symbols::image_bytes;
+use crate::job_file::image_bytes;
 use crate::paths::{console_path, reference_path};
 use crate::unread_files::{too_long_file_text, unread_file_text};
 use rv_elf::ImageError;

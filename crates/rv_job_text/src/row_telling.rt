@@ -5,21 +5,23 @@ ghost use Rattle.rv_expect.specs.Comparisons.{sides_of};
 ghost use Rattle.rv_expect.specs.UnmetInPlan.{row_of_same_as_job};
 ghost use Rattle.rv_jobs.specs.declared_job.Job.{Job as AJob};
 ghost use Rattle.rv_trace.specs.Trace.{job_at};
-ghost use Rattle.rv_job_text.specs.Telling.{compared_lines, expectation_lines, explanation_text, row_line};
+ghost use Rattle.rv_job_text.specs.ImageSymbols.{fault_symbol};
+ghost use Rattle.rv_job_text.specs.Telling.{compared_lines, expectation_lines, explanation_text, image_bytes, row_line};
 ghost use Rattle.rv_job_text.specs.Telling.{run_lines, telling_of, row_lines};
 
 use crate::console_tail::push_console_tail;
-use crate::image_symbols::{fault_symbol, image_bytes, signature_begin};
+use crate::job_file::JobFile;
 use crate::job_row::JobRow;
 use crate::met_line::push_met_lines;
 use crate::refusal_reasons::ending_reason;
 use crate::result_line::{EndDetail, push_result_line};
 use crate::unmet_line::push_unmet_lines;
 use crate::verbosity::{Detail, Verbosity};
+use rv_elf::SymbolAt;
 use rv_expect::{Comparison, Rule, Unmet, has_passed, row_of_same_as_job, unmet_expectations};
 use rv_files::Unread;
 use rv_jobs::Plan;
-use rv_rows::{Row, Telling, did_run, expected_console_bytes, signature_reference_bytes};
+use rv_rows::{Row, RowEnd, Telling, did_run, expected_console_bytes, signature_reference_bytes};
 use std::alloc::{AllocError, Global};
 
 /// Tells of the rows of a plan.
@@ -71,12 +73,19 @@ impl<'a> RowTelling<'a> {
         if !self.verbosity.shows_row(self.rule, row) {
             return Ok(());
         }
-        self.push_row_line(alloc, place, row, text)?;
         if passed || !did_run(row.ending) {
-            return Ok(());
+            return self.push_lone_row_line(alloc, place, row, text);
         }
         let plan = self.plan;
-        JobRow { plan, place, row }.push_run_lines(alloc, self.last, text)
+        let file = &JobFile::read(alloc, plan, place)?;
+        self.push_row_line(alloc, place, row, file.fault_symbol(row.ending), text)?;
+        JobRow {
+            plan,
+            place,
+            row,
+            file,
+        }
+        .push_run_lines(alloc, self.last, text)
     }
 
     /// Appends what explains the row of the job at a place, whatever the verbosity: its line, and where the job ran every
@@ -96,19 +105,25 @@ impl<'a> RowTelling<'a> {
             ++ explanation_text self.now.plan.now self.now.unread.now self.now.rule
             (job_at self.now.plan.now place d) row.now last) }
     {
-        self.push_row_line(alloc, place, row, text)?;
         if !did_run(row.ending) {
-            return Ok(());
+            return self.push_lone_row_line(alloc, place, row, text);
         }
         let plan = self.plan;
-        let job_row = JobRow { plan, place, row };
+        let file = &JobFile::read(alloc, plan, place)?;
+        self.push_row_line(alloc, place, row, file.fault_symbol(row.ending), text)?;
+        let job_row = JobRow {
+            plan,
+            place,
+            row,
+            file,
+        };
         job_row.push_expectation_lines(alloc, Detail::All, text)?;
         job_row.push_way_to_end(alloc, last, text)
     }
 
-    // Appends the line of the row of the job at a place.
-    #[tactic(auto, unfolding(crate::specs::Telling::row_line))]
-    fn push_row_line(
+    // Appends the line of a row of which nothing else is told. The image is read for the place of a fault alone.
+    #[tactic(auto, unfolding(crate::specs::ImageSymbols::fault_symbol))]
+    fn push_lone_row_line(
         &self,
         alloc: Global,
         place: usize,
@@ -120,9 +135,36 @@ impl<'a> RowTelling<'a> {
             ++ row_line self.now.plan.now self.now.unread.now self.now.rule
             (job_at self.now.plan.now place d) row.now) }
     {
+        match row.ending {
+            RowEnd::Fault(_, _, _) => {
+                let file = JobFile::read(alloc, self.plan, place)?;
+                self.push_row_line(alloc, place, row, file.fault_symbol(row.ending), text)
+            }
+            RowEnd::Exit(_) | RowEnd::Budget | RowEnd::Refused(_) => {
+                self.push_row_line(alloc, place, row, None, text)
+            }
+        }
+    }
+
+    // Appends the line of the row of the job at a place, with the symbol of a fault's place.
+    #[tactic(auto, unfolding(crate::specs::Telling::row_line))]
+    fn push_row_line(
+        &self,
+        alloc: Global,
+        place: usize,
+        row: &Row,
+        symbol: Option<SymbolAt<'_>>,
+        text: &mut Vec<u8>,
+    ) -> Result<(), AllocError>
+        requires place { place < length self.now.plan.now.jobs }
+        requires symbol { (d : AJob) → option_map (λ s. (s.name.now, s.offset)) symbol
+            ≡ fault_symbol (job_at self.now.plan.now place d).isa
+            (image_bytes self.now.plan.now (job_at self.now.plan.now place d)) row.now.ending }
+        ensures { OnOk result ((d : AJob) → text.new.items ≡ text.old.items
+            ++ row_line self.now.plan.now self.now.unread.now self.now.rule
+            (job_at self.now.plan.now place d) row.now) }
+    {
         let (plan, rule) = (self.plan, self.rule);
-        let isa = plan.job(place).isa;
-        let symbol = fault_symbol(alloc, isa, image_bytes(plan, place), row.ending)?;
         let reason = ending_reason(alloc, plan, self.unread, place, row.ending)?;
         let detail = EndDetail {
             symbol,
@@ -200,7 +242,7 @@ impl<'a> JobRow<'a> {
             reference: signature_reference_bytes(plan, place),
             other,
         };
-        let address = signature_begin(alloc, job.isa, image_bytes(plan, place), &job.signature)?;
+        let address = self.file.signature_begin(&job.signature);
         let unmet = unmet_expectations(alloc, &comparison)?;
         push_compared_lines(&comparison, address, unmet.as_slice(), detail, text)
     }

@@ -1,6 +1,7 @@
 -- An image that a job's map takes, in a new bus.
 use Rattle.std.proofs.Common.{◌≡◌, ◌%◌, ◌==◌, ◌&&◌, ℕ, Bool, true, false, not, subst, List, Option, Some, None, IfSome}
-use Rattle.std.proofs.Common.{Result, Ok, Err, refl, sym, ap}
+use Rattle.std.proofs.Common.{Result, Ok, Err, refl, sym, ap, ◌∙◌}
+use Rattle.std.specs.Result.{result_ok}
 use Rattle.rv_isa.specs.declared.sets.Isa.{Isa}
 use Rattle.rv_isa.specs.Extensions.{RV32C, has}
 use Rattle.rv_elf.specs.declared.image.Image.{Image}
@@ -10,6 +11,8 @@ use Rattle.rv_elf.specs.Rows.{accepted}
 use Rattle.rv_elf.specs.Symbols.{signature_check, symbol_of}
 use Rattle.rv_jobs.specs.declared_job.Job.{Job}
 use Rattle.rv_jobs.specs.declared_job.Symbols.{Symbols}
+use Rattle.rv_jobs.specs.declared.kept.Kept.{Kept}
+use Rattle.rv_jobs.specs.declared.kept.Kept.TheVariants as kept
 use Rattle.rv_memory.specs.declared.map.Region.{Region}
 use Rattle.rv_memory.specs.declared.access.Misaligned.{Misaligned as Choice}
 use Rattle.rv_memory.specs.Bus.{Contents, new_bus}
@@ -17,6 +20,8 @@ use Rattle.rv_machine.specs.State.{State, at_reset, is_misaligned}
 use Rattle.rv_rows.specs.declared.outcome.Loadable.{Loadable}
 use Rattle.rv_rows.specs.declared.outcome.SignatureRange.{SignatureRange}
 use Rattle.rv_rows.specs.Outcome.{end_of_signature, loadable_image, loaded_state, range_if_asked, signature_range}
+use Rattle.rv_rows.specs.Outcome.{image_file_or_refusal, reference_or_refusal}
+use Rattle.rv_rows.specs.Rows.{content_if_read, image_if_read}
 use Rattle.rv_jobs.specs.Reading.{◌>>=◌}
 
 -- a second step that was reached: the first gave a value
@@ -67,6 +72,33 @@ loadable_parts job file loadable e =
       fits = unit.1.0;
       range = ranged_if_asked file job.regions job.signature range.0 range.1.0;
     })
+
+-- ---- the image of a job
+
+of_ok : {A E : Type 0} (r : Result A E) (x : A) → result_ok r ≡ Some x → r ≡ Ok x
+of_ok (Ok y) x e = cc
+of_ok (Err why) x e = cc
+
+-- the bytes over which a job runs are those of its image
+bytes_read : (image : Kept) (reference console : Option Kept) (file : List ℕ)
+    → image_file_or_refusal image reference console ≡ Ok file → content_if_read (Some image) ≡ Some file
+unfolding image_file_or_refusal
+bytes_read (kept.Content bytes) reference console file e =
+    let lines = stepped (reference_or_refusal reference) _ file e in
+    let other = stepped (reference_or_refusal console) _ file lines.1.1 in
+    let is : bytes ≡ file = cc in
+    ap (λ (one : List ℕ). Some one) is
+bytes_read kept.Unreadable reference console file e = cc
+bytes_read kept.TooLong reference console file e = cc
+
+pub image_is_read : (isa : Isa) (kept : Kept) (reference console : Option Kept) (file : List ℕ) (image : Image)
+    → image_file_or_refusal kept reference console ≡ Ok file
+    → image_if_read isa (content_if_read (Some kept)) ≡ Some image → image_of isa file ≡ Ok image
+image_is_read isa kept reference console file image e found =
+    of_ok (image_of isa file) image
+    (ap (image_if_read isa) (sym (bytes_read kept reference console file e)) ∙ found)
+
+-- ---- the machine
 
 -- a new bus
 pub new_bus_parts : (bus : Contents) (regions : List Region) (script : List ℕ) (misaligned : Choice)

@@ -1,6 +1,10 @@
 -- The rows of a plan: one a job, in list order.
 use Rattle.std.specs.Prelude.{ℕ, List, Option, Some, None, map, option_and_then, option_map, Result}
 use Rattle.std.specs.Prelude.{[], slice_get, slice_index_or}
+use Rattle.std.specs.Result.{result_ok}
+use Rattle.rv_elf.specs.declared.image.Image.{Image}
+use Rattle.rv_elf.specs.Image.{image_of}
+use Rattle.rv_isa.specs.declared.sets.Isa.{Isa}
 use Rattle.rv_jobs.specs.declared.answers.Answer.{Answer}
 use Rattle.rv_jobs.specs.declared_job.Job.{Job}
 use Rattle.rv_jobs.specs.declared.kept.Kept.{Kept}
@@ -31,6 +35,15 @@ start_in answers job =
 abbrev pub content_if_read : Option Kept → Option (List ℕ)
 content_if_read (Some (kept.Content bytes)) = Some bytes
 content_if_read _ = None
+
+-- the image that bytes are read as, where they were read and are one
+abbrev pub image_if_read : Isa → Option (List ℕ) → Option Image
+image_if_read isa None = None
+image_if_read isa (Some file) = result_ok (image_of isa file)
+
+-- the image of a job
+abbrev pub image_in : List Answer → Job → Option Image
+image_in answers job = image_if_read job.isa (content_if_read (Some (kept_for answers job.image)))
 
 -- the bytes of a job's reference, where it has one and it was read
 abbrev pub signature_reference_bytes : List Answer → Job → Option (List ℕ)

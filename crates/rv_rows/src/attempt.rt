@@ -2,7 +2,8 @@
 
 ghost use Rattle.std.specs.Prelude.{◌≡◌, ◌≢◌, ◌<◌, ◌≤◌, IfOk, IfSome, MatchResult, Ok, Err, IsOk, length, option_map};
 ghost use Rattle.rv_elf.specs.declared.error.ImageError.TheVariants.{OutOfMemory};
-ghost use Rattle.rv_elf.specs.Image.{IsImageOf};
+ghost use Rattle.rv_elf.specs.Image.{IsImageOf, image_of};
+ghost use Rattle.rv_elf.specs.Loading.{map_check};
 ghost use Rattle.rv_elf.specs.Symbols.{signature_check, symbol_of};
 ghost use Rattle.rv_elf.specs.Rows.{accepted};
 ghost use Rattle.rv_base.specs.Limits.{most_script};
@@ -11,7 +12,7 @@ ghost use Rattle.rv_machine.specs.Machine.{state_of};
 ghost use Rattle.rv_rows.specs.Attempt.{HasSignature, IsReadable, outcome_in_bus, outcome_of_attempt};
 ghost use Rattle.rv_rows.specs.Outcome.{row_end, end_of_signature, image_file_or_refusal, file_outcome_of, loadable_image, loaded_state};
 ghost use Rattle.rv_rows.specs.Outcome.{outcome_of, outcome_of_run, signature_range, reference_or_refusal, refusal_in};
-ghost use Rattle.rv_rows.specs.Outcome.{start_if_loadable, start_of};
+ghost use Rattle.rv_rows.specs.Outcome.{start_if_loadable};
 
 use crate::outcome::{Attempt, EndedRun, Loadable, SignatureRange};
 use crate::spare_bus::Spare;
@@ -79,44 +80,24 @@ fn refusal_over_image(alloc: Global, job: &Job, file: &[u8]) -> Result<Option<Re
     }
 }
 
-/// The machine in which a job runs over the same, or why the job is refused. Nothing is run.
-#[tactic(auto, unfolding(crate::specs::Outcome::start_of))]
-pub(crate) fn machine_of_job(
-    alloc: Global,
-    job: &Job,
-    image: &Kept,
-    reference: Option<&Kept>,
-    console: Option<&Kept>,
-) -> Result<Result<Machine, Refusal>, AllocError>
-    requires script { length job.now.script ≤ most_script }
-    requires named { IfSome job.now.signature (λ names. (0 < length names.begin)
-        × (0 < length names.end)) }
-    ensures { let start = start_of job.now image.now (option_map (λ kept. kept.now) reference.entry)
-        (option_map (λ kept. kept.now) console.entry) in
-        IfOk result (λ found. MatchResult found (λ machine. start ≡ Ok (state_of machine))
-        (λ why. start ≡ Err why)) }
-{
-    match image_file_or_refusal(image, reference, console) {
-        Ok(file) => machine_over_image(alloc, job, file),
-        Err(why) => Ok(Err(why)),
-    }
-}
-
-fn machine_over_image(
+/// The machine in which a job runs, over its image's bytes and the image that they were read as, or why the job is
+/// refused. Nothing is run.
+pub(crate) fn machine_over_image(
     alloc: Global,
     job: &Job,
     file: &[u8],
+    image: &Image,
 ) -> Result<Result<Machine, Refusal>, AllocError>
     requires script { length job.now.script ≤ most_script }
     requires named { IfSome job.now.signature (λ names. (0 < length names.begin)
         × (0 < length names.end)) }
+    requires image { image_of job.now.isa file.now ≡ Ok image.now }
     ensures { let start = start_if_loadable job.now file.now (loadable_image job.now file.now) in
         IfOk result (λ found. MatchResult found (λ machine. start ≡ Ok (state_of machine))
         (λ why. start ≡ Err why)) }
 {
-    match loadable_image(alloc, job, file) {
-        Ok(loadable) => Ok(Ok(loaded_machine(alloc, job, file, &loadable, &mut Spare::new())?)),
-        Err(ImageError::OutOfMemory) => Err(AllocError),
+    match range_if_loadable(job, file, image) {
+        Ok(_) => Ok(Ok(loaded_machine(alloc, job, file, image, &mut Spare::new())?)),
         Err(error) => Ok(Err(Refusal::Image(error))),
     }
 }
@@ -151,7 +132,7 @@ pub(crate) fn attempt_over_image(
 {
     match loadable_image(alloc, job, file) {
         Ok(loadable) => {
-            let machine = loaded_machine(alloc, job, file, &loadable, spare)?;
+            let machine = loaded_machine(alloc, job, file, &loadable.image, spare)?;
             Ok(Attempt::Ran(run_machine(machine, job.budget, loadable.range)))
         }
         Err(ImageError::OutOfMemory) => Err(AllocError),
@@ -168,12 +149,29 @@ fn loadable_image(alloc: Global, job: &Job, file: &[u8]) -> Result<Loadable, Ima
         (λ error. error ≢ OutOfMemory → loadable_image job.now file.now ≡ Err error) }
 {
     let image = read_image(alloc, file, job.isa)?;
-    check_map(&image, &job.regions, job.load)?;
-    let range = match &job.signature {
-        Some(names) => Some(signature_range(&image, file, &job.regions, names)?),
-        None => None,
-    };
+    let range = range_if_loadable(job, file, &image)?;
     Ok(Loadable { image, range })
+}
+
+// The signature's range, over the image that a file was read as, or the first refusal.
+#[tactic(auto, unfolding(crate::specs::Outcome::loadable_image))]
+fn range_if_loadable(
+    job: &Job,
+    file: &[u8],
+    image: &Image,
+) -> Result<Option<SignatureRange>, ImageError>
+    requires named { IfSome job.now.signature (λ names. (0 < length names.begin)
+        × (0 < length names.end)) }
+    requires image { image_of job.now.isa file.now ≡ Ok image.now }
+    ensures { MatchResult result
+        (λ range. loadable_image job.now file.now ≡ Ok (record { image = image.now; range = range }))
+        (λ error. loadable_image job.now file.now ≡ Err error) }
+{
+    check_map(image, &job.regions, job.load)?;
+    match &job.signature {
+        Some(names) => Ok(Some(signature_range(image, file, &job.regions, names)?)),
+        None => Ok(None),
+    }
 }
 
 #[tactic(auto, unfolding(crate::specs::Outcome::signature_range))]
@@ -210,18 +208,18 @@ fn loaded_machine(
     alloc: Global,
     job: &Job,
     file: &[u8],
-    loadable: &Loadable,
+    image: &Image,
     spare: &mut Spare,
 ) -> Result<Machine, AllocError>
     requires script { length job.now.script ≤ most_script }
-    requires loadable { loadable_image job.now file.now ≡ Ok loadable.now }
-    ensures { IfOk result (λ machine. state_of machine
-        ≡ loaded_state job.now file.now loadable.now.image) }
+    requires image { image_of job.now.isa file.now ≡ Ok image.now }
+    requires fits { map_check image.now.segments job.now.regions job.now.load ≡ accepted }
+    ensures { IfOk result (λ machine. state_of machine ≡ loaded_state job.now file.now image.now) }
 {
     let script = copy_bytes(alloc, job.script.as_slice())?;
     let mut bus = spare.new_bus(alloc, job.regions, script, job.misaligned)?;
-    load(&loadable.image, file, job.load, &mut bus);
-    Machine::new(alloc, bus, loadable.image.entry, job.isa)
+    load(image, file, job.load, &mut bus);
+    Machine::new(alloc, bus, image.entry, job.isa)
 }
 
 fn copy_bytes(alloc: Global, bytes: &[u8]) -> Result<Vec<u8>, AllocError>

@@ -8,14 +8,17 @@ ghost use Rattle.rv_rows.specs.Attempt.{IsReadable, outcome_of_attempt};
 ghost use Rattle.rv_rows.specs.Outcome.{refusal_in};
 ghost use Rattle.rv_rows.specs.Recent.{AreOutcomes, outcome_at};
 ghost use Rattle.rv_rows.specs.Rows.{content_if_read, expected_console_bytes, named_job_outcome, outcome_in, signature_reference_bytes, row_of, row_of_outcome};
-ghost use Rattle.rv_rows.specs.Rows.{rows_of, start_in};
+ghost use Rattle.rv_rows.specs.Rows.{image_in, rows_of, start_in};
 ghost use Rattle.rv_rows.specs.Verdict.{are_same_outcomes, is_same_as_named};
 
-use crate::attempt::{attempt_over_image, image_file_or_refusal, machine_of_job, refusal_of_job};
+use crate::attempt::{
+    attempt_over_image, image_file_or_refusal, machine_over_image, refusal_of_job,
+};
 use crate::outcome::{Attempt, Outcome};
 use crate::recent_outcomes::{MOST, Recent};
 use crate::spare_bus::Spare;
 use crate::verdict::{are_same_outcomes, is_same_as_attempt, verdict_of};
+use rv_elf::Image;
 use rv_jobs::{Job, Kept, Plan, Text};
 use rv_machine::Machine;
 use rv_report::{Refusal, Report, Row, Rows, Verdict};
@@ -114,26 +117,27 @@ pub fn refusal_at(alloc: Global, plan: &Plan, i: usize) -> Result<Option<Refusal
     )
 }
 
-/// The machine in which the job at a place runs, as it stands before the first step, or why the job is refused. Nothing
-/// is run.
+/// The machine in which the job at a place runs, as it stands before the first step, or why the job is refused. The image
+/// is the one that the job's file was read as. Nothing is run.
+#[tactic(auto, unfolding(crate::specs::Outcome::start_of))]
 pub fn machine_at(
     alloc: Global,
     plan: &Plan,
     i: usize,
+    image: &Image,
 ) -> Result<Result<Machine, Refusal>, AllocError>
-    requires { i < length plan.now.jobs }
+    requires place { i < length plan.now.jobs }
+    requires image { (d : AJob) → image_in plan.now.answers (slice_index_or plan.now.jobs i d)
+        ≡ Some image.now }
     ensures { IfOk result (λ found. (d : AJob) → MatchResult found
         (λ machine. start_in plan.now.answers (slice_index_or plan.now.jobs i d)
         ≡ Ok (state_of machine))
         (λ why. start_in plan.now.answers (slice_index_or plan.now.jobs i d) ≡ Err why)) }
 {
-    machine_of_job(
-        alloc,
-        plan.job(i),
-        plan.image(i),
-        plan.reference(i),
-        plan.console_reference(i),
-    )
+    match image_file_or_refusal(plan.image(i), plan.reference(i), plan.console_reference(i)) {
+        Ok(file) => machine_over_image(alloc, plan.job(i), file, image),
+        Err(why) => Ok(Err(why)),
+    }
 }
 
 // Whether an outcome is the same as that of the job that a job names, if it names one.

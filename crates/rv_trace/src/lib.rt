@@ -2,7 +2,8 @@
 //! end, and the registers there.
 //!
 //! A run is exact, so the state in front of its last instructions is that of the same run with a smaller budget.
-//! [`trace_run`] runs a machine so far, and then step by step; [`trace_job`] does so for a job of a plan.
+//! [`trace_run`] runs a machine so far, and then step by step; [`trace_job`] does so for a job of a plan, whose image was
+//! read before.
 //! [`push_trace`] appends the text of it, with the symbols of an [`ElfFile`].
 #![tactic(auto)]
 
@@ -10,6 +11,7 @@ mod code;
 mod columns;
 mod elf_file;
 mod instruction_text;
+mod job_image;
 mod law;
 mod step;
 mod trace;
@@ -18,6 +20,7 @@ mod write_targets;
 
 pub use code::{Code, code_at};
 pub use elf_file::ElfFile;
+pub use job_image::JobImage;
 pub use law::{codes_are_fetched, rows_are_of_the_run, stored_values_stand, traces_show_the_end};
 pub use step::{TracedStep, TracedSteps, Wrote};
 pub use trace::{Trace, trace_job, trace_run};

@@ -1,14 +1,14 @@
 //! The last instructions of a run, and where it ended.
 
-ghost use Rattle.std.specs.Prelude.{◌≡◌, ◌<◌, IfOk, OnOk, length};
+ghost use Rattle.std.specs.Prelude.{◌≡◌, IfOk, OnOk};
 ghost use Rattle.rv_jobs.specs.declared_job.Job.{Job as AJob};
 ghost use Rattle.rv_machine.specs.Machine.{state_of};
 ghost use Rattle.rv_trace.specs.Steps.{steps_from};
 ghost use Rattle.rv_trace.specs.Trace.{state_after, job_at, registers_of, trace_in, trace_of};
 
 use crate::code::{Code, code_at};
+use crate::job_image::JobImage;
 use crate::step::{TracedStep, TracedSteps, trace_next_step};
-use rv_jobs::Plan;
 use rv_machine::Machine;
 use rv_rows::machine_at;
 use std::alloc::{AllocError, Global};
@@ -50,20 +50,18 @@ pub fn trace_run(
     })
 }
 
-/// The same of the job at a place, counted from 0, whose row has so many steps; nothing where the job is refused.
+/// The same of a job whose row has so many steps; nothing where the job is refused.
 #[tactic(auto, unfolding(crate::specs::Trace::trace_in))]
 pub fn trace_job(
     alloc: Global,
-    plan: &Plan,
-    place: usize,
+    job: &JobImage<'_>,
     steps: u32,
     last: u32,
 ) -> Result<Option<Trace>, AllocError>
-    requires { place < length plan.now.jobs }
     ensures { IfOk result (λ trace. (d : AJob) → trace
-        ≡ trace_in plan.now (job_at plan.now place d) steps last) }
+        ≡ trace_in job.now.plan.now (job_at job.now.plan.now job.now.place d) steps last) }
 {
-    match machine_at(alloc, plan, place)? {
+    match machine_at(alloc, job.plan, job.place, job.image)? {
         Ok(machine) => Ok(Some(trace_run(alloc, machine, steps, last)?)),
         Err(_) => Ok(None),
     }

@@ -1,4 +1,4 @@
-use Rattle.std.proofs.Common.{◌++◌, append-nil, false}
+use Rattle.std.proofs.Common.{◌++◌, append-nil}
 use Rattle.rv_job_text.specs.ConsoleTail.{console_tail}
 use Rattle.rv_text.proofs.Public.{more}
 use Rattle.rv_job_text.specs.declared.verbosity.Detail.TheVariants as detail

@@ -1,0 +1,87 @@
+//! The file of a job's image, read once for all that is told of the job's row.
+
+ghost use Rattle.std.specs.Prelude.{◌≡◌, ◌<◌, IfOk, MatchOption, None, Some, length, option_map};
+ghost use Rattle.rv_jobs.specs.declared_job.Job.{Job as AJob};
+ghost use Rattle.rv_jobs.specs.Plans.{kept_for};
+ghost use Rattle.rv_rows.specs.Rows.{content_if_read, image_if_read};
+ghost use Rattle.rv_trace.specs.Trace.{job_at};
+
+use rv_elf::{Image, ImageError, read_image};
+use rv_isa::Isa;
+use rv_jobs::{Kept, Plan};
+use rv_trace::ElfFile;
+use std::alloc::{AllocError, Global};
+
+/// The bytes of a job's image, where they were read, and the image that they are, where they are one.
+#[derive(Drop)]
+pub(crate) struct JobFile<'a> {
+    /// The set of instructions that the bytes are read for.
+    pub(crate) isa: Isa,
+    pub(crate) bytes: Option<&'a [u8]>,
+    pub(crate) image: Option<Image>,
+    ghost read: { image ≡ image_if_read isa (option_map (λ bytes. bytes.now) bytes) },
+}
+
+impl<'a> JobFile<'a> {
+    /// That of the job at a place. Takes memory for the image.
+    pub(crate) fn read(
+        alloc: Global,
+        plan: &'a Plan,
+        place: usize,
+    ) -> Result<JobFile<'a>, AllocError>
+        requires { place < length plan.now.jobs }
+        ensures isa { IfOk result (λ file. (d : AJob) → file.isa ≡ (job_at plan.now place d).isa) }
+        ensures bytes { IfOk result (λ file. (d : AJob) → option_map (λ bytes. bytes.now) file.bytes
+            ≡ content_if_read (Some (kept_for plan.now.answers (job_at plan.now place d).image))) }
+    {
+        let isa = plan.job(place).isa;
+        let bytes = image_bytes(plan, place);
+        let image = image_if_read(alloc, isa, bytes)?;
+        Ok(JobFile { isa, bytes, image })
+    }
+
+    /// The file with its image, where it is one.
+    pub(crate) fn elf_file(&self) -> Option<ElfFile<'_>>
+        ensures { MatchOption result
+            (image_if_read self.now.isa (option_map (λ bytes. bytes.now) self.now.bytes) ≡ None)
+            (λ elf. (elf.isa ≡ self.now.isa)
+            × (option_map (λ bytes. bytes.now) self.now.bytes ≡ Some elf.bytes.now)) }
+    {
+        let Some(bytes) = self.bytes else {
+            return None;
+        };
+        match &self.image {
+            Some(image) => Some(ElfFile {
+                isa: self.isa,
+                image,
+                bytes,
+            }),
+            None => None,
+        }
+    }
+}
+
+/// The bytes of a job's image, where they were read.
+pub(crate) fn image_bytes(plan: &Plan, place: usize) -> Option<&[u8]>
+    requires { place < length plan.now.jobs }
+    ensures { (d : AJob) → option_map (λ bytes. bytes.now) result
+        ≡ content_if_read (Some (kept_for plan.now.answers (job_at plan.now place d).image)) }
+{
+    match plan.image(place) {
+        Kept::Content(bytes) => Some(bytes.as_slice()),
+        Kept::Unreadable | Kept::TooLong => None,
+    }
+}
+
+fn image_if_read(alloc: Global, isa: Isa, bytes: Option<&[u8]>) -> Result<Option<Image>, AllocError>
+    ensures { IfOk result (λ image. image ≡ image_if_read isa (option_map (λ bytes. bytes.now) bytes.entry)) }
+{
+    let Some(bytes) = bytes else {
+        return Ok(None);
+    };
+    match read_image(alloc, bytes, isa) {
+        Ok(image) => Ok(Some(image)),
+        Err(ImageError::OutOfMemory) => Err(AllocError),
+        Err(_) => Ok(None),
+    }
+}
