@@ -1,2 +1,3 @@
 pub mod HalfwordForms
 pub mod Rows
+pub mod Apart

@@ -10,6 +10,7 @@
 mod assembly_text;
 mod form;
 mod illegal_text;
+mod law;
 mod operand;
 mod rows16;
 mod rows32;
@@ -17,4 +18,5 @@ mod unsimulated;
 
 pub use assembly_text::{push_assembly16, push_assembly32};
 pub use illegal_text::{push_illegal16, push_illegal32};
+pub use law::simulated_codes_are_apart;
 pub use operand::register_name;
