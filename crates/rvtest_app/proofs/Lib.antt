@@ -8,3 +8,4 @@ mod PutTexts
 mod Requested
 mod PartTexts
 mod Messages
+mod JobTexts

@@ -23,6 +23,7 @@ use Rattle.rv_lists.specs.declared.error.JobError.{JobError}
 use Rattle.rv_lists.specs.declared.job.Job.{Job}
 use Rattle.rv_report.specs.declared.saved.SavedReport.{SavedReport}
 use Rattle.rv_rows.specs.Rows.{row_of}
+use Rattle.rvtest_app.specs.CheckText.{check_text}
 use Rattle.rvtest_app.specs.Commands.{check_status, diff_status, passing_status, refused_job_count}
 
 -- ---- diff
@@ -51,19 +52,22 @@ pub record IsDiffAt (known : Option FileContents) (words : DiffAsked) (output : 
 
 -- ---- check
 
--- the status is that of a plan of the jobs of a list, with answers for all their paths that agree with what stands there
-pub record IsPlanCheckOf (known : Option FileContents) (bytes : List ℕ) (status : ℕ) : Type 0 where
+-- the output and the status are those of a plan of the jobs of a list, with answers for all their paths that agree with
+-- what stands there, and of what was noted of paths that were not read
+pub record IsPlanCheckOf (known : Option FileContents) (path bytes output : List ℕ) (status : ℕ) : Type 0 where
   pub plan : Planned
   pub listed : job_list_of bytes ≡ Ok plan.jobs
   pub paths : paths_of plan.answers ≡ paths_used plan.jobs
   pub kept : AreKept known plan.answers
+  pub unread : List Unread
+  pub text : output ≡ check_text path bytes plan unread
   pub judged : status ≡ check_status (refused_job_count plan)
 
 -- the output has a line for each fault, of which there is one at least, and then the status is 2; a list without faults has
--- the status of a plan
-abbrev pub IsCheckOf : Option FileContents → List JobError → List ℕ → List ℕ → ℕ → Type 0
-IsCheckOf known [] bytes output status = IsPlanCheckOf known bytes status
-IsCheckOf known (fault ∷ faults) bytes output status =
+-- the output and the status of a plan
+abbrev pub IsCheckOf : Option FileContents → List JobError → List ℕ → List ℕ → List ℕ → ℕ → Type 0
+IsCheckOf known [] path bytes output status = IsPlanCheckOf known path bytes output status
+IsCheckOf known (fault ∷ faults) path bytes output status =
     PutsLines (length (fault ∷ faults)) [] output × (status ≡ 2)
 
 -- the same of the list at the path that words name
@@ -71,7 +75,7 @@ pub record IsCheckAt (known : Option FileContents) (words : CheckAsked) (output 
   pub bytes : List ℕ
   pub read : IsTextAt known words.list.now bytes
   pub check : IsCheckOf (contents_below (optional_text words.root) known) (list_faults bytes)
-      bytes output status
+      words.list.now bytes output status
 
 -- ---- explain
 

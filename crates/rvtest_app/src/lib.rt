@@ -6,6 +6,7 @@
 #![tactic(auto)]
 
 mod check;
+mod check_text;
 mod chosen_rows;
 mod destinations;
 mod diff;

@@ -1,0 +1,103 @@
+-- What `check` says of a list without faults: a line for each job that is refused, a warning for each job that expects two
+-- ends, and a line that counts both.
+use Rattle.std.specs.Prelude.{◌==◌, ◌+◌, ℕ, List, [], ◌++◌, Option, Some, None, codes, if◌then◌else◌, length, option_map}
+use Rattle.std.specs.Prelude.{slice_get, unwrap_or}
+use Rattle.std.specs.Fmt.{decimal}
+use Rattle.std.specs.List.{enumerate_from, flat_map}
+use Rattle.std.specs.Str.{is_utf8}
+use Rattle.rv_expect.specs.TwoEnds.{expects_two_ends}
+use Rattle.rv_files.specs.declared.noting_store.Unread.{Unread}
+use Rattle.rv_job_text.specs.RefusalReasons.{refusal_reason}
+use Rattle.rv_job_text.specs.ResultLine.{optional_reason_text}
+use Rattle.rv_jobs.specs.Plans.{Planned}
+use Rattle.rv_list_errors.specs.JobPlaces.{job_lines}
+use Rattle.rv_lists.specs.declared.job.ExpectedEnd.{ExpectedEnd}
+use Rattle.rv_lists.specs.declared.job.ExpectedEnd.TheVariants as expected
+use Rattle.rv_lists.specs.declared.job.Job.{Job}
+use Rattle.rv_rows.specs.Faults.{fault_name}
+use Rattle.rv_report.specs.Report.{line, refusal_name}
+use Rattle.rv_report.specs.declared.row.Refusal.{Refusal}
+use Rattle.rv_rows.specs.Outcome.{refusal_in}
+use Rattle.rv_rows.specs.Rows.{outcome_in}
+use Rattle.rv_text.specs.Printable.{printable_text}
+use Rattle.rvtest_app.specs.Commands.{refused_job_count, warned_job_count}
+
+-- ---- where a job stands
+
+-- the line on which each job begins; none is known in a text that is no UTF-8, which no list is
+abbrev pub job_begin_lines : List ℕ → List ℕ
+job_begin_lines text = if is_utf8 text then job_lines text else []
+
+-- the path of the list, and the line if it is known
+abbrev pub path_and_line : List ℕ → Option ℕ → List ℕ
+path_and_line path None = printable_text path
+path_and_line path (Some number) = printable_text path ++ codes ":" ++ decimal number
+
+-- where the job at a place begins, its number, counted from 1, and its name
+unfoldable pub job_prefix : List ℕ → List ℕ → ℕ → Job → List ℕ
+job_prefix path lines place job =
+    path_and_line path (slice_get lines place) ++ codes ": job " ++ decimal (place + 1) ++ codes " (" ++ job.name ++ codes "): "
+
+-- ---- a job that is refused
+
+-- the word for why it is refused, and the reason where more is known
+abbrev pub refusal_text : Refusal → Option (List ℕ) → List ℕ
+refusal_text why reason = codes "refused " ++ refusal_name why ++ optional_reason_text reason
+
+unfoldable pub refused_job_line : List ℕ → List ℕ → Planned → List Unread → ℕ → Job → Refusal → List ℕ
+refused_job_line path lines plan unread place job why =
+    line (job_prefix path lines place job ++ refusal_text why (refusal_reason plan.answers unread job why))
+
+-- its line; nothing of a job that is not refused
+unfoldable pub refused_job_text : List ℕ → List ℕ → Planned → List Unread → ℕ → Job → List ℕ
+refused_job_text path lines plan unread place job =
+    unwrap_or (option_map (refused_job_line path lines plan unread place job)
+    (refusal_in (outcome_in plan.answers job).ending)) []
+
+-- ---- a job that expects two ends
+
+-- what a list says for the end that a job expects
+abbrev pub expected_end_name : Option ExpectedEnd → List ℕ
+expected_end_name (Some (expected.Fault kind)) = fault_name kind
+expected_end_name _ = codes "budget"
+
+-- the code and the end that a job expects, which no run meets
+abbrev pub two_ends_text : Option ℕ → Option ExpectedEnd → List ℕ
+two_ends_text code end = codes "warning: expect_exit = " ++ decimal (unwrap_or code 0)
+    ++ codes " beside expect_end = \"" ++ expected_end_name end
+    ++ codes "\": a run ends in one way, so the job never passes"
+
+unfoldable pub two_ends_line : List ℕ → List ℕ → ℕ → Job → List ℕ
+two_ends_line path lines place job =
+    line (job_prefix path lines place job ++ two_ends_text job.expect_exit job.expect_end)
+
+-- its warning; nothing of a job that does not expect two
+unfoldable pub warned_job_text : List ℕ → List ℕ → ℕ → Job → List ℕ
+warned_job_text path lines place job = if expects_two_ends job then two_ends_line path lines place job else []
+
+-- ---- the counts
+
+abbrev pub refused_count_text : ℕ → List ℕ
+refused_count_text refused = if refused == 0 then codes "none refused" else decimal refused ++ codes " refused"
+
+-- told where there are any
+abbrev pub warning_count_text : ℕ → List ℕ
+warning_count_text warned = if warned == 0 then []
+    else codes ", " ++ decimal warned ++ (if warned == 1 then codes " warning" else codes " warnings")
+
+unfoldable pub job_counts_line : ℕ → ℕ → ℕ → List ℕ
+job_counts_line jobs refused warned =
+    line (decimal jobs ++ codes " jobs, " ++ refused_count_text refused ++ warning_count_text warned)
+
+-- ---- the text
+
+-- a text for each job and its place, counted from 0, in order
+abbrev pub texts_of_jobs : (ℕ → Job → List ℕ) → List Job → List ℕ
+texts_of_jobs text jobs = flat_map (λ entry. text entry.0 entry.1) (enumerate_from 0 jobs)
+
+-- what is said of the list of a path and a text, by its plan and what was noted of files that were not read
+unfoldable pub check_text : List ℕ → List ℕ → Planned → List Unread → List ℕ
+check_text path text plan unread = let lines = job_begin_lines text in
+    texts_of_jobs (refused_job_text path lines plan unread) plan.jobs
+    ++ texts_of_jobs (warned_job_text path lines) plan.jobs
+    ++ job_counts_line (length plan.jobs) (refused_job_count plan) (warned_job_count plan)
