@@ -2,8 +2,8 @@
 
 use crate::expectation_fault::expectation_explanation;
 use crate::explanations::{
-    BUDGET, IMAGE, INPUT, INPUT_HEX, ISA, ISA_OF_64_BITS, ISA_WITH_A, ISA_WITH_FLOATS, LOAD, MISALIGNED,
-    NAME, PAIRS, SIGNATURE, Told, push_explanation,
+    BUDGET, IMAGE, INPUT, INPUT_HEX, ISA, ISA_OF_64_BITS, ISA_WITH_A, ISA_WITH_FLOATS, LOAD,
+    MISALIGNED, NAME, PAIRS, SIGNATURE, Told, push_explanation,
 };
 use crate::keys::push_unknown_job_key;
 use crate::kinds::push_wrong_kind;
@@ -80,7 +80,9 @@ fn isa_explanation(table: &Table) -> Told {
 
 // The first letter of a set of 32 bits that stands for none of I, M and C.
 fn unsimulated_letter(isa: &str) -> Option<char> {
-    isa.chars().skip(4).find(|letter| !matches!(letter, 'i' | 'm' | 'c'))
+    isa.chars()
+        .skip(4)
+        .find(|letter| !matches!(letter, 'i' | 'm' | 'c'))
 }
 
 fn input_explanation(table: &Table) -> Told {

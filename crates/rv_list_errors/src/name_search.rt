@@ -20,12 +20,7 @@ pub fn near_job(alloc: Global, jobs: &[Job], text: &str) -> Result<Option<usize>
     }
 }
 
-fn is_job_near(
-    alloc: Global,
-    jobs: &[Job],
-    text: &str,
-    place: usize,
-) -> Result<bool, AllocError>
+fn is_job_near(alloc: Global, jobs: &[Job], text: &str, place: usize) -> Result<bool, AllocError>
     requires { place < length jobs.now }
     ensures { IfOk result (λ near. IsTrue near ↔ IsNearJob jobs.now text.now place) }
 {
