@@ -4,7 +4,6 @@ use Rattle.std.specs.Prelude.{codes, if◌then◌else◌}
 use Rattle.std.specs.Str.{bytes_eq}
 use Rattle.std.specs.Io.KnownBytes.{Appends}
 use Rattle.rv_files.specs.Placed.{PlacedFile}
-use Rattle.rvtest_app.specs.declared.outlets.OpenFile.{OpenFile}
 use Rattle.rvtest_app.specs.declared.outlets.Outlet.{Outlet}
 use Rattle.rvtest_app.specs.declared.outlets.Outlet.TheVariants as outlet
 use Rattle.rvtest_app.specs.declared.outlets.Outlets.{Outlets}

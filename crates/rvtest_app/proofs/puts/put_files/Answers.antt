@@ -1,4 +1,3 @@
-use Rattle.std.proofs.Common.{sym}
 use Rattle.rvtest_app.proofs.PutTexts.{both_placed, stdout_told, unfailed_after}
 use Rattle.rvtest_app.proofs.Results.{OnOk-from, OnOk-map}
 use Rattle.rvtest_app.proofs.puts.put_files.Goals as goal

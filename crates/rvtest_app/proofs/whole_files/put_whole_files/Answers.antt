@@ -1,5 +1,4 @@
 use Rattle.std.proofs.Common.{◌∙◌, ap, length}
-use Rattle.rv_junit.specs.Junit.{junit_text}
 use Rattle.rvtest_app.specs.ReportSummary.{failed_line}
 use Rattle.rvtest_app.proofs.PutTexts.{texts_of_rows}
 use Rattle.rvtest_app.proofs.whole_files.put_whole_files.Goals as goal
