@@ -1,3 +1,4 @@
 pub mod HalfwordForms
 pub mod Rows
 pub mod Apart
+pub mod Missing

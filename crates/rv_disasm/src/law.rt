@@ -1,8 +1,10 @@
-//! A law of the rows, with nothing to run.
-ghost use Rattle.std.specs.Prelude.{◌≡◌, ℕ, None, Some};
+//! Laws of what is told of a code, with nothing to run.
+ghost use Rattle.std.specs.Prelude.{◌≡◌, ℕ, None, Some, true};
+ghost use Rattle.rv_isa.specs.Extensions.{has, RV32C, RV32M};
 ghost use Rattle.rv_isa.specs.Halfwords.{meaning16};
 ghost use Rattle.rv_isa.specs.Words.{meaning32};
 ghost use Rattle.rv_isa.specs.declared.instruction.Instr.{Instr};
+ghost use Rattle.rv_isa.specs.declared.sets.Isa.{Isa};
 ghost use Rattle.rv_isa.specs.declared.sets.Isa.TheVariants as set;
 ghost use Rattle.rv_disasm.specs.Unsimulated.{unsimulated16, unsimulated32};
 
@@ -10,4 +12,13 @@ ghost use Rattle.rv_disasm.specs.Unsimulated.{unsimulated16, unsimulated32};
 pub fn simulated_codes_are_apart()
     ensures words { (w : ℕ) (i : Instr) → meaning32 set.Imc w ≡ Some i → unsimulated32 w ≡ None }
     ensures halfwords { (h : ℕ) (i : Instr) → meaning16 set.Imc h ≡ Some i → unsimulated16 h ≡ None }
+{}
+
+/// A set with M has each word of RV32IMC, and a set with C each halfword. So a word of RV32IMC which a set leaves out is left
+/// out for want of M, and a halfword for want of C.
+pub fn missing_codes_are_of_m_or_c()
+    ensures words { (isa : Isa) (w : ℕ) (i : Instr) → has isa RV32M ≡ true
+        → meaning32 set.Imc w ≡ Some i → meaning32 isa w ≡ Some i }
+    ensures halfwords { (isa : Isa) (h : ℕ) (i : Instr) → has isa RV32C ≡ true
+        → meaning16 set.Imc h ≡ Some i → meaning16 isa h ≡ Some i }
 {}

@@ -18,5 +18,5 @@ mod unsimulated;
 
 pub use assembly_text::{push_assembly16, push_assembly32};
 pub use illegal_text::{push_illegal16, push_illegal32};
-pub use law::simulated_codes_are_apart;
+pub use law::{missing_codes_are_of_m_or_c, simulated_codes_are_apart};
 pub use operand::register_name;
