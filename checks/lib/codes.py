@@ -164,6 +164,11 @@ def told_of(job, meaning, code, letters, start):
     yield f"     {told}"
 
 
+def effect_in(columns):
+    """What stands behind the text of a code: behind 24 columns, or behind two spaces where the text is longer."""
+    return columns[26:] if columns[24:26] in ("", "  ") else columns.partition("  ")[2]
+
+
 def without_texts(out):
     """Of the lines of instructions what the code did, and none of the last line."""
     kept = []
@@ -171,7 +176,7 @@ def without_texts(out):
         if not re.match(r"     [0-9a-f]{8}  ", line):
             kept.append(line)
         elif line[5:13] == f"{CODE:08x}" and not line.endswith("not run: the budget is used up"):
-            kept.append(f"     {line[73:]}")
+            kept.append(f"     {effect_in(line[47:])}")
     return lines(*kept[:-1]).encode()
 
 
