@@ -12,3 +12,11 @@ pub mod Told
 pub mod Compared
 pub mod Public
 pub mod RowTexts
+pub mod LineLists
+pub mod Grown
+pub mod KeptRow
+pub mod RowLines
+pub mod PartialRow
+pub mod KeptRows
+pub mod KeptReport
+pub mod LeastLine
