@@ -1,9 +1,8 @@
 -- The first lines of a report are those of what a text says that begins so.
-use Rattle.std.proofs.Common.{◌≡◌, ◌∙◌, ◌+◌, ◌-◌, ◌<◌, ◌≤◌, ℕ, zero, suc, Bool, true, false, ◌&&◌, not, cond, List, [], ◌∷◌, ◌++◌}
+use Rattle.std.proofs.Common.{◌≡◌, ◌∙◌, ◌+◌, ◌-◌, ◌≤◌, ℕ, zero, suc, Bool, true, ◌&&◌, not, cond, List, [], ◌∷◌, ◌++◌}
 use Rattle.std.proofs.Common.{length, take, refl, sym, ap, arith, subst, append_assoc, append-nil, length-append, take_all, inl, inr}
 use Rattle.std.specs.Prelude.{nat_le, nat_lt, is_some}
 use Rattle.std.proofs.lemmas.Bool.{and_parts, and_from, cases_lt}
-use Rattle.std.proofs.lemmas.Bool.Decides.{nat_tests}
 use Rattle.std.proofs.lemmas.List.{take-append-le, take-map, map-append}
 use Rattle.rv_base.specs.Names.{place_in}
 use Rattle.rv_base.specs.Limits.{most_jobs}
@@ -12,11 +11,11 @@ use Rattle.rv_report.specs.declared.saved.Extent.{Extent}
 use Rattle.rv_report.specs.declared.saved.Extent.TheVariants.{Whole}
 use Rattle.rv_report.specs.declared.saved.SavedReport.{SavedReport}
 use Rattle.rv_report.specs.Report.{line}
-use Rattle.rv_report.specs.LenientReport.{lines, Gathered, gathering_between_rows, with_stage_over, with_unfinished_row, gather_rows}
+use Rattle.rv_report.specs.LenientReport.{lines, Gathered, gathering_between_rows, with_unfinished_row, gather_rows}
 use Rattle.rv_report.specs.LenientReport.{lenient_report, rising_count, count_before_repeated_name, extent_or_choice}
 use Rattle.rv_report.specs.Saved.{IsSaved, are_rising, are_new, row_names, numbered_text, extent_line, saved_text}
 use Rattle.rv_report.proofs.Spelled.{says, says_line}
-use Rattle.rv_report.proofs.Parts.{HasNumbers, last_words, last_is_line, last_says, lacks-last, row_has_word_numbers}
+use Rattle.rv_report.proofs.Parts.{last_words, last_is_line, last_says, lacks-last, row_has_word_numbers}
 use Rattle.rv_report.proofs.Cut.{few_numbers, length-names, length-taken}
 use Rattle.rv_report.proofs.Reports.{rows_say, finished_all, gathered_all, not_not, said_of, says_itself}
 use Rattle.rv_report.proofs.LineLists.{joined}
@@ -63,7 +62,7 @@ numbered_append (a ∷ ks) bs (x ∷ xs) ys h =
     ∙ sym (append_assoc (row_lines a x) (numbered_lines ks xs) (numbered_lines bs ys))
 
 -- what is said, of what is gathered
-abbrev said_by : Gathered → SavedReport
+abbrev pub said_by : Gathered → SavedReport
 said_by g = said_of (take (rising_count 0 g.numbers) g.rows) g
 
 -- what is taken of two lists, of which the first is there
@@ -106,9 +105,19 @@ lines_with numbers ks bs rows xs ys last known more n r even is =
     ∙ ap (λ (t : List (List ℕ)). (t ++ numbered_lines bs ys) ++ last) is
     ∙ four known more (numbered_lines bs ys) last
 
+-- the known lines are said, and how the lines go on behind them: some of the numbers have rows, and a
+-- last line follows
+pub record SaidLines (known more : List (List ℕ)) (numbers : List ℕ) (e : Extent) (ls : List (List ℕ)) : Type 0 where
+  pub taken : ℕ
+  pub rows : List Row
+  pub all_numbers : List ℕ
+  pub count : ℕ
+  pub are : ls ≡ known ++ ((more ++ numbered_lines (take taken numbers) rows)
+      ++ last_words (extent_or_choice e all_numbers) count ∷ [])
+
 -- the rows that are covered are said
-kept_cut : (r : SavedReport) → IsSaved r → (k : ℕ) (f : Gathered) → Covers [] [] r.numbers r.rows k f
-    → (more : List (List ℕ)) × (saved_lines (said_by f) ≡ take k (numbered_lines r.numbers r.rows) ++ more)
+pub kept_cut : (r : SavedReport) → IsSaved r → (k : ℕ) (f : Gathered) → (c : Covers [] [] r.numbers r.rows k f)
+    → SaidLines (take k (numbered_lines r.numbers r.rows)) c.more c.more_numbers f.extent (saved_lines (said_by f))
 kept_cut r h k f c =
     let counted = h.listed.counted in
     let within = c.within in
@@ -127,10 +136,15 @@ kept_cut r h k f c =
     let bs = take (count - length ks) c.more_numbers in
     let ys = take (count - length c.first) mr in
     let last = last_words (extent_or_choice f.extent numbers) (length (take count rising)) ∷ [] in
-    ((c.more ++ numbered_lines bs ys) ++ last,
-      lines_with numbers ks bs (take count rising) c.first ys last (take k (numbered_lines r.numbers r.rows)) c.more
-      (taken_with count f.numbers ks c.more_numbers c.numbers_are (omega arith))
-      (taken_with count rising c.first mr rising_is (omega arith)) (la ∙ sym lf) c.lines)
+    record {
+      taken = count - length ks;
+      rows = ys;
+      all_numbers = numbers;
+      count = length (take count rising);
+      are = lines_with numbers ks bs (take count rising) c.first ys last (take k (numbered_lines r.numbers r.rows)) c.more
+          (taken_with count f.numbers ks c.more_numbers c.numbers_are (omega arith))
+          (taken_with count rising c.first mr rising_is (omega arith)) (la ∙ sym lf) c.lines;
+    }
 
 -- ---- a whole report says itself, whatever follows
 
@@ -161,7 +175,7 @@ says_itself_past r h w = ap said_by (gathered_past r h w) ∙ says_itself r h
 
 -- ---- all first lines
 
-abbrev said_lines : List ℕ → List (List ℕ)
+abbrev pub said_lines : List ℕ → List (List ℕ)
 said_lines text = saved_lines (lenient_report text)
 
 -- lines of the rows
@@ -173,8 +187,13 @@ rows_kept r h k w within =
     let counted = h.listed.counted in
     let few = few_numbers r.numbers h.listed.rising in
     let start = gathering_between_rows [] [] Whole in
-    kept_cut r h k (with_unfinished_row (says (joined (take k (numbered_lines r.numbers r.rows)) ++ w) start))
-    (rows_covered k r.numbers r.rows w [] [] Whole 0 h.rows counted h.listed.rising (omega arith) within)
+    let f = with_unfinished_row (says (joined (take k (numbered_lines r.numbers r.rows)) ++ w) start) in
+    let c = rows_covered k r.numbers r.rows w [] [] Whole 0 h.rows counted h.listed.rising (omega arith) within in
+    let s = kept_cut r h k f c in (
+      (c.more ++ numbered_lines (take s.taken c.more_numbers) s.rows)
+          ++ last_words (extent_or_choice f.extent s.all_numbers) s.count ∷ [],
+      s.are,
+    )
 
 -- all lines
 all_kept : (r : SavedReport) → IsSaved r → (w : List ℕ) → said_lines (joined (saved_lines r) ++ w) ≡ saved_lines r

@@ -1,7 +1,7 @@
 -- Rows that have a line among the first of a report's are there, whatever follows.
 use Rattle.std.proofs.Common.{◌≡◌, ◌∙◌, ◌+◌, ◌-◌, ◌<◌, ◌≤◌, ◌^◌, ℕ, zero, suc, true, List, [], ◌∷◌, ◌++◌, length}
 use Rattle.std.proofs.Common.{take, refl, sym, ap, arith, subst, append_assoc, append-nil, length-append, inl, inr}
-use Rattle.std.specs.List.{flat_map, AllByRecursion}
+use Rattle.std.specs.List.{AllByRecursion}
 use Rattle.std.proofs.lemmas.Bool.{cases_lt}
 use Rattle.std.proofs.lemmas.Grind.{flat_map-append}
 use Rattle.std.proofs.lemmas.List.{take-append-le}
@@ -14,7 +14,7 @@ use Rattle.rv_report.specs.Saved.{IsRow, are_rising, row_names}
 use Rattle.rv_report.proofs.Spelled.{says, row_says}
 use Rattle.rv_report.proofs.Reports.{rising_parts}
 use Rattle.rv_report.proofs.LineLists.{joined}
-use Rattle.rv_report.proofs.Grown.{at_end, Extends, grown}
+use Rattle.rv_report.proofs.Grown.{Extends, grown}
 use Rattle.rv_report.proofs.KeptRow.{HasRow}
 use Rattle.rv_report.proofs.RowLines.{row_lines, numbered_lines, joined_row}
 use Rattle.rv_report.proofs.PartialRow.{Agrees, partial_row}
@@ -34,7 +34,7 @@ pub record Covers (earlier : List ℕ) (done : List Row) (ns : List ℕ) (rows :
   pub lines : numbered_lines (take count ns) first ≡ take k (numbered_lines ns rows) ++ more
 
 -- no line of them
-none_covered : (earlier : List ℕ) (done : List Row) (ns : List ℕ) (rows : List Row) (f : Gathered) → Extends earlier done f
+unfoldable pub none_covered : (earlier : List ℕ) (done : List Row) (ns : List ℕ) (rows : List Row) (f : Gathered) → Extends earlier done f
     → Covers earlier done ns rows zero f
 none_covered earlier done ns rows f h = record {
   count = zero;
@@ -67,7 +67,7 @@ empty_covered earlier done (suc k) f h = record {
 }
 
 -- some lines of the first row
-one_covered : (earlier : List ℕ) (done : List Row) (n : ℕ) (ns : List ℕ) (row : Row) (rows : List Row) (k : ℕ) (f : Gathered)
+unfoldable pub one_covered : (earlier : List ℕ) (done : List Row) (n : ℕ) (ns : List ℕ) (row : Row) (rows : List Row) (k : ℕ) (f : Gathered)
     → k ≤ length (row_lines n row) → HasRow earlier done n (Agrees n row k) f
     → Covers earlier done (n ∷ ns) (row ∷ rows) k f
 one_covered earlier done n ns row rows k f few h = record {
@@ -91,7 +91,7 @@ take_past (x ∷ xs) ys zero i is = absurd (omega arith)
 take_past (x ∷ xs) ys (suc k) i is = ap (λ t. x ∷ t) (take_past xs ys k i (omega arith))
 
 -- the first row, and lines of those behind it
-more_covered : (earlier : List ℕ) (done : List Row) (n : ℕ) (ns : List ℕ) (row : Row) (rows : List Row) (k i : ℕ)
+unfoldable pub more_covered : (earlier : List ℕ) (done : List Row) (n : ℕ) (ns : List ℕ) (row : Row) (rows : List Row) (k i : ℕ)
     (f : Gathered) → k ≡ length (row_lines n row) + i
     → Covers (earlier ++ n ∷ []) (done ++ row ∷ []) ns rows i f
     → Covers earlier done (n ∷ ns) (row ∷ rows) k f
@@ -114,7 +114,7 @@ more_covered earlier done n ns row rows k i f is h =
     }
 
 -- a whole row is read
-whole_row_says : (n : ℕ) (row : Row) (ls : List (List ℕ)) (w earlier : List ℕ) (done : List Row) (e : Extent) → IsRow row
+pub whole_row_says : (n : ℕ) (row : Row) (ls : List (List ℕ)) (w earlier : List ℕ) (done : List Row) (e : Extent) → IsRow row
     → 0 < n → n < 2 ^ 32 → length done < most_jobs
     → says (joined (row_lines n row ++ ls) ++ w) (gathering_between_rows earlier done e)
     ≡ says (joined ls ++ w) (gathering_between_rows (earlier ++ n ∷ []) (done ++ row ∷ []) e)
@@ -126,7 +126,7 @@ whole_row_says n row ls w earlier done e is some small few =
     ∙ ap (λ (t : List ℕ). says t g) (append_assoc (row_text (n - 1) row) (joined ls) w)
     ∙ row_says (n - 1) n row (joined ls ++ w) earlier done e is same small few
 
-between_grown : (w earlier : List ℕ) (done : List Row) (e : Extent)
+pub between_grown : (w earlier : List ℕ) (done : List Row) (e : Extent)
     → Extends earlier done (with_unfinished_row (says w (gathering_between_rows earlier done e)))
 unfolding gathering_between_rows
 between_grown w earlier done e = grown (lines w) (gathering_between_rows earlier done e)

@@ -1,7 +1,6 @@
 -- The line that a report is refused at is the first that no report has.
-use Rattle.std.proofs.Common.{◌≡◌, ◌∙◌, ◌==◌, ◌+◌, ◌-◌, ◌<◌, ◌≤◌, ℕ, zero, suc, Bool, true, false, ◌&&◌, not, cond, List, []}
-use Rattle.std.proofs.Common.{◌∷◌, ◌++◌, length, take, refl, sym, ap, arith, subst, append_assoc, inl, inr}
-use Rattle.std.specs.List.{flat_map}
+use Rattle.std.proofs.Common.{◌≡◌, ◌∙◌, ◌==◌, ◌+◌, ◌-◌, ◌≤◌, ℕ, zero, suc, Bool, true, false, not, cond, List, []}
+use Rattle.std.proofs.Common.{◌∷◌, ◌++◌, length, refl, sym, ap, arith, subst, inl, inr}
 use Rattle.std.proofs.lemmas.Bool.{and_from, cases_Bool, eqb-true}
 use Rattle.std.proofs.lemmas.Grind.{flat_map-append}
 use Rattle.rv_report.specs.declared.saved.SavedReport.{SavedReport}
@@ -34,20 +33,20 @@ one_less : (n : ℕ) → suc n - 1 ≡ n
 one_less n = omega arith
 
 -- a line feed ends the first line
-past_feed : (b c : ℕ) (bs : List ℕ) → (b == 10) ≡ true → first_lines (suc c) (b ∷ bs) ≡ b ∷ first_lines c bs
+pub past_feed : (b c : ℕ) (bs : List ℕ) → (b == 10) ≡ true → first_lines (suc c) (b ∷ bs) ≡ b ∷ first_lines c bs
 unfolding first_lines
 past_feed b c bs e =
     ap (λ (t : Bool). cond t [] (b ∷ first_lines (cond (b == 10) (suc c - 1) (suc c)) bs)) (not_empty c)
     ∙ ap (λ (t : Bool). b ∷ first_lines (cond t (suc c - 1) (suc c)) bs) e
     ∙ ap (λ (n : ℕ). b ∷ first_lines n bs) (one_less c)
 
-past_byte : (b c : ℕ) (bs : List ℕ) → (b == 10) ≡ false → first_lines (suc c) (b ∷ bs) ≡ b ∷ first_lines (suc c) bs
+pub past_byte : (b c : ℕ) (bs : List ℕ) → (b == 10) ≡ false → first_lines (suc c) (b ∷ bs) ≡ b ∷ first_lines (suc c) bs
 unfolding first_lines
 past_byte b c bs e =
     ap (λ (t : Bool). cond t [] (b ∷ first_lines (cond (b == 10) (suc c - 1) (suc c)) bs)) (not_empty c)
     ∙ ap (λ (t : Bool). b ∷ first_lines (cond t (suc c - 1) (suc c)) bs) e
 
-feeds_of : (b : ℕ) (bs : List ℕ) (t : Bool) → (b == 10) ≡ t
+pub feeds_of : (b : ℕ) (bs : List ℕ) (t : Bool) → (b == 10) ≡ t
     → count_of_line_feeds (b ∷ bs) ≡ cond t (count_of_line_feeds bs + 1) (count_of_line_feeds bs)
 feeds_of b bs t e = ap (λ (s : Bool). cond s (count_of_line_feeds bs + 1) (count_of_line_feeds bs)) e
 
@@ -97,7 +96,7 @@ split_lines (b ∷ bs) (suc c) h =
 -- ---- lines that a report begins with
 
 -- lines that a report begins with are said, whatever follows
-said_begins : (r : SavedReport) → IsSaved r → (ls : List (List ℕ)) (v w : List ℕ) → AreLines ls
+pub said_begins : (r : SavedReport) → IsSaved r → (ls : List (List ℕ)) (v w : List ℕ) → AreLines ls
     → saved_text r ≡ joined ls ++ v
     → (rest : List ℕ) × (saved_text (lenient_report (joined ls ++ w)) ≡ joined ls ++ rest)
 said_begins r h ls v w are is =
@@ -112,6 +111,8 @@ pub lines_stay : (bytes : List ℕ) (c : ℕ) → c ≤ count_of_line_feeds byte
 lines_stay bytes c within begins =
     let s = split_lines bytes c within in
     let said = said_begins begins.0 begins.2 s.ls begins.1 s.rest s.are_lines
-    (begins.3 ∙ ap (λ (t : List ℕ). t ++ begins.1) s.first) in
-    (said.0, ap (λ (t : List ℕ). saved_text (lenient_report t)) s.all ∙ said.1
-      ∙ ap (λ (t : List ℕ). t ++ said.0) (sym s.first))
+    (begins.3 ∙ ap (λ (t : List ℕ). t ++ begins.1) s.first) in (
+      said.0,
+      ap (λ (t : List ℕ). saved_text (lenient_report t)) s.all ∙ said.1
+          ∙ ap (λ (t : List ℕ). t ++ said.0) (sym s.first),
+    )

@@ -16,7 +16,15 @@ pub mod LineLists
 pub mod Grown
 pub mod KeptRow
 pub mod RowLines
+pub mod PartialSignature
 pub mod PartialRow
 pub mod KeptRows
 pub mod KeptReport
 pub mod LeastLine
+pub mod LeastTold
+pub mod CutText
+pub mod CutWord
+pub mod NextRow
+pub mod NextRows
+pub mod CutOnward
+pub mod CutReport

@@ -1,11 +1,11 @@
 -- Lists of lines, and their text.
-use Rattle.std.proofs.Common.{◌≡◌, ◌∙◌, ◌==◌, ◌+◌, ◌<◌, ℕ, suc, zero, Bool, true, false, ◌&&◌, not, List, [], ◌∷◌, ◌++◌, length}
-use Rattle.std.proofs.Common.{take, drop, get_or, refl, sym, ap, arith, append_assoc, append-nil, subst, length-append}
+use Rattle.std.proofs.Common.{◌≡◌, ◌∙◌, ◌==◌, ℕ, true, not, List, [], ◌∷◌, ◌++◌, length}
+use Rattle.std.proofs.Common.{take, drop, get_or, refl, sym, ap, arith, append_assoc, subst}
 use Rattle.std.specs.List.{flat_map, AllByRecursion}
 use Rattle.std.proofs.lemmas.Bool.{and_parts, false≢true}
 use Rattle.rv_report.specs.Report.{line}
-use Rattle.rv_report.specs.LenientReport.{lines, Gathered, with_line}
-use Rattle.rv_report.proofs.Pieces.{lacks, lines_at}
+use Rattle.rv_report.specs.LenientReport.{Gathered, with_line}
+use Rattle.rv_report.proofs.Pieces.{lacks}
 use Rattle.rv_report.proofs.Spelled.{says, says_line}
 
 -- the text of lines, each with its line feed
@@ -16,7 +16,7 @@ joined ls = flat_map line ls
 abbrev pub AreLines : List (List ℕ) → Type 0
 AreLines ls = AllByRecursion (λ l. lacks 10 l ≡ true) ls
 
-no_feed : (b : ℕ) (bs : List ℕ) → lacks 10 (b ∷ bs) ≡ true → b ≡ 10 → ⊥
+pub no_feed : (b : ℕ) (bs : List ℕ) → lacks 10 (b ∷ bs) ≡ true → b ≡ 10 → ⊥
 no_feed b bs h e =
     let f : lacks 10 (10 ∷ bs) ≡ true = subst (λ (n : ℕ). lacks 10 (n ∷ bs) ≡ true) e h in
     false≢true f
@@ -34,7 +34,7 @@ same_line (x ∷ xs) (y ∷ ys) a b hx hy e =
     let rest = same_line xs ys a b px.1 py.1 (ap (λ (t : List ℕ). drop 1 t) e) in
     (ap (λ (n : ℕ). n ∷ xs) first ∙ ap (λ (t : List ℕ). y ∷ t) rest.0, rest.1)
 
-line_is_some : (l a : List ℕ) → line l ++ a ≡ [] → ⊥
+pub line_is_some : (l a : List ℕ) → line l ++ a ≡ [] → ⊥
 line_is_some [] a e = let n : length (10 ∷ a) ≡ 0 = ap (λ (t : List ℕ). length t) e in omega arith
 line_is_some (b ∷ bs) a e =
     let n : length (b ∷ ((bs ++ 10 ∷ []) ++ a)) ≡ 0 = ap (λ (t : List ℕ). length t) e in omega arith

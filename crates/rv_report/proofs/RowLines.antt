@@ -1,8 +1,8 @@
 -- A row and a report as lists of lines.
-use Rattle.std.proofs.Common.{◌≡◌, ◌∙◌, ◌+◌, ◌-◌, ◌<◌, ◌≤◌, ◌^◌, ℕ, suc, true, List, [], ◌∷◌, ◌++◌, length, Option, Some, None}
+use Rattle.std.proofs.Common.{◌≡◌, ◌∙◌, ◌+◌, ◌-◌, ◌<◌, ◌≤◌, ◌^◌, ℕ, true, List, [], ◌∷◌, ◌++◌, length, Option, Some, None}
 use Rattle.std.proofs.Common.{map, refl, sym, ap, arith, append-nil}
 use Rattle.std.specs.Prelude.{codes}
-use Rattle.std.specs.List.{flat_map, AllByRecursion}
+use Rattle.std.specs.List.{AllByRecursion}
 use Rattle.std.specs.Fmt.{decimal}
 use Rattle.std.proofs.lemmas.List.Folds.{flat_map-map}
 use Rattle.std.proofs.lemmas.Grind.{flat_map-append}
@@ -11,14 +11,13 @@ use Rattle.rv_text.specs.Words.{word_digits}
 use Rattle.rv_base.specs.Limits.{most_jobs}
 use Rattle.rv_report.specs.declared.row.Row.{Row}
 use Rattle.rv_report.specs.declared.row.Verdict.{Verdict}
-use Rattle.rv_report.specs.declared.saved.Extent.{Extent}
 use Rattle.rv_report.specs.declared.saved.SavedReport.{SavedReport}
-use Rattle.rv_report.specs.Report.{line, word_line, verdict_name, end_line, dash_if_empty, console_line, signature_lines, row_text}
-use Rattle.rv_report.specs.Saved.{IsRow, IsWord, AreWords, IsSaved, are_rising, most_words, numbered_text, extent_line, saved_text}
+use Rattle.rv_report.specs.Report.{line, verdict_name, end_line, dash_if_empty, console_line, signature_lines, row_text}
+use Rattle.rv_report.specs.Saved.{IsRow, AreWords, IsSaved, are_rising, most_words, numbered_text, saved_text}
 use Rattle.rv_report.proofs.Pieces.{lacks}
 use Rattle.rv_report.proofs.Words.{lacks-decimal, lacks-digits}
 use Rattle.rv_report.proofs.Spelled.{end_words, end_is_line, lacks-job, lacks-end, lacks-shown, lacks-verdict, regroup}
-use Rattle.rv_report.proofs.Parts.{HasNumbers, last_words, last_is_line, lacks-last, row_has_word_numbers}
+use Rattle.rv_report.proofs.Parts.{last_words, last_is_line, lacks-last, row_has_word_numbers}
 use Rattle.rv_report.proofs.Cut.{few_numbers}
 use Rattle.rv_report.proofs.Drafts.{all-append}
 use Rattle.rv_report.proofs.Reports.{rising_parts}
@@ -59,7 +58,7 @@ saved_lines r = numbered_lines r.numbers r.rows ++ last_words r.extent (length r
 
 -- ---- their text
 
-joined_signature : (s : Option (List ℕ)) → joined (lines_of_signature s) ≡ signature_lines s
+pub joined_signature : (s : Option (List ℕ)) → joined (lines_of_signature s) ≡ signature_lines s
 unfolding signature_lines
 joined_signature None = refl
 joined_signature (Some ws) = ap (λ (t : List ℕ). line (count_words (length ws)) ++ t) (flat_map-map line word_digits ws)
@@ -80,7 +79,7 @@ joined_row n place row same =
     ∙ append-nil (j ++ end_line row.ending ++ s ++ c ++ g ++ v)
     ∙ ap (λ (k : ℕ). line (job_words k row.name) ++ end_line row.ending ++ s ++ c ++ g ++ v) (sym same)
 
-joined_numbered : (before : ℕ) (ns : List ℕ) (rows : List Row) → are_rising before most_jobs ns ≡ true
+pub joined_numbered : (before : ℕ) (ns : List ℕ) (rows : List Row) → are_rising before most_jobs ns ≡ true
     → joined (numbered_lines ns rows) ≡ numbered_text ns rows
 unfolding numbered_text
 joined_numbered before [] rows h = refl
@@ -117,9 +116,13 @@ pub row_is_lines : (n : ℕ) (row : Row) → n < 2 ^ 64 → IsRow row → AreLin
 row_is_lines n row small is =
     let steps = is.steps in
     let last = all-append (λ l. lacks 10 l ≡ true) (lines_of_signature row.signature) (verdict_words row.verdict ∷ [])
-    (signature_is_lines row.signature is.signature) (lacks-verdict row.verdict, tt) in
-    (lacks-job n row.name small is.name, (lacks-end row.ending is.ending,
-    (lacks-decimal 10 row.steps (omega arith) (omega arith), (lacks-shown row.console is.console, last))))
+    (signature_is_lines row.signature is.signature) (lacks-verdict row.verdict, tt) in (
+      lacks-job n row.name small is.name,
+      (
+        lacks-end row.ending is.ending,
+        (lacks-decimal 10 row.steps (omega arith) (omega arith), (lacks-shown row.console is.console, last)),
+      ),
+    )
 
 numbered_is_lines : (before : ℕ) (ns : List ℕ) (rows : List Row) → are_rising before most_jobs ns ≡ true
     → AllByRecursion IsRow rows → AreLines (numbered_lines ns rows)

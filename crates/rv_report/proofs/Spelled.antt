@@ -325,7 +325,7 @@ words_say (w ∷ ws) rest g h room =
     ∙ words_say ws rest (record g { words = g.words ++ w ∷ [] }) h.1 (omega arith)
     ∙ ap (λ (t : List ℕ). says rest (record g { words = t; stage = stage.Words })) (append_assoc g.words (w ∷ []) ws)
 
-abbrev words_or_nil : Option (List ℕ) → List ℕ
+abbrev pub words_or_nil : Option (List ℕ) → List ℕ
 words_or_nil None = []
 words_or_nil (Some words) = words
 
@@ -340,7 +340,7 @@ signature_text_says text g small = ap (λ (t : Bool). cond t (record g {
   stage = stage.Words;
 }) (with_stage_over g)) small
 
-signature_says : (s : Option (List ℕ)) (rest : List ℕ) (g : Gathered) → AreWords s
+pub signature_says : (s : Option (List ℕ)) (rest : List ℕ) (g : Gathered) → AreWords s
     → says (signature_lines s ++ rest) (record g { stage = stage.Signature })
     ≡ says rest (record g {
       signed = is_some s;
@@ -390,11 +390,11 @@ lacks-verdict verdict.Fail = refl
 pub regroup : (a b c d s v r : List ℕ) → a ++ b ++ c ++ d ++ s ++ v ++ r ≡ a ++ (b ++ (c ++ (d ++ (s ++ (v ++ r)))))
 regroup a b c d s v r = simp append_assoc
 
-same_signature : (s : Option (List ℕ)) → cond (is_some s) (Some (words_or_nil s)) None ≡ s
+pub same_signature : (s : Option (List ℕ)) → cond (is_some s) (Some (words_or_nil s)) None ≡ s
 same_signature None = refl
 same_signature (Some words) = refl
 
-same_length : (n : ℕ) → (n == n) ≡ true
+pub same_length : (n : ℕ) → (n == n) ≡ true
 same_length n = grind arith
 
 -- what is gathered when all lines of a row but the last are read
