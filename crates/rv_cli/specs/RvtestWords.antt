@@ -173,6 +173,15 @@ misuse_kinds None = []
 misuse_kinds (Some misuse.StampAlone) = kind.MissingRequiredArgument ∷ []
 misuse_kinds (Some _) = kind.ArgumentConflict ∷ []
 
+-- what is said of options that do not go together: which two, as the help writes them
+abbrev pub misuse_text : Misuse → Text
+misuse_text misuse.VerboseAndQuiet = codes "the argument '--verbose' cannot be used with '--quiet'"
+misuse_text misuse.ShardAndChoice =
+    codes "the argument '--shard <K/N>' cannot be used with '--only <NAME>', '--match <REGEX>' or '--failed <REPORT>'"
+misuse_text misuse.StampAlone = codes "the argument '--stamp <TEXT>' cannot be used without '--shard <K/N>'"
+misuse_text misuse.OneFile =
+    codes "the argument '--report <FILE>' cannot be used with '--junit <FILE>' of the same name: it is one file"
+
 -- the faults of a subcommand with these values that `clap` does not look for
 abbrev pub subcommand_fault_kinds : Text → List Row → Kinds
 subcommand_fault_kinds name rows = if bytes_eq name (codes "run") then misuse_kinds (run_misuse rows)

@@ -2,4 +2,8 @@ pub mod Counting
 pub mod JobTurns
 pub mod Tails
 pub mod JobLaw
+pub mod Heads
 pub mod OneMore
+pub mod NearestNames
+pub mod NamesTold
+pub mod ElementNames

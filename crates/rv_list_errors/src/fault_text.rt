@@ -1,11 +1,17 @@
 //! What is told of a fault.
 
+ghost use Rattle.std.specs.Prelude.{◌≡◌, ◌++◌, ◌<◌, IfOk, None, OnOk, slice_get, slice_index_or};
+ghost use Rattle.rv_list_errors.specs.FaultHeads.{borrowed_name, borrowed_names, fault_place, job_heading, line_text, look_place};
+ghost use Rattle.rv_list_errors.specs.FaultHeads.{name_text};
+ghost use Rattle.rv_list_errors.specs.Lines.{BeginsWith};
+
 use crate::job_fault::push_job_fault;
 use crate::list::List;
 use crate::list_fault::{push_list_fault, push_not_toml};
 use crate::message::Message;
 use crate::names::Suggestion;
 use rv_lists::JobError;
+use rv_text::{Span, push_spans, push_text};
 use std::alloc::{AllocError, Global};
 use toml::de::Error;
 
@@ -26,43 +32,104 @@ pub(crate) fn message_of_fault(
     look: &Look<'_>,
     fault: JobError,
     suggestion: Suggestion,
-) -> Result<Vec<u8>, AllocError> {
-    let mut message = Message::new(alloc);
-    message.push(file);
-    match look {
-        Look::NoToml(text, error) => push_not_toml(&mut message, text, error),
-        Look::List(list) => push_fault(&mut message, list, fault, suggestion),
-    }
-    message.finish()
+) -> Result<Vec<u8>, AllocError>
+    ensures { IfOk result (λ message. BeginsWith (file.now ++ look_place look.now fault.job) message.items) }
+{
+    let mut message = Vec::new(alloc);
+    push_text(&mut message, file)?;
+    push_fault_place(&mut message, look, fault.job)?;
+    let explanation = fault_explanation(alloc, look, fault, suggestion)?;
+    message.extend_from_slice(explanation.as_slice())?;
+    Ok(message)
 }
 
-fn push_fault(message: &mut Message, list: &List<'_>, fault: JobError, suggestion: Suggestion) {
-    if fault.job == 0 {
-        message.push(": ");
-        push_list_fault(message, list, fault.what);
+// Appends where a fault stands in the list, as far as its jobs are known.
+fn push_fault_place(message: &mut Vec<u8>, look: &Look<'_>, job: u32) -> Result<(), AllocError>
+    ensures { OnOk result (message.new.items ≡ message.old.items ++ look_place look.now job) }
+{
+    match look {
+        Look::NoToml(_, _) => Ok(()),
+        Look::List(list) => push_place_in_list(message, list, job),
+    }
+}
+
+fn push_place_in_list(message: &mut Vec<u8>, list: &List<'_>, job: u32) -> Result<(), AllocError>
+    ensures { OnOk result (message.new.items ≡ message.old.items
+        ++ fault_place list.now.lines.items (borrowed_names list.now.names.items) job) }
+{
+    if job == 0 {
+        push_text(message, ": ")
     } else {
-        let place = fault.job as usize - 1;
-        push_job_heading(message, list, place, fault.job);
-        push_job_fault(message, list, place, fault.what, suggestion);
+        push_job_heading(message, list, job)
     }
 }
 
 // Appends the line on which a job begins, its number, and its name where that is a text.
-fn push_job_heading(message: &mut Message, list: &List<'_>, place: usize, number: u32) {
-    if place < list.lines.len() {
-        message.push_number_between(":", list.lines[place] as u64, "");
-    }
-    message.push_number_between(": job ", u64::from(number), "");
-    if place < list.names.len() {
-        push_name_in_brackets(message, list.names[place]);
-    }
-    message.push(": ");
+fn push_job_heading(message: &mut Vec<u8>, list: &List<'_>, number: u32) -> Result<(), AllocError>
+    requires { 0 < number }
+    ensures { OnOk result (message.new.items ≡ message.old.items
+        ++ job_heading list.now.lines.items (borrowed_names list.now.names.items) number) }
+{
+    let place = number as usize - 1;
+    push_line_number(message, &list.lines, place)?;
+    push_spans(
+        message,
+        &[Span::Text(": job "), Span::Number(u64::from(number))],
+    )?;
+    push_name_in_brackets(message, name_at(&list.names, place))?;
+    push_text(message, ": ")
 }
 
-fn push_name_in_brackets(message: &mut Message, name: Option<&str>) {
-    if let Some(name) = name {
-        message.push(" (");
-        message.push_printable(name);
-        message.push(")");
+fn push_line_number(message: &mut Vec<u8>, lines: &[usize], place: usize) -> Result<(), AllocError>
+    ensures { OnOk result (message.new.items ≡ message.old.items ++ line_text (slice_get lines.now place)) }
+{
+    match lines.get(place) {
+        Some(line) => push_spans(message, &[Span::Text(":"), Span::Number(*line as u64)]),
+        None => Ok(()),
     }
+}
+
+fn name_at<'a>(names: &[Option<&'a str>], place: usize) -> Option<&'a str>
+    ensures { borrowed_name result ≡ slice_index_or (borrowed_names names.now) place None }
+{
+    if place < names.len() {
+        names[place]
+    } else {
+        None
+    }
+}
+
+fn push_name_in_brackets(message: &mut Vec<u8>, name: Option<&str>) -> Result<(), AllocError>
+    ensures { OnOk result (message.new.items ≡ message.old.items ++ name_text (borrowed_name name.entry)) }
+{
+    match name {
+        Some(name) => push_spans(
+            message,
+            &[
+                Span::Text(" ("),
+                Span::Value(name.as_bytes()),
+                Span::Text(")"),
+            ],
+        ),
+        None => Ok(()),
+    }
+}
+
+// What is wrong, as it is told behind the place.
+fn fault_explanation(
+    alloc: Global,
+    look: &Look<'_>,
+    fault: JobError,
+    suggestion: Suggestion,
+) -> Result<Vec<u8>, AllocError> {
+    let mut message = Message::new(alloc);
+    match look {
+        Look::NoToml(text, error) => push_not_toml(&mut message, text, error),
+        Look::List(list) if fault.job == 0 => push_list_fault(&mut message, list, fault.what),
+        Look::List(list) => {
+            let place = fault.job as usize - 1;
+            push_job_fault(&mut message, list, place, fault.what, suggestion);
+        }
+    }
+    message.finish()
 }

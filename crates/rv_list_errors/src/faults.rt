@@ -1,6 +1,7 @@
 //! The lines of a list's faults.
 
-ghost use Rattle.std.specs.Prelude.{OnOk, length};
+ghost use Rattle.std.specs.Prelude.{◌++◌, OnOk};
+ghost use Rattle.rv_list_errors.specs.FaultHeads.{fault_head, look_place};
 ghost use Rattle.rv_list_errors.specs.Lines.{PutsLines};
 
 use crate::fault_text::{Look, message_of_fault};
@@ -22,7 +23,7 @@ pub fn push_faults(
     text: &[u8],
     faults: &[JobError],
 ) -> Result<(), AllocError>
-    ensures { OnOk result (PutsLines (length faults.now) bytes.old.items bytes.new.items) }
+    ensures { OnOk result (PutsLines (fault_head file.now text.now) faults.now bytes.old.items bytes.new.items) }
 {
     match toml::table_from_slice(alloc, text) {
         Ok(table) => {
@@ -46,7 +47,8 @@ fn push_fault_lines(
     look: &Look<'_>,
     faults: &[JobError],
 ) -> Result<(), AllocError>
-    ensures { OnOk result (PutsLines (length faults.now) bytes.old.items bytes.new.items) }
+    ensures { OnOk result (PutsLines (λ fault. file.now ++ look_place look.now fault.job) faults.now
+        bytes.old.items bytes.new.items) }
 {
     for (at, fault) in faults.iter().enumerate() {
         let message = message_of_fault(alloc, file, look, *fault, suggestion_for_fault(at))?;

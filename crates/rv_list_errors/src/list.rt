@@ -1,5 +1,11 @@
 //! A list whose faults are told, as a look at its text finds it.
 
+ghost use Rattle.std.specs.Prelude.{◌≡◌, IfOk};
+ghost use Rattle.std.specs.Str.{IsUtf8};
+ghost use Rattle.toml.specs.View.{items_view, table_view, view};
+ghost use Rattle.rv_list_errors.specs.FaultHeads.{borrowed_name, borrowed_names, element_name, element_names, job_names};
+ghost use Rattle.rv_list_errors.specs.JobPlaces.{job_lines};
+
 use crate::headers::job_line_numbers;
 use crate::values::{elements_at_key, text_at_key};
 use std::alloc::{AllocError, Global};
@@ -23,7 +29,11 @@ impl<'a> List<'a> {
         alloc: Global,
         text: &[u8],
         table: &'a Table,
-    ) -> Result<List<'a>, AllocError> {
+    ) -> Result<List<'a>, AllocError>
+        requires { IsUtf8 text.now }
+        ensures lines { IfOk result (λ list. list.lines.items ≡ job_lines text.now) }
+        ensures names { IfOk result (λ list. borrowed_names list.names.items ≡ job_names (table_view table.now)) }
+    {
         let jobs = elements_at_key(table, "job");
         Ok(List {
             table,
@@ -44,7 +54,9 @@ impl<'a> List<'a> {
     }
 }
 
-fn element_names(alloc: Global, jobs: &[Value]) -> Result<Vec<Option<&str>>, AllocError> {
+fn element_names(alloc: Global, jobs: &[Value]) -> Result<Vec<Option<&str>>, AllocError>
+    ensures { IfOk result (λ names. borrowed_names names.items ≡ element_names (items_view jobs.now)) }
+{
     let mut names = Vec::new(alloc);
     for job in jobs {
         names.push(element_name(job))?;
@@ -52,7 +64,9 @@ fn element_names(alloc: Global, jobs: &[Value]) -> Result<Vec<Option<&str>>, All
     Ok(names)
 }
 
-fn element_name(job: &Value) -> Option<&str> {
+fn element_name(job: &Value) -> Option<&str>
+    ensures { borrowed_name result ≡ element_name (view job.now) }
+{
     match job {
         Value::Table(table) => text_at_key(table, "name"),
         _ => None,

@@ -1,5 +1,10 @@
 //! A text that grows.
 
+ghost use Rattle.std.specs.Prelude.{◌≡◌, ◌++◌, IsOk, OnOk};
+ghost use Rattle.std.specs.Fmt.{decimal};
+ghost use Rattle.rv_list_errors.specs.NearNames.{Adds, quoted, text_distance};
+ghost use Rattle.rv_text.specs.Printable.{printable_value};
+
 use rv_text::{push_number, push_printable_value, push_text, push_word_digits};
 use std::alloc::{AllocError, Global};
 use strsim::levenshtein;
@@ -29,20 +34,26 @@ impl Message {
         Ok(self.bytes)
     }
 
-    pub(crate) fn push(&mut self, text: &str) {
+    pub(crate) fn push(&mut self, text: &str)
+        ensures { Adds self.old self.new text.now }
+    {
         if self.grown.is_ok() {
             self.grown = push_text(&mut self.bytes, text);
         }
     }
 
-    pub(crate) fn push_number(&mut self, number: u64) {
+    pub(crate) fn push_number(&mut self, number: u64)
+        ensures { Adds self.old self.new (decimal number) }
+    {
         if self.grown.is_ok() {
             self.grown = push_number(&mut self.bytes, number);
         }
     }
 
     /// Appends a number between texts.
-    pub(crate) fn push_number_between(&mut self, before: &str, number: u64, behind: &str) {
+    pub(crate) fn push_number_between(&mut self, before: &str, number: u64, behind: &str)
+        ensures { Adds self.old self.new (before.now ++ (decimal number ++ behind.now)) }
+    {
         self.push(before);
         self.push_number(number);
         self.push(behind);
@@ -68,14 +79,18 @@ impl Message {
     }
 
     /// Appends a text in quotes.
-    pub(crate) fn push_quoted(&mut self, text: &str) {
+    pub(crate) fn push_quoted(&mut self, text: &str)
+        ensures { Adds self.old self.new (quoted text.now) }
+    {
         self.push("\"");
         self.push_printable(text);
         self.push("\"");
     }
 
     /// Appends a text without quotes.
-    pub(crate) fn push_printable(&mut self, text: &str) {
+    pub(crate) fn push_printable(&mut self, text: &str)
+        ensures { Adds self.old self.new (printable_value text.now) }
+    {
         if self.grown.is_ok() {
             self.grown = push_printable_value(&mut self.bytes, text.as_bytes());
         }
@@ -83,7 +98,9 @@ impl Message {
 
     /// How many characters must be put in, taken out or changed to make one text of another, for which memory is wanted; once a
     /// growth was refused, more than any two texts differ by.
-    pub(crate) fn edit_distance(&mut self, text: &str, other: &str) -> usize {
+    pub(crate) fn edit_distance(&mut self, text: &str, other: &str) -> usize
+        ensures { OnOk self.new.grown (IsOk self.old.grown × (result ≡ text_distance text.now other.now)) }
+    {
         if self.grown.is_err() {
             return usize::MAX;
         }

@@ -1,5 +1,12 @@
 //! Names of jobs: which job has one, and which one is probably meant.
 
+ghost use Rattle.std.specs.Prelude.{◌≡◌, ◌++◌, ◌∷◌, ◌+◌, ◌-◌, ◌<◌, ◌≤◌, [], IsOk, MatchOption, OnOk, is_some, length, min, take};
+ghost use Rattle.std.specs.List.{count_by};
+ghost use Rattle.rv_list_errors.specs.FaultHeads.{borrowed_name, borrowed_names};
+ghost use Rattle.rv_list_errors.specs.NearNames.{Adds, IsNearName, most_told, name_distance, names_from, names_text, present};
+ghost use Rattle.rv_list_errors.specs.NearestJob.{IsNear};
+ghost use Rattle.rv_list_errors.specs.NearNames.{quoted, separator};
+
 use crate::list::List;
 use crate::message::Message;
 use crate::name_search::is_near;
@@ -83,19 +90,32 @@ pub(crate) fn near_name<'a>(
     message: &mut Message,
     names: &[Option<&'a str>],
     text: &str,
-) -> Option<&'a str> {
+) -> Option<&'a str>
+    ensures { OnOk message.new.grown (IsOk message.old.grown
+        × IsNearName (borrowed_names names.now) text.now (borrowed_name result)) }
+{
     let mut nearest = None;
     let mut least = usize::MAX;
     for name in names {
-        let distance = capped_name_distance(message, *name, text);
+        let distance = name_distance(message, *name, text);
         if distance < least {
             nearest = *name;
             least = distance;
         }
     }
     match nearest {
-        Some(name) if is_near(least, name) => Some(name),
-        _ => None,
+        Some(name) => name_if_near(name, least),
+        None => None,
+    }
+}
+
+fn name_if_near(name: &str, distance: usize) -> Option<&str>
+    ensures { MatchOption result (IsNear distance name.now → ⊥) (λ near. (near.now ≡ name.now) × IsNear distance name.now) }
+{
+    if is_near(distance, name) {
+        Some(name)
+    } else {
+        None
     }
 }
 
@@ -103,28 +123,77 @@ pub(crate) fn near_name<'a>(
 const MOST_TOLD: usize = 20;
 
 /// Appends names in quotes, the first of them where there are many, and how many there are beside them.
-pub(crate) fn push_names(message: &mut Message, names: &[Option<&str>]) {
-    let count = names.iter().filter(|name| name.is_some()).count();
-    let mut told = 0;
-    for name in names {
-        if let Some(name) = name
-            && told < MOST_TOLD
-        {
-            message.push(match told {
-                0 => "",
-                _ if told + 1 == count => " and ",
-                _ => ", ",
-            });
-            message.push_quoted(name);
-            told += 1;
-        }
-    }
+pub(crate) fn push_names(message: &mut Message, names: &[Option<&str>])
+    ensures { Adds message.old message.new (names_text (present (borrowed_names names.now))) }
+{
+    let count = present_count(names);
+    let told = push_first_names(message, names, count);
     if told < count {
         message.push_number_between(" and ", (count - told) as u64, " more");
     }
 }
 
-fn capped_name_distance(message: &mut Message, name: Option<&str>, text: &str) -> usize {
+fn present_count(names: &[Option<&str>]) -> usize
+    ensures { result ≡ count_by is_some names.now }
+{
+    names.iter().filter(|name| name.is_some()).count()
+}
+
+// Appends the first of so many names, and gives how many were told.
+fn push_first_names(message: &mut Message, names: &[Option<&str>], count: usize) -> usize
+    ensures told { result ≡ min (length (present (borrowed_names names.now))) most_told }
+    ensures text { Adds message.old message.new (names_from count 0 (take most_told (present (borrowed_names names.now)))) }
+{
+    let mut told = 0;
+    for name in names {
+        told = push_next_name(message, *name, told, count);
+    }
+    told
+}
+
+// Appends a name, if it is one, behind so many that are told, and gives how many are told then.
+fn push_next_name(message: &mut Message, name: Option<&str>, told: usize, count: usize) -> usize
+    requires { told ≤ most_told }
+    ensures told { result ≡ min (told + length (present (borrowed_name name.entry ∷ []))) most_told }
+    ensures text { Adds message.old message.new
+        (names_from count told (take (most_told - told) (present (borrowed_name name.entry ∷ [])))) }
+{
+    match name {
+        Some(name) => push_name_if_few(message, name, told, count),
+        None => told,
+    }
+}
+
+fn push_name_if_few(message: &mut Message, name: &str, told: usize, count: usize) -> usize
+    requires { told ≤ most_told }
+    ensures told { result ≡ min (told + 1) most_told }
+    ensures text { Adds message.old message.new (names_from count told (take (most_told - told) (name.now ∷ []))) }
+{
+    if told == MOST_TOLD {
+        return told;
+    }
+    push_name_of_many(message, name, told, count);
+    told + 1
+}
+
+// Appends the name at a place, of so many, behind those before it.
+fn push_name_of_many(message: &mut Message, name: &str, place: usize, count: usize)
+    requires { place < most_told }
+    ensures { Adds message.old message.new (separator count place ++ quoted name.now) }
+{
+    message.push(match place {
+        0 => "",
+        _ if place + 1 == count => " and ",
+        _ => ", ",
+    });
+    message.push_quoted(name);
+}
+
+#[tactic(auto, unfolding(crate::specs::NearNames::name_distance))]
+fn name_distance(message: &mut Message, name: Option<&str>, text: &str) -> usize
+    ensures { OnOk message.new.grown (IsOk message.old.grown
+        × (result ≡ name_distance text.now (borrowed_name name.entry))) }
+{
     match name {
         Some(name) if name.len() <= MOST_NAME && text.len() <= MOST_NAME => {
             message.edit_distance(text, name)

@@ -1,15 +1,24 @@
 //! Values as they were met, and what is wanted.
 
+ghost use Rattle.std.specs.Prelude.{◌≡◌, option_map, unwrap_or};
+ghost use Rattle.toml.specs.Data.{get_member, no_items};
+ghost use Rattle.toml.specs.View.{items_view, table_view, view};
+ghost use Rattle.rv_lists.specs.Keys.{array_at_key, text_at_key};
+
 use crate::message::Message;
 use toml::{Table, Value};
 
 /// The value at a key.
-pub(crate) fn value_at_key<'a>(table: &'a Table, key: &str) -> Option<&'a Value> {
+pub(crate) fn value_at_key<'a>(table: &'a Table, key: &str) -> Option<&'a Value>
+    ensures { option_map (λ v. view v.now) result ≡ get_member key.now (table_view table.now) }
+{
     table.get(key)
 }
 
 /// The text at a key.
-pub(crate) fn text_at_key<'a>(table: &'a Table, key: &str) -> Option<&'a str> {
+pub(crate) fn text_at_key<'a>(table: &'a Table, key: &str) -> Option<&'a str>
+    ensures { option_map (λ s. s.now) result ≡ text_at_key key.now (table_view table.now) }
+{
     match value_at_key(table, key) {
         Some(value) => value.as_str(),
         None => None,
@@ -25,7 +34,9 @@ pub(crate) fn word_at_key(table: &Table, key: &str) -> Option<u32> {
 }
 
 /// The elements of the array at a key; none where there is no array.
-pub(crate) fn elements_at_key<'a>(table: &'a Table, key: &str) -> &'a [Value] {
+pub(crate) fn elements_at_key<'a>(table: &'a Table, key: &str) -> &'a [Value]
+    ensures { items_view result.now ≡ unwrap_or (array_at_key key.now (table_view table.now)) no_items }
+{
     match value_at_key(table, key) {
         Some(Value::Array(elements)) => elements.as_slice(),
         _ => &[],

@@ -2,7 +2,7 @@
 
 ghost use Rattle.std.specs.Prelude.{◌≡◌, [], ◌∷◌, Some};
 ghost use Rattle.clap.specs.Words.{HasKind, found_of, rows_of};
-ghost use Rattle.rv_cli.specs.RvtestWords.{is_report_path, misuse_kinds, one_file_misuse};
+ghost use Rattle.rv_cli.specs.RvtestWords.{is_report_path, misuse_kinds, misuse_text, one_file_misuse};
 
 use crate::values::text_value;
 use clap::error::ErrorKind;
@@ -41,7 +41,9 @@ impl Misuse {
         }
     }
 
-    fn misuse_text(self) -> &'static str {
+    fn misuse_text(self) -> &'static str
+        ensures { result.now ≡ misuse_text self }
+    {
         match self {
             Misuse::VerboseAndQuiet => "the argument '--verbose' cannot be used with '--quiet'",
             Misuse::ShardAndChoice => {

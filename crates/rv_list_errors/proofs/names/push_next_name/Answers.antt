@@ -1,0 +1,21 @@
+use Rattle.std.proofs.Common.{◌-◌, List, ℕ, arith}
+use Rattle.rv_list_errors.specs.NearNames.{most_told, names_from, present}
+use Rattle.rv_list_errors.proofs.NamesTold.{adds_nothing, take_none}
+use Rattle.rv_list_errors.proofs.names.push_next_name.Goals as goal
+
+pub returns-in-Some-clause-told : goal.returns-in-Some-clause-told
+unfolding present
+returns-in-Some-clause-told c = rw c.in-Some.is c.push_name_if_few.ensures.told
+
+pub returns-in-Some-clause-text : goal.returns-in-Some-clause-text
+unfolding present
+returns-in-Some-clause-text c = rw c.in-Some.is c.push_name_if_few.ensures.text
+
+pub returns-in-None-clause-told : goal.returns-in-None-clause-told
+unfolding present
+returns-in-None-clause-told c = rw c.in-None.is (omega arith)
+
+pub returns-in-None-clause-text : goal.returns-in-None-clause-text
+unfolding present names_from
+returns-in-None-clause-text c =
+    rw (c.in-None.is, take_none {X = List ℕ} (most_told - c.args.told)) (adds_nothing c.args.message.now)

@@ -1,0 +1,73 @@
+-- How the line of a fault begins: the path of the list, and of a fault of a job where the job begins, its number and its name.
+use Rattle.std.specs.Prelude.{◌-◌, ◌==◌, ◌++◌, ℕ, List, [], ◌∷◌, Option, Some, None, codes, if◌then◌else◌, map, option_map}
+use Rattle.std.specs.Prelude.{slice_get, slice_index_or, unwrap_or}
+use Rattle.std.specs.Borrow.{Bor}
+use Rattle.std.specs.Fmt.{decimal}
+use Rattle.toml.specs.Data.{Data, Items, Members, item, no_items, table}
+use Rattle.rv_lists.specs.JobList.{document_of}
+use Rattle.rv_lists.specs.Keys.{array_at_key, text_at_key}
+use Rattle.rv_lists.specs.declared.error.JobError.{JobError}
+use Rattle.rv_text.specs.Printable.{printable_value}
+use Rattle.rv_list_errors.specs.JobPlaces.{job_lines}
+use Rattle.rv_list_errors.specs.declared.fault_text.Look.{Look}
+use Rattle.rv_list_errors.specs.declared.fault_text.Look.TheVariants as look
+
+-- ---- the names of jobs
+
+-- the name of an element, where it is a table that has a text for that
+abbrev pub element_name : Data → Option (List ℕ)
+element_name (table ms) = text_at_key (codes "name") ms
+element_name _ = None
+
+unfoldable pub element_names : Items → List (Option (List ℕ))
+element_names no_items = []
+element_names (item d ds) = element_name d ∷ element_names ds
+
+-- the elements of `job`; none where that is no array
+abbrev pub elements_of_job : Members → Items
+elements_of_job ms = unwrap_or (array_at_key (codes "job") ms) no_items
+
+-- the names of the jobs of a document
+abbrev pub job_names : Members → List (Option (List ℕ))
+job_names ms = element_names (elements_of_job ms)
+
+-- ---- where a job stands
+
+abbrev pub line_text : Option ℕ → List ℕ
+line_text None = []
+line_text (Some number) = codes ":" ++ decimal number
+
+abbrev pub name_text : Option (List ℕ) → List ℕ
+name_text None = []
+name_text (Some name) = codes " (" ++ (printable_value name ++ codes ")")
+
+-- of the job of a number, counted from 1: the line on which it begins, the number, and its name
+abbrev pub job_heading : List ℕ → List (Option (List ℕ)) → ℕ → List ℕ
+job_heading lines names number = line_text (slice_get lines (number - 1)) ++ (codes ": job " ++ (decimal number
+    ++ (name_text (slice_index_or names (number - 1) None) ++ codes ": ")))
+
+-- the number 0 stands for the whole list
+abbrev pub fault_place : List ℕ → List (Option (List ℕ)) → ℕ → List ℕ
+fault_place lines names number = if number == 0 then codes ": " else job_heading lines names number
+
+-- nothing is known of jobs where the text is no document
+abbrev pub place_in_document : List ℕ → Option Members → ℕ → List ℕ
+place_in_document text None number = []
+place_in_document text (Some ms) number = fault_place (job_lines text) (job_names ms) number
+
+-- how the line begins that tells a fault of a list which is read at a path
+abbrev pub fault_head : List ℕ → List ℕ → JobError → List ℕ
+fault_head path text fault = path ++ place_in_document text (document_of text) fault.job
+
+-- ---- the program's own values
+
+abbrev pub borrowed_name : Option (Bor (List ℕ)) → Option (List ℕ)
+borrowed_name name = option_map (λ text. text.now) name
+
+abbrev pub borrowed_names : List (Option (Bor (List ℕ))) → List (Option (List ℕ))
+borrowed_names names = map borrowed_name names
+
+-- the same of a second look at the text
+abbrev pub look_place : Look → ℕ → List ℕ
+look_place (look.NoToml text error) number = []
+look_place (look.List list) number = fault_place list.lines.items (borrowed_names list.names.items) number

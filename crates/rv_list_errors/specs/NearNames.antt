@@ -1,0 +1,83 @@
+-- Which of some names is probably meant by a text, and how names are told.
+use Rattle.std.specs.Prelude.{◌≡◌, ◌+◌, ◌-◌, ◌^◌, ◌<◌, ◌≤◌, ◌==◌, ◌&&◌, ◌++◌, ℕ, List, [], ◌∷◌, Option, Some, None, OnOk, IsOk}
+use Rattle.std.specs.Prelude.{codes, if◌then◌else◌, length, nat_eq, nat_le, nat_lt, slice_index_or, take, unwrap_or}
+use Rattle.std.specs.Fmt.{decimal}
+use Rattle.std.specs.Str.{chars}
+use Rattle.rv_lists.specs.Limits.{most_name}
+use Rattle.rv_text.specs.Printable.{printable_value}
+use Rattle.strsim.specs.Edits.{levenshtein_row}
+use Rattle.rv_list_errors.specs.NearestJob.{IsNear}
+use Rattle.rv_list_errors.specs.declared.message.Message.{Message}
+
+-- ---- a message that grows
+
+-- unless a growth was refused, it has this text behind what it had
+abbrev pub Adds : Message → Message → List ℕ → Type 0
+Adds before after text = OnOk after.grown (IsOk before.grown × (after.bytes.items ≡ before.bytes.items ++ text))
+
+-- ---- the nearest name
+
+-- the least number of characters that are put in, taken out or changed to come from a text to another
+abbrev pub text_distance : List ℕ → List ℕ → ℕ
+text_distance text other = levenshtein_row nat_eq (chars text) (chars other) (length (chars other))
+
+-- how far any text is from no name, or from a text that is longer than a name may be
+abbrev pub farthest : ℕ
+farthest = 2 ^ 64 - 1
+
+unfoldable pub name_distance : List ℕ → Option (List ℕ) → ℕ
+name_distance text None = farthest
+name_distance text (Some name) =
+    if nat_le (length name) most_name && nat_le (length text) most_name then text_distance text name else farthest
+
+abbrev pub distance_at : List (Option (List ℕ)) → List ℕ → ℕ → ℕ
+distance_at names text place = name_distance text (slice_index_or names place None)
+
+-- no name is nearer than that at the place, and each before it is farther
+pub record IsNearestName (names : List (Option (List ℕ))) (text : List ℕ) (place : ℕ) : Type 0 where
+  pub within : place < length names
+  pub least : (other : ℕ) → other < length names → distance_at names text place ≤ distance_at names text other
+  pub first : (other : ℕ) → other < place → distance_at names text place < distance_at names text other
+
+-- the name at the place is near to the text
+abbrev pub IsNearAt : List (Option (List ℕ)) → List ℕ → ℕ → Type 0
+IsNearAt names text place = (distance_at names text place < farthest)
+    × IsNear (distance_at names text place) (unwrap_or (slice_index_or names place None) [])
+
+-- the first of the nearest names, if it is near
+abbrev pub IsNearName : List (Option (List ℕ)) → List ℕ → Option (List ℕ) → Type 0
+IsNearName names text None = (place : ℕ) → IsNearestName names text place → IsNearAt names text place → ⊥
+IsNearName names text (Some name) = (place : ℕ) × IsNearestName names text place × IsNearAt names text place
+    × (slice_index_or names place None ≡ Some name)
+
+-- ---- names that are told
+
+-- the names that there are
+unfoldable pub present : List (Option (List ℕ)) → List (List ℕ)
+present [] = []
+present (None ∷ names) = present names
+present (Some name ∷ names) = name ∷ present names
+
+-- so many are told at most
+abbrev pub most_told : ℕ
+most_told = 20
+
+abbrev pub quoted : List ℕ → List ℕ
+quoted name = codes "\"" ++ (printable_value name ++ codes "\"")
+
+-- what stands before the name at a place, of so many
+abbrev pub separator : ℕ → ℕ → List ℕ
+separator count place = if place == 0 then [] else if place + 1 == count then codes " and " else codes ", "
+
+-- the names from a place on, each in quotes
+unfoldable pub names_from : ℕ → ℕ → List (List ℕ) → List ℕ
+names_from count place [] = []
+names_from count place (name ∷ names) = separator count place ++ (quoted name ++ names_from count (place + 1) names)
+
+-- how many are left
+abbrev pub left_text : ℕ → List ℕ
+left_text count = if nat_lt most_told count then codes " and " ++ (decimal (count - most_told) ++ codes " more") else []
+
+-- the first names, and how many more there are
+abbrev pub names_text : List (List ℕ) → List ℕ
+names_text names = names_from (length names) 0 (take most_told names) ++ left_text (length names)
