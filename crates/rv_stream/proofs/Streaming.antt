@@ -1,8 +1,8 @@
 -- Texts that go out in order: what each step of a stream keeps.
 use Rattle.std.proofs.Common.{◌≡◌, ◌∙◌, ℕ, zero, suc, ◌∷◌, ◌+◌, ◌*◌, ◌<◌, ◌≤◌, false, get_or, min, List, [], ◌++◌, length, take, drop, Option, Some}
-use Rattle.std.proofs.Common.{◌-◌, None, is_some, length-drop, refl, sym, ap, subst, arith, append_assoc, append-nil, take-append-drop}
+use Rattle.std.proofs.Common.{◌-◌, None, is_some, length-drop, refl, sym, ap, subst, arith, append_assoc, append-nil, take-append-drop, inl, inr}
 use Rattle.std.specs.Fork.{slice_chunk}
-use Rattle.std.specs.Prelude.{Err, IfOk, IfSome, Ok, OnErr, Result, slice_index_or}
+use Rattle.std.specs.Prelude.{Err, IfErr, IfOk, IfSome, MatchResult, Ok, OnErr, Result, slice_index_or}
 use Rattle.std.proofs.Math.ListN.{set}
 use Rattle.std.specs.Io.KnownBytes.{Appends}
 use Rattle.std.specs.List.{concat}
@@ -10,9 +10,11 @@ use Rattle.std.proofs.KnownBytes.{Appends-nil, Appends-trans}
 use Rattle.std.proofs.lemmas.Grind.{common_steps}
 use Rattle.std.proofs.lemmas.List.{take_all, take_min}
 use Rattle.std.proofs.lemmas.List.Folds.{concat-append}
+use Rattle.rv_base.specs.Counts.{one_more}
 use Rattle.rv_rows.specs.Sinks.{AppendsBeginning}
 use Rattle.rv_stream.specs.declared.error.StreamError.{StreamError}
-use Rattle.rv_stream.specs.Streams.{IsOut, IsUnfailed, text_before_piece, text_of_piece}
+use Rattle.rv_stream.specs.declared.error.StreamError.TheVariants as stream
+use Rattle.rv_stream.specs.Streams.{IsCounted, IsCountedBy, IsOut, text_before_piece, text_of_piece}
 use Rattle.rv_fleet.proofs.Public.{chunk_more}
 
 -- a slice that goes on to the end
@@ -116,9 +118,33 @@ module _ (texts : List (List ℕ)) (group : ℕ) (before now : Option (List ℕ)
 
 -- a put that did not fail leaves the count as it was
 pub counted_on : (before now after : ℕ) (failed : Option StreamError) → is_some failed ≡ false
-    → IsUnfailed before now failed → after ≡ now → IsUnfailed before after failed
+    → IsCounted before now failed → after ≡ now → IsCounted before after failed
 counted_on before now after None is so same = same ∙ so
 counted_on before now after (Some error) is so same = cc
+
+-- the first put that fails is counted
+pub counted_failure : (before now after : ℕ) (failed : Option StreamError) → is_some failed ≡ false
+    → IsCounted before now failed → after ≡ one_more now → after ≡ one_more before
+counted_failure before now after None is so more = more ∙ ap one_more so
+counted_failure before now after (Some error) is so more = cc
+
+-- a growth that is refused is no failed put
+pub counted_memory : (before now : ℕ) (failed : Option StreamError) (error : StreamError) → error ≡ stream.OutOfMemory
+    → is_some failed ≡ false → IsCounted before now failed → IsCounted before now (Some error)
+counted_memory before now None error memory is so = rw memory so
+counted_memory before now (Some earlier) error memory is so = cc
+
+-- why a stream ended is why its run did
+pub counted_by : (before now : ℕ) (error : StreamError) → IsCounted before now (Some error) → IsCountedBy before now error
+counted_by before now stream.Failed so = inl so
+counted_by before now stream.OutOfMemory so = so
+counted_by before now stream.NoWorker so = so
+
+-- whatever ended a run, no put failed
+pub counted_same : (before now : ℕ) (error : StreamError) → now ≡ before → IsCountedBy before now error
+counted_same before now stream.Failed same = inr same
+counted_same before now stream.OutOfMemory same = same
+counted_same before now stream.NoWorker same = same
 
 -- the texts of the pieces before one end where the rest begins, at the end if they are all
 pub sent_to : (texts : List (List ℕ)) (next size group limit product from n : ℕ) → size ≡ group → length texts ≡ n
@@ -169,3 +195,14 @@ module _ {A E F : Type 0} (rows : Result A F) (sent : Result ℕ E) (P : A → T
       → IfOk both (λ b. Q b.1)
   second_of_both (Ok b) are so = rw are.1 at so
   second_of_both (Err e) are so = tt
+
+-- how often a put failed, by what is known of the stream and of what came of both
+pub counted_of_both : {A F : Type 0} (rows : Result A F) (sent : Result ℕ StreamError) (before now : ℕ)
+    (both : Result (A × ℕ) StreamError) → IfOk both (λ b. (rows ≡ Ok b.0) × (sent ≡ Ok b.1))
+    → MatchResult sent (λ _. now ≡ before) (λ error. IsCounted before now (Some error))
+    → ((old new : ℕ) → MatchResult sent (λ _. new ≡ old) (λ error. IsCounted old new (Some error))
+    → IfErr both (IsCountedBy old new))
+    → MatchResult both (λ _. now ≡ before) (IsCountedBy before now)
+counted_of_both rows (Ok next) before now (Ok b) are so why = so
+counted_of_both rows (Err error) before now (Ok b) are so why = cc (are.1)
+counted_of_both rows sent before now (Err error) are so why = why before now so

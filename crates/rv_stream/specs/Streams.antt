@@ -1,15 +1,17 @@
 -- Texts of rows that go out in the order of the rows, while other rows are still being made.
-use Rattle.std.specs.Prelude.{◌≡◌, ◌∷◌, ◌+◌, ◌*◌, ◌≤◌, ℕ, List, [], length, take, drop}
+use Rattle.std.specs.Prelude.{◌≡◌, ◌⊎◌, ◌∷◌, ◌+◌, ◌*◌, ◌≤◌, ℕ, List, [], length, take, drop}
 use Rattle.std.specs.Prelude.{Option, Some, None, IfSome, Vec, slice_index_or}
 use Rattle.std.specs.declared.alloc.Global.{Global}
 use Rattle.std.specs.Fork.{slice_chunk}
 use Rattle.std.specs.Io.KnownBytes.{Appends}
 use Rattle.std.specs.List.{concat}
 use Rattle.rv_rows.specs.declared_row.Row.{Row}
+use Rattle.rv_base.specs.Counts.{one_more}
 use Rattle.rv_rows.specs.Sinks.{AppendsBeginning}
 use Rattle.rv_fleet.specs.Batches.{batch_rows}
 use Rattle.rv_fleet.specs.declared.batch.Batch.{Batch}
 use Rattle.rv_stream.specs.declared.error.StreamError.{StreamError}
+use Rattle.rv_stream.specs.declared.error.StreamError.TheVariants as stream
 
 -- a text for each row, told of the job at its place
 abbrev pub row_text_list : (ℕ → Row → List ℕ) → List ℕ → List Row → List (List ℕ)
@@ -35,22 +37,31 @@ abbrev pub IsOut : List (List ℕ) → ℕ → Option (List ℕ) → Option (Lis
 IsOut texts group before now next None = Appends before now (text_before_piece texts group next)
 IsOut texts group before now next (Some error) = AppendsBeginning before now (concat texts)
 
--- so long as the stream did not fail no put failed
-abbrev pub IsUnfailed : ℕ → ℕ → Option StreamError → Type 0
-IsUnfailed before now None = now ≡ before
-IsUnfailed before now (Some error) = Unit {0}
+-- how often the sink failed that had failed so often before: once more where a failed put is why the stream ended, else no more
+abbrev pub IsCounted : ℕ → ℕ → Option StreamError → Type 0
+IsCounted before now None = now ≡ before
+IsCounted before now (Some stream.Failed) = now ≡ one_more before
+IsCounted before now (Some stream.OutOfMemory) = now ≡ before
+IsCounted before now (Some stream.NoWorker) = now ≡ before
+
+-- the same of why a run ended without all its texts: where a put failed that is told, and nothing else; a run that was stopped
+-- is told so too
+abbrev pub IsCountedBy : ℕ → ℕ → StreamError → Type 0
+IsCountedBy before now stream.Failed = (now ≡ one_more before) ⊎ (now ≡ before)
+IsCountedBy before now stream.OutOfMemory = now ≡ before
+IsCountedBy before now stream.NoWorker = now ≡ before
 
 -- the texts that came early, each at its piece's place
 abbrev pub AreTexts : List (List ℕ) → ℕ → List (Option (Vec ℕ Global)) → Type 0
 AreTexts texts group early = (k : ℕ)
     → IfSome (slice_index_or early k None) (λ text. text.items ≡ text_of_piece texts group k)
 
--- what is known of a stream: what went out, that no put failed, and what waits
+-- what is known of a stream: what went out, how often a put failed, and what waits
 pub record IsInOrder (texts : List (List ℕ)) (group : ℕ) (before now : Option (List ℕ))
     (failures_before failures : ℕ) (next : ℕ) (failed : Option StreamError)
     (early : List (Option (Vec ℕ Global))) : Type 0 where
   pub sent : IsOut texts group before now next failed
-  pub counted : IsUnfailed failures_before failures failed
+  pub counted : IsCounted failures_before failures failed
   pub waiting : AreTexts texts group early
 
 -- rows of a piece whose texts, told of the jobs at the places of the piece, are those of the piece

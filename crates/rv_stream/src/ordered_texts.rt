@@ -1,18 +1,18 @@
 //! Texts that wait for their turn, and the sink that takes them.
 
-ghost use Rattle.std.specs.Prelude.{◌≡◌, ◌<◌, ◌++◌, ℕ, IfOk, IfSome, None, length, slice_index_or};
+ghost use Rattle.std.specs.Prelude.{◌≡◌, ◌<◌, ◌++◌, ℕ, IfOk, IfSome, MatchResult, None, Some, length, slice_index_or};
 ghost use Rattle.std.specs.Io.KnownBytes.{Appends};
 ghost use Rattle.std.specs.List.{concat};
 ghost use Rattle.rv_rows.specs.Sinks.{AppendsBeginning};
-ghost use Rattle.rv_stream.specs.Streams.{AreTexts, text_before_piece, text_of_piece};
+ghost use Rattle.rv_stream.specs.Streams.{AreTexts, IsCounted, text_before_piece, text_of_piece};
 
 use crate::error::StreamError;
 use rv_fleet::{Sink, put_all};
 use std::alloc::{AllocError, Global};
 use std::marker::{Brand, Model, PhantomData};
 
-/// Which texts go out, one for each row, in pieces of how many rows, what the sink has before them, and how often it failed before
-/// them. Each stream picks its own.
+/// Which texts go out, one for each row, in pieces of how many rows, what the sink has before them, and how often it
+/// failed before. Each stream picks its own.
 pub trait Streamed {
     ghost use Rattle.std.specs.Prelude.{ℕ, List, Option};
 
@@ -109,18 +109,20 @@ impl<J: Streamed, W: Sink + Drop> InOrder<J, W> {
         }
     }
 
-    /// Sends no more.
-    pub(crate) fn give_up(&mut self, error: StreamError) {
-        if self.failed.is_none() {
-            self.failed = Some(error);
+    /// Sends no more, since a growth was refused.
+    pub(crate) fn give_up(&mut self, error: AllocError) {
+        if self.failed.is_some() {
+            return;
         }
+        self.failed = Some(StreamError::from(error));
     }
 
     /// The sink, and the piece whose text goes out next, or why no more went out.
     pub(crate) fn finish(self) -> (W, Result<usize, StreamError>)
         ensures sent { IfOk result.1
             (λ next. Appends J.before (W.taken result.0) (text_before_piece J.texts J.group next)) }
-        ensures counted { IfOk result.1 (λ _. W.failed result.0 ≡ J.failures) }
+        ensures counted { MatchResult result.1 (λ _. W.failed result.0 ≡ J.failures)
+            (λ error. IsCounted J.failures (W.failed result.0) (Some error)) }
         ensures part { AppendsBeginning J.before (W.taken result.0) (concat J.texts) }
     {
         let InOrder {

@@ -1,11 +1,11 @@
 //! Runs whose texts go out as their rows come.
 
-ghost use Rattle.std.specs.Prelude.{◌≡◌, ◌≤◌, IfOk, OnOk, OnErr, Ok, length, drop};
+ghost use Rattle.std.specs.Prelude.{◌≡◌, ◌≤◌, ℕ, IfErr, IfOk, MatchResult, OnOk, OnErr, Ok, Some, length, drop};
 ghost use Rattle.std.specs.Io.KnownBytes.{Appends};
 ghost use Rattle.std.specs.List.{concat};
 ghost use Rattle.rv_fleet.specs.Batches.{batch_rows};
 ghost use Rattle.rv_rows.specs.Sinks.{AppendsBeginning};
-ghost use Rattle.rv_stream.specs.Streams.{IsStreamOf, row_text_list, joined_row_texts, text_before_piece};
+ghost use Rattle.rv_stream.specs.Streams.{IsCounted, IsCountedBy, IsStreamOf, row_text_list, joined_row_texts, text_before_piece};
 
 use crate::error::StreamError;
 use crate::ordered_texts::{InOrder, Streamed, empty_text_slots};
@@ -52,7 +52,7 @@ impl<'a, J: Streamed + Send, R: Wait + Sync, T: Telling + Sync, W: Sink + Drop +
         match text {
             Ok(text) => texts.put_piece_text(piece, text),
             Err(error) => {
-                texts.give_up(StreamError::from(error));
+                texts.give_up(error);
                 false
             }
         }
@@ -64,7 +64,8 @@ impl<'a, J: Streamed, R: Wait, T: Telling, W: Sink + Drop> Stream<'a, J, R, T, W
     fn finish(self) -> (W, Result<usize, StreamError>)
         ensures sent { IfOk result.1
             (λ next. Appends J.before (W.taken result.0) (text_before_piece J.texts J.group next)) }
-        ensures counted { IfOk result.1 (λ _. W.failed result.0 ≡ J.failures) }
+        ensures counted { MatchResult result.1 (λ _. W.failed result.0 ≡ J.failures)
+            (λ error. IsCounted J.failures (W.failed result.0) (Some error)) }
         ensures part { AppendsBeginning J.before (W.taken result.0) (concat J.texts) }
     {
         let Stream {
@@ -80,8 +81,8 @@ impl<'a, J: Streamed, R: Wait, T: Telling, W: Sink + Drop> Stream<'a, J, R, T, W
 }
 
 /// Runs a batch, and sends what is told of each job as soon as that of all before it is out; what is due goes out in one
-/// put. The sink comes back: with `Ok` it took the texts of all rows and no put failed, and else it took a beginning of them. The run
-/// ends early where a put fails or a growth is refused.
+/// put. The sink comes back: with `Ok` it took the texts of all rows and no put failed, and else it took a beginning of
+/// them. The run ends early where a put fails or a growth is refused; where a put failed the error says so.
 pub fn stream_places<R: Threads + Wait + Sync, T: Telling + Sync, W: Sink + Drop + Send>(
     crew: &Crew<'_, R>,
     batch: &Batch<'_>,
@@ -91,7 +92,8 @@ pub fn stream_places<R: Threads + Wait + Sync, T: Telling + Sync, W: Sink + Drop
     ensures rows { IfOk result.1 (λ rows. rows ≡ batch_rows batch.now) }
     ensures all { OnOk result.1 (Appends (W.taken out) (W.taken result.0)
         (joined_row_texts (T.line telling.now) batch.now.places.now (batch_rows batch.now))) }
-    ensures counted { OnOk result.1 (W.failed result.0 ≡ W.failed out) }
+    ensures counted { MatchResult result.1 (λ _. W.failed result.0 ≡ W.failed out)
+        (IsCountedBy (W.failed out) (W.failed result.0)) }
     ensures part { OnErr result.1 (AppendsBeginning (W.taken out) (W.taken result.0)
         (joined_row_texts (T.line telling.now) batch.now.places.now (batch_rows batch.now))) }
 {
@@ -110,7 +112,8 @@ fn stream_in_order<
     requires failures { J.failures ≡ W.failed out }
     ensures rows { IfOk result.1 (λ rows. rows ≡ batch_rows batch.now) }
     ensures all { OnOk result.1 (Appends J.before (W.taken result.0) (concat J.texts)) }
-    ensures counted { OnOk result.1 (W.failed result.0 ≡ J.failures) }
+    ensures counted { MatchResult result.1 (λ _. W.failed result.0 ≡ J.failures)
+        (IsCountedBy J.failures (W.failed result.0)) }
     ensures part { OnErr result.1 (AppendsBeginning J.before (W.taken result.0) (concat J.texts)) }
 {
     let (mut out, ran) = run_in_order::<J, R, T, W>(crew, batch, telling, out);
@@ -149,7 +152,8 @@ fn run_in_order<
     ensures rows { IfOk result.1 (λ ran. ran.0 ≡ batch_rows batch.now) }
     ensures sent { IfOk result.1
         (λ ran. Appends J.before (W.taken result.0) (text_before_piece J.texts J.group ran.1)) }
-    ensures counted { IfOk result.1 (λ _. W.failed result.0 ≡ J.failures) }
+    ensures counted { MatchResult result.1 (λ _. W.failed result.0 ≡ J.failures)
+        (IsCountedBy J.failures (W.failed result.0)) }
     ensures part { AppendsBeginning J.before (W.taken result.0) (concat J.texts) }
 {
     let alloc = crew.alloc;
@@ -177,7 +181,9 @@ fn rows_and_next_piece(
     rows: Result<Rows, PlacesError>,
     sent: Result<usize, StreamError>,
 ) -> Result<(Rows, usize), StreamError>
-    ensures { IfOk result (λ both. (rows ≡ Ok both.0) × (sent ≡ Ok both.1)) }
+    ensures both { IfOk result (λ both. (rows ≡ Ok both.0) × (sent ≡ Ok both.1)) }
+    ensures why { (before now : ℕ) → MatchResult sent (λ _. now ≡ before)
+        (λ error. IsCounted before now (Some error)) → IfErr result (IsCountedBy before now) }
 {
     let next = sent?;
     let rows = rows?;
@@ -195,7 +201,8 @@ fn send_rows_from<T: Telling, W: Sink>(
     requires { from ≤ length all.now.rows.now }
     ensures all { OnOk result (Appends (W.taken out.old) (W.taken out.new)
         (concat (drop from (row_text_list (T.line telling.now) all.now.places.now all.now.rows.now)))) }
-    ensures counted { OnOk result (W.failed out.new ≡ W.failed out.old) }
+    ensures counted { MatchResult result (λ _. W.failed out.new ≡ W.failed out.old)
+        (λ error. IsCounted (W.failed out.old) (W.failed out.new) (Some error)) }
     ensures part { OnErr result (AppendsBeginning (W.taken out.old) (W.taken out.new)
         (concat (drop from (row_text_list (T.line telling.now) all.now.places.now all.now.rows.now)))) }
 {

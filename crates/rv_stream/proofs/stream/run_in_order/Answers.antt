@@ -4,7 +4,7 @@ use Rattle.std.specs.List.{concat}
 use Rattle.rv_fleet.specs.Batches.{batch_rows}
 use Rattle.rv_fleet.proofs.Public.{rows_count}
 use Rattle.rv_stream.specs.Streams.{text_before_piece}
-use Rattle.rv_stream.proofs.Streaming.{first_of_both, nothing_out, second_of_both}
+use Rattle.rv_stream.proofs.Streaming.{counted_of_both, first_of_both, nothing_out, second_of_both}
 use Rattle.rv_stream.proofs.Tellings.{piece_told}
 use Rattle.rv_stream.proofs.stream.run_in_order.Goals as goal
 
@@ -20,7 +20,7 @@ returns-clause-rows g c =
     first_of_both c.run_places-rows.result c.finish-out.result.1
     (λ rows. rows ≡ batch_rows c.args.batch.now)
     (λ next. Appends g.J.Streamed.before (g.W.Sink.taken c.finish-out.result.0)
-    (text_before_piece g.J.Streamed.texts g.J.Streamed.group next)) c.rows_and_next_piece.result c.rows_and_next_piece.ensures
+    (text_before_piece g.J.Streamed.texts g.J.Streamed.group next)) c.rows_and_next_piece.result c.rows_and_next_piece.ensures.both
     c.run_places-rows.ensures
 
 pub returns-clause-sent : goal.returns-clause-sent
@@ -28,7 +28,7 @@ returns-clause-sent g c =
     second_of_both c.run_places-rows.result c.finish-out.result.1
     (λ rows. rows ≡ batch_rows c.args.batch.now)
     (λ next. Appends g.J.Streamed.before (g.W.Sink.taken c.finish-out.result.0)
-    (text_before_piece g.J.Streamed.texts g.J.Streamed.group next)) c.rows_and_next_piece.result c.rows_and_next_piece.ensures c.finish-out.ensures.sent
+    (text_before_piece g.J.Streamed.texts g.J.Streamed.group next)) c.rows_and_next_piece.result c.rows_and_next_piece.ensures.both c.finish-out.ensures.sent
 
 pub returns-in-Err-clause-part : goal.returns-in-Err-clause-part
 returns-in-Err-clause-part g c =
@@ -36,7 +36,6 @@ returns-in-Err-clause-part g c =
 
 pub returns-clause-counted : goal.returns-clause-counted
 returns-clause-counted g c =
-    second_of_both c.run_places-rows.result c.finish-out.result.1
-    (λ rows. rows ≡ batch_rows c.args.batch.now)
-    (λ next. g.W.Sink.failed c.finish-out.result.0 ≡ g.J.Streamed.failures) c.rows_and_next_piece.result
-    c.rows_and_next_piece.ensures c.finish-out.ensures.counted
+    counted_of_both c.run_places-rows.result c.finish-out.result.1 g.J.Streamed.failures
+    (g.W.Sink.failed c.finish-out.result.0) c.rows_and_next_piece.result c.rows_and_next_piece.ensures.both
+    c.finish-out.ensures.counted c.rows_and_next_piece.ensures.why
