@@ -4,6 +4,7 @@ ghost use Rattle.std.specs.Prelude.{◌≡◌, ◌≤◌, [], Err, IfErr, IfOk, 
 ghost use Rattle.rv_base.specs.Limits.{most_bytes};
 ghost use Rattle.rv_command.specs.Stops.{IsListFaultStop, IsListUnreadStop};
 ghost use Rattle.rv_command.specs.Texts.{IsTextAt};
+ghost use Rattle.rv_list_errors.specs.FaultHeads.{fault_head};
 ghost use Rattle.rv_list_errors.specs.Lines.{PutsLines};
 ghost use Rattle.rv_lists.specs.JobList.{job_list_of};
 
@@ -34,7 +35,7 @@ pub fn read_list_text<D: Inputs>(inputs: &D, alloc: Global, path: &str) -> Resul
 /// The jobs of a list's text, or what is wrong with the list.
 pub fn parse_list(alloc: Global, path: &str, text: &[u8]) -> Result<JobList, Stop>
     ensures jobs { IfOk result (λ jobs. job_list_of text.now ≡ Ok jobs) }
-    ensures fault { IfErr result (IsListFaultStop text.now) }
+    ensures fault { IfErr result (IsListFaultStop path.now text.now) }
 {
     match read_jobs(alloc, text) {
         Ok(jobs) => Ok(jobs),
@@ -44,7 +45,7 @@ pub fn parse_list(alloc: Global, path: &str, text: &[u8]) -> Result<JobList, Sto
 
 fn list_fault_stop(alloc: Global, path: &str, text: &[u8], fault: JobError) -> Stop
     requires { (fault.what ≡ What.OutOfMemory → ⊥) → job_list_of text.now ≡ Err fault }
-    ensures { IsListFaultStop text.now result }
+    ensures { IsListFaultStop path.now text.now result }
 {
     match fault.what {
         What::OutOfMemory => Stop::OutOfMemory,
@@ -59,7 +60,7 @@ pub fn list_faults_text(
     text: &[u8],
     faults: &[JobError],
 ) -> Result<Vec<u8>, AllocError>
-    ensures { IfOk result (λ lines. PutsLines (length faults.now) [] lines.items) }
+    ensures { IfOk result (λ lines. PutsLines (fault_head path.now text.now) faults.now [] lines.items) }
 {
     let mut told = Vec::new(alloc);
     push_faults(alloc, &mut told, path, text, faults)?;
