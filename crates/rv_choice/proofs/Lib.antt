@@ -1,3 +1,6 @@
 mod Counted
+mod Digits
 mod Names
 pub mod Public
+mod Stops
+mod ToldNames

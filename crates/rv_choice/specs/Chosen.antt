@@ -1,5 +1,5 @@
 -- The marks of the jobs of a list that words choose, and what is said beside that.
-use Rattle.std.specs.Prelude.{◌≡◌, ℕ, Bool, IfSome, List, [], Option, Some, None, is_some, option_map}
+use Rattle.std.specs.Prelude.{◌≡◌, ◌↔◌, ℕ, Bool, IfSome, List, [], Option, Some, None, is_some, option_map, true}
 use Rattle.regex.specs.Patterns.{Re}
 use Rattle.regex.specs.Strings.{regex_pattern, regex_source}
 use Rattle.regex.specs.declared.string.regex.Regex.{Regex}
@@ -11,17 +11,18 @@ use Rattle.rv_command.specs.Texts.{IsReportAt}
 use Rattle.rv_expect.specs.declared.passing.Rule.{Rule}
 use Rattle.rv_lists.specs.declared.job.Job.{Job}
 use Rattle.rv_report.specs.declared.saved.SavedReport.{SavedReport}
-use Rattle.rv_choice.specs.Choice.{ChosenNames, IsReadByDefault, chosen_marks, failed_job_names, requested_names}
+use Rattle.rv_choice.specs.Choice.{ChosenNames, IsReadByDefault, chosen_marks, failed_job_names, is_found_in_names, requested_names}
 use Rattle.rv_choice.specs.FailedJobNotes.{failed_job_notes}
+use Rattle.rv_choice.specs.UnknownName.{unknown_name}
 
 -- by exact names, by a pattern, and among the jobs of these names, which failed in the report at a path; there are no marks
--- where words ask for the jobs that failed in a report and in no other way, and none failed
+-- exactly where words ask for the jobs that failed in a report and in no other way, and none failed
 pub record AreChosenFrom (path : List ℕ) (failed : ChosenNames) (pattern : Option Re) (words : RunAsked)
     (jobs : List Job) (marks : Option (List Bool)) (notes : List ℕ) : Type 0 where
   pub told : notes ≡ failed_job_notes path jobs failed
   pub marked : IfSome marks (λ marks. marks
       ≡ chosen_marks (requested_names words.only.items) pattern (Some failed) jobs)
-  pub none : marks ≡ None → (failed ≡ []) × (words.only.items ≡ []) × (pattern ≡ None)
+  pub none : (marks ≡ None) ↔ ((failed ≡ []) × (words.only.items ≡ []) × (pattern ≡ None))
 
 -- the same of what a report that stands at a path has as failed
 pub record AreChosenFromReport (known : Option FileContents) (path : List ℕ) (pattern : Option Re) (words : RunAsked)
@@ -43,10 +44,13 @@ abbrev pub AreChosenBy : Option FileContents → Option Re → RunAsked → Rule
 AreChosenBy known pattern words rule jobs marks notes =
     AreChosenBeside known words.failed pattern words rule jobs marks notes
 
--- with the pattern that their text is read as where they have one
+-- each exact name is a job's; with the pattern that their text is read as where they have one, which is found in the name of
+-- some job
 pub record IsChoice (known : Option FileContents) (words : RunAsked) (rule : Rule) (jobs : List Job)
     (marks : Option (List Bool)) (notes : List ℕ) : Type 0 where
+  pub named : unknown_name jobs words.only.items ≡ None
   pub pattern : Option Regex
   pub source : option_map regex_source pattern ≡ borrowed_text words.pattern
   pub read : IfSome pattern IsReadByDefault
+  pub found : IfSome pattern (λ regex. is_found_in_names (regex_pattern regex) jobs ≡ true)
   pub by : AreChosenBy known (option_map regex_pattern pattern) words rule jobs marks notes

@@ -1,18 +1,38 @@
 -- The part of a list that words ask for, and its stamp.
-use Rattle.std.specs.Prelude.{◌≡◌, ◌==◌, ℕ, IfSome, List, Option, Some, None, is_some, take}
+use Rattle.std.specs.Prelude.{◌≡◌, ◌==◌, ◌≤◌, ◌<◌, ◌⊎◌, ℕ, IfSome, IsSomeAnd, List, Option, Some, None, false, is_some, take}
 use Rattle.std.specs.Borrow.{Bor}
 use Rattle.std.specs.List.{after_first, before_first}
-use Rattle.std.specs.Str.Parse.{digits_value}
+use Rattle.std.specs.Str.Parse.{IsNumeral, digits_value}
 use Rattle.hex.specs.Hex.{encode_lower}
 use Rattle.sha2.specs.Sha256.{sha256}
+use Rattle.rv_base.specs.Limits.{most_jobs}
+use Rattle.rv_base.specs.Names.{is_name}
+use Rattle.rv_command.specs.Stops.{IsRefusal}
+use Rattle.rv_command.specs.declared.stop.Stop.{Stop}
+use Rattle.rv_command.specs.declared.stop.Stop.TheVariants as why
 use Rattle.rv_report.specs.declared.saved.Shard.{Shard}
 
--- the numbers around the first slash of K/N
+-- what stands around the first slash of K/N
+abbrev pub before_slash : List ℕ → List ℕ
+before_slash text = before_first (λ byte. byte == 47) text
+
+abbrev pub behind_slash : List ℕ → List ℕ
+behind_slash text = after_first (λ byte. byte == 47) text
+
+-- the numbers there
 abbrev pub number_before_slash : List ℕ → ℕ
-number_before_slash text = digits_value 10 (before_first (λ byte. byte == 47) text)
+number_before_slash text = digits_value 10 (before_slash text)
 
 abbrev pub number_behind_slash : List ℕ → ℕ
-number_behind_slash text = digits_value 10 (after_first (λ byte. byte == 47) text)
+number_behind_slash text = digits_value 10 (behind_slash text)
+
+-- a text is K/N: both are digits alone, and K is one of the numbers from 1 to N, which is at most 4,096
+pub record IsShardText (text : List ℕ) : Type 0 where
+  pub number : IsNumeral 10 (before_slash text)
+  pub shards : IsNumeral 10 (behind_slash text)
+  pub first : 0 < number_before_slash text
+  pub within : number_before_slash text ≤ number_behind_slash text
+  pub few : number_behind_slash text ≤ most_jobs
 
 -- the shard that a text asks for, where there is one
 abbrev pub IsShardOf : Option (Bor (List ℕ)) → Option Shard → Type 0
@@ -24,3 +44,12 @@ IsShardOf text shard = (is_some shard ≡ is_some text)
 abbrev pub stamp_for : Option (Bor (List ℕ)) → List ℕ → List ℕ
 stamp_for (Some stamp) text = stamp.now
 stamp_for None text = encode_lower (take 8 (sha256 text))
+
+-- words ask for a part, and the text is not K/N, or the stamp that they give is no name
+abbrev pub AskForNoShard : Option (Bor (List ℕ)) → Option (Bor (List ℕ)) → Type 0
+AskForNoShard shard stamp = IsSomeAnd shard (λ text. (IsShardText text.now → ⊥)
+    ⊎ IsSomeAnd stamp (λ stamp. is_name stamp.now ≡ false))
+
+-- memory was wanting, or the part is refused
+abbrev pub IsShardStop : Option (Bor (List ℕ)) → Option (Bor (List ℕ)) → Stop → Type 0
+IsShardStop shard stamp stop = (stop ≡ why.OutOfMemory) ⊎ (AskForNoShard shard stamp × IsRefusal stop)

@@ -1,27 +1,30 @@
 //! The jobs that words choose.
 
-ghost use Rattle.std.specs.Prelude.{◌≡◌, IfOk, IfSome, MatchOption, None, OnOk, Some, [], true, not, length};
-ghost use Rattle.std.specs.List.{find, list_any};
+ghost use Rattle.std.specs.Prelude.{◌≡◌, ◌⊎◌, IfErr, IfOk, IfSome, IsSomeAnd, None, OnOk, true};
+ghost use Rattle.std.specs.List.{list_any};
 ghost use Rattle.std.specs.Prelude.{is_some, option_map};
 ghost use Rattle.regex.specs.Strings.{regex_pattern, regex_source};
-ghost use Rattle.rv_choice.specs.Choice.{IsReadByDefault, borrowed_names, chosen_marks, failed_job_names, has_job_named};
+ghost use Rattle.rv_choice.specs.Choice.{IsReadByDefault, borrowed_names, chosen_marks, failed_job_names};
 ghost use Rattle.rv_choice.specs.Choice.{is_found_in_names, optional_names, pattern_of, requested_names};
+ghost use Rattle.rv_choice.specs.ChoiceStops.{IsChoiceStop, IsNoPattern, IsPatternStop, unmatched_pattern};
 ghost use Rattle.rv_choice.specs.Chosen.{AreChosenBy, AreChosenFrom, IsChoice};
 ghost use Rattle.rv_choice.specs.FailedJobNotes.{failed_job_notes};
+ghost use Rattle.rv_choice.specs.UnknownName.{IsUnknownNameStop, unknown_name};
 ghost use Rattle.rv_cli.specs.RvtestWords.{borrowed_text};
+ghost use Rattle.rv_command.specs.Stops.{IsRefusal, IsReportUnreadStop, IsStop};
 
 use crate::failed_jobs::{failed_job_names, failed_job_notes};
 use crate::marks::{Wanted, chosen_marks, first_unknown_name};
 use crate::shard::bad_value_stop;
+use crate::unknown_name::unknown_name_stop;
 use regex::Regex;
 use rv_cli::rvtest::RunAsked;
 use rv_command::{Stop, read_report_file};
 use rv_expect::Rule;
 use rv_files::Inputs;
 use rv_jobs::Job;
-use rv_list_errors::near_job;
 use rv_rows::Row;
-use rv_text::{Span, push_spans, push_text, text_of_spans};
+use rv_text::{Span, text_of_spans};
 use std::alloc::{AllocError, Global};
 
 /// What chooses the jobs of a list: words, and by which rule the jobs of a report failed.
@@ -47,8 +50,9 @@ pub struct Choice {
 impl<'x, D: Inputs> Chooser<'x, D> {
     /// The jobs that words choose.
     pub fn choose(&self, jobs: &[Job]) -> Result<Choice, Stop>
-        ensures { IfOk result (λ choice. IsChoice (D.contents self.now.inputs.now) self.now.asked.now
+        ensures chosen { IfOk result (λ choice. IsChoice (D.contents self.now.inputs.now) self.now.asked.now
             self.now.rule jobs.now (option_map (λ marks. marks.items) choice.marks) choice.notes.items) }
+        ensures stop { IfErr result (IsChoiceStop (D.contents self.now.inputs.now) self.now.asked.now jobs.now) }
     {
         self.check_exact_names(jobs)?;
         let pattern = self.requested_pattern(jobs)?;
@@ -57,8 +61,9 @@ impl<'x, D: Inputs> Chooser<'x, D> {
 
     // Each exact name is one of the list's.
     fn check_exact_names(&self, jobs: &[Job]) -> Result<(), Stop>
-        ensures { OnOk result (option_map (λ name. name.now)
-            (find (λ name. not (has_job_named jobs.now name.now)) self.now.asked.now.only.items) ≡ None) }
+        ensures known { OnOk result (unknown_name jobs.now self.now.asked.now.only.items ≡ None) }
+        ensures unknown { IfErr result (λ stop. IsSomeAnd (unknown_name jobs.now self.now.asked.now.only.items)
+            (λ name. IsUnknownNameStop self.now.asked.now.list.now jobs.now name stop)) }
     {
         match first_unknown_name(jobs, self.asked.only.as_slice()) {
             Some(name) => Err(unknown_name_stop(self.alloc, self.asked.list, jobs, name)),
@@ -73,6 +78,8 @@ impl<'x, D: Inputs> Chooser<'x, D> {
         ensures read { IfOk result (λ pattern. IfSome pattern IsReadByDefault) }
         ensures found { IfOk result (λ pattern. IfSome pattern
             (λ regex. is_found_in_names (regex_pattern regex) jobs.now ≡ true)) }
+        ensures refused { IfErr result (λ stop. IsSomeAnd (borrowed_text self.now.asked.now.pattern)
+            (λ text. IsPatternStop self.now.asked.now.list.now text jobs.now stop)) }
     {
         let Some(text) = self.asked.pattern else {
             return Ok(None);
@@ -81,17 +88,19 @@ impl<'x, D: Inputs> Chooser<'x, D> {
         if is_found_in_job_names(self.alloc, &pattern, jobs)? {
             Ok(Some(pattern))
         } else {
-            let told = unmatched_pattern_message(self.alloc, self.asked.list, text);
-            Err(Stop::of_refusal(told))
+            Err(unmatched_pattern_stop(self.alloc, self.asked.list, text))
         }
     }
 
     // The choice by a pattern, or by none, that the jobs' names were asked for.
     fn choose_by_pattern(&self, pattern: Option<&Regex>, jobs: &[Job]) -> Result<Choice, Stop>
         requires { is_some pattern ≡ is_some self.now.asked.now.pattern }
-        ensures { IfOk result (λ choice. AreChosenBy (D.contents self.now.inputs.now)
+        ensures chosen { IfOk result (λ choice. AreChosenBy (D.contents self.now.inputs.now)
             (pattern_of pattern.entry) self.now.asked.now self.now.rule jobs.now
             (option_map (λ marks. marks.items) choice.marks) choice.notes.items) }
+        ensures unread { IfErr result (λ stop. (stop ≡ Stop.OutOfMemory)
+            ⊎ IsSomeAnd (borrowed_text self.now.asked.now.failed)
+            (λ path. IsReportUnreadStop (D.contents self.now.inputs.now) path stop)) }
     {
         let Some(path) = self.asked.failed else {
             let marks = self.combined_marks(pattern, None, jobs)?;
@@ -112,9 +121,10 @@ impl<'x, D: Inputs> Chooser<'x, D> {
         pattern: Option<&Regex>,
         jobs: &[Job],
     ) -> Result<Choice, Stop>
-        ensures { IfOk result (λ choice. AreChosenFrom path.now (failed_job_names self.now.rule rows.now)
+        ensures chosen { IfOk result (λ choice. AreChosenFrom path.now (failed_job_names self.now.rule rows.now)
             (pattern_of pattern.entry) self.now.asked.now jobs.now
             (option_map (λ marks. marks.items) choice.marks) choice.notes.items) }
+        ensures memory { IfErr result (λ stop. stop ≡ Stop.OutOfMemory) }
     {
         let failed = failed_job_names(self.alloc, self.rule, rows)?;
         self.choose_from_failed_names(path, failed.as_slice(), pattern, jobs)
@@ -128,9 +138,10 @@ impl<'x, D: Inputs> Chooser<'x, D> {
         pattern: Option<&Regex>,
         jobs: &[Job],
     ) -> Result<Choice, Stop>
-        ensures { IfOk result (λ choice. AreChosenFrom path.now (borrowed_names failed.now)
+        ensures chosen { IfOk result (λ choice. AreChosenFrom path.now (borrowed_names failed.now)
             (pattern_of pattern.entry) self.now.asked.now jobs.now
             (option_map (λ marks. marks.items) choice.marks) choice.notes.items) }
+        ensures memory { IfErr result (λ stop. stop ≡ Stop.OutOfMemory) }
     {
         let notes = failed_job_notes(self.alloc, path, jobs, failed)?;
         if failed.is_empty() && self.asked.only.is_empty() && pattern.is_none() {
@@ -170,76 +181,10 @@ fn requested_names<'a>(asked: &'a RunAsked<'_>) -> Option<&'a [&'a str]>
     }
 }
 
-/// That no job of a list has a name, and which name is nearest, or which names there are where none is near.
-pub fn unknown_name_stop(alloc: Global, list: &str, jobs: &[Job], name: &str) -> Stop {
-    Stop::of_refusal(unknown_name_message(alloc, list, jobs, name))
-}
-
-fn unknown_name_message(
-    alloc: Global,
-    list: &str,
-    jobs: &[Job],
-    name: &str,
-) -> Result<Vec<u8>, AllocError> {
-    let mut message = no_such_job_message(alloc, list, name)?;
-    match near_job(alloc, jobs, name)? {
-        Some(place) => {
-            let near = jobs[place].name.as_str();
-            let spans = [Span::Text("; the nearest name is "), Span::Text(near)];
-            push_spans(&mut message, &spans)?;
-        }
-        None => push_job_names(&mut message, jobs)?,
-    }
-    push_text(&mut message, "\n")?;
-    Ok(message)
-}
-
-fn no_such_job_message<'a>(
-    alloc: Global,
-    list: &'a str,
-    name: &'a str,
-) -> Result<Vec<u8>, AllocError> {
-    text_of_spans(
-        alloc,
-        &[
-            Span::Text("rvtest: "),
-            Span::Shown(list.as_bytes()),
-            Span::Text(": no job is called "),
-            Span::Value(name.as_bytes()),
-        ],
-    )
-}
-
-// How many names are told at most.
-const MOST_TOLD: usize = 20;
-
-// Appends the names of jobs, the first of them where there are many, and how many there are beside them.
-fn push_job_names(message: &mut Vec<u8>, jobs: &[Job]) -> Result<(), AllocError> {
-    let told = jobs.len().min(MOST_TOLD);
-    for (place, job) in jobs[..told].iter().enumerate() {
-        let before = match place {
-            0 => "; the names are ",
-            _ if place + 1 == jobs.len() => " and ",
-            _ => ", ",
-        };
-        push_spans(
-            message,
-            &[Span::Text(before), Span::Text(job.name.as_str())],
-        )?;
-    }
-    if told < jobs.len() {
-        let left = (jobs.len() - told) as u64;
-        push_spans(
-            message,
-            &[Span::Text(" and "), Span::Number(left), Span::Text(" more")],
-        )?;
-    }
-    Ok(())
-}
-
 fn compile_pattern(alloc: Global, text: &str) -> Result<Regex, Stop>
     ensures source { IfOk result (λ pattern. regex_source pattern ≡ text.now) }
     ensures read { IfOk result IsReadByDefault }
+    ensures refused { IfErr result (λ stop. (stop ≡ Stop.OutOfMemory) ⊎ (IsNoPattern text.now × IsRefusal stop)) }
 {
     match Regex::new(alloc, text) {
         Ok(pattern) => Ok(pattern),
@@ -273,11 +218,19 @@ fn has_mark(marks: &[bool]) -> bool
     marks.iter().any(|mark| *mark)
 }
 
+fn unmatched_pattern_stop(alloc: Global, list: &str, pattern: &str) -> Stop
+    ensures { IsStop 2 (unmatched_pattern list.now pattern.now) result }
+{
+    Stop::of_refusal(unmatched_pattern_message(alloc, list, pattern))
+}
+
 fn unmatched_pattern_message<'a>(
     alloc: Global,
     list: &'a str,
     pattern: &'a str,
-) -> Result<Vec<u8>, AllocError> {
+) -> Result<Vec<u8>, AllocError>
+    ensures { IfOk result (λ text. text.items ≡ unmatched_pattern list.now pattern.now) }
+{
     text_of_spans(
         alloc,
         &[

@@ -7,6 +7,8 @@ mod chooser;
 mod failed_jobs;
 mod marks;
 mod shard;
+mod unknown_name;
 
-pub use chooser::{Choice, Chooser, unknown_name_stop};
+pub use chooser::{Choice, Chooser};
 pub use shard::requested_shard;
+pub use unknown_name::unknown_name_stop;

@@ -1,10 +1,10 @@
 //! The jobs that are chosen, by a mark for each.
 
-ghost use Rattle.std.specs.Prelude.{◌≡◌, IfOk, not, option_map};
-ghost use Rattle.std.specs.List.{find};
+ghost use Rattle.std.specs.Prelude.{◌≡◌, IfOk, option_map};
 ghost use Rattle.regex.specs.Strings.{matcher_pattern};
 ghost use Rattle.rv_choice.specs.Choice.{choice_by_names, choice_by_pattern, has_job_named, is_among_names, is_chosen, is_chosen_name};
 ghost use Rattle.rv_choice.specs.Choice.{chosen_marks, borrowed_names, pattern_of, optional_names};
+ghost use Rattle.rv_choice.specs.UnknownName.{unknown_name};
 
 use regex::{Matcher, Regex};
 use rv_jobs::Job;
@@ -101,8 +101,7 @@ fn choice_by_pattern(matcher: &mut Option<Matcher<'_>>, name: &str) -> Option<bo
 
 /// The first of these names that no job has.
 pub(crate) fn first_unknown_name<'a>(jobs: &[Job], names: &[&'a str]) -> Option<&'a str>
-    ensures { option_map (λ name. name.now) result ≡ option_map (λ name. name.now)
-        (find (λ name. not (has_job_named jobs.now name.now)) names.now) }
+    ensures { option_map (λ name. name.now) result ≡ unknown_name jobs.now names.now }
 {
     match names.iter().find(|name| !has_job_named(jobs, name)) {
         Some(name) => Some(*name),

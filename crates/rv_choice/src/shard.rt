@@ -1,11 +1,15 @@
 //! The part of a list that words ask for, and its stamp.
 
-ghost use Rattle.std.specs.Prelude.{◌≡◌, ◌≤◌, ◌<◌, IfOk, IfSome, string_bytes, take};
-ghost use Rattle.std.specs.Str.Parse.{digits_value};
+ghost use Rattle.std.specs.Prelude.{◌≡◌, ◌≤◌, ◌<◌, ◌^◌, IfErr, IfNone, IfOk, IfSome, MatchOption, string_bytes, take, true};
+ghost use Rattle.std.specs.Char.{is_ascii_digit};
+ghost use Rattle.std.specs.List.{list_all};
+ghost use Rattle.std.specs.Str.Parse.{IsNumeral, digits_value};
 ghost use Rattle.hex.specs.Hex.{encode_lower};
 ghost use Rattle.sha2.specs.Sha256.{sha256};
 ghost use Rattle.rv_lists.specs.Limits.{most_jobs};
-ghost use Rattle.rv_choice.specs.Shard.{IsShardOf, number_before_slash, number_behind_slash, stamp_for};
+ghost use Rattle.rv_choice.specs.Shard.{IsShardOf, IsShardStop, IsShardText, number_before_slash, number_behind_slash, stamp_for};
+ghost use Rattle.rv_command.specs.Stops.{IsRefusal};
+ghost use Rattle.rv_base.specs.Names.{is_name};
 
 use clap::error::ErrorKind;
 use rv_cli::rvtest::{RunAsked, run_command, usage_error};
@@ -30,6 +34,9 @@ pub fn requested_shard(
         s.stamp ≡ stamp_for asked.now.stamp text.now)) }
     ensures within { IfOk result (λ shard. IfSome shard (λ s.
         (s.jobs ≡ jobs) × (0 < s.number) × (s.number ≤ s.shards) × (s.shards ≤ most_jobs))) }
+    ensures named { IfOk result (λ shard. IfSome shard (λ _.
+        IfSome asked.now.stamp (λ stamp. is_name stamp.now ≡ true))) }
+    ensures refused { IfErr result (IsShardStop asked.now.shard asked.now.stamp) }
 {
     let Some(words) = asked.shard else {
         return Ok(None);
@@ -55,6 +62,7 @@ fn shard_numbers(words: &str) -> Option<(u32, u32)>
     ensures numbers { IfSome result (λ n. (n.0 ≡ number_before_slash words.now)
         × (n.1 ≡ number_behind_slash words.now)) }
     ensures within { IfSome result (λ n. (0 < n.0) × (n.0 ≤ n.1) × (n.1 ≤ most_jobs)) }
+    ensures refused { IfNone result (IsShardText words.now → ⊥) }
 {
     let (number, shards) = words.split_once('/')?;
     let number = parse_digits(number)?;
@@ -68,13 +76,20 @@ fn shard_numbers(words: &str) -> Option<(u32, u32)>
 
 // A number of digits alone.
 fn parse_digits(words: &str) -> Option<u32>
-    ensures { IfSome result (λ number. number ≡ digits_value 10 words.now) }
+    ensures { MatchOption result (IsNumeral 10 words.now → 2 ^ 32 ≤ digits_value 10 words.now)
+        (λ number. IsNumeral 10 words.now × (number ≡ digits_value 10 words.now)) }
 {
-    if words.as_bytes().iter().all(|byte| byte.is_ascii_digit()) {
+    if has_digits_alone(words.as_bytes()) {
         words.parse::<u32>().ok()
     } else {
         None
     }
+}
+
+fn has_digits_alone(text: &[u8]) -> bool
+    ensures { result ≡ list_all is_ascii_digit text.now }
+{
+    text.iter().all(|byte| byte.is_ascii_digit())
 }
 
 fn list_digest(alloc: Global, text: &[u8]) -> Result<String, AllocError>
@@ -85,7 +100,9 @@ fn list_digest(alloc: Global, text: &[u8]) -> Result<String, AllocError>
     hex::encode(alloc, &digest[..8])
 }
 
-fn bad_shard_stop(alloc: Global, words: &str) -> Stop {
+fn bad_shard_stop(alloc: Global, words: &str) -> Stop
+    ensures { IsRefusal result }
+{
     bad_value_stop(
         alloc,
         format!(in alloc;
@@ -94,7 +111,9 @@ fn bad_shard_stop(alloc: Global, words: &str) -> Stop {
     )
 }
 
-fn bad_stamp_stop(alloc: Global, stamp: &str) -> Stop {
+fn bad_stamp_stop(alloc: Global, stamp: &str) -> Stop
+    ensures { IsRefusal result }
+{
     bad_value_stop(
         alloc,
         format!(in alloc;
@@ -104,7 +123,9 @@ fn bad_stamp_stop(alloc: Global, stamp: &str) -> Stop {
 }
 
 /// That a value of `run` is none, as these words say, where there was memory for them.
-pub(crate) fn bad_value_stop(alloc: Global, what: Result<String, AllocError>) -> Stop {
+pub(crate) fn bad_value_stop(alloc: Global, what: Result<String, AllocError>) -> Stop
+    ensures { IsRefusal result }
+{
     match what {
         Ok(what) => {
             let kind = ErrorKind::ValueValidation;

@@ -1,5 +1,5 @@
 -- Lines that end a command.
-use Rattle.std.proofs.Common.{◌≡◌, ◌⊎◌, List, [], ◌∷◌, ℕ, IfErr, IfOk, Result, Ok, Err, Vec, Global, refl, sym, subst, inl, inr}
+use Rattle.std.proofs.Common.{◌≡◌, ◌⊎◌, List, [], ◌∷◌, ℕ, IfOk, Result, Ok, Err, Vec, Global, refl, sym, subst, inl, inr}
 use Rattle.std.specs.declared.alloc.AllocError.{AllocError}
 use Rattle.rv_list_errors.specs.FaultHeads.{fault_head}
 use Rattle.rv_list_errors.specs.Lines.{PutsLines}
@@ -29,8 +29,3 @@ pub fault_stop : (path text : List ℕ) (fault : JobError) (told : Result (Vec �
 fault_stop path text fault (Ok bytes) stop is refused puts =
     inr (fault, refused, (bytes.items, puts, told_stop lines.Refusal (Ok bytes) bytes.items stop is refl))
 fault_stop path text fault (Err error) stop is refused puts = inl is
-
--- what each error says that came
-pub said_of_error : {T E : Type 0} (r : Result T E) (P Q : E → Type 0) → ((e : E) → P e → Q e) → IfErr r P → IfErr r Q
-said_of_error (Ok x) P Q more said = said
-said_of_error (Err e) P Q more said = more e said

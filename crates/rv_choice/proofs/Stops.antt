@@ -1,0 +1,77 @@
+-- Why words choose no jobs.
+use Rattle.std.proofs.Common.{◌≡◌, ◌∙◌, ◌<◌, ◌⊎◌, ℕ, List, [], ◌++◌, Option, Some, None, IsSomeAnd, IfErr, IfOk, Result, Ok, Err, Vec, Global, ap, codes, get_or, inl, inr, refl, subst, sym}
+use Rattle.std.proofs.lemmas.List.{get_or_default}
+use Rattle.std.specs.Borrow.{Bor}
+use Rattle.std.specs.declared.alloc.AllocError.{AllocError}
+use Rattle.rv_base.specs.Files.{FileContents}
+use Rattle.rv_cli.specs.RvtestWords.{borrowed_text}
+use Rattle.rv_cli.specs.declared.rvtest.run.RunAsked.{RunAsked}
+use Rattle.rv_command.proofs.Public.{told_stop}
+use Rattle.rv_command.specs.Stops.{IsReportUnreadStop, stop_of_lines}
+use Rattle.rv_command.specs.declared.stop.Lines.TheVariants as lines
+use Rattle.rv_command.specs.declared.stop.Stop.{Stop}
+use Rattle.rv_command.specs.declared.stop.Stop.TheVariants as why
+use Rattle.rv_lists.specs.Jobs.{single_job}
+use Rattle.rv_lists.specs.declared.job.Job.{Job}
+use Rattle.rv_choice.specs.ChoiceStops.{IsChoiceStop, IsPatternStop, memory, pattern, report, unknown}
+use Rattle.rv_choice.specs.declared.chooser.Choice.{Choice}
+use Rattle.rv_choice.specs.UnknownName.{IsMeant, IsNameHint, IsUnknownNameMessage, IsUnknownNameStop, unknown_name}
+
+some_value : {A : Type 0} (o : Option A) (P : A → Type 0) → IsSomeAnd o P → (x : A) × ((o ≡ Some x) × P x)
+some_value (Some x) P holds = (x, (refl, holds))
+some_value None P holds = absurd holds
+
+pub stop_of_unknown : (known : Option FileContents) (words : RunAsked) (jobs : List Job) (stop : Stop)
+    → IsSomeAnd (unknown_name jobs words.only.items) (λ name. IsUnknownNameStop words.list.now jobs name stop)
+    → IsChoiceStop known words jobs stop
+stop_of_unknown known words jobs stop said =
+    let Says : List ℕ → Type 0 = λ name. IsUnknownNameStop words.list.now jobs name stop in
+    let some = some_value (unknown_name jobs words.only.items) Says said in
+    unknown some.0 some.1.0 some.1.1
+
+pub stop_of_pattern : (known : Option FileContents) (words : RunAsked) (jobs : List Job) (stop : Stop)
+    → IsSomeAnd (borrowed_text words.pattern) (λ text. IsPatternStop words.list.now text jobs stop)
+    → IsChoiceStop known words jobs stop
+stop_of_pattern known words jobs stop said =
+    let Says : List ℕ → Type 0 = λ text. IsPatternStop words.list.now text jobs stop in
+    let some = some_value (borrowed_text words.pattern) Says said in
+    pattern some.0 some.1.0 some.1.1
+
+stop_of_report : (known : Option FileContents) (words : RunAsked) (jobs : List Job) (stop : Stop)
+    → (stop ≡ why.OutOfMemory) ⊎ IsSomeAnd (borrowed_text words.failed) (λ path. IsReportUnreadStop known path stop)
+    → IsChoiceStop known words jobs stop
+stop_of_report known words jobs stop (inl is) = memory is
+stop_of_report known words jobs stop (inr said) =
+    let Says : List ℕ → Type 0 = λ path. IsReportUnreadStop known path stop in
+    let some = some_value (borrowed_text words.failed) Says said in
+    report some.0 some.1.0 some.1.1
+
+-- what is said of a text is said of words that have it
+pub said_of_text : (P : List ℕ → Type 0) (asked : Option (Bor (List ℕ))) (text : Bor (List ℕ)) → asked ≡ Some text
+    → P text.now → IsSomeAnd (borrowed_text asked) P
+said_of_text P asked text is holds =
+    let Says : Option (Bor (List ℕ)) → Type 0 = λ o. IsSomeAnd (borrowed_text o) P in
+    subst Says (sym is) holds
+
+-- the name of the job that was met at a place
+pub near_hint : (jobs : List Job) (name : List ℕ) (place : ℕ) (job : Job) → IsMeant jobs name place
+    → job ≡ get_or jobs place job → IsNameHint jobs name (codes "; the nearest name is " ++ job.name)
+near_hint jobs name place job meant is =
+    let same : job ≡ get_or jobs place (single_job [] 0 []) =
+    is ∙ get_or_default jobs place job (single_job [] 0 []) meant.0.within in
+    inl (place, meant, ap (λ (j : Job). codes "; the nearest name is " ++ j.name) same)
+
+-- a refusal of those lines
+pub unknown_stop : (list : List ℕ) (jobs : List Job) (name : List ℕ) (told : Result (Vec ℕ Global) AllocError) (stop : Stop)
+    → stop ≡ stop_of_lines lines.Refusal told → IfOk told (λ message. IsUnknownNameMessage list jobs name message.items)
+    → IsUnknownNameStop list jobs name stop
+unknown_stop list jobs name (Ok message) stop is said =
+    inr (message.items, said, told_stop lines.Refusal (Ok message) message.items stop is refl)
+unknown_stop list jobs name (Err error) stop is said = inl is
+
+pub stop_of_choice : (known : Option FileContents) (words : RunAsked) (jobs : List Job) (result : Result Choice Stop)
+    → IfErr result (λ stop. (stop ≡ why.OutOfMemory)
+    ⊎ IsSomeAnd (borrowed_text words.failed) (λ path. IsReportUnreadStop known path stop))
+    → IfErr result (IsChoiceStop known words jobs)
+stop_of_choice known words jobs (Ok choice) said = said
+stop_of_choice known words jobs (Err stop) said = stop_of_report known words jobs stop said

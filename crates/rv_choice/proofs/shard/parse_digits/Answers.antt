@@ -1,0 +1,10 @@
+use Rattle.std.proofs.Common.{◌∙◌, ap, sym}
+use Rattle.std.specs.Char.{is_ascii_digit}
+use Rattle.std.specs.List.{list_all}
+use Rattle.rv_choice.proofs.Digits.{no_numeral, parsed_digits}
+use Rattle.rv_choice.proofs.shard.parse_digits.Goals as goal
+
+pub returns-else-has_digits_alone : goal.returns-else-has_digits_alone
+returns-else-has_digits_alone c =
+    let told = ap (list_all is_ascii_digit) (sym c.as_bytes.ensures.value) ∙ (sym c.has_digits_alone.ensures ∙ c.if-has_digits_alone.false) in
+    λ numeral. absurd (no_numeral c.args.words.now told numeral)

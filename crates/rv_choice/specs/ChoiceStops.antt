@@ -1,0 +1,46 @@
+-- Why words choose no jobs.
+use Rattle.std.specs.Prelude.{◌≡◌, ◌≢◌, ◌⊎◌, ◌++◌, ℕ, List, Option, Some, codes, false}
+use Rattle.regex.specs.Patterns.{default_config}
+use Rattle.regex.specs.Sources.{IsTextRefusal}
+use Rattle.regex.specs.Strings.{regex_pattern, regex_source}
+use Rattle.regex.specs.declared.error.Error as patterns
+use Rattle.regex.specs.declared.error.Error.TheVariants as refused
+use Rattle.regex.specs.declared.string.regex.Regex.{Regex}
+use Rattle.rv_base.specs.Files.{FileContents}
+use Rattle.rv_cli.specs.RvtestWords.{borrowed_text}
+use Rattle.rv_cli.specs.declared.rvtest.run.RunAsked.{RunAsked}
+use Rattle.rv_command.specs.Stops.{IsRefusal, IsReportUnreadStop, IsStop}
+use Rattle.rv_command.specs.declared.stop.Stop.{Stop}
+use Rattle.rv_command.specs.declared.stop.Stop.TheVariants as why
+use Rattle.rv_lists.specs.declared.job.Job.{Job}
+use Rattle.rv_text.specs.Printable.{printable_text, printable_value}
+use Rattle.rv_choice.specs.Choice.{IsReadByDefault, is_found_in_names}
+use Rattle.rv_choice.specs.UnknownName.{IsUnknownNameStop, unknown_name}
+
+-- a text is refused as a pattern, and not for want of memory
+abbrev pub IsNoPattern : List ℕ → Type 0
+IsNoPattern text = (error : patterns.Error) × (error ≢ refused.OutOfMemory) × IsTextRefusal default_config text error
+
+-- the pattern of a text is found in the name of no job
+abbrev pub IsUnmatched : List ℕ → List Job → Type 0
+IsUnmatched text jobs = (pattern : Regex) × (regex_source pattern ≡ text) × IsReadByDefault pattern
+    × (is_found_in_names (regex_pattern pattern) jobs ≡ false)
+
+abbrev pub unmatched_pattern : List ℕ → List ℕ → List ℕ
+unmatched_pattern list text = codes "rvtest: " ++ printable_text list ++ codes ": no job's name matches '"
+    ++ printable_value text ++ codes "'\n"
+
+-- memory was wanting, a text is no pattern, or its pattern is found in no name
+abbrev pub IsPatternStop : List ℕ → List ℕ → List Job → Stop → Type 0
+IsPatternStop list text jobs stop = (stop ≡ why.OutOfMemory)
+    ⊎ ((IsNoPattern text × IsRefusal stop) ⊎ (IsUnmatched text jobs × IsStop 2 (unmatched_pattern list text) stop))
+
+-- memory was wanting; a name is no job's; the pattern chooses nothing; or the report was not read
+pub data IsChoiceStop (known : Option FileContents) (words : RunAsked) (jobs : List Job) (stop : Stop) : Type 0 where
+  memory : stop ≡ why.OutOfMemory → IsChoiceStop known words jobs stop
+  unknown : (name : List ℕ) → unknown_name jobs words.only.items ≡ Some name
+      → IsUnknownNameStop words.list.now jobs name stop → IsChoiceStop known words jobs stop
+  pattern : (text : List ℕ) → borrowed_text words.pattern ≡ Some text
+      → IsPatternStop words.list.now text jobs stop → IsChoiceStop known words jobs stop
+  report : (path : List ℕ) → borrowed_text words.failed ≡ Some path
+      → IsReportUnreadStop known path stop → IsChoiceStop known words jobs stop

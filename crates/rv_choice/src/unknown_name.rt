@@ -1,0 +1,138 @@
+//! That no job of a list has a name.
+
+ghost use Rattle.std.specs.Prelude.{◌≡◌, ◌++◌, ◌<◌, ◌≤◌, ℕ, IfOk, List, OnOk, codes, length};
+ghost use Rattle.rv_choice.specs.UnknownName.{IsNameHint, IsUnknownNameStop, names_from, names_left, no_such_job, told_names};
+ghost use Rattle.rv_choice.specs.UnknownName.{IsUnknownNameMessage, text_before_name};
+
+use rv_command::Stop;
+use rv_jobs::Job;
+use rv_list_errors::near_job;
+use rv_text::{Span, push_spans, push_text, text_of_spans};
+use std::alloc::{AllocError, Global};
+
+/// That no job of a list has a name, and which name is nearest, or which names there are where none is near.
+pub fn unknown_name_stop(alloc: Global, list: &str, jobs: &[Job], name: &str) -> Stop
+    ensures { IsUnknownNameStop list.now jobs.now name.now result }
+{
+    Stop::of_refusal(unknown_name_message(alloc, list, jobs, name))
+}
+
+fn unknown_name_message(
+    alloc: Global,
+    list: &str,
+    jobs: &[Job],
+    name: &str,
+) -> Result<Vec<u8>, AllocError>
+    ensures { IfOk result (λ message. IsUnknownNameMessage list.now jobs.now name.now message.items) }
+{
+    let mut message = no_such_job_message(alloc, list, name)?;
+    push_name_hint(&mut message, alloc, jobs, name)?;
+    push_text(&mut message, "\n")?;
+    Ok(message)
+}
+
+fn no_such_job_message<'a>(
+    alloc: Global,
+    list: &'a str,
+    name: &'a str,
+) -> Result<Vec<u8>, AllocError>
+    ensures { IfOk result (λ message. message.items ≡ no_such_job list.now name.now) }
+{
+    text_of_spans(
+        alloc,
+        &[
+            Span::Text("rvtest: "),
+            Span::Shown(list.as_bytes()),
+            Span::Text(": no job is called "),
+            Span::Value(name.as_bytes()),
+        ],
+    )
+}
+
+// Appends the name of the job that a person probably meant, or else the names that there are.
+fn push_name_hint(
+    message: &mut Vec<u8>,
+    alloc: Global,
+    jobs: &[Job],
+    name: &str,
+) -> Result<(), AllocError>
+    ensures { OnOk result ((hint : List ℕ) × IsNameHint jobs.now name.now hint
+        × (message.new.items ≡ message.old.items ++ hint)) }
+{
+    match near_job(alloc, jobs, name)? {
+        Some(place) => push_near_name(message, jobs[place].name.as_str()),
+        None => push_names(message, jobs),
+    }
+}
+
+fn push_near_name<'a>(message: &mut Vec<u8>, near: &'a str) -> Result<(), AllocError>
+    ensures { OnOk result (message.new.items
+        ≡ message.old.items ++ (codes "; the nearest name is " ++ near.now)) }
+{
+    push_spans(
+        message,
+        &[Span::Text("; the nearest name is "), Span::Text(near)],
+    )
+}
+
+// How many names are told at most.
+const MOST_TOLD: usize = 20;
+
+// Appends the names of jobs, the first of them where there are many, and how many there are beside them.
+fn push_names(message: &mut Vec<u8>, jobs: &[Job]) -> Result<(), AllocError>
+    ensures { OnOk result (message.new.items ≡ message.old.items ++ told_names jobs.now) }
+{
+    let told = jobs.len().min(MOST_TOLD);
+    push_first_names(message, &jobs[..told], jobs.len())?;
+    push_names_left(message, jobs.len())
+}
+
+// Appends the names of jobs, which are the first of so many.
+fn push_first_names(message: &mut Vec<u8>, jobs: &[Job], count: usize) -> Result<(), AllocError>
+    requires { length jobs.now ≤ count }
+    ensures { OnOk result (message.new.items ≡ message.old.items ++ names_from 0 count jobs.now) }
+{
+    for (place, job) in jobs.iter().enumerate() {
+        push_name(message, place, count, job.name.as_str())?;
+    }
+    Ok(())
+}
+
+fn push_name<'a>(
+    message: &mut Vec<u8>,
+    place: usize,
+    count: usize,
+    name: &'a str,
+) -> Result<(), AllocError>
+    requires { place < count }
+    ensures { OnOk result (message.new.items
+        ≡ message.old.items ++ (text_before_name place count ++ name.now)) }
+{
+    push_text(message, text_before_name(place, count))?;
+    push_text(message, name)
+}
+
+fn text_before_name(place: usize, count: usize) -> &'static str
+    requires { place < count }
+    ensures { result.now ≡ text_before_name place count }
+{
+    match place {
+        0 => "; the names are ",
+        _ if place + 1 == count => " and ",
+        _ => ", ",
+    }
+}
+
+// Appends how many names stand beside the told ones of so many.
+fn push_names_left(message: &mut Vec<u8>, count: usize) -> Result<(), AllocError>
+    ensures { OnOk result (message.new.items ≡ message.old.items ++ names_left count) }
+{
+    if count <= MOST_TOLD {
+        return Ok(());
+    }
+    let left = (count - MOST_TOLD) as u64;
+    push_spans(
+        message,
+        &[Span::Text(" and "), Span::Number(left), Span::Text(" more")],
+    )
+}
