@@ -47,7 +47,7 @@ def check_map(row):
     row.write("image.elf", images.elf(base, [(base, images.numbers("0001"))]))
     row.write("list.toml", f"job = [{{name = 'a', image = 'image.elf', budget = 1{keys_of_map(regions)}}}]\n")
     if told == "good":
-        row.wants(["check", "list.toml"], 0, "1 jobs, none refused\n")
+        row.wants(["check", "list.toml"], 0, "1 job, none refused\n")
     else:
         row.wants(["check", "list.toml"], 2, f"list.toml:1: job 1 (a): {told}\n")
 

@@ -10,7 +10,7 @@ from rows import Form, lines
 from saved import report_bytes
 
 REPORT = report_bytes("$1 a, steps 2\ndone 1")
-SHOWN = "1 jobs: 1 passed, 0 failed, 2 steps"
+SHOWN = "1 job: 1 passed, 0 failed, 2 steps"
 
 
 def text_of(word):

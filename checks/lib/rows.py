@@ -95,7 +95,7 @@ def last_line(out):
     word, end, kind, steps = found.groups()
     passed = word == "PASS"
     way = "" if passed else f" (1 {kind if end == 'fault' else end})"
-    return f"1 jobs: {int(passed)} passed, {int(not passed)} failed{way}, {steps or 0} steps"
+    return f"1 job: {int(passed)} passed, {int(not passed)} failed{way}, {steps or 0} steps"
 
 
 def status_of(last):

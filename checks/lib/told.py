@@ -103,7 +103,7 @@ def check_reason(row):
     """Why the image of a list's only job is refused."""
     write_list(row, f"name = 'a', image = '{row['image']}', budget = 9, {row['keys']}")
     told = f"list.toml:1: job 1 (a): refused {row['refusal']}: {row['told']}"
-    row.wants(["check", "list.toml"], 2, lines(told, "1 jobs, 1 refused"))
+    row.wants(["check", "list.toml"], 2, lines(told, "1 job, 1 refused"))
 
 
 def check_fault(row):
@@ -112,7 +112,7 @@ def check_fault(row):
     row.write(name, row["list"])
     if not row["told"]:
         row.write("i", images.image("one"))
-        row.wants(["check", name], 0, "1 jobs, none refused\n")
+        row.wants(["check", name], 0, "1 job, none refused\n")
         return
     front = row["front"]
     told = lines(*(f"{front} {line}" if front else line for line in lines_in(row["told"])))
@@ -146,13 +146,22 @@ def check_shown(row):
 def check_value(row):
     """What is shown of the value that a file says is expected."""
     row.write("f", row["value"])
-    told = f'expected the console of f: byte 0 is "z", expected "{row["shown"]}"'
-    wants_console(row, b"z", "expect_console_file = 'f'", told, "| z")
+    told = f'expected the console of f: byte 0 is "\\xff", expected "{row["shown"]}"'
+    wants_console(row, b"\xff", "expect_console_file = 'f'", told, "| \\xff")
 
 
 def check_console(row):
     """The lines that are shown of the end of a console."""
     wants_console(row, raw(row["console"]), "expect_exit = 1", "expected exit 1", *lines_in(row["shown"]))
+
+
+def check_compared(row):
+    """The lines that are told where a console differs from the text of a file."""
+    console = raw(row["console"])
+    row.write("f", row["file"])
+    shown = console[-1024:].decode().replace("\x1b", "\\x1b").replace("\r", "\\x0d")
+    tail = [f"| {line}" for line in shown.removesuffix("\n").split("\n")[-10:]] if shown else []
+    wants_console(row, console, "expect_console_file = 'f'", *lines_in(row["told"]), *tail)
 
 
 # ---- expectations
@@ -202,5 +211,6 @@ FORMS = {
     "shown": Form(check_shown, "digits shown"),
     "values": Form(check_value, "value shown"),
     "consoles": Form(check_console, "console shown"),
+    "compared": Form(check_compared, "console file told"),
     "unmet": Form(check_unmet, "expected keys run file first"),
 }

@@ -5,8 +5,8 @@ case_a_header_changes() {
     put t/a.c <<<'#include "a.h"
 int main(void) { return CODE; }'
     put t/a.h <<<'#define CODE 0'
-    check 'as it was' 0 '1 jobs: 1 passed, 0 failed'
-    check 'nothing changed' 0 '1 jobs: 1 passed, 0 failed'
+    check 'as it was' 0 '1 job: 1 passed, 0 failed'
+    check 'nothing changed' 0 '1 job: 1 passed, 0 failed'
     hides 'CC a'
     put t/a.h <<<'#define CODE 1'
     check 'its header changed' 2 'FAIL a: exit 1'
@@ -16,10 +16,10 @@ case_a_header_is_gone() {
     put t/a.c <<<'#include "a.h"
 int main(void) { return CODE; }'
     put t/a.h <<<'#define CODE 0'
-    check 'with a header' 0 '1 jobs: 1 passed, 0 failed'
+    check 'with a header' 0 '1 job: 1 passed, 0 failed'
     rm t/a.h
     exits t/a.c 0
-    check 'without it' 0 '1 jobs: 1 passed, 0 failed'
+    check 'without it' 0 '1 job: 1 passed, 0 failed'
 }
 
 case_a_further_source_changes() {
@@ -29,7 +29,7 @@ int main(void) { return code(); }'
 int code(void) { return CODE; }'
     put code.h <<<'#define CODE 0'
     echo code.c >t/a.flags
-    check 'as it was' 0 '1 jobs: 1 passed, 0 failed'
+    check 'as it was' 0 '1 job: 1 passed, 0 failed'
     put code.h <<<'#define CODE 1'
     check "the further source's header changed" 2 'FAIL a: exit 1'
     put code.c <<<'int code(void) { return 2; }'
@@ -37,7 +37,7 @@ int code(void) { return CODE; }'
     put other.c <<<'int code(void) { return 0; }'
     echo other.c >t/a.flags
     rm code.c code.h
-    check 'another further source' 0 '1 jobs: 1 passed, 0 failed'
+    check 'another further source' 0 '1 job: 1 passed, 0 failed'
 }
 
 case_flags_change() {
@@ -46,7 +46,7 @@ case_flags_change() {
 #endif
 int main(void) { return CODE; }'
     echo -DCODE=0 >t/a.flags
-    check 'as it was' 0 '1 jobs: 1 passed, 0 failed'
+    check 'as it was' 0 '1 job: 1 passed, 0 failed'
     echo -DCODE=2 >t/a.flags
     check 'flags changed' 2 'FAIL a: exit 2'
     rm t/a.flags
@@ -61,7 +61,7 @@ int main(void) { return CODE; }'
     put t/a.h <<<'#define CODE 0'
     put new.h <<<'#define CODE 1'
     touch -d '1 hour ago' new.h
-    check 'as it was' 0 '1 jobs: 1 passed, 0 failed'
+    check 'as it was' 0 '1 job: 1 passed, 0 failed'
     mv new.h t/a.h
     check 'an older header in its place' 2 'FAIL a: exit 1'
     check 'nothing changed' 2 'FAIL a: exit 1'
@@ -74,20 +74,20 @@ case_files_of_options_change() {
 int main(void) { return code(); }'
     library 0
     echo '-L. -lcode' >t/a.flags
-    check 'with a library' 0 '1 jobs: 1 passed, 0 failed'
+    check 'with a library' 0 '1 job: 1 passed, 0 failed'
     library 1
     check 'the library changed' 2 'FAIL a: exit 1'
     exits t/a.c CODE
     echo '-DCODE=0' >options
     echo '@options' >t/a.flags
-    check 'with a file of options' 0 '1 jobs: 1 passed, 0 failed'
+    check 'with a file of options' 0 '1 job: 1 passed, 0 failed'
     echo '-DCODE=2' >options
     check 'the file of options changed' 2 'FAIL a: exit 2'
     put t/a.c <<<'extern char code[];
 int main(void) { return (int)code; }'
     echo 'code = 0;' >code.ld
     echo '-Wl,code.ld' >t/a.flags
-    check 'with a linker script' 0 '1 jobs: 1 passed, 0 failed'
+    check 'with a linker script' 0 '1 job: 1 passed, 0 failed'
     echo 'code = 3;' >code.ld
     check 'the linker script changed' 2 'FAIL a: exit 3'
 }
@@ -105,7 +105,7 @@ case_a_test_is_renamed() {
     exits t/a.c 0
     put t/old.cpp <<<'int main() { return 1; }'
     mv t/old.cpp .
-    check 'as C' 0 '1 jobs: 1 passed, 0 failed'
+    check 'as C' 0 '1 job: 1 passed, 0 failed'
     rm t/a.c
     mv old.cpp t/a.cpp
     check 'as C++' 2 'FAIL a: exit 1'
@@ -166,7 +166,7 @@ case_one_does_not_compile() {
     touch t/a.c
     check 'eight at a time' 2 'FAIL b: refused image-unreadable' -j8
     shows '3 jobs: 2 passed, 1 failed'
-    check 'another is chosen' 2 '1 jobs: 1 passed, 0 failed' RUN='--only a'
+    check 'another is chosen' 2 '1 job: 1 passed, 0 failed' RUN='--only a'
     ends 'the list alone' 2 't/b.c: was not built' made list TESTS=t
 }
 
@@ -192,7 +192,7 @@ case_eight_at_a_time() {
 
 case_named_for_its_folder() {
     exits tests/uart/a.c 0
-    ends 'a suite' 0 '1 jobs: 1 passed, 0 failed' made check TESTS=tests/uart/ RUN='--junit junit.xml'
+    ends 'a suite' 0 '1 job: 1 passed, 0 failed' made check TESTS=tests/uart/ RUN='--junit junit.xml'
     [ -e tests/uart/build/uart.toml ] || fail 'there is no tests/uart/build/uart.toml'
     grep -q 'classname="uart"' junit.xml || fail "the suite has another name: $(<junit.xml)"
 }

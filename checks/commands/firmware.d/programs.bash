@@ -44,16 +44,16 @@ int main() { Shape *volatile it = new Square(4); int area = it->area(); delete i
     echo 't/square.c -Werror' >t/a.flags
     echo 19 >t/a.exit
     printf 'gone\nended\nended\nended\n' >t/a.out
-    check 'C++ with a source in C' 0 '1 jobs: 1 passed, 0 failed'
+    check 'C++ with a source in C' 0 '1 job: 1 passed, 0 failed'
 }
 
 case_code_is_not_writable() {
     put t/main.c <<<'int main(void) { *(volatile int *)main = 0; return 0; }'
     check 'a store to code' 2 'FAIL main: fault store-access'
     put t/main.keys <<<'region = [{ base = 0x8000_0000, size = 0x10_0000 }]'
-    check 'where the keys of a test allow it' 0 '1 jobs: 1 passed, 0 failed'
+    check 'where the keys of a test allow it' 0 '1 job: 1 passed, 0 failed'
     rm t/main.keys
-    check 'where all tests have other memory' 0 '1 jobs: 1 passed, 0 failed' REGION='[{ base = 0x8000_0000, size = 0x10_0000 }]'
+    check 'where all tests have other memory' 0 '1 job: 1 passed, 0 failed' REGION='[{ base = 0x8000_0000, size = 0x10_0000 }]'
 }
 
 # Words are pushed one by one: the one that overflows is the first below RAM.
@@ -81,10 +81,10 @@ case_another_place() {
     local link='-T region.ld -Wl,--defsym=region_base=0x20000000 -Wl,--defsym=region_size=0x20000'
     mkdir t
     cp "$kit"/tests/printf.{c,out} t/
-    check 'for all tests' 0 '1 jobs: 1 passed, 0 failed' LINK="$link" REGION='[{ base = 0x2000_0000, size = 0x2_0000 }]'
+    check 'for all tests' 0 '1 job: 1 passed, 0 failed' LINK="$link" REGION='[{ base = 0x2000_0000, size = 0x2_0000 }]'
     check 'without its region' 2 'FAIL printf: refused segment-map' LINK="$link"
     put t/printf.keys <<<'region = [{ base = 0x2000_0000, size = 0x2_0000 }]'
-    check 'for one test' 0 '1 jobs: 1 passed, 0 failed' LINK="$link"
+    check 'for one test' 0 '1 job: 1 passed, 0 failed' LINK="$link"
 }
 
 case_signature_in_sections_of_its_own() {
@@ -92,7 +92,7 @@ case_signature_in_sections_of_its_own() {
 unsigned end_signature[1] __attribute__((section(".signature.2")));
 int main(void) { begin_signature[0] = 5; begin_signature[1] = 6; return 0; }'
     printf '00000005\n00000006\n' >t/a.signature
-    check 'nothing refers to its end' 0 '1 jobs: 1 passed, 0 failed'
+    check 'nothing refers to its end' 0 '1 job: 1 passed, 0 failed'
     printf '00000005\n00000007\n' >t/a.signature
     check 'and it is compared' 2 'expected the signature'
 }

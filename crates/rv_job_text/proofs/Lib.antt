@@ -3,3 +3,5 @@ pub mod Chains
 pub mod Told
 pub mod ConsoleLines
 pub mod Counts
+pub mod DifferingLines
+pub mod FirstLines

@@ -21,3 +21,9 @@ pub ends_told : (f b b1 b2 to e e1 e2 z : List ℕ)
     → f ++ (b ++ (b1 ++ (b2 ++ (to ++ (e ++ (e1 ++ (e2 ++ (z ++ []))))))))
     ≡ (f ++ (((b ++ (b1 ++ b2)) ++ to) ++ (e ++ (e1 ++ e2)))) ++ z
 ends_told f b b1 b2 to e e1 e2 z = simp (append_assoc, append-nil)
+
+-- in which line the first difference is
+pub heading_told : (a source b number c count z : List ℕ)
+    → a ++ (source ++ (b ++ (number ++ (c ++ (count ++ (z ++ []))))))
+    ≡ (((((a ++ source) ++ b) ++ number) ++ c) ++ count) ++ z
+heading_told a source b number c count z = simp (append_assoc, append-nil)

@@ -7,5 +7,6 @@ pub mod RefusalReasons
 pub mod WayToEnd
 pub mod Telling
 pub mod ConsoleTail
+pub mod ConsoleLines
 pub mod ResultLine
 pub mod TotalsLine

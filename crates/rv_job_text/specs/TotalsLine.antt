@@ -52,9 +52,13 @@ open_bracket_text (first ∷ more) = codes " (" ++ first ++ flat_map (λ text. c
 abbrev pub bracket_text : List (List ℕ) → List ℕ
 bracket_text texts = if length texts == 0 then [] else open_bracket_text texts ++ codes ")"
 
+-- the word behind a count of jobs
+abbrev pub job_word : ℕ → List ℕ
+job_word count = if count == 1 then codes " job" else codes " jobs"
+
 -- so many jobs, of which so many passed, and the others failed
 abbrev pub passed_counts_text : ℕ → ℕ → List ℕ
-passed_counts_text jobs passed = decimal jobs ++ codes " jobs: " ++ decimal passed ++ codes " passed, "
+passed_counts_text jobs passed = decimal jobs ++ job_word jobs ++ codes ": " ++ decimal passed ++ codes " passed, "
     ++ decimal (jobs - passed) ++ codes " failed"
 
 -- the last line of what a person sees of rows

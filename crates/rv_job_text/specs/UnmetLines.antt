@@ -1,7 +1,7 @@
 -- The line that a person sees of an expectation that a run does not meet: what is expected, what
 -- was met, and where the two differ first. Bytes and words are counted from 0, lines from 1.
 use Rattle.std.specs.Prelude.{◌+◌, ◌*◌, ◌/◌, ◌%◌, ◌^◌, ℕ, List, [], ◌++◌, length, drop}
-use Rattle.std.specs.Prelude.{slice_index, slice_range, Option, Some, None, option_map, unwrap_or}
+use Rattle.std.specs.Prelude.{slice_index, slice_range, Option, Some, None, unwrap_or}
 use Rattle.std.specs.Prelude.{if◌then◌else◌, nat_lt, codes}
 use Rattle.std.specs.Fmt.{decimal}
 use Rattle.std.specs.List.{flat_map}
@@ -26,6 +26,7 @@ use Rattle.rv_rows.specs.declared_row.RowEnd.{RowEnd}
 use Rattle.rv_rows.specs.declared_row.RowEnd.TheVariants as ending
 use Rattle.rv_rows.specs.Report.{line, refusal_name}
 use Rattle.rv_text.specs.Words.{word_digits}
+use Rattle.rv_job_text.specs.ConsoleLines.{Wanted, console_lines, wanted_by_lines}
 
 -- ---- the exit code and the end
 
@@ -172,9 +173,14 @@ unmet_expectation_text address sides (unmet.Same difference) =
     same_difference_text address sides.row sides.other difference
 unmet_expectation_text address sides unmet.Nothing = codes "exit 0, since it expects nothing else"
 
--- behind five spaces
+-- by lines where that can be, else in one line behind five spaces
+abbrev pub unmet_line_by : Option ℕ → Sides → Unmet → Option Wanted → List ℕ
+unmet_line_by address sides unmet None =
+    line (codes "     expected " ++ unmet_expectation_text address sides unmet)
+unmet_line_by address sides unmet (Some wanted) = console_lines wanted.source sides.row.console wanted.text
+
 unfoldable pub unmet_line : Option ℕ → Sides → Unmet → List ℕ
-unmet_line address sides unmet = line (codes "     expected " ++ unmet_expectation_text address sides unmet)
+unmet_line address sides unmet = unmet_line_by address sides unmet (wanted_by_lines sides unmet)
 
 -- in their order
 abbrev pub unmet_lines : Option ℕ → Sides → List Unmet → List ℕ

@@ -9,6 +9,7 @@
 //! counts of all rows.
 #![tactic(auto)]
 
+mod console_lines;
 mod console_tail;
 mod difference_text;
 mod failures_by_end_kind;
@@ -16,22 +17,27 @@ mod image_reason;
 mod image_symbols;
 mod job_file;
 mod job_row;
+mod law;
 mod met_line;
 mod paths;
 mod refusal_reasons;
 mod result_line;
 mod row_telling;
 mod segment_reason;
+mod shown_line;
 mod signature_difference_text;
 mod totals_line;
 mod unmet_line;
 mod unread_files;
 mod verbosity;
+mod wanted_text;
 mod way_to_end;
+mod whole_lines;
 
 pub use console_tail::{TAIL_BYTES, TAIL_LINES, push_console_tail};
+pub use law::{lines_are_the_text, told_line_differs_first};
 pub use refusal_reasons::ending_reason;
 pub use result_line::{EndDetail, push_result_line};
 pub use row_telling::RowTelling;
-pub use totals_line::push_totals_line;
+pub use totals_line::{job_word, push_totals_line};
 pub use verbosity::Verbosity;

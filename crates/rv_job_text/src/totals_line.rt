@@ -2,7 +2,7 @@
 
 ghost use Rattle.std.specs.Prelude.{◌≡◌, ◌≤◌, ◌<◌, ◌-◌, ◌^◌, ◌++◌, OnOk, codes, length};
 ghost use Rattle.std.specs.Fmt.{decimal};
-ghost use Rattle.rv_job_text.specs.TotalsLine.{totals_line, passed_counts_text, passed_count, total_steps};
+ghost use Rattle.rv_job_text.specs.TotalsLine.{job_word, totals_line, passed_counts_text, passed_count, total_steps};
 
 use crate::failures_by_end_kind::push_failures_by_end_kind;
 use rv_expect::{Rule, has_passed};
@@ -31,13 +31,21 @@ fn push_passed_counts(bytes: &mut Vec<u8>, jobs: usize, passed: usize) -> Result
         bytes,
         &[
             Span::Number(jobs as u64),
-            Span::Text(" jobs: "),
+            Span::Text(job_word(jobs)),
+            Span::Text(": "),
             Span::Number(passed as u64),
             Span::Text(" passed, "),
             Span::Number((jobs - passed) as u64),
             Span::Text(" failed"),
         ],
     )
+}
+
+/// The word behind a count of jobs.
+pub fn job_word(count: usize) -> &'static str
+    ensures { result.now ≡ job_word count }
+{
+    if count == 1 { " job" } else { " jobs" }
 }
 
 fn passed_count(rule: Rule, rows: &[Row]) -> usize

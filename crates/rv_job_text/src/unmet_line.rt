@@ -1,12 +1,14 @@
 //! The line of an expectation that a run does not meet.
 
-ghost use Rattle.std.specs.Prelude.{◌≡◌, ◌++◌, OnOk, option_map};
+ghost use Rattle.std.specs.Prelude.{◌≡◌, ◌++◌, OnOk, None, option_map};
 ghost use Rattle.rv_expect.specs.Comparisons.{sides_of};
 ghost use Rattle.rv_job_text.specs.UnmetLines.{expected_end_text, row_end_text, expected_exit_text, same_difference_text, rows_difference_text};
-ghost use Rattle.rv_job_text.specs.UnmetLines.{unmet_line, unmet_lines, unmet_expectation_text};
+ghost use Rattle.rv_job_text.specs.UnmetLines.{unmet_line, unmet_line_by, unmet_lines, unmet_expectation_text};
 
+use crate::console_lines::push_console_lines;
 use crate::difference_text::{push_bytes_difference, push_compared_name, push_console_difference};
 use crate::signature_difference_text::{push_signature_difference, push_signatures_difference};
+use crate::wanted_text::{WantedText, wanted_by_lines};
 use rv_expect::{Comparison, SameDifference, Unmet};
 use rv_jobs::ExpectedEnd;
 use rv_rows::{Row, RowEnd};
@@ -30,7 +32,7 @@ pub(crate) fn push_unmet_lines(
     Ok(())
 }
 
-// Appends the line of an expectation that is not met, behind five spaces.
+// Appends the lines of an expectation that is not met: by lines of the console where that can be, else one.
 #[tactic(auto, unfolding(crate::specs::UnmetLines::unmet_line))]
 fn push_unmet_line(
     bytes: &mut Vec<u8>,
@@ -40,6 +42,24 @@ fn push_unmet_line(
 ) -> Result<(), AllocError>
     ensures { OnOk result (bytes.new.items
         ≡ bytes.old.items ++ unmet_line address (sides_of comparison.now) unmet) }
+{
+    match wanted_by_lines(comparison, unmet) {
+        Some(WantedText { source, text }) => {
+            push_console_lines(bytes, source, comparison.row.console.as_slice(), text)
+        }
+        None => push_expected_line(bytes, comparison, address, unmet),
+    }
+}
+
+// Appends the one line of an expectation that is not met, behind five spaces.
+fn push_expected_line(
+    bytes: &mut Vec<u8>,
+    comparison: &Comparison<'_, '_>,
+    address: Option<u32>,
+    unmet: Unmet,
+) -> Result<(), AllocError>
+    ensures { OnOk result (bytes.new.items ≡ bytes.old.items
+        ++ unmet_line_by address (sides_of comparison.now) unmet None) }
 {
     push_text(bytes, "     expected ")?;
     push_unmet_expectation(bytes, comparison, address, unmet)?;

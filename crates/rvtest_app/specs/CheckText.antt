@@ -9,6 +9,7 @@ use Rattle.rv_expect.specs.TwoEnds.{expects_two_ends}
 use Rattle.rv_files.specs.declared.noting_store.Unread.{Unread}
 use Rattle.rv_job_text.specs.RefusalReasons.{refusal_reason}
 use Rattle.rv_job_text.specs.ResultLine.{optional_reason_text}
+use Rattle.rv_job_text.specs.TotalsLine.{job_word}
 use Rattle.rv_jobs.specs.Plans.{Planned}
 use Rattle.rv_list_errors.specs.JobPlaces.{job_lines}
 use Rattle.rv_lists.specs.declared.job.ExpectedEnd.{ExpectedEnd}
@@ -87,7 +88,7 @@ warning_count_text warned = if warned == 0 then []
 
 unfoldable pub job_counts_line : ℕ → ℕ → ℕ → List ℕ
 job_counts_line jobs refused warned =
-    line (decimal jobs ++ codes " jobs, " ++ refused_count_text refused ++ warning_count_text warned)
+    line (decimal jobs ++ job_word jobs ++ codes ", " ++ refused_count_text refused ++ warning_count_text warned)
 
 -- ---- the text
 

@@ -12,7 +12,7 @@ ghost use Rattle.rvtest_app.specs.Commands.{is_job_refused, refused_job_count, w
 
 use rv_expect::expects_two_ends;
 use rv_files::Unread;
-use rv_job_text::ending_reason;
+use rv_job_text::{ending_reason, job_word};
 use rv_jobs::{ExpectedEnd, Job, Plan};
 use rv_rows::{Refusal, RowEnd, refusal_at};
 use rv_text::{Span, push_spans, push_text};
@@ -239,7 +239,14 @@ pub(crate) fn push_job_counts_line(
 ) -> Result<(), AllocError>
     ensures { OnOk result (told.new.items ≡ told.old.items ++ job_counts_line jobs refused warned) }
 {
-    push_spans(told, &[Span::Number(jobs as u64), Span::Text(" jobs, ")])?;
+    push_spans(
+        told,
+        &[
+            Span::Number(jobs as u64),
+            Span::Text(job_word(jobs)),
+            Span::Text(", "),
+        ],
+    )?;
     push_refused_count(told, refused)?;
     push_warning_count(told, warned)?;
     push_text(told, "\n")

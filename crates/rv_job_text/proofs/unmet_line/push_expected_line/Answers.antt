@@ -1,11 +1,10 @@
 use Rattle.std.proofs.Common.{◌++◌, ℕ, List, codes}
 use Rattle.rv_expect.specs.Comparisons.{sides_of}
-use Rattle.rv_job_text.specs.UnmetLines.{unmet_line, unmet_expectation_text}
+use Rattle.rv_job_text.specs.UnmetLines.{unmet_expectation_text}
 use Rattle.rv_text.proofs.Public.{ended, more}
-use Rattle.rv_job_text.proofs.unmet_line.push_unmet_line.Goals as goal
+use Rattle.rv_job_text.proofs.unmet_line.push_expected_line.Goals as goal
 
 pub returns : goal.returns
-unfolding unmet_line
 returns c =
     let margin : List ℕ = codes "     expected " in
     let text : List ℕ = unmet_expectation_text c.args.address (sides_of c.args.comparison.now) c.args.unmet in

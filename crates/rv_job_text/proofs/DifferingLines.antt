@@ -1,0 +1,154 @@
+-- Lines with their line feeds, of two texts.
+use Rattle.std.proofs.Common.{◌≡◌, ◌∙◌, refl, ap, sym, ℕ, zero, suc, ◌+◌, ◌-◌, ◌<◌, List, [], ◌∷◌, ◌++◌, length, take, drop, get_or, arith}
+use Rattle.std.proofs.Common.{Bool, true, false, cond}
+use Rattle.std.specs.Prelude.{not}
+use Rattle.std.specs.List.{common_prefix_len, onto_first, position_or_len}
+use Rattle.std.specs.Str.{bytes_eq}
+use Rattle.std.specs.Bool.{Decides}
+use Rattle.std.proofs.lemmas.List.{at_drop_more}
+use Rattle.std.proofs.lemmas.Slice.Eq.{bytes_eq-Decides}
+use Rattle.rv_job_text.specs.ConsoleTail.{is_feed}
+use Rattle.rv_job_text.specs.ConsoleLines.{begins_character, characters_len, differing_line_count, front_line, side_line, side_lines, whole_lines}
+
+-- the first byte of a text, where its first line goes on for so many bytes and one more, unless it is a line feed
+front_step : (feed : Bool) (byte len : ℕ) (rest : List ℕ) →
+    onto_first byte (whole_lines rest) ≡ (byte ∷ take (len + 1) rest) ∷ whole_lines (drop (len + 1) rest) →
+    cond feed ((byte ∷ []) ∷ whole_lines rest) (onto_first byte (whole_lines rest))
+    ≡ take (cond (not feed) (1 + len) 0 + 1) (byte ∷ rest) ∷ whole_lines (drop (cond (not feed) (1 + len) 0 + 1) (byte ∷ rest))
+front_step true byte len rest goes_on = refl
+front_step false byte len rest goes_on =
+    let behind : 1 + len + 1 ≡ suc (len + 1) = omega arith in
+    rw behind goes_on
+
+-- a text is its first line, up to the first line feed, and the lines behind it
+pub whole_lines-front : (text : List ℕ) → 0 < length text →
+    whole_lines text ≡ take (position_or_len is_feed text + 1) text ∷ whole_lines (drop (position_or_len is_feed text + 1) text)
+unfolding whole_lines
+whole_lines-front [] some = absurd (omega arith)
+whole_lines-front (byte ∷ []) some = front_step (is_feed byte) byte 0 [] refl
+whole_lines-front (byte ∷ next ∷ rest) some =
+    front_step (is_feed byte) byte (position_or_len is_feed (next ∷ rest)) (next ∷ rest)
+    (ap (onto_first byte) (whole_lines-front (next ∷ rest) (omega arith)))
+
+pub whole_lines-nil : (text : List ℕ) → length text ≡ 0 → whole_lines text ≡ []
+unfolding whole_lines
+whole_lines-nil [] none = refl
+whole_lines-nil (byte ∷ rest) none = absurd (omega arith)
+
+-- ---- characters
+
+pub characters_stop : (text : List ℕ) (i : ℕ) → i < length text → begins_character (get_or text i 0) ≡ true
+    → characters_len 0 (drop i text) ≡ 0
+unfolding characters_len
+characters_stop text i within begins =
+    at_drop_more (characters_len 0) text i 0 within
+    ∙ ap (λ (b : Bool). cond b 0 (1 + characters_len 0 (drop (i + 1) text))) begins
+
+pub characters_next : (left : ℕ) (text : List ℕ) (i : ℕ) → 0 < left → i < length text
+    → begins_character (get_or text i 0) ≡ true
+    → characters_len left (drop i text) ≡ 1 + characters_len (left - 1) (drop (i + 1) text)
+unfolding characters_len
+characters_next zero text i some within begins = absurd (omega arith)
+characters_next (suc most) text i some within begins =
+    let one_less : suc most - 1 ≡ most = omega arith in
+    rw one_less
+    (at_drop_more (characters_len (suc most)) text i 0 within
+    ∙ ap (λ (b : Bool). 1 + characters_len (cond b most (suc most)) (drop (i + 1) text)) begins)
+
+pub characters_go_on : (left : ℕ) (text : List ℕ) (i : ℕ) → i < length text
+    → begins_character (get_or text i 0) ≡ false
+    → characters_len left (drop i text) ≡ 1 + characters_len left (drop (i + 1) text)
+unfolding characters_len
+characters_go_on zero text i within inside =
+    at_drop_more (characters_len 0) text i 0 within
+    ∙ ap (λ (b : Bool). cond b 0 (1 + characters_len 0 (drop (i + 1) text))) inside
+characters_go_on (suc most) text i within inside =
+    at_drop_more (characters_len (suc most)) text i 0 within
+    ∙ ap (λ (b : Bool). 1 + characters_len (cond b most (suc most)) (drop (i + 1) text)) inside
+
+-- ---- the line in front
+
+-- what is split off a text is its first line, where there is one
+pub split_front : (text line behind : List ℕ) → (0 < length text → whole_lines text ≡ line ∷ whole_lines behind)
+    → (length text ≡ 0 → (line ≡ []) × (behind ≡ [])) → line ≡ front_line (whole_lines text)
+split_front [] line behind some none =
+    (none refl).0 ∙ sym (ap front_line (whole_lines-nil [] refl))
+split_front (byte ∷ rest) line behind some none = sym (ap front_line (some (omega arith)))
+
+-- and what is left has the lines behind it
+pub split_behind : (text line behind : List ℕ) → (0 < length text → whole_lines text ≡ line ∷ whole_lines behind)
+    → (length text ≡ 0 → (line ≡ []) × (behind ≡ [])) → whole_lines behind ≡ drop 1 (whole_lines text)
+split_behind [] line behind some none =
+    ap whole_lines (none refl).1 ∙ whole_lines-nil [] refl ∙ sym (ap (drop 1) (whole_lines-nil [] refl))
+split_behind (byte ∷ rest) line behind some none = sym (ap (drop 1) (some (omega arith)))
+
+pub equal_bytes : (xs ys : List ℕ) → xs ≡ ys → bytes_eq xs ys ≡ true
+equal_bytes xs ys same = (bytes_eq-Decides xs ys).1 same
+
+undecided : (b : Bool) (P : Type 0) → Decides b P → (P → ⊥) → b ≡ false
+undecided true P decides other = absurd (other (decides.0 refl))
+undecided false P decides other = refl
+
+pub unequal_bytes : (xs ys : List ℕ) → (xs ≡ ys → ⊥) → bytes_eq xs ys ≡ false
+unequal_bytes xs ys other = undecided (bytes_eq xs ys) (xs ≡ ys) (bytes_eq-Decides xs ys) other
+
+-- ---- lines that differ
+
+pub differing_stops : (left : ℕ) (met wanted : List (List ℕ)) → front_line met ≡ front_line wanted
+    → differing_line_count left met wanted ≡ 0
+unfolding differing_line_count
+differing_stops zero met wanted same = refl
+differing_stops (suc most) met wanted same =
+    ap (λ (b : Bool). cond b 0 (1 + differing_line_count most (drop 1 met) (drop 1 wanted)))
+    (equal_bytes (front_line met) (front_line wanted) same)
+
+pub differing_next : (left : ℕ) (met wanted : List (List ℕ)) → 0 < left → (front_line met ≡ front_line wanted → ⊥)
+    → differing_line_count left met wanted ≡ 1 + differing_line_count (left - 1) (drop 1 met) (drop 1 wanted)
+unfolding differing_line_count
+differing_next zero met wanted some other = absurd (omega arith)
+differing_next (suc most) met wanted some other =
+    let one_less : suc most - 1 ≡ most = omega arith in
+    rw one_less
+    (ap (λ (b : Bool). cond b 0 (1 + differing_line_count most (drop 1 met) (drop 1 wanted)))
+    (unequal_bytes (front_line met) (front_line wanted) other))
+
+pub differing_none : (met wanted : List (List ℕ)) → differing_line_count 0 met wanted ≡ 0
+unfolding differing_line_count
+differing_none met wanted = refl
+
+-- ---- equal lines in front
+
+pub parted : (met wanted : List (List ℕ)) → (front_line met ≡ front_line wanted → ⊥)
+    → common_prefix_len bytes_eq met wanted ≡ 0
+parted [] wanted other = refl
+parted (x ∷ xs) [] other = refl
+parted (x ∷ xs) (y ∷ ys) other =
+    ap (λ (b : Bool). cond b (1 + common_prefix_len bytes_eq xs ys) 0) (unequal_bytes x y other)
+
+pub joined : (x : List ℕ) (xs wanted : List (List ℕ)) → 0 < length x → x ≡ front_line wanted
+    → common_prefix_len bytes_eq (x ∷ xs) wanted ≡ 1 + common_prefix_len bytes_eq xs (drop 1 wanted)
+joined x xs [] full same = let none : length x ≡ 0 = ap length same in absurd (omega arith)
+joined x xs (y ∷ ys) full same =
+    ap (λ (b : Bool). cond b (1 + common_prefix_len bytes_eq xs ys) 0) (equal_bytes x y same)
+
+pub none_in_front : (wanted : List (List ℕ)) → common_prefix_len bytes_eq [] wanted ≡ 0
+none_in_front wanted = refl
+
+-- ---- lines of a side
+
+pub side_lines-end : (margin : List ℕ) (left : ℕ) (other : List (List ℕ)) → side_lines margin left [] other ≡ []
+unfolding side_lines
+side_lines-end margin zero other = refl
+side_lines-end margin (suc left) other = refl
+
+pub side_lines-none : (margin : List ℕ) (own other : List (List ℕ)) → side_lines margin 0 own other ≡ []
+unfolding side_lines
+side_lines-none margin own other = refl
+
+pub side_lines-next : (margin : List ℕ) (left : ℕ) (own : List ℕ) (more other : List (List ℕ)) → 0 < left
+    → side_lines margin left (own ∷ more) other
+    ≡ side_line margin own (front_line other) ++ side_lines margin (left - 1) more (drop 1 other)
+unfolding side_lines
+side_lines-next margin zero own more other some = absurd (omega arith)
+side_lines-next margin (suc left) own more other some =
+    let one_less : suc left - 1 ≡ left = omega arith in rw one_less refl

@@ -1,0 +1,84 @@
+-- The lines of a text are all of it, and the first that differs from another text's is where both part.
+use Rattle.std.proofs.Common.{◌≡◌, ◌≢◌, ◌∙◌, refl, ap, sym, ℕ, suc, ◌+◌, ◌<◌, List, [], ◌∷◌, length, take, drop, arith}
+use Rattle.std.proofs.Common.{Bool, true, false, true≢false, cond}
+use Rattle.std.specs.List.{common_prefix_len, flat_map, onto_first}
+use Rattle.std.specs.Str.{bytes_eq}
+use Rattle.std.proofs.lemmas.Slice.Eq.{bytes_eq-Decides}
+use Rattle.rv_job_text.specs.ConsoleTail.{is_feed}
+use Rattle.rv_job_text.specs.ConsoleLines.{DifferFirstAt, equal_line_count, front_line, whole_lines}
+use Rattle.rv_job_text.proofs.DifferingLines.{equal_bytes}
+
+-- ---- all of a text
+
+flat_step : (feed : Bool) (byte : ℕ) (lines : List (List ℕ)) →
+    flat_map (λ line. line) (cond feed ((byte ∷ []) ∷ lines) (onto_first byte lines)) ≡ byte ∷ flat_map (λ line. line) lines
+flat_step true byte lines = refl
+flat_step false byte [] = refl
+flat_step false byte (line ∷ lines) = refl
+
+pub whole_lines-flat : (text : List ℕ) → flat_map (λ line. line) (whole_lines text) ≡ text
+unfolding whole_lines
+whole_lines-flat [] = refl
+whole_lines-flat (byte ∷ rest) =
+    flat_step (is_feed byte) byte (whole_lines rest) ∙ ap (λ bytes. byte ∷ bytes) (whole_lines-flat rest)
+
+-- ---- no line is empty
+
+AreFull : List (List ℕ) → Type 0
+AreFull [] = Unit {0}
+AreFull (line ∷ lines) = (0 < length line) × AreFull lines
+
+full_step : (feed : Bool) (byte : ℕ) (lines : List (List ℕ)) → AreFull lines
+    → AreFull (cond feed ((byte ∷ []) ∷ lines) (onto_first byte lines))
+unfolding AreFull
+full_step true byte lines full = (omega arith, full)
+full_step false byte [] full = (omega arith, tt)
+full_step false byte (line ∷ lines) full = (omega arith, full.1)
+
+are_full : (text : List ℕ) → AreFull (whole_lines text)
+unfolding whole_lines AreFull
+are_full [] = tt
+are_full (byte ∷ rest) = full_step (is_feed byte) byte (whole_lines rest) (are_full rest)
+
+-- ---- where two texts part
+
+before_step : (same : Bool) (x y : List ℕ) (n : ℕ) (xs ys : List (List ℕ)) → bytes_eq x y ≡ same → take n xs ≡ take n ys
+    → take (cond same (1 + n) 0) (x ∷ xs) ≡ take (cond same (1 + n) 0) (y ∷ ys)
+before_step true x y n xs ys equal before =
+    let one_more : 1 + n ≡ suc n = omega arith in
+    rw one_more
+    (ap (λ line. line ∷ take n xs) ((bytes_eq-Decides x y).0 equal) ∙ ap (λ lines. y ∷ lines) before)
+before_step false x y n xs ys equal before = refl
+
+equal_before : (xs ys : List (List ℕ)) → take (common_prefix_len bytes_eq xs ys) xs ≡ take (common_prefix_len bytes_eq xs ys) ys
+equal_before [] ys = refl
+equal_before (x ∷ xs) [] = refl
+equal_before (x ∷ xs) (y ∷ ys) =
+    before_step (bytes_eq x y) x y (common_prefix_len bytes_eq xs ys) xs ys refl (equal_before xs ys)
+
+there_step : (same : Bool) (x y : List ℕ) (n : ℕ) (xs ys : List (List ℕ)) → bytes_eq x y ≡ same
+    → ((xs ≡ ys → ⊥) → front_line (drop n xs) ≡ front_line (drop n ys) → ⊥) → (x ∷ xs ≡ y ∷ ys → ⊥)
+    → front_line (drop (cond same (1 + n) 0) (x ∷ xs)) ≡ front_line (drop (cond same (1 + n) 0) (y ∷ ys)) → ⊥
+there_step true x y n xs ys equal behind other =
+    let one_more : 1 + n ≡ suc n = omega arith in
+    rw one_more
+    (behind (λ rest. other (ap (λ line. line ∷ xs) ((bytes_eq-Decides x y).0 equal) ∙ ap (λ lines. y ∷ lines) rest)))
+there_step false x y n xs ys equal behind other = λ front. true≢false (sym (equal_bytes x y front) ∙ equal)
+
+differ_there : (xs ys : List (List ℕ)) → AreFull xs → AreFull ys → (xs ≡ ys → ⊥)
+    → front_line (drop (common_prefix_len bytes_eq xs ys) xs) ≡ front_line (drop (common_prefix_len bytes_eq xs ys) ys) → ⊥
+unfolding AreFull
+differ_there [] [] full_x full_y other = λ front. other refl
+differ_there [] (y ∷ ys) full_x full_y other = λ front. let none : 0 ≡ length y = ap length front in omega (arith, full_y.0)
+differ_there (x ∷ xs) [] full_x full_y other = λ front. let none : length x ≡ 0 = ap length front in omega (arith, full_x.0)
+differ_there (x ∷ xs) (y ∷ ys) full_x full_y other =
+    there_step (bytes_eq x y) x y (common_prefix_len bytes_eq xs ys) xs ys refl
+    (differ_there xs ys full_x.1 full_y.1) other
+
+pub differ_first : (met wanted : List ℕ) → met ≢ wanted
+    → DifferFirstAt (equal_line_count met wanted) (whole_lines met) (whole_lines wanted)
+differ_first met wanted other = record {
+  before = equal_before (whole_lines met) (whole_lines wanted);
+  there = differ_there (whole_lines met) (whole_lines wanted) (are_full met) (are_full wanted)
+      (λ same. other (sym (whole_lines-flat met) ∙ ap (flat_map (λ line. line)) same ∙ whole_lines-flat wanted));
+}

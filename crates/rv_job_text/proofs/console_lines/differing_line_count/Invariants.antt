@@ -1,0 +1,13 @@
+use Rattle.std.proofs.Common.{◌≡◌, ◌+◌, ◌-◌, ◌≤◌}
+use Rattle.rv_job_text.specs.ConsoleLines.{differing_line_count, whole_lines}
+use Rattle.rv_job_text.proofs.console_lines.differing_line_count.Given as goal
+
+abbrev pub invariant-loop-count : goal.invariant-loop-count
+invariant-loop-count l = record {
+  counted : differing_line_count l.most (whole_lines l.initial.met) (whole_lines l.initial.wanted)
+      ≡ l.count + differing_line_count (l.most - l.count) (whole_lines l.met) (whole_lines l.wanted);
+  within : l.count ≤ l.most;
+}
+
+abbrev pub decreases-loop-count : goal.decreases-loop-count
+decreases-loop-count l = l.most - l.count

@@ -1,0 +1,176 @@
+//! A console that differs from the text that is expected, told by lines.
+
+ghost use Rattle.std.specs.Prelude.{◌≡◌, ◌≤◌, ◌++◌, OnOk, drop, length, nat_lt, if◌then◌else◌};
+ghost use Rattle.rv_text.specs.Spans.{span_text};
+ghost use Rattle.rv_job_text.specs.ConsoleLines.{console_lines, differing_line_count, differing_lines, equal_line_count, equal_lines};
+ghost use Rattle.rv_job_text.specs.ConsoleLines.{larger, lines_around, lines_heading, side_lines, whole_lines};
+
+use crate::shown_line::push_side_line;
+use crate::whole_lines::{split_whole_line, whole_line_count};
+use rv_text::{Span, push_spans};
+use std::alloc::AllocError;
+
+/// How many equal lines are shown before the first that differs, at most.
+const EQUAL_LINES: usize = 2;
+
+/// How many lines of each side are shown, at most.
+const DIFFERING_LINES: usize = 3;
+
+// Two texts, and what is left of them behind the lines in front that are equal.
+#[derive(Clone, Copy)]
+struct Parting<'a> {
+    equal: usize,
+    met: &'a [u8],
+    wanted: &'a [u8],
+}
+
+/// Appends where a console differs first from the text that is expected, which has a name: the last equal lines, and the first
+/// that differ.
+#[tactic(auto, unfolding(crate::specs::ConsoleLines::console_lines))]
+pub(crate) fn push_console_lines(
+    bytes: &mut Vec<u8>,
+    source: Span<'_>,
+    met: &[u8],
+    wanted: &[u8],
+) -> Result<(), AllocError>
+    ensures { OnOk result (bytes.new.items
+        ≡ bytes.old.items ++ console_lines (span_text source.entry) met.now wanted.now) }
+{
+    let parting = parting_of(met, wanted);
+    let count = larger(whole_line_count(met), whole_line_count(wanted));
+    push_lines_heading(bytes, source, parting.equal + 1, count)?;
+    push_equal_lines(bytes, parting.equal, met)?;
+    push_differing_lines(bytes, parting.met, parting.wanted)
+}
+
+fn larger(count: usize, other: usize) -> usize
+    ensures { result ≡ larger count other }
+{
+    if count < other { other } else { count }
+}
+
+fn push_lines_heading(
+    bytes: &mut Vec<u8>,
+    source: Span<'_>,
+    number: usize,
+    count: usize,
+) -> Result<(), AllocError>
+    ensures { OnOk result (bytes.new.items
+        ≡ bytes.old.items ++ lines_heading (span_text source.entry) number count) }
+{
+    push_spans(
+        bytes,
+        &[
+            Span::Text("     the console differs from "),
+            source,
+            Span::Text(" in line "),
+            Span::Number(number as u64),
+            Span::Text(" of "),
+            Span::Number(count as u64),
+            Span::Text(":\n"),
+        ],
+    )
+}
+
+// Appends the last of so many equal lines in front of a text.
+fn push_equal_lines(bytes: &mut Vec<u8>, equal: usize, text: &[u8]) -> Result<(), AllocError>
+    ensures { OnOk result (bytes.new.items ≡ bytes.old.items ++ equal_lines equal (whole_lines text.now)) }
+{
+    let earlier = equal.saturating_sub(EQUAL_LINES);
+    let last = text_behind_lines(text, earlier);
+    push_side_lines(bytes, "       ", equal - earlier, last, &[])
+}
+
+// Appends the first lines of two texts that differ, the expected ones first.
+fn push_differing_lines(bytes: &mut Vec<u8>, met: &[u8], wanted: &[u8]) -> Result<(), AllocError>
+    ensures { OnOk result (bytes.new.items
+        ≡ bytes.old.items ++ differing_lines (whole_lines met.now) (whole_lines wanted.now)) }
+{
+    let count = differing_line_count(DIFFERING_LINES, met, wanted);
+    push_side_lines(bytes, "     - ", count, wanted, met)?;
+    push_side_lines(bytes, "     + ", count, met, wanted)
+}
+
+// Appends the first lines of one side beside the other's: so many, or all where there are fewer.
+fn push_side_lines(
+    bytes: &mut Vec<u8>,
+    margin: &'static str,
+    count: usize,
+    own: &[u8],
+    other: &[u8],
+) -> Result<(), AllocError>
+    ensures { OnOk result (bytes.new.items ≡ bytes.old.items
+        ++ side_lines margin.now count (whole_lines own.now) (whole_lines other.now)) }
+{
+    let (mut own, mut other) = (own, other);
+    let mut left = count;
+    while left > 0 && !own.is_empty() {
+        let (line, behind) = split_whole_line(own);
+        let (other_line, other_behind) = split_whole_line(other);
+        push_side_line(bytes, margin, line, other_line)?;
+        own = behind;
+        other = other_behind;
+        left -= 1;
+    }
+    Ok(())
+}
+
+// The text behind so many lines.
+fn text_behind_lines(text: &[u8], count: usize) -> &[u8]
+    ensures { whole_lines result.now ≡ drop count (whole_lines text.now) }
+{
+    let mut rest = text;
+    let mut left = count;
+    while left > 0 {
+        let (_, behind) = split_whole_line(rest);
+        rest = behind;
+        left -= 1;
+    }
+    rest
+}
+
+// Where two texts part.
+fn parting_of<'a>(met: &'a [u8], wanted: &'a [u8]) -> Parting<'a>
+    ensures equal { result.equal ≡ equal_line_count met.now wanted.now }
+    ensures within { result.equal ≤ length met.now }
+    ensures met { whole_lines result.met.now ≡ drop result.equal (whole_lines met.now) }
+    ensures wanted { whole_lines result.wanted.now ≡ drop result.equal (whole_lines wanted.now) }
+{
+    let mut parting = Parting {
+        equal: 0,
+        met,
+        wanted,
+    };
+    while !parting.met.is_empty() {
+        let (line, behind) = split_whole_line(parting.met);
+        let (wanted_line, wanted_behind) = split_whole_line(parting.wanted);
+        if line != wanted_line {
+            return parting;
+        }
+        parting = Parting {
+            equal: parting.equal + 1,
+            met: behind,
+            wanted: wanted_behind,
+        };
+    }
+    parting
+}
+
+// Of how many lines in front each differs from the other side's: so many at most.
+fn differing_line_count(most: usize, met: &[u8], wanted: &[u8]) -> usize
+    ensures { result ≡ differing_line_count most (whole_lines met.now) (whole_lines wanted.now) }
+{
+    let (mut met, mut wanted) = (met, wanted);
+    let mut count = 0;
+    while count < most {
+        let (line, behind) = split_whole_line(met);
+        let (wanted_line, wanted_behind) = split_whole_line(wanted);
+        if line == wanted_line {
+            return count;
+        }
+        met = behind;
+        wanted = wanted_behind;
+        count += 1;
+    }
+    count
+}

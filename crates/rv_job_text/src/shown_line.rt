@@ -1,0 +1,121 @@
+//! A line of a console as it is shown beside the one that is expected.
+
+ghost use Rattle.std.specs.Prelude.{◌≡◌, ◌≤◌, ◌++◌, OnOk, length, nat_eq};
+ghost use Rattle.std.specs.List.{common_prefix_len, position_or_len};
+ghost use Rattle.rv_job_text.specs.ConsoleLines.{begins_character, characters_len, feed_note, shown_begin, shown_line, side_line};
+ghost use Rattle.rv_job_text.specs.ConsoleLines.{text_shown_from};
+ghost use Rattle.rv_job_text.specs.ConsoleTail.{is_feed};
+
+use crate::whole_lines::first_feed;
+use rv_text::{push_printable_text, push_text, tail_from};
+use std::alloc::AllocError;
+
+/// How many characters of a line are shown at most.
+const LINE_CHARACTERS: usize = 160;
+
+/// How many bytes before the first that differs a longer line is shown from at most.
+const BYTES_BEFORE_DIFFERENCE: usize = 32;
+
+/// Appends the line of one side beside the other's, behind a margin.
+#[tactic(auto, unfolding(crate::specs::ConsoleLines::side_line))]
+pub(crate) fn push_side_line(
+    bytes: &mut Vec<u8>,
+    margin: &'static str,
+    own: &[u8],
+    other: &[u8],
+) -> Result<(), AllocError>
+    ensures { OnOk result (bytes.new.items ≡ bytes.old.items ++ side_line margin.now own.now other.now) }
+{
+    let feed = first_feed(own);
+    push_text(bytes, margin)?;
+    push_shown_line(bytes, equal_len(own, other), &own[..feed])?;
+    push_text(bytes, "\n")?;
+    push_feed_note(bytes, own, feed)
+}
+
+// Appends a note where a line has no line feed.
+fn push_feed_note(bytes: &mut Vec<u8>, whole: &[u8], feed: usize) -> Result<(), AllocError>
+    requires { feed ≡ position_or_len is_feed whole.now }
+    ensures { OnOk result (bytes.new.items ≡ bytes.old.items ++ feed_note whole.now) }
+{
+    if feed == whole.len() {
+        push_text(bytes, "     \\ no line feed at the end\n")
+    } else {
+        Ok(())
+    }
+}
+
+// Appends a line that differs at a place: a longer one in part.
+#[tactic(auto, unfolding(crate::specs::ConsoleLines::shown_line))]
+fn push_shown_line(bytes: &mut Vec<u8>, place: usize, text: &[u8]) -> Result<(), AllocError>
+    ensures { OnOk result (bytes.new.items ≡ bytes.old.items ++ shown_line place text.now) }
+{
+    push_text_from(bytes, shown_begin(place, text), text)
+}
+
+fn push_text_from(bytes: &mut Vec<u8>, begin: usize, text: &[u8]) -> Result<(), AllocError>
+    ensures { OnOk result (bytes.new.items ≡ bytes.old.items ++ text_shown_from begin text.now) }
+{
+    if begin > 0 {
+        push_text(bytes, "..")?;
+    }
+    let rest = tail_from(text, begin);
+    push_printable_text(bytes, &rest[..characters_len(LINE_CHARACTERS, rest)])
+}
+
+fn shown_begin(place: usize, text: &[u8]) -> usize
+    ensures { result ≡ shown_begin place text.now }
+{
+    if characters_len(LINE_CHARACTERS, text) == text.len() {
+        return 0;
+    }
+    let begin = place.saturating_sub(BYTES_BEFORE_DIFFERENCE);
+    begin + first_character_begin(tail_from(text, begin))
+}
+
+// Where the first character begins, or how many bytes there are.
+fn first_character_begin(text: &[u8]) -> usize
+    ensures place { result ≡ position_or_len begins_character text.now }
+    ensures within { result ≤ length text.now }
+{
+    for (place, byte) in text.iter().enumerate() {
+        if begins_character(*byte) {
+            return place;
+        }
+    }
+    text.len()
+}
+
+// How many bytes the first characters have: so many characters at most.
+fn characters_len(most: usize, text: &[u8]) -> usize
+    ensures len { result ≡ characters_len most text.now }
+    ensures within { result ≤ length text.now }
+{
+    let mut left = most;
+    for (place, byte) in text.iter().enumerate() {
+        if begins_character(*byte) {
+            if left == 0 {
+                return place;
+            }
+            left -= 1;
+        }
+    }
+    text.len()
+}
+
+fn begins_character(byte: u8) -> bool
+    ensures { result ≡ begins_character byte }
+{
+    byte < 0x80 || 0xC0 <= byte
+}
+
+// How many bytes in front are equal.
+fn equal_len(own: &[u8], other: &[u8]) -> usize
+    ensures { result ≡ common_prefix_len nat_eq own.now other.now }
+{
+    let mut len = 0;
+    while len < own.len() && len < other.len() && own[len] == other[len] {
+        len += 1;
+    }
+    len
+}

@@ -1,0 +1,50 @@
+//! Lines with their line feeds.
+
+ghost use Rattle.std.specs.Prelude.{◌≡◌, ◌≤◌, ◌<◌, [], ◌∷◌, length};
+ghost use Rattle.std.specs.List.{position_or_len};
+ghost use Rattle.rv_job_text.specs.ConsoleLines.{whole_lines};
+ghost use Rattle.rv_job_text.specs.ConsoleTail.{is_feed};
+
+use rv_text::tail_from;
+
+/// The first line with its line feed, which the last line may lack, and the text behind it. Of no text both are empty.
+pub(crate) fn split_whole_line(text: &[u8]) -> (&[u8], &[u8])
+    ensures some { 0 < length text.now → whole_lines text.now ≡ result.0.now ∷ whole_lines result.1.now }
+    ensures full { 0 < length text.now → 0 < length result.0.now }
+    ensures none { length text.now ≡ 0 → (result.0.now ≡ []) × (result.1.now ≡ []) }
+    ensures shorter { 0 < length text.now → length result.1.now < length text.now }
+{
+    let feed = first_feed(text);
+    if feed < text.len() {
+        (&text[..feed + 1], tail_from(text, feed + 1))
+    } else {
+        (text, tail_from(text, feed))
+    }
+}
+
+/// Where the first line feed stands, or how many bytes there are.
+pub(crate) fn first_feed(text: &[u8]) -> usize
+    ensures place { result ≡ position_or_len is_feed text.now }
+    ensures within { result ≤ length text.now }
+{
+    for (place, byte) in text.iter().enumerate() {
+        if *byte == b'\n' {
+            return place;
+        }
+    }
+    text.len()
+}
+
+/// How many lines a text has.
+pub(crate) fn whole_line_count(text: &[u8]) -> usize
+    ensures { result ≡ length (whole_lines text.now) }
+{
+    let mut rest = text;
+    let mut count = 0;
+    while !rest.is_empty() {
+        let (_, behind) = split_whole_line(rest);
+        rest = behind;
+        count += 1;
+    }
+    count
+}
