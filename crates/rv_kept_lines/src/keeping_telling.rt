@@ -13,23 +13,23 @@ use std::sync::{Mutex, Wait};
 
 /// Tells what another telling tells, and keeps the lines of rows that failed. Workers share what is kept.
 #[derive(Drop)]
-pub struct KeepingTelling<'a, J: RowLines, R: Wait, T: Telling> {
-    rt: &'a R,
-    telling: &'a T,
+pub struct KeepingTelling<'r, 't, 'k, J: RowLines, R: Wait, T: Telling> {
+    rt: &'r R,
+    telling: &'t T,
     rule: Rule,
     // None where nothing is kept.
-    kept: Option<&'a Mutex<KeptLines<J>>>,
+    kept: Option<&'k Mutex<KeptLines<J>>>,
     ghost told: { ForSome kept (λ _. (place : ℕ) (row : ARow) → has_passed rule row ≡ false
         → T.line telling.now place row ≡ J.lines place row) },
 }
 
-impl<'a, J: RowLines, R: Wait, T: Telling> KeepingTelling<'a, J, R, T> {
+impl<'r, 't, 'k, J: RowLines, R: Wait, T: Telling> KeepingTelling<'r, 't, 'k, J, R, T> {
     pub fn new(
-        rt: &'a R,
-        telling: &'a T,
+        rt: &'r R,
+        telling: &'t T,
         rule: Rule,
-        kept: Option<&'a Mutex<KeptLines<J>>>,
-    ) -> KeepingTelling<'a, J, R, T>
+        kept: Option<&'k Mutex<KeptLines<J>>>,
+    ) -> KeepingTelling<'r, 't, 'k, J, R, T>
         requires { ForSome kept (λ _. (place : ℕ) (row : ARow) → has_passed rule row ≡ false
             → T.line telling.now place row ≡ J.lines place row) }
         ensures { result.telling.now ≡ telling.now }
@@ -63,7 +63,7 @@ impl<'a, J: RowLines, R: Wait, T: Telling> KeepingTelling<'a, J, R, T> {
     }
 }
 
-impl<'a, J: RowLines, R: Wait, T: Telling> Telling for KeepingTelling<'a, J, R, T> {
+impl<'r, 't, 'k, J: RowLines, R: Wait, T: Telling> Telling for KeepingTelling<'r, 't, 'k, J, R, T> {
     ghost line = { λ keeping place row. T.line keeping.telling.now place row };
 
     fn push_row_text(

@@ -9,14 +9,14 @@ use std::alloc::{AllocError, Global};
 
 /// Tells what another telling tells: the lines that are kept, and only those of the other rows anew.
 #[derive(Drop)]
-pub struct RecallingTelling<'a, J: RowLines, T: Telling> {
-    telling: &'a T,
-    kept: &'a KeptLines<J>,
+pub struct RecallingTelling<'t, 'k, J: RowLines, T: Telling> {
+    telling: &'t T,
+    kept: &'k KeptLines<J>,
     ghost told: { (place : ℕ) (row : ARow) → T.line telling.now place row ≡ J.lines place row },
 }
 
-impl<'a, J: RowLines, T: Telling> RecallingTelling<'a, J, T> {
-    pub fn new(telling: &'a T, kept: &'a KeptLines<J>) -> RecallingTelling<'a, J, T>
+impl<'t, 'k, J: RowLines, T: Telling> RecallingTelling<'t, 'k, J, T> {
+    pub fn new(telling: &'t T, kept: &'k KeptLines<J>) -> RecallingTelling<'t, 'k, J, T>
         requires { (place : ℕ) (row : ARow) → T.line telling.now place row ≡ J.lines place row }
         ensures { result.telling.now ≡ telling.now }
     {
@@ -24,7 +24,7 @@ impl<'a, J: RowLines, T: Telling> RecallingTelling<'a, J, T> {
     }
 }
 
-impl<'a, J: RowLines, T: Telling> Telling for RecallingTelling<'a, J, T> {
+impl<'t, 'k, J: RowLines, T: Telling> Telling for RecallingTelling<'t, 'k, J, T> {
     ghost line = { λ recalling place row. T.line recalling.telling.now place row };
 
     fn push_row_text(
