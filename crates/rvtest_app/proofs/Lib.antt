@@ -9,3 +9,4 @@ mod Requested
 mod PartTexts
 mod Messages
 mod JobTexts
+mod FailedRows
