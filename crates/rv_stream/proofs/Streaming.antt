@@ -12,7 +12,7 @@ use Rattle.std.proofs.lemmas.List.{take_all, take_min}
 use Rattle.std.proofs.lemmas.List.Folds.{concat-append}
 use Rattle.rv_rows.specs.Sinks.{AppendsBeginning}
 use Rattle.rv_stream.specs.declared.error.StreamError.{StreamError}
-use Rattle.rv_stream.specs.Streams.{IsOut, text_before_piece, text_of_piece}
+use Rattle.rv_stream.specs.Streams.{IsOut, IsUnfailed, text_before_piece, text_of_piece}
 use Rattle.rv_fleet.proofs.Public.{chunk_more}
 
 -- a slice that goes on to the end
@@ -113,6 +113,12 @@ module _ (texts : List (List ℕ)) (group : ℕ) (before now : Option (List ℕ)
       let rest : List ℕ = concat (drop (then * group) texts) in
       begun_on before now after (text_before_piece texts group next) text rest (concat texts)
       (parts_of_all texts (then * group) ∙ ap (λ l. l ++ rest) these) (unfailed failed is sent) part
+
+-- a put that did not fail leaves the count as it was
+pub counted_on : (before now after : ℕ) (failed : Option StreamError) → is_some failed ≡ false
+    → IsUnfailed before now failed → after ≡ now → IsUnfailed before after failed
+counted_on before now after None is so same = same ∙ so
+counted_on before now after (Some error) is so same = cc
 
 -- the texts of the pieces before one end where the rest begins, at the end if they are all
 pub sent_to : (texts : List (List ℕ)) (next size group limit product from n : ℕ) → size ≡ group → length texts ≡ n

@@ -35,15 +35,22 @@ abbrev pub IsOut : List (List ℕ) → ℕ → Option (List ℕ) → Option (Lis
 IsOut texts group before now next None = Appends before now (text_before_piece texts group next)
 IsOut texts group before now next (Some error) = AppendsBeginning before now (concat texts)
 
+-- so long as the stream did not fail no put failed
+abbrev pub IsUnfailed : ℕ → ℕ → Option StreamError → Type 0
+IsUnfailed before now None = now ≡ before
+IsUnfailed before now (Some error) = Unit {0}
+
 -- the texts that came early, each at its piece's place
 abbrev pub AreTexts : List (List ℕ) → ℕ → List (Option (Vec ℕ Global)) → Type 0
 AreTexts texts group early = (k : ℕ)
     → IfSome (slice_index_or early k None) (λ text. text.items ≡ text_of_piece texts group k)
 
--- what is known of a stream: what went out, and what waits
-pub record IsInOrder (texts : List (List ℕ)) (group : ℕ) (before now : Option (List ℕ)) (next : ℕ)
-    (failed : Option StreamError) (early : List (Option (Vec ℕ Global))) : Type 0 where
+-- what is known of a stream: what went out, that no put failed, and what waits
+pub record IsInOrder (texts : List (List ℕ)) (group : ℕ) (before now : Option (List ℕ))
+    (failures_before failures : ℕ) (next : ℕ) (failed : Option StreamError)
+    (early : List (Option (Vec ℕ Global))) : Type 0 where
   pub sent : IsOut texts group before now next failed
+  pub counted : IsUnfailed failures_before failures failed
   pub waiting : AreTexts texts group early
 
 -- rows of a piece whose texts, told of the jobs at the places of the piece, are those of the piece

@@ -11,8 +11,8 @@ use rv_fleet::{Sink, put_all};
 use std::alloc::{AllocError, Global};
 use std::marker::{Brand, Model, PhantomData};
 
-/// Which texts go out, one for each row, in pieces of how many rows, and what the sink has before them. Each stream
-/// picks its own.
+/// Which texts go out, one for each row, in pieces of how many rows, what the sink has before them, and how often it failed before
+/// them. Each stream picks its own.
 pub trait Streamed {
     ghost use Rattle.std.specs.Prelude.{ℕ, List, Option};
 
@@ -21,6 +21,8 @@ pub trait Streamed {
     ghost group: { ℕ };
 
     ghost before: { Option (List ℕ) };
+
+    ghost failures: { ℕ };
 }
 
 impl Streamed for Brand {
@@ -31,6 +33,8 @@ impl Streamed for Brand {
     ghost group = { 0 };
 
     ghost before = { None };
+
+    ghost failures = { 0 };
 }
 
 /// What lies under the lock: the sink, and the texts of the pieces that came before their turn.
@@ -52,12 +56,13 @@ impl<J: Streamed, W: Sink + Drop> Model for InOrder<J, W> {
     ghost view = { λ s. s.out };
 
     ghost invariant = { λ s. IsInOrder
-        J.texts J.group J.before (W.taken s.out) s.next s.failed s.early.items };
+        J.texts J.group J.before (W.taken s.out) J.failures (W.failed s.out) s.next s.failed s.early.items };
 }
 
 impl<J: Streamed, W: Sink + Drop> InOrder<J, W> {
     pub(crate) fn new(out: W, early: Vec<Option<Vec<u8>>>) -> InOrder<J, W>
         requires out { W.taken out ≡ J.before }
+        requires failures { W.failed out ≡ J.failures }
         requires none { (k : ℕ) → slice_index_or early.items k None ≡ None }
     {
         InOrder {
@@ -115,6 +120,7 @@ impl<J: Streamed, W: Sink + Drop> InOrder<J, W> {
     pub(crate) fn finish(self) -> (W, Result<usize, StreamError>)
         ensures sent { IfOk result.1
             (λ next. Appends J.before (W.taken result.0) (text_before_piece J.texts J.group next)) }
+        ensures counted { IfOk result.1 (λ _. W.failed result.0 ≡ J.failures) }
         ensures part { AppendsBeginning J.before (W.taken result.0) (concat J.texts) }
     {
         let InOrder {

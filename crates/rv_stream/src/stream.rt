@@ -64,6 +64,7 @@ impl<'a, J: Streamed, R: Wait, T: Telling, W: Sink + Drop> Stream<'a, J, R, T, W
     fn finish(self) -> (W, Result<usize, StreamError>)
         ensures sent { IfOk result.1
             (λ next. Appends J.before (W.taken result.0) (text_before_piece J.texts J.group next)) }
+        ensures counted { IfOk result.1 (λ _. W.failed result.0 ≡ J.failures) }
         ensures part { AppendsBeginning J.before (W.taken result.0) (concat J.texts) }
     {
         let Stream {
@@ -79,8 +80,8 @@ impl<'a, J: Streamed, R: Wait, T: Telling, W: Sink + Drop> Stream<'a, J, R, T, W
 }
 
 /// Runs a batch, and sends what is told of each job as soon as that of all before it is out; what is due goes out in one
-/// put. The sink comes back: with `Ok` it took the texts of all rows, and else a beginning of them. The run ends early
-/// where a put fails or a growth is refused.
+/// put. The sink comes back: with `Ok` it took the texts of all rows and no put failed, and else it took a beginning of them. The run
+/// ends early where a put fails or a growth is refused.
 pub fn stream_places<R: Threads + Wait + Sync, T: Telling + Sync, W: Sink + Drop + Send>(
     crew: &Crew<'_, R>,
     batch: &Batch<'_>,
@@ -90,6 +91,7 @@ pub fn stream_places<R: Threads + Wait + Sync, T: Telling + Sync, W: Sink + Drop
     ensures rows { IfOk result.1 (λ rows. rows ≡ batch_rows batch.now) }
     ensures all { OnOk result.1 (Appends (W.taken out) (W.taken result.0)
         (joined_row_texts (T.line telling.now) batch.now.places.now (batch_rows batch.now))) }
+    ensures counted { OnOk result.1 (W.failed result.0 ≡ W.failed out) }
     ensures part { OnErr result.1 (AppendsBeginning (W.taken out) (W.taken result.0)
         (joined_row_texts (T.line telling.now) batch.now.places.now (batch_rows batch.now))) }
 {
@@ -105,8 +107,10 @@ fn stream_in_order<
 >(crew: &Crew<'_, R>, batch: &Batch<'_>, telling: &T, out: W) -> (W, Result<Rows, StreamError>)
     requires run { IsStreamOf J.texts J.group (T.line telling.now) batch.now crew.now.group }
     requires before { J.before ≡ W.taken out }
+    requires failures { J.failures ≡ W.failed out }
     ensures rows { IfOk result.1 (λ rows. rows ≡ batch_rows batch.now) }
     ensures all { OnOk result.1 (Appends J.before (W.taken result.0) (concat J.texts)) }
+    ensures counted { OnOk result.1 (W.failed result.0 ≡ J.failures) }
     ensures part { OnErr result.1 (AppendsBeginning J.before (W.taken result.0) (concat J.texts)) }
 {
     let (mut out, ran) = run_in_order::<J, R, T, W>(crew, batch, telling, out);
@@ -141,9 +145,11 @@ fn run_in_order<
 ) -> (W, Result<(Rows, usize), StreamError>)
     requires run { IsStreamOf J.texts J.group (T.line telling.now) batch.now crew.now.group }
     requires before { J.before ≡ W.taken out }
+    requires failures { J.failures ≡ W.failed out }
     ensures rows { IfOk result.1 (λ ran. ran.0 ≡ batch_rows batch.now) }
     ensures sent { IfOk result.1
         (λ ran. Appends J.before (W.taken result.0) (text_before_piece J.texts J.group ran.1)) }
+    ensures counted { IfOk result.1 (λ _. W.failed result.0 ≡ J.failures) }
     ensures part { AppendsBeginning J.before (W.taken result.0) (concat J.texts) }
 {
     let alloc = crew.alloc;
@@ -189,6 +195,7 @@ fn send_rows_from<T: Telling, W: Sink>(
     requires { from ≤ length all.now.rows.now }
     ensures all { OnOk result (Appends (W.taken out.old) (W.taken out.new)
         (concat (drop from (row_text_list (T.line telling.now) all.now.places.now all.now.rows.now)))) }
+    ensures counted { OnOk result (W.failed out.new ≡ W.failed out.old) }
     ensures part { OnErr result (AppendsBeginning (W.taken out.old) (W.taken out.new)
         (concat (drop from (row_text_list (T.line telling.now) all.now.places.now all.now.rows.now)))) }
 {

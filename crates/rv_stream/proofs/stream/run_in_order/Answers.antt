@@ -33,3 +33,10 @@ returns-clause-sent g c =
 pub returns-in-Err-clause-part : goal.returns-in-Err-clause-part
 returns-in-Err-clause-part g c =
     nothing_out g.J.Streamed.before (g.W.Sink.taken c.args.out) (concat g.J.Streamed.texts) c.requires.before
+
+pub returns-clause-counted : goal.returns-clause-counted
+returns-clause-counted g c =
+    second_of_both c.run_places-rows.result c.finish-out.result.1
+    (λ rows. rows ≡ batch_rows c.args.batch.now)
+    (λ next. g.W.Sink.failed c.finish-out.result.0 ≡ g.J.Streamed.failures) c.rows_and_next_piece.result
+    c.rows_and_next_piece.ensures c.finish-out.ensures.counted

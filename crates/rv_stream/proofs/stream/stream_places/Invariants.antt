@@ -7,4 +7,5 @@ ghosts-stream_in_order g a = record {
   texts = row_text_list (g.T.Telling.line a.telling.now) a.batch.now.places.now (batch_rows a.batch.now);
   group = a.crew.now.group;
   before = g.W.Sink.taken a.out;
+  failures = g.W.Sink.failed a.out;
 }
