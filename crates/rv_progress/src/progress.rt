@@ -1,5 +1,7 @@
 //! How many jobs are done and failed, and the line that says so.
 
+ghost use Rattle.std.specs.Prelude.{◌≡◌};
+
 use crate::tally::Tally;
 use crate::terminal_line::{Counts, Line};
 use rv_expect::Rule;
@@ -32,7 +34,11 @@ impl<W: Write + Drop> Progress<W> {
         rule: Rule,
         out: W,
         is_terminal: bool,
-    ) -> Progress<W> {
+    ) -> Progress<W>
+        ensures jobs { result.jobs ≡ jobs }
+        ensures rule { result.rule ≡ rule }
+        ensures terminal { result.is_terminal ≡ is_terminal }
+    {
         Progress {
             jobs: jobs as u64,
             rule,
@@ -84,7 +90,9 @@ impl<W: Write + Drop> Progress<W> {
     }
 
     /// The counts of the rows so far.
-    pub(crate) fn counts<R: Wait>(&self, rt: &R) -> Counts {
+    pub(crate) fn counts<R: Wait>(&self, rt: &R) -> Counts
+        ensures { result.jobs ≡ self.now.jobs }
+    {
         let tally = *self.tally.lock(rt);
         Counts {
             tally,
@@ -98,7 +106,9 @@ impl<W: Write + Drop> Progress<W> {
     }
 
     /// Whether the line is shown.
-    pub(crate) fn is_terminal(&self) -> bool {
+    pub(crate) fn is_terminal(&self) -> bool
+        ensures { result ≡ self.now.is_terminal }
+    {
         self.is_terminal
     }
 }

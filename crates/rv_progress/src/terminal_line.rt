@@ -36,7 +36,10 @@ impl<W: Write + Drop> Line<W> {
         }
     }
 
-    pub(crate) fn into_inner(self) -> W {
+    /// Gives the terminal back, once the line is taken away.
+    pub(crate) fn into_inner(self) -> W
+        requires { self.is_shown ≡ false }
+    {
         self.out
     }
 
