@@ -1,22 +1,8 @@
 -- Texts that go out one behind the other.
-use Rattle.std.proofs.Common.{◌≡◌, ◌∙◌, List, ℕ, [], ◌++◌, Option, Some, None, ap, refl, sym, subst, append_assoc, append-nil}
-use Rattle.std.specs.Io.KnownBytes.{Appends, Keeps}
+use Rattle.std.proofs.Common.{◌≡◌, ◌∙◌, List, ℕ, ◌++◌, Option, ap, sym, subst, append_assoc}
+use Rattle.std.specs.Io.KnownBytes.{Appends}
 use Rattle.std.proofs.KnownBytes.{Appends-trans}
 use Rattle.rv_lists.specs.Sinks.{AppendsBeginning}
-
--- nothing went out
-pub keeps_same : (known : Option (List ℕ)) → Keeps known known
-keeps_same None = tt
-keeps_same (Some bytes) = refl
-
--- a text is a beginning of itself
-pub whole_begun : (a b : Option (List ℕ)) (text : List ℕ) → Appends a b text → AppendsBeginning a b text
-whole_begun a b text whole = record {
-  part = text;
-  rest = [];
-  whole = sym (append-nil text);
-  appended = whole;
-}
 
 -- a text went out, and a beginning of the next
 begun_behind : (a b c : Option (List ℕ)) (front text : List ℕ) → Appends a b front

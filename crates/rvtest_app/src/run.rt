@@ -1,7 +1,6 @@
 //! The command `run`.
 
-ghost use Rattle.rv_lists.specs.Limits.{most_workers};
-ghost use Rattle.std.specs.Prelude.{◌≡◌, ◌≤◌, ◌<◌, ◌++◌, [], ℕ, List, None, Option, Some, IfOk, IfSome, OnOk, false, length, option_map};
+ghost use Rattle.std.specs.Prelude.{◌≡◌, ◌≤◌, ◌<◌, ◌++◌, [], ℕ, List, None, Option, Some, IfOk, OnErr, OnOk, false, length, option_map};
 ghost use Rattle.std.specs.Io.KnownBytes.{Appends};
 ghost use Rattle.std.specs.List.{All};
 ghost use Rattle.std.specs.List.Sorted.{IsStrictlyIncreasing};
@@ -11,7 +10,7 @@ ghost use Rattle.rv_command.specs.Texts.{optional_text};
 ghost use Rattle.rv_files.specs.UnreadPaths.{contents_below};
 ghost use Rattle.rv_expect.specs.Passing.{has_passed};
 ghost use Rattle.rv_fleet.specs.Choices.{AreJobPlaces};
-ghost use Rattle.rv_jobs.specs.Plans.{AreKept, jobs_needed_for, paths_of, paths_used};
+ghost use Rattle.rv_jobs.specs.Plans.{AreKept, jobs_needed_for, one_more_times, paths_of, paths_used, unreadable_count};
 ghost use Rattle.rv_job_text.specs.Telling.{row_lines_at, telling_of};
 ghost use Rattle.rv_lists.specs.declared.job.Job.{Job as AJob};
 ghost use Rattle.rv_merge.specs.Shards.{shard_marks};
@@ -19,12 +18,15 @@ ghost use Rattle.rv_rows.specs.Rows.{rows_at};
 ghost use Rattle.rv_rows.specs.declared_row.Row.{Row as ARow};
 ghost use Rattle.rvtest_app.specs.Commands.{failure_rule, requested_verbosity};
 ghost use Rattle.rvtest_app.specs.FailureLines.{failure_lines};
-ghost use Rattle.rvtest_app.specs.Outlets.{AreFilesPlaced, HasTaken, file_at, has_no_failure, stdout_at};
+ghost use Rattle.rvtest_app.specs.Outlets.{AreFilesPlaced, AreFilesPlacedInPart, HasTaken, file_at, has_no_failure, stdout_at};
 ghost use Rattle.rvtest_app.specs.Puts.{IsShown, WentOut};
 ghost use Rattle.rvtest_app.specs.RunOutput.{chosen_report_text, rows_status, run_output_text};
-ghost use Rattle.rvtest_app.specs.Runs.{AreRequestedJobs, IsRunAt, IsRunOfMarked, run_junit};
+ghost use Rattle.rvtest_app.specs.Runs.{AreRequestedJobs, IsRunAt, IsRunOfMarked, IsUndoneRunAt, IsUndoneRunOfPlaces};
+ghost use Rattle.rvtest_app.specs.Runs.{places_of_marks, run_junit};
+ghost use Rattle.rvtest_app.specs.Said.{said};
 
 use crate::chosen_rows::ChosenRows;
+use crate::crew::requested_crew;
 use crate::destinations::Destinations;
 use crate::file_texts::FileTexts;
 use crate::host::Host;
@@ -41,9 +43,8 @@ use rv_cli::rvtest::RunAsked;
 use rv_command::{DONE, Stop, parse_list, put_message, read_list_text};
 use rv_expect::Rule;
 use rv_files::{Inputs, NotingStore, Outputs};
-use rv_fleet::{Batch, Crew, Rows};
+use rv_fleet::{Batch, Rows};
 use rv_job_text::{RowTelling, Verbosity};
-use rv_jobs::limits::{MOST_GROUP, MOST_WORKERS};
 use rv_jobs::{JobList, Plan, Store, gather_places, marked_places};
 use rv_junit::Suite;
 use rv_kept_lines::{KeepingTelling, KeptLines, RecallingTelling, RowLines};
@@ -55,7 +56,7 @@ use std::alloc::{AllocError, Global};
 use std::io::Write;
 use std::marker::Brand;
 use std::sync::{Mutex, Wait};
-use std::thread::{self, Threads};
+use std::thread::Threads;
 use std::time::Clock;
 
 /// A run of a list that words ask for.
@@ -82,7 +83,8 @@ pub(crate) fn run_requested_jobs<
     terminals: Terminals<P>,
 ) -> (Destinations<F, O, E>, Result<u8, Stop>)
     ensures run { IfOk result.1 (λ status. IsRunAt (D.contents host.now.inputs.now) asked.now status
-        (O.taken to.out) (O.taken result.0.out) (E.taken to.errors) (E.taken result.0.errors)
+        (said F.placed O.taken E.taken E.failed to) (said F.placed O.taken E.taken E.failed result.0)) }
+    ensures undone { OnErr result.1 (IsUndoneRunAt (D.contents host.now.inputs.now) asked.now
         (F.placed to.files) (F.placed result.0.files)) }
     ensures low { IfOk result.1 (λ status. status ≤ 1) }
 {
@@ -177,10 +179,11 @@ impl<'x, R: Threads + Wait + Sync + Clock, D: Inputs> ListRun<'x, R, D> {
         terminals: Terminals<P>,
     ) -> (Destinations<F, O, E>, Result<u8, Stop>)
         requires { self.now.rule ≡ failure_rule self.now.asked.now.lenient }
-        ensures { IfOk result.1 (λ status. IsRunOfMarked (D.contents self.now.host.now.inputs.now) self.now.asked.now
+        ensures run { IfOk result.1 (λ status. IsRunOfMarked (D.contents self.now.host.now.inputs.now) self.now.asked.now
             marked.jobs (Some marked.marks.items) marked.shard status
-            (O.taken to.out) (O.taken result.0.out) (E.taken to.errors) (E.taken result.0.errors)
-            (F.placed to.files) (F.placed result.0.files)) }
+            (said F.placed O.taken E.taken E.failed to) (said F.placed O.taken E.taken E.failed result.0)) }
+        ensures undone { OnErr result.1 (IsUndoneRunOfPlaces (D.contents self.now.host.now.inputs.now) self.now.asked.now
+            marked.jobs (places_of_marks marked.marks.items) (F.placed to.files) (F.placed result.0.files)) }
     {
         let MarkedJobs {
             jobs,
@@ -242,8 +245,10 @@ impl<'x, R: Threads + Wait + Sync + Clock, D: Inputs> ListRun<'x, R, D> {
             (rows_at telling.now.plan.now places.now))
             (run_junit self.now.asked.now.list.now (telling_of telling.now) places.now
             (rows_at telling.now.plan.now places.now))
-            (O.taken to.out) (O.taken result.0.out) (E.taken to.errors) (E.taken result.0.errors)
-            (F.placed to.files) (F.placed result.0.files)) }
+            (said F.placed O.taken E.taken E.failed to) (said F.placed O.taken E.taken E.failed result.0)) }
+        ensures part { OnErr result.1 (AreFilesPlacedInPart (F.placed to.files) (F.placed result.0.files)
+            (Some (file_at (optional_text self.now.asked.now.junit) (run_junit self.now.asked.now.list.now
+            (telling_of telling.now) places.now (rows_at telling.now.plan.now places.now))))) }
     {
         let (alloc, asked) = (self.host.alloc, self.asked);
         let mut to = to;
@@ -273,7 +278,7 @@ impl<'x, R: Threads + Wait + Sync + Clock, D: Inputs> ListRun<'x, R, D> {
     // Runs the jobs at some places, and shows them: on standard error where a file goes to standard output.
     fn run_and_show<
         J: RowLines + Send + Sync,
-        F: Drop,
+        F: Outputs + Drop,
         O: Sink + Drop + Send,
         E: Sink + Drop + Send,
         P: Write + Drop + Send,
@@ -290,7 +295,7 @@ impl<'x, R: Threads + Wait + Sync + Clock, D: Inputs> ListRun<'x, R, D> {
         ensures shown { OnOk result.1 (IsShown is_beside (run_output_text
             (row_lines_at (telling_of planned.now.telling.now)) planned.now.telling.now.rule
             planned.now.places.now (rows_at planned.now.telling.now.plan.now planned.now.places.now))
-            (O.taken to.out) (O.taken result.0.out) (E.taken to.errors) (E.taken result.0.errors)) }
+            (said F.placed O.taken E.taken E.failed to) (said F.placed O.taken E.taken E.failed result.0)) }
     {
         let Destinations { files, out, errors } = to;
         if is_beside {
@@ -318,21 +323,16 @@ impl<'x, R: Threads + Wait + Sync + Clock, D: Inputs> ListRun<'x, R, D> {
             (run_output_text (row_lines_at (telling_of planned.now.telling.now))
             planned.now.telling.now.rule planned.now.places.now
             (rows_at planned.now.telling.now.plan.now planned.now.places.now))) }
+        ensures counted { OnOk result.1 (W.failed result.0 ≡ W.failed out) }
     {
         let (rt, alloc) = (self.host.rt, self.host.alloc);
         let (telling, places) = (planned.telling, planned.places);
-        let Terminals {
-            is_errors_terminal,
-            progress,
-            ..
-        } = terminals;
-        let progress = Progress::new(rt, places.len(), telling.rule, progress, is_errors_terminal);
+        let progress = self.run_progress(planned, terminals);
         let kept = self.lines_to_keep(planned);
         let keeping = KeepingTelling::new(rt, telling, telling.rule, kept);
         let counting = CountingTelling::new(rt, &keeping, &progress);
         let sink = TerminalSink::new(rt, alloc, out, is_terminal, &progress);
-        let group = self.asked.group.clamp(1, MOST_GROUP);
-        let crew = Crew::new(rt, alloc, worker_count(rt, self.asked), group);
+        let crew = requested_crew(rt, alloc, self.asked);
         let batch = Batch::new(telling.plan, places);
         let (sink, ran) = put_run_output(&crew, &batch, telling.rule, &counting, sink);
         let out = sink.into_inner();
@@ -341,6 +341,29 @@ impl<'x, R: Threads + Wait + Sync + Clock, D: Inputs> ListRun<'x, R, D> {
             Ok(rows) => (out, Ok(rows)),
             Err(error) => (out, Err(stop_of_stream(error))),
         }
+    }
+
+    // The line that counts the jobs at some places.
+    fn run_progress<J: RowLines, P: Write + Drop>(
+        &self,
+        planned: &PlannedRun<'_, J>,
+        terminals: Terminals<P>,
+    ) -> Progress<P>
+        ensures jobs { result.jobs ≡ length planned.now.places.now }
+        ensures rule { result.rule ≡ planned.now.telling.now.rule }
+    {
+        let Terminals {
+            is_errors_terminal,
+            progress,
+            ..
+        } = terminals;
+        Progress::new(
+            self.host.rt,
+            planned.places.len(),
+            planned.telling.rule,
+            progress,
+            is_errors_terminal,
+        )
     }
 
     // Where the lines of jobs that fail are kept: they are shown, and told to JUnit's file too.
@@ -389,6 +412,11 @@ impl<'x, R: Threads + Wait + Sync + Clock, D: Inputs> ListRun<'x, R, D> {
             (Some (file_at junit_path (run_junit self.now.asked.now.list.now (telling_of planned.now.telling.now)
             planned.now.places.now rows) ++ file_at report_path (chosen_report_text
             (length planned.now.telling.now.plan.now.jobs) planned.now.places.now shard rows)))) }
+        ensures part { (junit_path : Option (List ℕ))
+            → HasTaken F.place_path F.File.taken F.File.failed (F.placed to.old.files) junit_path [] outlets.entry.junit
+            → OnErr result (AreFilesPlacedInPart (F.placed to.old.files) (F.placed to.new.files)
+            (Some (file_at junit_path (run_junit self.now.asked.now.list.now (telling_of planned.now.telling.now)
+            planned.now.places.now rows)))) }
     {
         let (telling, places, rule) = (planned.telling, planned.places, planned.telling.rule);
         let status = rows_status(rule, rows.as_slice());
@@ -430,6 +458,8 @@ fn gather_jobs_at<S: Store>(
     ensures paths { IfOk result (λ plan. paths_of plan.answers
         ≡ paths_used (jobs_needed_for jobs places.now)) }
     ensures kept { IfOk result (λ plan. AreKept (S.contents store.old) plan.answers) }
+    ensures faults { IfOk result (λ plan. S.faulted store.new
+        ≡ one_more_times (S.faulted store.old) (unreadable_count plan.answers)) }
 {
     gather_places(alloc, jobs, Vec::from_slice(alloc, places)?, store)
 }
@@ -441,20 +471,5 @@ fn requested_verbosity(asked: &RunAsked<'_>) -> Verbosity
         (_, true) => Verbosity::Quiet,
         (true, false) => Verbosity::All,
         (false, false) => Verbosity::Failures,
-    }
-}
-
-// As many threads as are asked for, or as there are processors: from 1 to 64.
-fn worker_count<R: Threads>(rt: &R, asked: &RunAsked<'_>) -> u32
-    ensures within { (0 < result) × (result ≤ most_workers) }
-    ensures asked { IfSome asked.now.workers (λ workers.
-        (1 ≤ workers) → (workers ≤ most_workers) → result ≡ workers) }
-{
-    match asked.workers {
-        Some(workers) => workers.clamp(1, MOST_WORKERS),
-        None => match thread::available_parallelism(rt) {
-            Ok(count) => count.get().clamp(1, MOST_WORKERS as usize) as u32,
-            Err(_) => 1,
-        },
     }
 }
