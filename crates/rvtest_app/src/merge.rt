@@ -10,6 +10,7 @@ ghost use Rattle.rvtest_app.specs.Merges.{AreTextsAt, IsMergedAt, merged_class, 
 ghost use Rattle.rvtest_app.specs.Puts.{WentOut};
 ghost use Rattle.rvtest_app.specs.JunitTexts.{failures_junit};
 ghost use Rattle.rvtest_app.specs.RunOutput.{rows_status};
+ghost use Rattle.rvtest_app.specs.Said.{said};
 ghost use Rattle.rv_command.specs.Texts.{optional_text};
 
 use crate::destinations::Destinations;
@@ -46,8 +47,7 @@ pub(crate) fn merge_reports<D: Inputs, F: Outputs + Drop, O: Sink + Drop, E: Sin
 ) -> Result<u8, Stop>
     ensures low { IfOk result (λ status. status ≤ 1) }
     ensures merged { IfOk result (λ status. IsMergedAt (D.contents inputs.now) asked.now status
-        (O.taken to.old.out) (O.taken to.new.out) (E.taken to.old.errors) (E.taken to.new.errors)
-        (F.placed to.old.files) (F.placed to.new.files)) }
+        (said F.placed O.taken E.taken E.failed to.old) (said F.placed O.taken E.taken E.failed to.new)) }
 {
     let texts = read_part_texts(inputs, alloc, asked)?;
     let merged = merge_part_texts(alloc, asked, texts.as_slice())?;
@@ -152,8 +152,7 @@ fn put_merged<F: Outputs + Drop, O: Sink + Drop, E: Sink + Drop>(
         (merged_report_path (optional_text asked.now.report) (optional_text asked.now.junit))
         (optional_text asked.now.junit) merged.line.items (report_text merged.rows)
         (failures_junit (merged_class (optional_text asked.now.report)) (failure_rule asked.now.lenient) merged.rows)
-        (O.taken to.old.out) (O.taken to.new.out) (E.taken to.old.errors) (E.taken to.new.errors)
-        (F.placed to.old.files) (F.placed to.new.files)) }
+        (said F.placed O.taken E.taken E.failed to.old) (said F.placed O.taken E.taken E.failed to.new)) }
 {
     let Merged { rows, line, .. } = merged;
     let outlets = open_outlets(&mut to.files, alloc, merged_report_path(asked), asked.junit)?;
