@@ -1,5 +1,5 @@
 -- What the commands that run no list find, in what stands at the paths that they read.
-use Rattle.std.specs.Prelude.{◌≡◌, ℕ, Bool, true, false, List, [], ◌∷◌, length, Option, Some, Ok, position}
+use Rattle.std.specs.Prelude.{◌≡◌, ℕ, Bool, true, false, List, [], ◌∷◌, length, None, Option, Some, Ok, position}
 use Rattle.std.specs.Prelude.{slice_index_or}
 use Rattle.std.specs.Str.{bytes_eq}
 use Rattle.rv_base.specs.Files.{FileContents}
@@ -9,7 +9,7 @@ use Rattle.rv_cli.specs.declared.rvtest.explain.ExplainAsked.{ExplainAsked}
 use Rattle.rv_command.specs.Texts.{IsReportText, IsTextAt, optional_text}
 use Rattle.rv_diff.specs.Diff.{counts_of_differing, diff_text}
 use Rattle.rv_diff.specs.declared.change.Compare.{Compare}
-use Rattle.rv_diff.specs.declared.change.Compare.TheVariants.{Outcomes, Steps}
+use Rattle.rv_diff.specs.declared.change.Compare.TheVariants.{Outcomes, Slower, Steps}
 use Rattle.rv_expect.specs.Passing.{has_passed}
 use Rattle.rv_expect.specs.declared.passing.Rule.TheVariants.{Strict}
 use Rattle.rv_files.specs.UnreadPaths.{contents_below}
@@ -28,10 +28,11 @@ use Rattle.rvtest_app.specs.Commands.{check_status, diff_status, passing_status,
 
 -- ---- diff
 
--- what is compared, with --steps or without
-abbrev pub requested_comparison : Bool → Compare
-requested_comparison true = Steps
-requested_comparison false = Outcomes
+-- what is compared, with --steps, with --slower, or without
+abbrev pub requested_comparison : Bool → Option ℕ → Compare
+requested_comparison true slower = Steps
+requested_comparison false (Some percent) = Slower percent
+requested_comparison false None = Outcomes
 
 -- the output and the status are those of the rows of the reports that two texts are
 pub record IsDiffOf (compare : Compare) (old new output : List ℕ) (status : ℕ) : Type 0 where
@@ -48,7 +49,7 @@ pub record IsDiffAt (known : Option FileContents) (words : DiffAsked) (output : 
   pub old_read : IsTextAt known words.old.now old
   pub new : List ℕ
   pub new_read : IsTextAt known words.new.now new
-  pub diff : IsDiffOf (requested_comparison words.steps) old new output status
+  pub diff : IsDiffOf (requested_comparison words.steps words.slower) old new output status
 
 -- ---- check
 

@@ -36,27 +36,27 @@ fn diff_report_texts(
     new: Result<Vec<u8>, Stop>,
 ) -> Result<Found, Stop>
     ensures diff { IfOk result (λ found. MatchResult new
-        (λ new. IsDiffOf (requested_comparison asked.entry.steps) old.now new.items
+        (λ new. IsDiffOf (requested_comparison asked.entry.steps asked.entry.slower) old.now new.items
         found.text.items found.status) (λ stop. ⊥)) }
     ensures low { IfOk result (λ found. found.status ≤ 1) }
 {
     let old = parse_report(alloc, asked.old, old)?;
     let new_text = new?;
     let new = parse_report(alloc, asked.new, new_text.as_slice())?;
-    let compare = requested_comparison(asked.steps);
+    let compare = requested_comparison(asked.steps, asked.slower);
     let old_rows = old.rows.as_slice();
     let new_rows = new.rows.as_slice();
     diff_rows(alloc, compare, old_rows, new_rows)
 }
 
-// What `--steps` asks for.
-fn requested_comparison(steps: bool) -> Compare
-    ensures { result ≡ requested_comparison steps }
+// What `--steps` or `--slower` asks for.
+fn requested_comparison(steps: bool, slower: Option<u32>) -> Compare
+    ensures { result ≡ requested_comparison steps slower }
 {
-    if steps {
-        Compare::Steps
-    } else {
-        Compare::Outcomes
+    match (steps, slower) {
+        (true, _) => Compare::Steps,
+        (false, Some(percent)) => Compare::Slower(percent),
+        (false, None) => Compare::Outcomes,
     }
 }
 
