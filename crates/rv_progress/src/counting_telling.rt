@@ -17,7 +17,14 @@ pub struct CountingTelling<'r, 't, 'p, R: Clock + Wait, T: Telling, W: Drop> {
     progress: &'p Progress<W>,
 }
 
-impl<'r, 't, 'p, R: Clock + Wait, T: Telling, W: Write + Drop> CountingTelling<'r, 't, 'p, R, T, W> {
+impl<'r, 't, 'p, R: Clock + Wait, T: Telling, W: Write + Drop> CountingTelling<
+    'r,
+    't,
+    'p,
+    R,
+    T,
+    W,
+> {
     pub fn new(
         rt: &'r R,
         telling: &'t T,
