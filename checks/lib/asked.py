@@ -2,7 +2,7 @@
 import re
 
 import images
-from rows import Form, lines, lines_in, squeezed
+from rows import Form, job_count, lines, lines_in, squeezed
 from saved import report_bytes
 
 # Images that exit by codes 5 and 6 after two steps, and two that never end.
@@ -106,7 +106,7 @@ def check_choice(row):
     row.write("report", report_bytes("\n".join([*rows, f"done {len(rows)}"])))
     names = row["chosen"].split()
     out = [f"PASS {name}: exit 5 after 2 steps" for name in names]
-    out.append(f"{len(names)} jobs: {len(names)} passed, 0 failed, {2 * len(names)} steps")
+    out.append(f"{job_count(len(names))}: {len(names)} passed, 0 failed, {2 * len(names)} steps")
     said = lines(f"rvtest: {row['said']}") if row["said"] else ""
     words = ["run", "list.toml", "--verbose", *row["words"].split()]
     row.wants(words, int(row["status"]), lines(*out) if names else "", said)

@@ -10,7 +10,7 @@ from rows import RULES, Form
 from tables import raw
 
 # The lines of a job that fails, and the last line.
-SHORT = {r"FAIL .*\n(?:     .*\n)+": "FAIL/", r"[0-9]+ jobs: .*\n": "LAST/"}
+SHORT = {r"FAIL .*\n(?:     .*\n)+": "FAIL/", r"[0-9]+ jobs?: .*\n": "LAST/"}
 # A job that passes, one that fails, and one that expects nothing and exits by 5.
 JOBS = {"+": "image = 'zero.elf'", "-": "image = 'five.elf', expect_exit = 6", "5": "image = 'five.elf'"}
 

@@ -98,6 +98,11 @@ def last_line(out):
     return f"1 job: {int(passed)} passed, {int(not passed)} failed{way}, {steps or 0} steps"
 
 
+def job_count(count):
+    """So many jobs, as a last line begins."""
+    return f"{count} job" if count == 1 else f"{count} jobs"
+
+
 def status_of(last):
     """The status that goes with a last line."""
     return 0 if " 0 failed" in last else 1

@@ -8,7 +8,7 @@ import os
 import re
 
 from kinds import fault_kinds
-from rows import RULES, Form, last_line, lines, status_of
+from rows import RULES, Form, job_count, last_line, lines, status_of
 from tables import raw
 
 FIELDS = {"end": "exit 0", "steps": "5", "console": "-", "signature": "-", "verdict": "none"}
@@ -163,7 +163,7 @@ def wants_merged(row, wanted, *parts):
         return
     report = report_bytes(wanted)
     count = len(jobs_of(report))
-    row.wants(["merge", *parts], 0, report, f"{count} jobs: {count} passed, 0 failed, {5 * count} steps\n")
+    row.wants(["merge", *parts], 0, report, f"{job_count(count)}: {count} passed, 0 failed, {5 * count} steps\n")
 
 
 FORMS = {
