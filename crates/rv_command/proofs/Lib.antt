@@ -1,1 +1,3 @@
+pub mod Public
 mod SavedRows
+mod Told

@@ -1,9 +1,24 @@
--- The statuses of commands that end before their work is done.
-use Rattle.std.specs.Prelude.{ℕ}
+-- The statuses of commands that end before their work is done, and what these commands tell.
+use Rattle.std.specs.Prelude.{◌≡◌, ◌⊎◌, ◌<◌, ℕ, List, [], IfSome, IsSomeAnd, Option, None, Result, Ok, Err, Vec, codes, length}
+use Rattle.std.specs.declared.alloc.AllocError.{AllocError}
+use Rattle.std.specs.declared.alloc.Global.{Global}
+use Rattle.std.specs.declared.io.ErrorKind.{ErrorKind}
+use Rattle.rv_base.specs.Files.{FileContents}
+use Rattle.rv_base.specs.Limits.{most_bytes}
+use Rattle.rv_files.specs.IoErrors.{io_error_text}
+use Rattle.rv_files.specs.declared.file_error.FileError.{FileError}
+use Rattle.rv_files.specs.declared.file_error.FileError.TheVariants as file
+use Rattle.rv_list_errors.specs.Lines.{PutsLines}
+use Rattle.rv_lists.specs.JobList.{job_list_of}
+use Rattle.rv_lists.specs.declared.error.JobError.{JobError}
+use Rattle.rv_report.specs.Differences.{count_of_line_feeds}
+use Rattle.rv_report.specs.LeastLine.{BeginsReport, IsLeastRefusedLine, first_lines}
 use Rattle.rv_command.specs.declared.stop.Lines.{Lines}
 use Rattle.rv_command.specs.declared.stop.Lines.TheVariants as lines
 use Rattle.rv_command.specs.declared.stop.Stop.{Stop}
-use Rattle.rv_command.specs.declared.stop.Stop.TheVariants as stop
+use Rattle.rv_command.specs.declared.stop.Stop.TheVariants as why
+use Rattle.rv_command.specs.Messages.{path_message, path_number_message, stop_message}
+use Rattle.rv_command.specs.Texts.{IsTextAt}
 
 -- the status of lines that end a command: 2 where what is asked for is refused, 3 where the system failed
 abbrev pub lines_status : Lines → ℕ
@@ -12,7 +27,89 @@ lines_status lines.Failure = 3
 
 -- the status of a command that ends before its work is done
 abbrev pub stop_status : Stop → ℕ
-stop_status (stop.Told lines text) = lines_status lines
-stop_status stop.OutOfMemory = 3
-stop_status stop.NoWorker = 3
-stop_status stop.WriteFailed = 3
+stop_status (why.Told lines text) = lines_status lines
+stop_status why.OutOfMemory = 3
+stop_status why.NoWorker = 3
+stop_status why.WriteFailed = 3
+
+-- lines end a command, where there was memory for them
+abbrev pub stop_of_lines : Lines → Result (Vec ℕ Global) AllocError → Stop
+stop_of_lines kind (Ok text) = why.Told kind text
+stop_of_lines kind (Err error) = why.OutOfMemory
+
+-- memory was wanting, or the stop has this status and tells this text
+abbrev pub IsStop : ℕ → List ℕ → Stop → Type 0
+IsStop status text stop =
+    (stop ≡ why.OutOfMemory) ⊎ ((stop_status stop ≡ status) × (stop_message stop ≡ text))
+
+-- memory was wanting, or what is asked for is refused, with some text
+abbrev pub IsRefusal : Stop → Type 0
+IsRefusal stop = (stop ≡ why.OutOfMemory) ⊎ (stop_status stop ≡ 2)
+
+-- ---- what stands at a path
+
+-- nothing stands there, where that is known
+abbrev pub IsNothingAt : Option FileContents → List ℕ → Type 0
+IsNothingAt known path = IfSome known (λ files. files path ≡ None)
+
+-- more bytes than so many stand there, where that is known
+abbrev pub IsLongAt : Option FileContents → List ℕ → ℕ → Type 0
+IsLongAt known path most = IfSome known (λ files. IsSomeAnd (files path) (λ bytes. most < length bytes))
+
+-- the system gave a reason why the path was not read or written
+abbrev pub IsSystemStop : List ℕ → ErrorKind → Stop → Type 0
+IsSystemStop path reason stop = IsStop 3 (path_message path (io_error_text reason)) stop
+
+-- memory was wanting; or the path was not read, and nothing is known to stand there
+abbrev pub IsUnreadStop : Option FileContents → List ℕ → Stop → Type 0
+IsUnreadStop known path stop = (stop ≡ why.OutOfMemory)
+    ⊎ (IsNothingAt known path × ((reason : ErrorKind) × IsSystemStop path reason stop))
+
+-- a file was not written
+abbrev pub IsFileErrorStop : List ℕ → FileError → Stop → Type 0
+IsFileErrorStop path file.OutOfMemory stop = stop ≡ why.OutOfMemory
+IsFileErrorStop path file.SamePlace stop =
+    IsStop 2 (path_message path (codes "another file of this command goes to the same place")) stop
+IsFileErrorStop path (file.Failed reason) stop = IsSystemStop path reason stop
+
+-- ---- lists
+
+-- the path was not read, or more bytes stand there than a list may have
+abbrev pub IsListUnreadStop : Option FileContents → List ℕ → Stop → Type 0
+IsListUnreadStop known path stop = IsUnreadStop known path stop
+    ⊎ (IsLongAt known path most_bytes
+    × IsStop 3 (path_message path (codes "the file has more than 16777216 bytes")) stop)
+
+-- memory was wanting; or a text is no list, and the line of its first fault is told
+abbrev pub IsListFaultStop : List ℕ → Stop → Type 0
+IsListFaultStop text stop = (stop ≡ why.OutOfMemory)
+    ⊎ ((fault : JobError) × (job_list_of text ≡ Err fault)
+    × ((told : List ℕ) × PutsLines 1 [] told × IsStop 2 told stop))
+
+-- ---- reports
+
+-- the report ends too early
+abbrev pub IsCutOffStop : List ℕ → Stop → Type 0
+IsCutOffStop path stop = IsStop 2 (path_message path (codes "the report is cut off")) stop
+
+-- no report has a line there
+abbrev pub IsLineStop : List ℕ → ℕ → Stop → Type 0
+IsLineStop path line stop =
+    IsStop 2 (path_number_message path (codes ":") line (codes ": no report has this line here\n")) stop
+
+-- a text is no report: the least line is told that no report begins with; or that the report is cut off, and then its whole
+-- lines begin some report
+abbrev pub IsReportFaultTold : List ℕ → List ℕ → Stop → Type 0
+IsReportFaultTold path bytes stop =
+    ((line : ℕ) × IsLeastRefusedLine line bytes × IsLineStop path line stop)
+    ⊎ (BeginsReport (first_lines (count_of_line_feeds bytes) bytes) × IsCutOffStop path stop)
+
+-- memory was wanting, or a fault of the report is told; a beginning of a report is told as cut off
+pub record IsReportFaultStop (path bytes : List ℕ) (stop : Stop) : Type 0 where
+  pub told : (stop ≡ why.OutOfMemory) ⊎ IsReportFaultTold path bytes stop
+  pub cut : BeginsReport bytes → IsCutOffStop path stop
+
+-- the path was not read, or what stands there is no report
+abbrev pub IsReportUnreadStop : Option FileContents → List ℕ → Stop → Type 0
+IsReportUnreadStop known path stop = IsUnreadStop known path stop
+    ⊎ ((bytes : List ℕ) × IsTextAt known path bytes × IsReportFaultStop path bytes stop)

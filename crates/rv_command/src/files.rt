@@ -1,6 +1,7 @@
 //! Files that are read whole.
 
-ghost use Rattle.std.specs.Prelude.{◌≡◌, ◌≤◌, ◌<◌, ◌+◌, ◌^◌, IfOk, IfSome, length};
+ghost use Rattle.std.specs.Prelude.{◌≡◌, ◌≤◌, ◌<◌, ◌+◌, ◌^◌, IfErr, IfNone, IfOk, IfSome, length};
+ghost use Rattle.rv_command.specs.Stops.{IsFileErrorStop, IsLongAt, IsSystemStop, IsUnreadStop};
 ghost use Rattle.rv_command.specs.Texts.{IsTextAt};
 
 use crate::messages::path_message;
@@ -20,6 +21,8 @@ pub(crate) fn read_file_up_to<D: Inputs>(
     ensures whole { IfOk result
         (λ found. IfSome found (λ bytes. IsTextAt (D.contents inputs.now) path.now bytes.items)) }
     ensures within { IfOk result (λ found. IfSome found (λ bytes. length bytes.items ≤ most)) }
+    ensures long { IfOk result (λ found. IfNone found (IsLongAt (D.contents inputs.now) path.now most)) }
+    ensures unread { IfErr result (IsUnreadStop (D.contents inputs.now) path.now) }
 {
     match read_whole_up_to(inputs, alloc, path, most) {
         Ok(found) => Ok(found),
@@ -33,7 +36,8 @@ const MOST_OF_MEMORY: usize = usize::MAX - 1;
 
 /// The bytes of what stands at a path, whatever its size.
 pub fn read_file<D: Inputs>(inputs: &D, alloc: Global, path: &str) -> Result<Vec<u8>, Stop>
-    ensures { IfOk result (λ bytes. IsTextAt (D.contents inputs.now) path.now bytes.items) }
+    ensures read { IfOk result (λ bytes. IsTextAt (D.contents inputs.now) path.now bytes.items) }
+    ensures unread { IfErr result (IsUnreadStop (D.contents inputs.now) path.now) }
 {
     match read_file_up_to(inputs, alloc, path, MOST_OF_MEMORY)? {
         Some(bytes) => Ok(bytes),
@@ -43,7 +47,9 @@ pub fn read_file<D: Inputs>(inputs: &D, alloc: Global, path: &str) -> Result<Vec
 }
 
 /// The file at a path cannot be written.
-pub fn file_error_stop(alloc: Global, path: &str, error: FileError) -> Stop {
+pub fn file_error_stop(alloc: Global, path: &str, error: FileError) -> Stop
+    ensures { IsFileErrorStop path.now error result }
+{
     match error {
         FileError::OutOfMemory => Stop::OutOfMemory,
         FileError::SamePlace => {
@@ -55,6 +61,8 @@ pub fn file_error_stop(alloc: Global, path: &str, error: FileError) -> Stop {
 }
 
 // A path cannot be read or written, for a reason of the system's.
-fn io_error_stop(alloc: Global, path: &str, reason: ErrorKind) -> Stop {
+fn io_error_stop(alloc: Global, path: &str, reason: ErrorKind) -> Stop
+    ensures { IsSystemStop path.now reason result }
+{
     Stop::of_failure(path_message(alloc, path, io_error_text(reason)))
 }

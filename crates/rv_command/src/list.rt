@@ -1,7 +1,8 @@
 //! The list of jobs that a command is given.
 
-ghost use Rattle.std.specs.Prelude.{◌≡◌, ◌≤◌, [], IfOk, Ok, length};
+ghost use Rattle.std.specs.Prelude.{◌≡◌, ◌≤◌, [], Err, IfErr, IfOk, Ok, length};
 ghost use Rattle.rv_base.specs.Limits.{most_bytes};
+ghost use Rattle.rv_command.specs.Stops.{IsListFaultStop, IsListUnreadStop};
 ghost use Rattle.rv_command.specs.Texts.{IsTextAt};
 ghost use Rattle.rv_list_errors.specs.FaultHeads.{fault_head};
 ghost use Rattle.rv_list_errors.specs.Lines.{PutsLines};
@@ -20,6 +21,7 @@ use std::alloc::{AllocError, Global};
 pub fn read_list_text<D: Inputs>(inputs: &D, alloc: Global, path: &str) -> Result<Vec<u8>, Stop>
     ensures read { IfOk result (λ text. IsTextAt (D.contents inputs.now) path.now text.items) }
     ensures within { IfOk result (λ text. length text.items ≤ most_bytes) }
+    ensures unread { IfErr result (IsListUnreadStop (D.contents inputs.now) path.now) }
 {
     match read_file_up_to(inputs, alloc, path, MOST_BYTES)? {
         Some(text) => Ok(text),
@@ -32,7 +34,8 @@ pub fn read_list_text<D: Inputs>(inputs: &D, alloc: Global, path: &str) -> Resul
 
 /// The jobs of a list's text, or what is wrong with the list.
 pub fn parse_list(alloc: Global, path: &str, text: &[u8]) -> Result<JobList, Stop>
-    ensures { IfOk result (λ jobs. job_list_of text.now ≡ Ok jobs) }
+    ensures jobs { IfOk result (λ jobs. job_list_of text.now ≡ Ok jobs) }
+    ensures fault { IfErr result (IsListFaultStop text.now) }
 {
     match read_jobs(alloc, text) {
         Ok(jobs) => Ok(jobs),
@@ -40,7 +43,10 @@ pub fn parse_list(alloc: Global, path: &str, text: &[u8]) -> Result<JobList, Sto
     }
 }
 
-fn list_fault_stop(alloc: Global, path: &str, text: &[u8], fault: JobError) -> Stop {
+fn list_fault_stop(alloc: Global, path: &str, text: &[u8], fault: JobError) -> Stop
+    requires { (fault.what ≡ What.OutOfMemory → ⊥) → job_list_of text.now ≡ Err fault }
+    ensures { IsListFaultStop text.now result }
+{
     match fault.what {
         What::OutOfMemory => Stop::OutOfMemory,
         _ => Stop::of_refusal(list_faults_text(alloc, path, text, &[fault])),

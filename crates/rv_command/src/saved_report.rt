@@ -1,7 +1,8 @@
 //! Reports that are read.
 
-ghost use Rattle.std.specs.Prelude.{◌≡◌, ◌≤◌, IfOk, length};
+ghost use Rattle.std.specs.Prelude.{◌≡◌, ◌≤◌, IfErr, IfOk, length};
 ghost use Rattle.rv_base.specs.Limits.{most_jobs};
+ghost use Rattle.rv_command.specs.Stops.{IsLineStop, IsReportFaultStop, IsReportUnreadStop};
 ghost use Rattle.rv_command.specs.Texts.{IsReportAt, IsReportText};
 
 use crate::files::read_file;
@@ -9,7 +10,7 @@ use crate::messages::{path_message, path_number_message};
 use crate::stop::Stop;
 use rv_files::Inputs;
 use rv_report::{ReadError, SavedReport, read_report};
-use std::alloc::{AllocError, Global};
+use std::alloc::Global;
 
 /// The report at a path: a whole one, or that of a part of a list.
 pub fn read_report_file<D: Inputs>(
@@ -19,6 +20,7 @@ pub fn read_report_file<D: Inputs>(
 ) -> Result<SavedReport, Stop>
     ensures read { IfOk result (IsReportAt (D.contents inputs.now) path.now) }
     ensures few { IfOk result (λ report. length report.rows ≤ most_jobs) }
+    ensures unread { IfErr result (IsReportUnreadStop (D.contents inputs.now) path.now) }
 {
     let text = read_file(inputs, alloc, path)?;
     parse_report(alloc, path, text.as_slice())
@@ -28,6 +30,7 @@ pub fn read_report_file<D: Inputs>(
 pub fn parse_report(alloc: Global, path: &str, text: &[u8]) -> Result<SavedReport, Stop>
     ensures report { IfOk result (IsReportText text.now) }
     ensures few { IfOk result (λ report. length report.rows ≤ most_jobs) }
+    ensures fault { IfErr result (IsReportFaultStop path.now text.now) }
 {
     match read_report(alloc, text) {
         Ok(report) => Ok(report),
@@ -36,10 +39,13 @@ pub fn parse_report(alloc: Global, path: &str, text: &[u8]) -> Result<SavedRepor
             let told = path_message(alloc, path, "the report is cut off");
             Err(Stop::of_refusal(told))
         }
-        Err(ReadError::Line(line)) => Err(Stop::of_refusal(report_line_message(alloc, path, line))),
+        Err(ReadError::Line(line)) => Err(report_line_stop(alloc, path, line)),
     }
 }
 
-fn report_line_message(alloc: Global, path: &str, line: usize) -> Result<Vec<u8>, AllocError> {
-    path_number_message(alloc, path, ":", line, ": no report has this line here\n")
+fn report_line_stop(alloc: Global, path: &str, line: usize) -> Stop
+    ensures { IsLineStop path.now line result }
+{
+    let what = ": no report has this line here\n";
+    Stop::of_refusal(path_number_message(alloc, path, ":", line, what))
 }

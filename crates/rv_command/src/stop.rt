@@ -1,6 +1,9 @@
 //! Why a command ends before its work is done.
 
 ghost use Rattle.std.specs.Prelude.{◌≡◌};
+ghost use Rattle.clap.specs.Values.{kind_of};
+ghost use Rattle.clap.specs.declared.error.kind.ErrorKind.TheVariants as kind;
+ghost use Rattle.rv_command.specs.Stops.{IsRefusal, stop_of_lines};
 
 use clap::Error;
 use clap::error::ErrorKind;
@@ -29,8 +32,12 @@ pub enum Lines {
 }
 
 impl Stop {
-    /// What an error of `clap`, or of its form, comes to, but help and the version: it refuses the words.
-    pub fn of_clap_error(alloc: Global, error: &Error) -> Stop {
+    /// What an error of `clap`, or of its form, comes to, but help and the version: it refuses the words. The text is the error's,
+    /// which no contract of `clap` knows.
+    pub fn of_clap_error(alloc: Global, error: &Error) -> Stop
+        ensures memory { kind_of error.now ≡ kind.OutOfMemory → result ≡ Stop.OutOfMemory }
+        ensures refused { IsRefusal result }
+    {
         match error.kind() {
             ErrorKind::OutOfMemory => Stop::OutOfMemory,
             _ => match error.to_string(alloc) {
@@ -41,16 +48,22 @@ impl Stop {
     }
 
     /// What is asked for is refused, as these lines say, where there was memory for them.
-    pub fn of_refusal(told: Result<Vec<u8>, AllocError>) -> Stop {
+    pub fn of_refusal(told: Result<Vec<u8>, AllocError>) -> Stop
+        ensures { result ≡ stop_of_lines Lines.Refusal told }
+    {
         Stop::of_lines(Lines::Refusal, told)
     }
 
     /// The system failed, as these lines say, where there was memory for them.
-    pub fn of_failure(told: Result<Vec<u8>, AllocError>) -> Stop {
+    pub fn of_failure(told: Result<Vec<u8>, AllocError>) -> Stop
+        ensures { result ≡ stop_of_lines Lines.Failure told }
+    {
         Stop::of_lines(Lines::Failure, told)
     }
 
-    fn of_lines(lines: Lines, told: Result<Vec<u8>, AllocError>) -> Stop {
+    fn of_lines(lines: Lines, told: Result<Vec<u8>, AllocError>) -> Stop
+        ensures { result ≡ stop_of_lines lines told }
+    {
         match told {
             Ok(text) => Stop::Told(lines, text),
             Err(error) => Stop::from(error),

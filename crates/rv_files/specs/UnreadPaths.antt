@@ -1,5 +1,5 @@
 -- What a store over files notes, and which file a path is.
-use Rattle.std.specs.Prelude.{ℕ, List, [], ◌∷◌, Option, Some, None, option_map}
+use Rattle.std.specs.Prelude.{◌≡◌, ℕ, List, [], ◌∷◌, IfSome, Option, Some, None, option_map}
 use Rattle.std.specs.declared.io.ErrorKind.{ErrorKind}
 use Rattle.std.specs.Path.{path_join}
 use Rattle.rv_base.specs.Files.{FileContents}
@@ -15,6 +15,12 @@ resolved_path None path = path
 -- what each path holds, taken from that folder, where it is told
 abbrev pub contents_below : Option (List ℕ) → Option FileContents → Option FileContents
 contents_below folder known = option_map (λ files path. files (resolved_path folder path)) known
+
+-- a path that was unreadable for a reason holds nothing, where that is told
+abbrev pub HoldsNothingIfUnreadable : Option FileContents → List ℕ → WholeError → Type 0
+HoldsNothingIfUnreadable known path (whole.Failed reason) = IfSome known (λ files. files path ≡ None)
+HoldsNothingIfUnreadable known path whole.TooLong = Unit {0}
+HoldsNothingIfUnreadable known path whole.OutOfMemory = Unit {0}
 
 -- a path was unreadable for a reason
 abbrev pub unread_entry : List ℕ → ErrorKind → Unread

@@ -5,7 +5,7 @@ ghost use Rattle.std.specs.Prelude.{IfErr, IfOk, IfSome, IsSomeAnd, MatchResult,
 ghost use Rattle.std.specs.Option.{option_copied};
 ghost use Rattle.std.specs.Path.{path_buf_bytes};
 ghost use Rattle.rv_base.specs.Limits.{most_bytes};
-ghost use Rattle.rv_files.specs.UnreadPaths.{contents_below, unread_entry, unread_entries, resolved_path};
+ghost use Rattle.rv_files.specs.UnreadPaths.{HoldsNothingIfUnreadable, contents_below, unread_entry, unread_entries, resolved_path};
 
 use crate::file_store::WholeError;
 use crate::inputs::{Inputs, read_whole_up_to};
@@ -64,6 +64,8 @@ impl<'a, D: Inputs> NotingStore<'a, D> {
         ensures long { IfErr result (λ error. error ≡ WholeError.TooLong →
             IfSome (contents_below (option_copied self.old.folder) (D.contents self.old.inputs.now))
             (λ files. IsSomeAnd (files path.now) (λ bytes. most_bytes < length bytes))) }
+        ensures missing { IfErr result (HoldsNothingIfUnreadable
+            (contents_below (option_copied self.old.folder) (D.contents self.old.inputs.now)) path.now) }
         ensures noted { MatchResult result (λ _. self.new.unread.items ≡ self.old.unread.items)
             (λ error. self.new.unread.items
             ≡ self.old.unread.items ++ unread_entries path.now error) }
@@ -84,6 +86,8 @@ impl<'a, D: Inputs> NotingStore<'a, D> {
         ensures long { IfErr result (λ error. error ≡ WholeError.TooLong →
             IfSome (contents_below (option_copied self.now.folder) (D.contents self.now.inputs.now))
             (λ files. IsSomeAnd (files path.now) (λ bytes. most_bytes < length bytes))) }
+        ensures missing { IfErr result (HoldsNothingIfUnreadable
+            (contents_below (option_copied self.now.folder) (D.contents self.now.inputs.now)) path.now) }
     {
         let place = self.resolved_path(alloc, path)?;
         match read_whole_up_to(self.inputs, alloc, place.as_str(), MOST_BYTES)? {

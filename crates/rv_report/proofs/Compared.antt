@@ -15,6 +15,8 @@ use Rattle.rv_report.specs.Differences.{BeginsAlike, IsSameReadError, read_error
 use Rattle.rv_report.proofs.Told.{tells}
 use Rattle.rv_report.proofs.Cut.{said_can_be}
 use Rattle.rv_report.proofs.Reports.{says_itself}
+use Rattle.rv_report.specs.LeastLine.{IsLeast, BeginsReport}
+use Rattle.rv_report.proofs.LeastTold.{told_is_least, begun_is_cut}
 
 pub can_be : (bytes : List ℕ) (r : SavedReport) → r ≡ lenient_report bytes → IsSaved r
 can_be bytes r s = subst (λ (x : SavedReport). IsSaved x) (sym s) (said_can_be bytes)
@@ -55,6 +57,17 @@ pub place_is : (bytes text : List ℕ) (r : SavedReport) (error : ReadError) →
 place_is bytes text r error s t f =
     is_place error (read_error_from 1 word.Ahead (saved_text (lenient_report bytes)) bytes)
     (f ∙ ap (λ (x : List ℕ). read_error_from 1 word.Ahead x bytes) (t ∙ ap saved_text s))
+
+pub least_is : (bytes text : List ℕ) (r : SavedReport) (error : ReadError) → r ≡ lenient_report bytes → text ≡ saved_text r
+    → error ≡ read_error_from 1 word.Ahead text bytes → IsLeast error bytes
+least_is bytes text r error s t f =
+    told_is_least bytes error (f ∙ ap (λ (x : List ℕ). read_error_from 1 word.Ahead x bytes) (t ∙ ap saved_text s))
+
+pub cut_is : (bytes text : List ℕ) (r : SavedReport) (error : ReadError) → r ≡ lenient_report bytes → text ≡ saved_text r
+    → error ≡ read_error_from 1 word.Ahead text bytes → BeginsReport bytes → IsSameReadError error CutOff
+cut_is bytes text r error s t f begins =
+    is_place error CutOff (f ∙ ap (λ (x : List ℕ). read_error_from 1 word.Ahead x bytes) (t ∙ ap saved_text s)
+    ∙ begun_is_cut bytes begins)
 
 -- nothing is said of the text where memory ran out
 pub err_of : {X : Type 0} (bytes : List ℕ) (result : Result X ReadError)

@@ -154,7 +154,7 @@ abbrev IsDraft : Gathered → Type 0
 IsDraft g = AreGood g.rows × (is_name g.name ≡ true) × IsEnd g.ending × IsWord g.steps × IsBytes g.console
     × (g.count ≤ most_words) × (length g.words ≤ g.count) × AllByRecursion IsWord g.words
 
-all-append : {X : Type 0} (P : X → Type 0) (xs ys : List X) → AllByRecursion P xs → AllByRecursion P ys
+pub all-append : {X : Type 0} (P : X → Type 0) (xs ys : List X) → AllByRecursion P xs → AllByRecursion P ys
     → AllByRecursion P (xs ++ ys)
 all-append P [] ys h k = k
 all-append P (x ∷ xs) ys h k = (h.0, all-append P xs ys h.1 k)

@@ -22,7 +22,7 @@ use Rattle.rv_report.proofs.Pieces.{lacks}
 use Rattle.rv_report.proofs.Spelled.{says, says_line, row_says}
 use Rattle.rv_report.proofs.Parts.{row_has_word_numbers, last_words, last_is_line, last_says, lacks-last, HasNumbers}
 
-rising_parts : (before last n : ℕ) (ns : List ℕ) → are_rising before last (n ∷ ns) ≡ true
+pub rising_parts : (before last n : ℕ) (ns : List ℕ) → are_rising before last (n ∷ ns) ≡ true
     → (before < n) × (n ≤ last) × (are_rising n last ns ≡ true)
 unfolding are_rising
 rising_parts before last n ns h =
@@ -60,12 +60,12 @@ unfolding lines with_lines
 last_line_says xs g h =
     ap (λ (t : List ℕ). says t g) (sym (append-nil (line xs))) ∙ says_line xs [] g h
 
-finished_all : (numbers : List ℕ) (rows : List Row) (e : Extent)
+pub finished_all : (numbers : List ℕ) (rows : List Row) (e : Extent)
     → with_unfinished_row (with_stage_over (gathering_between_rows numbers rows e)) ≡ with_stage_over (gathering_between_rows numbers rows e)
 unfolding with_unfinished_row gathering_between_rows
 finished_all numbers rows e = refl
 
-gathered_all : (r : SavedReport) → IsSaved r → HasNumbers r.extent → length r.rows ≤ most_jobs
+pub gathered_all : (r : SavedReport) → IsSaved r → HasNumbers r.extent → length r.rows ≤ most_jobs
     → gather_rows (saved_text r) ≡ with_stage_over (gathering_between_rows r.numbers r.rows r.extent)
 unfolding gather_rows saved_text
 gathered_all r h known few =
@@ -91,7 +91,7 @@ rising_all before (n ∷ ns) h =
     ∙ ap (λ (t : Bool). cond t (rising_count n ns + 1) 0) then.0
     ∙ ap (λ (k : ℕ). k + 1) (rising_all n ns then.1) ∙ omega arith
 
-not_not : (t : Bool) → not t ≡ true → t ≡ false
+pub not_not : (t : Bool) → not t ≡ true → t ≡ false
 not_not true h = sym h
 not_not false h = refl
 
@@ -108,14 +108,14 @@ unfolding extent_or_choice
 fitting_same e ns h = ap (λ (t : Bool). cond t e (Choice most_jobs)) h
 
 -- what is kept of rows that were gathered
-abbrev kept : ℕ → List Row → Gathered → SavedReport
+abbrev pub kept : ℕ → List Row → Gathered → SavedReport
 kept count rows g = record {
   extent = extent_or_choice g.extent (take count g.numbers);
   numbers = take count g.numbers;
   rows = take count rows;
 }
 
-abbrev said_of : List Row → Gathered → SavedReport
+abbrev pub said_of : List Row → Gathered → SavedReport
 said_of rising g = kept (count_before_repeated_name [] (row_names rising)) rising g
 
 kept_all : (r : SavedReport) (count : ℕ) → IsListed r → count ≡ length r.rows

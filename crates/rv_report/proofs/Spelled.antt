@@ -133,7 +133,7 @@ pub lacks-name : (name : List ℕ) → is_name name ≡ true → lacks 10 name �
 unfolding is_name
 lacks-name name h = lacks_feed name (and_parts (is_within 1 64 (length name)) (list_all is_name_byte name) h).1
 
-lacks-job : (n : ℕ) (name : List ℕ) → n < 2 ^ 64 → is_name name ≡ true
+pub lacks-job : (n : ℕ) (name : List ℕ) → n < 2 ^ 64 → is_name name ≡ true
     → lacks 10 (codes "job " ++ decimal n ++ codes " " ++ name) ≡ true
 lacks-job n name h is =
     lacks-append 10 (decimal n ++ codes " ") name
@@ -155,7 +155,7 @@ job_number n name h =
     ∙ ap decimal_number (before_at 32 (decimal n) name (lacks-decimal 32 n (omega arith) (omega arith)))
     ∙ number_of-decimal n h
 
-job_says : (n : ℕ) (name : List ℕ) (g : Gathered) → n < 2 ^ 32 → is_name name ≡ true → length g.rows < most_jobs
+pub job_says : (n : ℕ) (name : List ℕ) (g : Gathered) → n < 2 ^ 32 → is_name name ≡ true → length g.rows < most_jobs
     → with_line (codes "job " ++ decimal n ++ codes " " ++ name) (record g { stage = stage.Between })
     ≡ record g { number = n; name = name; begun = true; stage = stage.Ending }
 unfolding with_line at_job_or_last_line
@@ -175,28 +175,28 @@ job_says n name g h is few =
 
 -- ---- the line of the steps
 
-steps_says : (n : ℕ) (g : Gathered) → n < 2 ^ 32 → with_line (codes "steps " ++ decimal n)
+pub steps_says : (n : ℕ) (g : Gathered) → n < 2 ^ 32 → with_line (codes "steps " ++ decimal n)
     (record g { stage = stage.Steps }) ≡ record g { steps = n; stage = stage.Console }
 unfolding with_line at_steps
 steps_says n g h = ap (λ (t : ℕ). record g { steps = t; stage = stage.Console }) (number_of-decimal n h)
 
 -- ---- the line of the ending
 
-abbrev end_words : RowEnd → List ℕ
+abbrev pub end_words : RowEnd → List ℕ
 end_words (ending.Exit code) = codes "end exit " ++ decimal code
 end_words (ending.Fault kind pc value) = codes "end fault " ++ fault_name kind ++ codes " pc=" ++ word_digits pc ++
     codes " value=" ++ word_digits value
 end_words ending.Budget = codes "end budget"
 end_words (ending.Refused why) = codes "end refused " ++ refusal_name why
 
-end_is_line : (e : RowEnd) → end_line e ≡ line (end_words e)
+pub end_is_line : (e : RowEnd) → end_line e ≡ line (end_words e)
 unfolding end_line
 end_is_line (ending.Exit code) = refl
 end_is_line (ending.Fault kind pc value) = refl
 end_is_line ending.Budget = refl
 end_is_line (ending.Refused why) = refl
 
-lacks-end : (e : RowEnd) → IsEnd e → lacks 10 (end_words e) ≡ true
+pub lacks-end : (e : RowEnd) → IsEnd e → lacks 10 (end_words e) ≡ true
 lacks-end (ending.Exit code) h = lacks-decimal 10 code (omega arith) (omega arith)
 lacks-end (ending.Fault kind pc value) h =
     let name = and_parts (lacks 10 (fault_name kind)) (lacks 32 (fault_name kind)) (lacks-fault_name kind) in
@@ -244,7 +244,7 @@ fault_says kind pc value hp hv =
     ∙ ap (λ (w : ℕ). ending.Fault kind w (hex_word (word_digits value))) (word_of-digits pc hp)
     ∙ ap (λ (w : ℕ). ending.Fault kind pc w) (word_of-digits value hv)
 
-end_says : (e : RowEnd) (g : Gathered) → IsEnd e → with_line (end_words e) (record g { stage = stage.Ending })
+pub end_says : (e : RowEnd) (g : Gathered) → IsEnd e → with_line (end_words e) (record g { stage = stage.Ending })
     ≡ record g { ending = e; stage = stage.Steps }
 unfolding with_line at_ending row_ending_of_line
 end_says (ending.Exit code) g h = ap (λ (n : ℕ). record g { ending = ending.Exit n; stage = stage.Steps })
@@ -273,7 +273,7 @@ unfolding hex_bytes encode_with
 bytes_of-shown [] h = refl
 bytes_of-shown (b ∷ bs) h = ap hex_bytes (dash_of_encode b bs) ∙ bytes_of-encode (b ∷ bs) h
 
-lacks-shown : (bytes : List ℕ) → IsBytes bytes → lacks 10 (dash_if_empty (encode_lower bytes)) ≡ true
+pub lacks-shown : (bytes : List ℕ) → IsBytes bytes → lacks 10 (dash_if_empty (encode_lower bytes)) ≡ true
 unfolding encode_with
 lacks-shown [] h = refl
 lacks-shown (b ∷ bs) h = ap (lacks 10) (dash_of_encode b bs) ∙ lacks-encode (b ∷ bs) h
@@ -283,7 +283,7 @@ console_text_says : (text : List ℕ) (g : Gathered) → with_line (codes "conso
 unfolding with_line at_console
 console_text_says text g = refl
 
-console_says : (bytes : List ℕ) (g : Gathered) → IsBytes bytes
+pub console_says : (bytes : List ℕ) (g : Gathered) → IsBytes bytes
     → with_line (codes "console " ++ dash_if_empty (encode_lower bytes)) (record g { stage = stage.Console })
     ≡ record g { console = bytes; stage = stage.Signature }
 console_says bytes g h = console_text_says (dash_if_empty (encode_lower bytes)) g
@@ -298,7 +298,7 @@ no_word line g =
     with_closed_row (verdict_of_line line) (record g { stage = stage.Words })
     else with_stage_over g
 
-word_says : (w : ℕ) (g : Gathered) → w < 2 ^ 32 → length g.words < g.count
+pub word_says : (w : ℕ) (g : Gathered) → w < 2 ^ 32 → length g.words < g.count
     → with_line (word_digits w) (record g { stage = stage.Words })
     ≡ record g { words = g.words ++ w ∷ []; stage = stage.Words }
 unfolding with_line at_words
@@ -311,7 +311,7 @@ word_says w g h more =
     (no_word (word_digits w) g)) room
     ∙ ap (λ (v : ℕ). record g { words = g.words ++ v ∷ []; stage = stage.Words }) (word_of-digits w h)
 
-words_say : (ws rest : List ℕ) (g : Gathered) → AllByRecursion IsWord ws → length g.words + length ws ≤ g.count
+pub words_say : (ws rest : List ℕ) (g : Gathered) → AllByRecursion IsWord ws → length g.words + length ws ≤ g.count
     → says (flat_map word_line ws ++ rest) (record g { stage = stage.Words })
     ≡ says rest (record g { words = g.words ++ ws; stage = stage.Words })
 words_say [] rest g h room = ap (λ (t : List ℕ). says rest (record g { words = t; stage = stage.Words }))
@@ -325,11 +325,11 @@ words_say (w ∷ ws) rest g h room =
     ∙ words_say ws rest (record g { words = g.words ++ w ∷ [] }) h.1 (omega arith)
     ∙ ap (λ (t : List ℕ). says rest (record g { words = t; stage = stage.Words })) (append_assoc g.words (w ∷ []) ws)
 
-abbrev words_or_nil : Option (List ℕ) → List ℕ
+abbrev pub words_or_nil : Option (List ℕ) → List ℕ
 words_or_nil None = []
 words_or_nil (Some words) = words
 
-signature_text_says : (text : List ℕ) (g : Gathered) → nat_le (decimal_number text) most_words ≡ true
+pub signature_text_says : (text : List ℕ) (g : Gathered) → nat_le (decimal_number text) most_words ≡ true
     → with_line (codes "signature " ++ text) (record g { stage = stage.Signature })
     ≡ record g { signed = not (slice_index text 0 == 45); count = decimal_number text; words = []; stage = stage.Words }
 unfolding with_line at_signature
@@ -340,7 +340,7 @@ signature_text_says text g small = ap (λ (t : Bool). cond t (record g {
   stage = stage.Words;
 }) (with_stage_over g)) small
 
-signature_says : (s : Option (List ℕ)) (rest : List ℕ) (g : Gathered) → AreWords s
+pub signature_says : (s : Option (List ℕ)) (rest : List ℕ) (g : Gathered) → AreWords s
     → says (signature_lines s ++ rest) (record g { stage = stage.Signature })
     ≡ says rest (record g {
       signed = is_some s;
@@ -373,28 +373,28 @@ signature_says (Some ws) rest g h =
 
 -- ---- the verdict's line
 
-verdict_says : (v : Verdict) (g : Gathered) → (length g.words == g.count) ≡ true
+pub verdict_says : (v : Verdict) (g : Gathered) → (length g.words == g.count) ≡ true
     → with_line (codes "verdict " ++ verdict_name v) (record g { stage = stage.Words }) ≡ with_closed_row v g
 unfolding with_line at_words are_hex_digits verdict_of_line with_closed_row row_so_far
 verdict_says verdict.Unasked g full = ap (λ (t : Bool). cond t (with_closed_row verdict.Unasked g) (with_stage_over g)) full
 verdict_says verdict.Pass g full = ap (λ (t : Bool). cond t (with_closed_row verdict.Pass g) (with_stage_over g)) full
 verdict_says verdict.Fail g full = ap (λ (t : Bool). cond t (with_closed_row verdict.Fail g) (with_stage_over g)) full
 
-lacks-verdict : (v : Verdict) → lacks 10 (codes "verdict " ++ verdict_name v) ≡ true
+pub lacks-verdict : (v : Verdict) → lacks 10 (codes "verdict " ++ verdict_name v) ≡ true
 lacks-verdict verdict.Unasked = refl
 lacks-verdict verdict.Pass = refl
 lacks-verdict verdict.Fail = refl
 
 -- ---- a row's text
 
-regroup : (a b c d s v r : List ℕ) → a ++ b ++ c ++ d ++ s ++ v ++ r ≡ a ++ (b ++ (c ++ (d ++ (s ++ (v ++ r)))))
+pub regroup : (a b c d s v r : List ℕ) → a ++ b ++ c ++ d ++ s ++ v ++ r ≡ a ++ (b ++ (c ++ (d ++ (s ++ (v ++ r)))))
 regroup a b c d s v r = simp append_assoc
 
-same_signature : (s : Option (List ℕ)) → cond (is_some s) (Some (words_or_nil s)) None ≡ s
+pub same_signature : (s : Option (List ℕ)) → cond (is_some s) (Some (words_or_nil s)) None ≡ s
 same_signature None = refl
 same_signature (Some words) = refl
 
-same_length : (n : ℕ) → (n == n) ≡ true
+pub same_length : (n : ℕ) → (n == n) ≡ true
 same_length n = grind arith
 
 -- what is gathered when all lines of a row but the last are read

@@ -62,7 +62,7 @@ holds_at p (suc n) k h lt =
           rw e parts.0
     ]
 
-digit_is : (d : ℕ) → d < 16 → hex_digit_value (slice_index lower_digits d) ≡ d
+pub digit_is : (d : ℕ) → d < 16 → hex_digit_value (slice_index lower_digits d) ≡ d
 digit_is d h = eqb-true (hex_digit_value (slice_index lower_digits d)) d
     (holds_at (λ k. hex_digit_value (slice_index lower_digits k) == k) 16 d refl h)
 
@@ -141,7 +141,7 @@ some_digits : (w : ℕ) → nat_lt 0 (length (word_digits w)) ≡ true
 unfolding word_digits encode_with
 some_digits w = refl
 
-all_digits : (w : ℕ) → are_hex_digits (word_digits w) ≡ true
+pub all_digits : (w : ℕ) → are_hex_digits (word_digits w) ≡ true
 unfolding word_digits
 all_digits w = are_hex_digits-encode (to_be_bytes w32 w) (fits_digits w)
 

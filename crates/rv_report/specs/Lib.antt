@@ -3,6 +3,7 @@ pub mod Saved
 pub mod LenientReport
 pub mod View
 pub mod Differences
+pub mod LeastLine
 pub use Rattle.rv_elf.specs.Image
 pub use Rattle.rv_elf.specs.Loading
 pub use Rattle.rv_elf.specs.Rows

@@ -21,7 +21,7 @@ mod saved_report_text;
 mod saved_writer;
 mod signature_lines;
 
-pub use law::{one_text_one_report, whole_text_is_report_text};
+pub use law::{lines_of_a_report_stay, one_text_one_report, whole_text_is_report_text};
 pub use read::{ReadError, read_report};
 pub use report::{Report, Rows, WriteError, write_report};
 pub use row::{Refusal, Row, RowEnd, Verdict, Words};

@@ -6,7 +6,8 @@ ghost use Rattle.rv_report.specs.Saved.{IsSaved, saved_text};
 ghost use Rattle.rv_report.specs.Differences.{count_of_line_feeds, word_after_byte, word_after_letter, begins_last_line, begins_row, can_begin_report_line, read_error_from};
 ghost use Rattle.rv_report.specs.Differences.{read_error_at, BeginsAlike, AnswersUnlessMemory, IsSameReadError};
 ghost use Rattle.rv_report.specs.LenientReport.{lenient_report};
-ghost use Rattle.rv_report.specs.declared.read.ReadError.TheVariants.{OutOfMemory};
+ghost use Rattle.rv_report.specs.LeastLine.{IsLeast, BeginsReport};
+ghost use Rattle.rv_report.specs.declared.read.ReadError.TheVariants.{OutOfMemory, CutOff};
 ghost use Rattle.rv_report.specs.declared.read.FirstWord.TheVariants as word;
 
 use crate::fields::leading_bytes;
@@ -50,6 +51,10 @@ pub fn read_report(alloc: Global, bytes: &[u8]) -> Result<SavedReport, ReadError
     // Up to the place that the error names, the text begins as that of some report.
     ensures err { IfErr result (λ error. (report : Saved) × IsSaved report
         × BeginsAlike error (saved_text report) bytes.now) }
+    // Some report begins with the lines before the one that the error names, and none with those and it.
+    ensures least { IfErr result (λ error. IsLeast error bytes.now) }
+    // A beginning of a report is cut off.
+    ensures cut { BeginsReport bytes.now → IfErr result (λ error. IsSameReadError error CutOff) }
     // The place is that of the first difference from the report of what the lines say.
     ensures place { IfErr result (λ error. IsSameReadError error
         (read_error_from 1 word.Ahead (saved_text (lenient_report bytes.now)) bytes.now)) }

@@ -1,4 +1,6 @@
+use Rattle.std.proofs.Common.{inl, inr, refl}
 use Rattle.rv_command.proofs.SavedRows.{few_rows}
+use Rattle.rv_command.proofs.Told.{told_stop}
 use Rattle.rv_command.proofs.saved_report.parse_report.Goals as goal
 
 pub returns-in-Ok-clause-report : goal.returns-in-Ok-clause-report
@@ -7,3 +9,21 @@ returns-in-Ok-clause-report c =
 
 pub returns-in-Ok-clause-few : goal.returns-in-Ok-clause-few
 returns-in-Ok-clause-few c = few_rows c.in-Ok.report c.in-Ok.ensures.found.0
+
+pub returns-in-Err-OutOfMemory-clause-fault : goal.returns-in-Err-OutOfMemory-clause-fault
+returns-in-Err-OutOfMemory-clause-fault c = record { told = inl refl; cut = λ begins. inl refl }
+
+pub returns-in-Err-CutOff-clause-fault : goal.returns-in-Err-CutOff-clause-fault
+returns-in-Err-CutOff-clause-fault c =
+    let least = rw c.in-Err-CutOff.field-0-is at c.in-Err-CutOff.ensures.least in
+    let told = told_stop _ _ _ _ c.of_refusal.ensures c.path_message-told.ensures in
+    record { told = inr (inr (least, told)); cut = λ begins. told }
+
+pub returns-in-Err-Line-clause-fault : goal.returns-in-Err-Line-clause-fault
+returns-in-Err-Line-clause-fault c =
+    let least = rw c.in-Err-Line.field-0-is at c.in-Err-Line.ensures.least in
+    let cut = rw c.in-Err-Line.field-0-is at c.in-Err-Line.ensures.cut in
+    record {
+      told = inr (inl (c.in-Err-Line.line, least, c.report_line_stop.ensures));
+      cut = λ begins. let other = cut begins in cc;
+    }

@@ -1,5 +1,5 @@
 use Rattle.std.proofs.Common.{◌∙◌}
-use Rattle.rv_report.proofs.Compared.{found_is, only_is, never, err_is, err_of, place_is}
+use Rattle.rv_report.proofs.Compared.{found_is, only_is, never, err_is, err_of, place_is, least_is, cut_is}
 use Rattle.rv_report.proofs.read.read_report.Goals as goal
 
 pub returns-in_err-report-clause-err : goal.returns-in_err-report-clause-err
@@ -32,3 +32,15 @@ returns-else-eq-clause-err c =
     err_is c.args.bytes.now c.as_bytes-text.result.now c.in_ok-report.report c.first_read_error.result
     c.in_ok-report.ensures.value
     written c.first_read_error.ensures
+
+pub returns-else-eq-clause-least : goal.returns-else-eq-clause-least
+returns-else-eq-clause-least c =
+    let written = c.as_bytes-text.ensures.value ∙ c.in_ok-written.ensures in
+    least_is c.args.bytes.now c.as_bytes-text.result.now c.in_ok-report.report c.first_read_error.result
+    c.in_ok-report.ensures.value written c.first_read_error.ensures
+
+pub returns-else-eq-clause-cut : goal.returns-else-eq-clause-cut
+returns-else-eq-clause-cut c =
+    let written = c.as_bytes-text.ensures.value ∙ c.in_ok-written.ensures in
+    cut_is c.args.bytes.now c.as_bytes-text.result.now c.in_ok-report.report c.first_read_error.result
+    c.in_ok-report.ensures.value written c.first_read_error.ensures
