@@ -1,6 +1,7 @@
 -- Lines that end a command.
-use Rattle.std.proofs.Common.{◌≡◌, ◌⊎◌, List, [], ℕ, IfErr, IfOk, Result, Ok, Err, Vec, Global, refl, sym, subst, inl, inr}
+use Rattle.std.proofs.Common.{◌≡◌, ◌⊎◌, ◌∷◌, List, [], ℕ, IfErr, IfOk, Result, Ok, Err, Vec, Global, refl, sym, subst, inl, inr}
 use Rattle.std.specs.declared.alloc.AllocError.{AllocError}
+use Rattle.rv_list_errors.specs.FaultHeads.{fault_head}
 use Rattle.rv_list_errors.specs.Lines.{PutsLines}
 use Rattle.rv_lists.specs.JobList.{job_list_of}
 use Rattle.rv_lists.specs.declared.error.JobError.{JobError}
@@ -22,12 +23,12 @@ told_stop kind told text stop is said =
     subst Tells (sym is) (told_lines kind told text said)
 
 -- lines that tell a fault of a list
-pub fault_stop : (text : List ℕ) (fault : JobError) (told : Result (Vec ℕ Global) AllocError) (stop : Stop)
+pub fault_stop : (path text : List ℕ) (fault : JobError) (told : Result (Vec ℕ Global) AllocError) (stop : Stop)
     → stop ≡ stop_of_lines lines.Refusal told → job_list_of text ≡ Err fault
-    → IfOk told (λ bytes. PutsLines 1 [] bytes.items) → IsListFaultStop text stop
-fault_stop text fault (Ok bytes) stop is refused puts =
+    → IfOk told (λ bytes. PutsLines (fault_head path text) (fault ∷ []) [] bytes.items) → IsListFaultStop path text stop
+fault_stop path text fault (Ok bytes) stop is refused puts =
     inr (fault, refused, (bytes.items, puts, told_stop lines.Refusal (Ok bytes) bytes.items stop is refl))
-fault_stop text fault (Err error) stop is refused puts = inl is
+fault_stop path text fault (Err error) stop is refused puts = inl is
 
 -- what each error says that came
 pub said_of_error : {T E : Type 0} (r : Result T E) (P Q : E → Type 0) → ((e : E) → P e → Q e) → IfErr r P → IfErr r Q

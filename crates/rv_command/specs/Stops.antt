@@ -1,5 +1,5 @@
 -- The statuses of commands that end before their work is done, and what these commands tell.
-use Rattle.std.specs.Prelude.{◌≡◌, ◌⊎◌, ◌<◌, ℕ, List, [], IfSome, IsSomeAnd, Option, None, Result, Ok, Err, Vec, codes, length}
+use Rattle.std.specs.Prelude.{◌≡◌, ◌⊎◌, ◌<◌, ℕ, List, [], ◌∷◌, IfSome, IsSomeAnd, Option, None, Result, Ok, Err, Vec, codes, length}
 use Rattle.std.specs.declared.alloc.AllocError.{AllocError}
 use Rattle.std.specs.declared.alloc.Global.{Global}
 use Rattle.std.specs.declared.io.ErrorKind.{ErrorKind}
@@ -8,6 +8,7 @@ use Rattle.rv_base.specs.Limits.{most_bytes}
 use Rattle.rv_files.specs.IoErrors.{io_error_text}
 use Rattle.rv_files.specs.declared.file_error.FileError.{FileError}
 use Rattle.rv_files.specs.declared.file_error.FileError.TheVariants as file
+use Rattle.rv_list_errors.specs.FaultHeads.{fault_head}
 use Rattle.rv_list_errors.specs.Lines.{PutsLines}
 use Rattle.rv_lists.specs.JobList.{job_list_of}
 use Rattle.rv_lists.specs.declared.error.JobError.{JobError}
@@ -81,10 +82,10 @@ IsListUnreadStop known path stop = IsUnreadStop known path stop
     × IsStop 3 (path_message path (codes "the file has more than 16777216 bytes")) stop)
 
 -- memory was wanting; or a text is no list, and the line of its first fault is told
-abbrev pub IsListFaultStop : List ℕ → Stop → Type 0
-IsListFaultStop text stop = (stop ≡ why.OutOfMemory)
+abbrev pub IsListFaultStop : List ℕ → List ℕ → Stop → Type 0
+IsListFaultStop path text stop = (stop ≡ why.OutOfMemory)
     ⊎ ((fault : JobError) × (job_list_of text ≡ Err fault)
-    × ((told : List ℕ) × PutsLines 1 [] told × IsStop 2 told stop))
+    × ((told : List ℕ) × PutsLines (fault_head path text) (fault ∷ []) [] told × IsStop 2 told stop))
 
 -- ---- reports
 

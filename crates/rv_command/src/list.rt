@@ -35,7 +35,7 @@ pub fn read_list_text<D: Inputs>(inputs: &D, alloc: Global, path: &str) -> Resul
 /// The jobs of a list's text, or what is wrong with the list.
 pub fn parse_list(alloc: Global, path: &str, text: &[u8]) -> Result<JobList, Stop>
     ensures jobs { IfOk result (λ jobs. job_list_of text.now ≡ Ok jobs) }
-    ensures fault { IfErr result (IsListFaultStop text.now) }
+    ensures fault { IfErr result (IsListFaultStop path.now text.now) }
 {
     match read_jobs(alloc, text) {
         Ok(jobs) => Ok(jobs),
@@ -45,7 +45,7 @@ pub fn parse_list(alloc: Global, path: &str, text: &[u8]) -> Result<JobList, Sto
 
 fn list_fault_stop(alloc: Global, path: &str, text: &[u8], fault: JobError) -> Stop
     requires { (fault.what ≡ What.OutOfMemory → ⊥) → job_list_of text.now ≡ Err fault }
-    ensures { IsListFaultStop text.now result }
+    ensures { IsListFaultStop path.now text.now result }
 {
     match fault.what {
         What::OutOfMemory => Stop::OutOfMemory,
