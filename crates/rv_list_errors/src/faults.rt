@@ -1,8 +1,8 @@
 //! The lines of a list's faults.
 
-ghost use Rattle.std.specs.Prelude.{◌++◌, OnOk};
+ghost use Rattle.std.specs.Prelude.{◌++◌, OnOk, length};
 ghost use Rattle.rv_list_errors.specs.FaultHeads.{fault_head, look_place};
-ghost use Rattle.rv_list_errors.specs.Lines.{PutsLines};
+ghost use Rattle.rv_list_errors.specs.Lines.{PutsFaultLines, PutsLines};
 
 use crate::fault_text::{Look, message_of_fault};
 use crate::list::List;
@@ -23,7 +23,10 @@ pub fn push_faults(
     text: &[u8],
     faults: &[JobError],
 ) -> Result<(), AllocError>
-    ensures { OnOk result (PutsLines (fault_head file.now text.now) faults.now bytes.old.items bytes.new.items) }
+    ensures lines { OnOk result (PutsLines (length faults.now) bytes.old.items bytes.new.items) }
+    // Each begins with the path and with the job that the fault is of.
+    ensures heads { OnOk result (PutsFaultLines (fault_head file.now text.now) faults.now
+        bytes.old.items bytes.new.items) }
 {
     match toml::table_from_slice(alloc, text) {
         Ok(table) => {
@@ -47,7 +50,7 @@ fn push_fault_lines(
     look: &Look<'_>,
     faults: &[JobError],
 ) -> Result<(), AllocError>
-    ensures { OnOk result (PutsLines (λ fault. file.now ++ look_place look.now fault.job) faults.now
+    ensures { OnOk result (PutsFaultLines (λ fault. file.now ++ look_place look.now fault.job) faults.now
         bytes.old.items bytes.new.items) }
 {
     for (at, fault) in faults.iter().enumerate() {
