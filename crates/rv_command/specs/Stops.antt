@@ -9,7 +9,7 @@ use Rattle.rv_files.specs.IoErrors.{io_error_text}
 use Rattle.rv_files.specs.declared.file_error.FileError.{FileError}
 use Rattle.rv_files.specs.declared.file_error.FileError.TheVariants as file
 use Rattle.rv_list_errors.specs.FaultHeads.{fault_head}
-use Rattle.rv_list_errors.specs.Lines.{PutsLines}
+use Rattle.rv_list_errors.specs.Lines.{PutsFaultLines}
 use Rattle.rv_lists.specs.JobList.{job_list_of}
 use Rattle.rv_lists.specs.declared.error.JobError.{JobError}
 use Rattle.rv_report.specs.Differences.{count_of_line_feeds}
@@ -85,7 +85,7 @@ IsListUnreadStop known path stop = IsUnreadStop known path stop
 abbrev pub IsListFaultStop : List ℕ → List ℕ → Stop → Type 0
 IsListFaultStop path text stop = (stop ≡ why.OutOfMemory)
     ⊎ ((fault : JobError) × (job_list_of text ≡ Err fault)
-    × ((told : List ℕ) × PutsLines (fault_head path text) (fault ∷ []) [] told × IsStop 2 told stop))
+    × ((told : List ℕ) × PutsFaultLines (fault_head path text) (fault ∷ []) [] told × IsStop 2 told stop))
 
 -- ---- reports
 

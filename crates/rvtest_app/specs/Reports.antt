@@ -18,7 +18,7 @@ use Rattle.rv_job_text.specs.Telling.{explanation_text}
 use Rattle.rv_jobs.specs.Plans.{AreKept, Planned, jobs_needed_for, one_more_times, paths_of, paths_used, unreadable_count}
 use Rattle.rv_jobs.specs.declared.answers.Answer.{Answer}
 use Rattle.rv_list_errors.specs.FaultHeads.{fault_head}
-use Rattle.rv_list_errors.specs.Lines.{PutsLines}
+use Rattle.rv_list_errors.specs.Lines.{PutsFaultLines}
 use Rattle.rv_lists.specs.JobList.{job_list_of}
 use Rattle.rv_lists.specs.ListFaults.{list_faults}
 use Rattle.rv_lists.specs.declared.error.JobError.{JobError}
@@ -77,7 +77,7 @@ pub record IsPlanCheckOf (known : Option FileContents) (path bytes output : List
 abbrev pub IsCheckOf : Option FileContents → List JobError → List ℕ → List ℕ → List ℕ → ℕ → Type 0
 IsCheckOf known [] path bytes output status = IsPlanCheckOf known path bytes output status
 IsCheckOf known (fault ∷ faults) path bytes output status =
-    PutsLines (fault_head path bytes) (fault ∷ faults) [] output × (status ≡ 2)
+    PutsFaultLines (fault_head path bytes) (fault ∷ faults) [] output × (status ≡ 2)
 
 -- the same of the list at the path that words name
 pub record IsCheckAt (known : Option FileContents) (words : CheckAsked) (output : List ℕ) (status : ℕ) : Type 0 where

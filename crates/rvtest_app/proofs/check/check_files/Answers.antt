@@ -8,7 +8,7 @@ returns-clause-plan g c =
     IfOk-both c.check_plan.result _ _ _
     (λ found text judged. record {
       plan = c.in_ok-plan.plan;
-      listed = rw gathered.jobs c.in_ok-jobs.ensures;
+      listed = rw gathered.jobs c.in_ok-jobs.ensures.jobs;
       paths = rw gathered.jobs gathered.paths;
       kept = rw (c.new-store.ensures.inputs, c.new-store.ensures.folder) at gathered.kept;
       unread = c.unread_paths.result.now;
