@@ -1,7 +1,9 @@
 //! The whole program, over files, sinks and terminals.
 
-ghost use Rattle.std.specs.Prelude.{◌≤◌, IfOk, map};
+ghost use Rattle.std.specs.Prelude.{◌≡◌, ◌⊎◌, ◌≤◌, IfOk, map};
+ghost use Rattle.rv_command.specs.Messages.{IsMessagePut};
 ghost use Rattle.rvtest_app.specs.Answers.{IsAnswered, IsDone};
+ghost use Rattle.rvtest_app.specs.ToldStops.{IsStopTold, unreadable_words_message, unreadable_words_status};
 
 use crate::check::check_list;
 use crate::destinations::Destinations;
@@ -45,6 +47,11 @@ pub fn run_rvtest<
     ensures answered { result.1 ≤ 1 → IsAnswered (D.contents host.now.inputs.now) (map T.text words.entry.now)
         result.1 (O.taken to.out) (O.taken result.0.out) (E.taken to.errors) (E.taken result.0.errors)
         (F.placed to.files) (F.placed result.0.files) }
+    // Else the command ended before its work was done, and why is told.
+    ensures ended { IsAnswered (D.contents host.now.inputs.now) (map T.text words.entry.now)
+        result.1 (O.taken to.out) (O.taken result.0.out) (E.taken to.errors) (E.taken result.0.errors)
+        (F.placed to.files) (F.placed result.0.files)
+        ⊎ IsStopTold E.taken E.failed result.1 result.0.errors }
 {
     let (mut to, answer) = answer_words(host, words, to, terminals);
     match answer {
@@ -123,7 +130,10 @@ fn run_subcommand<
 
 /// The status of words that the process doesn't give: words that aren't UTF-8 are refused.
 pub fn refuse_unreadable_words<E: Sink>(error: &io::Error, errors: &mut E) -> u8
-    ensures { result ≤ 3 }
+    ensures low { result ≤ 3 }
+    ensures status { result ≡ unreadable_words_status (error_kind error.now) }
+    ensures told { IsMessagePut (E.taken errors.old) (E.taken errors.new) (E.failed errors.old) (E.failed errors.new)
+        (unreadable_words_message (error_kind error.now)) }
 {
     match error.kind() {
         ErrorKind::OutOfMemory => put_stop_message(errors, Stop::OutOfMemory),
