@@ -124,10 +124,14 @@ check_app = with_rule (list_app (codes "check")) (option_rule (codes "root"))
 abbrev pub merge_app : App
 merge_app = with_files (with_rule (new_app (codes "merge")) parts_rule)
 
--- diff <OLD> <NEW> [--steps]
+-- the most percent by which a job may be asked to be slower
+abbrev pub most_slower : ℕ
+most_slower = 1000
+
+-- diff <OLD> <NEW> [--steps | --slower <N>]
 abbrev pub diff_app : App
-diff_app = with_rule (with_rule (with_rule (new_app (codes "diff")) (word_rule (codes "old")))
-    (word_rule (codes "new"))) (flag_rule (codes "steps"))
+diff_app = with_rule (with_rule (with_rule (with_rule (new_app (codes "diff")) (word_rule (codes "old")))
+    (word_rule (codes "new"))) (flag_rule (codes "steps"))) (number_rule (codes "slower") (pos 0) (pos most_slower) [])
 
 -- show <REPORT> [--junit <FILE>] [--lenient]
 abbrev pub show_app : App

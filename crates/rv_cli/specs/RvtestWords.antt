@@ -9,7 +9,7 @@ use Rattle.clap.specs.Kinds.{or_else}
 use Rattle.clap.specs.Words.{FailsBy, Kinds, Row, Text, fault_of, first_of, subcommand_of}
 use Rattle.clap.specs.declared.error.kind.ErrorKind.TheVariants as kind
 use Rattle.rv_base.specs.Limits.{most_group, most_workers}
-use Rattle.rv_cli.specs.RvtestCommand.{most_last_instructions, test_app}
+use Rattle.rv_cli.specs.RvtestCommand.{most_last_instructions, most_slower, test_app}
 use Rattle.rv_cli.specs.declared.rvtest.refusals.Misuse.{Misuse}
 use Rattle.rv_cli.specs.declared.rvtest.refusals.Misuse.TheVariants as misuse
 use Rattle.rv_cli.specs.Values.{argument_values, is_flag_set, is_option_given, number_value}
@@ -56,14 +56,14 @@ pub record MergeWords : Type 0 where
   pub lenient : Bool
 
 -- to run jobs; to explain one; to say all that is wrong with a list, whose paths are taken from a
--- folder; to merge parts; to compare two reports, with their steps or without; to show one, with
+-- folder; to merge parts; to compare two reports, with their steps or without, or by which jobs are slower; to show one, with
 -- the path of a JUnit file, by the lenient rule or the strict one
 pub data Words : Type 0 where
   run : RunWords → Words
   explain : ExplainWords → Words
   check : Text → Option Text → Words
   merge : MergeWords → Words
-  diff : Text → Text → Bool → Words
+  diff : Text → Text → Bool → Option ℕ → Words
   show : Text → Option Text → Bool → Words
 
 -- what the values of `run` ask for, of a list, in pieces of so many jobs
@@ -117,7 +117,8 @@ merge_request rows = merge (record {
 
 abbrev pub diff_request : List Row → Option Words
 diff_request rows = option_and_then (λ old. option_map (λ new. diff old new
-    (is_flag_set (codes "steps") rows)) (first_of (codes "new") rows)) (first_of (codes "old") rows)
+    (is_flag_set (codes "steps") rows) (number_value (codes "slower") 0 most_slower rows))
+    (first_of (codes "new") rows)) (first_of (codes "old") rows)
 
 abbrev pub show_request : List Row → Option Words
 show_request rows = option_map (λ report. show report (first_of (codes "junit") rows)
@@ -168,6 +169,11 @@ run_misuse rows = if is_flag_set (codes "verbose") rows && is_flag_set (codes "q
     then Some misuse.StampAlone
     else one_file_misuse rows
 
+-- steps are compared exactly, or by which jobs are slower
+abbrev pub diff_misuse : List Row → Option Misuse
+diff_misuse rows = if is_flag_set (codes "steps") rows && is_option_given (codes "slower") rows
+    then Some misuse.StepsAndSlower else None
+
 abbrev pub misuse_kinds : Option Misuse → Kinds
 misuse_kinds None = []
 misuse_kinds (Some misuse.StampAlone) = kind.MissingRequiredArgument ∷ []
@@ -179,6 +185,7 @@ misuse_text misuse.VerboseAndQuiet = codes "the argument '--verbose' cannot be u
 misuse_text misuse.ShardAndChoice =
     codes "the argument '--shard <K/N>' cannot be used with '--only <NAME>', '--match <REGEX>' or '--failed <REPORT>'"
 misuse_text misuse.StampAlone = codes "the argument '--stamp <TEXT>' cannot be used without '--shard <K/N>'"
+misuse_text misuse.StepsAndSlower = codes "the argument '--steps' cannot be used with '--slower <N>'"
 misuse_text misuse.OneFile =
     codes "the argument '--report <FILE>' cannot be used with '--junit <FILE>' of the same name: it is one file"
 
@@ -186,6 +193,7 @@ misuse_text misuse.OneFile =
 abbrev pub subcommand_fault_kinds : Text → List Row → Kinds
 subcommand_fault_kinds name rows = if bytes_eq name (codes "run") then misuse_kinds (run_misuse rows)
     else if bytes_eq name (codes "merge") then misuse_kinds (one_file_misuse rows)
+    else if bytes_eq name (codes "diff") then misuse_kinds (diff_misuse rows)
     else []
 
 -- those of the subcommand that was met
@@ -242,7 +250,7 @@ asked_words (asked.Run value) = run (run_asked_words value)
 asked_words (asked.Explain value) = explain (explain_asked_words value)
 asked_words (asked.Check value) = check value.list.now (borrowed_text value.root)
 asked_words (asked.Merge value) = merge (merge_asked_words value)
-asked_words (asked.Diff value) = diff value.old.now value.new.now value.steps
+asked_words (asked.Diff value) = diff value.old.now value.new.now value.steps value.slower
 asked_words (asked.Show value) = show value.report.now (borrowed_text value.junit) value.lenient
 
 -- each number is within the range of its argument
@@ -250,6 +258,7 @@ abbrev pub IsAskedInRange : Asked → Type 0
 IsAskedInRange (asked.Run value) = IfSome value.workers (λ number. (1 ≤ number) × (number ≤ most_workers))
     × (1 ≤ value.group) × (value.group ≤ most_group) × IfSome value.last (λ number. number ≤ most_last_instructions)
 IsAskedInRange (asked.Explain value) = value.last ≤ most_last_instructions
+IsAskedInRange (asked.Diff value) = IfSome value.slower (λ percent. percent ≤ most_slower)
 IsAskedInRange _ = Unit {0}
 
 -- what is asked for is what these words are, with numbers in their ranges

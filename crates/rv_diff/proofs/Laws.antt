@@ -32,7 +32,7 @@ unfolding change_lines rows_agree
 agree_where_none compare old new =
     let ending = change_line new.name (are_same_endings compare old.ending new.ending)
     (becomes (ending_words old.ending) (ending_words new.ending)) in
-    let counts = change_line new.name (agree_in_steps compare old new) (steps_words old.steps new.steps) in
+    let counts = change_line new.name (agree_in_steps compare old new) (steps_words compare old.steps new.steps) in
     let console = change_line new.name (have_same_console old new) (console_words old.console new.console) in
     let signature = change_line new.name (are_same_signatures old.signature new.signature)
     (signature_words old.signature new.signature) in
@@ -44,7 +44,7 @@ agree_where_none compare old new =
     ∙ ap (λ b. b && (length console == 0)) (no_text ending counts)))
     ∙ (λ i. change_due new.name (are_same_endings compare old.ending new.ending)
     (becomes (ending_words old.ending) (ending_words new.ending)) i
-    && change_due new.name (agree_in_steps compare old new) (steps_words old.steps new.steps) i
+    && change_due new.name (agree_in_steps compare old new) (steps_words compare old.steps new.steps) i
     && change_due new.name (have_same_console old new) (console_words old.console new.console) i
     && change_due new.name (are_same_signatures old.signature new.signature)
     (signature_words old.signature new.signature) i

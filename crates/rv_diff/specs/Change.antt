@@ -1,5 +1,5 @@
 -- Whether two rows of one name agree, and what became of a job from one report to another.
-use Rattle.std.specs.Prelude.{◌==◌, ◌&&◌, Bool, true, Option, Some, None, if◌then◌else◌}
+use Rattle.std.specs.Prelude.{◌==◌, ◌&&◌, ◌*◌, ◌-◌, ℕ, Bool, true, nat_lt, not, Option, Some, None, if◌then◌else◌}
 use Rattle.std.specs.Str.{bytes_eq}
 use Rattle.rv_rows.specs.declared_row.Row.{Row}
 use Rattle.rv_rows.specs.declared_row.RowEnd.{RowEnd}
@@ -9,7 +9,7 @@ use Rattle.rv_rows.specs.Report.{refusal_name, verdict_name}
 use Rattle.rv_rows.specs.Verdict.{are_alike_endings, are_same_signatures}
 use Rattle.rv_diff.specs.declared.change.Change.{Change}
 use Rattle.rv_diff.specs.declared.change.Compare.{Compare}
-use Rattle.rv_diff.specs.declared.change.Compare.TheVariants.{Outcomes, Steps}
+use Rattle.rv_diff.specs.declared.change.Compare.TheVariants.{Outcomes, Slower, Steps}
 use Rattle.rv_diff.specs.declared.change.Change.TheVariants.{Gone, Added, Changed, Same}
 
 -- ---- which rows differ
@@ -29,11 +29,17 @@ agree_in_fault_pc_and_value old new = true
 -- where steps are not compared, nor are the addresses and the values of faults
 abbrev pub are_same_endings : Compare → RowEnd → RowEnd → Bool
 are_same_endings Outcomes old new = are_same_end_kinds old new
+are_same_endings (Slower percent) old new = are_same_end_kinds old new
 are_same_endings Steps old new = are_same_end_kinds old new && agree_in_fault_pc_and_value old new
+
+-- a job takes more steps than it took, by more than so many percent of these
+abbrev pub is_slower : ℕ → ℕ → ℕ → Bool
+is_slower percent old new = nat_lt (old * percent) ((new - old) * 100)
 
 abbrev pub agree_in_steps : Compare → Row → Row → Bool
 agree_in_steps Outcomes old new = true
 agree_in_steps Steps old new = old.steps == new.steps
+agree_in_steps (Slower percent) old new = not (is_slower percent old.steps new.steps)
 
 abbrev pub have_same_console : Row → Row → Bool
 have_same_console old new = bytes_eq old.console new.console

@@ -1,12 +1,14 @@
 -- Two reports, row by row: jobs that only one has, and jobs whose rows differ.
 use Rattle.std.specs.Prelude.{◌+◌, ℕ, Bool, false, not, is_none, List, [], ◌++◌, Option, Some, None}
-use Rattle.std.specs.Prelude.{codes, count_by, length}
+use Rattle.std.specs.Prelude.{codes, count_by, length, sum_by}
 use Rattle.std.specs.Fmt.{decimal}
 use Rattle.std.specs.List.{flat_map}
 use Rattle.rv_rows.specs.declared_row.Row.{Row}
 use Rattle.rv_rows.specs.Report.{line}
 use Rattle.rv_diff.specs.declared.diff.Differing.{Differing}
+use Rattle.rv_diff.specs.declared.diff.StepSums.{StepSums}
 use Rattle.rv_diff.specs.declared.change.Compare.{Compare}
+use Rattle.rv_diff.specs.declared.change.Compare.TheVariants.{Outcomes, Slower, Steps}
 use Rattle.rv_diff.specs.ByName.{row_named}
 use Rattle.rv_diff.specs.Change.{rows_agree}
 use Rattle.rv_diff.specs.Differences.{change_lines}
@@ -50,17 +52,32 @@ difference_lines compare old new =
 
 unfoldable pub change_counts_words : Differing → List ℕ
 change_counts_words counts = decimal counts.gone ++ codes " gone, " ++ decimal counts.added
-    ++ codes " new, " ++ decimal counts.changed ++ codes " changed\n"
+    ++ codes " new, " ++ decimal counts.changed ++ codes " changed"
 
 -- so many of so many jobs
 unfoldable pub differing_words : ℕ → ℕ → List ℕ
 differing_words count jobs = decimal count ++ codes " of " ++ decimal jobs
     ++ codes " jobs differ: "
 
-unfoldable pub count_line : ℕ → Differing → List ℕ
-count_line jobs counts = differing_words (differing_count counts) jobs ++ change_counts_words counts
+-- the steps of all rows of each report, where it is asked which jobs are slower
+abbrev pub total_steps : List Row → ℕ
+total_steps rows = sum_by (λ row. row.steps) rows
+
+abbrev pub step_sums : Compare → List Row → List Row → Option StepSums
+step_sums Outcomes old new = None
+step_sums Steps old new = None
+step_sums (Slower percent) old new = Some record { old = total_steps old; new = total_steps new }
+
+abbrev pub sums_words : Option StepSums → List ℕ
+sums_words None = []
+sums_words (Some sums) = codes ", steps " ++ decimal sums.old ++ codes " -> " ++ decimal sums.new
+
+unfoldable pub count_line : ℕ → Differing → Option StepSums → List ℕ
+count_line jobs counts sums = line (differing_words (differing_count counts) jobs ++ change_counts_words counts
+    ++ sums_words sums)
 
 -- the jobs are those that are in either report
 unfoldable pub diff_text : Compare → List Row → List Row → List ℕ
 diff_text compare old new = let counts = counts_of_differing compare old new in
-    difference_lines compare old new ++ count_line (length new + counts.gone) counts
+    difference_lines compare old new
+    ++ count_line (length new + counts.gone) counts (step_sums compare old new)

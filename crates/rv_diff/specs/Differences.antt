@@ -1,5 +1,5 @@
 -- What differs between two rows of one name.
-use Rattle.std.specs.Prelude.{◌==◌, ℕ, Bool, not, List, [], ◌++◌, Option, Some, None}
+use Rattle.std.specs.Prelude.{◌==◌, ◌*◌, ◌-◌, ◌/◌, ℕ, Bool, not, List, [], ◌++◌, Option, Some, None}
 use Rattle.std.specs.Prelude.{if◌then◌else◌, codes, drop, length, position, slice_index}
 use Rattle.std.specs.Fmt.{decimal}
 use Rattle.std.specs.List.{zip}
@@ -13,6 +13,7 @@ use Rattle.rv_rows.specs.Report.{line, refusal_name, verdict_name}
 use Rattle.rv_text.specs.Words.{word_digits}
 use Rattle.rv_rows.specs.Verdict.{are_same_signatures}
 use Rattle.rv_diff.specs.declared.change.Compare.{Compare}
+use Rattle.rv_diff.specs.declared.change.Compare.TheVariants.{Outcomes, Slower, Steps}
 use Rattle.rv_diff.specs.Change.{have_same_console, are_same_endings, agree_in_steps, are_same_verdicts}
 
 -- ---- what changed
@@ -70,8 +71,16 @@ signature_change_words old new = becomes (size_words old) (size_words new)
 unfoldable pub signature_words : Option (List ℕ) → Option (List ℕ) → List ℕ
 signature_words old new = codes "signature " ++ signature_change_words old new
 
-abbrev pub steps_words : ℕ → ℕ → List ℕ
-steps_words old new = codes "steps " ++ becomes (decimal old) (decimal new)
+-- by how many percent of the old steps there are more, where that is asked
+abbrev pub percent_words : Compare → ℕ → ℕ → List ℕ
+percent_words Outcomes old new = []
+percent_words Steps old new = []
+percent_words (Slower percent) old new =
+    if old == 0 then [] else codes " (+" ++ decimal ((new - old) * 100 / old) ++ codes " %)"
+
+abbrev pub steps_words : Compare → ℕ → ℕ → List ℕ
+steps_words compare old new =
+    codes "steps " ++ becomes (decimal old) (decimal new) ++ percent_words compare old new
 
 abbrev pub verdict_words : Verdict → Verdict → List ℕ
 verdict_words old new = codes "verdict " ++ becomes (verdict_name old) (verdict_name new)
@@ -90,7 +99,8 @@ unfoldable pub change_lines : Compare → Row → Row → List ℕ
 change_lines compare old new =
     change_line new.name (are_same_endings compare old.ending new.ending)
     (becomes (ending_words old.ending) (ending_words new.ending))
-    ++ change_line new.name (agree_in_steps compare old new) (steps_words old.steps new.steps)
+    ++ change_line new.name (agree_in_steps compare old new)
+    (steps_words compare old.steps new.steps)
     ++ change_line new.name (have_same_console old new) (console_words old.console new.console)
     ++ change_line new.name (are_same_signatures old.signature new.signature)
     (signature_words old.signature new.signature)

@@ -2,7 +2,7 @@
 
 ghost use Rattle.std.specs.Prelude.{◌≡◌, option_map};
 ghost use Rattle.rv_diff.specs.Change.{change_of, rows_agree, have_same_console, are_same_endings, are_same_end_kinds, agree_in_fault_pc_and_value};
-ghost use Rattle.rv_diff.specs.Change.{agree_in_steps, are_same_verdicts};
+ghost use Rattle.rv_diff.specs.Change.{agree_in_steps, are_same_verdicts, is_slower};
 
 use rv_rows::{Row, RowEnd, Verdict, are_alike_endings, are_same_signatures};
 
@@ -26,6 +26,8 @@ pub enum Compare {
     Outcomes,
     /// Steps as well, and the addresses and values of faults.
     Steps,
+    /// Whether a job takes more steps than before by more than so many percent.
+    Slower(u32),
 }
 
 /// What became of a job, by its rows in two reports.
@@ -59,7 +61,7 @@ pub fn are_same_endings(compare: Compare, old: RowEnd, new: RowEnd) -> bool
     ensures { result ≡ are_same_endings compare old new }
 {
     match compare {
-        Compare::Outcomes => are_same_end_kinds(old, new),
+        Compare::Outcomes | Compare::Slower(_) => are_same_end_kinds(old, new),
         Compare::Steps => are_same_end_kinds(old, new) && agree_in_fault_pc_and_value(old, new),
     }
 }
@@ -82,14 +84,22 @@ fn agree_in_fault_pc_and_value(old: RowEnd, new: RowEnd) -> bool
     }
 }
 
-/// Whether two rows have the same steps, where these are compared.
+/// Whether two rows have the same steps, or new ones that are not slower, where these are compared.
 pub fn agree_in_steps(compare: Compare, old: &Row, new: &Row) -> bool
     ensures { result ≡ agree_in_steps compare old.now new.now }
 {
     match compare {
         Compare::Outcomes => true,
         Compare::Steps => old.steps == new.steps,
+        Compare::Slower(percent) => !is_slower(percent, old.steps, new.steps),
     }
+}
+
+fn is_slower(percent: u32, old: u32, new: u32) -> bool
+    ensures { result ≡ is_slower percent old new }
+{
+    let more = u64::from(new.saturating_sub(old)) * 100;
+    u64::from(old) * u64::from(percent) < more
 }
 
 /// Whether two rows have the same console.

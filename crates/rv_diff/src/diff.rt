@@ -5,13 +5,13 @@ ghost use Rattle.std.specs.List.{flat_map};
 ghost use Rattle.rv_rows.specs.Report.{line};
 ghost use Rattle.rv_diff.specs.ByName.{row_named};
 ghost use Rattle.rv_diff.specs.Diff.{count_line, diff_text, counts_of_differing, differing_count, gone_line, is_alone_in};
-ghost use Rattle.rv_diff.specs.Diff.{is_changed, changes_of_row};
+ghost use Rattle.rv_diff.specs.Diff.{change_counts_words, changes_of_row, differing_words, is_changed, step_sums, sums_words, total_steps};
 
 use crate::by_name::ByName;
 use crate::change::{Change, Compare, change_of};
 use crate::differences::push_change_lines;
 use rv_rows::Row;
-use rv_text::{Span, push_spans};
+use rv_text::{Span, push_spans, push_text};
 use std::alloc::{AllocError, Global};
 
 /// How many jobs of two reports differ.
@@ -32,6 +32,13 @@ impl Differing {
     {
         self.gone != 0 || self.added != 0 || self.changed != 0
     }
+}
+
+/// The steps of all rows of two reports.
+#[derive(Clone, Copy)]
+pub struct StepSums {
+    pub old: u64,
+    pub new: u64,
 }
 
 /// Appends in what the rows of two reports differ: `- NAME` for a job that only the old one has, in its order, then in the
@@ -58,8 +65,32 @@ pub fn push_diff(
         added,
         changed,
     };
-    push_count_line(text, new.len() + gone, counts)?;
+    let sums = step_sums(compare, old, new);
+    push_count_line(text, new.len() + gone, counts, sums)?;
     Ok(counts)
+}
+
+// The steps of all rows, where it is asked which jobs are slower.
+fn step_sums(compare: Compare, old: &[Row], new: &[Row]) -> Option<StepSums>
+    requires old { length old.now < 2 ^ 32 }
+    requires new { length new.now < 2 ^ 32 }
+    ensures { result ≡ step_sums compare old.now new.now }
+{
+    match compare {
+        Compare::Outcomes | Compare::Steps => None,
+        Compare::Slower(_) => Some(StepSums {
+            old: total_steps(old),
+            new: total_steps(new),
+        }),
+    }
+}
+
+// No row has more steps than a budget allows, so the sum has room.
+fn total_steps(rows: &[Row]) -> u64
+    requires { length rows.now < 2 ^ 32 }
+    ensures { result ≡ total_steps rows.now }
+{
+    rows.iter().map(|row| u64::from(row.steps)).sum()
 }
 
 // Appends the lines of the jobs that are gone, and counts these.
@@ -146,10 +177,43 @@ fn push_sign_line<'a>(text: &mut Vec<u8>, sign: &'a str, row: &'a Row) -> Result
     )
 }
 
-// Appends how many of so many jobs differ.
-fn push_count_line(text: &mut Vec<u8>, jobs: usize, counts: Differing) -> Result<(), AllocError>
+// Appends how many of so many jobs differ, and the steps of both reports where they are asked.
+#[tactic(auto, unfolding(crate::specs::Diff::count_line))]
+fn push_count_line(
+    text: &mut Vec<u8>,
+    jobs: usize,
+    counts: Differing,
+    sums: Option<StepSums>,
+) -> Result<(), AllocError>
     requires { differing_count counts < 2 ^ 64 }
-    ensures { OnOk result (text.new.items ≡ text.old.items ++ count_line jobs counts) }
+    ensures { OnOk result (text.new.items ≡ text.old.items ++ count_line jobs counts sums) }
+{
+    push_counts(text, jobs, counts)?;
+    push_step_sums(text, sums)?;
+    push_text(text, "\n")
+}
+
+fn push_step_sums(text: &mut Vec<u8>, sums: Option<StepSums>) -> Result<(), AllocError>
+    ensures { OnOk result (text.new.items ≡ text.old.items ++ sums_words sums) }
+{
+    match sums {
+        Some(sums) => push_spans(
+            text,
+            &[
+                Span::Text(", steps "),
+                Span::Number(sums.old),
+                Span::Text(" -> "),
+                Span::Number(sums.new),
+            ],
+        ),
+        None => Ok(()),
+    }
+}
+
+fn push_counts(text: &mut Vec<u8>, jobs: usize, counts: Differing) -> Result<(), AllocError>
+    requires { differing_count counts < 2 ^ 64 }
+    ensures { OnOk result (text.new.items ≡ text.old.items
+        ++ (differing_words (differing_count counts) jobs ++ change_counts_words counts)) }
 {
     let count = counts.gone + counts.added + counts.changed;
     push_spans(
@@ -164,7 +228,7 @@ fn push_count_line(text: &mut Vec<u8>, jobs: usize, counts: Differing) -> Result
             Span::Number(counts.added as u64),
             Span::Text(" new, "),
             Span::Number(counts.changed as u64),
-            Span::Text(" changed\n"),
+            Span::Text(" changed"),
         ],
     )
 }

@@ -3,14 +3,14 @@
 ghost use Rattle.std.specs.Prelude.{◌≡◌, ◌++◌, OnOk};
 ghost use Rattle.rv_diff.specs.Change.{have_same_console, are_same_endings, agree_in_steps, are_same_verdicts};
 ghost use Rattle.rv_diff.specs.Differences.{becomes, change_line, change_lines, console_words};
-ghost use Rattle.rv_diff.specs.Differences.{ending_words, first_differing_place, steps_words, verdict_words};
+ghost use Rattle.rv_diff.specs.Differences.{ending_words, first_differing_place, percent_words, steps_words, verdict_words};
 
 use crate::change::{
     Compare, agree_in_steps, are_same_endings, are_same_verdicts, have_same_console,
 };
 use crate::signature_line::push_signature_change;
 use rv_rows::{Row, RowEnd};
-use rv_text::{Span, push_spans, tail_from};
+use rv_text::{Span, push_spans, push_text, tail_from};
 use std::alloc::AllocError;
 
 /// Appends a line for each part in which two rows do not agree.
@@ -103,7 +103,7 @@ fn push_steps_change(
 ) -> Result<(), AllocError>
     ensures { OnOk result (text.new.items ≡ text.old.items
         ++ change_line new.now.name (agree_in_steps compare old.now new.now)
-        (steps_words old.now.steps new.now.steps)) }
+        (steps_words compare old.now.steps new.now.steps)) }
 {
     if agree_in_steps(compare, old, new) {
         return Ok(());
@@ -119,9 +119,26 @@ fn push_steps_change(
             Span::Number(u64::from(before)),
             Span::Text(" -> "),
             Span::Number(u64::from(after)),
-            Span::Text("\n"),
         ],
-    )
+    )?;
+    push_percent(text, compare, before, after)?;
+    push_text(text, "\n")
+}
+
+// Appends by how many percent of the old steps there are more, where that is asked.
+fn push_percent(text: &mut Vec<u8>, compare: Compare, old: u32, new: u32) -> Result<(), AllocError>
+    ensures { OnOk result (text.new.items ≡ text.old.items ++ percent_words compare old new) }
+{
+    match compare {
+        Compare::Slower(_) if old != 0 => {
+            let more = u64::from(new.saturating_sub(old)) * 100 / u64::from(old);
+            push_spans(
+                text,
+                &[Span::Text(" (+"), Span::Number(more), Span::Text(" %)")],
+            )
+        }
+        _ => Ok(()),
+    }
 }
 
 // The line tells from which byte on two consoles differ, or their lengths where one is the beginning of the other.

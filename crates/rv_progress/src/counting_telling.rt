@@ -11,14 +11,25 @@ use std::time::Clock;
 
 /// Tells what another telling tells, and counts each row that is told.
 #[derive(Drop)]
-pub struct CountingTelling<'a, R: Clock + Wait, T: Telling, W: Drop> {
-    rt: &'a R,
-    telling: &'a T,
-    progress: &'a Progress<W>,
+pub struct CountingTelling<'r, 't, 'p, R: Clock + Wait, T: Telling, W: Drop> {
+    rt: &'r R,
+    telling: &'t T,
+    progress: &'p Progress<W>,
 }
 
-impl<'a, R: Clock + Wait, T: Telling, W: Write + Drop> CountingTelling<'a, R, T, W> {
-    pub fn new(rt: &'a R, telling: &'a T, progress: &'a Progress<W>) -> CountingTelling<'a, R, T, W>
+impl<'r, 't, 'p, R: Clock + Wait, T: Telling, W: Write + Drop> CountingTelling<
+    'r,
+    't,
+    'p,
+    R,
+    T,
+    W,
+> {
+    pub fn new(
+        rt: &'r R,
+        telling: &'t T,
+        progress: &'p Progress<W>,
+    ) -> CountingTelling<'r, 't, 'p, R, T, W>
         ensures { result.telling.now ≡ telling.now }
     {
         CountingTelling {
@@ -29,7 +40,8 @@ impl<'a, R: Clock + Wait, T: Telling, W: Write + Drop> CountingTelling<'a, R, T,
     }
 }
 
-impl<'a, R: Clock + Wait, T: Telling, W: Write + Drop> Telling for CountingTelling<'a, R, T, W> {
+impl<'r, 't, 'p, R: Clock + Wait, T: Telling, W: Write + Drop> Telling
+    for CountingTelling<'r, 't, 'p, R, T, W> {
     ghost line = { λ counting place row. T.line counting.telling.now place row };
 
     fn push_row_text(

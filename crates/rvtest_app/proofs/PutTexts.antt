@@ -1,13 +1,15 @@
 -- What outlets took, by the paths that they are for.
 use Rattle.std.proofs.Common.{◌≡◌, ◌∙◌, ◌++◌, ◌∷◌, ℕ, List, [], Option, Some, None, ap, refl, sym}
-use Rattle.std.proofs.Common.{append-nil, arith, length, map}
+use Rattle.std.proofs.Common.{append-nil, arith, inr, length, map}
 use Rattle.std.proofs.lemmas.Grind.{common_steps}
 use Rattle.std.specs.Io.KnownBytes.{Appends}
 use Rattle.rv_base.specs.Sinks.{AppendsBeginning}
 use Rattle.rv_files.specs.Placed.{PlacedFile}
-use Rattle.rvtest_app.specs.Outlets.{AreFilesPlaced, HasTaken, IsPutInto, both_files, file_at, files_of, has_no_failure, is_out, is_stdout_at}
+use Rattle.rvtest_app.specs.Outlets.{AreFilesPlaced, AreFilesPlacedInPart, HasTaken, IsPutInto, both_files, file_at, files_of, has_no_failure, is_out, is_stdout_at}
 use Rattle.rvtest_app.specs.Outlets.{stdout_at, stdout_part}
 use Rattle.rv_report.specs.declared.row.Row.{Row}
+use Rattle.rv_expect.specs.declared.passing.Rule.{Rule}
+use Rattle.rv_junit.specs.Junit.{junit_text}
 use Rattle.rv_stream.specs.Streams.{row_text_list}
 use Rattle.rvtest_app.specs.declared.outlets.Outlet.{Outlet}
 use Rattle.rvtest_app.specs.declared.outlets.Outlet.TheVariants as outlet
@@ -81,6 +83,34 @@ module _ {P W : Type 0} (place_path : P → List ℕ) (taken : W → Option (Lis
         file_told placed junit_path junit junit_after jt hj pj,
         file_told placed report_path report report_after rt hr pr,
       ) at are
+
+  -- the first file stands in its place alone, where it is told which do
+  pub first_placed : (before after : Option (List PlacedFile)) (path : Option (List ℕ)) (o o_after : Outlet P W)
+      (text : List ℕ) → HasTaken place_path taken failed before path [] o → IsPutInto taken failed o o_after text
+      → AreFilesPlacedInPart before after (files_of place_path taken o_after)
+      → AreFilesPlacedInPart before after (Some (file_at path text))
+  first_placed None after path o o_after text has put are = inr tt
+  first_placed (Some placed) after path o o_after text has put are =
+      rw (file_told placed path o o_after text has put) at are
+
+-- files of equal texts
+pub placed_same : (before after : Option (List PlacedFile)) (junit_path report_path : Option (List ℕ))
+    (junit other_junit report other_report : List ℕ)
+    → AreFilesPlaced before after (Some (file_at junit_path junit ++ file_at report_path report))
+    → junit ≡ other_junit → report ≡ other_report
+    → AreFilesPlaced before after (Some (file_at junit_path other_junit ++ file_at report_path other_report))
+placed_same before after junit_path report_path junit other_junit report other_report are e f = rw (e, f) at are
+
+pub part_same : (before after : Option (List PlacedFile)) (path : Option (List ℕ)) (text other : List ℕ)
+    → AreFilesPlacedInPart before after (Some (file_at path text)) → text ≡ other
+    → AreFilesPlacedInPart before after (Some (file_at path other))
+part_same before after path text other are e = rw e at are
+
+-- JUnit's documents of one suite, with lines that are equal
+pub same_junit : (name other : List ℕ) (rule : Rule) (line told : ℕ → Row → List ℕ) (places : List ℕ) (rows : List Row)
+    → name ≡ other → line ≡ told
+    → junit_text name rule (row_text_list line places rows) rows ≡ junit_text other rule (row_text_list told places rows) rows
+same_junit name other rule line told places rows e f = rw (e, f) refl
 
 -- nothing went out
 pub appends_nothing : (known : Option (List ℕ)) → Appends known known []

@@ -21,6 +21,10 @@ pub OnErr-from : {X Y : Type 0} (r : Result X Y) (P : Type 0) → P → OnErr r 
 OnErr-from (Ok x) P p = tt
 OnErr-from (Err e) P p = p
 
+pub OnErr-map : {X Y : Type 0} (r : Result X Y) (P Q : Type 0) → (P → Q) → OnErr r P → OnErr r Q
+OnErr-map (Ok x) P Q f p = tt
+OnErr-map (Err e) P Q f p = f p
+
 -- what holds of a value, if there is one
 pub IfSome-map : {X : Type 0} (o : Option X) (P Q : X → Type 0) → ((x : X) → P x → Q x) → IfSome o P → IfSome o Q
 IfSome-map (Some x) P Q f p = f x p

@@ -4,7 +4,6 @@ use Rattle.std.specs.Borrow.{Bor}
 use Rattle.rv_base.specs.Files.{FileContents}
 use Rattle.rv_cli.specs.declared.rvtest.merge.MergeAsked.{MergeAsked}
 use Rattle.rv_command.specs.Texts.{IsTextAt, optional_text}
-use Rattle.rv_files.specs.Placed.{PlacedFile}
 use Rattle.rv_job_text.specs.TotalsLine.{totals_line}
 use Rattle.rv_merge.specs.Parts.{AreParts}
 use Rattle.rv_report.specs.Report.{report_text}
@@ -14,6 +13,7 @@ use Rattle.rvtest_app.specs.Outlets.{is_stdout}
 use Rattle.rvtest_app.specs.Puts.{WentOut}
 use Rattle.rvtest_app.specs.RunOutput.{rows_status}
 use Rattle.rvtest_app.specs.JunitTexts.{failures_junit, junit_class}
+use Rattle.rvtest_app.specs.Said.{Said}
 
 -- the texts are what stands at the paths, in order
 abbrev pub AreTextsAt : Option FileContents → List (Bor (List ℕ)) → List (List ℕ) → Type 0
@@ -34,9 +34,8 @@ merged_class None = codes "merged"
 
 -- of the rows of the list whose parts stand at the paths that words name, the line that counts them went out, the report, and
 -- where it is asked for JUnit's document; the status is by these rows
-pub record IsMergedAt (known : Option FileContents) (words : MergeAsked) (status : ℕ)
-    (out_before out_after errors_before errors_after : Option (List ℕ))
-    (placed_before placed_after : Option (List PlacedFile)) : Type 0 where
+pub record IsMergedAt (known : Option FileContents) (words : MergeAsked) (status : ℕ) (before after : Said)
+    : Type 0 where
   pub texts : List (List ℕ)
   pub read : AreTextsAt known words.parts.items texts
   pub rows : List Row
@@ -45,4 +44,4 @@ pub record IsMergedAt (known : Option FileContents) (words : MergeAsked) (status
   pub put : WentOut (merged_report_path (optional_text words.report) (optional_text words.junit))
       (optional_text words.junit) (totals_line (failure_rule words.lenient) rows) (report_text rows)
       (failures_junit (merged_class (optional_text words.report)) (failure_rule words.lenient) rows)
-      out_before out_after errors_before errors_after placed_before placed_after
+      before after

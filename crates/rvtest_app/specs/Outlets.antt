@@ -1,5 +1,5 @@
 -- Where texts of rows go: to standard output, to the file at a path, or nowhere.
-use Rattle.std.specs.Prelude.{◌≡◌, ◌||◌, ℕ, Bool, true, false, List, [], ◌∷◌, ◌++◌, Option, Some, None, IfSome, option_map, option_and_then, ⊤}
+use Rattle.std.specs.Prelude.{◌≡◌, ◌||◌, ◌⊎◌, ℕ, Bool, true, false, List, [], ◌∷◌, ◌++◌, Option, Some, None, IfSome, option_map, option_and_then, ⊤}
 use Rattle.std.specs.Prelude.{codes, if◌then◌else◌}
 use Rattle.std.specs.Str.{bytes_eq}
 use Rattle.std.specs.Io.KnownBytes.{Appends}
@@ -7,7 +7,7 @@ use Rattle.rv_files.specs.Placed.{PlacedFile}
 use Rattle.rvtest_app.specs.declared.outlets.Outlet.{Outlet}
 use Rattle.rvtest_app.specs.declared.outlets.Outlet.TheVariants as outlet
 use Rattle.rvtest_app.specs.declared.outlets.Outlets.{Outlets}
-use Rattle.rvtest_app.specs.declared.outlets.SyncedFile.{SyncedFile}
+use Rattle.rvtest_app.specs.declared.placing.SyncedFile.{SyncedFile}
 
 -- a path that stands for standard output
 abbrev pub is_stdout : List ℕ → Bool
@@ -52,14 +52,15 @@ module _ {P W : Type 0} where
   has_no_failure failed outlet.Out = ⊤
   has_no_failure failed (outlet.File file) = failed file.sink ≡ 0
 
-  -- the outlet is for a path, and took this text so far, where it is told what is placed
+  -- the outlet is for a path, which messages name, and took this text so far, where it is told what is placed
   abbrev pub HasTaken : (P → List ℕ) → (W → Option (List ℕ)) → (W → ℕ) → Option (List PlacedFile)
       → Option (List ℕ) → List ℕ → Outlet P W → Type 0
   HasTaken place_path taken failed placed path text outlet.Nowhere = path ≡ None
   HasTaken place_path taken failed placed path text outlet.Out = path ≡ Some (codes "-")
   HasTaken place_path taken failed placed path text (outlet.File file) =
       (path ≡ Some (place_path file.place)) × ((is_stdout (place_path file.place) ≡ false)
-      × (IfSome placed (λ _. taken file.sink ≡ Some text) × (failed file.sink ≡ 0)))
+      × (IfSome placed (λ _. taken file.sink ≡ Some text) × (failed file.sink ≡ 0)
+      × (file.path.now ≡ place_path file.place)))
 
   -- a text was put into the outlet, and no put failed
   abbrev pub IsPutInto : (W → Option (List ℕ)) → (W → ℕ) → Outlet P W → Outlet P W → List ℕ → Type 0
@@ -86,6 +87,10 @@ module _ {P S : Type 0} where
 -- files were put in their places, behind those that stood there
 abbrev pub AreFilesPlaced : Option (List PlacedFile) → Option (List PlacedFile) → Option (List PlacedFile) → Type 0
 AreFilesPlaced before after files = IfSome before (λ earlier. IfSome files (λ files. after ≡ Some (earlier ++ files)))
+
+-- what an error leaves: no more files in their places, or the first of two alone, where the second was not put in its place
+abbrev pub AreFilesPlacedInPart : Option (List PlacedFile) → Option (List PlacedFile) → Option (List PlacedFile) → Type 0
+AreFilesPlacedInPart before after first = (after ≡ before) ⊎ AreFilesPlaced before after first
 
 -- the files of the first and then those of the second
 abbrev pub both_files : Option (List PlacedFile) → Option (List PlacedFile) → Option (List PlacedFile)

@@ -1,5 +1,5 @@
 -- What the commands that run no list find, in what stands at the paths that they read.
-use Rattle.std.specs.Prelude.{◌≡◌, ℕ, Bool, true, false, List, [], ◌∷◌, length, Option, Some, Ok, position}
+use Rattle.std.specs.Prelude.{◌≡◌, ℕ, Bool, true, false, List, [], ◌∷◌, length, None, Option, Some, Ok, position}
 use Rattle.std.specs.Prelude.{slice_index_or}
 use Rattle.std.specs.Str.{bytes_eq}
 use Rattle.rv_base.specs.Files.{FileContents}
@@ -9,16 +9,14 @@ use Rattle.rv_cli.specs.declared.rvtest.explain.ExplainAsked.{ExplainAsked}
 use Rattle.rv_command.specs.Texts.{IsReportText, IsTextAt, optional_text}
 use Rattle.rv_diff.specs.Diff.{counts_of_differing, diff_text}
 use Rattle.rv_diff.specs.declared.change.Compare.{Compare}
-use Rattle.rv_diff.specs.declared.change.Compare.TheVariants.{Outcomes, Steps}
+use Rattle.rv_diff.specs.declared.change.Compare.TheVariants.{Outcomes, Slower, Steps}
 use Rattle.rv_expect.specs.Passing.{has_passed}
 use Rattle.rv_expect.specs.declared.passing.Rule.TheVariants.{Strict}
 use Rattle.rv_files.specs.UnreadPaths.{contents_below}
 use Rattle.rv_files.specs.declared.noting_store.Unread.{Unread}
 use Rattle.rv_job_text.specs.Telling.{explanation_text}
-use Rattle.rv_jobs.specs.Plans.{AreKept, Planned, jobs_needed_for, one_more_times, paths_of, paths_used, unreadable_count}
-use Rattle.rv_jobs.specs.declared.answers.Answer.{Answer}
-use Rattle.rv_list_errors.specs.FaultHeads.{fault_head}
-use Rattle.rv_list_errors.specs.Lines.{PutsFaultLines}
+use Rattle.rv_jobs.specs.Plans.{AreKept, Planned, jobs_needed_for, paths_of, paths_used}
+use Rattle.rv_list_errors.specs.Lines.{PutsLines}
 use Rattle.rv_lists.specs.JobList.{job_list_of}
 use Rattle.rv_lists.specs.ListFaults.{list_faults}
 use Rattle.rv_lists.specs.declared.error.JobError.{JobError}
@@ -28,18 +26,13 @@ use Rattle.rv_rows.specs.Rows.{row_of}
 use Rattle.rvtest_app.specs.CheckText.{check_text}
 use Rattle.rvtest_app.specs.Commands.{check_status, diff_status, passing_status, refused_job_count}
 
--- ---- paths that were not read
-
--- there is a note for each path that is unreadable
-abbrev pub AreNotesOf : List Answer → List Unread → Type 0
-AreNotesOf answers unread = length unread ≡ one_more_times 0 (unreadable_count answers)
-
 -- ---- diff
 
--- what is compared, with --steps or without
-abbrev pub requested_comparison : Bool → Compare
-requested_comparison true = Steps
-requested_comparison false = Outcomes
+-- what is compared, with --steps, with --slower, or without
+abbrev pub requested_comparison : Bool → Option ℕ → Compare
+requested_comparison true slower = Steps
+requested_comparison false (Some percent) = Slower percent
+requested_comparison false None = Outcomes
 
 -- the output and the status are those of the rows of the reports that two texts are
 pub record IsDiffOf (compare : Compare) (old new output : List ℕ) (status : ℕ) : Type 0 where
@@ -56,7 +49,7 @@ pub record IsDiffAt (known : Option FileContents) (words : DiffAsked) (output : 
   pub old_read : IsTextAt known words.old.now old
   pub new : List ℕ
   pub new_read : IsTextAt known words.new.now new
-  pub diff : IsDiffOf (requested_comparison words.steps) old new output status
+  pub diff : IsDiffOf (requested_comparison words.steps words.slower) old new output status
 
 -- ---- check
 
@@ -68,16 +61,15 @@ pub record IsPlanCheckOf (known : Option FileContents) (path bytes output : List
   pub paths : paths_of plan.answers ≡ paths_used plan.jobs
   pub kept : AreKept known plan.answers
   pub unread : List Unread
-  pub noted : AreNotesOf plan.answers unread
   pub text : output ≡ check_text path bytes plan unread
   pub judged : status ≡ check_status (refused_job_count plan)
 
--- the output has a line for each fault, of which there is one at least, that begins with the path and with the job that the fault is
--- of, and then the status is 2; a list without faults has the output and the status of a plan
+-- the output has a line for each fault, of which there is one at least, and then the status is 2; a list without faults has
+-- the output and the status of a plan
 abbrev pub IsCheckOf : Option FileContents → List JobError → List ℕ → List ℕ → List ℕ → ℕ → Type 0
 IsCheckOf known [] path bytes output status = IsPlanCheckOf known path bytes output status
 IsCheckOf known (fault ∷ faults) path bytes output status =
-    PutsFaultLines (fault_head path bytes) (fault ∷ faults) [] output × (status ≡ 2)
+    PutsLines (length (fault ∷ faults)) [] output × (status ≡ 2)
 
 -- the same of the list at the path that words name
 pub record IsCheckAt (known : Option FileContents) (words : CheckAsked) (output : List ℕ) (status : ℕ) : Type 0 where
@@ -97,7 +89,6 @@ pub record IsJobExplained (known : Option FileContents) (jobs : List Job) (place
   pub paths : paths_of plan.answers ≡ paths_used (jobs_needed_for jobs (place ∷ []))
   pub kept : AreKept known plan.answers
   pub unread : List Unread
-  pub noted : AreNotesOf plan.answers unread
   pub text : (d : Job) → output ≡ explanation_text plan unread Strict
       (slice_index_or plan.jobs place d) (row_of plan (slice_index_or plan.jobs place d)) last
   pub judged : (d : Job) → status ≡ passing_status

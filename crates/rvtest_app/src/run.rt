@@ -1,26 +1,32 @@
 //! The command `run`.
 
-ghost use Rattle.rv_lists.specs.Limits.{most_workers};
-ghost use Rattle.std.specs.Prelude.{◌≡◌, ◌≤◌, ◌<◌, ◌++◌, [], ℕ, List, None, Option, Some, IfOk, IfSome, OnOk, length, option_map};
+ghost use Rattle.std.specs.Prelude.{◌≡◌, ◌≤◌, ◌<◌, ◌++◌, [], ℕ, List, None, Option, Some, IfOk, OnErr, OnOk, false, length, option_map};
 ghost use Rattle.std.specs.Io.KnownBytes.{Appends};
 ghost use Rattle.std.specs.List.{All};
 ghost use Rattle.std.specs.List.Sorted.{IsStrictlyIncreasing};
+ghost use Rattle.std.specs.Option.{ForSome};
 ghost use Rattle.rv_choice.specs.Chosen.{IsChoice};
 ghost use Rattle.rv_command.specs.Texts.{optional_text};
 ghost use Rattle.rv_files.specs.UnreadPaths.{contents_below};
+ghost use Rattle.rv_expect.specs.Passing.{has_passed};
 ghost use Rattle.rv_fleet.specs.Choices.{AreJobPlaces};
-ghost use Rattle.rv_jobs.specs.Plans.{AreKept, jobs_needed_for, paths_of, paths_used};
+ghost use Rattle.rv_jobs.specs.Plans.{AreKept, jobs_needed_for, one_more_times, paths_of, paths_used, unreadable_count};
 ghost use Rattle.rv_job_text.specs.Telling.{row_lines_at, telling_of};
 ghost use Rattle.rv_lists.specs.declared.job.Job.{Job as AJob};
 ghost use Rattle.rv_merge.specs.Shards.{shard_marks};
 ghost use Rattle.rv_rows.specs.Rows.{rows_at};
+ghost use Rattle.rv_rows.specs.declared_row.Row.{Row as ARow};
 ghost use Rattle.rvtest_app.specs.Commands.{failure_rule, requested_verbosity};
-ghost use Rattle.rvtest_app.specs.Outlets.{AreFilesPlaced, HasTaken, file_at, has_no_failure, stdout_at};
+ghost use Rattle.rvtest_app.specs.FailureLines.{failure_lines};
+ghost use Rattle.rvtest_app.specs.Outlets.{AreFilesPlaced, AreFilesPlacedInPart, HasTaken, file_at, has_no_failure, stdout_at};
 ghost use Rattle.rvtest_app.specs.Puts.{IsShown, WentOut};
 ghost use Rattle.rvtest_app.specs.RunOutput.{chosen_report_text, rows_status, run_output_text};
-ghost use Rattle.rvtest_app.specs.Runs.{AreRequestedJobs, IsRunAt, IsRunOfMarked, run_junit};
+ghost use Rattle.rvtest_app.specs.Runs.{AreRequestedJobs, IsRunAt, IsRunOfMarked, IsUndoneRunAt, IsUndoneRunOfPlaces};
+ghost use Rattle.rvtest_app.specs.Runs.{places_of_marks, run_junit};
+ghost use Rattle.rvtest_app.specs.Said.{said};
 
 use crate::chosen_rows::ChosenRows;
+use crate::crew::requested_crew;
 use crate::destinations::Destinations;
 use crate::file_texts::FileTexts;
 use crate::host::Host;
@@ -37,19 +43,20 @@ use rv_cli::rvtest::RunAsked;
 use rv_command::{DONE, Stop, parse_list, put_message, read_list_text};
 use rv_expect::Rule;
 use rv_files::{Inputs, NotingStore, Outputs};
-use rv_fleet::{Batch, Crew, Rows};
+use rv_fleet::{Batch, Rows};
 use rv_job_text::{RowTelling, Verbosity};
-use rv_jobs::limits::{MOST_GROUP, MOST_WORKERS};
 use rv_jobs::{JobList, Plan, Store, gather_places, marked_places};
 use rv_junit::Suite;
+use rv_kept_lines::{KeepingTelling, KeptLines, RecallingTelling, RowLines};
 use rv_merge::shard_marks;
 use rv_progress::{CountingTelling, Progress, TerminalSink};
 use rv_report::Shard;
 use rv_rows::Sink;
 use std::alloc::{AllocError, Global};
 use std::io::Write;
-use std::sync::Wait;
-use std::thread::{self, Threads};
+use std::marker::Brand;
+use std::sync::{Mutex, Wait};
+use std::thread::Threads;
 use std::time::Clock;
 
 /// A run of a list that words ask for.
@@ -76,7 +83,8 @@ pub(crate) fn run_requested_jobs<
     terminals: Terminals<P>,
 ) -> (Destinations<F, O, E>, Result<u8, Stop>)
     ensures run { IfOk result.1 (λ status. IsRunAt (D.contents host.now.inputs.now) asked.now status
-        (O.taken to.out) (O.taken result.0.out) (E.taken to.errors) (E.taken result.0.errors)
+        (said F.placed O.taken E.taken E.failed to) (said F.placed O.taken E.taken E.failed result.0)) }
+    ensures undone { OnErr result.1 (IsUndoneRunAt (D.contents host.now.inputs.now) asked.now
         (F.placed to.files) (F.placed result.0.files)) }
     ensures low { IfOk result.1 (λ status. status ≤ 1) }
 {
@@ -171,10 +179,11 @@ impl<'x, R: Threads + Wait + Sync + Clock, D: Inputs> ListRun<'x, R, D> {
         terminals: Terminals<P>,
     ) -> (Destinations<F, O, E>, Result<u8, Stop>)
         requires { self.now.rule ≡ failure_rule self.now.asked.now.lenient }
-        ensures { IfOk result.1 (λ status. IsRunOfMarked (D.contents self.now.host.now.inputs.now) self.now.asked.now
+        ensures run { IfOk result.1 (λ status. IsRunOfMarked (D.contents self.now.host.now.inputs.now) self.now.asked.now
             marked.jobs (Some marked.marks.items) marked.shard status
-            (O.taken to.out) (O.taken result.0.out) (E.taken to.errors) (E.taken result.0.errors)
-            (F.placed to.files) (F.placed result.0.files)) }
+            (said F.placed O.taken E.taken E.failed to) (said F.placed O.taken E.taken E.failed result.0)) }
+        ensures undone { OnErr result.1 (IsUndoneRunOfPlaces (D.contents self.now.host.now.inputs.now) self.now.asked.now
+            marked.jobs (places_of_marks marked.marks.items) (F.placed to.files) (F.placed result.0.files)) }
     {
         let MarkedJobs {
             jobs,
@@ -199,39 +208,47 @@ impl<'x, R: Threads + Wait + Sync + Clock, D: Inputs> ListRun<'x, R, D> {
             verbosity: requested_verbosity(asked),
             last: asked.last,
         };
-        let planned = PlannedRun {
-            telling: &telling,
-            places: places.as_slice(),
-        };
-        self.run_planned_jobs(planned, shard, to, terminals)
+        self.run_planned_jobs::<Brand, F, O, E, P>(
+            &telling,
+            places.as_slice(),
+            shard,
+            to,
+            terminals,
+        )
     }
 
     // Runs the jobs at some places of a plan. Both files are opened before the first of them runs.
     fn run_planned_jobs<
+        J: RowLines + Send + Sync,
         F: Outputs + Drop,
         O: Sink + Drop + Send,
         E: Sink + Drop + Send,
         P: Write + Drop + Send,
     >(
         &self,
-        planned: PlannedRun<'_>,
+        telling: &RowTelling<'_>,
+        places: &[usize],
         shard: Option<Shard>,
         to: Destinations<F, O, E>,
         terminals: Terminals<P>,
     ) -> (Destinations<F, O, E>, Result<u8, Stop>)
-        ensures status { IfOk result.1 (λ status. status ≡ rows_status planned.entry.telling.now.rule
-            (rows_at planned.entry.telling.now.plan.now planned.entry.places.now)) }
+        requires within { AreJobPlaces telling.now.plan.now places.now }
+        requires rising { IsStrictlyIncreasing places.now }
+        requires lines { J.lines ≡ failure_lines (telling_of telling.now) }
+        ensures status { IfOk result.1 (λ status. status ≡ rows_status telling.now.rule
+            (rows_at telling.now.plan.now places.now)) }
         ensures said { OnOk result.1 (WentOut (optional_text self.now.asked.now.report)
             (optional_text self.now.asked.now.junit)
-            (run_output_text (row_lines_at (telling_of planned.entry.telling.now))
-            planned.entry.telling.now.rule planned.entry.places.now
-            (rows_at planned.entry.telling.now.plan.now planned.entry.places.now))
-            (chosen_report_text (length planned.entry.telling.now.plan.now.jobs) planned.entry.places.now shard
-            (rows_at planned.entry.telling.now.plan.now planned.entry.places.now))
-            (run_junit self.now.asked.now.list.now (telling_of planned.entry.telling.now)
-            planned.entry.places.now (rows_at planned.entry.telling.now.plan.now planned.entry.places.now))
-            (O.taken to.out) (O.taken result.0.out) (E.taken to.errors) (E.taken result.0.errors)
-            (F.placed to.files) (F.placed result.0.files)) }
+            (run_output_text (row_lines_at (telling_of telling.now)) telling.now.rule places.now
+            (rows_at telling.now.plan.now places.now))
+            (chosen_report_text (length telling.now.plan.now.jobs) places.now shard
+            (rows_at telling.now.plan.now places.now))
+            (run_junit self.now.asked.now.list.now (telling_of telling.now) places.now
+            (rows_at telling.now.plan.now places.now))
+            (said F.placed O.taken E.taken E.failed to) (said F.placed O.taken E.taken E.failed result.0)) }
+        ensures part { OnErr result.1 (AreFilesPlacedInPart (F.placed to.files) (F.placed result.0.files)
+            (Some (file_at (optional_text self.now.asked.now.junit) (run_junit self.now.asked.now.list.now
+            (telling_of telling.now) places.now (rows_at telling.now.plan.now places.now))))) }
     {
         let (alloc, asked) = (self.host.alloc, self.asked);
         let mut to = to;
@@ -239,10 +256,16 @@ impl<'x, R: Threads + Wait + Sync + Clock, D: Inputs> ListRun<'x, R, D> {
             Ok(outlets) => outlets,
             Err(stop) => return (to, Err(stop)),
         };
-        let (mut to, ran) = self.run_and_show(planned, outlets.use_stdout(), to, terminals);
+        let kept = Mutex::new(KeptLines::<J>::new(alloc));
+        let planned = PlannedRun {
+            telling,
+            places,
+            kept: &kept,
+        };
+        let (mut to, ran) = self.run_and_show(&planned, outlets.use_stdout(), to, terminals);
         match ran {
             Ok(rows) => {
-                let put = self.put_run_files(planned, shard, rows, outlets, &mut to);
+                let put = self.put_run_files(&planned, shard, rows, outlets, &mut to);
                 (to, put)
             }
             Err(stop) => {
@@ -253,20 +276,26 @@ impl<'x, R: Threads + Wait + Sync + Clock, D: Inputs> ListRun<'x, R, D> {
     }
 
     // Runs the jobs at some places, and shows them: on standard error where a file goes to standard output.
-    fn run_and_show<F: Drop, O: Sink + Drop + Send, E: Sink + Drop + Send, P: Write + Drop + Send>(
+    fn run_and_show<
+        J: RowLines + Send + Sync,
+        F: Outputs + Drop,
+        O: Sink + Drop + Send,
+        E: Sink + Drop + Send,
+        P: Write + Drop + Send,
+    >(
         &self,
-        planned: PlannedRun<'_>,
+        planned: &PlannedRun<'_, J>,
         is_beside: bool,
         to: Destinations<F, O, E>,
         terminals: Terminals<P>,
     ) -> (Destinations<F, O, E>, Result<Rows, Stop>)
         ensures rows { IfOk result.1 (λ rows. rows
-            ≡ rows_at planned.entry.telling.now.plan.now planned.entry.places.now) }
+            ≡ rows_at planned.now.telling.now.plan.now planned.now.places.now) }
         ensures files { result.0.files ≡ to.files }
         ensures shown { OnOk result.1 (IsShown is_beside (run_output_text
-            (row_lines_at (telling_of planned.entry.telling.now)) planned.entry.telling.now.rule
-            planned.entry.places.now (rows_at planned.entry.telling.now.plan.now planned.entry.places.now))
-            (O.taken to.out) (O.taken result.0.out) (E.taken to.errors) (E.taken result.0.errors)) }
+            (row_lines_at (telling_of planned.now.telling.now)) planned.now.telling.now.rule
+            planned.now.places.now (rows_at planned.now.telling.now.plan.now planned.now.places.now))
+            (said F.placed O.taken E.taken E.failed to) (said F.placed O.taken E.taken E.failed result.0)) }
     {
         let Destinations { files, out, errors } = to;
         if is_beside {
@@ -281,36 +310,29 @@ impl<'x, R: Threads + Wait + Sync + Clock, D: Inputs> ListRun<'x, R, D> {
     }
 
     // The same on one of the streams, and how far the run is on standard error.
-    fn run_and_show_on<W: Sink + Drop + Send, P: Write + Drop + Send>(
+    fn run_and_show_on<J: RowLines + Send + Sync, W: Sink + Drop + Send, P: Write + Drop + Send>(
         &self,
-        planned: PlannedRun<'_>,
+        planned: &PlannedRun<'_, J>,
         out: W,
         is_terminal: bool,
         terminals: Terminals<P>,
     ) -> (W, Result<Rows, Stop>)
         ensures rows { IfOk result.1 (λ rows. rows
-            ≡ rows_at planned.entry.telling.now.plan.now planned.entry.places.now) }
+            ≡ rows_at planned.now.telling.now.plan.now planned.now.places.now) }
         ensures shown { OnOk result.1 (Appends (W.taken out) (W.taken result.0)
-            (run_output_text (row_lines_at (telling_of planned.entry.telling.now))
-            planned.entry.telling.now.rule planned.entry.places.now
-            (rows_at planned.entry.telling.now.plan.now planned.entry.places.now))) }
+            (run_output_text (row_lines_at (telling_of planned.now.telling.now))
+            planned.now.telling.now.rule planned.now.places.now
+            (rows_at planned.now.telling.now.plan.now planned.now.places.now))) }
+        ensures counted { OnOk result.1 (W.failed result.0 ≡ W.failed out) }
     {
         let (rt, alloc) = (self.host.rt, self.host.alloc);
-        let PlannedRun {
-            telling,
-            places,
-            ..
-        } = planned;
-        let Terminals {
-            is_errors_terminal,
-            progress,
-            ..
-        } = terminals;
-        let progress = Progress::new(rt, places.len(), telling.rule, progress, is_errors_terminal);
-        let counting = CountingTelling::new(rt, telling, &progress);
+        let (telling, places) = (planned.telling, planned.places);
+        let progress = self.run_progress(planned, terminals);
+        let kept = self.lines_to_keep(planned);
+        let keeping = KeepingTelling::new(rt, telling, telling.rule, kept);
+        let counting = CountingTelling::new(rt, &keeping, &progress);
         let sink = TerminalSink::new(rt, alloc, out, is_terminal, &progress);
-        let group = self.asked.group.clamp(1, MOST_GROUP);
-        let crew = Crew::new(rt, alloc, worker_count(rt, self.asked), group);
+        let crew = requested_crew(rt, alloc, self.asked);
         let batch = Batch::new(telling.plan, places);
         let (sink, ran) = put_run_output(&crew, &batch, telling.rule, &counting, sink);
         let out = sink.into_inner();
@@ -321,45 +343,89 @@ impl<'x, R: Threads + Wait + Sync + Clock, D: Inputs> ListRun<'x, R, D> {
         }
     }
 
-    // Puts the two files of the rows of the jobs at some places, and gives the status of the rows.
-    fn put_run_files<F: Outputs + Drop, O: Sink + Drop, E: Sink + Drop>(
+    // The line that counts the jobs at some places.
+    fn run_progress<J: RowLines, P: Write + Drop>(
         &self,
-        planned: PlannedRun<'_>,
+        planned: &PlannedRun<'_, J>,
+        terminals: Terminals<P>,
+    ) -> Progress<P>
+        ensures jobs { result.jobs ≡ length planned.now.places.now }
+        ensures rule { result.rule ≡ planned.now.telling.now.rule }
+    {
+        let Terminals {
+            is_errors_terminal,
+            progress,
+            ..
+        } = terminals;
+        Progress::new(
+            self.host.rt,
+            planned.places.len(),
+            planned.telling.rule,
+            progress,
+            is_errors_terminal,
+        )
+    }
+
+    // Where the lines of jobs that fail are kept: they are shown, and told to JUnit's file too.
+    fn lines_to_keep<'m, J: RowLines>(
+        &self,
+        planned: &PlannedRun<'m, J>,
+    ) -> Option<&'m Mutex<KeptLines<J>>>
+        ensures { ForSome result (λ _. (place : ℕ) (row : ARow)
+            → has_passed planned.now.telling.now.rule row ≡ false
+            → row_lines_at (telling_of planned.now.telling.now) place row ≡ J.lines place row) }
+    {
+        if self.asked.junit.is_none() {
+            return None;
+        }
+        match planned.telling.verbosity {
+            Verbosity::Quiet => None,
+            Verbosity::Failures | Verbosity::All => Some(planned.kept),
+        }
+    }
+
+    // Puts the two files of the rows of the jobs at some places, and gives the status of the rows.
+    fn put_run_files<J: RowLines, F: Outputs + Drop, O: Sink + Drop, E: Sink + Drop>(
+        &self,
+        planned: &PlannedRun<'_, J>,
         shard: Option<Shard>,
         rows: Rows,
         outlets: Outlets<'_, F::Place, F::File>,
         to: &mut Destinations<F, O, E>,
     ) -> Result<u8, Stop>
-        requires counted { length rows ≡ length planned.places.now }
+        requires counted { length rows ≡ length planned.now.places.now }
         requires report { has_no_failure F.File.failed outlets.report }
         requires junit { has_no_failure F.File.failed outlets.junit }
-        ensures status { IfOk result (λ status. status ≡ rows_status planned.entry.telling.now.rule rows) }
+        ensures status { IfOk result (λ status. status ≡ rows_status planned.now.telling.now.rule rows) }
         ensures errors { to.new.errors ≡ to.old.errors }
         ensures put { (report_path junit_path : Option (List ℕ))
             → HasTaken F.place_path F.File.taken F.File.failed (F.placed to.old.files) report_path [] outlets.entry.report
             → HasTaken F.place_path F.File.taken F.File.failed (F.placed to.old.files) junit_path [] outlets.entry.junit
             → OnOk result (Appends (O.taken to.old.out) (O.taken to.new.out)
-            (stdout_at junit_path (run_junit self.now.asked.now.list.now (telling_of planned.entry.telling.now)
-            planned.entry.places.now rows) ++ stdout_at report_path (chosen_report_text
-            (length planned.entry.telling.now.plan.now.jobs) planned.entry.places.now shard rows))) }
+            (stdout_at junit_path (run_junit self.now.asked.now.list.now (telling_of planned.now.telling.now)
+            planned.now.places.now rows) ++ stdout_at report_path (chosen_report_text
+            (length planned.now.telling.now.plan.now.jobs) planned.now.places.now shard rows))) }
         ensures placed { (report_path junit_path : Option (List ℕ))
             → HasTaken F.place_path F.File.taken F.File.failed (F.placed to.old.files) report_path [] outlets.entry.report
             → HasTaken F.place_path F.File.taken F.File.failed (F.placed to.old.files) junit_path [] outlets.entry.junit
             → OnOk result (AreFilesPlaced (F.placed to.old.files) (F.placed to.new.files)
-            (Some (file_at junit_path (run_junit self.now.asked.now.list.now (telling_of planned.entry.telling.now)
-            planned.entry.places.now rows) ++ file_at report_path (chosen_report_text
-            (length planned.entry.telling.now.plan.now.jobs) planned.entry.places.now shard rows)))) }
+            (Some (file_at junit_path (run_junit self.now.asked.now.list.now (telling_of planned.now.telling.now)
+            planned.now.places.now rows) ++ file_at report_path (chosen_report_text
+            (length planned.now.telling.now.plan.now.jobs) planned.now.places.now shard rows)))) }
+        ensures part { (junit_path : Option (List ℕ))
+            → HasTaken F.place_path F.File.taken F.File.failed (F.placed to.old.files) junit_path [] outlets.entry.junit
+            → OnErr result (AreFilesPlacedInPart (F.placed to.old.files) (F.placed to.new.files)
+            (Some (file_at junit_path (run_junit self.now.asked.now.list.now (telling_of planned.now.telling.now)
+            planned.now.places.now rows)))) }
     {
-        let PlannedRun {
-            telling,
-            places,
-            ..
-        } = planned;
-        let status = rows_status(telling.rule, rows.as_slice());
+        let (telling, places, rule) = (planned.telling, planned.places, planned.telling.rule);
+        let status = rows_status(rule, rows.as_slice());
         let told = RowTelling {
             verbosity: Verbosity::Failures,
             ..*telling
         };
+        let kept = planned.kept.lock(self.host.rt);
+        let recalling = RecallingTelling::new(&told, &kept);
         let chosen = ChosenRows {
             jobs: telling.plan.jobs(),
             places,
@@ -368,9 +434,9 @@ impl<'x, R: Threads + Wait + Sync + Clock, D: Inputs> ListRun<'x, R, D> {
         let texts = FileTexts {
             suite: Suite {
                 name: junit_class(self.asked.list).as_bytes(),
-                rule: told.rule,
+                rule,
             },
-            telling: &told,
+            telling: &recalling,
             places,
             report: ReportText::Chosen(chosen, shard),
         };
@@ -392,6 +458,8 @@ fn gather_jobs_at<S: Store>(
     ensures paths { IfOk result (λ plan. paths_of plan.answers
         ≡ paths_used (jobs_needed_for jobs places.now)) }
     ensures kept { IfOk result (λ plan. AreKept (S.contents store.old) plan.answers) }
+    ensures faults { IfOk result (λ plan. S.faulted store.new
+        ≡ one_more_times (S.faulted store.old) (unreadable_count plan.answers)) }
 {
     gather_places(alloc, jobs, Vec::from_slice(alloc, places)?, store)
 }
@@ -403,20 +471,5 @@ fn requested_verbosity(asked: &RunAsked<'_>) -> Verbosity
         (_, true) => Verbosity::Quiet,
         (true, false) => Verbosity::All,
         (false, false) => Verbosity::Failures,
-    }
-}
-
-// As many threads as are asked for, or as there are processors: from 1 to 64.
-fn worker_count<R: Threads>(rt: &R, asked: &RunAsked<'_>) -> u32
-    ensures within { (0 < result) × (result ≤ most_workers) }
-    ensures asked { IfSome asked.now.workers (λ workers.
-        (1 ≤ workers) → (workers ≤ most_workers) → result ≡ workers) }
-{
-    match asked.workers {
-        Some(workers) => workers.clamp(1, MOST_WORKERS),
-        None => match thread::available_parallelism(rt) {
-            Ok(count) => count.get().clamp(1, MOST_WORKERS as usize) as u32,
-            Err(_) => 1,
-        },
     }
 }

@@ -18,7 +18,8 @@ use std::sync::Wait;
 use std::thread::Threads;
 
 /// Runs a batch, and sends what is told of each job in list order, as soon as that of all before it is out; and then the
-/// last line. The sink comes back: with the rows it took all of that, and with an error a beginning.
+/// last line. The sink comes back: with the rows it took all of that and no put failed, and with
+/// an error a beginning.
 pub(crate) fn put_run_output<R: Threads + Wait + Sync, T: Telling + Sync, W: Sink + Drop + Send>(
     crew: &Crew<'_, R>,
     batch: &Batch<'_>,
@@ -29,6 +30,7 @@ pub(crate) fn put_run_output<R: Threads + Wait + Sync, T: Telling + Sync, W: Sin
     ensures rows { IfOk result.1 (λ rows. rows ≡ batch_rows batch.now) }
     ensures all { OnOk result.1 (Appends (W.taken out) (W.taken result.0)
         (run_output_text (T.line telling.now) rule batch.now.places.now (batch_rows batch.now))) }
+    ensures counted { OnOk result.1 (W.failed result.0 ≡ W.failed out) }
     ensures part { OnErr result.1 (AppendsBeginning (W.taken out) (W.taken result.0)
         (run_output_text (T.line telling.now) rule batch.now.places.now (batch_rows batch.now))) }
 {
@@ -53,6 +55,7 @@ fn put_totals_line<W: Sink>(
     requires { length rows.now < 2 ^ 32 }
     ensures all { OnOk result
         (Appends (W.taken out.old) (W.taken out.new) (totals_line rule rows.now)) }
+    ensures counted { OnOk result (W.failed out.new ≡ W.failed out.old) }
     ensures part { OnErr result
         (AppendsBeginning (W.taken out.old) (W.taken out.new) (totals_line rule rows.now)) }
 {

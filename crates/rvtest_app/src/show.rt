@@ -9,6 +9,7 @@ ghost use Rattle.rvtest_app.specs.Commands.{failure_rule};
 ghost use Rattle.rvtest_app.specs.RunOutput.{rows_status};
 ghost use Rattle.rvtest_app.specs.ReportSummary.{summary_text};
 ghost use Rattle.rvtest_app.specs.Shows.{IsShownAt};
+ghost use Rattle.rvtest_app.specs.Said.{said};
 
 use crate::destinations::Destinations;
 use crate::junit_class::junit_class;
@@ -43,8 +44,7 @@ pub(crate) fn show_report<D: Inputs, F: Outputs + Drop, O: Sink + Drop, E: Sink 
 ) -> Result<u8, Stop>
     ensures low { IfOk result (λ status. status ≤ 1) }
     ensures shown { IfOk result (λ status. IsShownAt (D.contents inputs.now) asked.entry status
-        (O.taken to.old.out) (O.taken to.new.out) (E.taken to.old.errors) (E.taken to.new.errors)
-        (F.placed to.old.files) (F.placed to.new.files)) }
+        (said F.placed O.taken E.taken E.failed to.old) (said F.placed O.taken E.taken E.failed to.new)) }
 {
     let report = read_report_file(inputs, alloc, asked.report)?;
     let summarized = summarize_report(alloc, asked, report)?;
@@ -88,8 +88,7 @@ fn put_summarized_report<F: Outputs + Drop, O: Sink + Drop, E: Sink + Drop>(
         (report_text summarized.report.rows)
         (failures_junit (junit_class asked.entry.report.now) (failure_rule asked.entry.lenient)
         summarized.report.rows)
-        (O.taken to.old.out) (O.taken to.new.out) (E.taken to.old.errors) (E.taken to.new.errors)
-        (F.placed to.old.files) (F.placed to.new.files)) }
+        (said F.placed O.taken E.taken E.failed to.old) (said F.placed O.taken E.taken E.failed to.new)) }
 {
     let SummarizedReport {
         report,

@@ -1,11 +1,15 @@
 //! The words of `diff`.
 
+ghost use Rattle.std.specs.Prelude.{◌≡◌, []};
 ghost use Rattle.clap.specs.Words.{found_of, rows_of};
-ghost use Rattle.rv_cli.specs.RvtestWords.{AsksFor, diff_request};
+ghost use Rattle.rv_cli.specs.RvtestWords.{AsksFor, ReadsRequest, diff_misuse, diff_request, misuse_kinds};
 
+use crate::rvtest::command::diff_command;
+use crate::rvtest::refusals::Misuse;
 use crate::rvtest::requests::Asked;
-use crate::values::{is_flag_set, text_value};
-use clap::ArgMatches;
+use crate::values::{is_flag_set, is_option_given, number_value, text_value};
+use clap::{ArgMatches, Error};
+use std::alloc::Global;
 
 /// Two reports that are to be compared.
 #[derive(Clone, Copy)]
@@ -16,14 +20,46 @@ pub struct DiffAsked<'a> {
     pub new: &'a str,
     /// Whether steps count too, and the places and values of faults.
     pub steps: bool,
+    /// Whether a job counts too that takes over so many percent more steps, up to 1,000.
+    pub slower: Option<u32>,
 }
 
-/// What the values of `diff` ask for.
-pub(crate) fn diff_request<'a>(values: &ArgMatches<'a>) -> Option<Asked<'a>>
+/// What the values of `diff` ask for, or which rule its options break.
+pub(crate) fn diff_request<'a>(
+    alloc: Global,
+    values: &ArgMatches<'a>,
+) -> Result<Option<Asked<'a>>, Error>
+    ensures { ReadsRequest (diff_request (rows_of (found_of values.now)))
+        (misuse_kinds (diff_misuse (rows_of (found_of values.now)))) result }
+{
+    match diff_misuse(values) {
+        Some(misuse) => Err(misuse.misuse_error(diff_command(alloc))),
+        None => Ok(valid_diff_request(values)),
+    }
+}
+
+fn valid_diff_request<'a>(values: &ArgMatches<'a>) -> Option<Asked<'a>>
     ensures { AsksFor (diff_request (rows_of (found_of values.now))) result }
 {
     let old = text_value(values, "old")?;
     let new = text_value(values, "new")?;
     let steps = is_flag_set(values, "steps");
-    Some(Asked::Diff(DiffAsked { old, new, steps }))
+    let slower = number_value(values, "slower", 0, 1_000);
+    Some(Asked::Diff(DiffAsked {
+        old,
+        new,
+        steps,
+        slower,
+    }))
+}
+
+// Steps are compared exactly, or by which jobs are slower.
+fn diff_misuse(values: &ArgMatches<'_>) -> Option<Misuse>
+    ensures { result ≡ diff_misuse (rows_of (found_of values.now)) }
+{
+    if is_flag_set(values, "steps") && is_option_given(values, "slower") {
+        Some(Misuse::StepsAndSlower)
+    } else {
+        None
+    }
 }

@@ -18,6 +18,8 @@ pub(crate) enum Misuse {
     ShardAndChoice,
     /// A stamp without a shard.
     StampAlone,
+    /// Steps compared exactly, and by which jobs are slower.
+    StepsAndSlower,
     /// A report and JUnit's XML that go to one file.
     OneFile,
 }
@@ -35,9 +37,10 @@ impl Misuse {
     {
         match self {
             Misuse::StampAlone => ErrorKind::MissingRequiredArgument,
-            Misuse::VerboseAndQuiet | Misuse::ShardAndChoice | Misuse::OneFile => {
-                ErrorKind::ArgumentConflict
-            }
+            Misuse::VerboseAndQuiet
+            | Misuse::ShardAndChoice
+            | Misuse::StepsAndSlower
+            | Misuse::OneFile => ErrorKind::ArgumentConflict,
         }
     }
 
@@ -51,6 +54,9 @@ impl Misuse {
             }
             Misuse::StampAlone => {
                 "the argument '--stamp <TEXT>' cannot be used without '--shard <K/N>'"
+            }
+            Misuse::StepsAndSlower => {
+                "the argument '--steps' cannot be used with '--slower <N>'"
             }
             Misuse::OneFile => {
                 "the argument '--report <FILE>' cannot be used with '--junit <FILE>' of the same name: it is one file"

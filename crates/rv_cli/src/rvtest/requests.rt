@@ -72,7 +72,7 @@ fn subcommand_request<'a>(
         "explain" => Ok(explain_request(values)),
         "check" => Ok(check_request(values)),
         "merge" => merge_request(alloc, values),
-        "diff" => Ok(diff_request(values)),
+        "diff" => diff_request(alloc, values),
         "show" => Ok(show_request(values)),
         _ => Ok(None),
     }

@@ -92,7 +92,7 @@ pub(crate) const MERGE: Subcommand<'static> = Subcommand {
     ],
 };
 
-const DIFF: Subcommand<'static> = Subcommand {
+pub(crate) const DIFF: Subcommand<'static> = Subcommand {
     name: "diff",
     about: "Says in which jobs two reports differ",
     usage: "rvtest diff",
@@ -100,6 +100,12 @@ const DIFF: Subcommand<'static> = Subcommand {
         Argument::Word("old", "OLD", "Path of the report that is compared with"),
         Argument::Word("new", "NEW", "Path of the report that is compared"),
         Argument::Flag("steps", "Compares steps too, and where faults were"),
+        Argument::Number(
+            "slower",
+            "Says which jobs take over N percent more steps, from 0 to 1000",
+            SLOWER,
+            &[],
+        ),
     ],
 };
 
@@ -129,6 +135,11 @@ const LAST: &str = "Shows the last N instructions of a job, from 0 to 100000";
 const WORKERS: Bounds = Bounds {
     least: 1,
     most: MOST_WORKERS as i64,
+};
+
+const SLOWER: Bounds = Bounds {
+    least: 0,
+    most: 1_000,
 };
 
 const LAST_BOUNDS: Bounds = Bounds {

@@ -1,7 +1,7 @@
 use Rattle.std.proofs.Common.{◌∙◌, ◌+◌, ◌++◌, length}
 use Rattle.std.specs.List.{flat_map}
 use Rattle.rv_diff.specs.ByName.{row_named}
-use Rattle.rv_diff.specs.Diff.{count_line, diff_text, counts_of_differing, gone_line, changes_of_row}
+use Rattle.rv_diff.specs.Diff.{count_line, diff_text, counts_of_differing, gone_line, changes_of_row, step_sums}
 use Rattle.rv_diff.proofs.OneMore.{more}
 use Rattle.rv_diff.proofs.diff.push_diff.Goals as goal
 
@@ -19,12 +19,13 @@ returns-clause-text c =
     let added = c.in_ok-added.ensures.added in
     let changed = c.in_ok-added.ensures.changed in
     more begun c.push_added_and_changed_lines.new.text.items c.push_count_line.new.text.items (gone ++ others)
-    (count_line (length new + counts.gone) counts)
+    (count_line (length new + counts.gone) counts (step_sums compare old new))
     (more begun c.push_gone_lines.new.text.items c.push_added_and_changed_lines.new.text.items gone others c.in_ok-gone.ensures.text
     c.in_ok-added.ensures.text)
     (c.in_ok-push_count_line.ensures
     ∙ (λ i. c.push_added_and_changed_lines.new.text.items
-    ++ count_line (length new + counted i) (record { gone = counted i; added = added i; changed = changed i })))
+    ++ count_line (length new + counted i) (record { gone = counted i; added = added i; changed = changed i })
+    (c.step_sums-sums.ensures i)))
 
 pub returns-clause-counts : goal.returns-clause-counts
 returns-clause-counts c =

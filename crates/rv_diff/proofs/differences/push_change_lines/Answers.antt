@@ -14,7 +14,7 @@ returns c =
     let new = c.args.new.now in
     let ending : List ℕ = change_line new.name (are_same_endings compare old.ending new.ending)
     (becomes (ending_words old.ending) (ending_words new.ending)) in
-    let counts : List ℕ = change_line new.name (agree_in_steps compare old new) (steps_words old.steps new.steps) in
+    let counts : List ℕ = change_line new.name (agree_in_steps compare old new) (steps_words compare old.steps new.steps) in
     let console : List ℕ = change_line new.name (have_same_console old new) (console_words old.console new.console) in
     let signature : List ℕ = change_line new.name (are_same_signatures old.signature new.signature)
     (signature_words old.signature new.signature) in

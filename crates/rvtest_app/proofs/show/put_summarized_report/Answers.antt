@@ -2,6 +2,7 @@ use Rattle.std.proofs.Common.{◌∙◌, None, ap}
 use Rattle.rv_command.specs.Texts.{optional_text}
 use Rattle.rvtest_app.proofs.PutTexts.{out_told}
 use Rattle.rvtest_app.proofs.Results.{OnOk-both}
+use Rattle.rvtest_app.specs.Said.{said}
 use Rattle.rvtest_app.proofs.show.put_summarized_report.Goals as goal
 
 pub returns-in-Ok : goal.returns-in-Ok
@@ -20,16 +21,19 @@ returns-in-Ok g c =
       out_told path taken failed _ _ outlets.report _ report,
       out_told path taken failed _ _ outlets.junit _ junit,
       c.as_slice.ensures.value,
+      c.in_ok-outlets.ensures.same,
     ) at c.in-Ok.ensures.shown in
     let out = rw (c.as_bytes.ensures.value, c.junit_class.ensures, c.failure_rule.ensures)
     at (c.put_whole_files.ensures.put report_path junit_path (rw same report) (rw same junit)) in
-    let placed = rw (same, c.as_bytes.ensures.value, c.junit_class.ensures, c.failure_rule.ensures)
+    let placed = rw (c.as_bytes.ensures.value, c.junit_class.ensures, c.failure_rule.ensures)
     at (c.put_whole_files.ensures.placed report_path junit_path (rw same report) (rw same junit)) in
+    let errors = c.put_whole_files.ensures.errors in
     OnOk-both c.put_whole_files.result _ _ _
     (λ p q. record {
-      middle = g.O.Sink.taken c.put_shown.new.to.out;
-      seen = rw c.put_whole_files.ensures.errors seen;
+      middle = said g.F.Outputs.placed g.O.Sink.taken g.E.Sink.taken g.E.Sink.failed c.put_shown.new.to;
+      seen = seen;
       out = p;
+      quiet = (ap g.E.Sink.taken errors, ap g.E.Sink.failed errors);
       placed = q;
     })
     out placed

@@ -14,7 +14,7 @@ pub returns-in-merge : goal.returns-in-merge
 returns-in-merge c = rw c.in-merge.is c.merge_request.ensures
 
 pub returns-in-diff : goal.returns-in-diff
-returns-in-diff c = rw c.in-diff.is (c.diff_request.ensures, refl)
+returns-in-diff c = rw c.in-diff.is c.diff_request.ensures
 
 pub returns-in-show : goal.returns-in-show
 returns-in-show c = rw c.in-show.is (c.show_request.ensures, refl)

@@ -1,18 +1,20 @@
-use Rattle.rvtest_app.proofs.Results.{IfOk-beside}
+use Rattle.std.proofs.Common.{◌∙◌, ap, inl, inr, length, ⊎_elim}
+use Rattle.rvtest_app.proofs.Results.{IfOk-beside, OnErr-map}
 use Rattle.rvtest_app.proofs.run.ListRun.run_marked_jobs.Goals as goal
 
-pub returns : goal.returns
-returns g c =
+pub returns-clause-run : goal.returns-clause-run
+returns-clause-run g c =
     let found = c.in-Ok-gather_jobs_at.ensures in
     IfOk-beside c.run_planned_jobs.result.1 _ _ _
     (λ status judged put. record {
       plan = c.in-Ok-gather_jobs_at.plan;
+      unread = c.unread_paths.result.now;
       planned = record {
         listed = found.jobs;
         paths = rw (c.as_slice-2.ensures.value, c.in-Ok.ensures.value, c.as_slice.ensures.value) at found.paths;
         kept = rw (c.new-store.ensures.inputs, c.new-store.ensures.folder) at found.kept;
+        noted = ap length c.unread_paths.ensures ∙ rw c.new-store.ensures.nothing at found.faults;
       };
-      unread = c.unread_paths.result.now;
       judged = judged;
       put = put;
     })
@@ -25,3 +27,25 @@ returns g c =
       c.requires,
       c.requested_verbosity.ensures,
     ) at c.run_planned_jobs.ensures.said)
+
+pub returns-clause-undone : goal.returns-clause-undone
+returns-clause-undone g c =
+    let found = c.in-Ok-gather_jobs_at.ensures in
+    OnErr-map c.run_planned_jobs.result.1 _ _
+    (⊎_elim inl (λ placed. inr (record {
+      plan = c.in-Ok-gather_jobs_at.plan;
+      unread = c.unread_paths.result.now;
+      planned = record {
+        listed = found.jobs;
+        paths = rw (c.as_slice-2.ensures.value, c.in-Ok.ensures.value, c.as_slice.ensures.value) at found.paths;
+        kept = rw (c.new-store.ensures.inputs, c.new-store.ensures.folder) at found.kept;
+        noted = ap length c.unread_paths.ensures ∙ rw c.new-store.ensures.nothing at found.faults;
+      };
+      placed = placed;
+    })))
+    (rw (
+      c.as_slice-3.ensures.value,
+      c.in-Ok.ensures.value,
+      c.as_slice.ensures.value,
+      c.requires,
+    ) at c.run_planned_jobs.ensures.part)

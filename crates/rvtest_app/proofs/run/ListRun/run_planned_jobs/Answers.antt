@@ -3,11 +3,12 @@ use Rattle.rv_command.specs.Texts.{optional_text}
 use Rattle.rv_fleet.proofs.Public.{rows_count}
 use Rattle.rvtest_app.proofs.PutTexts.{out_told}
 use Rattle.rvtest_app.proofs.Results.{OnOk-both}
+use Rattle.rvtest_app.specs.Said.{said}
 use Rattle.rvtest_app.proofs.run.ListRun.run_planned_jobs.Goals as goal
 
 pub put_run_files-put-requires-clause-counted : goal.put_run_files-put-requires-clause-counted
 put_run_files-put-requires-clause-counted g c κs within =
-    ap length (rw c.in-Ok-ran.is at c.run_and_show-to.ensures.rows) ∙ rows_count _ c.args.planned.places.now
+    ap length (rw c.in-Ok-ran.is at c.run_and_show-to.ensures.rows) ∙ rows_count _ c.args.places.now
 
 pub returns-in-Ok-ran-clause-said : goal.returns-in-Ok-ran-clause-said
 returns-in-Ok-ran-clause-said g c =
@@ -25,15 +26,18 @@ returns-in-Ok-ran-clause-said g c =
       c.use_stdout.ensures,
       out_told path taken failed _ _ outlets.report _ report,
       out_told path taken failed _ _ outlets.junit _ junit,
+      c.in-Ok.ensures.same,
     ) at (rw c.in-Ok-ran.is at c.run_and_show-to.ensures.shown) in
     let out = rw rows at (c.put_run_files-put.ensures.put report_path junit_path (rw same report) (rw same junit)) in
-    let placed = rw (same, rows)
+    let placed = rw rows
     at (c.put_run_files-put.ensures.placed report_path junit_path (rw same report) (rw same junit)) in
+    let errors = c.put_run_files-put.ensures.errors in
     OnOk-both c.put_run_files-put.result _ _ _
     (λ p q. record {
-      middle = g.O.Sink.taken (c.run_and_show-to.result.0).out;
-      seen = rw c.put_run_files-put.ensures.errors seen;
+      middle = said g.F.Outputs.placed g.O.Sink.taken g.E.Sink.taken g.E.Sink.failed (c.run_and_show-to.result.0);
+      seen = seen;
       out = p;
+      quiet = (ap g.E.Sink.taken errors, ap g.E.Sink.failed errors);
       placed = q;
     })
     out placed

@@ -1,0 +1,7 @@
+use Rattle.std.proofs.Common.{append_assoc, append-nil}
+use Rattle.rv_diff.specs.Diff.{change_counts_words, differing_words}
+use Rattle.rv_diff.proofs.diff.push_counts.Goals as goal
+
+pub returns : goal.returns
+unfolding change_counts_words differing_words
+returns c = simp append_assoc (simp append-nil at c.push_spans.ensures)

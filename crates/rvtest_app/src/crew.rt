@@ -1,0 +1,36 @@
+//! The threads of a run.
+
+ghost use Rattle.std.specs.Prelude.{◌≡◌};
+ghost use Rattle.rvtest_app.specs.Crews.{AreRequestedWorkers, requested_group};
+
+use rv_cli::rvtest::RunAsked;
+use rv_fleet::Crew;
+use rv_jobs::limits::{MOST_GROUP, MOST_WORKERS};
+use std::alloc::Global;
+use std::thread::{self, Threads};
+
+/// The threads that words ask for, each of which takes as many jobs at a time as they ask for.
+pub(crate) fn requested_crew<'r, R: Threads>(
+    rt: &'r R,
+    alloc: Global,
+    asked: &RunAsked<'_>,
+) -> Crew<'r, R>
+    ensures workers { AreRequestedWorkers asked.now.workers result.workers }
+    ensures group { result.group ≡ requested_group asked.now.group }
+{
+    let group = asked.group.clamp(1, MOST_GROUP);
+    Crew::new(rt, alloc, requested_workers(rt, asked), group)
+}
+
+// As many threads as are asked for, or as there are processors: from 1 to 64.
+fn requested_workers<R: Threads>(rt: &R, asked: &RunAsked<'_>) -> u32
+    ensures { AreRequestedWorkers asked.now.workers result }
+{
+    match asked.workers {
+        Some(workers) => workers.clamp(1, MOST_WORKERS),
+        None => match thread::available_parallelism(rt) {
+            Ok(count) => count.get().clamp(1, MOST_WORKERS as usize) as u32,
+            Err(_) => 1,
+        },
+    }
+}

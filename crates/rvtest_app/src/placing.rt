@@ -1,0 +1,145 @@
+//! Files that are handed to the disk, and then put in their places.
+
+ghost use Rattle.std.specs.Prelude.{◌≡◌, IfOk, OnErr, OnOk};
+ghost use Rattle.rvtest_app.specs.Outlets.{AreFilesPlaced, AreFilesPlacedInPart, both_files, files_of, has_no_failure, synced_files};
+
+use crate::outlets::{OpenFile, Outlet, Outlets, abandon_outlet};
+use rv_command::{Stop, file_error_stop};
+use rv_files::Outputs;
+use std::alloc::Global;
+
+/// A file that the disk has, and the path by which messages name it.
+#[derive(Drop)]
+pub(crate) struct SyncedFile<'a, P: Drop, S: Drop> {
+    path: &'a str,
+    place: P,
+    file: S,
+}
+
+/// The files of outlets, as far as they have some.
+#[derive(Drop)]
+struct SyncedFiles<'a, P: Drop, S: Drop> {
+    junit: Option<SyncedFile<'a, P, S>>,
+    report: Option<SyncedFile<'a, P, S>>,
+}
+
+/// Hands the files to the disk, and then puts both in their places, JUnit's first. Neither is there where the disk does not
+/// take them both.
+pub(crate) fn place_outlets<F: Outputs>(
+    files: &mut F,
+    alloc: Global,
+    outlets: Outlets<'_, F::Place, F::File>,
+) -> Result<(), Stop>
+    requires report { has_no_failure F.File.failed outlets.report }
+    requires junit { has_no_failure F.File.failed outlets.junit }
+    ensures placed { OnOk result (AreFilesPlaced (F.placed files.old) (F.placed files.new)
+        (both_files (files_of F.place_path F.File.taken outlets.entry.junit)
+        (files_of F.place_path F.File.taken outlets.entry.report))) }
+    ensures part { OnErr result (AreFilesPlacedInPart (F.placed files.old) (F.placed files.new)
+        (files_of F.place_path F.File.taken outlets.entry.junit)) }
+{
+    let SyncedFiles { junit, report } = sync_outlets(files, alloc, outlets)?;
+    place_both(files, alloc, junit, report)
+}
+
+// Hands the files to the disk. Neither is there where the disk does not take them both.
+fn sync_outlets<'a, F: Outputs>(
+    files: &mut F,
+    alloc: Global,
+    outlets: Outlets<'a, F::Place, F::File>,
+) -> Result<SyncedFiles<'a, F::Place, F::Synced>, Stop>
+    requires report { has_no_failure F.File.failed outlets.report }
+    requires junit { has_no_failure F.File.failed outlets.junit }
+    ensures same { F.placed files.new ≡ F.placed files.old }
+    ensures junit { IfOk result (λ synced. synced_files F.place_path F.synced_bytes synced.junit
+        ≡ files_of F.place_path F.File.taken outlets.entry.junit) }
+    ensures report { IfOk result (λ synced. synced_files F.place_path F.synced_bytes synced.report
+        ≡ files_of F.place_path F.File.taken outlets.entry.report) }
+{
+    let Outlets { report, junit } = outlets;
+    let junit = match sync_outlet(files, alloc, junit) {
+        Ok(junit) => junit,
+        Err(stop) => {
+            abandon_outlet(files, report);
+            return Err(stop);
+        }
+    };
+    match sync_outlet(files, alloc, report) {
+        Ok(report) => Ok(SyncedFiles { junit, report }),
+        Err(stop) => {
+            abandon_synced(files, junit);
+            Err(stop)
+        }
+    }
+}
+
+fn sync_outlet<'a, F: Outputs>(
+    files: &mut F,
+    alloc: Global,
+    outlet: Outlet<'a, F::Place, F::File>,
+) -> Result<Option<SyncedFile<'a, F::Place, F::Synced>>, Stop>
+    requires { has_no_failure F.File.failed outlet }
+    ensures same { F.placed files.new ≡ F.placed files.old }
+    ensures synced { IfOk result (λ synced. synced_files F.place_path F.synced_bytes synced
+        ≡ files_of F.place_path F.File.taken outlet.entry) }
+{
+    let Outlet::File(file) = outlet else {
+        return Ok(None);
+    };
+    let OpenFile { path, place, sink } = file;
+    match files.sync(sink) {
+        Ok(file) => Ok(Some(SyncedFile { path, place, file })),
+        Err(error) => {
+            files.abandon(place);
+            Err(file_error_stop(alloc, path, error))
+        }
+    }
+}
+
+fn abandon_synced<F: Outputs>(files: &mut F, synced: Option<SyncedFile<'_, F::Place, F::Synced>>)
+    ensures { F.placed files.new ≡ F.placed files.old }
+{
+    if let Some(synced) = synced {
+        files.abandon(synced.place);
+    }
+}
+
+fn place_both<F: Outputs>(
+    files: &mut F,
+    alloc: Global,
+    first: Option<SyncedFile<'_, F::Place, F::Synced>>,
+    second: Option<SyncedFile<'_, F::Place, F::Synced>>,
+) -> Result<(), Stop>
+    ensures placed { OnOk result (AreFilesPlaced (F.placed files.old) (F.placed files.new)
+        (both_files (synced_files F.place_path F.synced_bytes first.entry)
+        (synced_files F.place_path F.synced_bytes second.entry))) }
+    ensures part { OnErr result (AreFilesPlacedInPart (F.placed files.old) (F.placed files.new)
+        (synced_files F.place_path F.synced_bytes first.entry)) }
+{
+    match place_synced(files, alloc, first) {
+        Ok(()) => place_synced(files, alloc, second),
+        Err(stop) => {
+            abandon_synced(files, second);
+            Err(stop)
+        }
+    }
+}
+
+fn place_synced<F: Outputs>(
+    files: &mut F,
+    alloc: Global,
+    synced: Option<SyncedFile<'_, F::Place, F::Synced>>,
+) -> Result<(), Stop>
+    ensures placed { OnOk result (AreFilesPlaced (F.placed files.old) (F.placed files.new)
+        (synced_files F.place_path F.synced_bytes synced.entry)) }
+    ensures same { OnErr result (F.placed files.new ≡ F.placed files.old) }
+{
+    let Some(synced) = synced else {
+        return Ok(());
+    };
+    let SyncedFile { path, place, file } = synced;
+    match files.place(place, file) {
+        Ok(()) => Ok(()),
+        Err(error) => Err(file_error_stop(alloc, path, error)),
+    }
+}
