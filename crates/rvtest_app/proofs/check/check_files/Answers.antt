@@ -1,5 +1,6 @@
-use Rattle.std.proofs.Common.{◌∙◌, ap, length}
+use Rattle.std.proofs.Common.{◌∙◌, ap, inl, length}
 use Rattle.rvtest_app.proofs.Results.{IfOk-both}
+use Rattle.rvtest_app.proofs.StopLemmas.{IfErr-map}
 use Rattle.rvtest_app.proofs.check.check_files.Goals as goal
 
 pub returns-clause-plan : goal.returns-clause-plan
@@ -16,3 +17,6 @@ returns-clause-plan g c =
       text = text;
       judged = judged;
     }) c.check_plan.ensures.text c.check_plan.ensures.judged
+
+pub returns-clause-stopped : goal.returns-clause-stopped
+returns-clause-stopped g c = IfErr-map c.check_plan.result _ _ (λ why is. inl is) c.check_plan.ensures.memory
