@@ -8,3 +8,6 @@ mod Requested
 mod PartTexts
 mod JobTexts
 mod FailedRows
+mod UnreadableWords
+mod StopLemmas
+mod WordsStops

@@ -15,8 +15,11 @@ use Rattle.rv_expect.specs.declared.passing.Rule.TheVariants.{Strict}
 use Rattle.rv_files.specs.UnreadPaths.{contents_below}
 use Rattle.rv_files.specs.declared.noting_store.Unread.{Unread}
 use Rattle.rv_job_text.specs.Telling.{explanation_text}
-use Rattle.rv_jobs.specs.Plans.{AreKept, Planned, jobs_needed_for, paths_of, paths_used}
-use Rattle.rv_list_errors.specs.Lines.{PutsLines}
+use Rattle.rv_jobs.specs.Plans.{AreKept, Planned, jobs_needed_for, one_more_times, paths_of, paths_used}
+use Rattle.rv_jobs.specs.Plans.{unreadable_count}
+use Rattle.rv_jobs.specs.declared.answers.Answer.{Answer}
+use Rattle.rv_list_errors.specs.FaultHeads.{fault_head}
+use Rattle.rv_list_errors.specs.Lines.{PutsFaultLines}
 use Rattle.rv_lists.specs.JobList.{job_list_of}
 use Rattle.rv_lists.specs.ListFaults.{list_faults}
 use Rattle.rv_lists.specs.declared.error.JobError.{JobError}
@@ -25,6 +28,12 @@ use Rattle.rv_report.specs.declared.saved.SavedReport.{SavedReport}
 use Rattle.rv_rows.specs.Rows.{row_of}
 use Rattle.rvtest_app.specs.CheckText.{check_text}
 use Rattle.rvtest_app.specs.Commands.{check_status, diff_status, passing_status, refused_job_count}
+
+-- ---- paths that were not read
+
+-- there is a note for each path that is unreadable
+abbrev pub AreNotesOf : List Answer → List Unread → Type 0
+AreNotesOf answers unread = length unread ≡ one_more_times 0 (unreadable_count answers)
 
 -- ---- diff
 
@@ -61,15 +70,16 @@ pub record IsPlanCheckOf (known : Option FileContents) (path bytes output : List
   pub paths : paths_of plan.answers ≡ paths_used plan.jobs
   pub kept : AreKept known plan.answers
   pub unread : List Unread
+  pub noted : AreNotesOf plan.answers unread
   pub text : output ≡ check_text path bytes plan unread
   pub judged : status ≡ check_status (refused_job_count plan)
 
--- the output has a line for each fault, of which there is one at least, and then the status is 2; a list without faults has
--- the output and the status of a plan
+-- the output has a line for each fault, of which there is one at least, that begins with the path and with the job that the
+-- fault is of, and then the status is 2; a list without faults has the output and the status of a plan
 abbrev pub IsCheckOf : Option FileContents → List JobError → List ℕ → List ℕ → List ℕ → ℕ → Type 0
 IsCheckOf known [] path bytes output status = IsPlanCheckOf known path bytes output status
 IsCheckOf known (fault ∷ faults) path bytes output status =
-    PutsLines (length (fault ∷ faults)) [] output × (status ≡ 2)
+    PutsFaultLines (fault_head path bytes) (fault ∷ faults) [] output × (status ≡ 2)
 
 -- the same of the list at the path that words name
 pub record IsCheckAt (known : Option FileContents) (words : CheckAsked) (output : List ℕ) (status : ℕ) : Type 0 where
@@ -89,6 +99,7 @@ pub record IsJobExplained (known : Option FileContents) (jobs : List Job) (place
   pub paths : paths_of plan.answers ≡ paths_used (jobs_needed_for jobs (place ∷ []))
   pub kept : AreKept known plan.answers
   pub unread : List Unread
+  pub noted : AreNotesOf plan.answers unread
   pub text : (d : Job) → output ≡ explanation_text plan unread Strict
       (slice_index_or plan.jobs place d) (row_of plan (slice_index_or plan.jobs place d)) last
   pub judged : (d : Job) → status ≡ passing_status

@@ -1,12 +1,14 @@
 //! The command `check`.
 
-ghost use Rattle.std.specs.Prelude.{◌≡◌, ◌≤◌, IfOk};
+ghost use Rattle.std.specs.Prelude.{◌≡◌, ◌≤◌, IfErr, IfOk};
 ghost use Rattle.rv_lists.specs.ListFaults.{list_faults};
 ghost use Rattle.rvtest_app.specs.CheckText.{check_text, job_begin_lines};
 ghost use Rattle.rvtest_app.specs.Commands.{check_status, refused_job_count};
 ghost use Rattle.rv_files.specs.UnreadPaths.{contents_below};
 ghost use Rattle.rvtest_app.specs.Reports.{IsCheckAt, IsCheckOf, IsPlanCheckOf};
+ghost use Rattle.rv_command.specs.Stops.{IsListFaultStop};
 ghost use Rattle.rv_command.specs.Texts.{optional_text};
+ghost use Rattle.rvtest_app.specs.CommandStops.{IsCheckStop};
 
 use crate::check_text::{CheckedList, push_job_counts_line};
 use crate::findings::Found;
@@ -27,6 +29,7 @@ pub(crate) fn check_list<D: Inputs>(
     ensures checked { IfOk result (λ found. IsCheckAt (D.contents inputs.now) asked.entry
         found.text.items found.status) }
     ensures low { IfOk result (λ found. found.status ≤ 2) }
+    ensures stopped { IfErr result (IsCheckStop (D.contents inputs.now) asked.entry) }
 {
     let text = read_list_text(inputs, alloc, asked.list)?;
     check_list_text(inputs, alloc, asked, text.as_slice())
@@ -43,6 +46,7 @@ fn check_list_text<D: Inputs>(
         (contents_below (optional_text asked.entry.root) (D.contents inputs.now)) (list_faults text.now)
         asked.entry.list.now text.now found.text.items found.status) }
     ensures low { IfOk result (λ found. found.status ≤ 2) }
+    ensures stopped { IfErr result (IsListFaultStop asked.entry.list.now text.now) }
 {
     let faults = read_faults(alloc, text)?;
     if faults.is_empty() {
@@ -66,6 +70,7 @@ fn check_files<D: Inputs>(
         (contents_below (optional_text asked.entry.root) (D.contents inputs.now))
         asked.entry.list.now text.now found.text.items found.status) }
     ensures low { IfOk result (λ found. found.status ≤ 2) }
+    ensures stopped { IfErr result (IsListFaultStop asked.entry.list.now text.now) }
 {
     let jobs = parse_list(alloc, asked.list, text)?;
     let mut store = NotingStore::new(inputs, alloc, asked.root);
@@ -86,6 +91,7 @@ fn check_plan(
     ensures text { IfOk result (λ found. found.text.items
         ≡ check_text path.now text.now plan.now unread.now) }
     ensures judged { IfOk result (λ found. found.status ≡ check_status (refused_job_count plan.now)) }
+    ensures memory { IfErr result (λ stop. stop ≡ Stop.OutOfMemory) }
 {
     let lines = job_begin_lines(alloc, text)?;
     let jobs = plan.jobs();

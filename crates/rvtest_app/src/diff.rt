@@ -1,8 +1,11 @@
 //! The command `diff`.
 
-ghost use Rattle.std.specs.Prelude.{◌≡◌, ◌≤◌, ◌<◌, ◌^◌, IfOk, MatchResult, length};
+ghost use Rattle.std.specs.Prelude.{◌≡◌, ◌≤◌, ◌<◌, ◌^◌, IfErr, IfOk, MatchResult, length};
 ghost use Rattle.rvtest_app.specs.Commands.{diff_status};
 ghost use Rattle.rvtest_app.specs.Reports.{IsDiffAt, IsDiffOf, requested_comparison};
+ghost use Rattle.rvtest_app.specs.CommandStops.{IsDiffAtStop};
+ghost use Rattle.rvtest_app.specs.ToldStops.{IsDiffStop};
+ghost use Rattle.rv_command.specs.declared.stop.Stop.TheVariants.{OutOfMemory};
 ghost use Rattle.rv_diff.specs.Diff.{diff_text, counts_of_differing};
 
 use crate::findings::Found;
@@ -22,6 +25,7 @@ pub(crate) fn diff_reports<D: Inputs>(
     ensures diff { IfOk result (λ found. IsDiffAt (D.contents inputs.now) asked.entry
         found.text.items found.status) }
     ensures low { IfOk result (λ found. found.status ≤ 1) }
+    ensures stopped { IfErr result (IsDiffAtStop (D.contents inputs.now) asked.entry) }
 {
     let old = read_file(inputs, alloc, asked.old)?;
     let new = read_file(inputs, alloc, asked.new);
@@ -38,6 +42,7 @@ fn diff_report_texts(
     ensures diff { IfOk result (λ found. MatchResult new
         (λ new. IsDiffOf (requested_comparison asked.entry.steps asked.entry.slower) old.now new.items
         found.text.items found.status) (λ stop. ⊥)) }
+    ensures blamed { IfErr result (IsDiffStop asked.entry.old.now old.now asked.entry.new.now new) }
     ensures low { IfOk result (λ found. found.status ≤ 1) }
 {
     let old = parse_report(alloc, asked.old, old)?;
@@ -68,6 +73,7 @@ fn diff_rows(alloc: Global, compare: Compare, old: &[Row], new: &[Row]) -> Resul
     ensures text { IfOk result (λ found. found.text.items ≡ diff_text compare old.now new.now) }
     ensures judged { IfOk result
         (λ found. found.status ≡ diff_status (counts_of_differing compare old.now new.now)) }
+    ensures memory { IfErr result (λ stop. stop ≡ OutOfMemory) }
 {
     let mut text = Vec::new(alloc);
     let counts = push_diff(alloc, &mut text, compare, old, new)?;

@@ -1,6 +1,6 @@
 //! The command `explain`.
 
-ghost use Rattle.std.specs.Prelude.{◌≡◌, ◌≤◌, ◌<◌, IfOk, IfSome, Ok, length, position, slice_index_or};
+ghost use Rattle.std.specs.Prelude.{◌≡◌, ◌≤◌, ◌<◌, IfErr, IfOk, IfSome, Ok, length, position, slice_index_or};
 ghost use Rattle.std.specs.Str.{bytes_eq};
 ghost use Rattle.rv_lists.specs.declared.job.Job.{Job as AJob};
 ghost use Rattle.rv_expect.specs.declared.passing.Rule.TheVariants.{Strict};
@@ -12,6 +12,7 @@ ghost use Rattle.rvtest_app.specs.Commands.{passing_status};
 ghost use Rattle.rv_files.specs.UnreadPaths.{contents_below};
 ghost use Rattle.rvtest_app.specs.Reports.{IsExplanationAt, IsExplanationOf, IsFirstNamed, IsJobExplained};
 ghost use Rattle.rv_command.specs.Texts.{optional_text};
+ghost use Rattle.rvtest_app.specs.CommandStops.{IsExplainStop, IsNoJobStop};
 
 use crate::findings::Found;
 use rv_choice::unknown_name_stop;
@@ -40,6 +41,7 @@ pub(crate) fn explain_named_job<D: Inputs>(
     ensures explained { IfOk result (λ found. IsExplanationAt (D.contents inputs.now) asked.entry
         found.text.items found.status) }
     ensures low { IfOk result (λ found. found.status ≤ 1) }
+    ensures stopped { IfErr result (IsExplainStop (D.contents inputs.now) asked.entry) }
 {
     let text = read_list_text(inputs, alloc, asked.list)?;
     explain_job_of_text(inputs, alloc, asked, text.as_slice())
@@ -56,6 +58,7 @@ fn explain_job_of_text<D: Inputs>(
         IsExplanationOf (contents_below (optional_text asked.entry.root) (D.contents inputs.now))
         text.now asked.entry.name.now asked.entry.last found.text.items found.status) }
     ensures low { IfOk result (λ found. found.status ≤ 1) }
+    ensures stopped { IfErr result (IsNoJobStop asked.entry.list.now text.now asked.entry.name.now) }
 {
     let NamedJob { jobs, place } = find_named_job(alloc, asked, text)?;
     explain_job_at(inputs, alloc, asked, jobs, place)
@@ -66,6 +69,7 @@ fn find_named_job(alloc: Global, asked: ExplainAsked<'_>, text: &[u8]) -> Result
     ensures listed { IfOk result (λ named. job_list_of text.now ≡ Ok named.jobs) }
     ensures first { IfOk result (λ named. IsFirstNamed named.jobs asked.entry.name.now named.place) }
     ensures within { IfOk result (λ named. named.place < length named.jobs) }
+    ensures stopped { IfErr result (IsNoJobStop asked.entry.list.now text.now asked.entry.name.now) }
 {
     let jobs = parse_list(alloc, asked.list, text)?;
     match named_job_place(jobs.as_slice(), asked.name) {
@@ -94,6 +98,7 @@ fn explain_job_at<D: Inputs>(
         IsJobExplained (contents_below (optional_text asked.entry.root) (D.contents inputs.now))
         jobs place asked.entry.last found.text.items found.status) }
     ensures low { IfOk result (λ found. found.status ≤ 1) }
+    ensures memory { IfErr result (λ stop. stop ≡ Stop.OutOfMemory) }
 {
     let places = vec![in alloc; place; 1]?;
     let mut store = NotingStore::new(inputs, alloc, asked.root);
@@ -117,6 +122,7 @@ fn explain_planned_job(
         ≡ passing_status (has_passed Strict
         (row_of plan.now (slice_index_or plan.now.jobs place d)))) }
     ensures low { IfOk result (λ found. found.status ≤ 1) }
+    ensures memory { IfErr result (λ stop. stop ≡ Stop.OutOfMemory) }
 {
     let row = row_at(alloc, plan, place)?;
     let telling = RowTelling {

@@ -1,6 +1,6 @@
 //! What a command found that runs no list.
 
-ghost use Rattle.std.specs.Prelude.{◌≡◌, IfOk, MatchResult, OnErr, OnOk};
+ghost use Rattle.std.specs.Prelude.{◌≡◌, IfErr, IfOk, MatchResult, OnErr, OnOk};
 ghost use Rattle.std.specs.Io.KnownBytes.{Appends};
 ghost use Rattle.rv_base.specs.Sinks.{AppendsBeginning};
 
@@ -22,6 +22,7 @@ pub(crate) fn put_findings<O: Sink>(out: &mut O, found: Result<Found, Stop>) -> 
     ensures part { OnErr result (MatchResult found
         (λ found. AppendsBeginning (O.taken out.old) (O.taken out.new) found.text.items)
         (λ stop. O.taken out.new ≡ O.taken out.old)) }
+    ensures stopped { IfErr result (λ why. MatchResult found (λ _. why ≡ Stop.WriteFailed) (λ stop. why ≡ stop)) }
 {
     let Found { text, status } = found?;
     put_results(out, text.as_slice())?;

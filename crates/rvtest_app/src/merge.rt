@@ -1,11 +1,14 @@
 //! The command `merge`.
 
-ghost use Rattle.std.specs.Prelude.{◌≡◌, ◌≤◌, ◌++◌, ◌∷◌, [], IfOk, OnOk, length, map};
+ghost use Rattle.std.specs.Prelude.{◌≡◌, ◌≤◌, ◌++◌, ◌∷◌, [], IfErr, IfOk, OnOk, codes, length, map};
+ghost use Rattle.std.specs.Fmt.{decimal};
 ghost use Rattle.rv_job_text.specs.TotalsLine.{totals_line};
 ghost use Rattle.rv_lists.specs.Limits.{most_jobs};
 ghost use Rattle.rv_merge.specs.Parts.{AreParts, bytes_of_texts};
 ghost use Rattle.rvtest_app.specs.Commands.{failure_rule};
 ghost use Rattle.rv_report.specs.Report.{report_text};
+ghost use Rattle.rvtest_app.specs.MergeRefusals.{ArePartsRefused, IsMergeErrorStop, flaw_message, other_run_message};
+ghost use Rattle.rvtest_app.specs.MergeRefusals.{part_path, two_parts_message};
 ghost use Rattle.rvtest_app.specs.Merges.{AreTextsAt, IsMergedAt, merged_class, merged_report_path};
 ghost use Rattle.rvtest_app.specs.Puts.{WentOut};
 ghost use Rattle.rvtest_app.specs.JunitTexts.{failures_junit};
@@ -81,6 +84,7 @@ fn merge_part_texts(
     ensures judged { IfOk result (λ merged. merged.status
         ≡ rows_status (failure_rule asked.now.lenient) merged.rows) }
     ensures low { IfOk result (λ merged. merged.status ≤ 1) }
+    ensures blamed { IfErr result (ArePartsRefused asked.now.parts.items (map (λ text. text.items) texts.now)) }
 {
     let rule = failure_rule(asked.lenient);
     let rows = rows_of_part_texts(alloc, asked, texts)?;
@@ -98,6 +102,7 @@ fn rows_of_part_texts(
 ) -> Result<Rows, Stop>
     ensures parts { IfOk result (λ rows. AreParts rows (map (λ text. text.items) texts.now)) }
     ensures few { IfOk result (λ rows. length rows ≤ most_jobs) }
+    ensures blamed { IfErr result (ArePartsRefused asked.now.parts.items (map (λ text. text.items) texts.now)) }
 {
     let parts = text_slices(alloc, texts)?;
     match merge_parts(alloc, parts.as_slice()) {
@@ -180,23 +185,38 @@ fn merged_class<'a>(asked: &MergeAsked<'a>) -> &'a str
 }
 
 // Why the parts are not those of one run.
-fn merge_error_stop(alloc: Global, asked: &MergeAsked<'_>, error: MergeError) -> Stop {
-    Stop::of_refusal(match error {
-        MergeError::OutOfMemory => return Stop::OutOfMemory,
-        MergeError::NoTexts => text_of_spans(alloc, &[Span::Text("rvtest: there is no part\n")]),
-        MergeError::Text(at, flaw) => part_flaw_message(alloc, asked, part_path(asked, at), flaw),
-        MergeError::Missing(number) => text_of_spans(
-            alloc,
-            &[
-                Span::Text("rvtest: no part is that of shard "),
-                Span::Number(number as u64),
-                Span::Text("\n"),
-            ],
-        ),
-    })
+fn merge_error_stop(alloc: Global, asked: &MergeAsked<'_>, error: MergeError) -> Stop
+    ensures { IsMergeErrorStop asked.now.parts.items error result }
+{
+    match error {
+        MergeError::OutOfMemory => Stop::OutOfMemory,
+        MergeError::NoTexts => {
+            Stop::of_refusal(text_of_spans(alloc, &[Span::Text("rvtest: there is no part\n")]))
+        }
+        MergeError::Text(at, flaw) => {
+            Stop::of_refusal(part_flaw_message(alloc, asked, part_path(asked, at), flaw))
+        }
+        MergeError::Missing(number) => Stop::of_refusal(missing_shard_message(alloc, number)),
+    }
 }
 
-fn part_path<'a>(asked: &MergeAsked<'a>, at: usize) -> &'a str {
+fn missing_shard_message(alloc: Global, number: usize) -> Result<Vec<u8>, AllocError>
+    ensures { IfOk result (λ text. text.items
+        ≡ codes "rvtest: no part is that of shard " ++ decimal number ++ codes "\n") }
+{
+    text_of_spans(
+        alloc,
+        &[
+            Span::Text("rvtest: no part is that of shard "),
+            Span::Number(number as u64),
+            Span::Text("\n"),
+        ],
+    )
+}
+
+fn part_path<'a>(asked: &MergeAsked<'a>, at: usize) -> &'a str
+    ensures { result.now ≡ part_path asked.now.parts.items at }
+{
     match asked.parts.get(at) {
         Some(path) => path,
         None => "a part",
@@ -209,7 +229,9 @@ fn part_flaw_message(
     asked: &MergeAsked<'_>,
     path: &str,
     flaw: Flaw,
-) -> Result<Vec<u8>, AllocError> {
+) -> Result<Vec<u8>, AllocError>
+    ensures { IfOk result (λ text. text.items ≡ flaw_message asked.now.parts.items path.now flaw) }
+{
     match flaw {
         Flaw::Line(line) => {
             path_number_message(alloc, path, ":", line, ": no part has this line here\n")
@@ -254,7 +276,9 @@ fn other_run_message(
     asked: &MergeAsked<'_>,
     path: &str,
     what: &str,
-) -> Result<Vec<u8>, AllocError> {
+) -> Result<Vec<u8>, AllocError>
+    ensures { IfOk result (λ text. text.items ≡ other_run_message asked.now.parts.items path.now what.now) }
+{
     two_parts_message(alloc, path, what, part_path(asked, 0), "\n")
 }
 
@@ -265,7 +289,9 @@ fn two_parts_message<'a>(
     what: &'a str,
     other: &'a str,
     end: &'a str,
-) -> Result<Vec<u8>, AllocError> {
+) -> Result<Vec<u8>, AllocError>
+    ensures { IfOk result (λ text. text.items ≡ two_parts_message path.now what.now other.now end.now) }
+{
     text_of_spans(
         alloc,
         &[

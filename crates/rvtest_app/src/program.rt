@@ -1,8 +1,12 @@
 //! The whole program, over files, sinks and terminals.
 
-ghost use Rattle.std.specs.Prelude.{◌≤◌, IfOk, map};
+ghost use Rattle.std.specs.Prelude.{◌≡◌, ◌⊎◌, ◌≤◌, IfErr, IfOk, map};
+ghost use Rattle.std.specs.IoError.{error_kind};
+ghost use Rattle.rv_command.specs.Messages.{IsMessagePut};
 ghost use Rattle.rvtest_app.specs.Answers.{IsAnswered, IsDone};
+ghost use Rattle.rvtest_app.specs.CommandStops.{IsCommandStop, IsStopFor};
 ghost use Rattle.rvtest_app.specs.Said.{said};
+ghost use Rattle.rvtest_app.specs.ToldStops.{IsStopTold, unreadable_words_message, unreadable_words_status};
 
 use crate::check::check_list;
 use crate::destinations::Destinations;
@@ -45,6 +49,11 @@ pub fn run_rvtest<
     // A status of 0 or 1 says that all went out.
     ensures answered { result.1 ≤ 1 → IsAnswered (D.contents host.now.inputs.now) (map T.text words.entry.now)
         result.1 (said F.placed O.taken E.taken E.failed to) (said F.placed O.taken E.taken E.failed result.0) }
+    // Any other status says that the command ended before its work was done, and that this was told last.
+    ensures ended { IsAnswered (D.contents host.now.inputs.now) (map T.text words.entry.now)
+        result.1 (said F.placed O.taken E.taken E.failed to) (said F.placed O.taken E.taken E.failed result.0)
+        ⊎ IsStopTold (IsStopFor (D.contents host.now.inputs.now) (map T.text words.entry.now))
+        result.1 (said F.placed O.taken E.taken E.failed result.0) }
 {
     let (mut to, answer) = answer_words(host, words, to, terminals);
     match answer {
@@ -75,6 +84,7 @@ fn answer_words<
     ensures answered { IfOk result.1 (λ status. IsAnswered (D.contents host.now.inputs.now)
         (map T.text words.entry.now) status
         (said F.placed O.taken E.taken E.failed to) (said F.placed O.taken E.taken E.failed result.0)) }
+    ensures stopped { IfErr result.1 (IsStopFor (D.contents host.now.inputs.now) (map T.text words.entry.now)) }
 {
     match read_words(host.alloc, words) {
         Ok(Some(asked)) => run_subcommand(host, asked, to, terminals),
@@ -104,6 +114,7 @@ fn run_subcommand<
     ensures low { IfOk result.1 (λ status. status ≤ 2) }
     ensures done { IfOk result.1 (λ status. IsDone (D.contents host.now.inputs.now) asked.entry status
         (said F.placed O.taken E.taken E.failed to) (said F.placed O.taken E.taken E.failed result.0)) }
+    ensures stopped { IfErr result.1 (IsCommandStop (D.contents host.now.inputs.now) asked.entry) }
 {
     let (inputs, alloc) = (host.inputs, host.alloc);
     let mut to = to;
@@ -122,7 +133,10 @@ fn run_subcommand<
 
 /// The status of words that the process doesn't give: words that aren't UTF-8 are refused.
 pub fn refuse_unreadable_words<E: Sink>(error: &io::Error, errors: &mut E) -> u8
-    ensures { result ≤ 3 }
+    ensures low { result ≤ 3 }
+    ensures status { result ≡ unreadable_words_status (error_kind error.now) }
+    ensures told { IsMessagePut (E.taken errors.old) (E.taken errors.new) (E.failed errors.old) (E.failed errors.new)
+        (unreadable_words_message (error_kind error.now)) }
 {
     match error.kind() {
         ErrorKind::OutOfMemory => put_stop_message(errors, Stop::OutOfMemory),

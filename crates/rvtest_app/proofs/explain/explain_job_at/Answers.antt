@@ -1,0 +1,18 @@
+use Rattle.std.proofs.Common.{◌∙◌, ap, length, rules}
+use Rattle.rvtest_app.proofs.Results.{IfOk-both}
+use Rattle.rvtest_app.proofs.explain.explain_job_at.Goals as goal
+
+pub returns-clause-explained : goal.returns-clause-explained
+returns-clause-explained g c =
+    let gathered = c.in_ok-plan.ensures in
+    IfOk-both c.explain_planned_job.result _ _ _
+    (λ found text judged. record {
+      plan = c.in_ok-plan.plan;
+      listed = gathered.jobs;
+      paths = search rules;
+      kept = rw (c.new-store.ensures.inputs, c.new-store.ensures.folder) at gathered.kept;
+      unread = c.unread_paths.result.now;
+      noted = ap length c.unread_paths.ensures ∙ (rw c.new-store.ensures.nothing at gathered.faults);
+      text = text;
+      judged = judged;
+    }) c.explain_planned_job.ensures.text c.explain_planned_job.ensures.status

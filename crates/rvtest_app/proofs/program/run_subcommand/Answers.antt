@@ -1,0 +1,21 @@
+use Rattle.rvtest_app.proofs.StopLemmas.{nothing_said, put_or_found}
+use Rattle.rvtest_app.proofs.program.run_subcommand.Goals as goal
+use Rattle.rvtest_app.proofs.program.run_subcommand.Goals.{in-Explain, in-Check, in-Merge, in-Diff, in-Show}
+
+pub returns-clause-stopped : goal.returns-clause-stopped
+returns-clause-stopped g c = elim c.match-asked.branch [
+  | in-Explain w ↦
+      rw (w.answer-is, w.in-Explain.is)
+      (put_or_found w.explain_named_job.result _ _ w.explain_named_job.ensures.stopped
+      w.put_findings-answer.ensures.stopped)
+  | in-Check w ↦
+      rw (w.answer-is, w.in-Check.is)
+      (put_or_found w.check_list.result _ _ w.check_list.ensures.stopped
+      w.put_findings-answer-in-Check.ensures.stopped)
+  | in-Merge w ↦ rw w.in-Merge.is (nothing_said c.match-asked.answer)
+  | in-Diff w ↦
+      rw (w.answer-is, w.in-Diff.is)
+      (put_or_found w.diff_reports.result _ _ w.diff_reports.ensures.stopped
+      w.put_findings-answer-in-Diff.ensures.stopped)
+  | in-Show w ↦ rw w.in-Show.is (nothing_said c.match-asked.answer)
+]

@@ -1,0 +1,66 @@
+-- Why commands ended before their work was done.
+use Rattle.std.specs.Prelude.{◌≡◌, ◌⊎◌, ℕ, List, Option, Some, Ok, ⊤}
+use Rattle.clap.specs.Kinds.{IsAmong}
+use Rattle.clap.specs.declared.error.kind.ErrorKind.{ErrorKind as WordsFault}
+use Rattle.rv_base.specs.Files.{FileContents}
+use Rattle.rv_choice.specs.UnknownName.{IsUnknownNameStop}
+use Rattle.rv_cli.specs.RvtestWords.{asked_words, words_fault_kinds, words_request}
+use Rattle.rv_cli.specs.declared.rvtest.check.CheckAsked.{CheckAsked}
+use Rattle.rv_cli.specs.declared.rvtest.diff.DiffAsked.{DiffAsked}
+use Rattle.rv_cli.specs.declared.rvtest.explain.ExplainAsked.{ExplainAsked}
+use Rattle.rv_cli.specs.declared.rvtest.requests.Asked.{Asked}
+use Rattle.rv_cli.specs.declared.rvtest.requests.Asked.TheVariants as asked
+use Rattle.rv_command.specs.Stops.{IsListFaultStop, IsListUnreadStop, IsRefusal, IsReportUnreadStop}
+use Rattle.rv_command.specs.Texts.{IsReportAt, IsTextAt}
+use Rattle.rv_command.specs.declared.stop.Stop.{Stop}
+use Rattle.rv_command.specs.declared.stop.Stop.TheVariants as stop
+use Rattle.rv_lists.specs.JobList.{job_list_of}
+use Rattle.rv_lists.specs.declared.job.Job.{Job}
+use Rattle.rv_report.specs.declared.saved.SavedReport.{SavedReport}
+use Rattle.rvtest_app.specs.Answers.{AskForHelp}
+use Rattle.rvtest_app.specs.ToldStops.{IsHelpAsked}
+
+-- `check`: the list was not read; or memory was wanting, or the list has a fault
+abbrev pub IsCheckStop : Option FileContents → CheckAsked → Stop → Type 0
+IsCheckStop known words why = IsListUnreadStop known words.list.now why
+    ⊎ ((text : List ℕ) × (IsTextAt known words.list.now text × IsListFaultStop words.list.now text why))
+
+-- a text at a path is no list, or no job of it has a name
+abbrev pub IsNoJobStop : List ℕ → List ℕ → List ℕ → Stop → Type 0
+IsNoJobStop path text name why = IsListFaultStop path text why
+    ⊎ ((jobs : List Job) × ((job_list_of text ≡ Ok jobs) × IsUnknownNameStop path jobs name why))
+
+-- `explain`: the list was not read, or it has no such job
+abbrev pub IsExplainStop : Option FileContents → ExplainAsked → Stop → Type 0
+IsExplainStop known words why = IsListUnreadStop known words.list.now why
+    ⊎ ((text : List ℕ) × (IsTextAt known words.list.now text × IsNoJobStop words.list.now text words.name.now why))
+
+-- `diff`: the old report was not read, or it was, and the new one was not
+abbrev pub IsDiffAtStop : Option FileContents → DiffAsked → Stop → Type 0
+IsDiffAtStop known words why = IsReportUnreadStop known words.old.now why
+    ⊎ ((report : SavedReport) × (IsReportAt known words.old.now report × IsReportUnreadStop known words.new.now why))
+
+-- what stopped a command that puts one text: the text was not put, or the command was stopped before; nothing is said of
+-- commands that put files as well
+abbrev pub IsCommandStop : Option FileContents → Asked → Stop → Type 0
+IsCommandStop known (asked.Explain words) why = (why ≡ stop.WriteFailed) ⊎ IsExplainStop known words why
+IsCommandStop known (asked.Check words) why = (why ≡ stop.WriteFailed) ⊎ IsCheckStop known words why
+IsCommandStop known (asked.Diff words) why = (why ≡ stop.WriteFailed) ⊎ IsDiffAtStop known words why
+IsCommandStop known (asked.Run words) why = ⊤
+IsCommandStop known (asked.Merge words) why = ⊤
+IsCommandStop known (asked.Show words) why = ⊤
+
+-- words have a fault of some kind, which is not that they ask for help
+abbrev pub AreFaulty : List (List ℕ) → Type 0
+AreFaulty words = (kind : WordsFault) × (IsAmong kind (words_fault_kinds words) × (IsHelpAsked kind → ⊥))
+
+-- words stopped the program: memory was wanting; the help that they ask for was not put; or they are refused
+abbrev pub IsWordsStop : List (List ℕ) → Stop → Type 0
+IsWordsStop words why = (why ≡ stop.OutOfMemory)
+    ⊎ ((AskForHelp words × (why ≡ stop.WriteFailed)) ⊎ (AreFaulty words × IsRefusal why))
+
+-- what stopped the program
+abbrev pub IsStopFor : Option FileContents → List (List ℕ) → Stop → Type 0
+IsStopFor known words why =
+    ((asked : Asked) × ((words_request words ≡ Some (asked_words asked)) × IsCommandStop known asked why))
+    ⊎ IsWordsStop words why

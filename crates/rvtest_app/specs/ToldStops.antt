@@ -1,0 +1,55 @@
+-- How a command ends before its work is done.
+use Rattle.std.specs.Prelude.{◌≡◌, ◌⊎◌, ℕ, List, Result, Ok, Err, Vec, codes}
+use Rattle.std.specs.declared.alloc.Global.{Global}
+use Rattle.std.specs.declared.io.ErrorKind.{ErrorKind}
+use Rattle.std.specs.declared.io.ErrorKind.TheVariants as io
+use Rattle.clap.specs.declared.error.kind.ErrorKind.{ErrorKind as WordsFault}
+use Rattle.clap.specs.declared.error.kind.ErrorKind.TheVariants as words
+use Rattle.rv_base.specs.Counts.{one_more}
+use Rattle.rv_command.specs.Messages.{stop_message}
+use Rattle.rv_command.specs.Stops.{IsReportFaultStop, stop_status}
+use Rattle.rv_command.specs.Texts.{IsReportText}
+use Rattle.rv_command.specs.declared.stop.Stop.{Stop}
+use Rattle.rv_command.specs.declared.stop.Stop.TheVariants as stop
+use Rattle.rv_report.specs.declared.saved.SavedReport.{SavedReport}
+use Rattle.rvtest_app.specs.Said.{IsOnlyTold, Said}
+
+-- ---- the program
+
+-- the program ended by a stop of some kind: the status is the stop's, and its message was put last, to standard error
+abbrev pub IsStopTold : (Stop → Type 0) → ℕ → Said → Type 0
+IsStopTold ended status after = (why : Stop) × ended why × (status ≡ stop_status why)
+    × ((before : Said) × IsOnlyTold (stop_message why) before after)
+
+-- why the process gives no words, and what is told of that with which status
+abbrev pub unreadable_words_status : ErrorKind → ℕ
+unreadable_words_status io.OutOfMemory = 3
+unreadable_words_status _ = 2
+
+abbrev pub unreadable_words_message : ErrorKind → List ℕ
+unreadable_words_message io.OutOfMemory = codes "rvtest: out of memory\n"
+unreadable_words_message _ = codes "rvtest: a word is no UTF-8 text\n"
+
+-- ---- help
+
+-- the help or the version is asked for, which `clap` takes as a fault of words
+abbrev pub IsHelpAsked : WordsFault → Type 0
+IsHelpAsked fault = (fault ≡ words.DisplayHelp) ⊎ (fault ≡ words.DisplayVersion)
+
+-- memory was wanting, or a put failed
+abbrev pub IsHelpStop : ℕ → ℕ → Stop → Type 0
+IsHelpStop failures_before failures_after why = (why ≡ stop.OutOfMemory)
+    ⊎ ((why ≡ stop.WriteFailed) × (failures_after ≡ one_more failures_before))
+
+-- ---- diff
+
+-- what kept the new report from being compared: it was not read, or what was read is no report
+abbrev pub IsNewReportStop : List ℕ → Result (Vec ℕ Global) Stop → Stop → Type 0
+IsNewReportStop path (Ok bytes) why = IsReportFaultStop path bytes.items why
+IsNewReportStop path (Err unread) why = why ≡ unread
+
+-- memory was wanting; or what is wrong with the old report is told; or the old one is a report, and the new one is
+-- blamed
+abbrev pub IsDiffStop : List ℕ → List ℕ → List ℕ → Result (Vec ℕ Global) Stop → Stop → Type 0
+IsDiffStop old_path old new_path new why = (why ≡ stop.OutOfMemory) ⊎ (IsReportFaultStop old_path old why
+    ⊎ ((report : SavedReport) × IsReportText old report × IsNewReportStop new_path new why))
