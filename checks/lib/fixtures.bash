@@ -72,6 +72,23 @@ image = "a.elf"
 budget = 1_0
 END
 
+# A list with two faults, and what is said of them.
+cat >"$work/faulty.toml" <<'END'
+[[job]]
+name = "none"
+image = "a.elf"
+budget = 0
+
+[[job]]
+name = "misspelt"
+image = "a.elf"
+Budget = 3
+END
+{
+    echo 'faulty.toml:1: job 1 (none): budget = 0: a whole number from 1 to 1000000000 is wanted'
+    echo 'faulty.toml:6: job 2 (misspelt): unknown key "Budget": the nearest key is "budget"'
+} >"$work/faulty.checked"
+
 # A job that expects another exit code than it has.
 cat >"$work/failing.toml" <<'END'
 [[job]]

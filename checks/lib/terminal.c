@@ -1,6 +1,6 @@
 /* Preloaded into a process, makes of its streams and its clock what a check asks for: the streams whose numbers stand in
-   TERMINALS are terminals, and no others, the clock that only goes on is at 0 when it is read first and CLOCK_STEP milliseconds
-   further at each reading, and standard output takes MOST_PUT bytes at once. */
+   TERMINALS are terminals, and no others, the clock that only goes on is at 1,000 seconds when it is read first and CLOCK_STEP
+   milliseconds further at each reading, and standard output takes MOST_PUT bytes at once. */
 #include <stdatomic.h>
 #include <stdlib.h>
 #include <string.h>
@@ -24,7 +24,7 @@ int clock_gettime(clockid_t clock, struct timespec *now) {
     if (clock != CLOCK_MONOTONIC) {
         return (int)syscall(SYS_clock_gettime, clock, now);
     }
-    long at = number_of("CLOCK_STEP") * atomic_fetch_add(&read_times, 1);
+    long at = 1000000 + number_of("CLOCK_STEP") * atomic_fetch_add(&read_times, 1);
     now->tv_sec = at / 1000;
     now->tv_nsec = at % 1000 * 1000000;
     return 0;

@@ -117,7 +117,9 @@ def check_fault(row):
     front = row["front"]
     told = lines(*(f"{front} {line}" if front else line for line in lines_in(row["told"])))
     row.wants(["check", name], 2, told)
-    row.wants(["run", name], 2, "", told.partition("\n")[0] + "\n")
+    first = told.partition("\n")[0] + "\n"
+    row.wants(["run", name], 2, "", first)
+    row.wants(["run", name, "--report", "r"], 2, "", first)
 
 
 # ---- bytes
