@@ -6,7 +6,7 @@ _rvfleet_options() {
         'rvtest explain') echo '--last --root --help' ;;
         'rvtest check') echo '--root --help' ;;
         'rvtest merge') echo '--report --junit --lenient --help' ;;
-        'rvtest diff') echo '--steps --help' ;;
+        'rvtest diff') echo '--steps --slower --help' ;;
         'rvtest show') echo '--junit --lenient --help' ;;
         'rvfleet raw') echo '--budget --help' ;;
         'rvfleet one') echo '--budget --input-hex --help' ;;
@@ -24,7 +24,7 @@ _rvfleet() {
         mapfile -t COMPREPLY < <(compgen -W "$(_rvfleet_options "${1##*/}" "${COMP_WORDS[1]}")" -- "$word")
     elif [ "$before" = --root ]; then
         mapfile -t COMPREPLY < <(compgen -d -- "$word")
-    elif [[ " --budget --group --input-hex --last --match --only --shard --stamp --workers " != *" $before "* ]]; then
+    elif [[ " --budget --group --input-hex --last --match --only --shard --slower --stamp --workers " != *" $before "* ]]; then
         mapfile -t COMPREPLY < <(compgen -f -- "$word")
     fi
 }
