@@ -148,8 +148,8 @@ def check_shown(row):
 def check_value(row):
     """What is shown of the value that a file says is expected."""
     row.write("f", row["value"])
-    told = f'expected the console of f: byte 0 is "\\xff", expected "{row["shown"]}"'
-    wants_console(row, b"\xff", "expect_console_file = 'f'", told, "| \\xff")
+    told = f'expected the console of f: byte 0 is "\\xfe", expected "{row["shown"]}"'
+    wants_console(row, b"\xfe", "expect_console_file = 'f'", told, "| \\xfe")
 
 
 def check_console(row):
@@ -157,13 +157,18 @@ def check_console(row):
     wants_console(row, raw(row["console"]), "expect_exit = 1", "expected exit 1", *lines_in(row["shown"]))
 
 
+def tail_of(console):
+    """The lines that are shown of a console: its last, with digits for what cannot be printed."""
+    text = console[-1024:].decode("utf-8", "backslashreplace")
+    shown = re.sub(r"[\x00-\x09\x0b-\x1f]", lambda control: f"\\x{ord(control[0]):02x}", text)
+    return [f"| {line}" for line in shown.removesuffix("\n").split("\n")[-10:]] if shown else []
+
+
 def check_compared(row):
     """The lines that are told where a console differs from the text of a file."""
     console = raw(row["console"])
     row.write("f", row["file"])
-    shown = console[-1024:].decode().replace("\x1b", "\\x1b").replace("\r", "\\x0d")
-    tail = [f"| {line}" for line in shown.removesuffix("\n").split("\n")[-10:]] if shown else []
-    wants_console(row, console, "expect_console_file = 'f'", *lines_in(row["told"]), *tail)
+    wants_console(row, console, "expect_console_file = 'f'", *lines_in(row["told"]), *tail_of(console))
 
 
 # ---- expectations
@@ -196,8 +201,7 @@ def check_unmet(row):
     if row["file"]:
         row.write("f", row["file"].replace(".", ""))
     if row["expected"]:
-        tail = [f"| {line}" for line in console.splitlines()]
-        out = told_lines(f"FAIL b: {told}", *(f"expected {text}" for text in lines_in(row["expected"])), *tail)
+        out = told_lines(f"FAIL b: {told}", *(f"expected {text}" for text in lines_in(row["expected"])), *tail_of(raw(console)))
     else:
         out = lines(f"{'FAIL' if told.startswith('refused') else 'PASS'} b: {told}")
     wants_run(row, ["--verbose", "--only", "b"], out)
