@@ -1,5 +1,5 @@
 # shellcheck shell=bash
-# What bash offers behind `rvtest` and `rvfleet`: their commands, the options of each, and files where a path stands.
+# What bash offers behind `rvtest` and `rvfleet`: their commands, the options of each, files, and the names of a list's jobs.
 _rvfleet_options() {
     case "$1 $2" in
         'rvtest run') echo '--only --match --failed --shard --stamp --workers --group --root --report --junit --lenient --verbose --quiet --last --help' ;;
@@ -14,6 +14,22 @@ _rvfleet_options() {
     esac
 }
 
+# The names of the jobs of the first file on the line behind the command.
+_rvfleet_jobs() {
+    local each
+    for each in "${COMP_WORDS[@]:2:COMP_CWORD-2}"; do
+        if [ -f "$each" ]; then
+            "${COMP_WORDS[0]}" list "$each" 2>/dev/null
+            return
+        fi
+    done
+}
+
+# Whether the word is the second one of a command that takes a list and a job's name.
+_rvfleet_is_named() {
+    [[ " explain " = *" ${COMP_WORDS[1]} "* && $COMP_CWORD -gt 2 && -f ${COMP_WORDS[COMP_CWORD - 1]} ]]
+}
+
 _rvfleet() {
     local word=$2 before=$3 commands='run explain check merge diff show --version --help'
     COMPREPLY=()
@@ -22,9 +38,11 @@ _rvfleet() {
         mapfile -t COMPREPLY < <(compgen -W "$commands" -- "$word")
     elif [[ $word = -* ]]; then
         mapfile -t COMPREPLY < <(compgen -W "$(_rvfleet_options "${1##*/}" "${COMP_WORDS[1]}")" -- "$word")
-    elif [ "$before" = --root ]; then
+    elif [[ " --root " = *" $before "* ]]; then
         mapfile -t COMPREPLY < <(compgen -d -- "$word")
-    elif [[ " --budget --group --input-hex --last --match --only --shard --slower --stamp --workers " != *" $before "* ]]; then
+    elif [[ " --only " = *" $before "* ]] || _rvfleet_is_named; then
+        mapfile -t COMPREPLY < <(compgen -W "$(_rvfleet_jobs)" -- "$word")
+    elif [[ " --budget --group --input-hex --last --match --shard --slower --stamp --workers " != *" $before "* ]]; then
         mapfile -t COMPREPLY < <(compgen -f -- "$word")
     fi
 }

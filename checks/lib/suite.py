@@ -39,6 +39,7 @@ SCRIPTS = {
     "samples": ([], False),
     "version": ([], False),
     "pages": ([], True),
+    "completions": ([], True),
     "worked": ([], True),
 }
 # How many failures are told at length.

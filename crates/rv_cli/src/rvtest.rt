@@ -7,6 +7,7 @@ mod arguments;
 mod check;
 mod command;
 mod diff;
+mod examples;
 mod explain;
 mod merge;
 mod refusals;

@@ -20,6 +20,8 @@ pub(crate) struct Subcommand<'a> {
     pub(crate) about: &'a str,
     /// The words that its usage begins with.
     pub(crate) usage: &'a str,
+    /// What its help ends with: examples and statuses.
+    pub(crate) after: &'a str,
     pub(crate) arguments: &'a [Argument<'a>],
 }
 
@@ -56,14 +58,17 @@ fn with_subcommands<'a>(alloc: Global, command: Built<'a>, stated: &[Subcommand<
 fn subcommand_of_table<'a>(alloc: Global, stated: &Subcommand<'a>) -> Built<'a>
     ensures { IsBuilt (subcommand_app stated.now) result }
 {
-    let command = bare_command(alloc, stated.name, stated.about, stated.usage);
+    let command = bare_command(alloc, stated);
     with_arguments(alloc, command, stated.arguments)
 }
 
-fn bare_command<'a>(alloc: Global, name: &'a str, about: &'a str, usage: &'a str) -> Built<'a>
-    ensures { IsBuilt (new_app name.entry.now) result }
+fn bare_command<'a>(alloc: Global, stated: &Subcommand<'a>) -> Built<'a>
+    ensures { IsBuilt (new_app stated.now.name.now) result }
 {
-    Command::new(alloc, name).about(about).bin_name(usage)
+    Command::new(alloc, stated.name)
+        .about(stated.about)
+        .after_help(stated.after)
+        .bin_name(stated.usage)
 }
 
 /// The command `rvtest run`, whose usage a refusal of its words shows.

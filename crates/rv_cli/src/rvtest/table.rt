@@ -2,6 +2,7 @@
 
 use crate::rvtest::arguments::{Argument, Bounds};
 use crate::rvtest::command::Subcommand;
+use crate::rvtest::examples;
 use rv_base::limits::MOST_WORKERS;
 
 /// The commands of `rvtest`, in the order in which help names them.
@@ -11,6 +12,7 @@ pub(crate) const RUN: Subcommand<'static> = Subcommand {
     name: "run",
     about: "Runs the jobs of a list, and shows each that fails",
     usage: "rvtest run",
+    after: examples::RUN,
     arguments: &[
         Argument::Word("list", "LIST", LIST),
         Argument::Again(
@@ -58,6 +60,7 @@ const EXPLAIN: Subcommand<'static> = Subcommand {
     name: "explain",
     about: "Runs one job, and shows how it ended and came there",
     usage: "rvtest explain",
+    after: examples::EXPLAIN,
     arguments: &[
         Argument::Word("list", "LIST", LIST),
         Argument::Word("name", "NAME", "Name of the job"),
@@ -70,6 +73,7 @@ const CHECK: Subcommand<'static> = Subcommand {
     name: "check",
     about: "Says all that is wrong with a list and its files, and runs nothing",
     usage: "rvtest check",
+    after: examples::CHECK,
     arguments: &[
         Argument::Word("list", "LIST", LIST),
         Argument::Option("root", "DIR", ROOT),
@@ -80,6 +84,7 @@ pub(crate) const MERGE: Subcommand<'static> = Subcommand {
     name: "merge",
     about: "Makes the whole report of the parts of one run",
     usage: "rvtest merge",
+    after: examples::MERGE,
     arguments: &[
         Argument::Words(
             "part",
@@ -96,6 +101,7 @@ pub(crate) const DIFF: Subcommand<'static> = Subcommand {
     name: "diff",
     about: "Says in which jobs two reports differ",
     usage: "rvtest diff",
+    after: examples::DIFF,
     arguments: &[
         Argument::Word("old", "OLD", "Path of the report that is compared with"),
         Argument::Word("new", "NEW", "Path of the report that is compared"),
@@ -113,6 +119,7 @@ const SHOW: Subcommand<'static> = Subcommand {
     name: "show",
     about: "Shows what failed in a report",
     usage: "rvtest show",
+    after: examples::SHOW,
     arguments: &[
         Argument::Word("report", "REPORT", "Path of a report"),
         Argument::Option("junit", "FILE", JUNIT),

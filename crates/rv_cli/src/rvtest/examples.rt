@@ -1,0 +1,66 @@
+//! What the help of each command of `rvtest` ends with: calls as they are typed, and what its status says.
+
+pub(crate) const RUN: &str = "\
+Examples:
+  rvtest run tests.toml --match uart --last 20
+  rvtest run tests.toml --report report.txt --junit junit.xml
+
+Status:
+  0  No job failed
+  1  A job failed
+  2  The words, the list or a report is refused
+  3  The system failed: memory, a thread or a file";
+
+pub(crate) const EXPLAIN: &str = "\
+Examples:
+  rvtest explain tests.toml uart-echo
+  rvtest explain tests.toml uart-echo --last 200
+
+Status:
+  0  The job passes by the strict rule
+  1  The job fails by the strict rule
+  2  The words, the list or the name is refused
+  3  The system failed: memory or a file";
+
+pub(crate) const CHECK: &str = "\
+Examples:
+  rvtest check tests.toml
+  rvtest check tests.toml --root build
+
+Status:
+  0  No fault, and no job is refused
+  2  The words are refused, or the list has a fault, or a job is refused
+  3  The system failed: memory or a file";
+
+pub(crate) const MERGE: &str = "\
+Examples:
+  rvtest merge part-1.txt part-2.txt --report report.txt
+  rvtest merge part-*.txt --report report.txt --junit junit.xml
+
+Status:
+  0  No job failed
+  1  A job failed
+  2  The words or a part is refused, or a part is missing
+  3  The system failed: memory or a file";
+
+pub(crate) const DIFF: &str = "\
+Examples:
+  rvtest diff main.txt branch.txt
+  rvtest diff main.txt branch.txt --slower 5
+
+Status:
+  0  No job differs
+  1  A job differs
+  2  The words or a report is refused
+  3  The system failed: memory or a file";
+
+pub(crate) const SHOW: &str = "\
+Examples:
+  rvtest show report.txt
+  rvtest show report.txt --junit junit.xml
+
+Status:
+  0  No job failed
+  1  A job failed
+  2  The words or the report is refused
+  3  The system failed: memory or a file";

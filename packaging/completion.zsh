@@ -1,0 +1,112 @@
+#compdef rvtest rvfleet
+# What zsh offers behind `rvtest` and `rvfleet`: their commands, the options of each, files, and the names of a list's jobs.
+
+# The names of the jobs of the first file on the line.
+_rvfleet_jobs() {
+    local each
+    local -a names
+    for each in ${(Q)words[2,-1]}; do
+        if [[ -f $each ]]; then
+            names=(${(f)"$(_call_program jobs ${(q)service} list ${(q)each} 2>/dev/null)"})
+            break
+        fi
+    done
+    compadd -a names
+}
+
+_rvfleet_behind_rvtest() {
+    local -a commands=(
+        'run:Runs the jobs of a list, and shows each that fails'
+        'explain:Runs one job, and shows how it ended and came there'
+        'check:Says all that is wrong with a list and its files, and runs nothing'
+        'merge:Makes the whole report of the parts of one run'
+        'diff:Says in which jobs two reports differ'
+        'show:Shows what failed in a report'
+    )
+    if (( CURRENT == 2 )); then
+        _describe command commands
+        return
+    fi
+    # _arguments takes the command for the program.
+    shift words
+    (( CURRENT-- ))
+    case $words[1] in
+        run) _arguments \
+                '*--only[Chooses the job of this name; may come again]:NAME:_rvfleet_jobs' \
+                '--match[Chooses the jobs in whose names it is found]:REGEX: ' \
+                '--failed[Chooses the jobs that failed in a report]:REPORT:_files' \
+                '--shard[Runs the K-th of N parts of the list]:K/N: ' \
+                '--stamp[Says which run the part is of; else a digest of the list]:TEXT: ' \
+                '--workers[Threads, from 1 to 64; else one a processor]:N: ' \
+                '--group[Jobs that a thread takes at once, from 1 to 4096 \[default\: 1\]]:N: ' \
+                '--root[Takes the paths in the list from this folder]:DIR:_directories' \
+                '--report[Writes the report to this file; - is standard output]:FILE:_files' \
+                '--junit[Writes JUnit XML to this file; - is standard output]:FILE:_files' \
+                '--lenient[Counts as failed only what misses an expectation]' \
+                '--verbose[Shows the jobs that pass, too; not beside --quiet]' \
+                '--quiet[Shows the last line alone; not beside --verbose]' \
+                '--last[Shows the last N instructions of a job, from 0 to 100000]:N: ' \
+                '--help[Print help]' \
+                ':LIST:_files' ;;
+        explain) _arguments \
+                '--last[Shows the last N instructions of a job, from 0 to 100000 \[default\: 16\]]:N: ' \
+                '--root[Takes the paths in the list from this folder]:DIR:_directories' \
+                '--help[Print help]' \
+                ':LIST:_files' \
+                ':NAME:_rvfleet_jobs' ;;
+        check) _arguments \
+                '--root[Takes the paths in the list from this folder]:DIR:_directories' \
+                '--help[Print help]' \
+                ':LIST:_files' ;;
+        merge) _arguments \
+                '--report[Writes the report to this file; - is standard output]:FILE:_files' \
+                '--junit[Writes JUnit XML to this file; - is standard output]:FILE:_files' \
+                '--lenient[Counts as failed only what misses an expectation]' \
+                '--help[Print help]' \
+                '*:PART:_files' ;;
+        diff) _arguments \
+                '--steps[Compares steps too, and where faults were]' \
+                '--slower[Says which jobs take over N percent more steps, from 0 to 1000]:N: ' \
+                '--help[Print help]' \
+                ':OLD:_files' \
+                ':NEW:_files' ;;
+        show) _arguments \
+                '--junit[Writes JUnit XML to this file; - is standard output]:FILE:_files' \
+                '--lenient[Counts as failed only what misses an expectation]' \
+                '--help[Print help]' \
+                ':REPORT:_files' ;;
+    esac
+}
+
+_rvfleet_behind_rvfleet() {
+    local -a commands=(
+        'raw:Runs the flat image on standard input, placed at 0x80000000'
+        'one:Runs one ELF image, placed at its physical addresses'
+        'run:Runs the jobs of a list, and reports one row a job'
+    )
+    if (( CURRENT == 2 )); then
+        _describe command commands
+        return
+    fi
+    # _arguments takes the command for the program.
+    shift words
+    (( CURRENT-- ))
+    case $words[1] in
+        raw) _arguments \
+                '--budget[Steps at most, from 1 to 1000000000]:N: ' \
+                '--help[Print help]' ;;
+        one) _arguments \
+                '--budget[Steps at most, from 1 to 1000000000]:N: ' \
+                '--input-hex[The console'\''s input, as hexadecimal digits]:H: ' \
+                '--help[Print help]' \
+                ':IMAGE:_files' ;;
+        run) _arguments \
+                '--workers[Threads, from 1 to 64 \[default\: 1\]]:N: ' \
+                '--group[Jobs that a thread takes at once, from 1 to 4096 \[default\: 1\]]:N: ' \
+                '--help[Print help]' \
+                ':JOBS:_files' ;;
+    esac
+}
+
+# A file of this name is one function, so the programs' own have other names than it.
+_rvfleet_behind_$service

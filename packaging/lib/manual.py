@@ -1,0 +1,68 @@
+"""The manual pages: of each program from its help, and of a list's format from the table of keys in README.md."""
+import re
+
+from help import TOP, commands_of
+
+
+def roff(text):
+    """A text as a line of a manual page has it."""
+    return text.replace("\\", "\\e").replace("-", "\\-").replace("'", "\\(aq").replace("`", "")
+
+
+def synopsis(command):
+    lines = [f".B {command.program} {command.name}"]
+    for option in command.options:
+        asked = f"\\-\\-{roff(option.name)}"
+        if f"--{option.name}" in command.usage:
+            lines += [f".B {asked}", f".I {roff(option.value)}"]
+            continue
+        again = "..." if option.may_come_again else ""
+        lines.append(f".RB [ {asked} ]{again}" if option.value is None else f".RB [ {asked}\n.IR {roff(option.value)} ]{again}")
+    lines += [f".I {roff(name)}" for name, _ in command.arguments]
+    return "\n".join(lines)
+
+
+def option_head(option):
+    short = f"\\-{option.short}, " if option.short else ""
+    asked = f"{short}\\-\\-{roff(option.name)}"
+    return f'.B "{asked}"' if option.value is None else f'.BI "{asked}" " {roff(option.value)}"'
+
+
+def section(command):
+    lines = [f".SS {command.name}", roff(command.about) + "."]
+    for name, text in command.arguments:
+        lines += [".TP", f".I {roff(name)}", roff(text) + "."]
+    for option in command.options:
+        lines += [".TP", option_head(option), roff(option.text) + "."]
+    return "\n".join(lines)
+
+
+def examples(program):
+    lines = [roff(example) for command in commands_of(program) for example in command.examples]
+    return "\n".join([".EX", *lines, ".EE"])
+
+
+def program_page(program, text):
+    """The page of a program, from the text of `PROGRAM.1.in`."""
+    commands = commands_of(program)
+    text = text.replace("@SYNOPSIS@", "\n.br\n".join(map(synopsis, commands)))
+    text = text.replace("@COMMANDS@", "\n".join(map(section, commands)))
+    return text.replace("@EXAMPLES@", examples(program))
+
+
+def keys():
+    """The keys of a list: name or names, value, and what holds where it is absent, from README.md."""
+    rows = re.findall(r"^\| (`.*`) \| (.*?) \| (.*?) ?\|$", (TOP / "README.md").read_text(), flags=re.M)
+    behind = [names for names, _, _ in rows].index("`name`")
+    return rows[behind:]
+
+
+def key_entry(names, value, absent):
+    shown = ", ".join(re.findall("`([^`]+)`", names))
+    lines = [".TP", f'.B "{roff(shown)}"', roff(value[0].upper() + value[1:]) + "."]
+    return "\n".join(lines + ([f"If absent: {roff(absent)}."] if absent else []))
+
+
+def list_page(text):
+    """The page of a list's format, from the text of `rvfleet-list.5.in`."""
+    return text.replace("@KEYS@", "\n".join(key_entry(*key) for key in keys()))
