@@ -1,10 +1,9 @@
 -- The command line: the rules that `clap` reads words by, and what words ask for.
-use Rattle.std.specs.Prelude.{◌≡◌, ◌⊎◌, is_some, ◌^◌, ℕ, Bool, true, List, [], ◌∷◌, Option, Some}
-use Rattle.std.specs.Prelude.{None, pos, codes, option_map, option_and_then, if◌then◌else◌, ◌&&◌}
-use Rattle.std.specs.Prelude.{nat_le, nat_lt}
+use Rattle.std.specs.Prelude.{◌≡◌, ◌⊎◌, is_some, ℕ, Bool, true, List, [], ◌∷◌, Option, Some}
+use Rattle.std.specs.Prelude.{None, pos, codes, option_map, option_and_then, if◌then◌else◌}
 use Rattle.std.specs.Str.{bytes_eq}
 use Rattle.clap.specs.Words.{App, IsAmong, Kinds, Row, Rule, Text, fault_of, first_of, new_app}
-use Rattle.clap.specs.Words.{new_rule, one_of, subcommand_of, takes, with_rule, with_subcommand}
+use Rattle.clap.specs.Words.{new_rule, subcommand_of, takes, with_rule, with_subcommand}
 use Rattle.clap.specs.declared.error.kind.ErrorKind.TheVariants as kind
 use Rattle.rv_base.specs.Limits.{most_budget, most_group, most_workers}
 use Rattle.rv_cli.specs.Values.{number_value}

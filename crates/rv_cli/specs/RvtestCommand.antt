@@ -1,5 +1,5 @@
 -- The command line of rvtest: the rules that `clap` reads words by.
-use Rattle.std.specs.Prelude.{ℕ, ℤ, true, List, [], ◌∷◌, Some, codes, fold, map, pos}
+use Rattle.std.specs.Prelude.{ℕ, ℤ, true, List, [], ◌∷◌, Option, Some, None, codes, fold, map, pos}
 use Rattle.std.specs.Borrow.{Bor}
 use Rattle.clap.specs.Words.{App, Rule, Text, new_app, new_rule, with_rule, with_subcommand}
 use Rattle.clap.specs.declared.builder.action.ArgAction.TheVariants.{Append, SetTrue}
@@ -7,6 +7,8 @@ use Rattle.clap.specs.declared.builder.value_parser.ValueParser.TheVariants as v
 use Rattle.rv_base.specs.Limits.{most_workers}
 use Rattle.rv_cli.specs.declared.rvtest.arguments.Argument.{Argument}
 use Rattle.rv_cli.specs.declared.rvtest.arguments.Argument.TheVariants as argument
+use Rattle.rv_cli.specs.declared.rvtest.command.ChoosingCommand.{ChoosingCommand}
+use Rattle.rv_cli.specs.declared.rvtest.command.ChoosingCommand.TheVariants as choosing
 use Rattle.rv_cli.specs.declared.rvtest.command.Subcommand.{Subcommand}
 use Rattle.rv_cli.specs.CommandBuilder.{option_rule, word_rule}
 use Rattle.rv_cli.specs.RvfleetCommand.{group_rule}
@@ -26,6 +28,21 @@ number_rule name least most usual = record (option_rule name) {
 abbrev pub flag_rule : Text → Rule
 flag_rule name = record (new_rule name) { long = Some name; action = Some SetTrue }
 
+-- the same argument, which a letter is short for, if one is
+abbrev pub with_letter : Rule → Option ℕ → Rule
+with_letter rule None = rule
+with_letter rule (Some letter) = record rule { short = Some letter }
+
+-- the letters j, q and v
+abbrev pub letter_of_workers : ℕ
+letter_of_workers = 106
+
+abbrev pub letter_of_quiet : ℕ
+letter_of_quiet = 113
+
+abbrev pub letter_of_verbose : ℕ
+letter_of_verbose = 118
+
 -- the most of the last instructions that are shown
 abbrev pub most_last_instructions : ℕ
 most_last_instructions = 100000
@@ -36,9 +53,9 @@ argument_rule (argument.Word name value help) = word_rule name.now
 argument_rule (argument.Words name value help) = repeated_rule (word_rule name.now)
 argument_rule (argument.Option name value help) = option_rule name.now
 argument_rule (argument.Again name value help) = repeated_rule (option_rule name.now)
-argument_rule (argument.Flag name help) = flag_rule name.now
-argument_rule (argument.Number name help bounds usual) =
-    number_rule name.now bounds.least bounds.most usual.now
+argument_rule (argument.Flag name letter help) = with_letter (flag_rule name.now) letter
+argument_rule (argument.Number name letter help bounds usual) =
+    with_letter (number_rule name.now bounds.least bounds.most usual.now) letter
 argument_rule argument.Group = group_rule
 
 -- <PART>..
@@ -49,9 +66,17 @@ parts_rule = repeated_rule (word_rule (codes "part"))
 abbrev pub only_rule : Rule
 only_rule = repeated_rule (option_rule (codes "only"))
 
--- --workers <N>
+-- --workers <N>, -j <N>
 abbrev pub test_workers_rule : Rule
-test_workers_rule = number_rule (codes "workers") (pos 1) (pos most_workers) []
+test_workers_rule = with_letter (number_rule (codes "workers") (pos 1) (pos most_workers) []) (Some letter_of_workers)
+
+-- --verbose, -v
+abbrev pub verbose_rule : Rule
+verbose_rule = with_letter (flag_rule (codes "verbose")) (Some letter_of_verbose)
+
+-- --quiet, -q
+abbrev pub quiet_rule : Rule
+quiet_rule = with_letter (flag_rule (codes "quiet")) (Some letter_of_quiet)
 
 -- --last <N>
 abbrev pub last_rule : Rule
@@ -79,10 +104,10 @@ with_table_command app stated = with_subcommand app (subcommand_app stated).top
 abbrev pub with_subcommands : App → List Subcommand → App
 with_subcommands = fold with_table_command
 
--- [--only <NAME>].. [--match <REGEX>] [--failed <REPORT>]
+-- [--only <NAME>].. [--match <REGEX>] [--exclude <REGEX>] [--failed <REPORT>]
 abbrev pub with_choice : App → App
-with_choice app = with_rule (with_rule (with_rule app only_rule)
-    (option_rule (codes "match"))) (option_rule (codes "failed"))
+with_choice app = with_rule (with_rule (with_rule (with_rule app only_rule)
+    (option_rule (codes "match"))) (option_rule (codes "exclude"))) (option_rule (codes "failed"))
 
 -- [--shard <K/N>] [--stamp <TEXT>]
 abbrev pub with_shard : App → App
@@ -101,24 +126,37 @@ with_files app = with_rule (with_rule (with_rule app (option_rule (codes "report
 
 -- [--verbose | --quiet] [--last <N>]
 abbrev pub with_results : App → App
-with_results app = with_rule (with_rule (with_rule app (flag_rule (codes "verbose")))
-    (flag_rule (codes "quiet"))) last_rule
+with_results app = with_rule (with_rule (with_rule app verbose_rule) quiet_rule) last_rule
 
-abbrev pub list_app : Text → App
-list_app name = with_rule (new_app name) (word_rule (codes "list"))
+-- a command over a list
+abbrev pub app_of_list : Text → App
+app_of_list name = with_rule (new_app name) (word_rule (codes "list"))
 
 abbrev pub test_run_app : App
 test_run_app =
-    with_results (with_files (with_machine (with_shard (with_choice (list_app (codes "run"))))))
+    with_results (with_files (with_machine (with_shard (with_choice (app_of_list (codes "run"))))))
+
+-- list <LIST> [--only <NAME>].. [--match <REGEX>] [--exclude <REGEX>] [--failed <REPORT>] [--lenient]
+abbrev pub list_app : App
+list_app = with_rule (with_choice (app_of_list (codes "list"))) (flag_rule (codes "lenient"))
+
+-- the commands whose words choose jobs
+abbrev pub choosing_app : ChoosingCommand → App
+choosing_app choosing.Run = test_run_app
+choosing_app choosing.List = list_app
 
 -- explain <LIST> <NAME> [--last <N>] [--root <DIR>]
 abbrev pub explain_app : App
-explain_app = with_rule (with_rule (with_rule (list_app (codes "explain"))
+explain_app = with_rule (with_rule (with_rule (app_of_list (codes "explain"))
     (word_rule (codes "name"))) explain_last_rule) (option_rule (codes "root"))
+
+-- console <LIST> <NAME> [--root <DIR>]
+abbrev pub console_app : App
+console_app = with_rule (with_rule (app_of_list (codes "console")) (word_rule (codes "name"))) (option_rule (codes "root"))
 
 -- check <LIST> [--root <DIR>]
 abbrev pub check_app : App
-check_app = with_rule (list_app (codes "check")) (option_rule (codes "root"))
+check_app = with_rule (app_of_list (codes "check")) (option_rule (codes "root"))
 
 -- merge <PART>.. [--report <FILE>] [--junit <FILE>] [--lenient]
 abbrev pub merge_app : App
@@ -149,10 +187,12 @@ test_top_app = let app = new_app (codes "rvtest") in
       };
     }
 
--- the commands that run jobs, and then those that read reports
+-- the commands over lists, and then those that read reports
 abbrev pub with_runs : App → App
-with_runs app = with_subcommand (with_subcommand (with_subcommand app test_run_app.top)
-    explain_app.top) check_app.top
+with_runs app = with_subcommand (with_subcommand (with_subcommand app test_run_app.top) list_app.top) explain_app.top
+
+abbrev pub with_lists : App → App
+with_lists app = with_subcommand (with_subcommand (with_runs app) console_app.top) check_app.top
 
 abbrev pub with_reports : App → App
 with_reports app = with_subcommand (with_subcommand (with_subcommand app merge_app.top)
@@ -160,4 +200,4 @@ with_reports app = with_subcommand (with_subcommand (with_subcommand app merge_a
 
 -- the whole command
 abbrev pub test_app : App
-test_app = with_reports (with_runs test_top_app)
+test_app = with_reports (with_lists test_top_app)

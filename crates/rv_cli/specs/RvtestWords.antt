@@ -28,6 +28,7 @@ pub record RunWords : Type 0 where
   pub list : Text
   pub only : List Text
   pub pattern : Option Text
+  pub exclude : Option Text
   pub failed : Option Text
   pub shard : Option Text
   pub stamp : Option Text
@@ -55,23 +56,28 @@ pub record MergeWords : Type 0 where
   pub junit : Option Text
   pub lenient : Bool
 
--- to run jobs; to explain one; to say all that is wrong with a list, whose paths are taken from a
+-- to run jobs; to say which jobs a run of these words would run; to explain one; to write the console of one, whose paths are taken
+-- from a folder; to say all that is wrong with a list, whose paths are taken from a
 -- folder; to merge parts; to compare two reports, with their steps or without, or by which jobs are slower; to show one, with
 -- the path of a JUnit file, by the lenient rule or the strict one
 pub data Words : Type 0 where
   run : RunWords → Words
+  names : RunWords → Words
   explain : ExplainWords → Words
+  console : Text → Text → Option Text → Words
   check : Text → Option Text → Words
   merge : MergeWords → Words
   diff : Text → Text → Bool → Option ℕ → Words
   show : Text → Option Text → Bool → Words
 
--- what the values of `run` ask for, of a list, in pieces of so many jobs
+-- what the values of `run` ask for, of a list, in pieces of so many jobs; those of `list` are without the values that it has no
+-- option for
 unfoldable pub run_words : Text → ℕ → List Row → RunWords
 run_words list group rows = record {
   list = list;
   only = argument_values (codes "only") rows;
   pattern = first_of (codes "match") rows;
+  exclude = first_of (codes "exclude") rows;
   failed = first_of (codes "failed") rows;
   shard = first_of (codes "shard") rows;
   stamp = first_of (codes "stamp") rows;
@@ -90,6 +96,9 @@ abbrev pub test_run_request : List Row → Option Words
 test_run_request rows = option_and_then (λ list. option_map (λ group. run (run_words list group rows))
     (number_value (codes "group") 1 most_group rows)) (first_of (codes "list") rows)
 
+abbrev pub list_request : List Row → Option Words
+list_request rows = option_map (λ list. names (run_words list 1 rows)) (first_of (codes "list") rows)
+
 abbrev pub explain_words : Text → Text → List Row → ℕ → Words
 explain_words list name rows last = explain (record {
   list = list;
@@ -101,6 +110,10 @@ explain_words list name rows last = explain (record {
 abbrev pub explain_request : List Row → Option Words
 explain_request rows = option_and_then (λ list. option_and_then (λ name.
     option_map (explain_words list name rows) (number_value (codes "last") 0 most_last_instructions rows))
+    (first_of (codes "name") rows)) (first_of (codes "list") rows)
+
+abbrev pub console_request : List Row → Option Words
+console_request rows = option_and_then (λ list. option_map (λ name. console list name (first_of (codes "root") rows))
     (first_of (codes "name") rows)) (first_of (codes "list") rows)
 
 abbrev pub check_request : List Row → Option Words
@@ -127,7 +140,9 @@ show_request rows = option_map (λ report. show report (first_of (codes "junit")
 -- what a subcommand with these values asks for
 abbrev pub subcommand_words : Text → List Row → Option Words
 subcommand_words name rows = if bytes_eq name (codes "run") then test_run_request rows
+    else if bytes_eq name (codes "list") then list_request rows
     else if bytes_eq name (codes "explain") then explain_request rows
+    else if bytes_eq name (codes "console") then console_request rows
     else if bytes_eq name (codes "check") then check_request rows
     else if bytes_eq name (codes "merge") then Some (merge_request rows)
     else if bytes_eq name (codes "diff") then diff_request rows
@@ -148,10 +163,11 @@ words_request words = matched_words (subcommand_of test_app words)
 abbrev pub is_report_path : Text → List Row → Bool
 is_report_path path rows = option_map_or (bytes_eq path) (first_of (codes "report") rows) false
 
--- jobs are chosen by their names or by a report
+-- jobs are chosen by their names or by a report, or left out
 abbrev pub is_choice_given : List Row → Bool
 is_choice_given rows = is_option_given (codes "only") rows
-    || (is_option_given (codes "match") rows || is_option_given (codes "failed") rows)
+    || (is_option_given (codes "match") rows
+    || (is_option_given (codes "exclude") rows || is_option_given (codes "failed") rows))
 
 -- JUnit's XML goes where the report goes, be that a file or standard output
 abbrev pub one_file_misuse : List Row → Option Misuse
@@ -183,7 +199,7 @@ misuse_kinds (Some _) = kind.ArgumentConflict ∷ []
 abbrev pub misuse_text : Misuse → Text
 misuse_text misuse.VerboseAndQuiet = codes "the argument '--verbose' cannot be used with '--quiet'"
 misuse_text misuse.ShardAndChoice =
-    codes "the argument '--shard <K/N>' cannot be used with '--only <NAME>', '--match <REGEX>' or '--failed <REPORT>'"
+    codes "the argument '--shard <K/N>' cannot be used with '--only <NAME>', '--match <REGEX>', '--exclude <REGEX>' or '--failed <REPORT>'"
 misuse_text misuse.StampAlone = codes "the argument '--stamp <TEXT>' cannot be used without '--shard <K/N>'"
 misuse_text misuse.StepsAndSlower = codes "the argument '--steps' cannot be used with '--slower <N>'"
 misuse_text misuse.OneFile =
@@ -215,6 +231,7 @@ run_asked_words value = record {
   list = value.list.now;
   only = map (λ name. name.now) value.only.items;
   pattern = borrowed_text value.pattern;
+  exclude = borrowed_text value.exclude;
   failed = borrowed_text value.failed;
   shard = borrowed_text value.shard;
   stamp = borrowed_text value.stamp;
@@ -247,16 +264,22 @@ merge_asked_words value = record {
 
 abbrev pub asked_words : Asked → Words
 asked_words (asked.Run value) = run (run_asked_words value)
+asked_words (asked.List value) = names (run_asked_words value)
 asked_words (asked.Explain value) = explain (explain_asked_words value)
+asked_words (asked.Console value) = console value.list.now value.name.now (borrowed_text value.root)
 asked_words (asked.Check value) = check value.list.now (borrowed_text value.root)
 asked_words (asked.Merge value) = merge (merge_asked_words value)
 asked_words (asked.Diff value) = diff value.old.now value.new.now value.steps value.slower
 asked_words (asked.Show value) = show value.report.now (borrowed_text value.junit) value.lenient
 
 -- each number is within the range of its argument
-abbrev pub IsAskedInRange : Asked → Type 0
-IsAskedInRange (asked.Run value) = IfSome value.workers (λ number. (1 ≤ number) × (number ≤ most_workers))
+abbrev pub IsRunAskedInRange : RunAsked → Type 0
+IsRunAskedInRange value = IfSome value.workers (λ number. (1 ≤ number) × (number ≤ most_workers))
     × (1 ≤ value.group) × (value.group ≤ most_group) × IfSome value.last (λ number. number ≤ most_last_instructions)
+
+abbrev pub IsAskedInRange : Asked → Type 0
+IsAskedInRange (asked.Run value) = IsRunAskedInRange value
+IsAskedInRange (asked.List value) = IsRunAskedInRange value
 IsAskedInRange (asked.Explain value) = value.last ≤ most_last_instructions
 IsAskedInRange (asked.Diff value) = IfSome value.slower (λ percent. percent ≤ most_slower)
 IsAskedInRange _ = Unit {0}

@@ -6,9 +6,11 @@
 mod arguments;
 mod check;
 mod command;
+mod console;
 mod diff;
 mod examples;
 mod explain;
+mod list;
 mod merge;
 mod refusals;
 mod requests;
@@ -17,7 +19,8 @@ mod show;
 mod table;
 
 pub use check::CheckAsked;
-pub use command::{merge_command, run_command};
+pub use command::{ChoosingCommand, merge_command};
+pub use console::ConsoleAsked;
 pub use diff::DiffAsked;
 pub use explain::ExplainAsked;
 pub use merge::MergeAsked;

@@ -4,7 +4,7 @@ ghost use Rattle.std.specs.Prelude.{◌≡◌, false};
 ghost use Rattle.clap.specs.Words.{App, rule_of};
 ghost use Rattle.rv_cli.specs.CommandBuilder.{IsBuilt};
 ghost use Rattle.rv_cli.specs.RvtestCommand.{flag_rule, number_rule, argument_rule};
-ghost use Rattle.rv_cli.specs.RvtestCommand.{with_arguments};
+ghost use Rattle.rv_cli.specs.RvtestCommand.{with_arguments, with_letter};
 
 use crate::arguments::{group_argument, option_argument, word_argument};
 use crate::command_builder::{Built, with_argument};
@@ -30,10 +30,11 @@ pub(crate) enum Argument<'a> {
     Option(&'a str, &'a str, &'a str),
     /// An option with a value, that may come again for more.
     Again(&'a str, &'a str, &'a str),
-    /// An option without a value.
-    Flag(&'a str, &'a str),
-    /// An option with a number, and the one that it has where it is not given, if it has one.
-    Number(&'a str, &'a str, Bounds, &'a [&'a str]),
+    /// An option without a value, and the letter that is short for it, if one is.
+    Flag(&'a str, Option<char>, &'a str),
+    /// An option with a number, the letter that is short for it, if one is, and the number that it has where it is not given, if it
+    /// has one.
+    Number(&'a str, Option<char>, &'a str, Bounds, &'a [&'a str]),
     /// How many jobs a thread takes at once.
     Group,
 }
@@ -51,10 +52,12 @@ impl<'a> Argument<'a> {
             Argument::Again(name, value, help) => {
                 option_argument(alloc, name, value, help).action(ArgAction::Append)
             }
-            Argument::Flag(name, help) => flag_argument(alloc, name, help),
-            Argument::Number(name, help, bounds, usual) => number_argument(
-                alloc, name, help, bounds, usual,
-            ),
+            Argument::Flag(name, letter, help) => {
+                with_letter(flag_argument(alloc, name, help), letter)
+            }
+            Argument::Number(name, letter, help, bounds, usual) => {
+                with_letter(number_argument(alloc, name, help, bounds, usual), letter)
+            }
             Argument::Group => group_argument(alloc),
         }
     }
@@ -74,6 +77,17 @@ pub(crate) fn with_arguments<'a>(
         command = with_argument(command, argument.clap_argument(alloc));
     }
     command
+}
+
+// The same argument, which a letter is short for, if one is.
+fn with_letter<'a>(argument: Arg<'a>, letter: Option<char>) -> Arg<'a>
+    ensures rule { rule_of result ≡ with_letter (rule_of argument.entry) letter }
+    ensures local { result.global ≡ argument.entry.global }
+{
+    match letter {
+        Some(letter) => argument.short(letter),
+        None => argument,
+    }
 }
 
 fn flag_argument<'a>(alloc: Global, name: &'a str, help: &'a str) -> Arg<'a>

@@ -4,12 +4,12 @@ ghost use Rattle.std.specs.Prelude.{◌≡◌, IfOk, false};
 ghost use Rattle.clap.specs.Words.{App, app_of, new_app};
 ghost use Rattle.clap.specs.declared.builder.command.Command.TheViews.{out-Command};
 ghost use Rattle.rv_cli.specs.CommandBuilder.{HasApp, IsBuilt};
-ghost use Rattle.rv_cli.specs.RvtestCommand.{diff_app, subcommand_app, merge_app, test_run_app, test_app};
+ghost use Rattle.rv_cli.specs.RvtestCommand.{choosing_app, diff_app, list_app, subcommand_app, merge_app, test_run_app, test_app};
 ghost use Rattle.rv_cli.specs.RvtestCommand.{test_top_app, with_subcommands};
 
 use crate::command_builder::{Built, with_subcommand};
 use crate::rvtest::arguments::{Argument, with_arguments};
-use crate::rvtest::table::{COMMANDS, DIFF, MERGE, RUN};
+use crate::rvtest::table::{COMMANDS, DIFF, LIST, MERGE, RUN};
 use clap::Command;
 use std::alloc::{AllocError, Global};
 
@@ -71,8 +71,36 @@ fn bare_command<'a>(alloc: Global, stated: &Subcommand<'a>) -> Built<'a>
         .bin_name(stated.usage)
 }
 
+/// A command whose words choose jobs of a list.
+#[derive(Clone, Copy)]
+pub enum ChoosingCommand {
+    Run,
+    List,
+}
+
+impl ChoosingCommand {
+    /// The command, whose usage a refusal of its words shows.
+    pub fn command<'a>(self, alloc: Global) -> Result<Command<'a>, AllocError>
+        ensures { IfOk result (λ command.
+            (app_of command ≡ choosing_app self) × ((out-Command command).has_globals ≡ false)) }
+    {
+        match self {
+            ChoosingCommand::Run => run_command(alloc),
+            ChoosingCommand::List => list_command(alloc),
+        }
+    }
+}
+
+/// The command `rvtest list`, whose usage a refusal of its words shows.
+fn list_command<'a>(alloc: Global) -> Result<Command<'a>, AllocError>
+    ensures { IfOk result (λ command.
+        (app_of command ≡ list_app) × ((out-Command command).has_globals ≡ false)) }
+{
+    subcommand_of_table(alloc, &LIST)
+}
+
 /// The command `rvtest run`, whose usage a refusal of its words shows.
-pub fn run_command<'a>(alloc: Global) -> Result<Command<'a>, AllocError>
+pub(crate) fn run_command<'a>(alloc: Global) -> Result<Command<'a>, AllocError>
     ensures { IfOk result (λ command.
         (app_of command ≡ test_run_app) × ((out-Command command).has_globals ≡ false)) }
 {

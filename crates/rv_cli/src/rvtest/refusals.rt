@@ -50,7 +50,7 @@ impl Misuse {
         match self {
             Misuse::VerboseAndQuiet => "the argument '--verbose' cannot be used with '--quiet'",
             Misuse::ShardAndChoice => {
-                "the argument '--shard <K/N>' cannot be used with '--only <NAME>', '--match <REGEX>' or '--failed <REPORT>'"
+                "the argument '--shard <K/N>' cannot be used with '--only <NAME>', '--match <REGEX>', '--exclude <REGEX>' or '--failed <REPORT>'"
             }
             Misuse::StampAlone => {
                 "the argument '--stamp <TEXT>' cannot be used without '--shard <K/N>'"

@@ -7,8 +7,10 @@ ghost use Rattle.rv_cli.specs.RvtestWords.{words_fault_kinds, asked_words, match
 
 use crate::rvtest::check::{CheckAsked, check_request};
 use crate::rvtest::command::test_command;
+use crate::rvtest::console::{ConsoleAsked, console_request};
 use crate::rvtest::diff::{DiffAsked, diff_request};
 use crate::rvtest::explain::{ExplainAsked, explain_request};
+use crate::rvtest::list::list_request;
 use crate::rvtest::merge::{MergeAsked, merge_request};
 use crate::rvtest::run::{RunAsked, test_run_request};
 use crate::rvtest::show::{ShowAsked, show_request};
@@ -21,8 +23,12 @@ use std::convert::AsStr;
 pub enum Asked<'a> {
     /// To run jobs of a list.
     Run(RunAsked<'a>),
+    /// To say which jobs a run of these words would run. What `list` has no option for is as in a run without options.
+    List(RunAsked<'a>),
     /// To run one job, and to show how it ended and came there.
     Explain(ExplainAsked<'a>),
+    /// To run one job, and to write its console.
+    Console(ConsoleAsked<'a>),
     /// To say all that is wrong with a list, and to run nothing.
     Check(CheckAsked<'a>),
     /// To make the whole report of the parts of one run.
@@ -69,7 +75,9 @@ fn subcommand_request<'a>(
 {
     match name {
         "run" => test_run_request(alloc, values),
+        "list" => list_request(alloc, values),
         "explain" => Ok(explain_request(values)),
+        "console" => Ok(console_request(values)),
         "check" => Ok(check_request(values)),
         "merge" => merge_request(alloc, values),
         "diff" => diff_request(alloc, values),

@@ -1,8 +1,10 @@
 //! The words of `run`.
 
-ghost use Rattle.std.specs.Prelude.{◌≡◌, []};
+ghost use Rattle.std.specs.Prelude.{◌≡◌, ◌≤◌, [], IfOk};
 ghost use Rattle.clap.specs.Words.{found_of, rows_of};
-ghost use Rattle.rv_cli.specs.RvtestWords.{ReadsRequest, is_choice_given, misuse_kinds, run_misuse, test_run_request, run_words};
+ghost use Rattle.rv_base.specs.Limits.{most_group};
+ghost use Rattle.rv_cli.specs.RvtestWords.{IsRunAskedInRange, ReadsRequest, is_choice_given, misuse_kinds, run_asked_words};
+ghost use Rattle.rv_cli.specs.RvtestWords.{run_misuse, test_run_request, run_words};
 
 use crate::rvtest::command::run_command;
 use crate::rvtest::refusals::{Misuse, one_file_misuse};
@@ -10,7 +12,7 @@ use crate::rvtest::requests::Asked;
 use crate::values::{argument_values, is_flag_set, is_option_given, number_value, text_value};
 use clap::{ArgMatches, Error};
 use rv_base::limits::{MOST_GROUP, MOST_WORKERS};
-use std::alloc::Global;
+use std::alloc::{AllocError, Global};
 
 /// The jobs of a list that are to run, and how.
 #[derive(Drop)]
@@ -21,6 +23,8 @@ pub struct RunAsked<'a> {
     pub only: Vec<&'a str>,
     /// A regular expression: jobs in whose names it is found are chosen.
     pub pattern: Option<&'a str>,
+    /// A regular expression: jobs in whose names it is found are left out.
+    pub exclude: Option<&'a str>,
     /// Path of a report: jobs that failed in it are chosen.
     pub failed: Option<&'a str>,
     /// Which part of the list is to run, as `K/N`.
@@ -61,7 +65,6 @@ pub(crate) fn test_run_request<'a>(
     }
 }
 
-#[tactic(auto, unfolding(crate::specs::RvtestWords::run_words))]
 fn valid_run_request<'a>(alloc: Global, values: &ArgMatches<'a>) -> Result<Option<Asked<'a>>, Error>
     ensures { ReadsRequest (test_run_request (rows_of (found_of values.now))) [] result }
 {
@@ -71,9 +74,25 @@ fn valid_run_request<'a>(alloc: Global, values: &ArgMatches<'a>) -> Result<Optio
     let Some(group) = number_value(values, "group", 1, MOST_GROUP) else {
         return Ok(None);
     };
-    Ok(Some(Asked::Run(RunAsked {
+    Ok(Some(Asked::Run(run_asked(alloc, values, list, group)?)))
+}
+
+/// What values ask for, of a list, in pieces of so many jobs.
+#[tactic(auto, unfolding(crate::specs::RvtestWords::run_words))]
+pub(crate) fn run_asked<'a>(
+    alloc: Global,
+    values: &ArgMatches<'a>,
+    list: &'a str,
+    group: u32,
+) -> Result<RunAsked<'a>, AllocError>
+    requires { (1 ≤ group) × (group ≤ most_group) }
+    ensures { IfOk result (λ asked. (run_asked_words asked ≡ run_words list.entry.now group (rows_of (found_of values.now)))
+        × IsRunAskedInRange asked) }
+{
+    Ok(RunAsked {
         list,
         pattern: text_value(values, "match"),
+        exclude: text_value(values, "exclude"),
         failed: text_value(values, "failed"),
         shard: text_value(values, "shard"),
         stamp: text_value(values, "stamp"),
@@ -87,7 +106,7 @@ fn valid_run_request<'a>(alloc: Global, values: &ArgMatches<'a>) -> Result<Optio
         quiet: is_flag_set(values, "quiet"),
         last: number_value(values, "last", 0, 100_000),
         only: argument_values(alloc, values, "only")?,
-    })))
+    })
 }
 
 // The first rule that the options of `run` break.
@@ -110,5 +129,6 @@ fn is_choice_given(values: &ArgMatches<'_>) -> bool
 {
     is_option_given(values, "only")
         || is_option_given(values, "match")
+        || is_option_given(values, "exclude")
         || is_option_given(values, "failed")
 }

@@ -6,7 +6,9 @@ use crate::rvtest::examples;
 use rv_base::limits::MOST_WORKERS;
 
 /// The commands of `rvtest`, in the order in which help names them.
-pub(crate) const COMMANDS: [Subcommand<'static>; 6] = [RUN, EXPLAIN, CHECK, MERGE, DIFF, SHOW];
+pub(crate) const COMMANDS: [Subcommand<'static>; 8] = [
+    RUN, LIST, EXPLAIN, CONSOLE, CHECK, MERGE, DIFF, SHOW,
+];
 
 pub(crate) const RUN: Subcommand<'static> = Subcommand {
     name: "run",
@@ -14,22 +16,11 @@ pub(crate) const RUN: Subcommand<'static> = Subcommand {
     usage: "rvtest run",
     after: examples::RUN,
     arguments: &[
-        Argument::Word("list", "LIST", LIST),
-        Argument::Again(
-            "only",
-            "NAME",
-            "Chooses the job of this name; may come again",
-        ),
-        Argument::Option(
-            "match",
-            "REGEX",
-            "Chooses the jobs in whose names it is found",
-        ),
-        Argument::Option(
-            "failed",
-            "REPORT",
-            "Chooses the jobs that failed in a report",
-        ),
+        Argument::Word("list", "LIST", LIST_PATH),
+        Argument::Again("only", "NAME", ONLY),
+        Argument::Option("match", "REGEX", MATCH),
+        Argument::Option("exclude", "REGEX", EXCLUDE),
+        Argument::Option("failed", "REPORT", FAILED),
         Argument::Option("shard", "K/N", "Runs the K-th of N parts of the list"),
         Argument::Option(
             "stamp",
@@ -38,6 +29,7 @@ pub(crate) const RUN: Subcommand<'static> = Subcommand {
         ),
         Argument::Number(
             "workers",
+            Some('j'),
             "Threads, from 1 to 64; else one a processor",
             WORKERS,
             &[],
@@ -46,13 +38,32 @@ pub(crate) const RUN: Subcommand<'static> = Subcommand {
         Argument::Option("root", "DIR", ROOT),
         Argument::Option("report", "FILE", REPORT),
         Argument::Option("junit", "FILE", JUNIT),
-        Argument::Flag("lenient", LENIENT),
+        Argument::Flag("lenient", None, LENIENT),
         Argument::Flag(
             "verbose",
+            Some('v'),
             "Shows the jobs that pass, too; not beside --quiet",
         ),
-        Argument::Flag("quiet", "Shows the last line alone; not beside --verbose"),
-        Argument::Number("last", LAST, LAST_BOUNDS, &[]),
+        Argument::Flag(
+            "quiet",
+            Some('q'),
+            "Shows the last line alone; not beside --verbose",
+        ),
+        Argument::Number("last", None, LAST, LAST_BOUNDS, &[]),
+    ],
+};
+
+pub(crate) const LIST: Subcommand<'static> = Subcommand {
+    name: "list",
+    about: "Prints the names of the jobs that a run would run, one a line",
+    usage: "rvtest list",
+    arguments: &[
+        Argument::Word("list", "LIST", LIST_PATH),
+        Argument::Again("only", "NAME", ONLY),
+        Argument::Option("match", "REGEX", MATCH),
+        Argument::Option("exclude", "REGEX", EXCLUDE),
+        Argument::Option("failed", "REPORT", FAILED),
+        Argument::Flag("lenient", None, LENIENT),
     ],
 };
 
@@ -62,9 +73,20 @@ const EXPLAIN: Subcommand<'static> = Subcommand {
     usage: "rvtest explain",
     after: examples::EXPLAIN,
     arguments: &[
-        Argument::Word("list", "LIST", LIST),
-        Argument::Word("name", "NAME", "Name of the job"),
-        Argument::Number("last", LAST, LAST_BOUNDS, &["16"]),
+        Argument::Word("list", "LIST", LIST_PATH),
+        Argument::Word("name", "NAME", NAME),
+        Argument::Number("last", None, LAST, LAST_BOUNDS, &["16"]),
+        Argument::Option("root", "DIR", ROOT),
+    ],
+};
+
+const CONSOLE: Subcommand<'static> = Subcommand {
+    name: "console",
+    about: "Runs one job, and writes its console's bytes to standard output",
+    usage: "rvtest console",
+    arguments: &[
+        Argument::Word("list", "LIST", LIST_PATH),
+        Argument::Word("name", "NAME", NAME),
         Argument::Option("root", "DIR", ROOT),
     ],
 };
@@ -75,7 +97,7 @@ const CHECK: Subcommand<'static> = Subcommand {
     usage: "rvtest check",
     after: examples::CHECK,
     arguments: &[
-        Argument::Word("list", "LIST", LIST),
+        Argument::Word("list", "LIST", LIST_PATH),
         Argument::Option("root", "DIR", ROOT),
     ],
 };
@@ -93,7 +115,7 @@ pub(crate) const MERGE: Subcommand<'static> = Subcommand {
         ),
         Argument::Option("report", "FILE", REPORT),
         Argument::Option("junit", "FILE", JUNIT),
-        Argument::Flag("lenient", LENIENT),
+        Argument::Flag("lenient", None, LENIENT),
     ],
 };
 
@@ -105,9 +127,10 @@ pub(crate) const DIFF: Subcommand<'static> = Subcommand {
     arguments: &[
         Argument::Word("old", "OLD", "Path of the report that is compared with"),
         Argument::Word("new", "NEW", "Path of the report that is compared"),
-        Argument::Flag("steps", "Compares steps too, and where faults were"),
+        Argument::Flag("steps", None, "Compares steps too, and where faults were"),
         Argument::Number(
             "slower",
+            None,
             "Says which jobs take over N percent more steps, from 0 to 1000",
             SLOWER,
             &[],
@@ -123,11 +146,21 @@ const SHOW: Subcommand<'static> = Subcommand {
     arguments: &[
         Argument::Word("report", "REPORT", "Path of a report"),
         Argument::Option("junit", "FILE", JUNIT),
-        Argument::Flag("lenient", LENIENT),
+        Argument::Flag("lenient", None, LENIENT),
     ],
 };
 
-const LIST: &str = "Path of the job list";
+const LIST_PATH: &str = "Path of the job list";
+
+const NAME: &str = "Name of the job";
+
+const ONLY: &str = "Chooses the job of this name; may come again";
+
+const MATCH: &str = "Chooses the jobs in whose names it is found";
+
+const EXCLUDE: &str = "Leaves out the jobs in whose names it is found";
+
+const FAILED: &str = "Chooses the jobs that failed in a report";
 
 const ROOT: &str = "Takes the paths in the list from this folder";
 
