@@ -2,7 +2,7 @@
 
 pub(crate) const RUN: &str = "\
 Examples:
-  rvtest run tests.toml --match uart --last 20
+  rvtest run tests.toml --match uart --exclude slow --last 20
   rvtest run tests.toml --report report.txt --junit junit.xml
 
 Status:
@@ -11,10 +11,31 @@ Status:
   2  The words, the list or a report is refused
   3  The system failed: memory, a thread or a file";
 
+pub(crate) const LIST: &str = "\
+Examples:
+  rvtest list tests.toml
+  rvtest list tests.toml --match uart --exclude slow
+
+Status:
+  0  The names were printed, or no job failed in the report
+  2  The words, the list or a report is refused
+  3  The system failed: memory or a file";
+
 pub(crate) const EXPLAIN: &str = "\
 Examples:
   rvtest explain tests.toml uart-echo
   rvtest explain tests.toml uart-echo --last 200
+
+Status:
+  0  The job passes by the strict rule
+  1  The job fails by the strict rule
+  2  The words, the list or the name is refused
+  3  The system failed: memory or a file";
+
+pub(crate) const CONSOLE: &str = "\
+Examples:
+  rvtest console tests.toml uart-echo
+  rvtest console tests.toml uart-echo >uart-echo.out
 
 Status:
   0  The job passes by the strict rule

@@ -57,6 +57,7 @@ pub(crate) const LIST: Subcommand<'static> = Subcommand {
     name: "list",
     about: "Prints the names of the jobs that a run would run, one a line",
     usage: "rvtest list",
+    after: examples::LIST,
     arguments: &[
         Argument::Word("list", "LIST", LIST_PATH),
         Argument::Again("only", "NAME", ONLY),
@@ -84,6 +85,7 @@ const CONSOLE: Subcommand<'static> = Subcommand {
     name: "console",
     about: "Runs one job, and writes its console's bytes to standard output",
     usage: "rvtest console",
+    after: examples::CONSOLE,
     arguments: &[
         Argument::Word("list", "LIST", LIST_PATH),
         Argument::Word("name", "NAME", NAME),
