@@ -7,3 +7,5 @@ pub mod OneMore
 pub mod NearestNames
 pub mod NamesTold
 pub mod ElementNames
+pub mod UnknownKeys
+pub mod Messages

@@ -6,3 +6,4 @@ pub mod FaultHeads
 pub mod Lines
 pub mod NearestJob
 pub mod NearNames
+pub mod Told

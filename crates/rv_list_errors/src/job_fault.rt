@@ -1,5 +1,9 @@
 //! Faults of a job.
 
+ghost use Rattle.std.specs.Prelude.{◌≡◌, IfSome, option_map};
+ghost use Rattle.std.specs.List.{find};
+ghost use Rattle.rv_list_errors.specs.Told.{is_unsimulated, key_words, letters_words, told_words};
+
 use crate::expectation_fault::expectation_explanation;
 use crate::explanations::{
     BUDGET, IMAGE, INPUT, INPUT_HEX, ISA, ISA_OF_64_BITS, ISA_WITH_A, ISA_WITH_FLOATS, LOAD,
@@ -50,7 +54,9 @@ fn push_fault_within_job(message: &mut Message, table: &Table, what: What) {
 }
 
 // What is told of a fault that one value has.
-fn key_explanation(table: &Table, what: What) -> Told {
+fn key_explanation(table: &Table, what: What) -> Told
+    ensures { IfSome (key_words what) (λ words. told_words result ≡ words) }
+{
     match what {
         What::Name => Told::Wanted(&NAME),
         What::Image => Told::Wanted(&IMAGE),
@@ -69,20 +75,36 @@ fn key_explanation(table: &Table, what: What) -> Told {
 fn isa_explanation(table: &Table) -> Told {
     match text_at_key(table, "isa") {
         Some(isa) if isa.starts_with("rv64") => Told::Wanted(&ISA_OF_64_BITS),
-        Some(isa) if isa.starts_with("rv32") => match unsimulated_letter(isa) {
-            Some('a') => Told::Wanted(&ISA_WITH_A),
-            Some('f') | Some('d') => Told::Wanted(&ISA_WITH_FLOATS),
-            _ => Told::Wanted(&ISA),
+        Some(isa) => match isa.strip_prefix("rv32") {
+            Some(letters) => letters_explanation(letters.as_bytes()),
+            None => Told::Wanted(&ISA),
         },
+        None => Told::Wanted(&ISA),
+    }
+}
+
+// Of the letters of a set of 32 bits.
+fn letters_explanation(letters: &[u8]) -> Told
+    ensures { told_words result ≡ letters_words letters.now }
+{
+    match unsimulated_letter(letters) {
+        Some(b'a') => Told::Wanted(&ISA_WITH_A),
+        Some(b'f') | Some(b'd') => Told::Wanted(&ISA_WITH_FLOATS),
         _ => Told::Wanted(&ISA),
     }
 }
 
-// The first letter of a set of 32 bits that stands for none of I, M and C.
-fn unsimulated_letter(isa: &str) -> Option<char> {
-    isa.chars()
-        .skip(4)
-        .find(|letter| !matches!(letter, 'i' | 'm' | 'c'))
+// The first letter that stands for none of I, M and C.
+fn unsimulated_letter(letters: &[u8]) -> Option<&u8>
+    ensures { option_map (λ letter. letter.now) result ≡ find is_unsimulated letters.now }
+{
+    letters.iter().find(|letter| is_unsimulated(**letter))
+}
+
+fn is_unsimulated(letter: u8) -> bool
+    ensures { result ≡ is_unsimulated letter }
+{
+    !(letter == b'i' || letter == b'm' || letter == b'c')
 }
 
 fn input_explanation(table: &Table) -> Told {

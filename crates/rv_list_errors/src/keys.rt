@@ -1,10 +1,18 @@
 //! Keys that the format does not have.
 
+ghost use Rattle.std.specs.Prelude.{◌≡◌, option_map, string_bytes};
+ghost use Rattle.std.specs.List.{list_any};
+ghost use Rattle.std.specs.Str.{bytes_eq};
+ghost use Rattle.toml.specs.View.{table_view};
+ghost use Rattle.rv_lists.specs.Keys.{is_job_key, is_region_key};
+ghost use Rattle.rv_list_errors.specs.NearNames.{Adds};
+ghost use Rattle.rv_list_errors.specs.Told.{first_unknown_key, is_key_of_owner, unknown_key_text};
+
 use crate::message::Message;
 use crate::names::{near_name, push_names};
 use crate::regions::push_region_number;
 use crate::values::elements_at_key;
-use rv_lists::JOB_KEYS;
+use rv_lists::{JOB_KEYS, Kind};
 use toml::{Table, Value};
 
 /// Whose keys they are.
@@ -16,35 +24,63 @@ pub(crate) enum Owner {
 }
 
 /// The first key of a table that its owner does not have.
-pub(crate) fn unknown_key(table: &Table, owner: Owner) -> Option<&str> {
-    for key in table.keys() {
-        let key = key.as_str();
-        if !is_key_of_owner(key, owner) {
-            return Some(key);
-        }
+pub(crate) fn unknown_key(table: &Table, owner: Owner) -> Option<&str>
+    ensures { option_map (λ key. key.now) result
+        ≡ first_unknown_key (is_key_of_owner owner) (table_view table.now) }
+{
+    match first_unknown_key(table, owner) {
+        Some(key) => Some(key.as_str()),
+        None => None,
     }
-    None
 }
 
-fn is_key_of_owner(key: &str, owner: Owner) -> bool {
+fn first_unknown_key(table: &Table, owner: Owner) -> Option<&String>
+    ensures { option_map (λ key. string_bytes key.now) result
+        ≡ first_unknown_key (is_key_of_owner owner) (table_view table.now) }
+{
+    table
+        .keys()
+        .find(|key| !is_key_of_owner(key.as_str(), owner))
+}
+
+fn is_key_of_owner(key: &str, owner: Owner) -> bool
+    ensures { result ≡ is_key_of_owner owner key.now }
+{
     match owner {
         Owner::List => key == "job",
         Owner::Job => is_job_key(key),
-        Owner::Region => matches!(key, "base" | "size" | "write"),
+        Owner::Region => is_region_key(key),
     }
 }
 
-fn is_job_key(key: &str) -> bool {
-    for known in &JOB_KEYS {
-        if known.0 == key {
-            return true;
-        }
+fn is_job_key(key: &str) -> bool
+    ensures { result ≡ is_job_key key.now }
+{
+    is_key_among(&JOB_KEYS, key)
+}
+
+fn is_key_among(keys: &[(&str, Kind)], name: &str) -> bool
+    ensures { result ≡ list_any (λ key. bytes_eq name.now key.0.now) keys.now }
+{
+    keys.iter().any(|key| name == key.0)
+}
+
+fn is_region_key(name: &str) -> bool
+    ensures { result ≡ is_region_key name.now }
+{
+    if name == "base" {
+        true
+    } else if name == "size" {
+        true
+    } else {
+        name == "write"
     }
-    false
 }
 
 /// Appends that a key is not known.
-pub(crate) fn push_unknown_key(message: &mut Message, key: &str) {
+pub(crate) fn push_unknown_key(message: &mut Message, key: &str)
+    ensures { Adds message.old message.new (unknown_key_text key.now) }
+{
     message.push("unknown key ");
     message.push_quoted(key);
 }

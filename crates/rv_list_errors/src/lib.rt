@@ -1,8 +1,8 @@
 //! What a person is told of a job list that is refused.
 //!
 //! [`push_faults`] appends a line for each fault, in the manner of compilers: the file and the line where the job begins, the job's
-//! number and name, the key with the value that was met, and what is taken instead. No contract says what a line tells behind the
-//! job's name: the texts are tested. [`job_line_numbers`] answers where the jobs of a list begin in its text, and [`near_job`] the job
+//! number and name, the key with the value that was met, and what is taken instead. Contracts fix parts of what a line tells
+//! behind the job's name: keys with their values, limits, places. [`job_line_numbers`] answers where the jobs of a list begin in its text, and [`near_job`] the job
 //! that is probably meant by a name that no job has, where one is near.
 #![tactic(auto)]
 

@@ -1,5 +1,10 @@
 //! Faults of a whole list.
 
+ghost use Rattle.std.specs.Prelude.{◌++◌, codes};
+ghost use Rattle.toml.specs.Errors.{IsMemory, span_start};
+ghost use Rattle.rv_list_errors.specs.NearNames.{Adds};
+ghost use Rattle.rv_list_errors.specs.Told.{AddsSome, IsNotToml, too_many_jobs_text};
+
 use crate::headers::line_and_column;
 use crate::keys::{Owner, push_unknown_key, unknown_key};
 use crate::list::List;
@@ -11,14 +16,24 @@ use toml::Table;
 use toml::de::Error;
 
 /// Appends why a text is no TOML, behind its line and column.
-pub(crate) fn push_not_toml(message: &mut Message, text: &[u8], error: &Error) {
-    if let Some(span) = error.span() {
-        let place = line_and_column(text, span.start);
-        message.push_number_between(":", place.line as u64, ":");
-        message.push_number(place.column as u64);
-    }
+pub(crate) fn push_not_toml(message: &mut Message, text: &[u8], error: &Error)
+    ensures { (IsMemory error.now → ⊥)
+        → AddsSome message.old message.new (IsNotToml text.now (span_start error.now)) }
+{
+    let Some(span) = error.span() else {
+        return push_reason(message, error.message());
+    };
+    let place = line_and_column(text, span.start);
+    message.push_number_between(":", place.line as u64, ":");
+    message.push_number(place.column as u64);
+    push_reason(message, error.message());
+}
+
+fn push_reason(message: &mut Message, reason: &str)
+    ensures { Adds message.old message.new (codes ": not TOML: " ++ reason.now) }
+{
     message.push(": not TOML: ");
-    message.push(error.message());
+    message.push(reason);
 }
 
 /// Appends a fault of the whole list.
@@ -48,7 +63,9 @@ fn push_no_jobs(message: &mut Message, table: &Table) {
     }
 }
 
-fn push_too_many_jobs(message: &mut Message, jobs: usize) {
+fn push_too_many_jobs(message: &mut Message, jobs: usize)
+    ensures { Adds message.old message.new (too_many_jobs_text jobs) }
+{
     message.push_number(jobs as u64);
     message.push_number_between(" jobs: at most ", MOST_JOBS as u64, " are taken");
 }

@@ -1,12 +1,17 @@
 //! A text that grows.
 
-ghost use Rattle.std.specs.Prelude.{◌≡◌, ◌++◌, IsOk, OnOk};
+ghost use Rattle.std.specs.Prelude.{◌≡◌, ◌↔◌, ◌++◌, ℕ, List, [], IfOk, IsOk, OnOk, false, string_bytes};
 ghost use Rattle.std.specs.Fmt.{decimal};
+ghost use Rattle.toml.specs.Text.{IsValueText};
+ghost use Rattle.toml.specs.View.{view};
 ghost use Rattle.rv_list_errors.specs.NearNames.{Adds, quoted, text_distance};
+ghost use Rattle.rv_list_errors.specs.Told.{AddsSome, IsShownValue};
 ghost use Rattle.rv_text.specs.Printable.{printable_value};
+ghost use Rattle.rv_text.specs.Words.{word_digits};
 
 use rv_text::{push_number, push_printable_value, push_text, push_word_digits};
 use std::alloc::{AllocError, Global};
+use std::fmt::{Display, Formatter};
 use strsim::levenshtein;
 use toml::Value;
 
@@ -20,7 +25,10 @@ pub(crate) struct Message {
 }
 
 impl Message {
-    pub(crate) fn new(alloc: Global) -> Message {
+    pub(crate) fn new(alloc: Global) -> Message
+        ensures grown { IsOk result.grown }
+        ensures bytes { result.bytes.items ≡ [] }
+    {
         Message {
             alloc,
             bytes: Vec::new(alloc),
@@ -29,7 +37,10 @@ impl Message {
     }
 
     /// The whole text, if no growth was refused.
-    pub(crate) fn finish(self) -> Result<Vec<u8>, AllocError> {
+    pub(crate) fn finish(self) -> Result<Vec<u8>, AllocError>
+        ensures whole { IfOk result (λ text. text ≡ self.bytes) }
+        ensures refused { IsOk result ↔ IsOk self.grown }
+    {
         self.grown?;
         Ok(self.bytes)
     }
@@ -60,21 +71,35 @@ impl Message {
     }
 
     /// Appends a word's eight hexadecimal digits.
-    pub(crate) fn push_hex_word(&mut self, word: u32) {
+    pub(crate) fn push_hex_word(&mut self, word: u32)
+        ensures { Adds self.old self.new (word_digits word) }
+    {
         if self.grown.is_ok() {
             self.grown = push_word_digits(&mut self.bytes, word);
         }
     }
 
     /// Appends a value: a text in quotes, with its control characters as `\xNN`, and another value as TOML writes it.
-    pub(crate) fn push_value(&mut self, value: &Value) {
-        if let Value::String(text) = value {
-            self.push_quoted(text.as_str());
-        } else if self.grown.is_ok() {
-            match format!(in self.alloc; "{value}") {
-                Ok(text) => self.push_printable(text.as_str()),
-                Err(error) => self.grown = Err(error),
-            }
+    pub(crate) fn push_value(&mut self, value: &Value)
+        ensures { AddsSome self.old self.new (IsShownValue (view value.now)) }
+    {
+        match value.as_str() {
+            Some(text) => self.push_quoted(text),
+            None => self.push_value_in_toml(value),
+        }
+    }
+
+    // Appends a value as TOML writes it.
+    fn push_value_in_toml(&mut self, value: &Value)
+        ensures { AddsSome self.old self.new
+            (λ shown. (text : List ℕ) × IsValueText false (view value.now) text × (shown ≡ printable_value text)) }
+    {
+        if self.grown.is_err() {
+            return;
+        }
+        match value_in_toml(self.alloc, value) {
+            Ok(text) => self.push_printable(text.as_str()),
+            Err(error) => self.grown = Err(error),
         }
     }
 
@@ -99,7 +124,8 @@ impl Message {
     /// How many characters must be put in, taken out or changed to make one text of another, for which memory is wanted; once a
     /// growth was refused, more than any two texts differ by.
     pub(crate) fn edit_distance(&mut self, text: &str, other: &str) -> usize
-        ensures { OnOk self.new.grown (IsOk self.old.grown × (result ≡ text_distance text.now other.now)) }
+        ensures distance { OnOk self.new.grown (IsOk self.old.grown × (result ≡ text_distance text.now other.now)) }
+        ensures unwritten { self.new.bytes ≡ self.old.bytes }
     {
         if self.grown.is_err() {
             return usize::MAX;
@@ -111,5 +137,16 @@ impl Message {
                 usize::MAX
             }
         }
+    }
+}
+
+// A value as TOML writes it on the right of `=`.
+fn value_in_toml(alloc: Global, value: &Value) -> Result<String, AllocError>
+    ensures { IfOk result (λ text. IsValueText false (view value.now) (string_bytes text)) }
+{
+    let mut formatter = Formatter::new(String::new(alloc));
+    match Display::fmt(value, &mut formatter) {
+        Ok(()) => Ok(formatter.into_inner()),
+        Err(_) => Err(AllocError),
     }
 }

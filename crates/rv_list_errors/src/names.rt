@@ -6,6 +6,7 @@ ghost use Rattle.rv_list_errors.specs.FaultHeads.{borrowed_name, borrowed_names}
 ghost use Rattle.rv_list_errors.specs.NearNames.{Adds, IsNearName, most_told, name_distance, names_from, names_text, present};
 ghost use Rattle.rv_list_errors.specs.NearestJob.{IsNear};
 ghost use Rattle.rv_list_errors.specs.NearNames.{quoted, separator};
+ghost use Rattle.rv_list_errors.specs.Told.{AddsSome, IsNearestJob};
 
 use crate::list::List;
 use crate::message::Message;
@@ -69,17 +70,31 @@ fn push_nearest_job(message: &mut Message, list: &List<'_>, wanted: Option<&str>
     if list.job_number_of_name(wanted).is_some() {
         return;
     }
-    let names = list.names.as_slice();
-    let earlier = &names[..place.min(names.len())];
-    match near_name(message, earlier, wanted.unwrap_or("")) {
+    let earlier = first_names(list.names.as_slice(), place);
+    if !earlier.is_empty() {
+        push_nearest_name(message, earlier, wanted.unwrap_or(""));
+    }
+}
+
+// The first so many names, or all where there are fewer.
+fn first_names<'n, 'a>(names: &'n [Option<&'a str>], count: usize) -> &'n [Option<&'a str>]
+    ensures { result.now ≡ take count names.now }
+{
+    &names[..count.min(names.len())]
+}
+
+// Appends which of some names is nearest to one that no job has, or all of them.
+fn push_nearest_name(message: &mut Message, names: &[Option<&str>], wanted: &str)
+    ensures { AddsSome message.old message.new (IsNearestJob (borrowed_names names.now) wanted.now) }
+{
+    match near_name(message, names, wanted) {
         Some(name) => {
             message.push("; the nearest is ");
             message.push_quoted(name);
         }
-        None if earlier.is_empty() => {}
         None => {
             message.push("; the earlier jobs are ");
-            push_names(message, earlier);
+            push_names(message, names);
         }
     }
 }
@@ -91,8 +106,9 @@ pub(crate) fn near_name<'a>(
     names: &[Option<&'a str>],
     text: &str,
 ) -> Option<&'a str>
-    ensures { OnOk message.new.grown (IsOk message.old.grown
+    ensures near { OnOk message.new.grown (IsOk message.old.grown
         × IsNearName (borrowed_names names.now) text.now (borrowed_name result)) }
+    ensures unwritten { message.new.bytes ≡ message.old.bytes }
 {
     let mut nearest = None;
     let mut least = usize::MAX;
@@ -191,8 +207,9 @@ fn push_name_of_many(message: &mut Message, name: &str, place: usize, count: usi
 
 #[tactic(auto, unfolding(crate::specs::NearNames::name_distance))]
 fn name_distance(message: &mut Message, name: Option<&str>, text: &str) -> usize
-    ensures { OnOk message.new.grown (IsOk message.old.grown
+    ensures distance { OnOk message.new.grown (IsOk message.old.grown
         × (result ≡ name_distance text.now (borrowed_name name.entry))) }
+    ensures unwritten { message.new.bytes ≡ message.old.bytes }
 {
     match name {
         Some(name) if name.len() <= MOST_NAME && text.len() <= MOST_NAME => {

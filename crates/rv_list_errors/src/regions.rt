@@ -1,5 +1,9 @@
 //! Regions that are no map.
 
+ghost use Rattle.std.specs.Prelude.{◌≡◌, ◌+◌, ◌^◌, ◌<◌};
+ghost use Rattle.rv_list_errors.specs.NearNames.{Adds};
+ghost use Rattle.rv_list_errors.specs.Told.{region_number_text};
+
 use crate::message::Message;
 use crate::values::{elements_at_key, push_wanted_value, word_at_key};
 use rv_lists::What;
@@ -18,7 +22,9 @@ const CONSOLE: Region = Region {
 };
 
 /// Appends which region it is, counted from 1.
-pub(crate) fn push_region_number(message: &mut Message, at: usize) {
+pub(crate) fn push_region_number(message: &mut Message, at: usize)
+    ensures { at + 1 < 2 ^ 64 → Adds message.old message.new (region_number_text at) }
+{
     message.push_number_between("region ", (at as u64).saturating_add(1), "");
 }
 

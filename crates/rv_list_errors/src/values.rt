@@ -4,6 +4,7 @@ ghost use Rattle.std.specs.Prelude.{◌≡◌, option_map, unwrap_or};
 ghost use Rattle.toml.specs.Data.{get_member, no_items};
 ghost use Rattle.toml.specs.View.{items_view, table_view, view};
 ghost use Rattle.rv_lists.specs.Keys.{array_at_key, text_at_key};
+ghost use Rattle.rv_list_errors.specs.Told.{AddsSome, IsKeyAndValue, IsWantedValue};
 
 use crate::message::Message;
 use toml::{Table, Value};
@@ -44,7 +45,10 @@ pub(crate) fn elements_at_key<'a>(table: &'a Table, key: &str) -> &'a [Value]
 }
 
 /// Appends a key and its value, or that it is absent.
-pub(crate) fn push_key_and_value(message: &mut Message, table: &Table, key: &str) {
+pub(crate) fn push_key_and_value(message: &mut Message, table: &Table, key: &str)
+    ensures { AddsSome message.old message.new
+        (IsKeyAndValue key.now (get_member key.now (table_view table.now))) }
+{
     message.push(key);
     match value_at_key(table, key) {
         Some(value) => {
@@ -56,7 +60,10 @@ pub(crate) fn push_key_and_value(message: &mut Message, table: &Table, key: &str
 }
 
 /// Appends a key, its value, and what is wanted of it.
-pub(crate) fn push_wanted_value(message: &mut Message, table: &Table, key: &str, wanted: &str) {
+pub(crate) fn push_wanted_value(message: &mut Message, table: &Table, key: &str, wanted: &str)
+    ensures { AddsSome message.old message.new
+        (IsWantedValue key.now (get_member key.now (table_view table.now)) wanted.now) }
+{
     push_key_and_value(message, table, key);
     message.push(": ");
     message.push(wanted);

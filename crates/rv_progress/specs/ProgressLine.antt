@@ -1,5 +1,5 @@
 -- The line that says how many jobs are done, and how many of those failed.
-use Rattle.std.specs.Prelude.{ℕ, Bool, List, Option, Some, None, ◌++◌, ◌-◌, ◌==◌, codes, length, not, slice_get}
+use Rattle.std.specs.Prelude.{ℕ, Bool, List, [], ◌∷◌, Option, Some, None, ◌++◌, ◌-◌, ◌==◌, codes, if◌then◌else◌, length, not, slice_get}
 use Rattle.std.specs.Fmt.{decimal}
 
 -- behind the jobs that are done
@@ -17,3 +17,22 @@ is_mid_line held (Some last) = not (last == 10)
 
 abbrev pub last_byte : List ℕ → Option ℕ
 last_byte text = slice_get text (length text - 1)
+
+-- ---- what the line's terminal is given
+
+-- back to the beginning of the line, and the counts in the place of what stands there
+abbrev pub counts_text : ℕ → ℕ → ℕ → List ℕ
+counts_text done jobs failed = 13 ∷ progress_text done jobs failed
+
+-- what takes the line away, where it is shown: back to its beginning, and what stands behind it erased
+abbrev pub erasing_text : Bool → List ℕ
+erasing_text is_shown = if is_shown then 13 ∷ 27 ∷ codes "[K" else []
+
+-- nothing in the middle of a line of other text
+abbrev pub text_unless_held : Bool → List ℕ → List ℕ
+text_unless_held is_held text = if is_held then [] else text
+
+-- around a put of other text: the line is taken away where it is shown, and then shown again, unless what was put ends in the middle
+-- of a line
+abbrev pub text_around_put : Bool → Bool → List ℕ → List ℕ
+text_around_put was_shown is_held counts = if was_shown then erasing_text was_shown ++ text_unless_held is_held counts else []

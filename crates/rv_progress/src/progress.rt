@@ -1,6 +1,8 @@
 //! How many jobs are done and failed, and the line that says so.
 
-ghost use Rattle.std.specs.Prelude.{◌≡◌};
+ghost use Rattle.std.specs.Prelude.{◌≡◌, ◌++◌, ◌+◌, ◌-◌, ◌∷◌, ◌^◌, ◌<◌, [], List, length};
+ghost use Rattle.rv_progress.specs.Tallies.{IsTallyOf};
+ghost use Rattle.rv_rows.specs.declared_row.Row.{Row as ARow};
 
 use crate::tally::Tally;
 use crate::terminal_line::{Counts, Line};
@@ -20,8 +22,10 @@ pub struct Progress<W: Drop> {
     is_terminal: bool,
     // A lock of its own: to count waits for no terminal.
     tally: Mutex<Tally>,
-    // The tenth of a second, by the clock, in which the line was shown last.
-    tenth: AtomicU64,
+    // The tenth of a second, by the clock, in which the run began.
+    start: u64,
+    // In how many tenths after that the line was shown last.
+    shown: AtomicU64,
     line: Mutex<Line<W>>,
 }
 
@@ -39,12 +43,24 @@ impl<W: Write + Drop> Progress<W> {
         ensures rule { result.rule ≡ rule }
         ensures terminal { result.is_terminal ≡ is_terminal }
     {
+        let start = clock_tenths(clock).unwrap_or(0);
+        Progress::from_start(start, jobs, rule, out, is_terminal)
+    }
+
+    // Of a run that begins in a tenth of a second of the clock.
+    fn from_start(start: u64, jobs: usize, rule: Rule, out: W, is_terminal: bool) -> Progress<W>
+        ensures start { result.start ≡ start }
+        ensures jobs { result.jobs ≡ jobs }
+        ensures rule { result.rule ≡ rule }
+        ensures terminal { result.is_terminal ≡ is_terminal }
+    {
         Progress {
             jobs: jobs as u64,
             rule,
             is_terminal,
             tally: Mutex::new(Tally::new()),
-            tenth: AtomicU64::new(clock_tenths(clock).unwrap_or(0)),
+            start,
+            shown: AtomicU64::new(0),
             line: Mutex::new(Line::new(out)),
         }
     }
@@ -56,12 +72,12 @@ impl<W: Write + Drop> Progress<W> {
             rule: _,
             is_terminal: _,
             tally: _,
-            tenth: _,
+            start: _,
+            shown: _,
             line,
         } = self;
-        let mut line = line.into_inner();
-        line.take_away();
-        line.into_inner()
+        let (out, _erased) = line.into_inner().finish();
+        out
     }
 
     /// Counts a row. Where a tenth of a second has passed since the line was shown last, and no other thread writes to
@@ -71,22 +87,41 @@ impl<W: Write + Drop> Progress<W> {
             return;
         }
         let mut tally = self.tally.lock(rt);
-        tally.count_row(self.rule, row);
+        self.count_in_tally(&mut tally, row);
         drop(tally);
         if !self.claim_line_turn(rt) {
             return;
         }
         if let Some(mut line) = self.line.try_lock() {
-            line.show_counts(alloc, self.counts(rt));
+            // What the terminal does not take is passed over.
+            let _shown = line.show_counts(alloc, self.counts(rt));
         }
+    }
+
+    // Counts one more row, by the rule of the run.
+    fn count_in_tally(&self, tally: &mut Tally, row: &Row)
+        ensures { (rows : List ARow) → length rows + 1 < 2 ^ 64 → IsTallyOf self.now.rule rows tally.old
+            → IsTallyOf self.now.rule (rows ++ row.now ∷ []) tally.new }
+    {
+        tally.count_row(self.rule, row);
     }
 
     // Whether no line was shown in this tenth of a second. Of the threads that ask in one, one is answered so.
     fn claim_line_turn<C: Clock>(&self, clock: &C) -> bool {
         match clock_tenths(clock) {
-            Some(now) => self.tenth.fetch_max(now, Ordering::SeqCst) < now,
+            Some(now) => {
+                let tenths = self.tenths_since_start(now);
+                self.shown.fetch_max(tenths, Ordering::SeqCst) < tenths
+            }
             None => false,
         }
+    }
+
+    // How many tenths of a second lie between the start of the run and a time of the clock: none within the first.
+    fn tenths_since_start(&self, now: u64) -> u64
+        ensures { result ≡ now - self.now.start }
+    {
+        now.saturating_sub(self.start)
     }
 
     /// The counts of the rows so far.

@@ -1,13 +1,13 @@
 //! A sink to the terminal on which the line stands.
 
-ghost use Rattle.std.specs.Prelude.{◌≡◌, ◌≤◌, ◌<◌, IfErr, IfOk, MatchResult, false, length, take};
+ghost use Rattle.std.specs.Prelude.{◌≡◌, ◌↔◌, ◌≤◌, ◌<◌, ◌&&◌, IfErr, IfOk, IfSome, IsSome, IsTrue, MatchResult, OnOk, false, length, not, take};
 ghost use Rattle.std.specs.Io.KnownBytes.{Appends, Keeps};
-ghost use Rattle.rv_progress.specs.ProgressLine.{is_mid_line, last_byte};
+ghost use Rattle.rv_progress.specs.ProgressLine.{counts_text, is_mid_line, last_byte, text_around_put};
 ghost use Rattle.rv_rows.specs.Counts.{one_more};
 
 use crate::progress::Progress;
-use crate::terminal_line::Line;
-use rv_rows::{Sink, SinkFailed};
+use crate::terminal_line::{Counts, Line};
+use rv_rows::{Sink, SinkFailed, WriteError};
 use std::alloc::Global;
 use std::io::Write;
 use std::sync::Wait;
@@ -32,7 +32,9 @@ impl<'a, R: Wait, S: Sink + Drop, W: Write + Drop> TerminalSink<'a, R, S, W> {
         is_terminal: bool,
         progress: &'a Progress<W>,
     ) -> TerminalSink<'a, R, S, W>
-        ensures { result.sink ≡ sink }
+        ensures sink { result.sink ≡ sink }
+        ensures beside { IsSome result.progress ↔ IsTrue (is_terminal && progress.now.is_terminal) }
+        ensures line { IfSome result.progress (λ beside. beside.now ≡ progress.now) }
     {
         let is_beside = is_terminal && progress.is_terminal();
         TerminalSink {
@@ -60,12 +62,9 @@ impl<'a, R: Wait, S: Sink + Drop, W: Write + Drop> Sink for TerminalSink<'a, R, 
             return self.sink.put(bytes);
         };
         let mut line = progress.lock_line(self.rt);
-        let was_shown = line.is_shown();
-        let put = put_beside_line(&mut line, &mut self.sink, bytes);
-        if was_shown {
-            line.show_counts(self.alloc, progress.counts(self.rt));
-        }
-        put
+        let counts = progress.counts(self.rt);
+        // What the terminal does not take of the line is passed over.
+        put_beside_line(&mut line, &mut self.sink, bytes, self.alloc, counts).put
     }
 
     fn failures(&self) -> u64 {
@@ -73,25 +72,70 @@ impl<'a, R: Wait, S: Sink + Drop, W: Write + Drop> Sink for TerminalSink<'a, R, 
     }
 }
 
-// Puts bytes to a sink on the terminal of the line: the line is taken away first, and whether the text that went out ends in the
-// middle of a line is noted.
+// A put to a sink on the terminal of the line, and whether that terminal took the line.
+#[derive(Drop)]
+struct PutBesideLine {
+    put: Result<usize, SinkFailed>,
+    line: Result<(), WriteError>,
+}
+
+// Puts bytes to a sink on the terminal of the line: the line is taken away first, and shown again behind what ends with a line feed.
 fn put_beside_line<S: Sink, W: Write + Drop>(
     line: &mut Line<W>,
     sink: &mut S,
     bytes: &[u8],
-) -> Result<usize, SinkFailed>
+    alloc: Global,
+    counts: Counts,
+) -> PutBesideLine
     requires { 0 < length bytes.now }
+    ensures within { IfOk result.put (λ count. (1 ≤ count) × (count ≤ length bytes.now)) }
+    ensures taken { IfOk result.put (λ count. Appends (S.taken sink.old) (S.taken sink.new) (take count bytes.now)) }
+    ensures counted { IfOk result.put (λ _. S.failed sink.new ≡ S.failed sink.old) }
+    ensures kept { IfErr result.put (λ _. Keeps (S.taken sink.old) (S.taken sink.new)) }
+    ensures failure { IfErr result.put (λ _. S.failed sink.new ≡ one_more (S.failed sink.old)) }
+    ensures held { MatchResult result.put
+        (λ count. line.new.is_held ≡ is_mid_line line.old.is_held (last_byte (take count bytes.now)))
+        (λ _. line.new.is_held ≡ line.old.is_held) }
+    ensures shown { OnOk result.line (line.new.is_shown ≡ (line.old.is_shown && not line.new.is_held)) }
+    ensures written { OnOk result.line (Appends (W.contents line.old.out) (W.contents line.new.out)
+        (text_around_put line.old.is_shown line.new.is_held
+        (counts_text counts.tally.done counts.jobs counts.tally.failed))) }
+{
+    if !line.is_shown() {
+        let put = put_and_note(line, sink, bytes);
+        return PutBesideLine { put, line: Ok(()) };
+    }
+    let erased = line.take_away();
+    let put = put_and_note(line, sink, bytes);
+    let shown = line.show_counts(alloc, counts);
+    match erased {
+        Ok(()) => PutBesideLine { put, line: shown },
+        Err(error) => PutBesideLine {
+            put,
+            line: Err(error),
+        },
+    }
+}
+
+// Puts bytes to a sink on the terminal from which the line is taken away, and notes whether what went out ends in the middle of a line.
+fn put_and_note<S: Sink, W: Write + Drop>(
+    line: &mut Line<W>,
+    sink: &mut S,
+    bytes: &[u8],
+) -> Result<usize, SinkFailed>
+    requires away { line.old.is_shown ≡ false }
+    requires some { 0 < length bytes.now }
     ensures within { IfOk result (λ count. (1 ≤ count) × (count ≤ length bytes.now)) }
     ensures taken { IfOk result (λ count. Appends (S.taken sink.old) (S.taken sink.new) (take count bytes.now)) }
     ensures counted { IfOk result (λ _. S.failed sink.new ≡ S.failed sink.old) }
     ensures kept { IfErr result (λ _. Keeps (S.taken sink.old) (S.taken sink.new)) }
     ensures failure { IfErr result (λ _. S.failed sink.new ≡ one_more (S.failed sink.old)) }
-    ensures away { line.new.is_shown ≡ false }
+    ensures shown { line.new.is_shown ≡ line.old.is_shown }
+    ensures out { line.new.out ≡ line.old.out }
     ensures held { MatchResult result
         (λ count. line.new.is_held ≡ is_mid_line line.old.is_held (last_byte (take count bytes.now)))
         (λ _. line.new.is_held ≡ line.old.is_held) }
 {
-    line.take_away();
     let put = sink.put(bytes);
     if let Ok(count) = put {
         line.note_other_text(&bytes[..count]);

@@ -31,6 +31,9 @@ pub fn put_row_texts<T: Telling, W: Sink>(
         ++ joined_row_texts (T.line telling.now) placed.now.places.now placed.now.rows.now)) }
     ensures failed { IfErr result (λ error. error ≡ WriteError.Failed
         → W.failed out.new ≡ one_more (W.failed out.old)) }
+    // Where memory was wanting no put failed.
+    ensures refused { IfErr result (λ error. error ≡ WriteError.OutOfMemory
+        → W.failed out.new ≡ W.failed out.old) }
 {
     let (places, rows) = (placed.places, placed.rows);
     for i in 0..rows.len() {

@@ -1,10 +1,11 @@
 //! Runs whose texts go out as their rows come.
 
-ghost use Rattle.std.specs.Prelude.{◌≡◌, ◌≤◌, ℕ, IfErr, IfOk, MatchResult, OnOk, OnErr, Ok, Some, length, drop};
+ghost use Rattle.std.specs.Prelude.{◌≡◌, ◌≤◌, ℕ, Err, IfErr, IfOk, MatchResult, OnOk, OnErr, Ok, Some, length, drop};
 ghost use Rattle.std.specs.Io.KnownBytes.{Appends};
 ghost use Rattle.std.specs.List.{concat};
 ghost use Rattle.rv_fleet.specs.Batches.{batch_rows};
 ghost use Rattle.rv_rows.specs.Sinks.{AppendsBeginning};
+ghost use Rattle.rv_stream.specs.Errors.{stream_error_of_places};
 ghost use Rattle.rv_stream.specs.Streams.{IsCounted, IsCountedBy, IsStreamOf, row_text_list, joined_row_texts, text_before_piece};
 
 use crate::error::StreamError;
@@ -13,7 +14,7 @@ use crate::placed_rows::PlacedRows;
 use crate::row_texts::joined_row_texts;
 use rv_fleet::{Batch, Crew, Gate, PlacesError, Rows, Sink, put_all, run_places};
 use rv_rows::Telling;
-use std::alloc::Global;
+use std::alloc::{AllocError, Global};
 use std::marker::Brand;
 use std::sync::{Mutex, Wait};
 use std::thread::Threads;
@@ -160,7 +161,7 @@ fn run_in_order<
     let group = crew.group as usize;
     let early = match empty_text_slots(alloc, batch.places.len().div_ceil(group)) {
         Ok(early) => early,
-        Err(error) => return (out, Err(StreamError::from(error))),
+        Err(error) => return (out, without_memory(error)),
     };
     let stream: Stream<'_, J, R, T, W> = Stream {
         rt: crew.rt,
@@ -175,6 +176,13 @@ fn run_in_order<
     (out, rows_and_next_piece(rows, sent))
 }
 
+// What is told of a growth that was refused before anything ran.
+fn without_memory(error: AllocError) -> Result<(Rows, usize), StreamError>
+    ensures { result ≡ Err StreamError.OutOfMemory }
+{
+    Err(StreamError::from(error))
+}
+
 // The rows, and the piece whose text goes out next; or why there are none. What the stream says goes first, since it
 // stopped the run.
 fn rows_and_next_piece(
@@ -184,6 +192,8 @@ fn rows_and_next_piece(
     ensures both { IfOk result (λ both. (rows ≡ Ok both.0) × (sent ≡ Ok both.1)) }
     ensures why { (before now : ℕ) → MatchResult sent (λ _. now ≡ before)
         (λ error. IsCounted before now (Some error)) → IfErr result (IsCountedBy before now) }
+    ensures stream { IfErr sent (λ error. result ≡ Err error) }
+    ensures run { IfOk sent (λ _. IfErr rows (λ error. result ≡ Err (stream_error_of_places error))) }
 {
     let next = sent?;
     let rows = rows?;

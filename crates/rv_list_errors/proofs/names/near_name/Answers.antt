@@ -1,4 +1,4 @@
-use Rattle.std.proofs.Common.{ap, arith}
+use Rattle.std.proofs.Common.{◌∙◌, ap, arith, refl}
 use Rattle.std.proofs.lemmas.List.{length-map}
 use Rattle.rv_list_errors.specs.FaultHeads.{borrowed_name}
 use Rattle.rv_list_errors.proofs.NamesTold.{borrowed_at}
@@ -7,28 +7,33 @@ use Rattle.rv_list_errors.proofs.names.near_name.Goals as goal
 use Rattle.rv_list_errors.proofs.names.near_name.Goals.{then-distance-least, else-distance-least}
 
 pub loop-name-init : goal.loop-name-init
-loop-name-init c = unless_refused_first _ _ (none_so_far _ _)
+loop-name-init c = record {
+  near = unless_refused_first _ _ (none_so_far _ _);
+  unwritten = refl;
+}
 
 pub loop-name-preserved : goal.loop-name-preserved
-loop-name-preserved c =
-    elim c.if-distance-least.branch [
-      | then-distance-least w ↦
-          rw (w.nearest-is, w.least-is) (unless_refused _ _ _ _ _ _ c.loop-name.invariant c.name_distance-distance.ensures
-          (λ so is. nearer _ _ _ _ _ so _ _ (borrowed_at c.args.names.now c.loop-name.name-index) is w.if-distance-least.true))
-      | else-distance-least w ↦
-          rw (w.nearest-is, w.least-is) (unless_refused _ _ _ _ _ _ c.loop-name.invariant c.name_distance-distance.ensures
-          (λ so is. no_nearer _ _ _ _ _ so _ _ (borrowed_at c.args.names.now c.loop-name.name-index) is
-          w.if-distance-least.false))
-    ]
+loop-name-preserved c = record {
+  near = elim c.if-distance-least.branch [
+    | then-distance-least w ↦
+        rw (w.nearest-is, w.least-is) (unless_refused _ _ _ _ _ _ c.loop-name.invariant.near c.name_distance-distance.ensures.distance
+        (λ so is. nearer _ _ _ _ _ so _ _ (borrowed_at c.args.names.now c.loop-name.name-index) is w.if-distance-least.true))
+    | else-distance-least w ↦
+        rw (w.nearest-is, w.least-is) (unless_refused _ _ _ _ _ _ c.loop-name.invariant.near c.name_distance-distance.ensures.distance
+        (λ so is. no_nearer _ _ _ _ _ so _ _ (borrowed_at c.args.names.now c.loop-name.name-index) is
+        w.if-distance-least.false))
+  ];
+  unwritten = c.name_distance-distance.ensures.unwritten ∙ c.loop-name.invariant.unwritten;
+}
 
-pub returns-in-Some : goal.returns-in-Some
-returns-in-Some c =
-    unless_refused_still _ _ _ _ c.loop-name.invariant
+pub returns-in-Some-clause-near : goal.returns-in-Some-clause-near
+returns-in-Some-clause-near c =
+    unless_refused_still _ _ _ _ c.loop-name.invariant.near
     (λ so. near_or_none _ _ _ _ _ so c.in-Some.name.now c.name_if_near.result (ap borrowed_name c.in-Some.is)
     (omega (arith, length-map c.args.names.now borrowed_name)) c.name_if_near.ensures)
 
-pub returns-in-None : goal.returns-in-None
-returns-in-None c =
-    unless_refused_still _ _ _ _ c.loop-name.invariant
+pub returns-in-None-clause-near : goal.returns-in-None-clause-near
+returns-in-None-clause-near c =
+    unless_refused_still _ _ _ _ c.loop-name.invariant.near
     (λ so. none_near _ _ _ _ _ so (omega (arith, length-map c.args.names.now borrowed_name))
     (λ name is. let none = rw c.in-None.is at is in cc))

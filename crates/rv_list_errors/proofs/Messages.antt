@@ -1,0 +1,60 @@
+-- What a message has behind several pushes.
+use Rattle.std.proofs.Common.{◌≡◌, ◌∙◌, ℕ, List, ◌++◌, Ok, Err, Result, ap, append_assoc}
+use Rattle.std.specs.Prelude.{IsOk, OnOk, codes}
+use Rattle.std.specs.Fmt.{decimal}
+use Rattle.rv_list_errors.specs.NearNames.{Adds}
+use Rattle.rv_list_errors.specs.Places.{column_at, line_at}
+use Rattle.rv_list_errors.specs.Told.{AddsSome}
+use Rattle.rv_list_errors.specs.declared.message.Message.{Message}
+
+both_grown : {E : Type 0} (first second : Result (Unit {0}) E) (A B C : Type 0) → OnOk first A → OnOk second (IsOk first × B)
+    → (A → B → C) → OnOk second C
+both_grown first (Err e) A B C p q f = tt
+both_grown (Ok u) (Ok v) A B C p q f = f p q.1
+both_grown (Err e) (Ok v) A B C p q f = cc (q.0)
+
+-- two texts
+pub adds_then : (a b c : Message) (xs ys : List ℕ) → Adds a b xs → Adds b c ys → Adds a c (xs ++ ys)
+adds_then a b c xs ys p q =
+    both_grown b.grown c.grown _ _ _ p q (λ first second. (
+      first.0,
+      second ∙ ap (λ l. l ++ ys) first.1 ∙ append_assoc a.bytes.items xs ys,
+    ))
+
+-- a text behind a look for the name that is nearest to another
+pub look_then : (a b c : Message) (A : Type 0) (IsSo : List ℕ → Type 0) (text : List ℕ) → OnOk b.grown (IsOk a.grown × A)
+    → b.bytes ≡ a.bytes → Adds b c text → (A → IsSo text) → AddsSome a c IsSo
+look_then a b c A IsSo text p e q f =
+    both_grown b.grown c.grown _ _ _ p q (λ first second. (
+      first.0,
+      (
+        text,
+        f first.1,
+        second ∙ ap (λ bytes. bytes.items ++ text) e,
+      ),
+    ))
+
+grown_so : {E : Type 0} (grown : Result (Unit {0}) E) (A B : Type 0) → OnOk grown A → (A → B) → OnOk grown B
+grown_so (Err e) A B p f = tt
+grown_so (Ok u) A B p f = f p
+
+-- a text of which something is so
+pub adds_some : (a b : Message) (xs : List ℕ) (IsSo : List ℕ → Type 0) → Adds a b xs → IsSo xs → AddsSome a b IsSo
+adds_some a b xs IsSo p is = grown_so b.grown _ _ p (λ both. (both.0, (xs, is, both.1)))
+
+five : (a b c d e : List ℕ) → ((a ++ (b ++ c)) ++ d) ++ e ≡ a ++ (b ++ (c ++ (d ++ e)))
+five a b c d e =
+    append_assoc (a ++ (b ++ c)) d e ∙ append_assoc a (b ++ c) (d ++ e) ∙ ap (λ l. a ++ l) (append_assoc b c (d ++ e))
+
+-- what stands in front of the reason for which a text is no TOML
+pub not_toml_text : (text reason : List ℕ) (place start line column : ℕ) → start ≡ place → line ≡ line_at start text
+    → column ≡ column_at start text
+    → ((codes ":" ++ (decimal line ++ codes ":")) ++ decimal column) ++ (codes ": not TOML: " ++ reason)
+    ≡ codes ":" ++ (decimal (line_at place text) ++ (codes ":" ++ (decimal (column_at place text)
+    ++ (codes ": not TOML: " ++ reason))))
+not_toml_text text reason place start line column e line_is column_is =
+    let at_line : line ≡ line_at place text = line_is ∙ ap (λ n. line_at n text) e in
+    let at_column : column ≡ column_at place text = column_is ∙ ap (λ n. column_at n text) e in
+    five (codes ":") (decimal line) (codes ":") (decimal column) (codes ": not TOML: " ++ reason)
+    ∙ ap (λ n. codes ":" ++ (decimal n ++ (codes ":" ++ (decimal column ++ (codes ": not TOML: " ++ reason))))) at_line
+    ∙ ap (λ n. codes ":" ++ (decimal (line_at place text) ++ (codes ":" ++ (decimal n ++ (codes ": not TOML: " ++ reason))))) at_column
