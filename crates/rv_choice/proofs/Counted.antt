@@ -1,5 +1,5 @@
 -- How many marks a choice has.
-use Rattle.std.proofs.Common.{◌≡◌, ◌∙◌, ◌+◌, ℕ, Bool, List, [], ◌∷◌, Option, Some, None, IfSome, Vec, Global, ap, arith, length, refl, subst, sym}
+use Rattle.std.proofs.Common.{◌≡◌, ◌∙◌, ℕ, Bool, List, [], ◌∷◌, Option, Some, None, IfSome, Vec, Global, ap, arith, length, refl, subst, sym}
 use Rattle.std.specs.Borrow.{Bor}
 use Rattle.std.specs.Prelude.{option_map, unwrap_or}
 use Rattle.std.proofs.lemmas.List.{length-map}
@@ -39,7 +39,7 @@ left_count : (pattern : Re) (jobs : List Job) (marks : List Bool) → length mar
 unfolding left_marks
 left_count pattern [] marks same = refl
 left_count pattern (job ∷ jobs) (mark ∷ marks) same =
-    ap (λ n. n + 1) (left_count pattern jobs marks (omega (arith, same)))
+    omega (arith, left_count pattern jobs marks (omega (arith, same)))
 left_count pattern (job ∷ jobs) [] same = absurd (omega (arith, same))
 
 left_some : (excluded : Option Re) (jobs : List Job) (wanted : Option (List Bool)) (marks : List Bool)

@@ -1,5 +1,5 @@
 -- Why words choose no jobs.
-use Rattle.std.proofs.Common.{◌≡◌, ◌∙◌, ◌<◌, ◌⊎◌, ℕ, List, [], ◌++◌, Option, Some, None, Bool, IsSomeAnd, IfErr, IfOk, IfSome, Result, Ok, Err, Vec, Global, ap, codes, get_or, inl, inr, refl, subst, sym, ⊎_elim}
+use Rattle.std.proofs.Common.{◌≡◌, ◌∙◌, ◌⊎◌, ℕ, List, [], ◌++◌, Option, Some, None, Bool, IsSomeAnd, IfErr, IfOk, IfSome, Result, Ok, Err, Vec, Global, ap, codes, get_or, inl, inr, refl, subst, sym, ⊎_elim}
 use Rattle.std.specs.Prelude.{option_map}
 use Rattle.std.proofs.lemmas.List.{get_or_default}
 use Rattle.std.specs.Borrow.{Bor}
@@ -15,7 +15,7 @@ use Rattle.rv_command.specs.declared.stop.Stop.TheVariants as why
 use Rattle.rv_lists.specs.Jobs.{single_job}
 use Rattle.rv_expect.specs.declared.passing.Rule.{Rule}
 use Rattle.rv_lists.specs.declared.job.Job.{Job}
-use Rattle.regex.specs.Strings.{regex_pattern, regex_source}
+use Rattle.regex.specs.Strings.{regex_source}
 use Rattle.regex.specs.declared.string.regex.Regex.{Regex}
 use Rattle.rv_choice.specs.Choice.{IsReadByDefault}
 use Rattle.rv_choice.specs.ChoiceStops.{IsChoiceStop, IsEmptiedStop, IsNoPattern, IsPatternStop, exclusion, memory, pattern, report}
