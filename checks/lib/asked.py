@@ -99,7 +99,7 @@ def check_help(row):
 # ---- choices
 
 def check_choice(row):
-    """Which jobs words choose, where these failed in a report; the status, and what is said."""
+    """Which jobs words choose, where these failed in a report; the status, and what is said: by `run`, and by `list` if it has the words."""
     row.write("a.elf", images.image(EXIT))
     row.write("list.toml", jobs(row["jobs"].split()))
     rows = [f"${number} {name}, end exit 1" for number, name in enumerate(row["failed"].split(), 1)]
@@ -108,8 +108,10 @@ def check_choice(row):
     out = [f"PASS {name}: exit 5 after 2 steps" for name in names]
     out.append(f"{job_count(len(names))}: {len(names)} passed, 0 failed, {2 * len(names)} steps")
     said = lines(f"rvtest: {row['said']}") if row["said"] else ""
-    words = ["run", "list.toml", "--verbose", *row["words"].split()]
-    row.wants(words, int(row["status"]), lines(*out) if names else "", said)
+    words, status = row["words"].split(), int(row["status"])
+    row.wants(["run", "list.toml", "--verbose", *words], status, lines(*out) if names else "", said)
+    if "--shard" not in words:
+        row.wants(["list", "list.toml", *words], status, lines(*names) if names else "", said)
 
 
 # ---- lines

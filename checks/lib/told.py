@@ -125,11 +125,13 @@ def check_fault(row):
 # ---- bytes
 
 def wants_console(row, console, keys, *behind):
-    """Runs a job that puts these bytes to the console, exits by code 0 and fails, with these lines behind its own."""
+    """Runs a job that puts these bytes to the console, exits by code 0 and fails, with these lines behind its own, which is given."""
     code, end = images.run_of(console, "0")
     row.write("image.elf", images.program(code))
     row.write("list.toml", f"job = [{{name = 'b', image = 'image.elf', budget = 9999, {keys}}}]")
-    wants_run(row, [], told_lines(f"FAIL b: {end}", *behind))
+    line = f"FAIL b: {end}"
+    wants_run(row, [], told_lines(line, *behind))
+    return line
 
 
 def check_shown(row):
@@ -153,8 +155,10 @@ def check_value(row):
 
 
 def check_console(row):
-    """The lines that are shown of the end of a console."""
-    wants_console(row, raw(row["console"]), "expect_exit = 1", "expected exit 1", *lines_in(row["shown"]))
+    """The lines that are shown of the end of a console, and the whole of it by `console`, beside the job's line."""
+    console = raw(row["console"])
+    line = wants_console(row, console, "expect_exit = 1", "expected exit 1", *lines_in(row["shown"]))
+    row.wants(["console", "list.toml", "b"], 1, console, lines(line))
 
 
 def tail_of(console):

@@ -1,12 +1,13 @@
 -- How many marks a choice has.
-use Rattle.std.proofs.Common.{◌≡◌, ◌∙◌, ℕ, Bool, List, [], Option, Some, None, ap, length}
+use Rattle.std.proofs.Common.{◌≡◌, ◌∙◌, ℕ, Bool, List, [], ◌∷◌, Option, Some, None, IfSome, Vec, Global, ap, arith, length, refl, subst, sym}
 use Rattle.std.specs.Borrow.{Bor}
-use Rattle.std.specs.Prelude.{unwrap_or}
+use Rattle.std.specs.Prelude.{option_map, unwrap_or}
 use Rattle.std.proofs.lemmas.List.{length-map}
 use Rattle.regex.specs.Patterns.{Re}
 use Rattle.rv_base.specs.Files.{FileContents}
 use Rattle.rv_choice.specs.Choice.{chosen_marks}
-use Rattle.rv_choice.specs.Chosen.{AreChosenBeside, IsChoice}
+use Rattle.rv_choice.specs.Choice.{left_marks}
+use Rattle.rv_choice.specs.Chosen.{AreChosenBeside, AreLeft, AreWanted, IsChoice}
 use Rattle.rv_cli.specs.declared.rvtest.run.RunAsked.{RunAsked}
 use Rattle.rv_expect.specs.declared.passing.Rule.{Rule}
 use Rattle.rv_lists.specs.declared.job.Job.{Job}
@@ -20,8 +21,39 @@ beside_count known None pattern words rule jobs marks notes are =
 beside_count known (Some path) pattern words rule jobs marks notes are =
     ap length are.chosen.marked ∙ length-map jobs _
 
+wanted_count : (known : Option FileContents) (words : RunAsked) (rule : Rule) (jobs : List Job) (marks : List Bool)
+    (notes : List ℕ) → AreWanted known words rule jobs (Some marks) notes → length marks ≡ length jobs
+wanted_count known words rule jobs marks notes are =
+    beside_count known words.failed _ words rule jobs marks notes are.by
+
+-- the jobs that words want have a mark each
+pub wanted_counts : (known : Option FileContents) (words : RunAsked) (rule : Rule) (jobs : List Job)
+    (marks : Option (Vec Bool Global)) (notes : List ℕ)
+    → AreWanted known words rule jobs (option_map (λ marks. marks.items) marks) notes
+    → IfSome marks (λ marks. length marks.items ≡ length jobs)
+wanted_counts known words rule jobs None notes are = tt
+wanted_counts known words rule jobs (Some marks) notes are = wanted_count known words rule jobs marks.items notes are
+
+left_count : (pattern : Re) (jobs : List Job) (marks : List Bool) → length marks ≡ length jobs
+    → length (left_marks pattern jobs marks) ≡ length jobs
+unfolding left_marks
+left_count pattern [] marks same = refl
+left_count pattern (job ∷ jobs) (mark ∷ marks) same =
+    omega (arith, left_count pattern jobs marks (omega (arith, same)))
+left_count pattern (job ∷ jobs) [] same = absurd (omega (arith, same))
+
+left_some : (excluded : Option Re) (jobs : List Job) (wanted : Option (List Bool)) (marks : List Bool)
+    → ((m : List Bool) → wanted ≡ Some m → length m ≡ length jobs) → AreLeft excluded jobs wanted (Some marks)
+    → length marks ≡ length jobs
+left_some None jobs wanted marks count left = count marks (sym left)
+left_some (Some pattern) jobs (Some wanted) marks count left =
+    ap (λ o. length (unwrap_or o [])) left.0 ∙ left_count pattern jobs wanted (count wanted refl)
+left_some (Some pattern) jobs None marks count left = count marks (sym left)
+
 -- there is a mark for each job
 pub choice_count : (known : Option FileContents) (words : RunAsked) (rule : Rule) (jobs : List Job) (marks : List Bool)
     (notes : List ℕ) → IsChoice known words rule jobs (Some marks) notes → length marks ≡ length jobs
 choice_count known words rule jobs marks notes is =
-    beside_count known words.failed _ words rule jobs marks notes is.by
+    let Counts : Option (List Bool) → Type 0 = λ wanted. AreWanted known words rule jobs wanted notes in
+    left_some _ jobs is.wanted marks
+    (λ m same. wanted_count known words rule jobs m notes (subst Counts same is.are)) is.left

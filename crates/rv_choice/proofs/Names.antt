@@ -1,11 +1,11 @@
 -- Names as a caller hands them over, and the marks of jobs that they choose.
-use Rattle.std.proofs.Common.{◌≡◌, ◌∙◌, ◌||◌, ℕ, Bool, true, false, List, [], ◌∷◌, ◌++◌, None, Some, ap, length, refl, is_some}
-use Rattle.std.proofs.lemmas.List.{length-map}
+use Rattle.std.proofs.Common.{◌≡◌, ◌∙◌, ◌<◌, ◌+◌, ◌||◌, ℕ, Bool, true, false, List, [], ◌∷◌, ◌++◌, None, Some, ap, arith, get_or, length, refl, is_some, take}
+use Rattle.std.proofs.lemmas.List.{length-take-le, take_more}
 use Rattle.std.specs.Borrow.{Bor}
 use Rattle.std.specs.List.{flat_map, list_any}
 use Rattle.rv_lists.specs.declared.job.Job.{Job}
 use Rattle.regex.specs.Patterns.{Re, find_str}
-use Rattle.rv_choice.specs.Choice.{borrowed_names, chosen_marks, is_found_in_names}
+use Rattle.rv_choice.specs.Choice.{borrowed_names, chosen_marks, is_found_in_names, is_left, left_marks}
 
 -- what is asked of one of them is asked of its text
 pub any_text : (p : List ℕ → Bool) (names : List (Bor (List ℕ)))
@@ -26,6 +26,31 @@ found_marks pattern (job ∷ jobs) =
     let found = is_some (find_str pattern job.name 0) in
     ap (λ b. b || list_any (λ mark. mark) (chosen_marks None (Some pattern) None jobs)) (or_false found)
     ∙ ap (λ b. found || b) (found_marks pattern jobs)
+
+left_append : (pattern : Re) (jobs : List Job) (marks : List Bool) (job : Job) (mark : Bool) → length marks ≡ length jobs
+    → left_marks pattern (jobs ++ job ∷ []) (marks ++ mark ∷ [])
+    ≡ left_marks pattern jobs marks ++ is_left mark (is_some (find_str pattern job.name 0)) ∷ []
+unfolding left_marks
+left_append pattern [] [] job mark same = refl
+left_append pattern [] (other ∷ marks) job mark same = absurd (omega (arith, same))
+left_append pattern (first ∷ jobs) [] job mark same = absurd (omega (arith, same))
+left_append pattern (first ∷ jobs) (other ∷ marks) job mark same =
+    ap (λ left. is_left other (is_some (find_str pattern first.name 0)) ∷ left)
+    (left_append pattern jobs marks job mark (omega (arith, same)))
+
+-- what a pattern leaves of the marks before a place, and of the one there
+pub left_more : (pattern : Re) (jobs : List Job) (marks : List Bool) (place : ℕ) (job : Job) (mark : Bool)
+    → length marks ≡ length jobs → place < length jobs → get_or jobs place job ≡ job → get_or marks place mark ≡ mark
+    → left_marks pattern (take (place + 1) jobs) (take (place + 1) marks)
+    ≡ left_marks pattern (take place jobs) (take place marks) ++ is_left mark (is_some (find_str pattern job.name 0)) ∷ []
+left_more pattern jobs marks place job mark same within is_job is_mark =
+    let counts : length (take place marks) ≡ length (take place jobs) =
+    omega (arith, same, length-take-le place jobs (omega arith), length-take-le place marks (omega (arith, same))) in
+    ap (λ (js : List Job). left_marks pattern js (take (place + 1) marks))
+    (take_more jobs place job within ∙ ap (λ (j : Job). take place jobs ++ j ∷ []) is_job)
+    ∙ (ap (left_marks pattern (take place jobs ++ job ∷ []))
+    (take_more marks place mark (omega (arith, same)) ∙ ap (λ (m : Bool). take place marks ++ m ∷ []) is_mark)
+    ∙ left_append pattern (take place jobs) (take place marks) job mark counts)
 
 -- what is said of each is said of its text
 pub notes_of_names : (f : List ℕ → List ℕ) (names : List (Bor (List ℕ)))

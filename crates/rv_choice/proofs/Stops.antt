@@ -1,5 +1,6 @@
 -- Why words choose no jobs.
-use Rattle.std.proofs.Common.{◌≡◌, ◌∙◌, ◌<◌, ◌⊎◌, ℕ, List, [], ◌++◌, Option, Some, None, IsSomeAnd, IfErr, IfOk, Result, Ok, Err, Vec, Global, ap, codes, get_or, inl, inr, refl, subst, sym}
+use Rattle.std.proofs.Common.{◌≡◌, ◌∙◌, ◌⊎◌, ℕ, List, [], ◌++◌, Option, Some, None, Bool, IsSomeAnd, IfErr, IfOk, IfSome, Result, Ok, Err, Vec, Global, ap, codes, get_or, inl, inr, refl, subst, sym, ⊎_elim}
+use Rattle.std.specs.Prelude.{option_map}
 use Rattle.std.proofs.lemmas.List.{get_or_default}
 use Rattle.std.specs.Borrow.{Bor}
 use Rattle.std.specs.declared.alloc.AllocError.{AllocError}
@@ -7,13 +8,19 @@ use Rattle.rv_base.specs.Files.{FileContents}
 use Rattle.rv_cli.specs.RvtestWords.{borrowed_text}
 use Rattle.rv_cli.specs.declared.rvtest.run.RunAsked.{RunAsked}
 use Rattle.rv_command.proofs.Public.{told_stop}
-use Rattle.rv_command.specs.Stops.{IsReportUnreadStop, stop_of_lines}
+use Rattle.rv_command.specs.Stops.{IsRefusal, IsReportUnreadStop, stop_of_lines}
 use Rattle.rv_command.specs.declared.stop.Lines.TheVariants as lines
 use Rattle.rv_command.specs.declared.stop.Stop.{Stop}
 use Rattle.rv_command.specs.declared.stop.Stop.TheVariants as why
 use Rattle.rv_lists.specs.Jobs.{single_job}
+use Rattle.rv_expect.specs.declared.passing.Rule.{Rule}
 use Rattle.rv_lists.specs.declared.job.Job.{Job}
-use Rattle.rv_choice.specs.ChoiceStops.{IsChoiceStop, IsPatternStop, memory, pattern, report, unknown}
+use Rattle.regex.specs.Strings.{regex_source}
+use Rattle.regex.specs.declared.string.regex.Regex.{Regex}
+use Rattle.rv_choice.specs.Choice.{IsReadByDefault}
+use Rattle.rv_choice.specs.ChoiceStops.{IsChoiceStop, IsEmptiedStop, IsNoPattern, IsPatternStop, exclusion, memory, pattern, report}
+use Rattle.rv_choice.specs.ChoiceStops.{unknown}
+use Rattle.rv_choice.specs.Chosen.{AreWanted}
 use Rattle.rv_choice.specs.declared.chooser.Choice.{Choice}
 use Rattle.rv_choice.specs.UnknownName.{IsMeant, IsNameHint, IsUnknownNameMessage, IsUnknownNameStop, unknown_name}
 
@@ -21,27 +28,70 @@ some_value : {A : Type 0} (o : Option A) (P : A → Type 0) → IsSomeAnd o P �
 some_value (Some x) P holds = (x, (refl, holds))
 some_value None P holds = absurd holds
 
-pub stop_of_unknown : (known : Option FileContents) (words : RunAsked) (jobs : List Job) (stop : Stop)
+pub stop_of_unknown : (known : Option FileContents) (words : RunAsked) (rule : Rule) (jobs : List Job) (stop : Stop)
     → IsSomeAnd (unknown_name jobs words.only.items) (λ name. IsUnknownNameStop words.list.now jobs name stop)
-    → IsChoiceStop known words jobs stop
-stop_of_unknown known words jobs stop said =
+    → IsChoiceStop known words rule jobs stop
+stop_of_unknown known words rule jobs stop said =
     let Says : List ℕ → Type 0 = λ name. IsUnknownNameStop words.list.now jobs name stop in
     let some = some_value (unknown_name jobs words.only.items) Says said in
     unknown some.0 some.1.0 some.1.1
 
-pub stop_of_pattern : (known : Option FileContents) (words : RunAsked) (jobs : List Job) (stop : Stop)
+pub stop_of_pattern : (known : Option FileContents) (words : RunAsked) (rule : Rule) (jobs : List Job) (stop : Stop)
     → IsSomeAnd (borrowed_text words.pattern) (λ text. IsPatternStop words.list.now text jobs stop)
-    → IsChoiceStop known words jobs stop
-stop_of_pattern known words jobs stop said =
+    → IsChoiceStop known words rule jobs stop
+stop_of_pattern known words rule jobs stop said =
     let Says : List ℕ → Type 0 = λ text. IsPatternStop words.list.now text jobs stop in
     let some = some_value (borrowed_text words.pattern) Says said in
     pattern some.0 some.1.0 some.1.1
 
-stop_of_report : (known : Option FileContents) (words : RunAsked) (jobs : List Job) (stop : Stop)
+-- of the pattern by which jobs are left out: memory was wanting, or it is none
+pub stop_of_no_exclusion : (known : Option FileContents) (words : RunAsked) (rule : Rule) (jobs : List Job) (stop : Stop)
+    → IsSomeAnd (borrowed_text words.exclude) (λ text. (stop ≡ why.OutOfMemory) ⊎ (IsNoPattern text × IsRefusal stop))
+    → IsChoiceStop known words rule jobs stop
+stop_of_no_exclusion known words rule jobs stop said =
+    let Says : List ℕ → Type 0 = λ text. (stop ≡ why.OutOfMemory) ⊎ (IsNoPattern text × IsRefusal stop) in
+    let some = some_value (borrowed_text words.exclude) Says said in
+    ⊎_elim memory (λ refused. exclusion some.0 some.1.0 (inl refused)) some.1.1
+
+emptied_by : (known : Option FileContents) (words : RunAsked) (rule : Rule) (jobs : List Job) (notes : List ℕ) (stop : Stop)
+    (marks : Vec Bool Global) (regex : Regex) → AreWanted known words rule jobs (Some marks.items) notes
+    → Some (regex_source regex) ≡ borrowed_text words.exclude → IsReadByDefault regex
+    → IsEmptiedStop words.list.now jobs marks.items regex stop → IsChoiceStop known words rule jobs stop
+emptied_by known words rule jobs notes stop marks regex are source read is =
+    exclusion (regex_source regex) (sym source) (inr (
+      record {
+        wanted = marks.items;
+        notes = notes;
+        are = are;
+        pattern = regex;
+        source = refl;
+        read = read;
+        emptied = is.0;
+      },
+      is.1,
+    ))
+
+-- memory was wanting, or the pattern leaves no job
+pub stop_of_emptied : (known : Option FileContents) (words : RunAsked) (rule : Rule) (jobs : List Job) (notes : List ℕ)
+    (stop : Stop) (marks : Option (Vec Bool Global)) (excluded : Option Regex) (by : Option (Bor Regex))
+    → AreWanted known words rule jobs (option_map (λ marks. marks.items) marks) notes
+    → option_map regex_source excluded ≡ borrowed_text words.exclude → IfSome excluded IsReadByDefault
+    → option_map (λ regex. regex.now) by ≡ excluded
+    → (stop ≡ why.OutOfMemory) ⊎ IsSomeAnd by (λ regex. IsSomeAnd marks
+    (λ marks. IsEmptiedStop words.list.now jobs marks.items regex.now stop))
+    → IsChoiceStop known words rule jobs stop
+stop_of_emptied known words rule jobs notes stop marks excluded by are source read same (inl is) = memory is
+stop_of_emptied known words rule jobs notes stop (Some marks) excluded (Some regex) are source read same (inr is) =
+    let from = rw (← same) at source in
+    emptied_by known words rule jobs notes stop marks regex.now are from (rw (← same) at read) is
+stop_of_emptied known words rule jobs notes stop None excluded (Some regex) are source read same (inr is) = absurd is
+stop_of_emptied known words rule jobs notes stop marks excluded None are source read same (inr is) = absurd is
+
+stop_of_report : (known : Option FileContents) (words : RunAsked) (rule : Rule) (jobs : List Job) (stop : Stop)
     → (stop ≡ why.OutOfMemory) ⊎ IsSomeAnd (borrowed_text words.failed) (λ path. IsReportUnreadStop known path stop)
-    → IsChoiceStop known words jobs stop
-stop_of_report known words jobs stop (inl is) = memory is
-stop_of_report known words jobs stop (inr said) =
+    → IsChoiceStop known words rule jobs stop
+stop_of_report known words rule jobs stop (inl is) = memory is
+stop_of_report known words rule jobs stop (inr said) =
     let Says : List ℕ → Type 0 = λ path. IsReportUnreadStop known path stop in
     let some = some_value (borrowed_text words.failed) Says said in
     report some.0 some.1.0 some.1.1
@@ -69,9 +119,9 @@ unknown_stop list jobs name (Ok message) stop is said =
     inr (message.items, said, told_stop lines.Refusal (Ok message) message.items stop is refl)
 unknown_stop list jobs name (Err error) stop is said = inl is
 
-pub stop_of_choice : (known : Option FileContents) (words : RunAsked) (jobs : List Job) (result : Result Choice Stop)
+pub stop_of_choice : (known : Option FileContents) (words : RunAsked) (rule : Rule) (jobs : List Job) (result : Result Choice Stop)
     → IfErr result (λ stop. (stop ≡ why.OutOfMemory)
     ⊎ IsSomeAnd (borrowed_text words.failed) (λ path. IsReportUnreadStop known path stop))
-    → IfErr result (IsChoiceStop known words jobs)
-stop_of_choice known words jobs (Ok choice) said = said
-stop_of_choice known words jobs (Err stop) said = stop_of_report known words jobs stop said
+    → IfErr result (IsChoiceStop known words rule jobs)
+stop_of_choice known words rule jobs (Ok choice) said = said
+stop_of_choice known words rule jobs (Err stop) said = stop_of_report known words rule jobs stop said

@@ -1,11 +1,11 @@
 -- The jobs of a list that a person chooses.
-use Rattle.std.specs.Prelude.{◌≡◌, ℕ, Bool, true, IfSome, List, [], ◌∷◌, Option, Some, None, is_some, map, not}
-use Rattle.std.specs.Prelude.{◌||◌, false, option_map, unwrap_or}
+use Rattle.std.specs.Prelude.{◌≡◌, ℕ, Bool, true, List, [], ◌∷◌, Option, Some, None, is_some, map, not}
+use Rattle.std.specs.Prelude.{◌&&◌, ◌||◌, false, option_map, unwrap_or}
 use Rattle.std.specs.Borrow.{Bor}
 use Rattle.std.specs.List.{filter, list_any}
 use Rattle.std.specs.Str.{bytes_eq}
 use Rattle.regex.specs.Patterns.{Re, default_config, find_str}
-use Rattle.regex.specs.Strings.{IsReadFromSource, regex_config, regex_pattern, regex_source}
+use Rattle.regex.specs.Strings.{IsReadFromSource, regex_config, regex_pattern}
 use Rattle.regex.specs.declared.string.regex.Regex.{Regex}
 use Rattle.rv_expect.specs.declared.passing.Rule.{Rule}
 use Rattle.rv_lists.specs.declared.job.Job.{Job}
@@ -71,6 +71,25 @@ requested_names (name ∷ more) = Some (borrowed_names (name ∷ more))
 -- a pattern is found in the name of some job
 abbrev pub is_found_in_names : Re → List Job → Bool
 is_found_in_names pattern jobs = list_any (λ job. is_some (find_str pattern job.name 0)) jobs
+
+-- a mark is left of a job in whose name a pattern is not found
+abbrev pub is_left : Bool → Bool → Bool
+is_left mark is_found = mark && not is_found
+
+-- a mark for each job, set where it was and where a pattern is not found in the job's name
+unfoldable pub left_marks : Re → List Job → List Bool → List Bool
+left_marks pattern [] marks = []
+left_marks pattern (job ∷ jobs) [] = []
+left_marks pattern (job ∷ jobs) (mark ∷ marks) =
+    is_left mark (is_some (find_str pattern job.name 0)) ∷ left_marks pattern jobs marks
+
+-- some mark is set
+abbrev pub has_mark : List Bool → Bool
+has_mark marks = list_any (λ mark. mark) marks
+
+-- of some marks that were set none is left
+abbrev pub are_emptied : List Bool → List Bool → Bool
+are_emptied marks left = has_mark marks && not (has_mark left)
 
 -- a job has the name
 abbrev pub has_job_named : List Job → List ℕ → Bool

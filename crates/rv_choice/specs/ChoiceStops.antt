@@ -1,5 +1,5 @@
 -- Why words choose no jobs.
-use Rattle.std.specs.Prelude.{◌≡◌, ◌≢◌, ◌⊎◌, ◌++◌, ℕ, List, Option, Some, codes, false}
+use Rattle.std.specs.Prelude.{◌≡◌, ◌≢◌, ◌⊎◌, ◌++◌, ℕ, Bool, List, Option, Some, codes, false, true}
 use Rattle.regex.specs.Patterns.{default_config}
 use Rattle.regex.specs.Sources.{IsTextRefusal}
 use Rattle.regex.specs.Strings.{regex_pattern, regex_source}
@@ -12,9 +12,11 @@ use Rattle.rv_cli.specs.declared.rvtest.run.RunAsked.{RunAsked}
 use Rattle.rv_command.specs.Stops.{IsRefusal, IsReportUnreadStop, IsStop}
 use Rattle.rv_command.specs.declared.stop.Stop.{Stop}
 use Rattle.rv_command.specs.declared.stop.Stop.TheVariants as why
+use Rattle.rv_expect.specs.declared.passing.Rule.{Rule}
 use Rattle.rv_lists.specs.declared.job.Job.{Job}
 use Rattle.rv_text.specs.Printable.{printable_text, printable_value}
-use Rattle.rv_choice.specs.Choice.{IsReadByDefault, is_found_in_names}
+use Rattle.rv_choice.specs.Choice.{IsReadByDefault, are_emptied, is_found_in_names, left_marks}
+use Rattle.rv_choice.specs.Chosen.{AreWanted}
 use Rattle.rv_choice.specs.UnknownName.{IsUnknownNameStop, unknown_name}
 
 -- a text is refused as a pattern, and not for want of memory
@@ -35,12 +37,40 @@ abbrev pub IsPatternStop : List ℕ → List ℕ → List Job → Stop → Type 
 IsPatternStop list text jobs stop = (stop ≡ why.OutOfMemory)
     ⊎ ((IsNoPattern text × IsRefusal stop) ⊎ (IsUnmatched text jobs × IsStop 2 (unmatched_pattern list text) stop))
 
--- memory was wanting; a name is no job's; the pattern chooses nothing; or the report was not read
-pub data IsChoiceStop (known : Option FileContents) (words : RunAsked) (jobs : List Job) (stop : Stop) : Type 0 where
-  memory : stop ≡ why.OutOfMemory → IsChoiceStop known words jobs stop
+-- the pattern of a text leaves none of the jobs that words want
+pub record LeavesNone (known : Option FileContents) (words : RunAsked) (rule : Rule) (jobs : List Job) (text : List ℕ)
+    : Type 0 where
+  pub wanted : List Bool
+  pub notes : List ℕ
+  pub are : AreWanted known words rule jobs (Some wanted) notes
+  pub pattern : Regex
+  pub source : regex_source pattern ≡ text
+  pub read : IsReadByDefault pattern
+  pub emptied : are_emptied wanted (left_marks (regex_pattern pattern) jobs wanted) ≡ true
+
+abbrev pub emptied_choice : List ℕ → List ℕ → List ℕ
+emptied_choice list text = codes "rvtest: " ++ printable_text list ++ codes ": --exclude '" ++ printable_value text
+    ++ codes "' leaves no job\n"
+
+-- that is told, of a pattern that leaves none of some marks
+abbrev pub IsEmptiedStop : List ℕ → List Job → List Bool → Regex → Stop → Type 0
+IsEmptiedStop list jobs marks pattern stop = (are_emptied marks (left_marks (regex_pattern pattern) jobs marks) ≡ true)
+    × IsStop 2 (emptied_choice list (regex_source pattern)) stop
+
+-- a text is no pattern, or its pattern leaves no job
+abbrev pub IsExclusionStop : Option FileContents → RunAsked → Rule → List Job → List ℕ → Stop → Type 0
+IsExclusionStop known words rule jobs text stop = (IsNoPattern text × IsRefusal stop)
+    ⊎ (LeavesNone known words rule jobs text × IsStop 2 (emptied_choice words.list.now text) stop)
+
+-- memory was wanting; a name is no job's; the pattern chooses nothing; the report was not read; or what is left out leaves nothing
+pub data IsChoiceStop (known : Option FileContents) (words : RunAsked) (rule : Rule) (jobs : List Job) (stop : Stop)
+    : Type 0 where
+  memory : stop ≡ why.OutOfMemory → IsChoiceStop known words rule jobs stop
   unknown : (name : List ℕ) → unknown_name jobs words.only.items ≡ Some name
-      → IsUnknownNameStop words.list.now jobs name stop → IsChoiceStop known words jobs stop
+      → IsUnknownNameStop words.list.now jobs name stop → IsChoiceStop known words rule jobs stop
   pattern : (text : List ℕ) → borrowed_text words.pattern ≡ Some text
-      → IsPatternStop words.list.now text jobs stop → IsChoiceStop known words jobs stop
+      → IsPatternStop words.list.now text jobs stop → IsChoiceStop known words rule jobs stop
   report : (path : List ℕ) → borrowed_text words.failed ≡ Some path
-      → IsReportUnreadStop known path stop → IsChoiceStop known words jobs stop
+      → IsReportUnreadStop known path stop → IsChoiceStop known words rule jobs stop
+  exclusion : (text : List ℕ) → borrowed_text words.exclude ≡ Some text
+      → IsExclusionStop known words rule jobs text stop → IsChoiceStop known words rule jobs stop

@@ -1,5 +1,5 @@
 -- The marks of the jobs of a list that words choose, and what is said beside that.
-use Rattle.std.specs.Prelude.{◌≡◌, ◌↔◌, ℕ, Bool, IfSome, List, [], Option, Some, None, is_some, option_map, true}
+use Rattle.std.specs.Prelude.{◌≡◌, ◌↔◌, ℕ, Bool, IfSome, List, [], Option, Some, None, false, option_map, true}
 use Rattle.regex.specs.Patterns.{Re}
 use Rattle.regex.specs.Strings.{regex_pattern, regex_source}
 use Rattle.regex.specs.declared.string.regex.Regex.{Regex}
@@ -11,7 +11,8 @@ use Rattle.rv_command.specs.Texts.{IsReportAt}
 use Rattle.rv_expect.specs.declared.passing.Rule.{Rule}
 use Rattle.rv_lists.specs.declared.job.Job.{Job}
 use Rattle.rv_report.specs.declared.saved.SavedReport.{SavedReport}
-use Rattle.rv_choice.specs.Choice.{ChosenNames, IsReadByDefault, chosen_marks, failed_job_names, is_found_in_names, requested_names}
+use Rattle.rv_choice.specs.Choice.{ChosenNames, IsReadByDefault, are_emptied, chosen_marks, failed_job_names, is_found_in_names}
+use Rattle.rv_choice.specs.Choice.{left_marks, requested_names}
 use Rattle.rv_choice.specs.FailedJobNotes.{failed_job_notes}
 use Rattle.rv_choice.specs.UnknownName.{unknown_name}
 
@@ -44,9 +45,9 @@ abbrev pub AreChosenBy : Option FileContents → Option Re → RunAsked → Rule
 AreChosenBy known pattern words rule jobs marks notes =
     AreChosenBeside known words.failed pattern words rule jobs marks notes
 
--- each exact name is a job's; with the pattern that their text is read as where they have one, which is found in the name of
--- some job
-pub record IsChoice (known : Option FileContents) (words : RunAsked) (rule : Rule) (jobs : List Job)
+-- the jobs that words want, before any is left out: each exact name is a job's; with the pattern that their text is read as where
+-- they have one, which is found in the name of some job
+pub record AreWanted (known : Option FileContents) (words : RunAsked) (rule : Rule) (jobs : List Job)
     (marks : Option (List Bool)) (notes : List ℕ) : Type 0 where
   pub named : unknown_name jobs words.only.items ≡ None
   pub pattern : Option Regex
@@ -54,3 +55,19 @@ pub record IsChoice (known : Option FileContents) (words : RunAsked) (rule : Rul
   pub read : IfSome pattern IsReadByDefault
   pub found : IfSome pattern (λ regex. is_found_in_names (regex_pattern regex) jobs ≡ true)
   pub by : AreChosenBy known (option_map regex_pattern pattern) words rule jobs marks notes
+
+-- the marks that a pattern leaves, if it is given: at least one, where there was one
+abbrev pub AreLeft : Option Re → List Job → Option (List Bool) → Option (List Bool) → Type 0
+AreLeft (Some pattern) jobs (Some wanted) left =
+    (left ≡ Some (left_marks pattern jobs wanted)) × (are_emptied wanted (left_marks pattern jobs wanted) ≡ false)
+AreLeft _ jobs wanted left = left ≡ wanted
+
+-- the jobs that words choose: those that they want, without those in whose names the pattern is found by which they leave jobs out
+pub record IsChoice (known : Option FileContents) (words : RunAsked) (rule : Rule) (jobs : List Job)
+    (marks : Option (List Bool)) (notes : List ℕ) : Type 0 where
+  pub wanted : Option (List Bool)
+  pub are : AreWanted known words rule jobs wanted notes
+  pub excluded : Option Regex
+  pub source : option_map regex_source excluded ≡ borrowed_text words.exclude
+  pub read : IfSome excluded IsReadByDefault
+  pub left : AreLeft (option_map regex_pattern excluded) jobs wanted marks

@@ -1,24 +1,24 @@
 //! The jobs that words choose.
 
 ghost use Rattle.std.specs.Prelude.{◌≡◌, ◌⊎◌, IfErr, IfOk, IfSome, IsSomeAnd, None, OnOk, true};
-ghost use Rattle.std.specs.List.{list_any};
-ghost use Rattle.std.specs.Prelude.{is_some, option_map};
+ghost use Rattle.std.specs.Prelude.{false, is_some, length, option_map};
 ghost use Rattle.regex.specs.Strings.{regex_pattern, regex_source};
-ghost use Rattle.rv_choice.specs.Choice.{IsReadByDefault, borrowed_names, chosen_marks, failed_job_names};
-ghost use Rattle.rv_choice.specs.Choice.{is_found_in_names, optional_names, pattern_of, requested_names};
-ghost use Rattle.rv_choice.specs.ChoiceStops.{IsChoiceStop, IsNoPattern, IsPatternStop, unmatched_pattern};
-ghost use Rattle.rv_choice.specs.Chosen.{AreChosenBy, AreChosenFrom, IsChoice};
+ghost use Rattle.rv_choice.specs.Choice.{IsReadByDefault, are_emptied, borrowed_names, chosen_marks, failed_job_names, has_mark};
+ghost use Rattle.rv_choice.specs.Choice.{is_found_in_names, left_marks, optional_names, pattern_of, requested_names};
+ghost use Rattle.rv_choice.specs.ChoiceStops.{IsChoiceStop, IsEmptiedStop, IsNoPattern, IsPatternStop, emptied_choice};
+ghost use Rattle.rv_choice.specs.ChoiceStops.{unmatched_pattern};
+ghost use Rattle.rv_choice.specs.Chosen.{AreChosenBy, AreChosenFrom, AreLeft, AreWanted, IsChoice};
 ghost use Rattle.rv_choice.specs.FailedJobNotes.{failed_job_notes};
 ghost use Rattle.rv_choice.specs.UnknownName.{IsUnknownNameStop, unknown_name};
 ghost use Rattle.rv_cli.specs.RvtestWords.{borrowed_text};
 ghost use Rattle.rv_command.specs.Stops.{IsRefusal, IsReportUnreadStop, IsStop};
 
 use crate::failed_jobs::{failed_job_names, failed_job_notes};
-use crate::marks::{Wanted, chosen_marks, first_unknown_name};
+use crate::marks::{Wanted, chosen_marks, first_unknown_name, left_marks};
 use crate::shard::bad_value_stop;
 use crate::unknown_name::unknown_name_stop;
 use regex::Regex;
-use rv_cli::rvtest::RunAsked;
+use rv_cli::rvtest::{ChoosingCommand, RunAsked};
 use rv_command::{Stop, read_report_file};
 use rv_expect::Rule;
 use rv_files::Inputs;
@@ -35,6 +35,8 @@ pub struct Chooser<'x, D> {
     pub asked: &'x RunAsked<'x>,
     /// Which rows are failures.
     pub rule: Rule,
+    /// The command whose words they are.
+    pub command: ChoosingCommand,
 }
 
 /// The jobs of a list that are chosen.
@@ -52,7 +54,21 @@ impl<'x, D: Inputs> Chooser<'x, D> {
     pub fn choose(&self, jobs: &[Job]) -> Result<Choice, Stop>
         ensures chosen { IfOk result (λ choice. IsChoice (D.contents self.now.inputs.now) self.now.asked.now
             self.now.rule jobs.now (option_map (λ marks. marks.items) choice.marks) choice.notes.items) }
-        ensures stop { IfErr result (IsChoiceStop (D.contents self.now.inputs.now) self.now.asked.now jobs.now) }
+        ensures stop { IfErr result
+            (IsChoiceStop (D.contents self.now.inputs.now) self.now.asked.now self.now.rule jobs.now) }
+    {
+        let excluded = self.requested_exclusion()?;
+        let Choice { marks, notes } = self.wanted_jobs(jobs)?;
+        let marks = self.leave_out(excluded.as_ref(), marks, jobs)?;
+        Ok(Choice { marks, notes })
+    }
+
+    // The jobs that words want, before any is left out.
+    fn wanted_jobs(&self, jobs: &[Job]) -> Result<Choice, Stop>
+        ensures wanted { IfOk result (λ choice. AreWanted (D.contents self.now.inputs.now) self.now.asked.now
+            self.now.rule jobs.now (option_map (λ marks. marks.items) choice.marks) choice.notes.items) }
+        ensures stop { IfErr result
+            (IsChoiceStop (D.contents self.now.inputs.now) self.now.asked.now self.now.rule jobs.now) }
     {
         self.check_exact_names(jobs)?;
         let pattern = self.requested_pattern(jobs)?;
@@ -84,12 +100,65 @@ impl<'x, D: Inputs> Chooser<'x, D> {
         let Some(text) = self.asked.pattern else {
             return Ok(None);
         };
-        let pattern = compile_pattern(self.alloc, text)?;
+        let pattern = self.compile_pattern("--match", text)?;
         if is_found_in_job_names(self.alloc, &pattern, jobs)? {
             Ok(Some(pattern))
         } else {
             Err(unmatched_pattern_stop(self.alloc, self.asked.list, text))
         }
+    }
+
+    // The pattern by which jobs are left out.
+    fn requested_exclusion(&self) -> Result<Option<Regex>, Stop>
+        ensures source { IfOk result (λ excluded.
+            option_map regex_source excluded ≡ borrowed_text self.now.asked.now.exclude) }
+        ensures read { IfOk result (λ excluded. IfSome excluded IsReadByDefault) }
+        ensures refused { IfErr result (λ stop. IsSomeAnd (borrowed_text self.now.asked.now.exclude)
+            (λ text. (stop ≡ Stop.OutOfMemory) ⊎ (IsNoPattern text × IsRefusal stop))) }
+    {
+        match self.asked.exclude {
+            Some(text) => Ok(Some(self.compile_pattern("--exclude", text)?)),
+            None => Ok(None),
+        }
+    }
+
+    // The marks without those of the jobs in whose names a pattern is found, if one is given.
+    fn leave_out(
+        &self,
+        excluded: Option<&Regex>,
+        marks: Option<Vec<bool>>,
+        jobs: &[Job],
+    ) -> Result<Option<Vec<bool>>, Stop>
+        requires counted { IfSome marks (λ marks. length marks.items ≡ length jobs.now) }
+        ensures left { IfOk result (λ left. AreLeft (pattern_of excluded.entry) jobs.now
+            (option_map (λ marks. marks.items) marks) (option_map (λ marks. marks.items) left)) }
+        ensures stop { IfErr result (λ stop. (stop ≡ Stop.OutOfMemory)
+            ⊎ IsSomeAnd excluded.entry (λ regex. IsSomeAnd marks
+            (λ marks. IsEmptiedStop self.now.asked.now.list.now jobs.now marks.items regex.now stop))) }
+    {
+        let Some(excluded) = excluded else {
+            return Ok(marks);
+        };
+        let Some(marks) = marks else {
+            return Ok(None);
+        };
+        let left = self.left_marks(marks.as_slice(), excluded, jobs)?;
+        Ok(Some(left))
+    }
+
+    // The marks that a pattern leaves, of which there is one where there was one.
+    fn left_marks(&self, marks: &[bool], excluded: &Regex, jobs: &[Job]) -> Result<Vec<bool>, Stop>
+        requires counted { length marks.now ≡ length jobs.now }
+        ensures left { IfOk result (λ left. left.items ≡ left_marks (regex_pattern excluded.now) jobs.now marks.now) }
+        ensures some { IfOk result (λ left. are_emptied marks.now left.items ≡ false) }
+        ensures stop { IfErr result (λ stop. (stop ≡ Stop.OutOfMemory)
+            ⊎ IsEmptiedStop self.now.asked.now.list.now jobs.now marks.now excluded.now stop) }
+    {
+        let left = left_marks(self.alloc, jobs, marks, excluded)?;
+        if has_mark(marks) && !has_mark(left.as_slice()) {
+            return Err(emptied_choice_stop(self.alloc, self.asked.list, excluded.as_str()));
+        }
+        Ok(left)
     }
 
     // The choice by a pattern, or by none, that the jobs' names were asked for.
@@ -151,6 +220,24 @@ impl<'x, D: Inputs> Chooser<'x, D> {
         Ok(Choice { marks, notes })
     }
 
+    // The pattern that an option's text is read as.
+    fn compile_pattern(&self, option: &str, text: &str) -> Result<Regex, Stop>
+        ensures source { IfOk result (λ pattern. regex_source pattern ≡ text.now) }
+        ensures read { IfOk result IsReadByDefault }
+        ensures refused { IfErr result (λ stop. (stop ≡ Stop.OutOfMemory) ⊎ (IsNoPattern text.now × IsRefusal stop)) }
+    {
+        let alloc = self.alloc;
+        match Regex::new(alloc, text) {
+            Ok(pattern) => Ok(pattern),
+            Err(regex::Error::OutOfMemory) => Err(Stop::OutOfMemory),
+            Err(error) => Err(bad_value_stop(
+                alloc,
+                self.command,
+                format!(in alloc; "invalid value '{text}' for '{option} <REGEX>': {error}"),
+            )),
+        }
+    }
+
     fn combined_marks(
         &self,
         pattern: Option<&Regex>,
@@ -181,21 +268,6 @@ fn requested_names<'a>(asked: &'a RunAsked<'_>) -> Option<&'a [&'a str]>
     }
 }
 
-fn compile_pattern(alloc: Global, text: &str) -> Result<Regex, Stop>
-    ensures source { IfOk result (λ pattern. regex_source pattern ≡ text.now) }
-    ensures read { IfOk result IsReadByDefault }
-    ensures refused { IfErr result (λ stop. (stop ≡ Stop.OutOfMemory) ⊎ (IsNoPattern text.now × IsRefusal stop)) }
-{
-    match Regex::new(alloc, text) {
-        Ok(pattern) => Ok(pattern),
-        Err(regex::Error::OutOfMemory) => Err(Stop::OutOfMemory),
-        Err(error) => Err(bad_value_stop(
-            alloc,
-            format!(in alloc; "invalid value '{text}' for '--match <REGEX>': {error}"),
-        )),
-    }
-}
-
 // A pattern is found in the name of some job.
 #[tactic(auto, using(crate::proofs::Names::found_marks))]
 fn is_found_in_job_names(alloc: Global, pattern: &Regex, jobs: &[Job]) -> Result<bool, AllocError>
@@ -213,7 +285,7 @@ fn is_found_in_job_names(alloc: Global, pattern: &Regex, jobs: &[Job]) -> Result
 
 // Some mark is set.
 fn has_mark(marks: &[bool]) -> bool
-    ensures { result ≡ list_any (λ mark. mark) marks.now }
+    ensures { result ≡ has_mark marks.now }
 {
     marks.iter().any(|mark| *mark)
 }
@@ -239,6 +311,31 @@ fn unmatched_pattern_message<'a>(
             Span::Text(": no job's name matches '"),
             Span::Value(pattern.as_bytes()),
             Span::Text("'\n"),
+        ],
+    )
+}
+
+fn emptied_choice_stop(alloc: Global, list: &str, pattern: &str) -> Stop
+    ensures { IsStop 2 (emptied_choice list.now pattern.now) result }
+{
+    Stop::of_refusal(emptied_choice_message(alloc, list, pattern))
+}
+
+fn emptied_choice_message<'a>(
+    alloc: Global,
+    list: &'a str,
+    pattern: &'a str,
+) -> Result<Vec<u8>, AllocError>
+    ensures { IfOk result (λ text. text.items ≡ emptied_choice list.now pattern.now) }
+{
+    text_of_spans(
+        alloc,
+        &[
+            Span::Text("rvtest: "),
+            Span::Shown(list.as_bytes()),
+            Span::Text(": --exclude '"),
+            Span::Value(pattern.as_bytes()),
+            Span::Text("' leaves no job\n"),
         ],
     )
 }

@@ -1,9 +1,9 @@
 //! The jobs that are chosen, by a mark for each.
 
-ghost use Rattle.std.specs.Prelude.{◌≡◌, IfOk, option_map};
-ghost use Rattle.regex.specs.Strings.{matcher_pattern};
+ghost use Rattle.std.specs.Prelude.{◌≡◌, IfOk, length, option_map};
+ghost use Rattle.regex.specs.Strings.{matcher_pattern, regex_pattern};
 ghost use Rattle.rv_choice.specs.Choice.{choice_by_names, choice_by_pattern, has_job_named, is_among_names, is_chosen, is_chosen_name};
-ghost use Rattle.rv_choice.specs.Choice.{chosen_marks, borrowed_names, pattern_of, optional_names};
+ghost use Rattle.rv_choice.specs.Choice.{chosen_marks, borrowed_names, is_left, left_marks, pattern_of, optional_names};
 ghost use Rattle.rv_choice.specs.UnknownName.{unknown_name};
 
 use regex::{Matcher, Regex};
@@ -36,6 +36,32 @@ pub(crate) fn chosen_marks(
         marks.push(is_chosen_name(wanted, &mut matcher, jobs[place].name.as_str()))?;
     }
     Ok(marks)
+}
+
+/// A mark for each job, which is set where it was and where a pattern is not found in the job's name.
+pub(crate) fn left_marks(
+    alloc: Global,
+    jobs: &[Job],
+    marks: &[bool],
+    excluded: &Regex,
+) -> Result<Vec<bool>, AllocError>
+    requires { length marks.now ≡ length jobs.now }
+    ensures { IfOk result (λ left. left.items ≡ left_marks (regex_pattern excluded.now) jobs.now marks.now) }
+{
+    let mut matcher = excluded.matcher(alloc)?;
+    let mut left = Vec::new(alloc);
+    for place in 0..jobs.len() {
+        let is_found = matcher.is_match(jobs[place].name.as_str());
+        left.push(is_left(marks[place], is_found))?;
+    }
+    Ok(left)
+}
+
+// Whether a mark is left, of a job in whose name the pattern is found or not.
+fn is_left(mark: bool, is_found: bool) -> bool
+    ensures { result ≡ is_left mark is_found }
+{
+    mark && !is_found
 }
 
 fn matcher_of(alloc: Global, pattern: Option<&Regex>) -> Result<Option<Matcher<'_>>, AllocError>

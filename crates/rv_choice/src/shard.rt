@@ -12,7 +12,7 @@ ghost use Rattle.rv_command.specs.Stops.{IsRefusal};
 ghost use Rattle.rv_base.specs.Names.{is_name};
 
 use clap::error::ErrorKind;
-use rv_cli::rvtest::{RunAsked, run_command, usage_error};
+use rv_cli::rvtest::{ChoosingCommand, RunAsked, usage_error};
 use rv_command::Stop;
 use rv_jobs::Text;
 use rv_jobs::limits::MOST_JOBS;
@@ -105,6 +105,7 @@ fn bad_shard_stop(alloc: Global, words: &str) -> Stop
 {
     bad_value_stop(
         alloc,
+        ChoosingCommand::Run,
         format!(in alloc;
             "invalid value '{words}' for '--shard <K/N>': K and N are numbers, 1 <= K <= N <= 4096"
         ),
@@ -116,20 +117,28 @@ fn bad_stamp_stop(alloc: Global, stamp: &str) -> Stop
 {
     bad_value_stop(
         alloc,
+        ChoosingCommand::Run,
         format!(in alloc;
             "invalid value '{stamp}' for '--stamp <TEXT>': 1 to 64 letters, digits, '.', '_' and '-'"
         ),
     )
 }
 
-/// That a value of `run` is none, as these words say, where there was memory for them.
-pub(crate) fn bad_value_stop(alloc: Global, what: Result<String, AllocError>) -> Stop
+/// That a value of a command is none, as these words say, where there was memory for them.
+pub(crate) fn bad_value_stop(
+    alloc: Global,
+    command: ChoosingCommand,
+    what: Result<String, AllocError>,
+) -> Stop
     ensures { IsRefusal result }
 {
     match what {
         Ok(what) => {
             let kind = ErrorKind::ValueValidation;
-            Stop::of_clap_error(alloc, &usage_error(run_command(alloc), kind, what.as_str()))
+            Stop::of_clap_error(
+                alloc,
+                &usage_error(command.command(alloc), kind, what.as_str()),
+            )
         }
         Err(error) => Stop::from(error),
     }

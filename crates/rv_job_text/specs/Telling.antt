@@ -113,10 +113,10 @@ row_lines_at telling place row = row_lines_of_job telling row (slice_get telling
 
 -- ---- a job that is explained
 
--- every expectation, and how the run came to its end
+-- every expectation, the end of the console, and how the run came to its end
 unfoldable pub run_explanation : Planned → Job → Row → ℕ → List ℕ
 run_explanation plan job row last =
-    expectation_lines detail.All plan job row ++ way_to_end_lines plan job row last
+    expectation_lines detail.All plan job row ++ (console_tail row.console ++ way_to_end_lines plan job row last)
 
 abbrev pub explanation_if_run : Planned → Job → Row → ℕ → List ℕ
 explanation_if_run plan job row last =

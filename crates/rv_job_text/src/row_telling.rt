@@ -7,7 +7,7 @@ ghost use Rattle.rv_jobs.specs.declared_job.Job.{Job as AJob};
 ghost use Rattle.rv_trace.specs.Trace.{job_at};
 ghost use Rattle.rv_job_text.specs.ImageSymbols.{fault_symbol};
 ghost use Rattle.rv_job_text.specs.Telling.{compared_lines, expectation_lines, explanation_text, image_bytes, row_line};
-ghost use Rattle.rv_job_text.specs.Telling.{run_lines, telling_of, row_lines};
+ghost use Rattle.rv_job_text.specs.Telling.{run_explanation, run_lines, telling_of, row_lines};
 
 use crate::console_tail::push_console_tail;
 use crate::job_file::JobFile;
@@ -89,9 +89,9 @@ impl<'a> RowTelling<'a> {
     }
 
     /// Appends what explains the row of the job at a place, whatever the verbosity: its line, and where the job ran every
-    /// expectation, those that it does not meet first, and how it came to its end: the registers there, and so many of its
-    /// last instructions.
-    #[tactic(auto, unfolding(crate::specs::Telling::explanation_text, crate::specs::Telling::run_explanation))]
+    /// expectation, those that it does not meet first, the end of its console, and how it came to its end: the registers there,
+    /// and so many of its last instructions.
+    #[tactic(auto, unfolding(crate::specs::Telling::explanation_text))]
     pub fn push_job_explanation(
         &self,
         alloc: Global,
@@ -111,19 +111,19 @@ impl<'a> RowTelling<'a> {
         let plan = self.plan;
         let file = &JobFile::read(alloc, plan, place)?;
         self.push_row_line(alloc, place, row, file.fault_symbol(row.ending), text)?;
-        let job_row = JobRow {
+        JobRow {
             plan,
             place,
             row,
             file,
-        };
-        job_row.push_expectation_lines(alloc, Detail::All, text)?;
-        job_row.push_way_to_end(alloc, last, text)
+        }
+        .push_run_explanation(alloc, last, text)
     }
 
-    // Appends the line of a row of which nothing else is told. The image is read for the place of a fault alone.
+    /// Appends the line of the row of the job at a place, and nothing behind it, whatever the verbosity. The image is read for the
+    /// place of a fault alone.
     #[tactic(auto, unfolding(crate::specs::ImageSymbols::fault_symbol))]
-    fn push_lone_row_line(
+    pub fn push_lone_row_line(
         &self,
         alloc: Global,
         place: usize,
@@ -202,6 +202,23 @@ impl<'a> JobRow<'a> {
             Some(last) => self.push_way_to_end(alloc, last, text),
             None => Ok(()),
         }
+    }
+
+    // Appends every expectation, the end of the console, and how the run came to its end.
+    #[tactic(auto, unfolding(crate::specs::Telling::run_explanation))]
+    fn push_run_explanation(
+        &self,
+        alloc: Global,
+        last: u32,
+        text: &mut Vec<u8>,
+    ) -> Result<(), AllocError>
+        ensures { OnOk result ((d : AJob) → text.new.items ≡ text.old.items
+            ++ run_explanation self.now.plan.now (job_at self.now.plan.now self.now.place d)
+            self.now.row.now last) }
+    {
+        self.push_expectation_lines(alloc, Detail::All, text)?;
+        push_console_tail(text, self.row.console.as_slice())?;
+        self.push_way_to_end(alloc, last, text)
     }
 
     // Appends the expectations that are told of the run.

@@ -6,6 +6,8 @@ use Rattle.rv_base.specs.Files.{FileContents}
 use Rattle.rv_cli.specs.RvtestWords.{asked_words, words_fault_kinds, words_request}
 use Rattle.rv_cli.specs.declared.rvtest.requests.Asked.{Asked}
 use Rattle.rv_cli.specs.declared.rvtest.requests.Asked.TheVariants as asked
+use Rattle.rvtest_app.specs.Consoles.{IsConsolePut}
+use Rattle.rvtest_app.specs.Lists.{IsListPut}
 use Rattle.rvtest_app.specs.Merges.{IsMergedAt}
 use Rattle.rvtest_app.specs.Reports.{IsCheckAt, IsDiffAt, IsExplanationAt}
 use Rattle.rvtest_app.specs.Runs.{IsRunAt}
@@ -19,6 +21,10 @@ IsDone known (asked.Run words) status before after =
 IsDone known (asked.Explain words) status before after =
     (text : List ℕ) × (IsExplanationAt known words text status
     × IsOnlyPut text before after)
+IsDone known (asked.List words) status before after =
+    IsListPut known words status before after
+IsDone known (asked.Console words) status before after =
+    IsConsolePut known words status before after
 IsDone known (asked.Check words) status before after =
     (text : List ℕ) × (IsCheckAt known words text status
     × IsOnlyPut text before after)

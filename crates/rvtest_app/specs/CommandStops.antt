@@ -3,11 +3,14 @@ use Rattle.std.specs.Prelude.{◌≡◌, ◌⊎◌, ℕ, List, Option, Some, Ok,
 use Rattle.clap.specs.Kinds.{IsAmong}
 use Rattle.clap.specs.declared.error.kind.ErrorKind.{ErrorKind as WordsFault}
 use Rattle.rv_base.specs.Files.{FileContents}
+use Rattle.rv_choice.specs.ChoiceStops.{IsChoiceStop}
 use Rattle.rv_choice.specs.UnknownName.{IsUnknownNameStop}
 use Rattle.rv_cli.specs.RvtestWords.{asked_words, words_fault_kinds, words_request}
 use Rattle.rv_cli.specs.declared.rvtest.check.CheckAsked.{CheckAsked}
+use Rattle.rv_cli.specs.declared.rvtest.console.ConsoleAsked.{ConsoleAsked}
 use Rattle.rv_cli.specs.declared.rvtest.diff.DiffAsked.{DiffAsked}
 use Rattle.rv_cli.specs.declared.rvtest.explain.ExplainAsked.{ExplainAsked}
+use Rattle.rv_cli.specs.declared.rvtest.run.RunAsked.{RunAsked}
 use Rattle.rv_cli.specs.declared.rvtest.requests.Asked.{Asked}
 use Rattle.rv_cli.specs.declared.rvtest.requests.Asked.TheVariants as asked
 use Rattle.rv_command.specs.Stops.{IsListFaultStop, IsListUnreadStop, IsRefusal, IsReportUnreadStop}
@@ -18,6 +21,7 @@ use Rattle.rv_lists.specs.JobList.{job_list_of}
 use Rattle.rv_lists.specs.declared.job.Job.{Job}
 use Rattle.rv_report.specs.declared.saved.SavedReport.{SavedReport}
 use Rattle.rvtest_app.specs.Answers.{AskForHelp}
+use Rattle.rvtest_app.specs.Commands.{failure_rule}
 use Rattle.rvtest_app.specs.ToldStops.{IsHelpAsked}
 
 -- `check`: the list was not read; or memory was wanting, or the list has a fault
@@ -35,6 +39,22 @@ abbrev pub IsExplainStop : Option FileContents → ExplainAsked → Stop → Typ
 IsExplainStop known words why = IsListUnreadStop known words.list.now why
     ⊎ ((text : List ℕ) × (IsTextAt known words.list.now text × IsNoJobStop words.list.now text words.name.now why))
 
+-- `console`: the same
+abbrev pub IsConsoleStop : Option FileContents → ConsoleAsked → Stop → Type 0
+IsConsoleStop known words why = IsListUnreadStop known words.list.now why
+    ⊎ ((text : List ℕ) × (IsTextAt known words.list.now text × IsNoJobStop words.list.now text words.name.now why))
+
+-- a text is no list, or words choose no job of it
+abbrev pub IsNoChoiceStop : Option FileContents → RunAsked → List ℕ → Stop → Type 0
+IsNoChoiceStop known words text why = IsListFaultStop words.list.now text why
+    ⊎ ((jobs : List Job) × ((job_list_of text ≡ Ok jobs)
+    × IsChoiceStop known words (failure_rule words.lenient) jobs why))
+
+-- `list`: the list was not read, or words choose no job of it
+abbrev pub IsListStop : Option FileContents → RunAsked → Stop → Type 0
+IsListStop known words why = IsListUnreadStop known words.list.now why
+    ⊎ ((text : List ℕ) × (IsTextAt known words.list.now text × IsNoChoiceStop known words text why))
+
 -- `diff`: the old report was not read, or it was, and the new one was not
 abbrev pub IsDiffAtStop : Option FileContents → DiffAsked → Stop → Type 0
 IsDiffAtStop known words why = IsReportUnreadStop known words.old.now why
@@ -44,6 +64,8 @@ IsDiffAtStop known words why = IsReportUnreadStop known words.old.now why
 -- commands that put files as well
 abbrev pub IsCommandStop : Option FileContents → Asked → Stop → Type 0
 IsCommandStop known (asked.Explain words) why = (why ≡ stop.WriteFailed) ⊎ IsExplainStop known words why
+IsCommandStop known (asked.List words) why = (why ≡ stop.WriteFailed) ⊎ IsListStop known words why
+IsCommandStop known (asked.Console words) why = (why ≡ stop.WriteFailed) ⊎ IsConsoleStop known words why
 IsCommandStop known (asked.Check words) why = (why ≡ stop.WriteFailed) ⊎ IsCheckStop known words why
 IsCommandStop known (asked.Diff words) why = (why ≡ stop.WriteFailed) ⊎ IsDiffAtStop known words why
 IsCommandStop known (asked.Run words) why = ⊤

@@ -1,36 +1,28 @@
 //! The command `explain`.
 
-ghost use Rattle.std.specs.Prelude.{◌≡◌, ◌≤◌, ◌<◌, IfErr, IfOk, IfSome, Ok, length, position, slice_index_or};
-ghost use Rattle.std.specs.Str.{bytes_eq};
+ghost use Rattle.std.specs.Prelude.{◌≡◌, ◌≤◌, ◌<◌, IfErr, IfOk, length, slice_index_or};
 ghost use Rattle.rv_lists.specs.declared.job.Job.{Job as AJob};
 ghost use Rattle.rv_expect.specs.declared.passing.Rule.TheVariants.{Strict};
 ghost use Rattle.rv_expect.specs.Passing.{has_passed};
 ghost use Rattle.rv_rows.specs.Rows.{row_of};
 ghost use Rattle.rv_job_text.specs.Telling.{explanation_text};
-ghost use Rattle.rv_lists.specs.JobList.{job_list_of};
 ghost use Rattle.rvtest_app.specs.Commands.{passing_status};
 ghost use Rattle.rv_files.specs.UnreadPaths.{contents_below};
-ghost use Rattle.rvtest_app.specs.Reports.{IsExplanationAt, IsExplanationOf, IsFirstNamed, IsJobExplained};
+ghost use Rattle.rvtest_app.specs.Reports.{IsExplanationAt, IsExplanationOf, IsJobExplained};
 ghost use Rattle.rv_command.specs.Texts.{optional_text};
 ghost use Rattle.rvtest_app.specs.CommandStops.{IsExplainStop, IsNoJobStop};
 
 use crate::findings::Found;
-use rv_choice::unknown_name_stop;
+use crate::named_job::{NamedJob, find_named_job};
+use crate::rules::passing_status;
 use rv_cli::rvtest::ExplainAsked;
-use rv_command::{DONE, SOME_FAIL, Stop, parse_list, read_list_text};
+use rv_command::{Stop, read_list_text};
 use rv_expect::{Rule, has_passed};
 use rv_files::{Inputs, NotingStore, Unread};
 use rv_job_text::{RowTelling, Verbosity};
-use rv_jobs::{Job, JobList, Plan, gather_places};
+use rv_jobs::{JobList, Plan, gather_places};
 use rv_rows::row_at;
 use std::alloc::Global;
-
-// The jobs of a list, and the place of one of them.
-#[derive(Drop)]
-struct NamedJob {
-    jobs: JobList,
-    place: usize,
-}
 
 /// How the job of a name ends and comes there, which is run for that. The status is 1 where it failed.
 pub(crate) fn explain_named_job<D: Inputs>(
@@ -60,29 +52,8 @@ fn explain_job_of_text<D: Inputs>(
     ensures low { IfOk result (λ found. found.status ≤ 1) }
     ensures stopped { IfErr result (IsNoJobStop asked.entry.list.now text.now asked.entry.name.now) }
 {
-    let NamedJob { jobs, place } = find_named_job(alloc, asked, text)?;
+    let NamedJob { jobs, place } = find_named_job(alloc, asked.list, asked.name, text)?;
     explain_job_at(inputs, alloc, asked, jobs, place)
-}
-
-// The jobs of a list's text, and the place of the first of the name that is asked for.
-fn find_named_job(alloc: Global, asked: ExplainAsked<'_>, text: &[u8]) -> Result<NamedJob, Stop>
-    ensures listed { IfOk result (λ named. job_list_of text.now ≡ Ok named.jobs) }
-    ensures first { IfOk result (λ named. IsFirstNamed named.jobs asked.entry.name.now named.place) }
-    ensures within { IfOk result (λ named. named.place < length named.jobs) }
-    ensures stopped { IfErr result (IsNoJobStop asked.entry.list.now text.now asked.entry.name.now) }
-{
-    let jobs = parse_list(alloc, asked.list, text)?;
-    match named_job_place(jobs.as_slice(), asked.name) {
-        Some(place) => Ok(NamedJob { jobs, place }),
-        None => Err(unknown_name_stop(alloc, asked.list, jobs.as_slice(), asked.name)),
-    }
-}
-
-fn named_job_place(jobs: &[Job], name: &str) -> Option<usize>
-    ensures within { IfSome result (λ place. place < length jobs.now) }
-    ensures named { result ≡ position (λ job. bytes_eq job.name name.now) jobs.now }
-{
-    jobs.iter().position(|job| job.name.as_str() == name)
 }
 
 // The same of the job at a place.
@@ -136,11 +107,4 @@ fn explain_planned_job(
     telling.push_job_explanation(alloc, place, &row, last, &mut text)?;
     let status = passing_status(has_passed(Rule::Strict, &row));
     Ok(Found { text, status })
-}
-
-fn passing_status(passed: bool) -> u8
-    ensures value { result ≡ passing_status passed }
-    ensures low { result ≤ 1 }
-{
-    if passed { DONE } else { SOME_FAIL }
 }

@@ -8,6 +8,7 @@
 mod check;
 mod check_text;
 mod chosen_rows;
+mod console;
 mod crew;
 mod destinations;
 mod diff;
@@ -19,7 +20,9 @@ mod help;
 mod host;
 mod junit_class;
 mod law;
+mod list;
 mod merge;
+mod named_job;
 mod outlets;
 mod placing;
 mod planned_run;

@@ -9,12 +9,14 @@ ghost use Rattle.rvtest_app.specs.Said.{said};
 ghost use Rattle.rvtest_app.specs.ToldStops.{IsStopTold, unreadable_words_message, unreadable_words_status};
 
 use crate::check::check_list;
+use crate::console::put_job_console;
 use crate::destinations::Destinations;
 use crate::diff::diff_reports;
 use crate::explain::explain_named_job;
 use crate::findings::put_findings;
 use crate::help::answer_clap_error;
 use crate::host::Host;
+use crate::list::list_chosen_jobs;
 use crate::merge::merge_reports;
 use crate::run::run_requested_jobs;
 use crate::show::show_report;
@@ -123,6 +125,8 @@ fn run_subcommand<
         Asked::Explain(asked) => {
             put_findings(&mut to.out, explain_named_job(inputs, alloc, asked))
         }
+        Asked::List(asked) => list_chosen_jobs(inputs, alloc, &asked, &mut to),
+        Asked::Console(asked) => put_job_console(inputs, alloc, asked, &mut to),
         Asked::Check(asked) => put_findings(&mut to.out, check_list(inputs, alloc, asked)),
         Asked::Merge(asked) => merge_reports(inputs, alloc, &asked, &mut to),
         Asked::Diff(asked) => put_findings(&mut to.out, diff_reports(inputs, alloc, asked)),

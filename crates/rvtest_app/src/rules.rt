@@ -1,7 +1,7 @@
 //! Which rows are failures, and the status of rows.
 
 ghost use Rattle.std.specs.Prelude.{◌≡◌, ◌≤◌};
-ghost use Rattle.rvtest_app.specs.Commands.{failure_rule};
+ghost use Rattle.rvtest_app.specs.Commands.{failure_rule, passing_status};
 ghost use Rattle.rvtest_app.specs.RunOutput.{rows_status};
 
 use rv_command::{DONE, SOME_FAIL};
@@ -17,6 +17,14 @@ pub(crate) fn failure_rule(is_lenient: bool) -> Rule
     } else {
         Rule::Strict
     }
+}
+
+/// [`DONE`] where a job passed, else [`SOME_FAIL`].
+pub(crate) fn passing_status(passed: bool) -> u8
+    ensures value { result ≡ passing_status passed }
+    ensures low { result ≤ 1 }
+{
+    if passed { DONE } else { SOME_FAIL }
 }
 
 /// [`SOME_FAIL`] where some job failed, else [`DONE`].

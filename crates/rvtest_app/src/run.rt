@@ -39,7 +39,7 @@ use crate::rules::{failure_rule, rows_status};
 use crate::run_output::{put_run_output, stop_of_stream};
 use crate::terminals::Terminals;
 use rv_choice::{Choice, Chooser, requested_shard};
-use rv_cli::rvtest::RunAsked;
+use rv_cli::rvtest::{ChoosingCommand, RunAsked};
 use rv_command::{DONE, Stop, parse_list, put_message, read_list_text};
 use rv_expect::Rule;
 use rv_files::{Inputs, NotingStore, Outputs};
@@ -154,6 +154,7 @@ impl<'x, R, D: Inputs> ListRun<'x, R, D> {
             alloc: self.host.alloc,
             asked: self.asked,
             rule: self.rule,
+            command: ChoosingCommand::Run,
         };
         let Choice { marks, notes } = chooser.choose(jobs.as_slice())?;
         Ok(RequestedJobs {

@@ -1,7 +1,7 @@
 use Rattle.std.proofs.Common.{◌∙◌, ap, sym}
 use Rattle.std.specs.Char.{is_ascii_digit}
 use Rattle.std.specs.List.{list_all}
-use Rattle.rv_choice.proofs.Digits.{no_numeral, parsed_digits}
+use Rattle.rv_choice.proofs.Digits.{no_numeral}
 use Rattle.rv_choice.proofs.shard.parse_digits.Goals as goal
 
 pub returns-else-has_digits_alone : goal.returns-else-has_digits_alone

@@ -1,5 +1,5 @@
 use Rattle.std.proofs.Common.{inr}
-use Rattle.rvtest_app.proofs.explain.find_named_job.Goals as goal
+use Rattle.rvtest_app.proofs.named_job.find_named_job.Goals as goal
 
 pub returns-in-None-clause-stopped : goal.returns-in-None-clause-stopped
 returns-in-None-clause-stopped c =

@@ -1,6 +1,6 @@
 use Rattle.rvtest_app.proofs.StopLemmas.{nothing_said, put_or_found}
 use Rattle.rvtest_app.proofs.program.run_subcommand.Goals as goal
-use Rattle.rvtest_app.proofs.program.run_subcommand.Goals.{in-Explain, in-Check, in-Merge, in-Diff, in-Show}
+use Rattle.rvtest_app.proofs.program.run_subcommand.Goals.{in-Explain, in-List, in-Console, in-Check, in-Merge, in-Diff, in-Show}
 
 pub returns-clause-stopped : goal.returns-clause-stopped
 returns-clause-stopped g c = elim c.match-asked.branch [
@@ -12,6 +12,8 @@ returns-clause-stopped g c = elim c.match-asked.branch [
       rw (w.answer-is, w.in-Check.is)
       (put_or_found w.check_list.result _ _ w.check_list.ensures.stopped
       w.put_findings-answer-in-Check.ensures.stopped)
+  | in-List w ↦ rw (w.answer-is, w.in-List.is) w.list_chosen_jobs-answer.ensures.stopped
+  | in-Console w ↦ rw (w.answer-is, w.in-Console.is) w.put_job_console-answer.ensures.stopped
   | in-Merge w ↦ rw w.in-Merge.is (nothing_said c.match-asked.answer)
   | in-Diff w ↦
       rw (w.answer-is, w.in-Diff.is)

@@ -1,0 +1,22 @@
+use Rattle.std.proofs.lemmas.Result.{err_from_is_err_and}
+use Rattle.rv_choice.proofs.Counted.{wanted_counts}
+use Rattle.rv_choice.proofs.Stops.{stop_of_emptied, stop_of_no_exclusion}
+use Rattle.rv_choice.proofs.chooser.Chooser.choose.Goals as goal
+
+pub returns-in_err-excluded-clause-stop : goal.returns-in_err-excluded-clause-stop
+returns-in_err-excluded-clause-stop g c =
+    let is = err_from_is_err_and c.from_residual.result c.from_residual.ensures.1 in
+    rw (is.1, is.2) (stop_of_no_exclusion _ _ _ _ _ c.in_err-excluded.ensures.refused)
+
+pub leave_out-requires : goal.leave_out-requires
+leave_out-requires g c = record {
+  counted = wanted_counts _ _ _ _ c.in_ok-marks.field-0.marks _ c.in_ok-marks.ensures.wanted;
+}
+
+pub returns-in_err-marks-2-clause-stop : goal.returns-in_err-marks-2-clause-stop
+returns-in_err-marks-2-clause-stop g c =
+    let is = err_from_is_err_and c.from_residual-in_err-marks-2.result c.from_residual-in_err-marks-2.ensures.1 in
+    rw (is.1, is.2)
+    (stop_of_emptied _ _ _ _ _ _ c.in_ok-marks.field-0.marks c.in_ok-excluded.excluded c.as_ref.result
+    c.in_ok-marks.ensures.wanted c.in_ok-excluded.ensures.source c.in_ok-excluded.ensures.read c.as_ref.ensures.value
+    c.in_err-marks-2.ensures.stop)

@@ -1,0 +1,58 @@
+-- What `console` puts of a job.
+use Rattle.std.specs.Prelude.{◌≡◌, ℕ, List, [], ◌∷◌, Option, Ok, slice_index_or}
+use Rattle.rv_base.specs.Files.{FileContents}
+use Rattle.rv_cli.specs.declared.rvtest.console.ConsoleAsked.{ConsoleAsked}
+use Rattle.rv_command.specs.Texts.{IsTextAt, optional_text}
+use Rattle.rv_expect.specs.Passing.{has_passed}
+use Rattle.rv_expect.specs.declared.passing.Rule.TheVariants.{Strict}
+use Rattle.rv_files.specs.UnreadPaths.{contents_below}
+use Rattle.rv_files.specs.declared.noting_store.Unread.{Unread}
+use Rattle.rv_job_text.specs.Telling.{row_line}
+use Rattle.rv_jobs.specs.Plans.{AreKept, Planned, jobs_needed_for, paths_of, paths_used}
+use Rattle.rv_lists.specs.JobList.{job_list_of}
+use Rattle.rv_lists.specs.declared.job.Job.{Job}
+use Rattle.rv_rows.specs.Rows.{row_of}
+use Rattle.rvtest_app.specs.Commands.{passing_status}
+use Rattle.rvtest_app.specs.Reports.{AreNotesOf, IsFirstNamed}
+use Rattle.rvtest_app.specs.Said.{IsOnlyPut, IsOnlyTold, Said}
+
+-- the console, the line and the status are those of the row of the job at a place, over answers for the paths that its row needs,
+-- which agree with what stands there
+pub record IsJobConsole (known : Option FileContents) (jobs : List Job) (place : ℕ) (console line : List ℕ) (status : ℕ)
+    : Type 0 where
+  pub plan : Planned
+  pub listed : plan.jobs ≡ jobs
+  pub paths : paths_of plan.answers ≡ paths_used (jobs_needed_for jobs (place ∷ []))
+  pub kept : AreKept known plan.answers
+  pub unread : List Unread
+  pub noted : AreNotesOf plan.answers unread
+  pub written : (d : Job) → console ≡ (row_of plan (slice_index_or plan.jobs place d)).console
+  pub told : (d : Job) → line ≡ row_line plan unread Strict (slice_index_or plan.jobs place d)
+      (row_of plan (slice_index_or plan.jobs place d))
+  pub judged : (d : Job) → status ≡ passing_status
+      (has_passed Strict (row_of plan (slice_index_or plan.jobs place d)))
+
+-- the same of the first job of a name in the list that a text is
+pub record IsConsoleOf (known : Option FileContents) (bytes name console line : List ℕ) (status : ℕ) : Type 0 where
+  pub jobs : List Job
+  pub listed : job_list_of bytes ≡ Ok jobs
+  pub place : ℕ
+  pub first : IsFirstNamed jobs name place
+  pub of_job : IsJobConsole known jobs place console line status
+
+-- the same of the list at the path that words name
+pub record IsConsoleAt (known : Option FileContents) (words : ConsoleAsked) (console line : List ℕ) (status : ℕ)
+    : Type 0 where
+  pub bytes : List ℕ
+  pub read : IsTextAt known words.list.now bytes
+  pub of_list : IsConsoleOf (contents_below (optional_text words.root) known) bytes words.name.now console line status
+
+-- that console went to standard output and nothing else did, and then that line to standard error
+pub record IsConsolePut (known : Option FileContents) (words : ConsoleAsked) (status : ℕ) (before after : Said)
+    : Type 0 where
+  pub console : List ℕ
+  pub line : List ℕ
+  pub of : IsConsoleAt known words console line status
+  pub middle : Said
+  pub put : IsOnlyPut console before middle
+  pub told : IsOnlyTold line middle after

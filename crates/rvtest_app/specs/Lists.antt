@@ -1,0 +1,51 @@
+-- What `list` puts of a list.
+use Rattle.std.specs.Prelude.{◌≡◌, ℕ, Bool, List, [], Option, Some, None, Ok, slice_index_or}
+use Rattle.std.specs.List.{flat_map}
+use Rattle.rv_base.specs.Files.{FileContents}
+use Rattle.rv_choice.specs.Chosen.{IsChoice}
+use Rattle.rv_cli.specs.declared.rvtest.run.RunAsked.{RunAsked}
+use Rattle.rv_command.specs.Texts.{IsTextAt}
+use Rattle.rv_jobs.specs.Jobs.{single_job}
+use Rattle.rv_lists.specs.JobList.{job_list_of}
+use Rattle.rv_lists.specs.declared.job.Job.{Job}
+use Rattle.rv_report.specs.Report.{line}
+use Rattle.rvtest_app.specs.Commands.{failure_rule}
+use Rattle.rvtest_app.specs.Runs.{places_of_marks}
+use Rattle.rvtest_app.specs.Said.{IsOnlyPut, IsOnlyTold, Said}
+
+abbrev pub name_line : Job → List ℕ
+name_line job = line job.name
+
+-- the names of the jobs at some places, one a line
+abbrev pub name_lines : List Job → List ℕ → List ℕ
+name_lines jobs places = flat_map (λ place. name_line (slice_index_or jobs place (single_job [] 0 []))) places
+
+-- those of the jobs that a run of these marks would run
+abbrev pub chosen_name_lines : List Job → Option (List Bool) → List ℕ
+chosen_name_lines jobs None = []
+chosen_name_lines jobs (Some marks) = name_lines jobs (places_of_marks marks)
+
+-- the names are those of the jobs that a run of these words would run, of the list that a text is, and the notes are what is said
+-- of the choice
+pub record AreListedOf (known : Option FileContents) (words : RunAsked) (bytes names notes : List ℕ) : Type 0 where
+  pub jobs : List Job
+  pub listed : job_list_of bytes ≡ Ok jobs
+  pub marks : Option (List Bool)
+  pub chosen : IsChoice known words (failure_rule words.lenient) jobs marks notes
+  pub named : names ≡ chosen_name_lines jobs marks
+
+-- the same of the list at the path that words name
+pub record AreListedAt (known : Option FileContents) (words : RunAsked) (names notes : List ℕ) : Type 0 where
+  pub bytes : List ℕ
+  pub read : IsTextAt known words.list.now bytes
+  pub of : AreListedOf known words bytes names notes
+
+-- those notes went to standard error, and then those names to standard output; the status is 0
+pub record IsListPut (known : Option FileContents) (words : RunAsked) (status : ℕ) (before after : Said) : Type 0 where
+  pub names : List ℕ
+  pub notes : List ℕ
+  pub are : AreListedAt known words names notes
+  pub middle : Said
+  pub told : IsOnlyTold notes before middle
+  pub put : IsOnlyPut names middle after
+  pub done : status ≡ 0

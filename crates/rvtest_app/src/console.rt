@@ -1,0 +1,137 @@
+//! The command `console`.
+
+ghost use Rattle.std.specs.Prelude.{◌≡◌, ◌⊎◌, ◌≤◌, ◌<◌, IfErr, IfOk, length, slice_index_or};
+ghost use Rattle.rv_lists.specs.declared.job.Job.{Job as AJob};
+ghost use Rattle.rv_command.specs.Texts.{optional_text};
+ghost use Rattle.rv_expect.specs.Passing.{has_passed};
+ghost use Rattle.rv_expect.specs.declared.passing.Rule.TheVariants.{Strict};
+ghost use Rattle.rv_files.specs.UnreadPaths.{contents_below};
+ghost use Rattle.rv_job_text.specs.Telling.{row_line};
+ghost use Rattle.rv_rows.specs.Rows.{row_of};
+ghost use Rattle.rvtest_app.specs.CommandStops.{IsConsoleStop, IsNoJobStop};
+ghost use Rattle.rvtest_app.specs.Commands.{passing_status};
+ghost use Rattle.rvtest_app.specs.Consoles.{IsConsoleAt, IsConsoleOf, IsConsolePut, IsJobConsole};
+ghost use Rattle.rvtest_app.specs.Said.{said};
+
+use crate::destinations::Destinations;
+use crate::named_job::{NamedJob, find_named_job};
+use crate::rules::passing_status;
+use rv_cli::rvtest::ConsoleAsked;
+use rv_command::{Stop, put_message, put_results, read_list_text};
+use rv_expect::{Rule, has_passed};
+use rv_files::{Inputs, NotingStore, Outputs, Unread};
+use rv_job_text::{RowTelling, Verbosity};
+use rv_jobs::{JobList, Plan, gather_places};
+use rv_rows::{Row, Sink, row_at};
+use std::alloc::Global;
+
+// The row of a job, its line, and the status.
+#[derive(Drop)]
+struct ToldRow {
+    row: Row,
+    line: Vec<u8>,
+    status: u8,
+}
+
+/// Runs the job of a name, and puts its console to standard output and its line to standard error. The status is 1 where it failed.
+pub(crate) fn put_job_console<D: Inputs, F: Outputs + Drop, O: Sink + Drop, E: Sink + Drop>(
+    inputs: &D,
+    alloc: Global,
+    asked: ConsoleAsked<'_>,
+    to: &mut Destinations<F, O, E>,
+) -> Result<u8, Stop>
+    ensures put { IfOk result (λ status. IsConsolePut (D.contents inputs.now) asked.entry status
+        (said F.placed O.taken E.taken E.failed to.old) (said F.placed O.taken E.taken E.failed to.new)) }
+    ensures low { IfOk result (λ status. status ≤ 1) }
+    ensures stopped { IfErr result (λ why. (why ≡ Stop.WriteFailed)
+        ⊎ IsConsoleStop (D.contents inputs.now) asked.entry why) }
+{
+    let ToldRow { row, line, status } = run_named_job(inputs, alloc, asked)?;
+    put_results(&mut to.out, row.console.as_slice())?;
+    put_message(&mut to.errors, line.as_slice());
+    Ok(status)
+}
+
+// The row of the job of a name, with its line.
+fn run_named_job<D: Inputs>(
+    inputs: &D,
+    alloc: Global,
+    asked: ConsoleAsked<'_>,
+) -> Result<ToldRow, Stop>
+    ensures told { IfOk result (λ told. IsConsoleAt (D.contents inputs.now) asked.entry
+        told.row.console told.line.items told.status) }
+    ensures low { IfOk result (λ told. told.status ≤ 1) }
+    ensures stopped { IfErr result (IsConsoleStop (D.contents inputs.now) asked.entry) }
+{
+    let text = read_list_text(inputs, alloc, asked.list)?;
+    run_job_of_text(inputs, alloc, asked, text.as_slice())
+}
+
+// The same of the list's text.
+fn run_job_of_text<D: Inputs>(
+    inputs: &D,
+    alloc: Global,
+    asked: ConsoleAsked<'_>,
+    text: &[u8],
+) -> Result<ToldRow, Stop>
+    ensures told { IfOk result (λ told.
+        IsConsoleOf (contents_below (optional_text asked.entry.root) (D.contents inputs.now))
+        text.now asked.entry.name.now told.row.console told.line.items told.status) }
+    ensures low { IfOk result (λ told. told.status ≤ 1) }
+    ensures stopped { IfErr result (IsNoJobStop asked.entry.list.now text.now asked.entry.name.now) }
+{
+    let NamedJob { jobs, place } = find_named_job(alloc, asked.list, asked.name, text)?;
+    run_job_at(inputs, alloc, asked, jobs, place)
+}
+
+// The same of the job at a place.
+fn run_job_at<D: Inputs>(
+    inputs: &D,
+    alloc: Global,
+    asked: ConsoleAsked<'_>,
+    jobs: JobList,
+    place: usize,
+) -> Result<ToldRow, Stop>
+    requires { place < length jobs }
+    ensures told { IfOk result (λ told.
+        IsJobConsole (contents_below (optional_text asked.entry.root) (D.contents inputs.now))
+        jobs place told.row.console told.line.items told.status) }
+    ensures low { IfOk result (λ told. told.status ≤ 1) }
+    ensures memory { IfErr result (λ stop. stop ≡ Stop.OutOfMemory) }
+{
+    let places = vec![in alloc; place; 1]?;
+    let mut store = NotingStore::new(inputs, alloc, asked.root);
+    let plan = gather_places(alloc, jobs, places, &mut store)?;
+    run_planned_job(alloc, &plan, store.unread_paths(), place)
+}
+
+// The same of a plan.
+fn run_planned_job(
+    alloc: Global,
+    plan: &Plan,
+    unread: &[Unread],
+    place: usize,
+) -> Result<ToldRow, Stop>
+    requires { place < length plan.now.jobs }
+    ensures row { IfOk result (λ told. (d : AJob) → told.row ≡ row_of plan.now (slice_index_or plan.now.jobs place d)) }
+    ensures line { IfOk result (λ told. (d : AJob) → told.line.items
+        ≡ row_line plan.now unread.now Strict (slice_index_or plan.now.jobs place d)
+        (row_of plan.now (slice_index_or plan.now.jobs place d))) }
+    ensures status { IfOk result (λ told. (d : AJob) → told.status
+        ≡ passing_status (has_passed Strict (row_of plan.now (slice_index_or plan.now.jobs place d)))) }
+    ensures low { IfOk result (λ told. told.status ≤ 1) }
+    ensures memory { IfErr result (λ stop. stop ≡ Stop.OutOfMemory) }
+{
+    let row = row_at(alloc, plan, place)?;
+    let telling = RowTelling {
+        plan,
+        unread,
+        rule: Rule::Strict,
+        verbosity: Verbosity::All,
+        last: None,
+    };
+    let mut line = Vec::new(alloc);
+    telling.push_lone_row_line(alloc, place, &row, &mut line)?;
+    let status = passing_status(has_passed(Rule::Strict, &row));
+    Ok(ToldRow { row, line, status })
+}

@@ -1,0 +1,116 @@
+//! The command `list`.
+
+ghost use Rattle.std.specs.Prelude.{◌≡◌, ◌⊎◌, ◌≤◌, ◌<◌, ◌++◌, IfErr, IfOk, IfSome, OnOk, length, option_map};
+ghost use Rattle.std.specs.List.{All};
+ghost use Rattle.rvtest_app.specs.CommandStops.{IsListStop, IsNoChoiceStop};
+ghost use Rattle.rvtest_app.specs.Commands.{failure_rule};
+ghost use Rattle.rvtest_app.specs.Lists.{AreListedOf, AreListedAt, IsListPut, name_line, name_lines};
+ghost use Rattle.rvtest_app.specs.Runs.{places_of_marks};
+ghost use Rattle.rvtest_app.specs.Said.{said};
+
+use crate::destinations::Destinations;
+use crate::rules::failure_rule;
+use rv_choice::{Choice, Chooser};
+use rv_cli::rvtest::{ChoosingCommand, RunAsked};
+use rv_command::{DONE, Stop, parse_list, put_message, put_results, read_list_text};
+use rv_files::{Inputs, Outputs};
+use rv_jobs::{Job, marked_places};
+use rv_rows::Sink;
+use rv_text::push_text;
+use std::alloc::{AllocError, Global};
+
+// The names of chosen jobs, one a line, and what is said of the choice.
+#[derive(Drop)]
+struct ListedJobs {
+    names: Vec<u8>,
+    notes: Vec<u8>,
+}
+
+/// Puts the names of the jobs that a run of these words would run, and before that what is said of the choice. The status is 0.
+pub(crate) fn list_chosen_jobs<D: Inputs, F: Outputs + Drop, O: Sink + Drop, E: Sink + Drop>(
+    inputs: &D,
+    alloc: Global,
+    asked: &RunAsked<'_>,
+    to: &mut Destinations<F, O, E>,
+) -> Result<u8, Stop>
+    ensures put { IfOk result (λ status. IsListPut (D.contents inputs.now) asked.now status
+        (said F.placed O.taken E.taken E.failed to.old) (said F.placed O.taken E.taken E.failed to.new)) }
+    ensures low { IfOk result (λ status. status ≤ 1) }
+    ensures stopped { IfErr result (λ why. (why ≡ Stop.WriteFailed)
+        ⊎ IsListStop (D.contents inputs.now) asked.now why) }
+{
+    let ListedJobs { names, notes } = chosen_jobs(inputs, alloc, asked)?;
+    put_message(&mut to.errors, notes.as_slice());
+    put_results(&mut to.out, names.as_slice())?;
+    Ok(DONE)
+}
+
+// The jobs that words choose of the list at the path that they name.
+fn chosen_jobs<D: Inputs>(
+    inputs: &D,
+    alloc: Global,
+    asked: &RunAsked<'_>,
+) -> Result<ListedJobs, Stop>
+    ensures listed { IfOk result (λ listed. AreListedAt (D.contents inputs.now) asked.now
+        listed.names.items listed.notes.items) }
+    ensures stopped { IfErr result (IsListStop (D.contents inputs.now) asked.now) }
+{
+    let text = read_list_text(inputs, alloc, asked.list)?;
+    chosen_jobs_of_text(inputs, alloc, asked, text.as_slice())
+}
+
+// The same of the list's text.
+fn chosen_jobs_of_text<D: Inputs>(
+    inputs: &D,
+    alloc: Global,
+    asked: &RunAsked<'_>,
+    text: &[u8],
+) -> Result<ListedJobs, Stop>
+    ensures listed { IfOk result (λ listed. AreListedOf (D.contents inputs.now) asked.now text.now
+        listed.names.items listed.notes.items) }
+    ensures stopped { IfErr result (IsNoChoiceStop (D.contents inputs.now) asked.now text.now) }
+{
+    let jobs = parse_list(alloc, asked.list, text)?;
+    let chooser = Chooser {
+        inputs,
+        alloc,
+        asked,
+        rule: failure_rule(asked.lenient),
+        command: ChoosingCommand::List,
+    };
+    let Choice { marks, notes } = chooser.choose(jobs.as_slice())?;
+    let names = match marks {
+        Some(marks) => marked_name_lines(alloc, jobs.as_slice(), marks.as_slice())?,
+        None => Vec::new(alloc),
+    };
+    Ok(ListedJobs { names, notes })
+}
+
+fn marked_name_lines(alloc: Global, jobs: &[Job], marks: &[bool]) -> Result<Vec<u8>, AllocError>
+    requires { length marks.now ≡ length jobs.now }
+    ensures { IfOk result (λ names. names.items ≡ name_lines jobs.now (places_of_marks marks.now)) }
+{
+    let places = marked_places(alloc, marks)?;
+    let mut names = Vec::new(alloc);
+    push_name_lines(&mut names, jobs, places.as_slice())?;
+    Ok(names)
+}
+
+// Appends the names of the jobs at some places, one a line.
+fn push_name_lines(names: &mut Vec<u8>, jobs: &[Job], places: &[usize]) -> Result<(), AllocError>
+    requires { All (λ place. place < length jobs.now) places.now }
+    ensures { OnOk result (names.new.items ≡ names.old.items ++ name_lines jobs.now places.now) }
+{
+    for at in 0..places.len() {
+        let place = places[at];
+        push_name_line(names, &jobs[place])?;
+    }
+    Ok(())
+}
+
+fn push_name_line(names: &mut Vec<u8>, job: &Job) -> Result<(), AllocError>
+    ensures { OnOk result (names.new.items ≡ names.old.items ++ name_line job.now) }
+{
+    push_text(names, job.name.as_str())?;
+    push_text(names, "\n")
+}

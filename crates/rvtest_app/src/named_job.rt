@@ -1,0 +1,45 @@
+//! The job of a name, in a list's text.
+
+ghost use Rattle.std.specs.Prelude.{◌≡◌, ◌<◌, IfErr, IfOk, IfSome, Ok, length, position};
+ghost use Rattle.std.specs.Str.{bytes_eq};
+ghost use Rattle.rv_lists.specs.JobList.{job_list_of};
+ghost use Rattle.rvtest_app.specs.CommandStops.{IsNoJobStop};
+ghost use Rattle.rvtest_app.specs.Reports.{IsFirstNamed};
+
+use rv_choice::unknown_name_stop;
+use rv_command::{Stop, parse_list};
+use rv_jobs::{Job, JobList};
+use std::alloc::Global;
+
+/// The jobs of a list, and the place of one of them.
+#[derive(Drop)]
+pub(crate) struct NamedJob {
+    pub(crate) jobs: JobList,
+    pub(crate) place: usize,
+}
+
+/// The jobs of the text of the list at a path, and the place of the first of a name.
+pub(crate) fn find_named_job(
+    alloc: Global,
+    list: &str,
+    name: &str,
+    text: &[u8],
+) -> Result<NamedJob, Stop>
+    ensures listed { IfOk result (λ named. job_list_of text.now ≡ Ok named.jobs) }
+    ensures first { IfOk result (λ named. IsFirstNamed named.jobs name.now named.place) }
+    ensures within { IfOk result (λ named. named.place < length named.jobs) }
+    ensures stopped { IfErr result (IsNoJobStop list.now text.now name.now) }
+{
+    let jobs = parse_list(alloc, list, text)?;
+    match named_job_place(jobs.as_slice(), name) {
+        Some(place) => Ok(NamedJob { jobs, place }),
+        None => Err(unknown_name_stop(alloc, list, jobs.as_slice(), name)),
+    }
+}
+
+fn named_job_place(jobs: &[Job], name: &str) -> Option<usize>
+    ensures within { IfSome result (λ place. place < length jobs.now) }
+    ensures named { result ≡ position (λ job. bytes_eq job.name name.now) jobs.now }
+{
+    jobs.iter().position(|job| job.name.as_str() == name)
+}
