@@ -7,6 +7,11 @@ pub IfOk-both : {X Y : Type 0} (r : Result X Y) (P Q R : X → Type 0) → ((x :
 IfOk-both (Ok x) P Q R both p q = both x p q
 IfOk-both (Err e) P Q R both p q = tt
 
+pub IfOk-all : {X Y : Type 0} (r : Result X Y) (P Q R S : X → Type 0) → ((x : X) → P x → Q x → R x → S x)
+    → IfOk r P → IfOk r Q → IfOk r R → IfOk r S
+IfOk-all (Ok x) P Q R S all p q s = all x p q s
+IfOk-all (Err e) P Q R S all p q s = tt
+
 -- a fact on what went well
 pub OnOk-from : {X Y : Type 0} (r : Result X Y) (P : Type 0) → P → OnOk r P
 OnOk-from (Ok x) P p = p

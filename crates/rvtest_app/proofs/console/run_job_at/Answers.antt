@@ -1,13 +1,13 @@
 use Rattle.std.proofs.Common.{◌∙◌, ap, length, rules}
 use Rattle.rv_rows.specs.declared_row.Row.{Row}
-use Rattle.rvtest_app.proofs.Results.{IfOk-both}
+use Rattle.rvtest_app.proofs.Results.{IfOk-all}
 use Rattle.rvtest_app.proofs.console.run_job_at.Goals as goal
 
 pub returns-clause-told : goal.returns-clause-told
 returns-clause-told g c =
     let gathered = c.in_ok-plan.ensures in
-    IfOk-both c.run_planned_job.result _ _ _
-    (λ found row more. record {
+    IfOk-all c.run_planned_job.result _ _ _ _
+    (λ found row line status. record {
       plan = c.in_ok-plan.plan;
       listed = gathered.jobs;
       paths = search rules;
@@ -15,8 +15,6 @@ returns-clause-told g c =
       unread = c.unread_paths.result.now;
       noted = ap length c.unread_paths.ensures ∙ (rw c.new-store.ensures.nothing at gathered.faults);
       written = λ d. ap (λ (r : Row). r.console) (row d);
-      told = more.0;
-      judged = more.1;
-    }) c.run_planned_job.ensures.row
-    (IfOk-both c.run_planned_job.result _ _ _ (λ found line status. (line, status)) c.run_planned_job.ensures.line
-    c.run_planned_job.ensures.status)
+      told = line;
+      judged = status;
+    }) c.run_planned_job.ensures.row c.run_planned_job.ensures.line c.run_planned_job.ensures.status

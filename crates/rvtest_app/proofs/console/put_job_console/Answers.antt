@@ -1,0 +1,23 @@
+use Rattle.std.proofs.Common.{inr, refl}
+use Rattle.std.proofs.lemmas.Result.{err_from_is_err_and}
+use Rattle.rvtest_app.proofs.console.put_job_console.Goals as goal
+
+pub returns-in_err-row-clause-stopped : goal.returns-in_err-row-clause-stopped
+returns-in_err-row-clause-stopped g c =
+    let is = err_from_is_err_and c.from_residual.result c.from_residual.ensures.1 in
+    rw (is.1, is.2) (inr c.in_err-row.ensures.stopped)
+
+pub returns-clause-put : goal.returns-clause-put
+returns-clause-put g c = record {
+  console = c.as_slice.result.now;
+  line = c.as_slice-2.result.now;
+  of = rw (c.as_slice.ensures, c.as_slice-2.ensures.value) c.in_ok-row.ensures.told;
+  middle = record {
+    out = g.O.Sink.taken c.put_results.new.out;
+    errors = g.E.Sink.taken c.args.to.now.errors;
+    failures = g.E.Sink.failed c.args.to.now.errors;
+    placed = g.F.Outputs.placed c.args.to.now.files;
+  };
+  put = (c.in_ok-put_results.ensures.put, refl, refl, refl);
+  told = (refl, c.put_message.ensures, refl);
+}

@@ -1,0 +1,24 @@
+use Rattle.std.proofs.Common.{inr, refl}
+use Rattle.std.proofs.lemmas.Result.{err_from_is_err_and}
+use Rattle.rvtest_app.proofs.list.list_chosen_jobs.Goals as goal
+
+pub returns-in_err-names-clause-stopped : goal.returns-in_err-names-clause-stopped
+returns-in_err-names-clause-stopped g c =
+    let is = err_from_is_err_and c.from_residual.result c.from_residual.ensures.1 in
+    rw (is.1, is.2) (inr c.in_err-names.ensures.stopped)
+
+pub returns-clause-put : goal.returns-clause-put
+returns-clause-put g c = record {
+  names = c.as_slice-2.result.now;
+  notes = c.as_slice.result.now;
+  are = rw (c.as_slice-2.ensures.value, c.as_slice.ensures.value) c.in_ok-names.ensures.listed;
+  middle = record {
+    out = g.O.Sink.taken c.args.to.now.out;
+    errors = g.E.Sink.taken c.put_message.new.errors;
+    failures = g.E.Sink.failed c.put_message.new.errors;
+    placed = g.F.Outputs.placed c.args.to.now.files;
+  };
+  told = (refl, c.put_message.ensures, refl);
+  put = (c.in_ok-put_results.ensures.put, refl, refl, refl);
+  done = refl;
+}
