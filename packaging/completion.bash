@@ -2,8 +2,10 @@
 # What bash offers behind `rvtest` and `rvfleet`: their commands, the options of each, files, and the names of a list's jobs.
 _rvfleet_options() {
     case "$1 $2" in
-        'rvtest run') echo '--only --match --failed --shard --stamp --workers --group --root --report --junit --lenient --verbose --quiet --last --help' ;;
+        'rvtest run') echo '--only --match --exclude --failed --shard --stamp --workers --group --root --report --junit --lenient --verbose --quiet --last --help' ;;
+        'rvtest list') echo '--only --match --exclude --failed --lenient --help' ;;
         'rvtest explain') echo '--last --root --help' ;;
+        'rvtest console') echo '--root --help' ;;
         'rvtest check') echo '--root --help' ;;
         'rvtest merge') echo '--report --junit --lenient --help' ;;
         'rvtest diff') echo '--steps --slower --help' ;;
@@ -27,11 +29,11 @@ _rvfleet_jobs() {
 
 # Whether the word is the second one of a command that takes a list and a job's name.
 _rvfleet_is_named() {
-    [[ " explain " = *" ${COMP_WORDS[1]} "* && $COMP_CWORD -gt 2 && -f ${COMP_WORDS[COMP_CWORD - 1]} ]]
+    [[ " explain console " = *" ${COMP_WORDS[1]} "* && $COMP_CWORD -gt 2 && -f ${COMP_WORDS[COMP_CWORD - 1]} ]]
 }
 
 _rvfleet() {
-    local word=$2 before=$3 commands='run explain check merge diff show --version --help'
+    local word=$2 before=$3 commands='run list explain console check merge diff show --version --help'
     COMPREPLY=()
     [ "${1##*/}" = rvtest ] || commands='raw one run --help'
     if [ "$COMP_CWORD" = 1 ]; then
@@ -42,7 +44,7 @@ _rvfleet() {
         mapfile -t COMPREPLY < <(compgen -d -- "$word")
     elif [[ " --only " = *" $before "* ]] || _rvfleet_is_named; then
         mapfile -t COMPREPLY < <(compgen -W "$(_rvfleet_jobs)" -- "$word")
-    elif [[ " --budget --group --input-hex --last --match --shard --slower --stamp --workers " != *" $before "* ]]; then
+    elif [[ " --budget --exclude --group --input-hex --last --match --shard --slower --stamp --workers -j " != *" $before "* ]]; then
         mapfile -t COMPREPLY < <(compgen -f -- "$word")
     fi
 }

@@ -17,7 +17,9 @@ _rvfleet_jobs() {
 _rvfleet_behind_rvtest() {
     local -a commands=(
         'run:Runs the jobs of a list, and shows each that fails'
+        'list:Prints the names of the jobs that a run would run, one a line'
         'explain:Runs one job, and shows how it ended and came there'
+        'console:Runs one job, and writes its console'\''s bytes to standard output'
         'check:Says all that is wrong with a list and its files, and runs nothing'
         'merge:Makes the whole report of the parts of one run'
         'diff:Says in which jobs two reports differ'
@@ -34,22 +36,36 @@ _rvfleet_behind_rvtest() {
         run) _arguments \
                 '*--only[Chooses the job of this name; may come again]:NAME:_rvfleet_jobs' \
                 '--match[Chooses the jobs in whose names it is found]:REGEX: ' \
+                '--exclude[Leaves out the jobs in whose names it is found]:REGEX: ' \
                 '--failed[Chooses the jobs that failed in a report]:REPORT:_files' \
                 '--shard[Runs the K-th of N parts of the list]:K/N: ' \
                 '--stamp[Says which run the part is of; else a digest of the list]:TEXT: ' \
-                '--workers[Threads, from 1 to 64; else one a processor]:N: ' \
+                ''{-j,--workers}'[Threads, from 1 to 64; else one a processor]:N: ' \
                 '--group[Jobs that a thread takes at once, from 1 to 4096 \[default\: 1\]]:N: ' \
                 '--root[Takes the paths in the list from this folder]:DIR:_directories' \
                 '--report[Writes the report to this file; - is standard output]:FILE:_files' \
                 '--junit[Writes JUnit XML to this file; - is standard output]:FILE:_files' \
                 '--lenient[Counts as failed only what misses an expectation]' \
-                '--verbose[Shows the jobs that pass, too; not beside --quiet]' \
-                '--quiet[Shows the last line alone; not beside --verbose]' \
+                ''{-v,--verbose}'[Shows the jobs that pass, too; not beside --quiet]' \
+                ''{-q,--quiet}'[Shows the last line alone; not beside --verbose]' \
                 '--last[Shows the last N instructions of a job, from 0 to 100000]:N: ' \
+                '--help[Print help]' \
+                ':LIST:_files' ;;
+        list) _arguments \
+                '*--only[Chooses the job of this name; may come again]:NAME:_rvfleet_jobs' \
+                '--match[Chooses the jobs in whose names it is found]:REGEX: ' \
+                '--exclude[Leaves out the jobs in whose names it is found]:REGEX: ' \
+                '--failed[Chooses the jobs that failed in a report]:REPORT:_files' \
+                '--lenient[Counts as failed only what misses an expectation]' \
                 '--help[Print help]' \
                 ':LIST:_files' ;;
         explain) _arguments \
                 '--last[Shows the last N instructions of a job, from 0 to 100000 \[default\: 16\]]:N: ' \
+                '--root[Takes the paths in the list from this folder]:DIR:_directories' \
+                '--help[Print help]' \
+                ':LIST:_files' \
+                ':NAME:_rvfleet_jobs' ;;
+        console) _arguments \
                 '--root[Takes the paths in the list from this folder]:DIR:_directories' \
                 '--help[Print help]' \
                 ':LIST:_files' \
