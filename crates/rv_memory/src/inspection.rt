@@ -1,0 +1,27 @@
+//! What stands at one address, for those who look at a bus and change nothing of it.
+
+ghost use Rattle.std.specs.Prelude.{◌≡◌};
+ghost use Rattle.std.specs.FinSet as set;
+ghost use Rattle.rv_memory.specs.Inspection.{byte_there};
+
+use crate::bus::Bus;
+
+impl Bus {
+    /// The byte at an address, where a region has it. The console has none: a look takes nothing of the script.
+    pub fn byte(&self, addr: u32) -> Option<u8>
+        ensures { result ≡ byte_there self.now addr }
+    {
+        let place = self.map.place(addr, 1)?;
+        Some(self.bytes[place.at])
+    }
+
+    /// Whether the byte at an address was stored since the start or the last FENCE.I, so that a fetch of it is stale.
+    pub fn is_stored(&self, addr: u32) -> bool
+        ensures { result ≡ set.contains self.now.stored addr }
+    {
+        match self.map.place(addr, 1) {
+            Some(place) => self.marks[place.at] == self.generation,
+            None => false,
+        }
+    }
+}
