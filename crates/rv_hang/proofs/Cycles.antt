@@ -25,16 +25,17 @@ order (suc m) (suc n) = elim (order m n) [ inl l ↦ inl (omega arith) | inr l �
 
 -- ---- a run that comes again
 
+used_rest : (n : ℕ) (s : State) (r : Result State Ending)
+    → ((t : State) → (run_of n t).steps ≡ n → (run_of n t).ending ≡ Budget)
+    → (go_on r s (λ t. run_of n t)).steps ≡ suc n → (go_on r s (λ t. run_of n t)).ending ≡ Budget
+used_rest n s (Ok t) rest h = rest t (omega arith)
+used_rest n s (Err e) rest h = absurd (omega arith)
+
 -- a run that completes as many steps as its budget has used it up
 all_used : (n : ℕ) (s : State) → (run_of n s).steps ≡ n → (run_of n s).ending ≡ Budget
 unfolding run_of
 all_used zero s h = refl
-all_used (suc n) s h = go (step_of s) h
-  where
-    go : (r : Result State Ending) → (go_on r s (λ t. run_of n t)).steps ≡ suc n
-        → (go_on r s (λ t. run_of n t)).ending ≡ Budget
-    go (Ok t) h = all_used n t (omega arith)
-    go (Err e) h = absurd (omega arith)
+all_used (suc n) s h = used_rest n s (step_of s) (λ t k. all_used n t k) h
 
 module _ (steps : ℕ) (s : State) (r : Repetition) (complete : (run_of steps s).steps ≡ steps)
     (again : IsRepetition steps s r) where
@@ -49,17 +50,18 @@ module _ (steps : ℕ) (s : State) (r : Repetition) (complete : (run_of steps s)
       let twice = steps_more (r.begin + r.period) n s (within_steps (r.begin + r.period) again.within) in
       let same = ap (λ t. (run_of n t).steps) again.again in omega arith
 
+  beyond : (budget : ℕ) → ((k : ℕ) → k < budget → (run_of k s).steps ≡ k) → (steps < budget) ⊎ (budget ≤ steps)
+      → (run_of budget s).steps ≡ budget
+  beyond budget rest (inr l) = within_steps budget l
+  beyond budget rest (inl l) =
+      let w = again.within in let p = again.some in
+      let n = budget - (r.begin + r.period) in
+      let sum : r.begin + r.period + n ≡ budget = omega arith in
+      subst (λ (k : ℕ). (run_of k s).steps ≡ k) sum (one_more n (rest (r.begin + n) (omega arith)))
+
   all_steps : (fuel budget : ℕ) → budget ≤ fuel → (run_of budget s).steps ≡ budget
   all_steps zero budget h = within_steps budget (omega arith)
-  all_steps (suc fuel) budget h = go (order steps budget)
-    where
-      go : (steps < budget) ⊎ (budget ≤ steps) → (run_of budget s).steps ≡ budget
-      go (inr l) = within_steps budget l
-      go (inl l) =
-          let w = again.within in let p = again.some in
-          let n = budget - (r.begin + r.period) in
-          let sum : r.begin + r.period + n ≡ budget = omega arith in
-          subst (λ (k : ℕ). (run_of k s).steps ≡ k) sum (one_more n (all_steps fuel (r.begin + n) (omega arith)))
+  all_steps (suc fuel) budget h = beyond budget (λ k l. all_steps fuel k (omega arith)) (order steps budget)
 
   pub never_ends : (budget : ℕ) → ((run_of budget s).ending ≡ Budget) × ((run_of budget s).steps ≡ budget)
   never_ends budget = let all = all_steps budget budget (omega arith) in (all_used budget s all, all)
@@ -94,7 +96,7 @@ same_state s t pc registers same =
 -- ---- what is known in front of a place
 
 -- a place before another one has these values, and no step between may change the bus
-record IsBefore (values : HartValues) (p place : ℕ) (s : State) : Type 0 where
+pub record IsBefore (values : HartValues) (p place : ℕ) (s : State) : Type 0 where
   pub before : p < place
   pub has : has_values values (state_after p s) ≡ true
   pub quiet : AreQuiet p place s
@@ -115,10 +117,10 @@ module _ (values : HartValues) (begin place : ℕ) (s t : State) (here : t ≡ s
 
   quiet_more : (p : ℕ) → is_step_quiet t ≡ true → AreQuiet p place s → AreQuiet p (place + 1) s
   quiet_more p q old k l m = elim (order k place) [
-      | inl less ↦ old k l less
-      | inr most ↦ let same : k ≡ place = omega arith in
-          ap (λ j. is_step_quiet (state_after j s)) same ∙ sym (ap is_step_quiet here) ∙ q
-    ]
+    | inl less ↦ old k l less
+    | inr most ↦ let same : k ≡ place = omega arith in
+        ap (λ j. is_step_quiet (state_after j s)) same ∙ sym (ap is_step_quiet here) ∙ q
+  ]
 
   later : (p : ℕ) → is_step_quiet t ≡ true → IsBefore values p place s → IsBefore values p (place + 1) s
   later p q b = record {
@@ -141,8 +143,8 @@ module _ (values : HartValues) (begin place : ℕ) (s t : State) (here : t ≡ s
   none_quiet : is_step_quiet t ≡ false → Known values begin (place + 1) s None
   none_quiet q = record {
     some = tt;
-    found = λ p l b. both_ways _ (b.quiet place (let m = b.before in omega arith) (omega arith))
-        (ap is_step_quiet (sym here) ∙ q);
+    found = λ p l b. absurd (both_ways (is_step_quiet t) q
+        (ap is_step_quiet here ∙ b.quiet place (let m = b.before in omega arith) (omega arith)));
   }
 
   with_values : (again : Option Again) → is_step_quiet t ≡ true → has_values values t ≡ true
@@ -153,8 +155,7 @@ module _ (values : HartValues) (begin place : ℕ) (s t : State) (here : t ≡ s
     found = λ p l b. refl;
   }
   with_values (Some a) q h known = record {
-    some = (later a.first q known.some.0, here_now q h,
-        let first = known.some.0.before in omega arith);
+    some = (later a.first q known.some.0, here_now q h, (let first = known.some.0.before in omega arith));
     found = λ p l b. refl;
   }
 
@@ -163,11 +164,11 @@ module _ (values : HartValues) (begin place : ℕ) (s t : State) (here : t ≡ s
   without_values again q h known = record {
     some = some again known.some;
     found = λ p l b. elim (order p place) [
-        | inl less ↦ known.found p l (earlier p less b)
-        | inr most ↦ let before = b.before in let same : p ≡ place = omega arith in
-            both_ways _ (ap (λ j. has_values values (state_after j s)) (sym same) ∙ b.has)
-            (ap (has_values values) (sym here) ∙ h)
-      ];
+      | inl less ↦ known.found p l (earlier p less b)
+      | inr most ↦ let before = b.before in let same : p ≡ place = omega arith in
+          absurd (both_ways (has_values values t) h
+          (ap (has_values values) here ∙ ap (λ j. has_values values (state_after j s)) (sym same) ∙ b.has))
+    ];
   }
     where
       some : (again : Option Again)
@@ -175,7 +176,7 @@ module _ (values : HartValues) (begin place : ℕ) (s t : State) (here : t ≡ s
           → IfSome again (λ a. IsBefore values a.first (place + 1) s × IsBefore values a.last (place + 1) s
           × (a.first ≤ a.last))
       some None k = tt
-      some (Some a) k = (later a.first q k.0, later a.last q k.1.0, k.1.1)
+      some (Some a) k = (later a.first q k.0, later a.last q k.1, k.2)
 
   pub known_more : (again : Option Again) → Known values begin place s again
       → Known values begin (place + 1) s (again_behind again place values t)
@@ -208,7 +209,7 @@ pub repetition_of : (values : HartValues) (begin steps : ℕ) (s : State) (a : A
     → has_values values (state_after steps s) ≡ true → Known values begin steps s (Some a)
     → IsRepetition steps s (record { begin = a.first; period = steps - a.last })
 repetition_of values begin steps s a complete end known =
-    let first = known.some.0 in let last = known.some.1.0 in let order = known.some.1.1 in
+    let first = known.some.0 in let last = known.some.1 in let rising = known.some.2 in
     let b = first.before in let l = last.before in
     let period = steps - a.last in
     let same_first = last_again values steps a.first s complete end first in

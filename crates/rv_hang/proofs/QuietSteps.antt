@@ -1,7 +1,7 @@
 -- A quiet step leaves the bus as it was, and the set of instructions.
 use Rattle.std.proofs.Common.{◌≡◌, ◌∙◌, ◌==◌, ◌&&◌, ℕ, Bool, true, false, not, cond, eqb, List, [], ◌∷◌, Ok, Err, Result, Option, Some, None}
 use Rattle.std.proofs.Common.{sym, ap, refl, arith, drop, length}
-use Rattle.std.proofs.lemmas.Bool.{and_from, false_from_ne_true, eqb-true}
+use Rattle.std.proofs.lemmas.Bool.{both_ways, ne_eqb}
 use Rattle.rv_isa.specs.declared.instruction.Instr.{Instr}
 use Rattle.rv_isa.specs.declared.instruction.Op.{Op}
 use Rattle.rv_isa.specs.declared.instruction.Op.TheVariants as op
@@ -11,14 +11,13 @@ use Rattle.rv_memory.specs.declared.access.Width.{Width}
 use Rattle.rv_memory.specs.declared.access.Width.TheVariants.{Byte, Half, Word}
 use Rattle.rv_memory.specs.declared.faults.BusFault.{BusFault}
 use Rattle.rv_memory.specs.declared.faults.BusFault.TheVariants as bus
-use Rattle.rv_machine.specs.declared.accesses.Extend.{Extend}
-use Rattle.rv_machine.specs.declared.accesses.Extend.TheVariants.{Sign, Zero}
 use Rattle.rv_machine.specs.declared.ending.Ending.{Ending}
-use Rattle.rv_machine.specs.Effect.{address, after_branch, after_load, after_store, at_target, effect, effect_of, from_pc, load}
+use Rattle.rv_machine.specs.Effect.{address, after_branch, after_store, at_target, effect, effect_of, from_pc}
 use Rattle.rv_machine.specs.Effect.{next_pc, rs2_value, store}
 use Rattle.rv_machine.specs.Fetch.{Fetched, fetch}
 use Rattle.rv_machine.specs.Run.{after_fetch, step_of}
 use Rattle.rv_machine.specs.State.{State, at_pc, is_misaligned, with_bus, with_register}
+use Rattle.rv_machine.proofs.Public.{byte_loaded, half_loaded, ok_is, word_loaded}
 use Rattle.rv_trace.proofs.Public.{code_is_fetched}
 use Rattle.rv_trace.specs.Steps.{instr_at}
 use Rattle.rv_hang.specs.Quiet.{is_found_quiet, is_instr_quiet, is_step_quiet, is_store_again, takes_script}
@@ -29,8 +28,7 @@ abbrev pub Same : State → State → Type 0
 Same s t = (t.bus ≡ s.bus) × (t.isa ≡ s.isa)
 
 abbrev Leaves : State → Result State Ending → Type 0
-Leaves s (Ok t) = Same s t
-Leaves s (Err e) = Unit {0}
+Leaves s = ok_is (Same s)
 
 -- ---- registers and targets
 
@@ -61,7 +59,9 @@ TakesNothing c a w = Unit {0}
 
 nothing_left : (script : List ℕ) → not (length script == 0) ≡ false → drop 1 script ≡ script
 nothing_left [] h = refl
-nothing_left (b ∷ bs) h = cc
+nothing_left (b ∷ bs) h =
+    let some : (length (b ∷ bs) == 0) ≡ false = ne_eqb (length (b ∷ bs)) 0 (λ e. omega arith) in
+    absurd (both_ways _ h (ap not some))
 
 by_address : (first : Bool) (c : Contents) (a v : ℕ) (other : Result (ℕ × Contents) BusFault) (p : ℕ × Contents)
     → (first && not (length c.script == 0)) ≡ false → (other ≡ Ok p → p.1 ≡ c)
@@ -95,13 +95,11 @@ load_same : (c : Contents) (a : ℕ) (w : Width) (p : ℕ × Contents) → Takes
 load_same c a w p h e = by_place (refuses c.misaligned a w) (touches_console a (size_of w)) (in_one c.regions a (size_of w))
     c (value_at c.memory a w) (console_load c a w) p (console_same c a w p h) e
 
-load_leaves : (w : Width) (x : Extend) (i : Instr) (next : ℕ) (s : State) → TakesNothing s.bus (address s i) w
-    → Leaves s (load w x s i next)
-load_leaves w x i next s h = go (load_from s.bus (address s i) w) refl
-  where
-    go : (r : Result (ℕ × Contents) BusFault) → load_from s.bus (address s i) w ≡ r → Leaves s (after_load r w x s i next)
-    go (Ok p) e = let u = written (with_bus s p.1) i.rd _ in (u.0 ∙ load_same s.bus (address s i) w p h e, u.1)
-    go (Err f) e = tt
+-- what a load leaves, whatever value it gives the register
+loaded : (w : Width) (i : Instr) (next : ℕ) (s : State) → TakesNothing s.bus (address s i) w → (p : ℕ × Contents)
+    → load_from s.bus (address s i) w ≡ Ok p → (v : ℕ) → Same s (at_pc (with_register (with_bus s p.1) i.rd v) next)
+loaded w i next s h p e v = let u = written (with_bus s p.1) i.rd v in
+    (u.0 ∙ load_same s.bus (address s i) w p h e, u.1)
 
 -- ---- stores
 
@@ -132,11 +130,11 @@ effect_leaves op.Blt i next s h = branch _ s i next
 effect_leaves op.Bge i next s h = branch _ s i next
 effect_leaves op.Bltu i next s h = branch _ s i next
 effect_leaves op.Bgeu i next s h = branch _ s i next
-effect_leaves op.Lb i next s h = load_leaves Byte Sign i next s tt
-effect_leaves op.Lh i next s h = load_leaves Half Sign i next s tt
-effect_leaves op.Lw i next s h = load_leaves Word Sign i next s (not_taken _ h)
-effect_leaves op.Lbu i next s h = load_leaves Byte Zero i next s tt
-effect_leaves op.Lhu i next s h = load_leaves Half Zero i next s tt
+effect_leaves op.Lb i next s h = (byte_loaded (Same s) i next s (loaded Byte i next s tt)).0
+effect_leaves op.Lh i next s h = (half_loaded (Same s) i next s (loaded Half i next s tt)).0
+effect_leaves op.Lw i next s h = word_loaded (Same s) i next s (loaded Word i next s (not_taken _ h))
+effect_leaves op.Lbu i next s h = (byte_loaded (Same s) i next s (loaded Byte i next s tt)).1
+effect_leaves op.Lhu i next s h = (half_loaded (Same s) i next s (loaded Half i next s tt)).1
 effect_leaves op.Sb i next s h = store_leaves Byte i next s h
 effect_leaves op.Sh i next s h = store_leaves Half i next s h
 effect_leaves op.Sw i next s h = store_leaves Word i next s h

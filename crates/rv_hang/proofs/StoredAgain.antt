@@ -1,6 +1,6 @@
 -- A store of what stands there already changes nothing.
 use Rattle.std.proofs.Common.{◌≡◌, ◌∙◌, ◌+◌, ◌/◌, ◌%◌, ℕ, Bool, true, false, ◌&&◌, ◌||◌, cond, eqb, Option, Some, None, Ok, Err, Result}
-use Rattle.std.proofs.Common.{sym, ap, refl, arith}
+use Rattle.std.proofs.Common.{sym, ap, refl, arith, inl, inr}
 use Rattle.std.proofs.lemmas.Bool.{and_parts, eqb-true, false_from_ne_true, leb-true, ltb-true, or_cases}
 use Rattle.std.specs.Cmp.{nat_cmp_total, unsigned_tied}
 use Rattle.std.specs.Ordering.{nat_cmp}
@@ -21,17 +21,17 @@ insert_again : (m : fin.FinMap nat_cmp ℕ) (a b : ℕ) → fin.get m a ≡ Some
 insert_again m a b here = fin.same_map nat_cmp_total nat_cmp-IsAntisymmetric (fin.insert m a b) m
     (λ q. fin.get-insert nat_cmp_total m a b q ∙ ap (λ x. cond x (Some b) (fin.get m q)) (unsigned_tied q a)
     ∙ elim (eqb q a) as (λ x. eqb q a ≡ x → cond x (Some b) (fin.get m q) ≡ fin.get m q) [
-        | true ↦ λ h. sym here ∙ ap (fin.get m) (sym (eqb-true q a h))
-        | false ↦ λ h. refl
-      ] refl)
+      | true ↦ λ h. sym here ∙ ap (fin.get m) (sym (eqb-true q a h))
+      | false ↦ λ h. refl
+    ] refl)
 
 add_again : (s : set.FinSet nat_cmp) (a : ℕ) → set.contains s a ≡ true → set.insert s a ≡ s
 add_again s a here = set.same_set nat_cmp_total nat_cmp-IsAntisymmetric (set.insert s a) s
     (λ q. set.contains-insert nat_cmp_total s a q ∙ ap (λ x. x || set.contains s q) (unsigned_tied q a)
     ∙ elim (eqb q a) as (λ x. eqb q a ≡ x → (x || set.contains s q) ≡ set.contains s q) [
-        | true ↦ λ h. sym (ap (set.contains s) (eqb-true q a h) ∙ here)
-        | false ↦ λ h. refl
-      ] refl)
+      | true ↦ λ h. sym (ap (set.contains s) (eqb-true q a h) ∙ here)
+      | false ↦ λ h. refl
+    ] refl)
 
 -- ---- bytes
 

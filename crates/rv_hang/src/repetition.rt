@@ -33,13 +33,13 @@ pub fn find_repetition(
     ensures found { (place : ℕ) → steps - within ≤ place → IsLastAgain steps place (state_of machine)
         → is_some result ≡ true }
 {
-    let mut machine = machine;
+    let mut ahead = machine;
     let begin = steps - steps.min(within);
-    let _ = machine.run(begin);
+    let _ = ahead.run(begin);
     let mut again = None;
     for place in begin..steps {
-        again = again_at(again, &machine, place, end);
-        let _ = machine.run(1);
+        again = again_at(again, &ahead, place, end);
+        let _ = ahead.run(1);
     }
     let again = again?;
     Some(Repetition {
@@ -56,12 +56,7 @@ struct Again {
 }
 
 // What is known behind the step at a place, once the machine stands in front of it.
-fn again_at(
-    again: Option<Again>,
-    machine: &Machine,
-    place: u32,
-    end: &HartValues,
-) -> Option<Again>
+fn again_at(again: Option<Again>, machine: &Machine, place: u32, end: &HartValues) -> Option<Again>
     ensures { result ≡ again_behind again place end.now (state_of machine.now) }
 {
     if !is_step_quiet(machine) {

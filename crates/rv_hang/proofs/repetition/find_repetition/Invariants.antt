@@ -6,6 +6,6 @@ use Rattle.rv_hang.proofs.repetition.find_repetition.Given as goal
 
 abbrev pub invariant-loop-place : goal.invariant-loop-place
 invariant-loop-place l = record {
-  reached : state_of l.machine ≡ state_after l.place (state_of l.initial.machine);
-  known : Known l.end.now l.begin l.place (state_of l.initial.machine) l.again;
+  reached : state_of l.ahead ≡ state_after l.place (state_of l.fn.machine);
+  known : Known l.end l.begin l.place (state_of l.fn.machine) l.again;
 }
