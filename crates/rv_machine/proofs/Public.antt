@@ -2,3 +2,5 @@
 pub use Rattle.rv_machine.proofs.FaultNames.{every_fault, fault_named-name}
 pub use Rattle.rv_machine.proofs.Narrower.{run_wider}
 pub use Rattle.rv_machine.proofs.Regions.{run_keeps}
+pub use Rattle.rv_machine.proofs.Loads.{byte_loaded, half_loaded, word_loaded}
+pub use Rattle.rv_machine.proofs.Right.{ok_is}

@@ -4,3 +4,4 @@ pub mod Fetched
 pub mod Rows
 pub mod Registers
 pub mod Stored
+pub mod Public

@@ -28,7 +28,7 @@ pub fn code_at(bus: &Bus, pc: u32) -> Option<Code>
 }
 
 /// The instruction of a code in RV32IMC, if it has one there.
-pub(crate) fn instr_of(code: Code) -> Option<Instr>
+pub fn instr_of(code: Code) -> Option<Instr>
     ensures value { result ≡ instr_of code }
     ensures well_formed { IfSome result IsWellFormed }
 {

@@ -18,7 +18,7 @@ mod trace;
 mod trace_lines;
 mod write_targets;
 
-pub use code::{Code, code_at};
+pub use code::{Code, code_at, instr_of};
 pub use elf_file::ElfFile;
 pub use job_image::JobImage;
 pub use law::{codes_are_fetched, rows_are_of_the_run, stored_values_stand, traces_show_the_end};

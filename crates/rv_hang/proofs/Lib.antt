@@ -1,0 +1,3 @@
+pub mod StoredAgain
+pub mod QuietSteps
+pub mod Cycles

@@ -1,0 +1,43 @@
+-- A state of a run that comes again.
+use Rattle.std.specs.Prelude.{◌≡◌, ◌≤◌, ◌<◌, ◌+◌, ◌==◌, ◌&&◌, ℕ, Bool, true, if◌then◌else◌, Option, Some, None}
+use Rattle.std.specs.Str.{bytes_eq}
+use Rattle.rv_machine.specs.State.{State}
+use Rattle.rv_trace.specs.Trace.{state_after}
+use Rattle.rv_hang.specs.Quiet.{is_step_quiet}
+use Rattle.rv_hang.specs.declared.hart.HartValues.{HartValues}
+use Rattle.rv_hang.specs.declared.repetition.Again.{Again}
+use Rattle.rv_hang.specs.declared.repetition.Repetition.{Repetition}
+
+-- a hart has this pc and these registers
+abbrev pub has_values : HartValues → State → Bool
+has_values values s = s.pc == values.pc && bytes_eq s.registers values.registers
+
+-- of the first steps of a run from a state on, the state behind some comes again one period later
+pub record IsRepetition (steps : ℕ) (s : State) (r : Repetition) : Type 0 where
+  pub some : 0 < r.period
+  pub within : r.begin + r.period ≤ steps
+  pub again : state_after (r.begin + r.period) s ≡ state_after r.begin s
+
+-- no step from one place up to another may change the bus
+abbrev pub AreQuiet : ℕ → ℕ → State → Type 0
+AreQuiet place end s = (k : ℕ) → place ≤ k → k < end → is_step_quiet (state_after k s) ≡ true
+
+-- a place has the pc and the registers of the last of so many steps, and no step behind it may change the bus
+pub record IsLastAgain (steps place : ℕ) (s : State) : Type 0 where
+  pub before : place < steps
+  pub pc : (state_after place s).pc ≡ (state_after steps s).pc
+  pub registers : (state_after place s).registers ≡ (state_after steps s).registers
+  pub quiet : AreQuiet place steps s
+
+-- ---- on the way
+
+abbrev pub first_again : Option Again → ℕ → ℕ
+first_again None place = place
+first_again (Some again) place = again.first
+
+-- the places with these values behind a step, where no step from them on may change the bus
+abbrev pub again_behind : Option Again → ℕ → HartValues → State → Option Again
+again_behind again place values s =
+    if is_step_quiet s then (if has_values values s
+    then Some (record { first = first_again again place; last = place }) else again)
+    else None

@@ -1,0 +1,114 @@
+//! Steps that leave the bus as it was.
+
+ghost use Rattle.std.specs.Prelude.{◌≡◌, ◌≤◌, ◌+◌};
+ghost use Rattle.rv_hang.specs.Quiet.{are_bytes_apart, is_byte_again, is_instr_quiet, is_step_quiet, is_store_again, is_value_again};
+ghost use Rattle.rv_hang.specs.Quiet.{takes_script};
+ghost use Rattle.rv_isa.specs.Words.{IsWellFormed};
+ghost use Rattle.rv_machine.specs.Effect.{address, rs2_value};
+ghost use Rattle.rv_machine.specs.Machine.{state_of};
+ghost use Rattle.rv_memory.specs.Bus.{size_of};
+
+use rv_isa::{Instr, Op};
+use rv_machine::Machine;
+use rv_memory::{Bus, Width};
+use rv_trace::{code_at, instr_of};
+
+/// Whether the next step of a machine, where it completes, leaves the bus as it is.
+pub(crate) fn is_step_quiet(machine: &Machine) -> bool
+    ensures { result ≡ is_step_quiet (state_of machine.now) }
+{
+    match code_at(machine.bus(), machine.pc()) {
+        Some(code) => match instr_of(code) {
+            Some(instr) => is_instr_quiet(machine, instr),
+            None => false,
+        },
+        None => false,
+    }
+}
+
+fn is_instr_quiet(machine: &Machine, instr: Instr) -> bool
+    requires { IsWellFormed instr }
+    ensures { result ≡ is_instr_quiet instr.op instr (state_of machine.now) }
+{
+    match instr.op {
+        Op::Lw => !takes_script(machine.bus(), accessed_address(machine, instr)),
+        Op::Sb => is_store_quiet(machine, instr, Width::Byte),
+        Op::Sh => is_store_quiet(machine, instr, Width::Half),
+        Op::Sw => is_store_quiet(machine, instr, Width::Word),
+        Op::FenceI => false,
+        _ => true,
+    }
+}
+
+fn accessed_address(machine: &Machine, instr: Instr) -> u32
+    requires { IsWellFormed instr }
+    ensures { result ≡ address (state_of machine.now) instr }
+{
+    machine
+        .reg(instr.rs1)
+        .wrapping_add(instr.imm.cast_unsigned())
+}
+
+// A word load at the console's first address takes a byte of the script, while there is one.
+fn takes_script(bus: &Bus, addr: u32) -> bool
+    ensures { result ≡ takes_script bus.now addr }
+{
+    addr == 0x1000_0000 && bus.script_left() != 0
+}
+
+fn is_store_quiet(machine: &Machine, instr: Instr, width: Width) -> bool
+    requires { IsWellFormed instr }
+    ensures { result ≡ is_store_again (state_of machine.now).bus (address (state_of machine.now) instr) width
+        (rs2_value (state_of machine.now) instr) }
+{
+    is_store_again(
+        machine.bus(),
+        accessed_address(machine, instr),
+        width,
+        machine.reg(instr.rs2),
+    )
+}
+
+// A store outside the console is of bytes that stand there already, and count as stored.
+fn is_store_again(bus: &Bus, addr: u32, width: Width, value: u32) -> bool
+    ensures { result ≡ is_store_again bus.now addr width value }
+{
+    are_bytes_apart(addr, width) && is_value_again(bus, addr, width, value)
+}
+
+// The bytes of an access lie in the address space, and none of them is the console's.
+fn are_bytes_apart(addr: u32, width: Width) -> bool
+    ensures { result ≡ are_bytes_apart addr (size_of width) }
+{
+    let end = u64::from(addr) + u64::from(width.size());
+    end <= 0x1000_0000 || (addr >= 0x1000_0010 && end <= 0x1_0000_0000)
+}
+
+fn is_value_again(bus: &Bus, addr: u32, width: Width, value: u32) -> bool
+    requires { addr + size_of width ≤ 0x1_0000_0000 }
+    ensures { result ≡ is_value_again bus.now addr width value }
+{
+    match width {
+        Width::Byte => is_byte_again(bus, addr, value % 0x100),
+        Width::Half => {
+            is_byte_again(bus, addr, value % 0x100)
+                && is_byte_again(bus, addr + 1, value / 0x100 % 0x100)
+        }
+        Width::Word => {
+            is_byte_again(bus, addr, value % 0x100)
+                && is_byte_again(bus, addr + 1, value / 0x100 % 0x100)
+                && is_byte_again(bus, addr + 2, value / 0x1_0000 % 0x100)
+                && is_byte_again(bus, addr + 3, value / 0x100_0000 % 0x100)
+        }
+    }
+}
+
+// The byte stands at the address already, and counts as stored.
+fn is_byte_again(bus: &Bus, addr: u32, byte: u32) -> bool
+    ensures { result ≡ is_byte_again bus.now addr byte }
+{
+    match bus.byte(addr) {
+        Some(there) => u32::from(there) == byte && bus.is_stored(addr),
+        None => false,
+    }
+}

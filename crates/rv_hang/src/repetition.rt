@@ -1,0 +1,70 @@
+//! States that come again.
+
+ghost use Rattle.std.specs.Prelude.{◌≡◌, ◌≤◌, ◌-◌, ℕ, IfSome, is_some, true};
+ghost use Rattle.rv_hang.specs.Repetition.{IsLastAgain, IsRepetition, again_behind, has_values};
+ghost use Rattle.rv_machine.specs.Machine.{state_of};
+ghost use Rattle.rv_machine.specs.Run.{run_of};
+ghost use Rattle.rv_trace.specs.Trace.{state_after};
+
+use crate::hart::HartValues;
+use crate::quiet::is_step_quiet;
+use rv_machine::Machine;
+
+/// A state of a run that comes again.
+#[derive(Clone, Copy)]
+pub struct Repetition {
+    /// How many steps stand in front of it.
+    pub begin: u32,
+    /// After how many more it comes again, 1 at least.
+    pub period: u32,
+}
+
+/// Where the last of so many steps of a machine, which all complete, is a repetition: the first place among the last
+/// `within` steps with that state, and the least period. `end` has the pc and the registers behind the last step.
+pub fn find_repetition(
+    machine: Machine,
+    steps: u32,
+    within: u32,
+    end: &HartValues,
+) -> Option<Repetition>
+    requires complete { (run_of steps (state_of machine)).steps ≡ steps }
+    requires end { has_values end.now (state_after steps (state_of machine)) ≡ true }
+    ensures repetition { IfSome result (IsRepetition steps (state_of machine)) }
+    ensures found { (place : ℕ) → steps - within ≤ place → IsLastAgain steps place (state_of machine)
+        → is_some result ≡ true }
+{
+    let mut ahead = machine;
+    let begin = steps - steps.min(within);
+    let _ = ahead.run(begin);
+    let mut again = None;
+    for place in begin..steps {
+        again = again_at(again, &ahead, place, end);
+        let _ = ahead.run(1);
+    }
+    let again = again?;
+    Some(Repetition {
+        begin: again.first,
+        period: steps - again.last,
+    })
+}
+
+// Places with the pc and the registers of the end, from where on no step may change the bus.
+#[derive(Clone, Copy)]
+struct Again {
+    first: u32,
+    last: u32,
+}
+
+// What is known behind the step at a place, once the machine stands in front of it.
+fn again_at(again: Option<Again>, machine: &Machine, place: u32, end: &HartValues) -> Option<Again>
+    ensures { result ≡ again_behind again place end.now (state_of machine.now) }
+{
+    if !is_step_quiet(machine) {
+        return None;
+    }
+    if !end.are_of(machine) {
+        return again;
+    }
+    let first = again.map_or(place, |again| again.first);
+    Some(Again { first, last: place })
+}

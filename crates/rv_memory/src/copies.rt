@@ -1,0 +1,30 @@
+//! Copies of a bus.
+
+ghost use Rattle.std.specs.Prelude.{◌≡◌, IfOk};
+
+use crate::bus::Bus;
+use crate::limits::CONSOLE_ROOM;
+use std::alloc::{AllocError, Global};
+
+impl Bus {
+    /// A bus with the same contents in memory of its own: what becomes of one changes nothing of the other.
+    pub fn copied(&self, alloc: Global) -> Result<Bus, AllocError>
+        ensures { IfOk result (λ bus. bus ≡ self.now) }
+    {
+        let bytes = Vec::from_slice(alloc, &self.bytes)?;
+        let marks = Vec::from_slice(alloc, &self.marks)?;
+        let script = Vec::from_slice(alloc, &self.script)?;
+        let mut console = Vec::with_capacity(alloc, CONSOLE_ROOM)?;
+        console.extend_from_slice(&self.console)?;
+        Ok(Bus {
+            map: self.map,
+            bytes,
+            marks,
+            generation: self.generation,
+            console,
+            script,
+            taken: self.taken,
+            misaligned: self.misaligned,
+        })
+    }
+}
