@@ -1,0 +1,16 @@
+-- What a sink for results with colours tells.
+use Rattle.std.specs.Prelude.{ℕ, List, Option, Some, None}
+use Rattle.rv_colors.specs.declared.color_sink.Colors.{Colors}
+use Rattle.rv_colors.specs.declared.color_sink.Colors.TheVariants as colors
+use Rattle.rv_colors.specs.declared.place.Place.{Place}
+use Rattle.rv_colors.specs.declared.place.Place.TheVariants as place
+
+-- where the first byte stands in its line; no place is noted where there are no colours
+abbrev pub first_place : Colors → Option Place
+first_place colors.Without = None
+first_place colors.With = Some (place.Margin 0)
+
+-- the bytes that it took, where there are no colours and the sink below tells them
+abbrev pub told_bytes : Option Place → Option (List ℕ) → Option (List ℕ)
+told_bytes None taken = taken
+told_bytes (Some here) taken = None
