@@ -1,6 +1,6 @@
 //! Standard output as a sink, which a reader may close.
 
-ghost use Rattle.std.specs.Prelude.{◌≡◌, ◌≤◌, ◌<◌, ◌||◌, None, IfOk, IfErr, OnErr, false, length, take};
+ghost use Rattle.std.specs.Prelude.{◌≡◌, ◌≤◌, ◌||◌, Bool, None, IfOk, IfErr, OnErr, false, length, take};
 ghost use Rattle.std.specs.Io.KnownBytes.{Appends};
 ghost use Rattle.rv_base.specs.Sinks.{AppendsBeginning};
 ghost use Rattle.rv_base.specs.Counts.{one_more};
@@ -95,7 +95,6 @@ impl<W: Write + Drop> Closable for PipeSink<W> {
 
 // Writes one or more bytes from the front, once, and flushes them; or says why that failed.
 fn write_and_flush<W: Write>(stream: &mut W, bytes: &[u8]) -> Result<usize, ErrorKind>
-    requires { 0 < length bytes.now }
     ensures within { IfOk result (λ count. (1 ≤ count) × (count ≤ length bytes.now)) }
     ensures written { IfOk result (λ count. Appends (W.contents stream.old) (W.contents stream.new) (take count bytes.now)) }
     ensures part { OnErr result (AppendsBeginning (W.contents stream.old) (W.contents stream.new) bytes.now) }
