@@ -1,6 +1,7 @@
 -- The cases of rows, with the lines that are told of them.
 use Rattle.std.proofs.Common.{◌≡◌, ◌∙◌, refl, sym, ap, append_assoc, append-nil, ℕ, List, [], ◌∷◌, ◌++◌, Option}
-use Rattle.std.specs.Prelude.{codes, count_by, length}
+use Rattle.std.specs.Prelude.{OnOk, Result, Ok, Err, codes, count_by, if◌then◌else◌, length}
+use Rattle.std.specs.Result.{is_ok}
 use Rattle.std.specs.Fmt.{decimal}
 use Rattle.std.proofs.KnownBytes.{Appends-nil}
 use Rattle.rv_rows.specs.declared_row.Row.{Row}
@@ -48,6 +49,12 @@ suite_whole class rule rows =
     (number_attribute (codes "tests") (length rows))
     (number_attribute (codes "failures") (count_by (is_failure rule) rows))
     (number_attribute (codes "errors") (count_by (is_error rule) rows)) (codes ">\n") (steps_properties rows)
+
+-- what was appended where that went well
+pub written : {T E : Type 0} (r : Result T E) (new whole same : List ℕ) → new ≡ (if is_ok r then whole else same)
+    → OnOk r (new ≡ whole)
+written (Ok x) new whole same is = is
+written (Err e) new whole same is = tt
 
 -- nothing went out yet
 pub nothing_out : (a : Option (List ℕ)) (text : List ℕ) → AppendsBeginning a a text

@@ -113,8 +113,9 @@ bytes_more x xs fits are = λ i. elim i as (λ k. get_or (x ∷ xs) k 0 < 256) [
 
 bytes_steps : IsBytes (codes "steps.")
 bytes_steps =
-    bytes_more 115 _ (omega arith) (bytes_more 116 _ (omega arith) (bytes_more 101 _ (omega arith)
-    (bytes_more 112 _ (omega arith) (bytes_more 115 _ (omega arith) (bytes_more 46 _ (omega arith) bytes_nil)))))
+    bytes_more 115 (codes "teps.") (omega arith) (bytes_more 116 (codes "eps.") (omega arith)
+    (bytes_more 101 (codes "ps.") (omega arith) (bytes_more 112 (codes "s.") (omega arith)
+    (bytes_more 115 (codes ".") (omega arith) (bytes_more 46 [] (omega arith) bytes_nil)))))
 
 xml_steps_property : (row : Row) → IsWrittenRow row → IsXmlCharacters (steps_property row)
 unfolding steps_property

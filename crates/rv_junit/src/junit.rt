@@ -42,7 +42,6 @@ pub(crate) fn push_suite_begin(
 }
 
 // Appends the steps of rows as properties.
-#[tactic(auto, unfolding(crate::specs::Junit::steps_properties))]
 fn push_steps_properties(alloc: Global, text: &mut String, rows: &[Row]) -> Result<(), AllocError>
     ensures { OnOk result (string_bytes text.new ≡ string_bytes text.old ++ steps_properties rows.now) }
 {
