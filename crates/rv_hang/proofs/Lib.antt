@@ -1,3 +1,4 @@
 pub mod StoredAgain
 pub mod QuietSteps
 pub mod Cycles
+pub mod Waits
