@@ -2,3 +2,4 @@ pub mod StoredAgain
 pub mod QuietSteps
 pub mod Cycles
 pub mod Waits
+pub mod Starts

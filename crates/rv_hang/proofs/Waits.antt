@@ -45,6 +45,6 @@ pub wait_told : (begin steps first period waited : ℕ) (s : State) → begin �
     → IsWaitTold steps s (record { begin = first; period = period; waits = ltb first waited })
 wait_told begin steps first period waited s l known = record {
   load = λ e. (let less = ltb-true first waited e in
-      let found = known.some (waited - 1) (omega arith) in (waited - 1, (omega arith, found.0, found.1)));
+      let found = known.some (waited - 1) (omega arith) in (waited - 1, omega arith, found.0, found.1));
   all = λ k m n e. let less = known.all k (omega arith) n e in lt-ltb first waited (omega arith);
 }

@@ -24,5 +24,5 @@ IsBudgetUse steps s (Changes within) = (within ≡ searched_steps steps)
 abbrev pub IsBudgetUseIn : Planned → Job → ℕ → Option BudgetUse → Type 0
 IsBudgetUseIn plan job steps None =
     (s : State) → start_in plan.answers job ≡ Ok s → (run_of steps s).steps ≡ steps → ⊥
-IsBudgetUseIn plan job steps (Some use) = (s : State) × (start_in plan.answers job ≡ Ok s)
-    × ((run_of steps s).steps ≡ steps) × IsBudgetUse steps s use
+IsBudgetUseIn plan job steps (Some found) = (s : State) × (start_in plan.answers job ≡ Ok s)
+    × ((run_of steps s).steps ≡ steps) × IsBudgetUse steps s found

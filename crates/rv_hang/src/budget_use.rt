@@ -37,8 +37,9 @@ pub fn budget_use_of(
     ensures { IfOk result (λ found. (d : AJob) → IsBudgetUseIn job.now.plan.now
         (job_at job.now.plan.now job.now.place d) steps found) }
 {
-    let Ok(machine) = machine_at(alloc, job.plan, job.place, job.image)? else {
-        return Ok(None);
+    let machine = match machine_at(alloc, job.plan, job.place, job.image)? {
+        Ok(machine) => machine,
+        Err(_) => return Ok(None),
     };
     let Some(end) = values_behind(machine, steps) else {
         return Ok(None);

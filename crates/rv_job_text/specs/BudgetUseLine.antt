@@ -36,8 +36,8 @@ budget_use_line steps (Some (Changes within)) = changes_line steps within
 
 -- a run that used up its budget is looked into, and no other one
 abbrev pub IsUseBehind : RowEnd → Planned → Job → ℕ → Option BudgetUse → Type 0
-IsUseBehind Budget plan job steps use = IsBudgetUseIn plan job steps use
-IsUseBehind _ plan job steps use = use ≡ None
+IsUseBehind Budget plan job steps found = IsBudgetUseIn plan job steps found
+IsUseBehind _ plan job steps found = found ≡ None
 
 abbrev pub IsUseOfRow : Planned → Job → Row → Option BudgetUse → Type 0
-IsUseOfRow plan job row use = IsUseBehind row.ending plan job row.steps use
+IsUseOfRow plan job row found = IsUseBehind row.ending plan job row.steps found
