@@ -14,6 +14,8 @@ use Rattle.rv_expect.specs.Passing.{has_passed}
 use Rattle.rv_expect.specs.declared.passing.Rule.TheVariants.{Strict}
 use Rattle.rv_files.specs.UnreadPaths.{contents_below}
 use Rattle.rv_files.specs.declared.noting_store.Unread.{Unread}
+use Rattle.rv_hang.specs.declared.budget_use.BudgetUse.{BudgetUse}
+use Rattle.rv_job_text.specs.BudgetUseLine.{IsUseOfRow}
 use Rattle.rv_job_text.specs.Telling.{explanation_text}
 use Rattle.rv_jobs.specs.Plans.{AreKept, Planned, jobs_needed_for, one_more_times, paths_of, paths_used}
 use Rattle.rv_jobs.specs.Plans.{unreadable_count}
@@ -90,6 +92,15 @@ pub record IsCheckAt (known : Option FileContents) (words : CheckAsked) (output 
 
 -- ---- explain
 
+-- a text explains the row of the job at a place of a plan, with so many of its last instructions, and with what is found of
+-- a used-up budget
+pub record IsTextExplaining (plan : Planned) (unread : List Unread) (place last : ℕ) (text : List ℕ) : Type 0 where
+  pub budget_use : Option BudgetUse
+  pub found : (d : Job) → IsUseOfRow plan (slice_index_or plan.jobs place d)
+      (row_of plan (slice_index_or plan.jobs place d)) budget_use
+  pub told : (d : Job) → text ≡ explanation_text plan unread Strict (slice_index_or plan.jobs place d)
+      (row_of plan (slice_index_or plan.jobs place d)) (record { last = last; budget_use = budget_use })
+
 -- the output and the status are those of the explanation of the job at a place, over answers for the
 -- paths that its row needs, which agree with what stands there
 pub record IsJobExplained (known : Option FileContents) (jobs : List Job) (place last : ℕ) (output : List ℕ)
@@ -100,8 +111,7 @@ pub record IsJobExplained (known : Option FileContents) (jobs : List Job) (place
   pub kept : AreKept known plan.answers
   pub unread : List Unread
   pub noted : AreNotesOf plan.answers unread
-  pub text : (d : Job) → output ≡ explanation_text plan unread Strict
-      (slice_index_or plan.jobs place d) (row_of plan (slice_index_or plan.jobs place d)) last
+  pub text : IsTextExplaining plan unread place last output
   pub judged : (d : Job) → status ≡ passing_status
       (has_passed Strict (row_of plan (slice_index_or plan.jobs place d)))
 
