@@ -4,6 +4,7 @@ pub mod JobBegins
 pub mod Steps
 pub mod FaultHeads
 pub mod Lines
+pub mod PlacedFaults
 pub mod NearestJob
 pub mod NearNames
 pub mod Told
