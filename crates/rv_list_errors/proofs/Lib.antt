@@ -4,6 +4,7 @@ pub mod Tails
 pub mod JobLaw
 pub mod Heads
 pub mod OneMore
+pub mod PlacedLines
 pub mod NearestNames
 pub mod NamesTold
 pub mod ElementNames

@@ -52,6 +52,7 @@ pub fn push_all_faults(
 }
 
 // Lines of faults that know their places in a list.
+#[derive(Drop)]
 struct PlacedLines<'a> {
     file: &'a str,
     list: &'a List<'a>,

@@ -20,6 +20,7 @@ use rv_machine::FaultKind;
 use toml::{Table, Value};
 
 /// The keys of a job that were met, by their places among the keys that jobs have.
+#[derive(Drop)]
 pub(crate) struct Met {
     keys: [bool; 16],
 }
@@ -65,6 +66,7 @@ pub(crate) struct FaultyJob<'a> {
 }
 
 // What is wrong with a value.
+#[derive(Clone, Copy)]
 enum KeyFault {
     Unknown,
     UnknownInRegion,

@@ -52,6 +52,7 @@ pub(crate) enum Next {
 }
 
 /// A header, an entry or an element that is walked over.
+#[derive(Clone, Copy)]
 pub(crate) struct Step<'a> {
     pub(crate) is_job: bool,
     pub(crate) next: Next,
