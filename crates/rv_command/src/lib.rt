@@ -6,6 +6,7 @@
 mod files;
 mod list;
 mod messages;
+mod refused_line;
 mod saved_report;
 mod status;
 mod stop;

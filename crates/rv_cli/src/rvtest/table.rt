@@ -36,8 +36,8 @@ pub(crate) const RUN: Subcommand<'static> = Subcommand {
         ),
         Argument::Group,
         Argument::Option("root", "DIR", ROOT),
-        Argument::Option("report", "FILE", REPORT),
-        Argument::Option("junit", "FILE", JUNIT),
+        Argument::File("report", REPORT),
+        Argument::File("junit", JUNIT),
         Argument::Flag("lenient", None, LENIENT),
         Argument::Flag(
             "verbose",
@@ -115,8 +115,8 @@ pub(crate) const MERGE: Subcommand<'static> = Subcommand {
             "PART",
             "Paths of the parts of one run, in any order",
         ),
-        Argument::Option("report", "FILE", REPORT),
-        Argument::Option("junit", "FILE", JUNIT),
+        Argument::File("report", REPORT),
+        Argument::File("junit", JUNIT),
         Argument::Flag("lenient", None, LENIENT),
     ],
 };
@@ -147,7 +147,7 @@ const SHOW: Subcommand<'static> = Subcommand {
     after: examples::SHOW,
     arguments: &[
         Argument::Word("report", "REPORT", "Path of a report"),
-        Argument::Option("junit", "FILE", JUNIT),
+        Argument::File("junit", JUNIT),
         Argument::Flag("lenient", None, LENIENT),
     ],
 };
