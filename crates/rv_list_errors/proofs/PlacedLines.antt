@@ -1,6 +1,6 @@
 -- Lines that tell the faults of a list's jobs, one behind the other.
-use Rattle.std.proofs.Common.{◌≡◌, ◌∙◌, ◌+◌, ◌<◌, ℕ, zero, suc, List, [], ◌∷◌, ◌++◌, append-nil, append_assoc, ap, arith, get_or, length, refl, subst, sym, take, Option, None, Some}
-use Rattle.std.proofs.Common.{length-append, inl, inr}
+use Rattle.std.proofs.Common.{◌≡◌, ◌∙◌, ◌+◌, ◌<◌, ℕ, List, [], ◌∷◌, ◌++◌, append-nil, append_assoc, ap, arith, get_or, length, refl, subst, sym, take, Option, None, Some}
+use Rattle.std.proofs.Common.{length-append}
 use Rattle.std.proofs.lemmas.List.{take_more}
 use Rattle.std.proofs.lemmas.List.Concat.{flat_map-append}
 use Rattle.std.proofs.lemmas.List.Elements.{All-push, All-weaker}
@@ -9,9 +9,9 @@ use Rattle.std.specs.Prelude.{Err, Ok, OnOk, Result}
 use Rattle.toml.specs.Data.{Members}
 use Rattle.rv_lists.specs.JobList.{document_of}
 use Rattle.rv_lists.specs.declared.error.JobError.{JobError}
-use Rattle.rv_list_errors.specs.FaultHeads.{job_names}
+use Rattle.rv_list_errors.specs.FaultHeads.{fault_head, job_names, place_in_document}
 use Rattle.rv_list_errors.specs.Lines.{BeginsWith, PutsFaultLines, TellFaults, printable_line}
-use Rattle.rv_list_errors.specs.PlacedFaults.{IsPlacedMessage, IsToldFault, IsToldInDocument, IsToldInList, PutsEachFault, PutsLinesThat}
+use Rattle.rv_list_errors.specs.PlacedFaults.{IsToldFault, IsToldInDocument, IsToldInList, PutsEachFault, PutsLinesThat}
 
 -- so many lines
 abbrev pub PutsSo : (List ℕ → Type 0) → ℕ → List ℕ → List ℕ → Type 0
@@ -19,7 +19,7 @@ PutsSo Is n before after = (messages : List (List ℕ)) × (length messages ≡ 
     × (after ≡ before ++ flat_map printable_line messages)
 
 pub puts_none : (Is : List ℕ → Type 0) (before : List ℕ) → PutsSo Is 0 before before
-puts_none Is before = ([], refl, tt, sym (append-nil before))
+puts_none Is before = ([], refl, (λ k d low. absurd (omega (arith, low))), sym (append-nil before))
 
 pub puts_more : (Is : List ℕ → Type 0) (n : ℕ) (before bytes after message : List ℕ) → PutsSo Is n before bytes
     → Is message → after ≡ bytes ++ printable_line message → PutsSo Is (n + 1) before after
@@ -109,3 +109,13 @@ told_without_document (Ok done) path text head faults before after refused heads
     (subst (λ head. BeginsWith head message) (heads fault) begins))
     (each_of_lines head faults messages before after told eq)
 told_without_document (Err error) path text head faults before after refused heads puts = tt
+
+-- ---- a message
+
+pub head_in_parts : (file place job rest : List ℕ) → (([] ++ file) ++ place) ++ job ++ rest ≡ (file ++ (place ++ job)) ++ rest
+head_in_parts file place job rest = simp append_assoc
+
+-- where there is no document a line begins with the path alone
+pub head_is_path : (path text : List ℕ) → document_of text ≡ None → (fault : JobError) → fault_head path text fault ≡ path
+head_is_path path text refused fault =
+    ap (λ document. path ++ place_in_document text document fault.job) refused ∙ append-nil path

@@ -1,6 +1,8 @@
 pub mod Places
 pub mod JobPlaces
 pub mod JobBegins
+pub mod JobKeys
+pub mod NamedKeys
 pub mod Steps
 pub mod FaultHeads
 pub mod Lines

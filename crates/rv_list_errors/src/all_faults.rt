@@ -1,6 +1,7 @@
 //! The lines of all faults of a list, each with its place.
 
-ghost use Rattle.std.specs.Prelude.{◌≡◌, ◌<◌, ◌++◌, IfOk, OnOk, length};
+ghost use Rattle.std.specs.Prelude.{◌≡◌, ◌<◌, ◌++◌, IfOk, OnOk, codes, length};
+ghost use Rattle.std.specs.Fmt.{decimal};
 ghost use Rattle.rv_list_errors.specs.FaultHeads.{borrowed_names};
 ghost use Rattle.rv_list_errors.specs.Lines.{BeginsWith, printable_line};
 ghost use Rattle.rv_list_errors.specs.PlacedFaults.{IsPlacedMessage, IsToldFault, IsToldInList, PutsEachFault, PutsLinesThat};
@@ -9,7 +10,7 @@ ghost use Rattle.rv_list_errors.specs.PlacedFaults.{placed_head};
 use crate::fault_text::{list_fault_message, push_job_number_and_name};
 use crate::faults::{push_faults, suggestion_for_fault};
 use crate::found_faults::{FoundFault, faults_of_job};
-use crate::headers::{Cursor, job_texts};
+use crate::headers::{Cursor, Place, job_texts};
 use crate::list::List;
 use crate::names::Suggestion;
 use rv_lists::JobError;
@@ -19,14 +20,14 @@ use std::alloc::{AllocError, Global};
 /// Appends all faults of a list's jobs, each on a line with its line and column: the faults of a job in the order of its keys, and before
 /// them the keys that it lacks, where the job begins. `file` is the path of the list as the person wrote it, and the faults are those that
 /// `read_faults` of `rv_lists` tells of its text, one for each bad job. The text is read once more.
-pub fn push_all_faults(
+pub fn push_all_faults<'a>(
     alloc: Global,
     bytes: &mut Vec<u8>,
-    file: &str,
-    text: &[u8],
+    file: &'a str,
+    text: &'a [u8],
     faults: &[JobError],
 ) -> Result<(), AllocError>
-    ensures told { OnOk result (PutsEachFault (IsToldFault file.now text.now) faults.now
+    ensures { OnOk result (PutsEachFault (IsToldFault file.now text.now) faults.now
         bytes.old.items bytes.new.items) }
 {
     match toml::table_from_slice(alloc, text) {
@@ -35,8 +36,8 @@ pub fn push_all_faults(
             let jobs = job_texts(alloc, str::from_utf8(text).unwrap_or(""))?;
             let mut lines = PlacedLines {
                 file,
-                list: &list,
-                jobs: jobs.as_slice(),
+                list,
+                jobs,
                 cursor: Cursor::new(text),
             };
             lines.push_fault_lines(alloc, bytes, faults)
@@ -55,9 +56,9 @@ pub fn push_all_faults(
 #[derive(Drop)]
 struct PlacedLines<'a> {
     file: &'a str,
-    list: &'a List<'a>,
+    list: List<'a>,
     // The text from each job on.
-    jobs: &'a [&'a str],
+    jobs: Vec<&'a str>,
     cursor: Cursor<'a>,
 }
 
@@ -69,7 +70,7 @@ impl<'a> PlacedLines<'a> {
         faults: &[JobError],
     ) -> Result<(), AllocError>
         ensures { OnOk result (PutsEachFault
-            (IsToldInList self.old.file.now self.old.cursor.text.now (borrowed_names self.old.list.now.names.items))
+            (IsToldInList self.old.file.now self.old.cursor.text.now (borrowed_names self.old.list.names.items))
             faults.now bytes.old.items bytes.new.items) }
     {
         for (at, fault) in faults.iter().enumerate() {
@@ -89,14 +90,20 @@ impl<'a> PlacedLines<'a> {
         ensures list { self.new.list ≡ self.old.list }
         ensures text { self.new.cursor.text.now ≡ self.old.cursor.text.now }
         ensures told { OnOk result (PutsLinesThat
-            (IsToldInList self.old.file.now self.old.cursor.text.now (borrowed_names self.old.list.now.names.items) fault)
+            (IsToldInList self.old.file.now self.old.cursor.text.now (borrowed_names self.old.list.names.items) fault)
             bytes.old.items bytes.new.items) }
     {
         if fault.job == 0 {
-            let message = list_fault_message(alloc, self.file, self.list, fault.what)?;
+            let message = list_fault_message(alloc, self.file, &self.list, fault.what)?;
             return push_message_line(bytes, message.as_slice());
         }
-        let found = faults_of_job(alloc, self.list, self.jobs, fault, suggestion)?;
+        let found = faults_of_job(
+            alloc,
+            &self.list,
+            self.jobs.as_slice(),
+            fault,
+            suggestion,
+        )?;
         self.push_found_faults(alloc, bytes, fault.job, found.as_slice())
     }
 
@@ -114,7 +121,7 @@ impl<'a> PlacedLines<'a> {
         ensures list { self.new.list ≡ self.old.list }
         ensures text { self.new.cursor.text.now ≡ self.old.cursor.text.now }
         ensures told { OnOk result (PutsLinesThat
-            (IsPlacedMessage self.old.file.now self.old.cursor.text.now (borrowed_names self.old.list.now.names.items) number)
+            (IsPlacedMessage self.old.file.now self.old.cursor.text.now (borrowed_names self.old.list.names.items) number)
             bytes.old.items bytes.new.items) }
     {
         for fault in found {
@@ -136,25 +143,32 @@ impl<'a> PlacedLines<'a> {
         ensures list { self.new.list ≡ self.old.list }
         ensures text { self.new.cursor.text.now ≡ self.old.cursor.text.now }
         ensures message { IfOk result (λ message. BeginsWith
-            (placed_head self.old.file.now self.old.cursor.text.now (borrowed_names self.old.list.now.names.items) number
+            (placed_head self.old.file.now self.old.cursor.text.now (borrowed_names self.old.list.names.items) number
             fault.now.place) message.items) }
     {
         let place = self.cursor.place_at(fault.place);
         let mut message = Vec::new(alloc);
         push_text(&mut message, self.file)?;
-        push_spans(
-            &mut message,
-            &[
-                Span::Text(":"),
-                Span::Number(place.line as u64),
-                Span::Text(":"),
-                Span::Number(place.column as u64),
-            ],
-        )?;
-        push_job_number_and_name(&mut message, self.list, number)?;
+        push_line_and_column(&mut message, place)?;
+        push_job_number_and_name(&mut message, &self.list, number)?;
         message.extend_from_slice(fault.explanation.as_slice())?;
         Ok(message)
     }
+}
+
+fn push_line_and_column(message: &mut Vec<u8>, place: Place) -> Result<(), AllocError>
+    ensures { OnOk result (message.new.items ≡ message.old.items
+        ++ (codes ":" ++ (decimal place.line ++ (codes ":" ++ decimal place.column)))) }
+{
+    push_spans(
+        message,
+        &[
+            Span::Text(":"),
+            Span::Number(place.line as u64),
+            Span::Text(":"),
+            Span::Number(place.column as u64),
+        ],
+    )
 }
 
 // Appends a message as a line.

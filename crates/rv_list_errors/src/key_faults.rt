@@ -1,5 +1,7 @@
 //! What is wrong with the value of one key of a job, whatever its other keys are.
 
+ghost use Rattle.std.specs.Prelude.{◌<◌, IfSome};
+
 use crate::explanations::{
     BUDGET, EXPECT_CONSOLE, EXPECT_CONSOLE_FILE, EXPECT_EXIT, EXPECT_SIGNATURE, IMAGE, INPUT,
     INPUT_HEX, LOAD, MISALIGNED, NAME, PAIRS, SIGNATURE, Told, UNASKED, push_explanation,
@@ -46,7 +48,9 @@ impl Met {
 }
 
 // The place of a key among those that jobs have.
-fn place_of_key(name: &str) -> Option<usize> {
+fn place_of_key(name: &str) -> Option<usize>
+    ensures { IfSome result (λ place. place < 16) }
+{
     for at in 0..16 {
         if JOB_KEYS[at].0 == name {
             return Some(at);

@@ -19,7 +19,8 @@ pub(crate) struct Cursor<'a> {
 
 impl<'a> Cursor<'a> {
     pub(crate) fn new(text: &'a [u8]) -> Cursor<'a>
-        ensures { result.text.now ≡ text.now }
+        ensures text { result.text.now ≡ text.now }
+        ensures counted { result.counted ≡ 0 }
     {
         Cursor {
             text,
@@ -49,7 +50,7 @@ impl<'a> Cursor<'a> {
     fn moved_to(self, place: usize) -> Cursor<'a>
         requires later { self.counted ≤ place }
         requires within { place ≤ length self.text.now }
-        ensures text { result.text.now ≡ self.text.now }
+        ensures text { result.text.now ≡ self.entry.text.now }
         ensures counted { result.counted ≡ place }
     {
         let mut line = self.line;

@@ -75,7 +75,7 @@ fn note_job_texts<'a>(
     text: &'a str,
     jobs: &mut Vec<&'a str>,
 ) -> Result<(), ParseError>
-    ensures noted { UnlessMemory result (now_texts jobs.new.items
+    ensures { UnlessMemory result (now_texts jobs.new.items
         ≡ now_texts jobs.old.items ++ spec.jobs_of_text text.now) }
 {
     let mut here = skip_blank_lines(text);

@@ -9,5 +9,5 @@ invariant-loop-at l = record {
   list : l.self.list ≡ l.initial.self.list;
   text : l.self.cursor.text.now ≡ l.initial.self.cursor.text.now;
   puts : PutsEachFault (IsToldInList l.initial.self.file.now l.initial.self.cursor.text.now
-      (borrowed_names l.initial.self.list.now.names.items)) (take l.at l.faults) l.initial.bytes.items l.bytes.items;
+      (borrowed_names l.initial.self.list.names.items)) (take l.at l.faults) l.initial.bytes.items l.bytes.items;
 }

@@ -10,5 +10,5 @@ invariant-loop-fault l = record {
   list : l.self.list ≡ l.initial.self.list;
   text : l.self.cursor.text.now ≡ l.initial.self.cursor.text.now;
   puts : PutsSo (IsPlacedMessage l.initial.self.file.now l.initial.self.cursor.text.now
-      (borrowed_names l.initial.self.list.now.names.items) l.number) l.fault-index l.initial.bytes.items l.bytes.items;
+      (borrowed_names l.initial.self.list.names.items) l.number) l.fault-index l.initial.bytes.items l.bytes.items;
 }

@@ -1,5 +1,5 @@
 use Rattle.std.proofs.Common.{◌≡◌, ◌-◌, ◌∙◌, ◌<◌, ◌++◌, Some, ap, append-nil, arith}
-use Rattle.std.proofs.Common.{eqb-true, false, length, refl, rules, suc, sym, true}
+use Rattle.std.proofs.Common.{eqb-true, false, length, rules, suc, sym, true}
 use Rattle.rv_list_errors.specs.declared.headers.scan.Next.TheVariants.{Top}
 use Rattle.rv_list_errors.specs.JobPlaces.{jobs_from, jobs_of_text, step}
 use Rattle.rv_list_errors.specs.Steps.{now_texts}
@@ -18,8 +18,8 @@ steps-init c =
       ap (λ rest. noted ++ jobs_from (suc (length text)) Top rest) (sym c.skip_blank_lines-here.ensures.rest),
     )
 
-pub returns-in_err-is_job-clause-noted : goal.returns-in_err-is_job-clause-noted
-returns-in_err-is_job-clause-noted c =
+pub returns-in_err-is_job : goal.returns-in_err-is_job
+returns-in_err-is_job c =
     let l = c.steps in
     let noted = now_texts l.jobs.items in
     unless_err c.from_residual.result _ c.in_err-is_job.field-0.0 _ c.from_residual.ensures.1 (λ y k. k) λ refused.
@@ -61,8 +61,8 @@ steps-preserved c =
           (jobs_other l.invariant.1 l.what found.next here found.rest.now (omega (arith, l.invariant.2)) (omega arith) is),
     )
 
-pub returns-clause-noted : goal.returns-clause-noted
-returns-clause-noted c =
+pub returns : goal.returns
+returns c =
     let l = c.steps in
     let noted = now_texts l.jobs.items in
     let empty : length l.here.now ≡ 0 = eqb-true _ _ (sym c.is_empty.ensures ∙ c.steps-test.false) in

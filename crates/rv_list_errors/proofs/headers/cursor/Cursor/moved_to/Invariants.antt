@@ -1,4 +1,4 @@
-use Rattle.std.proofs.Common.{◌≡◌, ◌≤◌}
+use Rattle.std.proofs.Common.{◌≡◌}
 use Rattle.rv_list_errors.specs.Places.{column_at, line_at}
 use Rattle.rv_list_errors.proofs.headers.cursor.Cursor.moved_to.Given as goal
 
