@@ -7,10 +7,10 @@ use rv_text::{Span, text_of_spans};
 use std::alloc::{AllocError, Global};
 
 /// What is told of the line of a number in a text that was read at a path: what stands there, and what is wanted.
-pub(crate) fn refused_line_message(
+pub(crate) fn refused_line_message<'a>(
     alloc: Global,
-    path: &str,
-    text: &[u8],
+    path: &'a str,
+    text: &'a [u8],
     line: usize,
 ) -> Result<Vec<u8>, AllocError>
     ensures { IfOk result (λ told. IsRefusedLineMessage path.now line told.items) }
