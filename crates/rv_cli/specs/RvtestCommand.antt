@@ -24,6 +24,10 @@ number_rule name least most usual = record (option_rule name) {
   defaults = map (λ text. text.now) usual;
 }
 
+-- an option with the path of a file, which is not empty
+abbrev pub file_rule : Text → Rule
+file_rule name = record (option_rule name) { parser = Some value_parser.NonEmptyString }
+
 -- an option without a value
 abbrev pub flag_rule : Text → Rule
 flag_rule name = record (new_rule name) { long = Some name; action = Some SetTrue }
@@ -52,6 +56,7 @@ abbrev pub argument_rule : Argument → Rule
 argument_rule (argument.Word name value help) = word_rule name.now
 argument_rule (argument.Words name value help) = repeated_rule (word_rule name.now)
 argument_rule (argument.Option name value help) = option_rule name.now
+argument_rule (argument.File name help) = file_rule name.now
 argument_rule (argument.Again name value help) = repeated_rule (option_rule name.now)
 argument_rule (argument.Flag name letter help) = with_letter (flag_rule name.now) letter
 argument_rule (argument.Number name letter help bounds usual) =
@@ -121,12 +126,12 @@ with_machine app = with_rule (with_rule (with_rule app test_workers_rule)
 
 -- [--junit <FILE>] [--suite <NAME>] [--lenient]
 abbrev pub with_junit : App → App
-with_junit app = with_rule (with_rule (with_rule app (option_rule (codes "junit")))
+with_junit app = with_rule (with_rule (with_rule app (file_rule (codes "junit")))
     (option_rule (codes "suite"))) (flag_rule (codes "lenient"))
 
 -- [--report <FILE>] [--junit <FILE>] [--suite <NAME>] [--lenient]
 abbrev pub with_files : App → App
-with_files app = with_junit (with_rule app (option_rule (codes "report")))
+with_files app = with_junit (with_rule app (file_rule (codes "report")))
 
 -- [--verbose | --quiet] [--last <N>]
 abbrev pub with_results : App → App

@@ -20,8 +20,7 @@ use Rattle.rv_job_text.specs.Telling.{explanation_text}
 use Rattle.rv_jobs.specs.Plans.{AreKept, Planned, jobs_needed_for, one_more_times, paths_of, paths_used}
 use Rattle.rv_jobs.specs.Plans.{unreadable_count}
 use Rattle.rv_jobs.specs.declared.answers.Answer.{Answer}
-use Rattle.rv_list_errors.specs.FaultHeads.{fault_head}
-use Rattle.rv_list_errors.specs.Lines.{PutsFaultLines}
+use Rattle.rv_list_errors.specs.PlacedFaults.{IsToldFault, PutsEachFault}
 use Rattle.rv_lists.specs.JobList.{job_list_of}
 use Rattle.rv_lists.specs.ListFaults.{list_faults}
 use Rattle.rv_lists.specs.declared.error.JobError.{JobError}
@@ -76,12 +75,12 @@ pub record IsPlanCheckOf (known : Option FileContents) (path bytes output : List
   pub text : output ≡ check_text path bytes plan unread
   pub judged : status ≡ check_status (refused_job_count plan)
 
--- the output has a line for each fault, of which there is one at least, that begins with the path and with the job that the
--- fault is of, and then the status is 2; a list without faults has the output and the status of a plan
+-- of each bad job the output has a line or more, each of which begins with the path, a line and a column of the text, and the job's
+-- number and name, and then the status is 2; a list without faults has the output and the status of a plan
 abbrev pub IsCheckOf : Option FileContents → List JobError → List ℕ → List ℕ → List ℕ → ℕ → Type 0
 IsCheckOf known [] path bytes output status = IsPlanCheckOf known path bytes output status
 IsCheckOf known (fault ∷ faults) path bytes output status =
-    PutsFaultLines (fault_head path bytes) (fault ∷ faults) [] output × (status ≡ 2)
+    PutsEachFault (IsToldFault path bytes) (fault ∷ faults) [] output × (status ≡ 2)
 
 -- the same of the list at the path that words name
 pub record IsCheckAt (known : Option FileContents) (words : CheckAsked) (output : List ℕ) (status : ℕ) : Type 0 where
