@@ -100,10 +100,8 @@ fn explain_planned_job(
         verbosity: Verbosity::All,
         last: None,
     };
-    let way = WayToEnd {
-        last,
-        budget_use: budget_use_at(alloc, plan, place, &row)?,
-    };
+    let budget_use = budget_use_at(alloc, plan, place, &row)?;
+    let way = WayToEnd { last, budget_use };
     let mut text = Vec::new(alloc);
     telling.push_job_explanation(alloc, place, &row, &way, &mut text)?;
     let status = passing_status(has_passed(Rule::Strict, &row));
