@@ -23,11 +23,6 @@ abbrev pub path_number_message : List ℕ → List ℕ → ℕ → List ℕ → 
 path_number_message path place number what =
     codes "rvtest: " ++ printable_text path ++ place ++ decimal number ++ what
 
--- the line of a number, which no report has there, and then words
-abbrev pub IsRefusedLineMessage : List ℕ → ℕ → List ℕ → Type 0
-IsRefusedLineMessage path line told = (words : List ℕ) × (told
-    ≡ path_number_message path (codes ":") line (codes ": no report has this line here: " ++ words))
-
 -- why a command ended before its work was done
 abbrev pub stop_message : Stop → List ℕ
 stop_message (stop.Told lines text) = text.items

@@ -1,5 +1,5 @@
 -- The statuses of commands that end before their work is done, and what these commands tell.
-use Rattle.std.specs.Prelude.{◌≡◌, ◌⊎◌, ◌<◌, ◌+◌, ℕ, List, [], ◌∷◌, IfSome, IsSomeAnd, MatchBool, Bool, true, false, Option, None, Result, Ok, Err, Vec, codes, length}
+use Rattle.std.specs.Prelude.{◌≡◌, ◌⊎◌, ◌<◌, ◌+◌, ℕ, Bool, true, List, [], ◌∷◌, IfSome, IsSomeAnd, Option, None, Result, Ok, Err, Vec, codes, length}
 use Rattle.std.specs.declared.alloc.AllocError.{AllocError}
 use Rattle.std.specs.declared.alloc.Global.{Global}
 use Rattle.std.specs.declared.io.ErrorKind.{ErrorKind}
@@ -11,17 +11,14 @@ use Rattle.rv_files.specs.declared.file_error.FileError.TheVariants as file
 use Rattle.rv_list_errors.specs.FaultHeads.{fault_head}
 use Rattle.rv_list_errors.specs.Lines.{PutsFaultLines}
 use Rattle.rv_lists.specs.JobList.{job_list_of}
-use Rattle.rv_lists.specs.ListFaults.{list_faults}
 use Rattle.rv_lists.specs.declared.error.JobError.{JobError}
-use Rattle.rv_lists.specs.declared.error.What.{What}
-use Rattle.rv_lists.specs.declared.error.What.TheVariants as what
 use Rattle.rv_report.specs.Differences.{count_of_line_feeds}
 use Rattle.rv_report.specs.LeastLine.{BeginsReport, IsLeastRefusedLine, first_lines}
 use Rattle.rv_command.specs.declared.stop.Lines.{Lines}
 use Rattle.rv_command.specs.declared.stop.Lines.TheVariants as lines
 use Rattle.rv_command.specs.declared.stop.Stop.{Stop}
 use Rattle.rv_command.specs.declared.stop.Stop.TheVariants as why
-use Rattle.rv_command.specs.Messages.{IsRefusedLineMessage, path_message, stop_message}
+use Rattle.rv_command.specs.Messages.{path_message, path_number_message, stop_message}
 use Rattle.rv_command.specs.Texts.{IsTextAt}
 
 -- the status of lines that end a command: 2 where what is asked for is refused, 3 where the system failed
@@ -106,31 +103,16 @@ IsListFaultStop path text stop = (stop ≡ why.OutOfMemory)
 abbrev pub IsCutOffStop : List ℕ → Stop → Type 0
 IsCutOffStop path stop = IsStop 2 (path_message path (codes "the report is cut off")) stop
 
--- a fault of a document that has jobs
-abbrev pub tells_of_jobs : What → Bool
-tells_of_jobs what.NotToml = false
-tells_of_jobs what.NoJobs = false
-tells_of_jobs _ = true
-
--- by the faults of a text: it is a document with jobs, be they good or bad
-abbrev pub are_faults_of_list : List JobError → Bool
-are_faults_of_list [] = true
-are_faults_of_list (fault ∷ faults) = tells_of_jobs fault.what
-
-abbrev pub is_job_list : List ℕ → Bool
-is_job_list bytes = are_faults_of_list (list_faults bytes)
-
--- no report has a line there: a list is told to be one, and of another text the line is told
-abbrev pub IsLineStop : List ℕ → List ℕ → ℕ → Stop → Type 0
-IsLineStop path bytes line stop = MatchBool (is_job_list bytes)
-    (IsStop 2 (path_message path (codes "a job list, and no report")) stop)
-    ((told : List ℕ) × IsRefusedLineMessage path line told × IsStop 2 told stop)
+-- no report has a line there
+abbrev pub IsLineStop : List ℕ → ℕ → Stop → Type 0
+IsLineStop path line stop =
+    IsStop 2 (path_number_message path (codes ":") line (codes ": no report has this line here\n")) stop
 
 -- a text is no report: the least line is told that no report begins with; or that the report is cut off, and then its whole
 -- lines begin some report
 abbrev pub IsReportFaultTold : List ℕ → List ℕ → Stop → Type 0
 IsReportFaultTold path bytes stop =
-    ((line : ℕ) × IsLeastRefusedLine line bytes × IsLineStop path bytes line stop)
+    ((line : ℕ) × IsLeastRefusedLine line bytes × IsLineStop path line stop)
     ⊎ (BeginsReport (first_lines (count_of_line_feeds bytes) bytes) × IsCutOffStop path stop)
 
 -- memory was wanting, or a fault of the report is told; a beginning of a report is told as cut off

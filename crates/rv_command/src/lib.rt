@@ -6,7 +6,6 @@
 mod files;
 mod list;
 mod messages;
-mod refused_line;
 mod saved_report;
 mod status;
 mod stop;

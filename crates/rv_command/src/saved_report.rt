@@ -2,17 +2,15 @@
 
 ghost use Rattle.std.specs.Prelude.{◌≡◌, ◌≤◌, IfErr, IfOk, length};
 ghost use Rattle.rv_base.specs.Limits.{most_jobs};
-ghost use Rattle.rv_command.specs.Stops.{IsLineStop, IsReportFaultStop, IsReportUnreadStop, are_faults_of_list, is_job_list};
+ghost use Rattle.rv_command.specs.Stops.{IsLineStop, IsReportFaultStop, IsReportUnreadStop};
 ghost use Rattle.rv_command.specs.Texts.{IsReportAt, IsReportText};
 
 use crate::files::read_file;
-use crate::messages::path_message;
-use crate::refused_line::refused_line_message;
+use crate::messages::{path_message, path_number_message};
 use crate::stop::Stop;
 use rv_files::Inputs;
-use rv_lists::{JobError, What, read_faults};
 use rv_report::{ReadError, SavedReport, read_report};
-use std::alloc::{AllocError, Global};
+use std::alloc::Global;
 
 /// The report at a path: a whole one, or that of a part of a list.
 pub fn read_report_file<D: Inputs>(
@@ -41,37 +39,13 @@ pub fn parse_report(alloc: Global, path: &str, text: &[u8]) -> Result<SavedRepor
             let told = path_message(alloc, path, "the report is cut off");
             Err(Stop::of_refusal(told))
         }
-        Err(ReadError::Line(line)) => Err(report_line_stop(alloc, path, text, line)),
+        Err(ReadError::Line(line)) => Err(report_line_stop(alloc, path, line)),
     }
 }
 
-// No report has the line of a number in a text: it is shown, but of a job list it is told that it is one.
-fn report_line_stop(alloc: Global, path: &str, text: &[u8], line: usize) -> Stop
-    ensures { IsLineStop path.now text.now line result }
+fn report_line_stop(alloc: Global, path: &str, line: usize) -> Stop
+    ensures { IsLineStop path.now line result }
 {
-    match is_job_list(alloc, text) {
-        Ok(true) => {
-            let told = path_message(alloc, path, "a job list, and no report");
-            Stop::of_refusal(told)
-        }
-        Ok(false) => Stop::of_refusal(refused_line_message(alloc, path, text, line)),
-        Err(error) => Stop::from(error),
-    }
-}
-
-// Whether a text is a list of jobs, be they good or bad.
-fn is_job_list(alloc: Global, text: &[u8]) -> Result<bool, AllocError>
-    ensures { IfOk result (λ is_list. is_list ≡ is_job_list text.now) }
-{
-    let faults = read_faults(alloc, text)?;
-    Ok(are_faults_of_list(faults.as_slice()))
-}
-
-fn are_faults_of_list(faults: &[JobError]) -> bool
-    ensures { result ≡ are_faults_of_list faults.now }
-{
-    match faults.first() {
-        Some(fault) => !matches!(fault.what, What::NotToml | What::NoJobs),
-        None => true,
-    }
+    let what = ": no report has this line here\n";
+    Stop::of_refusal(path_number_message(alloc, path, ":", line, what))
 }

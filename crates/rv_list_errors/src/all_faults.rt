@@ -97,13 +97,7 @@ impl<'a> PlacedLines<'a> {
             let message = list_fault_message(alloc, self.file, &self.list, fault.what)?;
             return push_message_line(bytes, message.as_slice());
         }
-        let found = faults_of_job(
-            alloc,
-            &self.list,
-            self.jobs.as_slice(),
-            fault,
-            suggestion,
-        )?;
+        let found = faults_of_job(alloc, &self.list, self.jobs.as_slice(), fault, suggestion)?;
         self.push_found_faults(alloc, bytes, fault.job, found.as_slice())
     }
 

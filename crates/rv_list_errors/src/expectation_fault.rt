@@ -46,7 +46,8 @@ fn console_or_end_explanation(table: &Table) -> Told {
 }
 
 /// What is told of a console that is expected twice.
-pub(crate) const BOTH_CONSOLES: &str = "expect_console and expect_console_file both stand: one of them is taken";
+pub(crate) const BOTH_CONSOLES: &str =
+    "expect_console and expect_console_file both stand: one of them is taken";
 
 /// Of an end that is none: an exit is expected by a key of its own.
 pub(crate) fn end_explanation(table: &Table) -> Told {

@@ -2,11 +2,11 @@
 
 ghost use Rattle.std.specs.Prelude.{◌<◌, IfSome};
 
+use crate::expectation_fault::{BOTH_CONSOLES, end_explanation};
 use crate::explanations::{
     BUDGET, EXPECT_CONSOLE, EXPECT_CONSOLE_FILE, EXPECT_EXIT, EXPECT_SIGNATURE, IMAGE, INPUT,
     INPUT_HEX, LOAD, MISALIGNED, NAME, PAIRS, SIGNATURE, Told, UNASKED, push_explanation,
 };
-use crate::expectation_fault::{BOTH_CONSOLES, end_explanation};
 use crate::job_fault::{BOTH_INPUTS, are_hex_digit_pairs, isa_explanation, push_taken_name};
 use crate::keys::{push_unknown_job_key_of, push_unknown_region_key, region_with_unknown_key};
 use crate::kinds::{is_of_toml_kind, push_value_of_wrong_kind};

@@ -97,7 +97,12 @@ fn is_other_than_boolean(value: Option<&Value>) -> bool {
 const NUMBER: &str = "a whole number is wanted";
 
 /// Appends the value of a key, which is of another kind than this.
-pub(crate) fn push_value_of_wrong_kind(message: &mut Message, table: &Table, key: &str, kind: Kind) {
+pub(crate) fn push_value_of_wrong_kind(
+    message: &mut Message,
+    table: &Table,
+    key: &str,
+    kind: Kind,
+) {
     match kind {
         Kind::Text => push_text_of_wrong_kind(message, table, key),
         Kind::Number => push_wanted_value(message, table, key, NUMBER),

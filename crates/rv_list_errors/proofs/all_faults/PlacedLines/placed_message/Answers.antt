@@ -18,6 +18,6 @@ returns-clause-message c =
         c.place_at-place.ensures.line,
         c.place_at-place.ensures.column,
       )
-      (head_in_parts self.file.now (place_text fault.place self.cursor.text.now)
-      (job_number_and_name (borrowed_names self.list.names.items) c.args.number) fault.explanation.items),
+          (head_in_parts self.file.now (place_text fault.place self.cursor.text.now)
+          (job_number_and_name (borrowed_names self.list.names.items) c.args.number) fault.explanation.items),
     )
