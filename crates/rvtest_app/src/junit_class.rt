@@ -8,7 +8,7 @@ use std::path::Path;
 
 /// The name of the suite: the one that is asked for, else by the path of a file.
 pub(crate) fn suite_name<'a>(asked: Option<&'a str>, path: &'a str) -> &'a str
-    ensures { result.now ≡ suite_name (optional_text asked) path.now }
+    ensures { result.now ≡ suite_name (optional_text asked.entry) path.entry.now }
 {
     match asked {
         Some(name) => name,
