@@ -156,8 +156,12 @@ module _ (values : HartValues) (begin place : ℕ) (s t : State) (here : t ≡ s
     found = λ p l b. refl;
   }
   with_values (Some a) l q h known = record {
-    some = (later a.first q known.some.0, here_now q h, (let first = known.some.0.before in omega arith),
-        known.some.3);
+    some = (
+      later a.first q known.some.0,
+      here_now q h,
+      (let first = known.some.0.before in omega arith),
+      known.some.3,
+    );
     found = λ p l b. refl;
   }
 
