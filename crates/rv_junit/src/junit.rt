@@ -50,7 +50,11 @@ fn push_steps_properties(alloc: Global, text: &mut String, rows: &[Row]) -> Resu
     text.push_str("</properties>\n")
 }
 
-fn push_each_steps_property(alloc: Global, text: &mut String, rows: &[Row]) -> Result<(), AllocError>
+fn push_each_steps_property(
+    alloc: Global,
+    text: &mut String,
+    rows: &[Row],
+) -> Result<(), AllocError>
     ensures { OnOk result (string_bytes text.new ≡ string_bytes text.old ++ flat_map steps_property rows.now) }
 {
     for row in rows {
