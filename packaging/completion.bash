@@ -2,14 +2,14 @@
 # What bash offers behind `rvtest` and `rvfleet`: their commands, the options of each, files, and the names of a list's jobs.
 _rvfleet_options() {
     case "$1 $2" in
-        'rvtest run') echo '--only --match --exclude --failed --shard --stamp --workers --group --root --report --junit --lenient --verbose --quiet --last --help' ;;
+        'rvtest run') echo '--only --match --exclude --failed --shard --stamp --workers --group --root --report --junit --suite --lenient --verbose --quiet --last --help' ;;
         'rvtest list') echo '--only --match --exclude --failed --lenient --help' ;;
         'rvtest explain') echo '--last --root --help' ;;
         'rvtest console') echo '--root --help' ;;
         'rvtest check') echo '--root --help' ;;
-        'rvtest merge') echo '--report --junit --lenient --help' ;;
+        'rvtest merge') echo '--report --junit --suite --lenient --help' ;;
         'rvtest diff') echo '--steps --slower --help' ;;
-        'rvtest show') echo '--junit --lenient --help' ;;
+        'rvtest show') echo '--junit --suite --lenient --help' ;;
         'rvfleet raw') echo '--budget --help' ;;
         'rvfleet one') echo '--budget --input-hex --help' ;;
         'rvfleet run') echo '--workers --group --help' ;;
@@ -42,7 +42,7 @@ _rvfleet() {
         mapfile -t COMPREPLY < <(compgen -W "$(_rvfleet_options "${1##*/}" "${COMP_WORDS[1]}")" -- "$word")
     elif [[ " --root " = *" $before "* ]]; then
         mapfile -t COMPREPLY < <(compgen -d -- "$word")
-    elif [[ " --only " = *" $before "* ]] || _rvfleet_is_named; then
+    elif [[ " --only --suite " = *" $before "* ]] || _rvfleet_is_named; then
         mapfile -t COMPREPLY < <(compgen -W "$(_rvfleet_jobs)" -- "$word")
     elif [[ " --budget --exclude --group --input-hex --last --match --shard --slower --stamp --workers -j " != *" $before "* ]]; then
         mapfile -t COMPREPLY < <(compgen -f -- "$word")

@@ -45,6 +45,7 @@ _rvfleet_behind_rvtest() {
                 '--root[Takes the paths in the list from this folder]:DIR:_directories' \
                 '--report[Writes the report to this file; - is standard output]:FILE:_files' \
                 '--junit[Writes JUnit XML to this file; - is standard output]:FILE:_files' \
+                '--suite[Names the suite in JUnit XML, in place of the file]:NAME:_rvfleet_jobs' \
                 '--lenient[Counts as failed only what misses an expectation]' \
                 ''{-v,--verbose}'[Shows the jobs that pass, too; not beside --quiet]' \
                 ''{-q,--quiet}'[Shows the last line alone; not beside --verbose]' \
@@ -77,6 +78,7 @@ _rvfleet_behind_rvtest() {
         merge) _arguments \
                 '--report[Writes the report to this file; - is standard output]:FILE:_files' \
                 '--junit[Writes JUnit XML to this file; - is standard output]:FILE:_files' \
+                '--suite[Names the suite in JUnit XML, in place of the file]:NAME:_rvfleet_jobs' \
                 '--lenient[Counts as failed only what misses an expectation]' \
                 '--help[Print help]' \
                 '*:PART:_files' ;;
@@ -88,6 +90,7 @@ _rvfleet_behind_rvtest() {
                 ':NEW:_files' ;;
         show) _arguments \
                 '--junit[Writes JUnit XML to this file; - is standard output]:FILE:_files' \
+                '--suite[Names the suite in JUnit XML, in place of the file]:NAME:_rvfleet_jobs' \
                 '--lenient[Counts as failed only what misses an expectation]' \
                 '--help[Print help]' \
                 ':REPORT:_files' ;;
