@@ -45,11 +45,12 @@ def check_map(row):
     regions, told = row["regions"], row["told"]
     base = int(regions.partition("+")[0] or "0", 16) & -2
     row.write("image.elf", images.elf(base, [(base, images.numbers("0001"))]))
-    row.write("list.toml", f"job = [{{name = 'a', image = 'image.elf', budget = 1{keys_of_map(regions)}}}]\n")
+    text = f"job = [{{name = 'a', image = 'image.elf', budget = 1{keys_of_map(regions)}}}]\n"
+    row.write("list.toml", text)
     if told == "good":
         row.wants(["check", "list.toml"], 0, "1 job, none refused\n")
     else:
-        row.wants(["check", "list.toml"], 2, f"list.toml:1: job 1 (a): {told}\n")
+        row.wants(["check", "list.toml"], 2, f"list.toml:1:{text.index('region') + 1}: job 1 (a): {told}\n")
 
 
 # ---- programs
