@@ -72,7 +72,7 @@ image = "a.elf"
 budget = 1_0
 END
 
-# A list with two faults, and what is said of them.
+# A list with three faults, and what is said of them.
 cat >"$work/faulty.toml" <<'END'
 [[job]]
 name = "none"
@@ -85,8 +85,9 @@ image = "a.elf"
 Budget = 3
 END
 {
-    echo 'faulty.toml:1: job 1 (none): budget = 0: a whole number from 1 to 1000000000 is wanted'
-    echo 'faulty.toml:6: job 2 (misspelt): unknown key "Budget": the nearest key is "budget"'
+    echo 'faulty.toml:4:1: job 1 (none): budget = 0: a whole number from 1 to 1000000000 is wanted'
+    echo 'faulty.toml:6:1: job 2 (misspelt): budget is absent: a whole number from 1 to 1000000000 is wanted'
+    echo 'faulty.toml:9:1: job 2 (misspelt): unknown key "Budget": the nearest key is "budget"'
 } >"$work/faulty.checked"
 
 # A job that expects another exit code than it has.
