@@ -42,9 +42,9 @@ _rvfleet() {
         mapfile -t COMPREPLY < <(compgen -W "$(_rvfleet_options "${1##*/}" "${COMP_WORDS[1]}")" -- "$word")
     elif [[ " --root " = *" $before "* ]]; then
         mapfile -t COMPREPLY < <(compgen -d -- "$word")
-    elif [[ " --only --suite " = *" $before "* ]] || _rvfleet_is_named; then
+    elif [[ " --only " = *" $before "* ]] || _rvfleet_is_named; then
         mapfile -t COMPREPLY < <(compgen -W "$(_rvfleet_jobs)" -- "$word")
-    elif [[ " --budget --exclude --group --input-hex --last --match --shard --slower --stamp --workers -j " != *" $before "* ]]; then
+    elif [[ " --budget --exclude --group --input-hex --last --match --shard --slower --stamp --suite --workers -j " != *" $before "* ]]; then
         mapfile -t COMPREPLY < <(compgen -f -- "$word")
     fi
 }

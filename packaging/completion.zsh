@@ -45,7 +45,7 @@ _rvfleet_behind_rvtest() {
                 '--root[Takes the paths in the list from this folder]:DIR:_directories' \
                 '--report[Writes the report to this file; - is standard output]:FILE:_files' \
                 '--junit[Writes JUnit XML to this file; - is standard output]:FILE:_files' \
-                '--suite[Names the suite in JUnit XML, in place of the file]:NAME:_rvfleet_jobs' \
+                '--suite[Names the suite in JUnit XML, in place of the file]:NAME: ' \
                 '--lenient[Counts as failed only what misses an expectation]' \
                 ''{-v,--verbose}'[Shows the jobs that pass, too; not beside --quiet]' \
                 ''{-q,--quiet}'[Shows the last line alone; not beside --verbose]' \
@@ -78,7 +78,7 @@ _rvfleet_behind_rvtest() {
         merge) _arguments \
                 '--report[Writes the report to this file; - is standard output]:FILE:_files' \
                 '--junit[Writes JUnit XML to this file; - is standard output]:FILE:_files' \
-                '--suite[Names the suite in JUnit XML, in place of the file]:NAME:_rvfleet_jobs' \
+                '--suite[Names the suite in JUnit XML, in place of the file]:NAME: ' \
                 '--lenient[Counts as failed only what misses an expectation]' \
                 '--help[Print help]' \
                 '*:PART:_files' ;;
@@ -90,7 +90,7 @@ _rvfleet_behind_rvtest() {
                 ':NEW:_files' ;;
         show) _arguments \
                 '--junit[Writes JUnit XML to this file; - is standard output]:FILE:_files' \
-                '--suite[Names the suite in JUnit XML, in place of the file]:NAME:_rvfleet_jobs' \
+                '--suite[Names the suite in JUnit XML, in place of the file]:NAME: ' \
                 '--lenient[Counts as failed only what misses an expectation]' \
                 '--help[Print help]' \
                 ':REPORT:_files' ;;

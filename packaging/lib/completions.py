@@ -7,6 +7,10 @@ FOLDERS = ("DIR",)
 FREE_WORDS = ("REGEX", "K/N", "TEXT", "N", "H")
 
 
+# Options whose value is a name of the user's own, and not a job's.
+FREE_NAMES = ("suite",)
+
+
 def kind_of(value):
     """What is offered for a value: `job`, `folder`, `none` or `file`."""
     if value in JOB_NAMES:
@@ -14,6 +18,11 @@ def kind_of(value):
     if value in FOLDERS:
         return "folder"
     return "none" if value in FREE_WORDS else "file"
+
+
+def kind_of_option(option):
+    """What is offered for the value of an option."""
+    return "none" if option.name in FREE_NAMES else kind_of(option.value)
 
 
 # ---- bash
@@ -24,7 +33,7 @@ def options_with(kind):
     for program in PROGRAMS:
         for command in commands_of(program):
             for option in command.options:
-                if option.value is not None and kind_of(option.value) == kind:
+                if option.value is not None and kind_of_option(option) == kind:
                     found |= {f"--{option.name}"} | ({f"-{option.short}"} if option.short else set())
     return " ".join(sorted(found))
 
@@ -59,7 +68,7 @@ def zsh_quoted(text):
 def zsh_option(option):
     again = "*" if option.may_come_again else ""
     names = f"{{-{option.short},--{option.name}}}" if option.short else f"--{option.name}"
-    value = "" if option.value is None else f":{zsh_quoted(option.value)}:{ZSH_ACTIONS[kind_of(option.value)]}"
+    value = "" if option.value is None else f":{zsh_quoted(option.value)}:{ZSH_ACTIONS[kind_of_option(option)]}"
     told = f"[{zsh_quoted(option.text)}]{value}"
     if option.short:
         return f"'{again}'{names}'{told}'"
@@ -119,7 +128,7 @@ def fish_command(command):
     seen = f"complete -c {command.program} -n '__fish_seen_subcommand_from {command.name}'"
     for option in command.options:
         short = f" -s {option.short}" if option.short else ""
-        value = "" if option.value is None else FISH_VALUES[kind_of(option.value)]
+        value = "" if option.value is None else FISH_VALUES[kind_of_option(option)]
         lines.append(f"{seen}{short} -l {option.name}{value} -d '{fish_quoted(option.text)}'")
     if [name for name, _ in command.arguments] == ["LIST", "NAME"]:
         lines.append(f"{seen} -a '(__rvfleet_jobs)'")
