@@ -1,0 +1,5 @@
+pub mod Ends
+pub mod Accepted
+pub mod Claims
+pub mod Fates
+pub mod BasicString
