@@ -3,3 +3,4 @@ pub mod Accepted
 pub mod Claims
 pub mod Fates
 pub mod BasicString
+pub mod Meant

@@ -10,9 +10,11 @@ mod claims;
 mod ends;
 mod fates;
 mod law;
+mod meant;
 
 pub use basic_string::push_basic_string;
 pub use claims::{Claim, push_claims};
 pub use ends::{Acceptance, is_accepted_end};
 pub use fates::{Fate, fate_of_file};
+pub use meant::are_meant_jobs;
 pub use law::accepted_jobs_meet_their_expectations;
