@@ -3,4 +3,5 @@ pub mod Accepted
 pub mod Claims
 pub mod Fates
 pub mod BasicString
+pub mod Edits
 pub mod Meant

@@ -7,6 +7,7 @@
 
 mod basic_string;
 mod claims;
+mod edits;
 mod ends;
 mod fates;
 mod law;
@@ -14,6 +15,7 @@ mod meant;
 
 pub use basic_string::push_basic_string;
 pub use claims::{Claim, push_claims};
+pub use edits::{Edit, edited_text};
 pub use ends::{Acceptance, is_accepted_end};
 pub use fates::{Fate, fate_of_file};
 pub use meant::are_meant_jobs;
