@@ -124,8 +124,11 @@ def check_lines(row):
 
 
 def fronts(out):
-    """What stands before the name of each job, or before what is wrong with it; of a line that tells of no job nothing."""
-    return b"\n".join(re.findall(rb"^f\.toml:[0-9]+: job [0-9]+", out, re.MULTILINE))
+    """The line and the number of each job, from the first line that tells of it; of a line that tells of no job nothing."""
+    places = {}
+    for line, number in re.findall(rb"^f\.toml:([0-9]+):[0-9]+: job ([0-9]+)", out, re.MULTILINE):
+        places.setdefault(number, b"f.toml:%s: job %s" % (line, number))
+    return b"\n".join(places.values())
 
 
 FORMS = {

@@ -134,7 +134,8 @@ def check_escaped(row):
     """What stands for the bytes of a console, which are in hexadecimal digits."""
     row.write("report", report_bytes(f"$1 a, console {row['digits']}\ndone 1"))
     case = f'<testcase classname="report" name="a">\n<system-out>5 steps\n{row["written"]}</system-out>\n</testcase>'
-    wants_suite(row, "report", [], "report", f'tests="1" failures="0" errors="0">\n{case}')
+    steps = '<properties>\n<property name="steps.a" value="5"/>\n</properties>'
+    wants_suite(row, "report", [], "report", f'tests="1" failures="0" errors="0">\n{steps}\n{case}')
 
 
 def wants_suite(row, report, words, written, text):

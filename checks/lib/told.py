@@ -107,19 +107,24 @@ def check_reason(row):
 
 
 def check_fault(row):
-    """What is told of a list, behind a front, or nothing of a good one."""
+    """What is told of a list, behind a front where a line has none of its own, or nothing of a good one."""
     name = row["file"] or "f.toml"
     row.write(name, row["list"])
     if not row["told"]:
         row.write("i", images.image("one"))
         row.wants(["check", name], 0, "1 job, none refused\n")
         return
-    front = row["front"]
-    told = lines(*(f"{front} {line}" if front else line for line in lines_in(row["told"])))
+    told = lines(*(with_front(row["front"], line) for line in lines_in(row["told"])))
     row.wants(["check", name], 2, told)
-    first = told.partition("\n")[0] + "\n"
+    first = lines(with_front(row["front"], row["run"] or lines_in(row["told"])[0]))
+    first = re.sub(r"^(.*?:[0-9]+):[0-9]+(: job )", r"\1\2", first)
     row.wants(["run", name], 2, "", first)
     row.wants(["run", name, "--report", "r"], 2, "", first)
+
+
+def with_front(front, line):
+    """A line behind a front, which it may have of its own."""
+    return line if not front or line.startswith("f.toml:") else f"{front} {line}"
 
 
 # ---- bytes
@@ -217,7 +222,7 @@ FORMS = {
     "explained": Form(check_explained, "command last keys told last_line"),
     "whole": Form(check_whole, "words list status told"),
     "reasons": Form(check_reason, "told keys image refusal"),
-    "faults": Form(check_fault, "file front list told"),
+    "faults": Form(check_fault, "file front list told run"),
     "shown": Form(check_shown, "digits shown"),
     "values": Form(check_value, "value shown"),
     "consoles": Form(check_console, "console shown"),

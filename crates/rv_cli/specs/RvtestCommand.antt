@@ -24,6 +24,10 @@ number_rule name least most usual = record (option_rule name) {
   defaults = map (λ text. text.now) usual;
 }
 
+-- an option with the path of a file, which is not empty
+abbrev pub file_rule : Text → Rule
+file_rule name = record (option_rule name) { parser = Some value_parser.NonEmptyString }
+
 -- an option without a value
 abbrev pub flag_rule : Text → Rule
 flag_rule name = record (new_rule name) { long = Some name; action = Some SetTrue }
@@ -52,6 +56,7 @@ abbrev pub argument_rule : Argument → Rule
 argument_rule (argument.Word name value help) = word_rule name.now
 argument_rule (argument.Words name value help) = repeated_rule (word_rule name.now)
 argument_rule (argument.Option name value help) = option_rule name.now
+argument_rule (argument.File name help) = file_rule name.now
 argument_rule (argument.Again name value help) = repeated_rule (option_rule name.now)
 argument_rule (argument.Flag name letter help) = with_letter (flag_rule name.now) letter
 argument_rule (argument.Number name letter help bounds usual) =
@@ -119,10 +124,14 @@ abbrev pub with_machine : App → App
 with_machine app = with_rule (with_rule (with_rule app test_workers_rule)
     group_rule) (option_rule (codes "root"))
 
--- [--report <FILE>] [--junit <FILE>] [--lenient]
+-- [--junit <FILE>] [--suite <NAME>] [--lenient]
+abbrev pub with_junit : App → App
+with_junit app = with_rule (with_rule (with_rule app (file_rule (codes "junit")))
+    (option_rule (codes "suite"))) (flag_rule (codes "lenient"))
+
+-- [--report <FILE>] [--junit <FILE>] [--suite <NAME>] [--lenient]
 abbrev pub with_files : App → App
-with_files app = with_rule (with_rule (with_rule app (option_rule (codes "report")))
-    (option_rule (codes "junit"))) (flag_rule (codes "lenient"))
+with_files app = with_junit (with_rule app (file_rule (codes "report")))
 
 -- [--verbose | --quiet] [--last <N>]
 abbrev pub with_results : App → App
@@ -158,7 +167,7 @@ console_app = with_rule (with_rule (app_of_list (codes "console")) (word_rule (c
 abbrev pub check_app : App
 check_app = with_rule (app_of_list (codes "check")) (option_rule (codes "root"))
 
--- merge <PART>.. [--report <FILE>] [--junit <FILE>] [--lenient]
+-- merge <PART>.. [--report <FILE>] [--junit <FILE>] [--suite <NAME>] [--lenient]
 abbrev pub merge_app : App
 merge_app = with_files (with_rule (new_app (codes "merge")) parts_rule)
 
@@ -171,10 +180,9 @@ abbrev pub diff_app : App
 diff_app = with_rule (with_rule (with_rule (with_rule (new_app (codes "diff")) (word_rule (codes "old")))
     (word_rule (codes "new"))) (flag_rule (codes "steps"))) (number_rule (codes "slower") (pos 0) (pos most_slower) [])
 
--- show <REPORT> [--junit <FILE>] [--lenient]
+-- show <REPORT> [--junit <FILE>] [--suite <NAME>] [--lenient]
 abbrev pub show_app : App
-show_app = with_rule (with_rule (with_rule (new_app (codes "show")) (word_rule (codes "report")))
-    (option_rule (codes "junit"))) (flag_rule (codes "lenient"))
+show_app = with_junit (with_rule (new_app (codes "show")) (word_rule (codes "report")))
 
 -- a subcommand is required, none is called help, and there is a version
 abbrev pub test_top_app : App

@@ -19,6 +19,7 @@ use Rattle.rv_cli.specs.declared.rvtest.requests.Asked.TheVariants as asked
 use Rattle.rv_cli.specs.declared.rvtest.run.RunAsked.{RunAsked}
 use Rattle.rv_cli.specs.declared.rvtest.explain.ExplainAsked.{ExplainAsked}
 use Rattle.rv_cli.specs.declared.rvtest.merge.MergeAsked.{MergeAsked}
+use Rattle.rv_cli.specs.declared.rvtest.show.ShowAsked.{ShowAsked}
 use Rattle.std.specs.Borrow.{Bor}
 
 -- ---- what words ask for
@@ -37,6 +38,7 @@ pub record RunWords : Type 0 where
   pub root : Option Text
   pub report : Option Text
   pub junit : Option Text
+  pub suite : Option Text
   pub lenient : Bool
   pub verbose : Bool
   pub quiet : Bool
@@ -54,12 +56,19 @@ pub record MergeWords : Type 0 where
   pub parts : List Text
   pub report : Option Text
   pub junit : Option Text
+  pub suite : Option Text
+  pub lenient : Bool
+
+-- a report that is to be shown, with the path of a JUnit file, by the lenient rule or the strict one
+pub record ShowWords : Type 0 where
+  pub report : Text
+  pub junit : Option Text
+  pub suite : Option Text
   pub lenient : Bool
 
 -- to run jobs; to say which jobs a run of these words would run; to explain one; to write the console of one, whose paths are taken
 -- from a folder; to say all that is wrong with a list, whose paths are taken from a
--- folder; to merge parts; to compare two reports, with their steps or without, or by which jobs are slower; to show one, with
--- the path of a JUnit file, by the lenient rule or the strict one
+-- folder; to merge parts; to compare two reports, with their steps or without, or by which jobs are slower; to show one
 pub data Words : Type 0 where
   run : RunWords → Words
   names : RunWords → Words
@@ -68,7 +77,7 @@ pub data Words : Type 0 where
   check : Text → Option Text → Words
   merge : MergeWords → Words
   diff : Text → Text → Bool → Option ℕ → Words
-  show : Text → Option Text → Bool → Words
+  show : ShowWords → Words
 
 -- what the values of `run` ask for, of a list, in pieces of so many jobs; those of `list` are without the values that it has no
 -- option for
@@ -86,6 +95,7 @@ run_words list group rows = record {
   root = first_of (codes "root") rows;
   report = first_of (codes "report") rows;
   junit = first_of (codes "junit") rows;
+  suite = first_of (codes "suite") rows;
   lenient = is_flag_set (codes "lenient") rows;
   verbose = is_flag_set (codes "verbose") rows;
   quiet = is_flag_set (codes "quiet") rows;
@@ -125,6 +135,7 @@ merge_request rows = merge (record {
   parts = argument_values (codes "part") rows;
   report = first_of (codes "report") rows;
   junit = first_of (codes "junit") rows;
+  suite = first_of (codes "suite") rows;
   lenient = is_flag_set (codes "lenient") rows;
 })
 
@@ -133,9 +144,16 @@ diff_request rows = option_and_then (λ old. option_map (λ new. diff old new
     (is_flag_set (codes "steps") rows) (number_value (codes "slower") 0 most_slower rows))
     (first_of (codes "new") rows)) (first_of (codes "old") rows)
 
+abbrev pub show_words : List Row → Text → Words
+show_words rows report = show (record {
+  report = report;
+  junit = first_of (codes "junit") rows;
+  suite = first_of (codes "suite") rows;
+  lenient = is_flag_set (codes "lenient") rows;
+})
+
 abbrev pub show_request : List Row → Option Words
-show_request rows = option_map (λ report. show report (first_of (codes "junit") rows)
-    (is_flag_set (codes "lenient") rows)) (first_of (codes "report") rows)
+show_request rows = option_map (show_words rows) (first_of (codes "report") rows)
 
 -- what a subcommand with these values asks for
 abbrev pub subcommand_words : Text → List Row → Option Words
@@ -169,21 +187,32 @@ is_choice_given rows = is_option_given (codes "only") rows
     || (is_option_given (codes "match") rows
     || (is_option_given (codes "exclude") rows || is_option_given (codes "failed") rows))
 
--- JUnit's XML goes where the report goes, be that a file or standard output
-abbrev pub one_file_misuse : List Row → Option Misuse
-one_file_misuse rows =
+-- the suite of JUnit's XML has no name
+abbrev pub is_suite_nameless : List Row → Bool
+is_suite_nameless rows = option_map_or (λ name. bytes_eq name []) (first_of (codes "suite") rows) false
+
+-- a suite is of JUnit's XML, and has a name
+abbrev pub suite_misuse : List Row → Option Misuse
+suite_misuse rows = if is_option_given (codes "suite") rows && not (is_option_given (codes "junit") rows)
+    then Some misuse.SuiteAlone
+    else if is_suite_nameless rows then Some misuse.NamelessSuite
+    else None
+
+-- JUnit's XML goes where the report goes, be that a file or standard output; or its suite is not as it may be
+abbrev pub files_misuse : List Row → Option Misuse
+files_misuse rows =
     if option_map_or (λ path. is_report_path path rows) (first_of (codes "junit") rows) false
-    then Some misuse.OneFile else None
+    then Some misuse.OneFile else suite_misuse rows
 
 -- the first of the rules that options of `run` break: --verbose and --quiet do not stand beside
--- one another, nor a shard beside a choice; a stamp is a shard's; the two files are not one
+-- one another, nor a shard beside a choice; a stamp is a shard's; the two files are not one, and a suite is one of them
 abbrev pub run_misuse : List Row → Option Misuse
 run_misuse rows = if is_flag_set (codes "verbose") rows && is_flag_set (codes "quiet") rows
     then Some misuse.VerboseAndQuiet
     else if is_option_given (codes "shard") rows && is_choice_given rows then Some misuse.ShardAndChoice
     else if is_option_given (codes "stamp") rows && not (is_option_given (codes "shard") rows)
     then Some misuse.StampAlone
-    else one_file_misuse rows
+    else files_misuse rows
 
 -- steps are compared exactly, or by which jobs are slower
 abbrev pub diff_misuse : List Row → Option Misuse
@@ -193,6 +222,8 @@ diff_misuse rows = if is_flag_set (codes "steps") rows && is_option_given (codes
 abbrev pub misuse_kinds : Option Misuse → Kinds
 misuse_kinds None = []
 misuse_kinds (Some misuse.StampAlone) = kind.MissingRequiredArgument ∷ []
+misuse_kinds (Some misuse.SuiteAlone) = kind.MissingRequiredArgument ∷ []
+misuse_kinds (Some misuse.NamelessSuite) = kind.InvalidValue ∷ []
 misuse_kinds (Some _) = kind.ArgumentConflict ∷ []
 
 -- what is said of options that do not go together: which two, as the help writes them
@@ -202,14 +233,17 @@ misuse_text misuse.ShardAndChoice =
     codes "the argument '--shard <K/N>' cannot be used with '--only <NAME>', '--match <REGEX>', '--exclude <REGEX>' or '--failed <REPORT>'"
 misuse_text misuse.StampAlone = codes "the argument '--stamp <TEXT>' cannot be used without '--shard <K/N>'"
 misuse_text misuse.StepsAndSlower = codes "the argument '--steps' cannot be used with '--slower <N>'"
+misuse_text misuse.SuiteAlone = codes "the argument '--suite <NAME>' cannot be used without '--junit <FILE>'"
+misuse_text misuse.NamelessSuite = codes "a value is required for '--suite <NAME>' but none was supplied"
 misuse_text misuse.OneFile =
     codes "the argument '--report <FILE>' cannot be used with '--junit <FILE>' of the same name: it is one file"
 
 -- the faults of a subcommand with these values that `clap` does not look for
 abbrev pub subcommand_fault_kinds : Text → List Row → Kinds
 subcommand_fault_kinds name rows = if bytes_eq name (codes "run") then misuse_kinds (run_misuse rows)
-    else if bytes_eq name (codes "merge") then misuse_kinds (one_file_misuse rows)
+    else if bytes_eq name (codes "merge") then misuse_kinds (files_misuse rows)
     else if bytes_eq name (codes "diff") then misuse_kinds (diff_misuse rows)
+    else if bytes_eq name (codes "show") then misuse_kinds (suite_misuse rows)
     else []
 
 -- those of the subcommand that was met
@@ -240,6 +274,7 @@ run_asked_words value = record {
   root = borrowed_text value.root;
   report = borrowed_text value.report;
   junit = borrowed_text value.junit;
+  suite = borrowed_text value.suite;
   lenient = value.lenient;
   verbose = value.verbose;
   quiet = value.quiet;
@@ -259,6 +294,15 @@ merge_asked_words value = record {
   parts = map (λ path. path.now) value.parts.items;
   report = borrowed_text value.report;
   junit = borrowed_text value.junit;
+  suite = borrowed_text value.suite;
+  lenient = value.lenient;
+}
+
+abbrev pub show_asked_words : ShowAsked → ShowWords
+show_asked_words value = record {
+  report = value.report.now;
+  junit = borrowed_text value.junit;
+  suite = borrowed_text value.suite;
   lenient = value.lenient;
 }
 
@@ -270,7 +314,7 @@ asked_words (asked.Console value) = console value.list.now value.name.now (borro
 asked_words (asked.Check value) = check value.list.now (borrowed_text value.root)
 asked_words (asked.Merge value) = merge (merge_asked_words value)
 asked_words (asked.Diff value) = diff value.old.now value.new.now value.steps value.slower
-asked_words (asked.Show value) = show value.report.now (borrowed_text value.junit) value.lenient
+asked_words (asked.Show value) = show (show_asked_words value)
 
 -- each number is within the range of its argument
 abbrev pub IsRunAskedInRange : RunAsked → Type 0

@@ -17,6 +17,7 @@ mod requests;
 mod run;
 mod show;
 mod table;
+mod tips;
 
 pub use check::CheckAsked;
 pub use command::{ChoosingCommand, merge_command};
@@ -28,3 +29,4 @@ pub use refusals::usage_error;
 pub use requests::{Asked, read_words};
 pub use run::RunAsked;
 pub use show::ShowAsked;
+pub use tips::error_text;

@@ -1,5 +1,5 @@
 -- The messages that go to standard error.
-use Rattle.std.specs.Prelude.{◌≡◌, ◌⊎◌, ◌++◌, ℕ, List, Option, codes}
+use Rattle.std.specs.Prelude.{◌≡◌, ◌⊎◌, ◌++◌, ℕ, Bool, true, List, [], Option, codes}
 use Rattle.std.specs.Fmt.{decimal}
 use Rattle.std.specs.Io.KnownBytes.{Appends}
 use Rattle.rv_base.specs.Counts.{one_more}
@@ -29,3 +29,8 @@ stop_message (stop.Told lines text) = text.items
 stop_message stop.OutOfMemory = codes "rvtest: out of memory\n"
 stop_message stop.NoWorker = codes "rvtest: no thread could be started\n"
 stop_message stop.WriteFailed = codes "rvtest: the results: write failed\n"
+
+-- the same where the reader of the results closed them, or did not: who reads no more is told nothing
+abbrev pub end_message : Bool → Stop → List ℕ
+end_message true stop.WriteFailed = []
+end_message _ why = stop_message why

@@ -1,5 +1,5 @@
 -- The statuses of commands that end before their work is done, and what these commands tell.
-use Rattle.std.specs.Prelude.{◌≡◌, ◌⊎◌, ◌<◌, ℕ, List, [], ◌∷◌, IfSome, IsSomeAnd, Option, None, Result, Ok, Err, Vec, codes, length}
+use Rattle.std.specs.Prelude.{◌≡◌, ◌⊎◌, ◌<◌, ◌+◌, ℕ, Bool, true, List, [], ◌∷◌, IfSome, IsSomeAnd, Option, None, Result, Ok, Err, Vec, codes, length}
 use Rattle.std.specs.declared.alloc.AllocError.{AllocError}
 use Rattle.std.specs.declared.alloc.Global.{Global}
 use Rattle.std.specs.declared.io.ErrorKind.{ErrorKind}
@@ -32,6 +32,16 @@ stop_status (why.Told lines text) = lines_status lines
 stop_status why.OutOfMemory = 3
 stop_status why.NoWorker = 3
 stop_status why.WriteFailed = 3
+
+-- the status of a program that the signal SIGPIPE ends, whose number is 13
+abbrev pub broken_pipe_status : ℕ
+broken_pipe_status = 128 + 13
+
+-- the status of such a command where the reader of its results closed them, or did not: a put of results that failed is then
+-- no failure of the system's
+abbrev pub end_status : Bool → Stop → ℕ
+end_status true why.WriteFailed = broken_pipe_status
+end_status _ why = stop_status why
 
 -- lines end a command, where there was memory for them
 abbrev pub stop_of_lines : Lines → Result (Vec ℕ Global) AllocError → Stop

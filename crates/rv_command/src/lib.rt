@@ -11,8 +11,10 @@ mod status;
 mod stop;
 
 pub use files::{file_error_stop, read_file};
-pub use list::{list_faults_text, parse_list, read_list_text};
-pub use messages::{path_message, path_number_message, put_message, put_results, put_stop_message};
+pub use list::{all_faults_text, list_faults_text, parse_list, read_list_text};
+pub use messages::{
+    path_message, path_number_message, put_end_message, put_message, put_results, put_stop_message,
+};
 pub use saved_report::{parse_report, read_report_file};
-pub use status::{DONE, FAILED, REFUSED, SOME_FAIL};
+pub use status::{BROKEN_PIPE, DONE, FAILED, REFUSED, SOME_FAIL};
 pub use stop::{Lines, Stop};

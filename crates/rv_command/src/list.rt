@@ -6,6 +6,7 @@ ghost use Rattle.rv_command.specs.Stops.{IsListFaultStop, IsListUnreadStop};
 ghost use Rattle.rv_command.specs.Texts.{IsTextAt};
 ghost use Rattle.rv_list_errors.specs.FaultHeads.{fault_head};
 ghost use Rattle.rv_list_errors.specs.Lines.{PutsFaultLines, PutsLines};
+ghost use Rattle.rv_list_errors.specs.PlacedFaults.{IsToldFault, PutsEachFault};
 ghost use Rattle.rv_lists.specs.JobList.{job_list_of};
 
 use crate::files::read_file_up_to;
@@ -14,7 +15,7 @@ use crate::stop::Stop;
 use rv_files::Inputs;
 use rv_jobs::limits::MOST_BYTES;
 use rv_jobs::{JobError, JobList, What, read_jobs};
-use rv_list_errors::push_faults;
+use rv_list_errors::{push_all_faults, push_faults};
 use std::alloc::{AllocError, Global};
 
 /// The text of the list at a path.
@@ -66,5 +67,20 @@ pub fn list_faults_text(
 {
     let mut told = Vec::new(alloc);
     push_faults(alloc, &mut told, path, text, faults)?;
+    Ok(told)
+}
+
+/// The lines of all faults of a list, of which these are the first of each bad job.
+pub fn all_faults_text(
+    alloc: Global,
+    path: &str,
+    text: &[u8],
+    faults: &[JobError],
+) -> Result<Vec<u8>, AllocError>
+    ensures { IfOk result
+        (λ lines. PutsEachFault (IsToldFault path.now text.now) faults.now [] lines.items) }
+{
+    let mut told = Vec::new(alloc);
+    push_all_faults(alloc, &mut told, path, text, faults)?;
     Ok(told)
 }

@@ -1,13 +1,13 @@
 //! What goes to standard error, and the statuses.
 
-ghost use Rattle.std.specs.Prelude.{◌≡◌, ◌≤◌, ◌++◌, OnErr, OnOk, IfErr, IfOk};
+ghost use Rattle.std.specs.Prelude.{◌≡◌, ◌≤◌, ◌++◌, OnErr, OnOk, IfErr, IfOk, false};
 ghost use Rattle.std.specs.Io.KnownBytes.{Appends, Keeps};
 ghost use Rattle.rv_base.specs.Counts.{one_more};
 ghost use Rattle.rv_base.specs.Sinks.{AppendsBeginning};
-ghost use Rattle.rv_command.specs.Stops.{lines_status, stop_status};
-ghost use Rattle.rv_command.specs.Messages.{IsMessagePut, path_message, path_number_message, stop_message};
+ghost use Rattle.rv_command.specs.Stops.{end_status, lines_status, stop_status};
+ghost use Rattle.rv_command.specs.Messages.{IsMessagePut, end_message, path_message, path_number_message, stop_message};
 
-use crate::status::{FAILED, REFUSED};
+use crate::status::{BROKEN_PIPE, FAILED, REFUSED};
 use crate::stop::{Lines, Stop};
 use rv_rows::{Sink, put_all};
 use rv_text::{Span, text_of_spans};
@@ -70,6 +70,20 @@ pub fn put_results<O: Sink>(out: &mut O, text: &[u8]) -> Result<(), Stop>
     match put_all(out, text) {
         Ok(()) => Ok(()),
         Err(_) => Err(Stop::WriteFailed),
+    }
+}
+
+/// Says why a command ended before its work was done, and gives the status. Where the reader of its results closed them,
+/// nothing is said, and the status is 141, as of a program that the signal `SIGPIPE` ends.
+pub fn put_end_message<E: Sink>(errors: &mut E, stop: Stop, is_out_closed: bool) -> u8
+    ensures status { result ≡ end_status is_out_closed stop }
+    ensures told { IsMessagePut (E.taken errors.old) (E.taken errors.new)
+        (E.failed errors.old) (E.failed errors.new) (end_message is_out_closed stop) }
+    ensures low { is_out_closed ≡ false → result ≤ 3 }
+{
+    match stop {
+        Stop::WriteFailed if is_out_closed => BROKEN_PIPE,
+        stop => put_stop_message(errors, stop),
     }
 }
 

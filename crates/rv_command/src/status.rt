@@ -11,3 +11,6 @@ pub const REFUSED: u8 = 2;
 
 /// The system failed.
 pub const FAILED: u8 = 3;
+
+/// The reader of standard output closed it, as of a program that the signal `SIGPIPE` ends.
+pub const BROKEN_PIPE: u8 = 141;

@@ -7,6 +7,7 @@ ghost use Rattle.rv_command.specs.Stops.{IsRefusal, stop_of_lines};
 
 use clap::Error;
 use clap::error::ErrorKind;
+use rv_cli::rvtest::error_text;
 use std::alloc::{AllocError, Global};
 
 /// Why a command ends before its work is done.
@@ -32,15 +33,15 @@ pub enum Lines {
 }
 
 impl Stop {
-    /// What an error of `clap`, or of its form, comes to, but help and the version: it refuses the words. The text is the error's,
-    /// which no contract of `clap` knows.
+    /// What an error of `clap`, or of its form, comes to, but help and the version: it refuses the words. The text is the error's
+    /// without tips that lead astray, and no contract of `clap` knows it.
     pub fn of_clap_error(alloc: Global, error: &Error) -> Stop
         ensures memory { kind_of error.now ≡ kind.OutOfMemory → result ≡ Stop.OutOfMemory }
         ensures refused { IsRefusal result }
     {
         match error.kind() {
             ErrorKind::OutOfMemory => Stop::OutOfMemory,
-            _ => match error.to_string(alloc) {
+            _ => match error_text(alloc, error) {
                 Ok(text) => Stop::Told(Lines::Refusal, text.into_bytes()),
                 Err(error) => Stop::from(error),
             },

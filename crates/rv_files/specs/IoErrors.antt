@@ -1,5 +1,5 @@
 -- What people are told of an error of the system's.
-use Rattle.std.specs.Prelude.{ℕ, List, codes}
+use Rattle.std.specs.Prelude.{ℕ, Bool, true, false, List, codes}
 use Rattle.std.specs.declared.io.ErrorKind.{ErrorKind}
 use Rattle.std.specs.declared.io.ErrorKind.TheVariants as kind
 
@@ -21,3 +21,8 @@ io_error_text kind.TimedOut = codes "timed out"
 io_error_text kind.Unsupported = codes "unsupported"
 io_error_text kind.OutOfMemory = codes "out of memory"
 io_error_text _ = codes "not readable"
+
+-- nobody reads the pipe any more
+abbrev pub is_broken_pipe : ErrorKind → Bool
+is_broken_pipe kind.BrokenPipe = true
+is_broken_pipe _ = false

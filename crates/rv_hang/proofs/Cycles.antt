@@ -17,7 +17,7 @@ use Rattle.rv_hang.specs.declared.repetition.Again.{Again}
 use Rattle.rv_hang.specs.declared.repetition.Repetition.{Repetition}
 use Rattle.rv_hang.proofs.QuietSteps.{Same, step_same}
 
-order : (m n : ℕ) → (m < n) ⊎ (n ≤ m)
+pub order : (m n : ℕ) → (m < n) ⊎ (n ≤ m)
 order zero zero = inr (omega arith)
 order zero (suc n) = inl (omega arith)
 order (suc m) zero = inr (omega arith)
@@ -102,7 +102,8 @@ pub record IsBefore (values : HartValues) (p place : ℕ) (s : State) : Type 0 w
   pub quiet : AreQuiet p place s
 
 pub record Known (values : HartValues) (begin place : ℕ) (s : State) (again : Option Again) : Type 0 where
-  pub some : IfSome again (λ a. IsBefore values a.first place s × IsBefore values a.last place s × (a.first ≤ a.last))
+  pub some : IfSome again (λ a. IsBefore values a.first place s × IsBefore values a.last place s × (a.first ≤ a.last)
+      × (begin ≤ a.first))
   pub found : (p : ℕ) → begin ≤ p → IsBefore values p place s → is_some again ≡ true
 
 pub known_first : (values : HartValues) (begin : ℕ) (s : State) → Known values begin begin s None
@@ -147,15 +148,20 @@ module _ (values : HartValues) (begin place : ℕ) (s t : State) (here : t ≡ s
         (ap is_step_quiet here ∙ b.quiet place (let m = b.before in omega arith) (omega arith)));
   }
 
-  with_values : (again : Option Again) → is_step_quiet t ≡ true → has_values values t ≡ true
+  with_values : (again : Option Again) → begin ≤ place → is_step_quiet t ≡ true → has_values values t ≡ true
       → Known values begin place s again
       → Known values begin (place + 1) s (Some (record { first = first_again again place; last = place }))
-  with_values None q h known = record {
-    some = (here_now q h, here_now q h, omega arith);
+  with_values None l q h known = record {
+    some = (here_now q h, here_now q h, omega arith, l);
     found = λ p l b. refl;
   }
-  with_values (Some a) q h known = record {
-    some = (later a.first q known.some.0, here_now q h, (let first = known.some.0.before in omega arith));
+  with_values (Some a) l q h known = record {
+    some = (
+      later a.first q known.some.0,
+      here_now q h,
+      (let first = known.some.0.before in omega arith),
+      known.some.3,
+    );
     found = λ p l b. refl;
   }
 
@@ -172,21 +178,22 @@ module _ (values : HartValues) (begin place : ℕ) (s t : State) (here : t ≡ s
   }
     where
       some : (again : Option Again)
-          → IfSome again (λ a. IsBefore values a.first place s × IsBefore values a.last place s × (a.first ≤ a.last))
+          → IfSome again (λ a. IsBefore values a.first place s × IsBefore values a.last place s × (a.first ≤ a.last)
+          × (begin ≤ a.first))
           → IfSome again (λ a. IsBefore values a.first (place + 1) s × IsBefore values a.last (place + 1) s
-          × (a.first ≤ a.last))
+          × (a.first ≤ a.last) × (begin ≤ a.first))
       some None k = tt
-      some (Some a) k = (later a.first q k.0, later a.last q k.1, k.2)
+      some (Some a) k = (later a.first q k.0, later a.last q k.1, k.2, k.3)
 
-  pub known_more : (again : Option Again) → Known values begin place s again
+  pub known_more : (again : Option Again) → begin ≤ place → Known values begin place s again
       → Known values begin (place + 1) s (again_behind again place values t)
-  known_more again known = by (is_step_quiet t) (has_values values t) refl refl
+  known_more again l known = by (is_step_quiet t) (has_values values t) refl refl
     where
       by : (q h : Bool) → is_step_quiet t ≡ q → has_values values t ≡ h
           → Known values begin (place + 1) s (cond q (cond h
           (Some (record { first = first_again again place; last = place })) again) None)
       by false h e f = none_quiet e
-      by true true e f = with_values again e f known
+      by true true e f = with_values again l e f known
       by true false e f = without_values again e f known
 
 -- ---- the end
@@ -205,10 +212,11 @@ last_again values steps p s complete end b =
     same_state u v (eqb-true u.pc values.pc here.0 ∙ sym (eqb-true v.pc values.pc there.0))
     (same_lists u.registers values.registers here.1 ∙ sym (same_lists v.registers values.registers there.1)) same
 
-pub repetition_of : (values : HartValues) (begin steps : ℕ) (s : State) (a : Again) → (run_of steps s).steps ≡ steps
+pub repetition_of : (values : HartValues) (begin steps : ℕ) (s : State) (a : Again) (waits : Bool)
+    → (run_of steps s).steps ≡ steps
     → has_values values (state_after steps s) ≡ true → Known values begin steps s (Some a)
-    → IsRepetition steps s (record { begin = a.first; period = steps - a.last })
-repetition_of values begin steps s a complete end known =
+    → IsRepetition steps s (record { begin = a.first; period = steps - a.last; waits = waits })
+repetition_of values begin steps s a waits complete end known =
     let first = known.some.0 in let last = known.some.1 in let rising = known.some.2 in
     let b = first.before in let l = last.before in
     let period = steps - a.last in

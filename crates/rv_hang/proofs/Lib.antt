@@ -1,3 +1,5 @@
 pub mod StoredAgain
 pub mod QuietSteps
 pub mod Cycles
+pub mod Waits
+pub mod Starts

@@ -1,2 +1,4 @@
 pub mod Quiet
+pub mod ScriptEnd
 pub mod Repetition
+pub mod BudgetUse

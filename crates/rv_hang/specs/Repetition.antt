@@ -4,6 +4,7 @@ use Rattle.std.specs.Str.{bytes_eq}
 use Rattle.rv_machine.specs.State.{State}
 use Rattle.rv_trace.specs.Trace.{state_after}
 use Rattle.rv_hang.specs.Quiet.{is_step_quiet}
+use Rattle.rv_hang.specs.ScriptEnd.{reads_script_end}
 use Rattle.rv_hang.specs.declared.hart.HartValues.{HartValues}
 use Rattle.rv_hang.specs.declared.repetition.Again.{Again}
 use Rattle.rv_hang.specs.declared.repetition.Repetition.{Repetition}
@@ -29,6 +30,11 @@ pub record IsLastAgain (steps place : ℕ) (s : State) : Type 0 where
   pub registers : (state_after place s).registers ≡ (state_after steps s).registers
   pub quiet : AreQuiet place steps s
 
+-- a repetition is said to wait for the script where some step from it on loads from the script at its end, and else not
+pub record IsWaitTold (steps : ℕ) (s : State) (r : Repetition) : Type 0 where
+  pub load : r.waits ≡ true → (k : ℕ) × (r.begin ≤ k) × (k < steps) × (reads_script_end (state_after k s) ≡ true)
+  pub all : (k : ℕ) → r.begin ≤ k → k < steps → reads_script_end (state_after k s) ≡ true → r.waits ≡ true
+
 -- ---- on the way
 
 abbrev pub first_again : Option Again → ℕ → ℕ
@@ -41,3 +47,7 @@ again_behind again place values s =
     if is_step_quiet s then (if has_values values s
     then Some (record { first = first_again again place; last = place }) else again)
     else None
+
+-- how many steps there are up to the last that loads from the script at its end
+abbrev pub waited_behind : ℕ → ℕ → State → ℕ
+waited_behind waited place s = if reads_script_end s then place + 1 else waited

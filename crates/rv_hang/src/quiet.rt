@@ -40,7 +40,8 @@ fn is_instr_quiet(machine: &Machine, instr: Instr) -> bool
     }
 }
 
-fn accessed_address(machine: &Machine, instr: Instr) -> u32
+/// The address that a load or a store reaches.
+pub(crate) fn accessed_address(machine: &Machine, instr: Instr) -> u32
     requires { IsWellFormed instr }
     ensures { result ≡ address (state_of machine.now) instr }
 {

@@ -1,13 +1,14 @@
 //! States that come again.
 
-ghost use Rattle.std.specs.Prelude.{◌≡◌, ◌≤◌, ◌-◌, ℕ, IfSome, is_some, true};
-ghost use Rattle.rv_hang.specs.Repetition.{IsLastAgain, IsRepetition, again_behind, has_values};
+ghost use Rattle.std.specs.Prelude.{◌≡◌, ◌≤◌, ◌<◌, ◌-◌, ℕ, IfSome, is_some, true};
+ghost use Rattle.rv_hang.specs.Repetition.{IsLastAgain, IsRepetition, IsWaitTold, again_behind, has_values, waited_behind};
 ghost use Rattle.rv_machine.specs.Machine.{state_of};
 ghost use Rattle.rv_machine.specs.Run.{run_of};
 ghost use Rattle.rv_trace.specs.Trace.{state_after};
 
 use crate::hart::HartValues;
 use crate::quiet::is_step_quiet;
+use crate::script_end::reads_script_end;
 use rv_machine::Machine;
 
 /// A state of a run that comes again.
@@ -17,6 +18,8 @@ pub struct Repetition {
     pub begin: u32,
     /// After how many more it comes again, 1 at least.
     pub period: u32,
+    /// Whether some step from there on loads from the console's script at its end.
+    pub waits: bool,
 }
 
 /// Where the last of so many steps of a machine, which all complete, is a repetition: the first place among the last
@@ -30,6 +33,7 @@ pub fn find_repetition(
     requires complete { (run_of steps (state_of machine)).steps ≡ steps }
     requires end { has_values end.now (state_after steps (state_of machine)) ≡ true }
     ensures repetition { IfSome result (IsRepetition steps (state_of machine)) }
+    ensures waits { IfSome result (IsWaitTold steps (state_of machine)) }
     ensures found { (place : ℕ) → steps - within ≤ place → IsLastAgain steps place (state_of machine)
         → is_some result ≡ true }
 {
@@ -37,14 +41,17 @@ pub fn find_repetition(
     let begin = steps - steps.min(within);
     let _ = ahead.run(begin);
     let mut again = None;
+    let mut waited = 0;
     for place in begin..steps {
         again = again_at(again, &ahead, place, end);
+        waited = waited_at(waited, &ahead, place);
         let _ = ahead.run(1);
     }
     let again = again?;
     Some(Repetition {
         begin: again.first,
         period: steps - again.last,
+        waits: waited > again.first,
     })
 }
 
@@ -67,4 +74,17 @@ fn again_at(again: Option<Again>, machine: &Machine, place: u32, end: &HartValue
     }
     let first = again.map_or(place, |again| again.first);
     Some(Again { first, last: place })
+}
+
+// How many steps there are up to the last that loads from the script at its end, once the machine stands in front of the
+// step at a place; 0 where none does.
+fn waited_at(waited: u32, machine: &Machine, place: u32) -> u32
+    requires { place < 0xFFFF_FFFF }
+    ensures { result ≡ waited_behind waited place (state_of machine.now) }
+{
+    if reads_script_end(machine) {
+        place + 1
+    } else {
+        waited
+    }
 }

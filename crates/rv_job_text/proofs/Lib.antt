@@ -5,3 +5,4 @@ pub mod ConsoleLines
 pub mod Counts
 pub mod DifferingLines
 pub mod FirstLines
+pub mod NoStarts

@@ -5,6 +5,7 @@ pub mod MetLines
 pub mod ImageReasons
 pub mod RefusalReasons
 pub mod WayToEnd
+pub mod BudgetUseLine
 pub mod Telling
 pub mod ConsoleTail
 pub mod ConsoleLines

@@ -23,7 +23,9 @@ use Rattle.rv_job_text.specs.declared.verbosity.Verbosity.{Verbosity}
 use Rattle.rv_job_text.specs.declared.verbosity.Verbosity.TheVariants.{Quiet, Failures, All}
 use Rattle.rv_job_text.specs.ImageSymbols.{signature_begin, fault_symbol}
 use Rattle.rv_job_text.specs.RefusalReasons.{ending_reason}
+use Rattle.rv_job_text.specs.BudgetUseLine.{budget_use_line}
 use Rattle.rv_job_text.specs.WayToEnd.{optional_trace_text}
+use Rattle.rv_job_text.specs.declared.way_to_end.WayToEnd.{WayToEnd}
 use Rattle.rv_trace.specs.Trace.{trace_in}
 
 -- the rows of which plan are told, with what was noted of its paths, by which rule, how much of them,
@@ -113,15 +115,16 @@ row_lines_at telling place row = row_lines_of_job telling row (slice_get telling
 
 -- ---- a job that is explained
 
--- every expectation, the end of the console, and how the run came to its end
-unfoldable pub run_explanation : Planned → Job → Row → ℕ → List ℕ
-run_explanation plan job row last =
-    expectation_lines detail.All plan job row ++ (console_tail row.console ++ way_to_end_lines plan job row last)
+-- every expectation, the end of the console, what is found of a used-up budget, and how the run came to its end
+unfoldable pub run_explanation : Planned → Job → Row → WayToEnd → List ℕ
+run_explanation plan job row way =
+    expectation_lines detail.All plan job row ++ (console_tail row.console
+    ++ (budget_use_line row.steps way.budget_use ++ way_to_end_lines plan job row way.last))
 
-abbrev pub explanation_if_run : Planned → Job → Row → ℕ → List ℕ
-explanation_if_run plan job row last =
-    if did_run row.ending then run_explanation plan job row last else []
+abbrev pub explanation_if_run : Planned → Job → Row → WayToEnd → List ℕ
+explanation_if_run plan job row way =
+    if did_run row.ending then run_explanation plan job row way else []
 
-unfoldable pub explanation_text : Planned → List Unread → Rule → Job → Row → ℕ → List ℕ
-explanation_text plan unread rule job row last =
-    row_line plan unread rule job row ++ explanation_if_run plan job row last
+unfoldable pub explanation_text : Planned → List Unread → Rule → Job → Row → WayToEnd → List ℕ
+explanation_text plan unread rule job row way =
+    row_line plan unread rule job row ++ explanation_if_run plan job row way

@@ -9,6 +9,7 @@
 //! counts of all rows.
 #![tactic(auto)]
 
+mod budget_use_line;
 mod console_lines;
 mod console_tail;
 mod difference_text;
@@ -41,3 +42,4 @@ pub use result_line::{EndDetail, push_result_line};
 pub use row_telling::RowTelling;
 pub use totals_line::{job_word, push_totals_line};
 pub use verbosity::Verbosity;
+pub use way_to_end::{WayToEnd, budget_use_at};

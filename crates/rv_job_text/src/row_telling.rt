@@ -9,6 +9,7 @@ ghost use Rattle.rv_job_text.specs.ImageSymbols.{fault_symbol};
 ghost use Rattle.rv_job_text.specs.Telling.{compared_lines, expectation_lines, explanation_text, image_bytes, row_line};
 ghost use Rattle.rv_job_text.specs.Telling.{run_explanation, run_lines, telling_of, row_lines};
 
+use crate::budget_use_line::push_budget_use_line;
 use crate::console_tail::push_console_tail;
 use crate::job_file::JobFile;
 use crate::job_row::JobRow;
@@ -17,6 +18,7 @@ use crate::refusal_reasons::ending_reason;
 use crate::result_line::{EndDetail, push_result_line};
 use crate::unmet_line::push_unmet_lines;
 use crate::verbosity::{Detail, Verbosity};
+use crate::way_to_end::WayToEnd;
 use rv_elf::SymbolAt;
 use rv_expect::{Comparison, Rule, Unmet, has_passed, row_of_same_as_job, unmet_expectations};
 use rv_files::Unread;
@@ -89,21 +91,21 @@ impl<'a> RowTelling<'a> {
     }
 
     /// Appends what explains the row of the job at a place, whatever the verbosity: its line, and where the job ran every
-    /// expectation, those that it does not meet first, the end of its console, and how it came to its end: the registers there,
-    /// and so many of its last instructions.
+    /// expectation, those that it does not meet first, the end of its console, what is found of a used-up budget, and how it came
+    /// to its end: the registers there, and so many of its last instructions.
     #[tactic(auto, unfolding(crate::specs::Telling::explanation_text))]
     pub fn push_job_explanation(
         &self,
         alloc: Global,
         place: usize,
         row: &Row,
-        last: u32,
+        way: &WayToEnd,
         text: &mut Vec<u8>,
     ) -> Result<(), AllocError>
         requires { place < length self.now.plan.now.jobs }
         ensures { OnOk result ((d : AJob) → text.new.items ≡ text.old.items
             ++ explanation_text self.now.plan.now self.now.unread.now self.now.rule
-            (job_at self.now.plan.now place d) row.now last) }
+            (job_at self.now.plan.now place d) row.now way.now) }
     {
         if !did_run(row.ending) {
             return self.push_lone_row_line(alloc, place, row, text);
@@ -117,7 +119,7 @@ impl<'a> RowTelling<'a> {
             row,
             file,
         }
-        .push_run_explanation(alloc, last, text)
+        .push_run_explanation(alloc, way, text)
     }
 
     /// Appends the line of the row of the job at a place, and nothing behind it, whatever the verbosity. The image is read for the
@@ -204,21 +206,22 @@ impl<'a> JobRow<'a> {
         }
     }
 
-    // Appends every expectation, the end of the console, and how the run came to its end.
+    // Appends every expectation, the end of the console, what is found of a used-up budget, and how the run came to its end.
     #[tactic(auto, unfolding(crate::specs::Telling::run_explanation))]
     fn push_run_explanation(
         &self,
         alloc: Global,
-        last: u32,
+        way: &WayToEnd,
         text: &mut Vec<u8>,
     ) -> Result<(), AllocError>
         ensures { OnOk result ((d : AJob) → text.new.items ≡ text.old.items
             ++ run_explanation self.now.plan.now (job_at self.now.plan.now self.now.place d)
-            self.now.row.now last) }
+            self.now.row.now way.now) }
     {
         self.push_expectation_lines(alloc, Detail::All, text)?;
         push_console_tail(text, self.row.console.as_slice())?;
-        self.push_way_to_end(alloc, last, text)
+        push_budget_use_line(text, self.row.steps, way.budget_use)?;
+        self.push_way_to_end(alloc, way.last, text)
     }
 
     // Appends the expectations that are told of the run.

@@ -1,13 +1,54 @@
 //! How a run came to its end.
 
-ghost use Rattle.std.specs.Prelude.{◌≡◌, ◌++◌, OnOk};
+ghost use Rattle.std.specs.Prelude.{◌≡◌, ◌<◌, ◌++◌, IfOk, OnOk, length};
+ghost use Rattle.rv_hang.specs.BudgetUse.{IsBudgetUseIn};
 ghost use Rattle.rv_jobs.specs.declared_job.Job.{Job as AJob};
 ghost use Rattle.rv_trace.specs.Trace.{job_at};
+ghost use Rattle.rv_job_text.specs.BudgetUseLine.{IsUseOfRow};
 ghost use Rattle.rv_job_text.specs.Telling.{way_to_end_lines};
 
+use crate::job_file::JobFile;
 use crate::job_row::JobRow;
+use rv_hang::{BudgetUse, budget_use_of};
+use rv_jobs::Plan;
+use rv_rows::{Row, RowEnd};
 use rv_trace::{JobImage, push_trace, trace_job};
 use std::alloc::{AllocError, Global};
+
+/// What is told of how a run came to its end.
+#[derive(Clone, Copy)]
+pub struct WayToEnd {
+    /// How many of its last instructions.
+    pub last: u32,
+    /// What is found of a used-up budget.
+    pub budget_use: Option<BudgetUse>,
+}
+
+/// What is found of the run of the job at a place whose row says that it used up its budget, which takes the time of two more
+/// runs. A run that ended otherwise is not looked into.
+pub fn budget_use_at(
+    alloc: Global,
+    plan: &Plan,
+    place: usize,
+    row: &Row,
+) -> Result<Option<BudgetUse>, AllocError>
+    requires { place < length plan.now.jobs }
+    ensures { IfOk result (λ found. (d : AJob) → IsUseOfRow plan.now (job_at plan.now place d) row.now found) }
+{
+    match row.ending {
+        RowEnd::Budget => {
+            let file = &JobFile::read(alloc, plan, place)?;
+            JobRow {
+                plan,
+                place,
+                row,
+                file,
+            }
+            .used_budget(alloc)
+        }
+        RowEnd::Exit(_) | RowEnd::Fault(_, _, _) | RowEnd::Refused(_) => Ok(None),
+    }
+}
 
 impl<'a> JobRow<'a> {
     /// Appends how the run came to its end, with so many of its last instructions. It is run once more.
@@ -34,5 +75,21 @@ impl<'a> JobRow<'a> {
             Some(trace) => push_trace(alloc, text, &elf, &trace, self.row.ending),
             None => Ok(()),
         }
+    }
+
+    // What is found of the run, if it used up its budget with the steps of the row.
+    fn used_budget(&self, alloc: Global) -> Result<Option<BudgetUse>, AllocError>
+        ensures { IfOk result (λ found. (d : AJob) → IsBudgetUseIn self.now.plan.now
+            (job_at self.now.plan.now self.now.place d) self.now.row.now.steps found) }
+    {
+        let Some(elf) = self.file.elf_file() else {
+            return Ok(None);
+        };
+        let job = JobImage {
+            plan: self.plan,
+            place: self.place,
+            image: elf.image,
+        };
+        budget_use_of(alloc, &job, self.row.steps)
     }
 }

@@ -1,6 +1,7 @@
 -- The cases of rows, with the lines that are told of them.
 use Rattle.std.proofs.Common.{◌≡◌, ◌∙◌, refl, sym, ap, append_assoc, append-nil, ℕ, List, [], ◌∷◌, ◌++◌, Option}
-use Rattle.std.specs.Prelude.{codes}
+use Rattle.std.specs.Prelude.{OnOk, Result, Ok, Err, codes, count_by, if◌then◌else◌, length}
+use Rattle.std.specs.Result.{is_ok}
 use Rattle.std.specs.Fmt.{decimal}
 use Rattle.std.proofs.KnownBytes.{Appends-nil}
 use Rattle.rv_rows.specs.declared_row.Row.{Row}
@@ -9,8 +10,9 @@ use Rattle.rv_expect.specs.declared.passing.Rule.{Rule}
 use Rattle.rv_stream.specs.Streams.{row_text_list, joined_row_texts}
 use Rattle.rv_text.specs.declared.xml.Within.TheVariants.{Element}
 use Rattle.rv_text.specs.Xml.{xml_text}
-use Rattle.rv_junit.specs.Pieces.{attribute}
-use Rattle.rv_junit.specs.Junit.{suite_begin_text, test_case_text, test_cases_text, suite_end_text, junit_text, output_text, problem_or_none}
+use Rattle.rv_expect.specs.Problem.{is_error, is_failure}
+use Rattle.rv_junit.specs.Pieces.{attribute, number_attribute}
+use Rattle.rv_junit.specs.Junit.{steps_properties, suite_begin_text, test_case_text, test_cases_text, suite_end_text, junit_text, output_text, problem_or_none}
 
 joined : (a b c d p o s m x y z : List ℕ)
     → ((a ++ (b ++ (c ++ (d ++ [])))) ++ p) ++ (o ++ (s ++ (m ++ (x ++ ((y ++ z) ++ [])))))
@@ -29,6 +31,30 @@ case_whole class rule row lines =
     joined (codes "<testcase") (attribute (codes "classname") class) (attribute (codes "name") row.name) (codes ">\n")
     (problem_or_none rule row lines) (codes "<system-out>") (decimal row.steps) (codes " steps\n")
     (xml_text Element row.console) (codes "</system-out>\n") (codes "</testcase>\n")
+
+begun : (a b c d e f p : List ℕ) → (a ++ (b ++ (c ++ (d ++ (e ++ (f ++ [])))))) ++ p ≡ a ++ b ++ c ++ d ++ e ++ f ++ p
+begun a b c d e f p = simp (append_assoc, append-nil)
+
+-- the begin of a suite, and the steps of its jobs
+pub suite_whole : (class : List ℕ) (rule : Rule) (rows : List Row) →
+    (codes "<?xml version=\"1.0\" encoding=\"UTF-8\"?>\n<testsuites>\n<testsuite" ++ (attribute (codes "name") class
+    ++ (number_attribute (codes "tests") (length rows)
+    ++ (number_attribute (codes "failures") (count_by (is_failure rule) rows)
+    ++ (number_attribute (codes "errors") (count_by (is_error rule) rows) ++ (codes ">\n" ++ []))))))
+    ++ steps_properties rows
+    ≡ suite_begin_text class rule rows
+unfolding suite_begin_text
+suite_whole class rule rows =
+    begun (codes "<?xml version=\"1.0\" encoding=\"UTF-8\"?>\n<testsuites>\n<testsuite") (attribute (codes "name") class)
+    (number_attribute (codes "tests") (length rows))
+    (number_attribute (codes "failures") (count_by (is_failure rule) rows))
+    (number_attribute (codes "errors") (count_by (is_error rule) rows)) (codes ">\n") (steps_properties rows)
+
+-- what was appended where that went well
+pub written : {T E : Type 0} (r : Result T E) (new whole same : List ℕ) → new ≡ (if is_ok r then whole else same)
+    → OnOk r (new ≡ whole)
+written (Ok x) new whole same is = is
+written (Err e) new whole same is = tt
 
 -- nothing went out yet
 pub nothing_out : (a : Option (List ℕ)) (text : List ℕ) → AppendsBeginning a a text

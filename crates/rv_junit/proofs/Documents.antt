@@ -1,8 +1,8 @@
 -- Documents are characters of XML.
-use Rattle.std.proofs.Common.{refl, ℕ, zero, suc, ◌^◌, ◌<◌, List, [], ◌∷◌, Bool, true, false}
+use Rattle.std.proofs.Common.{refl, ℕ, zero, suc, ◌^◌, ◌<◌, List, [], ◌∷◌, ◌++◌, Bool, true, false}
 use Rattle.std.proofs.Common.{cond, Option, Some, None, arith, get_or, length, take}
 use Rattle.std.specs.Prelude.{codes, count_by, position}
-use Rattle.std.specs.List.{AllByRecursion}
+use Rattle.std.specs.List.{AllByRecursion, flat_map}
 use Rattle.hex.specs.Hex.{IsBytes}
 use Rattle.rv_rows.specs.declared_row.Row.{Row}
 use Rattle.rv_rows.specs.Verdict.{did_run}
@@ -14,7 +14,7 @@ use Rattle.rv_junit.specs.Pieces.{attribute, number_attribute}
 use Rattle.rv_junit.specs.Junit.{IsWrittenRow, suite_begin_text, test_case_text, test_cases_text, suite_end_text, first_line}
 use Rattle.rv_expect.specs.Problem.{is_error, is_failure}
 use Rattle.rv_junit.specs.Junit.{junit_text, output_text, problem_element_name}
-use Rattle.rv_junit.specs.Junit.{problem_text, text_up_to}
+use Rattle.rv_junit.specs.Junit.{problem_text, steps_properties, steps_property, text_up_to}
 use Rattle.rv_text.specs.Xml.{IsXmlCharacters}
 use Rattle.rv_junit.proofs.Laws.{all_are_counted}
 use Rattle.rv_text.proofs.Public.{xml_append, xml_decimal, xml_escaped, xml_nil, xml_plain}
@@ -95,24 +95,64 @@ xml_cases class rule (text ∷ texts) (row ∷ rows) classed lines are =
     xml_append _ _ (xml_case class rule row text classed are.0 lines.0)
     (xml_cases class rule texts rows classed lines.1 are.1)
 
-xml_begin : (class : List ℕ) (rule : Rule) (rows : List Row) → IsBytes class → length rows < 2 ^ 64 →
-    IsXmlCharacters (suite_begin_text class rule rows)
+bytes_append : (xs ys : List ℕ) → IsBytes xs → IsBytes ys → IsBytes (xs ++ ys)
+bytes_append [] ys one other = other
+bytes_append (x ∷ xs) ys one other = λ i. elim i as (λ k. get_or (x ∷ (xs ++ ys)) k 0 < 256) [
+  | zero ↦ one 0
+  | suc k ↦ bytes_append xs ys (λ j. one (suc j)) other k
+]
+
+bytes_nil : IsBytes []
+bytes_nil = λ i. omega arith
+
+bytes_more : (x : ℕ) (xs : List ℕ) → x < 256 → IsBytes xs → IsBytes (x ∷ xs)
+bytes_more x xs fits are = λ i. elim i as (λ k. get_or (x ∷ xs) k 0 < 256) [
+  | zero ↦ fits
+  | suc k ↦ are k
+]
+
+bytes_steps : IsBytes (codes "steps.")
+bytes_steps =
+    bytes_more 115 (codes "teps.") (omega arith) (bytes_more 116 (codes "eps.") (omega arith)
+    (bytes_more 101 (codes "ps.") (omega arith) (bytes_more 112 (codes "s.") (omega arith)
+    (bytes_more 115 (codes ".") (omega arith) (bytes_more 46 [] (omega arith) bytes_nil)))))
+
+xml_steps_property : (row : Row) → IsWrittenRow row → IsXmlCharacters (steps_property row)
+unfolding steps_property
+xml_steps_property row is =
+    xml_append _ _ (xml_append _ _ (xml_append _ _ (xml_plain (codes "<property") refl)
+    (xml_attribute (codes "name") (codes "steps." ++ row.name) (xml_plain (codes "name") refl)
+    (bytes_append (codes "steps.") row.name bytes_steps is.name)))
+    (xml_number (codes "value") row.steps (xml_plain (codes "value") refl) is.steps)) (xml_plain (codes "/>\n") refl)
+
+xml_each_steps : (rows : List Row) → AllByRecursion IsWrittenRow rows → IsXmlCharacters (flat_map steps_property rows)
+xml_each_steps [] are = xml_nil
+xml_each_steps (row ∷ rows) are = xml_append _ _ (xml_steps_property row are.0) (xml_each_steps rows are.1)
+
+xml_steps : (rows : List Row) → AllByRecursion IsWrittenRow rows → IsXmlCharacters (steps_properties rows)
+unfolding steps_properties
+xml_steps rows are =
+    xml_append _ _ (xml_append _ _ (xml_plain (codes "<properties>\n") refl) (xml_each_steps rows are))
+    (xml_plain (codes "</properties>\n") refl)
+
+xml_begin : (class : List ℕ) (rule : Rule) (rows : List Row) → IsBytes class → AllByRecursion IsWrittenRow rows →
+    length rows < 2 ^ 64 → IsXmlCharacters (suite_begin_text class rule rows)
 unfolding suite_begin_text
-xml_begin class rule rows classed few =
+xml_begin class rule rows classed are few =
     let failures : count_by (is_failure rule) rows < 2 ^ 64 = omega (arith, all_are_counted rule rows) in
     let errors : count_by (is_error rule) rows < 2 ^ 64 = omega (arith, all_are_counted rule rows) in
-    xml_append _ _ (xml_append _ _ (xml_append _ _ (xml_append _ _ (xml_append _ _
+    xml_append _ _ (xml_append _ _ (xml_append _ _ (xml_append _ _ (xml_append _ _ (xml_append _ _
     (xml_plain (codes "<?xml version=\"1.0\" encoding=\"UTF-8\"?>\n<testsuites>\n<testsuite") refl)
     (xml_attribute (codes "name") class (xml_plain (codes "name") refl) classed))
     (xml_number (codes "tests") (length rows) (xml_plain (codes "tests") refl) few))
     (xml_number (codes "failures") (count_by (is_failure rule) rows) (xml_plain (codes "failures") refl) failures))
     (xml_number (codes "errors") (count_by (is_error rule) rows) (xml_plain (codes "errors") refl) errors))
-    (xml_plain (codes ">\n") refl)
+    (xml_plain (codes ">\n") refl)) (xml_steps rows are)
 
 pub xml_junit : (class : List ℕ) (rule : Rule) (texts : List (List ℕ)) (rows : List Row) → IsBytes class →
     AllByRecursion IsBytes texts → AllByRecursion IsWrittenRow rows → length rows < 2 ^ 64 →
     IsXmlCharacters (junit_text class rule texts rows)
 unfolding junit_text
 xml_junit class rule texts rows classed lines are few =
-    xml_append _ _ (xml_append _ _ (xml_begin class rule rows classed few)
+    xml_append _ _ (xml_append _ _ (xml_begin class rule rows classed are few)
     (xml_cases class rule texts rows classed lines are)) (xml_plain suite_end_text refl)

@@ -2,6 +2,7 @@
 use Rattle.std.specs.Prelude.{◌^◌, ◌<◌, ℕ, List, [], ◌∷◌, ◌++◌, Option, Some, None, codes}
 use Rattle.std.specs.Prelude.{count_by, if◌then◌else◌, length, position, take}
 use Rattle.std.specs.Fmt.{decimal}
+use Rattle.std.specs.List.{flat_map}
 use Rattle.hex.specs.Hex.{IsBytes}
 use Rattle.rv_rows.specs.declared_row.Row.{Row}
 use Rattle.rv_rows.specs.Verdict.{did_run}
@@ -49,13 +50,23 @@ test_case_text class rule row lines =
 
 -- ---- the document
 
--- the name and the counts of the one suite
+-- the steps of a job, behind its name
+unfoldable pub steps_property : Row → List ℕ
+steps_property row =
+    codes "<property" ++ attribute (codes "name") (codes "steps." ++ row.name) ++ number_attribute (codes "value") row.steps
+    ++ codes "/>\n"
+
+-- the steps of all jobs
+unfoldable pub steps_properties : List Row → List ℕ
+steps_properties rows = codes "<properties>\n" ++ flat_map steps_property rows ++ codes "</properties>\n"
+
+-- the name and the counts of the one suite, and the steps of its jobs
 unfoldable pub suite_begin_text : List ℕ → Rule → List Row → List ℕ
 suite_begin_text class rule rows =
     codes "<?xml version=\"1.0\" encoding=\"UTF-8\"?>\n<testsuites>\n<testsuite"
     ++ attribute (codes "name") class ++ number_attribute (codes "tests") (length rows)
     ++ number_attribute (codes "failures") (count_by (is_failure rule) rows)
-    ++ number_attribute (codes "errors") (count_by (is_error rule) rows) ++ codes ">\n"
+    ++ number_attribute (codes "errors") (count_by (is_error rule) rows) ++ codes ">\n" ++ steps_properties rows
 
 -- one case a row, with the text of lines at its place
 unfoldable pub test_cases_text : List ℕ → Rule → List (List ℕ) → List Row → List ℕ

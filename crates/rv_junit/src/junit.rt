@@ -1,18 +1,20 @@
 //! The parts of JUnit's XML.
 
-ghost use Rattle.std.specs.Prelude.{◌≡◌, ◌++◌, OnOk, count_by, position, string_bytes};
+ghost use Rattle.std.specs.Prelude.{◌≡◌, ◌++◌, IfOk, OnOk, codes, count_by, position, string_bytes};
+ghost use Rattle.std.specs.List.{flat_map};
 ghost use Rattle.rv_job_text.specs.ConsoleTail.{is_feed};
 ghost use Rattle.rv_expect.specs.Problem.{is_error, is_failure};
-ghost use Rattle.rv_junit.specs.Junit.{suite_begin_text, test_case_text, first_line};
+ghost use Rattle.rv_junit.specs.Junit.{suite_begin_text, test_case_text, first_line, steps_properties, steps_property};
 ghost use Rattle.rv_junit.specs.Junit.{problem_element_name, problem_or_none};
 
 use crate::pieces::{Piece, push_pieces};
 use crate::suite::Suite;
 use rv_expect::{Rule, has_passed, is_error, is_failure};
 use rv_rows::{Row, did_run};
+use rv_text::push_text;
 use std::alloc::{AllocError, Global};
 
-/// Appends what stands before the cases: the declaration, and the suite's name and counts.
+/// Appends what stands before the cases: the declaration, the suite's name and counts, and the steps of the rows.
 pub(crate) fn push_suite_begin(
     alloc: Global,
     text: &mut String,
@@ -35,7 +37,57 @@ pub(crate) fn push_suite_begin(
             Piece::NumberAttribute("errors", errors as u64),
             Piece::Text(">\n"),
         ],
+    )?;
+    push_steps_properties(alloc, text, rows)
+}
+
+// Appends the steps of rows as properties.
+fn push_steps_properties(alloc: Global, text: &mut String, rows: &[Row]) -> Result<(), AllocError>
+    ensures { OnOk result (string_bytes text.new ≡ string_bytes text.old ++ steps_properties rows.now) }
+{
+    text.push_str("<properties>\n")?;
+    push_each_steps_property(alloc, text, rows)?;
+    text.push_str("</properties>\n")
+}
+
+fn push_each_steps_property(
+    alloc: Global,
+    text: &mut String,
+    rows: &[Row],
+) -> Result<(), AllocError>
+    ensures { OnOk result (string_bytes text.new ≡ string_bytes text.old ++ flat_map steps_property rows.now) }
+{
+    for row in rows {
+        push_steps_property(alloc, text, row)?;
+    }
+    Ok(())
+}
+
+#[tactic(auto, unfolding(crate::specs::Junit::steps_property))]
+fn push_steps_property(alloc: Global, text: &mut String, row: &Row) -> Result<(), AllocError>
+    ensures { OnOk result (string_bytes text.new ≡ string_bytes text.old ++ steps_property row.now) }
+{
+    let name = steps_name(alloc, row)?;
+    let steps = row.steps;
+    push_pieces(
+        alloc,
+        text,
+        &[
+            Piece::Text("<property"),
+            Piece::Attribute("name", name.as_slice()),
+            Piece::NumberAttribute("value", u64::from(steps)),
+            Piece::Text("/>\n"),
+        ],
     )
+}
+
+fn steps_name(alloc: Global, row: &Row) -> Result<Vec<u8>, AllocError>
+    ensures { IfOk result (λ name. name.items ≡ codes "steps." ++ row.now.name) }
+{
+    let mut name = Vec::new(alloc);
+    push_text(&mut name, "steps.")?;
+    name.extend_from_slice(row.name.as_str().as_bytes())?;
+    Ok(name)
 }
 
 fn failure_count(rule: Rule, rows: &[Row]) -> usize

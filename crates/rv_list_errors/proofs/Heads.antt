@@ -9,7 +9,7 @@ use Rattle.rv_lists.specs.declared.error.JobError.{JobError}
 use Rattle.rv_list_errors.specs.FaultHeads.{fault_head, fault_place, job_names, place_in_document}
 use Rattle.rv_list_errors.specs.JobPlaces.{job_lines}
 
-read_document : (text : List ℕ) (ms : Members) → IsUtf8 text → parse_document text ≡ Some ms → document_of text ≡ Some ms
+pub read_document : (text : List ℕ) (ms : Members) → IsUtf8 text → parse_document text ≡ Some ms → document_of text ≡ Some ms
 read_document text ms valid parsed =
     ap (λ (test : Bool). cond test (parse_document text) None) (is_utf8-from_IsUtf8 text valid) ∙ parsed
 
@@ -21,7 +21,7 @@ head_in_list file text ms lines names fault valid parsed these those =
     (λ i. file ++ fault_place (these i) (those i) fault.job)
     ∙ ap (λ document. file ++ place_in_document text document fault.job) (sym (read_document text ms valid parsed))
 
-refused_document : (text : List ℕ) → (IsUtf8 text → parse_document text ≡ None) → document_of text ≡ None
+pub refused_document : (text : List ℕ) → (IsUtf8 text → parse_document text ≡ None) → document_of text ≡ None
 refused_document text refused = of_test (is_utf8 text) refl
   where
     of_test : (test : Bool) → is_utf8 text ≡ test → cond test (parse_document text) None ≡ None

@@ -15,7 +15,8 @@ use Rattle.std.specs.Result.{IsErrAnd}
 use Rattle.toml.specs.Parse.{skip_bom}
 use Rattle.toml_parser.specs.declared.error.ParseError.{ParseError}
 use Rattle.toml_parser.specs.declared.error.ParseError.TheVariants.{OutOfMemory}
-use Rattle.rv_list_errors.specs.Steps.{UnlessMemory}
+use Rattle.std.proofs.lemmas.List.{map-append}
+use Rattle.rv_list_errors.specs.Steps.{UnlessMemory, now_texts}
 use Rattle.rv_list_errors.specs.declared.headers.scan.Next.{Next}
 use Rattle.rv_list_errors.specs.JobPlaces.{behind_brackets, behind_letters, behind_token, behind_word, depth_behind}
 use Rattle.rv_list_errors.specs.JobPlaces.{is_in_word, jobs_from, step}
@@ -109,6 +110,13 @@ jobs_other (suc m) next what text rest some more is =
 pub noted_more : (line : List ℕ → ℕ) (here : List ℕ) (jobs : List (List ℕ)) (n : ℕ) (before after : List ℕ) →
     after ≡ before ++ n ∷ [] → n ≡ line here → before ++ map line (here ∷ jobs) ≡ after ++ map line jobs
 noted_more line here jobs n before after noted is = rw (noted, is) (sym (append_assoc before (line here ∷ []) (map line jobs)))
+
+-- the text from one more job on
+pub texts_more : (here : Bor (List ℕ)) (jobs : List (List ℕ)) (before after : List (Bor (List ℕ))) →
+    after ≡ before ++ here ∷ [] → now_texts before ++ (here.now ∷ jobs) ≡ now_texts after ++ jobs
+texts_more here jobs before after noted =
+    rw (noted, map-append (λ (text : Bor (List ℕ)). text.now) before (here ∷ []))
+    (sym (append_assoc (now_texts before) (here.now ∷ []) jobs))
 
 -- ---- the byte order mark
 

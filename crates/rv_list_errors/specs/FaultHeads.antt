@@ -41,10 +41,14 @@ abbrev pub name_text : Option (List ℕ) → List ℕ
 name_text None = []
 name_text (Some name) = codes " (" ++ (printable_value name ++ codes ")")
 
--- of the job of a number, counted from 1: the line on which it begins, the number, and its name
+-- the number of a job, counted from 1, and its name
+abbrev pub job_number_and_name : List (Option (List ℕ)) → ℕ → List ℕ
+job_number_and_name names number =
+    codes ": job " ++ (decimal number ++ (name_text (slice_index_or names (number - 1) None) ++ codes ": "))
+
+-- of the job of a number: the line on which it begins, the number, and its name
 abbrev pub job_heading : List ℕ → List (Option (List ℕ)) → ℕ → List ℕ
-job_heading lines names number = line_text (slice_get lines (number - 1)) ++ (codes ": job " ++ (decimal number
-    ++ (name_text (slice_index_or names (number - 1) None) ++ codes ": ")))
+job_heading lines names number = line_text (slice_get lines (number - 1)) ++ job_number_and_name names number
 
 -- the number 0 stands for the whole list
 abbrev pub fault_place : List ℕ → List (Option (List ℕ)) → ℕ → List ℕ

@@ -1,9 +1,12 @@
 pub mod Places
 pub mod JobPlaces
 pub mod JobBegins
+pub mod JobKeys
+pub mod NamedKeys
 pub mod Steps
 pub mod FaultHeads
 pub mod Lines
+pub mod PlacedFaults
 pub mod NearestJob
 pub mod NearNames
 pub mod Told

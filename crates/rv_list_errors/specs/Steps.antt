@@ -1,5 +1,5 @@
 -- How what is read stands to the definitions.
-use Rattle.std.specs.Prelude.{◌≡◌, ℕ, List, Result, MatchResult}
+use Rattle.std.specs.Prelude.{◌≡◌, ℕ, List, Result, MatchResult, map}
 use Rattle.std.specs.Borrow.{Bor}
 use Rattle.toml_parser.specs.declared.error.ParseError.{ParseError}
 use Rattle.toml_parser.specs.declared.error.ParseError.TheVariants.{OutOfMemory}
@@ -21,3 +21,7 @@ GivesStep result expected = Gives step_view result expected
 -- it holds unless memory ran out
 abbrev pub UnlessMemory : {A : Type 0} → Result A ParseError → Type 0 → Type 0
 UnlessMemory result P = MatchResult result (λ _. P) (λ e. (e ≡ OutOfMemory → ⊥) → P)
+
+-- the texts that are borrowed
+abbrev pub now_texts : List (Bor (List ℕ)) → List (List ℕ)
+now_texts texts = map (λ text. text.now) texts

@@ -38,17 +38,19 @@ fn console_or_end_explanation(table: &Table) -> Told {
     let text = text_at_key(table, "expect_console");
     let is_file = text_at_key(table, "expect_console_file").is_some();
     match text {
-        Some(_) if is_file => Told::Text(BOTH),
+        Some(_) if is_file => Told::Text(BOTH_CONSOLES),
         Some(text) if MOST_CONSOLE < text.len() => Told::Wanted(&EXPECT_CONSOLE),
         None if has_bad_path(table, "expect_console_file") => Told::Wanted(&EXPECT_CONSOLE_FILE),
         _ => end_explanation(table),
     }
 }
 
-const BOTH: &str = "expect_console and expect_console_file both stand: one of them is taken";
+/// What is told of a console that is expected twice.
+pub(crate) const BOTH_CONSOLES: &str =
+    "expect_console and expect_console_file both stand: one of them is taken";
 
-// An exit is expected by a key of its own.
-fn end_explanation(table: &Table) -> Told {
+/// Of an end that is none: an exit is expected by a key of its own.
+pub(crate) fn end_explanation(table: &Table) -> Told {
     match text_at_key(table, "expect_end") {
         Some("exit") => Told::Text(EXIT),
         _ => Told::Wanted(&EXPECT_END),

@@ -1,8 +1,8 @@
 //! What is told of a fault.
 
-ghost use Rattle.std.specs.Prelude.{◌≡◌, ◌++◌, ◌<◌, IfOk, None, OnOk, slice_get, slice_index_or};
+ghost use Rattle.std.specs.Prelude.{◌≡◌, ◌++◌, ◌<◌, IfOk, None, OnOk, codes, slice_get, slice_index_or};
 ghost use Rattle.rv_list_errors.specs.FaultHeads.{borrowed_name, borrowed_names, fault_place, job_heading, line_text, look_place};
-ghost use Rattle.rv_list_errors.specs.FaultHeads.{name_text};
+ghost use Rattle.rv_list_errors.specs.FaultHeads.{job_number_and_name, name_text};
 ghost use Rattle.rv_list_errors.specs.Lines.{BeginsWith};
 
 use crate::job_fault::push_job_fault;
@@ -10,7 +10,7 @@ use crate::list::List;
 use crate::list_fault::{push_list_fault, push_not_toml};
 use crate::message::Message;
 use crate::names::Suggestion;
-use rv_lists::JobError;
+use rv_lists::{JobError, What};
 use rv_text::{Span, push_spans, push_text};
 use std::alloc::{AllocError, Global};
 use toml::de::Error;
@@ -43,6 +43,23 @@ pub(crate) fn message_of_fault(
     Ok(message)
 }
 
+/// What is told of a fault of a whole list, without the end of its line.
+pub(crate) fn list_fault_message(
+    alloc: Global,
+    file: &str,
+    list: &List<'_>,
+    what: What,
+) -> Result<Vec<u8>, AllocError>
+    ensures { IfOk result (λ message. BeginsWith (file.now ++ codes ": ") message.items) }
+{
+    let mut message = Vec::new(alloc);
+    push_spans(&mut message, &[Span::Text(file), Span::Text(": ")])?;
+    let mut explanation = Message::new(alloc);
+    push_list_fault(&mut explanation, list, what);
+    message.extend_from_slice(explanation.finish()?.as_slice())?;
+    Ok(message)
+}
+
 // Appends where a fault stands in the list, as far as its jobs are known.
 fn push_fault_place(message: &mut Vec<u8>, look: &Look<'_>, job: u32) -> Result<(), AllocError>
     ensures { OnOk result (message.new.items ≡ message.old.items ++ look_place look.now job) }
@@ -72,11 +89,24 @@ fn push_job_heading(message: &mut Vec<u8>, list: &List<'_>, number: u32) -> Resu
 {
     let place = number as usize - 1;
     push_line_number(message, &list.lines, place)?;
+    push_job_number_and_name(message, list, number)
+}
+
+/// Appends the number of a job, and its name where that is a text.
+pub(crate) fn push_job_number_and_name(
+    message: &mut Vec<u8>,
+    list: &List<'_>,
+    number: u32,
+) -> Result<(), AllocError>
+    requires { 0 < number }
+    ensures { OnOk result (message.new.items ≡ message.old.items
+        ++ job_number_and_name (borrowed_names list.now.names.items) number) }
+{
     push_spans(
         message,
         &[Span::Text(": job "), Span::Number(u64::from(number))],
     )?;
-    push_name_in_brackets(message, name_at(&list.names, place))?;
+    push_name_in_brackets(message, name_at(&list.names, number as usize - 1))?;
     push_text(message, ": ")
 }
 

@@ -60,8 +60,8 @@ fn push_fault_lines(
     Ok(())
 }
 
-// What is told beside a name that no job has, in the fault at a place.
-fn suggestion_for_fault(place: usize) -> Suggestion {
+/// What is told beside a name that no job has, in the fault at a place.
+pub(crate) fn suggestion_for_fault(place: usize) -> Suggestion {
     if place < NEAR_TOLD {
         Suggestion::Nearest
     } else {

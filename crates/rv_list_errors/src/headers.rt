@@ -3,9 +3,14 @@
 //! [`job_line_numbers`] walks over the text with the readers of `toml_parser`: a header of `job` counts outside strings and
 //! comments, however it is spelt, and of an array each element. [`line_and_column`] counts lines and columns.
 
+mod cursor;
+mod job_keys;
 mod lines;
 mod scan;
 mod values;
 
+pub(crate) use cursor::Cursor;
+pub(crate) use job_keys::{JobKey, job_keys};
 pub use lines::{Place, line_and_column};
 pub use scan::job_line_numbers;
+pub(crate) use scan::job_texts;

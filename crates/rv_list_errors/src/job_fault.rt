@@ -29,7 +29,7 @@ pub(crate) fn push_job_fault(
 ) {
     match list.jobs.get(place) {
         Some(Value::Table(table)) => match what {
-            What::Duplicate => push_name_fault(message, list, table, "name", FREE),
+            What::Duplicate => push_taken_name(message, list, table),
             What::SameAs => push_unknown_same_as(message, list, table, place, suggestion),
             _ => push_fault_within_job(message, table, what),
         },
@@ -39,6 +39,11 @@ pub(crate) fn push_job_fault(
         }
         None => message.push(what.name()),
     }
+}
+
+/// Appends that an earlier job has the name of a job.
+pub(crate) fn push_taken_name(message: &mut Message, list: &List<'_>, table: &Table) {
+    push_name_fault(message, list, table, "name", FREE)
 }
 
 const FREE: &str = "a name that no earlier job has is wanted";
@@ -71,8 +76,8 @@ fn key_explanation(table: &Table, what: What) -> Told
     }
 }
 
-// Of the sets that people ask for most, which part is not simulated.
-fn isa_explanation(table: &Table) -> Told {
+/// Of the sets that people ask for most, which part is not simulated.
+pub(crate) fn isa_explanation(table: &Table) -> Told {
     match text_at_key(table, "isa") {
         Some(isa) if isa.starts_with("rv64") => Told::Wanted(&ISA_OF_64_BITS),
         Some(isa) => match isa.strip_prefix("rv32") {
@@ -109,7 +114,7 @@ fn is_unsimulated(letter: u8) -> bool
 
 fn input_explanation(table: &Table) -> Told {
     match (text_at_key(table, "input"), text_at_key(table, "input_hex")) {
-        (Some(_), Some(_)) => Told::Text("input and input_hex both stand: one of them is taken"),
+        (Some(_), Some(_)) => Told::Text(BOTH_INPUTS),
         (Some(_), None) => Told::Wanted(&INPUT),
         (None, Some(digits)) if are_hex_digit_pairs(digits) => Told::Wanted(&INPUT_HEX),
         (None, Some(_)) => Told::Wanted(&PAIRS),
@@ -117,7 +122,11 @@ fn input_explanation(table: &Table) -> Told {
     }
 }
 
-fn are_hex_digit_pairs(digits: &str) -> bool {
+/// What is told of a script that stands twice.
+pub(crate) const BOTH_INPUTS: &str = "input and input_hex both stand: one of them is taken";
+
+/// Whether digits stand for bytes.
+pub(crate) fn are_hex_digit_pairs(digits: &str) -> bool {
     for digit in digits.as_bytes() {
         if !digit.is_ascii_hexdigit() {
             return false;

@@ -89,12 +89,15 @@ pub(crate) fn push_unknown_key(message: &mut Message, key: &str)
 /// keys of a job the nearest, where one is near.
 pub(crate) fn push_unknown_job_key(message: &mut Message, table: &Table) {
     match unknown_key(table, Owner::Job) {
-        Some(key) => {
-            push_unknown_key(message, key);
-            push_nearest_key(message, key);
-        }
+        Some(key) => push_unknown_job_key_of(message, key),
         None => push_unknown_region_key(message, table),
     }
+}
+
+/// Appends a key that no job has, and the nearest that jobs have, or all of them.
+pub(crate) fn push_unknown_job_key_of(message: &mut Message, key: &str) {
+    push_unknown_key(message, key);
+    push_nearest_key(message, key);
 }
 
 // Appends the key of a job that is nearest to a text, or all keys where none is near.
@@ -115,7 +118,8 @@ fn push_nearest_key(message: &mut Message, text: &str) {
     }
 }
 
-fn push_unknown_region_key(message: &mut Message, table: &Table) {
+/// Appends the first key of a region that no region has, and those that regions have.
+pub(crate) fn push_unknown_region_key(message: &mut Message, table: &Table) {
     for (at, region) in elements_at_key(table, "region").iter().enumerate() {
         if let Some(key) = unknown_region_key(region) {
             push_region_number(message, at);
@@ -125,6 +129,16 @@ fn push_unknown_region_key(message: &mut Message, table: &Table) {
         }
     }
     message.push("unknown key");
+}
+
+/// Whether a region of a job has a key that no region has.
+pub(crate) fn region_with_unknown_key(table: &Table) -> bool {
+    for region in elements_at_key(table, "region") {
+        if unknown_region_key(region).is_some() {
+            return true;
+        }
+    }
+    false
 }
 
 fn unknown_region_key(region: &Value) -> Option<&str> {

@@ -26,7 +26,8 @@ fn is_value_of_other_kind(table: &Table, key: &str, kind: Kind) -> bool {
     }
 }
 
-fn is_of_toml_kind(kind: Kind, value: &Value) -> bool {
+/// Whether a value is of a kind.
+pub(crate) fn is_of_toml_kind(kind: Kind, value: &Value) -> bool {
     match kind {
         Kind::Text => value.is_str(),
         Kind::Number => value.is_integer(),
@@ -95,8 +96,13 @@ fn is_other_than_boolean(value: Option<&Value>) -> bool {
 
 const NUMBER: &str = "a whole number is wanted";
 
-// Appends the value of a key, which is of another kind than this.
-fn push_value_of_wrong_kind(message: &mut Message, table: &Table, key: &str, kind: Kind) {
+/// Appends the value of a key, which is of another kind than this.
+pub(crate) fn push_value_of_wrong_kind(
+    message: &mut Message,
+    table: &Table,
+    key: &str,
+    kind: Kind,
+) {
     match kind {
         Kind::Text => push_text_of_wrong_kind(message, table, key),
         Kind::Number => push_wanted_value(message, table, key, NUMBER),

@@ -6,12 +6,15 @@
 //! that is probably meant by a name that no job has, where one is near.
 #![tactic(auto)]
 
+mod all_faults;
 mod expectation_fault;
 mod explanations;
 mod fault_text;
 mod faults;
+mod found_faults;
 mod headers;
 mod job_fault;
+mod key_faults;
 mod keys;
 mod kinds;
 mod law;
@@ -23,6 +26,7 @@ mod names;
 mod regions;
 mod values;
 
+pub use all_faults::push_all_faults;
 pub use faults::push_faults;
 pub use headers::{Place, job_line_numbers, line_and_column};
 pub use law::job_lines_are_of_headers_and_elements;

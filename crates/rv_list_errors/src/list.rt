@@ -21,6 +21,8 @@ pub(crate) struct List<'a> {
     pub(crate) names: Vec<Option<&'a str>>,
     /// The line on which each of them begins.
     pub(crate) lines: Vec<usize>,
+    /// The bytes of the list's text.
+    pub(crate) len: usize,
 }
 
 impl<'a> List<'a> {
@@ -40,7 +42,13 @@ impl<'a> List<'a> {
             jobs,
             names: element_names(alloc, jobs)?,
             lines: job_line_numbers(alloc, str::from_utf8(text).unwrap_or(""))?,
+            len: text.len(),
         })
+    }
+
+    /// The place at which an end of the list's text begins.
+    pub(crate) fn place_of_rest(&self, rest: &str) -> usize {
+        self.len.saturating_sub(rest.len())
     }
 
     /// The number, counted from 1, of the first job that has a name.

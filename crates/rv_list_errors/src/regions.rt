@@ -28,6 +28,27 @@ pub(crate) fn push_region_number(message: &mut Message, at: usize)
     message.push_number_between("region ", (at as u64).saturating_add(1), "");
 }
 
+/// Whether the elements of an array are the regions of a map.
+pub(crate) fn are_map(elements: &[Value]) -> bool {
+    for element in elements {
+        if region_of_element(element).is_none() {
+            return false;
+        }
+    }
+    let regions = first_regions(elements);
+    elements.len() <= regions.len() && Map::of(&regions[..elements.len()]).is_ok()
+}
+
+// The first four regions, of which some may be empty.
+fn first_regions(elements: &[Value]) -> [Region; 4] {
+    [
+        region_or_empty(elements, 0),
+        region_or_empty(elements, 1),
+        region_or_empty(elements, 2),
+        region_or_empty(elements, 3),
+    ]
+}
+
 /// Appends why the regions of a job are no map.
 pub(crate) fn push_region_fault(message: &mut Message, table: &Table) {
     let elements = elements_at_key(table, "region");
@@ -36,12 +57,7 @@ pub(crate) fn push_region_fault(message: &mut Message, table: &Table) {
             return push_bad_base_or_size(message, at, element);
         }
     }
-    let regions = [
-        region_or_empty(elements, 0),
-        region_or_empty(elements, 1),
-        region_or_empty(elements, 2),
-        region_or_empty(elements, 3),
-    ];
+    let regions = first_regions(elements);
     if elements.len() <= regions.len() {
         push_map_error(message, &regions[..elements.len()]);
     } else {

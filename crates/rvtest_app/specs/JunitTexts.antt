@@ -1,5 +1,5 @@
 -- What a JUnit document has of the rows of a report.
-use Rattle.std.specs.Prelude.{ℕ, List, map, unwrap_or}
+use Rattle.std.specs.Prelude.{ℕ, List, Option, Some, None, map, unwrap_or}
 use Rattle.std.specs.Path.{path_file_stem}
 use Rattle.rv_expect.specs.declared.passing.Rule.{Rule}
 use Rattle.rv_junit.specs.Junit.{junit_text}
@@ -9,6 +9,11 @@ use Rattle.rvtest_app.specs.ReportSummary.{failed_line}
 -- the name of a file without its folders and its ending, as the class of its jobs in JUnit's XML
 abbrev pub junit_class : List ℕ → List ℕ
 junit_class path = unwrap_or (path_file_stem path) path
+
+-- the name of the suite: the one that is asked for, else by the path of a file
+abbrev pub suite_name : Option (List ℕ) → List ℕ → List ℕ
+suite_name (Some name) path = name
+suite_name None path = junit_class path
 
 -- the document of the rows of a report, of which no more is known: each with the line of a row that failed
 abbrev pub failures_junit : List ℕ → Rule → List Row → List ℕ

@@ -1,5 +1,5 @@
 -- What `merge` reads, and what it puts where.
-use Rattle.std.specs.Prelude.{◌≡◌, ℕ, List, [], ◌∷◌, Option, Some, None, codes, if◌then◌else◌, ⊤}
+use Rattle.std.specs.Prelude.{◌≡◌, ℕ, List, [], ◌∷◌, Option, Some, None, codes, if◌then◌else◌, unwrap_or, ⊤}
 use Rattle.std.specs.Borrow.{Bor}
 use Rattle.rv_base.specs.Files.{FileContents}
 use Rattle.rv_cli.specs.declared.rvtest.merge.MergeAsked.{MergeAsked}
@@ -12,7 +12,7 @@ use Rattle.rvtest_app.specs.Commands.{failure_rule}
 use Rattle.rvtest_app.specs.Outlets.{is_stdout}
 use Rattle.rvtest_app.specs.Puts.{WentOut}
 use Rattle.rvtest_app.specs.RunOutput.{rows_status}
-use Rattle.rvtest_app.specs.JunitTexts.{failures_junit, junit_class}
+use Rattle.rvtest_app.specs.JunitTexts.{failures_junit, suite_name}
 use Rattle.rvtest_app.specs.Said.{Said}
 
 -- the texts are what stands at the paths, in order
@@ -27,10 +27,10 @@ merged_report_path (Some path) junit = Some path
 merged_report_path None None = Some (codes "-")
 merged_report_path None (Some junit) = if is_stdout junit then None else Some (codes "-")
 
--- the class of the jobs in JUnit's XML: by the report's path, if one is given
-abbrev pub merged_class : Option (List ℕ) → List ℕ
-merged_class (Some path) = junit_class path
-merged_class None = codes "merged"
+-- the name of the suite: the one that is asked for, else by the report's path, if one is given
+abbrev pub merged_suite : Option (List ℕ) → Option (List ℕ) → List ℕ
+merged_suite suite (Some path) = suite_name suite path
+merged_suite suite None = unwrap_or suite (codes "merged")
 
 -- of the rows of the list whose parts stand at the paths that words name, the line that counts them went out, the report, and
 -- where it is asked for JUnit's document; the status is by these rows
@@ -43,5 +43,5 @@ pub record IsMergedAt (known : Option FileContents) (words : MergeAsked) (status
   pub judged : status ≡ rows_status (failure_rule words.lenient) rows
   pub put : WentOut (merged_report_path (optional_text words.report) (optional_text words.junit))
       (optional_text words.junit) (totals_line (failure_rule words.lenient) rows) (report_text rows)
-      (failures_junit (merged_class (optional_text words.report)) (failure_rule words.lenient) rows)
+      (failures_junit (merged_suite (optional_text words.suite) (optional_text words.report)) (failure_rule words.lenient) rows)
       before after

@@ -14,12 +14,13 @@ use Rattle.rv_expect.specs.Passing.{has_passed}
 use Rattle.rv_expect.specs.declared.passing.Rule.TheVariants.{Strict}
 use Rattle.rv_files.specs.UnreadPaths.{contents_below}
 use Rattle.rv_files.specs.declared.noting_store.Unread.{Unread}
+use Rattle.rv_hang.specs.declared.budget_use.BudgetUse.{BudgetUse}
+use Rattle.rv_job_text.specs.BudgetUseLine.{IsUseOfRow}
 use Rattle.rv_job_text.specs.Telling.{explanation_text}
 use Rattle.rv_jobs.specs.Plans.{AreKept, Planned, jobs_needed_for, one_more_times, paths_of, paths_used}
 use Rattle.rv_jobs.specs.Plans.{unreadable_count}
 use Rattle.rv_jobs.specs.declared.answers.Answer.{Answer}
-use Rattle.rv_list_errors.specs.FaultHeads.{fault_head}
-use Rattle.rv_list_errors.specs.Lines.{PutsFaultLines}
+use Rattle.rv_list_errors.specs.PlacedFaults.{IsToldFault, PutsEachFault}
 use Rattle.rv_lists.specs.JobList.{job_list_of}
 use Rattle.rv_lists.specs.ListFaults.{list_faults}
 use Rattle.rv_lists.specs.declared.error.JobError.{JobError}
@@ -74,12 +75,12 @@ pub record IsPlanCheckOf (known : Option FileContents) (path bytes output : List
   pub text : output ≡ check_text path bytes plan unread
   pub judged : status ≡ check_status (refused_job_count plan)
 
--- the output has a line for each fault, of which there is one at least, that begins with the path and with the job that the
--- fault is of, and then the status is 2; a list without faults has the output and the status of a plan
+-- of each bad job the output has a line or more, each of which begins with the path, a line and a column of the text, and the job's
+-- number and name, and then the status is 2; a list without faults has the output and the status of a plan
 abbrev pub IsCheckOf : Option FileContents → List JobError → List ℕ → List ℕ → List ℕ → ℕ → Type 0
 IsCheckOf known [] path bytes output status = IsPlanCheckOf known path bytes output status
 IsCheckOf known (fault ∷ faults) path bytes output status =
-    PutsFaultLines (fault_head path bytes) (fault ∷ faults) [] output × (status ≡ 2)
+    PutsEachFault (IsToldFault path bytes) (fault ∷ faults) [] output × (status ≡ 2)
 
 -- the same of the list at the path that words name
 pub record IsCheckAt (known : Option FileContents) (words : CheckAsked) (output : List ℕ) (status : ℕ) : Type 0 where
@@ -89,6 +90,15 @@ pub record IsCheckAt (known : Option FileContents) (words : CheckAsked) (output 
       words.list.now bytes output status
 
 -- ---- explain
+
+-- a text explains the row of the job at a place of a plan, with so many of its last instructions, and with what is found of
+-- a used-up budget
+pub record IsTextExplaining (plan : Planned) (unread : List Unread) (place last : ℕ) (text : List ℕ) : Type 0 where
+  pub budget_use : Option BudgetUse
+  pub found : (d : Job) → IsUseOfRow plan (slice_index_or plan.jobs place d)
+      (row_of plan (slice_index_or plan.jobs place d)) budget_use
+  pub told : (d : Job) → text ≡ explanation_text plan unread Strict (slice_index_or plan.jobs place d)
+      (row_of plan (slice_index_or plan.jobs place d)) (record { last = last; budget_use = budget_use })
 
 -- the output and the status are those of the explanation of the job at a place, over answers for the
 -- paths that its row needs, which agree with what stands there
@@ -100,8 +110,7 @@ pub record IsJobExplained (known : Option FileContents) (jobs : List Job) (place
   pub kept : AreKept known plan.answers
   pub unread : List Unread
   pub noted : AreNotesOf plan.answers unread
-  pub text : (d : Job) → output ≡ explanation_text plan unread Strict
-      (slice_index_or plan.jobs place d) (row_of plan (slice_index_or plan.jobs place d)) last
+  pub text : IsTextExplaining plan unread place last output
   pub judged : (d : Job) → status ≡ passing_status
       (has_passed Strict (row_of plan (slice_index_or plan.jobs place d)))
 

@@ -24,7 +24,7 @@ use Rattle.rvtest_app.specs.Commands.{failure_rule, requested_verbosity}
 use Rattle.rvtest_app.specs.Outlets.{AreFilesPlaced, file_at}
 use Rattle.rvtest_app.specs.Puts.{WentOut}
 use Rattle.rvtest_app.specs.RunOutput.{chosen_report_text, rows_status, run_output_text}
-use Rattle.rvtest_app.specs.JunitTexts.{junit_class}
+use Rattle.rvtest_app.specs.JunitTexts.{suite_name}
 use Rattle.rvtest_app.specs.Said.{IsOnlyTold, Said}
 
 -- the places of the jobs that are marked
@@ -61,8 +61,8 @@ pub record IsPlanFor (known : Option FileContents) (jobs : List Job) (places : L
   pub noted : length unread ≡ one_more_times 0 (unreadable_count plan.answers)
 
 -- the document of the rows of the jobs at some places, with the lines that are told of those that failed
-abbrev pub run_junit : List ℕ → Telling → List ℕ → List Row → List ℕ
-run_junit list telling places rows = junit_text (junit_class list) telling.rule
+abbrev pub run_junit : RunAsked → Telling → List ℕ → List Row → List ℕ
+run_junit words telling places rows = junit_text (suite_name (optional_text words.suite) words.list.now) telling.rule
     (row_text_list (row_lines_at (record telling { verbosity = Failures })) places rows) rows
 
 -- how the rows of a run are told
@@ -87,7 +87,7 @@ pub record IsRunOfPlaces (known : Option FileContents) (words : RunAsked) (jobs 
       (run_output_text (row_lines_at (run_telling words plan unread)) (failure_rule words.lenient) places
       (rows_at plan places))
       (chosen_report_text (length plan.jobs) places shard (rows_at plan places))
-      (run_junit words.list.now (run_telling words plan unread) places (rows_at plan places))
+      (run_junit words (run_telling words plan unread) places (rows_at plan places))
       before after
 
 -- the same of the jobs that are marked; where none are to run, the status is 0 and nothing more is said
@@ -117,7 +117,7 @@ pub record IsJunitAlone (known : Option FileContents) (words : RunAsked) (jobs :
   pub unread : List Unread
   pub planned : IsPlanFor (contents_below (optional_text words.root) known) jobs places plan unread
   pub placed : AreFilesPlaced before after (Some (file_at (optional_text words.junit)
-      (run_junit words.list.now (run_telling words plan unread) places (rows_at plan places))))
+      (run_junit words (run_telling words plan unread) places (rows_at plan places))))
 
 -- no file was put in its place, or that document alone
 abbrev pub IsUndoneRunOfPlaces : Option FileContents → RunAsked → List Job → List ℕ

@@ -9,7 +9,7 @@ use Rattle.rvtest_app.specs.Commands.{failure_rule}
 use Rattle.rvtest_app.specs.Puts.{WentOut}
 use Rattle.rvtest_app.specs.ReportSummary.{summary_text}
 use Rattle.rvtest_app.specs.RunOutput.{rows_status}
-use Rattle.rvtest_app.specs.JunitTexts.{failures_junit, junit_class}
+use Rattle.rvtest_app.specs.JunitTexts.{failures_junit, suite_name}
 use Rattle.rvtest_app.specs.Said.{Said}
 
 -- of the report at the path that words name, the summary went out, and where it is asked for JUnit's document; the status is
@@ -20,5 +20,6 @@ pub record IsShownAt (known : Option FileContents) (words : ShowAsked) (status :
   pub read : IsReportAt known words.report.now report
   pub judged : status ≡ rows_status (failure_rule words.lenient) report.rows
   pub put : WentOut None (optional_text words.junit) (summary_text (failure_rule words.lenient) report.rows)
-      (report_text report.rows) (failures_junit (junit_class words.report.now) (failure_rule words.lenient) report.rows)
+      (report_text report.rows) (failures_junit (suite_name (optional_text words.suite) words.report.now)
+      (failure_rule words.lenient) report.rows)
       before after

@@ -1,13 +1,13 @@
 -- How a command ends before its work is done.
-use Rattle.std.specs.Prelude.{◌≡◌, ◌⊎◌, ℕ, List, Result, Ok, Err, Vec, codes}
+use Rattle.std.specs.Prelude.{◌≡◌, ◌⊎◌, ℕ, Bool, List, Result, Ok, Err, Vec, codes}
 use Rattle.std.specs.declared.alloc.Global.{Global}
 use Rattle.std.specs.declared.io.ErrorKind.{ErrorKind}
 use Rattle.std.specs.declared.io.ErrorKind.TheVariants as io
 use Rattle.clap.specs.declared.error.kind.ErrorKind.{ErrorKind as WordsFault}
 use Rattle.clap.specs.declared.error.kind.ErrorKind.TheVariants as words
 use Rattle.rv_base.specs.Counts.{one_more}
-use Rattle.rv_command.specs.Messages.{stop_message}
-use Rattle.rv_command.specs.Stops.{IsReportFaultStop, stop_status}
+use Rattle.rv_command.specs.Messages.{end_message}
+use Rattle.rv_command.specs.Stops.{IsReportFaultStop, end_status}
 use Rattle.rv_command.specs.Texts.{IsReportText}
 use Rattle.rv_command.specs.declared.stop.Stop.{Stop}
 use Rattle.rv_command.specs.declared.stop.Stop.TheVariants as stop
@@ -16,10 +16,11 @@ use Rattle.rvtest_app.specs.Said.{IsOnlyTold, Said}
 
 -- ---- the program
 
--- the program ended by a stop of some kind: the status is the stop's, and its message was put last, to standard error
-abbrev pub IsStopTold : (Stop → Type 0) → ℕ → Said → Type 0
-IsStopTold ended status after = (why : Stop) × ended why × (status ≡ stop_status why)
-    × ((before : Said) × IsOnlyTold (stop_message why) before after)
+-- the program ended by a stop of some kind, where the reader of standard output closed it or did not: the status is by both, and
+-- the message was put last, to standard error
+abbrev pub IsStopTold : Bool → (Stop → Type 0) → ℕ → Said → Type 0
+IsStopTold closed ended status after = (why : Stop) × ended why × (status ≡ end_status closed why)
+    × ((before : Said) × IsOnlyTold (end_message closed why) before after)
 
 -- why the process gives no words, and what is told of that with which status
 abbrev pub unreadable_words_status : ErrorKind → ℕ

@@ -13,7 +13,7 @@ ghost use Rattle.rvtest_app.specs.CommandStops.{IsCheckStop};
 use crate::check_text::{CheckedList, push_job_counts_line};
 use crate::findings::Found;
 use rv_cli::rvtest::CheckAsked;
-use rv_command::{DONE, REFUSED, Stop, list_faults_text, parse_list, read_list_text};
+use rv_command::{DONE, REFUSED, Stop, all_faults_text, parse_list, read_list_text};
 use rv_files::{Inputs, NotingStore, Unread};
 use rv_jobs::{Plan, gather};
 use rv_list_errors::job_line_numbers;
@@ -52,7 +52,7 @@ fn check_list_text<D: Inputs>(
     if faults.is_empty() {
         return check_files(inputs, alloc, asked, text);
     }
-    let text = list_faults_text(alloc, asked.list, text, faults.as_slice())?;
+    let text = all_faults_text(alloc, asked.list, text, faults.as_slice())?;
     Ok(Found {
         text,
         status: REFUSED,

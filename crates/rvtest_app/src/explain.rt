@@ -5,10 +5,9 @@ ghost use Rattle.rv_lists.specs.declared.job.Job.{Job as AJob};
 ghost use Rattle.rv_expect.specs.declared.passing.Rule.TheVariants.{Strict};
 ghost use Rattle.rv_expect.specs.Passing.{has_passed};
 ghost use Rattle.rv_rows.specs.Rows.{row_of};
-ghost use Rattle.rv_job_text.specs.Telling.{explanation_text};
 ghost use Rattle.rvtest_app.specs.Commands.{passing_status};
 ghost use Rattle.rv_files.specs.UnreadPaths.{contents_below};
-ghost use Rattle.rvtest_app.specs.Reports.{IsExplanationAt, IsExplanationOf, IsJobExplained};
+ghost use Rattle.rvtest_app.specs.Reports.{IsExplanationAt, IsExplanationOf, IsJobExplained, IsTextExplaining};
 ghost use Rattle.rv_command.specs.Texts.{optional_text};
 ghost use Rattle.rvtest_app.specs.CommandStops.{IsExplainStop, IsNoJobStop};
 
@@ -19,7 +18,7 @@ use rv_cli::rvtest::ExplainAsked;
 use rv_command::{Stop, read_list_text};
 use rv_expect::{Rule, has_passed};
 use rv_files::{Inputs, NotingStore, Unread};
-use rv_job_text::{RowTelling, Verbosity};
+use rv_job_text::{RowTelling, Verbosity, WayToEnd, budget_use_at};
 use rv_jobs::{JobList, Plan, gather_places};
 use rv_rows::row_at;
 use std::alloc::Global;
@@ -86,9 +85,7 @@ fn explain_planned_job(
     last: u32,
 ) -> Result<Found, Stop>
     requires { place < length plan.now.jobs }
-    ensures text { IfOk result (λ found. (d : AJob) → found.text.items
-        ≡ explanation_text plan.now unread.now Strict (slice_index_or plan.now.jobs place d)
-        (row_of plan.now (slice_index_or plan.now.jobs place d)) last) }
+    ensures text { IfOk result (λ found. IsTextExplaining plan.now unread.now place last found.text.items) }
     ensures status { IfOk result (λ found. (d : AJob) → found.status
         ≡ passing_status (has_passed Strict
         (row_of plan.now (slice_index_or plan.now.jobs place d)))) }
@@ -103,8 +100,10 @@ fn explain_planned_job(
         verbosity: Verbosity::All,
         last: None,
     };
+    let budget_use = budget_use_at(alloc, plan, place, &row)?;
+    let way = WayToEnd { last, budget_use };
     let mut text = Vec::new(alloc);
-    telling.push_job_explanation(alloc, place, &row, last, &mut text)?;
+    telling.push_job_explanation(alloc, place, &row, &way, &mut text)?;
     let status = passing_status(has_passed(Rule::Strict, &row));
     Ok(Found { text, status })
 }

@@ -1,9 +1,20 @@
-//! The class of a list's jobs in JUnit's XML.
+//! The suite and the class of a list's jobs in JUnit's XML.
 
 ghost use Rattle.std.specs.Prelude.{◌≡◌};
-ghost use Rattle.rvtest_app.specs.JunitTexts.{junit_class};
+ghost use Rattle.rv_command.specs.Texts.{optional_text};
+ghost use Rattle.rvtest_app.specs.JunitTexts.{junit_class, suite_name};
 
 use std::path::Path;
+
+/// The name of the suite: the one that is asked for, else by the path of a file.
+pub(crate) fn suite_name<'a>(asked: Option<&'a str>, path: &'a str) -> &'a str
+    ensures { result.now ≡ suite_name (optional_text asked.entry) path.entry.now }
+{
+    match asked {
+        Some(name) => name,
+        None => junit_class(path),
+    }
+}
 
 /// The name of a file without its folders and its ending, as the class of its jobs.
 pub(crate) fn junit_class(path: &str) -> &str

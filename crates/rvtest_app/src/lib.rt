@@ -1,7 +1,8 @@
 //! The program `rvtest` as a library: words are answered over files that are read and written, sinks, threads and a clock.
 //!
 //! [`run_rvtest`] gives the status: 0 where all is well, 1 where a job failed, 2 where words, a list or a report are
-//! refused, 3 where the system failed. What a command finds goes to standard output, and messages to standard error.
+//! refused, 3 where the system failed, 141 where the reader of standard output closed it. What a command finds goes to
+//! standard output, and messages to standard error.
 //! What goes to each and to which file is said by definitions (`specs/`), of the words and of what stands at the paths that are read.
 #![tactic(auto)]
 

@@ -9,7 +9,7 @@ ghost use Rattle.rvtest_app.specs.Commands.{failure_rule};
 ghost use Rattle.rv_report.specs.Report.{report_text};
 ghost use Rattle.rvtest_app.specs.MergeRefusals.{ArePartsRefused, IsMergeErrorStop, flaw_message, other_run_message};
 ghost use Rattle.rvtest_app.specs.MergeRefusals.{part_path, two_parts_message};
-ghost use Rattle.rvtest_app.specs.Merges.{AreTextsAt, IsMergedAt, merged_class, merged_report_path};
+ghost use Rattle.rvtest_app.specs.Merges.{AreTextsAt, IsMergedAt, merged_report_path, merged_suite};
 ghost use Rattle.rvtest_app.specs.Puts.{WentOut};
 ghost use Rattle.rvtest_app.specs.JunitTexts.{failures_junit};
 ghost use Rattle.rvtest_app.specs.RunOutput.{rows_status};
@@ -17,7 +17,7 @@ ghost use Rattle.rvtest_app.specs.Said.{said};
 ghost use Rattle.rv_command.specs.Texts.{optional_text};
 
 use crate::destinations::Destinations;
-use crate::junit_class::junit_class;
+use crate::junit_class::suite_name;
 use crate::outlets::{abandon_outlets, open_outlets};
 use crate::puts::put_shown;
 use crate::rules::{failure_rule, rows_status};
@@ -156,13 +156,14 @@ fn put_merged<F: Outputs + Drop, O: Sink + Drop, E: Sink + Drop>(
     ensures { OnOk result (WentOut
         (merged_report_path (optional_text asked.now.report) (optional_text asked.now.junit))
         (optional_text asked.now.junit) merged.line.items (report_text merged.rows)
-        (failures_junit (merged_class (optional_text asked.now.report)) (failure_rule asked.now.lenient) merged.rows)
+        (failures_junit (merged_suite (optional_text asked.now.suite) (optional_text asked.now.report))
+        (failure_rule asked.now.lenient) merged.rows)
         (said F.placed O.taken E.taken E.failed to.old) (said F.placed O.taken E.taken E.failed to.new)) }
 {
     let Merged { rows, line, .. } = merged;
     let outlets = open_outlets(&mut to.files, alloc, merged_report_path(asked), asked.junit)?;
     let suite = Suite {
-        name: merged_class(asked).as_bytes(),
+        name: merged_suite(asked).as_bytes(),
         rule: failure_rule(asked.lenient),
     };
     match put_shown(to, line.as_slice(), outlets.use_stdout()) {
@@ -174,13 +175,13 @@ fn put_merged<F: Outputs + Drop, O: Sink + Drop, E: Sink + Drop>(
     }
 }
 
-// The class of the jobs in JUnit's XML: by the report's path, if one is given.
-fn merged_class<'a>(asked: &MergeAsked<'a>) -> &'a str
-    ensures { result.now ≡ merged_class (optional_text asked.now.report) }
+// The name of the suite: the one that is asked for, else by the report's path, if one is given.
+fn merged_suite<'a>(asked: &MergeAsked<'a>) -> &'a str
+    ensures { result.now ≡ merged_suite (optional_text asked.now.suite) (optional_text asked.now.report) }
 {
     match asked.report {
-        Some(path) => junit_class(path),
-        None => "merged",
+        Some(path) => suite_name(asked.suite, path),
+        None => asked.suite.unwrap_or("merged"),
     }
 }
 

@@ -1,6 +1,6 @@
 //! The whole program, over files, sinks and terminals.
 
-ghost use Rattle.std.specs.Prelude.{◌≡◌, ◌⊎◌, ◌≤◌, IfErr, IfOk, map};
+ghost use Rattle.std.specs.Prelude.{◌≡◌, ◌⊎◌, ◌≤◌, IfErr, IfOk, false, map};
 ghost use Rattle.std.specs.IoError.{error_kind};
 ghost use Rattle.rv_command.specs.Messages.{IsMessagePut};
 ghost use Rattle.rvtest_app.specs.Answers.{IsAnswered, IsDone};
@@ -22,8 +22,8 @@ use crate::run::run_requested_jobs;
 use crate::show::show_report;
 use crate::terminals::Terminals;
 use rv_cli::rvtest::{Asked, read_words};
-use rv_command::{REFUSED, Stop, put_message, put_stop_message};
-use rv_files::{Inputs, Outputs};
+use rv_command::{REFUSED, Stop, put_end_message, put_message, put_stop_message};
+use rv_files::{Closable, Inputs, Outputs};
 use rv_rows::Sink;
 use std::convert::AsStr;
 use std::io::{self, ErrorKind, Write};
@@ -38,7 +38,7 @@ pub fn run_rvtest<
     D: Inputs,
     T: AsStr,
     F: Outputs + Drop,
-    O: Sink + Drop + Send,
+    O: Closable + Drop + Send,
     E: Sink + Drop + Send,
     P: Write + Drop + Send,
 >(
@@ -47,21 +47,23 @@ pub fn run_rvtest<
     to: Destinations<F, O, E>,
     terminals: Terminals<P>,
 ) -> (Destinations<F, O, E>, u8)
-    ensures low { result.1 ≤ 3 }
+    ensures low { O.closed result.0.out ≡ false → result.1 ≤ 3 }
     // A status of 0 or 1 says that all went out.
     ensures answered { result.1 ≤ 1 → IsAnswered (D.contents host.now.inputs.now) (map T.text words.entry.now)
         result.1 (said F.placed O.taken E.taken E.failed to) (said F.placed O.taken E.taken E.failed result.0) }
-    // Any other status says that the command ended before its work was done, and that this was told last.
+    // Any other status says that the command ended before its work was done, and that this was told last; but a reader that closed
+    // standard output is told nothing.
     ensures ended { IsAnswered (D.contents host.now.inputs.now) (map T.text words.entry.now)
         result.1 (said F.placed O.taken E.taken E.failed to) (said F.placed O.taken E.taken E.failed result.0)
-        ⊎ IsStopTold (IsStopFor (D.contents host.now.inputs.now) (map T.text words.entry.now))
+        ⊎ IsStopTold (O.closed result.0.out) (IsStopFor (D.contents host.now.inputs.now) (map T.text words.entry.now))
         result.1 (said F.placed O.taken E.taken E.failed result.0) }
 {
     let (mut to, answer) = answer_words(host, words, to, terminals);
     match answer {
         Ok(status) => (to, status),
         Err(stop) => {
-            let status = put_stop_message(&mut to.errors, stop);
+            let is_out_closed = to.out.is_closed();
+            let status = put_end_message(&mut to.errors, stop, is_out_closed);
             (to, status)
         }
     }

@@ -30,7 +30,7 @@ use crate::crew::requested_crew;
 use crate::destinations::Destinations;
 use crate::file_texts::FileTexts;
 use crate::host::Host;
-use crate::junit_class::junit_class;
+use crate::junit_class::suite_name;
 use crate::outlets::{Outlets, abandon_outlets, open_outlets};
 use crate::planned_run::{MarkedJobs, PlannedRun, RequestedJobs};
 use crate::puts::put_files;
@@ -244,11 +244,11 @@ impl<'x, R: Threads + Wait + Sync + Clock, D: Inputs> ListRun<'x, R, D> {
             (rows_at telling.now.plan.now places.now))
             (chosen_report_text (length telling.now.plan.now.jobs) places.now shard
             (rows_at telling.now.plan.now places.now))
-            (run_junit self.now.asked.now.list.now (telling_of telling.now) places.now
+            (run_junit self.now.asked.now (telling_of telling.now) places.now
             (rows_at telling.now.plan.now places.now))
             (said F.placed O.taken E.taken E.failed to) (said F.placed O.taken E.taken E.failed result.0)) }
         ensures part { OnErr result.1 (AreFilesPlacedInPart (F.placed to.files) (F.placed result.0.files)
-            (Some (file_at (optional_text self.now.asked.now.junit) (run_junit self.now.asked.now.list.now
+            (Some (file_at (optional_text self.now.asked.now.junit) (run_junit self.now.asked.now
             (telling_of telling.now) places.now (rows_at telling.now.plan.now places.now))))) }
     {
         let (alloc, asked) = (self.host.alloc, self.asked);
@@ -403,20 +403,20 @@ impl<'x, R: Threads + Wait + Sync + Clock, D: Inputs> ListRun<'x, R, D> {
             → HasTaken F.place_path F.File.taken F.File.failed (F.placed to.old.files) report_path [] outlets.entry.report
             → HasTaken F.place_path F.File.taken F.File.failed (F.placed to.old.files) junit_path [] outlets.entry.junit
             → OnOk result (Appends (O.taken to.old.out) (O.taken to.new.out)
-            (stdout_at junit_path (run_junit self.now.asked.now.list.now (telling_of planned.now.telling.now)
+            (stdout_at junit_path (run_junit self.now.asked.now (telling_of planned.now.telling.now)
             planned.now.places.now rows) ++ stdout_at report_path (chosen_report_text
             (length planned.now.telling.now.plan.now.jobs) planned.now.places.now shard rows))) }
         ensures placed { (report_path junit_path : Option (List ℕ))
             → HasTaken F.place_path F.File.taken F.File.failed (F.placed to.old.files) report_path [] outlets.entry.report
             → HasTaken F.place_path F.File.taken F.File.failed (F.placed to.old.files) junit_path [] outlets.entry.junit
             → OnOk result (AreFilesPlaced (F.placed to.old.files) (F.placed to.new.files)
-            (Some (file_at junit_path (run_junit self.now.asked.now.list.now (telling_of planned.now.telling.now)
+            (Some (file_at junit_path (run_junit self.now.asked.now (telling_of planned.now.telling.now)
             planned.now.places.now rows) ++ file_at report_path (chosen_report_text
             (length planned.now.telling.now.plan.now.jobs) planned.now.places.now shard rows)))) }
         ensures part { (junit_path : Option (List ℕ))
             → HasTaken F.place_path F.File.taken F.File.failed (F.placed to.old.files) junit_path [] outlets.entry.junit
             → OnErr result (AreFilesPlacedInPart (F.placed to.old.files) (F.placed to.new.files)
-            (Some (file_at junit_path (run_junit self.now.asked.now.list.now (telling_of planned.now.telling.now)
+            (Some (file_at junit_path (run_junit self.now.asked.now (telling_of planned.now.telling.now)
             planned.now.places.now rows)))) }
     {
         let (telling, places, rule) = (planned.telling, planned.places, planned.telling.rule);
@@ -434,7 +434,7 @@ impl<'x, R: Threads + Wait + Sync + Clock, D: Inputs> ListRun<'x, R, D> {
         };
         let texts = FileTexts {
             suite: Suite {
-                name: junit_class(self.asked.list).as_bytes(),
+                name: suite_name(self.asked.suite, self.asked.list).as_bytes(),
                 rule,
             },
             telling: &recalling,

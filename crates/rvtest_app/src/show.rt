@@ -4,7 +4,7 @@ ghost use Rattle.std.specs.Prelude.{◌≡◌, ◌≤◌, ◌<◌, ◌^◌, None
 ghost use Rattle.rv_command.specs.Texts.{optional_text};
 ghost use Rattle.rv_report.specs.Report.{report_text};
 ghost use Rattle.rvtest_app.specs.Puts.{WentOut};
-ghost use Rattle.rvtest_app.specs.JunitTexts.{failures_junit, junit_class};
+ghost use Rattle.rvtest_app.specs.JunitTexts.{failures_junit, suite_name};
 ghost use Rattle.rvtest_app.specs.Commands.{failure_rule};
 ghost use Rattle.rvtest_app.specs.RunOutput.{rows_status};
 ghost use Rattle.rvtest_app.specs.ReportSummary.{summary_text};
@@ -12,7 +12,7 @@ ghost use Rattle.rvtest_app.specs.Shows.{IsShownAt};
 ghost use Rattle.rvtest_app.specs.Said.{said};
 
 use crate::destinations::Destinations;
-use crate::junit_class::junit_class;
+use crate::junit_class::suite_name;
 use crate::outlets::{abandon_outlets, open_outlets};
 use crate::puts::put_shown;
 use crate::report_summary::push_summary;
@@ -86,8 +86,8 @@ fn put_summarized_report<F: Outputs + Drop, O: Sink + Drop, E: Sink + Drop>(
 ) -> Result<(), Stop>
     ensures { OnOk result (WentOut None (optional_text asked.entry.junit) summarized.summary.items
         (report_text summarized.report.rows)
-        (failures_junit (junit_class asked.entry.report.now) (failure_rule asked.entry.lenient)
-        summarized.report.rows)
+        (failures_junit (suite_name (optional_text asked.entry.suite) asked.entry.report.now)
+        (failure_rule asked.entry.lenient) summarized.report.rows)
         (said F.placed O.taken E.taken E.failed to.old) (said F.placed O.taken E.taken E.failed to.new)) }
 {
     let SummarizedReport {
@@ -97,7 +97,7 @@ fn put_summarized_report<F: Outputs + Drop, O: Sink + Drop, E: Sink + Drop>(
     } = summarized;
     let outlets = open_outlets(&mut to.files, alloc, None, asked.junit)?;
     let suite = Suite {
-        name: junit_class(asked.report).as_bytes(),
+        name: suite_name(asked.suite, asked.report).as_bytes(),
         rule: failure_rule(asked.lenient),
     };
     match put_shown(to, summary.as_slice(), outlets.use_stdout()) {

@@ -3,7 +3,7 @@
 ghost use Rattle.std.specs.Prelude.{◌≡◌, false};
 ghost use Rattle.clap.specs.Words.{App, rule_of};
 ghost use Rattle.rv_cli.specs.CommandBuilder.{IsBuilt};
-ghost use Rattle.rv_cli.specs.RvtestCommand.{flag_rule, number_rule, argument_rule};
+ghost use Rattle.rv_cli.specs.RvtestCommand.{file_rule, flag_rule, number_rule, argument_rule};
 ghost use Rattle.rv_cli.specs.RvtestCommand.{with_arguments, with_letter};
 
 use crate::arguments::{group_argument, option_argument, word_argument};
@@ -28,6 +28,8 @@ pub(crate) enum Argument<'a> {
     Words(&'a str, &'a str, &'a str),
     /// An option with a value.
     Option(&'a str, &'a str, &'a str),
+    /// An option with the path of a file, which is not empty.
+    File(&'a str, &'a str),
     /// An option with a value, that may come again for more.
     Again(&'a str, &'a str, &'a str),
     /// An option without a value, and the letter that is short for it, if one is.
@@ -49,6 +51,7 @@ impl<'a> Argument<'a> {
                 word_argument(alloc, name, value, help).action(ArgAction::Append)
             }
             Argument::Option(name, value, help) => option_argument(alloc, name, value, help),
+            Argument::File(name, help) => file_argument(alloc, name, help),
             Argument::Again(name, value, help) => {
                 option_argument(alloc, name, value, help).action(ArgAction::Append)
             }
@@ -88,6 +91,12 @@ fn with_letter<'a>(argument: Arg<'a>, letter: Option<char>) -> Arg<'a>
         Some(letter) => argument.short(letter),
         None => argument,
     }
+}
+
+fn file_argument<'a>(alloc: Global, name: &'a str, help: &'a str) -> Arg<'a>
+    ensures { (rule_of result ≡ file_rule name.entry.now) × (result.global ≡ false) }
+{
+    option_argument(alloc, name, "FILE", help).value_parser(ValueParser::NonEmptyString)
 }
 
 fn flag_argument<'a>(alloc: Global, name: &'a str, help: &'a str) -> Arg<'a>

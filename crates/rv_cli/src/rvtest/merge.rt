@@ -2,10 +2,10 @@
 
 ghost use Rattle.std.specs.Prelude.{[], Some};
 ghost use Rattle.clap.specs.Words.{found_of, rows_of};
-ghost use Rattle.rv_cli.specs.RvtestWords.{ReadsRequest, misuse_kinds, merge_request, one_file_misuse};
+ghost use Rattle.rv_cli.specs.RvtestWords.{ReadsRequest, misuse_kinds, merge_request, files_misuse};
 
 use crate::rvtest::command::merge_command;
-use crate::rvtest::refusals::one_file_misuse;
+use crate::rvtest::refusals::files_misuse;
 use crate::rvtest::requests::Asked;
 use crate::values::{argument_values, is_flag_set, text_value};
 use clap::{ArgMatches, Error};
@@ -20,6 +20,8 @@ pub struct MergeAsked<'a> {
     pub report: Option<&'a str>,
     /// Path of the JUnit file that is written; `-` is standard output.
     pub junit: Option<&'a str>,
+    /// The name of JUnit's suite; absent: by the report's path.
+    pub suite: Option<&'a str>,
     /// Whether a failed verdict alone is a failure.
     pub lenient: bool,
 }
@@ -30,9 +32,9 @@ pub(crate) fn merge_request<'a>(
     values: &ArgMatches<'a>,
 ) -> Result<Option<Asked<'a>>, Error>
     ensures { ReadsRequest (Some (merge_request (rows_of (found_of values.now))))
-        (misuse_kinds (one_file_misuse (rows_of (found_of values.now)))) result }
+        (misuse_kinds (files_misuse (rows_of (found_of values.now)))) result }
 {
-    match one_file_misuse(values) {
+    match files_misuse(values) {
         Some(misuse) => Err(misuse.misuse_error(merge_command(alloc))),
         None => valid_merge_request(alloc, values),
     }
@@ -46,12 +48,14 @@ fn valid_merge_request<'a>(
 {
     let report = text_value(values, "report");
     let junit = text_value(values, "junit");
+    let suite = text_value(values, "suite");
     let lenient = is_flag_set(values, "lenient");
     let parts = argument_values(alloc, values, "part")?;
     Ok(Some(Asked::Merge(MergeAsked {
         parts,
         report,
         junit,
+        suite,
         lenient,
     })))
 }

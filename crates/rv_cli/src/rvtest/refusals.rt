@@ -2,9 +2,9 @@
 
 ghost use Rattle.std.specs.Prelude.{◌≡◌, [], ◌∷◌, Some};
 ghost use Rattle.clap.specs.Words.{HasKind, found_of, rows_of};
-ghost use Rattle.rv_cli.specs.RvtestWords.{is_report_path, misuse_kinds, misuse_text, one_file_misuse};
+ghost use Rattle.rv_cli.specs.RvtestWords.{files_misuse, is_report_path, is_suite_nameless, misuse_kinds, misuse_text, suite_misuse};
 
-use crate::values::text_value;
+use crate::values::{is_option_given, text_value};
 use clap::error::ErrorKind;
 use clap::{ArgMatches, Command, Error};
 use std::alloc::AllocError;
@@ -20,6 +20,10 @@ pub(crate) enum Misuse {
     StampAlone,
     /// Steps compared exactly, and by which jobs are slower.
     StepsAndSlower,
+    /// A suite without JUnit's XML.
+    SuiteAlone,
+    /// A suite whose name is empty.
+    NamelessSuite,
     /// A report and JUnit's XML that go to one file.
     OneFile,
 }
@@ -36,7 +40,8 @@ impl Misuse {
         ensures { misuse_kinds (Some self) ≡ result ∷ [] }
     {
         match self {
-            Misuse::StampAlone => ErrorKind::MissingRequiredArgument,
+            Misuse::StampAlone | Misuse::SuiteAlone => ErrorKind::MissingRequiredArgument,
+            Misuse::NamelessSuite => ErrorKind::InvalidValue,
             Misuse::VerboseAndQuiet
             | Misuse::ShardAndChoice
             | Misuse::StepsAndSlower
@@ -58,6 +63,12 @@ impl Misuse {
             Misuse::StepsAndSlower => {
                 "the argument '--steps' cannot be used with '--slower <N>'"
             }
+            Misuse::SuiteAlone => {
+                "the argument '--suite <NAME>' cannot be used without '--junit <FILE>'"
+            }
+            Misuse::NamelessSuite => {
+                "a value is required for '--suite <NAME>' but none was supplied"
+            }
             Misuse::OneFile => {
                 "the argument '--report <FILE>' cannot be used with '--junit <FILE>' of the same name: it is one file"
             }
@@ -65,13 +76,35 @@ impl Misuse {
     }
 }
 
-/// A report and JUnit's XML may not go to one file.
-pub(crate) fn one_file_misuse(values: &ArgMatches<'_>) -> Option<Misuse>
-    ensures { result ≡ one_file_misuse (rows_of (found_of values.now)) }
+/// A report and JUnit's XML may not go to one file, and a suite is of JUnit's XML.
+pub(crate) fn files_misuse(values: &ArgMatches<'_>) -> Option<Misuse>
+    ensures { result ≡ files_misuse (rows_of (found_of values.now)) }
 {
     match text_value(values, "junit") {
         Some(path) if is_report_path(values, path) => Some(Misuse::OneFile),
-        _ => None,
+        _ => suite_misuse(values),
+    }
+}
+
+/// A suite is of JUnit's XML, and has a name.
+pub(crate) fn suite_misuse(values: &ArgMatches<'_>) -> Option<Misuse>
+    ensures { result ≡ suite_misuse (rows_of (found_of values.now)) }
+{
+    if is_option_given(values, "suite") && !is_option_given(values, "junit") {
+        Some(Misuse::SuiteAlone)
+    } else if is_suite_nameless(values) {
+        Some(Misuse::NamelessSuite)
+    } else {
+        None
+    }
+}
+
+fn is_suite_nameless(values: &ArgMatches<'_>) -> bool
+    ensures { result ≡ is_suite_nameless (rows_of (found_of values.now)) }
+{
+    match text_value(values, "suite") {
+        Some(name) => name == "",
+        None => false,
     }
 }
 

@@ -81,7 +81,7 @@ fn subcommand_request<'a>(
         "check" => Ok(check_request(values)),
         "merge" => merge_request(alloc, values),
         "diff" => diff_request(alloc, values),
-        "show" => Ok(show_request(values)),
+        "show" => show_request(alloc, values),
         _ => Ok(None),
     }
 }

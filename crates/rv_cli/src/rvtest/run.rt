@@ -7,7 +7,7 @@ ghost use Rattle.rv_cli.specs.RvtestWords.{IsRunAskedInRange, ReadsRequest, is_c
 ghost use Rattle.rv_cli.specs.RvtestWords.{run_misuse, test_run_request, run_words};
 
 use crate::rvtest::command::run_command;
-use crate::rvtest::refusals::{Misuse, one_file_misuse};
+use crate::rvtest::refusals::{Misuse, files_misuse};
 use crate::rvtest::requests::Asked;
 use crate::values::{argument_values, is_flag_set, is_option_given, number_value, text_value};
 use clap::{ArgMatches, Error};
@@ -41,6 +41,8 @@ pub struct RunAsked<'a> {
     pub report: Option<&'a str>,
     /// Path of the JUnit file that is written; `-` is standard output.
     pub junit: Option<&'a str>,
+    /// The name of JUnit's suite; absent: by the list's file.
+    pub suite: Option<&'a str>,
     /// Whether a failed verdict alone is a failure.
     pub lenient: bool,
     /// Whether jobs that pass have a line too.
@@ -101,6 +103,7 @@ pub(crate) fn run_asked<'a>(
         root: text_value(values, "root"),
         report: text_value(values, "report"),
         junit: text_value(values, "junit"),
+        suite: text_value(values, "suite"),
         lenient: is_flag_set(values, "lenient"),
         verbose: is_flag_set(values, "verbose"),
         quiet: is_flag_set(values, "quiet"),
@@ -120,7 +123,7 @@ fn run_misuse(values: &ArgMatches<'_>) -> Option<Misuse>
     } else if is_option_given(values, "stamp") && !is_option_given(values, "shard") {
         Some(Misuse::StampAlone)
     } else {
-        one_file_misuse(values)
+        files_misuse(values)
     }
 }
 

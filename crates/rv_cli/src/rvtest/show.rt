@@ -1,11 +1,14 @@
 //! The words of `show`.
 
 ghost use Rattle.clap.specs.Words.{found_of, rows_of};
-ghost use Rattle.rv_cli.specs.RvtestWords.{AsksFor, show_request};
+ghost use Rattle.rv_cli.specs.RvtestWords.{AsksFor, ReadsRequest, misuse_kinds, show_request, suite_misuse};
 
+use crate::rvtest::command::show_command;
+use crate::rvtest::refusals::suite_misuse;
 use crate::rvtest::requests::Asked;
 use crate::values::{is_flag_set, text_value};
-use clap::ArgMatches;
+use clap::{ArgMatches, Error};
+use std::alloc::Global;
 
 /// A report that is to be shown.
 #[derive(Clone, Copy)]
@@ -14,20 +17,37 @@ pub struct ShowAsked<'a> {
     pub report: &'a str,
     /// Path of the JUnit file that is written; `-` is standard output.
     pub junit: Option<&'a str>,
+    /// The name of JUnit's suite; absent: by the report's path.
+    pub suite: Option<&'a str>,
     /// Whether a failed verdict alone is a failure.
     pub lenient: bool,
 }
 
-/// What the values of `show` ask for.
-pub(crate) fn show_request<'a>(values: &ArgMatches<'a>) -> Option<Asked<'a>>
+/// What the values of `show` ask for, or which rule its options break.
+pub(crate) fn show_request<'a>(
+    alloc: Global,
+    values: &ArgMatches<'a>,
+) -> Result<Option<Asked<'a>>, Error>
+    ensures { ReadsRequest (show_request (rows_of (found_of values.now)))
+        (misuse_kinds (suite_misuse (rows_of (found_of values.now)))) result }
+{
+    match suite_misuse(values) {
+        Some(misuse) => Err(misuse.misuse_error(show_command(alloc))),
+        None => Ok(valid_show_request(values)),
+    }
+}
+
+fn valid_show_request<'a>(values: &ArgMatches<'a>) -> Option<Asked<'a>>
     ensures { AsksFor (show_request (rows_of (found_of values.now))) result }
 {
     let report = text_value(values, "report")?;
     let junit = text_value(values, "junit");
+    let suite = text_value(values, "suite");
     let lenient = is_flag_set(values, "lenient");
     Some(Asked::Show(ShowAsked {
         report,
         junit,
+        suite,
         lenient,
     }))
 }

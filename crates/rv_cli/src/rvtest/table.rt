@@ -36,8 +36,9 @@ pub(crate) const RUN: Subcommand<'static> = Subcommand {
         ),
         Argument::Group,
         Argument::Option("root", "DIR", ROOT),
-        Argument::Option("report", "FILE", REPORT),
-        Argument::Option("junit", "FILE", JUNIT),
+        Argument::File("report", REPORT),
+        Argument::File("junit", JUNIT),
+        Argument::Option("suite", "NAME", SUITE),
         Argument::Flag("lenient", None, LENIENT),
         Argument::Flag(
             "verbose",
@@ -115,8 +116,9 @@ pub(crate) const MERGE: Subcommand<'static> = Subcommand {
             "PART",
             "Paths of the parts of one run, in any order",
         ),
-        Argument::Option("report", "FILE", REPORT),
-        Argument::Option("junit", "FILE", JUNIT),
+        Argument::File("report", REPORT),
+        Argument::File("junit", JUNIT),
+        Argument::Option("suite", "NAME", SUITE),
         Argument::Flag("lenient", None, LENIENT),
     ],
 };
@@ -140,14 +142,15 @@ pub(crate) const DIFF: Subcommand<'static> = Subcommand {
     ],
 };
 
-const SHOW: Subcommand<'static> = Subcommand {
+pub(crate) const SHOW: Subcommand<'static> = Subcommand {
     name: "show",
     about: "Shows what failed in a report",
     usage: "rvtest show",
     after: examples::SHOW,
     arguments: &[
         Argument::Word("report", "REPORT", "Path of a report"),
-        Argument::Option("junit", "FILE", JUNIT),
+        Argument::File("junit", JUNIT),
+        Argument::Option("suite", "NAME", SUITE),
         Argument::Flag("lenient", None, LENIENT),
     ],
 };
@@ -169,6 +172,8 @@ const ROOT: &str = "Takes the paths in the list from this folder";
 const REPORT: &str = "Writes the report to this file; - is standard output";
 
 const JUNIT: &str = "Writes JUnit XML to this file; - is standard output";
+
+const SUITE: &str = "Names the suite in JUnit XML, in place of the file";
 
 const LENIENT: &str = "Counts as failed only what misses an expectation";
 

@@ -9,7 +9,7 @@ ghost use Rattle.toml_parser.specs.Strings.{key};
 ghost use Rattle.toml.specs.Parse.{skip_bom};
 ghost use Rattle.rv_list_errors.specs.JobPlaces as spec;
 ghost use Rattle.rv_list_errors.specs.Places.{text_line_count};
-ghost use Rattle.rv_list_errors.specs.Steps.{GivesStep, UnlessMemory};
+ghost use Rattle.rv_list_errors.specs.Steps.{GivesStep, UnlessMemory, now_texts};
 
 use crate::headers::lines::Lines;
 use crate::headers::values::{skip_blank_lines, skip_value};
@@ -40,22 +40,55 @@ fn skip_byte_order_mark(text: &str) -> &str
     text.strip_prefix('\u{feff}').unwrap_or(text)
 }
 
-// What comes next in a walk.
+/// What comes next in a walk.
 #[derive(Clone, Copy)]
-enum Next {
-    // An entry of the whole list, or the first header.
+pub(crate) enum Next {
+    /// An entry of the whole list, or the first header.
     Top,
-    // An element of the array that is the list, or its end.
+    /// An element of the array that is the list, or its end.
     Element,
-    // An entry of a table, or a header.
+    /// An entry of a table, or a header.
     Table,
 }
 
-// A header, an entry or an element that is walked over.
-struct Step<'a> {
-    is_job: bool,
-    next: Next,
-    rest: &'a str,
+/// A header, an entry or an element that is walked over.
+#[derive(Clone, Copy)]
+pub(crate) struct Step<'a> {
+    pub(crate) is_job: bool,
+    pub(crate) next: Next,
+    pub(crate) rest: &'a str,
+}
+
+/// The text of a list from each of its jobs on.
+pub(crate) fn job_texts<'a>(alloc: Global, text: &'a str) -> Result<Vec<&'a str>, AllocError>
+    ensures { IfOk result (λ jobs. now_texts jobs.items ≡ spec.jobs_of_text (skip_bom text.now)) }
+{
+    let mut jobs = Vec::new(alloc);
+    match note_job_texts(alloc, skip_byte_order_mark(text), &mut jobs) {
+        Err(ParseError::OutOfMemory) => Err(AllocError),
+        Ok(()) | Err(_) => Ok(jobs),
+    }
+}
+
+fn note_job_texts<'a>(
+    alloc: Global,
+    text: &'a str,
+    jobs: &mut Vec<&'a str>,
+) -> Result<(), ParseError>
+    ensures { UnlessMemory result (now_texts jobs.new.items
+        ≡ now_texts jobs.old.items ++ spec.jobs_of_text text.now) }
+{
+    let mut here = skip_blank_lines(text);
+    let mut what = Next::Top;
+    'steps: while !here.is_empty() {
+        let Step { is_job, next, rest } = scan_step(alloc, here, what)?;
+        if is_job {
+            jobs.push(here)?;
+        }
+        what = next;
+        here = rest;
+    }
+    Ok(())
 }
 
 fn note_job_lines(alloc: Global, text: &str, lines: &mut Lines<'_>) -> Result<(), ParseError>
@@ -77,8 +110,9 @@ fn note_job_lines(alloc: Global, text: &str, lines: &mut Lines<'_>) -> Result<()
     Ok(())
 }
 
+/// Behind a header, an entry or an element.
 #[tactic(auto, unfolding(crate::specs::JobPlaces::step))]
-fn scan_step(alloc: Global, text: &str, next: Next) -> Result<Step<'_>, ParseError>
+pub(crate) fn scan_step(alloc: Global, text: &str, next: Next) -> Result<Step<'_>, ParseError>
     ensures step { GivesStep result (spec.step next text.now) }
     ensures shorter { IfOk result (λ step. length step.rest.now < length text.now) }
 {
@@ -181,9 +215,9 @@ fn scan_entry(alloc: Global, text: &str, next: Next) -> Result<Step<'_>, ParseEr
     })
 }
 
-// The value of an entry; nothing where no sign parts it from the key.
+/// The value of an entry; nothing where no sign parts it from the key.
 #[tactic(auto, unfolding(crate::specs::JobPlaces::behind_equals))]
-fn skip_equals_sign(text: &str) -> &str
+pub(crate) fn skip_equals_sign(text: &str) -> &str
     ensures text { result.now ≡ spec.behind_equals text.now }
     ensures within { length result.now ≤ length text.now }
 {
@@ -194,9 +228,9 @@ fn skip_equals_sign(text: &str) -> &str
     }
 }
 
-// The next element, or the bracket behind the last one.
+/// The next element, or the bracket behind the last one.
 #[tactic(auto, unfolding(crate::specs::JobPlaces::behind_comma))]
-fn skip_comma(text: &str) -> &str
+pub(crate) fn skip_comma(text: &str) -> &str
     ensures text { result.now ≡ spec.behind_comma text.now }
     ensures within { length result.now ≤ length text.now }
 {

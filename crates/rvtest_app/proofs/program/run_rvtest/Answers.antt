@@ -11,6 +11,6 @@ returns-in-Err-clause-ended g c =
     inr (
       c.in-Err.stop,
       rw c.in-Err.is at c.answer_words-to.ensures.stopped,
-      c.put_stop_message-status.ensures.status,
-      (before, (refl, c.put_stop_message-status.ensures.told, refl)),
+      rw c.is_closed-is_out_closed.ensures at c.put_end_message-status.ensures.status,
+      (before, (refl, rw c.is_closed-is_out_closed.ensures at c.put_end_message-status.ensures.told, refl)),
     )

@@ -17,7 +17,7 @@ pub returns-in-diff : goal.returns-in-diff
 returns-in-diff c = rw c.in-diff.is c.diff_request.ensures
 
 pub returns-in-show : goal.returns-in-show
-returns-in-show c = rw c.in-show.is (c.show_request.ensures, refl)
+returns-in-show c = rw c.in-show.is c.show_request.ensures
 
 pub returns-in-list : goal.returns-in-list
 returns-in-list c = rw c.in-list.is c.list_request.ensures

@@ -11,7 +11,7 @@ returns-clause-placed g c = λ report_path junit_path report junit.
     placed_same _ _ junit_path report_path _ _ _ _
     (c.in_ok-put_files.ensures.placed report_path junit_path report junit)
     (same_junit _ _ planned.telling.now.rule _ _ planned.places.now c.args.rows
-    (c.as_bytes.ensures.value ∙ c.junit_class.ensures)
+    (c.as_bytes.ensures.value ∙ c.suite_name.ensures)
     (ap (λ telling. row_lines_at (telling_of telling)) c.new-recalling.ensures))
     (ap (λ jobs. chosen_report_text jobs planned.places.now c.args.shard c.args.rows) c.jobs.ensures.value)
 
@@ -21,5 +21,5 @@ returns-in_err-put_files-clause-part g c = λ junit_path junit.
     OnErr-from c.from_residual.result _
     (part_same _ _ junit_path _ _ (c.in_err-put_files.ensures.part junit_path junit)
     (same_junit _ _ planned.telling.now.rule _ _ planned.places.now c.args.rows
-    (c.as_bytes.ensures.value ∙ c.junit_class.ensures)
+    (c.as_bytes.ensures.value ∙ c.suite_name.ensures)
     (ap (λ telling. row_lines_at (telling_of telling)) c.new-recalling.ensures)))

@@ -41,3 +41,10 @@ returns-in-Ok-ran-clause-said g c =
       placed = q;
     })
     out placed
+
+pub returns-in-Ok-ran-clause-part : goal.returns-in-Ok-ran-clause-part
+returns-in-Ok-ran-clause-part g c =
+    let junit = c.in-Ok.ensures.junit in
+    let same = ap g.F.Outputs.placed c.run_and_show-to.ensures.files ∙ c.in-Ok.ensures.same in
+    let rows = rw c.in-Ok-ran.is at c.run_and_show-to.ensures.rows in
+    rw same at (rw rows at (c.put_run_files-put.ensures.part (optional_text c.args.self.now.asked.now.junit) (rw same junit)))

@@ -1,0 +1,53 @@
+//! Tips in the errors of `clap`.
+//!
+//! `clap` says how a word that it does not know is passed as a value, which no command takes, and names an option that is a little
+//! like it, though another was meant.
+
+use clap::Error;
+use std::alloc::{AllocError, Global};
+use strsim::levenshtein;
+
+/// The text of an error. Of its tips only that remains which names an option of which at most a third of the letters differ from
+/// what was written.
+pub fn error_text(alloc: Global, error: &Error) -> Result<String, AllocError> {
+    let told = error.to_string(alloc)?;
+    let written = refused_option(told.as_str());
+    let mut text = String::new(alloc);
+    let mut is_behind_empty = false;
+    for line in told.as_str().lines() {
+        let is_empty = line.is_empty();
+        if is_tip_wrong(alloc, written, line)? || is_empty && is_behind_empty {
+            continue;
+        }
+        is_behind_empty = is_empty;
+        text.push_str(line)?;
+        text.push_str("\n")?;
+    }
+    Ok(text)
+}
+
+// The option that is refused, without its dashes; empty where none is.
+fn refused_option(told: &str) -> &str {
+    match told.split_once("'--") {
+        Some((_, behind)) => match behind.split_once("' found") {
+            Some((option, _)) => option,
+            None => "",
+        },
+        None => "",
+    }
+}
+
+// Whether a line is a tip that leads astray.
+fn is_tip_wrong(alloc: Global, written: &str, line: &str) -> Result<bool, AllocError> {
+    if line.starts_with("  tip: to pass '") {
+        return Ok(true);
+    }
+    match line.strip_prefix("  tip: a similar argument exists: '--") {
+        Some(option) => {
+            let length = option.len().saturating_sub(1);
+            let distance = levenshtein(alloc, written, option.trim_end_matches('\''))?;
+            Ok(distance > length / 3)
+        }
+        None => Ok(false),
+    }
+}

@@ -1,0 +1,111 @@
+//! Standard output as a sink, which a reader may close.
+
+ghost use Rattle.std.specs.Prelude.{◌≡◌, ◌≤◌, ◌||◌, Bool, None, IfOk, IfErr, OnErr, false, length, take};
+ghost use Rattle.std.specs.Io.KnownBytes.{Appends};
+ghost use Rattle.rv_base.specs.Sinks.{AppendsBeginning};
+ghost use Rattle.rv_base.specs.Counts.{one_more};
+ghost use Rattle.rv_files.specs.IoErrors.{is_broken_pipe};
+
+use rv_base::{Sink, SinkFailed};
+use std::io::{ErrorKind, Write};
+
+/// A sink whose reader may close it before all is read, as `head` does.
+pub trait Closable: Sink {
+    // Whether a put failed since nobody reads any more.
+    ghost closed: { Self → Bool };
+
+    /// Whether a put failed since nobody reads any more.
+    fn is_closed(&self) -> bool
+        ensures { result ≡ closed self.now };
+}
+
+/// A stream of the process as a sink that may be closed: as a [`StreamSink`](crate::StreamSink), it writes and flushes once a put,
+/// and tells no bytes.
+#[derive(Drop)]
+pub struct PipeSink<W: Drop> {
+    stream: W,
+    failures: u64,
+    is_closed: bool,
+}
+
+impl<W: Write + Drop> PipeSink<W> {
+    pub fn new(stream: W) -> PipeSink<W>
+        ensures stream { result.stream ≡ stream }
+        ensures unfailed { result.failures ≡ 0 }
+        ensures open { result.is_closed ≡ false }
+    {
+        PipeSink {
+            stream,
+            failures: 0,
+            is_closed: false,
+        }
+    }
+
+    // Counts a failure, and notes whether it says that the reader has closed the pipe.
+    fn note_failure(&mut self, reason: ErrorKind) -> SinkFailed
+        ensures counted { self.new.failures ≡ one_more self.old.failures }
+        ensures closed { self.new.is_closed ≡ (self.old.is_closed || is_broken_pipe reason) }
+        ensures same { self.new.stream ≡ self.old.stream }
+    {
+        self.failures = self.failures.saturating_add(1);
+        self.is_closed = self.is_closed || is_broken_pipe(reason);
+        SinkFailed
+    }
+}
+
+fn is_broken_pipe(reason: ErrorKind) -> bool
+    ensures { result ≡ is_broken_pipe reason }
+{
+    matches!(reason, ErrorKind::BrokenPipe)
+}
+
+impl<W: Write + Drop> Sink for PipeSink<W> {
+    ghost taken = { λ _. None };
+
+    ghost failed = { λ sink. sink.failures };
+
+    fn put(&mut self, bytes: &[u8]) -> Result<usize, SinkFailed>
+        ensures within { IfOk result (λ count. (1 ≤ count) × (count ≤ length bytes.now)) }
+        ensures written { IfOk result (λ count. Appends (W.contents self.old.stream)
+            (W.contents self.new.stream) (take count bytes.now)) }
+        ensures part { OnErr result
+            (AppendsBeginning (W.contents self.old.stream) (W.contents self.new.stream) bytes.now) }
+        ensures counted { IfOk result (λ _. self.new.failures ≡ self.old.failures) }
+        ensures failure { IfErr result (λ _. self.new.failures ≡ one_more self.old.failures) }
+        ensures open { IfOk result (λ _. self.new.is_closed ≡ self.old.is_closed) }
+    {
+        match write_and_flush(&mut self.stream, bytes) {
+            Ok(count) => Ok(count),
+            Err(reason) => Err(self.note_failure(reason)),
+        }
+    }
+
+    fn failures(&self) -> u64 {
+        self.failures
+    }
+}
+
+impl<W: Write + Drop> Closable for PipeSink<W> {
+    ghost closed = { λ sink. sink.is_closed };
+
+    fn is_closed(&self) -> bool {
+        self.is_closed
+    }
+}
+
+// Writes one or more bytes from the front, once, and flushes them; or says why that failed.
+fn write_and_flush<W: Write>(stream: &mut W, bytes: &[u8]) -> Result<usize, ErrorKind>
+    ensures within { IfOk result (λ count. (1 ≤ count) × (count ≤ length bytes.now)) }
+    ensures written { IfOk result (λ count. Appends (W.contents stream.old) (W.contents stream.new) (take count bytes.now)) }
+    ensures part { OnErr result (AppendsBeginning (W.contents stream.old) (W.contents stream.new) bytes.now) }
+{
+    let count = match stream.write(bytes) {
+        Ok(0) => return Err(ErrorKind::WriteZero),
+        Ok(count) => count,
+        Err(error) => return Err(error.kind()),
+    };
+    match stream.flush() {
+        Ok(()) => Ok(count),
+        Err(error) => Err(error.kind()),
+    }
+}

@@ -1,0 +1,28 @@
+-- What is found of a used-up budget.
+use Rattle.std.specs.Prelude.{◌≡◌, ◌≤◌, ◌-◌, ℕ, min, Option, Some, None, Ok}
+use Rattle.rv_jobs.specs.Plans.{Planned}
+use Rattle.rv_jobs.specs.declared_job.Job.{Job}
+use Rattle.rv_machine.specs.Run.{run_of}
+use Rattle.rv_machine.specs.State.{State}
+use Rattle.rv_rows.specs.Rows.{start_in}
+use Rattle.rv_hang.specs.Repetition.{IsLastAgain, IsRepetition, IsWaitTold}
+use Rattle.rv_hang.specs.declared.budget_use.BudgetUse.{BudgetUse}
+use Rattle.rv_hang.specs.declared.budget_use.BudgetUse.TheVariants.{Changes, Repeats}
+
+-- how many of the last steps of a run are looked at
+abbrev pub searched_steps : ℕ → ℕ
+searched_steps steps = min steps 100_000
+
+-- Of so many steps from a state on: a state comes again; or no place among the last steps has the pc and the registers of the
+-- end where no step behind it may change the bus.
+abbrev pub IsBudgetUse : ℕ → State → BudgetUse → Type 0
+IsBudgetUse steps s (Repeats r) = IsRepetition steps s r × IsWaitTold steps s r
+IsBudgetUse steps s (Changes within) = (within ≡ searched_steps steps)
+    × ((place : ℕ) → steps - within ≤ place → IsLastAgain steps place s → ⊥)
+
+-- The same of the run of a job of a plan, which completes so many steps. Nothing is found only where there is no such run.
+abbrev pub IsBudgetUseIn : Planned → Job → ℕ → Option BudgetUse → Type 0
+IsBudgetUseIn plan job steps None =
+    (s : State) → start_in plan.answers job ≡ Ok s → (run_of steps s).steps ≡ steps → ⊥
+IsBudgetUseIn plan job steps (Some found) = (s : State) × (start_in plan.answers job ≡ Ok s)
+    × ((run_of steps s).steps ≡ steps) × IsBudgetUse steps s found

@@ -1,0 +1,79 @@
+//! What is found of a used-up budget.
+
+ghost use Rattle.std.specs.Prelude.{◌≡◌, IfOk, MatchOption, true};
+ghost use Rattle.rv_hang.specs.BudgetUse.{IsBudgetUse, IsBudgetUseIn};
+ghost use Rattle.rv_hang.specs.Repetition.{has_values};
+ghost use Rattle.rv_jobs.specs.declared_job.Job.{Job as AJob};
+ghost use Rattle.rv_machine.specs.Machine.{state_of};
+ghost use Rattle.rv_machine.specs.Run.{run_of};
+ghost use Rattle.rv_trace.specs.Trace.{job_at, state_after};
+
+use crate::hart::HartValues;
+use crate::repetition::{Repetition, find_repetition};
+use rv_machine::Machine;
+use rv_rows::machine_at;
+use rv_trace::JobImage;
+use std::alloc::{AllocError, Global};
+
+// How many of the last steps of a run are looked at.
+const MOST_SEARCHED: u32 = 100_000;
+
+/// What is found of a used-up budget.
+#[derive(Clone, Copy)]
+pub enum BudgetUse {
+    /// A state comes again, so the run never ends.
+    Repeats(Repetition),
+    /// None of so many last steps begins a loop that changes nothing.
+    Changes(u32),
+}
+
+/// What is found of the run of a job that completes so many steps. It takes the time of two more runs; nothing is found of a
+/// job that is refused, or whose run ends before.
+pub fn budget_use_of(
+    alloc: Global,
+    job: &JobImage<'_>,
+    steps: u32,
+) -> Result<Option<BudgetUse>, AllocError>
+    ensures { IfOk result (λ found. (d : AJob) → IsBudgetUseIn job.now.plan.now
+        (job_at job.now.plan.now job.now.place d) steps found) }
+{
+    let machine = match machine_at(alloc, job.plan, job.place, job.image)? {
+        Ok(machine) => machine,
+        Err(_) => return Ok(None),
+    };
+    let Some(end) = values_behind(machine, steps) else {
+        return Ok(None);
+    };
+    match machine_at(alloc, job.plan, job.place, job.image)? {
+        Ok(machine) => Ok(Some(budget_use(machine, steps, &end))),
+        Err(_) => Ok(None),
+    }
+}
+
+// The pc and the registers behind so many steps of a machine, where it completes them.
+fn values_behind(machine: Machine, steps: u32) -> Option<HartValues>
+    ensures { MatchOption result ((run_of steps (state_of machine)).steps ≡ steps → ⊥)
+        (λ end. ((run_of steps (state_of machine)).steps ≡ steps)
+        × (has_values end (state_after steps (state_of machine)) ≡ true)) }
+{
+    let mut ahead = machine;
+    if ahead.run(steps).steps != steps {
+        return None;
+    }
+    Some(HartValues {
+        pc: ahead.pc(),
+        registers: ahead.registers(),
+    })
+}
+
+// What is found among the last of so many steps of a machine, which all complete.
+fn budget_use(machine: Machine, steps: u32, end: &HartValues) -> BudgetUse
+    requires complete { (run_of steps (state_of machine)).steps ≡ steps }
+    requires end { has_values end.now (state_after steps (state_of machine)) ≡ true }
+    ensures { IsBudgetUse steps (state_of machine) result }
+{
+    match find_repetition(machine, steps, MOST_SEARCHED, end) {
+        Some(repetition) => BudgetUse::Repeats(repetition),
+        None => BudgetUse::Changes(steps.min(MOST_SEARCHED)),
+    }
+}

@@ -1,0 +1,36 @@
+//! Loads from the console's script that is at its end.
+
+ghost use Rattle.std.specs.Prelude.{◌≡◌};
+ghost use Rattle.rv_hang.specs.ScriptEnd.{loads_script_end, reads_script_end};
+ghost use Rattle.rv_isa.specs.Words.{IsWellFormed};
+ghost use Rattle.rv_machine.specs.Machine.{state_of};
+
+use crate::quiet::accessed_address;
+use rv_isa::{Instr, Op};
+use rv_machine::Machine;
+use rv_trace::{code_at, instr_of};
+
+/// Whether the next step of a machine loads from the script at its end.
+pub(crate) fn reads_script_end(machine: &Machine) -> bool
+    ensures { result ≡ reads_script_end (state_of machine.now) }
+{
+    match code_at(machine.bus(), machine.pc()) {
+        Some(code) => match instr_of(code) {
+            Some(instr) => loads_script_end(machine, instr),
+            None => false,
+        },
+        None => false,
+    }
+}
+
+fn loads_script_end(machine: &Machine, instr: Instr) -> bool
+    requires { IsWellFormed instr }
+    ensures { result ≡ loads_script_end instr.op instr (state_of machine.now) }
+{
+    match instr.op {
+        Op::Lw => {
+            accessed_address(machine, instr) == 0x1000_0000 && machine.bus().script_left() == 0
+        }
+        _ => false,
+    }
+}

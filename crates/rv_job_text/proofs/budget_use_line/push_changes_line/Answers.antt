@@ -1,0 +1,9 @@
+use Rattle.std.proofs.Common.{append_assoc, append-nil}
+use Rattle.rv_job_text.specs.BudgetUseLine.{changes_line}
+use Rattle.rv_job_text.proofs.budget_use_line.push_changes_line.Goals as goal
+
+pub returns : goal.returns
+unfolding changes_line
+returns c =
+    let told = rw (c.from.ensures, c.last_or_all_text.ensures) at c.push_spans.ensures in
+    simp (append_assoc) (simp (append-nil) at told)

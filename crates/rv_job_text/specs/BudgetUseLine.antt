@@ -1,0 +1,43 @@
+-- The line that says what is found of a used-up budget.
+use Rattle.std.specs.Prelude.{◌≡◌, ◌==◌, ◌++◌, ℕ, Bool, List, [], Option, Some, None, codes, if◌then◌else◌}
+use Rattle.std.specs.Fmt.{decimal}
+use Rattle.rv_hang.specs.BudgetUse.{IsBudgetUseIn}
+use Rattle.rv_hang.specs.declared.budget_use.BudgetUse.{BudgetUse}
+use Rattle.rv_hang.specs.declared.budget_use.BudgetUse.TheVariants.{Changes, Repeats}
+use Rattle.rv_hang.specs.declared.repetition.Repetition.{Repetition}
+use Rattle.rv_jobs.specs.Plans.{Planned}
+use Rattle.rv_jobs.specs.declared_job.Job.{Job}
+use Rattle.rv_rows.specs.declared_row.Row.{Row}
+use Rattle.rv_rows.specs.declared_row.RowEnd.{RowEnd}
+use Rattle.rv_rows.specs.declared_row.RowEnd.TheVariants.{Budget}
+use Rattle.rv_rows.specs.Report.{line}
+
+-- why a run goes round, where a load from the script at its end is in it
+abbrev pub waiting_text : Bool → List ℕ
+waiting_text waits = if waits then codes ", waiting for a script that is at its end" else []
+
+unfoldable pub repetition_line : Repetition → List ℕ
+repetition_line r = line (codes "     never ends: after " ++ decimal r.begin ++ codes " steps it repeats every "
+    ++ decimal r.period ++ codes " steps" ++ waiting_text r.waits)
+
+-- of the last steps, or of all where the run has no more
+abbrev pub last_or_all_text : ℕ → ℕ → List ℕ
+last_or_all_text steps within = if within == steps then codes "its " else codes "its last "
+
+unfoldable pub changes_line : ℕ → ℕ → List ℕ
+changes_line steps within = line (codes "     the budget may be too small: no loop that changes nothing in "
+    ++ last_or_all_text steps within ++ decimal within ++ codes " steps")
+
+-- what is found of a run of so many steps
+abbrev pub budget_use_line : ℕ → Option BudgetUse → List ℕ
+budget_use_line steps None = []
+budget_use_line steps (Some (Repeats r)) = repetition_line r
+budget_use_line steps (Some (Changes within)) = changes_line steps within
+
+-- a run that used up its budget is looked into, and no other one
+abbrev pub IsUseBehind : RowEnd → Planned → Job → ℕ → Option BudgetUse → Type 0
+IsUseBehind Budget plan job steps found = IsBudgetUseIn plan job steps found
+IsUseBehind _ plan job steps found = found ≡ None
+
+abbrev pub IsUseOfRow : Planned → Job → Row → Option BudgetUse → Type 0
+IsUseOfRow plan job row found = IsUseBehind row.ending plan job row.steps found

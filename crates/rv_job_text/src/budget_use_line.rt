@@ -1,0 +1,72 @@
+//! The line that says what is found of a used-up budget.
+
+ghost use Rattle.std.specs.Prelude.{◌≡◌, ◌++◌, OnOk};
+ghost use Rattle.rv_job_text.specs.BudgetUseLine.{budget_use_line, changes_line, last_or_all_text, repetition_line, waiting_text};
+
+use rv_hang::{BudgetUse, Repetition};
+use rv_text::{Span, push_spans};
+use std::alloc::AllocError;
+
+/// Appends what is found of the used-up budget of a run of so many steps, where anything is.
+pub(crate) fn push_budget_use_line(
+    text: &mut Vec<u8>,
+    steps: u32,
+    found: Option<BudgetUse>,
+) -> Result<(), AllocError>
+    ensures { OnOk result (text.new.items ≡ text.old.items ++ budget_use_line steps found) }
+{
+    match found {
+        Some(BudgetUse::Repeats(repetition)) => push_repetition_line(text, repetition),
+        Some(BudgetUse::Changes(within)) => push_changes_line(text, steps, within),
+        None => Ok(()),
+    }
+}
+
+#[tactic(auto, unfolding(crate::specs::BudgetUseLine::repetition_line))]
+fn push_repetition_line(text: &mut Vec<u8>, repetition: Repetition) -> Result<(), AllocError>
+    ensures { OnOk result (text.new.items ≡ text.old.items ++ repetition_line repetition) }
+{
+    push_spans(
+        text,
+        &[
+            Span::Text("     never ends: after "),
+            Span::Number(u64::from(repetition.begin)),
+            Span::Text(" steps it repeats every "),
+            Span::Number(u64::from(repetition.period)),
+            Span::Text(" steps"),
+            Span::Text(waiting_text(repetition.waits)),
+            Span::Text("\n"),
+        ],
+    )
+}
+
+fn waiting_text(waits: bool) -> &'static str
+    ensures { result.now ≡ waiting_text waits }
+{
+    if waits {
+        ", waiting for a script that is at its end"
+    } else {
+        ""
+    }
+}
+
+#[tactic(auto, unfolding(crate::specs::BudgetUseLine::changes_line))]
+fn push_changes_line(text: &mut Vec<u8>, steps: u32, within: u32) -> Result<(), AllocError>
+    ensures { OnOk result (text.new.items ≡ text.old.items ++ changes_line steps within) }
+{
+    push_spans(
+        text,
+        &[
+            Span::Text("     the budget may be too small: no loop that changes nothing in "),
+            Span::Text(last_or_all_text(steps, within)),
+            Span::Number(u64::from(within)),
+            Span::Text(" steps\n"),
+        ],
+    )
+}
+
+fn last_or_all_text(steps: u32, within: u32) -> &'static str
+    ensures { result.now ≡ last_or_all_text steps within }
+{
+    if within == steps { "its " } else { "its last " }
+}

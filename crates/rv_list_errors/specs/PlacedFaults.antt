@@ -1,0 +1,46 @@
+-- The lines that tell all faults of a list, each with its line and column.
+use Rattle.std.specs.Prelude.{◌≡◌, ◌⊎◌, ◌<◌, ◌++◌, ℕ, List, [], ◌∷◌, Option, Some, None, codes, length}
+use Rattle.std.specs.Fmt.{decimal}
+use Rattle.std.specs.List.{All, flat_map}
+use Rattle.toml.specs.Data.{Members}
+use Rattle.rv_lists.specs.JobList.{document_of}
+use Rattle.rv_lists.specs.declared.error.JobError.{JobError}
+use Rattle.rv_list_errors.specs.FaultHeads.{job_names, job_number_and_name}
+use Rattle.rv_list_errors.specs.Lines.{BeginsWith, printable_line}
+use Rattle.rv_list_errors.specs.Places.{column_at, line_at}
+
+-- the line and the column of a place in a text
+abbrev pub place_text : ℕ → List ℕ → List ℕ
+place_text place text = codes ":" ++ (decimal (line_at place text) ++ (codes ":" ++ decimal (column_at place text)))
+
+-- how the line begins that tells of a job a fault at a place: the path, the place, and the job's number and name
+abbrev pub placed_head : List ℕ → List ℕ → List (Option (List ℕ)) → ℕ → ℕ → List ℕ
+placed_head path text names number place = path ++ (place_text place text ++ job_number_and_name names number)
+
+-- a fault of a job, at some place of the text
+abbrev pub IsPlacedMessage : List ℕ → List ℕ → List (Option (List ℕ)) → ℕ → List ℕ → Type 0
+IsPlacedMessage path text names number message = (place : ℕ) × BeginsWith (placed_head path text names number place) message
+
+-- of a document: a fault of the whole list, whose number is 0, or one of a job
+abbrev pub IsToldInList : List ℕ → List ℕ → List (Option (List ℕ)) → JobError → List ℕ → Type 0
+IsToldInList path text names fault message = ((fault.job ≡ 0) × BeginsWith (path ++ codes ": ") message)
+    ⊎ ((0 < fault.job) × IsPlacedMessage path text names fault.job message)
+
+abbrev pub IsToldInDocument : List ℕ → List ℕ → Option Members → JobError → List ℕ → Type 0
+IsToldInDocument path text None fault message = BeginsWith path message
+IsToldInDocument path text (Some ms) fault message = IsToldInList path text (job_names ms) fault message
+
+-- a message tells a fault of the list of a path and a text
+abbrev pub IsToldFault : List ℕ → List ℕ → JobError → List ℕ → Type 0
+IsToldFault path text fault message = IsToldInDocument path text (document_of text) fault message
+
+-- behind what was there stand lines, one at least, each of a message of which this is so
+abbrev pub PutsLinesThat : (List ℕ → Type 0) → List ℕ → List ℕ → Type 0
+PutsLinesThat Is before after = (messages : List (List ℕ)) × (0 < length messages) × All Is messages
+    × (after ≡ before ++ flat_map printable_line messages)
+
+-- behind what was there stand the lines of each fault in turn
+abbrev pub PutsEachFault : (JobError → List ℕ → Type 0) → List JobError → List ℕ → List ℕ → Type 0
+PutsEachFault Is [] before after = after ≡ before
+PutsEachFault Is (fault ∷ faults) before after =
+    (middle : List ℕ) × PutsLinesThat (Is fault) before middle × PutsEachFault Is faults middle after

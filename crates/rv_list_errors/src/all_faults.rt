@@ -1,0 +1,173 @@
+//! The lines of all faults of a list, each with its place.
+
+ghost use Rattle.std.specs.Prelude.{◌≡◌, ◌<◌, ◌++◌, IfOk, OnOk, codes, length};
+ghost use Rattle.std.specs.Fmt.{decimal};
+ghost use Rattle.rv_list_errors.specs.FaultHeads.{borrowed_names};
+ghost use Rattle.rv_list_errors.specs.Lines.{BeginsWith, printable_line};
+ghost use Rattle.rv_list_errors.specs.PlacedFaults.{IsPlacedMessage, IsToldFault, IsToldInList, PutsEachFault, PutsLinesThat};
+ghost use Rattle.rv_list_errors.specs.PlacedFaults.{placed_head};
+
+use crate::fault_text::{list_fault_message, push_job_number_and_name};
+use crate::faults::{push_faults, suggestion_for_fault};
+use crate::found_faults::{FoundFault, faults_of_job};
+use crate::headers::{Cursor, Place, job_texts};
+use crate::list::List;
+use crate::names::Suggestion;
+use rv_lists::JobError;
+use rv_text::{Span, push_spans, push_text};
+use std::alloc::{AllocError, Global};
+
+/// Appends all faults of a list's jobs, each on a line with its line and column: the faults of a job in the order of its keys, and before
+/// them the keys that it lacks, where the job begins. `file` is the path of the list as the person wrote it, and the faults are those that
+/// `read_faults` of `rv_lists` tells of its text, one for each bad job. The text is read once more.
+pub fn push_all_faults<'a>(
+    alloc: Global,
+    bytes: &mut Vec<u8>,
+    file: &'a str,
+    text: &'a [u8],
+    faults: &[JobError],
+) -> Result<(), AllocError>
+    ensures { OnOk result (PutsEachFault (IsToldFault file.now text.now) faults.now
+        bytes.old.items bytes.new.items) }
+{
+    match toml::table_from_slice(alloc, text) {
+        Ok(table) => {
+            let list = List::from_table(alloc, text, &table)?;
+            let jobs = job_texts(alloc, str::from_utf8(text).unwrap_or(""))?;
+            let mut lines = PlacedLines {
+                file,
+                list,
+                jobs,
+                cursor: Cursor::new(text),
+            };
+            lines.push_fault_lines(alloc, bytes, faults)
+        }
+        Err(error) => {
+            if error.is_memory() {
+                // Out of memory: `toml` says so of its own error.
+                return Err(AllocError);
+            }
+            push_faults(alloc, bytes, file, text, faults)
+        }
+    }
+}
+
+// Lines of faults that know their places in a list.
+#[derive(Drop)]
+struct PlacedLines<'a> {
+    file: &'a str,
+    list: List<'a>,
+    // The text from each job on.
+    jobs: Vec<&'a str>,
+    cursor: Cursor<'a>,
+}
+
+impl<'a> PlacedLines<'a> {
+    fn push_fault_lines(
+        &mut self,
+        alloc: Global,
+        bytes: &mut Vec<u8>,
+        faults: &[JobError],
+    ) -> Result<(), AllocError>
+        ensures { OnOk result (PutsEachFault
+            (IsToldInList self.old.file.now self.old.cursor.text.now (borrowed_names self.old.list.names.items))
+            faults.now bytes.old.items bytes.new.items) }
+    {
+        for (at, fault) in faults.iter().enumerate() {
+            self.push_fault(alloc, bytes, *fault, suggestion_for_fault(at))?;
+        }
+        Ok(())
+    }
+
+    fn push_fault(
+        &mut self,
+        alloc: Global,
+        bytes: &mut Vec<u8>,
+        fault: JobError,
+        suggestion: Suggestion,
+    ) -> Result<(), AllocError>
+        ensures file { self.new.file ≡ self.old.file }
+        ensures list { self.new.list ≡ self.old.list }
+        ensures text { self.new.cursor.text.now ≡ self.old.cursor.text.now }
+        ensures told { OnOk result (PutsLinesThat
+            (IsToldInList self.old.file.now self.old.cursor.text.now (borrowed_names self.old.list.names.items) fault)
+            bytes.old.items bytes.new.items) }
+    {
+        if fault.job == 0 {
+            let message = list_fault_message(alloc, self.file, &self.list, fault.what)?;
+            return push_message_line(bytes, message.as_slice());
+        }
+        let found = faults_of_job(alloc, &self.list, self.jobs.as_slice(), fault, suggestion)?;
+        self.push_found_faults(alloc, bytes, fault.job, found.as_slice())
+    }
+
+    // Appends a line for each of some faults of a job.
+    fn push_found_faults(
+        &mut self,
+        alloc: Global,
+        bytes: &mut Vec<u8>,
+        number: u32,
+        found: &[FoundFault],
+    ) -> Result<(), AllocError>
+        requires numbered { 0 < number }
+        requires some { 0 < length found.now }
+        ensures file { self.new.file ≡ self.old.file }
+        ensures list { self.new.list ≡ self.old.list }
+        ensures text { self.new.cursor.text.now ≡ self.old.cursor.text.now }
+        ensures told { OnOk result (PutsLinesThat
+            (IsPlacedMessage self.old.file.now self.old.cursor.text.now (borrowed_names self.old.list.names.items) number)
+            bytes.old.items bytes.new.items) }
+    {
+        for fault in found {
+            let message = self.placed_message(alloc, number, fault)?;
+            push_message_line(bytes, message.as_slice())?;
+        }
+        Ok(())
+    }
+
+    // What is told of a fault of a job, behind its place.
+    fn placed_message(
+        &mut self,
+        alloc: Global,
+        number: u32,
+        fault: &FoundFault,
+    ) -> Result<Vec<u8>, AllocError>
+        requires { 0 < number }
+        ensures file { self.new.file ≡ self.old.file }
+        ensures list { self.new.list ≡ self.old.list }
+        ensures text { self.new.cursor.text.now ≡ self.old.cursor.text.now }
+        ensures message { IfOk result (λ message. BeginsWith
+            (placed_head self.old.file.now self.old.cursor.text.now (borrowed_names self.old.list.names.items) number
+            fault.now.place) message.items) }
+    {
+        let place = self.cursor.place_at(fault.place);
+        let mut message = Vec::new(alloc);
+        push_text(&mut message, self.file)?;
+        push_line_and_column(&mut message, place)?;
+        push_job_number_and_name(&mut message, &self.list, number)?;
+        message.extend_from_slice(fault.explanation.as_slice())?;
+        Ok(message)
+    }
+}
+
+fn push_line_and_column(message: &mut Vec<u8>, place: Place) -> Result<(), AllocError>
+    ensures { OnOk result (message.new.items ≡ message.old.items
+        ++ (codes ":" ++ (decimal place.line ++ (codes ":" ++ decimal place.column)))) }
+{
+    push_spans(
+        message,
+        &[
+            Span::Text(":"),
+            Span::Number(place.line as u64),
+            Span::Text(":"),
+            Span::Number(place.column as u64),
+        ],
+    )
+}
+
+// Appends a message as a line.
+fn push_message_line(bytes: &mut Vec<u8>, message: &[u8]) -> Result<(), AllocError>
+    ensures { OnOk result (bytes.new.items ≡ bytes.old.items ++ printable_line message.now) }
+{
+    push_spans(bytes, &[Span::Shown(message), Span::Text("\n")])
+}

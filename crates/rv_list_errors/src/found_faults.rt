@@ -1,0 +1,114 @@
+//! The faults of a job, with their places in the list's text.
+
+ghost use Rattle.std.specs.Prelude.{◌<◌, IfOk, length};
+
+use crate::headers::{JobKey, job_keys};
+use crate::job_fault::push_job_fault;
+use crate::key_faults::{FaultyJob, Met, NEEDED, push_absent_key};
+use crate::list::List;
+use crate::message::Message;
+use crate::names::Suggestion;
+use crate::values::value_at_key;
+use rv_lists::JobError;
+use std::alloc::{AllocError, Global};
+use toml::Value;
+
+/// A fault of a job: the place where it stands in the list's text, and what is told of it.
+#[derive(Drop)]
+pub(crate) struct FoundFault {
+    pub(crate) place: usize,
+    pub(crate) explanation: Vec<u8>,
+}
+
+/// All faults of a job, of which there is one at least: the fault that is known where no key is found to be bad. The texts are those from
+/// each job on, and the first is the longest.
+pub(crate) fn faults_of_job(
+    alloc: Global,
+    list: &List<'_>,
+    jobs: &[&str],
+    fault: JobError,
+    suggestion: Suggestion,
+) -> Result<Vec<FoundFault>, AllocError>
+    requires { 0 < fault.job }
+    ensures { IfOk result (λ found. 0 < length found.items) }
+{
+    let at = fault.job as usize - 1;
+    let mut found = Vec::new(alloc);
+    let text = jobs.get(at).copied().unwrap_or("");
+    if let Some(Value::Table(table)) = list.jobs.get(at) {
+        let job = FaultyJob {
+            list,
+            place: at,
+            table,
+            suggestion,
+        };
+        job.find_absent_keys(alloc, list.place_of_rest(text), &mut found)?;
+        job.find_bad_keys(alloc, text, &mut found)?;
+    }
+    if found.is_empty() {
+        let mut message = Message::new(alloc);
+        push_job_fault(&mut message, list, at, fault.what, suggestion);
+        found.push(FoundFault {
+            place: list.place_of_rest(text),
+            explanation: message.finish()?,
+        })?;
+    }
+    Ok(found)
+}
+
+impl<'a> FaultyJob<'a> {
+    // Notes the keys that a job lacks, where it begins.
+    fn find_absent_keys(
+        &self,
+        alloc: Global,
+        place: usize,
+        found: &mut Vec<FoundFault>,
+    ) -> Result<(), AllocError> {
+        for key in &NEEDED {
+            if value_at_key(self.table, key).is_none() {
+                let mut message = Message::new(alloc);
+                push_absent_key(&mut message, self.table, key);
+                let explanation = message.finish()?;
+                found.push(FoundFault { place, explanation })?;
+            }
+        }
+        Ok(())
+    }
+
+    // Notes the keys that have bad values, each where it stands first.
+    fn find_bad_keys(
+        &self,
+        alloc: Global,
+        text: &str,
+        found: &mut Vec<FoundFault>,
+    ) -> Result<(), AllocError> {
+        let keys = job_keys(alloc, text)?;
+        let mut met = Met::none();
+        let mut before = "";
+        for key in keys.as_slice() {
+            let name = key.name.as_str();
+            if !met.has(name) && name != before {
+                self.find_key_fault(alloc, key, &met, found)?;
+            }
+            met.add(name);
+            before = name;
+        }
+        Ok(())
+    }
+
+    fn find_key_fault(
+        &self,
+        alloc: Global,
+        key: &JobKey<'_>,
+        met: &Met,
+        found: &mut Vec<FoundFault>,
+    ) -> Result<(), AllocError> {
+        let mut message = Message::new(alloc);
+        if self.push_key_fault(&mut message, key.name.as_str(), met) {
+            let explanation = message.finish()?;
+            let place = self.list.place_of_rest(key.text);
+            found.push(FoundFault { place, explanation })?;
+        }
+        Ok(())
+    }
+}

@@ -1,0 +1,281 @@
+//! What is wrong with the value of one key of a job, whatever its other keys are.
+
+ghost use Rattle.std.specs.Prelude.{◌<◌, IfSome};
+
+use crate::expectation_fault::{BOTH_CONSOLES, end_explanation};
+use crate::explanations::{
+    BUDGET, EXPECT_CONSOLE, EXPECT_CONSOLE_FILE, EXPECT_EXIT, EXPECT_SIGNATURE, IMAGE, INPUT,
+    INPUT_HEX, LOAD, MISALIGNED, NAME, PAIRS, SIGNATURE, Told, UNASKED, push_explanation,
+};
+use crate::job_fault::{BOTH_INPUTS, are_hex_digit_pairs, isa_explanation, push_taken_name};
+use crate::keys::{push_unknown_job_key_of, push_unknown_region_key, region_with_unknown_key};
+use crate::kinds::{is_of_toml_kind, push_value_of_wrong_kind};
+use crate::list::List;
+use crate::message::Message;
+use crate::names::{Suggestion, push_unknown_same_as};
+use crate::regions::{are_map, push_region_fault};
+use crate::values::{elements_at_key, text_at_key, value_at_key};
+use rv_base::is_name;
+use rv_lists::limits::{MOST_BUDGET, MOST_CONSOLE, MOST_PATH, MOST_SCRIPT, MOST_SYMBOL};
+use rv_lists::{JOB_KEYS, Kind};
+use rv_machine::FaultKind;
+use toml::{Table, Value};
+
+/// The keys of a job that were met, by their places among the keys that jobs have.
+#[derive(Drop)]
+pub(crate) struct Met {
+    keys: [bool; 16],
+}
+
+impl Met {
+    pub(crate) fn none() -> Met {
+        Met { keys: [false; 16] }
+    }
+
+    /// Whether a key was met; of one that no job has it is not known.
+    pub(crate) fn has(&self, name: &str) -> bool {
+        match place_of_key(name) {
+            Some(place) => self.keys[place],
+            None => false,
+        }
+    }
+
+    pub(crate) fn add(&mut self, name: &str) {
+        if let Some(place) = place_of_key(name) {
+            self.keys[place] = true;
+        }
+    }
+}
+
+// The place of a key among those that jobs have.
+fn place_of_key(name: &str) -> Option<usize>
+    ensures { IfSome result (λ place. place < 16) }
+{
+    for at in 0..16 {
+        if JOB_KEYS[at].0 == name {
+            return Some(at);
+        }
+    }
+    None
+}
+
+/// A job whose keys are looked at.
+#[derive(Clone, Copy)]
+pub(crate) struct FaultyJob<'a> {
+    pub(crate) list: &'a List<'a>,
+    /// The place of the job, counted from 0.
+    pub(crate) place: usize,
+    pub(crate) table: &'a Table,
+    pub(crate) suggestion: Suggestion,
+}
+
+// What is wrong with a value.
+#[derive(Clone, Copy)]
+enum KeyFault {
+    Unknown,
+    UnknownInRegion,
+    OtherKind(Kind),
+    Wanted(Told),
+    TakenName,
+    NoEarlierJob,
+    NoMap,
+}
+
+impl<'a> FaultyJob<'a> {
+    /// Appends what is wrong with the value of a key, if anything is, and gives whether anything is. Of two keys that do not go together
+    /// it is told at the one that is met last.
+    pub(crate) fn push_key_fault(&self, message: &mut Message, key: &str, met: &Met) -> bool {
+        let Some(fault) = self.key_fault(key, met) else {
+            return false;
+        };
+        match fault {
+            KeyFault::Unknown => push_unknown_job_key_of(message, key),
+            KeyFault::UnknownInRegion => push_unknown_region_key(message, self.table),
+            KeyFault::OtherKind(kind) => push_value_of_wrong_kind(message, self.table, key, kind),
+            KeyFault::Wanted(told) => push_explanation(message, self.table, told),
+            KeyFault::TakenName => push_taken_name(message, self.list, self.table),
+            KeyFault::NoEarlierJob => push_unknown_same_as(
+                message,
+                self.list,
+                self.table,
+                self.place,
+                self.suggestion,
+            ),
+            KeyFault::NoMap => push_region_fault(message, self.table),
+        }
+        true
+    }
+
+    fn key_fault(&self, key: &str, met: &Met) -> Option<KeyFault> {
+        let Some(place) = place_of_key(key) else {
+            return Some(KeyFault::Unknown);
+        };
+        let kind = JOB_KEYS[place].1;
+        match value_at_key(self.table, key) {
+            Some(value) if is_of_toml_kind(kind, value) => self.value_fault(kind, key, value, met),
+            _ if key == "region" && region_with_unknown_key(self.table) => {
+                Some(KeyFault::UnknownInRegion)
+            }
+            Some(_) => Some(KeyFault::OtherKind(kind)),
+            None => None,
+        }
+    }
+
+    // What is wrong with a value of the kind that its key has.
+    fn value_fault(&self, kind: Kind, key: &str, value: &Value, met: &Met) -> Option<KeyFault> {
+        match kind {
+            Kind::Text => self.text_fault(key, value.as_str().unwrap_or(""), met),
+            Kind::Number => wanted(number_fault(key, value.as_integer().unwrap_or(0))),
+            Kind::Texts => wanted(signature_fault(elements_at_key(self.table, key))),
+            Kind::Regions if region_with_unknown_key(self.table) => Some(KeyFault::UnknownInRegion),
+            Kind::Regions if are_map(elements_at_key(self.table, key)) => None,
+            Kind::Regions => Some(KeyFault::NoMap),
+        }
+    }
+
+    fn text_fault(&self, key: &str, text: &str, met: &Met) -> Option<KeyFault> {
+        match key {
+            "name" => self.name_fault(text),
+            "same_as" if self.is_earlier_job(text) => None,
+            "same_as" => Some(KeyFault::NoEarlierJob),
+            "input" | "input_hex" => wanted(self.input_fault(key, text, met)),
+            _ => wanted(self.expectation_or_choice_fault(key, text, met)),
+        }
+    }
+
+    fn name_fault(&self, name: &str) -> Option<KeyFault> {
+        if !is_name(name.as_bytes()) {
+            Some(KeyFault::Wanted(Told::Wanted(&NAME)))
+        } else if self.is_earlier_job(name) {
+            Some(KeyFault::TakenName)
+        } else {
+            None
+        }
+    }
+
+    // Whether a job before this one has a good name.
+    fn is_earlier_job(&self, name: &str) -> bool {
+        match self.list.job_number_of_name(Some(name)) {
+            Some(number) => number <= self.place as u64 && is_name(name.as_bytes()),
+            None => false,
+        }
+    }
+
+    fn input_fault(&self, key: &str, text: &str, met: &Met) -> Option<Told> {
+        if key == "input" {
+            if MOST_SCRIPT < text.len() {
+                Some(Told::Wanted(&INPUT))
+            } else {
+                self.told_of_two("input_hex", met, BOTH_INPUTS)
+            }
+        } else if !are_hex_digit_pairs(text) {
+            Some(Told::Wanted(&PAIRS))
+        } else if MOST_SCRIPT < text.len() / 2 {
+            Some(Told::Wanted(&INPUT_HEX))
+        } else {
+            self.told_of_two("input", met, BOTH_INPUTS)
+        }
+    }
+
+    // What is told where another key was met that has a text too.
+    fn told_of_two(&self, other: &str, met: &Met, both: &'static str) -> Option<Told> {
+        if met.has(other) && text_at_key(self.table, other).is_some() {
+            Some(Told::Text(both))
+        } else {
+            None
+        }
+    }
+
+    fn expectation_or_choice_fault(&self, key: &str, text: &str, met: &Met) -> Option<Told> {
+        match key {
+            "expect_signature" => self.reference_fault(text),
+            "expect_console" if MOST_CONSOLE < text.len() => Some(Told::Wanted(&EXPECT_CONSOLE)),
+            "expect_console" => self.told_of_two("expect_console_file", met, BOTH_CONSOLES),
+            "expect_console_file" if !is_path(text) => Some(Told::Wanted(&EXPECT_CONSOLE_FILE)),
+            "expect_console_file" => self.told_of_two("expect_console", met, BOTH_CONSOLES),
+            "image" if !is_path(text) => Some(Told::Wanted(&IMAGE)),
+            _ => self.choice_fault(key, text),
+        }
+    }
+
+    fn reference_fault(&self, path: &str) -> Option<Told> {
+        if value_at_key(self.table, "signature").is_none() {
+            Some(Told::Wanted(&UNASKED))
+        } else if !is_path(path) {
+            Some(Told::Wanted(&EXPECT_SIGNATURE))
+        } else {
+            None
+        }
+    }
+
+    // Of a key that takes a few texts alone.
+    fn choice_fault(&self, key: &str, text: &str) -> Option<Told> {
+        match key {
+            "load" if text != "physical" && text != "virtual" => Some(Told::Wanted(&LOAD)),
+            "misaligned" if text != "fault" && text != "allow" => Some(Told::Wanted(&MISALIGNED)),
+            "isa" if !is_set(text) => Some(isa_explanation(self.table)),
+            "expect_end" if !is_end(text) => Some(end_explanation(self.table)),
+            _ => None,
+        }
+    }
+}
+
+fn wanted(told: Option<Told>) -> Option<KeyFault> {
+    match told {
+        Some(told) => Some(KeyFault::Wanted(told)),
+        None => None,
+    }
+}
+
+fn number_fault(key: &str, number: i64) -> Option<Told> {
+    if key == "budget" && (number < 1 || i64::from(MOST_BUDGET) < number) {
+        Some(Told::Wanted(&BUDGET))
+    } else if key == "expect_exit" && (number < 0 || 0xffff_ffff < number) {
+        Some(Told::Wanted(&EXPECT_EXIT))
+    } else {
+        None
+    }
+}
+
+// Of an array of texts.
+fn signature_fault(names: &[Value]) -> Option<Told> {
+    let is_good = names.len() == 2 && is_symbol(&names[0]) && is_symbol(&names[1]);
+    if is_good {
+        None
+    } else {
+        Some(Told::Wanted(&SIGNATURE))
+    }
+}
+
+fn is_symbol(name: &Value) -> bool {
+    match name.as_str() {
+        Some(name) => {
+            1 <= name.len() && name.len() <= MOST_SYMBOL && !name.as_bytes().contains(&0)
+        }
+        None => false,
+    }
+}
+
+fn is_path(text: &str) -> bool {
+    1 <= text.len() && text.len() <= MOST_PATH
+}
+
+fn is_set(text: &str) -> bool {
+    text == "rv32i" || text == "rv32im" || text == "rv32ic" || text == "rv32imc"
+}
+
+fn is_end(text: &str) -> bool {
+    text == "budget" || FaultKind::from_name(text.as_bytes()).is_some()
+}
+
+/// The keys that every job has.
+pub(crate) const NEEDED: [&str; 3] = ["name", "image", "budget"];
+
+/// Appends that a job lacks a key which every job has.
+pub(crate) fn push_absent_key(message: &mut Message, table: &Table, key: &str) {
+    match key {
+        "name" => push_explanation(message, table, Told::Wanted(&NAME)),
+        "image" => push_explanation(message, table, Told::Wanted(&IMAGE)),
+        _ => push_explanation(message, table, Told::Wanted(&BUDGET)),
+    }
+}
