@@ -3,5 +3,6 @@ pub mod Accepted
 pub mod Claims
 pub mod Fates
 pub mod BasicString
+pub mod Sharing
 pub mod Edits
 pub mod Meant

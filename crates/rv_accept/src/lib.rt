@@ -12,6 +12,7 @@ mod ends;
 mod fates;
 mod law;
 mod meant;
+mod sharing;
 
 pub use basic_string::push_basic_string;
 pub use claims::{Claim, push_claims};
@@ -19,4 +20,5 @@ pub use edits::{Edit, edited_text};
 pub use ends::{Acceptance, is_accepted_end};
 pub use fates::{Fate, fate_of_file};
 pub use meant::are_meant_jobs;
+pub use sharing::marks_to_run;
 pub use law::accepted_jobs_meet_their_expectations;
