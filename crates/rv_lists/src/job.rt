@@ -152,6 +152,19 @@ impl JobList {
         JobList { items }
     }
 
+    /// The same jobs, each with this budget in place of its own, where there is one. Takes no memory.
+    pub fn with_budget(self, budget: Option<u32>) -> JobList
+        ensures { result ≡ with_budget budget self }
+    {
+        let mut items = self.items;
+        if let Some(steps) = budget {
+            for at in 0..items.len() {
+                items[at].budget = steps;
+            }
+        }
+        JobList { items }
+    }
+
     pub fn as_slice(&self) -> &[Job]
         ensures value { result.now ≡ self.now }
         ensures jobs { AreJobs self.now }
