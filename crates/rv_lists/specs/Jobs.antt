@@ -32,10 +32,14 @@ pub record AreJobs (jobs : List Job) : Type 0 where
   pub few : length jobs ≤ most_jobs
   pub each : (k : ℕ) (d : Job) → k < length jobs → IsJob k (slice_index_or jobs k d)
 
--- the same jobs, each with this budget in place of its own, where there is one
+-- a job, with this budget in place of its own
+abbrev pub job_with_budget : ℕ → Job → Job
+job_with_budget steps job = record job { budget = steps }
+
+-- jobs in their order, each with this budget in place of its own, where there is one
 abbrev pub with_budget : Option ℕ → List Job → List Job
 with_budget None jobs = jobs
-with_budget (Some steps) jobs = map (λ (job : Job). record job { budget = steps }) jobs
+with_budget (Some steps) jobs = map (job_with_budget steps) jobs
 
 -- the job of a path that is run alone
 abbrev pub single_job : List ℕ → ℕ → List ℕ → Job
