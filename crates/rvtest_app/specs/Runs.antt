@@ -14,6 +14,7 @@ use Rattle.rv_junit.specs.Junit.{junit_text}
 use Rattle.rv_jobs.specs.Choices.{marked_places}
 use Rattle.rv_jobs.specs.Plans.{AreKept, Planned, jobs_needed_for, one_more_times, paths_of, paths_used, unreadable_count}
 use Rattle.rv_lists.specs.JobList.{job_list_of}
+use Rattle.rv_lists.specs.Jobs.{with_budget}
 use Rattle.rv_lists.specs.declared.job.Job.{Job}
 use Rattle.rv_merge.specs.Shards.{shard_marks}
 use Rattle.rv_report.specs.declared.saved.Shard.{Shard}
@@ -97,7 +98,8 @@ IsRunOfMarked known words jobs None shard status before after = (status ≡ 0) �
 IsRunOfMarked known words jobs (Some marks) shard status before after =
     IsRunOfPlaces known words jobs (places_of_marks marks) shard status before after
 
--- a run of what words ask for: what is said of the choice goes to standard error, and then the jobs run
+-- a run of what words ask for: what is said of the choice goes to standard error, and then the jobs run, all jobs of the list
+-- with the budget that is asked for
 pub record IsRunAt (known : Option FileContents) (words : RunAsked) (status : ℕ) (before after : Said) : Type 0 where
   pub jobs : List Job
   pub marks : Option (List Bool)
@@ -106,7 +108,7 @@ pub record IsRunAt (known : Option FileContents) (words : RunAsked) (status : �
   pub asked : AreRequestedJobs known words jobs marks shard notes
   pub middle : Said
   pub told : IsOnlyTold notes before middle
-  pub ran : IsRunOfMarked known words jobs marks shard status middle after
+  pub ran : IsRunOfMarked known words (with_budget words.budget jobs) marks shard status middle after
 
 -- ---- runs that an error ended
 
@@ -125,7 +127,7 @@ abbrev pub IsUndoneRunOfPlaces : Option FileContents → RunAsked → List Job �
 IsUndoneRunOfPlaces known words jobs places before after =
     (after ≡ before) ⊎ IsJunitAlone known words jobs places before after
 
--- of the jobs that words ask for, that document alone was put in its place
+-- of the jobs that words ask for, with the budget that is asked for, that document alone was put in its place
 pub record IsJunitAloneAt (known : Option FileContents) (words : RunAsked) (before after : Option (List PlacedFile))
     : Type 0 where
   pub jobs : List Job
@@ -133,7 +135,7 @@ pub record IsJunitAloneAt (known : Option FileContents) (words : RunAsked) (befo
   pub shard : Option Shard
   pub notes : List ℕ
   pub asked : AreRequestedJobs known words jobs (Some marks) shard notes
-  pub alone : IsJunitAlone known words jobs (places_of_marks marks) before after
+  pub alone : IsJunitAlone known words (with_budget words.budget jobs) (places_of_marks marks) before after
 
 -- a run that an error ended put no file in its place, or JUnit's document alone
 abbrev pub IsUndoneRunAt : Option FileContents → RunAsked → Option (List PlacedFile) → Option (List PlacedFile) → Type 0

@@ -23,7 +23,8 @@ use rv_jobs::{JobList, Plan, gather_places};
 use rv_rows::row_at;
 use std::alloc::Global;
 
-/// How the job of a name ends and comes there, which is run for that. The status is 1 where it failed.
+/// How the job of a name ends and comes there, which is run for that. The status is 1 where it failed. A budget that is asked
+/// for is that of every job of the list.
 pub(crate) fn explain_named_job<D: Inputs>(
     inputs: &D,
     alloc: Global,
@@ -45,13 +46,13 @@ fn explain_job_of_text<D: Inputs>(
     asked: ExplainAsked<'_>,
     text: &[u8],
 ) -> Result<Found, Stop>
-    ensures explanation { IfOk result (λ found.
-        IsExplanationOf (contents_below (optional_text asked.entry.root) (D.contents inputs.now))
-        text.now asked.entry.name.now asked.entry.last found.text.items found.status) }
+    ensures explanation { IfOk result (λ found. IsExplanationOf (D.contents inputs.now) asked.entry text.now
+        found.text.items found.status) }
     ensures low { IfOk result (λ found. found.status ≤ 1) }
     ensures stopped { IfErr result (IsNoJobStop asked.entry.list.now text.now asked.entry.name.now) }
 {
     let NamedJob { jobs, place } = find_named_job(alloc, asked.list, asked.name, text)?;
+    let jobs = jobs.with_budget(asked.budget);
     explain_job_at(inputs, alloc, asked, jobs, place)
 }
 

@@ -68,7 +68,8 @@ struct ListRun<'x, R, D> {
     rule: Rule,
 }
 
-/// Runs the jobs that are asked for, shows them, and writes their report. The status is 1 where one of them failed.
+/// Runs the jobs that are asked for, shows them, and writes their report. The status is 1 where one of them failed. A budget
+/// that is asked for is that of every job of the list.
 pub(crate) fn run_requested_jobs<
     R: Threads + Wait + Sync + Clock,
     D: Inputs,
@@ -106,7 +107,10 @@ pub(crate) fn run_requested_jobs<
     };
     put_message(&mut to.errors, notes.as_slice());
     match marks {
-        Some(marks) => run.run_marked_jobs(MarkedJobs { jobs, marks, shard }, to, terminals),
+        Some(marks) => {
+            let jobs = jobs.with_budget(asked.budget);
+            run.run_marked_jobs(MarkedJobs { jobs, marks, shard }, to, terminals)
+        }
         None => (to, Ok(DONE)),
     }
 }

@@ -181,7 +181,7 @@ const LENIENT: &str = "Counts as failed only what misses an expectation";
 
 const LAST: &str = "Shows the last N instructions of a job, from 0 to 100000";
 
-const BUDGET: &str = "Steps at most of each job, in place of its own, from 1 to 1000000000";
+const BUDGET: &str = "Steps at most of every job, from 1 to 1000000000; else its own";
 
 const BUDGET_BOUNDS: Bounds = Bounds {
     least: 1,

@@ -16,9 +16,9 @@ pub invariant_of-result : goal.invariant_of-result
 invariant_of-result c =
     let f = job_with_budget c.args.steps in
     let ended : length c.args.self ≤ c.loop-at.at =
-        omega (arith, c.loop-at-test.false, c.len-at-end.ensures, ap length c.self.view_is) in
+    omega (arith, c.loop-at-test.false, c.len-at-end.ensures, ap length c.self.view_is) in
     let all : c.loop-at.items.items ≡ map f c.args.self = c.loop-at.invariant
-        ∙ rw (take_all c.loop-at.at c.args.self ended, drop_of_length-le c.args.self ended)
-        (append-nil (map f c.args.self)) in
+    ∙ rw (take_all c.loop-at.at c.args.self ended, drop_of_length-le c.args.self ended)
+    (append-nil (map f c.args.self)) in
     rw all (jobs_changed f (λ k job is. record { script = is.script; named = is.named; earlier = is.earlier })
     c.args.self (subst AreJobs c.self.view_is c.self.invariant))
