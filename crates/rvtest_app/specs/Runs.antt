@@ -76,13 +76,14 @@ run_telling words plan unread = record {
   last = words.last;
 }
 
--- over such a plan, the rows of the jobs at some places went out as words ask for them: their lines with the totals, the
--- report, and JUnit's document; the status is by these rows
+-- over such a plan of the jobs, all with the budget that words ask for, the rows at some places went out as words ask for them:
+-- their lines with the totals, the report, and JUnit's document; the status is by these rows
 pub record IsRunOfPlaces (known : Option FileContents) (words : RunAsked) (jobs : List Job) (places : List ℕ)
     (shard : Option Shard) (status : ℕ) (before after : Said) : Type 0 where
   pub plan : Planned
   pub unread : List Unread
-  pub planned : IsPlanFor (contents_below (optional_text words.root) known) jobs places plan unread
+  pub planned : IsPlanFor (contents_below (optional_text words.root) known) (with_budget words.budget jobs) places plan
+      unread
   pub judged : status ≡ rows_status (failure_rule words.lenient) (rows_at plan places)
   pub put : WentOut (optional_text words.report) (optional_text words.junit)
       (run_output_text (row_lines_at (run_telling words plan unread)) (failure_rule words.lenient) places
@@ -98,8 +99,7 @@ IsRunOfMarked known words jobs None shard status before after = (status ≡ 0) �
 IsRunOfMarked known words jobs (Some marks) shard status before after =
     IsRunOfPlaces known words jobs (places_of_marks marks) shard status before after
 
--- a run of what words ask for: what is said of the choice goes to standard error, and then the jobs run, all jobs of the list
--- with the budget that is asked for
+-- a run of what words ask for: what is said of the choice goes to standard error, and then the jobs run
 pub record IsRunAt (known : Option FileContents) (words : RunAsked) (status : ℕ) (before after : Said) : Type 0 where
   pub jobs : List Job
   pub marks : Option (List Bool)
@@ -108,16 +108,17 @@ pub record IsRunAt (known : Option FileContents) (words : RunAsked) (status : �
   pub asked : AreRequestedJobs known words jobs marks shard notes
   pub middle : Said
   pub told : IsOnlyTold notes before middle
-  pub ran : IsRunOfMarked known words (with_budget words.budget jobs) marks shard status middle after
+  pub ran : IsRunOfMarked known words jobs marks shard status middle after
 
 -- ---- runs that an error ended
 
--- over a plan, JUnit's document of the jobs at some places alone was put in its place
+-- over a plan of the jobs, all with the budget that words ask for, JUnit's document of those at some places alone was put in its place
 pub record IsJunitAlone (known : Option FileContents) (words : RunAsked) (jobs : List Job) (places : List ℕ)
     (before after : Option (List PlacedFile)) : Type 0 where
   pub plan : Planned
   pub unread : List Unread
-  pub planned : IsPlanFor (contents_below (optional_text words.root) known) jobs places plan unread
+  pub planned : IsPlanFor (contents_below (optional_text words.root) known) (with_budget words.budget jobs) places plan
+      unread
   pub placed : AreFilesPlaced before after (Some (file_at (optional_text words.junit)
       (run_junit words (run_telling words plan unread) places (rows_at plan places))))
 
@@ -127,7 +128,7 @@ abbrev pub IsUndoneRunOfPlaces : Option FileContents → RunAsked → List Job �
 IsUndoneRunOfPlaces known words jobs places before after =
     (after ≡ before) ⊎ IsJunitAlone known words jobs places before after
 
--- of the jobs that words ask for, with the budget that is asked for, that document alone was put in its place
+-- of the jobs that words ask for, that document alone was put in its place
 pub record IsJunitAloneAt (known : Option FileContents) (words : RunAsked) (before after : Option (List PlacedFile))
     : Type 0 where
   pub jobs : List Job
@@ -135,7 +136,7 @@ pub record IsJunitAloneAt (known : Option FileContents) (words : RunAsked) (befo
   pub shard : Option Shard
   pub notes : List ℕ
   pub asked : AreRequestedJobs known words jobs (Some marks) shard notes
-  pub alone : IsJunitAlone known words (with_budget words.budget jobs) (places_of_marks marks) before after
+  pub alone : IsJunitAlone known words jobs (places_of_marks marks) before after
 
 -- a run that an error ended put no file in its place, or JUnit's document alone
 abbrev pub IsUndoneRunAt : Option FileContents → RunAsked → Option (List PlacedFile) → Option (List PlacedFile) → Type 0

@@ -68,8 +68,7 @@ struct ListRun<'x, R, D> {
     rule: Rule,
 }
 
-/// Runs the jobs that are asked for, shows them, and writes their report. The status is 1 where one of them failed. A budget
-/// that is asked for is that of every job of the list.
+/// Runs the jobs that are asked for, shows them, and writes their report. The status is 1 where one of them failed.
 pub(crate) fn run_requested_jobs<
     R: Threads + Wait + Sync + Clock,
     D: Inputs,
@@ -107,10 +106,7 @@ pub(crate) fn run_requested_jobs<
     };
     put_message(&mut to.errors, notes.as_slice());
     match marks {
-        Some(marks) => {
-            let jobs = jobs.with_budget(asked.budget);
-            run.run_marked_jobs(MarkedJobs { jobs, marks, shard }, to, terminals)
-        }
+        Some(marks) => run.run_marked_jobs(MarkedJobs { jobs, marks, shard }, to, terminals),
         None => (to, Ok(DONE)),
     }
 }
@@ -171,7 +167,7 @@ impl<'x, R, D: Inputs> ListRun<'x, R, D> {
 }
 
 impl<'x, R: Threads + Wait + Sync + Clock, D: Inputs> ListRun<'x, R, D> {
-    // Runs the jobs that are marked, once the files that they need are read.
+    // Runs the jobs that are marked, once the files that they need are read. A budget that is asked for is that of every job.
     fn run_marked_jobs<
         F: Outputs + Drop,
         O: Sink + Drop + Send,
@@ -201,6 +197,7 @@ impl<'x, R: Threads + Wait + Sync + Clock, D: Inputs> ListRun<'x, R, D> {
             Ok(places) => places,
             Err(error) => return (to, Err(Stop::from(error))),
         };
+        let jobs = jobs.with_budget(asked.budget);
         let mut store = NotingStore::new(self.host.inputs, alloc, asked.root);
         let plan = match gather_jobs_at(alloc, jobs, places.as_slice(), &mut store) {
             Ok(plan) => plan,
