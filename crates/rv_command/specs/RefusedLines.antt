@@ -71,7 +71,7 @@ wanted_behind line =
     else if begins line (codes "steps ") then codes "console with hexadecimal digits or -"
     else if begins line (codes "console ") then codes "signature with the number of its words or -"
     else if begins line (codes "signature -") then codes "verdict with none, pass or fail"
-    else if length line == 0 || begins line (codes "verdict ") then codes "job with the next number, or done with that of the rows,"
+    else if length line == 0 || begins line (codes "verdict ") then codes "job with the next number, or done or part at the end,"
     else if begins line (codes "done ") || begins line (codes "part ") then codes "nothing more"
     else codes "a word of eight hexadecimal digits, or verdict,"
 

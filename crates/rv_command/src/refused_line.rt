@@ -156,7 +156,7 @@ fn wanted_behind(line: &[u8]) -> &'static str
     } else if line.starts_with(b"signature -") {
         "verdict with none, pass or fail"
     } else if line.is_empty() || line.starts_with(b"verdict ") {
-        "job with the next number, or done with that of the rows,"
+        "job with the next number, or done or part at the end,"
     } else if line.starts_with(b"done ") || line.starts_with(b"part ") {
         "nothing more"
     } else {
