@@ -23,6 +23,7 @@ mod junit_class;
 mod law;
 mod list;
 mod merge;
+mod missing_images;
 mod named_job;
 mod outlets;
 mod placing;
