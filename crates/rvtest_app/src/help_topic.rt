@@ -1,6 +1,7 @@
 //! What is told of a topic that is no command.
 
 ghost use Rattle.std.specs.Prelude.{◌≡◌, IfErr, IfOk};
+ghost use Rattle.rv_command.specs.Stops.{IsStop};
 ghost use Rattle.rvtest_app.specs.HelpTopics.{IsNoTopicStop, list_topic, no_topic_message};
 
 use crate::findings::Found;
@@ -17,11 +18,17 @@ pub(crate) fn tell_topic(alloc: Global, asked: HelpAsked<'_>) -> Result<Found, S
     ensures stopped { IfErr result (IsNoTopicStop asked.entry.topic.now) }
 {
     if asked.topic != "list" {
-        return Err(Stop::of_refusal(no_topic_message(alloc, asked.topic)));
+        return Err(no_topic_stop(alloc, asked.topic));
     }
     let mut text = Vec::new(alloc);
     push_text(&mut text, LIST_KEYS)?;
     Ok(Found { text, status: DONE })
+}
+
+fn no_topic_stop(alloc: Global, topic: &str) -> Stop
+    ensures { IsStop 2 (no_topic_message topic.now) result }
+{
+    Stop::of_refusal(no_topic_message(alloc, topic))
 }
 
 fn no_topic_message(alloc: Global, topic: &str) -> Result<Vec<u8>, AllocError>
