@@ -204,7 +204,8 @@ impl<'x, R: Threads + Wait + Sync + Clock, D: Inputs> ListRun<'x, R, D> {
             Err(error) => return (to, Err(Stop::from(error))),
         };
         let unread = store.unread_paths();
-        let note = match missing_images_note(alloc, &plan, unread, places.len(), asked.root) {
+        let count = places.as_slice().len();
+        let note = match missing_images_note(alloc, &plan, unread, count, asked.root) {
             Ok(note) => note,
             Err(error) => return (to, Err(Stop::from(error))),
         };
