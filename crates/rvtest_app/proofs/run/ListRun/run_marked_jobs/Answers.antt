@@ -9,7 +9,7 @@ returns-clause-run g c =
     let noted = rw (
       c.as_slice-4.ensures.value,
       c.in-Ok-missing_images_note.ensures,
-      c.len.ensures,
+      c.len-count.ensures,
       c.as_slice-3.ensures.value,
       c.in-Ok.ensures.value,
       c.as_slice.ensures.value,
