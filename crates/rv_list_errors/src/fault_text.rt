@@ -7,9 +7,7 @@ ghost use Rattle.rv_list_errors.specs.Lines.{BeginsWith};
 
 use crate::job_fault::push_job_fault;
 use crate::list::List;
-use crate::list_fault::{
-    push_list_fault, push_not_toml, push_repeated_key, repeated_key_of_error,
-};
+use crate::list_fault::{push_list_fault, push_not_toml, push_repeated_key, repeated_key_of_error};
 use crate::message::Message;
 use crate::names::Suggestion;
 use rv_lists::{JobError, What};

@@ -85,7 +85,11 @@ fn open_job(alloc: Global, job: &str) -> Result<(Inside, &str), ParseError> {
 }
 
 /// Behind an entry or a header in the text of a job.
-pub(crate) fn scan_key_step(alloc: Global, here: &str, inside: Inside) -> Result<KeyStep<'_>, ParseError>
+pub(crate) fn scan_key_step(
+    alloc: Global,
+    here: &str,
+    inside: Inside,
+) -> Result<KeyStep<'_>, ParseError>
     ensures named { IfOk result (λ step. IfSome step.name (λ name. BeginsWithName (string_bytes name) here.now)) }
     ensures shorter { IfOk result (λ step. length step.rest.now < length here.now) }
 {

@@ -127,7 +127,9 @@ fn repeated_entry<'a>(
             return Ok(RepeatedKey { key, first });
         }
         let KeyStep {
-            inside: next, rest, ..
+            inside: next,
+            rest,
+            ..
         } = scan_key_step(alloc, here, inside)?;
         inside = next;
         here = rest;
