@@ -1,16 +1,18 @@
 //! The program `rvtest`: hands the process's own words, files and streams to the library, and ends with its status.
 #![tactic(auto)]
 
+use rv_colors::ColorSink;
 use rv_files::{PipeSink, StreamSink, SystemInputs, SystemOutputs};
 use rvtest_app::{Destinations, Host, Terminals, refuse_unreadable_words, run_rvtest};
-use std::env::Env;
+use std::env::{Env, VarError};
 use std::io::IsTerminal;
 use std::process::ExitCode;
 use std::{env, io};
 
 // The answer to the process's own words, over its own streams and files.
 fn main(rt: HostRuntime) -> ExitCode {
-    let (out, mut errors) = (PipeSink::new(rt.stdout()), StreamSink::new(rt.stderr()));
+    let out = ColorSink::new(PipeSink::new(rt.stdout()));
+    let mut errors = StreamSink::new(rt.stderr());
     let texts = match words_of_process(&rt) {
         Ok(texts) => texts,
         Err(error) => return ExitCode::from(refuse_unreadable_words(&error, &mut errors)),
@@ -25,11 +27,20 @@ fn main(rt: HostRuntime) -> ExitCode {
     let terminals = Terminals {
         is_out_terminal: rt.stdout().is_terminal(),
         is_errors_terminal: rt.stderr().is_terminal(),
+        is_out_colored: rt.stdout().is_terminal() && !is_set(&rt, "NO_COLOR"),
         progress: rt.stderr(),
     };
     let to = Destinations { files, out, errors };
     let (_, status) = run_rvtest(&host, texts.as_slice(), to, terminals);
     ExitCode::from(status)
+}
+
+// Whether a variable of the process has a text, and no empty one.
+fn is_set(rt: &(impl Env + AllocGlobal), name: &str) -> bool {
+    match env::var(rt, name) {
+        Ok(text) => !text.is_empty(),
+        Err(error) => error != VarError::NotPresent,
+    }
 }
 
 // The process's own words.

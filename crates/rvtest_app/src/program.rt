@@ -9,6 +9,7 @@ ghost use Rattle.rvtest_app.specs.Said.{said};
 ghost use Rattle.rvtest_app.specs.ToldStops.{IsStopTold, unreadable_words_message, unreadable_words_status};
 
 use crate::check::check_list;
+use crate::colors::asked_colors;
 use crate::console::put_job_console;
 use crate::destinations::Destinations;
 use crate::diff::diff_reports;
@@ -22,6 +23,7 @@ use crate::run::run_requested_jobs;
 use crate::show::show_report;
 use crate::terminals::Terminals;
 use rv_cli::rvtest::{Asked, read_words};
+use rv_colors::Colorable;
 use rv_command::{REFUSED, Stop, put_end_message, put_message, put_stop_message};
 use rv_files::{Closable, Inputs, Outputs};
 use rv_rows::Sink;
@@ -38,7 +40,7 @@ pub fn run_rvtest<
     D: Inputs,
     T: AsStr,
     F: Outputs + Drop,
-    O: Closable + Drop + Send,
+    O: Closable + Colorable + Drop + Send,
     E: Sink + Drop + Send,
     P: Write + Drop + Send,
 >(
@@ -75,7 +77,7 @@ fn answer_words<
     D: Inputs,
     T: AsStr,
     F: Outputs + Drop,
-    O: Sink + Drop + Send,
+    O: Colorable + Drop + Send,
     E: Sink + Drop + Send,
     P: Write + Drop + Send,
 >(
@@ -91,7 +93,12 @@ fn answer_words<
     ensures stopped { IfErr result.1 (IsStopFor (D.contents host.now.inputs.now) (map T.text words.entry.now)) }
 {
     match read_words(host.alloc, words) {
-        Ok(Some(asked)) => run_subcommand(host, asked, to, terminals),
+        Ok(Some(asked)) => {
+            let mut to = to;
+            to.out
+                .set_colors(asked_colors(&asked, terminals.is_out_colored));
+            run_subcommand(host, asked, to, terminals)
+        }
         Ok(None) => (to, Ok(REFUSED)),
         Err(error) => {
             let mut to = to;
