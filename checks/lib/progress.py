@@ -31,7 +31,7 @@ def check_progress(row):
     row.write("list.toml", f"job = [{', '.join(tables)}]\n")
     streams = {"results": "1", "line": "2"}
     given = {
-        "LD_PRELOAD": os.environ["TERMINAL_SHIM"], "CLOCK_STEP": row["step"], "MOST_PUT": row["put"],
+        "LD_PRELOAD": os.environ["TERMINAL_SHIM"], "CLOCK_STEP": row["step"], "MOST_PUT": row["put"], "NO_COLOR": "1",
         "TERMINALS": "".join(streams[word] for word in row["terminals"].split()),
     }
     words = ["run", "list.toml", "--workers", "1", *RULES[rule][0]]
@@ -45,4 +45,26 @@ def check_progress(row):
         row.fails(words, (int(failed), wanted, b""), found)
 
 
-FORMS = {"progress": Form(check_progress, "step rule terminals put jobs shown")}
+def check_colors(row):
+    """What comes on standard output, of jobs of which one fails."""
+    row.write("zero.elf", images.image("code 00000513 X"))
+    row.write("five.elf", images.image("one"))
+    row.write("list.toml", f"job = [{{name = 'good', budget = 9, {JOBS['+']}}}, {{name = 'bad', budget = 9, {JOBS['-']}}}]\n")
+    given = {name: value for name, value in os.environ.items() if name != "NO_COLOR"}
+    if row["no_color"] != "unset":
+        given["NO_COLOR"] = row["no_color"]
+    given |= {"LD_PRELOAD": os.environ["TERMINAL_SHIM"], "CLOCK_STEP": "0", "MOST_PUT": row["put"], "TERMINALS": row["terminals"]}
+    words = row["words"].split()
+    done = subprocess.run(
+        [row.rvtest, *words], cwd=row.folder, env=given, stdin=subprocess.DEVNULL, stdout=subprocess.PIPE,
+        stderr=subprocess.DEVNULL, check=False,
+    )
+    wanted = raw(row["shown"])
+    if done.stdout != wanted:
+        row.fails(words, (done.returncode, wanted, b""), (done.returncode, done.stdout, b""))
+
+
+FORMS = {
+    "colors": Form(check_colors, "words terminals no_color put shown"),
+    "progress": Form(check_progress, "step rule terminals put jobs shown"),
+}
