@@ -29,7 +29,7 @@ pub(crate) fn asked_colors(asked: &Asked<'_>, is_terminal: bool) -> Colors
 
 // A file that goes to standard output has no colours.
 fn file_colors(report: Option<&str>, junit: Option<&str>, colors: Colors) -> Colors
-    ensures { result ≡ file_colors (optional_text report) (optional_text junit) colors }
+    ensures { result ≡ file_colors (optional_text report.entry) (optional_text junit.entry) colors }
 {
     match (report, junit) {
         (Some(path), _) if is_stdout(path) => Colors::Without,
@@ -39,7 +39,7 @@ fn file_colors(report: Option<&str>, junit: Option<&str>, colors: Colors) -> Col
 }
 
 fn colors_of_word(word: Option<&str>, is_terminal: bool) -> Colors
-    ensures { result ≡ colors_of_word (optional_text word) is_terminal }
+    ensures { result ≡ colors_of_word (optional_text word.entry) is_terminal }
 {
     match word {
         Some("always") => Colors::With,
