@@ -1,2 +1,3 @@
+pub mod Courses
 pub mod Marks
 pub mod Sequences

@@ -11,8 +11,8 @@ use Rattle.rv_colors.specs.declared.place.Place.TheVariants as place
 abbrev pub escape : ℕ
 escape = 27
 
-abbrev pub end_of_sequence : ℕ
-end_of_sequence = 109
+abbrev pub end_of_mark : ℕ
+end_of_mark = 109
 
 -- a terminal's sequence for a mark: red, green, and as before
 abbrev pub mark_text : Mark → List ℕ
@@ -26,6 +26,9 @@ is_nothing mark.Nothing = true
 is_nothing _ = false
 
 -- ---- places of a line
+
+abbrev pub is_escape : ℕ → Bool
+is_escape byte = byte == escape
 
 abbrev pub is_feed : ℕ → Bool
 is_feed byte = byte == 10
@@ -62,12 +65,16 @@ abbrev pub begin_mark : ℕ → ℕ → Mark
 begin_mark spaces byte =
     if spaces == 0 then word_mark byte else if spaces == margin then sign_mark byte else mark.Nothing
 
--- the mark before a byte: a word's colour ends before a space, and every colour before a line feed
+-- the mark before a byte of a line: a word's colour ends before a space, and every colour before a line feed
+abbrev pub line_mark : Place → ℕ → Mark
+line_mark (place.Margin spaces) byte = begin_mark spaces byte
+line_mark place.Word byte = if is_space byte || is_feed byte then mark.End else mark.Nothing
+line_mark place.Line byte = if is_feed byte then mark.End else mark.Nothing
+line_mark place.Rest byte = mark.Nothing
+
+-- the mark before a byte; a sequence of the text's own has one as well, so that it is told from those of marks
 abbrev pub mark_before : Place → ℕ → Mark
-mark_before (place.Margin spaces) byte = begin_mark spaces byte
-mark_before place.Word byte = if is_space byte || is_feed byte then mark.End else mark.Nothing
-mark_before place.Line byte = if is_feed byte then mark.End else mark.Nothing
-mark_before place.Rest byte = mark.Nothing
+mark_before here byte = if is_escape byte then mark.End else line_mark here byte
 
 -- the place behind the first byte of a line that is no space
 abbrev pub begun_place : ℕ → ℕ → Place
@@ -81,9 +88,10 @@ place_in_line (place.Margin spaces) byte = if is_space byte
 place_in_line place.Word byte = if is_space byte then place.Rest else place.Word
 place_in_line here byte = here
 
--- the place behind a byte
+-- the place behind a byte: the rest of a line is without colours once it has a sequence of its own
 abbrev pub place_behind : Place → ℕ → Place
-place_behind here byte = if is_feed byte then place.Margin 0 else place_in_line here byte
+place_behind here byte = if is_feed byte then place.Margin 0
+    else if is_escape byte then place.Rest else place_in_line here byte
 
 -- ---- the whole
 
@@ -92,9 +100,31 @@ unfoldable pub colored : Place → List ℕ → List ℕ
 colored here [] = []
 colored here (byte ∷ rest) = mark_text (mark_before here byte) ++ byte ∷ colored (place_behind here byte) rest
 
--- a text without a terminal's sequences, from within one on or not
-unfoldable pub without_sequences : Bool → List ℕ → List ℕ
-without_sequences inside [] = []
-without_sequences true (byte ∷ rest) = without_sequences (if byte == end_of_sequence then false else true) rest
-without_sequences false (byte ∷ rest) =
-    if byte == escape then without_sequences true rest else byte ∷ without_sequences false rest
+-- where a text begins: a line does
+abbrev pub beginning : Place
+beginning = place.Margin 0
+
+-- ---- without colours
+
+-- where a byte of a coloured text stands: in the text, in a mark, or right behind one
+pub data Seat : Type 0 where
+  InText : Seat
+  InMark : Seat
+  BehindMark : Seat
+
+-- the seat behind a byte; the byte right behind a mark is the text's, whichever it is
+abbrev pub seat_behind : Seat → ℕ → Seat
+seat_behind InText byte = if is_escape byte then InMark else InText
+seat_behind InMark byte = if byte == end_of_mark then BehindMark else InMark
+seat_behind BehindMark byte = InText
+
+-- what a byte gives to the text
+abbrev pub text_of_byte : Seat → ℕ → List ℕ
+text_of_byte InText byte = if is_escape byte then [] else byte ∷ []
+text_of_byte InMark byte = []
+text_of_byte BehindMark byte = byte ∷ []
+
+-- a coloured text without its marks
+unfoldable pub uncolored : Seat → List ℕ → List ℕ
+uncolored here [] = []
+uncolored here (byte ∷ rest) = text_of_byte here byte ++ uncolored (seat_behind here byte) rest

@@ -1,12 +1,11 @@
 //! A law of colours, with nothing to run.
 
-ghost use Rattle.std.specs.Prelude.{◌≡◌, ◌≢◌, ℕ, List, false};
-ghost use Rattle.std.specs.List.{AllByRecursion};
-ghost use Rattle.rv_colors.specs.Colors.{colored, escape, without_sequences};
+ghost use Rattle.std.specs.Prelude.{◌≡◌, ℕ, List};
+ghost use Rattle.rv_colors.specs.Colors.{InText, colored, uncolored};
 ghost use Rattle.rv_colors.specs.declared.place.Place.{Place};
 
-/// A text that has no sequences of a terminal's is what is left of it with its colours, once these are taken out.
+/// A text is what is left of it with its colours once the marks are taken out, from whichever place of a line on. So no two texts
+/// look alike in their colours.
 pub fn colors_can_be_taken_out()
-    ensures { (place : Place) (text : List ℕ) → AllByRecursion (λ byte. byte ≢ escape) text
-        → without_sequences false (colored place text) ≡ text }
+    ensures { (place : Place) (text : List ℕ) → uncolored InText (colored place text) ≡ text }
 {}

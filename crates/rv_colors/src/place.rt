@@ -1,7 +1,8 @@
 //! Where colours begin and end in the lines of results.
 
 ghost use Rattle.std.specs.Prelude.{◌≡◌, fold};
-ghost use Rattle.rv_colors.specs.Colors.{begin_mark, begun_place, is_nothing, mark_before, mark_text, place_behind, sign_mark, word_mark};
+ghost use Rattle.rv_colors.specs.Colors.{begin_mark, begun_place, is_nothing, line_mark, mark_before, mark_text, place_behind};
+ghost use Rattle.rv_colors.specs.Colors.{place_in_line, sign_mark, word_mark};
 
 /// What a terminal is told before a byte.
 #[derive(Clone, Copy)]
@@ -29,6 +30,9 @@ pub(crate) enum Place {
 // How many spaces stand before what was expected and what was met.
 const MARGIN: u8 = 5;
 
+// What a terminal's sequences begin with.
+const ESCAPE: u8 = 0x1b;
+
 impl Mark {
     /// The terminal's sequence.
     pub(crate) fn text(self) -> &'static str
@@ -54,6 +58,16 @@ impl Place {
     pub(crate) fn mark_before(self, byte: u8) -> Mark
         ensures { result ≡ mark_before self byte }
     {
+        if byte == ESCAPE {
+            Mark::End
+        } else {
+            self.line_mark(byte)
+        }
+    }
+
+    fn line_mark(self, byte: u8) -> Mark
+        ensures { result ≡ line_mark self byte }
+    {
         match self {
             Place::Margin(spaces) => begin_mark(spaces, byte),
             Place::Word if byte == b' ' => Mark::End,
@@ -66,9 +80,16 @@ impl Place {
     pub(crate) fn behind(self, byte: u8) -> Place
         ensures { result ≡ place_behind self byte }
     {
-        if byte == b'\n' {
-            return Place::Margin(0);
+        match byte {
+            b'\n' => Place::Margin(0),
+            ESCAPE => Place::Rest,
+            _ => self.place_in_line(byte),
         }
+    }
+
+    fn place_in_line(self, byte: u8) -> Place
+        ensures { result ≡ place_in_line self byte }
+    {
         match self {
             Place::Margin(spaces) if byte == b' ' => {
                 if spaces < MARGIN {

@@ -1,7 +1,7 @@
 use Rattle.std.proofs.Common.{◌≡◌, ◌≤◌, ◌-◌, ◌++◌, ℕ, fold, length, take}
 use Rattle.std.specs.Prelude.{slice_index}
 use Rattle.rv_colors.specs.Colors.{colored, mark_before, mark_text, place_behind}
-use Rattle.rv_colors.proofs.color_sink.marked_len.Given as goal
+use Rattle.rv_colors.proofs.course.marked_len.Given as goal
 
 abbrev pub invariant-loop-at : goal.invariant-loop-at
 invariant-loop-at l = record {

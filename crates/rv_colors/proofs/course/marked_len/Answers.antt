@@ -3,7 +3,7 @@ use Rattle.std.proofs.lemmas.List.Sums.{fold_more}
 use Rattle.rv_colors.specs.Colors.{is_nothing, mark_before, place_behind}
 use Rattle.std.specs.Prelude.{slice_index}
 use Rattle.rv_colors.proofs.Marks.{marked_more, marked_one}
-use Rattle.rv_colors.proofs.color_sink.marked_len.Goals as goal
+use Rattle.rv_colors.proofs.course.marked_len.Goals as goal
 
 pub loop-at-init : goal.loop-at-init
 loop-at-init c = record {
