@@ -1,12 +1,12 @@
 -- How a sink in colours goes on: what each put keeps.
-use Rattle.std.proofs.Common.{◌≡◌, ◌∙◌, refl, sym, ap, ℕ, List, [], ◌∷◌, ◌++◌, append-nil, append_assoc, drop, fold, length}
+use Rattle.std.proofs.Common.{◌≡◌, ◌∙◌, refl, sym, ap, ℕ, List, [], ◌++◌, append-nil, append_assoc, drop, fold, length}
 use Rattle.std.proofs.Common.{Option, Some, None, false, true, true≢false}
 use Rattle.std.proofs.Math.Seq.{drop-append_seam, drop-length}
 use Rattle.std.proofs.lemmas.List.Sums.{fold-append}
 use Rattle.std.specs.Io.KnownBytes.{Appends, Keeps}
 use Rattle.rv_base.specs.Sinks.{AppendsBeginning}
 use Rattle.rv_colors.specs.Colors.{InText, beginning, colored, mark_text, place_behind, uncolored}
-use Rattle.rv_colors.specs.ColorSinks.{IsCourseBehind, IsMarkBegun, IsNotPutBy, IsOnCourse, IsOut, IsOutInPart, IsPutBy, IsShownInPart}
+use Rattle.rv_colors.specs.ColorSinks.{IsNotPutBy, IsOnCourse, IsOut, IsOutInPart, IsPutBy, IsShownInPart}
 use Rattle.rv_colors.specs.ColorSinks.{IsShownUpTo, course_behind, failed_course, first_course, is_cut_off, results_of}
 use Rattle.rv_colors.specs.declared.colors.Colors.{Colors}
 use Rattle.rv_colors.specs.declared.colors.Colors.TheVariants as colors

@@ -1,6 +1,6 @@
 -- Bytes that have no mark before them but the first.
 use Rattle.std.proofs.Common.{◌≡◌, ◌∙◌, ◌+◌, ◌<◌, ◌≤◌, refl, sym, ap, arith, inl, inr, ℕ, zero, suc, List, [], ◌∷◌, ◌++◌, append_assoc}
-use Rattle.std.proofs.Common.{Bool, true, false, true≢false, fold, length, take}
+use Rattle.std.proofs.Common.{true, true≢false, fold, length, take}
 use Rattle.std.specs.Prelude.{slice_index}
 use Rattle.std.proofs.Math.Seq.{take-suc}
 use Rattle.std.proofs.lemmas.Bool.{cases_lt}

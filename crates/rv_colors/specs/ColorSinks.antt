@@ -1,6 +1,6 @@
 -- What goes out of results that have colours, and how a sink for them goes on.
 use Rattle.std.specs.Prelude.{◌≡◌, ◌++◌, ℕ, Bool, true, false, List, Option, Some, None, ⊤, drop, fold, length}
-use Rattle.core.specs.Option.{option_map}
+use Rattle.std.specs.Option.{option_map}
 use Rattle.std.specs.Io.KnownBytes.{Appends, Keeps}
 use Rattle.rv_base.specs.Sinks.{AppendsBeginning}
 use Rattle.rv_colors.specs.Colors.{InText, beginning, colored, mark_text, place_behind, uncolored}
