@@ -13,6 +13,7 @@ use Rattle.rv_colors.specs.declared.colors.Colors.TheVariants as colors
 use Rattle.rv_colors.specs.declared.course.Course.{Course}
 use Rattle.rv_colors.specs.declared.course.Course.TheVariants as course
 use Rattle.rv_colors.specs.declared.place.Mark.{Mark}
+use Rattle.rv_colors.specs.declared.place.Mark.TheVariants as mark
 use Rattle.rv_colors.specs.declared.place.Place.{Place}
 use Rattle.rv_colors.proofs.Sequences.{colored_append, part_out, text_out}
 
@@ -172,13 +173,19 @@ out_whole colors.With (Some before) (Some out) (course.Colored here) is whole = 
 out_whole colors.With (Some before) (Some out) course.CutOff is whole = absurd (true≢false whole)
 
 pub out_in_part : (colors : Colors) (before out : Option (List ℕ)) (here : Course) → IsOnCourse colors before out here
-    → is_cut_off here ≡ true → IsOutInPart colors before (results_of colors before out) out
-out_in_part colors.Without before out here is cut = refl
-out_in_part colors.With None out here is cut = tt
-out_in_part colors.With (Some before) None here is cut = absurd is
-out_in_part colors.With (Some before) (Some out) course.Plain is cut = absurd is
-out_in_part colors.With (Some before) (Some out) (course.Colored here) is cut = absurd (true≢false (sym cut))
-out_in_part colors.With (Some before) (Some out) course.CutOff is cut = record {
+    → IsOutInPart colors before (results_of colors before out) out
+out_in_part colors.Without before out here is = refl
+out_in_part colors.With None out here is = tt
+out_in_part colors.With (Some before) None here is = absurd is
+out_in_part colors.With (Some before) (Some out) course.Plain is = absurd is
+out_in_part colors.With (Some before) (Some out) (course.Colored here) is = record {
+  text = is.text;
+  part = [];
+  begun = record { mark = mark.Nothing; rest = []; whole = refl };
+  put = ap (λ xs. before ++ uncolored InText (drop (length before) xs)) is.shown ∙ results_shown before is.text;
+  shown = is.shown ∙ ap (λ xs. before ++ xs) (sym (append-nil (colored beginning is.text)));
+}
+out_in_part colors.With (Some before) (Some out) course.CutOff is = record {
   text = is.text;
   part = is.part;
   begun = is.begun;

@@ -25,7 +25,7 @@ pub record IsMarkBegun (part : List ℕ) : Type 0 where
   pub rest : List ℕ
   pub whole : mark_text mark ≡ part ++ rest
 
--- the same as `IsColored`, but the first bytes of a mark went out behind the text
+-- the same as `IsColored`, but the first bytes of a mark may have gone out behind the text
 pub record IsColoredInPart (before plain out : List ℕ) : Type 0 where
   pub text : List ℕ
   pub part : List ℕ
@@ -45,7 +45,7 @@ IsOut colors.Without before plain out = out ≡ plain
 IsOut colors.With None plain out = ⊤
 IsOut colors.With (Some before) plain out = AreTold (IsColored before) plain out
 
--- the same where a put failed
+-- the same where a put may have failed
 abbrev pub IsOutInPart : Colors → Option (List ℕ) → Option (List ℕ) → Option (List ℕ) → Type 0
 IsOutInPart colors.Without before plain out = out ≡ plain
 IsOutInPart colors.With None plain out = ⊤

@@ -1,6 +1,6 @@
 //! A sink that gives results their colours.
 
-ghost use Rattle.std.specs.Prelude.{◌≡◌, OnErr, OnOk};
+ghost use Rattle.std.specs.Prelude.{◌≡◌, OnOk};
 ghost use Rattle.rv_colors.specs.ColorSinks.{IsOut, IsOutInPart, results_of};
 
 use crate::colors::Colors;
@@ -69,8 +69,7 @@ impl<J: Results, S: Sink + Drop> ColorSink<J, S> {
         ensures sink { result.0 ≡ self.sink }
         ensures whole { OnOk result.1 (IsOut J.colors J.before (results_of J.colors J.before (S.taken self.sink))
             (S.taken self.sink)) }
-        ensures part { OnErr result.1 (IsOutInPart J.colors J.before (results_of J.colors J.before (S.taken self.sink))
-            (S.taken self.sink)) }
+        ensures part { IsOutInPart J.colors J.before (results_of J.colors J.before (S.taken self.sink)) (S.taken self.sink) }
     {
         let ColorSink {
             sink,

@@ -1,7 +1,6 @@
 //! The program `rvtest`: hands the process's own words, files and streams to the library, and ends with its status.
 #![tactic(auto)]
 
-use rv_colors::ColorSink;
 use rv_files::{PipeSink, StreamSink, SystemInputs, SystemOutputs};
 use rvtest_app::{Destinations, Host, Terminals, refuse_unreadable_words, run_rvtest};
 use std::env::{Env, VarError};
@@ -11,8 +10,7 @@ use std::{env, io};
 
 // The answer to the process's own words, over its own streams and files.
 fn main(rt: HostRuntime) -> ExitCode {
-    let out = ColorSink::new(PipeSink::new(rt.stdout()));
-    let mut errors = StreamSink::new(rt.stderr());
+    let (out, mut errors) = (PipeSink::new(rt.stdout()), StreamSink::new(rt.stderr()));
     let texts = match words_of_process(&rt) {
         Ok(texts) => texts,
         Err(error) => return ExitCode::from(refuse_unreadable_words(&error, &mut errors)),

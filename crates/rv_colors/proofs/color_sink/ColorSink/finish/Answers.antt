@@ -13,10 +13,7 @@ returns-clause-whole g c = elim c.if-is_cut_off.branch [
 ]
 
 pub returns-clause-part : goal.returns-clause-part
-returns-clause-part g c = elim c.if-is_cut_off.branch [
-  | then-is_cut_off w ↦
-      rw (w.whole-is, ← c.self.view_is)
-      (out_in_part g.J.Results.colors g.J.Results.before (g.S.Sink.taken c.self.inside.sink) c.self.inside.course
-      c.self.invariant (sym c.is_cut_off.ensures ∙ w.if-is_cut_off.true))
-  | else-is_cut_off w ↦ rw w.whole-is tt
-]
+returns-clause-part g c =
+    rw (← c.self.view_is)
+    (out_in_part g.J.Results.colors g.J.Results.before (g.S.Sink.taken c.self.inside.sink) c.self.inside.course
+    c.self.invariant)
