@@ -1,18 +1,17 @@
 -- How a sink in colours goes on: what each put keeps.
 use Rattle.std.proofs.Common.{◌≡◌, ◌∙◌, refl, sym, ap, ℕ, List, [], ◌++◌, append-nil, append_assoc, drop, fold, length}
-use Rattle.std.proofs.Common.{Option, Some, None, false, true, true≢false}
+use Rattle.std.proofs.Common.{Option, Some, None, false, true≢false}
 use Rattle.std.proofs.Math.Seq.{drop-append_seam, drop-length}
 use Rattle.std.proofs.lemmas.List.Sums.{fold-append}
 use Rattle.std.specs.Io.KnownBytes.{Appends, Keeps}
-use Rattle.rv_base.specs.Sinks.{AppendsBeginning}
-use Rattle.rv_colors.specs.Colors.{InText, beginning, colored, mark_text, place_behind, uncolored}
-use Rattle.rv_colors.specs.ColorSinks.{IsNotPutBy, IsOnCourse, IsOut, IsOutInPart, IsPutBy, IsShownInPart}
-use Rattle.rv_colors.specs.ColorSinks.{IsShownUpTo, course_behind, failed_course, first_course, is_cut_off, results_of}
+use Rattle.std.proofs.KnownBytes.{Appends-nil}
+use Rattle.rv_colors.specs.Colors.{InText, beginning, colored, place_behind, uncolored}
+use Rattle.rv_colors.specs.ColorSinks.{IsMarkBegun, IsOnCourse, IsOut, IsOutInPart, IsPutBy, IsShownInPart}
+use Rattle.rv_colors.specs.ColorSinks.{IsShownUpTo, first_course, is_cut_off, results_of}
 use Rattle.rv_colors.specs.declared.colors.Colors.{Colors}
 use Rattle.rv_colors.specs.declared.colors.Colors.TheVariants as colors
 use Rattle.rv_colors.specs.declared.course.Course.{Course}
 use Rattle.rv_colors.specs.declared.course.Course.TheVariants as course
-use Rattle.rv_colors.specs.declared.place.Mark.{Mark}
 use Rattle.rv_colors.specs.declared.place.Mark.TheVariants as mark
 use Rattle.rv_colors.specs.declared.place.Place.{Place}
 use Rattle.rv_colors.proofs.Sequences.{colored_append, part_out, text_out}
@@ -77,85 +76,70 @@ module _ (here : Place) (before old more : List ℕ) (shown : IsShownUpTo here b
       ∙ ap (λ xs. xs ++ more) (sym (results_shown before shown.text)
       ∙ ap (λ xs. before ++ uncolored InText (drop (length before) xs)) (sym shown.shown))))
 
-pub course_kept : (colors : Colors) (before old new : Option (List ℕ)) (here : Course) (more : List ℕ)
-    → IsOnCourse colors before old here → IsPutBy here more old new
-    → IsOnCourse colors before new (course_behind here more)
-course_kept colors.Without before old new course.Plain more is put = tt
-course_kept colors.Without before old new (course.Colored here) more is put = absurd is
-course_kept colors.Without before old new course.CutOff more is put = absurd is
-course_kept colors.With None old new here more is put = tt
-course_kept colors.With (Some before) None new here more is put = absurd is
-course_kept colors.With (Some before) (Some old) new course.Plain more is put = absurd is
-course_kept colors.With (Some before) (Some old) None (course.Colored here) more is put = absurd put
-course_kept colors.With (Some before) (Some old) (Some new) (course.Colored here) more is put =
-    rw put (shown_further here before old more is)
-course_kept colors.With (Some before) (Some old) new course.CutOff more is put = absurd put
-
-pub results_taken : (colors : Colors) (before old new : Option (List ℕ)) (here : Course) (more : List ℕ)
-    → IsOnCourse colors before old here → IsPutBy here more old new
-    → Appends (results_of colors before old) (results_of colors before new) more
-results_taken colors.Without before old new course.Plain more is put = put
-results_taken colors.Without before old new (course.Colored here) more is put = absurd is
-results_taken colors.Without before old new course.CutOff more is put = absurd is
-results_taken colors.With None old new here more is put = tt
-results_taken colors.With (Some before) None new here more is put = absurd is
-results_taken colors.With (Some before) (Some old) new course.Plain more is put = absurd is
-results_taken colors.With (Some before) (Some old) None (course.Colored here) more is put = absurd put
-results_taken colors.With (Some before) (Some old) (Some new) (course.Colored here) more is put =
-    rw put (results_further here before old more is)
-results_taken colors.With (Some before) (Some old) new course.CutOff more is put = absurd put
-
--- ---- a put that failed
-
-module _ (here : Place) (before old new : List ℕ) (shown : IsShownUpTo here before old) (mark : Mark)
-    (begun : AppendsBeginning (Some old) (Some new) (mark_text mark)) where
-  in_part : new ≡ before ++ (colored beginning shown.text ++ begun.part)
+-- the same, and the first bytes of a mark behind it
+module _ (here : Place) (before old new more part : List ℕ) (shown : IsShownUpTo here before old) (begun : IsMarkBegun part)
+    (out : new ≡ old ++ (colored here more ++ part)) where
+  in_part : new ≡ before ++ (colored beginning (shown.text ++ more) ++ part)
   in_part =
-      begun.appended ∙ (ap (λ xs. xs ++ begun.part) shown.shown
-      ∙ append_assoc before (colored beginning shown.text) begun.part)
+      out ∙ (sym (append_assoc old (colored here more) part)
+      ∙ (ap (λ xs. xs ++ part) (longer here before old more shown)
+      ∙ append_assoc before (colored beginning (shown.text ++ more)) part))
 
   pub shown_in_part : IsShownInPart before new
-  shown_in_part = record {
-    text = shown.text;
-    part = begun.part;
-    begun = record { mark = mark; rest = begun.rest; whole = begun.whole };
-    shown = in_part;
-  }
+  shown_in_part = record { text = shown.text ++ more; part = part; begun = begun; shown = in_part }
 
-  pub results_as_before : before ++ uncolored InText (drop (length before) new)
-      ≡ before ++ uncolored InText (drop (length before) old)
-  results_as_before =
+  pub results_in_part_further : before ++ uncolored InText (drop (length before) new)
+      ≡ (before ++ uncolored InText (drop (length before) old)) ++ more
+  results_in_part_further =
       ap (λ xs. before ++ uncolored InText (drop (length before) xs)) in_part
-      ∙ (results_in_part before shown.text begun.part (part_out mark begun.part begun.rest begun.whole)
-      ∙ (sym (results_shown before shown.text)
-      ∙ ap (λ xs. before ++ uncolored InText (drop (length before) xs)) (sym shown.shown)))
+      ∙ (results_in_part before (shown.text ++ more) part (part_out begun.mark part begun.rest begun.whole)
+      ∙ (sym (append_assoc before shown.text more)
+      ∙ ap (λ xs. xs ++ more) (sym (results_shown before shown.text)
+      ∙ ap (λ xs. before ++ uncolored InText (drop (length before) xs)) (sym shown.shown))))
 
-pub course_failed : (colors : Colors) (before old new : Option (List ℕ)) (here : Course)
-    → IsOnCourse colors before old here → IsNotPutBy here old new → IsOnCourse colors before new (failed_course here)
-course_failed colors.Without before old new course.Plain is not_put = tt
-course_failed colors.Without before old new (course.Colored here) is not_put = absurd is
-course_failed colors.Without before old new course.CutOff is not_put = absurd is
-course_failed colors.With None old new here is not_put = tt
-course_failed colors.With (Some before) None new here is not_put = absurd is
-course_failed colors.With (Some before) (Some old) new course.Plain is not_put = absurd is
-course_failed colors.With (Some before) (Some old) None (course.Colored here) is not_put = absurd not_put.1.appended
-course_failed colors.With (Some before) (Some old) (Some new) (course.Colored here) is not_put =
-    shown_in_part here before old new is not_put.0 not_put.1
-course_failed colors.With (Some before) (Some old) new course.CutOff is not_put = rw not_put is
+-- a put keeps a sink on its course
+pub course_kept : (colors : Colors) (before old new : Option (List ℕ)) (here next : Course) (more : List ℕ)
+    → IsOnCourse colors before old here → IsPutBy here next more old new → IsOnCourse colors before new next
+course_kept colors.Without before old new course.Plain next more is put = rw put.0 tt
+course_kept colors.Without before old new (course.Colored here) next more is put = absurd is
+course_kept colors.Without before old new course.CutOff next more is put = absurd is
+course_kept colors.With None old new here next more is put = tt
+course_kept colors.With (Some before) None new here next more is put = absurd is
+course_kept colors.With (Some before) (Some old) new course.Plain next more is put = absurd is
+course_kept colors.With (Some before) (Some old) new (course.Colored here) course.Plain more is put = absurd put
+course_kept colors.With (Some before) (Some old) None (course.Colored here) (course.Colored there) more is put = absurd put.1
+course_kept colors.With (Some before) (Some old) (Some new) (course.Colored here) (course.Colored there) more is put =
+    rw (put.0, put.1) (shown_further here before old more is)
+course_kept colors.With (Some before) (Some old) None (course.Colored here) course.CutOff more is put = absurd put.1.1
+course_kept colors.With (Some before) (Some old) (Some new) (course.Colored here) course.CutOff more is put =
+    shown_in_part here before old new more put.0 is put.1.0 put.1.1
+course_kept colors.With (Some before) (Some old) new course.CutOff next more is put = rw (put.0, put.1.1) is
 
-pub results_kept : (colors : Colors) (before old new : Option (List ℕ)) (here : Course)
-    → IsOnCourse colors before old here → IsNotPutBy here old new
-    → Keeps (results_of colors before old) (results_of colors before new)
-results_kept colors.Without before old new course.Plain is not_put = not_put
-results_kept colors.Without before old new (course.Colored here) is not_put = absurd is
-results_kept colors.Without before old new course.CutOff is not_put = absurd is
-results_kept colors.With None old new here is not_put = tt
-results_kept colors.With (Some before) None new here is not_put = absurd is
-results_kept colors.With (Some before) (Some old) new course.Plain is not_put = absurd is
-results_kept colors.With (Some before) (Some old) None (course.Colored here) is not_put = absurd not_put.1.appended
-results_kept colors.With (Some before) (Some old) (Some new) (course.Colored here) is not_put =
-    results_as_before here before old new is not_put.0 not_put.1
-results_kept colors.With (Some before) (Some old) new course.CutOff is not_put = rw not_put refl
+-- what was put are results
+pub results_taken : (colors : Colors) (before old new : Option (List ℕ)) (here next : Course) (more : List ℕ)
+    → IsOnCourse colors before old here → IsPutBy here next more old new
+    → Appends (results_of colors before old) (results_of colors before new) more
+results_taken colors.Without before old new course.Plain next more is put = put.1
+results_taken colors.Without before old new (course.Colored here) next more is put = absurd is
+results_taken colors.Without before old new course.CutOff next more is put = absurd is
+results_taken colors.With None old new here next more is put = tt
+results_taken colors.With (Some before) None new here next more is put = absurd is
+results_taken colors.With (Some before) (Some old) new course.Plain next more is put = absurd is
+results_taken colors.With (Some before) (Some old) new (course.Colored here) course.Plain more is put = absurd put
+results_taken colors.With (Some before) (Some old) None (course.Colored here) (course.Colored there) more is put = absurd put.1
+results_taken colors.With (Some before) (Some old) (Some new) (course.Colored here) (course.Colored there) more is put =
+    rw put.1 (results_further here before old more is)
+results_taken colors.With (Some before) (Some old) None (course.Colored here) course.CutOff more is put = absurd put.1.1
+results_taken colors.With (Some before) (Some old) (Some new) (course.Colored here) course.CutOff more is put =
+    results_in_part_further here before old new more put.0 is put.1.0 put.1.1
+results_taken colors.With (Some before) (Some old) new course.CutOff next more is put =
+    rw (put.1.0, put.1.1) (Appends-nil (results_of colors.With (Some before) (Some old)))
+
+-- where nothing was put, they are as they were
+pub nothing_taken : (old new : Option (List ℕ)) → Appends old new [] → Keeps old new
+nothing_taken None new put = tt
+nothing_taken (Some old) None put = absurd put
+nothing_taken (Some old) (Some new) put = put ∙ append-nil old
 
 -- ---- the end
 

@@ -1,8 +1,7 @@
 -- What goes out of results that have colours, and how a sink for them goes on.
-use Rattle.std.specs.Prelude.{◌≡◌, ◌++◌, ℕ, Bool, true, false, List, Option, Some, None, ⊤, drop, fold, length}
+use Rattle.std.specs.Prelude.{◌≡◌, ◌++◌, ℕ, Bool, true, false, List, [], Option, Some, None, ⊤, drop, fold, length}
 use Rattle.std.specs.Option.{option_map}
-use Rattle.std.specs.Io.KnownBytes.{Appends, Keeps}
-use Rattle.rv_base.specs.Sinks.{AppendsBeginning}
+use Rattle.std.specs.Io.KnownBytes.{Appends}
 use Rattle.rv_colors.specs.Colors.{InText, beginning, colored, mark_text, place_behind, uncolored}
 use Rattle.rv_colors.specs.declared.colors.Colors.{Colors}
 use Rattle.rv_colors.specs.declared.colors.Colors.TheVariants as colors
@@ -71,32 +70,23 @@ abbrev pub first_course : Colors → Course
 first_course colors.Without = course.Plain
 first_course colors.With = course.Colored beginning
 
--- how it goes on behind a text, and behind a put that failed
-abbrev pub course_behind : Course → List ℕ → Course
-course_behind course.Plain text = course.Plain
-course_behind (course.Colored here) text = course.Colored (fold place_behind here text)
-course_behind course.CutOff text = course.CutOff
-
-abbrev pub failed_course : Course → Course
-failed_course course.Plain = course.Plain
-failed_course (course.Colored here) = course.CutOff
-failed_course course.CutOff = course.CutOff
-
 abbrev pub is_cut_off : Course → Bool
 is_cut_off course.Plain = false
 is_cut_off (course.Colored here) = false
 is_cut_off course.CutOff = true
 
--- what a put of a text gave the sink below, and what one that failed did
-abbrev pub IsPutBy : Course → List ℕ → Option (List ℕ) → Option (List ℕ) → Type 0
-IsPutBy course.Plain text old new = Appends old new text
-IsPutBy (course.Colored here) text old new = Appends old new (colored here text)
-IsPutBy course.CutOff text old new = ⊥
+-- a text went out in its colours from a place on: up to the place behind it, or up to a put that failed
+abbrev pub IsPutFrom : Place → Course → List ℕ → Option (List ℕ) → Option (List ℕ) → Type 0
+IsPutFrom here course.Plain text old new = ⊥
+IsPutFrom here (course.Colored there) text old new = (there ≡ fold place_behind here text) × Appends old new (colored here text)
+IsPutFrom here course.CutOff text old new =
+    (part : List ℕ) × (IsMarkBegun part × Appends old new (colored here text ++ part))
 
-abbrev pub IsNotPutBy : Course → Option (List ℕ) → Option (List ℕ) → Type 0
-IsNotPutBy course.Plain old new = Keeps old new
-IsNotPutBy (course.Colored here) old new = (mark : Mark) × AppendsBeginning old new (mark_text mark)
-IsNotPutBy course.CutOff old new = new ≡ old
+-- a text went out by a course, and the course behind it; where no text did, a put failed
+abbrev pub IsPutBy : Course → Course → List ℕ → Option (List ℕ) → Option (List ℕ) → Type 0
+IsPutBy course.Plain next text old new = (next ≡ course.Plain) × Appends old new text
+IsPutBy (course.Colored here) next text old new = IsPutFrom here next text old new
+IsPutBy course.CutOff next text old new = (next ≡ course.CutOff) × ((text ≡ []) × (new ≡ old))
 
 -- the results went out up to a place of a line
 pub record IsShownUpTo (here : Place) (before out : List ℕ) : Type 0 where

@@ -94,17 +94,13 @@ impl<J: Results, S: Sink + Drop> Sink for ColorSink<J, S> {
     ghost failed = { λ s. s.failures };
 
     fn put(&mut self, bytes: &[u8]) -> Result<usize, SinkFailed> {
-        match put_by_course(&mut self.sink, self.course, bytes) {
-            Ok(count) => {
-                self.course = self.course.behind(&bytes[..count]);
-                Ok(count)
-            }
-            Err(failed) => {
-                self.course = self.course.failed();
-                self.failures = self.failures.saturating_add(1);
-                Err(failed)
-            }
+        let (count, course) = put_by_course(&mut self.sink, self.course, bytes);
+        self.course = course;
+        if count == 0 {
+            self.failures = self.failures.saturating_add(1);
+            return Err(SinkFailed);
         }
+        Ok(count)
     }
 
     fn failures(&self) -> u64 {

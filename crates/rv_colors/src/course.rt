@@ -1,10 +1,10 @@
 //! How results go on, put by put.
 
-ghost use Rattle.std.specs.Prelude.{◌≡◌, ◌≤◌, ◌<◌, ◌++◌, ℕ, IfErr, IfOk, MatchResult, length, slice_index, take};
+ghost use Rattle.std.specs.Prelude.{◌≡◌, ◌≤◌, ◌<◌, ◌++◌, ℕ, IfErr, IfOk, length, slice_index, take};
 ghost use Rattle.std.specs.Io.KnownBytes.{Appends};
 ghost use Rattle.rv_base.specs.Sinks.{AppendsBeginning};
 ghost use Rattle.rv_colors.specs.Colors.{colored, mark_before, mark_text};
-ghost use Rattle.rv_colors.specs.ColorSinks.{IsNotPutBy, IsPutBy, course_behind, failed_course, first_course, is_cut_off};
+ghost use Rattle.rv_colors.specs.ColorSinks.{IsPutBy, IsPutFrom, first_course, is_cut_off};
 
 use crate::colors::Colors;
 use crate::place::Place;
@@ -32,26 +32,6 @@ impl Course {
         }
     }
 
-    /// How they go on behind bytes.
-    pub(crate) fn behind(self, bytes: &[u8]) -> Course
-        ensures { result ≡ course_behind self bytes.now }
-    {
-        match self {
-            Course::Colored(place) => Course::Colored(place.behind_all(bytes)),
-            course => course,
-        }
-    }
-
-    /// How they go on behind a put that failed.
-    pub(crate) fn failed(self) -> Course
-        ensures { result ≡ failed_course self }
-    {
-        match self {
-            Course::Colored(_) => Course::CutOff,
-            course => course,
-        }
-    }
-
     pub(crate) fn is_cut_off(self) -> bool
         ensures { result ≡ is_cut_off self }
     {
@@ -59,26 +39,46 @@ impl Course {
     }
 }
 
-/// Puts bytes from the front, with the marks that they have.
-pub(crate) fn put_by_course<S: Sink>(
-    sink: &mut S,
-    course: Course,
-    bytes: &[u8],
-) -> Result<usize, SinkFailed>
+/// Puts bytes from the front, with the marks that they have: how many, and how results go on behind them. Where none went out, a
+/// put failed.
+pub(crate) fn put_by_course<S: Sink>(sink: &mut S, course: Course, bytes: &[u8]) -> (usize, Course)
     requires { 0 < length bytes.now }
-    ensures within { IfOk result (λ count. (1 ≤ count) × (count ≤ length bytes.now)) }
-    ensures put { MatchResult result (λ count. IsPutBy course (take count bytes.now) (S.taken sink.old) (S.taken sink.new))
-        (λ _. IsNotPutBy course (S.taken sink.old) (S.taken sink.new)) }
+    ensures within { result.0 ≤ length bytes.now }
+    ensures put { IsPutBy course result.1 (take result.0 bytes.now) (S.taken sink.old) (S.taken sink.new) }
 {
     match course {
-        Course::Plain => sink.put(bytes),
+        Course::Plain => match sink.put(bytes) {
+            Ok(count) => (count, Course::Plain),
+            Err(_) => (0, Course::Plain),
+        },
         Course::Colored(place) => put_colored(sink, place, bytes),
-        Course::CutOff => Err(SinkFailed),
+        Course::CutOff => (0, Course::CutOff),
     }
 }
 
+// Puts all of the bytes, piece by piece, up to a put that fails.
+fn put_colored<S: Sink>(sink: &mut S, place: Place, bytes: &[u8]) -> (usize, Course)
+    requires { 0 < length bytes.now }
+    ensures within { result.0 ≤ length bytes.now }
+    ensures put { IsPutFrom place result.1 (take result.0 bytes.now) (S.taken sink.old) (S.taken sink.new) }
+{
+    let mut at = 0;
+    let mut here = place;
+    while at < bytes.len() {
+        let rest = &bytes[at..];
+        match put_piece(sink, here, rest) {
+            Ok(count) => {
+                here = here.behind_all(&rest[..count]);
+                at += count;
+            }
+            Err(_) => return (at, Course::CutOff),
+        }
+    }
+    (at, Course::Colored(here))
+}
+
 // Puts the first bytes, with what stands before the first of them.
-fn put_colored<S: Sink>(sink: &mut S, place: Place, bytes: &[u8]) -> Result<usize, SinkFailed>
+fn put_piece<S: Sink>(sink: &mut S, place: Place, bytes: &[u8]) -> Result<usize, SinkFailed>
     requires { 0 < length bytes.now }
     ensures within { IfOk result (λ count. (1 ≤ count) × (count ≤ length bytes.now)) }
     ensures colored { IfOk result (λ count. Appends (S.taken sink.old) (S.taken sink.new) (colored place (take count bytes.now))) }
