@@ -1,5 +1,5 @@
-"""The form of rows of the line on a terminal: over a shim (checks/lib/terminal.c), so that the clock, what a put takes and which streams
-are terminals are the row's.
+"""The forms of rows of terminals, of the line on one and of the colours of results: over a shim (checks/lib/terminal.c), so that the
+clock, what a put takes and which streams are terminals are the row's.
 """
 import os
 import re
@@ -31,10 +31,10 @@ def check_progress(row):
     row.write("list.toml", f"job = [{', '.join(tables)}]\n")
     streams = {"results": "1", "line": "2"}
     given = {
-        "LD_PRELOAD": os.environ["TERMINAL_SHIM"], "CLOCK_STEP": row["step"], "MOST_PUT": row["put"], "NO_COLOR": "1",
+        "LD_PRELOAD": os.environ["TERMINAL_SHIM"], "CLOCK_STEP": row["step"], "MOST_PUT": row["put"],
         "TERMINALS": "".join(streams[word] for word in row["terminals"].split()),
     }
-    words = ["run", "list.toml", "--workers", "1", *RULES[rule][0]]
+    words = ["run", "list.toml", "--workers", "1", "--color", row["colors"], *RULES[rule][0]]
     done = subprocess.run(
         [row.rvtest, *words], cwd=row.folder, env={**os.environ, **given}, stdin=subprocess.DEVNULL,
         stdout=subprocess.PIPE, stderr=subprocess.STDOUT, check=False,
@@ -83,5 +83,5 @@ def check_colors(row):
 
 FORMS = {
     "colors": Form(check_colors, "words terminals no_color put room status shown"),
-    "progress": Form(check_progress, "step rule terminals put jobs shown"),
+    "progress": Form(check_progress, "step rule terminals put jobs colors shown"),
 }

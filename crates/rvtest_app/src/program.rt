@@ -98,9 +98,7 @@ fn answer_words<
     ensures stopped { IfErr result.1 (IsStopFor (D.contents host.now.inputs.now) (map T.text words.entry.now)) }
 {
     match read_words(host.alloc, words) {
-        Ok(Some(asked)) => {
-            run_in_colors::<Brand, R, D, F, O, E, P>(host, asked, to, terminals)
-        }
+        Ok(Some(asked)) => { run_in_colors::<Brand, R, D, F, O, E, P>(host, asked, to, terminals) }
         Ok(None) => (to, Ok(REFUSED)),
         Err(error) => {
             let mut to = to;
