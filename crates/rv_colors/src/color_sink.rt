@@ -1,7 +1,7 @@
 //! A sink that gives results their colours.
 
-ghost use Rattle.std.specs.Prelude.{◌≡◌, OnOk};
-ghost use Rattle.rv_colors.specs.ColorSinks.{IsOut, IsOutInPart, results_of};
+ghost use Rattle.std.specs.Prelude.{◌≡◌, OnOk, is_err};
+ghost use Rattle.rv_colors.specs.ColorSinks.{IsOut, IsOutInPart, first_course, is_cut_off, results_of};
 
 use crate::colors::Colors;
 use crate::course::{Course, put_by_course};
@@ -54,6 +54,7 @@ impl<J: Results, S: Sink + Drop> ColorSink<J, S> {
         requires before { S.taken sink ≡ J.before }
         ensures taken { results_of J.colors J.before (S.taken result.sink) ≡ S.taken sink }
         ensures failures { result.failures ≡ S.failed sink }
+        ensures course { result.course ≡ first_course colors }
     {
         let failures = sink.failures();
         ColorSink {
@@ -67,6 +68,7 @@ impl<J: Results, S: Sink + Drop> ColorSink<J, S> {
     /// The other sink, and whether it took the results whole: an error where a put failed with colours.
     pub fn finish(self) -> (S, Result<(), SinkFailed>)
         ensures sink { result.0 ≡ self.sink }
+        ensures told { is_err result.1 ≡ is_cut_off self.course }
         ensures whole { OnOk result.1 (IsOut J.colors J.before (results_of J.colors J.before (S.taken self.sink))
             (S.taken self.sink)) }
         ensures part { IsOutInPart J.colors J.before (results_of J.colors J.before (S.taken self.sink)) (S.taken self.sink) }
