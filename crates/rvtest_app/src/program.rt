@@ -53,7 +53,7 @@ pub fn run_rvtest<
     terminals: Terminals<P>,
 ) -> (Destinations<F, O, E>, u8)
     ensures low { O.closed result.0.out ≡ false → result.1 ≤ 3 }
-    // A status of 0 or 1 says that all went out.
+    // A status of 0 or 1 says that all went out, to standard output in the colours that are asked for.
     ensures answered { result.1 ≤ 1 → IsAnswered (D.contents host.now.inputs.now) (map T.text words.entry.now)
         terminals.is_out_colored result.1
         (said F.placed O.taken E.taken E.failed to) (said F.placed O.taken E.taken E.failed result.0) }
