@@ -4,7 +4,7 @@ use Rattle.std.specs.Borrow.{Bor}
 use Rattle.clap.specs.Words.{App, Rule, Text, new_app, new_rule, with_rule, with_subcommand}
 use Rattle.clap.specs.declared.builder.action.ArgAction.TheVariants.{Append, SetTrue}
 use Rattle.clap.specs.declared.builder.value_parser.ValueParser.TheVariants as value_parser
-use Rattle.rv_base.specs.Limits.{most_workers}
+use Rattle.rv_base.specs.Limits.{most_budget, most_workers}
 use Rattle.rv_cli.specs.declared.rvtest.arguments.Argument.{Argument}
 use Rattle.rv_cli.specs.declared.rvtest.arguments.Argument.TheVariants as argument
 use Rattle.rv_cli.specs.declared.rvtest.command.ChoosingCommand.{ChoosingCommand}
@@ -91,6 +91,10 @@ last_rule = number_rule (codes "last") (pos 0) (pos most_last_instructions) []
 abbrev pub explain_last_rule : Rule
 explain_last_rule = record last_rule { defaults = codes "16" ∷ [] }
 
+-- --budget <N>, in place of each job's own
+abbrev pub job_budget_rule : Rule
+job_budget_rule = number_rule (codes "budget") (pos 1) (pos most_budget) []
+
 -- a command with an argument more, and with several in their order
 abbrev pub with_argument : App → Argument → App
 with_argument app argument = with_rule app (argument_rule argument)
@@ -119,10 +123,10 @@ abbrev pub with_shard : App → App
 with_shard app = with_rule (with_rule app (option_rule (codes "shard")))
     (option_rule (codes "stamp"))
 
--- [--workers <N>] [--group <N>] [--root <DIR>]
+-- [--workers <N>] [--group <N>] [--budget <N>] [--root <DIR>]
 abbrev pub with_machine : App → App
-with_machine app = with_rule (with_rule (with_rule app test_workers_rule)
-    group_rule) (option_rule (codes "root"))
+with_machine app = with_rule (with_rule (with_rule (with_rule app test_workers_rule)
+    group_rule) job_budget_rule) (option_rule (codes "root"))
 
 -- [--junit <FILE>] [--suite <NAME>] [--lenient]
 abbrev pub with_junit : App → App
@@ -154,10 +158,10 @@ abbrev pub choosing_app : ChoosingCommand → App
 choosing_app choosing.Run = test_run_app
 choosing_app choosing.List = list_app
 
--- explain <LIST> <NAME> [--last <N>] [--root <DIR>]
+-- explain <LIST> <NAME> [--last <N>] [--budget <N>] [--root <DIR>]
 abbrev pub explain_app : App
-explain_app = with_rule (with_rule (with_rule (app_of_list (codes "explain"))
-    (word_rule (codes "name"))) explain_last_rule) (option_rule (codes "root"))
+explain_app = with_rule (with_rule (with_rule (with_rule (app_of_list (codes "explain"))
+    (word_rule (codes "name"))) explain_last_rule) job_budget_rule) (option_rule (codes "root"))
 
 -- console <LIST> <NAME> [--root <DIR>]
 abbrev pub console_app : App

@@ -8,7 +8,7 @@ use Rattle.std.specs.Str.{bytes_eq}
 use Rattle.clap.specs.Kinds.{or_else}
 use Rattle.clap.specs.Words.{FailsBy, Kinds, Row, Text, fault_of, first_of, subcommand_of}
 use Rattle.clap.specs.declared.error.kind.ErrorKind.TheVariants as kind
-use Rattle.rv_base.specs.Limits.{most_group, most_workers}
+use Rattle.rv_base.specs.Limits.{most_budget, most_group, most_workers}
 use Rattle.rv_cli.specs.RvtestCommand.{most_last_instructions, most_slower, test_app}
 use Rattle.rv_cli.specs.declared.rvtest.refusals.Misuse.{Misuse}
 use Rattle.rv_cli.specs.declared.rvtest.refusals.Misuse.TheVariants as misuse
@@ -35,6 +35,7 @@ pub record RunWords : Type 0 where
   pub stamp : Option Text
   pub workers : Option ℕ
   pub group : ℕ
+  pub budget : Option ℕ
   pub root : Option Text
   pub report : Option Text
   pub junit : Option Text
@@ -49,6 +50,7 @@ pub record ExplainWords : Type 0 where
   pub list : Text
   pub name : Text
   pub last : ℕ
+  pub budget : Option ℕ
   pub root : Option Text
 
 -- the parts whose whole report is to be made
@@ -79,6 +81,10 @@ pub data Words : Type 0 where
   diff : Text → Text → Bool → Option ℕ → Words
   show : ShowWords → Words
 
+-- the budget that each job takes in place of its own
+abbrev pub requested_budget : List Row → Option ℕ
+requested_budget rows = number_value (codes "budget") 1 most_budget rows
+
 -- what the values of `run` ask for, of a list, in pieces of so many jobs; those of `list` are without the values that it has no
 -- option for
 unfoldable pub run_words : Text → ℕ → List Row → RunWords
@@ -92,6 +98,7 @@ run_words list group rows = record {
   stamp = first_of (codes "stamp") rows;
   workers = number_value (codes "workers") 1 most_workers rows;
   group = group;
+  budget = requested_budget rows;
   root = first_of (codes "root") rows;
   report = first_of (codes "report") rows;
   junit = first_of (codes "junit") rows;
@@ -114,6 +121,7 @@ explain_words list name rows last = explain (record {
   list = list;
   name = name;
   last = last;
+  budget = requested_budget rows;
   root = first_of (codes "root") rows;
 })
 
@@ -187,6 +195,11 @@ is_choice_given rows = is_option_given (codes "only") rows
     || (is_option_given (codes "match") rows
     || (is_option_given (codes "exclude") rows || is_option_given (codes "failed") rows))
 
+-- rows go out that others take as the list's: in a report, in JUnit's XML, or as a shard's
+abbrev pub are_rows_kept : List Row → Bool
+are_rows_kept rows = is_option_given (codes "report") rows
+    || (is_option_given (codes "junit") rows || is_option_given (codes "shard") rows)
+
 -- the suite of JUnit's XML has no name
 abbrev pub is_suite_nameless : List Row → Bool
 is_suite_nameless rows = option_map_or (λ name. bytes_eq name []) (first_of (codes "suite") rows) false
@@ -205,13 +218,15 @@ files_misuse rows =
     then Some misuse.OneFile else suite_misuse rows
 
 -- the first of the rules that options of `run` break: --verbose and --quiet do not stand beside
--- one another, nor a shard beside a choice; a stamp is a shard's; the two files are not one, and a suite is one of them
+-- one another, nor a shard beside a choice, nor a budget beside what makes rows that a list is known by; a stamp is a shard's; the
+-- two files are not one, and a suite is one of them
 abbrev pub run_misuse : List Row → Option Misuse
 run_misuse rows = if is_flag_set (codes "verbose") rows && is_flag_set (codes "quiet") rows
     then Some misuse.VerboseAndQuiet
     else if is_option_given (codes "shard") rows && is_choice_given rows then Some misuse.ShardAndChoice
     else if is_option_given (codes "stamp") rows && not (is_option_given (codes "shard") rows)
     then Some misuse.StampAlone
+    else if is_option_given (codes "budget") rows && are_rows_kept rows then Some misuse.BudgetAndRows
     else files_misuse rows
 
 -- steps are compared exactly, or by which jobs are slower
@@ -232,6 +247,8 @@ misuse_text misuse.VerboseAndQuiet = codes "the argument '--verbose' cannot be u
 misuse_text misuse.ShardAndChoice =
     codes "the argument '--shard <K/N>' cannot be used with '--only <NAME>', '--match <REGEX>', '--exclude <REGEX>' or '--failed <REPORT>'"
 misuse_text misuse.StampAlone = codes "the argument '--stamp <TEXT>' cannot be used without '--shard <K/N>'"
+misuse_text misuse.BudgetAndRows =
+    codes "the argument '--budget <N>' cannot be used with '--report <FILE>', '--junit <FILE>' or '--shard <K/N>': such rows are not the list's"
 misuse_text misuse.StepsAndSlower = codes "the argument '--steps' cannot be used with '--slower <N>'"
 misuse_text misuse.SuiteAlone = codes "the argument '--suite <NAME>' cannot be used without '--junit <FILE>'"
 misuse_text misuse.NamelessSuite = codes "a value is required for '--suite <NAME>' but none was supplied"
@@ -271,6 +288,7 @@ run_asked_words value = record {
   stamp = borrowed_text value.stamp;
   workers = value.workers;
   group = value.group;
+  budget = value.budget;
   root = borrowed_text value.root;
   report = borrowed_text value.report;
   junit = borrowed_text value.junit;
@@ -286,6 +304,7 @@ explain_asked_words value = record {
   list = value.list.now;
   name = value.name.now;
   last = value.last;
+  budget = value.budget;
   root = borrowed_text value.root;
 }
 
@@ -316,15 +335,20 @@ asked_words (asked.Merge value) = merge (merge_asked_words value)
 asked_words (asked.Diff value) = diff value.old.now value.new.now value.steps value.slower
 asked_words (asked.Show value) = show (show_asked_words value)
 
+-- a job of a list may have this budget
+abbrev pub IsBudgetInRange : Option ℕ → Type 0
+IsBudgetInRange budget = IfSome budget (λ steps. (1 ≤ steps) × (steps ≤ most_budget))
+
 -- each number is within the range of its argument
 abbrev pub IsRunAskedInRange : RunAsked → Type 0
 IsRunAskedInRange value = IfSome value.workers (λ number. (1 ≤ number) × (number ≤ most_workers))
     × (1 ≤ value.group) × (value.group ≤ most_group) × IfSome value.last (λ number. number ≤ most_last_instructions)
+    × IsBudgetInRange value.budget
 
 abbrev pub IsAskedInRange : Asked → Type 0
 IsAskedInRange (asked.Run value) = IsRunAskedInRange value
 IsAskedInRange (asked.List value) = IsRunAskedInRange value
-IsAskedInRange (asked.Explain value) = value.last ≤ most_last_instructions
+IsAskedInRange (asked.Explain value) = (value.last ≤ most_last_instructions) × IsBudgetInRange value.budget
 IsAskedInRange (asked.Diff value) = IfSome value.slower (λ percent. percent ≤ most_slower)
 IsAskedInRange _ = Unit {0}
 

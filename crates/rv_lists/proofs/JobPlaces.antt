@@ -1,6 +1,6 @@
 -- The places of jobs by their names.
 use Rattle.std.proofs.Common.{◌≡◌, ◌∙◌, ◌+◌, ◌<◌, ◌++◌, ℕ, List, [], ◌∷◌, Option, Some, None, IfSome}
-use Rattle.std.proofs.Common.{ap, sym, length, arith, subst}
+use Rattle.std.proofs.Common.{ap, sym, length, arith, subst, map}
 use Rattle.std.specs.BTreeMap.{BTreeMap, get_by_text}
 use Rattle.std.specs.String.{string_cmp, string_bytes}
 use Rattle.std.specs.declared.alloc.Global.{Global}
@@ -8,7 +8,7 @@ use Rattle.std.proofs.Common.{String}
 use Rattle.std.proofs.Common.{inl, inr, get_or, length-append}
 use Rattle.std.specs.BTreeMap.{Updates}
 use Rattle.std.proofs.lemmas.Bool.{cases_lt}
-use Rattle.std.proofs.lemmas.List.{map-append, length-map}
+use Rattle.std.proofs.lemmas.List.{map-append, length-map, get_or-map}
 use Rattle.std.proofs.Math.ListN.{get_or-append}
 use Rattle.std.proofs.Math.Seq.{get_or-append_seam}
 use Rattle.rv_lists.specs.declared.job.Job.{Job}
@@ -54,3 +54,12 @@ names_more m n js new job key at updates is_key is before fresh pushed =
     texts_more m n (names_of_jobs js) (names_of_jobs new) job.name key at updates is_key
     (is ∙ sym (length-map js (λ (j : Job). j.name))) before fresh
     (ap names_of_jobs pushed ∙ map-append (λ (j : Job). j.name) js (job ∷ []))
+
+-- jobs that are changed one by one are still those of a list, where each change keeps what is known of a job at its place
+pub jobs_changed : (f : Job → Job) → ((k : ℕ) (job : Job) → IsJob k job → IsJob k (f job))
+    → (js : List Job) → AreJobs js → AreJobs (map f js)
+jobs_changed f keeps js are = record {
+  few = rw (length-map js f) are.few;
+  each = λ k d l. let below : k < length js = subst (λ n. k < n) (length-map js f) l in
+      rw (get_or-map f js k d d below) (keeps k (get_or js k d) (are.each k d below));
+}

@@ -1,5 +1,5 @@
 -- What is known of the jobs of every list.
-use Rattle.std.specs.Prelude.{ℕ, ◌<◌, ◌≤◌, List, [], ◌∷◌, length, slice_index_or, IfSome, Option}
+use Rattle.std.specs.Prelude.{ℕ, ◌<◌, ◌≤◌, List, [], ◌∷◌, length, map, slice_index_or, IfSome, Option}
 use Rattle.std.specs.Prelude.{Some, None, true, codes}
 use Rattle.rv_isa.specs.declared.sets.Isa.TheVariants.{Imc}
 use Rattle.rv_memory.specs.declared.map.Region.{Region}
@@ -31,6 +31,15 @@ pub record IsJob (at : ℕ) (job : Job) : Type 0 where
 pub record AreJobs (jobs : List Job) : Type 0 where
   pub few : length jobs ≤ most_jobs
   pub each : (k : ℕ) (d : Job) → k < length jobs → IsJob k (slice_index_or jobs k d)
+
+-- a job, with this budget in place of its own
+abbrev pub job_with_budget : ℕ → Job → Job
+job_with_budget steps job = record job { budget = steps }
+
+-- jobs in their order, each with this budget in place of its own, where there is one
+abbrev pub with_budget : Option ℕ → List Job → List Job
+with_budget None jobs = jobs
+with_budget (Some steps) jobs = map (job_with_budget steps) jobs
 
 -- the job of a path that is run alone
 abbrev pub single_job : List ℕ → ℕ → List ℕ → Job

@@ -1,8 +1,8 @@
 //! Jobs, and lists of them.
 
 ghost use Rattle.rv_base.specs.Limits.{most_budget, most_path, most_script};
-ghost use Rattle.std.specs.Prelude.{◌≡◌, ◌≤◌, ◌<◌, ◌∷◌, [], IfOk, Some, length, option_map, vec_len};
-ghost use Rattle.rv_lists.specs.Jobs.{AreJobs, console_path, single_job};
+ghost use Rattle.std.specs.Prelude.{◌≡◌, ◌≤◌, ◌<◌, ◌∷◌, [], IfOk, Some, length, map, option_map, vec_len};
+ghost use Rattle.rv_lists.specs.Jobs.{AreJobs, console_path, job_with_budget, single_job, with_budget};
 
 use rv_base::{Bytes, Text};
 use rv_elf::LoadAt;
@@ -101,6 +101,12 @@ impl Job {
             misaligned: Misaligned::Fault,
         }
     }
+
+    fn set_budget(&mut self, steps: u32)
+        ensures { self.new ≡ job_with_budget steps self.old }
+    {
+        self.budget = steps;
+    }
 }
 
 /// 1 to 4,096 jobs in the order of their list. Contracts see their list.
@@ -149,6 +155,28 @@ impl JobList {
         requires { AreJobs items.items }
         ensures { result ≡ items.items }
     {
+        JobList { items }
+    }
+
+    /// The same jobs, each with this budget in place of its own, where there is one. Takes no memory.
+    pub fn with_budget(self, budget: Option<u32>) -> JobList
+        ensures jobs { result ≡ with_budget budget self }
+        ensures count { length result ≡ length self }
+    {
+        match budget {
+            None => self,
+            Some(steps) => self.with_one_budget(steps),
+        }
+    }
+
+    // The same jobs, each with this budget.
+    fn with_one_budget(self, steps: u32) -> JobList
+        ensures { result ≡ map (job_with_budget steps) self }
+    {
+        let mut items = self.items;
+        for at in 0..items.len() {
+            items[at].set_budget(steps);
+        }
         JobList { items }
     }
 

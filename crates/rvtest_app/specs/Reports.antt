@@ -22,6 +22,7 @@ use Rattle.rv_jobs.specs.Plans.{unreadable_count}
 use Rattle.rv_jobs.specs.declared.answers.Answer.{Answer}
 use Rattle.rv_list_errors.specs.PlacedFaults.{IsToldFault, PutsEachFault}
 use Rattle.rv_lists.specs.JobList.{job_list_of}
+use Rattle.rv_lists.specs.Jobs.{with_budget}
 use Rattle.rv_lists.specs.ListFaults.{list_faults}
 use Rattle.rv_lists.specs.declared.error.JobError.{JobError}
 use Rattle.rv_lists.specs.declared.job.Job.{Job}
@@ -118,19 +119,20 @@ pub record IsJobExplained (known : Option FileContents) (jobs : List Job) (place
 abbrev pub IsFirstNamed : List Job → List ℕ → ℕ → Type 0
 IsFirstNamed jobs name place = position (λ (job : Job). bytes_eq job.name name) jobs ≡ Some place
 
--- the same of the first job of a name in the list that a text is
-pub record IsExplanationOf (known : Option FileContents) (bytes name : List ℕ) (last : ℕ) (output : List ℕ)
-    (status : ℕ) : Type 0 where
+-- the same of the first job of the name that words say in the list that a text is, all jobs of the list with the budget that is
+-- asked for
+pub record IsExplanationOf (known : Option FileContents) (words : ExplainAsked) (bytes output : List ℕ) (status : ℕ)
+    : Type 0 where
   pub jobs : List Job
   pub listed : job_list_of bytes ≡ Ok jobs
   pub place : ℕ
-  pub first : IsFirstNamed jobs name place
-  pub explained : IsJobExplained known jobs place last output status
+  pub first : IsFirstNamed jobs words.name.now place
+  pub explained : IsJobExplained (contents_below (optional_text words.root) known) (with_budget words.budget jobs) place
+      words.last output status
 
 -- the same of the list at the path that words name
 pub record IsExplanationAt (known : Option FileContents) (words : ExplainAsked) (output : List ℕ) (status : ℕ)
     : Type 0 where
   pub bytes : List ℕ
   pub read : IsTextAt known words.list.now bytes
-  pub explained : IsExplanationOf (contents_below (optional_text words.root) known) bytes words.name.now words.last
-      output status
+  pub explained : IsExplanationOf known words bytes output status

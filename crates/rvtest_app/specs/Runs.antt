@@ -14,6 +14,7 @@ use Rattle.rv_junit.specs.Junit.{junit_text}
 use Rattle.rv_jobs.specs.Choices.{marked_places}
 use Rattle.rv_jobs.specs.Plans.{AreKept, Planned, jobs_needed_for, one_more_times, paths_of, paths_used, unreadable_count}
 use Rattle.rv_lists.specs.JobList.{job_list_of}
+use Rattle.rv_lists.specs.Jobs.{with_budget}
 use Rattle.rv_lists.specs.declared.job.Job.{Job}
 use Rattle.rv_merge.specs.Shards.{shard_marks}
 use Rattle.rv_report.specs.declared.saved.Shard.{Shard}
@@ -75,13 +76,14 @@ run_telling words plan unread = record {
   last = words.last;
 }
 
--- over such a plan, the rows of the jobs at some places went out as words ask for them: their lines with the totals, the
--- report, and JUnit's document; the status is by these rows
+-- over such a plan of the jobs, all with the budget that words ask for, the rows at some places went out as words ask for them:
+-- their lines with the totals, the report, and JUnit's document; the status is by these rows
 pub record IsRunOfPlaces (known : Option FileContents) (words : RunAsked) (jobs : List Job) (places : List ℕ)
     (shard : Option Shard) (status : ℕ) (before after : Said) : Type 0 where
   pub plan : Planned
   pub unread : List Unread
-  pub planned : IsPlanFor (contents_below (optional_text words.root) known) jobs places plan unread
+  pub planned : IsPlanFor (contents_below (optional_text words.root) known) (with_budget words.budget jobs) places plan
+      unread
   pub judged : status ≡ rows_status (failure_rule words.lenient) (rows_at plan places)
   pub put : WentOut (optional_text words.report) (optional_text words.junit)
       (run_output_text (row_lines_at (run_telling words plan unread)) (failure_rule words.lenient) places
@@ -110,12 +112,13 @@ pub record IsRunAt (known : Option FileContents) (words : RunAsked) (status : �
 
 -- ---- runs that an error ended
 
--- over a plan, JUnit's document of the jobs at some places alone was put in its place
+-- over a plan of the jobs, all with the budget that words ask for, JUnit's document of those at some places alone was put in its place
 pub record IsJunitAlone (known : Option FileContents) (words : RunAsked) (jobs : List Job) (places : List ℕ)
     (before after : Option (List PlacedFile)) : Type 0 where
   pub plan : Planned
   pub unread : List Unread
-  pub planned : IsPlanFor (contents_below (optional_text words.root) known) jobs places plan unread
+  pub planned : IsPlanFor (contents_below (optional_text words.root) known) (with_budget words.budget jobs) places plan
+      unread
   pub placed : AreFilesPlaced before after (Some (file_at (optional_text words.junit)
       (run_junit words (run_telling words plan unread) places (rows_at plan places))))
 

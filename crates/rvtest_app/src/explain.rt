@@ -1,6 +1,7 @@
 //! The command `explain`.
 
 ghost use Rattle.std.specs.Prelude.{◌≡◌, ◌≤◌, ◌<◌, IfErr, IfOk, length, slice_index_or};
+ghost use Rattle.rv_lists.specs.Jobs.{with_budget};
 ghost use Rattle.rv_lists.specs.declared.job.Job.{Job as AJob};
 ghost use Rattle.rv_expect.specs.declared.passing.Rule.TheVariants.{Strict};
 ghost use Rattle.rv_expect.specs.Passing.{has_passed};
@@ -45,9 +46,8 @@ fn explain_job_of_text<D: Inputs>(
     asked: ExplainAsked<'_>,
     text: &[u8],
 ) -> Result<Found, Stop>
-    ensures explanation { IfOk result (λ found.
-        IsExplanationOf (contents_below (optional_text asked.entry.root) (D.contents inputs.now))
-        text.now asked.entry.name.now asked.entry.last found.text.items found.status) }
+    ensures explanation { IfOk result (λ found. IsExplanationOf (D.contents inputs.now) asked.entry text.now
+        found.text.items found.status) }
     ensures low { IfOk result (λ found. found.status ≤ 1) }
     ensures stopped { IfErr result (IsNoJobStop asked.entry.list.now text.now asked.entry.name.now) }
 {
@@ -55,7 +55,7 @@ fn explain_job_of_text<D: Inputs>(
     explain_job_at(inputs, alloc, asked, jobs, place)
 }
 
-// The same of the job at a place.
+// The same of the job at a place. A budget that is asked for is that of every job.
 fn explain_job_at<D: Inputs>(
     inputs: &D,
     alloc: Global,
@@ -66,11 +66,12 @@ fn explain_job_at<D: Inputs>(
     requires { place < length jobs }
     ensures explained { IfOk result (λ found.
         IsJobExplained (contents_below (optional_text asked.entry.root) (D.contents inputs.now))
-        jobs place asked.entry.last found.text.items found.status) }
+        (with_budget asked.entry.budget jobs) place asked.entry.last found.text.items found.status) }
     ensures low { IfOk result (λ found. found.status ≤ 1) }
     ensures memory { IfErr result (λ stop. stop ≡ Stop.OutOfMemory) }
 {
     let places = vec![in alloc; place; 1]?;
+    let jobs = jobs.with_budget(asked.budget);
     let mut store = NotingStore::new(inputs, alloc, asked.root);
     let plan = gather_places(alloc, jobs, places, &mut store)?;
     explain_planned_job(alloc, &plan, store.unread_paths(), place, asked.last)

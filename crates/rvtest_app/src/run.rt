@@ -167,7 +167,7 @@ impl<'x, R, D: Inputs> ListRun<'x, R, D> {
 }
 
 impl<'x, R: Threads + Wait + Sync + Clock, D: Inputs> ListRun<'x, R, D> {
-    // Runs the jobs that are marked, once the files that they need are read.
+    // Runs the jobs that are marked, once the files that they need are read. A budget that is asked for is that of every job.
     fn run_marked_jobs<
         F: Outputs + Drop,
         O: Sink + Drop + Send,
@@ -197,6 +197,7 @@ impl<'x, R: Threads + Wait + Sync + Clock, D: Inputs> ListRun<'x, R, D> {
             Ok(places) => places,
             Err(error) => return (to, Err(Stop::from(error))),
         };
+        let jobs = jobs.with_budget(asked.budget);
         let mut store = NotingStore::new(self.host.inputs, alloc, asked.root);
         let plan = match gather_jobs_at(alloc, jobs, places.as_slice(), &mut store) {
             Ok(plan) => plan,

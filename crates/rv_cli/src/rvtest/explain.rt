@@ -6,6 +6,7 @@ ghost use Rattle.rv_cli.specs.RvtestWords.{AsksFor, explain_request};
 use crate::rvtest::requests::Asked;
 use crate::values::{number_value, text_value};
 use clap::ArgMatches;
+use rv_base::limits::MOST_BUDGET;
 
 /// The job whose end is to be explained.
 #[derive(Clone, Copy)]
@@ -16,6 +17,8 @@ pub struct ExplainAsked<'a> {
     pub name: &'a str,
     /// How many of its last instructions are shown, up to 100,000.
     pub last: u32,
+    /// The steps that each job of the list has at most, in place of its own: from 1 to 1,000,000,000.
+    pub budget: Option<u32>,
     /// The folder from which the paths in the list are taken.
     pub root: Option<&'a str>,
 }
@@ -27,11 +30,13 @@ pub(crate) fn explain_request<'a>(values: &ArgMatches<'a>) -> Option<Asked<'a>>
     let list = text_value(values, "list")?;
     let name = text_value(values, "name")?;
     let last = number_value(values, "last", 0, 100_000)?;
+    let budget = number_value(values, "budget", 1, MOST_BUDGET);
     let root = text_value(values, "root");
     Some(Asked::Explain(ExplainAsked {
         list,
         name,
         last,
+        budget,
         root,
     }))
 }

@@ -18,6 +18,8 @@ pub(crate) enum Misuse {
     ShardAndChoice,
     /// A stamp without a shard.
     StampAlone,
+    /// Another budget than the list's beside a report, JUnit's XML or a shard.
+    BudgetAndRows,
     /// Steps compared exactly, and by which jobs are slower.
     StepsAndSlower,
     /// A suite without JUnit's XML.
@@ -44,6 +46,7 @@ impl Misuse {
             Misuse::NamelessSuite => ErrorKind::InvalidValue,
             Misuse::VerboseAndQuiet
             | Misuse::ShardAndChoice
+            | Misuse::BudgetAndRows
             | Misuse::StepsAndSlower
             | Misuse::OneFile => ErrorKind::ArgumentConflict,
         }
@@ -59,6 +62,9 @@ impl Misuse {
             }
             Misuse::StampAlone => {
                 "the argument '--stamp <TEXT>' cannot be used without '--shard <K/N>'"
+            }
+            Misuse::BudgetAndRows => {
+                "the argument '--budget <N>' cannot be used with '--report <FILE>', '--junit <FILE>' or '--shard <K/N>': such rows are not the list's"
             }
             Misuse::StepsAndSlower => {
                 "the argument '--steps' cannot be used with '--slower <N>'"

@@ -3,7 +3,7 @@
 ghost use Rattle.std.specs.Prelude.{◌≡◌, ◌≤◌, [], IfOk};
 ghost use Rattle.clap.specs.Words.{found_of, rows_of};
 ghost use Rattle.rv_base.specs.Limits.{most_group};
-ghost use Rattle.rv_cli.specs.RvtestWords.{IsRunAskedInRange, ReadsRequest, is_choice_given, misuse_kinds, run_asked_words};
+ghost use Rattle.rv_cli.specs.RvtestWords.{IsRunAskedInRange, ReadsRequest, are_rows_kept, is_choice_given, misuse_kinds, run_asked_words};
 ghost use Rattle.rv_cli.specs.RvtestWords.{run_misuse, test_run_request, run_words};
 
 use crate::rvtest::command::run_command;
@@ -11,7 +11,7 @@ use crate::rvtest::refusals::{Misuse, files_misuse};
 use crate::rvtest::requests::Asked;
 use crate::values::{argument_values, is_flag_set, is_option_given, number_value, text_value};
 use clap::{ArgMatches, Error};
-use rv_base::limits::{MOST_GROUP, MOST_WORKERS};
+use rv_base::limits::{MOST_BUDGET, MOST_GROUP, MOST_WORKERS};
 use std::alloc::{AllocError, Global};
 
 /// The jobs of a list that are to run, and how.
@@ -35,6 +35,8 @@ pub struct RunAsked<'a> {
     pub workers: Option<u32>,
     /// Jobs that a thread takes at once, from 1 to 4,096.
     pub group: u32,
+    /// The steps that each job of the list has at most, in place of its own: from 1 to 1,000,000,000.
+    pub budget: Option<u32>,
     /// The folder from which the paths in the list are taken.
     pub root: Option<&'a str>,
     /// Path of the report that is written; `-` is standard output.
@@ -100,6 +102,7 @@ pub(crate) fn run_asked<'a>(
         stamp: text_value(values, "stamp"),
         workers: number_value(values, "workers", 1, MOST_WORKERS),
         group,
+        budget: number_value(values, "budget", 1, MOST_BUDGET),
         root: text_value(values, "root"),
         report: text_value(values, "report"),
         junit: text_value(values, "junit"),
@@ -122,9 +125,20 @@ fn run_misuse(values: &ArgMatches<'_>) -> Option<Misuse>
         Some(Misuse::ShardAndChoice)
     } else if is_option_given(values, "stamp") && !is_option_given(values, "shard") {
         Some(Misuse::StampAlone)
+    } else if is_option_given(values, "budget") && are_rows_kept(values) {
+        Some(Misuse::BudgetAndRows)
     } else {
         files_misuse(values)
     }
+}
+
+// Whether rows go out that others take as the list's.
+fn are_rows_kept(values: &ArgMatches<'_>) -> bool
+    ensures { result ≡ are_rows_kept (rows_of (found_of values.now)) }
+{
+    is_option_given(values, "report")
+        || is_option_given(values, "junit")
+        || is_option_given(values, "shard")
 }
 
 fn is_choice_given(values: &ArgMatches<'_>) -> bool

@@ -3,7 +3,7 @@
 use crate::rvtest::arguments::{Argument, Bounds};
 use crate::rvtest::command::Subcommand;
 use crate::rvtest::examples;
-use rv_base::limits::MOST_WORKERS;
+use rv_base::limits::{MOST_BUDGET, MOST_WORKERS};
 
 /// The commands of `rvtest`, in the order in which help names them.
 pub(crate) const COMMANDS: [Subcommand<'static>; 8] = [
@@ -35,6 +35,7 @@ pub(crate) const RUN: Subcommand<'static> = Subcommand {
             &[],
         ),
         Argument::Group,
+        Argument::Number("budget", None, BUDGET, BUDGET_BOUNDS, &[]),
         Argument::Option("root", "DIR", ROOT),
         Argument::File("report", REPORT),
         Argument::File("junit", JUNIT),
@@ -78,6 +79,7 @@ const EXPLAIN: Subcommand<'static> = Subcommand {
         Argument::Word("list", "LIST", LIST_PATH),
         Argument::Word("name", "NAME", NAME),
         Argument::Number("last", None, LAST, LAST_BOUNDS, &["16"]),
+        Argument::Number("budget", None, BUDGET, BUDGET_BOUNDS, &[]),
         Argument::Option("root", "DIR", ROOT),
     ],
 };
@@ -178,6 +180,13 @@ const SUITE: &str = "Names the suite in JUnit XML, in place of the file";
 const LENIENT: &str = "Counts as failed only what misses an expectation";
 
 const LAST: &str = "Shows the last N instructions of a job, from 0 to 100000";
+
+const BUDGET: &str = "Steps at most of every job, from 1 to 1000000000; else its own";
+
+const BUDGET_BOUNDS: Bounds = Bounds {
+    least: 1,
+    most: MOST_BUDGET as i64,
+};
 
 const WORKERS: Bounds = Bounds {
     least: 1,

@@ -10,8 +10,13 @@ returns-clause-run g c =
       plan = c.in-Ok-gather_jobs_at.plan;
       unread = c.unread_paths.result.now;
       planned = record {
-        listed = found.jobs;
-        paths = rw (c.as_slice-2.ensures.value, c.in-Ok.ensures.value, c.as_slice.ensures.value) at found.paths;
+        listed = found.jobs ∙ c.with_budget.ensures.jobs;
+        paths = rw (
+          c.as_slice-2.ensures.value,
+          c.in-Ok.ensures.value,
+          c.as_slice.ensures.value,
+          c.with_budget.ensures.jobs,
+        ) at found.paths;
         kept = rw (c.new-store.ensures.inputs, c.new-store.ensures.folder) at found.kept;
         noted = ap length c.unread_paths.ensures ∙ rw c.new-store.ensures.nothing at found.faults;
       };
@@ -36,8 +41,13 @@ returns-clause-undone g c =
       plan = c.in-Ok-gather_jobs_at.plan;
       unread = c.unread_paths.result.now;
       planned = record {
-        listed = found.jobs;
-        paths = rw (c.as_slice-2.ensures.value, c.in-Ok.ensures.value, c.as_slice.ensures.value) at found.paths;
+        listed = found.jobs ∙ c.with_budget.ensures.jobs;
+        paths = rw (
+          c.as_slice-2.ensures.value,
+          c.in-Ok.ensures.value,
+          c.as_slice.ensures.value,
+          c.with_budget.ensures.jobs,
+        ) at found.paths;
         kept = rw (c.new-store.ensures.inputs, c.new-store.ensures.folder) at found.kept;
         noted = ap length c.unread_paths.ensures ∙ rw c.new-store.ensures.nothing at found.faults;
       };
