@@ -70,6 +70,10 @@ def check_place(row):
 ENDS = {"one": "code 00000513 X", "two": "one"}
 
 
+MISSING = "rvtest: every image is missing: paths are taken from {}\n"
+HERE = "the folder that rvtest runs in; --root DIR takes them from DIR"
+
+
 def check_root(row):
     """Which image is at a path, taken from a folder where one is given, or why none is read."""
     folder, path, told = row["root"], row["path"], row["told"]
@@ -82,8 +86,9 @@ def check_root(row):
     status, out, said = row.run(words)
     line = out.decode().partition("\n")[0]
     is_told = line == wanted.get(told) or (line.startswith("FAIL a: refused image-unreadable: ") and line.endswith(f": {told}"))
-    if status != int(told != "one") or said or not is_told:
-        row.fails(words, (int(told != "one"), told.encode(), b""), (status, out, said))
+    note = MISSING.format(f"{folder} (--root)" if folder else HERE) if told == "missing" and not path.startswith("/") else ""
+    if (status, said) != (int(told != "one"), note.encode()) or not is_told:
+        row.fails(words, (int(told != "one"), told.encode(), note.encode()), (status, out, said))
 
 
 FORMS = {

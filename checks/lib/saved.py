@@ -47,11 +47,42 @@ def jobs_of(report):
 
 # ---- reports that are read
 
+WANTED = {
+    "": "job with the next number, or done or part at the end,", "verdict": "job with the next number, or done or part at the end,",
+    "job": "end with how the run ended", "end": "steps with their number", "steps": "console with hexadecimal digits or -",
+    "console": "signature with the number of its words or -", "signature -": "verdict with none, pass or fail",
+    "done": "nothing more", "part": "nothing more",
+}
+
+
+def wanted_behind(line):
+    """What a report has behind a line."""
+    return WANTED.get(line) or WANTED.get(line.split(" ")[0]) or "a word of eight hexadecimal digits, or verdict,"
+
+
+def shown_value(value):
+    """Bytes as a value is shown: those of no character or of a control character as escapes, and at most 80 characters."""
+    shown = ""
+    for char in value.decode("utf-8", "surrogateescape"):
+        is_plain = char >= " " and not "\x7f" <= char <= "\x9f" and not "\udc80" <= char <= "\udcff"
+        for piece in [char] if is_plain else [f"\\x{byte:02x}" for byte in char.encode("utf-8", "surrogateescape")]:
+            if len(shown) + len(piece) > 80:
+                return shown
+            shown += piece
+    return shown
+
+
 def check_broken(row):
     """Where a report goes wrong."""
-    row.write("report", report_bytes(row["report"]))
-    line = row["wrong"].removeprefix("line ")
-    told = ": the report is cut off" if row["wrong"] == "cut off" else f":{line}: no report has this line here"
+    report = report_bytes(row["report"])
+    row.write("report", report)
+    if row["wrong"] == "cut off":
+        told = ": the report is cut off"
+    else:
+        line = int(row["wrong"].removeprefix("line "))
+        before, met = (b"\n" + report).split(b"\n")[line - 1:line + 1]
+        wanted = wanted_behind(before.decode("utf-8", "surrogateescape"))
+        told = f':{line}: no report has this line here: "{shown_value(met)}": {wanted} is wanted'
     row.wants(["show", "report"], 2, "", f"rvtest: report{told}\n")
 
 

@@ -1,5 +1,6 @@
 """The manual pages: of each program from its help, and of a list's format from the table of keys in README.md."""
 import re
+import textwrap
 
 from help import TOP, commands_of
 
@@ -61,6 +62,26 @@ def key_entry(names, value, absent):
     shown = ", ".join(re.findall("`([^`]+)`", names))
     lines = [".TP", f'.B "{roff(shown)}"', roff(value[0].upper() + value[1:]) + "."]
     return "\n".join(lines + ([f"If absent: {roff(absent)}."] if absent else []))
+
+
+def key_paragraph(names, value, absent):
+    """A key as `rvtest help list` tells it, in lines of at most 80 characters."""
+    shown = ", ".join(re.findall("`([^`]+)`", names))
+    told = value.replace("`", "") + (f"; if absent: {absent}" if absent else "")
+    return f"  {shown}\n" + textwrap.fill(told, width=80, initial_indent=" " * 6, subsequent_indent=" " * 6)
+
+
+def keys_source():
+    """The Rust source of what `rvtest help list` tells."""
+    told = "\n".join(["The keys of a job, a table of the array job:", "", *(key_paragraph(*key) for key in keys())])
+    written = told.replace("\\", "\\\\").replace('"', '\\"')
+    return f"""//! What `rvtest help list` tells. packaging/pages writes this file from README.md's table of keys.
+
+/// The keys of a list.
+pub(crate) const LIST_KEYS: &str = "\\
+{written}
+";
+"""
 
 
 def list_page(text):

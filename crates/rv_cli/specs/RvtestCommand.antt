@@ -188,7 +188,7 @@ diff_app = with_rule (with_rule (with_rule (with_rule (new_app (codes "diff")) (
 abbrev pub show_app : App
 show_app = with_junit (with_rule (new_app (codes "show")) (word_rule (codes "report")))
 
--- a subcommand is required, none is called help, and there is a version
+-- a subcommand is required, the help of `clap` is none of them, and there is a version
 abbrev pub test_top_app : App
 test_top_app = let app = new_app (codes "rvtest") in
     record app {
@@ -210,6 +210,10 @@ abbrev pub with_reports : App → App
 with_reports app = with_subcommand (with_subcommand (with_subcommand app merge_app.top)
     diff_app.top) show_app.top
 
+-- help <TOPIC>
+abbrev pub help_app : App
+help_app = with_rule (new_app (codes "help")) (word_rule (codes "topic"))
+
 -- the whole command
 abbrev pub test_app : App
-test_app = with_reports (with_lists test_top_app)
+test_app = with_subcommand (with_reports (with_lists test_top_app)) help_app.top

@@ -70,7 +70,8 @@ pub record ShowWords : Type 0 where
 
 -- to run jobs; to say which jobs a run of these words would run; to explain one; to write the console of one, whose paths are taken
 -- from a folder; to say all that is wrong with a list, whose paths are taken from a
--- folder; to merge parts; to compare two reports, with their steps or without, or by which jobs are slower; to show one
+-- folder; to merge parts; to compare two reports, with their steps or without, or by which jobs are slower; to show one; to tell of
+-- something that is no command
 pub data Words : Type 0 where
   run : RunWords → Words
   names : RunWords → Words
@@ -80,6 +81,7 @@ pub data Words : Type 0 where
   merge : MergeWords → Words
   diff : Text → Text → Bool → Option ℕ → Words
   show : ShowWords → Words
+  help : Text → Words
 
 -- the budget that each job takes in place of its own
 abbrev pub requested_budget : List Row → Option ℕ
@@ -163,6 +165,9 @@ show_words rows report = show (record {
 abbrev pub show_request : List Row → Option Words
 show_request rows = option_map (show_words rows) (first_of (codes "report") rows)
 
+abbrev pub help_request : List Row → Option Words
+help_request rows = option_map help (first_of (codes "topic") rows)
+
 -- what a subcommand with these values asks for
 abbrev pub subcommand_words : Text → List Row → Option Words
 subcommand_words name rows = if bytes_eq name (codes "run") then test_run_request rows
@@ -173,6 +178,7 @@ subcommand_words name rows = if bytes_eq name (codes "run") then test_run_reques
     else if bytes_eq name (codes "merge") then Some (merge_request rows)
     else if bytes_eq name (codes "diff") then diff_request rows
     else if bytes_eq name (codes "show") then show_request rows
+    else if bytes_eq name (codes "help") then help_request rows
     else None
 
 -- what a subcommand that was met asks for, with its values
@@ -334,6 +340,7 @@ asked_words (asked.Check value) = check value.list.now (borrowed_text value.root
 asked_words (asked.Merge value) = merge (merge_asked_words value)
 asked_words (asked.Diff value) = diff value.old.now value.new.now value.steps value.slower
 asked_words (asked.Show value) = show (show_asked_words value)
+asked_words (asked.Help value) = help value.topic.now
 
 -- a job of a list may have this budget
 abbrev pub IsBudgetInRange : Option ℕ → Type 0

@@ -1,3 +1,4 @@
 pub mod Messages
+pub mod RefusedLines
 pub mod Stops
 pub mod Texts

@@ -18,7 +18,8 @@ use Rattle.rv_command.specs.declared.stop.Lines.{Lines}
 use Rattle.rv_command.specs.declared.stop.Lines.TheVariants as lines
 use Rattle.rv_command.specs.declared.stop.Stop.{Stop}
 use Rattle.rv_command.specs.declared.stop.Stop.TheVariants as why
-use Rattle.rv_command.specs.Messages.{path_message, path_number_message, stop_message}
+use Rattle.rv_command.specs.Messages.{path_message, stop_message}
+use Rattle.rv_command.specs.RefusedLines.{refused_line_message}
 use Rattle.rv_command.specs.Texts.{IsTextAt}
 
 -- the status of lines that end a command: 2 where what is asked for is refused, 3 where the system failed
@@ -103,16 +104,15 @@ IsListFaultStop path text stop = (stop ≡ why.OutOfMemory)
 abbrev pub IsCutOffStop : List ℕ → Stop → Type 0
 IsCutOffStop path stop = IsStop 2 (path_message path (codes "the report is cut off")) stop
 
--- no report has a line there
-abbrev pub IsLineStop : List ℕ → ℕ → Stop → Type 0
-IsLineStop path line stop =
-    IsStop 2 (path_number_message path (codes ":") line (codes ": no report has this line here\n")) stop
+-- no report has the line of a number there: it is told, and of a job list that it is one
+abbrev pub IsLineStop : List ℕ → List ℕ → ℕ → Stop → Type 0
+IsLineStop path bytes line stop = IsStop 2 (refused_line_message (codes "report") path bytes line) stop
 
 -- a text is no report: the least line is told that no report begins with; or that the report is cut off, and then its whole
 -- lines begin some report
 abbrev pub IsReportFaultTold : List ℕ → List ℕ → Stop → Type 0
 IsReportFaultTold path bytes stop =
-    ((line : ℕ) × IsLeastRefusedLine line bytes × IsLineStop path line stop)
+    ((line : ℕ) × IsLeastRefusedLine line bytes × IsLineStop path bytes line stop)
     ⊎ (BeginsReport (first_lines (count_of_line_feeds bytes) bytes) × IsCutOffStop path stop)
 
 -- memory was wanting, or a fault of the report is told; a beginning of a report is told as cut off

@@ -6,6 +6,7 @@
 mod files;
 mod list;
 mod messages;
+mod refused_line;
 mod saved_report;
 mod status;
 mod stop;
@@ -15,6 +16,7 @@ pub use list::{all_faults_text, list_faults_text, parse_list, read_list_text};
 pub use messages::{
     path_message, path_number_message, put_end_message, put_message, put_results, put_stop_message,
 };
+pub use refused_line::refused_line_message;
 pub use saved_report::{parse_report, read_report_file};
 pub use status::{BROKEN_PIPE, DONE, FAILED, REFUSED, SOME_FAIL};
 pub use stop::{Lines, Stop};

@@ -6,7 +6,8 @@ ghost use Rattle.rv_command.specs.Stops.{IsLineStop, IsReportFaultStop, IsReport
 ghost use Rattle.rv_command.specs.Texts.{IsReportAt, IsReportText};
 
 use crate::files::read_file;
-use crate::messages::{path_message, path_number_message};
+use crate::messages::path_message;
+use crate::refused_line::refused_line_message;
 use crate::stop::Stop;
 use rv_files::Inputs;
 use rv_report::{ReadError, SavedReport, read_report};
@@ -39,13 +40,12 @@ pub fn parse_report(alloc: Global, path: &str, text: &[u8]) -> Result<SavedRepor
             let told = path_message(alloc, path, "the report is cut off");
             Err(Stop::of_refusal(told))
         }
-        Err(ReadError::Line(line)) => Err(report_line_stop(alloc, path, line)),
+        Err(ReadError::Line(line)) => Err(report_line_stop(alloc, path, text, line)),
     }
 }
 
-fn report_line_stop(alloc: Global, path: &str, line: usize) -> Stop
-    ensures { IsLineStop path.now line result }
+fn report_line_stop(alloc: Global, path: &str, text: &[u8], line: usize) -> Stop
+    ensures { IsLineStop path.now text.now line result }
 {
-    let what = ": no report has this line here\n";
-    Stop::of_refusal(path_number_message(alloc, path, ":", line, what))
+    Stop::of_refusal(refused_line_message(alloc, "report", path, text, line))
 }

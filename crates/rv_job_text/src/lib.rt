@@ -37,9 +37,11 @@ mod whole_lines;
 
 pub use console_tail::{TAIL_BYTES, TAIL_LINES, push_console_tail};
 pub use law::{lines_are_the_text, told_line_differs_first};
+pub use paths::{console_path, reference_path};
 pub use refusal_reasons::ending_reason;
 pub use result_line::{EndDetail, push_result_line};
 pub use row_telling::RowTelling;
 pub use totals_line::{job_word, push_totals_line};
+pub use unread_files::{too_long_file_text, unread_file_text};
 pub use verbosity::Verbosity;
 pub use way_to_end::{WayToEnd, budget_use_at};

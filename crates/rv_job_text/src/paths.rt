@@ -6,7 +6,7 @@ ghost use Rattle.rv_jobs.specs.Jobs.{console_path};
 use rv_jobs::Job;
 
 /// The path of the reference that a job expects.
-pub(crate) fn reference_path(job: &Job) -> Option<&str>
+pub fn reference_path(job: &Job) -> Option<&str>
     ensures { option_map (λ path. path.now) result ≡ job.now.expect_signature }
 {
     match &job.expect_signature {
@@ -16,7 +16,7 @@ pub(crate) fn reference_path(job: &Job) -> Option<&str>
 }
 
 /// The path of the console that a job expects, where that stands in a file.
-pub(crate) fn console_path(job: &Job) -> Option<&str>
+pub fn console_path(job: &Job) -> Option<&str>
     ensures { option_map (λ path. path.now) result ≡ console_path job.now.expect_console }
 {
     match &job.expect_console {

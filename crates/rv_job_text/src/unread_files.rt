@@ -10,7 +10,7 @@ use std::alloc::{AllocError, Global};
 
 /// A path, and why its file was unreadable.
 #[tactic(auto, unfolding(crate::specs::UnreadFiles::unread_file_text))]
-pub(crate) fn unread_file_text(
+pub fn unread_file_text(
     alloc: Global,
     unread: &[Unread],
     path: &str,
@@ -26,7 +26,7 @@ pub(crate) fn unread_file_text(
 
 /// A path, and that its file is too long.
 #[tactic(auto, unfolding(crate::specs::UnreadFiles::too_long_file_text))]
-pub(crate) fn too_long_file_text(alloc: Global, path: &str) -> Result<Vec<u8>, AllocError>
+pub fn too_long_file_text(alloc: Global, path: &str) -> Result<Vec<u8>, AllocError>
     ensures { IfOk result (λ text. text.items ≡ too_long_file_text path.now) }
 {
     text_of_spans(

@@ -7,7 +7,7 @@ ghost use Rattle.rv_list_errors.specs.Lines.{BeginsWith};
 
 use crate::job_fault::push_job_fault;
 use crate::list::List;
-use crate::list_fault::{push_list_fault, push_not_toml};
+use crate::list_fault::{push_list_fault, push_not_toml, push_repeated_key, repeated_key_of_error};
 use crate::message::Message;
 use crate::names::Suggestion;
 use rv_lists::{JobError, What};
@@ -154,7 +154,12 @@ fn fault_explanation(
 ) -> Result<Vec<u8>, AllocError> {
     let mut message = Message::new(alloc);
     match look {
-        Look::NoToml(text, error) => push_not_toml(&mut message, text, error),
+        Look::NoToml(text, error) => {
+            push_not_toml(&mut message, text, error);
+            if let Some(repeated) = repeated_key_of_error(alloc, text, error)? {
+                push_repeated_key(&mut message, text, &repeated);
+            }
+        }
         Look::List(list) if fault.job == 0 => push_list_fault(&mut message, list, fault.what),
         Look::List(list) => {
             let place = fault.job as usize - 1;

@@ -83,15 +83,13 @@ impl<'a> FaultyJob<'a> {
         found: &mut Vec<FoundFault>,
     ) -> Result<(), AllocError> {
         let keys = job_keys(alloc, text)?;
-        let mut met = Met::none();
-        let mut before = "";
+        let mut met = Met::none(alloc);
         for key in keys.as_slice() {
             let name = key.name.as_str();
-            if !met.has(name) && name != before {
+            if !met.has(name) {
                 self.find_key_fault(alloc, key, &met, found)?;
+                met.add(name)?;
             }
-            met.add(name);
-            before = name;
         }
         Ok(())
     }
@@ -100,7 +98,7 @@ impl<'a> FaultyJob<'a> {
         &self,
         alloc: Global,
         key: &JobKey<'_>,
-        met: &Met,
+        met: &Met<'_>,
         found: &mut Vec<FoundFault>,
     ) -> Result<(), AllocError> {
         let mut message = Message::new(alloc);

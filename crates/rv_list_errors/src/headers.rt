@@ -6,11 +6,13 @@
 mod cursor;
 mod job_keys;
 mod lines;
+mod repeated_key;
 mod scan;
 mod values;
 
 pub(crate) use cursor::Cursor;
 pub(crate) use job_keys::{JobKey, job_keys};
 pub use lines::{Place, line_and_column};
+pub(crate) use repeated_key::{RepeatedKey, repeated_key};
 pub use scan::job_line_numbers;
 pub(crate) use scan::job_texts;

@@ -19,31 +19,30 @@ use rv_base::is_name;
 use rv_lists::limits::{MOST_BUDGET, MOST_CONSOLE, MOST_PATH, MOST_SCRIPT, MOST_SYMBOL};
 use rv_lists::{JOB_KEYS, Kind};
 use rv_machine::FaultKind;
+use std::alloc::{AllocError, Global};
+use std::collections::BTreeMap;
 use toml::{Table, Value};
 
-/// The keys of a job that were met, by their places among the keys that jobs have.
+/// The keys of a job that were met.
 #[derive(Drop)]
-pub(crate) struct Met {
-    keys: [bool; 16],
+pub(crate) struct Met<'k> {
+    names: BTreeMap<&'k str, ()>,
 }
 
-impl Met {
-    pub(crate) fn none() -> Met {
-        Met { keys: [false; 16] }
+impl<'k> Met<'k> {
+    pub(crate) fn none(alloc: Global) -> Met<'k> {
+        Met {
+            names: BTreeMap::new(alloc),
+        }
     }
 
-    /// Whether a key was met; of one that no job has it is not known.
     pub(crate) fn has(&self, name: &str) -> bool {
-        match place_of_key(name) {
-            Some(place) => self.keys[place],
-            None => false,
-        }
+        self.names.contains_key(name)
     }
 
-    pub(crate) fn add(&mut self, name: &str) {
-        if let Some(place) = place_of_key(name) {
-            self.keys[place] = true;
-        }
+    pub(crate) fn add(&mut self, name: &'k str) -> Result<(), AllocError> {
+        self.names.insert(name, ())?;
+        Ok(())
     }
 }
 
@@ -84,7 +83,7 @@ enum KeyFault {
 impl<'a> FaultyJob<'a> {
     /// Appends what is wrong with the value of a key, if anything is, and gives whether anything is. Of two keys that do not go together
     /// it is told at the one that is met last.
-    pub(crate) fn push_key_fault(&self, message: &mut Message, key: &str, met: &Met) -> bool {
+    pub(crate) fn push_key_fault(&self, message: &mut Message, key: &str, met: &Met<'_>) -> bool {
         let Some(fault) = self.key_fault(key, met) else {
             return false;
         };
@@ -106,7 +105,7 @@ impl<'a> FaultyJob<'a> {
         true
     }
 
-    fn key_fault(&self, key: &str, met: &Met) -> Option<KeyFault> {
+    fn key_fault(&self, key: &str, met: &Met<'_>) -> Option<KeyFault> {
         let Some(place) = place_of_key(key) else {
             return Some(KeyFault::Unknown);
         };
@@ -122,7 +121,7 @@ impl<'a> FaultyJob<'a> {
     }
 
     // What is wrong with a value of the kind that its key has.
-    fn value_fault(&self, kind: Kind, key: &str, value: &Value, met: &Met) -> Option<KeyFault> {
+    fn value_fault(&self, kind: Kind, key: &str, value: &Value, met: &Met<'_>) -> Option<KeyFault> {
         match kind {
             Kind::Text => self.text_fault(key, value.as_str().unwrap_or(""), met),
             Kind::Number => wanted(number_fault(key, value.as_integer().unwrap_or(0))),
@@ -133,7 +132,7 @@ impl<'a> FaultyJob<'a> {
         }
     }
 
-    fn text_fault(&self, key: &str, text: &str, met: &Met) -> Option<KeyFault> {
+    fn text_fault(&self, key: &str, text: &str, met: &Met<'_>) -> Option<KeyFault> {
         match key {
             "name" => self.name_fault(text),
             "same_as" if self.is_earlier_job(text) => None,
@@ -161,7 +160,7 @@ impl<'a> FaultyJob<'a> {
         }
     }
 
-    fn input_fault(&self, key: &str, text: &str, met: &Met) -> Option<Told> {
+    fn input_fault(&self, key: &str, text: &str, met: &Met<'_>) -> Option<Told> {
         if key == "input" {
             if MOST_SCRIPT < text.len() {
                 Some(Told::Wanted(&INPUT))
@@ -186,7 +185,7 @@ impl<'a> FaultyJob<'a> {
         }
     }
 
-    fn expectation_or_choice_fault(&self, key: &str, text: &str, met: &Met) -> Option<Told> {
+    fn expectation_or_choice_fault(&self, key: &str, text: &str, met: &Met<'_>) -> Option<Told> {
         match key {
             "expect_signature" => self.reference_fault(text),
             "expect_console" if MOST_CONSOLE < text.len() => Some(Told::Wanted(&EXPECT_CONSOLE)),

@@ -5,13 +5,14 @@ ghost use Rattle.toml.specs.Errors.{IsMemory, span_start};
 ghost use Rattle.rv_list_errors.specs.NearNames.{Adds};
 ghost use Rattle.rv_list_errors.specs.Told.{AddsSome, IsNotToml, too_many_jobs_text};
 
-use crate::headers::line_and_column;
+use crate::headers::{RepeatedKey, line_and_column, repeated_key};
 use crate::keys::{Owner, push_unknown_key, unknown_key};
 use crate::list::List;
 use crate::message::Message;
 use crate::values::push_wanted_value;
 use rv_lists::What;
 use rv_lists::limits::MOST_JOBS;
+use std::alloc::{AllocError, Global};
 use toml::Table;
 use toml::de::Error;
 
@@ -34,6 +35,35 @@ fn push_reason(message: &mut Message, reason: &str)
 {
     message.push(": not TOML: ");
     message.push(reason);
+}
+
+/// The key of a text that stands twice, where it is no TOML for that.
+pub(crate) fn repeated_key_of_error<'a>(
+    alloc: Global,
+    text: &'a [u8],
+    error: &Error,
+) -> Result<Option<RepeatedKey<'a>>, AllocError> {
+    match (error.span(), str::from_utf8(text)) {
+        (Some(span), Ok(text)) if error.message() == "duplicate key" => {
+            repeated_key(alloc, text, text.len().saturating_sub(span.start))
+        }
+        _ => Ok(None),
+    }
+}
+
+/// Appends a key that stands twice in a text, and the line where it stands first, if that was found.
+pub(crate) fn push_repeated_key(message: &mut Message, text: &[u8], repeated: &RepeatedKey<'_>) {
+    message.push(" \"");
+    for part in &repeated.key.path {
+        message.push_printable(part.as_str());
+        message.push(".");
+    }
+    message.push_printable(repeated.key.last.as_str());
+    message.push("\"");
+    if let Some(first) = repeated.first {
+        let place = line_and_column(text, text.len().saturating_sub(first.len()));
+        message.push_number_between(": line ", place.line as u64, " has it already");
+    }
 }
 
 /// Appends a fault of the whole list.

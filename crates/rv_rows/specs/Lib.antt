@@ -2,6 +2,7 @@ pub mod Flat
 pub mod Outcome
 pub mod Attempt
 pub mod Rows
+pub mod ImageRefusals
 pub mod Recent
 pub mod Narrower
 pub mod Verdict

@@ -5,6 +5,7 @@ ghost use Rattle.std.specs.Prelude.{option_map, option_and_then, slice_index_or}
 ghost use Rattle.rv_jobs.specs.declared_job.Job.{Job as AJob};
 ghost use Rattle.rv_machine.specs.Machine.{state_of};
 ghost use Rattle.rv_rows.specs.Attempt.{IsReadable, outcome_of_attempt};
+ghost use Rattle.rv_rows.specs.ImageRefusals.{image_refusal_in};
 ghost use Rattle.rv_rows.specs.Outcome.{refusal_in};
 ghost use Rattle.rv_rows.specs.Recent.{AreOutcomes, outcome_at};
 ghost use Rattle.rv_rows.specs.Rows.{content_if_read, expected_console_bytes, named_job_outcome, outcome_in, signature_reference_bytes, row_of, row_of_outcome};
@@ -115,6 +116,19 @@ pub fn refusal_at(alloc: Global, plan: &Plan, i: usize) -> Result<Option<Refusal
         plan.reference(i),
         plan.console_reference(i),
     )
+}
+
+/// Why the image of the job at a place refuses the job, whatever its other files are. Nothing is run.
+pub fn image_refusal_at(
+    alloc: Global,
+    plan: &Plan,
+    i: usize,
+) -> Result<Option<Refusal>, AllocError>
+    requires { i < length plan.now.jobs }
+    ensures { IfOk result (λ why. (d : AJob) → why
+        ≡ image_refusal_in plan.now.answers (slice_index_or plan.now.jobs i d)) }
+{
+    refusal_of_job(alloc, plan.job(i), plan.image(i), None, None)
 }
 
 /// The machine in which the job at a place runs, as it stands before the first step, or why the job is refused. The image

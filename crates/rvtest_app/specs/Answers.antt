@@ -7,6 +7,7 @@ use Rattle.rv_cli.specs.RvtestWords.{asked_words, words_fault_kinds, words_reque
 use Rattle.rv_cli.specs.declared.rvtest.requests.Asked.{Asked}
 use Rattle.rv_cli.specs.declared.rvtest.requests.Asked.TheVariants as asked
 use Rattle.rvtest_app.specs.Consoles.{IsConsolePut}
+use Rattle.rvtest_app.specs.HelpTopics.{list_topic}
 use Rattle.rvtest_app.specs.Lists.{IsListPut}
 use Rattle.rvtest_app.specs.Merges.{IsMergedAt}
 use Rattle.rvtest_app.specs.Reports.{IsCheckAt, IsDiffAt, IsExplanationAt}
@@ -35,6 +36,9 @@ IsDone known (asked.Diff words) status before after =
     × IsOnlyPut text before after)
 IsDone known (asked.Show words) status before after =
     IsShownAt known words status before after
+IsDone known (asked.Help words) status before after =
+    (text : List ℕ) × (((words.topic.now ≡ list_topic) × (status ≡ 0))
+    × IsOnlyPut text before after)
 
 -- words ask for the help, or for the version
 abbrev pub AskForHelp : List (List ℕ) → Type 0

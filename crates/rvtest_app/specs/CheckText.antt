@@ -1,5 +1,5 @@
--- What `check` says of a list without faults: a line for each job that is refused, a warning for each job that expects two
--- ends, and a line that counts both.
+-- What `check` says of a list without faults: a line for each file for which a job is refused, a warning for each job that
+-- expects two ends, where every image is missing where paths are taken from, and a line that counts jobs of both kinds.
 use Rattle.std.specs.Prelude.{◌==◌, ◌+◌, ℕ, List, [], ◌++◌, Option, Some, None, codes, if◌then◌else◌, length, option_map}
 use Rattle.std.specs.Prelude.{slice_get, unwrap_or}
 use Rattle.std.specs.Fmt.{decimal}
@@ -10,7 +10,11 @@ use Rattle.rv_files.specs.declared.noting_store.Unread.{Unread}
 use Rattle.rv_job_text.specs.RefusalReasons.{refusal_reason}
 use Rattle.rv_job_text.specs.ResultLine.{optional_reason_text}
 use Rattle.rv_job_text.specs.TotalsLine.{job_word}
-use Rattle.rv_jobs.specs.Plans.{Planned}
+use Rattle.rv_job_text.specs.UnreadFiles.{too_long_file_text, unread_file_text}
+use Rattle.rv_jobs.specs.Jobs.{console_path}
+use Rattle.rv_jobs.specs.Plans.{Planned, kept_for}
+use Rattle.rv_jobs.specs.declared.kept.Kept.{Kept}
+use Rattle.rv_jobs.specs.declared.kept.Kept.TheVariants as kept
 use Rattle.rv_list_errors.specs.JobPlaces.{job_lines}
 use Rattle.rv_lists.specs.declared.job.ExpectedEnd.{ExpectedEnd}
 use Rattle.rv_lists.specs.declared.job.ExpectedEnd.TheVariants as expected
@@ -18,10 +22,11 @@ use Rattle.rv_lists.specs.declared.job.Job.{Job}
 use Rattle.rv_rows.specs.Faults.{fault_name}
 use Rattle.rv_report.specs.Report.{line, refusal_name}
 use Rattle.rv_report.specs.declared.row.Refusal.{Refusal}
-use Rattle.rv_rows.specs.Outcome.{refusal_in}
-use Rattle.rv_rows.specs.Rows.{outcome_in}
+use Rattle.rv_report.specs.declared.row.Refusal.TheVariants as refusal
+use Rattle.rv_rows.specs.ImageRefusals.{image_refusal_in}
 use Rattle.rv_text.specs.Printable.{printable_text}
-use Rattle.rvtest_app.specs.Commands.{refused_job_count, warned_job_count}
+use Rattle.rvtest_app.specs.Commands.{is_job_refused, refused_job_count, warned_job_count}
+use Rattle.rvtest_app.specs.MissingImages.{missing_images_line}
 
 -- ---- where a job stands
 
@@ -45,15 +50,41 @@ job_prefix path lines place job =
 abbrev pub refusal_text : Refusal → Option (List ℕ) → List ℕ
 refusal_text why reason = codes "refused " ++ refusal_name why ++ optional_reason_text reason
 
-unfoldable pub refused_job_line : List ℕ → List ℕ → Planned → List Unread → ℕ → Job → Refusal → List ℕ
-refused_job_line path lines plan unread place job why =
-    line (job_prefix path lines place job ++ refusal_text why (refusal_reason plan.answers unread job why))
+unfoldable pub refused_file_line : List ℕ → List ℕ → ℕ → Job → Refusal → Option (List ℕ) → List ℕ
+refused_file_line path lines place job why reason = line (job_prefix path lines place job ++ refusal_text why reason)
 
--- its line; nothing of a job that is not refused
+-- the line of its image, for which it would be refused whatever its other files are
+abbrev pub refused_image_line : List ℕ → List ℕ → Planned → List Unread → ℕ → Job → Refusal → List ℕ
+refused_image_line path lines plan unread place job why =
+    refused_file_line path lines place job why (refusal_reason plan.answers unread job why)
+
+abbrev pub refused_image_text : List ℕ → List ℕ → Planned → List Unread → ℕ → Job → List ℕ
+refused_image_text path lines plan unread place job =
+    unwrap_or (option_map (refused_image_line path lines plan unread place job) (image_refusal_in plan.answers job)) []
+
+-- the line of a file with what it expects, by what is kept of the file's path; nothing of one that was read
+abbrev pub unread_reference_text : List ℕ → List ℕ → List Unread → ℕ → Job → Option Kept → Option (List ℕ) → List ℕ
+unread_reference_text path lines unread place job (Some kept.Unreadable) (Some file) =
+    refused_file_line path lines place job refusal.ReferenceUnreadable (Some (unread_file_text unread file))
+unread_reference_text path lines unread place job (Some kept.TooLong) (Some file) =
+    refused_file_line path lines place job refusal.ReferenceTooLong (Some (too_long_file_text file))
+unread_reference_text path lines unread place job _ _ = []
+
+-- of the path of such a file
+abbrev pub reference_text : List ℕ → List ℕ → Planned → List Unread → ℕ → Job → Option (List ℕ) → List ℕ
+reference_text path lines plan unread place job file =
+    unread_reference_text path lines unread place job (option_map (kept_for plan.answers) file) file
+
+-- the lines of its image, and of the files with the signature and the console that it expects
+unfoldable pub refused_files_text : List ℕ → List ℕ → Planned → List Unread → ℕ → Job → List ℕ
+refused_files_text path lines plan unread place job = refused_image_text path lines plan unread place job
+    ++ (reference_text path lines plan unread place job job.expect_signature
+    ++ reference_text path lines plan unread place job (console_path job.expect_console))
+
+-- nothing of a job that is not refused
 unfoldable pub refused_job_text : List ℕ → List ℕ → Planned → List Unread → ℕ → Job → List ℕ
 refused_job_text path lines plan unread place job =
-    unwrap_or (option_map (refused_job_line path lines plan unread place job)
-    (refusal_in (outcome_in plan.answers job).ending)) []
+    if is_job_refused plan job then refused_files_text path lines plan unread place job else []
 
 -- ---- a job that expects two ends
 
@@ -96,9 +127,11 @@ job_counts_line jobs refused warned =
 abbrev pub texts_of_jobs : (ℕ → Job → List ℕ) → List Job → List ℕ
 texts_of_jobs text jobs = flat_map (λ entry. text entry.0 entry.1) (enumerate_from 0 jobs)
 
--- what is said of the list of a path and a text, by its plan and what was noted of files that were not read
-unfoldable pub check_text : List ℕ → List ℕ → Planned → List Unread → List ℕ
-check_text path text plan unread = let lines = job_begin_lines text in
+-- what is said of the list of a path and a text, whose paths are taken from a folder where one is given, by its plan and what
+-- was noted of files that were not read
+unfoldable pub check_text : List ℕ → List ℕ → Option (List ℕ) → Planned → List Unread → List ℕ
+check_text path text root plan unread = let lines = job_begin_lines text in
     texts_of_jobs (refused_job_text path lines plan unread) plan.jobs
     ++ texts_of_jobs (warned_job_text path lines) plan.jobs
+    ++ missing_images_line plan.jobs unread root
     ++ job_counts_line (length plan.jobs) (refused_job_count plan) (warned_job_count plan)

@@ -22,6 +22,7 @@ use Rattle.rv_lists.specs.declared.job.Job.{Job}
 use Rattle.rv_report.specs.declared.saved.SavedReport.{SavedReport}
 use Rattle.rvtest_app.specs.Answers.{AskForHelp}
 use Rattle.rvtest_app.specs.Commands.{failure_rule}
+use Rattle.rvtest_app.specs.HelpTopics.{IsNoTopicStop}
 use Rattle.rvtest_app.specs.ToldStops.{IsHelpAsked}
 
 -- `check`: the list was not read; or memory was wanting, or the list has a fault
@@ -68,6 +69,7 @@ IsCommandStop known (asked.List words) why = (why ≡ stop.WriteFailed) ⊎ IsLi
 IsCommandStop known (asked.Console words) why = (why ≡ stop.WriteFailed) ⊎ IsConsoleStop known words why
 IsCommandStop known (asked.Check words) why = (why ≡ stop.WriteFailed) ⊎ IsCheckStop known words why
 IsCommandStop known (asked.Diff words) why = (why ≡ stop.WriteFailed) ⊎ IsDiffAtStop known words why
+IsCommandStop known (asked.Help words) why = (why ≡ stop.WriteFailed) ⊎ IsNoTopicStop words.topic.now why
 IsCommandStop known (asked.Run words) why = ⊤
 IsCommandStop known (asked.Merge words) why = ⊤
 IsCommandStop known (asked.Show words) why = ⊤

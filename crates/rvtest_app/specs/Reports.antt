@@ -66,28 +66,29 @@ pub record IsDiffAt (known : Option FileContents) (words : DiffAsked) (output : 
 
 -- the output and the status are those of a plan of the jobs of a list, with answers for all their paths that agree with
 -- what stands there, and of what was noted of paths that were not read
-pub record IsPlanCheckOf (known : Option FileContents) (path bytes output : List ℕ) (status : ℕ) : Type 0 where
+pub record IsPlanCheckOf (known : Option FileContents) (root : Option (List ℕ)) (path bytes output : List ℕ) (status : ℕ)
+    : Type 0 where
   pub plan : Planned
   pub listed : job_list_of bytes ≡ Ok plan.jobs
   pub paths : paths_of plan.answers ≡ paths_used plan.jobs
   pub kept : AreKept known plan.answers
   pub unread : List Unread
   pub noted : AreNotesOf plan.answers unread
-  pub text : output ≡ check_text path bytes plan unread
+  pub text : output ≡ check_text path bytes root plan unread
   pub judged : status ≡ check_status (refused_job_count plan)
 
 -- of each bad job the output has a line or more, each of which begins with the path, a line and a column of the text, and the job's
 -- number and name, and then the status is 2; a list without faults has the output and the status of a plan
-abbrev pub IsCheckOf : Option FileContents → List JobError → List ℕ → List ℕ → List ℕ → ℕ → Type 0
-IsCheckOf known [] path bytes output status = IsPlanCheckOf known path bytes output status
-IsCheckOf known (fault ∷ faults) path bytes output status =
+abbrev pub IsCheckOf : Option FileContents → Option (List ℕ) → List JobError → List ℕ → List ℕ → List ℕ → ℕ → Type 0
+IsCheckOf known root [] path bytes output status = IsPlanCheckOf known root path bytes output status
+IsCheckOf known root (fault ∷ faults) path bytes output status =
     PutsEachFault (IsToldFault path bytes) (fault ∷ faults) [] output × (status ≡ 2)
 
 -- the same of the list at the path that words name
 pub record IsCheckAt (known : Option FileContents) (words : CheckAsked) (output : List ℕ) (status : ℕ) : Type 0 where
   pub bytes : List ℕ
   pub read : IsTextAt known words.list.now bytes
-  pub check : IsCheckOf (contents_below (optional_text words.root) known) (list_faults bytes)
+  pub check : IsCheckOf (contents_below (optional_text words.root) known) (optional_text words.root) (list_faults bytes)
       words.list.now bytes output status
 
 -- ---- explain

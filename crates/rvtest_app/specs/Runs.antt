@@ -22,6 +22,7 @@ use Rattle.rv_report.specs.declared.row.Row.{Row}
 use Rattle.rv_rows.specs.Rows.{rows_at}
 use Rattle.rv_stream.specs.Streams.{row_text_list}
 use Rattle.rvtest_app.specs.Commands.{failure_rule, requested_verbosity}
+use Rattle.rvtest_app.specs.MissingImages.{missing_images_note}
 use Rattle.rvtest_app.specs.Outlets.{AreFilesPlaced, file_at}
 use Rattle.rvtest_app.specs.Puts.{WentOut}
 use Rattle.rvtest_app.specs.RunOutput.{chosen_report_text, rows_status, run_output_text}
@@ -76,8 +77,9 @@ run_telling words plan unread = record {
   last = words.last;
 }
 
--- over such a plan of the jobs, all with the budget that words ask for, the rows at some places went out as words ask for them:
--- their lines with the totals, the report, and JUnit's document; the status is by these rows
+-- over such a plan of the jobs, all with the budget that words ask for, it is said where paths are taken from, if every image
+-- is missing; and the rows of the jobs at some places went out as words ask for them: their lines with the totals, the report,
+-- and JUnit's document; the status is by these rows
 pub record IsRunOfPlaces (known : Option FileContents) (words : RunAsked) (jobs : List Job) (places : List ℕ)
     (shard : Option Shard) (status : ℕ) (before after : Said) : Type 0 where
   pub plan : Planned
@@ -85,12 +87,14 @@ pub record IsRunOfPlaces (known : Option FileContents) (words : RunAsked) (jobs 
   pub planned : IsPlanFor (contents_below (optional_text words.root) known) (with_budget words.budget jobs) places plan
       unread
   pub judged : status ≡ rows_status (failure_rule words.lenient) (rows_at plan places)
+  pub middle : Said
+  pub noted : IsOnlyTold (missing_images_note plan.jobs unread (length places) (optional_text words.root)) before middle
   pub put : WentOut (optional_text words.report) (optional_text words.junit)
       (run_output_text (row_lines_at (run_telling words plan unread)) (failure_rule words.lenient) places
       (rows_at plan places))
       (chosen_report_text (length plan.jobs) places shard (rows_at plan places))
       (run_junit words (run_telling words plan unread) places (rows_at plan places))
-      before after
+      middle after
 
 -- the same of the jobs that are marked; where none are to run, the status is 0 and nothing more is said
 abbrev pub IsRunOfMarked : Option FileContents → RunAsked → List Job → Option (List Bool) → Option Shard → ℕ

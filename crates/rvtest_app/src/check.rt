@@ -12,6 +12,7 @@ ghost use Rattle.rvtest_app.specs.CommandStops.{IsCheckStop};
 
 use crate::check_text::{CheckedList, push_job_counts_line};
 use crate::findings::Found;
+use crate::missing_images::push_missing_images_line;
 use rv_cli::rvtest::CheckAsked;
 use rv_command::{DONE, REFUSED, Stop, all_faults_text, parse_list, read_list_text};
 use rv_files::{Inputs, NotingStore, Unread};
@@ -43,7 +44,8 @@ fn check_list_text<D: Inputs>(
     text: &[u8],
 ) -> Result<Found, Stop>
     ensures check { IfOk result (λ found. IsCheckOf
-        (contents_below (optional_text asked.entry.root) (D.contents inputs.now)) (list_faults text.now)
+        (contents_below (optional_text asked.entry.root) (D.contents inputs.now))
+        (optional_text asked.entry.root) (list_faults text.now)
         asked.entry.list.now text.now found.text.items found.status) }
     ensures low { IfOk result (λ found. found.status ≤ 2) }
     ensures stopped { IfErr result (IsListFaultStop asked.entry.list.now text.now) }
@@ -68,35 +70,35 @@ fn check_files<D: Inputs>(
 ) -> Result<Found, Stop>
     ensures plan { IfOk result (λ found. IsPlanCheckOf
         (contents_below (optional_text asked.entry.root) (D.contents inputs.now))
-        asked.entry.list.now text.now found.text.items found.status) }
+        (optional_text asked.entry.root) asked.entry.list.now text.now found.text.items found.status) }
     ensures low { IfOk result (λ found. found.status ≤ 2) }
     ensures stopped { IfErr result (IsListFaultStop asked.entry.list.now text.now) }
 {
     let jobs = parse_list(alloc, asked.list, text)?;
     let mut store = NotingStore::new(inputs, alloc, asked.root);
     let plan = gather(alloc, jobs, &mut store)?;
-    check_plan(alloc, asked.list, text, &plan, store.unread_paths())
+    check_plan(alloc, asked, text, &plan, store.unread_paths())
 }
 
 // The same of a list whose files were read.
 #[tactic(auto, unfolding(crate::specs::CheckText::check_text))]
 fn check_plan(
     alloc: Global,
-    path: &str,
+    asked: CheckAsked<'_>,
     text: &[u8],
     plan: &Plan,
     unread: &[Unread],
 ) -> Result<Found, Stop>
     ensures low { IfOk result (λ found. found.status ≤ 2) }
     ensures text { IfOk result (λ found. found.text.items
-        ≡ check_text path.now text.now plan.now unread.now) }
+        ≡ check_text asked.entry.list.now text.now (optional_text asked.entry.root) plan.now unread.now) }
     ensures judged { IfOk result (λ found. found.status ≡ check_status (refused_job_count plan.now)) }
     ensures memory { IfErr result (λ stop. stop ≡ Stop.OutOfMemory) }
 {
     let lines = job_begin_lines(alloc, text)?;
     let jobs = plan.jobs();
     let list = CheckedList {
-        path,
+        path: asked.list,
         lines: lines.as_slice(),
         plan,
         unread,
@@ -104,6 +106,7 @@ fn check_plan(
     let mut text = Vec::new(alloc);
     let refused = list.push_refused_jobs(alloc, &mut text)?;
     let warned = list.push_warned_jobs(&mut text)?;
+    push_missing_images_line(&mut text, plan, unread, asked.root)?;
     push_job_counts_line(&mut text, jobs, refused, warned)?;
     Ok(Found {
         text,

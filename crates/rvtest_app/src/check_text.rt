@@ -5,16 +5,19 @@ ghost use Rattle.rv_expect.specs.TwoEnds.{expects_two_ends};
 ghost use Rattle.rv_jobs.specs.Limits.{most_jobs};
 ghost use Rattle.rv_lists.specs.declared.job.Job.{Job as AJob};
 ghost use Rattle.rvtest_app.specs.CheckText.{expected_end_name, job_counts_line, job_prefix, path_and_line};
-ghost use Rattle.rvtest_app.specs.CheckText.{refusal_text, refused_count_text, refused_job_line, refused_job_text};
+ghost use Rattle.rvtest_app.specs.CheckText.{refusal_text, refused_count_text, refused_file_line, refused_files_text};
+ghost use Rattle.rvtest_app.specs.CheckText.{refused_image_text, refused_job_text, unread_reference_text};
 ghost use Rattle.rvtest_app.specs.CheckText.{texts_of_jobs, two_ends_line, two_ends_text, warned_job_text};
 ghost use Rattle.rvtest_app.specs.CheckText.{warning_count_text};
 ghost use Rattle.rvtest_app.specs.Commands.{is_job_refused, refused_job_count, warned_job_count};
 
 use rv_expect::expects_two_ends;
 use rv_files::Unread;
-use rv_job_text::{ending_reason, job_word};
-use rv_jobs::{ExpectedEnd, Job, Plan};
-use rv_rows::{Refusal, RowEnd, refusal_at};
+use rv_job_text::{
+    console_path, ending_reason, job_word, reference_path, too_long_file_text, unread_file_text,
+};
+use rv_jobs::{ExpectedEnd, Job, Kept, Plan};
+use rv_rows::{Refusal, RowEnd, image_refusal_at, refusal_at};
 use rv_text::{Span, push_spans, push_text};
 use std::alloc::{AllocError, Global};
 
@@ -28,8 +31,15 @@ pub(crate) struct CheckedList<'a> {
     ghost few: { length plan.now.jobs ≤ most_jobs },
 }
 
+// A file with what a job expects, where it names one: what is kept of its path, and the path.
+#[derive(Clone, Copy)]
+struct Reference<'a> {
+    kept: Option<&'a Kept>,
+    path: Option<&'a str>,
+}
+
 impl<'a> CheckedList<'a> {
-    /// Appends a line for each job that is refused, and gives their number.
+    /// Appends a line for each file for which a job is refused, and gives the number of these jobs.
     pub(crate) fn push_refused_jobs(
         &self,
         alloc: Global,
@@ -50,7 +60,7 @@ impl<'a> CheckedList<'a> {
         Ok(refused)
     }
 
-    // Appends the line of the job at a place if it is refused, and gives whether it is.
+    // Appends the lines of the job at a place if it is refused, and gives whether it is.
     #[tactic(auto, unfolding(crate::specs::CheckText::refused_job_text))]
     fn push_job_if_refused(
         &self,
@@ -66,29 +76,105 @@ impl<'a> CheckedList<'a> {
             ≡ is_job_refused self.now.plan.now (slice_index_or self.now.plan.now.jobs place d)) }
     {
         match refusal_at(alloc, self.plan, place)? {
-            Some(why) => {
-                self.push_refused_job(alloc, told, place, why)?;
+            Some(_) => {
+                self.push_refused_files(alloc, told, place)?;
                 Ok(true)
             }
             None => Ok(false),
         }
     }
 
-    #[tactic(auto, unfolding(crate::specs::CheckText::refused_job_line, rv_job_text::specs::RefusalReasons::ending_reason))]
-    fn push_refused_job(
+    // Appends the lines of the files for which the job at a place is refused.
+    #[tactic(auto, unfolding(crate::specs::CheckText::refused_files_text))]
+    fn push_refused_files(
         &self,
         alloc: Global,
         told: &mut Vec<u8>,
         place: usize,
-        why: Refusal,
     ) -> Result<(), AllocError>
         requires { place < length self.now.plan.now.jobs }
-        ensures { OnOk result ((d : AJob) → told.new.items ≡ told.old.items ++ refused_job_line
+        ensures { OnOk result ((d : AJob) → told.new.items ≡ told.old.items ++ refused_files_text
             self.now.path.now self.now.lines.now self.now.plan.now self.now.unread.now place
-            (slice_index_or self.now.plan.now.jobs place d) why) }
+            (slice_index_or self.now.plan.now.jobs place d)) }
     {
-        let ending = RowEnd::Refused(why);
-        let reason = ending_reason(alloc, self.plan, self.unread, place, ending)?;
+        self.push_image_if_refused(alloc, told, place)?;
+        let job = self.plan.job(place);
+        let signature = Reference {
+            kept: self.plan.reference(place),
+            path: reference_path(job),
+        };
+        self.push_reference_if_unread(alloc, told, place, signature)?;
+        let console = Reference {
+            kept: self.plan.console_reference(place),
+            path: console_path(job),
+        };
+        self.push_reference_if_unread(alloc, told, place, console)
+    }
+
+    // Appends the line of the image of the job at a place, if that refuses the job.
+    #[tactic(auto, unfolding(rv_job_text::specs::RefusalReasons::ending_reason))]
+    fn push_image_if_refused(
+        &self,
+        alloc: Global,
+        told: &mut Vec<u8>,
+        place: usize,
+    ) -> Result<(), AllocError>
+        requires { place < length self.now.plan.now.jobs }
+        ensures { OnOk result ((d : AJob) → told.new.items ≡ told.old.items ++ refused_image_text
+            self.now.path.now self.now.lines.now self.now.plan.now self.now.unread.now place
+            (slice_index_or self.now.plan.now.jobs place d)) }
+    {
+        match image_refusal_at(alloc, self.plan, place)? {
+            Some(why) => {
+                let ending = RowEnd::Refused(why);
+                let reason = ending_reason(alloc, self.plan, self.unread, place, ending)?;
+                self.push_refused_file(told, place, why, reason)
+            }
+            None => Ok(()),
+        }
+    }
+
+    // Appends the line of a file with what the job at a place expects, if the file was not read.
+    fn push_reference_if_unread(
+        &self,
+        alloc: Global,
+        told: &mut Vec<u8>,
+        place: usize,
+        file: Reference<'_>,
+    ) -> Result<(), AllocError>
+        requires { place < length self.now.plan.now.jobs }
+        ensures { OnOk result ((d : AJob) → told.new.items ≡ told.old.items ++ unread_reference_text
+            self.now.path.now self.now.lines.now self.now.unread.now place
+            (slice_index_or self.now.plan.now.jobs place d) (option_map (λ kept. kept.now) file.entry.kept)
+            (option_map (λ path. path.now) file.entry.path)) }
+    {
+        match (file.kept, file.path) {
+            (Some(Kept::Unreadable), Some(path)) => {
+                let reason = unread_file_text(alloc, self.unread, path)?;
+                self.push_refused_file(told, place, Refusal::ReferenceUnreadable, Some(reason))
+            }
+            (Some(Kept::TooLong), Some(path)) => {
+                let reason = too_long_file_text(alloc, path)?;
+                self.push_refused_file(told, place, Refusal::ReferenceTooLong, Some(reason))
+            }
+            _ => Ok(()),
+        }
+    }
+
+    // Appends the line of a file for which the job at a place is refused.
+    #[tactic(auto, unfolding(crate::specs::CheckText::refused_file_line))]
+    fn push_refused_file(
+        &self,
+        told: &mut Vec<u8>,
+        place: usize,
+        why: Refusal,
+        reason: Option<Vec<u8>>,
+    ) -> Result<(), AllocError>
+        requires { place < length self.now.plan.now.jobs }
+        ensures { OnOk result ((d : AJob) → told.new.items ≡ told.old.items ++ refused_file_line
+            self.now.path.now self.now.lines.now place (slice_index_or self.now.plan.now.jobs place d) why
+            (option_map (λ text. text.items) reason)) }
+    {
         self.push_job_prefix(told, place, self.plan.job(place))?;
         push_refusal(told, why, reason)?;
         push_text(told, "\n")

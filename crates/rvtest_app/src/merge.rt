@@ -4,7 +4,7 @@ ghost use Rattle.std.specs.Prelude.{◌≡◌, ◌≤◌, ◌++◌, ◌∷◌, [
 ghost use Rattle.std.specs.Fmt.{decimal};
 ghost use Rattle.rv_job_text.specs.TotalsLine.{totals_line};
 ghost use Rattle.rv_lists.specs.Limits.{most_jobs};
-ghost use Rattle.rv_merge.specs.Parts.{AreParts, bytes_of_texts};
+ghost use Rattle.rv_merge.specs.Parts.{AreParts, bytes_of_texts, nth_text};
 ghost use Rattle.rvtest_app.specs.Commands.{failure_rule};
 ghost use Rattle.rv_report.specs.Report.{report_text};
 ghost use Rattle.rvtest_app.specs.MergeRefusals.{ArePartsRefused, IsMergeErrorStop, flaw_message, other_run_message};
@@ -23,7 +23,7 @@ use crate::puts::put_shown;
 use crate::rules::{failure_rule, rows_status};
 use crate::whole_files::put_whole_files;
 use rv_cli::rvtest::MergeAsked;
-use rv_command::{Stop, path_message, path_number_message, read_file};
+use rv_command::{Stop, path_message, path_number_message, read_file, refused_line_message};
 use rv_files::{Inputs, Outputs};
 use rv_fleet::Rows;
 use rv_job_text::push_totals_line;
@@ -107,7 +107,7 @@ fn rows_of_part_texts(
     let parts = text_slices(alloc, texts)?;
     match merge_parts(alloc, parts.as_slice()) {
         Ok(rows) => Ok(rows),
-        Err(error) => Err(merge_error_stop(alloc, asked, error)),
+        Err(error) => Err(merge_error_stop(alloc, asked, parts.as_slice(), error)),
     }
 }
 
@@ -186,8 +186,13 @@ fn merged_suite<'a>(asked: &MergeAsked<'a>) -> &'a str
 }
 
 // Why the parts are not those of one run.
-fn merge_error_stop(alloc: Global, asked: &MergeAsked<'_>, error: MergeError) -> Stop
-    ensures { IsMergeErrorStop asked.now.parts.items error result }
+fn merge_error_stop(
+    alloc: Global,
+    asked: &MergeAsked<'_>,
+    texts: &[&[u8]],
+    error: MergeError,
+) -> Stop
+    ensures { IsMergeErrorStop asked.now.parts.items (bytes_of_texts texts.now) error result }
 {
     match error {
         MergeError::OutOfMemory => Stop::OutOfMemory,
@@ -195,7 +200,11 @@ fn merge_error_stop(alloc: Global, asked: &MergeAsked<'_>, error: MergeError) ->
             Stop::of_refusal(text_of_spans(alloc, &[Span::Text("rvtest: there is no part\n")]))
         }
         MergeError::Text(at, flaw) => {
-            Stop::of_refusal(part_flaw_message(alloc, asked, part_path(asked, at), flaw))
+            let part = Part {
+                path: part_path(asked, at),
+                text: part_text(texts, at),
+            };
+            Stop::of_refusal(part_flaw_message(alloc, asked, part, flaw))
         }
         MergeError::Missing(number) => Stop::of_refusal(missing_shard_message(alloc, number)),
     }
@@ -224,19 +233,33 @@ fn part_path<'a>(asked: &MergeAsked<'a>, at: usize) -> &'a str
     }
 }
 
+// The text of a part.
+fn part_text<'a>(texts: &[&'a [u8]], at: usize) -> &'a [u8]
+    ensures { result.now ≡ nth_text (bytes_of_texts texts.now) at }
+{
+    if at < texts.len() { texts[at] } else { &[] }
+}
+
+// A part's path and text.
+#[derive(Clone, Copy)]
+struct Part<'a> {
+    path: &'a str,
+    text: &'a [u8],
+}
+
 // What is wrong with a part.
 fn part_flaw_message(
     alloc: Global,
     asked: &MergeAsked<'_>,
-    path: &str,
+    part: Part<'_>,
     flaw: Flaw,
 ) -> Result<Vec<u8>, AllocError>
-    ensures { IfOk result (λ text. text.items ≡ flaw_message asked.now.parts.items path.now flaw) }
+    ensures { IfOk result (λ told. told.items
+        ≡ flaw_message asked.now.parts.items part.entry.path.now part.entry.text.now flaw) }
 {
+    let Part { path, text } = part;
     match flaw {
-        Flaw::Line(line) => {
-            path_number_message(alloc, path, ":", line, ": no part has this line here\n")
-        }
+        Flaw::Line(line) => refused_line_message(alloc, "part", path, text, line),
         Flaw::CutOff => path_message(alloc, path, "the part is cut off"),
         Flaw::Whole => path_message(alloc, path, "a whole report, which is no part of a run"),
         Flaw::Choice => path_message(

@@ -15,6 +15,7 @@ use crate::diff::diff_reports;
 use crate::explain::explain_named_job;
 use crate::findings::put_findings;
 use crate::help::answer_clap_error;
+use crate::help_topic::tell_topic;
 use crate::host::Host;
 use crate::list::list_chosen_jobs;
 use crate::merge::merge_reports;
@@ -133,6 +134,7 @@ fn run_subcommand<
         Asked::Merge(asked) => merge_reports(inputs, alloc, &asked, &mut to),
         Asked::Diff(asked) => put_findings(&mut to.out, diff_reports(inputs, alloc, asked)),
         Asked::Show(asked) => show_report(inputs, alloc, asked, &mut to),
+        Asked::Help(asked) => put_findings(&mut to.out, tell_topic(alloc, asked)),
     };
     (to, answer)
 }

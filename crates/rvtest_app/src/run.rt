@@ -31,6 +31,7 @@ use crate::destinations::Destinations;
 use crate::file_texts::FileTexts;
 use crate::host::Host;
 use crate::junit_class::suite_name;
+use crate::missing_images::missing_images_note;
 use crate::outlets::{Outlets, abandon_outlets, open_outlets};
 use crate::planned_run::{MarkedJobs, PlannedRun, RequestedJobs};
 use crate::puts::put_files;
@@ -203,9 +204,17 @@ impl<'x, R: Threads + Wait + Sync + Clock, D: Inputs> ListRun<'x, R, D> {
             Ok(plan) => plan,
             Err(error) => return (to, Err(Stop::from(error))),
         };
+        let unread = store.unread_paths();
+        let count = places.as_slice().len();
+        let note = match missing_images_note(alloc, &plan, unread, count, asked.root) {
+            Ok(note) => note,
+            Err(error) => return (to, Err(Stop::from(error))),
+        };
+        let mut to = to;
+        put_message(&mut to.errors, note.as_slice());
         let telling = RowTelling {
             plan: &plan,
-            unread: store.unread_paths(),
+            unread,
             rule: self.rule,
             verbosity: requested_verbosity(asked),
             last: asked.last,

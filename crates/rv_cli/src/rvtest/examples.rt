@@ -85,3 +85,12 @@ Status:
   1  A job failed
   2  The words or the report is refused
   3  The system failed: memory or a file";
+
+pub(crate) const HELP: &str = "\
+Examples:
+  rvtest help list
+
+Status:
+  0  The keys were told
+  2  The words are refused, or nothing is told of the topic
+  3  The system failed: memory";

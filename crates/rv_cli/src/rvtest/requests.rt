@@ -10,6 +10,7 @@ use crate::rvtest::command::test_command;
 use crate::rvtest::console::{ConsoleAsked, console_request};
 use crate::rvtest::diff::{DiffAsked, diff_request};
 use crate::rvtest::explain::{ExplainAsked, explain_request};
+use crate::rvtest::help::{HelpAsked, help_request};
 use crate::rvtest::list::list_request;
 use crate::rvtest::merge::{MergeAsked, merge_request};
 use crate::rvtest::run::{RunAsked, test_run_request};
@@ -37,6 +38,8 @@ pub enum Asked<'a> {
     Diff(DiffAsked<'a>),
     /// To show what failed in a report.
     Show(ShowAsked<'a>),
+    /// To tell of something that is no command.
+    Help(HelpAsked<'a>),
 }
 
 /// Reads words, the first of which is the program's name. `None` stands where words ask for nothing. An error is `clap`'s
@@ -82,6 +85,7 @@ fn subcommand_request<'a>(
         "merge" => merge_request(alloc, values),
         "diff" => diff_request(alloc, values),
         "show" => show_request(alloc, values),
+        "help" => Ok(help_request(values)),
         _ => Ok(None),
     }
 }

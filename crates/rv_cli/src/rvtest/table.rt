@@ -6,8 +6,8 @@ use crate::rvtest::examples;
 use rv_base::limits::{MOST_BUDGET, MOST_WORKERS};
 
 /// The commands of `rvtest`, in the order in which help names them.
-pub(crate) const COMMANDS: [Subcommand<'static>; 8] = [
-    RUN, LIST, EXPLAIN, CONSOLE, CHECK, MERGE, DIFF, SHOW,
+pub(crate) const COMMANDS: [Subcommand<'static>; 9] = [
+    RUN, LIST, EXPLAIN, CONSOLE, CHECK, MERGE, DIFF, SHOW, HELP,
 ];
 
 pub(crate) const RUN: Subcommand<'static> = Subcommand {
@@ -155,6 +155,14 @@ pub(crate) const SHOW: Subcommand<'static> = Subcommand {
         Argument::Option("suite", "NAME", SUITE),
         Argument::Flag("lenient", None, LENIENT),
     ],
+};
+
+const HELP: Subcommand<'static> = Subcommand {
+    name: "help",
+    about: "Tells the keys of a list",
+    usage: "rvtest help",
+    after: examples::HELP,
+    arguments: &[Argument::Word("topic", "TOPIC", "What is told of: list")],
 };
 
 const LIST_PATH: &str = "Path of the job list";

@@ -20,23 +20,23 @@ pub(crate) struct JobKey<'a> {
     pub(crate) text: &'a str,
 }
 
-// What comes next in the text of a job.
+/// What comes next in the text of a job.
 #[derive(Clone, Copy)]
-enum Inside {
-    // An entry of its table, or a header.
+pub(crate) enum Inside {
+    /// An entry of its table, or a header.
     Table,
-    // An entry of its inline table, or the bracket behind the last one.
+    /// An entry of its inline table, or the bracket behind the last one.
     Braces,
-    // An entry of a table in it, or a header.
+    /// An entry of a table in it, or a header.
     Below,
 }
 
-// What is walked over, and the key of the job that it has.
+/// What is walked over, and the key of the job that it has.
 #[derive(Drop)]
-struct KeyStep<'a> {
-    name: Option<String>,
-    inside: Inside,
-    rest: &'a str,
+pub(crate) struct KeyStep<'a> {
+    pub(crate) name: Option<String>,
+    pub(crate) inside: Inside,
+    pub(crate) rest: &'a str,
 }
 
 /// The keys of the job that a text begins with, in their order. A key of more parts counts by its first, and the header of a table in the
@@ -84,7 +84,12 @@ fn open_job(alloc: Global, job: &str) -> Result<(Inside, &str), ParseError> {
     Ok((Inside::Table, step.rest))
 }
 
-fn scan_key_step(alloc: Global, here: &str, inside: Inside) -> Result<KeyStep<'_>, ParseError>
+/// Behind an entry or a header in the text of a job.
+pub(crate) fn scan_key_step(
+    alloc: Global,
+    here: &str,
+    inside: Inside,
+) -> Result<KeyStep<'_>, ParseError>
     ensures named { IfOk result (λ step. IfSome step.name (λ name. BeginsWithName (string_bytes name) here.now)) }
     ensures shorter { IfOk result (λ step. length step.rest.now < length here.now) }
 {
@@ -176,8 +181,9 @@ fn scan_table_name(alloc: Global, header: &str) -> Result<Option<String>, ParseE
     }
 }
 
+/// The key of a header.
 #[tactic(auto, unfolding(crate::specs::JobKeys::header_key))]
-fn behind_brackets(header: &str) -> &str
+pub(crate) fn behind_brackets(header: &str) -> &str
     requires { slice_index header.now 0 ≡ left_bracket }
     ensures { result.now ≡ header_key header.now }
 {
@@ -188,9 +194,9 @@ fn behind_brackets(header: &str) -> &str
     }
 }
 
-// The part of a key at a place before the last part, else the last.
+/// The part of a key at a place before the last part, else the last.
 #[tactic(auto, using(crate::proofs::KeyParts::some_part, crate::proofs::KeyParts::no_part))]
-fn part_or_last(key: &Key, place: usize) -> &str
+pub(crate) fn part_or_last(key: &Key, place: usize) -> &str
     ensures { result.now ≡ unwrap_or (slice_get (key_view key.now).0 place) (key_view key.now).1 }
 {
     match key.path.get(place) {

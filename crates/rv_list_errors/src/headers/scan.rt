@@ -32,8 +32,8 @@ pub fn job_line_numbers(alloc: Global, text: &str) -> Result<Vec<usize>, AllocEr
     }
 }
 
-// The text behind a byte order mark, if it begins with one.
-fn skip_byte_order_mark(text: &str) -> &str
+/// The text behind a byte order mark, if it begins with one.
+pub(crate) fn skip_byte_order_mark(text: &str) -> &str
     ensures text { result.now ≡ skip_bom text.now }
     ensures within { length result.now ≤ length text.now }
 {

@@ -60,9 +60,9 @@ fn bracket_depth_after(depth: usize, byte: u8) -> usize
     }
 }
 
-// The text behind a sign, a string or a word.
+/// The text behind a sign, a string or a word.
 #[tactic(auto, unfolding(crate::specs::JobPlaces::behind_token))]
-fn skip_token(alloc: Global, text: &str) -> Result<&str, ParseError>
+pub(crate) fn skip_token(alloc: Global, text: &str) -> Result<&str, ParseError>
     ensures value { GivesText result (behind_token text.now) }
     ensures shorter { IfOk result (λ rest. length rest.now < length text.now) }
 {

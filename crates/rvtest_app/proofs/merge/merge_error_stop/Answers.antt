@@ -7,7 +7,7 @@ returns-in-NoTexts c = rw c.in-NoTexts.is (told_stop _ _ _ _ c.of_refusal.ensure
 pub returns-in-Text : goal.returns-in-Text
 returns-in-Text c =
     rw c.in-Text.is
-    (told_stop _ _ _ _ c.of_refusal-in-Text.ensures (rw c.part_path.ensures at c.part_flaw_message.ensures))
+    (told_stop _ _ _ _ c.of_refusal-in-Text.ensures (rw (c.part_path.ensures, c.part_text.ensures) at c.part_flaw_message.ensures))
 
 pub returns-in-Missing : goal.returns-in-Missing
 returns-in-Missing c =

@@ -1,6 +1,6 @@
 use Rattle.rvtest_app.proofs.StopLemmas.{nothing_said, put_or_found}
 use Rattle.rvtest_app.proofs.program.run_subcommand.Goals as goal
-use Rattle.rvtest_app.proofs.program.run_subcommand.Goals.{in-Explain, in-List, in-Console, in-Check, in-Merge, in-Diff, in-Show}
+use Rattle.rvtest_app.proofs.program.run_subcommand.Goals.{in-Explain, in-List, in-Console, in-Check, in-Merge, in-Diff, in-Show, in-Help}
 
 pub returns-clause-stopped : goal.returns-clause-stopped
 returns-clause-stopped g c = elim c.match-asked.branch [
@@ -20,4 +20,8 @@ returns-clause-stopped g c = elim c.match-asked.branch [
       (put_or_found w.diff_reports.result _ _ w.diff_reports.ensures.stopped
       w.put_findings-answer-in-Diff.ensures.stopped)
   | in-Show w ↦ rw w.in-Show.is (nothing_said c.match-asked.answer)
+  | in-Help w ↦
+      rw (w.answer-is, w.in-Help.is)
+      (put_or_found w.tell_topic.result _ _ w.tell_topic.ensures.stopped
+      w.put_findings-answer-in-Help.ensures.stopped)
 ]

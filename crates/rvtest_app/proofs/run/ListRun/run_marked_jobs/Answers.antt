@@ -1,10 +1,19 @@
-use Rattle.std.proofs.Common.{◌∙◌, ap, inl, inr, length, ⊎_elim}
+use Rattle.std.proofs.Common.{◌∙◌, ap, inl, inr, length, refl, ⊎_elim}
+use Rattle.rvtest_app.specs.Said.{said}
 use Rattle.rvtest_app.proofs.Results.{IfOk-beside, OnErr-map}
 use Rattle.rvtest_app.proofs.run.ListRun.run_marked_jobs.Goals as goal
 
 pub returns-clause-run : goal.returns-clause-run
 returns-clause-run g c =
     let found = c.in-Ok-gather_jobs_at.ensures in
+    let noted = rw (
+      c.as_slice-4.ensures.value,
+      c.in-Ok-missing_images_note.ensures,
+      c.len-count.ensures,
+      c.as_slice-3.ensures.value,
+      c.in-Ok.ensures.value,
+      c.as_slice.ensures.value,
+    ) at c.put_message.ensures in
     IfOk-beside c.run_planned_jobs.result.1 _ _ _
     (λ status judged put. record {
       plan = c.in-Ok-gather_jobs_at.plan;
@@ -21,12 +30,15 @@ returns-clause-run g c =
         noted = ap length c.unread_paths.ensures ∙ rw c.new-store.ensures.nothing at found.faults;
       };
       judged = judged;
+      middle = said g.F.Outputs.placed g.O.Sink.taken g.E.Sink.taken g.E.Sink.failed
+          (record c.args.to { errors = c.put_message.new.errors });
+      noted = (refl, noted, refl);
       put = put;
     })
-    (rw (c.as_slice-3.ensures.value, c.in-Ok.ensures.value, c.as_slice.ensures.value, c.requires)
+    (rw (c.as_slice-5.ensures.value, c.in-Ok.ensures.value, c.as_slice.ensures.value, c.requires)
     at c.run_planned_jobs.ensures.status)
     (rw (
-      c.as_slice-3.ensures.value,
+      c.as_slice-5.ensures.value,
       c.in-Ok.ensures.value,
       c.as_slice.ensures.value,
       c.requires,
@@ -54,7 +66,7 @@ returns-clause-undone g c =
       placed = placed;
     })))
     (rw (
-      c.as_slice-3.ensures.value,
+      c.as_slice-5.ensures.value,
       c.in-Ok.ensures.value,
       c.as_slice.ensures.value,
       c.requires,

@@ -1,0 +1,89 @@
+-- What is told of a text that should be a report, or a part of one, and has a line that none has there: the line and what is
+-- wanted in its place; or that the text is a job list.
+use Rattle.std.specs.Prelude.{◌-◌, ◌+◌, ◌==◌, ◌||◌, ◌++◌, ℕ, zero, suc, Bool, true, false, List, [], ◌∷◌, Option, Some, None, codes, drop}
+use Rattle.std.specs.Prelude.{if◌then◌else◌, length, nat_eq, nat_lt, position, take}
+use Rattle.std.specs.Fmt.{decimal}
+use Rattle.std.specs.List.{starts_with}
+use Rattle.rv_list_errors.specs.Places.{is_feed}
+use Rattle.rv_lists.specs.ListFaults.{list_faults}
+use Rattle.rv_lists.specs.declared.error.JobError.{JobError}
+use Rattle.rv_lists.specs.declared.error.What.{What}
+use Rattle.rv_lists.specs.declared.error.What.TheVariants as what
+use Rattle.rv_text.specs.Printable.{printable_text, printable_value}
+
+-- ---- the lines of a text
+
+-- what stands before a place, or the whole text
+abbrev pub text_up_to : Option ℕ → List ℕ → List ℕ
+text_up_to (Some place) text = take place text
+text_up_to None text = text
+
+-- what stands behind the byte at a place; nothing where there is none
+abbrev pub text_behind : Option ℕ → List ℕ → List ℕ
+text_behind (Some place) text = drop (place + 1) text
+text_behind None text = []
+
+abbrev pub first_line : List ℕ → List ℕ
+first_line text = text_up_to (position is_feed text) text
+
+abbrev pub behind_line : List ℕ → List ℕ
+behind_line text = text_behind (position is_feed text) text
+
+-- behind so many lines
+unfoldable pub behind_lines : ℕ → List ℕ → List ℕ
+behind_lines zero text = text
+behind_lines (suc count) text = behind_line (behind_lines count text)
+
+-- the line of a number, counted from 1, without its line feed; nothing where there is none
+abbrev pub numbered_line : List ℕ → ℕ → List ℕ
+numbered_line text number = first_line (behind_lines (number - 1) text)
+
+-- the line before it; nothing before the first
+abbrev pub line_before : List ℕ → ℕ → List ℕ
+line_before text number = if nat_lt number 2 then [] else numbered_line text (number - 1)
+
+-- ---- lists
+
+-- a fault of a document that has jobs
+abbrev pub tells_of_jobs : What → Bool
+tells_of_jobs what.NotToml = false
+tells_of_jobs what.NoJobs = false
+tells_of_jobs _ = true
+
+-- by its faults, a text is a document with jobs, be they good or bad
+abbrev pub are_faults_of_list : List JobError → Bool
+are_faults_of_list [] = true
+are_faults_of_list (fault ∷ faults) = tells_of_jobs fault.what
+
+abbrev pub is_job_list : List ℕ → Bool
+is_job_list text = are_faults_of_list (list_faults text)
+
+-- ---- what is told
+
+abbrev begins : List ℕ → List ℕ → Bool
+begins line words = starts_with nat_eq line words
+
+-- what a report has behind a line, and at its beginning
+unfoldable pub wanted_behind : List ℕ → List ℕ
+wanted_behind line =
+    if begins line (codes "job ") then codes "end with how the run ended"
+    else if begins line (codes "end ") then codes "steps with their number"
+    else if begins line (codes "steps ") then codes "console with hexadecimal digits or -"
+    else if begins line (codes "console ") then codes "signature with the number of its words or -"
+    else if begins line (codes "signature -") then codes "verdict with none, pass or fail"
+    else if length line == 0 || begins line (codes "verdict ") then codes "job with the next number, or done or part at the end,"
+    else if begins line (codes "done ") || begins line (codes "part ") then codes "nothing more"
+    else codes "a word of eight hexadecimal digits, or verdict,"
+
+abbrev pub line_message : List ℕ → List ℕ → List ℕ → ℕ → List ℕ
+line_message noun path text number =
+    codes "rvtest: " ++ printable_text path ++ codes ":" ++ decimal number ++ codes ": no " ++ noun ++ codes " has this line here: \""
+    ++ printable_value (numbered_line text number) ++ codes "\": " ++ wanted_behind (line_before text number) ++ codes " is wanted\n"
+
+abbrev pub list_message : List ℕ → List ℕ → List ℕ
+list_message noun path = codes "rvtest: " ++ printable_text path ++ codes ": a job list, and no " ++ noun ++ codes "\n"
+
+-- of the line of a number in the text at a path, which should be such a thing as a report
+abbrev pub refused_line_message : List ℕ → List ℕ → List ℕ → ℕ → List ℕ
+refused_line_message noun path text number =
+    if is_job_list text then list_message noun path else line_message noun path text number

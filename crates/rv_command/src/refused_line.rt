@@ -1,0 +1,165 @@
+//! A text that should be a report, or a part of one, and has a line that none has there.
+
+ghost use Rattle.std.specs.Prelude.{◌≡◌, ◌<◌, IfOk, IfSome, length, position};
+ghost use Rattle.rv_list_errors.specs.Places.{is_feed};
+ghost use Rattle.rv_command.specs.RefusedLines.{are_faults_of_list, behind_line, behind_lines, first_line, is_job_list};
+ghost use Rattle.rv_command.specs.RefusedLines.{line_before, line_message, list_message, numbered_line, refused_line_message};
+ghost use Rattle.rv_command.specs.RefusedLines.{wanted_behind};
+
+use rv_lists::{JobError, What, read_faults};
+use rv_text::{Span, text_of_spans};
+use std::alloc::{AllocError, Global};
+
+/// A message that the text at a path is no report, or what else it should be, by the line of a number that none has there: the line is
+/// shown, and what is wanted in its place. Of a job list it is told that it is one.
+pub fn refused_line_message<'a>(
+    alloc: Global,
+    noun: &'a str,
+    path: &'a str,
+    text: &'a [u8],
+    number: usize,
+) -> Result<Vec<u8>, AllocError>
+    ensures { IfOk result (λ told. told.items ≡ refused_line_message noun.now path.now text.now number) }
+{
+    if is_job_list(alloc, text)? {
+        list_message(alloc, noun, path)
+    } else {
+        line_message(alloc, noun, path, text, number)
+    }
+}
+
+fn list_message<'a>(alloc: Global, noun: &'a str, path: &'a str) -> Result<Vec<u8>, AllocError>
+    ensures { IfOk result (λ told. told.items ≡ list_message noun.now path.now) }
+{
+    text_of_spans(
+        alloc,
+        &[
+            Span::Text("rvtest: "),
+            Span::Shown(path.as_bytes()),
+            Span::Text(": a job list, and no "),
+            Span::Text(noun),
+            Span::Text("\n"),
+        ],
+    )
+}
+
+fn line_message<'a>(
+    alloc: Global,
+    noun: &'a str,
+    path: &'a str,
+    text: &'a [u8],
+    number: usize,
+) -> Result<Vec<u8>, AllocError>
+    ensures { IfOk result (λ told. told.items ≡ line_message noun.now path.now text.now number) }
+{
+    text_of_spans(
+        alloc,
+        &[
+            Span::Text("rvtest: "),
+            Span::Shown(path.as_bytes()),
+            Span::Text(":"),
+            Span::Number(number as u64),
+            Span::Text(": no "),
+            Span::Text(noun),
+            Span::Text(" has this line here: \""),
+            Span::Value(numbered_line(text, number)),
+            Span::Text("\": "),
+            Span::Text(wanted_behind(line_before(text, number))),
+            Span::Text(" is wanted\n"),
+        ],
+    )
+}
+
+// Whether a text is a document with jobs, be they good or bad.
+fn is_job_list(alloc: Global, text: &[u8]) -> Result<bool, AllocError>
+    ensures { IfOk result (λ is_list. is_list ≡ is_job_list text.now) }
+{
+    let faults = read_faults(alloc, text)?;
+    Ok(are_faults_of_list(faults.as_slice()))
+}
+
+fn are_faults_of_list(faults: &[JobError]) -> bool
+    ensures { result ≡ are_faults_of_list faults.now }
+{
+    match faults.first() {
+        Some(fault) => !matches!(fault.what, What::NotToml | What::NoJobs),
+        None => true,
+    }
+}
+
+// The line of a number, counted from 1, without its line feed; nothing where there is none.
+fn numbered_line(text: &[u8], number: usize) -> &[u8]
+    ensures { result.now ≡ numbered_line text.now number }
+{
+    first_line(behind_lines(text, number.saturating_sub(1)))
+}
+
+fn line_before(text: &[u8], number: usize) -> &[u8]
+    ensures { result.now ≡ line_before text.now number }
+{
+    if number < 2 {
+        &[]
+    } else {
+        numbered_line(text, number - 1)
+    }
+}
+
+#[tactic(auto, unfolding(crate::specs::RefusedLines::behind_lines))]
+fn behind_lines(text: &[u8], count: usize) -> &[u8]
+    ensures { result.now ≡ behind_lines count text.now }
+{
+    let mut rest = text;
+    for _ in 0..count {
+        rest = behind_line(rest);
+    }
+    rest
+}
+
+fn first_line(text: &[u8]) -> &[u8]
+    ensures { result.now ≡ first_line text.now }
+{
+    match line_feed_place(text) {
+        Some(place) => &text[..place],
+        None => text,
+    }
+}
+
+fn behind_line(text: &[u8]) -> &[u8]
+    ensures { result.now ≡ behind_line text.now }
+{
+    match line_feed_place(text) {
+        Some(place) => &text[place + 1..],
+        None => &[],
+    }
+}
+
+fn line_feed_place(text: &[u8]) -> Option<usize>
+    ensures place { result ≡ position is_feed text.now }
+    ensures within { IfSome result (λ place. place < length text.now) }
+{
+    text.iter().position(|byte| *byte == b'\n')
+}
+
+// What a report has behind a line, and at its beginning.
+#[tactic(auto, unfolding(crate::specs::RefusedLines::wanted_behind))]
+fn wanted_behind(line: &[u8]) -> &'static str
+    ensures { result.now ≡ wanted_behind line.now }
+{
+    if line.starts_with(b"job ") {
+        "end with how the run ended"
+    } else if line.starts_with(b"end ") {
+        "steps with their number"
+    } else if line.starts_with(b"steps ") {
+        "console with hexadecimal digits or -"
+    } else if line.starts_with(b"console ") {
+        "signature with the number of its words or -"
+    } else if line.starts_with(b"signature -") {
+        "verdict with none, pass or fail"
+    } else if line.is_empty() || line.starts_with(b"verdict ") {
+        "job with the next number, or done or part at the end,"
+    } else if line.starts_with(b"done ") || line.starts_with(b"part ") {
+        "nothing more"
+    } else {
+        "a word of eight hexadecimal digits, or verdict,"
+    }
+}

@@ -1,0 +1,19 @@
+-- What is told of a topic that is no command.
+use Rattle.std.specs.Prelude.{◌≡◌, ◌⊎◌, ◌++◌, ℕ, List, codes}
+use Rattle.rv_command.specs.Stops.{IsStop}
+use Rattle.rv_command.specs.declared.stop.Stop.{Stop}
+use Rattle.rv_command.specs.declared.stop.Stop.TheVariants as stop
+use Rattle.rv_text.specs.Printable.{printable_value}
+
+-- of the format of a list its keys are told
+abbrev pub list_topic : List ℕ
+list_topic = codes "list"
+
+abbrev pub no_topic_message : List ℕ → List ℕ
+no_topic_message topic = codes "rvtest: nothing is told of '" ++ printable_value topic
+    ++ codes "': help list tells the keys of a list, and COMMAND --help of a command\n"
+
+-- memory was wanting, or the topic is another one and is told
+abbrev pub IsNoTopicStop : List ℕ → Stop → Type 0
+IsNoTopicStop topic why = (why ≡ stop.OutOfMemory)
+    ⊎ ((topic ≡ list_topic → ⊥) × IsStop 2 (no_topic_message topic) why)

@@ -1,0 +1,45 @@
+//! What is told of a topic that is no command.
+
+ghost use Rattle.std.specs.Prelude.{◌≡◌, IfErr, IfOk};
+ghost use Rattle.rv_command.specs.Stops.{IsStop};
+ghost use Rattle.rvtest_app.specs.HelpTopics.{IsNoTopicStop, list_topic, no_topic_message};
+
+use crate::findings::Found;
+use crate::list_keys::LIST_KEYS;
+use rv_cli::rvtest::HelpAsked;
+use rv_command::{DONE, Stop};
+use rv_text::{Span, push_text, text_of_spans};
+use std::alloc::{AllocError, Global};
+
+/// Tells the keys of a list, which are the only topic.
+pub(crate) fn tell_topic(alloc: Global, asked: HelpAsked<'_>) -> Result<Found, Stop>
+    ensures topic { IfOk result (λ found. asked.entry.topic.now ≡ list_topic) }
+    ensures done { IfOk result (λ found. found.status ≡ 0) }
+    ensures stopped { IfErr result (IsNoTopicStop asked.entry.topic.now) }
+{
+    if asked.topic != "list" {
+        return Err(no_topic_stop(alloc, asked.topic));
+    }
+    let mut text = Vec::new(alloc);
+    push_text(&mut text, LIST_KEYS)?;
+    Ok(Found { text, status: DONE })
+}
+
+fn no_topic_stop(alloc: Global, topic: &str) -> Stop
+    ensures { IsStop 2 (no_topic_message topic.now) result }
+{
+    Stop::of_refusal(no_topic_message(alloc, topic))
+}
+
+fn no_topic_message(alloc: Global, topic: &str) -> Result<Vec<u8>, AllocError>
+    ensures { IfOk result (λ told. told.items ≡ no_topic_message topic.now) }
+{
+    text_of_spans(
+        alloc,
+        &[
+            Span::Text("rvtest: nothing is told of '"),
+            Span::Value(topic.as_bytes()),
+            Span::Text("': help list tells the keys of a list, and COMMAND --help of a command\n"),
+        ],
+    )
+}

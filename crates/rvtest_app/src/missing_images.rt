@@ -1,0 +1,110 @@
+//! What is said where the image of every job is missing: where paths are taken from.
+
+ghost use Rattle.std.specs.Prelude.{◌≡◌, ◌++◌, IfOk, OnOk, option_map};
+ghost use Rattle.rv_command.specs.Texts.{optional_text};
+ghost use Rattle.rv_job_text.specs.UnreadFiles.{unread_note};
+ghost use Rattle.rv_report.specs.Report.{line};
+ghost use Rattle.rvtest_app.specs.MissingImages.{are_images_missing, is_image_missing, is_not_found};
+ghost use Rattle.rvtest_app.specs.MissingImages.{is_noted_missing, missing_images_line, missing_images_note, paths_text};
+
+use rv_files::Unread;
+use rv_jobs::{Job, Plan};
+use rv_text::{Span, push_spans, push_text};
+use std::alloc::{AllocError, Global};
+use std::io::ErrorKind;
+
+/// What `run` says of a plan of which so many jobs run, and whose paths are taken from a folder where one is given; nothing where an
+/// image is there, or where not all jobs run.
+pub(crate) fn missing_images_note(
+    alloc: Global,
+    plan: &Plan,
+    unread: &[Unread],
+    count: usize,
+    root: Option<&str>,
+) -> Result<Vec<u8>, AllocError>
+    ensures { IfOk result (λ note. note.items
+        ≡ missing_images_note plan.now.jobs unread.now count (optional_text root.entry)) }
+{
+    let mut note = Vec::new(alloc);
+    if count == plan.jobs() && are_images_missing(plan, unread) {
+        push_text(&mut note, "rvtest: ")?;
+        push_paths_line(&mut note, root)?;
+    }
+    Ok(note)
+}
+
+/// Appends what `check` says of a plan; nothing where an image is there.
+pub(crate) fn push_missing_images_line(
+    told: &mut Vec<u8>,
+    plan: &Plan,
+    unread: &[Unread],
+    root: Option<&str>,
+) -> Result<(), AllocError>
+    ensures { OnOk result (told.new.items
+        ≡ told.old.items ++ missing_images_line plan.now.jobs unread.now (optional_text root.entry)) }
+{
+    if are_images_missing(plan, unread) {
+        push_paths_line(told, root)?;
+    }
+    Ok(())
+}
+
+fn push_paths_line(told: &mut Vec<u8>, root: Option<&str>) -> Result<(), AllocError>
+    ensures { OnOk result (told.new.items ≡ told.old.items ++ line (paths_text (optional_text root.entry))) }
+{
+    match root {
+        Some(folder) => push_spans(
+            told,
+            &[
+                Span::Text("every image is missing: paths are taken from "),
+                Span::Shown(folder.as_bytes()),
+                Span::Text(" (--root)\n"),
+            ],
+        ),
+        None => push_text(
+            told,
+            "every image is missing: paths are taken from the folder that rvtest runs in; --root DIR takes them from DIR\n",
+        ),
+    }
+}
+
+fn are_images_missing(plan: &Plan, unread: &[Unread]) -> bool
+    ensures { result ≡ are_images_missing plan.now.jobs unread.now }
+{
+    let mut all = true;
+    for place in 0..plan.jobs() {
+        let is_missing = is_image_missing(plan.job(place), unread);
+        all = all && is_missing;
+    }
+    all
+}
+
+// Whether the image of a job is missing, and its path is one that is taken from a folder.
+fn is_image_missing(job: &Job, unread: &[Unread]) -> bool
+    ensures { result ≡ is_image_missing unread.now job.now }
+{
+    let path = job.image.as_str();
+    !path.as_bytes().starts_with(b"/") && is_noted_missing(unread_note(unread, path))
+}
+
+// The first that was noted of a path.
+fn unread_note<'a>(unread: &'a [Unread], path: &str) -> Option<&'a Unread>
+    ensures { option_map (λ one. one.now) result ≡ unread_note unread.now path.now }
+{
+    unread.iter().find(|one| path == one.path.as_str())
+}
+
+fn is_noted_missing(note: Option<&Unread>) -> bool
+    ensures { result ≡ is_noted_missing (option_map (λ one. one.now) note.entry) }
+{
+    match note {
+        Some(one) => is_not_found(one.reason),
+        None => false,
+    }
+}
+
+fn is_not_found(reason: ErrorKind) -> bool
+    ensures { result ≡ is_not_found reason }
+{
+    matches!(reason, ErrorKind::NotFound)
+}
