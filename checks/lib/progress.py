@@ -1,5 +1,5 @@
-"""The form of rows of the line on a terminal: over a shim (checks/lib/terminal.c), so that the clock, what a put takes and which streams
-are terminals are the row's.
+"""The forms of rows of terminals, of the line on one and of the colours of results: over a shim (checks/lib/terminal.c), so that the
+clock, what a put takes and which streams are terminals are the row's.
 """
 import os
 import re
@@ -34,7 +34,7 @@ def check_progress(row):
         "LD_PRELOAD": os.environ["TERMINAL_SHIM"], "CLOCK_STEP": row["step"], "MOST_PUT": row["put"],
         "TERMINALS": "".join(streams[word] for word in row["terminals"].split()),
     }
-    words = ["run", "list.toml", "--workers", "1", *RULES[rule][0]]
+    words = ["run", "list.toml", "--workers", "1", "--color", row["colors"], *RULES[rule][0]]
     done = subprocess.run(
         [row.rvtest, *words], cwd=row.folder, env={**os.environ, **given}, stdin=subprocess.DEVNULL,
         stdout=subprocess.PIPE, stderr=subprocess.STDOUT, check=False,
@@ -45,4 +45,43 @@ def check_progress(row):
         row.fails(words, (int(failed), wanted, b""), found)
 
 
-FORMS = {"progress": Form(check_progress, "step rule terminals put jobs shown")}
+def report_of(jobs):
+    """A report of jobs, each by its name, its end and its verdict."""
+    rows = (
+        f"job {at} {name}\nend {end}\nsteps 2\nconsole -\nsignature -\nverdict {verdict}\n"
+        for at, (name, end, verdict) in enumerate(jobs, 1)
+    )
+    return "".join(rows) + f"done {len(jobs)}\n"
+
+
+def check_colors(row):
+    """What comes on standard output, and the status: of a list with a job that passes and one that fails, of another with a job whose
+    console differs and one without an image, and of reports."""
+    row.write("zero.elf", images.image("code 00000513 X"))
+    row.write("five.elf", images.image("one"))
+    row.write("print.elf", images.image("code 100002b7 05000313 0062a023 X"))
+    row.write("list.toml", f"job = [{{name = 'good', budget = 9, {JOBS['+']}}}, {{name = 'bad', budget = 9, {JOBS['-']}}}]\n")
+    row.write("other.toml", "job = [{name = 'p', budget = 9, image = 'print.elf', expect_console = 'F'}, "
+              "{name = 'q', budget = 9, image = 'none.elf'}]\n")
+    row.write("old", report_of([("good", "exit 0", "pass"), ("bad", "exit 5", "fail")]))
+    row.write("new", report_of([("bad", "exit 5", "fail"), ("more", "exit 0", "pass")]))
+    given = {name: value for name, value in os.environ.items() if name != "NO_COLOR"}
+    if row["no_color"] != "unset":
+        given["NO_COLOR"] = row["no_color"]
+    if row["room"] != "all":
+        given["OUT_ROOM"] = row["room"]
+    given |= {"LD_PRELOAD": os.environ["TERMINAL_SHIM"], "CLOCK_STEP": "0", "MOST_PUT": row["put"], "TERMINALS": row["terminals"]}
+    words = row["words"].split()
+    done = subprocess.run(
+        [row.rvtest, *words], cwd=row.folder, env=given, stdin=subprocess.DEVNULL, stdout=subprocess.PIPE,
+        stderr=subprocess.DEVNULL, check=False,
+    )
+    wanted, found = (int(row["status"]), raw(row["shown"]), b""), (done.returncode, done.stdout, b"")
+    if found != wanted:
+        row.fails(words, wanted, found)
+
+
+FORMS = {
+    "colors": Form(check_colors, "words terminals no_color put room status shown"),
+    "progress": Form(check_progress, "step rule terminals put jobs colors shown"),
+}

@@ -137,9 +137,13 @@ with_junit app = with_rule (with_rule (with_rule app (file_rule (codes "junit"))
 abbrev pub with_files : App → App
 with_files app = with_junit (with_rule app (file_rule (codes "report")))
 
--- [--verbose | --quiet] [--last <N>]
+-- [--color <WHEN>]
+abbrev pub with_color : App → App
+with_color app = with_rule app (option_rule (codes "color"))
+
+-- [--verbose | --quiet] [--last <N>] [--color <WHEN>]
 abbrev pub with_results : App → App
-with_results app = with_rule (with_rule (with_rule app verbose_rule) quiet_rule) last_rule
+with_results app = with_color (with_rule (with_rule (with_rule app verbose_rule) quiet_rule) last_rule)
 
 -- a command over a list
 abbrev pub app_of_list : Text → App
@@ -158,10 +162,10 @@ abbrev pub choosing_app : ChoosingCommand → App
 choosing_app choosing.Run = test_run_app
 choosing_app choosing.List = list_app
 
--- explain <LIST> <NAME> [--last <N>] [--budget <N>] [--root <DIR>]
+-- explain <LIST> <NAME> [--last <N>] [--budget <N>] [--root <DIR>] [--color <WHEN>]
 abbrev pub explain_app : App
-explain_app = with_rule (with_rule (with_rule (with_rule (app_of_list (codes "explain"))
-    (word_rule (codes "name"))) explain_last_rule) job_budget_rule) (option_rule (codes "root"))
+explain_app = with_color (with_rule (with_rule (with_rule (with_rule (app_of_list (codes "explain"))
+    (word_rule (codes "name"))) explain_last_rule) job_budget_rule) (option_rule (codes "root")))
 
 -- console <LIST> <NAME> [--root <DIR>]
 abbrev pub console_app : App
@@ -179,14 +183,14 @@ merge_app = with_files (with_rule (new_app (codes "merge")) parts_rule)
 abbrev pub most_slower : ℕ
 most_slower = 1000
 
--- diff <OLD> <NEW> [--steps | --slower <N>]
+-- diff <OLD> <NEW> [--steps | --slower <N>] [--color <WHEN>]
 abbrev pub diff_app : App
-diff_app = with_rule (with_rule (with_rule (with_rule (new_app (codes "diff")) (word_rule (codes "old")))
-    (word_rule (codes "new"))) (flag_rule (codes "steps"))) (number_rule (codes "slower") (pos 0) (pos most_slower) [])
+diff_app = with_color (with_rule (with_rule (with_rule (with_rule (new_app (codes "diff")) (word_rule (codes "old")))
+    (word_rule (codes "new"))) (flag_rule (codes "steps"))) (number_rule (codes "slower") (pos 0) (pos most_slower) []))
 
--- show <REPORT> [--junit <FILE>] [--suite <NAME>] [--lenient]
+-- show <REPORT> [--junit <FILE>] [--suite <NAME>] [--lenient] [--color <WHEN>]
 abbrev pub show_app : App
-show_app = with_junit (with_rule (new_app (codes "show")) (word_rule (codes "report")))
+show_app = with_color (with_junit (with_rule (new_app (codes "show")) (word_rule (codes "report"))))
 
 -- a subcommand is required, the help of `clap` is none of them, and there is a version
 abbrev pub test_top_app : App

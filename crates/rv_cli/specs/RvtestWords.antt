@@ -20,6 +20,7 @@ use Rattle.rv_cli.specs.declared.rvtest.run.RunAsked.{RunAsked}
 use Rattle.rv_cli.specs.declared.rvtest.explain.ExplainAsked.{ExplainAsked}
 use Rattle.rv_cli.specs.declared.rvtest.merge.MergeAsked.{MergeAsked}
 use Rattle.rv_cli.specs.declared.rvtest.show.ShowAsked.{ShowAsked}
+use Rattle.rv_cli.specs.declared.rvtest.diff.DiffAsked.{DiffAsked}
 use Rattle.std.specs.Borrow.{Bor}
 
 -- ---- what words ask for
@@ -44,6 +45,7 @@ pub record RunWords : Type 0 where
   pub verbose : Bool
   pub quiet : Bool
   pub last : Option ℕ
+  pub color : Option Text
 
 -- the job of a list whose end is to be explained
 pub record ExplainWords : Type 0 where
@@ -52,6 +54,7 @@ pub record ExplainWords : Type 0 where
   pub last : ℕ
   pub budget : Option ℕ
   pub root : Option Text
+  pub color : Option Text
 
 -- the parts whose whole report is to be made
 pub record MergeWords : Type 0 where
@@ -67,6 +70,15 @@ pub record ShowWords : Type 0 where
   pub junit : Option Text
   pub suite : Option Text
   pub lenient : Bool
+  pub color : Option Text
+
+-- two reports that are to be compared
+pub record DiffWords : Type 0 where
+  pub old : Text
+  pub new : Text
+  pub steps : Bool
+  pub slower : Option ℕ
+  pub color : Option Text
 
 -- to run jobs; to say which jobs a run of these words would run; to explain one; to write the console of one, whose paths are taken
 -- from a folder; to say all that is wrong with a list, whose paths are taken from a
@@ -79,7 +91,7 @@ pub data Words : Type 0 where
   console : Text → Text → Option Text → Words
   check : Text → Option Text → Words
   merge : MergeWords → Words
-  diff : Text → Text → Bool → Option ℕ → Words
+  diff : DiffWords → Words
   show : ShowWords → Words
   help : Text → Words
 
@@ -109,6 +121,7 @@ run_words list group rows = record {
   verbose = is_flag_set (codes "verbose") rows;
   quiet = is_flag_set (codes "quiet") rows;
   last = number_value (codes "last") 0 most_last_instructions rows;
+  color = first_of (codes "color") rows;
 }
 
 abbrev pub test_run_request : List Row → Option Words
@@ -125,6 +138,7 @@ explain_words list name rows last = explain (record {
   last = last;
   budget = requested_budget rows;
   root = first_of (codes "root") rows;
+  color = first_of (codes "color") rows;
 })
 
 abbrev pub explain_request : List Row → Option Words
@@ -149,9 +163,17 @@ merge_request rows = merge (record {
   lenient = is_flag_set (codes "lenient") rows;
 })
 
+abbrev pub diff_words : List Row → Text → Text → Words
+diff_words rows old new = diff (record {
+  old = old;
+  new = new;
+  steps = is_flag_set (codes "steps") rows;
+  slower = number_value (codes "slower") 0 most_slower rows;
+  color = first_of (codes "color") rows;
+})
+
 abbrev pub diff_request : List Row → Option Words
-diff_request rows = option_and_then (λ old. option_map (λ new. diff old new
-    (is_flag_set (codes "steps") rows) (number_value (codes "slower") 0 most_slower rows))
+diff_request rows = option_and_then (λ old. option_map (diff_words rows old)
     (first_of (codes "new") rows)) (first_of (codes "old") rows)
 
 abbrev pub show_words : List Row → Text → Words
@@ -160,6 +182,7 @@ show_words rows report = show (record {
   junit = first_of (codes "junit") rows;
   suite = first_of (codes "suite") rows;
   lenient = is_flag_set (codes "lenient") rows;
+  color = first_of (codes "color") rows;
 })
 
 abbrev pub show_request : List Row → Option Words
@@ -190,6 +213,16 @@ abbrev pub words_request : List Text → Option Words
 words_request words = matched_words (subcommand_of test_app words)
 
 -- ---- what is wrong with words
+
+-- colours are always shown, never, or where standard output is a terminal
+abbrev pub is_color_word : Text → Bool
+is_color_word word = bytes_eq word (codes "always") || (bytes_eq word (codes "never") || bytes_eq word (codes "auto"))
+
+abbrev pub is_color_unknown : List Row → Bool
+is_color_unknown rows = option_map_or (λ word. not (is_color_word word)) (first_of (codes "color") rows) false
+
+abbrev pub color_misuse : List Row → Option Misuse
+color_misuse rows = if is_color_unknown rows then Some misuse.UnknownColor else None
 
 -- the report goes to a path
 abbrev pub is_report_path : Text → List Row → Bool
@@ -233,18 +266,24 @@ run_misuse rows = if is_flag_set (codes "verbose") rows && is_flag_set (codes "q
     else if is_option_given (codes "stamp") rows && not (is_option_given (codes "shard") rows)
     then Some misuse.StampAlone
     else if is_option_given (codes "budget") rows && are_rows_kept rows then Some misuse.BudgetAndRows
+    else if is_color_unknown rows then Some misuse.UnknownColor
     else files_misuse rows
 
 -- steps are compared exactly, or by which jobs are slower
 abbrev pub diff_misuse : List Row → Option Misuse
 diff_misuse rows = if is_flag_set (codes "steps") rows && is_option_given (codes "slower") rows
-    then Some misuse.StepsAndSlower else None
+    then Some misuse.StepsAndSlower else color_misuse rows
+
+-- a suite of JUnit's XML that is not as it may be, or colours
+abbrev pub show_misuse : List Row → Option Misuse
+show_misuse rows = if is_color_unknown rows then Some misuse.UnknownColor else suite_misuse rows
 
 abbrev pub misuse_kinds : Option Misuse → Kinds
 misuse_kinds None = []
 misuse_kinds (Some misuse.StampAlone) = kind.MissingRequiredArgument ∷ []
 misuse_kinds (Some misuse.SuiteAlone) = kind.MissingRequiredArgument ∷ []
 misuse_kinds (Some misuse.NamelessSuite) = kind.InvalidValue ∷ []
+misuse_kinds (Some misuse.UnknownColor) = kind.InvalidValue ∷ []
 misuse_kinds (Some _) = kind.ArgumentConflict ∷ []
 
 -- what is said of options that do not go together: which two, as the help writes them
@@ -258,6 +297,7 @@ misuse_text misuse.BudgetAndRows =
 misuse_text misuse.StepsAndSlower = codes "the argument '--steps' cannot be used with '--slower <N>'"
 misuse_text misuse.SuiteAlone = codes "the argument '--suite <NAME>' cannot be used without '--junit <FILE>'"
 misuse_text misuse.NamelessSuite = codes "a value is required for '--suite <NAME>' but none was supplied"
+misuse_text misuse.UnknownColor = codes "the value of '--color <WHEN>' is always, never or auto"
 misuse_text misuse.OneFile =
     codes "the argument '--report <FILE>' cannot be used with '--junit <FILE>' of the same name: it is one file"
 
@@ -266,7 +306,8 @@ abbrev pub subcommand_fault_kinds : Text → List Row → Kinds
 subcommand_fault_kinds name rows = if bytes_eq name (codes "run") then misuse_kinds (run_misuse rows)
     else if bytes_eq name (codes "merge") then misuse_kinds (files_misuse rows)
     else if bytes_eq name (codes "diff") then misuse_kinds (diff_misuse rows)
-    else if bytes_eq name (codes "show") then misuse_kinds (suite_misuse rows)
+    else if bytes_eq name (codes "show") then misuse_kinds (show_misuse rows)
+    else if bytes_eq name (codes "explain") then misuse_kinds (color_misuse rows)
     else []
 
 -- those of the subcommand that was met
@@ -303,6 +344,7 @@ run_asked_words value = record {
   verbose = value.verbose;
   quiet = value.quiet;
   last = value.last;
+  color = borrowed_text value.color;
 }
 
 abbrev pub explain_asked_words : ExplainAsked → ExplainWords
@@ -312,6 +354,7 @@ explain_asked_words value = record {
   last = value.last;
   budget = value.budget;
   root = borrowed_text value.root;
+  color = borrowed_text value.color;
 }
 
 abbrev pub merge_asked_words : MergeAsked → MergeWords
@@ -329,6 +372,16 @@ show_asked_words value = record {
   junit = borrowed_text value.junit;
   suite = borrowed_text value.suite;
   lenient = value.lenient;
+  color = borrowed_text value.color;
+}
+
+abbrev pub diff_asked_words : DiffAsked → DiffWords
+diff_asked_words value = record {
+  old = value.old.now;
+  new = value.new.now;
+  steps = value.steps;
+  slower = value.slower;
+  color = borrowed_text value.color;
 }
 
 abbrev pub asked_words : Asked → Words
@@ -338,7 +391,7 @@ asked_words (asked.Explain value) = explain (explain_asked_words value)
 asked_words (asked.Console value) = console value.list.now value.name.now (borrowed_text value.root)
 asked_words (asked.Check value) = check value.list.now (borrowed_text value.root)
 asked_words (asked.Merge value) = merge (merge_asked_words value)
-asked_words (asked.Diff value) = diff value.old.now value.new.now value.steps value.slower
+asked_words (asked.Diff value) = diff (diff_asked_words value)
 asked_words (asked.Show value) = show (show_asked_words value)
 asked_words (asked.Help value) = help value.topic.now
 

@@ -3,7 +3,7 @@
 
 use rv_files::{PipeSink, StreamSink, SystemInputs, SystemOutputs};
 use rvtest_app::{Destinations, Host, Terminals, refuse_unreadable_words, run_rvtest};
-use std::env::Env;
+use std::env::{Env, VarError};
 use std::io::IsTerminal;
 use std::process::ExitCode;
 use std::{env, io};
@@ -25,11 +25,20 @@ fn main(rt: HostRuntime) -> ExitCode {
     let terminals = Terminals {
         is_out_terminal: rt.stdout().is_terminal(),
         is_errors_terminal: rt.stderr().is_terminal(),
+        is_out_colored: rt.stdout().is_terminal() && !is_set(&rt, "NO_COLOR"),
         progress: rt.stderr(),
     };
     let to = Destinations { files, out, errors };
     let (_, status) = run_rvtest(&host, texts.as_slice(), to, terminals);
     ExitCode::from(status)
+}
+
+// Whether a variable of the process has a text, and no empty one.
+fn is_set(rt: &(impl Env + AllocGlobal), name: &str) -> bool {
+    match env::var(rt, name) {
+        Ok(text) => !text.is_empty(),
+        Err(error) => error != VarError::NotPresent,
+    }
 }
 
 // The process's own words.

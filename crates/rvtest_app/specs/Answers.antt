@@ -1,11 +1,12 @@
 -- What the program answers to words.
-use Rattle.std.specs.Prelude.{◌≡◌, ◌⊎◌, ℕ, List, Option, Some, None}
+use Rattle.std.specs.Prelude.{◌≡◌, ◌⊎◌, ℕ, Bool, List, Option, Some, None}
 use Rattle.clap.specs.Kinds.{IsAmong}
 use Rattle.clap.specs.declared.error.kind.ErrorKind.TheVariants.{DisplayHelp, DisplayVersion}
 use Rattle.rv_base.specs.Files.{FileContents}
 use Rattle.rv_cli.specs.RvtestWords.{asked_words, words_fault_kinds, words_request}
 use Rattle.rv_cli.specs.declared.rvtest.requests.Asked.{Asked}
 use Rattle.rv_cli.specs.declared.rvtest.requests.Asked.TheVariants as asked
+use Rattle.rvtest_app.specs.Colors.{IsSaidInColors, asked_colors}
 use Rattle.rvtest_app.specs.Consoles.{IsConsolePut}
 use Rattle.rvtest_app.specs.HelpTopics.{list_topic}
 use Rattle.rvtest_app.specs.Lists.{IsListPut}
@@ -40,6 +41,14 @@ IsDone known (asked.Help words) status before after =
     (text : List ℕ) × (((words.topic.now ≡ list_topic) × (status ≡ 0))
     × IsOnlyPut text before after)
 
+-- a command did what is asked for, and standard output took its results in the colours that are asked for, where it is a terminal
+-- for colours, or is none
+pub record IsDoneInColors (known : Option FileContents) (asked : Asked) (is_terminal : Bool) (status : ℕ) (before after : Said)
+    : Type 0 where
+  pub plain : Said
+  pub done : IsDone known asked status before plain
+  pub shown : IsSaidInColors (asked_colors asked is_terminal) before plain after
+
 -- words ask for the help, or for the version
 abbrev pub AskForHelp : List (List ℕ) → Type 0
 AskForHelp words = IsAmong DisplayHelp (words_fault_kinds words) ⊎ IsAmong DisplayVersion (words_fault_kinds words)
@@ -49,10 +58,10 @@ abbrev pub IsAnsweredAlone : List (List ℕ) → ℕ → Type 0
 IsAnsweredAlone words status =
     ((words_request words ≡ None) × (status ≡ 2)) ⊎ (AskForHelp words × (status ≡ 0))
 
--- the program answered words: it did what they ask for, or else told how it is used
-abbrev pub IsAnswered : Option FileContents → List (List ℕ) → ℕ → Said → Said → Type 0
-IsAnswered known words status before after =
+-- the program answered words: it did what they ask for, in colours or without, or else told how it is used
+abbrev pub IsAnswered : Option FileContents → List (List ℕ) → Bool → ℕ → Said → Said → Type 0
+IsAnswered known words is_terminal status before after =
     ((asked : Asked) × ((words_request words ≡ Some (asked_words asked))
-    × IsDone known asked status before after))
+    × IsDoneInColors known asked is_terminal status before after))
     ⊎ (IsAnsweredAlone words status × (after.errors ≡ before.errors) × (after.failures ≡ before.failures)
     × (after.placed ≡ before.placed))

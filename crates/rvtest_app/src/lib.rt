@@ -9,6 +9,7 @@
 mod check;
 mod check_text;
 mod chosen_rows;
+mod colors;
 mod console;
 mod crew;
 mod destinations;

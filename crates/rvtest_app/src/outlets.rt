@@ -82,7 +82,8 @@ fn open_outlet<'a, F: Outputs>(
     }
 }
 
-fn is_stdout(path: &str) -> bool
+/// Whether a path stands for standard output.
+pub(crate) fn is_stdout(path: &str) -> bool
     ensures { result ≡ is_stdout path.now }
 {
     path == "-"

@@ -1,14 +1,17 @@
 //! The whole program, over files, sinks and terminals.
 
-ghost use Rattle.std.specs.Prelude.{◌≡◌, ◌⊎◌, ◌≤◌, IfErr, IfOk, false, map};
+ghost use Rattle.std.specs.Prelude.{◌≡◌, ◌⊎◌, ◌≤◌, ℕ, List, Option, Ok, Err, IfErr, IfOk, MatchResult, false, map};
 ghost use Rattle.std.specs.IoError.{error_kind};
 ghost use Rattle.rv_command.specs.Messages.{IsMessagePut};
-ghost use Rattle.rvtest_app.specs.Answers.{IsAnswered, IsDone};
+ghost use Rattle.rv_colors.specs.ColorSinks.{IsOutInPart};
+ghost use Rattle.rvtest_app.specs.Answers.{IsAnswered, IsDone, IsDoneInColors};
+ghost use Rattle.rvtest_app.specs.Colors.{asked_colors};
 ghost use Rattle.rvtest_app.specs.CommandStops.{IsCommandStop, IsStopFor};
 ghost use Rattle.rvtest_app.specs.Said.{said};
 ghost use Rattle.rvtest_app.specs.ToldStops.{IsStopTold, unreadable_words_message, unreadable_words_status};
 
 use crate::check::check_list;
+use crate::colors::asked_colors;
 use crate::console::put_job_console;
 use crate::destinations::Destinations;
 use crate::diff::diff_reports;
@@ -23,11 +26,13 @@ use crate::run::run_requested_jobs;
 use crate::show::show_report;
 use crate::terminals::Terminals;
 use rv_cli::rvtest::{Asked, read_words};
+use rv_colors::{ColorSink, Results};
 use rv_command::{REFUSED, Stop, put_end_message, put_message, put_stop_message};
 use rv_files::{Closable, Inputs, Outputs};
-use rv_rows::Sink;
+use rv_rows::{Sink, SinkFailed};
 use std::convert::AsStr;
 use std::io::{self, ErrorKind, Write};
+use std::marker::Brand;
 use std::sync::Wait;
 use std::thread::Threads;
 use std::time::Clock;
@@ -49,13 +54,15 @@ pub fn run_rvtest<
     terminals: Terminals<P>,
 ) -> (Destinations<F, O, E>, u8)
     ensures low { O.closed result.0.out ≡ false → result.1 ≤ 3 }
-    // A status of 0 or 1 says that all went out.
+    // A status of 0 or 1 says that all went out, to standard output in the colours that are asked for.
     ensures answered { result.1 ≤ 1 → IsAnswered (D.contents host.now.inputs.now) (map T.text words.entry.now)
-        result.1 (said F.placed O.taken E.taken E.failed to) (said F.placed O.taken E.taken E.failed result.0) }
+        terminals.is_out_colored result.1
+        (said F.placed O.taken E.taken E.failed to) (said F.placed O.taken E.taken E.failed result.0) }
     // Any other status says that the command ended before its work was done, and that this was told last; but a reader that closed
     // standard output is told nothing.
     ensures ended { IsAnswered (D.contents host.now.inputs.now) (map T.text words.entry.now)
-        result.1 (said F.placed O.taken E.taken E.failed to) (said F.placed O.taken E.taken E.failed result.0)
+        terminals.is_out_colored result.1
+        (said F.placed O.taken E.taken E.failed to) (said F.placed O.taken E.taken E.failed result.0)
         ⊎ IsStopTold (O.closed result.0.out) (IsStopFor (D.contents host.now.inputs.now) (map T.text words.entry.now))
         result.1 (said F.placed O.taken E.taken E.failed result.0) }
 {
@@ -87,18 +94,67 @@ fn answer_words<
 ) -> (Destinations<F, O, E>, Result<u8, Stop>)
     ensures low { IfOk result.1 (λ status. status ≤ 2) }
     ensures answered { IfOk result.1 (λ status. IsAnswered (D.contents host.now.inputs.now)
-        (map T.text words.entry.now) status
+        (map T.text words.entry.now) terminals.is_out_colored status
         (said F.placed O.taken E.taken E.failed to) (said F.placed O.taken E.taken E.failed result.0)) }
     ensures stopped { IfErr result.1 (IsStopFor (D.contents host.now.inputs.now) (map T.text words.entry.now)) }
 {
     match read_words(host.alloc, words) {
-        Ok(Some(asked)) => run_subcommand(host, asked, to, terminals),
+        Ok(Some(asked)) => { run_in_colors::<Brand, R, D, F, O, E, P>(host, asked, to, terminals) }
         Ok(None) => (to, Ok(REFUSED)),
         Err(error) => {
             let mut to = to;
             let answer = answer_clap_error(host.alloc, &mut to.out, &error);
             (to, answer)
         }
+    }
+}
+
+// Does what words ask for, with results in their colours on standard output.
+fn run_in_colors<
+    J: Results + Send + Sync,
+    R: Threads + Wait + Sync + Clock,
+    D: Inputs,
+    F: Outputs + Drop,
+    O: Sink + Drop + Send,
+    E: Sink + Drop + Send,
+    P: Write + Drop + Send,
+>(
+    host: &Host<'_, R, D>,
+    asked: Asked<'_>,
+    to: Destinations<F, O, E>,
+    terminals: Terminals<P>,
+) -> (Destinations<F, O, E>, Result<u8, Stop>)
+    requires colors { asked_colors asked terminals.is_out_colored ≡ J.colors }
+    requires before { O.taken to.out ≡ J.before }
+    ensures low { IfOk result.1 (λ status. status ≤ 2) }
+    ensures done { IfOk result.1 (λ status. IsDoneInColors (D.contents host.now.inputs.now) asked.entry
+        terminals.is_out_colored status
+        (said F.placed O.taken E.taken E.failed to) (said F.placed O.taken E.taken E.failed result.0)) }
+    ensures stopped { IfErr result.1 (IsCommandStop (D.contents host.now.inputs.now) asked.entry) }
+    // Whatever comes of it, standard output took results in their colours, and behind them at most the first bytes of a mark.
+    ensures shown { (plain : Option (List ℕ)) × IsOutInPart (asked_colors asked.entry terminals.is_out_colored)
+        (O.taken to.out) plain (O.taken result.0.out) }
+{
+    let colors = asked_colors(&asked, terminals.is_out_colored);
+    let Destinations { files, out, errors } = to;
+    let out = ColorSink::<J, O>::new(out, colors);
+    let to = Destinations { files, out, errors };
+    let (to, answer) = run_subcommand(host, asked, to, terminals);
+    let Destinations { files, out, errors } = to;
+    let (out, whole) = out.finish();
+    let to = Destinations { files, out, errors };
+    (to, whole_answer(answer, whole))
+}
+
+// Nothing is done where results went out in part.
+fn whole_answer(answer: Result<u8, Stop>, whole: Result<(), SinkFailed>) -> Result<u8, Stop>
+    ensures { MatchResult answer
+        (λ status. MatchResult whole (λ _. result ≡ Ok status) (λ _. result ≡ Err Stop.WriteFailed))
+        (λ stop. result ≡ Err stop) }
+{
+    match (answer, whole) {
+        (Ok(_), Err(SinkFailed)) => Err(Stop::WriteFailed),
+        (answer, _) => answer,
     }
 }
 

@@ -4,12 +4,12 @@ ghost use Rattle.std.specs.Prelude.{◌≡◌, IfOk, false};
 ghost use Rattle.clap.specs.Words.{App, app_of, new_app};
 ghost use Rattle.clap.specs.declared.builder.command.Command.TheViews.{out-Command};
 ghost use Rattle.rv_cli.specs.CommandBuilder.{HasApp, IsBuilt};
-ghost use Rattle.rv_cli.specs.RvtestCommand.{choosing_app, diff_app, list_app, subcommand_app, merge_app, show_app, test_run_app, test_app};
+ghost use Rattle.rv_cli.specs.RvtestCommand.{choosing_app, diff_app, explain_app, list_app, subcommand_app, merge_app, show_app, test_run_app, test_app};
 ghost use Rattle.rv_cli.specs.RvtestCommand.{test_top_app, with_subcommands};
 
 use crate::command_builder::{Built, with_subcommand};
 use crate::rvtest::arguments::{Argument, with_arguments};
-use crate::rvtest::table::{COMMANDS, DIFF, LIST, MERGE, RUN, SHOW};
+use crate::rvtest::table::{COMMANDS, DIFF, EXPLAIN, LIST, MERGE, RUN, SHOW};
 use clap::Command;
 use std::alloc::{AllocError, Global};
 
@@ -129,4 +129,12 @@ pub(crate) fn show_command<'a>(alloc: Global) -> Result<Command<'a>, AllocError>
         (app_of command ≡ show_app) × ((out-Command command).has_globals ≡ false)) }
 {
     subcommand_of_table(alloc, &SHOW)
+}
+
+/// The command `rvtest explain`, whose usage a refusal of its words shows.
+pub(crate) fn explain_command<'a>(alloc: Global) -> Result<Command<'a>, AllocError>
+    ensures { IfOk result (λ command.
+        (app_of command ≡ explain_app) × ((out-Command command).has_globals ≡ false)) }
+{
+    subcommand_of_table(alloc, &EXPLAIN)
 }

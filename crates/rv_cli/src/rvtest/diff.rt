@@ -5,7 +5,7 @@ ghost use Rattle.clap.specs.Words.{found_of, rows_of};
 ghost use Rattle.rv_cli.specs.RvtestWords.{AsksFor, ReadsRequest, diff_misuse, diff_request, misuse_kinds};
 
 use crate::rvtest::command::diff_command;
-use crate::rvtest::refusals::Misuse;
+use crate::rvtest::refusals::{Misuse, color_misuse};
 use crate::rvtest::requests::Asked;
 use crate::values::{is_flag_set, is_option_given, number_value, text_value};
 use clap::{ArgMatches, Error};
@@ -22,6 +22,8 @@ pub struct DiffAsked<'a> {
     pub steps: bool,
     /// Whether a job counts too that takes over so many percent more steps, up to 1,000.
     pub slower: Option<u32>,
+    /// Whether results have colours: `always`, `never` or `auto`; absent: `auto`.
+    pub color: Option<&'a str>,
 }
 
 /// What the values of `diff` ask for, or which rule its options break.
@@ -45,11 +47,13 @@ fn valid_diff_request<'a>(values: &ArgMatches<'a>) -> Option<Asked<'a>>
     let new = text_value(values, "new")?;
     let steps = is_flag_set(values, "steps");
     let slower = number_value(values, "slower", 0, 1_000);
+    let color = text_value(values, "color");
     Some(Asked::Diff(DiffAsked {
         old,
         new,
         steps,
         slower,
+        color,
     }))
 }
 
@@ -60,6 +64,6 @@ fn diff_misuse(values: &ArgMatches<'_>) -> Option<Misuse>
     if is_flag_set(values, "steps") && is_option_given(values, "slower") {
         Some(Misuse::StepsAndSlower)
     } else {
-        None
+        color_misuse(values)
     }
 }

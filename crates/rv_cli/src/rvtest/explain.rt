@@ -1,12 +1,15 @@
 //! The words of `explain`.
 
 ghost use Rattle.clap.specs.Words.{found_of, rows_of};
-ghost use Rattle.rv_cli.specs.RvtestWords.{AsksFor, explain_request};
+ghost use Rattle.rv_cli.specs.RvtestWords.{AsksFor, ReadsRequest, color_misuse, explain_request, misuse_kinds};
 
+use crate::rvtest::command::explain_command;
+use crate::rvtest::refusals::color_misuse;
 use crate::rvtest::requests::Asked;
 use crate::values::{number_value, text_value};
-use clap::ArgMatches;
+use clap::{ArgMatches, Error};
 use rv_base::limits::MOST_BUDGET;
+use std::alloc::Global;
 
 /// The job whose end is to be explained.
 #[derive(Clone, Copy)]
@@ -21,10 +24,25 @@ pub struct ExplainAsked<'a> {
     pub budget: Option<u32>,
     /// The folder from which the paths in the list are taken.
     pub root: Option<&'a str>,
+    /// Whether results have colours: `always`, `never` or `auto`; absent: `auto`.
+    pub color: Option<&'a str>,
 }
 
-/// What the values of `explain` ask for.
-pub(crate) fn explain_request<'a>(values: &ArgMatches<'a>) -> Option<Asked<'a>>
+/// What the values of `explain` ask for, or which rule its options break.
+pub(crate) fn explain_request<'a>(
+    alloc: Global,
+    values: &ArgMatches<'a>,
+) -> Result<Option<Asked<'a>>, Error>
+    ensures { ReadsRequest (explain_request (rows_of (found_of values.now)))
+        (misuse_kinds (color_misuse (rows_of (found_of values.now)))) result }
+{
+    match color_misuse(values) {
+        Some(misuse) => Err(misuse.misuse_error(explain_command(alloc))),
+        None => Ok(valid_explain_request(values)),
+    }
+}
+
+fn valid_explain_request<'a>(values: &ArgMatches<'a>) -> Option<Asked<'a>>
     ensures { AsksFor (explain_request (rows_of (found_of values.now))) result }
 {
     let list = text_value(values, "list")?;
@@ -32,11 +50,13 @@ pub(crate) fn explain_request<'a>(values: &ArgMatches<'a>) -> Option<Asked<'a>>
     let last = number_value(values, "last", 0, 100_000)?;
     let budget = number_value(values, "budget", 1, MOST_BUDGET);
     let root = text_value(values, "root");
+    let color = text_value(values, "color");
     Some(Asked::Explain(ExplainAsked {
         list,
         name,
         last,
         budget,
         root,
+        color,
     }))
 }

@@ -2,7 +2,8 @@
 
 ghost use Rattle.std.specs.Prelude.{◌≡◌, [], ◌∷◌, Some};
 ghost use Rattle.clap.specs.Words.{HasKind, found_of, rows_of};
-ghost use Rattle.rv_cli.specs.RvtestWords.{files_misuse, is_report_path, is_suite_nameless, misuse_kinds, misuse_text, suite_misuse};
+ghost use Rattle.rv_cli.specs.RvtestWords.{color_misuse, files_misuse, is_color_unknown, is_color_word, is_report_path, is_suite_nameless};
+ghost use Rattle.rv_cli.specs.RvtestWords.{misuse_kinds, misuse_text, show_misuse, suite_misuse};
 
 use crate::values::{is_option_given, text_value};
 use clap::error::ErrorKind;
@@ -26,6 +27,8 @@ pub(crate) enum Misuse {
     SuiteAlone,
     /// A suite whose name is empty.
     NamelessSuite,
+    /// A word for colours that is none.
+    UnknownColor,
     /// A report and JUnit's XML that go to one file.
     OneFile,
 }
@@ -43,7 +46,7 @@ impl Misuse {
     {
         match self {
             Misuse::StampAlone | Misuse::SuiteAlone => ErrorKind::MissingRequiredArgument,
-            Misuse::NamelessSuite => ErrorKind::InvalidValue,
+            Misuse::NamelessSuite | Misuse::UnknownColor => ErrorKind::InvalidValue,
             Misuse::VerboseAndQuiet
             | Misuse::ShardAndChoice
             | Misuse::BudgetAndRows
@@ -75,6 +78,7 @@ impl Misuse {
             Misuse::NamelessSuite => {
                 "a value is required for '--suite <NAME>' but none was supplied"
             }
+            Misuse::UnknownColor => "the value of '--color <WHEN>' is always, never or auto",
             Misuse::OneFile => {
                 "the argument '--report <FILE>' cannot be used with '--junit <FILE>' of the same name: it is one file"
             }
@@ -90,6 +94,43 @@ pub(crate) fn files_misuse(values: &ArgMatches<'_>) -> Option<Misuse>
         Some(path) if is_report_path(values, path) => Some(Misuse::OneFile),
         _ => suite_misuse(values),
     }
+}
+
+/// What is wrong with the words of `show`.
+pub(crate) fn show_misuse(values: &ArgMatches<'_>) -> Option<Misuse>
+    ensures { result ≡ show_misuse (rows_of (found_of values.now)) }
+{
+    if is_color_unknown(values) {
+        Some(Misuse::UnknownColor)
+    } else {
+        suite_misuse(values)
+    }
+}
+
+/// A word for colours is one of three.
+pub(crate) fn color_misuse(values: &ArgMatches<'_>) -> Option<Misuse>
+    ensures { result ≡ color_misuse (rows_of (found_of values.now)) }
+{
+    if is_color_unknown(values) {
+        Some(Misuse::UnknownColor)
+    } else {
+        None
+    }
+}
+
+pub(crate) fn is_color_unknown(values: &ArgMatches<'_>) -> bool
+    ensures { result ≡ is_color_unknown (rows_of (found_of values.now)) }
+{
+    match text_value(values, "color") {
+        Some(word) => !is_color_word(word),
+        None => false,
+    }
+}
+
+fn is_color_word(word: &str) -> bool
+    ensures { result ≡ is_color_word word.now }
+{
+    word == "always" || word == "never" || word == "auto"
 }
 
 /// A suite is of JUnit's XML, and has a name.

@@ -79,7 +79,7 @@ fn subcommand_request<'a>(
     match name {
         "run" => test_run_request(alloc, values),
         "list" => list_request(alloc, values),
-        "explain" => Ok(explain_request(values)),
+        "explain" => explain_request(alloc, values),
         "console" => Ok(console_request(values)),
         "check" => Ok(check_request(values)),
         "merge" => merge_request(alloc, values),

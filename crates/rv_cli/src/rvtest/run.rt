@@ -7,7 +7,7 @@ ghost use Rattle.rv_cli.specs.RvtestWords.{IsRunAskedInRange, ReadsRequest, are_
 ghost use Rattle.rv_cli.specs.RvtestWords.{run_misuse, test_run_request, run_words};
 
 use crate::rvtest::command::run_command;
-use crate::rvtest::refusals::{Misuse, files_misuse};
+use crate::rvtest::refusals::{Misuse, files_misuse, is_color_unknown};
 use crate::rvtest::requests::Asked;
 use crate::values::{argument_values, is_flag_set, is_option_given, number_value, text_value};
 use clap::{ArgMatches, Error};
@@ -53,6 +53,8 @@ pub struct RunAsked<'a> {
     pub quiet: bool,
     /// How many of the last instructions of a failed job are shown, up to 100,000.
     pub last: Option<u32>,
+    /// Whether results have colours: `always`, `never` or `auto`; absent: `auto`.
+    pub color: Option<&'a str>,
 }
 
 /// What the values of `run` ask for, or which rule its options break.
@@ -111,6 +113,7 @@ pub(crate) fn run_asked<'a>(
         verbose: is_flag_set(values, "verbose"),
         quiet: is_flag_set(values, "quiet"),
         last: number_value(values, "last", 0, 100_000),
+        color: text_value(values, "color"),
         only: argument_values(alloc, values, "only")?,
     })
 }
@@ -127,6 +130,8 @@ fn run_misuse(values: &ArgMatches<'_>) -> Option<Misuse>
         Some(Misuse::StampAlone)
     } else if is_option_given(values, "budget") && are_rows_kept(values) {
         Some(Misuse::BudgetAndRows)
+    } else if is_color_unknown(values) {
+        Some(Misuse::UnknownColor)
     } else {
         files_misuse(values)
     }

@@ -1,10 +1,10 @@
 //! The words of `show`.
 
 ghost use Rattle.clap.specs.Words.{found_of, rows_of};
-ghost use Rattle.rv_cli.specs.RvtestWords.{AsksFor, ReadsRequest, misuse_kinds, show_request, suite_misuse};
+ghost use Rattle.rv_cli.specs.RvtestWords.{AsksFor, ReadsRequest, misuse_kinds, show_misuse, show_request};
 
 use crate::rvtest::command::show_command;
-use crate::rvtest::refusals::suite_misuse;
+use crate::rvtest::refusals::show_misuse;
 use crate::rvtest::requests::Asked;
 use crate::values::{is_flag_set, text_value};
 use clap::{ArgMatches, Error};
@@ -21,6 +21,8 @@ pub struct ShowAsked<'a> {
     pub suite: Option<&'a str>,
     /// Whether a failed verdict alone is a failure.
     pub lenient: bool,
+    /// Whether results have colours: `always`, `never` or `auto`; absent: `auto`.
+    pub color: Option<&'a str>,
 }
 
 /// What the values of `show` ask for, or which rule its options break.
@@ -29,9 +31,9 @@ pub(crate) fn show_request<'a>(
     values: &ArgMatches<'a>,
 ) -> Result<Option<Asked<'a>>, Error>
     ensures { ReadsRequest (show_request (rows_of (found_of values.now)))
-        (misuse_kinds (suite_misuse (rows_of (found_of values.now)))) result }
+        (misuse_kinds (show_misuse (rows_of (found_of values.now)))) result }
 {
-    match suite_misuse(values) {
+    match show_misuse(values) {
         Some(misuse) => Err(misuse.misuse_error(show_command(alloc))),
         None => Ok(valid_show_request(values)),
     }
@@ -44,10 +46,12 @@ fn valid_show_request<'a>(values: &ArgMatches<'a>) -> Option<Asked<'a>>
     let junit = text_value(values, "junit");
     let suite = text_value(values, "suite");
     let lenient = is_flag_set(values, "lenient");
+    let color = text_value(values, "color");
     Some(Asked::Show(ShowAsked {
         report,
         junit,
         suite,
         lenient,
+        color,
     }))
 }

@@ -52,6 +52,7 @@ pub(crate) const RUN: Subcommand<'static> = Subcommand {
             "Shows the last line alone; not beside --verbose",
         ),
         Argument::Number("last", None, LAST, LAST_BOUNDS, &[]),
+        Argument::Option("color", "WHEN", COLOR),
     ],
 };
 
@@ -70,7 +71,7 @@ pub(crate) const LIST: Subcommand<'static> = Subcommand {
     ],
 };
 
-const EXPLAIN: Subcommand<'static> = Subcommand {
+pub(crate) const EXPLAIN: Subcommand<'static> = Subcommand {
     name: "explain",
     about: "Runs one job, and shows how it ended and came there",
     usage: "rvtest explain",
@@ -81,6 +82,7 @@ const EXPLAIN: Subcommand<'static> = Subcommand {
         Argument::Number("last", None, LAST, LAST_BOUNDS, &["16"]),
         Argument::Number("budget", None, BUDGET, BUDGET_BOUNDS, &[]),
         Argument::Option("root", "DIR", ROOT),
+        Argument::Option("color", "WHEN", COLOR),
     ],
 };
 
@@ -141,6 +143,7 @@ pub(crate) const DIFF: Subcommand<'static> = Subcommand {
             SLOWER,
             &[],
         ),
+        Argument::Option("color", "WHEN", COLOR),
     ],
 };
 
@@ -154,6 +157,7 @@ pub(crate) const SHOW: Subcommand<'static> = Subcommand {
         Argument::File("junit", JUNIT),
         Argument::Option("suite", "NAME", SUITE),
         Argument::Flag("lenient", None, LENIENT),
+        Argument::Option("color", "WHEN", COLOR),
     ],
 };
 
@@ -184,6 +188,8 @@ const REPORT: &str = "Writes the report to this file; - is standard output";
 const JUNIT: &str = "Writes JUnit XML to this file; - is standard output";
 
 const SUITE: &str = "Names the suite in JUnit XML, in place of the file";
+
+const COLOR: &str = "Colors: always, never, or auto, which is on a terminal";
 
 const LENIENT: &str = "Counts as failed only what misses an expectation";
 

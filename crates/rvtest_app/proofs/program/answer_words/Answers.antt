@@ -6,8 +6,8 @@ use Rattle.rvtest_app.proofs.program.answer_words.Goals as goal
 pub returns-in-Ok-Some-clause-stopped : goal.returns-in-Ok-Some-clause-stopped
 returns-in-Ok-Some-clause-stopped g c =
     let request = rw c.in-Ok-Some.field-0-is at c.in-Ok-Some.ensures.value in
-    IfErr-map c.run_subcommand.result.1 _ _ (λ why is. inl (c.in-Ok-Some.asked, (sym request, is)))
-    c.run_subcommand.ensures.stopped
+    IfErr-map c.run_in_colors.result.1 _ _ (λ why is. inl (c.in-Ok-Some.asked, (sym request, is)))
+    c.run_in_colors.ensures.stopped
 
 pub returns-in-Err-clause-stopped : goal.returns-in-Err-clause-stopped
 returns-in-Err-clause-stopped g c =

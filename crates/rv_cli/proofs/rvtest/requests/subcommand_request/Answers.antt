@@ -5,7 +5,7 @@ pub returns-in-run : goal.returns-in-run
 returns-in-run c = rw c.in-run.is c.test_run_request.ensures
 
 pub returns-in-explain : goal.returns-in-explain
-returns-in-explain c = rw c.in-explain.is (c.explain_request.ensures, refl)
+returns-in-explain c = rw c.in-explain.is c.explain_request.ensures
 
 pub returns-in-check : goal.returns-in-check
 returns-in-check c = rw c.in-check.is (c.check_request.ensures, refl)

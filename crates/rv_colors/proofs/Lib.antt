@@ -1,0 +1,4 @@
+pub mod Courses
+pub mod Marks
+pub mod Pieces
+pub mod Sequences

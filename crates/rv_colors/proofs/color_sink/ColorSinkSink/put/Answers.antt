@@ -1,0 +1,34 @@
+use Rattle.std.proofs.Common.{[], take}
+use Rattle.rv_colors.specs.ColorSinks.{results_of}
+use Rattle.rv_colors.proofs.Courses.{course_kept, nothing_taken, results_taken}
+use Rattle.rv_colors.proofs.color_sink.ColorSinkSink.put.Goals as goal
+
+pub invariant_of-self : goal.invariant_of-self
+invariant_of-self g c =
+    course_kept g.J.Results.colors g.J.Results.before (g.S.Sink.taken c.self.inside.sink)
+    (g.S.Sink.taken c.put_by_course-count.new.sink) c.self.inside.course c.put_by_course-count.result.1
+    (take c.put_by_course-count.result.0 c.args.bytes.now) c.self.invariant c.put_by_course-count.ensures.put
+
+pub invariant_of-self-else-count-eq0 : goal.invariant_of-self-else-count-eq0
+invariant_of-self-else-count-eq0 g c =
+    course_kept g.J.Results.colors g.J.Results.before (g.S.Sink.taken c.self.inside.sink)
+    (g.S.Sink.taken c.put_by_course-count.new.sink) c.self.inside.course c.put_by_course-count.result.1
+    (take c.put_by_course-count.result.0 c.args.bytes.now) c.self.invariant c.put_by_course-count.ensures.put
+
+pub returns-then-count-eq0-clause-kept : goal.returns-then-count-eq0-clause-kept
+returns-then-count-eq0-clause-kept g c =
+    let old = g.S.Sink.taken c.self.inside.sink in
+    let new = g.S.Sink.taken c.put_by_course-count.new.sink in
+    let course = c.put_by_course-count.result.1 in
+    rw (← c.self.view_is)
+    (nothing_taken (results_of g.J.Results.colors g.J.Results.before old)
+    (results_of g.J.Results.colors g.J.Results.before new)
+    (results_taken g.J.Results.colors g.J.Results.before old new c.self.inside.course course [] c.self.invariant
+    (rw c.if-count-eq0.true at c.put_by_course-count.ensures.put)))
+
+pub returns-clause-taken : goal.returns-clause-taken
+returns-clause-taken g c =
+    rw (← c.self.view_is)
+    (results_taken g.J.Results.colors g.J.Results.before (g.S.Sink.taken c.self.inside.sink)
+    (g.S.Sink.taken c.put_by_course-count.new.sink) c.self.inside.course c.put_by_course-count.result.1
+    (take c.put_by_course-count.result.0 c.args.bytes.now) c.self.invariant c.put_by_course-count.ensures.put)

@@ -1,0 +1,2 @@
+pub mod ColorSinks
+pub mod Colors
