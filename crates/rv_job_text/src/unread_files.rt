@@ -10,11 +10,7 @@ use std::alloc::{AllocError, Global};
 
 /// A path, and why its file was unreadable.
 #[tactic(auto, unfolding(crate::specs::UnreadFiles::unread_file_text))]
-pub fn unread_file_text(
-    alloc: Global,
-    unread: &[Unread],
-    path: &str,
-) -> Result<Vec<u8>, AllocError>
+pub fn unread_file_text(alloc: Global, unread: &[Unread], path: &str) -> Result<Vec<u8>, AllocError>
     ensures { IfOk result (λ text. text.items ≡ unread_file_text unread.now path.now) }
 {
     let why = unread_note_text(unread_note(unread, path));

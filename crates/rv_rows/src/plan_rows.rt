@@ -119,11 +119,7 @@ pub fn refusal_at(alloc: Global, plan: &Plan, i: usize) -> Result<Option<Refusal
 }
 
 /// Why the image of the job at a place refuses the job, whatever its other files are. Nothing is run.
-pub fn image_refusal_at(
-    alloc: Global,
-    plan: &Plan,
-    i: usize,
-) -> Result<Option<Refusal>, AllocError>
+pub fn image_refusal_at(alloc: Global, plan: &Plan, i: usize) -> Result<Option<Refusal>, AllocError>
     requires { i < length plan.now.jobs }
     ensures { IfOk result (λ why. (d : AJob) → why
         ≡ image_refusal_in plan.now.answers (slice_index_or plan.now.jobs i d)) }
