@@ -33,10 +33,11 @@ _rvfleet_is_named() {
     [[ " explain console " = *" ${COMP_WORDS[1]} "* && $COMP_CWORD -gt 2 && -f ${COMP_WORDS[COMP_CWORD - 1]} ]]
 }
 
-# The words of which the value of an option is one.
+# The words of which one is wanted behind another word: by the program, the place, and the word before.
 _rvfleet_choices() {
     case "$1" in
-        --color) echo 'always never auto' ;;
+        'rvtest 2 help') echo 'list' ;;
+        *' --color') echo 'always never auto' ;;
     esac
 }
 
@@ -52,8 +53,8 @@ _rvfleet() {
         mapfile -t COMPREPLY < <(compgen -d -- "$word")
     elif [[ " --only " = *" $before "* ]] || _rvfleet_is_named; then
         mapfile -t COMPREPLY < <(compgen -W "$(_rvfleet_jobs)" -- "$word")
-    elif [ -n "$(_rvfleet_choices "$before")" ]; then
-        mapfile -t COMPREPLY < <(compgen -W "$(_rvfleet_choices "$before")" -- "$word")
+    elif [ -n "$(_rvfleet_choices "${1##*/} $COMP_CWORD $before")" ]; then
+        mapfile -t COMPREPLY < <(compgen -W "$(_rvfleet_choices "${1##*/} $COMP_CWORD $before")" -- "$word")
     elif [[ " --budget --exclude --group --input-hex --last --match --shard --slower --stamp --suite --workers -j " != *" $before "* ]]; then
         mapfile -t COMPREPLY < <(compgen -f -- "$word")
     fi

@@ -62,6 +62,7 @@ complete -c rvtest -n '__fish_seen_subcommand_from show' -l suite -x -d 'Names t
 complete -c rvtest -n '__fish_seen_subcommand_from show' -l lenient -d 'Counts as failed only what misses an expectation'
 complete -c rvtest -n '__fish_seen_subcommand_from show' -l color -x -a 'always never auto' -d 'Colors: always, never, or auto, which is on a terminal'
 complete -c rvtest -n __fish_use_subcommand -f -a help -d 'Tells the keys of a list'
+complete -c rvtest -n '__fish_seen_subcommand_from help' -f -a 'list'
 complete -c rvfleet -n __fish_use_subcommand -f -a raw -d 'Runs the flat image on standard input, placed at 0x80000000'
 complete -c rvfleet -n '__fish_seen_subcommand_from raw' -l budget -x -d 'Steps at most, from 1 to 1000000000'
 complete -c rvfleet -n __fish_use_subcommand -f -a one -d 'Runs one ELF image, placed at its physical addresses'

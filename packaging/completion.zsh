@@ -103,7 +103,7 @@ _rvfleet_behind_rvtest() {
                 ':REPORT:_files' ;;
         help) _arguments \
                 '--help[Print help]' \
-                ':TOPIC:_files' ;;
+                ':TOPIC:(list)' ;;
     esac
 }
 

@@ -6,7 +6,7 @@ JOB_NAMES = ("NAME",)
 FOLDERS = ("DIR",)
 FREE_WORDS = ("REGEX", "K/N", "TEXT", "N", "H")
 # The words of which a value is one.
-CHOICES = {"WHEN": "always never auto"}
+CHOICES = {"WHEN": "always never auto", "TOPIC": "list"}
 
 
 # Options whose value is a name of the user's own, and not a job's.
@@ -52,9 +52,17 @@ def bash_function(name, asked, cases):
 
 
 def choices():
-    """Each option whose value is one of a few words, and these."""
-    found = {f"--{option.name}": CHOICES[option.value] for option in valued_options() if kind_of_option(option) == "choice"}
+    """Each option, and each command as the word behind its program, whose value is one of a few words, and these."""
+    found = {f"*' --{option.name}'": CHOICES[option.value] for option in valued_options() if kind_of_option(option) == "choice"}
+    for program in PROGRAMS:
+        for command in commands_of(program):
+            found |= {f"'{program} 2 {command.name}'": words for words in argument_choices(command)}
     return sorted(found.items())
+
+
+def argument_choices(command):
+    """The words of which an argument of a command is one, for each such argument."""
+    return [CHOICES[name] for name, _ in command.arguments if kind_of(name) == "choice"]
 
 
 def bash(text):
@@ -163,6 +171,7 @@ def fish_command(command):
         lines.append(f"{seen}{short} -l {option.name}{fish_value(option)} -d '{fish_quoted(option.text)}'")
     if [name for name, _ in command.arguments] == ["LIST", "NAME"]:
         lines.append(f"{seen} -a '(__rvfleet_jobs)'")
+    lines += [f"{seen} -f -a '{words}'" for words in argument_choices(command)]
     return "\n".join(lines)
 
 
