@@ -1,10 +1,11 @@
 //! The command `run`.
 
-ghost use Rattle.std.specs.Prelude.{◌≡◌, ◌≤◌, ◌<◌, ◌++◌, [], ℕ, List, None, Option, Some, IfOk, OnErr, OnOk, false, length, option_map};
+ghost use Rattle.std.specs.Prelude.{◌≡◌, ◌≤◌, ◌<◌, ◌++◌, [], ℕ, List, None, Option, Some, IfErr, IfOk, OnErr, OnOk, false, length, option_map};
 ghost use Rattle.std.specs.Io.KnownBytes.{Appends};
 ghost use Rattle.std.specs.List.{All};
 ghost use Rattle.std.specs.List.Sorted.{IsStrictlyIncreasing};
 ghost use Rattle.std.specs.Option.{ForSome};
+ghost use Rattle.rv_choice.specs.ChoiceStops.{IsChoiceStop};
 ghost use Rattle.rv_choice.specs.Chosen.{IsChoice};
 ghost use Rattle.rv_command.specs.Texts.{optional_text};
 ghost use Rattle.rv_files.specs.UnreadPaths.{contents_below};
@@ -18,9 +19,11 @@ ghost use Rattle.rv_rows.specs.Rows.{rows_at};
 ghost use Rattle.rv_rows.specs.declared_row.Row.{Row as ARow};
 ghost use Rattle.rvtest_app.specs.Commands.{failure_rule, requested_verbosity};
 ghost use Rattle.rvtest_app.specs.FailureLines.{failure_lines};
-ghost use Rattle.rvtest_app.specs.Outlets.{AreFilesPlaced, AreFilesPlacedInPart, HasTaken, file_at, has_no_failure, stdout_at};
+ghost use Rattle.rvtest_app.specs.Outlets.{AreFilesPlaced, AreFilesPlacedInPart, HasTaken, file_at, has_no_failure, outlet_path, stdout_at};
 ghost use Rattle.rvtest_app.specs.Puts.{IsShown, WentOut};
+ghost use Rattle.rvtest_app.specs.PutStops.{IsPutStop};
 ghost use Rattle.rvtest_app.specs.RunOutput.{chosen_report_text, rows_status, run_output_text};
+ghost use Rattle.rvtest_app.specs.RunStops.{IsRunPutStop, IsRunStop, IsStreamStop, IsUnrequestedStop};
 ghost use Rattle.rvtest_app.specs.Runs.{AreRequestedJobs, IsRunAt, IsRunOfMarked, IsUndoneRunAt, IsUndoneRunOfPlaces};
 ghost use Rattle.rvtest_app.specs.Runs.{places_of_marks, run_junit};
 ghost use Rattle.rvtest_app.specs.Said.{said};
@@ -88,6 +91,7 @@ pub(crate) fn run_requested_jobs<
     ensures undone { OnErr result.1 (IsUndoneRunAt (D.contents host.now.inputs.now) asked.now
         (F.placed to.files) (F.placed result.0.files)) }
     ensures low { IfOk result.1 (λ status. status ≤ 1) }
+    ensures stopped { IfErr result.1 (IsRunStop (D.contents host.now.inputs.now) asked.now) }
 {
     let run = ListRun {
         host,
@@ -116,9 +120,11 @@ impl<'x, R, D: Inputs> ListRun<'x, R, D> {
     // The jobs of the list, with marks for those that are to run.
     fn requested_jobs(&self) -> Result<RequestedJobs, Stop>
         requires { self.now.rule ≡ failure_rule self.now.asked.now.lenient }
-        ensures { IfOk result (λ requested. AreRequestedJobs (D.contents self.now.host.now.inputs.now)
+        ensures asked { IfOk result (λ requested. AreRequestedJobs (D.contents self.now.host.now.inputs.now)
             self.now.asked.now requested.jobs (option_map (λ marks. marks.items) requested.marks)
             requested.shard requested.notes.items) }
+        ensures stopped { IfErr result
+            (IsUnrequestedStop (D.contents self.now.host.now.inputs.now) self.now.asked.now) }
     {
         let (alloc, asked) = (self.host.alloc, self.asked);
         let text = read_list_text(self.host.inputs, alloc, asked.list)?;
@@ -131,9 +137,10 @@ impl<'x, R, D: Inputs> ListRun<'x, R, D> {
 
     fn jobs_of_shard(&self, jobs: JobList, shard: Shard) -> Result<RequestedJobs, Stop>
         requires { (0 < shard.number) × (shard.number ≤ shard.shards) }
-        ensures { IfOk result (λ requested. (requested.jobs ≡ jobs) × (requested.shard ≡ Some shard)
+        ensures marked { IfOk result (λ requested. (requested.jobs ≡ jobs) × (requested.shard ≡ Some shard)
             × (option_map (λ marks. marks.items) requested.marks
             ≡ Some (shard_marks shard.shards shard.number (length jobs))) × (requested.notes.items ≡ [])) }
+        ensures memory { IfErr result (λ stop. stop ≡ Stop.OutOfMemory) }
     {
         let alloc = self.host.alloc;
         let marks = shard_marks(alloc, jobs.as_slice().len(), shard.number, shard.shards)?;
@@ -146,9 +153,11 @@ impl<'x, R, D: Inputs> ListRun<'x, R, D> {
     }
 
     fn jobs_of_choice(&self, jobs: JobList) -> Result<RequestedJobs, Stop>
-        ensures { IfOk result (λ requested. (requested.jobs ≡ jobs) × (requested.shard ≡ None)
+        ensures chosen { IfOk result (λ requested. (requested.jobs ≡ jobs) × (requested.shard ≡ None)
             × IsChoice (D.contents self.now.host.now.inputs.now) self.now.asked.now self.now.rule jobs
             (option_map (λ marks. marks.items) requested.marks) requested.notes.items) }
+        ensures stopped { IfErr result
+            (IsChoiceStop (D.contents self.now.host.now.inputs.now) self.now.asked.now self.now.rule jobs) }
     {
         let chooser = Chooser {
             inputs: self.host.inputs,
@@ -186,6 +195,7 @@ impl<'x, R: Threads + Wait + Sync + Clock, D: Inputs> ListRun<'x, R, D> {
             (said F.placed O.taken E.taken E.failed to) (said F.placed O.taken E.taken E.failed result.0)) }
         ensures undone { OnErr result.1 (IsUndoneRunOfPlaces (D.contents self.now.host.now.inputs.now) self.now.asked.now
             marked.jobs (places_of_marks marked.marks.items) (F.placed to.files) (F.placed result.0.files)) }
+        ensures stopped { IfErr result.1 (IsRunPutStop self.now.asked.now) }
     {
         let MarkedJobs {
             jobs,
@@ -260,6 +270,7 @@ impl<'x, R: Threads + Wait + Sync + Clock, D: Inputs> ListRun<'x, R, D> {
         ensures part { OnErr result.1 (AreFilesPlacedInPart (F.placed to.files) (F.placed result.0.files)
             (Some (file_at (optional_text self.now.asked.now.junit) (run_junit self.now.asked.now
             (telling_of telling.now) places.now (rows_at telling.now.plan.now places.now))))) }
+        ensures stopped { IfErr result.1 (IsRunPutStop self.now.asked.now) }
     {
         let (alloc, asked) = (self.host.alloc, self.asked);
         let mut to = to;
@@ -307,6 +318,7 @@ impl<'x, R: Threads + Wait + Sync + Clock, D: Inputs> ListRun<'x, R, D> {
             (row_lines_at (telling_of planned.now.telling.now)) planned.now.telling.now.rule
             planned.now.places.now (rows_at planned.now.telling.now.plan.now planned.now.places.now))
             (said F.placed O.taken E.taken E.failed to) (said F.placed O.taken E.taken E.failed result.0)) }
+        ensures stopped { IfErr result.1 IsStreamStop }
     {
         let Destinations { files, out, errors } = to;
         if is_beside {
@@ -335,6 +347,7 @@ impl<'x, R: Threads + Wait + Sync + Clock, D: Inputs> ListRun<'x, R, D> {
             planned.now.telling.now.rule planned.now.places.now
             (rows_at planned.now.telling.now.plan.now planned.now.places.now))) }
         ensures counted { OnOk result.1 (W.failed result.0 ≡ W.failed out) }
+        ensures stopped { IfErr result.1 IsStreamStop }
     {
         let (rt, alloc) = (self.host.rt, self.host.alloc);
         let (telling, places) = (planned.telling, planned.places);
@@ -428,6 +441,8 @@ impl<'x, R: Threads + Wait + Sync + Clock, D: Inputs> ListRun<'x, R, D> {
             → OnErr result (AreFilesPlacedInPart (F.placed to.old.files) (F.placed to.new.files)
             (Some (file_at junit_path (run_junit self.now.asked.now (telling_of planned.now.telling.now)
             planned.now.places.now rows)))) }
+        ensures stopped { IfErr result
+            (IsPutStop (outlet_path outlets.entry.report) (outlet_path outlets.entry.junit)) }
     {
         let (telling, places, rule) = (planned.telling, planned.places, planned.telling.rule);
         let status = rows_status(rule, rows.as_slice());
