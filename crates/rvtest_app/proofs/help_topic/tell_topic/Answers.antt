@@ -9,8 +9,7 @@ use Rattle.rvtest_app.proofs.help_topic.tell_topic.Goals as goal
 pub returns-clause-told : goal.returns-clause-told
 returns-clause-told c =
     let topic = c.args.asked.topic.now in
-    let alike : not (bytes_eq topic list_topic) ≡ false = sym c.ne.ensures ∙ c.if-ne.false in
-    (
+    let alike : not (bytes_eq topic list_topic) ≡ false = sym c.ne.ensures ∙ c.if-ne.false in (
       (bytes_eq-Decides topic list_topic).0 (not-false (bytes_eq topic list_topic) alike),
       (rw c.new-text.ensures.items at c.in_ok-push_text.ensures, refl),
     )
