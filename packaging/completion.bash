@@ -2,14 +2,15 @@
 # What bash offers behind `rvtest` and `rvfleet`: their commands, the options of each, files, and the names of a list's jobs.
 _rvfleet_options() {
     case "$1 $2" in
-        'rvtest run') echo '--only --match --exclude --failed --shard --stamp --workers --group --root --report --junit --suite --lenient --verbose --quiet --last --help' ;;
+        'rvtest run') echo '--only --match --exclude --failed --shard --stamp --workers --group --budget --root --report --junit --suite --lenient --verbose --quiet --last --color --help' ;;
         'rvtest list') echo '--only --match --exclude --failed --lenient --help' ;;
-        'rvtest explain') echo '--last --root --help' ;;
+        'rvtest explain') echo '--last --budget --root --color --help' ;;
         'rvtest console') echo '--root --help' ;;
         'rvtest check') echo '--root --help' ;;
         'rvtest merge') echo '--report --junit --suite --lenient --help' ;;
-        'rvtest diff') echo '--steps --slower --help' ;;
-        'rvtest show') echo '--junit --suite --lenient --help' ;;
+        'rvtest diff') echo '--steps --slower --color --help' ;;
+        'rvtest show') echo '--junit --suite --lenient --color --help' ;;
+        'rvtest help') echo ' --help' ;;
         'rvfleet raw') echo '--budget --help' ;;
         'rvfleet one') echo '--budget --input-hex --help' ;;
         'rvfleet run') echo '--workers --group --help' ;;
@@ -32,8 +33,16 @@ _rvfleet_is_named() {
     [[ " explain console " = *" ${COMP_WORDS[1]} "* && $COMP_CWORD -gt 2 && -f ${COMP_WORDS[COMP_CWORD - 1]} ]]
 }
 
+# The words of which one is wanted behind another word: by the program, the place, and the word before.
+_rvfleet_choices() {
+    case "$1" in
+        'rvtest 2 help') echo 'list' ;;
+        *' --color') echo 'always never auto' ;;
+    esac
+}
+
 _rvfleet() {
-    local word=$2 before=$3 commands='run list explain console check merge diff show --version --help'
+    local word=$2 before=$3 commands='run list explain console check merge diff show help --version --help'
     COMPREPLY=()
     [ "${1##*/}" = rvtest ] || commands='raw one run --help'
     if [ "$COMP_CWORD" = 1 ]; then
@@ -44,6 +53,8 @@ _rvfleet() {
         mapfile -t COMPREPLY < <(compgen -d -- "$word")
     elif [[ " --only " = *" $before "* ]] || _rvfleet_is_named; then
         mapfile -t COMPREPLY < <(compgen -W "$(_rvfleet_jobs)" -- "$word")
+    elif [ -n "$(_rvfleet_choices "${1##*/} $COMP_CWORD $before")" ]; then
+        mapfile -t COMPREPLY < <(compgen -W "$(_rvfleet_choices "${1##*/} $COMP_CWORD $before")" -- "$word")
     elif [[ " --budget --exclude --group --input-hex --last --match --shard --slower --stamp --suite --workers -j " != *" $before "* ]]; then
         mapfile -t COMPREPLY < <(compgen -f -- "$word")
     fi

@@ -18,6 +18,7 @@ import tempfile
 import time
 
 import failures
+import progress
 from forms import FORMS, TABLES, rows_of
 from tables import Malformed
 
@@ -144,7 +145,7 @@ def take_programs(folder):
 
 
 def take_shim(folder):
-    """Gives the rows of the line on a terminal the shim that they preload."""
+    """Gives the rows of terminals the shim that they preload."""
     path = folder / "terminal.so"
     by_bash('take_shim terminal "$1"', str(path))
     if not path.exists():
@@ -217,7 +218,7 @@ def main():
             chosen = chosen_of(word, names, tables_of(folder))
             if chosen.needs_programs() and not take_programs(folder):
                 return 3
-            if any(row.table == "progress" for row in chosen.rows):
+            if any(row.table in progress.FORMS for row in chosen.rows):
                 take_shim(folder)
             passed, failed = run_all(chosen, len(os.sched_getaffinity(0)))
         except Refused as refused:

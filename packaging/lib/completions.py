@@ -5,6 +5,8 @@ from help import PROGRAMS, commands_of, general_options
 JOB_NAMES = ("NAME",)
 FOLDERS = ("DIR",)
 FREE_WORDS = ("REGEX", "K/N", "TEXT", "N", "H")
+# The words of which a value is one.
+CHOICES = {"WHEN": "always never auto", "TOPIC": "list"}
 
 
 # Options whose value is a name of the user's own, and not a job's.
@@ -12,11 +14,13 @@ FREE_NAMES = ("suite",)
 
 
 def kind_of(value):
-    """What is offered for a value: `job`, `folder`, `none` or `file`."""
+    """What is offered for a value: `job`, `folder`, `choice`, `none` or `file`."""
     if value in JOB_NAMES:
         return "job"
     if value in FOLDERS:
         return "folder"
+    if value in CHOICES:
+        return "choice"
     return "none" if value in FREE_WORDS else "file"
 
 
@@ -27,15 +31,38 @@ def kind_of_option(option):
 
 # ---- bash
 
+def valued_options():
+    """The options of both programs that take a value."""
+    return [option for program in PROGRAMS for command in commands_of(program) for option in command.options if option.value is not None]
+
+
 def options_with(kind):
     """The options of both programs, short and long, whose value is of a kind."""
     found = set()
+    for option in valued_options():
+        if kind_of_option(option) == kind:
+            found |= {f"--{option.name}"} | ({f"-{option.short}"} if option.short else set())
+    return " ".join(sorted(found))
+
+
+def bash_function(name, asked, cases):
+    """A function that tells words by what it is asked, case by case."""
+    told = [f"        {case}) echo '{words}' ;;" for case, words in cases]
+    return "\n".join([f"{name}() {{", f'    case "{asked}" in', *told, "    esac", "}"])
+
+
+def choices():
+    """Each option, and each command as the word behind its program, whose value is one of a few words, and these."""
+    found = {f"*' --{option.name}'": CHOICES[option.value] for option in valued_options() if kind_of_option(option) == "choice"}
     for program in PROGRAMS:
         for command in commands_of(program):
-            for option in command.options:
-                if option.value is not None and kind_of_option(option) == kind:
-                    found |= {f"--{option.name}"} | ({f"-{option.short}"} if option.short else set())
-    return " ".join(sorted(found))
+            found |= {f"'{program} 2 {command.name}'": words for words in argument_choices(command)}
+    return sorted(found.items())
+
+
+def argument_choices(command):
+    """The words of which an argument of a command is one, for each such argument."""
+    return [CHOICES[name] for name, _ in command.arguments if kind_of(name) == "choice"]
 
 
 def bash(text):
@@ -45,12 +72,12 @@ def bash(text):
         commands = commands_of(program)
         for command in commands:
             words = " ".join(f"--{option.name}" for option in command.options)
-            cases.append(f"        '{program} {command.name}') echo '{words} --help' ;;")
+            cases.append((f"'{program} {command.name}'", f"{words} --help"))
         general = sorted((f"--{option.name}" for option in general_options(program)), reverse=True)
         text = text.replace(f"@{program.upper()}@", " ".join([command.name for command in commands] + general))
     named = [command.name for command in commands_of("rvtest") if [name for name, _ in command.arguments] == ["LIST", "NAME"]]
-    function = ["_rvfleet_options() {", '    case "$1 $2" in', *cases, "    esac", "}", ""]
-    text = text.replace("@OPTIONS@", "\n".join(function)).replace("@NAMED@", " ".join(named))
+    text = text.replace("@OPTIONS@", bash_function("_rvfleet_options", "$1 $2", cases) + "\n").replace("@NAMED@", " ".join(named))
+    text = text.replace("@CHOICES@", bash_function("_rvfleet_choices", "$1", choices()))
     for kind in ("job", "folder", "none"):
         text = text.replace(f"@{kind.upper()}@", options_with(kind))
     return text
@@ -61,6 +88,11 @@ def bash(text):
 ZSH_ACTIONS = {"job": "_rvfleet_jobs", "folder": "_directories", "none": " ", "file": "_files"}
 
 
+def zsh_action(kind, value):
+    """What zsh does for a value of a kind."""
+    return f"({CHOICES[value]})" if kind == "choice" else ZSH_ACTIONS[kind]
+
+
 def zsh_quoted(text):
     return text.replace("'", "'\\''").replace("[", "\\[").replace("]", "\\]").replace(":", "\\:")
 
@@ -68,7 +100,7 @@ def zsh_quoted(text):
 def zsh_option(option):
     again = "*" if option.may_come_again else ""
     names = f"{{-{option.short},--{option.name}}}" if option.short else f"--{option.name}"
-    value = "" if option.value is None else f":{zsh_quoted(option.value)}:{ZSH_ACTIONS[kind_of_option(option)]}"
+    value = "" if option.value is None else f":{zsh_quoted(option.value)}:{zsh_action(kind_of_option(option), option.value)}"
     told = f"[{zsh_quoted(option.text)}]{value}"
     if option.short:
         return f"'{again}'{names}'{told}'"
@@ -78,7 +110,7 @@ def zsh_option(option):
 def zsh_argument(name):
     many = name.endswith("...")
     bare = name.removesuffix("...")
-    return f"'{'*' if many else ''}:{zsh_quoted(bare)}:{ZSH_ACTIONS[kind_of(bare)]}'"
+    return f"'{'*' if many else ''}:{zsh_quoted(bare)}:{zsh_action(kind_of(bare), bare)}'"
 
 
 def zsh_command(command):
@@ -119,6 +151,14 @@ def zsh(text):
 FISH_VALUES = {"job": " -x -a '(__rvfleet_jobs)'", "folder": " -x -a '(__fish_complete_directories)'", "none": " -x", "file": " -r -F"}
 
 
+def fish_value(option):
+    """What fish does for the value of an option."""
+    if option.value is None:
+        return ""
+    kind = kind_of_option(option)
+    return f" -x -a '{CHOICES[option.value]}'" if kind == "choice" else FISH_VALUES[kind]
+
+
 def fish_quoted(text):
     return text.replace("\\", "\\\\").replace("'", "\\'")
 
@@ -128,10 +168,10 @@ def fish_command(command):
     seen = f"complete -c {command.program} -n '__fish_seen_subcommand_from {command.name}'"
     for option in command.options:
         short = f" -s {option.short}" if option.short else ""
-        value = "" if option.value is None else FISH_VALUES[kind_of_option(option)]
-        lines.append(f"{seen}{short} -l {option.name}{value} -d '{fish_quoted(option.text)}'")
+        lines.append(f"{seen}{short} -l {option.name}{fish_value(option)} -d '{fish_quoted(option.text)}'")
     if [name for name, _ in command.arguments] == ["LIST", "NAME"]:
         lines.append(f"{seen} -a '(__rvfleet_jobs)'")
+    lines += [f"{seen} -f -a '{words}'" for words in argument_choices(command)]
     return "\n".join(lines)
 
 

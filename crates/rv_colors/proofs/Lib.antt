@@ -1,3 +1,4 @@
+pub mod Counting
 pub mod Courses
 pub mod Marks
 pub mod Pieces

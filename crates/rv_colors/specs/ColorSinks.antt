@@ -1,7 +1,9 @@
 -- What goes out of results that have colours, and how a sink for them goes on.
-use Rattle.std.specs.Prelude.{◌≡◌, ◌++◌, ℕ, Bool, true, false, List, [], Option, Some, None, ⊤, drop, fold, length}
+use Rattle.std.specs.Prelude.{◌≡◌, ◌==◌, ◌≤◌, ◌||◌, ◌++◌, ℕ, Bool, true, false, List, [], Option, Some, None, ⊤, drop, fold, length}
+use Rattle.std.specs.Prelude.{if◌then◌else◌}
 use Rattle.std.specs.Option.{option_map}
 use Rattle.std.specs.Io.KnownBytes.{Appends}
+use Rattle.rv_base.specs.Counts.{one_more}
 use Rattle.rv_colors.specs.Colors.{InText, beginning, colored, mark_text, place_behind, uncolored}
 use Rattle.rv_colors.specs.declared.colors.Colors.{Colors}
 use Rattle.rv_colors.specs.declared.colors.Colors.TheVariants as colors
@@ -87,6 +89,17 @@ abbrev pub IsPutBy : Course → Course → List ℕ → Option (List ℕ) → Op
 IsPutBy course.Plain next text old new = (next ≡ course.Plain) × Appends old new text
 IsPutBy (course.Colored here) next text old new = IsPutFrom here next text old new
 IsPutBy course.CutOff next text old new = (next ≡ course.CutOff) × ((text ≡ []) × (new ≡ old))
+
+-- how often the sink below failed, behind a put of so many bytes: once more where the put put none of them, or cut results off; where
+-- they were cut off before, nothing was put there
+abbrev pub failures_below : Course → Course → ℕ → ℕ → ℕ
+failures_below here next count before = if is_cut_off here then before
+    else if is_cut_off next || count == 0 then one_more before else before
+
+-- a sink failed as often as the sink below, up to a put of that one which failed and cut results off
+abbrev pub IsCounted : Course → ℕ → ℕ → Type 0
+IsCounted course.CutOff failures below = 1 ≤ below
+IsCounted _ failures below = failures ≡ below
 
 -- the results went out up to a place of a line
 pub record IsShownUpTo (here : Place) (before out : List ℕ) : Type 0 where

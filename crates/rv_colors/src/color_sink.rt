@@ -1,6 +1,6 @@
 //! A sink that gives results their colours.
 
-ghost use Rattle.std.specs.Prelude.{◌≡◌, OnOk, is_err};
+ghost use Rattle.std.specs.Prelude.{◌≡◌, ◌≤◌, IfErr, OnOk, is_err};
 ghost use Rattle.rv_colors.specs.ColorSinks.{IsOut, IsOutInPart, first_course, is_cut_off, results_of};
 
 use crate::colors::Colors;
@@ -38,13 +38,14 @@ pub struct ColorSink<J: Results, S: Sink + Drop> {
 }
 
 impl<J: Results, S: Sink + Drop> Model for ColorSink<J, S> {
-    ghost use Rattle.rv_colors.specs.ColorSinks.{InColors, IsOnCourse};
+    ghost use Rattle.rv_colors.specs.ColorSinks.{InColors, IsCounted, IsOnCourse};
 
     ghost Value = { InColors S };
 
     ghost view = { λ s. record { sink = s.sink; failures = s.failures; course = s.course } };
 
-    ghost invariant = { λ s. IsOnCourse J.colors J.before (S.taken s.sink) s.course };
+    ghost invariant = { λ s. IsOnCourse J.colors J.before (S.taken s.sink) s.course
+        × IsCounted s.course s.failures (S.failed s.sink) };
 }
 
 impl<J: Results, S: Sink + Drop> ColorSink<J, S> {
@@ -65,10 +66,11 @@ impl<J: Results, S: Sink + Drop> ColorSink<J, S> {
         }
     }
 
-    /// The other sink, and whether it took the results whole: an error where a put failed with colours.
+    /// The other sink, and whether it took the results whole: an error where a put of it failed with colours.
     pub fn finish(self) -> (S, Result<(), SinkFailed>)
         ensures sink { result.0 ≡ self.sink }
         ensures told { is_err result.1 ≡ is_cut_off self.course }
+        ensures failed { IfErr result.1 (λ _. 1 ≤ S.failed self.sink) }
         ensures whole { OnOk result.1 (IsOut J.colors J.before (results_of J.colors J.before (S.taken self.sink))
             (S.taken self.sink)) }
         ensures part { IsOutInPart J.colors J.before (results_of J.colors J.before (S.taken self.sink)) (S.taken self.sink) }

@@ -2,9 +2,11 @@
 
 ghost use Rattle.std.specs.Prelude.{◌≡◌, ◌≤◌, ◌<◌, ◌++◌, ℕ, IfErr, IfOk, length, slice_index, take};
 ghost use Rattle.std.specs.Io.KnownBytes.{Appends};
+ghost use Rattle.rv_base.specs.Counts.{one_more};
 ghost use Rattle.rv_base.specs.Sinks.{AppendsBeginning};
 ghost use Rattle.rv_colors.specs.Colors.{colored, mark_before, mark_text};
-ghost use Rattle.rv_colors.specs.ColorSinks.{IsPutBy, IsPutFrom, first_course, is_cut_off};
+ghost use Rattle.rv_colors.specs.ColorSinks.{IsPutBy, IsPutFrom, failures_below, first_course, is_cut_off};
+ghost use Rattle.rv_colors.specs.declared.course.Course.TheVariants as course;
 
 use crate::colors::Colors;
 use crate::place::Place;
@@ -45,6 +47,7 @@ pub(crate) fn put_by_course<S: Sink>(sink: &mut S, course: Course, bytes: &[u8])
     requires { 0 < length bytes.now }
     ensures within { result.0 ≤ length bytes.now }
     ensures put { IsPutBy course result.1 (take result.0 bytes.now) (S.taken sink.old) (S.taken sink.new) }
+    ensures counted { S.failed sink.new ≡ failures_below course result.1 result.0 (S.failed sink.old) }
 {
     match course {
         Course::Plain => match sink.put(bytes) {
@@ -61,6 +64,7 @@ fn put_colored<S: Sink>(sink: &mut S, place: Place, bytes: &[u8]) -> (usize, Cou
     requires { 0 < length bytes.now }
     ensures within { result.0 ≤ length bytes.now }
     ensures put { IsPutFrom place result.1 (take result.0 bytes.now) (S.taken sink.old) (S.taken sink.new) }
+    ensures counted { S.failed sink.new ≡ failures_below (course.Colored place) result.1 result.0 (S.failed sink.old) }
 {
     let mut at = 0;
     let mut here = place;
@@ -84,6 +88,8 @@ fn put_piece<S: Sink>(sink: &mut S, place: Place, bytes: &[u8]) -> Result<usize,
     ensures colored { IfOk result (λ count. Appends (S.taken sink.old) (S.taken sink.new) (colored place (take count bytes.now))) }
     ensures part { IfErr result (λ _. AppendsBeginning (S.taken sink.old) (S.taken sink.new)
         (mark_text (mark_before place (slice_index bytes.now 0)))) }
+    ensures counted { IfOk result (λ _. S.failed sink.new ≡ S.failed sink.old) }
+    ensures failure { IfErr result (λ _. S.failed sink.new ≡ one_more (S.failed sink.old)) }
 {
     let mark = place.mark_before(bytes[0]);
     put_all(sink, mark.text().as_bytes())?;

@@ -8,7 +8,7 @@ use Rattle.rv_cli.specs.declared.rvtest.requests.Asked.{Asked}
 use Rattle.rv_cli.specs.declared.rvtest.requests.Asked.TheVariants as asked
 use Rattle.rvtest_app.specs.Colors.{IsSaidInColors, asked_colors}
 use Rattle.rvtest_app.specs.Consoles.{IsConsolePut}
-use Rattle.rvtest_app.specs.HelpTopics.{list_topic}
+use Rattle.rvtest_app.specs.HelpTopics.{IsTopicTold}
 use Rattle.rvtest_app.specs.Lists.{IsListPut}
 use Rattle.rvtest_app.specs.Merges.{IsMergedAt}
 use Rattle.rvtest_app.specs.Reports.{IsCheckAt, IsDiffAt, IsExplanationAt}
@@ -38,7 +38,7 @@ IsDone known (asked.Diff words) status before after =
 IsDone known (asked.Show words) status before after =
     IsShownAt known words status before after
 IsDone known (asked.Help words) status before after =
-    (text : List ℕ) × (((words.topic.now ≡ list_topic) × (status ≡ 0))
+    (text : List ℕ) × (IsTopicTold words.topic.now text status
     × IsOnlyPut text before after)
 
 -- a command did what is asked for, and standard output took its results in the colours that are asked for, where it is a terminal

@@ -4,10 +4,15 @@ use Rattle.rv_command.specs.Stops.{IsStop}
 use Rattle.rv_command.specs.declared.stop.Stop.{Stop}
 use Rattle.rv_command.specs.declared.stop.Stop.TheVariants as stop
 use Rattle.rv_text.specs.Printable.{printable_value}
+use Rattle.rvtest_app.specs.declared.list_keys.TheConstants.{LIST_KEYS}
 
 -- of the format of a list its keys are told
 abbrev pub list_topic : List ℕ
 list_topic = codes "list"
+
+-- what is told of a topic: of the format of a list all its keys, and of no other topic anything
+abbrev pub IsTopicTold : List ℕ → List ℕ → ℕ → Type 0
+IsTopicTold topic text status = (topic ≡ list_topic) × ((text ≡ LIST_KEYS.now) × (status ≡ 0))
 
 abbrev pub no_topic_message : List ℕ → List ℕ
 no_topic_message topic = codes "rvtest: nothing is told of '" ++ printable_value topic

@@ -2,7 +2,7 @@
 
 ghost use Rattle.std.specs.Prelude.{◌≡◌, IfErr, IfOk};
 ghost use Rattle.rv_command.specs.Stops.{IsStop};
-ghost use Rattle.rvtest_app.specs.HelpTopics.{IsNoTopicStop, list_topic, no_topic_message};
+ghost use Rattle.rvtest_app.specs.HelpTopics.{IsNoTopicStop, IsTopicTold, no_topic_message};
 
 use crate::findings::Found;
 use crate::list_keys::LIST_KEYS;
@@ -13,8 +13,7 @@ use std::alloc::{AllocError, Global};
 
 /// Tells the keys of a list, which are the only topic.
 pub(crate) fn tell_topic(alloc: Global, asked: HelpAsked<'_>) -> Result<Found, Stop>
-    ensures topic { IfOk result (λ found. asked.entry.topic.now ≡ list_topic) }
-    ensures done { IfOk result (λ found. found.status ≡ 0) }
+    ensures told { IfOk result (λ found. IsTopicTold asked.entry.topic.now found.text.items found.status) }
     ensures stopped { IfErr result (IsNoTopicStop asked.entry.topic.now) }
 {
     if asked.topic != "list" {

@@ -8,8 +8,8 @@ returns-clause-explained g c =
     IfOk-both c.explain_planned_job.result _ _ _
     (λ found text judged. record {
       plan = c.in_ok-plan.plan;
-      listed = gathered.jobs ∙ c.with_budget.ensures.jobs;
-      paths = search (rules, rw c.with_budget.ensures.jobs at gathered.paths);
+      listed = gathered.jobs ∙ c.with_budget-jobs.ensures.jobs;
+      paths = search (rules, rw c.with_budget-jobs.ensures.jobs at gathered.paths);
       kept = rw (c.new-store.ensures.inputs, c.new-store.ensures.folder) at gathered.kept;
       unread = c.unread_paths.result.now;
       noted = ap length c.unread_paths.ensures ∙ (rw c.new-store.ensures.nothing at gathered.faults);

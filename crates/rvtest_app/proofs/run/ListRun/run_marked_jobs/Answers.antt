@@ -7,27 +7,26 @@ pub returns-clause-run : goal.returns-clause-run
 returns-clause-run g c =
     let found = c.in-Ok-gather_jobs_at.ensures in
     let noted = rw (
-      c.as_slice-4.ensures.value,
-      c.in-Ok-missing_images_note.ensures,
-      c.len-count.ensures,
       c.as_slice-3.ensures.value,
+      c.in-Ok-missing_images_note.ensures,
+      c.as_slice-count.ensures.value,
       c.in-Ok.ensures.value,
       c.as_slice.ensures.value,
     ) at c.put_message.ensures in
     IfOk-beside c.run_planned_jobs.result.1 _ _ _
     (λ status judged put. record {
       plan = c.in-Ok-gather_jobs_at.plan;
-      unread = c.unread_paths.result.now;
+      unread = c.unread_paths-unread.result.now;
       planned = record {
-        listed = found.jobs ∙ c.with_budget.ensures.jobs;
+        listed = found.jobs ∙ c.with_budget-jobs.ensures.jobs;
         paths = rw (
           c.as_slice-2.ensures.value,
           c.in-Ok.ensures.value,
           c.as_slice.ensures.value,
-          c.with_budget.ensures.jobs,
+          c.with_budget-jobs.ensures.jobs,
         ) at found.paths;
         kept = rw (c.new-store.ensures.inputs, c.new-store.ensures.folder) at found.kept;
-        noted = ap length c.unread_paths.ensures ∙ rw c.new-store.ensures.nothing at found.faults;
+        noted = ap length c.unread_paths-unread.ensures ∙ rw c.new-store.ensures.nothing at found.faults;
       };
       judged = judged;
       middle = said g.F.Outputs.placed g.O.Sink.taken g.E.Sink.taken g.E.Sink.failed
@@ -35,10 +34,10 @@ returns-clause-run g c =
       noted = (refl, noted, refl);
       put = put;
     })
-    (rw (c.as_slice-5.ensures.value, c.in-Ok.ensures.value, c.as_slice.ensures.value, c.requires)
+    (rw (c.as_slice-4.ensures.value, c.in-Ok.ensures.value, c.as_slice.ensures.value, c.requires)
     at c.run_planned_jobs.ensures.status)
     (rw (
-      c.as_slice-5.ensures.value,
+      c.as_slice-4.ensures.value,
       c.in-Ok.ensures.value,
       c.as_slice.ensures.value,
       c.requires,
@@ -51,22 +50,22 @@ returns-clause-undone g c =
     OnErr-map c.run_planned_jobs.result.1 _ _
     (⊎_elim inl (λ placed. inr (record {
       plan = c.in-Ok-gather_jobs_at.plan;
-      unread = c.unread_paths.result.now;
+      unread = c.unread_paths-unread.result.now;
       planned = record {
-        listed = found.jobs ∙ c.with_budget.ensures.jobs;
+        listed = found.jobs ∙ c.with_budget-jobs.ensures.jobs;
         paths = rw (
           c.as_slice-2.ensures.value,
           c.in-Ok.ensures.value,
           c.as_slice.ensures.value,
-          c.with_budget.ensures.jobs,
+          c.with_budget-jobs.ensures.jobs,
         ) at found.paths;
         kept = rw (c.new-store.ensures.inputs, c.new-store.ensures.folder) at found.kept;
-        noted = ap length c.unread_paths.ensures ∙ rw c.new-store.ensures.nothing at found.faults;
+        noted = ap length c.unread_paths-unread.ensures ∙ rw c.new-store.ensures.nothing at found.faults;
       };
       placed = placed;
     })))
     (rw (
-      c.as_slice-5.ensures.value,
+      c.as_slice-4.ensures.value,
       c.in-Ok.ensures.value,
       c.as_slice.ensures.value,
       c.requires,
