@@ -15,9 +15,9 @@ loop-at-preserved c = rw c.drop_expectations.ensures
 pub invariant_of-result : goal.invariant_of-result
 invariant_of-result c =
     let ended : length c.args.self ≤ c.loop-at.at =
-        omega (arith, c.loop-at-test.false, c.len-at-end.ensures, ap length c.self.view_is) in
+    omega (arith, c.loop-at-test.false, c.len-at-end.ensures, ap length c.self.view_is) in
     let all : c.loop-at.items.items ≡ map without_expectations c.args.self = c.loop-at.invariant
-        ∙ rw (take_all c.loop-at.at c.args.self ended, drop_of_length-le c.args.self ended)
-        (append-nil (map without_expectations c.args.self)) in
+    ∙ rw (take_all c.loop-at.at c.args.self ended, drop_of_length-le c.args.self ended)
+    (append-nil (map without_expectations c.args.self)) in
     rw all (jobs_changed without_expectations (λ k job is. record { script = is.script; named = is.named; earlier = tt })
     c.args.self (subst AreJobs c.self.view_is c.self.invariant))
