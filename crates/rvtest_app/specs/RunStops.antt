@@ -10,9 +10,12 @@ use Rattle.rv_command.specs.declared.stop.Stop.{Stop}
 use Rattle.rv_command.specs.declared.stop.Stop.TheVariants as stop
 use Rattle.rv_lists.specs.JobList.{job_list_of}
 use Rattle.rv_lists.specs.declared.job.Job.{Job}
+use Rattle.rv_report.specs.declared.row.Row.{Row}
 use Rattle.rv_report.specs.declared.saved.Shard.{Shard}
 use Rattle.rv_stream.specs.declared.error.StreamError.{StreamError}
 use Rattle.rvtest_app.specs.Commands.{failure_rule, stop_of_stream}
+use Rattle.rvtest_app.specs.IntoReports.{run_report_path}
+use Rattle.rvtest_app.specs.IntoStops.{IsIntoStop}
 use Rattle.rvtest_app.specs.PutStops.{IsOutputStop}
 use Rattle.rvtest_app.specs.Runs.{AreRequestedJobs}
 
@@ -21,10 +24,11 @@ abbrev pub IsUnmarkedStop : Option FileContents → RunAsked → List Job → St
 IsUnmarkedStop known words jobs why = IsShardStop words.shard words.stamp why
     ⊎ ((is_some words.shard ≡ false) × IsChoiceStop known words (failure_rule words.lenient) jobs why)
 
--- a text is no list, or words ask for none of its jobs
+-- a text is no list; or the report that words name is not the whole one of its jobs, or they ask for none of these
 abbrev pub IsUnlistedStop : Option FileContents → RunAsked → List ℕ → Stop → Type 0
 IsUnlistedStop known words text why = IsListFaultStop words.list.now text why
-    ⊎ ((jobs : List Job) × ((job_list_of text ≡ Ok jobs) × IsUnmarkedStop known words jobs why))
+    ⊎ ((jobs : List Job) × ((job_list_of text ≡ Ok jobs)
+    × (IsIntoStop known words jobs why ⊎ IsUnmarkedStop known words jobs why)))
 
 -- the list was not read, or it has no jobs that words ask for
 abbrev pub IsUnrequestedStop : Option FileContents → RunAsked → Stop → Type 0
@@ -38,15 +42,16 @@ IsStreamStop why = (error : StreamError) × (why ≡ stop_of_stream error)
 -- jobs that are asked for were not run, or the results or a file did not go out
 abbrev pub IsRunPutStop : RunAsked → Stop → Type 0
 IsRunPutStop words why = (why ≡ stop.NoWorker)
-    ⊎ IsOutputStop (optional_text words.report) (optional_text words.junit) why
+    ⊎ IsOutputStop (run_report_path words) (optional_text words.junit) why
 
 -- the jobs of the list that words ask for were found, and that happened
 pub record IsUnfinishedStop (known : Option FileContents) (words : RunAsked) (why : Stop) : Type 0 where
   pub jobs : List Job
   pub marks : List Bool
   pub shard : Option Shard
+  pub old : Option (List Row)
   pub notes : List ℕ
-  pub asked : AreRequestedJobs known words jobs (Some marks) shard notes
+  pub asked : AreRequestedJobs known words jobs (Some marks) shard old notes
   pub put : IsRunPutStop words why
 
 -- `run`: no jobs were found that words ask for, or they were, and the run was not finished
