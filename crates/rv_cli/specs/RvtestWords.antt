@@ -272,8 +272,9 @@ suite_misuse rows = if is_option_given (codes "suite") rows && not (is_option_gi
 -- JUnit's XML goes where a report goes, be that a file or standard output; or its suite is not as it may be
 abbrev pub files_misuse : List Row → Option Misuse
 files_misuse rows =
-    if option_map_or (λ path. is_report_path path rows || is_into_path path rows) (first_of (codes "junit") rows) false
-    then Some misuse.OneFile else suite_misuse rows
+    if option_map_or (λ path. is_report_path path rows) (first_of (codes "junit") rows) false then Some misuse.OneFile
+    else if option_map_or (λ path. is_into_path path rows) (first_of (codes "junit") rows) false
+    then Some misuse.IntoOneFile else suite_misuse rows
 
 -- the first of the rules that options of `run` break: --verbose and --quiet do not stand beside
 -- one another, nor a shard beside a choice, nor a budget beside what makes rows that a list is known by, nor a report of the rows
@@ -326,6 +327,8 @@ misuse_text misuse.NamelessSuite = codes "a value is required for '--suite <NAME
 misuse_text misuse.UnknownColor = codes "the value of '--color <WHEN>' is always, never or auto"
 misuse_text misuse.OneFile =
     codes "the argument '--report <FILE>' cannot be used with '--junit <FILE>' of the same name: it is one file"
+misuse_text misuse.IntoOneFile =
+    codes "the argument '--into <FILE>' cannot be used with '--junit <FILE>' of the same name: it is one file"
 
 -- the faults of a subcommand with these values that `clap` does not look for
 abbrev pub subcommand_fault_kinds : Text → List Row → Kinds

@@ -35,6 +35,8 @@ pub(crate) enum Misuse {
     UnknownColor,
     /// A report and JUnit's XML that go to one file.
     OneFile,
+    /// Rows that are put into a report, and JUnit's XML, that go to one file.
+    IntoOneFile,
 }
 
 impl Misuse {
@@ -57,7 +59,8 @@ impl Misuse {
             | Misuse::IntoAndReport
             | Misuse::FailedIsReport
             | Misuse::StepsAndSlower
-            | Misuse::OneFile => ErrorKind::ArgumentConflict,
+            | Misuse::OneFile
+            | Misuse::IntoOneFile => ErrorKind::ArgumentConflict,
         }
     }
 
@@ -94,6 +97,9 @@ impl Misuse {
             Misuse::OneFile => {
                 "the argument '--report <FILE>' cannot be used with '--junit <FILE>' of the same name: it is one file"
             }
+            Misuse::IntoOneFile => {
+                "the argument '--into <FILE>' cannot be used with '--junit <FILE>' of the same name: it is one file"
+            }
         }
     }
 }
@@ -103,9 +109,8 @@ pub(crate) fn files_misuse(values: &ArgMatches<'_>) -> Option<Misuse>
     ensures { result ≡ files_misuse (rows_of (found_of values.now)) }
 {
     match text_value(values, "junit") {
-        Some(path) if is_report_path(values, path) || is_into_path(values, path) => {
-            Some(Misuse::OneFile)
-        }
+        Some(path) if is_report_path(values, path) => Some(Misuse::OneFile),
+        Some(path) if is_into_path(values, path) => Some(Misuse::IntoOneFile),
         _ => suite_misuse(values),
     }
 }
