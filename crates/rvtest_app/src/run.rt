@@ -306,8 +306,8 @@ impl<'x, R: Threads + Wait + Sync + Clock, D: Inputs> ListRun<'x, R, D> {
     {
         let (alloc, asked) = (self.host.alloc, self.asked);
         let mut to = to;
-        let path = run_report_path(asked);
-        let outlets = match open_outlets(&mut to.files, alloc, path, asked.junit) {
+        let report = run_report_path(asked);
+        let outlets = match open_outlets(&mut to.files, alloc, report, asked.junit) {
             Ok(outlets) => outlets,
             Err(stop) => return (to, Err(stop)),
         };
