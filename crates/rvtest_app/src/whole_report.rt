@@ -52,9 +52,7 @@ pub(crate) fn read_whole_report<D: Inputs>(
     let report = read_report_file(inputs, alloc, path)?;
     match not_whole(&report, jobs) {
         None => Ok(report.rows),
-        Some(other) => Err(Stop::of_refusal(not_whole_refusal(
-            alloc, path, list, other,
-        ))),
+        Some(other) => Err(Stop::of_refusal(not_whole_refusal(alloc, path, list, other))),
     }
 }
 
