@@ -134,7 +134,7 @@ def check_into(row):
         if (whole := (row.folder / "whole").read_bytes()) != found:
             row.fails(words, (0, whole, b"whole"), (0, found, b"report"))
     junit = row.folder / "junit.xml"
-    cases = re.findall('<testcase name="([^"]*)"', junit.read_text(encoding="utf-8")) if junit.exists() else []
+    cases = re.findall('<testcase classname="list" name="([^"]*)"', junit.read_text(encoding="utf-8")) if junit.exists() else []
     if cases != row["junit"].split():
         raise ValueError(f"junit.xml has {' '.join(cases) or 'no job'}, and not {row['junit'] or 'none'}")
 
