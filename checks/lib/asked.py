@@ -129,8 +129,12 @@ def check_into(row):
     then = report_bytes(row["then"]) if row["then"] else old
     if (found := (row.folder / "report").read_bytes()) != then:
         row.fails(words, (0, then, b"report"), (0, found, b"report"))
+    if row["whole"]:
+        row.run(["run", "list.toml", "--quiet", "--report", "whole"])
+        if (whole := (row.folder / "whole").read_bytes()) != found:
+            row.fails(words, (0, whole, b"whole"), (0, found, b"report"))
     junit = row.folder / "junit.xml"
-    cases = re.findall('<testcase name="([^"]*)"', junit.read_text(encoding="utf-8")) if junit.exists() else []
+    cases = re.findall('<testcase classname="list" name="([^"]*)"', junit.read_text(encoding="utf-8")) if junit.exists() else []
     if cases != row["junit"].split():
         raise ValueError(f"junit.xml has {' '.join(cases) or 'no job'}, and not {row['junit'] or 'none'}")
 
@@ -156,7 +160,7 @@ FORMS = {
     "choices": Form(check_choice, "jobs words failed status chosen said"),
     "full": Form(check_full_disk, "words said not_there"),
     "help": Form(check_help, "words shown"),
-    "into": Form(check_into, "jobs words old status shown said then junit"),
+    "into": Form(check_into, "jobs words old status shown said then whole junit"),
     "lines": Form(check_lines, "list begins"),
     "misused": Form(check_misused, "words begins has"),
     "words": Form(check_words, "words status shown said files"),
