@@ -112,7 +112,7 @@ fn not_whole_refusal<'a>(
     list: &'a str,
     other: NotWhole<'a>,
 ) -> Result<Vec<u8>, AllocError>
-    ensures { IfOk result (λ text. text.items ≡ not_whole_refusal path.now list.now other) }
+    ensures { IfOk result (λ text. text.items ≡ not_whole_refusal path.now list.now other.entry) }
 {
     match other {
         NotWhole::Part(rows, jobs) => part_refusal(alloc, path, rows, jobs),
@@ -177,7 +177,7 @@ fn name_refusal<'a>(
     name: OtherName<'a>,
 ) -> Result<Vec<u8>, AllocError>
     ensures { IfOk result (λ text. text.items
-        ≡ name_refusal path.now list.now name.number name.met.now name.listed.now) }
+        ≡ name_refusal path.now list.now name.entry.number name.entry.met.now name.entry.listed.now) }
 {
     text_of_spans(
         alloc,
