@@ -51,17 +51,26 @@ judged_by_known (Some file) has_passed name = judged_in_file file.path has_passe
 abbrev pub judgement : Judging → Row → Judged
 judgement judging row = judged_by_known judging.known (has_passed judging.rule row) row.name
 
--- what counts as a failure, and what as known
+-- what counts as a failure, as passed, and as known
 abbrev pub is_failing : Judged → Bool
 is_failing passed = false
 is_failing failed = true
 is_failing (known reason) = false
 is_failing (now_passes path) = true
 
+abbrev pub is_passed : Judged → Bool
+is_passed passed = true
+is_passed _ = false
+
 abbrev pub is_known_failure : Judged → Bool
 is_known_failure (known reason) = true
 is_known_failure _ = false
 
--- a row fails
+-- it failed, and is not known to
+abbrev pub is_unknown_failure : Judged → Bool
+is_unknown_failure failed = true
+is_unknown_failure _ = false
+
+-- a row counts as a failure
 abbrev pub fails : Judging → Row → Bool
 fails judging row = is_failing (judgement judging row)

@@ -2,7 +2,7 @@
 
 ghost use Rattle.std.specs.Prelude.{◌≡◌};
 ghost use Rattle.std.specs.List.{list_any};
-ghost use Rattle.rv_expect.specs.Judgement.{fails, is_failing, is_known_failure, judged_in_file, judged_of, judged_unknown};
+ghost use Rattle.rv_expect.specs.Judgement.{fails, is_failing, is_known_failure, is_passed, is_unknown_failure, judged_in_file, judged_of, judged_unknown};
 ghost use Rattle.rv_expect.specs.Judgement.{judgement, judging_by_rule, judging_of};
 ghost use Rattle.rv_known.specs.KnownJobs.{reason_of};
 
@@ -71,6 +71,26 @@ impl<'k> Judgement<'k> {
         match self {
             Judgement::Failed | Judgement::NowPasses(_) => true,
             Judgement::Passed | Judgement::Known(_) => false,
+        }
+    }
+
+    /// Whether it is a row that passed, and is not known to fail.
+    pub fn is_passed(self) -> bool
+        ensures { result ≡ is_passed (judged_of self) }
+    {
+        match self {
+            Judgement::Passed => true,
+            Judgement::Failed | Judgement::Known(_) | Judgement::NowPasses(_) => false,
+        }
+    }
+
+    /// Whether it is a failure that is not known.
+    pub fn is_unknown_failure(self) -> bool
+        ensures { result ≡ is_unknown_failure (judged_of self) }
+    {
+        match self {
+            Judgement::Failed => true,
+            Judgement::Passed | Judgement::Known(_) | Judgement::NowPasses(_) => false,
         }
     }
 
