@@ -3,6 +3,7 @@
 ghost use Rattle.std.specs.Prelude.{◌≡◌};
 
 use crate::progress::Progress;
+use rv_expect::Judge;
 use rv_rows::{Row, Telling};
 use std::alloc::{AllocError, Global};
 use std::io::Write;
@@ -11,16 +12,18 @@ use std::time::Clock;
 
 /// Tells what another telling tells, and counts each row that is told.
 #[derive(Drop)]
-pub struct CountingTelling<'r, 't, 'p, R: Clock + Wait, T: Telling, W: Drop> {
+pub struct CountingTelling<'r, 't, 'p, 'k, R: Clock + Wait, T: Telling, W: Drop> {
     rt: &'r R,
     telling: &'t T,
+    judge: Judge<'k>,
     progress: &'p Progress<W>,
 }
 
-impl<'r, 't, 'p, R: Clock + Wait, T: Telling, W: Write + Drop> CountingTelling<
+impl<'r, 't, 'p, 'k, R: Clock + Wait, T: Telling, W: Write + Drop> CountingTelling<
     'r,
     't,
     'p,
+    'k,
     R,
     T,
     W,
@@ -28,20 +31,22 @@ impl<'r, 't, 'p, R: Clock + Wait, T: Telling, W: Write + Drop> CountingTelling<
     pub fn new(
         rt: &'r R,
         telling: &'t T,
+        judge: Judge<'k>,
         progress: &'p Progress<W>,
-    ) -> CountingTelling<'r, 't, 'p, R, T, W>
+    ) -> CountingTelling<'r, 't, 'p, 'k, R, T, W>
         ensures { result.telling.now ≡ telling.now }
     {
         CountingTelling {
             rt,
             telling,
+            judge,
             progress,
         }
     }
 }
 
-impl<'r, 't, 'p, R: Clock + Wait, T: Telling, W: Write + Drop> Telling
-    for CountingTelling<'r, 't, 'p, R, T, W> {
+impl<'r, 't, 'p, 'k, R: Clock + Wait, T: Telling, W: Write + Drop> Telling
+    for CountingTelling<'r, 't, 'p, 'k, R, T, W> {
     ghost line = { λ counting place row. T.line counting.telling.now place row };
 
     fn push_row_text(
@@ -52,7 +57,7 @@ impl<'r, 't, 'p, R: Clock + Wait, T: Telling, W: Write + Drop> Telling
         text: &mut Vec<u8>,
     ) -> Result<(), AllocError> {
         self.telling.push_row_text(alloc, place, row, text)?;
-        self.progress.count_row(self.rt, alloc, row);
+        self.progress.count_row(self.rt, alloc, &self.judge, row);
         Ok(())
     }
 }

@@ -1,12 +1,10 @@
 //! How many jobs are done and failed, and the line that says so.
 
-ghost use Rattle.std.specs.Prelude.{◌≡◌, ◌++◌, ◌+◌, ◌-◌, ◌∷◌, ◌^◌, ◌<◌, [], List, length};
-ghost use Rattle.rv_progress.specs.Tallies.{IsTallyOf};
-ghost use Rattle.rv_rows.specs.declared_row.Row.{Row as ARow};
+ghost use Rattle.std.specs.Prelude.{◌≡◌, ◌-◌};
 
 use crate::tally::Tally;
 use crate::terminal_line::{Counts, Line};
-use rv_expect::Rule;
+use rv_expect::Judge;
 use rv_rows::Row;
 use std::alloc::Global;
 use std::io::Write;
@@ -18,7 +16,6 @@ use std::time::Clock;
 #[derive(Drop)]
 pub struct Progress<W: Drop> {
     jobs: u64,
-    rule: Rule,
     is_terminal: bool,
     // A lock of its own: to count waits for no terminal.
     tally: Mutex<Tally>,
@@ -30,33 +27,29 @@ pub struct Progress<W: Drop> {
 }
 
 impl<W: Write + Drop> Progress<W> {
-    /// Of a run of so many jobs, which fail by a rule. The line is shown on `out`, where that is a terminal, and from
+    /// Of a run of so many jobs. The line is shown on `out`, where that is a terminal, and from
     /// the next tenth of a second of the clock on: a run that is done before has none.
     pub fn new<C: Clock>(
         clock: &C,
         jobs: usize,
-        rule: Rule,
         out: W,
         is_terminal: bool,
     ) -> Progress<W>
         ensures jobs { result.jobs ≡ jobs }
-        ensures rule { result.rule ≡ rule }
         ensures terminal { result.is_terminal ≡ is_terminal }
     {
         let start = clock_tenths(clock).unwrap_or(0);
-        Progress::from_start(start, jobs, rule, out, is_terminal)
+        Progress::from_start(start, jobs, out, is_terminal)
     }
 
     // Of a run that begins in a tenth of a second of the clock.
-    fn from_start(start: u64, jobs: usize, rule: Rule, out: W, is_terminal: bool) -> Progress<W>
+    fn from_start(start: u64, jobs: usize, out: W, is_terminal: bool) -> Progress<W>
         ensures start { result.start ≡ start }
         ensures jobs { result.jobs ≡ jobs }
-        ensures rule { result.rule ≡ rule }
         ensures terminal { result.is_terminal ≡ is_terminal }
     {
         Progress {
             jobs: jobs as u64,
-            rule,
             is_terminal,
             tally: Mutex::new(Tally::new()),
             start,
@@ -69,7 +62,6 @@ impl<W: Write + Drop> Progress<W> {
     pub fn finish(self) -> W {
         let Progress {
             jobs: _,
-            rule: _,
             is_terminal: _,
             tally: _,
             start: _,
@@ -80,14 +72,20 @@ impl<W: Write + Drop> Progress<W> {
         out
     }
 
-    /// Counts a row. Where a tenth of a second has passed since the line was shown last, and no other thread writes to
+    /// Counts a row, as a judge does. Where a tenth of a second has passed since the line was shown last, and no other thread writes to
     /// the terminal, it is shown again.
-    pub(crate) fn count_row<R: Clock + Wait>(&self, rt: &R, alloc: Global, row: &Row) {
+    pub(crate) fn count_row<R: Clock + Wait>(
+        &self,
+        rt: &R,
+        alloc: Global,
+        judge: &Judge<'_>,
+        row: &Row,
+    ) {
         if !self.is_terminal {
             return;
         }
         let mut tally = self.tally.lock(rt);
-        self.count_in_tally(&mut tally, row);
+        tally.count_row(judge, row);
         drop(tally);
         if !self.claim_line_turn(rt) {
             return;
@@ -96,14 +94,6 @@ impl<W: Write + Drop> Progress<W> {
             // What the terminal does not take is passed over.
             let _shown = line.show_counts(alloc, self.counts(rt));
         }
-    }
-
-    // Counts one more row, by the rule of the run.
-    fn count_in_tally(&self, tally: &mut Tally, row: &Row)
-        ensures { (rows : List ARow) → length rows + 1 < 2 ^ 64 → IsTallyOf self.now.rule rows tally.old
-            → IsTallyOf self.now.rule (rows ++ row.now ∷ []) tally.new }
-    {
-        tally.count_row(self.rule, row);
     }
 
     // Whether no line was shown in this tenth of a second. Of the threads that ask in one, one is answered so.
