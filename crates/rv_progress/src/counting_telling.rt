@@ -3,7 +3,6 @@
 ghost use Rattle.std.specs.Prelude.{◌≡◌};
 
 use crate::progress::Progress;
-use rv_expect::Judge;
 use rv_rows::{Row, Telling};
 use std::alloc::{AllocError, Global};
 use std::io::Write;
@@ -15,8 +14,7 @@ use std::time::Clock;
 pub struct CountingTelling<'r, 't, 'p, 'k, R: Clock + Wait, T: Telling, W: Drop> {
     rt: &'r R,
     telling: &'t T,
-    judge: Judge<'k>,
-    progress: &'p Progress<W>,
+    progress: &'p Progress<'k, W>,
 }
 
 impl<'r, 't, 'p, 'k, R: Clock + Wait, T: Telling, W: Write + Drop> CountingTelling<
@@ -31,15 +29,13 @@ impl<'r, 't, 'p, 'k, R: Clock + Wait, T: Telling, W: Write + Drop> CountingTelli
     pub fn new(
         rt: &'r R,
         telling: &'t T,
-        judge: Judge<'k>,
-        progress: &'p Progress<W>,
+        progress: &'p Progress<'k, W>,
     ) -> CountingTelling<'r, 't, 'p, 'k, R, T, W>
         ensures { result.telling.now ≡ telling.now }
     {
         CountingTelling {
             rt,
             telling,
-            judge,
             progress,
         }
     }
@@ -57,7 +53,7 @@ impl<'r, 't, 'p, 'k, R: Clock + Wait, T: Telling, W: Write + Drop> Telling
         text: &mut Vec<u8>,
     ) -> Result<(), AllocError> {
         self.telling.push_row_text(alloc, place, row, text)?;
-        self.progress.count_row(self.rt, alloc, &self.judge, row);
+        self.progress.count_row(self.rt, alloc, row);
         Ok(())
     }
 }

@@ -1,6 +1,9 @@
 //! How many jobs are done and failed, and the line that says so.
 
-ghost use Rattle.std.specs.Prelude.{◌≡◌, ◌-◌};
+ghost use Rattle.std.specs.Prelude.{◌≡◌, ◌++◌, ◌+◌, ◌-◌, ◌∷◌, ◌^◌, ◌<◌, [], List, length};
+ghost use Rattle.rv_progress.specs.Tallies.{IsTallyOf};
+ghost use Rattle.rv_expect.specs.Judgement.{judging_of};
+ghost use Rattle.rv_rows.specs.declared_row.Row.{Row as ARow};
 
 use crate::tally::Tally;
 use crate::terminal_line::{Counts, Line};
@@ -14,8 +17,9 @@ use std::time::Clock;
 
 /// How many jobs of a run are done and failed, and a terminal that shows it in one line. Workers share it.
 #[derive(Drop)]
-pub struct Progress<W: Drop> {
+pub struct Progress<'k, W: Drop> {
     jobs: u64,
+    judge: Judge<'k>,
     is_terminal: bool,
     // A lock of its own: to count waits for no terminal.
     tally: Mutex<Tally>,
@@ -26,30 +30,40 @@ pub struct Progress<W: Drop> {
     line: Mutex<Line<W>>,
 }
 
-impl<W: Write + Drop> Progress<W> {
-    /// Of a run of so many jobs. The line is shown on `out`, where that is a terminal, and from
+impl<'k, W: Write + Drop> Progress<'k, W> {
+    /// Of a run of so many jobs, whose rows a judge counts. The line is shown on `out`, where that is a terminal, and from
     /// the next tenth of a second of the clock on: a run that is done before has none.
     pub fn new<C: Clock>(
         clock: &C,
         jobs: usize,
+        judge: Judge<'k>,
         out: W,
         is_terminal: bool,
-    ) -> Progress<W>
+    ) -> Progress<'k, W>
         ensures jobs { result.jobs ≡ jobs }
+        ensures judge { judging_of result.judge ≡ judging_of judge }
         ensures terminal { result.is_terminal ≡ is_terminal }
     {
         let start = clock_tenths(clock).unwrap_or(0);
-        Progress::from_start(start, jobs, out, is_terminal)
+        Progress::from_start(start, jobs, judge, out, is_terminal)
     }
 
     // Of a run that begins in a tenth of a second of the clock.
-    fn from_start(start: u64, jobs: usize, out: W, is_terminal: bool) -> Progress<W>
+    fn from_start(
+        start: u64,
+        jobs: usize,
+        judge: Judge<'k>,
+        out: W,
+        is_terminal: bool,
+    ) -> Progress<'k, W>
         ensures start { result.start ≡ start }
         ensures jobs { result.jobs ≡ jobs }
+        ensures judge { judging_of result.judge ≡ judging_of judge }
         ensures terminal { result.is_terminal ≡ is_terminal }
     {
         Progress {
             jobs: jobs as u64,
+            judge,
             is_terminal,
             tally: Mutex::new(Tally::new()),
             start,
@@ -62,6 +76,7 @@ impl<W: Write + Drop> Progress<W> {
     pub fn finish(self) -> W {
         let Progress {
             jobs: _,
+            judge: _,
             is_terminal: _,
             tally: _,
             start: _,
@@ -72,20 +87,14 @@ impl<W: Write + Drop> Progress<W> {
         out
     }
 
-    /// Counts a row, as a judge does. Where a tenth of a second has passed since the line was shown last, and no other thread writes to
+    /// Counts a row. Where a tenth of a second has passed since the line was shown last, and no other thread writes to
     /// the terminal, it is shown again.
-    pub(crate) fn count_row<R: Clock + Wait>(
-        &self,
-        rt: &R,
-        alloc: Global,
-        judge: &Judge<'_>,
-        row: &Row,
-    ) {
+    pub(crate) fn count_row<R: Clock + Wait>(&self, rt: &R, alloc: Global, row: &Row) {
         if !self.is_terminal {
             return;
         }
         let mut tally = self.tally.lock(rt);
-        tally.count_row(judge, row);
+        self.count_in_tally(&mut tally, row);
         drop(tally);
         if !self.claim_line_turn(rt) {
             return;
@@ -94,6 +103,14 @@ impl<W: Write + Drop> Progress<W> {
             // What the terminal does not take is passed over.
             let _shown = line.show_counts(alloc, self.counts(rt));
         }
+    }
+
+    // Counts one more row, by the judge of the run.
+    fn count_in_tally(&self, tally: &mut Tally, row: &Row)
+        ensures { (rows : List ARow) → length rows + 1 < 2 ^ 64 → IsTallyOf (judging_of self.now.judge) rows tally.old
+            → IsTallyOf (judging_of self.now.judge) (rows ++ row.now ∷ []) tally.new }
+    {
+        tally.count_row(&self.judge, row);
     }
 
     // Whether no line was shown in this tenth of a second. Of the threads that ask in one, one is answered so.
