@@ -22,6 +22,7 @@ mod help;
 mod help_topic;
 mod host;
 mod junit_class;
+mod known_file;
 mod law;
 mod list;
 mod list_keys;

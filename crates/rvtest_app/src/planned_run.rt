@@ -9,6 +9,7 @@ ghost use Rattle.rvtest_app.specs.FailureLines.{failure_lines};
 
 use rv_job_text::RowTelling;
 use rv_jobs::JobList;
+use rv_known::KnownJobs;
 use rv_kept_lines::{KeptLines, RowLines};
 use rv_report::Shard;
 use std::sync::Mutex;
@@ -31,6 +32,8 @@ pub(crate) struct MarkedJobs {
     pub(crate) jobs: JobList,
     pub(crate) marks: Vec<bool>,
     pub(crate) shard: Option<Shard>,
+    /// The jobs that are known to fail, where words name a file of them.
+    pub(crate) known: Option<KnownJobs>,
     ghost counted: { length marks.items ≡ length jobs },
 }
 
