@@ -112,16 +112,10 @@ pub(crate) fn run_requested_jobs<
     };
     put_message(&mut to.errors, notes.as_slice());
     match marks {
-        Some(marks) => run.run_marked_jobs(
-            MarkedJobs {
-                jobs,
-                marks,
-                shard,
-                known,
-            },
-            to,
-            terminals,
-        ),
+        Some(marks) => {
+            let marked = MarkedJobs { jobs, marks, shard, known };
+            run.run_marked_jobs(marked, to, terminals)
+        }
         None => (to, Ok(DONE)),
     }
 }
