@@ -59,3 +59,13 @@ single_job image budget script = record {
   isa = Imc;
   misaligned = Fault;
 }
+
+-- a job of which nothing is expected, and which names no other
+abbrev pub without_expectations : Job → Job
+without_expectations job = record job {
+  expect_exit = None;
+  expect_signature = None;
+  expect_console = None;
+  expect_end = None;
+  same_as = None;
+}

@@ -2,7 +2,7 @@
 
 ghost use Rattle.rv_base.specs.Limits.{most_budget, most_path, most_script};
 ghost use Rattle.std.specs.Prelude.{◌≡◌, ◌≤◌, ◌<◌, ◌∷◌, [], IfOk, Some, length, map, option_map, vec_len};
-ghost use Rattle.rv_lists.specs.Jobs.{AreJobs, console_path, job_with_budget, single_job, with_budget};
+ghost use Rattle.rv_lists.specs.Jobs.{AreJobs, console_path, job_with_budget, single_job, with_budget, without_expectations};
 
 use rv_base::{Bytes, Text};
 use rv_elf::LoadAt;
@@ -107,6 +107,16 @@ impl Job {
     {
         self.budget = steps;
     }
+
+    fn drop_expectations(&mut self)
+        ensures { self.new ≡ without_expectations self.old }
+    {
+        self.expect_exit = None;
+        self.expect_signature = None;
+        self.expect_console = None;
+        self.expect_end = None;
+        self.same_as = None;
+    }
 }
 
 /// 1 to 4,096 jobs in the order of their list. Contracts see their list.
@@ -185,6 +195,17 @@ impl JobList {
         ensures jobs { AreJobs self.now }
     {
         &self.items
+    }
+
+    /// The same jobs, of which nothing is expected. Takes no memory.
+    pub fn without_expectations(self) -> JobList
+        ensures { result ≡ map without_expectations self }
+    {
+        let mut items = self.items;
+        for at in 0..items.len() {
+            items[at].drop_expectations();
+        }
+        JobList { items }
     }
 
     /// Takes no memory.

@@ -1,0 +1,24 @@
+//! What a run gives in place of what its job expects: golden files, and values of a list.
+//!
+//! A job whose run ended as it is expected is accepted ([`is_accepted_end`]); a run that ended otherwise gives nothing. The jobs that name
+//! a golden file must all be accepted and give it the same text ([`fate_of_file`]). What an accepted job gives is exactly what makes
+//! its verdict a pass ([`accepted_jobs_meet_their_expectations`]).
+#![tactic(auto)]
+
+mod basic_string;
+mod claims;
+mod edits;
+mod ends;
+mod fates;
+mod law;
+mod meant;
+mod sharing;
+
+pub use basic_string::push_basic_string;
+pub use claims::{Claim, push_claims};
+pub use edits::{Edit, edited_text};
+pub use ends::{Acceptance, is_accepted_end};
+pub use fates::{Fate, fate_of_file};
+pub use meant::are_meant_jobs;
+pub use sharing::marks_to_run;
+pub use law::accepted_jobs_meet_their_expectations;
