@@ -5,24 +5,35 @@ ghost use Rattle.std.specs.List.{flat_map};
 ghost use Rattle.rv_jobs.specs.Jobs.{console_path};
 ghost use Rattle.rv_rows.specs.Report.{word_line};
 ghost use Rattle.rv_rows.specs.Verdict.{lines_of_signature};
-ghost use Rattle.rv_accept.specs.Claims.{claims_if_named, claims_of, text_if};
+ghost use Rattle.rv_accept.specs.Claims.{claims_if_named, claims_of, claims_of_run, claims_of_runs, text_if};
 
+use crate::runs::JobRun;
 use rv_jobs::{Bytes, Job, Text};
 use rv_rows::{Row, Words, word_line};
 use std::alloc::{AllocError, Global};
+
+/// What of a run a golden file holds.
+#[derive(Clone, Copy, Debug, PartialEq, Eq)]
+pub enum Part {
+    /// The console's bytes: the key `expect_console_file`.
+    Console,
+    /// The signature's lines: the key `expect_signature`.
+    Signature,
+}
 
 /// A golden file that a job names, and the text that the job gives it.
 #[derive(Drop)]
 pub struct Claim {
     /// The job's place in the list, counted from 0.
     pub job: usize,
+    pub part: Part,
     pub path: Text,
     /// Nothing where the job is left.
     pub text: Option<Bytes>,
 }
 
-/// Appends the golden files that a job names: the console's, and then the signature's. Only an accepted job gives them a text.
-pub fn push_claims(
+// Appends the golden files that a job names: the console's, and then the signature's. Only an accepted job gives them a text.
+fn push_claims(
     alloc: Global,
     claims: &mut Vec<Claim>,
     place: usize,
@@ -34,13 +45,39 @@ pub fn push_claims(
     let (job, row) = ran;
     if let Some(path) = console_path(job) {
         let text = console_if(alloc, is_accepted, row)?;
-        push_claim(alloc, claims, place, path, text)?;
+        push_claim(alloc, claims, (place, Part::Console), path, text)?;
     }
     if let Some(path) = &job.expect_signature {
         let text = signature_if(alloc, is_accepted, row)?;
-        push_claim(alloc, claims, place, path.as_str(), text)?;
+        push_claim(alloc, claims, (place, Part::Signature), path.as_str(), text)?;
     }
     Ok(())
+}
+
+/// What all jobs that were run say of golden files, in list order.
+pub fn claims_of_runs(alloc: Global, jobs: &[Job], runs: &[Option<JobRun>]) -> Result<Vec<Claim>, AllocError>
+    ensures { IfOk result (λ claims. claims.items ≡ claims_of_runs 0 jobs.now runs.now) }
+{
+    let mut claims = Vec::new(alloc);
+    for at in 0..jobs.len().min(runs.len()) {
+        push_claims_of_run(alloc, &mut claims, at, &jobs[at], &runs[at])?;
+    }
+    Ok(claims)
+}
+
+fn push_claims_of_run(
+    alloc: Global,
+    claims: &mut Vec<Claim>,
+    place: usize,
+    job: &Job,
+    run: &Option<JobRun>,
+) -> Result<(), AllocError>
+    ensures { OnOk result (claims.new.items ≡ claims.old.items ++ claims_of_run place job.now run.now) }
+{
+    match run {
+        Some(run) => push_claims(alloc, claims, place, run.left.is_none(), (job, &run.row)),
+        None => Ok(()),
+    }
 }
 
 /// The file that a job's console is expected to be as, where one is named.
@@ -56,14 +93,20 @@ pub(crate) fn console_path(job: &Job) -> Option<&str>
 fn push_claim(
     alloc: Global,
     claims: &mut Vec<Claim>,
-    job: usize,
+    of: (usize, Part),
     path: &str,
     text: Option<Bytes>,
 ) -> Result<(), AllocError>
-    ensures { OnOk result (claims.new.items ≡ claims.old.items ++ claims_if_named job text (Some path.now)) }
+    ensures { OnOk result (claims.new.items ≡ claims.old.items ++ claims_if_named of.0 of.1 text (Some path.now)) }
 {
+    let (job, part) = of;
     let path = Text::copy(alloc, path)?;
-    claims.push(Claim { job, path, text })?;
+    claims.push(Claim {
+        job,
+        part,
+        path,
+        text,
+    })?;
     Ok(())
 }
 

@@ -67,13 +67,15 @@ fn first_of_left_job<'a>(path: &str, claims: &'a [Claim]) -> Option<&'a Claim>
     claims.iter().find(|claim| is_of_left_job(path, claim))
 }
 
-fn first_on_file<'a>(path: &str, claims: &'a [Claim]) -> Option<&'a Claim>
+/// The first claim on the file at a path.
+pub fn first_on_file<'a>(path: &str, claims: &'a [Claim]) -> Option<&'a Claim>
     ensures { option_map (λ claim. claim.now) result ≡ find (names_file path.now) claims.now }
 {
     claims.iter().find(|claim| names_file(path, claim))
 }
 
-fn first_of_another_text<'a>(path: &str, text: &[u8], claims: &'a [Claim]) -> Option<&'a Claim>
+/// The first claim that gives the file at a path another text, or none.
+pub fn first_of_another_text<'a>(path: &str, text: &[u8], claims: &'a [Claim]) -> Option<&'a Claim>
     ensures { option_map (λ claim. claim.now) result
         ≡ find (gives_another_text path.now text.now) claims.now }
 {

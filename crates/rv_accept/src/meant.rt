@@ -3,28 +3,46 @@
 ghost use Rattle.std.specs.Prelude.{◌≡◌, IsTrue, option_map};
 ghost use Rattle.rv_accept.specs.Accepted.{console_met, end_met, exit_met};
 ghost use Rattle.rv_accept.specs.Meant.{meant_job, meant_jobs};
+ghost use Rattle.rv_accept.specs.Runs.{accepted_row, row_if_accepted};
 
+use crate::runs::JobRun;
 use rv_jobs::{Bytes, ExpectedConsole, ExpectedEnd, Job, Symbols, Text};
 use rv_memory::Region;
 use rv_rows::{Row, RowEnd};
 
 /// Whether these are the jobs that those of a list become, of which some are accepted, each for its row.
 #[tactic(auto, unfolding(crate::specs::Meant::meant_jobs))]
-pub fn are_meant_jobs(jobs: &[Job], accepted: &[Option<Row>], others: &[Job]) -> bool
-    ensures { IsTrue result → others.now ≡ meant_jobs jobs.now accepted.now }
+pub fn are_meant_jobs(jobs: &[Job], runs: &[Option<JobRun>], others: &[Job]) -> bool
+    ensures { IsTrue result → others.now ≡ meant_jobs jobs.now runs.now }
 {
-    match (jobs, accepted, others) {
+    match (jobs, runs, others) {
         ([], _, []) => true,
-        ([job, jobs @ ..], [row, rows @ ..], [other, others @ ..]) => {
-            is_meant_job(job, row, other) && are_meant_jobs(jobs, rows, others)
+        ([job, jobs @ ..], [run, runs @ ..], [other, others @ ..]) => {
+            is_meant_job(job, accepted_row(run), other) && are_meant_jobs(jobs, runs, others)
         }
         _ => false,
     }
 }
 
+// The row for which a job's values are replaced, if they are.
+fn accepted_row(run: &Option<JobRun>) -> Option<&Row>
+    ensures { option_map (λ row. row.now) result ≡ accepted_row run.now }
+{
+    match run {
+        Some(run) => row_if_accepted(run),
+        None => None,
+    }
+}
+
+fn row_if_accepted(run: &JobRun) -> Option<&Row>
+    ensures { option_map (λ row. row.now) result ≡ row_if_accepted run.now }
+{
+    if run.is_accepted() { Some(&run.row) } else { None }
+}
+
 // Whether a job is the one that another becomes.
-fn is_meant_job(job: &Job, accepted: &Option<Row>, other: &Job) -> bool
-    ensures { IsTrue result → other.now ≡ meant_job job.now accepted.now }
+fn is_meant_job(job: &Job, accepted: Option<&Row>, other: &Job) -> bool
+    ensures { IsTrue result → other.now ≡ meant_job job.now (option_map (λ row. row.now) accepted.entry) }
 {
     is_same_run(job, other)
         && is_same_text_option(&job.expect_signature, &other.expect_signature)
@@ -32,10 +50,13 @@ fn is_meant_job(job: &Job, accepted: &Option<Row>, other: &Job) -> bool
         && are_meant_values(job, accepted, other)
 }
 
-fn are_meant_values(job: &Job, accepted: &Option<Row>, other: &Job) -> bool
-    ensures exit { IsTrue result → other.now.expect_exit ≡ (meant_job job.now accepted.now).expect_exit }
-    ensures end { IsTrue result → other.now.expect_end ≡ (meant_job job.now accepted.now).expect_end }
-    ensures console { IsTrue result → other.now.expect_console ≡ (meant_job job.now accepted.now).expect_console }
+fn are_meant_values(job: &Job, accepted: Option<&Row>, other: &Job) -> bool
+    ensures exit { IsTrue result → other.now.expect_exit
+        ≡ (meant_job job.now (option_map (λ row. row.now) accepted.entry)).expect_exit }
+    ensures end { IsTrue result → other.now.expect_end
+        ≡ (meant_job job.now (option_map (λ row. row.now) accepted.entry)).expect_end }
+    ensures console { IsTrue result → other.now.expect_console
+        ≡ (meant_job job.now (option_map (λ row. row.now) accepted.entry)).expect_console }
 {
     match accepted {
         None => {

@@ -1,0 +1,59 @@
+-- The jobs of a list that were run, and whether they are left.
+use Rattle.std.specs.Prelude.{◌&&◌, Bool, true, false, not, ℕ, List, [], ◌∷◌, Option, Some, None, if◌then◌else◌, is_some, option_map}
+use Rattle.std.specs.Str.{is_utf8}
+use Rattle.rv_jobs.specs.declared_job.Job.{Job}
+use Rattle.rv_rows.specs.declared_row.Row.{Row}
+use Rattle.rv_rows.specs.declared_row.RowEnd.{RowEnd}
+use Rattle.rv_accept.specs.Ends.{is_accepted_end}
+use Rattle.rv_accept.specs.Values.{is_value_changed}
+use Rattle.rv_accept.specs.declared.ends.Acceptance.{Acceptance}
+use Rattle.rv_accept.specs.declared.ends.Acceptance.TheVariants as acceptance
+use Rattle.rv_accept.specs.declared.runs.JobRun.{JobRun}
+use Rattle.rv_accept.specs.declared.runs.WhyLeft.{WhyLeft}
+use Rattle.rv_accept.specs.declared.runs.WhyLeft.TheVariants as why
+use Rattle.rv_accept.specs.declared.values.ValueKey.TheVariants as key
+
+abbrev pub why_end_is_left : Acceptance → Job → RowEnd → Option WhyLeft
+why_end_is_left acceptance job end = if is_accepted_end acceptance job end then None else Some why.End
+
+-- a text of the list is UTF-8
+abbrev pub why_text_is_left : Job → Row → Option WhyLeft
+why_text_is_left job row =
+    if is_value_changed key.Console job row && not (is_utf8 row.console) then Some why.NoText else None
+
+-- why a chosen job is left, if it is
+abbrev pub why_left : Acceptance → Job → Row → Option WhyLeft
+why_left acceptance job row = if is_accepted_end acceptance job row.ending then why_text_is_left job row else Some why.End
+
+-- a job that was run: one that is not chosen gives its golden files only where it ended exactly as is expected
+abbrev pub judged_run : Acceptance → Job → Bool → Row → JobRun
+judged_run acceptance job chosen row = record {
+  row = row;
+  is_chosen = chosen;
+  left = if chosen then why_left acceptance job row else why_end_is_left acceptance.Expected job row.ending;
+}
+
+-- rows of the jobs that are marked, each at the place of its job
+unfoldable pub placed_rows : List Bool → List Row → List (Option Row)
+placed_rows [] rows = []
+placed_rows (true ∷ marks) [] = None ∷ placed_rows marks []
+placed_rows (true ∷ marks) (row ∷ rows) = Some row ∷ placed_rows marks rows
+placed_rows (false ∷ marks) rows = None ∷ placed_rows marks rows
+
+-- the runs of jobs, with the rows of those that were run
+unfoldable pub judged_runs : Acceptance → List Job → List Bool → List (Option Row) → List (Option JobRun)
+judged_runs acceptance (job ∷ jobs) (chosen ∷ more) (row ∷ rows) =
+    option_map (judged_run acceptance job chosen) row ∷ judged_runs acceptance jobs more rows
+judged_runs acceptance _ _ _ = []
+
+-- it is chosen, and accepted
+abbrev pub is_accepted_run : JobRun → Bool
+is_accepted_run run = run.is_chosen && not (is_some run.left)
+
+-- the row for which a job's values are replaced, if they are
+abbrev pub row_if_accepted : JobRun → Option Row
+row_if_accepted run = if is_accepted_run run then Some run.row else None
+
+abbrev pub accepted_row : Option JobRun → Option Row
+accepted_row None = None
+accepted_row (Some run) = row_if_accepted run
