@@ -14,7 +14,7 @@ use Rattle.rv_accept.specs.declared.runs.WhyLeft.TheVariants as why
 use Rattle.rv_accept.specs.declared.values.ValueKey.TheVariants as key
 
 abbrev pub why_end_is_left : Acceptance → Job → RowEnd → Option WhyLeft
-why_end_is_left acceptance job end = if is_accepted_end acceptance job end then None else Some why.End
+why_end_is_left asked job end = if is_accepted_end asked job end then None else Some why.End
 
 -- a text of the list is UTF-8
 abbrev pub why_text_is_left : Job → Row → Option WhyLeft
@@ -23,14 +23,14 @@ why_text_is_left job row =
 
 -- why a chosen job is left, if it is
 abbrev pub why_left : Acceptance → Job → Row → Option WhyLeft
-why_left acceptance job row = if is_accepted_end acceptance job row.ending then why_text_is_left job row else Some why.End
+why_left asked job row = if is_accepted_end asked job row.ending then why_text_is_left job row else Some why.End
 
 -- a job that was run: one that is not chosen gives its golden files only where it ended exactly as is expected
 abbrev pub judged_run : Acceptance → Job → Bool → Row → JobRun
-judged_run acceptance job chosen row = record {
+judged_run asked job chosen row = record {
   row = row;
   is_chosen = chosen;
-  left = if chosen then why_left acceptance job row else why_end_is_left acceptance.Expected job row.ending;
+  left = if chosen then why_left asked job row else why_end_is_left acceptance.Expected job row.ending;
 }
 
 -- rows of the jobs that are marked, each at the place of its job
@@ -42,9 +42,9 @@ placed_rows (false ∷ marks) rows = None ∷ placed_rows marks rows
 
 -- the runs of jobs, with the rows of those that were run
 unfoldable pub judged_runs : Acceptance → List Job → List Bool → List (Option Row) → List (Option JobRun)
-judged_runs acceptance (job ∷ jobs) (chosen ∷ more) (row ∷ rows) =
-    option_map (judged_run acceptance job chosen) row ∷ judged_runs acceptance jobs more rows
-judged_runs acceptance _ _ _ = []
+judged_runs asked (job ∷ jobs) (chosen ∷ more) (row ∷ rows) =
+    option_map (judged_run asked job chosen) row ∷ judged_runs asked jobs more rows
+judged_runs asked _ _ _ = []
 
 -- it is chosen, and accepted
 abbrev pub is_accepted_run : JobRun → Bool

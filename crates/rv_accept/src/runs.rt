@@ -19,6 +19,8 @@ pub enum WhyLeft {
     NoText,
     /// The value of this key stands where it is not replaced.
     NoPlace(ValueKey),
+    /// The list is made by mklist, so that the value of this key would not stay.
+    Made(ValueKey),
 }
 
 /// A job that was run.

@@ -1,1 +1,5 @@
 pub mod GoldenFiles
+pub mod ChangedTexts
+pub mod FileLines
+pub mod JobLines
+pub mod Told

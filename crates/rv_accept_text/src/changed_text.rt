@@ -4,7 +4,7 @@ ghost use Rattle.std.specs.Prelude.{◌≡◌, ◌++◌, OnOk, nat_eq};
 ghost use Rattle.std.specs.List.{common_prefix_len};
 ghost use Rattle.std.specs.Str.{is_utf8};
 ghost use Rattle.rv_text.specs.Spans.{span_text};
-ghost use Rattle.rv_accept_text.specs.ChangedTexts.{byte_change, text_change, word_change, word_digits};
+ghost use Rattle.rv_accept_text.specs.ChangedTexts.{byte_change, digits_at, text_change, values_from, word_change, word_change_at};
 
 use rv_job_text::push_console_lines;
 use rv_rows::LINE;
@@ -43,7 +43,17 @@ fn is_utf8(text: &[u8]) -> bool
 pub(crate) fn push_byte_change(out: &mut Vec<u8>, old: &[u8], new: &[u8]) -> Result<(), AllocError>
     ensures { OnOk result (out.new.items ≡ out.old.items ++ byte_change old.now new.now) }
 {
-    let place = equal_len(old, new);
+    push_values_from(out, equal_len(old, new), old, new)
+}
+
+fn push_values_from(
+    out: &mut Vec<u8>,
+    place: usize,
+    old: &[u8],
+    new: &[u8],
+) -> Result<(), AllocError>
+    ensures { OnOk result (out.new.items ≡ out.old.items ++ values_from place old.now new.now) }
+{
     push_spans(
         out,
         &[
@@ -58,31 +68,42 @@ pub(crate) fn push_byte_change(out: &mut Vec<u8>, old: &[u8], new: &[u8]) -> Res
     )
 }
 
-/// Appends which line of a signature differs first from one that takes its place, and ends the line.
+/// Appends which word of a signature is another one first, and ends the line.
 #[tactic(auto, unfolding(crate::specs::ChangedTexts::word_change))]
 pub(crate) fn push_word_change(out: &mut Vec<u8>, old: &[u8], new: &[u8]) -> Result<(), AllocError>
     ensures { OnOk result (out.new.items ≡ out.old.items ++ word_change old.now new.now) }
 {
-    let word = equal_len(old, new) / LINE;
+    push_word_change_at(out, equal_len(old, new), old, new)
+}
+
+// Appends the words of two signatures whose first bytes are equal, so many.
+fn push_word_change_at(
+    out: &mut Vec<u8>,
+    len: usize,
+    old: &[u8],
+    new: &[u8],
+) -> Result<(), AllocError>
+    ensures { OnOk result (out.new.items ≡ out.old.items ++ word_change_at len old.now new.now) }
+{
+    let place = len - len % LINE;
     push_spans(
         out,
         &[
             Span::Text(": word "),
-            Span::Number(word as u64),
+            Span::Number((len / LINE) as u64),
             Span::Text(": "),
-            Span::Shown(word_digits(old, word)),
+            Span::Shown(digits_at(tail_from(old, place))),
             Span::Text(" -> "),
-            Span::Shown(word_digits(new, word)),
+            Span::Shown(digits_at(tail_from(new, place))),
             Span::Text("\n"),
         ],
     )
 }
 
-// The digits of a word, or `none` where there are no more words.
-fn word_digits(text: &[u8], word: usize) -> &[u8]
-    ensures { result.now ≡ word_digits text.now word }
+// The digits of the word that a text begins with, or `none` where it has no more.
+fn digits_at(rest: &[u8]) -> &[u8]
+    ensures { result.now ≡ digits_at rest.now }
 {
-    let rest = tail_from(text, word.saturating_mul(LINE));
     if rest.is_empty() {
         b"none"
     } else {
@@ -94,9 +115,9 @@ fn word_digits(text: &[u8], word: usize) -> &[u8]
 fn equal_len(text: &[u8], other: &[u8]) -> usize
     ensures { result ≡ common_prefix_len nat_eq text.now other.now }
 {
-    let mut count = 0;
-    while count < text.len() && count < other.len() && text[count] == other[count] {
-        count += 1;
+    let mut len = 0;
+    while len < text.len() && len < other.len() && text[len] == other[len] {
+        len += 1;
     }
-    count
+    len
 }

@@ -1,7 +1,9 @@
 //! The lines of golden files.
 
 ghost use Rattle.std.specs.Prelude.{◌≡◌, ◌++◌, OnOk, option_map};
-ghost use Rattle.rv_accept_text.specs.FileLines.{disagreement_text, file_line, left_file_line, new_file_line, old_file_line, part_text, why_file_is_left};
+ghost use Rattle.rv_accept_text.specs.FileLines.{bytes_word, changed_file_line, disagreement_text, file_head, file_line, left_file_line, left_head};
+ghost use Rattle.rv_accept_text.specs.FileLines.{made_file_line, other_claim_text, part_change, part_text, text_or_empty, two_claims_text};
+ghost use Rattle.rv_accept_text.specs.FileLines.{why_file_is_left, written_file_line};
 
 use crate::changed_text::{push_byte_change, push_text_change, push_word_change};
 use crate::golden_file::{GoldenFile, ListFile};
@@ -12,6 +14,7 @@ use rv_text::{Span, push_spans, push_text};
 use std::alloc::AllocError;
 
 /// Appends what changes in a golden file, if it is written.
+#[tactic(auto, unfolding(crate::specs::FileLines::file_line))]
 pub(crate) fn push_file_line(out: &mut Vec<u8>, list: &ListFile<'_>, file: &GoldenFile) -> Result<(), AllocError>
     ensures { OnOk result (out.new.items ≡ out.old.items ++ file_line list.now file.now) }
 {
@@ -45,8 +48,20 @@ fn push_changed_file_line(
     ensures { OnOk result (out.new.items ≡ out.old.items ++ changed_file_line jobs.now target.now old.now text.now) }
 {
     push_file_head(out, "~ ", jobs, target)?;
-    match target.part {
-        Part::Console => push_text_change(out, Span::Shown(target.path.as_str().as_bytes()), old, text),
+    push_part_change(out, target.part, target.path.as_str(), old, text)
+}
+
+fn push_part_change(
+    out: &mut Vec<u8>,
+    part: Part,
+    path: &str,
+    old: &[u8],
+    text: &[u8],
+) -> Result<(), AllocError>
+    ensures { OnOk result (out.new.items ≡ out.old.items ++ part_change part path.now old.now text.now) }
+{
+    match part {
+        Part::Console => push_text_change(out, Span::Shown(path.as_bytes()), old, text),
         Part::Signature => push_word_change(out, old, text),
     }
 }
@@ -65,9 +80,15 @@ fn push_made_file_line(
         &[
             Span::Text(", "),
             Span::Number(text.len() as u64),
-            Span::Text(if text.len() == 1 { " byte\n" } else { " bytes\n" }),
+            Span::Text(bytes_word(text.len())),
         ],
     )
+}
+
+fn bytes_word(count: usize) -> &'static str
+    ensures { result.now ≡ bytes_word count }
+{
+    if count == 1 { " byte\n" } else { " bytes\n" }
 }
 
 // Appends which file it is, and what it holds of which job.
@@ -101,6 +122,7 @@ fn part_text(part: Part) -> &'static str
 }
 
 /// Appends why a golden file is left, if it is.
+#[tactic(auto, unfolding(crate::specs::FileLines::left_file_line))]
 pub(crate) fn push_left_file_line(
     out: &mut Vec<u8>,
     list: &ListFile<'_>,
@@ -112,23 +134,42 @@ pub(crate) fn push_left_file_line(
     if !file.is_left(list) {
         return Ok(());
     }
+    push_left_head(out, file.target.path.as_str())?;
+    push_why_file_is_left(out, list.jobs, claims, &file.target)
+}
+
+/// Appends what is left.
+pub(crate) fn push_left_head(out: &mut Vec<u8>, name: &str) -> Result<(), AllocError>
+    ensures { OnOk result (out.new.items ≡ out.old.items ++ left_head name.now) }
+{
     push_spans(
         out,
         &[
             Span::Text("left "),
-            Span::Shown(file.target.path.as_str().as_bytes()),
+            Span::Shown(name.as_bytes()),
             Span::Text(": "),
         ],
-    )?;
-    match &file.target.fate {
+    )
+}
+
+fn push_why_file_is_left(
+    out: &mut Vec<u8>,
+    jobs: &[Job],
+    claims: &[Claim],
+    target: &Target,
+) -> Result<(), AllocError>
+    ensures { OnOk result (out.new.items
+        ≡ out.old.items ++ why_file_is_left jobs.now claims.now target.now.path target.now.fate) }
+{
+    match &target.fate {
         Fate::LeftBy(job) => push_spans(
             out,
             &[
-                Span::Shown(job_name(list.jobs, *job).as_bytes()),
+                Span::Shown(job_name(jobs, *job).as_bytes()),
                 Span::Text(" expects it too, and is left\n"),
             ],
         ),
-        Fate::Differ(..) => push_disagreement(out, list.jobs, claims, file.target.path.as_str()),
+        Fate::Differ(..) => push_disagreement(out, jobs, claims, target.path.as_str()),
         Fate::Agreed(_) | Fate::Unclaimed => push_text(
             out,
             "it is the list or an image, which is never written\n",
@@ -142,14 +183,43 @@ fn push_disagreement(
     jobs: &[Job],
     claims: &[Claim],
     path: &str,
-) -> Result<(), AllocError> {
-    let Some(first) = first_on_file(path, claims) else {
-        return push_text(out, "\n");
-    };
-    let text = text_or_empty(&first.text);
-    let Some(other) = first_of_another_text(path, text, claims) else {
-        return push_text(out, "\n");
-    };
+) -> Result<(), AllocError>
+    ensures { OnOk result (out.new.items ≡ out.old.items ++ disagreement_text jobs.now claims.now path.now) }
+{
+    match first_on_file(path, claims) {
+        Some(first) => push_other_claim(
+            out,
+            jobs,
+            first,
+            first_of_another_text(path, text_or_empty(&first.text), claims),
+        ),
+        None => push_text(out, "\n"),
+    }
+}
+
+fn push_other_claim(
+    out: &mut Vec<u8>,
+    jobs: &[Job],
+    first: &Claim,
+    other: Option<&Claim>,
+) -> Result<(), AllocError>
+    ensures { OnOk result (out.new.items
+        ≡ out.old.items ++ other_claim_text jobs.now first.now (option_map (λ claim. claim.now) other.entry)) }
+{
+    match other {
+        Some(other) => push_two_claims(out, jobs, first, other),
+        None => push_text(out, "\n"),
+    }
+}
+
+fn push_two_claims(
+    out: &mut Vec<u8>,
+    jobs: &[Job],
+    first: &Claim,
+    other: &Claim,
+) -> Result<(), AllocError>
+    ensures { OnOk result (out.new.items ≡ out.old.items ++ two_claims_text jobs.now first.now other.now) }
+{
     push_spans(
         out,
         &[
@@ -161,10 +231,16 @@ fn push_disagreement(
             Span::Text(" differ"),
         ],
     )?;
-    push_byte_change(out, text, text_or_empty(&other.text))
+    push_byte_change(
+        out,
+        text_or_empty(&first.text),
+        text_or_empty(&other.text),
+    )
 }
 
-fn text_or_empty(text: &Option<Bytes>) -> &[u8] {
+fn text_or_empty(text: &Option<Bytes>) -> &[u8]
+    ensures { result.now ≡ text_or_empty text.now }
+{
     match text {
         Some(text) => text.as_slice(),
         None => &[],

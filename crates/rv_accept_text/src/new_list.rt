@@ -28,6 +28,14 @@ pub struct NewList {
     pub values: Vec<ChangedValue>,
 }
 
+// Where values of a list's text stand that may be replaced.
+#[derive(Drop)]
+struct Places {
+    spans: Vec<ValueSpan>,
+    // Whether the list is made by mklist, so that none is replaced.
+    is_made: bool,
+}
+
 // Values that are replaced, and by what.
 #[derive(Drop)]
 struct Changes {
@@ -45,9 +53,9 @@ pub fn accept_values(
 ) -> Result<NewList, AllocError>
     ensures { IfOk result (λ new. IfSome new.text (λ text. job_list_of text.items ≡ Ok (meant_jobs jobs.now runs.new.items))) }
 {
-    let spans = spans_of_text(alloc, text)?;
-    leave_unplaced(jobs, spans.as_slice(), runs);
-    let Changes { edits, values } = changes_of_spans(alloc, text, jobs, runs.as_slice(), spans.as_slice())?;
+    let places = places_in(alloc, text)?;
+    leave_unplaced(jobs, &places, runs);
+    let Changes { edits, values } = changes_at(alloc, text, jobs, runs.as_slice(), &places)?;
     if !edits.is_empty() {
         let new = edited_text(alloc, text, edits.as_slice())?;
         if reads_as_meant(alloc, new.as_slice(), jobs, runs.as_slice())? {
@@ -56,7 +64,11 @@ pub fn accept_values(
                 values,
             });
         }
-        leave_unplaced(jobs, &[], runs);
+        let places = Places {
+            spans: Vec::new(alloc),
+            is_made: false,
+        };
+        leave_unplaced(jobs, &places, runs);
     }
     Ok(NewList {
         text: None,
@@ -64,29 +76,38 @@ pub fn accept_values(
     })
 }
 
-fn spans_of_text(alloc: Global, text: &[u8]) -> Result<Vec<ValueSpan>, AllocError> {
-    match str::from_utf8(text) {
-        Ok(text) => value_spans(alloc, text),
-        Err(_) => Ok(Vec::new(alloc)),
-    }
+// How the lists begin that mklist makes.
+const MADE: &[u8] = b"# Made by mklist";
+
+fn places_in(alloc: Global, text: &[u8]) -> Result<Places, AllocError> {
+    let is_made = text.starts_with(MADE);
+    let spans = match str::from_utf8(text) {
+        Ok(text) if !is_made => value_spans(alloc, text)?,
+        _ => Vec::new(alloc),
+    };
+    Ok(Places { spans, is_made })
 }
 
 // Leaves each accepted job with another value that stands at none of these places.
-fn leave_unplaced(jobs: &[Job], spans: &[ValueSpan], runs: &mut Vec<Option<JobRun>>) {
+fn leave_unplaced(jobs: &[Job], places: &Places, runs: &mut Vec<Option<JobRun>>) {
     for at in 0..runs.len().min(jobs.len()) {
         if let Some(run) = &mut runs[at] {
             if run.is_accepted() {
-                run.left = why_unplaced(at, &jobs[at], run, spans);
+                run.left = why_unplaced(at, &jobs[at], run, places);
             }
         }
     }
 }
 
 // That a value of an accepted job stands where it is not replaced, if one does.
-fn why_unplaced(at: usize, job: &Job, run: &JobRun, spans: &[ValueSpan]) -> Option<WhyLeft> {
+fn why_unplaced(at: usize, job: &Job, run: &JobRun, places: &Places) -> Option<WhyLeft> {
     for key in ValueKey::ALL {
-        if is_value_changed(key, job, &run.row) && !has_span(at, key, spans) {
-            return Some(WhyLeft::NoPlace(key));
+        if is_value_changed(key, job, &run.row) && !has_span(at, key, places.spans.as_slice()) {
+            return Some(if places.is_made {
+                WhyLeft::Made(key)
+            } else {
+                WhyLeft::NoPlace(key)
+            });
         }
     }
     None
@@ -99,18 +120,18 @@ fn has_span(at: usize, key: ValueKey, spans: &[ValueSpan]) -> bool {
 }
 
 // The values that are replaced, in the order of the text.
-fn changes_of_spans(
+fn changes_at(
     alloc: Global,
     text: &[u8],
     jobs: &[Job],
     runs: &[Option<JobRun>],
-    spans: &[ValueSpan],
+    places: &Places,
 ) -> Result<Changes, AllocError> {
     let mut changes = Changes {
         edits: Vec::new(alloc),
         values: Vec::new(alloc),
     };
-    for span in spans {
+    for span in &places.spans {
         if span.job < jobs.len() && span.job < runs.len() {
             note_change(alloc, text, &jobs[span.job], &runs[span.job], span, &mut changes)?;
         }

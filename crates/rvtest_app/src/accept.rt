@@ -191,12 +191,12 @@ fn put_accepted<R, D: Inputs, F: Outputs + Drop, O: Sink + Drop, E: Sink + Drop>
     put_lines(host.alloc, &accepting, &mut to.out)?;
     if asked.check {
         put_count(host.alloc, &accepting, Writing::Asked, &mut to.out)?;
-        return Ok(status_of(accepting.left_count() + accepting.changed_count()));
+        return Ok(check_status(accepting.left_count(), accepting.changed_count()));
     }
     write_accepted_files(&mut to.files, host.alloc, &accepting)?;
     check_written_files(host.inputs, host.alloc, &accepting)?;
     put_count(host.alloc, &accepting, Writing::Done, &mut to.out)?;
-    Ok(status_of(accepting.left_count()))
+    Ok(check_status(accepting.left_count(), 0))
 }
 
 fn put_lines<O: Sink>(alloc: Global, accepting: &Accepting<'_>, out: &mut O) -> Result<(), Stop> {
@@ -216,9 +216,13 @@ fn put_count<O: Sink>(
     put_results(out, line.as_slice())
 }
 
-// 0 where there is nothing to say, else 1.
-fn status_of(count: usize) -> u8
+// The status of so many that are left, and so many that would change.
+fn check_status(left: usize, changed: usize) -> u8
     ensures low { result ≤ 1 }
 {
-    if count == 0 { DONE } else { SOME_FAIL }
+    if left == 0 && changed == 0 {
+        DONE
+    } else {
+        SOME_FAIL
+    }
 }
