@@ -42,7 +42,7 @@ def files_in(folder):
 
 def new_lines(before, after):
     """The lines of a text that the one before it has not."""
-    pairs = difflib.ndiff(before.splitlines(), after.splitlines())
+    pairs = difflib.ndiff(before.split("\n"), after.split("\n"))
     return [line[2:] for line in pairs if line.startswith("+ ")]
 
 
