@@ -1,5 +1,5 @@
 -- A text with edits, edit by edit.
-use Rattle.std.proofs.Common.{◌≡◌, ◌∙◌, ◌<◌, ◌≤◌, ◌+◌, ◌++◌, ◌∷◌, [], ℕ, List, ap, sym, length, drop, get_or, append_assoc, suc, arith}
+use Rattle.std.proofs.Common.{◌≡◌, ◌∙◌, ◌<◌, ◌≤◌, ◌+◌, ◌++◌, ◌∷◌, ℕ, List, ap, sym, length, drop, get_or, append_assoc, suc, arith}
 use Rattle.std.proofs.Math.ListN.{drop_of_length-le}
 use Rattle.std.proofs.Math.Seq.{drop-cons}
 use Rattle.rv_accept.specs.declared.edits.Edit.{Edit}
@@ -17,8 +17,8 @@ edit_more from i text whole done middle made edits edit below one before has is 
     let rest = edited_from edit.end text (drop (i + 1) edits) in
     let counted : suc i ≡ i + 1 = omega arith in
     let next : drop i edits ≡ edit ∷ drop (i + 1) edits =
-        drop-cons edits i edit below ∙ ap (λ n. get_or edits i edit ∷ drop n edits) counted
-        ∙ ap (λ (e : Edit). e ∷ drop (i + 1) edits) (sym one) in
+    drop-cons edits i edit below ∙ ap (λ n. get_or edits i edit ∷ drop n edits) counted
+    ∙ ap (λ (e : Edit). e ∷ drop (i + 1) edits) (sym one) in
     rw (is, has) (append_assoc (done ++ part) edit.text rest ∙ append_assoc done part (edit.text ++ rest)
     ∙ ap (λ tail. done ++ tail) (sym (append_assoc part edit.text rest)) ∙ rw next at before)
 

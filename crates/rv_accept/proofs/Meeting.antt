@@ -1,6 +1,6 @@
 -- An accepted job meets its expectations, once they are what its run came to.
-use Rattle.std.proofs.Common.{◌≡◌, ◌==◌, ℕ, Bool, true, false, ◌&&◌, List, Option, Some, None, refl, ◌⊎◌, inl, inr}
-use Rattle.std.specs.Prelude.{◌||◌, is_some}
+use Rattle.std.proofs.Common.{◌≡◌, ℕ, Bool, true, false, ◌&&◌, List, Option, Some, None, refl, ◌⊎◌, inl, inr}
+use Rattle.std.specs.Prelude.{◌||◌}
 use Rattle.std.specs.Str.{bytes_eq}
 use Rattle.std.proofs.lemmas.Bool.{eq-eqb}
 use Rattle.std.proofs.lemmas.Slice.Eq.{bytes_eq-Decides}
@@ -12,8 +12,8 @@ use Rattle.rv_jobs.specs.declared_job.Job.{Job}
 use Rattle.rv_rows.specs.declared.outcome.Outcome.{Outcome}
 use Rattle.rv_rows.specs.declared_row.RowEnd.{RowEnd}
 use Rattle.rv_rows.specs.declared_row.RowEnd.TheVariants as ending
-use Rattle.rv_rows.specs.Verdict.{did_run, ends_by, exits_with, has_expected_console, has_expected_end, has_expected_exit}
-use Rattle.rv_rows.specs.Verdict.{has_expected_signature, is_same_as_named, is_same_kind, lines_of_signature, meets_all_expectations}
+use Rattle.rv_rows.specs.Verdict.{did_run, has_expected_console, has_expected_end, has_expected_exit}
+use Rattle.rv_rows.specs.Verdict.{has_expected_signature, lines_of_signature, meets_all_expectations}
 use Rattle.rv_accept.specs.declared.ends.Acceptance.{Acceptance}
 use Rattle.rv_accept.specs.declared.ends.Acceptance.TheVariants as acceptance
 use Rattle.rv_accept.specs.Accepted.{accepted_job, console_met, end_met, exit_met}

@@ -1,7 +1,7 @@
 -- The job that an accepted one becomes: what it expects is what its run came to.
-use Rattle.std.specs.Prelude.{Some, None, Option, ℕ, List}
+use Rattle.std.specs.Prelude.{Some, Option, ℕ, List}
 use Rattle.rv_jobs.specs.declared_job.ExpectedConsole.{ExpectedConsole}
-use Rattle.rv_jobs.specs.declared_job.ExpectedConsole.TheVariants.{Text, File}
+use Rattle.rv_jobs.specs.declared_job.ExpectedConsole.TheVariants.{Text}
 use Rattle.rv_jobs.specs.declared_job.ExpectedEnd.{ExpectedEnd}
 use Rattle.rv_jobs.specs.declared_job.ExpectedEnd.TheVariants as expected
 use Rattle.rv_jobs.specs.declared_job.Job.{Job}

@@ -31,5 +31,6 @@ claims_of_run place job (Some run) = claims_of place (not (is_some run.left)) jo
 
 -- what the jobs from a place on say, with their runs
 unfoldable pub claims_of_runs : ℕ → List Job → List (Option JobRun) → List Claim
+claims_of_runs place [] runs = []
+claims_of_runs place (job ∷ jobs) [] = []
 claims_of_runs place (job ∷ jobs) (run ∷ runs) = claims_of_run place job run ++ claims_of_runs (place + 1) jobs runs
-claims_of_runs place _ _ = []

@@ -1,5 +1,5 @@
 -- What becomes of a golden file.
-use Rattle.std.specs.Prelude.{Bool, true, false, not, Some, None, Option, ℕ, List, ◌&&◌, is_some}
+use Rattle.std.specs.Prelude.{Bool, false, not, Some, None, Option, ℕ, List, ◌&&◌, is_some}
 use Rattle.std.specs.List.{find}
 use Rattle.std.specs.Str.{bytes_eq}
 use Rattle.rv_accept.specs.declared.claims.Claim.{Claim}

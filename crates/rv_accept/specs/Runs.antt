@@ -1,5 +1,5 @@
 -- The jobs of a list that were run, and whether they are left.
-use Rattle.std.specs.Prelude.{◌&&◌, Bool, true, false, not, ℕ, List, [], ◌∷◌, Option, Some, None, if◌then◌else◌, is_some, option_map}
+use Rattle.std.specs.Prelude.{◌&&◌, Bool, not, List, [], ◌∷◌, Option, Some, None, drop, if◌then◌else◌, is_some, option_map, slice_get}
 use Rattle.std.specs.Str.{is_utf8}
 use Rattle.rv_jobs.specs.declared_job.Job.{Job}
 use Rattle.rv_rows.specs.declared_row.Row.{Row}
@@ -33,18 +33,31 @@ judged_run asked job chosen row = record {
   left = if chosen then why_left asked job row else why_end_is_left acceptance.Expected job row.ending;
 }
 
--- rows of the jobs that are marked, each at the place of its job
+-- the first of some rows where a job is marked, and those behind it
+abbrev pub row_if : Bool → List Row → Option Row
+row_if marked rows = if marked then slice_get rows 0 else None
+
+abbrev pub rest_if : Bool → List Row → List Row
+rest_if marked rows = if marked then drop 1 rows else rows
+
+-- rows of the jobs that are marked, in their order, each at the place of its job
 unfoldable pub placed_rows : List Bool → List Row → List (Option Row)
 placed_rows [] rows = []
-placed_rows (true ∷ marks) [] = None ∷ placed_rows marks []
-placed_rows (true ∷ marks) (row ∷ rows) = Some row ∷ placed_rows marks rows
-placed_rows (false ∷ marks) rows = None ∷ placed_rows marks rows
+placed_rows (marked ∷ marks) rows = row_if marked rows ∷ placed_rows marks (rest_if marked rows)
+
+abbrev pub row_or_none : Option (Option Row) → Option Row
+row_or_none None = None
+row_or_none (Some row) = row
+
+abbrev pub first_row : List (Option Row) → Option Row
+first_row rows = row_or_none (slice_get rows 0)
 
 -- the runs of jobs, with the rows of those that were run
 unfoldable pub judged_runs : Acceptance → List Job → List Bool → List (Option Row) → List (Option JobRun)
-judged_runs asked (job ∷ jobs) (chosen ∷ more) (row ∷ rows) =
-    option_map (judged_run asked job chosen) row ∷ judged_runs asked jobs more rows
-judged_runs asked _ _ _ = []
+judged_runs asked [] chosen rows = []
+judged_runs asked (job ∷ jobs) [] rows = []
+judged_runs asked (job ∷ jobs) (chosen ∷ more) rows =
+    option_map (judged_run asked job chosen) (first_row rows) ∷ judged_runs asked jobs more (drop 1 rows)
 
 -- it is chosen, and accepted
 abbrev pub is_accepted_run : JobRun → Bool

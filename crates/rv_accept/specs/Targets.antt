@@ -1,5 +1,5 @@
 -- The golden files that accepted jobs name.
-use Rattle.std.specs.Prelude.{◌&&◌, Bool, false, not, ℕ, List, [], ◌∷◌, ◌++◌, Option, Some, None, if◌then◌else◌, slice_get}
+use Rattle.std.specs.Prelude.{◌&&◌, Bool, false, not, ℕ, List, [], ◌∷◌, ◌++◌, Option, Some, if◌then◌else◌, slice_get}
 use Rattle.std.specs.List.{list_any}
 use Rattle.std.specs.Str.{bytes_eq}
 use Rattle.rv_accept.specs.Fates.{fate_of_file}

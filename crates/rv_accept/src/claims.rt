@@ -1,6 +1,6 @@
 //! What a job that was run says of the golden files that it names.
 
-ghost use Rattle.std.specs.Prelude.{◌≡◌, ◌++◌, IfOk, OnOk, option_map};
+ghost use Rattle.std.specs.Prelude.{◌≡◌, ◌++◌, ◌+◌, ◌^◌, ◌<◌, IfOk, OnOk, length, option_map};
 ghost use Rattle.std.specs.List.{flat_map};
 ghost use Rattle.rv_jobs.specs.Jobs.{console_path};
 ghost use Rattle.rv_rows.specs.Report.{word_line};
@@ -55,14 +55,38 @@ fn push_claims(
 }
 
 /// What all jobs that were run say of golden files, in list order.
-pub fn claims_of_runs(alloc: Global, jobs: &[Job], runs: &[Option<JobRun>]) -> Result<Vec<Claim>, AllocError>
+pub fn claims_of_runs(
+    alloc: Global,
+    jobs: &[Job],
+    runs: &[Option<JobRun>],
+) -> Result<Vec<Claim>, AllocError>
     ensures { IfOk result (λ claims. claims.items ≡ claims_of_runs 0 jobs.now runs.now) }
 {
     let mut claims = Vec::new(alloc);
-    for at in 0..jobs.len().min(runs.len()) {
-        push_claims_of_run(alloc, &mut claims, at, &jobs[at], &runs[at])?;
-    }
+    push_claims_of_runs(alloc, &mut claims, 0, jobs, runs)?;
     Ok(claims)
+}
+
+// Appends what the jobs from a place on say.
+#[tactic(auto, unfolding(crate::specs::Claims::claims_of_runs))]
+fn push_claims_of_runs(
+    alloc: Global,
+    claims: &mut Vec<Claim>,
+    place: usize,
+    jobs: &[Job],
+    runs: &[Option<JobRun>],
+) -> Result<(), AllocError>
+    requires { place + length jobs.now < 2 ^ 64 }
+    ensures { OnOk result (claims.new.items ≡ claims.old.items ++ claims_of_runs place jobs.now runs.now) }
+{
+    match (jobs, runs) {
+        ([job, jobs @ ..], [run, runs @ ..]) => {
+            push_claims_of_run(alloc, claims, place, job, run)?;
+            push_claims_of_runs(alloc, claims, place + 1, jobs, runs)
+        }
+        ([], _) => Ok(()),
+        ([_job, _jobs @ ..], []) => Ok(()),
+    }
 }
 
 fn push_claims_of_run(

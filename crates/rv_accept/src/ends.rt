@@ -21,7 +21,8 @@ pub fn is_accepted_end(acceptance: Acceptance, job: &Job, ending: RowEnd) -> boo
 {
     match acceptance {
         Acceptance::Expected => ended_as_expected(job, ending),
-        Acceptance::InExpectedWay => ended_as_expected(job, ending) || ended_in_expected_way(job, ending),
+        Acceptance::InExpectedWay => ended_as_expected(job, ending)
+            || ended_in_expected_way(job, ending),
     }
 }
 
@@ -31,7 +32,9 @@ fn ended_as_expected(job: &Job, ending: RowEnd) -> bool
     did_run(ending)
         && has_expected_exit(job.expect_exit, ending)
         && has_expected_end(job.expect_end, ending)
-        && (job.expect_exit.is_some() || job.expect_end.is_some() || has_expected_exit(Some(0), ending))
+        && (job.expect_exit.is_some()
+            || job.expect_end.is_some()
+            || has_expected_exit(Some(0), ending))
 }
 
 // Whether a run ended by an exit or by a fault, as is expected of it, whatever the code or the kind.

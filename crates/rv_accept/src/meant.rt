@@ -37,7 +37,11 @@ fn accepted_row(run: &Option<JobRun>) -> Option<&Row>
 fn row_if_accepted(run: &JobRun) -> Option<&Row>
     ensures { option_map (λ row. row.now) result ≡ row_if_accepted run.now }
 {
-    if run.is_accepted() { Some(&run.row) } else { None }
+    if run.is_accepted() {
+        Some(&run.row)
+    } else {
+        None
+    }
 }
 
 // Whether a job is the one that another becomes.
@@ -67,7 +71,11 @@ fn are_meant_values(job: &Job, accepted: Option<&Row>, other: &Job) -> bool
         Some(row) => {
             exit_met(job.expect_exit, row.ending) == other.expect_exit
                 && end_met(job.expect_end, row.ending) == other.expect_end
-                && is_met_console(&job.expect_console, row.console.as_slice(), &other.expect_console)
+                && is_met_console(
+                    &job.expect_console,
+                    row.console.as_slice(),
+                    &other.expect_console,
+                )
         }
     }
 }
@@ -158,9 +166,7 @@ fn are_same_regions(regions: &[Region], others: &[Region]) -> bool
 fn is_same_region(region: &Region, other: &Region) -> bool
     ensures { IsTrue result → other.now ≡ region.now }
 {
-    region.base == other.base
-        && region.size == other.size
-        && region.writable == other.writable
+    region.base == other.base && region.size == other.size && region.writable == other.writable
 }
 
 fn is_same_signature(symbols: &Option<Symbols>, other: &Option<Symbols>) -> bool

@@ -1,14 +1,16 @@
 //! The jobs of a list that were run, and whether they are left.
 
-ghost use Rattle.std.specs.Prelude.{◌≡◌, IfOk, option_map};
+ghost use Rattle.std.specs.Prelude.{◌≡◌, ◌++◌, IfOk, OnOk, drop, option_map};
+ghost use Rattle.std.specs.Vec.Iter.{into_iter_items};
 ghost use Rattle.std.specs.Str.{is_utf8};
-ghost use Rattle.rv_accept.specs.Runs.{is_accepted_run, judged_run, judged_runs, placed_rows, why_end_is_left, why_left};
+ghost use Rattle.rv_accept.specs.Runs.{first_row, is_accepted_run, judged_run, judged_runs, placed_rows, rest_if, row_if, why_end_is_left, why_left};
 
 use crate::ends::{Acceptance, is_accepted_end};
 use crate::values::{ValueKey, is_value_changed};
 use rv_jobs::Job;
 use rv_rows::{Row, RowEnd};
 use std::alloc::{AllocError, Global};
+use std::vec::IntoIter;
 
 /// Why a job that was run is left: nothing of its run is taken.
 #[derive(Clone, Copy, Debug, PartialEq, Eq)]
@@ -42,16 +44,43 @@ impl JobRun {
 }
 
 /// Rows of the jobs that are marked, in their order, each at the place of its job.
-pub fn placed_rows(alloc: Global, marks: &[bool], rows: Vec<Row>) -> Result<Vec<Option<Row>>, AllocError>
+pub fn placed_rows(
+    alloc: Global,
+    marks: &[bool],
+    rows: Vec<Row>,
+) -> Result<Vec<Option<Row>>, AllocError>
     ensures { IfOk result (λ placed. placed.items ≡ placed_rows marks.now rows.items) }
 {
     let mut placed = Vec::new(alloc);
     let mut rows = rows.into_iter();
-    for marked in marks {
-        let row = if *marked { rows.next() } else { None };
-        placed.push(row)?;
-    }
+    push_placed_rows(&mut placed, marks, &mut rows)?;
     Ok(placed)
+}
+
+#[tactic(auto, unfolding(crate::specs::Runs::placed_rows))]
+fn push_placed_rows(
+    placed: &mut Vec<Option<Row>>,
+    marks: &[bool],
+    rows: &mut IntoIter<Row>,
+) -> Result<(), AllocError>
+    ensures { OnOk result (placed.new.items ≡ placed.old.items ++ placed_rows marks.now (into_iter_items rows.old)) }
+{
+    match marks {
+        [marked, marks @ ..] => {
+            let row = next_if(*marked, rows);
+            placed.push(row)?;
+            push_placed_rows(placed, marks, rows)
+        }
+        [] => Ok(()),
+    }
+}
+
+// The next row where a job is marked, and none where it is not.
+fn next_if(is_marked: bool, rows: &mut IntoIter<Row>) -> Option<Row>
+    ensures row { result ≡ row_if is_marked (into_iter_items rows.old) }
+    ensures rest { into_iter_items rows.new ≡ rest_if is_marked (into_iter_items rows.old) }
+{
+    if is_marked { rows.next() } else { None }
 }
 
 /// The runs of jobs, of which some are chosen, with the rows of those that were run.
@@ -66,16 +95,49 @@ pub fn judged_runs(
 {
     let mut runs = Vec::new(alloc);
     let mut rows = rows.into_iter();
-    for at in 0..jobs.len().min(chosen.len()) {
-        let Some(row) = rows.next() else {
-            return Ok(runs);
-        };
-        runs.push(judged_run_if(acceptance, &jobs[at], chosen[at], row))?;
-    }
+    push_judged_runs(&mut runs, acceptance, jobs, chosen, &mut rows)?;
     Ok(runs)
 }
 
-fn judged_run_if(acceptance: Acceptance, job: &Job, is_chosen: bool, row: Option<Row>) -> Option<JobRun>
+#[tactic(auto, unfolding(crate::specs::Runs::judged_runs))]
+fn push_judged_runs(
+    runs: &mut Vec<Option<JobRun>>,
+    acceptance: Acceptance,
+    jobs: &[Job],
+    chosen: &[bool],
+    rows: &mut IntoIter<Option<Row>>,
+) -> Result<(), AllocError>
+    ensures { OnOk result (runs.new.items
+        ≡ runs.old.items ++ judged_runs acceptance jobs.now chosen.now (into_iter_items rows.old)) }
+{
+    match (jobs, chosen) {
+        ([job, jobs @ ..], [is_chosen, chosen @ ..]) => {
+            let row = next_row(rows);
+            runs.push(judged_run_if(acceptance, job, *is_chosen, row))?;
+            push_judged_runs(runs, acceptance, jobs, chosen, rows)
+        }
+        ([], _) => Ok(()),
+        ([_job, _jobs @ ..], []) => Ok(()),
+    }
+}
+
+// The next row, where one is there.
+fn next_row(rows: &mut IntoIter<Option<Row>>) -> Option<Row>
+    ensures row { result ≡ first_row (into_iter_items rows.old) }
+    ensures rest { into_iter_items rows.new ≡ drop 1 (into_iter_items rows.old) }
+{
+    match rows.next() {
+        Some(row) => row,
+        None => None,
+    }
+}
+
+fn judged_run_if(
+    acceptance: Acceptance,
+    job: &Job,
+    is_chosen: bool,
+    row: Option<Row>,
+) -> Option<JobRun>
     ensures { result ≡ option_map (judged_run acceptance job.now is_chosen) row }
 {
     match row {

@@ -1,6 +1,6 @@
 //! Which jobs run, so that what becomes of a golden file is known.
 
-ghost use Rattle.std.specs.Prelude.{◌≡◌, IfOk, option_map};
+ghost use Rattle.std.specs.Prelude.{◌≡◌, ◌++◌, IfOk, OnOk, option_map};
 ghost use Rattle.rv_accept.specs.Sharing.{is_file_of_marked, is_named_by_marked, is_path, marks_to_run, names_golden_file, shares_with_marked};
 
 use crate::claims::console_path;
@@ -12,10 +12,29 @@ pub fn marks_to_run(alloc: Global, jobs: &[Job], chosen: &[bool]) -> Result<Vec<
     ensures { IfOk result (λ marks. marks.items ≡ marks_to_run jobs.now chosen.now jobs.now chosen.now) }
 {
     let mut marks = Vec::new(alloc);
-    for at in 0..jobs.len().min(chosen.len()) {
-        marks.push(chosen[at] || shares_with_marked(jobs, chosen, &jobs[at]))?;
-    }
+    push_marks_to_run(&mut marks, (jobs, chosen), jobs, chosen)?;
     Ok(marks)
+}
+
+// Appends the marks of jobs of a list, of which some are chosen.
+#[tactic(auto, unfolding(crate::specs::Sharing::marks_to_run))]
+fn push_marks_to_run(
+    marks: &mut Vec<bool>,
+    all: (&[Job], &[bool]),
+    jobs: &[Job],
+    chosen: &[bool],
+) -> Result<(), AllocError>
+    ensures { OnOk result (marks.new.items
+        ≡ marks.old.items ++ marks_to_run all.entry.0.now all.entry.1.now jobs.now chosen.now) }
+{
+    match (jobs, chosen) {
+        ([job, jobs @ ..], [is_chosen, chosen @ ..]) => {
+            marks.push(*is_chosen || shares_with_marked(all.0, all.1, job))?;
+            push_marks_to_run(marks, all, jobs, chosen)
+        }
+        ([], _) => Ok(()),
+        ([_job, _jobs @ ..], []) => Ok(()),
+    }
 }
 
 // Whether a job names a golden file that a marked one names.
@@ -44,7 +63,8 @@ fn is_named_by_marked(path: &str, jobs: &[Job], marks: &[bool]) -> bool
         ([job, jobs @ ..], [marked, marks @ ..]) => {
             (*marked && names_golden_file(path, job)) || is_named_by_marked(path, jobs, marks)
         }
-        _ => false,
+        ([], _) => false,
+        ([_job, _jobs @ ..], []) => false,
     }
 }
 

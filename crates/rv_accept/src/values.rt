@@ -56,12 +56,21 @@ fn has_text(expected: &Option<ExpectedConsole>, console: &[u8]) -> bool
 
 /// Appends the value of a key that a run came to, as TOML writes it; nothing where the run has none.
 #[tactic(auto, unfolding(crate::specs::Values::new_value_text))]
-pub fn push_new_value(alloc: Global, out: &mut Vec<u8>, key: ValueKey, row: &Row) -> Result<(), AllocError>
+pub fn push_new_value(
+    alloc: Global,
+    out: &mut Vec<u8>,
+    key: ValueKey,
+    row: &Row,
+) -> Result<(), AllocError>
     ensures { OnOk result (out.new.items ≡ out.old.items ++ new_value_text key row.now.ending row.now.console) }
 {
     match (key, row.ending) {
         (ValueKey::Exit, RowEnd::Exit(code)) => push_number(out, code as u64),
-        (ValueKey::End, RowEnd::Fault(kind, ..)) => push_basic_string(alloc, out, kind.name().as_bytes()),
+        (ValueKey::End, RowEnd::Fault(kind, ..)) => push_basic_string(
+            alloc,
+            out,
+            kind.name().as_bytes(),
+        ),
         (ValueKey::Console, _) => push_basic_string(alloc, out, row.console.as_slice()),
         _ => Ok(()),
     }

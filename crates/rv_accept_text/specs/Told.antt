@@ -25,8 +25,9 @@ value_line_in told value = value_line_of told.list.path.now value (slice_get tol
     (slice_get told.runs.now value.job)
 
 unfoldable pub left_job_lines : List Job → List (Option JobRun) → List ℕ
+left_job_lines [] runs = []
+left_job_lines (job ∷ jobs) [] = []
 left_job_lines (job ∷ jobs) (run ∷ runs) = left_job_line job run ++ left_job_lines jobs runs
-left_job_lines _ _ = []
 
 -- changes first, of golden files and then of the list; and then what is left, jobs and then golden files
 abbrev pub told_lines : Accepting → List ℕ

@@ -185,7 +185,8 @@ fn push_left_job_lines(
             push_left_job_line(alloc, out, job, run)?;
             push_left_job_lines(alloc, out, jobs, runs)
         }
-        _ => Ok(()),
+        ([], _) => Ok(()),
+        ([_job, _jobs @ ..], []) => Ok(()),
     }
 }
 
