@@ -2,14 +2,16 @@
 # What bash offers behind `rvtest` and `rvfleet`: their commands, the options of each, files, and the names of a list's jobs.
 _rvfleet_options() {
     case "$1 $2" in
-        'rvtest run') echo '--only --match --exclude --failed --shard --stamp --workers --group --root --report --junit --suite --lenient --verbose --quiet --last --help' ;;
+        'rvtest run') echo '--only --match --exclude --failed --shard --stamp --workers --group --budget --root --report --junit --suite --lenient --verbose --quiet --last --color --help' ;;
         'rvtest list') echo '--only --match --exclude --failed --lenient --help' ;;
-        'rvtest explain') echo '--last --root --help' ;;
+        'rvtest explain') echo '--last --budget --root --color --help' ;;
         'rvtest console') echo '--root --help' ;;
         'rvtest check') echo '--root --help' ;;
+        'rvtest accept') echo '--only --match --exclude --failed --ends --check --workers --group --root --help' ;;
         'rvtest merge') echo '--report --junit --suite --lenient --help' ;;
-        'rvtest diff') echo '--steps --slower --help' ;;
-        'rvtest show') echo '--junit --suite --lenient --help' ;;
+        'rvtest diff') echo '--steps --slower --color --help' ;;
+        'rvtest show') echo '--junit --suite --lenient --color --help' ;;
+        'rvtest help') echo ' --help' ;;
         'rvfleet raw') echo '--budget --help' ;;
         'rvfleet one') echo '--budget --input-hex --help' ;;
         'rvfleet run') echo '--workers --group --help' ;;
@@ -33,7 +35,7 @@ _rvfleet_is_named() {
 }
 
 _rvfleet() {
-    local word=$2 before=$3 commands='run list explain console check merge diff show --version --help'
+    local word=$2 before=$3 commands='run list explain console check accept merge diff show help --version --help'
     COMPREPLY=()
     [ "${1##*/}" = rvtest ] || commands='raw one run --help'
     if [ "$COMP_CWORD" = 1 ]; then

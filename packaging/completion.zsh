@@ -21,9 +21,11 @@ _rvfleet_behind_rvtest() {
         'explain:Runs one job, and shows how it ended and came there'
         'console:Runs one job, and writes its console'\''s bytes to standard output'
         'check:Says all that is wrong with a list and its files, and runs nothing'
+        'accept:Runs jobs, and makes what they came to what is expected'
         'merge:Makes the whole report of the parts of one run'
         'diff:Says in which jobs two reports differ'
         'show:Shows what failed in a report'
+        'help:Tells the keys of a list'
     )
     if (( CURRENT == 2 )); then
         _describe command commands
@@ -42,6 +44,7 @@ _rvfleet_behind_rvtest() {
                 '--stamp[Says which run the part is of; else a digest of the list]:TEXT: ' \
                 ''{-j,--workers}'[Threads, from 1 to 64; else one a processor]:N: ' \
                 '--group[Jobs that a thread takes at once, from 1 to 4096 \[default\: 1\]]:N: ' \
+                '--budget[Steps at most of every job, from 1 to 1000000000; else its own]:N: ' \
                 '--root[Takes the paths in the list from this folder]:DIR:_directories' \
                 '--report[Writes the report to this file; - is standard output]:FILE:_files' \
                 '--junit[Writes JUnit XML to this file; - is standard output]:FILE:_files' \
@@ -50,6 +53,7 @@ _rvfleet_behind_rvtest() {
                 ''{-v,--verbose}'[Shows the jobs that pass, too; not beside --quiet]' \
                 ''{-q,--quiet}'[Shows the last line alone; not beside --verbose]' \
                 '--last[Shows the last N instructions of a job, from 0 to 100000]:N: ' \
+                '--color[Colors\: always, never, or auto, which is on a terminal]:WHEN:_files' \
                 '--help[Print help]' \
                 ':LIST:_files' ;;
         list) _arguments \
@@ -62,7 +66,9 @@ _rvfleet_behind_rvtest() {
                 ':LIST:_files' ;;
         explain) _arguments \
                 '--last[Shows the last N instructions of a job, from 0 to 100000 \[default\: 16\]]:N: ' \
+                '--budget[Steps at most of every job, from 1 to 1000000000; else its own]:N: ' \
                 '--root[Takes the paths in the list from this folder]:DIR:_directories' \
+                '--color[Colors\: always, never, or auto, which is on a terminal]:WHEN:_files' \
                 '--help[Print help]' \
                 ':LIST:_files' \
                 ':NAME:_rvfleet_jobs' ;;
@@ -72,6 +78,18 @@ _rvfleet_behind_rvtest() {
                 ':LIST:_files' \
                 ':NAME:_rvfleet_jobs' ;;
         check) _arguments \
+                '--root[Takes the paths in the list from this folder]:DIR:_directories' \
+                '--help[Print help]' \
+                ':LIST:_files' ;;
+        accept) _arguments \
+                '*--only[Chooses the job of this name; may come again]:NAME:_rvfleet_jobs' \
+                '--match[Chooses the jobs in whose names it is found]:REGEX: ' \
+                '--exclude[Leaves out the jobs in whose names it is found]:REGEX: ' \
+                '--failed[Chooses the jobs that failed in a report]:REPORT:_files' \
+                '--ends[Accepts another exit code too, and another kind of fault]' \
+                '--check[Tells what would change, and writes nothing]' \
+                ''{-j,--workers}'[Threads, from 1 to 64; else one a processor]:N: ' \
+                '--group[Jobs that a thread takes at once, from 1 to 4096 \[default\: 1\]]:N: ' \
                 '--root[Takes the paths in the list from this folder]:DIR:_directories' \
                 '--help[Print help]' \
                 ':LIST:_files' ;;
@@ -85,6 +103,7 @@ _rvfleet_behind_rvtest() {
         diff) _arguments \
                 '--steps[Compares steps too, and where faults were]' \
                 '--slower[Says which jobs take over N percent more steps, from 0 to 1000]:N: ' \
+                '--color[Colors\: always, never, or auto, which is on a terminal]:WHEN:_files' \
                 '--help[Print help]' \
                 ':OLD:_files' \
                 ':NEW:_files' ;;
@@ -92,8 +111,12 @@ _rvfleet_behind_rvtest() {
                 '--junit[Writes JUnit XML to this file; - is standard output]:FILE:_files' \
                 '--suite[Names the suite in JUnit XML, in place of the file]:NAME: ' \
                 '--lenient[Counts as failed only what misses an expectation]' \
+                '--color[Colors\: always, never, or auto, which is on a terminal]:WHEN:_files' \
                 '--help[Print help]' \
                 ':REPORT:_files' ;;
+        help) _arguments \
+                '--help[Print help]' \
+                ':TOPIC:_files' ;;
     esac
 }
 

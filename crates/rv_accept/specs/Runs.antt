@@ -1,5 +1,5 @@
 -- The jobs of a list that were run, and whether they are left.
-use Rattle.std.specs.Prelude.{◌&&◌, Bool, not, List, [], ◌∷◌, Option, Some, None, drop, if◌then◌else◌, is_some, option_map, slice_get}
+use Rattle.std.specs.Prelude.{◌&&◌, ◌||◌, Bool, not, List, [], ◌∷◌, Option, Some, None, drop, if◌then◌else◌, is_some, option_map, slice_get}
 use Rattle.std.specs.Str.{is_utf8}
 use Rattle.rv_jobs.specs.declared_job.Job.{Job}
 use Rattle.rv_rows.specs.declared_row.Row.{Row}
@@ -25,12 +25,21 @@ why_text_is_left job row =
 abbrev pub why_left : Acceptance → Job → Row → Option WhyLeft
 why_left asked job row = if is_accepted_end asked job row.ending then why_text_is_left job row else Some why.End
 
+-- a job expects something that may be taken from its run
+abbrev pub takes_from_run : Job → Bool
+takes_from_run job = is_some job.expect_exit || (is_some job.expect_end || (is_some job.expect_console
+    || is_some job.expect_signature))
+
+-- a job of which nothing is taken is not left
+abbrev pub why_chosen_is_left : Acceptance → Job → Row → Option WhyLeft
+why_chosen_is_left asked job row = if takes_from_run job then why_left asked job row else None
+
 -- a job that was run: one that is not chosen gives its golden files only where it ended exactly as is expected
 abbrev pub judged_run : Acceptance → Job → Bool → Row → JobRun
 judged_run asked job chosen row = record {
   row = row;
   is_chosen = chosen;
-  left = if chosen then why_left asked job row else why_end_is_left acceptance.Expected job row.ending;
+  left = if chosen then why_chosen_is_left asked job row else why_end_is_left acceptance.Expected job row.ending;
 }
 
 -- the first of some rows where a job is marked, and those behind it

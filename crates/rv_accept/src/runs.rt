@@ -3,7 +3,7 @@
 ghost use Rattle.std.specs.Prelude.{◌≡◌, ◌++◌, IfOk, OnOk, drop, option_map};
 ghost use Rattle.std.specs.Vec.Iter.{into_iter_items};
 ghost use Rattle.std.specs.Str.{is_utf8};
-ghost use Rattle.rv_accept.specs.Runs.{first_row, is_accepted_run, judged_run, judged_runs, placed_rows, rest_if, row_if, why_end_is_left, why_left};
+ghost use Rattle.rv_accept.specs.Runs.{first_row, is_accepted_run, judged_run, judged_runs, placed_rows, rest_if, row_if, takes_from_run, why_chosen_is_left, why_end_is_left, why_left};
 
 use crate::ends::{Acceptance, is_accepted_end};
 use crate::values::{ValueKey, is_value_changed};
@@ -151,7 +151,7 @@ fn judged_run(acceptance: Acceptance, job: &Job, is_chosen: bool, row: Row) -> J
     ensures { result ≡ judged_run acceptance job.now is_chosen row }
 {
     let left = if is_chosen {
-        why_left(acceptance, job, &row)
+        why_chosen_is_left(acceptance, job, &row)
     } else {
         why_end_is_left(Acceptance::Expected, job, row.ending)
     };
@@ -160,6 +160,27 @@ fn judged_run(acceptance: Acceptance, job: &Job, is_chosen: bool, row: Row) -> J
         is_chosen,
         left,
     }
+}
+
+// A job of which nothing is taken is not left.
+fn why_chosen_is_left(acceptance: Acceptance, job: &Job, row: &Row) -> Option<WhyLeft>
+    ensures { result ≡ why_chosen_is_left acceptance job.now row.now }
+{
+    if takes_from_run(job) {
+        why_left(acceptance, job, row)
+    } else {
+        None
+    }
+}
+
+// Whether a job expects something that may be taken from its run.
+fn takes_from_run(job: &Job) -> bool
+    ensures { result ≡ takes_from_run job.now }
+{
+    job.expect_exit.is_some()
+        || job.expect_end.is_some()
+        || job.expect_console.is_some()
+        || job.expect_signature.is_some()
 }
 
 fn why_left(acceptance: Acceptance, job: &Job, row: &Row) -> Option<WhyLeft>
