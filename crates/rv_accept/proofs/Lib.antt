@@ -1,2 +1,4 @@
 pub mod Meeting
 pub mod Editing
+pub mod Sharing
+pub mod Public

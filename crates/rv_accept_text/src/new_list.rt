@@ -3,6 +3,7 @@
 ghost use Rattle.std.specs.Prelude.{◌≡◌, IfOk, IfSome, IsTrue, Ok};
 ghost use Rattle.rv_lists.specs.JobList.{job_list_of};
 ghost use Rattle.rv_accept.specs.Meant.{meant_jobs};
+ghost use Rattle.rv_accept_text.specs.NewLists.{AreLeftMore, IsLeftMore};
 
 use rv_accept::{Edit, JobRun, ValueKey, WhyLeft, are_meant_jobs, edited_text, is_value_changed, push_new_value};
 use rv_jobs::{Bytes, Job, What, read_jobs};
@@ -51,7 +52,9 @@ pub fn accept_values(
     jobs: &[Job],
     runs: &mut Vec<Option<JobRun>>,
 ) -> Result<NewList, AllocError>
-    ensures { IfOk result (λ new. IfSome new.text (λ text. job_list_of text.items ≡ Ok (meant_jobs jobs.now runs.new.items))) }
+    ensures meant { IfOk result (λ new. IfSome new.text
+        (λ text. job_list_of text.items ≡ Ok (meant_jobs jobs.now runs.new.items))) }
+    ensures left { IfOk result (λ _. AreLeftMore runs.old.items runs.new.items) }
 {
     let places = places_in(alloc, text)?;
     leave_unplaced(jobs, &places, runs);
@@ -89,7 +92,9 @@ fn places_in(alloc: Global, text: &[u8]) -> Result<Places, AllocError> {
 }
 
 // Leaves each accepted job with another value that stands at none of these places.
-fn leave_unplaced(jobs: &[Job], places: &Places, runs: &mut Vec<Option<JobRun>>) {
+fn leave_unplaced(jobs: &[Job], places: &Places, runs: &mut Vec<Option<JobRun>>)
+    ensures { AreLeftMore runs.old.items runs.new.items }
+{
     for at in 0..runs.len().min(jobs.len()) {
         if let Some(run) = &mut runs[at] {
             if run.is_accepted() {

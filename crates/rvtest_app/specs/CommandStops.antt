@@ -71,6 +71,7 @@ IsCommandStop known (asked.Check words) why = (why ≡ stop.WriteFailed) ⊎ IsC
 IsCommandStop known (asked.Diff words) why = (why ≡ stop.WriteFailed) ⊎ IsDiffAtStop known words why
 IsCommandStop known (asked.Help words) why = (why ≡ stop.WriteFailed) ⊎ IsNoTopicStop words.topic.now why
 IsCommandStop known (asked.Run words) why = ⊤
+IsCommandStop known (asked.Accept words) why = ⊤
 IsCommandStop known (asked.Merge words) why = ⊤
 IsCommandStop known (asked.Show words) why = ⊤
 

@@ -1,12 +1,29 @@
 //! The command `accept`.
 
-ghost use Rattle.std.specs.Prelude.{◌≡◌, ◌≤◌, IfOk};
+ghost use Rattle.std.specs.Prelude.{◌≡◌, ◌≤◌, [], IfOk, IfSome, Ok, OnOk, fold, length, map, option_map, true};
+ghost use Rattle.std.specs.Io.KnownBytes.{Appends};
+ghost use Rattle.std.specs.Option.{ForSome};
+ghost use Rattle.rv_accept.specs.Claims.{claims_of_runs};
+ghost use Rattle.rv_accept.specs.Meant.{meant_jobs};
+ghost use Rattle.rv_accept.specs.Sharing.{marks_to_run};
+ghost use Rattle.rv_accept.specs.Targets.{with_target};
+ghost use Rattle.rv_accept_text.specs.NewLists.{AreLeftMore};
+ghost use Rattle.rv_accept_text.specs.Told.{changed_count, count_line, left_count, told_lines};
+ghost use Rattle.rv_choice.specs.Chosen.{IsChoice};
+ghost use Rattle.rv_command.specs.Texts.{IsTextAt, optional_text};
+ghost use Rattle.rv_lists.specs.JobList.{job_list_of};
+ghost use Rattle.rv_lists.specs.Jobs.{without_expectations};
+ghost use Rattle.rvtest_app.specs.Accepts.{AreGoldenFiles, AreRowsPut, IsAcceptedAt, IsAcceptedOfMarks, IsOutcomePut, accept_status};
+ghost use Rattle.rvtest_app.specs.Accepts.{acceptance_of};
+ghost use Rattle.rvtest_app.specs.Commands.{failure_rule};
+ghost use Rattle.rvtest_app.specs.Said.{said};
 
 use crate::accepted_files::{check_written_files, read_golden_files, write_accepted_files};
 use crate::crew::requested_crew;
 use crate::destinations::Destinations;
 use crate::host::Host;
 use crate::missing_images::missing_images_note;
+use crate::planned_run::MarkedJobs;
 use crate::rules::failure_rule;
 use crate::run::gather_jobs_at;
 use rv_accept::{
@@ -33,6 +50,7 @@ struct ChosenList {
     chosen: Option<Vec<bool>>,
     // What is said of the choice.
     notes: Vec<u8>,
+    ghost counted: { ForSome chosen (λ marks. length marks.items ≡ length jobs) },
 }
 
 // What the jobs came to that were run.
@@ -58,30 +76,57 @@ pub(crate) fn accept_runs<
     to: &mut Destinations<F, O, E>,
 ) -> Result<u8, Stop>
     ensures low { IfOk result (λ status. status ≤ 1) }
+    ensures accepted { IfOk result (λ status. IsAcceptedAt (D.contents host.now.inputs.now) asked.now status
+        (said F.placed O.taken E.taken E.failed to.old) (said F.placed O.taken E.taken E.failed to.new)) }
+    // In a check nothing is opened for writing, whatever comes of it.
+    ensures unwritten { asked.now.check ≡ true → to.new.files ≡ to.old.files }
 {
-    let ChosenList {
-        text,
-        jobs,
-        chosen,
-        notes,
-    } = chosen_list(host, asked)?;
-    put_message(&mut to.errors, notes.as_slice());
-    let Some(chosen) = chosen else {
-        return Ok(DONE);
-    };
-    let marks = marks_to_run(host.alloc, jobs.as_slice(), chosen.as_slice())?;
-    let rows = run_marked(host, asked, text.as_slice(), marks.as_slice(), to)?;
+    let list = chosen_list(host, asked)?;
+    put_message(&mut to.errors, list.notes.as_slice());
+    match &list.chosen {
+        Some(chosen) => accept_chosen(host, asked, &list, chosen.as_slice(), to),
+        None => Ok(DONE),
+    }
+}
+
+// The same of the jobs that are chosen.
+fn accept_chosen<
+    R: Threads + Wait + Sync,
+    D: Inputs,
+    F: Outputs + Drop,
+    O: Sink + Drop,
+    E: Sink + Drop,
+>(
+    host: &Host<'_, R, D>,
+    asked: &AcceptAsked<'_>,
+    list: &ChosenList,
+    chosen: &[bool],
+    to: &mut Destinations<F, O, E>,
+) -> Result<u8, Stop>
+    requires counted { length chosen.now ≡ length list.now.jobs }
+    requires listed { job_list_of list.now.text.items ≡ Ok list.now.jobs }
+    ensures low { IfOk result (λ status. status ≤ 1) }
+    ensures accepted { IfOk result (λ status. IsAcceptedOfMarks (D.contents host.now.inputs.now) asked.now
+        list.now.text.items list.now.jobs chosen.now status
+        (said F.placed O.taken E.taken E.failed to.old) (said F.placed O.taken E.taken E.failed to.new)) }
+    ensures unwritten { asked.now.check ≡ true → to.new.files ≡ to.old.files }
+{
+    let marked = marked_jobs(host.alloc, asked, list, chosen)?;
+    let rows = run_marked(host, asked, marked, to)?;
     let list = ListFile {
         path: asked.run.list,
-        text: text.as_slice(),
-        jobs: jobs.as_slice(),
+        text: list.text.as_slice(),
+        jobs: list.jobs.as_slice(),
     };
-    let runs = judged_runs(host.alloc, acceptance_of(asked.ends), list.jobs, chosen.as_slice(), rows)?;
+    let acceptance = acceptance_of(asked.ends);
+    let runs = judged_runs(host.alloc, acceptance, list.jobs, chosen, rows)?;
     let outcomes = outcomes_of_runs(host, asked, &list, runs)?;
     put_accepted(host, asked, &list, &outcomes, to)
 }
 
-fn acceptance_of(ends: bool) -> Acceptance {
+fn acceptance_of(ends: bool) -> Acceptance
+    ensures { result ≡ acceptance_of ends }
+{
     if ends {
         Acceptance::InExpectedWay
     } else {
@@ -93,7 +138,12 @@ fn acceptance_of(ends: bool) -> Acceptance {
 fn chosen_list<R, D: Inputs>(
     host: &Host<'_, R, D>,
     asked: &AcceptAsked<'_>,
-) -> Result<ChosenList, Stop> {
+) -> Result<ChosenList, Stop>
+    ensures read { IfOk result (λ list. IsTextAt (D.contents host.now.inputs.now) asked.now.run.list.now list.text.items) }
+    ensures listed { IfOk result (λ list. job_list_of list.text.items ≡ Ok list.jobs) }
+    ensures chosen { IfOk result (λ list. IsChoice (D.contents host.now.inputs.now) asked.now.run
+        (failure_rule asked.now.run.lenient) list.jobs (option_map (λ marks. marks.items) list.chosen) list.notes.items) }
+{
     let run = &asked.run;
     let text = read_list_text(host.inputs, host.alloc, run.list)?;
     let jobs = parse_list(host.alloc, run.list, text.as_slice())?;
@@ -113,7 +163,29 @@ fn chosen_list<R, D: Inputs>(
     })
 }
 
-// The rows of the jobs of a list that are marked, each at the place of its job. They run without their expectations.
+// The jobs of a list without their expectations, with marks for those that run where some are chosen.
+fn marked_jobs(
+    alloc: Global,
+    asked: &AcceptAsked<'_>,
+    list: &ChosenList,
+    chosen: &[bool],
+) -> Result<MarkedJobs, Stop>
+    requires counted { length chosen.now ≡ length list.now.jobs }
+    requires listed { job_list_of list.now.text.items ≡ Ok list.now.jobs }
+    ensures jobs { IfOk result (λ marked. marked.jobs ≡ map without_expectations list.now.jobs) }
+    ensures marks { IfOk result (λ marked. marked.marks.items
+        ≡ marks_to_run list.now.jobs chosen.now list.now.jobs chosen.now) }
+{
+    let jobs = parse_list(alloc, asked.run.list, list.text.as_slice())?.without_expectations();
+    let marks = marks_to_run(alloc, list.jobs.as_slice(), chosen)?;
+    Ok(MarkedJobs {
+        jobs,
+        marks,
+        shard: None,
+    })
+}
+
+// The rows of the jobs that are marked, each at the place of its job.
 fn run_marked<
     R: Threads + Wait + Sync,
     D: Inputs,
@@ -123,13 +195,17 @@ fn run_marked<
 >(
     host: &Host<'_, R, D>,
     asked: &AcceptAsked<'_>,
-    text: &[u8],
-    marks: &[bool],
+    marked: MarkedJobs,
     to: &mut Destinations<F, O, E>,
-) -> Result<Vec<Option<Row>>, Stop> {
+) -> Result<Vec<Option<Row>>, Stop>
+    ensures files { to.new.files ≡ to.old.files }
+    ensures rows { IfOk result (λ rows. AreRowsPut (D.contents host.now.inputs.now)
+        (optional_text asked.now.run.root) marked.jobs marked.marks.items rows.items
+        (said F.placed O.taken E.taken E.failed to.old) (said F.placed O.taken E.taken E.failed to.new)) }
+{
+    let MarkedJobs { jobs, marks, .. } = marked;
     let (alloc, root) = (host.alloc, asked.run.root);
-    let jobs = parse_list(alloc, asked.run.list, text)?.without_expectations();
-    let places = marked_places(alloc, marks)?;
+    let places = marked_places(alloc, marks.as_slice())?;
     let mut store = NotingStore::new(host.inputs, alloc, root);
     let plan = gather_jobs_at(alloc, jobs, places.as_slice(), &mut store)?;
     let count = places.as_slice().len();
@@ -138,7 +214,7 @@ fn run_marked<
     let crew = requested_crew(host.rt, alloc, &asked.run);
     let batch = Batch::new(&plan, places.as_slice());
     match run_places(&crew, &batch, &FreeGate) {
-        Ok(rows) => Ok(placed_rows(alloc, marks, rows.into_vec())?),
+        Ok(rows) => Ok(placed_rows(alloc, marks.as_slice(), rows.into_vec())?),
         Err(error) => Err(stop_of_places(error)),
     }
 }
@@ -156,7 +232,16 @@ fn outcomes_of_runs<R, D: Inputs>(
     asked: &AcceptAsked<'_>,
     list: &ListFile<'_>,
     runs: Vec<Option<JobRun>>,
-) -> Result<Outcomes, Stop> {
+) -> Result<Outcomes, Stop>
+    ensures runs { IfOk result (λ outcomes. AreLeftMore runs.items outcomes.runs.items) }
+    ensures claims { IfOk result (λ outcomes. outcomes.claims.items
+        ≡ claims_of_runs 0 list.now.jobs.now outcomes.runs.items) }
+    ensures files { IfOk result (λ outcomes. AreGoldenFiles (D.contents host.now.inputs.now)
+        (optional_text asked.now.run.root)
+        (fold (with_target outcomes.runs.items outcomes.claims.items) [] outcomes.claims.items) outcomes.files.items) }
+    ensures meant { IfOk result (λ outcomes. IfSome outcomes.new.text
+        (λ text. job_list_of text.items ≡ Ok (meant_jobs list.now.jobs.now outcomes.runs.items))) }
+{
     let alloc = host.alloc;
     let mut runs = runs;
     let new = accept_values(alloc, list.text, list.jobs, &mut runs)?;
@@ -180,6 +265,10 @@ fn put_accepted<R, D: Inputs, F: Outputs + Drop, O: Sink + Drop, E: Sink + Drop>
     to: &mut Destinations<F, O, E>,
 ) -> Result<u8, Stop>
     ensures low { IfOk result (λ status. status ≤ 1) }
+    ensures unwritten { asked.now.check ≡ true → to.new.files ≡ to.old.files }
+    ensures put { IfOk result (λ status. IsOutcomePut asked.now.check list.now outcomes.now.runs.items
+        outcomes.now.claims.items outcomes.now.files.items outcomes.now.new status
+        (said F.placed O.taken E.taken E.failed to.old) (said F.placed O.taken E.taken E.failed to.new)) }
 {
     let accepting = Accepting {
         list: *list,
@@ -191,15 +280,17 @@ fn put_accepted<R, D: Inputs, F: Outputs + Drop, O: Sink + Drop, E: Sink + Drop>
     put_lines(host.alloc, &accepting, &mut to.out)?;
     if asked.check {
         put_count(host.alloc, &accepting, Writing::Asked, &mut to.out)?;
-        return Ok(check_status(accepting.left_count(), accepting.changed_count()));
+        return Ok(accept_status(accepting.left_count(), accepting.changed_count()));
     }
     write_accepted_files(&mut to.files, host.alloc, &accepting)?;
     check_written_files(host.inputs, host.alloc, &accepting)?;
     put_count(host.alloc, &accepting, Writing::Done, &mut to.out)?;
-    Ok(check_status(accepting.left_count(), 0))
+    Ok(accept_status(accepting.left_count(), 0))
 }
 
-fn put_lines<O: Sink>(alloc: Global, accepting: &Accepting<'_>, out: &mut O) -> Result<(), Stop> {
+fn put_lines<O: Sink>(alloc: Global, accepting: &Accepting<'_>, out: &mut O) -> Result<(), Stop>
+    ensures { OnOk result (Appends (O.taken out.old) (O.taken out.new) (told_lines accepting.now)) }
+{
     let mut lines = Vec::new(alloc);
     accepting.push_lines(alloc, &mut lines)?;
     put_results(out, lines.as_slice())
@@ -210,14 +301,18 @@ fn put_count<O: Sink>(
     accepting: &Accepting<'_>,
     writing: Writing,
     out: &mut O,
-) -> Result<(), Stop> {
+) -> Result<(), Stop>
+    ensures { OnOk result (Appends (O.taken out.old) (O.taken out.new)
+        (count_line writing (changed_count accepting.now) (left_count accepting.now))) }
+{
     let mut line = Vec::new(alloc);
     accepting.push_count_line(&mut line, writing)?;
     put_results(out, line.as_slice())
 }
 
-// The status of so many that are left, and so many that would change.
-fn check_status(left: usize, changed: usize) -> u8
+// The status where so many are left, and so many would change.
+fn accept_status(left: usize, changed: usize) -> u8
+    ensures value { result ≡ accept_status left changed }
     ensures low { result ≤ 1 }
 {
     if left == 0 && changed == 0 {

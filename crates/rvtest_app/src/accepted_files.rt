@@ -1,6 +1,11 @@
 //! The files that `accept` reads and writes.
 
-ghost use Rattle.std.specs.Prelude.{◌≡◌, IfOk, OnErr, OnOk};
+ghost use Rattle.std.specs.Prelude.{◌≡◌, ◌++◌, ◌∷◌, [], IfOk, IfSome, OnErr, OnOk, Some};
+ghost use Rattle.rv_command.specs.Texts.{optional_text};
+ghost use Rattle.rv_files.specs.Placed.{placed_file};
+ghost use Rattle.rv_files.specs.UnreadPaths.{resolved_path};
+ghost use Rattle.rvtest_app.specs.Accepts.{AreGoldenFiles, IsOldAt, file_if, new_list_text, written_files};
+ghost use Rattle.rvtest_app.specs.Outlets.{AreFilesPlaced};
 
 use rv_accept::Target;
 use rv_accept_text::{Accepting, GoldenFile};
@@ -19,7 +24,9 @@ pub(crate) fn read_golden_files<D: Inputs>(
     alloc: Global,
     folder: Option<&str>,
     targets: Vec<Target>,
-) -> Result<Vec<GoldenFile>, Stop> {
+) -> Result<Vec<GoldenFile>, Stop>
+    ensures { IfOk result (λ files. AreGoldenFiles (D.contents inputs.now) (optional_text folder.entry) targets.items files.items) }
+{
     let mut files = Vec::new(alloc);
     for target in targets {
         let place = place_of_path(alloc, folder, target.path.as_str())?;
@@ -34,7 +41,9 @@ fn add_file(files: &mut Vec<GoldenFile>, file: GoldenFile) -> Result<(), AllocEr
     Ok(())
 }
 
-fn place_of_path(alloc: Global, folder: Option<&str>, path: &str) -> Result<Text, AllocError> {
+fn place_of_path(alloc: Global, folder: Option<&str>, path: &str) -> Result<Text, AllocError>
+    ensures { IfOk result (λ place. place ≡ resolved_path (optional_text folder.entry) path.now) }
+{
     match folder {
         Some(folder) => {
             let place = Path::new(folder).join(alloc, path)?;
@@ -45,7 +54,13 @@ fn place_of_path(alloc: Global, folder: Option<&str>, path: &str) -> Result<Text
 }
 
 // What stands at a place; nothing where the file is missing.
-fn read_golden_file<D: Inputs>(inputs: &D, alloc: Global, path: &str) -> Result<Option<Bytes>, Stop> {
+fn read_golden_file<D: Inputs>(
+    inputs: &D,
+    alloc: Global,
+    path: &str,
+) -> Result<Option<Bytes>, Stop>
+    ensures { IfOk result (IsOldAt (D.contents inputs.now) path.now) }
+{
     match read_whole_up_to(inputs, alloc, path, MOST_BYTES) {
         Ok(Some(bytes)) => Ok(Some(Bytes::new(bytes))),
         Ok(None) => Err(Stop::of_failure(path_message(
@@ -68,7 +83,9 @@ pub(crate) fn write_accepted_files<F: Outputs>(
     files: &mut F,
     alloc: Global,
     accepting: &Accepting<'_>,
-) -> Result<(), Stop> {
+) -> Result<(), Stop>
+    ensures { OnOk result (AreFilesPlaced (F.placed files.old) (F.placed files.new) (Some (written_files accepting.now))) }
+{
     for file in accepting.files {
         if let Some(text) = file.new_text(&accepting.list) {
             write_file(files, alloc, file.place.as_str(), text)?;
@@ -85,7 +102,11 @@ fn write_file<F: Outputs>(
     alloc: Global,
     path: &str,
     bytes: &[u8],
-) -> Result<(), Stop> {
+) -> Result<(), Stop>
+    ensures placed { OnOk result (AreFilesPlaced (F.placed files.old) (F.placed files.new)
+        (Some (placed_file path.now bytes.now ∷ []))) }
+    ensures same { OnErr result (F.placed files.new ≡ F.placed files.old) }
+{
     let (place, mut file) = match files.create(alloc, path) {
         Ok(made) => made,
         Err(error) => return Err(file_error_stop(alloc, path, error)),
