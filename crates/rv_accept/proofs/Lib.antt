@@ -1,4 +1,4 @@
 pub mod Meeting
 pub mod Editing
-pub mod Sharing
+mod MarkCounts
 pub mod Public

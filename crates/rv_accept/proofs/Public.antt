@@ -1,2 +1,2 @@
 -- What other crates' proofs need.
-pub use Rattle.rv_accept.proofs.Sharing.{marks_count}
+pub use Rattle.rv_accept.proofs.MarkCounts.{marks_count}

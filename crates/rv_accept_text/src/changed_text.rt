@@ -46,11 +46,11 @@ pub(crate) fn push_byte_change(out: &mut Vec<u8>, old: &[u8], new: &[u8]) -> Res
     push_values_from(out, equal_len(old, new), old, new)
 }
 
-fn push_values_from(
+fn push_values_from<'x>(
     out: &mut Vec<u8>,
     place: usize,
-    old: &[u8],
-    new: &[u8],
+    old: &'x [u8],
+    new: &'x [u8],
 ) -> Result<(), AllocError>
     ensures { OnOk result (out.new.items ≡ out.old.items ++ values_from place old.now new.now) }
 {
@@ -77,11 +77,11 @@ pub(crate) fn push_word_change(out: &mut Vec<u8>, old: &[u8], new: &[u8]) -> Res
 }
 
 // Appends the words of two signatures whose first bytes are equal, so many.
-fn push_word_change_at(
+fn push_word_change_at<'x>(
     out: &mut Vec<u8>,
     len: usize,
-    old: &[u8],
-    new: &[u8],
+    old: &'x [u8],
+    new: &'x [u8],
 ) -> Result<(), AllocError>
     ensures { OnOk result (out.new.items ≡ out.old.items ++ word_change_at len old.now new.now) }
 {

@@ -92,11 +92,11 @@ fn bytes_word(count: usize) -> &'static str
 }
 
 // Appends which file it is, and what it holds of which job.
-fn push_file_head(
+fn push_file_head<'x>(
     out: &mut Vec<u8>,
     sign: &'static str,
-    jobs: &[Job],
-    target: &Target,
+    jobs: &'x [Job],
+    target: &'x Target,
 ) -> Result<(), AllocError>
     ensures { OnOk result (out.new.items ≡ out.old.items ++ file_head sign.now jobs.now target.now) }
 {

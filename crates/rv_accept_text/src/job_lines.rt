@@ -39,11 +39,11 @@ pub(crate) fn push_value_line(
     push_value_change(out, value.key, job, row)
 }
 
-fn push_value_head(
+fn push_value_head<'x>(
     out: &mut Vec<u8>,
-    path: &str,
+    path: &'x str,
     value: &ChangedValue,
-    job: &Job,
+    job: &'x Job,
 ) -> Result<(), AllocError>
     ensures { OnOk result (out.new.items ≡ out.old.items ++ value_head path.now value.now job.now) }
 {
