@@ -1,14 +1,17 @@
 //! The text of a list with the values of accepted jobs.
 
-ghost use Rattle.std.specs.Prelude.{◌≡◌, IfOk, IfSome, IsTrue, Ok};
+ghost use Rattle.std.specs.Prelude.{◌≡◌, ◌++◌, IfOk, IfSome, IsTrue, List, None, Ok, OnOk, Option, drop, option_map, slice_get};
+ghost use Rattle.std.specs.Vec.Iter.{into_iter_items};
 ghost use Rattle.rv_lists.specs.JobList.{job_list_of};
 ghost use Rattle.rv_accept.specs.Meant.{meant_jobs};
-ghost use Rattle.rv_accept_text.specs.NewLists.{AreLeftMore, IsLeftMore};
+ghost use Rattle.rv_accept.specs.declared.runs.WhyLeft.{WhyLeft as AWhyLeft};
+ghost use Rattle.rv_accept_text.specs.NewLists.{AreLeftFrom, left_run, left_runs, run_or_none};
 
 use rv_accept::{Edit, JobRun, ValueKey, WhyLeft, are_meant_jobs, edited_text, is_value_changed, push_new_value};
 use rv_jobs::{Bytes, Job, What, read_jobs};
 use rv_list_errors::{ValueSpan, line_and_column, value_spans};
 use std::alloc::{AllocError, Global};
+use std::vec::IntoIter;
 
 /// A value of a job that is replaced.
 #[derive(Clone, Copy)]
@@ -20,13 +23,15 @@ pub struct ChangedValue {
     pub line: usize,
 }
 
-/// What becomes of a list.
+/// What becomes of a list, and of the runs of its jobs.
 #[derive(Drop)]
 pub struct NewList {
     /// Nothing where no value is replaced.
     pub text: Option<Vec<u8>>,
     /// The values that are replaced, in the order of the text.
     pub values: Vec<ChangedValue>,
+    /// The runs, of which those are left whose values stand where they are not replaced.
+    pub runs: Vec<Option<JobRun>>,
 }
 
 // Where values of a list's text stand that may be replaced.
@@ -50,33 +55,137 @@ pub fn accept_values(
     alloc: Global,
     text: &[u8],
     jobs: &[Job],
-    runs: &mut Vec<Option<JobRun>>,
+    runs: Vec<Option<JobRun>>,
 ) -> Result<NewList, AllocError>
     ensures meant { IfOk result (λ new. IfSome new.text
-        (λ text. job_list_of text.items ≡ Ok (meant_jobs jobs.now runs.new.items))) }
-    ensures left { IfOk result (λ _. AreLeftMore runs.old.items runs.new.items) }
+        (λ text. job_list_of text.items ≡ Ok (meant_jobs jobs.now new.runs.items))) }
+    ensures left { IfOk result (λ new. AreLeftFrom runs.items new.runs.items) }
 {
     let places = places_in(alloc, text)?;
-    leave_unplaced(jobs, &places, runs);
+    let whys = whys_unplaced(alloc, jobs, runs.as_slice(), &places)?;
+    let runs = left_runs(alloc, whys.as_slice(), runs)?;
     let Changes { edits, values } = changes_at(alloc, text, jobs, runs.as_slice(), &places)?;
-    if !edits.is_empty() {
-        let new = edited_text(alloc, text, edits.as_slice())?;
-        if reads_as_meant(alloc, new.as_slice(), jobs, runs.as_slice())? {
-            return Ok(NewList {
-                text: Some(new),
-                values,
-            });
-        }
-        let places = Places {
-            spans: Vec::new(alloc),
-            is_made: false,
-        };
-        leave_unplaced(jobs, &places, runs);
+    if edits.is_empty() {
+        return Ok(NewList {
+            text: None,
+            values,
+            runs,
+        });
     }
+    match meant_text(alloc, text, jobs, runs.as_slice(), edits.as_slice())? {
+        Some(new) => Ok(NewList {
+            text: Some(new),
+            values,
+            runs,
+        }),
+        None => leave_changed(alloc, jobs, runs),
+    }
+}
+
+// Leaves each accepted job with another value.
+fn leave_changed(
+    alloc: Global,
+    jobs: &[Job],
+    runs: Vec<Option<JobRun>>,
+) -> Result<NewList, AllocError>
+    ensures none { IfOk result (λ new. new.text ≡ None) }
+    ensures left { IfOk result (λ new. (whys : List (Option AWhyLeft)) × (new.runs.items ≡ left_runs whys runs.items)) }
+{
+    let places = Places {
+        spans: Vec::new(alloc),
+        is_made: false,
+    };
+    let whys = whys_unplaced(alloc, jobs, runs.as_slice(), &places)?;
+    let runs = left_runs(alloc, whys.as_slice(), runs)?;
     Ok(NewList {
         text: None,
         values: Vec::new(alloc),
+        runs,
     })
+}
+
+// The text with these edits, where it reads as the jobs that are meant.
+fn meant_text(
+    alloc: Global,
+    text: &[u8],
+    jobs: &[Job],
+    runs: &[Option<JobRun>],
+    edits: &[Edit],
+) -> Result<Option<Vec<u8>>, AllocError>
+    ensures { IfOk result (λ found. IfSome found
+        (λ text. job_list_of text.items ≡ Ok (meant_jobs jobs.now runs.now))) }
+{
+    let new = edited_text(alloc, text, edits)?;
+    if reads_as_meant(alloc, new.as_slice(), jobs, runs)? {
+        Ok(Some(new))
+    } else {
+        Ok(None)
+    }
+}
+
+// Runs, of which the accepted ones with a reason are left.
+fn left_runs(
+    alloc: Global,
+    whys: &[Option<WhyLeft>],
+    runs: Vec<Option<JobRun>>,
+) -> Result<Vec<Option<JobRun>>, AllocError>
+    ensures { IfOk result (λ left. left.items ≡ left_runs whys.now runs.items) }
+{
+    let mut left = Vec::new(alloc);
+    let mut runs = runs.into_iter();
+    push_left_runs(&mut left, whys, &mut runs)?;
+    Ok(left)
+}
+
+#[tactic(auto, unfolding(crate::specs::NewLists::left_runs))]
+fn push_left_runs(
+    left: &mut Vec<Option<JobRun>>,
+    whys: &[Option<WhyLeft>],
+    runs: &mut IntoIter<Option<JobRun>>,
+) -> Result<(), AllocError>
+    ensures { OnOk result (left.new.items ≡ left.old.items ++ left_runs whys.now (into_iter_items runs.old)) }
+{
+    match whys {
+        [why, whys @ ..] => {
+            let run = next_run(runs);
+            left.push(left_if_run(*why, run))?;
+            push_left_runs(left, whys, runs)
+        }
+        [] => Ok(()),
+    }
+}
+
+// The next run, where one is there.
+fn next_run(runs: &mut IntoIter<Option<JobRun>>) -> Option<JobRun>
+    ensures run { result ≡ run_or_none (slice_get (into_iter_items runs.old) 0) }
+    ensures rest { into_iter_items runs.new ≡ drop 1 (into_iter_items runs.old) }
+{
+    match runs.next() {
+        Some(run) => run,
+        None => None,
+    }
+}
+
+fn left_if_run(why: Option<WhyLeft>, run: Option<JobRun>) -> Option<JobRun>
+    ensures { result ≡ option_map (left_run why) run }
+{
+    match run {
+        Some(run) => Some(left_run(why, run)),
+        None => None,
+    }
+}
+
+fn left_run(why: Option<WhyLeft>, run: JobRun) -> JobRun
+    ensures { result ≡ left_run why run }
+{
+    if !run.is_accepted() {
+        return run;
+    }
+    JobRun {
+        row: run.row,
+        is_chosen: run.is_chosen,
+        left: why,
+    }
 }
 
 // How the lists begin that mklist makes.
@@ -91,17 +200,22 @@ fn places_in(alloc: Global, text: &[u8]) -> Result<Places, AllocError> {
     Ok(Places { spans, is_made })
 }
 
-// Leaves each accepted job with another value that stands at none of these places.
-fn leave_unplaced(jobs: &[Job], places: &Places, runs: &mut Vec<Option<JobRun>>)
-    ensures { AreLeftMore runs.old.items runs.new.items }
-{
+// Of each run why it is left now: an accepted job's value stands at none of these places.
+fn whys_unplaced(
+    alloc: Global,
+    jobs: &[Job],
+    runs: &[Option<JobRun>],
+    places: &Places,
+) -> Result<Vec<Option<WhyLeft>>, AllocError> {
+    let mut whys = Vec::new(alloc);
     for at in 0..runs.len().min(jobs.len()) {
-        if let Some(run) = &mut runs[at] {
-            if run.is_accepted() {
-                run.left = why_unplaced(at, &jobs[at], run, places);
-            }
-        }
+        let why = match &runs[at] {
+            Some(run) => why_unplaced(at, &jobs[at], run, places),
+            None => None,
+        };
+        whys.push(why)?;
     }
+    Ok(whys)
 }
 
 // That a value of an accepted job stands where it is not replaced, if one does.

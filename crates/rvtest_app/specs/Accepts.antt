@@ -13,7 +13,7 @@ use Rattle.rv_accept.specs.declared.claims.Claim.{Claim}
 use Rattle.rv_accept.specs.declared.runs.JobRun.{JobRun}
 use Rattle.rv_accept.specs.declared.targets.Target.{Target}
 use Rattle.rv_accept_text.specs.GoldenFiles.{new_text}
-use Rattle.rv_accept_text.specs.NewLists.{AreLeftMore}
+use Rattle.rv_accept_text.specs.NewLists.{AreLeftFrom}
 use Rattle.rv_accept_text.specs.Told.{changed_count, count_line, left_count, told_lines}
 use Rattle.rv_accept_text.specs.declared.accepting.Accepting.{Accepting}
 use Rattle.rv_accept_text.specs.declared.accepting.Writing.TheVariants as writing
@@ -106,7 +106,7 @@ pub record IsOutcome (known : Option FileContents) (words : AcceptAsked) (bytes 
   pub path : told.list.path.now ≡ words.run.list.now
   pub text : told.list.text.now ≡ bytes
   pub jobs : told.list.jobs.now ≡ jobs
-  pub runs : AreLeftMore judged told.runs.now
+  pub runs : AreLeftFrom judged told.runs.now
   pub claims : told.claims.now ≡ claims_of_runs 0 jobs told.runs.now
   pub files : AreGoldenFiles known (optional_text words.run.root)
       (fold (with_target told.runs.now told.claims.now) [] told.claims.now) told.files.now

@@ -7,7 +7,7 @@ ghost use Rattle.rv_accept.specs.Claims.{claims_of_runs};
 ghost use Rattle.rv_accept.specs.Meant.{meant_jobs};
 ghost use Rattle.rv_accept.specs.Sharing.{marks_to_run};
 ghost use Rattle.rv_accept.specs.Targets.{with_target};
-ghost use Rattle.rv_accept_text.specs.NewLists.{AreLeftMore};
+ghost use Rattle.rv_accept_text.specs.NewLists.{AreLeftFrom};
 ghost use Rattle.rv_accept_text.specs.Told.{changed_count, count_line, left_count, told_lines};
 ghost use Rattle.rv_choice.specs.Chosen.{IsChoice};
 ghost use Rattle.rv_command.specs.Texts.{IsTextAt, optional_text};
@@ -56,7 +56,6 @@ struct ChosenList {
 // What the jobs came to that were run.
 #[derive(Drop)]
 struct Outcomes {
-    runs: Vec<Option<JobRun>>,
     claims: Vec<Claim>,
     files: Vec<GoldenFile>,
     new: NewList,
@@ -233,23 +232,21 @@ fn outcomes_of_runs<R, D: Inputs>(
     list: &ListFile<'_>,
     runs: Vec<Option<JobRun>>,
 ) -> Result<Outcomes, Stop>
-    ensures runs { IfOk result (λ outcomes. AreLeftMore runs.items outcomes.runs.items) }
+    ensures runs { IfOk result (λ outcomes. AreLeftFrom runs.items outcomes.new.runs.items) }
     ensures claims { IfOk result (λ outcomes. outcomes.claims.items
-        ≡ claims_of_runs 0 list.now.jobs.now outcomes.runs.items) }
+        ≡ claims_of_runs 0 list.now.jobs.now outcomes.new.runs.items) }
     ensures files { IfOk result (λ outcomes. AreGoldenFiles (D.contents host.now.inputs.now)
         (optional_text asked.now.run.root)
-        (fold (with_target outcomes.runs.items outcomes.claims.items) [] outcomes.claims.items) outcomes.files.items) }
+        (fold (with_target outcomes.new.runs.items outcomes.claims.items) [] outcomes.claims.items) outcomes.files.items) }
     ensures meant { IfOk result (λ outcomes. IfSome outcomes.new.text
-        (λ text. job_list_of text.items ≡ Ok (meant_jobs list.now.jobs.now outcomes.runs.items))) }
+        (λ text. job_list_of text.items ≡ Ok (meant_jobs list.now.jobs.now outcomes.new.runs.items))) }
 {
     let alloc = host.alloc;
-    let mut runs = runs;
-    let new = accept_values(alloc, list.text, list.jobs, &mut runs)?;
-    let claims = claims_of_runs(alloc, list.jobs, runs.as_slice())?;
-    let targets = targets_of(alloc, runs.as_slice(), claims.as_slice())?;
+    let new = accept_values(alloc, list.text, list.jobs, runs)?;
+    let claims = claims_of_runs(alloc, list.jobs, new.runs.as_slice())?;
+    let targets = targets_of(alloc, new.runs.as_slice(), claims.as_slice())?;
     let files = read_golden_files(host.inputs, alloc, asked.run.root, targets)?;
     Ok(Outcomes {
-        runs,
         claims,
         files,
         new,
@@ -266,13 +263,13 @@ fn put_accepted<R, D: Inputs, F: Outputs + Drop, O: Sink + Drop, E: Sink + Drop>
 ) -> Result<u8, Stop>
     ensures low { IfOk result (λ status. status ≤ 1) }
     ensures unwritten { asked.now.check ≡ true → to.new.files ≡ to.old.files }
-    ensures put { IfOk result (λ status. IsOutcomePut asked.now.check list.now outcomes.now.runs.items
+    ensures put { IfOk result (λ status. IsOutcomePut asked.now.check list.now outcomes.now.new.runs.items
         outcomes.now.claims.items outcomes.now.files.items outcomes.now.new status
         (said F.placed O.taken E.taken E.failed to.old) (said F.placed O.taken E.taken E.failed to.new)) }
 {
     let accepting = Accepting {
         list: *list,
-        runs: outcomes.runs.as_slice(),
+        runs: outcomes.new.runs.as_slice(),
         claims: outcomes.claims.as_slice(),
         files: outcomes.files.as_slice(),
         new: &outcomes.new,
