@@ -15,7 +15,11 @@ use std::alloc::AllocError;
 
 /// Appends what changes in a golden file, if it is written.
 #[tactic(auto, unfolding(crate::specs::FileLines::file_line))]
-pub(crate) fn push_file_line(out: &mut Vec<u8>, list: &ListFile<'_>, file: &GoldenFile) -> Result<(), AllocError>
+pub(crate) fn push_file_line(
+    out: &mut Vec<u8>,
+    list: &ListFile<'_>,
+    file: &GoldenFile,
+) -> Result<(), AllocError>
     ensures { OnOk result (out.new.items ≡ out.old.items ++ file_line list.now file.now) }
 {
     match file.new_text(list) {
@@ -231,11 +235,7 @@ fn push_two_claims(
             Span::Text(" differ"),
         ],
     )?;
-    push_byte_change(
-        out,
-        text_or_empty(&first.text),
-        text_or_empty(&other.text),
-    )
+    push_byte_change(out, text_or_empty(&first.text), text_or_empty(&other.text))
 }
 
 fn text_or_empty(text: &Option<Bytes>) -> &[u8]

@@ -216,7 +216,10 @@ fn push_why_left(
             push_new_entry(alloc, out, key, row)
         }
         WhyLeft::Made(key) => {
-            push_text(out, "the list is made by mklist, from files beside the test: ")?;
+            push_text(
+                out,
+                "the list is made by mklist, from files beside the test: ",
+            )?;
             push_new_entry(alloc, out, key, row)
         }
     }
@@ -284,7 +287,10 @@ fn push_met_end(out: &mut Vec<u8>, ending: RowEnd) -> Result<(), AllocError>
 {
     match ending {
         RowEnd::Exit(code) => push_spans(out, &[Span::Text("exit "), Span::Number(code as u64)]),
-        RowEnd::Fault(kind, ..) => push_spans(out, &[Span::Text("fault "), Span::Text(kind.name())]),
+        RowEnd::Fault(kind, ..) => push_spans(
+            out,
+            &[Span::Text("fault "), Span::Text(kind.name())],
+        ),
         RowEnd::Budget => push_text(out, "budget"),
         RowEnd::Refused(why) => push_spans(out, &[Span::Text("refused "), Span::Text(why.name())]),
     }

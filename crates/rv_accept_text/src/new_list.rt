@@ -7,7 +7,9 @@ ghost use Rattle.rv_accept.specs.Meant.{meant_jobs};
 ghost use Rattle.rv_accept.specs.declared.runs.WhyLeft.{WhyLeft as AWhyLeft};
 ghost use Rattle.rv_accept_text.specs.NewLists.{AreLeftFrom, left_run, left_runs, run_or_none};
 
-use rv_accept::{Edit, JobRun, ValueKey, WhyLeft, are_meant_jobs, edited_text, is_value_changed, push_new_value};
+use rv_accept::{
+    Edit, JobRun, ValueKey, WhyLeft, are_meant_jobs, edited_text, is_value_changed, push_new_value,
+};
 use rv_jobs::{Bytes, Job, What, read_jobs};
 use rv_list_errors::{ValueSpan, line_and_column, value_spans};
 use std::alloc::{AllocError, Global};
@@ -181,9 +183,10 @@ fn left_run(why: Option<WhyLeft>, run: JobRun) -> JobRun
     if !run.is_accepted() {
         return run;
     }
+    let JobRun { row, is_chosen, .. } = run;
     JobRun {
-        row: run.row,
-        is_chosen: run.is_chosen,
+        row,
+        is_chosen,
         left: why,
     }
 }
@@ -252,7 +255,14 @@ fn changes_at(
     };
     for span in &places.spans {
         if span.job < jobs.len() && span.job < runs.len() {
-            note_change(alloc, text, &jobs[span.job], &runs[span.job], span, &mut changes)?;
+            note_change(
+                alloc,
+                text,
+                &jobs[span.job],
+                &runs[span.job],
+                span,
+                &mut changes,
+            )?;
         }
     }
     Ok(changes)

@@ -90,6 +90,7 @@ pub(crate) fn accept_runs<
 
 // The same of the jobs that are chosen.
 fn accept_chosen<
+    'x,
     R: Threads + Wait + Sync,
     D: Inputs,
     F: Outputs + Drop,
@@ -97,8 +98,8 @@ fn accept_chosen<
     E: Sink + Drop,
 >(
     host: &Host<'_, R, D>,
-    asked: &AcceptAsked<'_>,
-    list: &ChosenList,
+    asked: &'x AcceptAsked<'x>,
+    list: &'x ChosenList,
     chosen: &[bool],
     to: &mut Destinations<F, O, E>,
 ) -> Result<u8, Stop>
@@ -246,19 +247,15 @@ fn outcomes_of_runs<R, D: Inputs>(
     let claims = claims_of_runs(alloc, list.jobs, new.runs.as_slice())?;
     let targets = targets_of(alloc, new.runs.as_slice(), claims.as_slice())?;
     let files = read_golden_files(host.inputs, alloc, asked.run.root, targets)?;
-    Ok(Outcomes {
-        claims,
-        files,
-        new,
-    })
+    Ok(Outcomes { claims, files, new })
 }
 
 // Tells what changes, and writes it.
-fn put_accepted<R, D: Inputs, F: Outputs + Drop, O: Sink + Drop, E: Sink + Drop>(
+fn put_accepted<'x, R, D: Inputs, F: Outputs + Drop, O: Sink + Drop, E: Sink + Drop>(
     host: &Host<'_, R, D>,
     asked: &AcceptAsked<'_>,
-    list: &ListFile<'_>,
-    outcomes: &Outcomes,
+    list: &ListFile<'x>,
+    outcomes: &'x Outcomes,
     to: &mut Destinations<F, O, E>,
 ) -> Result<u8, Stop>
     ensures low { IfOk result (λ status. status ≤ 1) }

@@ -10,7 +10,7 @@ ghost use Rattle.rvtest_app.specs.Outlets.{AreFilesPlaced};
 use rv_accept::Target;
 use rv_accept_text::{Accepting, GoldenFile};
 use rv_command::{Stop, file_error_stop, path_message, read_file};
-use rv_files::{InputError, Inputs, Outputs, read_whole_up_to, io_error_text};
+use rv_files::{InputError, Inputs, Outputs, io_error_text, read_whole_up_to};
 use rv_jobs::limits::MOST_BYTES;
 use rv_jobs::{Bytes, Text};
 use rv_rows::put_all;
@@ -54,11 +54,7 @@ fn place_of_path(alloc: Global, folder: Option<&str>, path: &str) -> Result<Text
 }
 
 // What stands at a place; nothing where the file is missing.
-fn read_golden_file<D: Inputs>(
-    inputs: &D,
-    alloc: Global,
-    path: &str,
-) -> Result<Option<Bytes>, Stop>
+fn read_golden_file<D: Inputs>(inputs: &D, alloc: Global, path: &str) -> Result<Option<Bytes>, Stop>
     ensures { IfOk result (IsOldAt (D.contents inputs.now) path.now) }
 {
     match read_whole_up_to(inputs, alloc, path, MOST_BYTES) {
