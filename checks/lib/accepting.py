@@ -201,14 +201,14 @@ def main(rvtest, shim, folder, lists, seed):
         try:
             try_list(rvtest, place, f"{seed}-{number}")
         except Failed as why:
-            sys.exit(f"accepted: list {number} of seed {seed}, in {place}: {why}")
+            sys.exit(f"accepts: list {number} of seed {seed}, in {place}: {why}")
         shutil.rmtree(place)
-    print(f"accepted: {lists} lists whose expectations were turned pass behind accept, which then changes nothing")
+    print(f"accepts: {lists} lists whose expectations were turned pass behind accept, which then changes nothing")
     try:
         kills = try_kills(rvtest, shim, top)
     except Failed as why:
-        sys.exit(f"accepted: {why}")
-    print(f"accepted: killed before each of {kills} changes of a disk, files are old or new, and the next call ends the work")
+        sys.exit(f"accepts: {why}")
+    print(f"accepts: killed before each of {kills} changes of a disk, files are old or new, and the next call ends the work")
 
 
 if __name__ == "__main__":
