@@ -3,7 +3,9 @@
 ghost use Rattle.std.specs.Prelude.{◌≡◌, ◌++◌, IfOk, IfSome, IsTrue, List, None, Ok, OnOk, Option, drop, option_map, slice_get};
 ghost use Rattle.std.specs.Vec.Iter.{into_iter_items};
 ghost use Rattle.rv_lists.specs.JobList.{job_list_of};
+ghost use Rattle.rv_accept.specs.Edits.{edited_from};
 ghost use Rattle.rv_accept.specs.Meant.{meant_jobs};
+ghost use Rattle.rv_accept.specs.declared.edits.Edit.{Edit as AnEdit};
 ghost use Rattle.rv_accept.specs.declared.runs.WhyLeft.{WhyLeft as AWhyLeft};
 ghost use Rattle.rv_accept_text.specs.NewLists.{AreLeftFrom, left_run, left_runs, run_or_none};
 
@@ -61,6 +63,8 @@ pub fn accept_values(
 ) -> Result<NewList, AllocError>
     ensures meant { IfOk result (λ new. IfSome new.text
         (λ text. job_list_of text.items ≡ Ok (meant_jobs jobs.now new.runs.items))) }
+    ensures edited { IfOk result (λ new. IfSome new.text
+        (λ new. (edits : List AnEdit) × (new.items ≡ edited_from 0 text.now edits))) }
     ensures left { IfOk result (λ new. AreLeftFrom runs.items new.runs.items) }
 {
     let places = places_in(alloc, text)?;
@@ -114,8 +118,9 @@ fn meant_text(
     runs: &[Option<JobRun>],
     edits: &[Edit],
 ) -> Result<Option<Vec<u8>>, AllocError>
-    ensures { IfOk result (λ found. IfSome found
+    ensures meant { IfOk result (λ found. IfSome found
         (λ text. job_list_of text.items ≡ Ok (meant_jobs jobs.now runs.now))) }
+    ensures edited { IfOk result (λ found. IfSome found (λ new. new.items ≡ edited_from 0 text.now edits.now)) }
 {
     let new = edited_text(alloc, text, edits)?;
     if reads_as_meant(alloc, new.as_slice(), jobs, runs)? {
@@ -255,14 +260,8 @@ fn changes_at(
     };
     for span in &places.spans {
         if span.job < jobs.len() && span.job < runs.len() {
-            note_change(
-                alloc,
-                text,
-                &jobs[span.job],
-                &runs[span.job],
-                span,
-                &mut changes,
-            )?;
+            let ran = (&jobs[span.job], &runs[span.job]);
+            note_change(alloc, text, ran, span, &mut changes)?;
         }
     }
     Ok(changes)
@@ -271,11 +270,11 @@ fn changes_at(
 fn note_change(
     alloc: Global,
     text: &[u8],
-    job: &Job,
-    run: &Option<JobRun>,
+    ran: (&Job, &Option<JobRun>),
     span: &ValueSpan,
     changes: &mut Changes,
 ) -> Result<(), AllocError> {
+    let (job, run) = ran;
     let (Some(run), Some(key)) = (run, value_key(span.key.as_str())) else {
         return Ok(());
     };

@@ -3,10 +3,12 @@ use Rattle.std.specs.Prelude.{◌==◌, ◌≡◌, ◌&&◌, ◌++◌, ℕ, Bool
 use Rattle.std.specs.Io.KnownBytes.{Appends}
 use Rattle.std.specs.List.{flat_map}
 use Rattle.rv_accept.specs.Claims.{claims_of_runs}
+use Rattle.rv_accept.specs.Edits.{edited_from}
 use Rattle.rv_accept.specs.Meant.{meant_jobs}
 use Rattle.rv_accept.specs.Runs.{judged_runs, placed_rows}
 use Rattle.rv_accept.specs.Sharing.{marks_to_run}
 use Rattle.rv_accept.specs.Targets.{with_target}
+use Rattle.rv_accept.specs.declared.edits.Edit.{Edit}
 use Rattle.rv_accept.specs.declared.ends.Acceptance.{Acceptance}
 use Rattle.rv_accept.specs.declared.ends.Acceptance.TheVariants as acceptance
 use Rattle.rv_accept.specs.declared.claims.Claim.{Claim}
@@ -110,6 +112,7 @@ pub record IsOutcome (known : Option FileContents) (words : AcceptAsked) (bytes 
   pub claims : told.claims.now ≡ claims_of_runs 0 jobs told.runs.now
   pub files : AreGoldenFiles known (optional_text words.run.root)
       (fold (with_target told.runs.now told.claims.now) [] told.claims.now) told.files.now
+  pub edited : IfSome told.new.now.text (λ text. (edits : List Edit) × (text.items ≡ edited_from 0 bytes edits))
   pub meant : IfSome told.new.now.text (λ text. job_list_of text.items ≡ Ok (meant_jobs jobs told.runs.now))
 
 -- all of that went to standard output, with the line that counts; the files are in their places, but in a check

@@ -1,10 +1,12 @@
 //! The command `accept`.
 
-ghost use Rattle.std.specs.Prelude.{◌≡◌, ◌≤◌, [], IfOk, IfSome, Ok, OnOk, fold, length, map, option_map, true};
+ghost use Rattle.std.specs.Prelude.{◌≡◌, ◌≤◌, [], IfOk, IfSome, List, Ok, OnOk, fold, length, map, option_map, true};
 ghost use Rattle.std.specs.Io.KnownBytes.{Appends};
 ghost use Rattle.std.specs.Option.{ForSome};
 ghost use Rattle.rv_accept.specs.Claims.{claims_of_runs};
+ghost use Rattle.rv_accept.specs.Edits.{edited_from};
 ghost use Rattle.rv_accept.specs.Meant.{meant_jobs};
+ghost use Rattle.rv_accept.specs.declared.edits.Edit.{Edit as AnEdit};
 ghost use Rattle.rv_accept.specs.Sharing.{marks_to_run};
 ghost use Rattle.rv_accept.specs.Targets.{with_target};
 ghost use Rattle.rv_accept_text.specs.NewLists.{AreLeftFrom};
@@ -239,6 +241,8 @@ fn outcomes_of_runs<R, D: Inputs>(
     ensures files { IfOk result (λ outcomes. AreGoldenFiles (D.contents host.now.inputs.now)
         (optional_text asked.now.run.root)
         (fold (with_target outcomes.new.runs.items outcomes.claims.items) [] outcomes.claims.items) outcomes.files.items) }
+    ensures edited { IfOk result (λ outcomes. IfSome outcomes.new.text
+        (λ new. (edits : List AnEdit) × (new.items ≡ edited_from 0 list.now.text.now edits))) }
     ensures meant { IfOk result (λ outcomes. IfSome outcomes.new.text
         (λ text. job_list_of text.items ≡ Ok (meant_jobs list.now.jobs.now outcomes.new.runs.items))) }
 {
