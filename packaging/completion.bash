@@ -2,7 +2,7 @@
 # What bash offers behind `rvtest` and `rvfleet`: their commands, the options of each, files, and the names of a list's jobs.
 _rvfleet_options() {
     case "$1 $2" in
-        'rvtest run') echo '--only --match --exclude --failed --shard --stamp --workers --group --budget --root --report --junit --suite --lenient --verbose --quiet --last --color --help' ;;
+        'rvtest run') echo '--only --match --exclude --failed --shard --stamp --workers --group --budget --root --into --report --junit --suite --lenient --known --stop-after --verbose --quiet --last --color --help' ;;
         'rvtest list') echo '--only --match --exclude --failed --lenient --help' ;;
         'rvtest explain') echo '--last --budget --root --color --help' ;;
         'rvtest console') echo '--root --help' ;;
@@ -55,7 +55,7 @@ _rvfleet() {
         mapfile -t COMPREPLY < <(compgen -W "$(_rvfleet_jobs)" -- "$word")
     elif [ -n "$(_rvfleet_choices "${1##*/} $COMP_CWORD $before")" ]; then
         mapfile -t COMPREPLY < <(compgen -W "$(_rvfleet_choices "${1##*/} $COMP_CWORD $before")" -- "$word")
-    elif [[ " --budget --exclude --group --input-hex --last --match --shard --slower --stamp --suite --workers -j " != *" $before "* ]]; then
+    elif [[ " --budget --exclude --group --input-hex --last --match --shard --slower --stamp --stop-after --suite --workers -j " != *" $before "* ]]; then
         mapfile -t COMPREPLY < <(compgen -f -- "$word")
     fi
 }

@@ -116,6 +116,61 @@ def check_choice(row):
         row.wants(["list", "list.toml", *words], status, lines(*names) if names else "", said)
 
 
+# ---- rows that are put into a report
+
+def check_into(row):
+    """What the words of a run make of a report that was there; the status, what is said, and the jobs in JUnit's XML if it is asked for."""
+    row.write("a.elf", images.image(EXIT))
+    row.write("list.toml", jobs(row["jobs"].split()))
+    old = report_bytes(row["old"])
+    row.write("report", old)
+    words, said = row["words"].split(), lines(*lines_in(row["said"]))
+    row.wants(["run", "list.toml", *words], int(row["status"]), lines(*lines_in(row["shown"])), said)
+    then = report_bytes(row["then"]) if row["then"] else old
+    if (found := (row.folder / "report").read_bytes()) != then:
+        row.fails(words, (0, then, b"report"), (0, found, b"report"))
+    if row["whole"]:
+        row.run(["run", "list.toml", "--quiet", "--report", "whole"])
+        if (whole := (row.folder / "whole").read_bytes()) != found:
+            row.fails(words, (0, whole, b"whole"), (0, found, b"report"))
+    junit = row.folder / "junit.xml"
+    cases = re.findall('<testcase classname="list" name="([^"]*)"', junit.read_text(encoding="utf-8")) if junit.exists() else []
+    if cases != row["junit"].split():
+        raise ValueError(f"junit.xml has {' '.join(cases) or 'no job'}, and not {row['junit'] or 'none'}")
+
+
+# ---- known failures
+
+KNOWN_LIST = (jobs(["good"]) + job("bad", "a.elf", 9, "expect_exit = 4") + job("plain", "a.elf", 9)
+              + job("cut", "list.toml", 9))
+
+
+def check_known(row):
+    """The status of a run with a file of known failures, what goes out and is said, and what JUnit's file has among other things."""
+    row.write("a.elf", images.image(EXIT))
+    row.write("list.toml", KNOWN_LIST)
+    row.write("known.txt", row["known"])
+    words = ["run", "list.toml", "--known", "known.txt", "--junit", "j.xml", *row["words"].split()]
+    row.wants(words, int(row["status"]), lines(*lines_in(row["shown"])), lines(*lines_in(row["said"])))
+    for part in lines_in(row["junit"]):
+        if part not in (row.folder / "j.xml").read_text(encoding="utf-8"):
+            raise ValueError(f"j.xml has no {part}")
+
+
+# ---- runs that end behind a failure
+
+def check_stopped(row):
+    """What goes out of a run that ends behind a failure, its status and the end of its report, by several numbers of workers and of jobs
+    that each takes at once."""
+    row.write("a.elf", images.image(EXIT))
+    row.write("list.toml", "".join(job(name, "a.elf", 9, f"expect_exit = {4 if name[0] == 'f' else 5}") for name in row["jobs"].split()))
+    for crew in ([], ["--workers", "1"], ["--workers", "2", "--group", "3"]):
+        words = ["run", "list.toml", "--report", "report", *row["words"].split(), *crew]
+        row.wants(words, int(row["status"]), lines(*lines_in(row["shown"])), "")
+        if (last := (row.folder / "report").read_text(encoding="utf-8").splitlines()[-1]) != row["last"]:
+            raise ValueError(f"{' '.join(crew)}: the report ends with {last}, and not with {row['last']}")
+
+
 # ---- lines
 
 def check_lines(row):
@@ -137,7 +192,10 @@ FORMS = {
     "choices": Form(check_choice, "jobs words failed status chosen said"),
     "full": Form(check_full_disk, "words said not_there"),
     "help": Form(check_help, "words shown"),
+    "into": Form(check_into, "jobs words old status shown said then whole junit"),
+    "known": Form(check_known, "known words status shown said junit"),
     "lines": Form(check_lines, "list begins"),
     "misused": Form(check_misused, "words begins has"),
+    "stopped": Form(check_stopped, "jobs words status shown last"),
     "words": Form(check_words, "words status shown said files"),
 }

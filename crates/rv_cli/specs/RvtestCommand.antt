@@ -4,7 +4,7 @@ use Rattle.std.specs.Borrow.{Bor}
 use Rattle.clap.specs.Words.{App, Rule, Text, new_app, new_rule, with_rule, with_subcommand}
 use Rattle.clap.specs.declared.builder.action.ArgAction.TheVariants.{Append, SetTrue}
 use Rattle.clap.specs.declared.builder.value_parser.ValueParser.TheVariants as value_parser
-use Rattle.rv_base.specs.Limits.{most_budget, most_workers}
+use Rattle.rv_base.specs.Limits.{most_budget, most_jobs, most_workers}
 use Rattle.rv_cli.specs.declared.rvtest.arguments.Argument.{Argument}
 use Rattle.rv_cli.specs.declared.rvtest.arguments.Argument.TheVariants as argument
 use Rattle.rv_cli.specs.declared.rvtest.command.ChoosingCommand.{ChoosingCommand}
@@ -137,9 +137,21 @@ with_junit app = with_rule (with_rule (with_rule app (file_rule (codes "junit"))
 abbrev pub with_files : App → App
 with_files app = with_junit (with_rule app (file_rule (codes "report")))
 
+-- [--known <FILE>]
+abbrev pub with_known : App → App
+with_known app = with_rule app (file_rule (codes "known"))
+
+-- [--stop-after <N>]
+abbrev pub with_stop_after : App → App
+with_stop_after app = with_rule app (number_rule (codes "stop-after") (pos 1) (pos most_jobs) [])
+
 -- [--color <WHEN>]
 abbrev pub with_color : App → App
 with_color app = with_rule app (option_rule (codes "color"))
+
+-- [--into <FILE>]
+abbrev pub with_into : App → App
+with_into app = with_rule app (file_rule (codes "into"))
 
 -- [--verbose | --quiet] [--last <N>] [--color <WHEN>]
 abbrev pub with_results : App → App
@@ -151,7 +163,8 @@ app_of_list name = with_rule (new_app name) (word_rule (codes "list"))
 
 abbrev pub test_run_app : App
 test_run_app =
-    with_results (with_files (with_machine (with_shard (with_choice (app_of_list (codes "run"))))))
+    with_results (with_stop_after (with_known (with_files (with_into (with_machine (with_shard (with_choice
+    (app_of_list (codes "run")))))))))
 
 -- list <LIST> [--only <NAME>].. [--match <REGEX>] [--exclude <REGEX>] [--failed <REPORT>] [--lenient]
 abbrev pub list_app : App

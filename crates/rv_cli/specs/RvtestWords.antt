@@ -8,7 +8,7 @@ use Rattle.std.specs.Str.{bytes_eq}
 use Rattle.clap.specs.Kinds.{or_else}
 use Rattle.clap.specs.Words.{FailsBy, Kinds, Row, Text, fault_of, first_of, subcommand_of}
 use Rattle.clap.specs.declared.error.kind.ErrorKind.TheVariants as kind
-use Rattle.rv_base.specs.Limits.{most_budget, most_group, most_workers}
+use Rattle.rv_base.specs.Limits.{most_budget, most_group, most_jobs, most_workers}
 use Rattle.rv_cli.specs.RvtestCommand.{most_last_instructions, most_slower, test_app}
 use Rattle.rv_cli.specs.declared.rvtest.refusals.Misuse.{Misuse}
 use Rattle.rv_cli.specs.declared.rvtest.refusals.Misuse.TheVariants as misuse
@@ -38,10 +38,13 @@ pub record RunWords : Type 0 where
   pub group : ℕ
   pub budget : Option ℕ
   pub root : Option Text
+  pub into : Option Text
   pub report : Option Text
   pub junit : Option Text
   pub suite : Option Text
   pub lenient : Bool
+  pub known : Option Text
+  pub stop_after : Option ℕ
   pub verbose : Bool
   pub quiet : Bool
   pub last : Option ℕ
@@ -114,10 +117,13 @@ run_words list group rows = record {
   group = group;
   budget = requested_budget rows;
   root = first_of (codes "root") rows;
+  into = first_of (codes "into") rows;
   report = first_of (codes "report") rows;
   junit = first_of (codes "junit") rows;
   suite = first_of (codes "suite") rows;
   lenient = is_flag_set (codes "lenient") rows;
+  known = first_of (codes "known") rows;
+  stop_after = number_value (codes "stop-after") 1 most_jobs rows;
   verbose = is_flag_set (codes "verbose") rows;
   quiet = is_flag_set (codes "quiet") rows;
   last = number_value (codes "last") 0 most_last_instructions rows;
@@ -228,16 +234,37 @@ color_misuse rows = if is_color_unknown rows then Some misuse.UnknownColor else 
 abbrev pub is_report_path : Text → List Row → Bool
 is_report_path path rows = option_map_or (bytes_eq path) (first_of (codes "report") rows) false
 
+-- the rows go into the report at the path
+abbrev pub is_into_path : Text → List Row → Bool
+is_into_path path rows = option_map_or (bytes_eq path) (first_of (codes "into") rows) false
+
 -- jobs are chosen by their names or by a report, or left out
 abbrev pub is_choice_given : List Row → Bool
 is_choice_given rows = is_option_given (codes "only") rows
     || (is_option_given (codes "match") rows
     || (is_option_given (codes "exclude") rows || is_option_given (codes "failed") rows))
 
+-- a report goes out: of the rows of the run alone, or of a whole list, into which they are put
+abbrev pub is_report_given : List Row → Bool
+is_report_given rows = is_option_given (codes "report") rows || is_option_given (codes "into") rows
+
 -- rows go out that others take as the list's: in a report, in JUnit's XML, or as a shard's
 abbrev pub are_rows_kept : List Row → Bool
-are_rows_kept rows = is_option_given (codes "report") rows
+are_rows_kept rows = is_report_given rows
     || (is_option_given (codes "junit") rows || is_option_given (codes "shard") rows)
+
+-- rows are put into a report, and go out beside it, as a report of their own or as a shard's
+abbrev pub are_rows_put_twice : List Row → Bool
+are_rows_put_twice rows = is_option_given (codes "into") rows
+    && (is_option_given (codes "report") rows || is_option_given (codes "shard") rows)
+
+-- rows are put into standard output, from which no report is read
+abbrev pub is_stdout_put_into : List Row → Bool
+is_stdout_put_into rows = is_into_path (codes "-") rows
+
+-- the report that chooses the jobs would be written over by theirs alone
+abbrev pub is_choice_overwritten : List Row → Bool
+is_choice_overwritten rows = option_map_or (λ path. is_report_path path rows) (first_of (codes "failed") rows) false
 
 -- the suite of JUnit's XML has no name
 abbrev pub is_suite_nameless : List Row → Bool
@@ -250,15 +277,17 @@ suite_misuse rows = if is_option_given (codes "suite") rows && not (is_option_gi
     else if is_suite_nameless rows then Some misuse.NamelessSuite
     else None
 
--- JUnit's XML goes where the report goes, be that a file or standard output; or its suite is not as it may be
+-- JUnit's XML goes where a report goes, be that a file or standard output; or its suite is not as it may be
 abbrev pub files_misuse : List Row → Option Misuse
 files_misuse rows =
-    if option_map_or (λ path. is_report_path path rows) (first_of (codes "junit") rows) false
-    then Some misuse.OneFile else suite_misuse rows
+    if option_map_or (λ path. is_report_path path rows) (first_of (codes "junit") rows) false then Some misuse.OneFile
+    else if option_map_or (λ path. is_into_path path rows) (first_of (codes "junit") rows) false
+    then Some misuse.IntoOneFile else suite_misuse rows
 
 -- the first of the rules that options of `run` break: --verbose and --quiet do not stand beside
--- one another, nor a shard beside a choice, nor a budget beside what makes rows that a list is known by; a stamp is a shard's; the
--- two files are not one, and a suite is one of them
+-- one another, nor a shard beside a choice, nor a budget beside what makes rows that a list is known by, nor an end behind a failure
+-- beside a shard, nor a report of the rows beside one that they are put into, which is a file; a stamp is a shard's; a report that
+-- chooses jobs keeps its other rows; the two files are not one, and a suite is one of them
 abbrev pub run_misuse : List Row → Option Misuse
 run_misuse rows = if is_flag_set (codes "verbose") rows && is_flag_set (codes "quiet") rows
     then Some misuse.VerboseAndQuiet
@@ -266,6 +295,11 @@ run_misuse rows = if is_flag_set (codes "verbose") rows && is_flag_set (codes "q
     else if is_option_given (codes "stamp") rows && not (is_option_given (codes "shard") rows)
     then Some misuse.StampAlone
     else if is_option_given (codes "budget") rows && are_rows_kept rows then Some misuse.BudgetAndRows
+    else if is_option_given (codes "stop-after") rows && is_option_given (codes "shard") rows
+    then Some misuse.StopAfterAndShard
+    else if are_rows_put_twice rows then Some misuse.IntoAndReport
+    else if is_stdout_put_into rows then Some misuse.IntoStdout
+    else if is_choice_overwritten rows then Some misuse.FailedIsReport
     else if is_color_unknown rows then Some misuse.UnknownColor
     else files_misuse rows
 
@@ -284,6 +318,7 @@ misuse_kinds (Some misuse.StampAlone) = kind.MissingRequiredArgument ∷ []
 misuse_kinds (Some misuse.SuiteAlone) = kind.MissingRequiredArgument ∷ []
 misuse_kinds (Some misuse.NamelessSuite) = kind.InvalidValue ∷ []
 misuse_kinds (Some misuse.UnknownColor) = kind.InvalidValue ∷ []
+misuse_kinds (Some misuse.IntoStdout) = kind.InvalidValue ∷ []
 misuse_kinds (Some _) = kind.ArgumentConflict ∷ []
 
 -- what is said of options that do not go together: which two, as the help writes them
@@ -293,13 +328,23 @@ misuse_text misuse.ShardAndChoice =
     codes "the argument '--shard <K/N>' cannot be used with '--only <NAME>', '--match <REGEX>', '--exclude <REGEX>' or '--failed <REPORT>'"
 misuse_text misuse.StampAlone = codes "the argument '--stamp <TEXT>' cannot be used without '--shard <K/N>'"
 misuse_text misuse.BudgetAndRows =
-    codes "the argument '--budget <N>' cannot be used with '--report <FILE>', '--junit <FILE>' or '--shard <K/N>': such rows are not the list's"
+    codes "the argument '--budget <N>' cannot be used with '--into <FILE>', '--report <FILE>', '--junit <FILE>' or '--shard <K/N>': such rows are not the list's"
+misuse_text misuse.StopAfterAndShard =
+    codes "the argument '--stop-after <N>' cannot be used with '--shard <K/N>': a part has a row of each of its jobs"
+misuse_text misuse.IntoAndReport =
+    codes "the argument '--into <FILE>' cannot be used with '--report <FILE>' or '--shard <K/N>': it is the report that is written"
+misuse_text misuse.IntoStdout =
+    codes "the value of '--into <FILE>' is a file, and not '-': the report is read there before it is written"
+misuse_text misuse.FailedIsReport =
+    codes "the argument '--report <FILE>' cannot be used with '--failed <REPORT>' of the same name: the rows of the other jobs would be lost; '--into <FILE>' keeps them"
 misuse_text misuse.StepsAndSlower = codes "the argument '--steps' cannot be used with '--slower <N>'"
 misuse_text misuse.SuiteAlone = codes "the argument '--suite <NAME>' cannot be used without '--junit <FILE>'"
 misuse_text misuse.NamelessSuite = codes "a value is required for '--suite <NAME>' but none was supplied"
 misuse_text misuse.UnknownColor = codes "the value of '--color <WHEN>' is always, never or auto"
 misuse_text misuse.OneFile =
     codes "the argument '--report <FILE>' cannot be used with '--junit <FILE>' of the same name: it is one file"
+misuse_text misuse.IntoOneFile =
+    codes "the argument '--into <FILE>' cannot be used with '--junit <FILE>' of the same name: it is one file"
 
 -- the faults of a subcommand with these values that `clap` does not look for
 abbrev pub subcommand_fault_kinds : Text → List Row → Kinds
@@ -337,10 +382,13 @@ run_asked_words value = record {
   group = value.group;
   budget = value.budget;
   root = borrowed_text value.root;
+  into = borrowed_text value.into;
   report = borrowed_text value.report;
   junit = borrowed_text value.junit;
   suite = borrowed_text value.suite;
   lenient = value.lenient;
+  known = borrowed_text value.known;
+  stop_after = value.stop_after;
   verbose = value.verbose;
   quiet = value.quiet;
   last = value.last;
@@ -403,7 +451,7 @@ IsBudgetInRange budget = IfSome budget (λ steps. (1 ≤ steps) × (steps ≤ mo
 abbrev pub IsRunAskedInRange : RunAsked → Type 0
 IsRunAskedInRange value = IfSome value.workers (λ number. (1 ≤ number) × (number ≤ most_workers))
     × (1 ≤ value.group) × (value.group ≤ most_group) × IfSome value.last (λ number. number ≤ most_last_instructions)
-    × IsBudgetInRange value.budget
+    × IsBudgetInRange value.budget × IfSome value.stop_after (λ number. (1 ≤ number) × (number ≤ most_jobs))
 
 abbrev pub IsAskedInRange : Asked → Type 0
 IsAskedInRange (asked.Run value) = IsRunAskedInRange value

@@ -12,6 +12,7 @@
 mod comparison;
 mod difference;
 mod end_kind;
+mod judgement;
 mod law;
 mod met_expectations;
 mod passing;
@@ -24,12 +25,13 @@ mod unmet;
 pub use comparison::Comparison;
 pub use difference::{Difference, SameDifference, SignatureDifference};
 pub use end_kind::{EndKind, fails_with_end_kind};
+pub use judgement::{Judge, Judgement};
 pub use law::{
     differences_are_first, nothing_is_unmet_where_a_job_passes, references_are_lines_of_words,
     unmet_is_what_does_not_hold, unmet_of_a_plan_is_what_does_not_hold,
 };
 pub use met_expectations::{Expectation, is_expectation_met};
-pub use passing::{Rule, has_passed, have_passed};
+pub use passing::{Rule, has_passed};
 pub use problem::{is_error, is_failure};
 pub use reference::signature_words_or_empty;
 pub use same_as_job::row_of_same_as_job;

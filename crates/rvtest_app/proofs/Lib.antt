@@ -3,11 +3,12 @@ mod StepOrder
 mod Numbers
 mod Sent
 mod Results
+mod StopLemmas
 mod PutTexts
-mod Requested
+mod PutStops
 mod PartTexts
 mod JobTexts
 mod FailedRows
+mod RunTellings
 mod UnreadableWords
-mod StopLemmas
 mod WordsStops

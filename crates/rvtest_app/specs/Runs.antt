@@ -1,5 +1,5 @@
 -- The rows of a run of some jobs of a list, and its status.
-use Rattle.std.specs.Prelude.{◌≡◌, ◌⊎◌, ℕ, Bool, List, [], Ok, Option, Some, None, IfSome, length}
+use Rattle.std.specs.Prelude.{◌≡◌, ◌⊎◌, ℕ, Bool, List, [], Ok, Option, Some, None, IfSome, length, take}
 use Rattle.rv_base.specs.Files.{FileContents}
 use Rattle.rv_choice.specs.Chosen.{IsChoice}
 use Rattle.rv_choice.specs.Shard.{IsShardOf, stamp_for}
@@ -21,11 +21,16 @@ use Rattle.rv_report.specs.declared.saved.Shard.{Shard}
 use Rattle.rv_report.specs.declared.row.Row.{Row}
 use Rattle.rv_rows.specs.Rows.{rows_at}
 use Rattle.rv_stream.specs.Streams.{row_text_list}
+use Rattle.rv_expect.specs.Judgement.{Judging, fails}
+use Rattle.rv_rounds.specs.Rounds.{rows_up_to}
+use Rattle.rv_known.specs.declared.known_jobs.KnownJobs.{KnownJobs}
 use Rattle.rvtest_app.specs.Commands.{failure_rule, requested_verbosity}
+use Rattle.rvtest_app.specs.KnownFiles.{IsKnownAt}
 use Rattle.rvtest_app.specs.MissingImages.{missing_images_note}
 use Rattle.rvtest_app.specs.Outlets.{AreFilesPlaced, file_at}
 use Rattle.rvtest_app.specs.Puts.{WentOut}
-use Rattle.rvtest_app.specs.RunOutput.{chosen_report_text, rows_status, run_output_text}
+use Rattle.rvtest_app.specs.RunOutput.{rows_status, run_output_text}
+use Rattle.rvtest_app.specs.IntoReports.{AreOldRows, run_report_path, run_report_text}
 use Rattle.rvtest_app.specs.JunitTexts.{suite_name}
 use Rattle.rvtest_app.specs.Said.{IsOnlyTold, Said}
 
@@ -43,15 +48,16 @@ AreRequestedMarks known None words jobs marks notes =
     IsChoice known words (failure_rule words.lenient) jobs marks notes
 
 -- the jobs of the list at the path that words name, the marks of those that are to run, if any are, the shard that they are
--- of, and what is said of the choice
+-- of, the rows of the whole report into which theirs are put, if one is named, and what is said of the choice
 pub record AreRequestedJobs (known : Option FileContents) (words : RunAsked) (jobs : List Job)
-    (marks : Option (List Bool)) (shard : Option Shard) (notes : List ℕ) : Type 0 where
+    (marks : Option (List Bool)) (shard : Option Shard) (old : Option (List Row)) (notes : List ℕ) : Type 0 where
   pub bytes : List ℕ
   pub read : IsTextAt known words.list.now bytes
   pub listed : job_list_of bytes ≡ Ok jobs
   pub sharded : IsShardOf words.shard shard
   pub stamped : IfSome shard (λ shard. (shard.stamp ≡ stamp_for words.stamp bytes) × (shard.jobs ≡ length jobs))
   pub marked : AreRequestedMarks known shard words jobs marks notes
+  pub into : AreOldRows known words jobs old
 
 -- a plan of the jobs has answers for the paths that the rows at some places need, which agree with what stands there; why paths
 -- were not read is noted as often as answers are unreadable
@@ -64,73 +70,95 @@ pub record IsPlanFor (known : Option FileContents) (jobs : List Job) (places : L
 
 -- the document of the rows of the jobs at some places, with the lines that are told of those that failed
 abbrev pub run_junit : RunAsked → Telling → List ℕ → List Row → List ℕ
-run_junit words telling places rows = junit_text (suite_name (optional_text words.suite) words.list.now) telling.rule
+run_junit words telling places rows = junit_text (suite_name (optional_text words.suite) words.list.now) telling.judging
     (row_text_list (row_lines_at (record telling { verbosity = Failures })) places rows) rows
 
--- how the rows of a run are told
-abbrev pub run_telling : RunAsked → Planned → List Unread → Telling
-run_telling words plan unread = record {
+-- how the rows of a run are counted, with the known failures, where there are any
+abbrev pub run_judging : RunAsked → Option KnownJobs → Judging
+run_judging words failures = record { rule = failure_rule words.lenient; known = failures }
+
+-- how they are told
+abbrev pub run_telling : RunAsked → Option KnownJobs → Planned → List Unread → Telling
+run_telling words failures plan unread = record {
   plan = plan;
   unread = unread;
-  rule = failure_rule words.lenient;
+  judging = run_judging words failures;
   verbosity = requested_verbosity words.verbose words.quiet;
   last = words.last;
 }
 
+-- the rows of a run over a plan: of the jobs at some places, up to the failure that ends it, if one does
+abbrev pub run_rows : Option ℕ → Judging → Planned → List ℕ → List Row
+run_rows stop_after judging plan places = rows_up_to stop_after (fails judging) (rows_at plan places)
+
+-- the places of the jobs that have one of these rows
+abbrev pub shown_places : List ℕ → List Row → List ℕ
+shown_places places rows = take (length rows) places
+
+-- a run that words ask for put these rows, of the first of the jobs at some places: their lines with the totals, the report, and
+-- JUnit's document
+abbrev pub IsRunPut : RunAsked → Telling → List ℕ → Option Shard → Option (List Row) → List Row → Said → Said → Type 0
+IsRunPut words telling places shard old rows before after = WentOut (run_report_path words) (optional_text words.junit)
+    (run_output_text (row_lines_at telling) telling.judging places rows)
+    (run_report_text old (length telling.plan.jobs) (shown_places places rows) shard rows)
+    (run_junit words telling (shown_places places rows) rows) before after
+
 -- over such a plan of the jobs, all with the budget that words ask for, it is said where paths are taken from, if every image
 -- is missing; and the rows of the jobs at some places went out as words ask for them: their lines with the totals, the report,
 -- and JUnit's document; the status is by these rows
-pub record IsRunOfPlaces (known : Option FileContents) (words : RunAsked) (jobs : List Job) (places : List ℕ)
-    (shard : Option Shard) (status : ℕ) (before after : Said) : Type 0 where
+pub record IsRunOfPlaces (known : Option FileContents) (words : RunAsked) (failures : Option KnownJobs) (jobs : List Job) (places : List ℕ)
+    (shard : Option Shard) (old : Option (List Row)) (status : ℕ) (before after : Said) : Type 0 where
   pub plan : Planned
   pub unread : List Unread
   pub planned : IsPlanFor (contents_below (optional_text words.root) known) (with_budget words.budget jobs) places plan
       unread
-  pub judged : status ≡ rows_status (failure_rule words.lenient) (rows_at plan places)
+  pub rows : List Row
+  pub shown : rows ≡ run_rows words.stop_after (run_judging words failures) plan places
+  pub judged : status ≡ rows_status (run_judging words failures) rows
   pub middle : Said
   pub noted : IsOnlyTold (missing_images_note plan.jobs unread (length places) (optional_text words.root)) before middle
-  pub put : WentOut (optional_text words.report) (optional_text words.junit)
-      (run_output_text (row_lines_at (run_telling words plan unread)) (failure_rule words.lenient) places
-      (rows_at plan places))
-      (chosen_report_text (length plan.jobs) places shard (rows_at plan places))
-      (run_junit words (run_telling words plan unread) places (rows_at plan places))
-      middle after
+  pub put : IsRunPut words (run_telling words failures plan unread) places shard old rows middle after
 
 -- the same of the jobs that are marked; where none are to run, the status is 0 and nothing more is said
-abbrev pub IsRunOfMarked : Option FileContents → RunAsked → List Job → Option (List Bool) → Option Shard → ℕ
-    → Said → Said → Type 0
-IsRunOfMarked known words jobs None shard status before after = (status ≡ 0) × (after ≡ before)
-IsRunOfMarked known words jobs (Some marks) shard status before after =
-    IsRunOfPlaces known words jobs (places_of_marks marks) shard status before after
+abbrev pub IsRunOfMarked : Option FileContents → RunAsked → Option KnownJobs → List Job → Option (List Bool) → Option Shard
+    → Option (List Row) → ℕ → Said → Said → Type 0
+IsRunOfMarked known words failures jobs None shard old status before after = (status ≡ 0) × (after ≡ before)
+IsRunOfMarked known words failures jobs (Some marks) shard old status before after =
+    IsRunOfPlaces known words failures jobs (places_of_marks marks) shard old status before after
 
--- a run of what words ask for: what is said of the choice goes to standard error, and then the jobs run
+-- a run of what words ask for, with the failures that their file knows: what is said of the choice goes to standard error, and then the jobs run
 pub record IsRunAt (known : Option FileContents) (words : RunAsked) (status : ℕ) (before after : Said) : Type 0 where
   pub jobs : List Job
   pub marks : Option (List Bool)
   pub shard : Option Shard
+  pub old : Option (List Row)
   pub notes : List ℕ
-  pub asked : AreRequestedJobs known words jobs marks shard notes
+  pub asked : AreRequestedJobs known words jobs marks shard old notes
+  pub failures : Option KnownJobs
+  pub known_to_fail : IsKnownAt known (optional_text words.known) jobs failures
   pub middle : Said
   pub told : IsOnlyTold notes before middle
-  pub ran : IsRunOfMarked known words jobs marks shard status middle after
+  pub ran : IsRunOfMarked known words failures jobs marks shard old status middle after
 
 -- ---- runs that an error ended
 
 -- over a plan of the jobs, all with the budget that words ask for, JUnit's document of those at some places alone was put in its place
-pub record IsJunitAlone (known : Option FileContents) (words : RunAsked) (jobs : List Job) (places : List ℕ)
+pub record IsJunitAlone (known : Option FileContents) (words : RunAsked) (failures : Option KnownJobs) (jobs : List Job) (places : List ℕ)
     (before after : Option (List PlacedFile)) : Type 0 where
   pub plan : Planned
   pub unread : List Unread
   pub planned : IsPlanFor (contents_below (optional_text words.root) known) (with_budget words.budget jobs) places plan
       unread
+  pub rows : List Row
+  pub shown : rows ≡ run_rows words.stop_after (run_judging words failures) plan places
   pub placed : AreFilesPlaced before after (Some (file_at (optional_text words.junit)
-      (run_junit words (run_telling words plan unread) places (rows_at plan places))))
+      (run_junit words (run_telling words failures plan unread) (shown_places places rows) rows)))
 
 -- no file was put in its place, or that document alone
-abbrev pub IsUndoneRunOfPlaces : Option FileContents → RunAsked → List Job → List ℕ
+abbrev pub IsUndoneRunOfPlaces : Option FileContents → RunAsked → Option KnownJobs → List Job → List ℕ
     → Option (List PlacedFile) → Option (List PlacedFile) → Type 0
-IsUndoneRunOfPlaces known words jobs places before after =
-    (after ≡ before) ⊎ IsJunitAlone known words jobs places before after
+IsUndoneRunOfPlaces known words failures jobs places before after =
+    (after ≡ before) ⊎ IsJunitAlone known words failures jobs places before after
 
 -- of the jobs that words ask for, that document alone was put in its place
 pub record IsJunitAloneAt (known : Option FileContents) (words : RunAsked) (before after : Option (List PlacedFile))
@@ -138,9 +166,12 @@ pub record IsJunitAloneAt (known : Option FileContents) (words : RunAsked) (befo
   pub jobs : List Job
   pub marks : List Bool
   pub shard : Option Shard
+  pub old : Option (List Row)
   pub notes : List ℕ
-  pub asked : AreRequestedJobs known words jobs (Some marks) shard notes
-  pub alone : IsJunitAlone known words jobs (places_of_marks marks) before after
+  pub asked : AreRequestedJobs known words jobs (Some marks) shard old notes
+  pub failures : Option KnownJobs
+  pub known_to_fail : IsKnownAt known (optional_text words.known) jobs failures
+  pub alone : IsJunitAlone known words failures jobs (places_of_marks marks) before after
 
 -- a run that an error ended put no file in its place, or JUnit's document alone
 abbrev pub IsUndoneRunAt : Option FileContents → RunAsked → Option (List PlacedFile) → Option (List PlacedFile) → Type 0

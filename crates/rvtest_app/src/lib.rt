@@ -21,7 +21,9 @@ mod findings;
 mod help;
 mod help_topic;
 mod host;
+mod into_report;
 mod junit_class;
+mod known_file;
 mod law;
 mod list;
 mod list_keys;
@@ -43,6 +45,7 @@ mod run_output;
 mod show;
 mod terminals;
 mod whole_files;
+mod whole_report;
 
 pub use destinations::Destinations;
 pub use host::Host;

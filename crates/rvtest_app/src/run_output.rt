@@ -1,66 +1,74 @@
 //! A run whose results are shown as they come.
 
-ghost use Rattle.std.specs.Prelude.{◌≡◌, ◌<◌, ◌^◌, IfOk, OnErr, OnOk, length};
+ghost use Rattle.std.specs.Prelude.{◌≡◌, ◌<◌, ◌≤◌, ◌^◌, IfOk, OnErr, OnOk, length};
 ghost use Rattle.std.specs.Io.KnownBytes.{Appends};
+ghost use Rattle.rv_expect.specs.Judgement.{judging_of};
 ghost use Rattle.rv_fleet.specs.Batches.{batch_rows};
-ghost use Rattle.rv_job_text.specs.TotalsLine.{totals_line};
+ghost use Rattle.rv_job_text.specs.TotalsLine.{run_totals_line};
 ghost use Rattle.rv_lists.specs.Sinks.{AppendsBeginning};
 ghost use Rattle.rvtest_app.specs.Commands.{stop_of_stream};
+ghost use Rattle.rv_rounds.specs.Rounds.{rows_within};
 ghost use Rattle.rvtest_app.specs.RunOutput.{run_output_text};
 
 use rv_command::Stop;
-use rv_expect::Rule;
+use rv_expect::Judge;
 use rv_fleet::{Batch, Crew, Row, Rows, Sink, put_all};
-use rv_job_text::push_totals_line;
-use rv_stream::{StreamError, Telling, stream_places};
+use rv_job_text::push_run_totals_line;
+use rv_rounds::{FailureLimit, stream_until};
+use rv_stream::{StreamError, Telling};
 use std::alloc::Global;
 use std::sync::Wait;
 use std::thread::Threads;
 
-/// Runs a batch, and sends what is told of each job in list order, as soon as that of all before it is out; and then the
-/// last line. The sink comes back: with the rows it took all of that and no put failed, and with
-/// an error a beginning.
+/// Runs a batch up to the failure that ends it, if one does, and sends what is told of each of these jobs in list order; and then the
+/// last line. The sink comes back: with the rows it took all of that and no put failed, and with an error a beginning.
 pub(crate) fn put_run_output<R: Threads + Wait + Sync, T: Telling + Sync, W: Sink + Drop + Send>(
     crew: &Crew<'_, R>,
     batch: &Batch<'_>,
-    rule: Rule,
+    limit: &FailureLimit<'_>,
     telling: &T,
     out: W,
 ) -> (W, Result<Rows, StreamError>)
-    ensures rows { IfOk result.1 (λ rows. rows ≡ batch_rows batch.now) }
+    ensures rows { IfOk result.1 (λ rows. rows ≡ rows_within limit.now (batch_rows batch.now)) }
+    ensures few { IfOk result.1 (λ rows. length rows ≤ length batch.now.places.now) }
     ensures all { OnOk result.1 (Appends (W.taken out) (W.taken result.0)
-        (run_output_text (T.line telling.now) rule batch.now.places.now (batch_rows batch.now))) }
+        (run_output_text (T.line telling.now) (judging_of limit.now.judge) batch.now.places.now
+        (rows_within limit.now (batch_rows batch.now)))) }
     ensures counted { OnOk result.1 (W.failed result.0 ≡ W.failed out) }
     ensures part { OnErr result.1 (AppendsBeginning (W.taken out) (W.taken result.0)
-        (run_output_text (T.line telling.now) rule batch.now.places.now (batch_rows batch.now))) }
+        (run_output_text (T.line telling.now) (judging_of limit.now.judge) batch.now.places.now
+        (rows_within limit.now (batch_rows batch.now)))) }
 {
-    let (mut out, ran) = stream_places(crew, batch, telling, out);
+    let (mut out, ran) = stream_until(crew, batch, limit, telling, out);
     let rows = match ran {
         Ok(rows) => rows,
         Err(error) => return (out, Err(error)),
     };
-    match put_totals_line(crew.alloc, rule, rows.as_slice(), &mut out) {
+    let shown = rows.as_slice();
+    let hidden = batch.places.len() - shown.len();
+    match put_totals_line(crew.alloc, &limit.judge, shown, hidden, &mut out) {
         Ok(()) => (out, Ok(rows)),
         Err(error) => (out, Err(error)),
     }
 }
 
-// Sends the line that counts the rows.
+// Sends the line that counts the rows, and the jobs that have none.
 fn put_totals_line<W: Sink>(
     alloc: Global,
-    rule: Rule,
+    judge: &Judge<'_>,
     rows: &[Row],
+    hidden: usize,
     out: &mut W,
 ) -> Result<(), StreamError>
     requires { length rows.now < 2 ^ 32 }
-    ensures all { OnOk result
-        (Appends (W.taken out.old) (W.taken out.new) (totals_line rule rows.now)) }
+    ensures all { OnOk result (Appends (W.taken out.old) (W.taken out.new)
+        (run_totals_line (judging_of judge.now) rows.now hidden)) }
     ensures counted { OnOk result (W.failed out.new ≡ W.failed out.old) }
-    ensures part { OnErr result
-        (AppendsBeginning (W.taken out.old) (W.taken out.new) (totals_line rule rows.now)) }
+    ensures part { OnErr result (AppendsBeginning (W.taken out.old) (W.taken out.new)
+        (run_totals_line (judging_of judge.now) rows.now hidden)) }
 {
     let mut line = Vec::new(alloc);
-    push_totals_line(&mut line, rule, rows)?;
+    push_run_totals_line(&mut line, judge, rows, hidden)?;
     match put_all(out, line.as_slice()) {
         Ok(()) => Ok(()),
         Err(_) => Err(StreamError::Failed),

@@ -2,7 +2,7 @@
 
 ghost use Rattle.std.specs.Prelude.{◌≡◌, [], ◌∷◌, Some};
 ghost use Rattle.clap.specs.Words.{HasKind, found_of, rows_of};
-ghost use Rattle.rv_cli.specs.RvtestWords.{color_misuse, files_misuse, is_color_unknown, is_color_word, is_report_path, is_suite_nameless};
+ghost use Rattle.rv_cli.specs.RvtestWords.{color_misuse, files_misuse, is_color_unknown, is_color_word, is_into_path, is_report_path, is_suite_nameless};
 ghost use Rattle.rv_cli.specs.RvtestWords.{misuse_kinds, misuse_text, show_misuse, suite_misuse};
 
 use crate::values::{is_option_given, text_value};
@@ -21,6 +21,14 @@ pub(crate) enum Misuse {
     StampAlone,
     /// Another budget than the list's beside a report, JUnit's XML or a shard.
     BudgetAndRows,
+    /// An end behind a failure beside a shard, whose part has all its rows.
+    StopAfterAndShard,
+    /// Rows that are put into a report, beside a report of their own or a shard's.
+    IntoAndReport,
+    /// Rows that are put into standard output.
+    IntoStdout,
+    /// A report of the rows at the path of the one that chooses them.
+    FailedIsReport,
     /// Steps compared exactly, and by which jobs are slower.
     StepsAndSlower,
     /// A suite without JUnit's XML.
@@ -31,6 +39,8 @@ pub(crate) enum Misuse {
     UnknownColor,
     /// A report and JUnit's XML that go to one file.
     OneFile,
+    /// Rows that are put into a report, and JUnit's XML, that go to one file.
+    IntoOneFile,
 }
 
 impl Misuse {
@@ -46,12 +56,18 @@ impl Misuse {
     {
         match self {
             Misuse::StampAlone | Misuse::SuiteAlone => ErrorKind::MissingRequiredArgument,
-            Misuse::NamelessSuite | Misuse::UnknownColor => ErrorKind::InvalidValue,
+            Misuse::NamelessSuite | Misuse::UnknownColor | Misuse::IntoStdout => {
+                ErrorKind::InvalidValue
+            }
             Misuse::VerboseAndQuiet
             | Misuse::ShardAndChoice
             | Misuse::BudgetAndRows
+            | Misuse::StopAfterAndShard
+            | Misuse::IntoAndReport
+            | Misuse::FailedIsReport
             | Misuse::StepsAndSlower
-            | Misuse::OneFile => ErrorKind::ArgumentConflict,
+            | Misuse::OneFile
+            | Misuse::IntoOneFile => ErrorKind::ArgumentConflict,
         }
     }
 
@@ -67,7 +83,19 @@ impl Misuse {
                 "the argument '--stamp <TEXT>' cannot be used without '--shard <K/N>'"
             }
             Misuse::BudgetAndRows => {
-                "the argument '--budget <N>' cannot be used with '--report <FILE>', '--junit <FILE>' or '--shard <K/N>': such rows are not the list's"
+                "the argument '--budget <N>' cannot be used with '--into <FILE>', '--report <FILE>', '--junit <FILE>' or '--shard <K/N>': such rows are not the list's"
+            }
+            Misuse::StopAfterAndShard => {
+                "the argument '--stop-after <N>' cannot be used with '--shard <K/N>': a part has a row of each of its jobs"
+            }
+            Misuse::IntoAndReport => {
+                "the argument '--into <FILE>' cannot be used with '--report <FILE>' or '--shard <K/N>': it is the report that is written"
+            }
+            Misuse::IntoStdout => {
+                "the value of '--into <FILE>' is a file, and not '-': the report is read there before it is written"
+            }
+            Misuse::FailedIsReport => {
+                "the argument '--report <FILE>' cannot be used with '--failed <REPORT>' of the same name: the rows of the other jobs would be lost; '--into <FILE>' keeps them"
             }
             Misuse::StepsAndSlower => {
                 "the argument '--steps' cannot be used with '--slower <N>'"
@@ -82,6 +110,9 @@ impl Misuse {
             Misuse::OneFile => {
                 "the argument '--report <FILE>' cannot be used with '--junit <FILE>' of the same name: it is one file"
             }
+            Misuse::IntoOneFile => {
+                "the argument '--into <FILE>' cannot be used with '--junit <FILE>' of the same name: it is one file"
+            }
         }
     }
 }
@@ -92,6 +123,7 @@ pub(crate) fn files_misuse(values: &ArgMatches<'_>) -> Option<Misuse>
 {
     match text_value(values, "junit") {
         Some(path) if is_report_path(values, path) => Some(Misuse::OneFile),
+        Some(path) if is_into_path(values, path) => Some(Misuse::IntoOneFile),
         _ => suite_misuse(values),
     }
 }
@@ -155,10 +187,21 @@ fn is_suite_nameless(values: &ArgMatches<'_>) -> bool
     }
 }
 
-fn is_report_path(values: &ArgMatches<'_>, path: &str) -> bool
+/// Whether the report goes to a path.
+pub(crate) fn is_report_path(values: &ArgMatches<'_>, path: &str) -> bool
     ensures { result ≡ is_report_path path.now (rows_of (found_of values.now)) }
 {
     match text_value(values, "report") {
+        Some(report) => path == report,
+        None => false,
+    }
+}
+
+/// Whether the rows go into the report at a path.
+pub(crate) fn is_into_path(values: &ArgMatches<'_>, path: &str) -> bool
+    ensures { result ≡ is_into_path path.now (rows_of (found_of values.now)) }
+{
+    match text_value(values, "into") {
         Some(report) => path == report,
         None => false,
     }

@@ -3,7 +3,7 @@
 use crate::rvtest::arguments::{Argument, Bounds};
 use crate::rvtest::command::Subcommand;
 use crate::rvtest::examples;
-use rv_base::limits::{MOST_BUDGET, MOST_WORKERS};
+use rv_base::limits::{MOST_BUDGET, MOST_JOBS, MOST_WORKERS};
 
 /// The commands of `rvtest`, in the order in which help names them.
 pub(crate) const COMMANDS: [Subcommand<'static>; 9] = [
@@ -37,10 +37,13 @@ pub(crate) const RUN: Subcommand<'static> = Subcommand {
         Argument::Group,
         Argument::Number("budget", None, BUDGET, BUDGET_BOUNDS, &[]),
         Argument::Option("root", "DIR", ROOT),
+        Argument::File("into", INTO),
         Argument::File("report", REPORT),
         Argument::File("junit", JUNIT),
         Argument::Option("suite", "NAME", SUITE),
         Argument::Flag("lenient", None, LENIENT),
+        Argument::File("known", KNOWN),
+        Argument::Number("stop-after", None, STOP_AFTER, STOP_AFTER_BOUNDS, &[]),
         Argument::Flag(
             "verbose",
             Some('v'),
@@ -183,6 +186,8 @@ const FAILED: &str = "Chooses the jobs that failed in a report";
 
 const ROOT: &str = "Takes the paths in the list from this folder";
 
+const INTO: &str = "Puts the rows into this file, the whole report of the list";
+
 const REPORT: &str = "Writes the report to this file; - is standard output";
 
 const JUNIT: &str = "Writes JUnit XML to this file; - is standard output";
@@ -190,6 +195,10 @@ const JUNIT: &str = "Writes JUnit XML to this file; - is standard output";
 const SUITE: &str = "Names the suite in JUnit XML, in place of the file";
 
 const COLOR: &str = "Colors: always, never, or auto, which is on a terminal";
+
+const KNOWN: &str = "Names jobs that are known to fail, one a line, # REASON behind";
+
+const STOP_AFTER: &str = "Ends behind the N-th failure, from 1 to 4096";
 
 const LENIENT: &str = "Counts as failed only what misses an expectation";
 
@@ -210,6 +219,11 @@ const WORKERS: Bounds = Bounds {
 const SLOWER: Bounds = Bounds {
     least: 0,
     most: 1_000,
+};
+
+const STOP_AFTER_BOUNDS: Bounds = Bounds {
+    least: 1,
+    most: MOST_JOBS as i64,
 };
 
 const LAST_BOUNDS: Bounds = Bounds {

@@ -10,5 +10,6 @@ returns-clause-text c =
       budget_use = c.in_ok-budget_use.budget_use;
       found = λ d. subst (λ (r : Row). IsUseOfRow plan (slice_index_or plan.jobs c.args.place d) r
           c.in_ok-budget_use.budget_use) (c.in_ok-row.ensures d) (c.in_ok-budget_use.ensures d);
-      told = λ d. rw (c.new-text.ensures.items, c.in_ok-row.ensures d) at (c.in_ok-push_job_explanation.ensures d);
+      told = λ d. rw (c.new-text.ensures.items, c.in_ok-row.ensures d, c.by_rule.ensures)
+          at (c.in_ok-push_job_explanation.ensures d);
     }

@@ -1,32 +1,34 @@
-use Rattle.std.proofs.Common.{◌∙◌, ap, arith, length}
-use Rattle.rv_fleet.proofs.Public.{rows_count}
+use Rattle.std.proofs.Common.{◌∙◌, ◌-◌, ap, arith, length}
+use Rattle.rv_expect.specs.Judgement.{judging_of}
 use Rattle.rv_fleet.specs.Batches.{batch_rows}
-use Rattle.rv_job_text.specs.TotalsLine.{totals_line}
+use Rattle.rv_job_text.specs.TotalsLine.{run_totals_line}
+use Rattle.rv_rounds.specs.Rounds.{rows_within}
 use Rattle.rvtest_app.proofs.Sent.{begun_before, told_behind, told_whole}
 use Rattle.rvtest_app.proofs.run_output.put_run_output.Goals as goal
 
 pub put_totals_line-requires : goal.put_totals_line-requires
 put_totals_line-requires g c =
-    let rows = c.as_slice.ensures ∙ rw c.in-Ok.is at c.stream_places-out.ensures.rows in
-    omega (
-      arith,
-      ap length {y = batch_rows c.args.batch.now} rows,
-      rows_count c.args.batch.now.plan.now c.args.batch.now.places.now,
-      c.args.batch.now.few,
-    )
+    omega (arith, ap length c.as_slice-shown.ensures, rw c.in-Ok.is at c.stream_until-out.ensures.few, c.args.batch.now.few)
 
 pub returns-in-Err-put_totals_line-clause-part : goal.returns-in-Err-put_totals_line-clause-part
 returns-in-Err-put_totals_line-clause-part g c =
-    let rows = c.as_slice.ensures ∙ rw c.in-Ok.is at c.stream_places-out.ensures.rows in
-    told_behind _ _ _ _ (totals_line c.args.rule) _ (batch_rows c.args.batch.now) rows (rw c.in-Ok.is at c.stream_places-out.ensures.all)
+    let batch = c.args.batch.now in
+    let rows = c.as_slice-shown.ensures ∙ rw c.in-Ok.is at c.stream_until-out.ensures.rows in
+    told_behind _ _ _ _
+    (λ rows. run_totals_line (judging_of c.args.limit.now.judge) rows (length batch.places.now - length rows)) _
+    (rows_within c.args.limit.now (batch_rows batch)) rows (rw c.in-Ok.is at c.stream_until-out.ensures.all)
     c.in-Err-put_totals_line.ensures.part
 
 pub returns-in-Err-clause-part : goal.returns-in-Err-clause-part
 returns-in-Err-clause-part g c =
-    begun_before _ _ _ (totals_line c.args.rule _) (rw c.in-Err.is at c.stream_places-out.ensures.part)
+    begun_before _ _ _ (run_totals_line (judging_of c.args.limit.now.judge) _ _)
+    (rw c.in-Err.is at c.stream_until-out.ensures.part)
 
 pub returns-in-Ok-put_totals_line-clause-all : goal.returns-in-Ok-put_totals_line-clause-all
 returns-in-Ok-put_totals_line-clause-all g c =
-    let rows = c.as_slice.ensures ∙ rw c.in-Ok.is at c.stream_places-out.ensures.rows in
-    told_whole _ _ _ _ (totals_line c.args.rule) _ (batch_rows c.args.batch.now) rows (rw c.in-Ok.is at c.stream_places-out.ensures.all)
+    let batch = c.args.batch.now in
+    let rows = c.as_slice-shown.ensures ∙ rw c.in-Ok.is at c.stream_until-out.ensures.rows in
+    told_whole _ _ _ _
+    (λ rows. run_totals_line (judging_of c.args.limit.now.judge) rows (length batch.places.now - length rows)) _
+    (rows_within c.args.limit.now (batch_rows batch)) rows (rw c.in-Ok.is at c.stream_until-out.ensures.all)
     (rw c.in-Ok-put_totals_line.is at c.put_totals_line.ensures.all)

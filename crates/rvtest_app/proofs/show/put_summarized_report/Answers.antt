@@ -1,12 +1,13 @@
 use Rattle.std.proofs.Common.{◌∙◌, None, ap}
 use Rattle.rv_command.specs.Texts.{optional_text}
+use Rattle.rvtest_app.proofs.PutStops.{output_of_put}
 use Rattle.rvtest_app.proofs.PutTexts.{out_told}
 use Rattle.rvtest_app.proofs.Results.{OnOk-both}
 use Rattle.rvtest_app.specs.Said.{said}
 use Rattle.rvtest_app.proofs.show.put_summarized_report.Goals as goal
 
-pub returns-in-Ok : goal.returns-in-Ok
-returns-in-Ok g c =
+pub returns-in-Ok-clause-put : goal.returns-in-Ok-clause-put
+returns-in-Ok-clause-put g c =
     let path = g.F.Outputs.place_path in
     let taken = g.F.File.Sink.taken in
     let failed = g.F.File.Sink.failed in
@@ -23,9 +24,9 @@ returns-in-Ok g c =
       c.as_slice.ensures.value,
       c.in_ok-outlets.ensures.same,
     ) at c.in-Ok.ensures.shown in
-    let out = rw (c.as_bytes.ensures.value, c.suite_name.ensures, c.failure_rule.ensures)
+    let out = rw (c.as_bytes.ensures.value, c.suite_name.ensures, c.report_judge.ensures)
     at (c.put_whole_files.ensures.put report_path junit_path (rw same report) (rw same junit)) in
-    let placed = rw (c.as_bytes.ensures.value, c.suite_name.ensures, c.failure_rule.ensures)
+    let placed = rw (c.as_bytes.ensures.value, c.suite_name.ensures, c.report_judge.ensures)
     at (c.put_whole_files.ensures.placed report_path junit_path (rw same report) (rw same junit)) in
     let errors = c.put_whole_files.ensures.errors in
     OnOk-both c.put_whole_files.result _ _ _
@@ -37,3 +38,9 @@ returns-in-Ok g c =
       placed = q;
     })
     out placed
+
+pub returns-in-Ok-clause-stopped : goal.returns-in-Ok-clause-stopped
+returns-in-Ok-clause-stopped g c =
+    output_of_put g.F.Outputs.place_path g.F.File.Sink.taken g.F.File.Sink.failed _ None
+    (optional_text c.args.asked.junit) _ _ c.put_whole_files.result c.in_ok-outlets.ensures.report
+    c.in_ok-outlets.ensures.junit c.put_whole_files.ensures.stopped

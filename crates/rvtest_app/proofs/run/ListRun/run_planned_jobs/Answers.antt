@@ -1,14 +1,25 @@
-use Rattle.std.proofs.Common.{◌∙◌, ap, length}
+use Rattle.std.proofs.Common.{◌∙◌, List, ap, arith, inr, length, sym, take}
+use Rattle.std.proofs.lemmas.List.{length-take}
+use Rattle.rv_rows.specs.declared_row.Row.{Row}
 use Rattle.rv_command.specs.Texts.{optional_text}
-use Rattle.rv_fleet.proofs.Public.{rows_count}
+use Rattle.rvtest_app.proofs.PutStops.{output_of_put}
 use Rattle.rvtest_app.proofs.PutTexts.{out_told}
 use Rattle.rvtest_app.proofs.Results.{OnOk-both}
+use Rattle.rvtest_app.proofs.StopLemmas.{IfErr-map}
+use Rattle.rvtest_app.specs.IntoReports.{run_report_path}
 use Rattle.rvtest_app.specs.Said.{said}
 use Rattle.rvtest_app.proofs.run.ListRun.run_planned_jobs.Goals as goal
 
 pub put_run_files-put-requires-clause-counted : goal.put_run_files-put-requires-clause-counted
 put_run_files-put-requires-clause-counted g c κs within =
-    ap length (rw c.in-Ok-ran.is at c.run_and_show-to.ensures.rows) ∙ rows_count _ c.args.places.now
+    let few = rw c.in-Ok-ran.is at c.run_and_show-to.ensures.few in
+    omega (
+      arith,
+      few,
+      ap length c.first_jobs-shown.ensures.places,
+      ap length c.as_slice.ensures,
+      length-take (length c.as_slice.result.now) c.args.places.now,
+    )
 
 pub returns-in-Ok-ran-clause-said : goal.returns-in-Ok-ran-clause-said
 returns-in-Ok-ran-clause-said g c =
@@ -16,20 +27,23 @@ returns-in-Ok-ran-clause-said g c =
     let taken = g.F.File.Sink.taken in
     let failed = g.F.File.Sink.failed in
     let outlets = c.in-Ok.outlets in
-    let report_path = optional_text c.args.self.now.asked.now.report in
+    let report_path = run_report_path c.args.self.now.asked.now in
     let junit_path = optional_text c.args.self.now.asked.now.junit in
-    let report = c.in-Ok.ensures.report in
+    let report = rw c.run_report_path-report.ensures at c.in-Ok.ensures.report in
     let junit = c.in-Ok.ensures.junit in
     let same = ap g.F.Outputs.placed c.run_and_show-to.ensures.files ∙ c.in-Ok.ensures.same in
     let rows = rw c.in-Ok-ran.is at c.run_and_show-to.ensures.rows in
+    let places = c.first_jobs-shown.ensures.places
+    ∙ ap (λ (r : List Row). take (length r) c.args.places.now) (c.as_slice.ensures ∙ rows) in
+    let telling = c.first_jobs-shown.ensures.telling in
     let seen = rw (
       c.use_stdout.ensures,
       out_told path taken failed _ _ outlets.report _ report,
       out_told path taken failed _ _ outlets.junit _ junit,
       c.in-Ok.ensures.same,
     ) at (rw c.in-Ok-ran.is at c.run_and_show-to.ensures.shown) in
-    let out = rw rows at (c.put_run_files-put.ensures.put report_path junit_path (rw same report) (rw same junit)) in
-    let placed = rw rows
+    let out = rw (telling, places, rows) at (c.put_run_files-put.ensures.put report_path junit_path (rw same report) (rw same junit)) in
+    let placed = rw (telling, places, rows)
     at (c.put_run_files-put.ensures.placed report_path junit_path (rw same report) (rw same junit)) in
     let errors = c.put_run_files-put.ensures.errors in
     OnOk-both c.put_run_files-put.result _ _ _
@@ -46,5 +60,22 @@ pub returns-in-Ok-ran-clause-part : goal.returns-in-Ok-ran-clause-part
 returns-in-Ok-ran-clause-part g c =
     let junit = c.in-Ok.ensures.junit in
     let same = ap g.F.Outputs.placed c.run_and_show-to.ensures.files ∙ c.in-Ok.ensures.same in
-    let rows = rw c.in-Ok-ran.is at c.run_and_show-to.ensures.rows in
-    rw same at (rw rows at (c.put_run_files-put.ensures.part (optional_text c.args.self.now.asked.now.junit) (rw same junit)))
+    λ rows is.
+    let are = (rw c.in-Ok-ran.is at c.run_and_show-to.ensures.rows) ∙ sym is in
+    let places = c.first_jobs-shown.ensures.places
+    ∙ ap (λ (r : List Row). take (length r) c.args.places.now) (c.as_slice.ensures ∙ are) in
+    rw same at (rw (c.first_jobs-shown.ensures.telling, places, are)
+    at (c.put_run_files-put.ensures.part (optional_text c.args.self.now.asked.now.junit) (rw same junit)))
+
+pub returns-in-Err-clause-stopped : goal.returns-in-Err-clause-stopped
+returns-in-Err-clause-stopped g c =
+    inr (inr (inr (rw c.run_report_path-report.ensures at c.in-Err.ensures.stopped)))
+
+pub returns-in-Ok-ran-clause-stopped : goal.returns-in-Ok-ran-clause-stopped
+returns-in-Ok-ran-clause-stopped g c =
+    let report_path = run_report_path c.args.self.now.asked.now in
+    let junit_path = optional_text c.args.self.now.asked.now.junit in
+    let report = rw c.run_report_path-report.ensures at c.in-Ok.ensures.report in
+    IfErr-map c.put_run_files-put.result _ _ (λ why is. inr is)
+    (output_of_put g.F.Outputs.place_path g.F.File.Sink.taken g.F.File.Sink.failed _ report_path junit_path _ _
+    c.put_run_files-put.result report c.in-Ok.ensures.junit c.put_run_files-put.ensures.stopped)
