@@ -2,7 +2,7 @@
 # What bash offers behind `rvtest` and `rvfleet`: their commands, the options of each, files, and the names of a list's jobs.
 _rvfleet_options() {
     case "$1 $2" in
-        'rvtest run') echo '--only --match --exclude --failed --shard --stamp --workers --group --budget --root --report --junit --suite --lenient --verbose --quiet --last --color --help' ;;
+        'rvtest run') echo '--only --match --exclude --failed --shard --stamp --workers --group --budget --root --into --report --junit --suite --lenient --verbose --quiet --last --color --help' ;;
         'rvtest list') echo '--only --match --exclude --failed --lenient --help' ;;
         'rvtest explain') echo '--last --budget --root --color --help' ;;
         'rvtest console') echo '--root --help' ;;

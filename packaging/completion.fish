@@ -22,6 +22,7 @@ complete -c rvtest -n '__fish_seen_subcommand_from run' -s j -l workers -x -d 'T
 complete -c rvtest -n '__fish_seen_subcommand_from run' -l group -x -d 'Jobs that a thread takes at once, from 1 to 4096 [default: 1]'
 complete -c rvtest -n '__fish_seen_subcommand_from run' -l budget -x -d 'Steps at most of every job, from 1 to 1000000000; else its own'
 complete -c rvtest -n '__fish_seen_subcommand_from run' -l root -x -a '(__fish_complete_directories)' -d 'Takes the paths in the list from this folder'
+complete -c rvtest -n '__fish_seen_subcommand_from run' -l into -r -F -d 'Puts the rows into this file, the whole report of the list'
 complete -c rvtest -n '__fish_seen_subcommand_from run' -l report -r -F -d 'Writes the report to this file; - is standard output'
 complete -c rvtest -n '__fish_seen_subcommand_from run' -l junit -r -F -d 'Writes JUnit XML to this file; - is standard output'
 complete -c rvtest -n '__fish_seen_subcommand_from run' -l suite -x -d 'Names the suite in JUnit XML, in place of the file'

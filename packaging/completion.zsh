@@ -45,6 +45,7 @@ _rvfleet_behind_rvtest() {
                 '--group[Jobs that a thread takes at once, from 1 to 4096 \[default\: 1\]]:N: ' \
                 '--budget[Steps at most of every job, from 1 to 1000000000; else its own]:N: ' \
                 '--root[Takes the paths in the list from this folder]:DIR:_directories' \
+                '--into[Puts the rows into this file, the whole report of the list]:FILE:_files' \
                 '--report[Writes the report to this file; - is standard output]:FILE:_files' \
                 '--junit[Writes JUnit XML to this file; - is standard output]:FILE:_files' \
                 '--suite[Names the suite in JUnit XML, in place of the file]:NAME: ' \

@@ -116,6 +116,29 @@ def check_choice(row):
         row.wants(["list", "list.toml", *words], status, lines(*names) if names else "", said)
 
 
+# ---- rows that are put into a report
+
+def check_into(row):
+    """What the words of a run make of a report that was there; the status, what is said, and the jobs in JUnit's XML if it is asked for."""
+    row.write("a.elf", images.image(EXIT))
+    row.write("list.toml", jobs(row["jobs"].split()))
+    old = report_bytes(row["old"])
+    row.write("report", old)
+    words, said = row["words"].split(), lines(*lines_in(row["said"]))
+    row.wants(["run", "list.toml", *words], int(row["status"]), lines(*lines_in(row["shown"])), said)
+    then = report_bytes(row["then"]) if row["then"] else old
+    if (found := (row.folder / "report").read_bytes()) != then:
+        row.fails(words, (0, then, b"report"), (0, found, b"report"))
+    if row["whole"]:
+        row.run(["run", "list.toml", "--quiet", "--report", "whole"])
+        if (whole := (row.folder / "whole").read_bytes()) != found:
+            row.fails(words, (0, whole, b"whole"), (0, found, b"report"))
+    junit = row.folder / "junit.xml"
+    cases = re.findall('<testcase classname="list" name="([^"]*)"', junit.read_text(encoding="utf-8")) if junit.exists() else []
+    if cases != row["junit"].split():
+        raise ValueError(f"junit.xml has {' '.join(cases) or 'no job'}, and not {row['junit'] or 'none'}")
+
+
 # ---- lines
 
 def check_lines(row):
@@ -137,6 +160,7 @@ FORMS = {
     "choices": Form(check_choice, "jobs words failed status chosen said"),
     "full": Form(check_full_disk, "words said not_there"),
     "help": Form(check_help, "words shown"),
+    "into": Form(check_into, "jobs words old status shown said then whole junit"),
     "lines": Form(check_lines, "list begins"),
     "misused": Form(check_misused, "words begins has"),
     "words": Form(check_words, "words status shown said files"),

@@ -141,6 +141,10 @@ with_files app = with_junit (with_rule app (file_rule (codes "report")))
 abbrev pub with_color : App → App
 with_color app = with_rule app (option_rule (codes "color"))
 
+-- [--into <FILE>]
+abbrev pub with_into : App → App
+with_into app = with_rule app (file_rule (codes "into"))
+
 -- [--verbose | --quiet] [--last <N>] [--color <WHEN>]
 abbrev pub with_results : App → App
 with_results app = with_color (with_rule (with_rule (with_rule app verbose_rule) quiet_rule) last_rule)
@@ -151,7 +155,7 @@ app_of_list name = with_rule (new_app name) (word_rule (codes "list"))
 
 abbrev pub test_run_app : App
 test_run_app =
-    with_results (with_files (with_machine (with_shard (with_choice (app_of_list (codes "run"))))))
+    with_results (with_files (with_into (with_machine (with_shard (with_choice (app_of_list (codes "run")))))))
 
 -- list <LIST> [--only <NAME>].. [--match <REGEX>] [--exclude <REGEX>] [--failed <REPORT>] [--lenient]
 abbrev pub list_app : App

@@ -38,6 +38,7 @@ pub record RunWords : Type 0 where
   pub group : ℕ
   pub budget : Option ℕ
   pub root : Option Text
+  pub into : Option Text
   pub report : Option Text
   pub junit : Option Text
   pub suite : Option Text
@@ -114,6 +115,7 @@ run_words list group rows = record {
   group = group;
   budget = requested_budget rows;
   root = first_of (codes "root") rows;
+  into = first_of (codes "into") rows;
   report = first_of (codes "report") rows;
   junit = first_of (codes "junit") rows;
   suite = first_of (codes "suite") rows;
@@ -228,16 +230,33 @@ color_misuse rows = if is_color_unknown rows then Some misuse.UnknownColor else 
 abbrev pub is_report_path : Text → List Row → Bool
 is_report_path path rows = option_map_or (bytes_eq path) (first_of (codes "report") rows) false
 
+-- the rows go into the report at the path
+abbrev pub is_into_path : Text → List Row → Bool
+is_into_path path rows = option_map_or (bytes_eq path) (first_of (codes "into") rows) false
+
 -- jobs are chosen by their names or by a report, or left out
 abbrev pub is_choice_given : List Row → Bool
 is_choice_given rows = is_option_given (codes "only") rows
     || (is_option_given (codes "match") rows
     || (is_option_given (codes "exclude") rows || is_option_given (codes "failed") rows))
 
+-- a report goes out: of the rows of the run alone, or of a whole list, into which they are put
+abbrev pub is_report_given : List Row → Bool
+is_report_given rows = is_option_given (codes "report") rows || is_option_given (codes "into") rows
+
 -- rows go out that others take as the list's: in a report, in JUnit's XML, or as a shard's
 abbrev pub are_rows_kept : List Row → Bool
-are_rows_kept rows = is_option_given (codes "report") rows
+are_rows_kept rows = is_report_given rows
     || (is_option_given (codes "junit") rows || is_option_given (codes "shard") rows)
+
+-- rows are put into a report, and go out beside it, as a report of their own or as a shard's
+abbrev pub are_rows_put_twice : List Row → Bool
+are_rows_put_twice rows = is_option_given (codes "into") rows
+    && (is_option_given (codes "report") rows || is_option_given (codes "shard") rows)
+
+-- the report that chooses the jobs would be written over by theirs alone
+abbrev pub is_choice_overwritten : List Row → Bool
+is_choice_overwritten rows = option_map_or (λ path. is_report_path path rows) (first_of (codes "failed") rows) false
 
 -- the suite of JUnit's XML has no name
 abbrev pub is_suite_nameless : List Row → Bool
@@ -250,15 +269,17 @@ suite_misuse rows = if is_option_given (codes "suite") rows && not (is_option_gi
     else if is_suite_nameless rows then Some misuse.NamelessSuite
     else None
 
--- JUnit's XML goes where the report goes, be that a file or standard output; or its suite is not as it may be
+-- JUnit's XML goes where a report goes, be that a file or standard output; or its suite is not as it may be
 abbrev pub files_misuse : List Row → Option Misuse
 files_misuse rows =
-    if option_map_or (λ path. is_report_path path rows) (first_of (codes "junit") rows) false
-    then Some misuse.OneFile else suite_misuse rows
+    if option_map_or (λ path. is_report_path path rows) (first_of (codes "junit") rows) false then Some misuse.OneFile
+    else if option_map_or (λ path. is_into_path path rows) (first_of (codes "junit") rows) false
+    then Some misuse.IntoOneFile else suite_misuse rows
 
 -- the first of the rules that options of `run` break: --verbose and --quiet do not stand beside
--- one another, nor a shard beside a choice, nor a budget beside what makes rows that a list is known by; a stamp is a shard's; the
--- two files are not one, and a suite is one of them
+-- one another, nor a shard beside a choice, nor a budget beside what makes rows that a list is known by, nor a report of the rows
+-- beside one that they are put into; a stamp is a shard's; a report that chooses jobs keeps its other rows; the two files are not
+-- one, and a suite is one of them
 abbrev pub run_misuse : List Row → Option Misuse
 run_misuse rows = if is_flag_set (codes "verbose") rows && is_flag_set (codes "quiet") rows
     then Some misuse.VerboseAndQuiet
@@ -266,6 +287,8 @@ run_misuse rows = if is_flag_set (codes "verbose") rows && is_flag_set (codes "q
     else if is_option_given (codes "stamp") rows && not (is_option_given (codes "shard") rows)
     then Some misuse.StampAlone
     else if is_option_given (codes "budget") rows && are_rows_kept rows then Some misuse.BudgetAndRows
+    else if are_rows_put_twice rows then Some misuse.IntoAndReport
+    else if is_choice_overwritten rows then Some misuse.FailedIsReport
     else if is_color_unknown rows then Some misuse.UnknownColor
     else files_misuse rows
 
@@ -293,13 +316,19 @@ misuse_text misuse.ShardAndChoice =
     codes "the argument '--shard <K/N>' cannot be used with '--only <NAME>', '--match <REGEX>', '--exclude <REGEX>' or '--failed <REPORT>'"
 misuse_text misuse.StampAlone = codes "the argument '--stamp <TEXT>' cannot be used without '--shard <K/N>'"
 misuse_text misuse.BudgetAndRows =
-    codes "the argument '--budget <N>' cannot be used with '--report <FILE>', '--junit <FILE>' or '--shard <K/N>': such rows are not the list's"
+    codes "the argument '--budget <N>' cannot be used with '--into <FILE>', '--report <FILE>', '--junit <FILE>' or '--shard <K/N>': such rows are not the list's"
+misuse_text misuse.IntoAndReport =
+    codes "the argument '--into <FILE>' cannot be used with '--report <FILE>' or '--shard <K/N>': it is the report that is written"
+misuse_text misuse.FailedIsReport =
+    codes "the argument '--report <FILE>' cannot be used with '--failed <REPORT>' of the same name: the rows of the other jobs would be lost; '--into <FILE>' keeps them"
 misuse_text misuse.StepsAndSlower = codes "the argument '--steps' cannot be used with '--slower <N>'"
 misuse_text misuse.SuiteAlone = codes "the argument '--suite <NAME>' cannot be used without '--junit <FILE>'"
 misuse_text misuse.NamelessSuite = codes "a value is required for '--suite <NAME>' but none was supplied"
 misuse_text misuse.UnknownColor = codes "the value of '--color <WHEN>' is always, never or auto"
 misuse_text misuse.OneFile =
     codes "the argument '--report <FILE>' cannot be used with '--junit <FILE>' of the same name: it is one file"
+misuse_text misuse.IntoOneFile =
+    codes "the argument '--into <FILE>' cannot be used with '--junit <FILE>' of the same name: it is one file"
 
 -- the faults of a subcommand with these values that `clap` does not look for
 abbrev pub subcommand_fault_kinds : Text → List Row → Kinds
@@ -337,6 +366,7 @@ run_asked_words value = record {
   group = value.group;
   budget = value.budget;
   root = borrowed_text value.root;
+  into = borrowed_text value.into;
   report = borrowed_text value.report;
   junit = borrowed_text value.junit;
   suite = borrowed_text value.suite;

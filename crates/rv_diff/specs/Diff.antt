@@ -1,8 +1,8 @@
 -- Two reports, row by row: jobs that only one has, and jobs whose rows differ.
 use Rattle.std.specs.Prelude.{◌+◌, ℕ, Bool, false, not, is_none, List, [], ◌++◌, Option, Some, None}
-use Rattle.std.specs.Prelude.{codes, count_by, length, sum_by}
+use Rattle.std.specs.Prelude.{◌==◌, codes, count_by, if◌then◌else◌, length, sum_by}
 use Rattle.std.specs.Fmt.{decimal}
-use Rattle.std.specs.List.{flat_map}
+use Rattle.std.specs.List.{filter, flat_map}
 use Rattle.rv_rows.specs.declared_row.Row.{Row}
 use Rattle.rv_rows.specs.Report.{line}
 use Rattle.rv_diff.specs.declared.diff.Differing.{Differing}
@@ -29,6 +29,10 @@ gone_line (Some new) old = []
 abbrev pub changes_of_row : Compare → Option Row → Row → List ℕ
 changes_of_row compare None new = line (codes "+ " ++ new.name)
 changes_of_row compare (Some old) new = change_lines compare old new
+
+-- rows of whose jobs others have some, too
+abbrev pub rows_beside : List Row → List Row → List Row
+rows_beside others rows = filter (λ row. not (is_alone_in others row)) rows
 
 -- ---- how many jobs differ
 
@@ -72,12 +76,16 @@ abbrev pub sums_words : Option StepSums → List ℕ
 sums_words None = []
 sums_words (Some sums) = codes ", steps " ++ decimal sums.old ++ codes " -> " ++ decimal sums.new
 
-unfoldable pub count_line : ℕ → Differing → Option StepSums → List ℕ
-count_line jobs counts sums = line (differing_words (differing_count counts) jobs ++ change_counts_words counts
-    ++ sums_words sums)
+-- jobs that are not compared, since a report leaves them out
+abbrev pub left_out_words : ℕ → List ℕ
+left_out_words count = if count == 0 then [] else codes ", " ++ decimal count ++ codes " left out"
 
--- the jobs are those that are in either report
-unfoldable pub diff_text : Compare → List Row → List Row → List ℕ
-diff_text compare old new = let counts = counts_of_differing compare old new in
+unfoldable pub count_line : ℕ → Differing → ℕ → Option StepSums → List ℕ
+count_line jobs counts left_out sums = line (differing_words (differing_count counts) jobs ++ change_counts_words counts
+    ++ left_out_words left_out ++ sums_words sums)
+
+-- the jobs are those that are in either report, but for so many that one of them leaves out
+unfoldable pub diff_text : Compare → List Row → List Row → ℕ → List ℕ
+diff_text compare old new left_out = let counts = counts_of_differing compare old new in
     difference_lines compare old new
-    ++ count_line (length new + counts.gone) counts (step_sums compare old new)
+    ++ count_line (length new + counts.gone) counts left_out (step_sums compare old new)

@@ -5,7 +5,8 @@ ghost use Rattle.std.specs.List.{flat_map};
 ghost use Rattle.rv_rows.specs.Report.{line};
 ghost use Rattle.rv_diff.specs.ByName.{row_named};
 ghost use Rattle.rv_diff.specs.Diff.{count_line, diff_text, counts_of_differing, differing_count, gone_line, is_alone_in};
-ghost use Rattle.rv_diff.specs.Diff.{change_counts_words, changes_of_row, differing_words, is_changed, step_sums, sums_words, total_steps};
+ghost use Rattle.rv_diff.specs.Diff.{change_counts_words, changes_of_row, differing_words, is_changed, left_out_words, step_sums};
+ghost use Rattle.rv_diff.specs.Diff.{rows_beside, sums_words, total_steps};
 
 use crate::by_name::ByName;
 use crate::change::{Change, Compare, change_of};
@@ -34,6 +35,15 @@ impl Differing {
     }
 }
 
+/// The rows of two reports that are compared.
+#[derive(Clone, Copy)]
+pub struct Compared<'a> {
+    pub old: &'a [Row],
+    pub new: &'a [Row],
+    /// How many others one of the reports has, since the other one leaves out their jobs.
+    pub left_out: usize,
+}
+
 /// The steps of all rows of two reports.
 #[derive(Clone, Copy)]
 pub struct StepSums {
@@ -43,21 +53,22 @@ pub struct StepSums {
 
 /// Appends in what the rows of two reports differ: `- NAME` for a job that only the old one has, in its order, then in the
 /// order of the new one `+ NAME` for a job that only that has, and `! NAME: ` and what changed for one whose rows do not
-/// agree; and last how many jobs differ. Of rows of one name the first counts; the reports that can be read have none.
+/// agree; and last how many jobs differ, and how many are left out. Of rows of one name the first counts; the reports that can be read have none.
 #[tactic(auto, unfolding(crate::specs::Diff::diff_text))]
 pub fn push_diff(
     alloc: Global,
     text: &mut Vec<u8>,
     compare: Compare,
-    old: &[Row],
-    new: &[Row],
+    compared: Compared<'_>,
 ) -> Result<Differing, AllocError>
-    requires old { length old.now < 2 ^ 32 }
-    requires new { length new.now < 2 ^ 32 }
-    ensures text { OnOk result
-        (text.new.items ≡ text.old.items ++ diff_text compare old.now new.now) }
-    ensures counts { IfOk result (λ counts. counts ≡ counts_of_differing compare old.now new.now) }
+    requires old { length compared.entry.old.now < 2 ^ 32 }
+    requires new { length compared.entry.new.now < 2 ^ 32 }
+    ensures text { OnOk result (text.new.items ≡ text.old.items
+        ++ diff_text compare compared.entry.old.now compared.entry.new.now compared.entry.left_out) }
+    ensures counts { IfOk result (λ counts. counts
+        ≡ counts_of_differing compare compared.entry.old.now compared.entry.new.now) }
 {
+    let Compared { old, new, left_out } = compared;
     let gone = push_gone_lines(alloc, text, compare, old, new)?;
     let (added, changed) = push_added_and_changed_lines(alloc, text, compare, old, new)?;
     let counts = Differing {
@@ -66,8 +77,26 @@ pub fn push_diff(
         changed,
     };
     let sums = step_sums(compare, old, new);
-    push_count_line(text, new.len() + gone, counts, sums)?;
+    push_count_line(text, new.len() + gone, counts, left_out, sums)?;
     Ok(counts)
+}
+
+/// The rows of whose jobs others have some, too, in their order.
+pub fn rows_beside(
+    alloc: Global,
+    rows: Vec<Row>,
+    others: &[Row],
+) -> Result<Vec<Row>, AllocError>
+    ensures { IfOk result (λ kept. kept.items ≡ rows_beside others.now rows.items) }
+{
+    let others = ByName::new(alloc, others)?;
+    let mut kept = Vec::new(alloc);
+    for row in rows {
+        if others.find(row.name.as_str()).is_some() {
+            kept.push(row)?;
+        }
+    }
+    Ok(kept)
 }
 
 // The steps of all rows, where it is asked which jobs are slower.
@@ -177,20 +206,38 @@ fn push_sign_line<'a>(text: &mut Vec<u8>, sign: &'a str, row: &'a Row) -> Result
     )
 }
 
-// Appends how many of so many jobs differ, and the steps of both reports where they are asked.
+// Appends how many of so many jobs differ, how many are left out, and the steps of both reports where they are asked.
 #[tactic(auto, unfolding(crate::specs::Diff::count_line))]
 fn push_count_line(
     text: &mut Vec<u8>,
     jobs: usize,
     counts: Differing,
+    left_out: usize,
     sums: Option<StepSums>,
 ) -> Result<(), AllocError>
     requires { differing_count counts < 2 ^ 64 }
-    ensures { OnOk result (text.new.items ≡ text.old.items ++ count_line jobs counts sums) }
+    ensures { OnOk result (text.new.items ≡ text.old.items ++ count_line jobs counts left_out sums) }
 {
     push_counts(text, jobs, counts)?;
+    push_left_out(text, left_out)?;
     push_step_sums(text, sums)?;
     push_text(text, "\n")
+}
+
+fn push_left_out(text: &mut Vec<u8>, count: usize) -> Result<(), AllocError>
+    ensures { OnOk result (text.new.items ≡ text.old.items ++ left_out_words count) }
+{
+    if count == 0 {
+        return Ok(());
+    }
+    push_spans(
+        text,
+        &[
+            Span::Text(", "),
+            Span::Number(count as u64),
+            Span::Text(" left out"),
+        ],
+    )
 }
 
 fn push_step_sums(text: &mut Vec<u8>, sums: Option<StepSums>) -> Result<(), AllocError>

@@ -3,11 +3,12 @@ mod StepOrder
 mod Numbers
 mod Sent
 mod Results
+mod StopLemmas
 mod PutTexts
+mod PutStops
 mod Requested
 mod PartTexts
 mod JobTexts
 mod FailedRows
 mod UnreadableWords
-mod StopLemmas
 mod WordsStops

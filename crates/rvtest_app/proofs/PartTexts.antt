@@ -1,12 +1,15 @@
 -- The texts of parts, one more at a time.
-use Rattle.std.proofs.Common.{◌≡◌, ◌++◌, ◌∷◌, ◌+◌, ◌<◌, ℕ, List, [], Option, add-one, get_or, length, map, take}
-use Rattle.std.proofs.Math.Seq.{take-suc}
-use Rattle.std.proofs.lemmas.List.{map-append}
+use Rattle.std.proofs.Common.{◌≡◌, ◌∙◌, ◌++◌, ◌∷◌, ◌+◌, ◌<◌, ℕ, List, [], Option, add-one, ap, drop, get_or, inr, length, map, sym, take}
+use Rattle.std.proofs.Math.Seq.{drop-cons, take-suc}
+use Rattle.std.proofs.lemmas.List.{map-append, take-append-drop}
 use Rattle.std.specs.Borrow.{Bor}
 use Rattle.std.specs.Prelude.{Vec}
 use Rattle.std.specs.declared.alloc.Global.{Global}
 use Rattle.rv_base.specs.Files.{FileContents}
+use Rattle.rv_command.specs.Stops.{IsUnreadStop}
 use Rattle.rv_command.specs.Texts.{IsTextAt}
+use Rattle.rv_command.specs.declared.stop.Stop.{Stop}
+use Rattle.rvtest_app.specs.MergeStops.{ArePartsUnread}
 use Rattle.rvtest_app.specs.Merges.{AreTextsAt}
 
 snoc : (known : Option FileContents) (paths : List (Bor (List ℕ))) (texts : List (List ℕ)) (path : Bor (List ℕ))
@@ -26,3 +29,17 @@ pub one_more_text : (known : Option FileContents) (paths : List (Bor (List ℕ))
 one_more_text known paths i d old new text within are is more =
     rw (add-one i, more, map-append (λ (text : Vec ℕ Global). text.items) old (text ∷ []), take-suc paths i d within)
     (snoc known (take i paths) _ (get_or paths i d) text.items are is)
+
+-- the path at a place was not read, and those before it were
+pub unread_part : (known : Option FileContents) (paths : List (Bor (List ℕ))) (i : ℕ) (d : Bor (List ℕ))
+    (texts : List (List ℕ)) (why : Stop) → i < length paths → AreTextsAt known (take i paths) texts
+    → IsUnreadStop known (get_or paths i d).now why → ArePartsUnread known paths why
+unread_part known paths i d texts why within are unread = inr (record {
+  before = take i paths;
+  path = get_or paths i d;
+  behind = drop (suc i) paths;
+  texts = texts;
+  listed = sym (take-append-drop i paths) ∙ ap (λ rest. take i paths ++ rest) (drop-cons paths i d within);
+  read = are;
+  unread = unread;
+})

@@ -6,7 +6,7 @@ use Rattle.std.specs.Io.KnownBytes.{Appends}
 use Rattle.rv_base.specs.Sinks.{AppendsBeginning}
 use Rattle.rv_files.specs.Placed.{PlacedFile}
 use Rattle.rvtest_app.specs.Outlets.{AreFilesPlaced, AreFilesPlacedInPart, HasTaken, IsPutInto, both_files, file_at, files_of, has_no_failure, is_out, is_stdout_at}
-use Rattle.rvtest_app.specs.Outlets.{stdout_at, stdout_part}
+use Rattle.rvtest_app.specs.Outlets.{file_path_at, outlet_path, stdout_at, stdout_part}
 use Rattle.rv_report.specs.declared.row.Row.{Row}
 use Rattle.rv_expect.specs.declared.passing.Rule.{Rule}
 use Rattle.rv_junit.specs.Junit.{junit_text}
@@ -47,6 +47,13 @@ module _ {P W : Type 0} (place_path : P → List ℕ) (taken : W → Option (Lis
   out_told placed path outlet.Nowhere text has = rw has refl
   out_told placed path outlet.Out text has = rw has refl
   out_told placed path (outlet.File file) text has = rw (has.0, has.1.0) refl
+
+  -- the file of an outlet is named by the path
+  pub path_told : (placed : Option (List PlacedFile)) (path : Option (List ℕ)) (o : Outlet P W) (text : List ℕ)
+      → HasTaken place_path taken failed placed path text o → outlet_path o ≡ file_path_at path
+  path_told placed path outlet.Nowhere text has = rw has refl
+  path_told placed path outlet.Out text has = rw has refl
+  path_told placed path (outlet.File file) text has = rw (has.0, has.1.0, has.1.1.2) refl
 
   taken_text : (before after : Option (List ℕ)) (text : List ℕ) → before ≡ Some [] → Appends before after text
       → after ≡ Some text

@@ -7,6 +7,7 @@ use Rattle.rv_colors.specs.ColorSinks.{IsOut}
 use Rattle.rv_colors.specs.declared.colors.Colors.{Colors}
 use Rattle.rv_colors.specs.declared.colors.Colors.TheVariants as colors
 use Rattle.rv_command.specs.Texts.{optional_text}
+use Rattle.rvtest_app.specs.IntoReports.{run_report_path}
 use Rattle.rvtest_app.specs.Outlets.{is_stdout_at}
 use Rattle.rvtest_app.specs.Said.{Said}
 
@@ -25,7 +26,7 @@ file_colors report junit asked = if is_stdout_at report || is_stdout_at junit th
 
 -- what words ask for, where standard output is a terminal for colours, or is none; names, consoles, faults and reports have none
 abbrev pub asked_colors : Asked → Bool → Colors
-asked_colors (asked.Run words) is_terminal = file_colors (optional_text words.report) (optional_text words.junit)
+asked_colors (asked.Run words) is_terminal = file_colors (run_report_path words) (optional_text words.junit)
     (colors_of_word (optional_text words.color) is_terminal)
 asked_colors (asked.Explain words) is_terminal = colors_of_word (optional_text words.color) is_terminal
 asked_colors (asked.Diff words) is_terminal = colors_of_word (optional_text words.color) is_terminal

@@ -1,5 +1,5 @@
 -- Why commands ended before their work was done.
-use Rattle.std.specs.Prelude.{◌≡◌, ◌⊎◌, ℕ, List, Option, Some, Ok, ⊤}
+use Rattle.std.specs.Prelude.{◌≡◌, ◌⊎◌, ℕ, List, Option, None, Some, Ok}
 use Rattle.clap.specs.Kinds.{IsAmong}
 use Rattle.clap.specs.declared.error.kind.ErrorKind.{ErrorKind as WordsFault}
 use Rattle.rv_base.specs.Files.{FileContents}
@@ -10,11 +10,11 @@ use Rattle.rv_cli.specs.declared.rvtest.check.CheckAsked.{CheckAsked}
 use Rattle.rv_cli.specs.declared.rvtest.console.ConsoleAsked.{ConsoleAsked}
 use Rattle.rv_cli.specs.declared.rvtest.diff.DiffAsked.{DiffAsked}
 use Rattle.rv_cli.specs.declared.rvtest.explain.ExplainAsked.{ExplainAsked}
-use Rattle.rv_cli.specs.declared.rvtest.run.RunAsked.{RunAsked}
+use Rattle.rv_cli.specs.declared.rvtest.show.ShowAsked.{ShowAsked}
 use Rattle.rv_cli.specs.declared.rvtest.requests.Asked.{Asked}
 use Rattle.rv_cli.specs.declared.rvtest.requests.Asked.TheVariants as asked
 use Rattle.rv_command.specs.Stops.{IsListFaultStop, IsListUnreadStop, IsRefusal, IsReportUnreadStop}
-use Rattle.rv_command.specs.Texts.{IsReportAt, IsTextAt}
+use Rattle.rv_command.specs.Texts.{IsReportAt, IsTextAt, optional_text}
 use Rattle.rv_command.specs.declared.stop.Stop.{Stop}
 use Rattle.rv_command.specs.declared.stop.Stop.TheVariants as stop
 use Rattle.rv_lists.specs.JobList.{job_list_of}
@@ -23,6 +23,9 @@ use Rattle.rv_report.specs.declared.saved.SavedReport.{SavedReport}
 use Rattle.rvtest_app.specs.Answers.{AskForHelp}
 use Rattle.rvtest_app.specs.Commands.{failure_rule}
 use Rattle.rvtest_app.specs.HelpTopics.{IsNoTopicStop}
+use Rattle.rvtest_app.specs.MergeStops.{IsMergeStop}
+use Rattle.rvtest_app.specs.PutStops.{IsOutputStop}
+use Rattle.rvtest_app.specs.RunStops.{IsRunStop}
 use Rattle.rvtest_app.specs.ToldStops.{IsHelpAsked}
 
 -- `check`: the list was not read; or memory was wanting, or the list has a fault
@@ -61,8 +64,13 @@ abbrev pub IsDiffAtStop : Option FileContents → DiffAsked → Stop → Type 0
 IsDiffAtStop known words why = IsReportUnreadStop known words.old.now why
     ⊎ ((report : SavedReport) × (IsReportAt known words.old.now report × IsReportUnreadStop known words.new.now why))
 
--- what stopped a command that puts one text: the text was not put, or the command was stopped before; nothing is said of
--- commands that put files as well
+-- `show`: the report was not read, or it was, and what is shown of it did not go out
+abbrev pub IsShowStop : Option FileContents → ShowAsked → Stop → Type 0
+IsShowStop known words why = IsReportUnreadStop known words.report.now why
+    ⊎ ((report : SavedReport) × (IsReportAt known words.report.now report
+    × IsOutputStop None (optional_text words.junit) why))
+
+-- what stopped a command; one that puts a text alone was stopped before, or the text was not put
 abbrev pub IsCommandStop : Option FileContents → Asked → Stop → Type 0
 IsCommandStop known (asked.Explain words) why = (why ≡ stop.WriteFailed) ⊎ IsExplainStop known words why
 IsCommandStop known (asked.List words) why = (why ≡ stop.WriteFailed) ⊎ IsListStop known words why
@@ -70,9 +78,9 @@ IsCommandStop known (asked.Console words) why = (why ≡ stop.WriteFailed) ⊎ I
 IsCommandStop known (asked.Check words) why = (why ≡ stop.WriteFailed) ⊎ IsCheckStop known words why
 IsCommandStop known (asked.Diff words) why = (why ≡ stop.WriteFailed) ⊎ IsDiffAtStop known words why
 IsCommandStop known (asked.Help words) why = (why ≡ stop.WriteFailed) ⊎ IsNoTopicStop words.topic.now why
-IsCommandStop known (asked.Run words) why = ⊤
-IsCommandStop known (asked.Merge words) why = ⊤
-IsCommandStop known (asked.Show words) why = ⊤
+IsCommandStop known (asked.Run words) why = IsRunStop known words why
+IsCommandStop known (asked.Merge words) why = IsMergeStop known words why
+IsCommandStop known (asked.Show words) why = IsShowStop known words why
 
 -- words have a fault of some kind, which is not that they ask for help
 abbrev pub AreFaulty : List (List ℕ) → Type 0

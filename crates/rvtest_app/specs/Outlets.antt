@@ -25,6 +25,11 @@ abbrev pub stdout_at : Option (List ℕ) → List ℕ → List ℕ
 stdout_at None text = []
 stdout_at (Some path) text = if is_stdout path then text else []
 
+-- the path of the file, if one is given that is not standard output
+abbrev pub file_path_at : Option (List ℕ) → Option (List ℕ)
+file_path_at None = None
+file_path_at (Some path) = if is_stdout path then None else Some path
+
 -- whether a path is given that stands for standard output
 abbrev pub is_stdout_at : Option (List ℕ) → Bool
 is_stdout_at None = false
@@ -40,6 +45,12 @@ module _ {P W : Type 0} where
 
   abbrev pub uses_stdout : Outlets P W → Bool
   uses_stdout outlets = is_out outlets.report || is_out outlets.junit
+
+  -- the path by which messages name the file of an outlet, if it is one
+  abbrev pub outlet_path : Outlet P W → Option (List ℕ)
+  outlet_path outlet.Nowhere = None
+  outlet_path outlet.Out = None
+  outlet_path (outlet.File file) = Some file.path.now
 
   -- what of a text that is put into an outlet goes to standard output
   abbrev pub stdout_part : Outlet P W → List ℕ → List ℕ
@@ -83,6 +94,10 @@ module _ {P S : Type 0} where
   synced_files place_path bytes None = Some []
   synced_files place_path bytes (Some file) =
       option_map (λ bytes. record { path = place_path file.place; bytes = bytes } ∷ []) (bytes file.file)
+
+  -- the path by which messages name the file
+  abbrev pub synced_path : Option (SyncedFile P S) → Option (List ℕ)
+  synced_path synced = option_map (λ file. file.path.now) synced
 
 -- files were put in their places, behind those that stood there
 abbrev pub AreFilesPlaced : Option (List PlacedFile) → Option (List PlacedFile) → Option (List PlacedFile) → Type 0

@@ -1,5 +1,5 @@
 -- What the commands that run no list find, in what stands at the paths that they read.
-use Rattle.std.specs.Prelude.{◌≡◌, ℕ, Bool, true, false, List, [], ◌∷◌, length, None, Option, Some, Ok, position}
+use Rattle.std.specs.Prelude.{◌≡◌, ◌+◌, ◌-◌, if◌then◌else◌, ℕ, Bool, true, false, List, [], ◌∷◌, length, None, Option, Some, Ok, position}
 use Rattle.std.specs.Prelude.{slice_index_or}
 use Rattle.std.specs.Str.{bytes_eq}
 use Rattle.rv_base.specs.Files.{FileContents}
@@ -7,7 +7,7 @@ use Rattle.rv_cli.specs.declared.rvtest.check.CheckAsked.{CheckAsked}
 use Rattle.rv_cli.specs.declared.rvtest.diff.DiffAsked.{DiffAsked}
 use Rattle.rv_cli.specs.declared.rvtest.explain.ExplainAsked.{ExplainAsked}
 use Rattle.rv_command.specs.Texts.{IsReportText, IsTextAt, optional_text}
-use Rattle.rv_diff.specs.Diff.{counts_of_differing, diff_text}
+use Rattle.rv_diff.specs.Diff.{counts_of_differing, diff_text, rows_beside}
 use Rattle.rv_diff.specs.declared.change.Compare.{Compare}
 use Rattle.rv_diff.specs.declared.change.Compare.TheVariants.{Outcomes, Slower, Steps}
 use Rattle.rv_expect.specs.Passing.{has_passed}
@@ -26,6 +26,9 @@ use Rattle.rv_lists.specs.Jobs.{with_budget}
 use Rattle.rv_lists.specs.ListFaults.{list_faults}
 use Rattle.rv_lists.specs.declared.error.JobError.{JobError}
 use Rattle.rv_lists.specs.declared.job.Job.{Job}
+use Rattle.rv_report.specs.declared.row.Row.{Row}
+use Rattle.rv_report.specs.declared.saved.Extent.{Extent}
+use Rattle.rv_report.specs.declared.saved.Extent.TheVariants as extent
 use Rattle.rv_report.specs.declared.saved.SavedReport.{SavedReport}
 use Rattle.rv_rows.specs.Rows.{row_of}
 use Rattle.rvtest_app.specs.CheckText.{check_text}
@@ -45,14 +48,30 @@ requested_comparison true slower = Steps
 requested_comparison false (Some percent) = Slower percent
 requested_comparison false None = Outcomes
 
+-- the report of a choice leaves out jobs of a whole one
+abbrev pub leaves_out : Extent → Extent → Bool
+leaves_out (extent.Choice jobs) extent.Whole = true
+leaves_out _ _ = false
+
+-- the rows of a report that are compared with another: where that leaves out jobs, those of the jobs that it has
+abbrev pub compared_rows : SavedReport → SavedReport → List Row
+compared_rows other report = if leaves_out other.extent report.extent then rows_beside other.rows report.rows
+    else report.rows
+
+-- how many rows of two reports are not compared
+abbrev pub left_out_count : SavedReport → SavedReport → ℕ
+left_out_count old new = (length old.rows - length (compared_rows new old))
+    + (length new.rows - length (compared_rows old new))
+
 -- the output and the status are those of the rows of the reports that two texts are
 pub record IsDiffOf (compare : Compare) (old new output : List ℕ) (status : ℕ) : Type 0 where
   pub before : SavedReport
   pub before_is : IsReportText old before
   pub after : SavedReport
   pub after_is : IsReportText new after
-  pub text : output ≡ diff_text compare before.rows after.rows
-  pub judged : status ≡ diff_status (counts_of_differing compare before.rows after.rows)
+  pub text : output ≡ diff_text compare (compared_rows after before) (compared_rows before after)
+      (left_out_count before after)
+  pub judged : status ≡ diff_status (counts_of_differing compare (compared_rows after before) (compared_rows before after))
 
 -- the same of what stands at the two paths that words name
 pub record IsDiffAt (known : Option FileContents) (words : DiffAsked) (output : List ℕ) (status : ℕ) : Type 0 where

@@ -25,7 +25,8 @@ use Rattle.rvtest_app.specs.Commands.{failure_rule, requested_verbosity}
 use Rattle.rvtest_app.specs.MissingImages.{missing_images_note}
 use Rattle.rvtest_app.specs.Outlets.{AreFilesPlaced, file_at}
 use Rattle.rvtest_app.specs.Puts.{WentOut}
-use Rattle.rvtest_app.specs.RunOutput.{chosen_report_text, rows_status, run_output_text}
+use Rattle.rvtest_app.specs.RunOutput.{rows_status, run_output_text}
+use Rattle.rvtest_app.specs.IntoReports.{AreOldRows, run_report_path, run_report_text}
 use Rattle.rvtest_app.specs.JunitTexts.{suite_name}
 use Rattle.rvtest_app.specs.Said.{IsOnlyTold, Said}
 
@@ -43,15 +44,16 @@ AreRequestedMarks known None words jobs marks notes =
     IsChoice known words (failure_rule words.lenient) jobs marks notes
 
 -- the jobs of the list at the path that words name, the marks of those that are to run, if any are, the shard that they are
--- of, and what is said of the choice
+-- of, the rows of the whole report into which theirs are put, if one is named, and what is said of the choice
 pub record AreRequestedJobs (known : Option FileContents) (words : RunAsked) (jobs : List Job)
-    (marks : Option (List Bool)) (shard : Option Shard) (notes : List ℕ) : Type 0 where
+    (marks : Option (List Bool)) (shard : Option Shard) (old : Option (List Row)) (notes : List ℕ) : Type 0 where
   pub bytes : List ℕ
   pub read : IsTextAt known words.list.now bytes
   pub listed : job_list_of bytes ≡ Ok jobs
   pub sharded : IsShardOf words.shard shard
   pub stamped : IfSome shard (λ shard. (shard.stamp ≡ stamp_for words.stamp bytes) × (shard.jobs ≡ length jobs))
   pub marked : AreRequestedMarks known shard words jobs marks notes
+  pub into : AreOldRows known words jobs old
 
 -- a plan of the jobs has answers for the paths that the rows at some places need, which agree with what stands there; why paths
 -- were not read is noted as often as answers are unreadable
@@ -81,7 +83,7 @@ run_telling words plan unread = record {
 -- is missing; and the rows of the jobs at some places went out as words ask for them: their lines with the totals, the report,
 -- and JUnit's document; the status is by these rows
 pub record IsRunOfPlaces (known : Option FileContents) (words : RunAsked) (jobs : List Job) (places : List ℕ)
-    (shard : Option Shard) (status : ℕ) (before after : Said) : Type 0 where
+    (shard : Option Shard) (old : Option (List Row)) (status : ℕ) (before after : Said) : Type 0 where
   pub plan : Planned
   pub unread : List Unread
   pub planned : IsPlanFor (contents_below (optional_text words.root) known) (with_budget words.budget jobs) places plan
@@ -89,30 +91,31 @@ pub record IsRunOfPlaces (known : Option FileContents) (words : RunAsked) (jobs 
   pub judged : status ≡ rows_status (failure_rule words.lenient) (rows_at plan places)
   pub middle : Said
   pub noted : IsOnlyTold (missing_images_note plan.jobs unread (length places) (optional_text words.root)) before middle
-  pub put : WentOut (optional_text words.report) (optional_text words.junit)
+  pub put : WentOut (run_report_path words) (optional_text words.junit)
       (run_output_text (row_lines_at (run_telling words plan unread)) (failure_rule words.lenient) places
       (rows_at plan places))
-      (chosen_report_text (length plan.jobs) places shard (rows_at plan places))
+      (run_report_text old (length plan.jobs) places shard (rows_at plan places))
       (run_junit words (run_telling words plan unread) places (rows_at plan places))
       middle after
 
 -- the same of the jobs that are marked; where none are to run, the status is 0 and nothing more is said
-abbrev pub IsRunOfMarked : Option FileContents → RunAsked → List Job → Option (List Bool) → Option Shard → ℕ
-    → Said → Said → Type 0
-IsRunOfMarked known words jobs None shard status before after = (status ≡ 0) × (after ≡ before)
-IsRunOfMarked known words jobs (Some marks) shard status before after =
-    IsRunOfPlaces known words jobs (places_of_marks marks) shard status before after
+abbrev pub IsRunOfMarked : Option FileContents → RunAsked → List Job → Option (List Bool) → Option Shard
+    → Option (List Row) → ℕ → Said → Said → Type 0
+IsRunOfMarked known words jobs None shard old status before after = (status ≡ 0) × (after ≡ before)
+IsRunOfMarked known words jobs (Some marks) shard old status before after =
+    IsRunOfPlaces known words jobs (places_of_marks marks) shard old status before after
 
 -- a run of what words ask for: what is said of the choice goes to standard error, and then the jobs run
 pub record IsRunAt (known : Option FileContents) (words : RunAsked) (status : ℕ) (before after : Said) : Type 0 where
   pub jobs : List Job
   pub marks : Option (List Bool)
   pub shard : Option Shard
+  pub old : Option (List Row)
   pub notes : List ℕ
-  pub asked : AreRequestedJobs known words jobs marks shard notes
+  pub asked : AreRequestedJobs known words jobs marks shard old notes
   pub middle : Said
   pub told : IsOnlyTold notes before middle
-  pub ran : IsRunOfMarked known words jobs marks shard status middle after
+  pub ran : IsRunOfMarked known words jobs marks shard old status middle after
 
 -- ---- runs that an error ended
 
@@ -138,8 +141,9 @@ pub record IsJunitAloneAt (known : Option FileContents) (words : RunAsked) (befo
   pub jobs : List Job
   pub marks : List Bool
   pub shard : Option Shard
+  pub old : Option (List Row)
   pub notes : List ℕ
-  pub asked : AreRequestedJobs known words jobs (Some marks) shard notes
+  pub asked : AreRequestedJobs known words jobs (Some marks) shard old notes
   pub alone : IsJunitAlone known words jobs (places_of_marks marks) before after
 
 -- a run that an error ended put no file in its place, or JUnit's document alone

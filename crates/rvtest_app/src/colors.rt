@@ -4,6 +4,7 @@ ghost use Rattle.std.specs.Prelude.{◌≡◌};
 ghost use Rattle.rv_command.specs.Texts.{optional_text};
 ghost use Rattle.rvtest_app.specs.Colors.{asked_colors, colors_of_word, file_colors, terminal_colors};
 
+use crate::into_report::run_report_path;
 use crate::outlets::is_stdout;
 use rv_cli::rvtest::Asked;
 use rv_colors::Colors;
@@ -14,7 +15,7 @@ pub(crate) fn asked_colors(asked: &Asked<'_>, is_terminal: bool) -> Colors
 {
     match asked {
         Asked::Run(asked) => file_colors(
-            asked.report,
+            run_report_path(asked),
             asked.junit,
             colors_of_word(asked.color, is_terminal),
         ),

@@ -2,7 +2,7 @@
 
 ghost use Rattle.std.specs.Prelude.{◌≡◌, ◌≤◌, ◌<◌, ◌^◌, IfErr, IfOk, MatchResult, length};
 ghost use Rattle.rvtest_app.specs.Commands.{diff_status};
-ghost use Rattle.rvtest_app.specs.Reports.{IsDiffAt, IsDiffOf, requested_comparison};
+ghost use Rattle.rvtest_app.specs.Reports.{IsDiffAt, IsDiffOf, compared_rows, leaves_out, left_out_count, requested_comparison};
 ghost use Rattle.rvtest_app.specs.CommandStops.{IsDiffAtStop};
 ghost use Rattle.rvtest_app.specs.ToldStops.{IsDiffStop};
 ghost use Rattle.rv_command.specs.declared.stop.Stop.TheVariants.{OutOfMemory};
@@ -11,10 +11,11 @@ ghost use Rattle.rv_diff.specs.Diff.{diff_text, counts_of_differing};
 use crate::findings::Found;
 use rv_cli::rvtest::DiffAsked;
 use rv_command::{DONE, SOME_FAIL, Stop, parse_report, read_file};
-use rv_diff::{Compare, Differing, push_diff};
+use rv_diff::{Compare, Compared, Differing, push_diff, rows_beside};
 use rv_files::Inputs;
+use rv_report::{Extent, SavedReport};
 use rv_rows::Row;
-use std::alloc::Global;
+use std::alloc::{AllocError, Global};
 
 /// In which jobs two reports differ. The status is 1 where they do in any.
 pub(crate) fn diff_reports<D: Inputs>(
@@ -49,9 +50,66 @@ fn diff_report_texts(
     let new_text = new?;
     let new = parse_report(alloc, asked.new, new_text.as_slice())?;
     let compare = requested_comparison(asked.steps, asked.slower);
-    let old_rows = old.rows.as_slice();
-    let new_rows = new.rows.as_slice();
-    diff_rows(alloc, compare, old_rows, new_rows)
+    diff_saved_reports(alloc, compare, old, new)
+}
+
+// The same of the two reports.
+fn diff_saved_reports(
+    alloc: Global,
+    compare: Compare,
+    old: SavedReport,
+    new: SavedReport,
+) -> Result<Found, Stop>
+    requires old { length old.rows < 2 ^ 32 }
+    requires new { length new.rows < 2 ^ 32 }
+    ensures low { IfOk result (λ found. found.status ≤ 1) }
+    ensures text { IfOk result (λ found. found.text.items
+        ≡ diff_text compare (compared_rows new old) (compared_rows old new) (left_out_count old new)) }
+    ensures judged { IfOk result (λ found. found.status
+        ≡ diff_status (counts_of_differing compare (compared_rows new old) (compared_rows old new))) }
+    ensures memory { IfErr result (λ stop. stop ≡ OutOfMemory) }
+{
+    let all = old.rows.as_slice().len() + new.rows.as_slice().len();
+    let (old, new) = compared_rows(alloc, old, new)?;
+    let compared = Compared {
+        old: old.as_slice(),
+        new: new.as_slice(),
+        left_out: all - old.len() - new.len(),
+    };
+    diff_rows(alloc, compare, compared)
+}
+
+// The rows that are compared: of a whole report beside that of a choice those of the jobs that this has.
+fn compared_rows(
+    alloc: Global,
+    old: SavedReport,
+    new: SavedReport,
+) -> Result<(Vec<Row>, Vec<Row>), AllocError>
+    ensures old { IfOk result (λ rows. rows.0.items ≡ compared_rows new old) }
+    ensures new { IfOk result (λ rows. rows.1.items ≡ compared_rows old new) }
+{
+    let (is_old_part, is_new_part) = (
+        leaves_out(&old.extent, &new.extent),
+        leaves_out(&new.extent, &old.extent),
+    );
+    let (mut old, mut new) = (old.rows.into_vec(), new.rows.into_vec());
+    if is_new_part {
+        old = rows_beside(alloc, old, new.as_slice())?;
+    }
+    if is_old_part {
+        new = rows_beside(alloc, new, old.as_slice())?;
+    }
+    Ok((old, new))
+}
+
+// Whether the report of a choice stands beside a whole one.
+fn leaves_out(part: &Extent, other: &Extent) -> bool
+    ensures { result ≡ leaves_out part.now other.now }
+{
+    match (part, other) {
+        (Extent::Choice(_), Extent::Whole) => true,
+        _ => false,
+    }
 }
 
 // What `--steps` or `--slower` asks for.
@@ -65,18 +123,19 @@ fn requested_comparison(steps: bool, slower: Option<u32>) -> Compare
     }
 }
 
-// The same of the rows of the two.
-fn diff_rows(alloc: Global, compare: Compare, old: &[Row], new: &[Row]) -> Result<Found, Stop>
-    requires old { length old.now < 2 ^ 32 }
-    requires new { length new.now < 2 ^ 32 }
+// The same of the rows that are compared.
+fn diff_rows(alloc: Global, compare: Compare, compared: Compared<'_>) -> Result<Found, Stop>
+    requires old { length compared.entry.old.now < 2 ^ 32 }
+    requires new { length compared.entry.new.now < 2 ^ 32 }
     ensures low { IfOk result (λ found. found.status ≤ 1) }
-    ensures text { IfOk result (λ found. found.text.items ≡ diff_text compare old.now new.now) }
-    ensures judged { IfOk result
-        (λ found. found.status ≡ diff_status (counts_of_differing compare old.now new.now)) }
+    ensures text { IfOk result (λ found. found.text.items
+        ≡ diff_text compare compared.entry.old.now compared.entry.new.now compared.entry.left_out) }
+    ensures judged { IfOk result (λ found. found.status
+        ≡ diff_status (counts_of_differing compare compared.entry.old.now compared.entry.new.now)) }
     ensures memory { IfErr result (λ stop. stop ≡ OutOfMemory) }
 {
     let mut text = Vec::new(alloc);
-    let counts = push_diff(alloc, &mut text, compare, old, new)?;
+    let counts = push_diff(alloc, &mut text, compare, compared)?;
     Ok(Found {
         text,
         status: diff_status(counts),

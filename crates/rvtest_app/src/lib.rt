@@ -21,6 +21,7 @@ mod findings;
 mod help;
 mod help_topic;
 mod host;
+mod into_report;
 mod junit_class;
 mod law;
 mod list;
@@ -43,6 +44,7 @@ mod run_output;
 mod show;
 mod terminals;
 mod whole_files;
+mod whole_report;
 
 pub use destinations::Destinations;
 pub use host::Host;

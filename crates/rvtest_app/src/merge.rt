@@ -9,6 +9,7 @@ ghost use Rattle.rvtest_app.specs.Commands.{failure_rule};
 ghost use Rattle.rv_report.specs.Report.{report_text};
 ghost use Rattle.rvtest_app.specs.MergeRefusals.{ArePartsRefused, IsMergeErrorStop, flaw_message, other_run_message};
 ghost use Rattle.rvtest_app.specs.MergeRefusals.{part_path, two_parts_message};
+ghost use Rattle.rvtest_app.specs.MergeStops.{ArePartsUnread, IsMergeStop, IsMergedPutStop};
 ghost use Rattle.rvtest_app.specs.Merges.{AreTextsAt, IsMergedAt, merged_report_path, merged_suite};
 ghost use Rattle.rvtest_app.specs.Puts.{WentOut};
 ghost use Rattle.rvtest_app.specs.JunitTexts.{failures_junit};
@@ -51,6 +52,7 @@ pub(crate) fn merge_reports<D: Inputs, F: Outputs + Drop, O: Sink + Drop, E: Sin
     ensures low { IfOk result (λ status. status ≤ 1) }
     ensures merged { IfOk result (λ status. IsMergedAt (D.contents inputs.now) asked.now status
         (said F.placed O.taken E.taken E.failed to.old) (said F.placed O.taken E.taken E.failed to.new)) }
+    ensures stopped { IfErr result (IsMergeStop (D.contents inputs.now) asked.now) }
 {
     let texts = read_part_texts(inputs, alloc, asked)?;
     let merged = merge_part_texts(alloc, asked, texts.as_slice())?;
@@ -117,8 +119,9 @@ fn read_part_texts<D: Inputs>(
     alloc: Global,
     asked: &MergeAsked<'_>,
 ) -> Result<Vec<Vec<u8>>, Stop>
-    ensures { IfOk result (λ texts. AreTextsAt (D.contents inputs.now)
+    ensures read { IfOk result (λ texts. AreTextsAt (D.contents inputs.now)
         asked.now.parts.items (map (λ text. text.items) texts.items)) }
+    ensures unread { IfErr result (ArePartsUnread (D.contents inputs.now) asked.now.parts.items) }
 {
     let mut texts = Vec::new(alloc);
     for path in &asked.parts {
@@ -153,12 +156,13 @@ fn put_merged<F: Outputs + Drop, O: Sink + Drop, E: Sink + Drop>(
     merged: Merged,
     to: &mut Destinations<F, O, E>,
 ) -> Result<(), Stop>
-    ensures { OnOk result (WentOut
+    ensures put { OnOk result (WentOut
         (merged_report_path (optional_text asked.now.report) (optional_text asked.now.junit))
         (optional_text asked.now.junit) merged.line.items (report_text merged.rows)
         (failures_junit (merged_suite (optional_text asked.now.suite) (optional_text asked.now.report))
         (failure_rule asked.now.lenient) merged.rows)
         (said F.placed O.taken E.taken E.failed to.old) (said F.placed O.taken E.taken E.failed to.new)) }
+    ensures stopped { IfErr result (IsMergedPutStop asked.now) }
 {
     let Merged { rows, line, .. } = merged;
     let outlets = open_outlets(&mut to.files, alloc, merged_report_path(asked), asked.junit)?;

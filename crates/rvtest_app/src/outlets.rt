@@ -1,10 +1,12 @@
 //! Where texts of rows go: a report, and JUnit's XML.
 
-ghost use Rattle.std.specs.Prelude.{◌≡◌, [], Some, false, IfOk, IsErr, IsOk, MatchResult, OnErr, OnOk};
+ghost use Rattle.std.specs.Prelude.{◌≡◌, [], Some, false, IfErr, IfOk, IsErr, IsOk, IsSomeAnd, MatchResult, OnErr, OnOk};
 ghost use Rattle.std.specs.Io.KnownBytes.{Appends};
 ghost use Rattle.rv_base.specs.Sinks.{AppendsBeginning};
 ghost use Rattle.rv_command.specs.Texts.{optional_text};
-ghost use Rattle.rvtest_app.specs.Outlets.{HasTaken, IsPutInto, has_no_failure, is_out, is_stdout, stdout_part, uses_stdout};
+ghost use Rattle.rvtest_app.specs.Outlets.{HasTaken, IsPutInto, file_path_at, has_no_failure, is_out, is_stdout};
+ghost use Rattle.rvtest_app.specs.Outlets.{outlet_path, stdout_part, uses_stdout};
+ghost use Rattle.rvtest_app.specs.PutStops.{IsEitherFileStop, IsTextStop, IsUnopenedStop, IsWriteErrorStop, stop_of_write_error};
 ghost use Rattle.rv_junit.specs.Junit.{junit_text};
 ghost use Rattle.rv_stream.specs.Streams.{row_text_list};
 ghost use Rattle.rvtest_app.specs.ReportTexts.{report_text_of};
@@ -54,6 +56,8 @@ pub(crate) fn open_outlets<'a, F: Outputs>(
         (F.placed files.old) (optional_text junit.entry) [] outlets.junit) }
     ensures unfailed { IfOk result (λ outlets. has_no_failure F.File.failed outlets.report
         × has_no_failure F.File.failed outlets.junit) }
+    ensures stopped { IfErr result (IsEitherFileStop (file_path_at (optional_text report.entry))
+        (file_path_at (optional_text junit.entry))) }
 {
     let report = open_outlet(files, alloc, report)?;
     match open_outlet(files, alloc, junit) {
@@ -74,6 +78,8 @@ fn open_outlet<'a, F: Outputs>(
     ensures same { F.placed files.new ≡ F.placed files.old }
     ensures open { IfOk result (HasTaken F.place_path F.File.taken F.File.failed
         (F.placed files.old) (optional_text path.entry) []) }
+    ensures stopped { IfErr result (λ why. IsSomeAnd (file_path_at (optional_text path.entry))
+        (λ path. IsUnopenedStop path why)) }
 {
     match path {
         None => Ok(Outlet::Nowhere),
@@ -98,6 +104,7 @@ fn open_file<'a, F: Outputs>(
     ensures same { F.placed files.new ≡ F.placed files.old }
     ensures open { IfOk result (HasTaken F.place_path F.File.taken F.File.failed
         (F.placed files.old) (Some path.now) []) }
+    ensures stopped { IfErr result (IsUnopenedStop path.now) }
 {
     match files.create(alloc, path) {
         Ok((place, sink)) => Ok(Outlet::File(OpenFile { path, place, sink })),
@@ -135,6 +142,8 @@ impl<'a, P: Drop, W: Sink + Drop> Outlet<'a, P, W> {
         ensures counted { OnOk result (O.failed out.new ≡ O.failed out.old) }
         ensures part { OnErr result (AppendsBeginning (O.taken out.old) (O.taken out.new)
             (stdout_part self.old (report_text_of report.entry))) }
+        ensures path { outlet_path self.new ≡ outlet_path self.old }
+        ensures stopped { IfErr result (IsTextStop (outlet_path self.old)) }
     {
         match self {
             Outlet::Nowhere => Ok(()),
@@ -163,6 +172,8 @@ impl<'a, P: Drop, W: Sink + Drop> Outlet<'a, P, W> {
             (junit_text suite.now.name.now suite.now.rule
             (row_text_list (T.line telling.now) rows.now.places.now rows.now.rows.now) rows.now.rows.now))) }
         ensures counted { OnOk result (O.failed out.new ≡ O.failed out.old) }
+        ensures path { outlet_path self.new ≡ outlet_path self.old }
+        ensures stopped { IfErr result (IsTextStop (outlet_path self.old)) }
     {
         match self {
             Outlet::Nowhere => Ok(()),
@@ -177,7 +188,8 @@ impl<'a, P: Drop, W: Sink + Drop> Outlet<'a, P, W> {
 
 // What a text that was written to standard output came to.
 fn stdout_result(written: Result<(), WriteError>) -> Result<(), Stop>
-    ensures { MatchResult written (λ _. IsOk result) (λ _. IsErr result) }
+    ensures went { MatchResult written (λ _. IsOk result) (λ _. IsErr result) }
+    ensures stopped { IfErr result (λ why. MatchResult written (λ _. ⊥) (λ error. why ≡ stop_of_write_error error)) }
 {
     match written {
         Ok(()) => Ok(()),
@@ -188,7 +200,9 @@ fn stdout_result(written: Result<(), WriteError>) -> Result<(), Stop>
 
 // What a text that was written to a file came to.
 fn file_result(alloc: Global, path: &str, written: Result<(), WriteError>) -> Result<(), Stop>
-    ensures { MatchResult written (λ _. IsOk result) (λ _. IsErr result) }
+    ensures went { MatchResult written (λ _. IsOk result) (λ _. IsErr result) }
+    ensures stopped { IfErr result
+        (λ why. MatchResult written (λ _. ⊥) (λ error. IsWriteErrorStop path.now error why)) }
 {
     match written {
         Ok(()) => Ok(()),

@@ -1,7 +1,9 @@
 //! Files that are handed to the disk, and then put in their places.
 
-ghost use Rattle.std.specs.Prelude.{◌≡◌, IfOk, OnErr, OnOk};
-ghost use Rattle.rvtest_app.specs.Outlets.{AreFilesPlaced, AreFilesPlacedInPart, both_files, files_of, has_no_failure, synced_files};
+ghost use Rattle.std.specs.Prelude.{◌≡◌, ◌⊎◌, IfErr, IfOk, OnErr, OnOk};
+ghost use Rattle.rvtest_app.specs.Outlets.{AreFilesPlaced, AreFilesPlacedInPart, both_files, files_of, has_no_failure};
+ghost use Rattle.rvtest_app.specs.Outlets.{outlet_path, synced_files, synced_path};
+ghost use Rattle.rvtest_app.specs.PutStops.{IsUnplacedStop};
 
 use crate::outlets::{OpenFile, Outlet, Outlets, abandon_outlet};
 use rv_command::{Stop, file_error_stop};
@@ -37,6 +39,8 @@ pub(crate) fn place_outlets<F: Outputs>(
         (files_of F.place_path F.File.taken outlets.entry.report))) }
     ensures part { OnErr result (AreFilesPlacedInPart (F.placed files.old) (F.placed files.new)
         (files_of F.place_path F.File.taken outlets.entry.junit)) }
+    ensures stopped { IfErr result (λ why. IsUnplacedStop (outlet_path outlets.entry.report) why
+        ⊎ IsUnplacedStop (outlet_path outlets.entry.junit) why) }
 {
     let SyncedFiles { junit, report } = sync_outlets(files, alloc, outlets)?;
     place_both(files, alloc, junit, report)
@@ -55,6 +59,10 @@ fn sync_outlets<'a, F: Outputs>(
         ≡ files_of F.place_path F.File.taken outlets.entry.junit) }
     ensures report { IfOk result (λ synced. synced_files F.place_path F.synced_bytes synced.report
         ≡ files_of F.place_path F.File.taken outlets.entry.report) }
+    ensures junit_path { IfOk result (λ synced. synced_path synced.junit ≡ outlet_path outlets.entry.junit) }
+    ensures report_path { IfOk result (λ synced. synced_path synced.report ≡ outlet_path outlets.entry.report) }
+    ensures stopped { IfErr result (λ why. IsUnplacedStop (outlet_path outlets.entry.report) why
+        ⊎ IsUnplacedStop (outlet_path outlets.entry.junit) why) }
 {
     let Outlets { report, junit } = outlets;
     let junit = match sync_outlet(files, alloc, junit) {
@@ -82,6 +90,8 @@ fn sync_outlet<'a, F: Outputs>(
     ensures same { F.placed files.new ≡ F.placed files.old }
     ensures synced { IfOk result (λ synced. synced_files F.place_path F.synced_bytes synced
         ≡ files_of F.place_path F.File.taken outlet.entry) }
+    ensures path { IfOk result (λ synced. synced_path synced ≡ outlet_path outlet.entry) }
+    ensures stopped { IfErr result (IsUnplacedStop (outlet_path outlet.entry)) }
 {
     let Outlet::File(file) = outlet else {
         return Ok(None);
@@ -115,6 +125,8 @@ fn place_both<F: Outputs>(
         (synced_files F.place_path F.synced_bytes second.entry))) }
     ensures part { OnErr result (AreFilesPlacedInPart (F.placed files.old) (F.placed files.new)
         (synced_files F.place_path F.synced_bytes first.entry)) }
+    ensures stopped { IfErr result
+        (λ why. IsUnplacedStop (synced_path second.entry) why ⊎ IsUnplacedStop (synced_path first.entry) why) }
 {
     match place_synced(files, alloc, first) {
         Ok(()) => place_synced(files, alloc, second),
@@ -133,6 +145,7 @@ fn place_synced<F: Outputs>(
     ensures placed { OnOk result (AreFilesPlaced (F.placed files.old) (F.placed files.new)
         (synced_files F.place_path F.synced_bytes synced.entry)) }
     ensures same { OnErr result (F.placed files.new ≡ F.placed files.old) }
+    ensures stopped { IfErr result (IsUnplacedStop (synced_path synced.entry)) }
 {
     let Some(synced) = synced else {
         return Ok(());

@@ -7,10 +7,10 @@ ghost use Rattle.rv_fleet.specs.Choices.{AreJobPlaces};
 ghost use Rattle.rv_job_text.specs.Telling.{telling_of};
 ghost use Rattle.rvtest_app.specs.FailureLines.{failure_lines};
 
+use crate::into_report::ReportFrame;
 use rv_job_text::RowTelling;
 use rv_jobs::JobList;
 use rv_kept_lines::{KeptLines, RowLines};
-use rv_report::Shard;
 use std::sync::Mutex;
 
 /// The jobs of a list, with a mark for each that words ask for.
@@ -19,10 +19,11 @@ pub(crate) struct RequestedJobs {
     pub(crate) jobs: JobList,
     /// None where no job is to run.
     pub(crate) marks: Option<Vec<bool>>,
-    pub(crate) shard: Option<Shard>,
+    pub(crate) frame: ReportFrame,
     /// What is said of the choice.
     pub(crate) notes: Vec<u8>,
     ghost counted: { ForSome marks (λ marks. length marks.items ≡ length jobs) },
+    ghost whole: { ForSome frame.old (λ rows. length rows ≡ length jobs) },
 }
 
 /// The jobs of a list, with a mark for each that is to run.
@@ -30,8 +31,9 @@ pub(crate) struct RequestedJobs {
 pub(crate) struct MarkedJobs {
     pub(crate) jobs: JobList,
     pub(crate) marks: Vec<bool>,
-    pub(crate) shard: Option<Shard>,
+    pub(crate) frame: ReportFrame,
     ghost counted: { length marks.items ≡ length jobs },
+    ghost whole: { ForSome frame.old (λ rows. length rows ≡ length jobs) },
 }
 
 /// The jobs at some places of a plan, how they are told, and the lines that are kept of those that failed.

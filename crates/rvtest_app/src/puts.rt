@@ -1,10 +1,11 @@
 //! What a command puts: what it shows, and the two files.
 
-ghost use Rattle.std.specs.Prelude.{◌≡◌, ◌++◌, [], ℕ, List, Option, OnErr, OnOk, Some};
+ghost use Rattle.std.specs.Prelude.{◌≡◌, ◌++◌, [], ℕ, List, Option, IfErr, OnErr, OnOk, Some};
 ghost use Rattle.std.specs.Io.KnownBytes.{Appends};
 ghost use Rattle.rvtest_app.specs.Outlets.{AreFilesPlaced, AreFilesPlacedInPart, HasTaken, IsPutInto, file_at, has_no_failure};
-ghost use Rattle.rvtest_app.specs.Outlets.{stdout_at, stdout_part};
+ghost use Rattle.rvtest_app.specs.Outlets.{outlet_path, stdout_at, stdout_part};
 ghost use Rattle.rvtest_app.specs.Puts.{IsShown, junit_of};
+ghost use Rattle.rvtest_app.specs.PutStops.{IsPutStop};
 ghost use Rattle.rvtest_app.specs.ReportTexts.{report_text_of};
 ghost use Rattle.rvtest_app.specs.Said.{said};
 
@@ -27,6 +28,7 @@ pub(crate) fn put_shown<F: Outputs + Drop, O: Sink + Drop, E: Sink + Drop>(
     ensures files { to.new.files ≡ to.old.files }
     ensures shown { OnOk result (IsShown is_beside text.now
         (said F.placed O.taken E.taken E.failed to.old) (said F.placed O.taken E.taken E.failed to.new)) }
+    ensures stopped { IfErr result (λ why. why ≡ Stop.WriteFailed) }
 {
     if is_beside {
         put_message(&mut to.errors, text);
@@ -60,6 +62,8 @@ pub(crate) fn put_files<F: Outputs + Drop, O: Sink + Drop, E: Sink + Drop, T: Te
         → HasTaken F.place_path F.File.taken F.File.failed (F.placed to.old.files) junit_path [] outlets.entry.junit
         → OnErr result (AreFilesPlacedInPart (F.placed to.old.files) (F.placed to.new.files)
         (Some (file_at junit_path (junit_of T.line texts.entry)))) }
+    ensures stopped { IfErr result
+        (IsPutStop (outlet_path outlets.entry.report) (outlet_path outlets.entry.junit)) }
 {
     let mut outlets = outlets;
     match put_texts(alloc, &mut to.out, &mut outlets, texts) {
@@ -84,6 +88,10 @@ fn put_texts<P: Drop, W: Sink + Drop, O: Sink, T: Telling>(
     ensures out { OnOk result (Appends (O.taken out.old) (O.taken out.new)
         (stdout_part outlets.old.junit (junit_of T.line texts.entry)
         ++ stdout_part outlets.old.report (report_text_of texts.entry.report))) }
+    ensures junit_path { outlet_path outlets.new.junit ≡ outlet_path outlets.old.junit }
+    ensures report_path { outlet_path outlets.new.report ≡ outlet_path outlets.old.report }
+    ensures stopped { IfErr result
+        (IsPutStop (outlet_path outlets.old.report) (outlet_path outlets.old.junit)) }
 {
     let FileTexts {
         suite,

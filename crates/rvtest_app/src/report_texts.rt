@@ -1,12 +1,15 @@
-//! The texts of reports: of all rows of a list, or of those of chosen jobs.
+//! The texts of reports: of all rows of a list, or of those of chosen jobs, which may be put into a whole report.
 
-ghost use Rattle.std.specs.Prelude.{◌≡◌, IfErr, OnErr, OnOk};
+ghost use Rattle.std.specs.Prelude.{◌≡◌, IfErr, OnErr, OnOk, length};
+ghost use Rattle.std.specs.Option.{ForSome};
 ghost use Rattle.std.specs.Io.KnownBytes.{Appends};
 ghost use Rattle.rv_lists.specs.Counts.{HasRisen};
 ghost use Rattle.rv_lists.specs.Sinks.{AppendsBeginning};
+ghost use Rattle.rvtest_app.specs.IntoReports.{rows_put, run_report_text};
 ghost use Rattle.rvtest_app.specs.ReportTexts.{report_rows, report_text_of};
 
 use crate::chosen_rows::ChosenRows;
+use crate::into_report::{IntoRows, ReportFrame};
 use crate::rows_report::write_chosen_report;
 use rv_fleet::{Report, Rows, write_report};
 use rv_report::Shard;
@@ -20,15 +23,19 @@ pub(crate) enum ReportText<'a> {
     Whole(Rows),
     /// The rows of chosen jobs, those of a shard where they were chosen by one.
     Chosen(ChosenRows<'a>, Option<Shard>),
+    /// The rows of chosen jobs, among those of a whole report.
+    Into(IntoRows<'a>),
 }
 
 impl<'a> ReportText<'a> {
+    /// The rows that are new.
     pub(crate) fn rows(&self) -> &[Row]
         ensures { result.now ≡ report_rows self.now }
     {
         match self {
             ReportText::Whole(rows) => rows.as_slice(),
             ReportText::Chosen(chosen, _) => chosen.rows.as_slice(),
+            ReportText::Into(into) => into.chosen.rows.as_slice(),
         }
     }
 
@@ -45,6 +52,24 @@ impl<'a> ReportText<'a> {
         match self {
             ReportText::Whole(rows) => write_report(alloc, &Report { rows }, out),
             ReportText::Chosen(chosen, shard) => write_chosen_report(alloc, chosen, shard, out),
+            ReportText::Into(into) => {
+                let rows = into.into_whole_rows();
+                write_report(alloc, &Report { rows }, out)
+            }
         }
+    }
+}
+
+/// The report of rows: the whole one into which they are put, if there is one, else theirs alone.
+pub(crate) fn framed_report(chosen: ChosenRows<'_>, frame: ReportFrame) -> ReportText<'_>
+    requires { ForSome frame.old (λ rows. length rows ≡ chosen.entry.jobs) }
+    ensures text { report_text_of result
+        ≡ run_report_text frame.old chosen.entry.jobs chosen.entry.places.now frame.shard chosen.entry.rows }
+    ensures rows { report_rows result ≡ chosen.entry.rows }
+{
+    let ReportFrame { shard, old } = frame;
+    match old {
+        Some(old) => ReportText::Into(IntoRows { chosen, old }),
+        None => ReportText::Chosen(chosen, shard),
     }
 }

@@ -1,10 +1,11 @@
 //! The command `run`.
 
-ghost use Rattle.std.specs.Prelude.{◌≡◌, ◌≤◌, ◌<◌, ◌++◌, [], ℕ, List, None, Option, Some, IfOk, OnErr, OnOk, false, length, option_map};
+ghost use Rattle.std.specs.Prelude.{◌≡◌, ◌≤◌, ◌<◌, ◌++◌, [], ℕ, List, None, Option, Some, IfErr, IfOk, OnErr, OnOk, false, length, option_map};
 ghost use Rattle.std.specs.Io.KnownBytes.{Appends};
 ghost use Rattle.std.specs.List.{All};
 ghost use Rattle.std.specs.List.Sorted.{IsStrictlyIncreasing};
 ghost use Rattle.std.specs.Option.{ForSome};
+ghost use Rattle.rv_choice.specs.ChoiceStops.{IsChoiceStop};
 ghost use Rattle.rv_choice.specs.Chosen.{IsChoice};
 ghost use Rattle.rv_command.specs.Texts.{optional_text};
 ghost use Rattle.rv_files.specs.UnreadPaths.{contents_below};
@@ -18,9 +19,13 @@ ghost use Rattle.rv_rows.specs.Rows.{rows_at};
 ghost use Rattle.rv_rows.specs.declared_row.Row.{Row as ARow};
 ghost use Rattle.rvtest_app.specs.Commands.{failure_rule, requested_verbosity};
 ghost use Rattle.rvtest_app.specs.FailureLines.{failure_lines};
-ghost use Rattle.rvtest_app.specs.Outlets.{AreFilesPlaced, AreFilesPlacedInPart, HasTaken, file_at, has_no_failure, stdout_at};
+ghost use Rattle.rvtest_app.specs.IntoReports.{AreOldRows, run_report_path, run_report_text};
+ghost use Rattle.rvtest_app.specs.IntoStops.{IsIntoStop};
+ghost use Rattle.rvtest_app.specs.Outlets.{AreFilesPlaced, AreFilesPlacedInPart, HasTaken, file_at, has_no_failure, outlet_path, stdout_at};
 ghost use Rattle.rvtest_app.specs.Puts.{IsShown, WentOut};
-ghost use Rattle.rvtest_app.specs.RunOutput.{chosen_report_text, rows_status, run_output_text};
+ghost use Rattle.rvtest_app.specs.PutStops.{IsPutStop};
+ghost use Rattle.rvtest_app.specs.RunOutput.{rows_status, run_output_text};
+ghost use Rattle.rvtest_app.specs.RunStops.{IsRunPutStop, IsRunStop, IsStreamStop, IsUnrequestedStop};
 ghost use Rattle.rvtest_app.specs.Runs.{AreRequestedJobs, IsRunAt, IsRunOfMarked, IsUndoneRunAt, IsUndoneRunOfPlaces};
 ghost use Rattle.rvtest_app.specs.Runs.{places_of_marks, run_junit};
 ghost use Rattle.rvtest_app.specs.Said.{said};
@@ -30,15 +35,17 @@ use crate::crew::requested_crew;
 use crate::destinations::Destinations;
 use crate::file_texts::FileTexts;
 use crate::host::Host;
+use crate::into_report::{ReportFrame, run_report_path};
 use crate::junit_class::suite_name;
 use crate::missing_images::missing_images_note;
 use crate::outlets::{Outlets, abandon_outlets, open_outlets};
 use crate::planned_run::{MarkedJobs, PlannedRun, RequestedJobs};
 use crate::puts::put_files;
-use crate::report_texts::ReportText;
+use crate::report_texts::framed_report;
 use crate::rules::{failure_rule, rows_status};
 use crate::run_output::{put_run_output, stop_of_stream};
 use crate::terminals::Terminals;
+use crate::whole_report::read_whole_report;
 use rv_choice::{Choice, Chooser, requested_shard};
 use rv_cli::rvtest::{ChoosingCommand, RunAsked};
 use rv_command::{DONE, Stop, parse_list, put_message, read_list_text};
@@ -46,7 +53,7 @@ use rv_expect::Rule;
 use rv_files::{Inputs, NotingStore, Outputs};
 use rv_fleet::{Batch, Rows};
 use rv_job_text::{RowTelling, Verbosity};
-use rv_jobs::{JobList, Plan, Store, gather_places, marked_places};
+use rv_jobs::{Job, JobList, Plan, Store, gather_places, marked_places};
 use rv_junit::Suite;
 use rv_kept_lines::{KeepingTelling, KeptLines, RecallingTelling, RowLines};
 use rv_merge::shard_marks;
@@ -88,6 +95,7 @@ pub(crate) fn run_requested_jobs<
     ensures undone { OnErr result.1 (IsUndoneRunAt (D.contents host.now.inputs.now) asked.now
         (F.placed to.files) (F.placed result.0.files)) }
     ensures low { IfOk result.1 (λ status. status ≤ 1) }
+    ensures stopped { IfErr result.1 (IsRunStop (D.contents host.now.inputs.now) asked.now) }
 {
     let run = ListRun {
         host,
@@ -98,7 +106,7 @@ pub(crate) fn run_requested_jobs<
     let RequestedJobs {
         jobs,
         marks,
-        shard,
+        frame,
         notes,
         ..
     } = match run.requested_jobs() {
@@ -107,7 +115,7 @@ pub(crate) fn run_requested_jobs<
     };
     put_message(&mut to.errors, notes.as_slice());
     match marks {
-        Some(marks) => run.run_marked_jobs(MarkedJobs { jobs, marks, shard }, to, terminals),
+        Some(marks) => run.run_marked_jobs(MarkedJobs { jobs, marks, frame }, to, terminals),
         None => (to, Ok(DONE)),
     }
 }
@@ -116,39 +124,71 @@ impl<'x, R, D: Inputs> ListRun<'x, R, D> {
     // The jobs of the list, with marks for those that are to run.
     fn requested_jobs(&self) -> Result<RequestedJobs, Stop>
         requires { self.now.rule ≡ failure_rule self.now.asked.now.lenient }
-        ensures { IfOk result (λ requested. AreRequestedJobs (D.contents self.now.host.now.inputs.now)
+        ensures asked { IfOk result (λ requested. AreRequestedJobs (D.contents self.now.host.now.inputs.now)
             self.now.asked.now requested.jobs (option_map (λ marks. marks.items) requested.marks)
-            requested.shard requested.notes.items) }
+            requested.frame.shard requested.frame.old requested.notes.items) }
+        ensures stopped { IfErr result
+            (IsUnrequestedStop (D.contents self.now.host.now.inputs.now) self.now.asked.now) }
     {
         let (alloc, asked) = (self.host.alloc, self.asked);
         let text = read_list_text(self.host.inputs, alloc, asked.list)?;
         let jobs = parse_list(alloc, asked.list, text.as_slice())?;
+        let old = self.old_rows(jobs.as_slice())?;
         match requested_shard(alloc, asked, text.as_slice(), jobs.as_slice().len())? {
-            Some(shard) => self.jobs_of_shard(jobs, shard),
-            None => self.jobs_of_choice(jobs),
+            Some(shard) => self.jobs_of_shard(jobs, shard, old),
+            None => self.jobs_of_choice(jobs, old),
         }
     }
 
-    fn jobs_of_shard(&self, jobs: JobList, shard: Shard) -> Result<RequestedJobs, Stop>
-        requires { (0 < shard.number) × (shard.number ≤ shard.shards) }
-        ensures { IfOk result (λ requested. (requested.jobs ≡ jobs) × (requested.shard ≡ Some shard)
+    // The rows of the whole report of the jobs into which those of the run are put, if one is named.
+    fn old_rows(&self, jobs: &[Job]) -> Result<Option<Rows>, Stop>
+        ensures old { IfOk result (AreOldRows (D.contents self.now.host.now.inputs.now) self.now.asked.now jobs.now) }
+        ensures counted { IfOk result (λ old. ForSome old (λ rows. length rows ≡ length jobs.now)) }
+        ensures stopped { IfErr result (IsIntoStop (D.contents self.now.host.now.inputs.now) self.now.asked.now jobs.now) }
+    {
+        let (inputs, alloc) = (self.host.inputs, self.host.alloc);
+        let Some(path) = self.asked.into else {
+            return Ok(None);
+        };
+        let rows = read_whole_report(inputs, alloc, path, self.asked.list, jobs)?;
+        Ok(Some(rows))
+    }
+
+    fn jobs_of_shard(
+        &self,
+        jobs: JobList,
+        shard: Shard,
+        old: Option<Rows>,
+    ) -> Result<RequestedJobs, Stop>
+        requires shard { (0 < shard.number) × (shard.number ≤ shard.shards) }
+        requires counted { ForSome old (λ rows. length rows ≡ length jobs) }
+        ensures old { IfOk result (λ requested. requested.frame.old ≡ old) }
+        ensures marked { IfOk result (λ requested. (requested.jobs ≡ jobs) × (requested.frame.shard ≡ Some shard)
             × (option_map (λ marks. marks.items) requested.marks
             ≡ Some (shard_marks shard.shards shard.number (length jobs))) × (requested.notes.items ≡ [])) }
+        ensures memory { IfErr result (λ stop. stop ≡ Stop.OutOfMemory) }
     {
         let alloc = self.host.alloc;
         let marks = shard_marks(alloc, jobs.as_slice().len(), shard.number, shard.shards)?;
         Ok(RequestedJobs {
             jobs,
             marks: Some(marks),
-            shard: Some(shard),
+            frame: ReportFrame {
+                shard: Some(shard),
+                old,
+            },
             notes: Vec::new(alloc),
         })
     }
 
-    fn jobs_of_choice(&self, jobs: JobList) -> Result<RequestedJobs, Stop>
-        ensures { IfOk result (λ requested. (requested.jobs ≡ jobs) × (requested.shard ≡ None)
+    fn jobs_of_choice(&self, jobs: JobList, old: Option<Rows>) -> Result<RequestedJobs, Stop>
+        requires { ForSome old (λ rows. length rows ≡ length jobs) }
+        ensures old { IfOk result (λ requested. requested.frame.old ≡ old) }
+        ensures chosen { IfOk result (λ requested. (requested.jobs ≡ jobs) × (requested.frame.shard ≡ None)
             × IsChoice (D.contents self.now.host.now.inputs.now) self.now.asked.now self.now.rule jobs
             (option_map (λ marks. marks.items) requested.marks) requested.notes.items) }
+        ensures stopped { IfErr result
+            (IsChoiceStop (D.contents self.now.host.now.inputs.now) self.now.asked.now self.now.rule jobs) }
     {
         let chooser = Chooser {
             inputs: self.host.inputs,
@@ -161,7 +201,7 @@ impl<'x, R, D: Inputs> ListRun<'x, R, D> {
         Ok(RequestedJobs {
             jobs,
             marks,
-            shard: None,
+            frame: ReportFrame { shard: None, old },
             notes,
         })
     }
@@ -182,15 +222,16 @@ impl<'x, R: Threads + Wait + Sync + Clock, D: Inputs> ListRun<'x, R, D> {
     ) -> (Destinations<F, O, E>, Result<u8, Stop>)
         requires { self.now.rule ≡ failure_rule self.now.asked.now.lenient }
         ensures run { IfOk result.1 (λ status. IsRunOfMarked (D.contents self.now.host.now.inputs.now) self.now.asked.now
-            marked.jobs (Some marked.marks.items) marked.shard status
+            marked.jobs (Some marked.marks.items) marked.frame.shard marked.frame.old status
             (said F.placed O.taken E.taken E.failed to) (said F.placed O.taken E.taken E.failed result.0)) }
         ensures undone { OnErr result.1 (IsUndoneRunOfPlaces (D.contents self.now.host.now.inputs.now) self.now.asked.now
             marked.jobs (places_of_marks marked.marks.items) (F.placed to.files) (F.placed result.0.files)) }
+        ensures stopped { IfErr result.1 (IsRunPutStop self.now.asked.now) }
     {
         let MarkedJobs {
             jobs,
             marks,
-            shard,
+            frame,
             ..
         } = marked;
         let (alloc, asked) = (self.host.alloc, self.asked);
@@ -222,7 +263,7 @@ impl<'x, R: Threads + Wait + Sync + Clock, D: Inputs> ListRun<'x, R, D> {
         self.run_planned_jobs::<Brand, F, O, E, P>(
             &telling,
             places.as_slice(),
-            shard,
+            frame,
             to,
             terminals,
         )
@@ -239,20 +280,21 @@ impl<'x, R: Threads + Wait + Sync + Clock, D: Inputs> ListRun<'x, R, D> {
         &self,
         telling: &RowTelling<'_>,
         places: &[usize],
-        shard: Option<Shard>,
+        frame: ReportFrame,
         to: Destinations<F, O, E>,
         terminals: Terminals<P>,
     ) -> (Destinations<F, O, E>, Result<u8, Stop>)
         requires within { AreJobPlaces telling.now.plan.now places.now }
         requires rising { IsStrictlyIncreasing places.now }
         requires lines { J.lines ≡ failure_lines (telling_of telling.now) }
+        requires whole { ForSome frame.old (λ rows. length rows ≡ length telling.now.plan.now.jobs) }
         ensures status { IfOk result.1 (λ status. status ≡ rows_status telling.now.rule
             (rows_at telling.now.plan.now places.now)) }
-        ensures said { OnOk result.1 (WentOut (optional_text self.now.asked.now.report)
+        ensures said { OnOk result.1 (WentOut (run_report_path self.now.asked.now)
             (optional_text self.now.asked.now.junit)
             (run_output_text (row_lines_at (telling_of telling.now)) telling.now.rule places.now
             (rows_at telling.now.plan.now places.now))
-            (chosen_report_text (length telling.now.plan.now.jobs) places.now shard
+            (run_report_text frame.old (length telling.now.plan.now.jobs) places.now frame.shard
             (rows_at telling.now.plan.now places.now))
             (run_junit self.now.asked.now (telling_of telling.now) places.now
             (rows_at telling.now.plan.now places.now))
@@ -260,10 +302,12 @@ impl<'x, R: Threads + Wait + Sync + Clock, D: Inputs> ListRun<'x, R, D> {
         ensures part { OnErr result.1 (AreFilesPlacedInPart (F.placed to.files) (F.placed result.0.files)
             (Some (file_at (optional_text self.now.asked.now.junit) (run_junit self.now.asked.now
             (telling_of telling.now) places.now (rows_at telling.now.plan.now places.now))))) }
+        ensures stopped { IfErr result.1 (IsRunPutStop self.now.asked.now) }
     {
         let (alloc, asked) = (self.host.alloc, self.asked);
         let mut to = to;
-        let outlets = match open_outlets(&mut to.files, alloc, asked.report, asked.junit) {
+        let report = run_report_path(asked);
+        let outlets = match open_outlets(&mut to.files, alloc, report, asked.junit) {
             Ok(outlets) => outlets,
             Err(stop) => return (to, Err(stop)),
         };
@@ -276,7 +320,7 @@ impl<'x, R: Threads + Wait + Sync + Clock, D: Inputs> ListRun<'x, R, D> {
         let (mut to, ran) = self.run_and_show(&planned, outlets.use_stdout(), to, terminals);
         match ran {
             Ok(rows) => {
-                let put = self.put_run_files(&planned, shard, rows, outlets, &mut to);
+                let put = self.put_run_files(&planned, frame, rows, outlets, &mut to);
                 (to, put)
             }
             Err(stop) => {
@@ -307,6 +351,7 @@ impl<'x, R: Threads + Wait + Sync + Clock, D: Inputs> ListRun<'x, R, D> {
             (row_lines_at (telling_of planned.now.telling.now)) planned.now.telling.now.rule
             planned.now.places.now (rows_at planned.now.telling.now.plan.now planned.now.places.now))
             (said F.placed O.taken E.taken E.failed to) (said F.placed O.taken E.taken E.failed result.0)) }
+        ensures stopped { IfErr result.1 IsStreamStop }
     {
         let Destinations { files, out, errors } = to;
         if is_beside {
@@ -335,6 +380,7 @@ impl<'x, R: Threads + Wait + Sync + Clock, D: Inputs> ListRun<'x, R, D> {
             planned.now.telling.now.rule planned.now.places.now
             (rows_at planned.now.telling.now.plan.now planned.now.places.now))) }
         ensures counted { OnOk result.1 (W.failed result.0 ≡ W.failed out) }
+        ensures stopped { IfErr result.1 IsStreamStop }
     {
         let (rt, alloc) = (self.host.rt, self.host.alloc);
         let (telling, places) = (planned.telling, planned.places);
@@ -399,12 +445,13 @@ impl<'x, R: Threads + Wait + Sync + Clock, D: Inputs> ListRun<'x, R, D> {
     fn put_run_files<J: RowLines, F: Outputs + Drop, O: Sink + Drop, E: Sink + Drop>(
         &self,
         planned: &PlannedRun<'_, J>,
-        shard: Option<Shard>,
+        frame: ReportFrame,
         rows: Rows,
         outlets: Outlets<'_, F::Place, F::File>,
         to: &mut Destinations<F, O, E>,
     ) -> Result<u8, Stop>
         requires counted { length rows ≡ length planned.now.places.now }
+        requires whole { ForSome frame.old (λ rows. length rows ≡ length planned.now.telling.now.plan.now.jobs) }
         requires report { has_no_failure F.File.failed outlets.report }
         requires junit { has_no_failure F.File.failed outlets.junit }
         ensures status { IfOk result (λ status. status ≡ rows_status planned.now.telling.now.rule rows) }
@@ -414,20 +461,22 @@ impl<'x, R: Threads + Wait + Sync + Clock, D: Inputs> ListRun<'x, R, D> {
             → HasTaken F.place_path F.File.taken F.File.failed (F.placed to.old.files) junit_path [] outlets.entry.junit
             → OnOk result (Appends (O.taken to.old.out) (O.taken to.new.out)
             (stdout_at junit_path (run_junit self.now.asked.now (telling_of planned.now.telling.now)
-            planned.now.places.now rows) ++ stdout_at report_path (chosen_report_text
-            (length planned.now.telling.now.plan.now.jobs) planned.now.places.now shard rows))) }
+            planned.now.places.now rows) ++ stdout_at report_path (run_report_text frame.old
+            (length planned.now.telling.now.plan.now.jobs) planned.now.places.now frame.shard rows))) }
         ensures placed { (report_path junit_path : Option (List ℕ))
             → HasTaken F.place_path F.File.taken F.File.failed (F.placed to.old.files) report_path [] outlets.entry.report
             → HasTaken F.place_path F.File.taken F.File.failed (F.placed to.old.files) junit_path [] outlets.entry.junit
             → OnOk result (AreFilesPlaced (F.placed to.old.files) (F.placed to.new.files)
             (Some (file_at junit_path (run_junit self.now.asked.now (telling_of planned.now.telling.now)
-            planned.now.places.now rows) ++ file_at report_path (chosen_report_text
-            (length planned.now.telling.now.plan.now.jobs) planned.now.places.now shard rows)))) }
+            planned.now.places.now rows) ++ file_at report_path (run_report_text frame.old
+            (length planned.now.telling.now.plan.now.jobs) planned.now.places.now frame.shard rows)))) }
         ensures part { (junit_path : Option (List ℕ))
             → HasTaken F.place_path F.File.taken F.File.failed (F.placed to.old.files) junit_path [] outlets.entry.junit
             → OnErr result (AreFilesPlacedInPart (F.placed to.old.files) (F.placed to.new.files)
             (Some (file_at junit_path (run_junit self.now.asked.now (telling_of planned.now.telling.now)
             planned.now.places.now rows)))) }
+        ensures stopped { IfErr result
+            (IsPutStop (outlet_path outlets.entry.report) (outlet_path outlets.entry.junit)) }
     {
         let (telling, places, rule) = (planned.telling, planned.places, planned.telling.rule);
         let status = rows_status(rule, rows.as_slice());
@@ -449,7 +498,7 @@ impl<'x, R: Threads + Wait + Sync + Clock, D: Inputs> ListRun<'x, R, D> {
             },
             telling: &recalling,
             places,
-            report: ReportText::Chosen(chosen, shard),
+            report: framed_report(chosen, frame),
         };
         put_files(self.host.alloc, to, outlets, texts)?;
         Ok(status)

@@ -1,9 +1,11 @@
 //! The command `show`.
 
-ghost use Rattle.std.specs.Prelude.{◌≡◌, ◌≤◌, ◌<◌, ◌^◌, None, IfOk, OnOk, length};
+ghost use Rattle.std.specs.Prelude.{◌≡◌, ◌≤◌, ◌<◌, ◌^◌, None, IfErr, IfOk, OnOk, length};
 ghost use Rattle.rv_command.specs.Texts.{optional_text};
 ghost use Rattle.rv_report.specs.Report.{report_text};
+ghost use Rattle.rvtest_app.specs.CommandStops.{IsShowStop};
 ghost use Rattle.rvtest_app.specs.Puts.{WentOut};
+ghost use Rattle.rvtest_app.specs.PutStops.{IsOutputStop};
 ghost use Rattle.rvtest_app.specs.JunitTexts.{failures_junit, suite_name};
 ghost use Rattle.rvtest_app.specs.Commands.{failure_rule};
 ghost use Rattle.rvtest_app.specs.RunOutput.{rows_status};
@@ -45,6 +47,7 @@ pub(crate) fn show_report<D: Inputs, F: Outputs + Drop, O: Sink + Drop, E: Sink 
     ensures low { IfOk result (λ status. status ≤ 1) }
     ensures shown { IfOk result (λ status. IsShownAt (D.contents inputs.now) asked.entry status
         (said F.placed O.taken E.taken E.failed to.old) (said F.placed O.taken E.taken E.failed to.new)) }
+    ensures stopped { IfErr result (IsShowStop (D.contents inputs.now) asked.entry) }
 {
     let report = read_report_file(inputs, alloc, asked.report)?;
     let summarized = summarize_report(alloc, asked, report)?;
@@ -84,11 +87,12 @@ fn put_summarized_report<F: Outputs + Drop, O: Sink + Drop, E: Sink + Drop>(
     summarized: SummarizedReport,
     to: &mut Destinations<F, O, E>,
 ) -> Result<(), Stop>
-    ensures { OnOk result (WentOut None (optional_text asked.entry.junit) summarized.summary.items
+    ensures put { OnOk result (WentOut None (optional_text asked.entry.junit) summarized.summary.items
         (report_text summarized.report.rows)
         (failures_junit (suite_name (optional_text asked.entry.suite) asked.entry.report.now)
         (failure_rule asked.entry.lenient) summarized.report.rows)
         (said F.placed O.taken E.taken E.failed to.old) (said F.placed O.taken E.taken E.failed to.new)) }
+    ensures stopped { IfErr result (IsOutputStop None (optional_text asked.entry.junit)) }
 {
     let SummarizedReport {
         report,

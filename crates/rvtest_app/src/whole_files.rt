@@ -1,9 +1,10 @@
 //! The files of all rows of a report, of which no more is known than their text.
 
-ghost use Rattle.std.specs.Prelude.{◌≡◌, ◌++◌, [], ℕ, List, Option, OnOk, Some};
+ghost use Rattle.std.specs.Prelude.{◌≡◌, ◌++◌, [], ℕ, List, Option, IfErr, OnOk, Some};
 ghost use Rattle.std.specs.Io.KnownBytes.{Appends};
 ghost use Rattle.rv_report.specs.Report.{report_text};
-ghost use Rattle.rvtest_app.specs.Outlets.{AreFilesPlaced, HasTaken, file_at, has_no_failure, stdout_at};
+ghost use Rattle.rvtest_app.specs.Outlets.{AreFilesPlaced, HasTaken, file_at, has_no_failure, outlet_path, stdout_at};
+ghost use Rattle.rvtest_app.specs.PutStops.{IsPutStop};
 ghost use Rattle.rvtest_app.specs.JunitTexts.{failures_junit};
 
 use crate::destinations::Destinations;
@@ -42,6 +43,8 @@ pub(crate) fn put_whole_files<F: Outputs + Drop, O: Sink + Drop, E: Sink + Drop>
         → OnOk result (AreFilesPlaced (F.placed to.old.files) (F.placed to.new.files)
         (Some (file_at junit_path (failures_junit suite.entry.name.now suite.entry.rule rows)
         ++ file_at report_path (report_text rows)))) }
+    ensures stopped { IfErr result
+        (IsPutStop (outlet_path outlets.entry.report) (outlet_path outlets.entry.junit)) }
 {
     let places = match vec![in alloc; 0usize; rows.as_slice().len()] {
         Ok(places) => places,

@@ -4,6 +4,7 @@ pub(crate) const RUN: &str = "\
 Examples:
   rvtest run tests.toml --match uart --exclude slow --last 20
   rvtest run tests.toml --report report.txt --junit junit.xml
+  rvtest run tests.toml --failed report.txt --into report.txt
 
 Status:
   0  No job failed

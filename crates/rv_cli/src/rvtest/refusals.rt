@@ -2,7 +2,7 @@
 
 ghost use Rattle.std.specs.Prelude.{◌≡◌, [], ◌∷◌, Some};
 ghost use Rattle.clap.specs.Words.{HasKind, found_of, rows_of};
-ghost use Rattle.rv_cli.specs.RvtestWords.{color_misuse, files_misuse, is_color_unknown, is_color_word, is_report_path, is_suite_nameless};
+ghost use Rattle.rv_cli.specs.RvtestWords.{color_misuse, files_misuse, is_color_unknown, is_color_word, is_into_path, is_report_path, is_suite_nameless};
 ghost use Rattle.rv_cli.specs.RvtestWords.{misuse_kinds, misuse_text, show_misuse, suite_misuse};
 
 use crate::values::{is_option_given, text_value};
@@ -21,6 +21,10 @@ pub(crate) enum Misuse {
     StampAlone,
     /// Another budget than the list's beside a report, JUnit's XML or a shard.
     BudgetAndRows,
+    /// Rows that are put into a report, beside a report of their own or a shard's.
+    IntoAndReport,
+    /// A report of the rows at the path of the one that chooses them.
+    FailedIsReport,
     /// Steps compared exactly, and by which jobs are slower.
     StepsAndSlower,
     /// A suite without JUnit's XML.
@@ -31,6 +35,8 @@ pub(crate) enum Misuse {
     UnknownColor,
     /// A report and JUnit's XML that go to one file.
     OneFile,
+    /// Rows that are put into a report, and JUnit's XML, that go to one file.
+    IntoOneFile,
 }
 
 impl Misuse {
@@ -50,8 +56,11 @@ impl Misuse {
             Misuse::VerboseAndQuiet
             | Misuse::ShardAndChoice
             | Misuse::BudgetAndRows
+            | Misuse::IntoAndReport
+            | Misuse::FailedIsReport
             | Misuse::StepsAndSlower
-            | Misuse::OneFile => ErrorKind::ArgumentConflict,
+            | Misuse::OneFile
+            | Misuse::IntoOneFile => ErrorKind::ArgumentConflict,
         }
     }
 
@@ -67,7 +76,13 @@ impl Misuse {
                 "the argument '--stamp <TEXT>' cannot be used without '--shard <K/N>'"
             }
             Misuse::BudgetAndRows => {
-                "the argument '--budget <N>' cannot be used with '--report <FILE>', '--junit <FILE>' or '--shard <K/N>': such rows are not the list's"
+                "the argument '--budget <N>' cannot be used with '--into <FILE>', '--report <FILE>', '--junit <FILE>' or '--shard <K/N>': such rows are not the list's"
+            }
+            Misuse::IntoAndReport => {
+                "the argument '--into <FILE>' cannot be used with '--report <FILE>' or '--shard <K/N>': it is the report that is written"
+            }
+            Misuse::FailedIsReport => {
+                "the argument '--report <FILE>' cannot be used with '--failed <REPORT>' of the same name: the rows of the other jobs would be lost; '--into <FILE>' keeps them"
             }
             Misuse::StepsAndSlower => {
                 "the argument '--steps' cannot be used with '--slower <N>'"
@@ -82,6 +97,9 @@ impl Misuse {
             Misuse::OneFile => {
                 "the argument '--report <FILE>' cannot be used with '--junit <FILE>' of the same name: it is one file"
             }
+            Misuse::IntoOneFile => {
+                "the argument '--into <FILE>' cannot be used with '--junit <FILE>' of the same name: it is one file"
+            }
         }
     }
 }
@@ -92,6 +110,7 @@ pub(crate) fn files_misuse(values: &ArgMatches<'_>) -> Option<Misuse>
 {
     match text_value(values, "junit") {
         Some(path) if is_report_path(values, path) => Some(Misuse::OneFile),
+        Some(path) if is_into_path(values, path) => Some(Misuse::IntoOneFile),
         _ => suite_misuse(values),
     }
 }
@@ -155,10 +174,21 @@ fn is_suite_nameless(values: &ArgMatches<'_>) -> bool
     }
 }
 
-fn is_report_path(values: &ArgMatches<'_>, path: &str) -> bool
+/// Whether the report goes to a path.
+pub(crate) fn is_report_path(values: &ArgMatches<'_>, path: &str) -> bool
     ensures { result ≡ is_report_path path.now (rows_of (found_of values.now)) }
 {
     match text_value(values, "report") {
+        Some(report) => path == report,
+        None => false,
+    }
+}
+
+// Whether the rows go into the report at a path.
+fn is_into_path(values: &ArgMatches<'_>, path: &str) -> bool
+    ensures { result ≡ is_into_path path.now (rows_of (found_of values.now)) }
+{
+    match text_value(values, "into") {
         Some(report) => path == report,
         None => false,
     }

@@ -3,11 +3,11 @@
 ghost use Rattle.std.specs.Prelude.{◌≡◌, ◌≤◌, [], IfOk};
 ghost use Rattle.clap.specs.Words.{found_of, rows_of};
 ghost use Rattle.rv_base.specs.Limits.{most_group};
-ghost use Rattle.rv_cli.specs.RvtestWords.{IsRunAskedInRange, ReadsRequest, are_rows_kept, is_choice_given, misuse_kinds, run_asked_words};
+ghost use Rattle.rv_cli.specs.RvtestWords.{IsRunAskedInRange, ReadsRequest, are_rows_kept, are_rows_put_twice, is_choice_given, is_choice_overwritten, is_report_given, misuse_kinds, run_asked_words};
 ghost use Rattle.rv_cli.specs.RvtestWords.{run_misuse, test_run_request, run_words};
 
 use crate::rvtest::command::run_command;
-use crate::rvtest::refusals::{Misuse, files_misuse, is_color_unknown};
+use crate::rvtest::refusals::{Misuse, files_misuse, is_color_unknown, is_report_path};
 use crate::rvtest::requests::Asked;
 use crate::values::{argument_values, is_flag_set, is_option_given, number_value, text_value};
 use clap::{ArgMatches, Error};
@@ -39,6 +39,8 @@ pub struct RunAsked<'a> {
     pub budget: Option<u32>,
     /// The folder from which the paths in the list are taken.
     pub root: Option<&'a str>,
+    /// Path of a whole report into which the rows are put.
+    pub into: Option<&'a str>,
     /// Path of the report that is written; `-` is standard output.
     pub report: Option<&'a str>,
     /// Path of the JUnit file that is written; `-` is standard output.
@@ -106,6 +108,7 @@ pub(crate) fn run_asked<'a>(
         group,
         budget: number_value(values, "budget", 1, MOST_BUDGET),
         root: text_value(values, "root"),
+        into: text_value(values, "into"),
         report: text_value(values, "report"),
         junit: text_value(values, "junit"),
         suite: text_value(values, "suite"),
@@ -130,6 +133,10 @@ fn run_misuse(values: &ArgMatches<'_>) -> Option<Misuse>
         Some(Misuse::StampAlone)
     } else if is_option_given(values, "budget") && are_rows_kept(values) {
         Some(Misuse::BudgetAndRows)
+    } else if are_rows_put_twice(values) {
+        Some(Misuse::IntoAndReport)
+    } else if is_choice_overwritten(values) {
+        Some(Misuse::FailedIsReport)
     } else if is_color_unknown(values) {
         Some(Misuse::UnknownColor)
     } else {
@@ -141,9 +148,32 @@ fn run_misuse(values: &ArgMatches<'_>) -> Option<Misuse>
 fn are_rows_kept(values: &ArgMatches<'_>) -> bool
     ensures { result ≡ are_rows_kept (rows_of (found_of values.now)) }
 {
-    is_option_given(values, "report")
-        || is_option_given(values, "junit")
-        || is_option_given(values, "shard")
+    is_report_given(values) || is_option_given(values, "junit") || is_option_given(values, "shard")
+}
+
+// Whether a report goes out, of the rows alone or of a whole list.
+fn is_report_given(values: &ArgMatches<'_>) -> bool
+    ensures { result ≡ is_report_given (rows_of (found_of values.now)) }
+{
+    is_option_given(values, "report") || is_option_given(values, "into")
+}
+
+// Whether rows that are put into a report would go out beside it.
+fn are_rows_put_twice(values: &ArgMatches<'_>) -> bool
+    ensures { result ≡ are_rows_put_twice (rows_of (found_of values.now)) }
+{
+    is_option_given(values, "into")
+        && (is_option_given(values, "report") || is_option_given(values, "shard"))
+}
+
+// Whether the report that chooses the jobs would be written over by theirs alone.
+fn is_choice_overwritten(values: &ArgMatches<'_>) -> bool
+    ensures { result ≡ is_choice_overwritten (rows_of (found_of values.now)) }
+{
+    match text_value(values, "failed") {
+        Some(path) => is_report_path(values, path),
+        None => false,
+    }
 }
 
 fn is_choice_given(values: &ArgMatches<'_>) -> bool

@@ -37,6 +37,7 @@ pub(crate) const RUN: Subcommand<'static> = Subcommand {
         Argument::Group,
         Argument::Number("budget", None, BUDGET, BUDGET_BOUNDS, &[]),
         Argument::Option("root", "DIR", ROOT),
+        Argument::File("into", INTO),
         Argument::File("report", REPORT),
         Argument::File("junit", JUNIT),
         Argument::Option("suite", "NAME", SUITE),
@@ -182,6 +183,8 @@ const EXCLUDE: &str = "Leaves out the jobs in whose names it is found";
 const FAILED: &str = "Chooses the jobs that failed in a report";
 
 const ROOT: &str = "Takes the paths in the list from this folder";
+
+const INTO: &str = "Puts the rows into this file, the whole report of the list";
 
 const REPORT: &str = "Writes the report to this file; - is standard output";
 

@@ -3,15 +3,13 @@ use Rattle.rvtest_app.proofs.diff.diff_report_texts.Goals as goal
 
 pub returns-clause-diff : goal.returns-clause-diff
 returns-clause-diff c =
-    let old_rows = c.as_slice-old_rows.ensures in
-    let new_rows = c.as_slice-new_rows.ensures in
     let compare = c.requested_comparison-compare.ensures in
-    IfOk-both c.diff_rows.result _ _ _
+    IfOk-both c.diff_saved_reports.result _ _ _
     (λ found text judged. rw c.in_ok-new_text.was (record {
       before = c.in_ok-old.old;
       before_is = c.in_ok-old.ensures.report;
       after = c.in_ok-new.new;
       after_is = rw c.as_slice.ensures.value at c.in_ok-new.ensures.report;
-      text = rw (compare, old_rows, new_rows) at text;
-      judged = rw (compare, old_rows, new_rows) at judged;
-    })) c.diff_rows.ensures.text c.diff_rows.ensures.judged
+      text = rw compare at text;
+      judged = rw compare at judged;
+    })) c.diff_saved_reports.ensures.text c.diff_saved_reports.ensures.judged

@@ -1,13 +1,14 @@
 use Rattle.std.proofs.Common.{◌∙◌, ap}
 use Rattle.rv_command.specs.Texts.{optional_text}
 use Rattle.rvtest_app.specs.Merges.{merged_report_path}
+use Rattle.rvtest_app.proofs.PutStops.{output_of_put}
 use Rattle.rvtest_app.proofs.PutTexts.{out_told}
 use Rattle.rvtest_app.proofs.Results.{OnOk-both}
 use Rattle.rvtest_app.specs.Said.{said}
 use Rattle.rvtest_app.proofs.merge.put_merged.Goals as goal
 
-pub returns-in-Ok : goal.returns-in-Ok
-returns-in-Ok g c =
+pub returns-in-Ok-clause-put : goal.returns-in-Ok-clause-put
+returns-in-Ok-clause-put g c =
     let path = g.F.Outputs.place_path in
     let taken = g.F.File.Sink.taken in
     let failed = g.F.File.Sink.failed in
@@ -38,3 +39,11 @@ returns-in-Ok g c =
       placed = q;
     })
     out placed
+
+pub returns-in-Ok-clause-stopped : goal.returns-in-Ok-clause-stopped
+returns-in-Ok-clause-stopped g c =
+    let junit_path = optional_text c.args.asked.now.junit in
+    let report = rw c.merged_report_path.ensures at c.in_ok-outlets.ensures.report in
+    output_of_put g.F.Outputs.place_path g.F.File.Sink.taken g.F.File.Sink.failed _
+    (merged_report_path (optional_text c.args.asked.now.report) junit_path) junit_path _ _ c.put_whole_files.result report
+    c.in_ok-outlets.ensures.junit c.put_whole_files.ensures.stopped

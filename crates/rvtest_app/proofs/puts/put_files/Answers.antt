@@ -1,3 +1,4 @@
+use Rattle.rvtest_app.proofs.PutStops.{put_of_unplaced}
 use Rattle.rvtest_app.proofs.PutTexts.{both_placed, first_placed}
 use Rattle.rvtest_app.proofs.Results.{OnErr-map, OnOk-map}
 use Rattle.rvtest_app.proofs.puts.put_files.Goals as goal
@@ -15,3 +16,8 @@ returns-in-Ok-clause-part g c = λ junit_path junit.
     (first_placed g.F.Outputs.place_path g.F.File.Sink.taken g.F.File.Sink.failed _ _ junit_path c.args.outlets.junit _ _ junit
     c.in-Ok.ensures.junit)
     c.place_outlets.ensures.part
+
+pub returns-in-Ok-clause-stopped : goal.returns-in-Ok-clause-stopped
+returns-in-Ok-clause-stopped g c =
+    rw (c.in-Ok.ensures.report_path, c.in-Ok.ensures.junit_path)
+    at (put_of_unplaced _ _ c.place_outlets.result c.place_outlets.ensures.stopped)

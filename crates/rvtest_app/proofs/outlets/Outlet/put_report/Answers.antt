@@ -1,3 +1,4 @@
+use Rattle.rvtest_app.proofs.PutStops.{file_text_stop, stdout_stop}
 use Rattle.rvtest_app.proofs.PutTexts.{appends_nothing, begins_nothing}
 use Rattle.rvtest_app.proofs.Results.{OnOk-from, OnErr-from}
 use Rattle.rvtest_app.proofs.outlets.Outlet.put_report.Goals as goal
@@ -9,3 +10,10 @@ returns-in-File-clause-out g c =
 pub returns-in-File-clause-part : goal.returns-in-File-clause-part
 returns-in-File-clause-part g c =
     OnErr-from c.file_result.result _ (rw c.in-File.is (begins_nothing (g.O.Sink.taken c.args.out.now)))
+
+pub returns-in-Out-clause-stopped : goal.returns-in-Out-clause-stopped
+returns-in-Out-clause-stopped g c = rw c.in-Out.is (stdout_stop c.write.result c.stdout_result.result c.stdout_result.ensures.stopped)
+
+pub returns-in-File-clause-stopped : goal.returns-in-File-clause-stopped
+returns-in-File-clause-stopped g c =
+    rw c.in-File.is (file_text_stop _ c.write-in-File.result c.file_result.result c.file_result.ensures.stopped)

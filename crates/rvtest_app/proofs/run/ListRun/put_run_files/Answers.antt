@@ -1,6 +1,6 @@
 use Rattle.std.proofs.Common.{◌∙◌, ap}
 use Rattle.rv_job_text.specs.Telling.{row_lines_at, telling_of}
-use Rattle.rvtest_app.specs.RunOutput.{chosen_report_text}
+use Rattle.rvtest_app.specs.IntoReports.{run_report_text}
 use Rattle.rvtest_app.proofs.PutTexts.{part_same, placed_same, same_junit}
 use Rattle.rvtest_app.proofs.Results.{OnErr-from}
 use Rattle.rvtest_app.proofs.run.ListRun.put_run_files.Goals as goal
@@ -13,7 +13,8 @@ returns-clause-placed g c = λ report_path junit_path report junit.
     (same_junit _ _ planned.telling.now.rule _ _ planned.places.now c.args.rows
     (c.as_bytes.ensures.value ∙ c.suite_name.ensures)
     (ap (λ telling. row_lines_at (telling_of telling)) c.new-recalling.ensures))
-    (ap (λ jobs. chosen_report_text jobs planned.places.now c.args.shard c.args.rows) c.jobs.ensures.value)
+    (c.framed_report.ensures.text
+    ∙ ap (λ jobs. run_report_text c.args.frame.old jobs planned.places.now c.args.frame.shard c.args.rows) c.jobs.ensures.value)
 
 pub returns-in_err-put_files-clause-part : goal.returns-in_err-put_files-clause-part
 returns-in_err-put_files-clause-part g c = λ junit_path junit.

@@ -3,6 +3,7 @@ use Rattle.rv_command.specs.Texts.{optional_text}
 use Rattle.rv_fleet.proofs.Public.{rows_count}
 use Rattle.rvtest_app.proofs.PutTexts.{out_told}
 use Rattle.rvtest_app.proofs.Results.{OnOk-both}
+use Rattle.rvtest_app.specs.IntoReports.{run_report_path}
 use Rattle.rvtest_app.specs.Said.{said}
 use Rattle.rvtest_app.proofs.run.ListRun.run_planned_jobs.Goals as goal
 
@@ -16,9 +17,9 @@ returns-in-Ok-ran-clause-said g c =
     let taken = g.F.File.Sink.taken in
     let failed = g.F.File.Sink.failed in
     let outlets = c.in-Ok.outlets in
-    let report_path = optional_text c.args.self.now.asked.now.report in
+    let report_path = run_report_path c.args.self.now.asked.now in
     let junit_path = optional_text c.args.self.now.asked.now.junit in
-    let report = c.in-Ok.ensures.report in
+    let report = rw c.run_report_path-report.ensures at c.in-Ok.ensures.report in
     let junit = c.in-Ok.ensures.junit in
     let same = ap g.F.Outputs.placed c.run_and_show-to.ensures.files ∙ c.in-Ok.ensures.same in
     let rows = rw c.in-Ok-ran.is at c.run_and_show-to.ensures.rows in

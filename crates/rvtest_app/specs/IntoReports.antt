@@ -1,0 +1,51 @@
+-- The rows of a run that are put into the whole report of their list.
+use Rattle.std.specs.Prelude.{◌≡◌, ℕ, List, [], ◌∷◌, IsSomeAnd, MatchOption, Option, Some, None, map, slice_set}
+use Rattle.std.specs.Option.{option_or}
+use Rattle.rv_base.specs.Files.{FileContents}
+use Rattle.rv_cli.specs.declared.rvtest.run.RunAsked.{RunAsked}
+use Rattle.rv_command.specs.Texts.{IsReportAt, optional_text}
+use Rattle.rv_lists.specs.declared.job.Job.{Job}
+use Rattle.rv_report.specs.Report.{report_text}
+use Rattle.rv_report.specs.Saved.{row_names}
+use Rattle.rv_report.specs.declared.row.Row.{Row}
+use Rattle.rv_report.specs.declared.saved.Extent.TheVariants as extent
+use Rattle.rv_report.specs.declared.saved.SavedReport.{SavedReport}
+use Rattle.rv_report.specs.declared.saved.Shard.{Shard}
+use Rattle.rvtest_app.specs.RunOutput.{chosen_report_text}
+
+-- ---- the whole report
+
+abbrev pub job_names : List Job → List (List ℕ)
+job_names jobs = map (λ (job : Job). job.name) jobs
+
+-- a report has one row of each job of a list, in their order
+pub record IsWholeReport (jobs : List Job) (report : SavedReport) : Type 0 where
+  pub extent : report.extent ≡ extent.Whole
+  pub named : row_names report.rows ≡ job_names jobs
+
+-- the rows are those of such a report, which stands at a path
+abbrev pub IsWholeReportAt : Option FileContents → List ℕ → List Job → List Row → Type 0
+IsWholeReportAt known path jobs rows = (report : SavedReport) × (IsReportAt known path report
+    × (IsWholeReport jobs report × (rows ≡ report.rows)))
+
+-- the rows among which words put those of the run, if they name a report for that
+abbrev pub AreOldRows : Option FileContents → RunAsked → List Job → Option (List Row) → Type 0
+AreOldRows known words jobs old = MatchOption words.into (old ≡ None)
+    (λ path. IsSomeAnd old (IsWholeReportAt known path.now jobs))
+
+-- ---- the rows that are put into it
+
+-- old rows, but at some places these, in their order
+abbrev pub rows_put : List ℕ → List Row → List Row → List Row
+rows_put [] rows old = old
+rows_put (place ∷ places) [] old = old
+rows_put (place ∷ places) (row ∷ rows) old = rows_put places rows (slice_set old place row)
+
+-- the report of the rows of the jobs at some places: the whole one into which they are put, or that of these rows alone
+abbrev pub run_report_text : Option (List Row) → ℕ → List ℕ → Option Shard → List Row → List ℕ
+run_report_text (Some old) jobs places shard rows = report_text (rows_put places rows old)
+run_report_text None jobs places shard rows = chosen_report_text jobs places shard rows
+
+-- the path at which it is put
+abbrev pub run_report_path : RunAsked → Option (List ℕ)
+run_report_path words = option_or (optional_text words.into) (optional_text words.report)

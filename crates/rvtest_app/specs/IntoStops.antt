@@ -1,0 +1,86 @@
+-- Why no rows are put into a report.
+use Rattle.std.specs.Prelude.{◌≡◌, ◌⊎◌, ◌==◌, ◌++◌, ◌+◌, ℕ, false, List, IsSomeAnd, Option, Some, None, codes, length, slice_get, take}
+use Rattle.std.specs.Fmt.{decimal}
+use Rattle.std.specs.Str.{bytes_eq}
+use Rattle.rv_base.specs.Files.{FileContents}
+use Rattle.rv_cli.specs.declared.rvtest.run.RunAsked.{RunAsked}
+use Rattle.rv_command.specs.Stops.{IsReportUnreadStop, IsStop}
+use Rattle.rv_command.specs.Texts.{IsReportAt}
+use Rattle.rv_command.specs.declared.stop.Stop.{Stop}
+use Rattle.rv_lists.specs.declared.job.Job.{Job}
+use Rattle.rv_report.specs.Report.{line}
+use Rattle.rv_report.specs.Saved.{row_names}
+use Rattle.rv_report.specs.declared.saved.Extent.{Extent}
+use Rattle.rv_report.specs.declared.saved.Extent.TheVariants as extent
+use Rattle.rv_report.specs.declared.saved.SavedReport.{SavedReport}
+use Rattle.rv_text.specs.Printable.{printable_text}
+use Rattle.rvtest_app.specs.IntoReports.{job_names}
+use Rattle.rvtest_app.specs.declared.whole_report.NotWhole.{NotWhole}
+use Rattle.rvtest_app.specs.declared.whole_report.NotWhole.TheVariants as other
+use Rattle.rvtest_app.specs.declared.whole_report.OtherName.{OtherName}
+
+-- ---- the texts
+
+-- what is wrong with the report at a path, and what is wanted
+abbrev pub into_refusal : List ℕ → List ℕ → List ℕ
+into_refusal path what = codes "rvtest: " ++ printable_text path ++ codes ": " ++ what
+    ++ line (codes ": --into takes the whole report of the list")
+
+-- it has so many rows of a list of so many jobs
+abbrev pub part_refusal : List ℕ → ℕ → ℕ → List ℕ
+part_refusal path rows jobs = into_refusal path
+    (codes "rows of " ++ decimal rows ++ codes " of " ++ decimal jobs ++ codes " jobs")
+
+-- it has so many rows, and the list at a path so many jobs
+abbrev pub count_refusal : List ℕ → List ℕ → ℕ → ℕ → List ℕ
+count_refusal path list rows jobs = into_refusal path
+    (decimal rows ++ codes " rows, and " ++ printable_text list ++ codes " has " ++ decimal jobs ++ codes " jobs")
+
+-- the job of a number has one name in it, and another in the list at a path
+abbrev pub name_refusal : List ℕ → List ℕ → ℕ → List ℕ → List ℕ → List ℕ
+name_refusal path list number name wanted = into_refusal path
+    (codes "job " ++ decimal number ++ codes " is \"" ++ name ++ codes "\", and \"" ++ wanted ++ codes "\" in "
+    ++ printable_text list)
+
+abbrev pub not_whole_refusal : List ℕ → List ℕ → NotWhole → List ℕ
+not_whole_refusal path list (other.Part rows jobs) = part_refusal path rows jobs
+not_whole_refusal path list (other.Count rows jobs) = count_refusal path list rows jobs
+not_whole_refusal path list (other.Name name) = name_refusal path list name.number name.met.now name.listed.now
+
+-- ---- which of them is told
+
+-- how many jobs the list has of which a report has a part
+abbrev pub jobs_beside_part : Extent → Option ℕ
+jobs_beside_part extent.Whole = None
+jobs_beside_part (extent.Choice jobs) = Some jobs
+jobs_beside_part (extent.Shard shard) = Some shard.jobs
+
+-- the first place at which two lists have two names
+pub record IsFirstOtherName (names all : List (List ℕ)) (other : OtherName) : Type 0 where
+  pub place : ℕ
+  pub number : other.number ≡ place + 1
+  pub met : slice_get names place ≡ Some other.met.now
+  pub listed : slice_get all place ≡ Some other.listed.now
+  pub differ : bytes_eq other.met.now other.listed.now ≡ false
+  pub before : take place names ≡ take place all
+
+-- what keeps a report from being the whole one of the jobs of a list: it is of a part; or it is whole, and has another number of
+-- rows, or as many, of which one has another name
+abbrev pub IsNotWhole : List Job → SavedReport → NotWhole → Type 0
+IsNotWhole jobs report (other.Part rows count) = (rows ≡ length report.rows)
+    × (jobs_beside_part report.extent ≡ Some count)
+IsNotWhole jobs report (other.Count rows count) = (report.extent ≡ extent.Whole)
+    × ((rows ≡ length report.rows) × ((count ≡ length jobs) × ((rows == count) ≡ false)))
+IsNotWhole jobs report (other.Name name) = (report.extent ≡ extent.Whole)
+    × ((length report.rows ≡ length jobs) × IsFirstOtherName (row_names report.rows) (job_names jobs) name)
+
+-- the report at a path was not read, or it is not the whole one of the jobs of the list at another, and is refused for that
+abbrev pub IsNoWholeReportStop : Option FileContents → List ℕ → List ℕ → List Job → Stop → Type 0
+IsNoWholeReportStop known path list jobs why = IsReportUnreadStop known path why
+    ⊎ ((report : SavedReport) × (IsReportAt known path report
+    × ((other : NotWhole) × (IsNotWhole jobs report other × IsStop 2 (not_whole_refusal path list other) why))))
+
+-- words name such a path for the rows of a run
+abbrev pub IsIntoStop : Option FileContents → RunAsked → List Job → Stop → Type 0
+IsIntoStop known words jobs why =
+    IsSomeAnd words.into (λ path. IsNoWholeReportStop known path.now words.list.now jobs why)

@@ -1,0 +1,43 @@
+-- Why `merge` ended before its work was done.
+use Rattle.std.specs.Prelude.{◌≡◌, ◌⊎◌, ◌++◌, ◌∷◌, ℕ, List, Option}
+use Rattle.std.specs.Borrow.{Bor}
+use Rattle.rv_base.specs.Files.{FileContents}
+use Rattle.rv_cli.specs.declared.rvtest.merge.MergeAsked.{MergeAsked}
+use Rattle.rv_command.specs.Stops.{IsUnreadStop}
+use Rattle.rv_command.specs.Texts.{optional_text}
+use Rattle.rv_command.specs.declared.stop.Stop.{Stop}
+use Rattle.rv_command.specs.declared.stop.Stop.TheVariants as stop
+use Rattle.rv_merge.specs.Parts.{AreParts}
+use Rattle.rv_report.specs.declared.row.Row.{Row}
+use Rattle.rvtest_app.specs.MergeRefusals.{ArePartsRefused}
+use Rattle.rvtest_app.specs.Merges.{AreTextsAt, merged_report_path}
+use Rattle.rvtest_app.specs.PutStops.{IsOutputStop}
+
+-- one of the paths was not read, and those before it were
+pub record IsPartUnreadStop (known : Option FileContents) (paths : List (Bor (List ℕ))) (why : Stop) : Type 0 where
+  pub before : List (Bor (List ℕ))
+  pub path : Bor (List ℕ)
+  pub behind : List (Bor (List ℕ))
+  pub texts : List (List ℕ)
+  pub listed : paths ≡ before ++ path ∷ behind
+  pub read : AreTextsAt known before texts
+  pub unread : IsUnreadStop known path.now why
+
+-- memory was wanting, or one of the parts was not read
+abbrev pub ArePartsUnread : Option FileContents → List (Bor (List ℕ)) → Stop → Type 0
+ArePartsUnread known paths why = (why ≡ stop.OutOfMemory) ⊎ IsPartUnreadStop known paths why
+
+-- the report of the rows, or what stands beside it, did not go out
+abbrev pub IsMergedPutStop : MergeAsked → Stop → Type 0
+IsMergedPutStop words why = IsOutputStop
+    (merged_report_path (optional_text words.report) (optional_text words.junit)) (optional_text words.junit) why
+
+-- texts are refused as parts of one run, or they are its parts, and their rows did not go out
+abbrev pub IsMergeOfStop : MergeAsked → List (List ℕ) → Stop → Type 0
+IsMergeOfStop words texts why = ArePartsRefused words.parts.items texts why
+    ⊎ ((rows : List Row) × (AreParts rows texts × IsMergedPutStop words why))
+
+-- `merge`: a part was not read, or all were, and that happened
+abbrev pub IsMergeStop : Option FileContents → MergeAsked → Stop → Type 0
+IsMergeStop known words why = ArePartsUnread known words.parts.items why
+    ⊎ ((texts : List (List ℕ)) × (AreTextsAt known words.parts.items texts × IsMergeOfStop words texts why))

@@ -1,0 +1,59 @@
+-- Why `run` ended before its work was done.
+use Rattle.std.specs.Prelude.{◌≡◌, ◌⊎◌, ℕ, Bool, List, Option, Some, Ok, false, is_some}
+use Rattle.rv_base.specs.Files.{FileContents}
+use Rattle.rv_choice.specs.ChoiceStops.{IsChoiceStop}
+use Rattle.rv_choice.specs.Shard.{IsShardStop}
+use Rattle.rv_cli.specs.declared.rvtest.run.RunAsked.{RunAsked}
+use Rattle.rv_command.specs.Stops.{IsListFaultStop, IsListUnreadStop}
+use Rattle.rv_command.specs.Texts.{IsTextAt, optional_text}
+use Rattle.rv_command.specs.declared.stop.Stop.{Stop}
+use Rattle.rv_command.specs.declared.stop.Stop.TheVariants as stop
+use Rattle.rv_lists.specs.JobList.{job_list_of}
+use Rattle.rv_lists.specs.declared.job.Job.{Job}
+use Rattle.rv_report.specs.declared.row.Row.{Row}
+use Rattle.rv_report.specs.declared.saved.Shard.{Shard}
+use Rattle.rv_stream.specs.declared.error.StreamError.{StreamError}
+use Rattle.rvtest_app.specs.Commands.{failure_rule, stop_of_stream}
+use Rattle.rvtest_app.specs.IntoReports.{run_report_path}
+use Rattle.rvtest_app.specs.IntoStops.{IsIntoStop}
+use Rattle.rvtest_app.specs.PutStops.{IsOutputStop}
+use Rattle.rvtest_app.specs.Runs.{AreRequestedJobs}
+
+-- the shard is refused; or no shard is asked for, and words choose no jobs
+abbrev pub IsUnmarkedStop : Option FileContents → RunAsked → List Job → Stop → Type 0
+IsUnmarkedStop known words jobs why = IsShardStop words.shard words.stamp why
+    ⊎ ((is_some words.shard ≡ false) × IsChoiceStop known words (failure_rule words.lenient) jobs why)
+
+-- a text is no list; or the report that words name is not the whole one of its jobs, or they ask for none of these
+abbrev pub IsUnlistedStop : Option FileContents → RunAsked → List ℕ → Stop → Type 0
+IsUnlistedStop known words text why = IsListFaultStop words.list.now text why
+    ⊎ ((jobs : List Job) × ((job_list_of text ≡ Ok jobs)
+    × (IsIntoStop known words jobs why ⊎ IsUnmarkedStop known words jobs why)))
+
+-- the list was not read, or it has no jobs that words ask for
+abbrev pub IsUnrequestedStop : Option FileContents → RunAsked → Stop → Type 0
+IsUnrequestedStop known words why = IsListUnreadStop known words.list.now why
+    ⊎ ((text : List ℕ) × (IsTextAt known words.list.now text × IsUnlistedStop known words text why))
+
+-- the run of the jobs ended on its way
+abbrev pub IsStreamStop : Stop → Type 0
+IsStreamStop why = (error : StreamError) × (why ≡ stop_of_stream error)
+
+-- jobs that are asked for were not run, or the results or a file did not go out
+abbrev pub IsRunPutStop : RunAsked → Stop → Type 0
+IsRunPutStop words why = (why ≡ stop.NoWorker)
+    ⊎ IsOutputStop (run_report_path words) (optional_text words.junit) why
+
+-- the jobs of the list that words ask for were found, and that happened
+pub record IsUnfinishedStop (known : Option FileContents) (words : RunAsked) (why : Stop) : Type 0 where
+  pub jobs : List Job
+  pub marks : List Bool
+  pub shard : Option Shard
+  pub old : Option (List Row)
+  pub notes : List ℕ
+  pub asked : AreRequestedJobs known words jobs (Some marks) shard old notes
+  pub put : IsRunPutStop words why
+
+-- `run`: no jobs were found that words ask for, or they were, and the run was not finished
+abbrev pub IsRunStop : Option FileContents → RunAsked → Stop → Type 0
+IsRunStop known words why = IsUnrequestedStop known words why ⊎ IsUnfinishedStop known words why

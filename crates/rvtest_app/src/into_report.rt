@@ -1,0 +1,62 @@
+//! The rows of a run that are put into the whole report of their list.
+
+ghost use Rattle.std.specs.Prelude.{◌≡◌, ◌<◌, length, vec_len};
+ghost use Rattle.std.specs.List.{All};
+ghost use Rattle.rv_command.specs.Texts.{optional_text};
+ghost use Rattle.rvtest_app.specs.IntoReports.{rows_put, run_report_path};
+
+use crate::chosen_rows::ChosenRows;
+use rv_cli::rvtest::RunAsked;
+use rv_fleet::Rows;
+use rv_report::Shard;
+use rv_rows::Row;
+
+/// What a run's report has beside the run's rows.
+#[derive(Drop)]
+pub(crate) struct ReportFrame {
+    /// The shard whose jobs these are of.
+    pub(crate) shard: Option<Shard>,
+    /// The rows of the whole report into which these are put: one of each job of the list.
+    pub(crate) old: Option<Rows>,
+}
+
+/// The rows of chosen jobs, and those of the whole report into which they are put.
+#[derive(Drop)]
+pub(crate) struct IntoRows<'a> {
+    pub(crate) chosen: ChosenRows<'a>,
+    pub(crate) old: Rows,
+    ghost whole: { length old ≡ chosen.jobs },
+}
+
+impl<'a> IntoRows<'a> {
+    /// All rows, with those of the chosen jobs in their places. Takes no memory.
+    pub(crate) fn into_whole_rows(self) -> Rows
+        ensures { result ≡ rows_put self.entry.chosen.places.now self.entry.chosen.rows self.entry.old }
+    {
+        let IntoRows { chosen, old, .. } = self;
+        let ChosenRows { places, rows, .. } = chosen;
+        let mut whole = old.into_vec();
+        put_rows_at(&mut whole, places, rows.into_vec());
+        Rows::new(whole)
+    }
+}
+
+// Puts rows at places, in the place of those that stand there.
+fn put_rows_at(whole: &mut Vec<Row>, places: &[usize], rows: Vec<Row>)
+    requires within { All (λ place. place < vec_len whole.old) places.now }
+    requires counted { length places.now ≡ vec_len rows }
+    ensures { whole.new.items ≡ rows_put places.now rows.items whole.old.items }
+{
+    let mut at = 0;
+    for row in rows {
+        whole[places[at]] = row;
+        at += 1;
+    }
+}
+
+/// Where the report of a run goes.
+pub(crate) fn run_report_path<'a>(asked: &RunAsked<'a>) -> Option<&'a str>
+    ensures { optional_text result ≡ run_report_path asked.now }
+{
+    asked.into.or(asked.report)
+}

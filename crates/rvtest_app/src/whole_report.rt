@@ -1,0 +1,198 @@
+//! The whole report of a list, which a run puts its rows into.
+
+ghost use Rattle.std.specs.Prelude.{◌≡◌, ◌≤◌, IfErr, IfOk, IfSome, None, length};
+ghost use Rattle.rv_lists.specs.Limits.{most_jobs};
+ghost use Rattle.rv_report.specs.Saved.{row_names};
+ghost use Rattle.rvtest_app.specs.IntoReports.{IsWholeReport, IsWholeReportAt, job_names};
+ghost use Rattle.rvtest_app.specs.IntoStops.{IsFirstOtherName, IsNoWholeReportStop, IsNotWhole, count_refusal, into_refusal};
+ghost use Rattle.rvtest_app.specs.IntoStops.{jobs_beside_part, name_refusal, not_whole_refusal, part_refusal};
+
+use rv_command::{Stop, read_report_file};
+use rv_files::Inputs;
+use rv_fleet::Rows;
+use rv_jobs::Job;
+use rv_report::{Extent, SavedReport};
+use rv_rows::Row;
+use rv_text::{Span, text_of_spans};
+use std::alloc::{AllocError, Global};
+
+/// What keeps a report from being the whole one of a list.
+#[derive(Clone, Copy)]
+pub(crate) enum NotWhole<'a> {
+    /// It has so many rows of a list of so many jobs.
+    Part(usize, u32),
+    /// It has so many rows, and the list another number of jobs.
+    Count(usize, usize),
+    /// It has another job.
+    Name(OtherName<'a>),
+}
+
+/// The number of a job, from 1, its name in a report, and that in a list.
+#[derive(Clone, Copy)]
+pub(crate) struct OtherName<'a> {
+    pub(crate) number: usize,
+    pub(crate) met: &'a str,
+    pub(crate) listed: &'a str,
+}
+
+const WANTED: &str = ": --into takes the whole report of the list\n";
+
+/// The rows of the report at a path, which has one of each job of the list at another, in their order.
+pub(crate) fn read_whole_report<D: Inputs>(
+    inputs: &D,
+    alloc: Global,
+    path: &str,
+    list: &str,
+    jobs: &[Job],
+) -> Result<Rows, Stop>
+    ensures whole { IfOk result (IsWholeReportAt (D.contents inputs.now) path.now jobs.now) }
+    ensures counted { IfOk result (λ rows. length rows ≡ length jobs.now) }
+    ensures stopped { IfErr result (IsNoWholeReportStop (D.contents inputs.now) path.now list.now jobs.now) }
+{
+    let report = read_report_file(inputs, alloc, path)?;
+    match not_whole(&report, jobs) {
+        None => Ok(report.rows),
+        Some(other) => Err(Stop::of_refusal(not_whole_refusal(alloc, path, list, other))),
+    }
+}
+
+// What keeps a report from being the whole one of the jobs of a list.
+fn not_whole<'a>(report: &'a SavedReport, jobs: &'a [Job]) -> Option<NotWhole<'a>>
+    requires few { length report.now.rows ≤ most_jobs }
+    ensures whole { result ≡ None → IsWholeReport jobs.now report.now }
+    ensures other { IfSome result (IsNotWhole jobs.now report.now) }
+{
+    let rows = report.rows.as_slice();
+    if let Some(count) = jobs_beside_part(&report.extent) {
+        return Some(NotWhole::Part(rows.len(), count));
+    }
+    if rows.len() != jobs.len() {
+        return Some(NotWhole::Count(rows.len(), jobs.len()));
+    }
+    match first_other_name(rows, jobs) {
+        Some(name) => Some(NotWhole::Name(name)),
+        None => None,
+    }
+}
+
+// How many jobs the list has of which a report has a part.
+fn jobs_beside_part(extent: &Extent) -> Option<u32>
+    ensures { result ≡ jobs_beside_part extent.now }
+{
+    match extent {
+        Extent::Whole => None,
+        Extent::Choice(jobs) => Some(*jobs),
+        Extent::Shard(shard) => Some(shard.jobs),
+    }
+}
+
+// The first row that has another name than the job at its place.
+fn first_other_name<'a>(rows: &'a [Row], jobs: &'a [Job]) -> Option<OtherName<'a>>
+    requires { length rows.now ≡ length jobs.now }
+    ensures same { result ≡ None → row_names rows.now ≡ job_names jobs.now }
+    ensures first { IfSome result (IsFirstOtherName (row_names rows.now) (job_names jobs.now)) }
+{
+    for place in 0..rows.len() {
+        let (met, listed) = (rows[place].name.as_str(), jobs[place].name.as_str());
+        if met != listed {
+            return Some(OtherName {
+                number: place + 1,
+                met,
+                listed,
+            });
+        }
+    }
+    None
+}
+
+// What is told of such a report at a path, of the list at another.
+fn not_whole_refusal<'a>(
+    alloc: Global,
+    path: &'a str,
+    list: &'a str,
+    other: NotWhole<'a>,
+) -> Result<Vec<u8>, AllocError>
+    ensures { IfOk result (λ text. text.items ≡ not_whole_refusal path.now list.now other.entry) }
+{
+    match other {
+        NotWhole::Part(rows, jobs) => part_refusal(alloc, path, rows, jobs),
+        NotWhole::Count(rows, jobs) => count_refusal(alloc, path, list, rows, jobs),
+        NotWhole::Name(name) => name_refusal(alloc, path, list, name),
+    }
+}
+
+fn part_refusal<'a>(
+    alloc: Global,
+    path: &'a str,
+    rows: usize,
+    jobs: u32,
+) -> Result<Vec<u8>, AllocError>
+    ensures { IfOk result (λ text. text.items ≡ part_refusal path.now rows jobs) }
+{
+    text_of_spans(
+        alloc,
+        &[
+            Span::Text("rvtest: "),
+            Span::Shown(path.as_bytes()),
+            Span::Text(": rows of "),
+            Span::Number(rows as u64),
+            Span::Text(" of "),
+            Span::Number(u64::from(jobs)),
+            Span::Text(" jobs"),
+            Span::Text(WANTED),
+        ],
+    )
+}
+
+fn count_refusal<'a>(
+    alloc: Global,
+    path: &'a str,
+    list: &'a str,
+    rows: usize,
+    jobs: usize,
+) -> Result<Vec<u8>, AllocError>
+    ensures { IfOk result (λ text. text.items ≡ count_refusal path.now list.now rows jobs) }
+{
+    text_of_spans(
+        alloc,
+        &[
+            Span::Text("rvtest: "),
+            Span::Shown(path.as_bytes()),
+            Span::Text(": "),
+            Span::Number(rows as u64),
+            Span::Text(" rows, and "),
+            Span::Shown(list.as_bytes()),
+            Span::Text(" has "),
+            Span::Number(jobs as u64),
+            Span::Text(" jobs"),
+            Span::Text(WANTED),
+        ],
+    )
+}
+
+fn name_refusal<'a>(
+    alloc: Global,
+    path: &'a str,
+    list: &'a str,
+    name: OtherName<'a>,
+) -> Result<Vec<u8>, AllocError>
+    ensures { IfOk result (λ text. text.items
+        ≡ name_refusal path.now list.now name.entry.number name.entry.met.now name.entry.listed.now) }
+{
+    text_of_spans(
+        alloc,
+        &[
+            Span::Text("rvtest: "),
+            Span::Shown(path.as_bytes()),
+            Span::Text(": job "),
+            Span::Number(name.number as u64),
+            Span::Text(" is \""),
+            Span::Text(name.met),
+            Span::Text("\", and \""),
+            Span::Text(name.listed),
+            Span::Text("\" in "),
+            Span::Shown(list.as_bytes()),
+            Span::Text(WANTED),
+        ],
+    )
+}
