@@ -139,6 +139,24 @@ def check_into(row):
         raise ValueError(f"junit.xml has {' '.join(cases) or 'no job'}, and not {row['junit'] or 'none'}")
 
 
+# ---- known failures
+
+KNOWN_LIST = (jobs(["good"]) + job("bad", "a.elf", 9, "expect_exit = 4") + job("plain", "a.elf", 9)
+              + job("cut", "list.toml", 9))
+
+
+def check_known(row):
+    """The status of a run with a file of known failures, what goes out and is said, and what JUnit's file has among other things."""
+    row.write("a.elf", images.image(EXIT))
+    row.write("list.toml", KNOWN_LIST)
+    row.write("known.txt", row["known"])
+    words = ["run", "list.toml", "--known", "known.txt", "--junit", "j.xml", *row["words"].split()]
+    row.wants(words, int(row["status"]), lines(*lines_in(row["shown"])), lines(*lines_in(row["said"])))
+    for part in lines_in(row["junit"]):
+        if part not in (row.folder / "j.xml").read_text(encoding="utf-8"):
+            raise ValueError(f"j.xml has no {part}")
+
+
 # ---- lines
 
 def check_lines(row):
@@ -161,6 +179,7 @@ FORMS = {
     "full": Form(check_full_disk, "words said not_there"),
     "help": Form(check_help, "words shown"),
     "into": Form(check_into, "jobs words old status shown said then whole junit"),
+    "known": Form(check_known, "known words status shown said junit"),
     "lines": Form(check_lines, "list begins"),
     "misused": Form(check_misused, "words begins has"),
     "words": Form(check_words, "words status shown said files"),

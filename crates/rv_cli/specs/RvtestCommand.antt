@@ -137,6 +137,10 @@ with_junit app = with_rule (with_rule (with_rule app (file_rule (codes "junit"))
 abbrev pub with_files : App → App
 with_files app = with_junit (with_rule app (file_rule (codes "report")))
 
+-- [--known <FILE>]
+abbrev pub with_known : App → App
+with_known app = with_rule app (file_rule (codes "known"))
+
 -- [--color <WHEN>]
 abbrev pub with_color : App → App
 with_color app = with_rule app (option_rule (codes "color"))
@@ -155,7 +159,7 @@ app_of_list name = with_rule (new_app name) (word_rule (codes "list"))
 
 abbrev pub test_run_app : App
 test_run_app =
-    with_results (with_files (with_into (with_machine (with_shard (with_choice (app_of_list (codes "run")))))))
+    with_results (with_known (with_files (with_into (with_machine (with_shard (with_choice (app_of_list (codes "run"))))))))
 
 -- list <LIST> [--only <NAME>].. [--match <REGEX>] [--exclude <REGEX>] [--failed <REPORT>] [--lenient]
 abbrev pub list_app : App

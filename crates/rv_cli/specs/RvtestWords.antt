@@ -43,6 +43,7 @@ pub record RunWords : Type 0 where
   pub junit : Option Text
   pub suite : Option Text
   pub lenient : Bool
+  pub known : Option Text
   pub verbose : Bool
   pub quiet : Bool
   pub last : Option ℕ
@@ -120,6 +121,7 @@ run_words list group rows = record {
   junit = first_of (codes "junit") rows;
   suite = first_of (codes "suite") rows;
   lenient = is_flag_set (codes "lenient") rows;
+  known = first_of (codes "known") rows;
   verbose = is_flag_set (codes "verbose") rows;
   quiet = is_flag_set (codes "quiet") rows;
   last = number_value (codes "last") 0 most_last_instructions rows;
@@ -371,6 +373,7 @@ run_asked_words value = record {
   junit = borrowed_text value.junit;
   suite = borrowed_text value.suite;
   lenient = value.lenient;
+  known = borrowed_text value.known;
   verbose = value.verbose;
   quiet = value.quiet;
   last = value.last;

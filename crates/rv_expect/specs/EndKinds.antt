@@ -1,5 +1,5 @@
 -- The kinds of ends that jobs have: exit, budget, each kind of fault, refused.
-use Rattle.std.specs.Prelude.{◌==◌, ◌&&◌, ◌+◌, ◌-◌, ℕ, Bool, true, false, not, if◌then◌else◌}
+use Rattle.std.specs.Prelude.{◌==◌, ◌&&◌, ◌+◌, ◌-◌, ℕ, Bool, true, false, if◌then◌else◌}
 use Rattle.std.specs.Prelude.{Option, Some, None, length, slice_get}
 use Rattle.rv_machine.specs.declared.ending.FaultKind.{FaultKind}
 use Rattle.rv_machine.specs.Faults.{fault_kinds}
@@ -7,10 +7,9 @@ use Rattle.rv_rows.specs.declared_row.Row.{Row}
 use Rattle.rv_rows.specs.declared_row.RowEnd.{RowEnd}
 use Rattle.rv_rows.specs.declared_row.RowEnd.TheVariants as ending
 use Rattle.rv_rows.specs.Verdict.{is_same_kind}
-use Rattle.rv_expect.specs.declared.passing.Rule.{Rule}
 use Rattle.rv_expect.specs.declared.end_kind.EndKind.{EndKind}
 use Rattle.rv_expect.specs.declared.end_kind.EndKind.TheVariants as end_kind
-use Rattle.rv_expect.specs.Passing.{has_passed}
+use Rattle.rv_expect.specs.Judgement.{Judging, fails}
 
 -- how many there are
 abbrev pub end_kind_count : ℕ
@@ -35,6 +34,6 @@ has_end_kind (end_kind.Fault kind) (ending.Fault met pc value) = is_same_kind ki
 has_end_kind end_kind.Refused (ending.Refused why) = true
 has_end_kind _ _ = false
 
--- a job failed, and its end is of the kind
-abbrev pub fails_with_end_kind : Rule → EndKind → Row → Bool
-fails_with_end_kind rule kind row = not (has_passed rule row) && has_end_kind kind row.ending
+-- a row counts as a failure, and its end is of the kind
+abbrev pub fails_with_end_kind : Judging → EndKind → Row → Bool
+fails_with_end_kind judging kind row = fails judging row && has_end_kind kind row.ending

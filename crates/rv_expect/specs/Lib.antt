@@ -5,6 +5,7 @@ pub mod Unmet
 pub mod Telling
 pub mod UnmetInPlan
 pub mod Passing
+pub mod Judgement
 pub mod EndKinds
 pub mod MetExpectations
 pub mod Problem

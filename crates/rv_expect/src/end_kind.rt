@@ -2,9 +2,10 @@
 
 ghost use Rattle.std.specs.Prelude.{◌≡◌, slice_get};
 ghost use Rattle.rv_machine.specs.Faults.{fault_kinds};
+ghost use Rattle.rv_expect.specs.Judgement.{judging_of};
 ghost use Rattle.rv_expect.specs.EndKinds.{fails_with_end_kind, fault_or_refused, has_end_kind, end_kind_at};
 
-use crate::passing::{Rule, has_passed};
+use crate::judgement::Judge;
 use rv_machine::FaultKind;
 use rv_rows::{Row, RowEnd};
 
@@ -48,11 +49,11 @@ fn fault_or_refused(place: usize) -> EndKind
     }
 }
 
-/// Whether a job failed by the rule, and its end is of the kind.
-pub fn fails_with_end_kind(rule: Rule, kind: EndKind, row: &Row) -> bool
-    ensures { result ≡ fails_with_end_kind rule kind row.now }
+/// Whether a row counts as a failure, and its end is of the kind.
+pub fn fails_with_end_kind(judge: &Judge<'_>, kind: EndKind, row: &Row) -> bool
+    ensures { result ≡ fails_with_end_kind (judging_of judge.now) kind row.now }
 {
-    !has_passed(rule, row) && has_end_kind(kind, row.ending)
+    judge.fails(row) && has_end_kind(kind, row.ending)
 }
 
 fn has_end_kind(kind: EndKind, ending: RowEnd) -> bool

@@ -12,6 +12,7 @@
 mod comparison;
 mod difference;
 mod end_kind;
+mod judgement;
 mod law;
 mod met_expectations;
 mod passing;
@@ -24,6 +25,7 @@ mod unmet;
 pub use comparison::Comparison;
 pub use difference::{Difference, SameDifference, SignatureDifference};
 pub use end_kind::{EndKind, fails_with_end_kind};
+pub use judgement::{Judge, Judgement};
 pub use law::{
     differences_are_first, nothing_is_unmet_where_a_job_passes, references_are_lines_of_words,
     unmet_is_what_does_not_hold, unmet_of_a_plan_is_what_does_not_hold,

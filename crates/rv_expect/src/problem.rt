@@ -1,21 +1,22 @@
-//! What is wrong with a row that did not pass.
+//! What is wrong with a row that counts as a failure.
 
 ghost use Rattle.std.specs.Prelude.{◌≡◌};
+ghost use Rattle.rv_expect.specs.Judgement.{judging_of};
 ghost use Rattle.rv_expect.specs.Problem.{is_error, is_failure};
 
-use crate::passing::{Rule, has_passed};
+use crate::judgement::Judge;
 use rv_rows::{Row, did_run};
 
-/// Whether a job ran and failed.
-pub fn is_failure(rule: Rule, row: &Row) -> bool
-    ensures { result ≡ is_failure rule row.now }
+/// Whether a row counts as a failure, and its job ran.
+pub fn is_failure(judge: &Judge<'_>, row: &Row) -> bool
+    ensures { result ≡ is_failure (judging_of judge.now) row.now }
 {
-    !has_passed(rule, row) && did_run(row.ending)
+    judge.fails(row) && did_run(row.ending)
 }
 
-/// Whether a job was refused, and fails by that.
-pub fn is_error(rule: Rule, row: &Row) -> bool
-    ensures { result ≡ is_error rule row.now }
+/// Whether a row counts as a failure, and its job was refused.
+pub fn is_error(judge: &Judge<'_>, row: &Row) -> bool
+    ensures { result ≡ is_error (judging_of judge.now) row.now }
 {
-    !has_passed(rule, row) && !did_run(row.ending)
+    judge.fails(row) && !did_run(row.ending)
 }

@@ -1,5 +1,5 @@
 -- The line that says how a job ended.
-use Rattle.std.specs.Prelude.{ℕ, Bool, List, [], ◌++◌, Option, Some, None, codes, if◌then◌else◌}
+use Rattle.std.specs.Prelude.{◌==◌, length, ℕ, List, [], ◌++◌, Option, Some, None, codes, if◌then◌else◌}
 use Rattle.std.specs.Fmt.{decimal}
 use Rattle.rv_machine.specs.Faults.{fault_name}
 use Rattle.rv_rows.specs.declared_row.Row.{Row}
@@ -7,8 +7,7 @@ use Rattle.rv_rows.specs.declared_row.RowEnd.{RowEnd}
 use Rattle.rv_rows.specs.declared_row.RowEnd.TheVariants as ending
 use Rattle.rv_rows.specs.Report.{line, refusal_name}
 use Rattle.rv_text.specs.Words.{word_digits}
-use Rattle.rv_expect.specs.declared.passing.Rule.{Rule}
-use Rattle.rv_expect.specs.Passing.{has_passed}
+use Rattle.rv_expect.specs.Judgement.{Judged, failed, known, now_passes, passed}
 use Rattle.rv_text.specs.Printable.{printable_text}
 use Rattle.rv_text.specs.Symbol.{symbol_in_brackets}
 
@@ -31,11 +30,28 @@ result_ending_text ending.Budget steps place reason = codes "budget used up" ++ 
 result_ending_text (ending.Refused why) steps place reason =
     codes "refused " ++ refusal_name why ++ optional_reason_text reason
 
-abbrev pub pass_or_fail_word : Bool → List ℕ
-pass_or_fail_word passed = if passed then codes "PASS " else codes "FAIL "
+abbrev pub judged_word : Judged → List ℕ
+judged_word passed = codes "PASS "
+judged_word failed = codes "FAIL "
+judged_word (known why) = codes "known "
+judged_word (now_passes path) = codes "FAIL "
+
+-- why a job is known to fail, where that is said
+abbrev pub known_reason_text : List ℕ → List ℕ
+known_reason_text why = if length why == 0 then [] else codes " (" ++ printable_text why ++ codes ")"
+
+abbrev pub now_passes_text : List ℕ → List ℕ
+now_passes_text path = codes "passes, and is known to fail: take it out of " ++ printable_text path
+
+-- how a run ended, and of a failure that is known why; or that it passed, though it is known to fail
+abbrev pub judged_ending_text : Judged → Row → Option (List ℕ × ℕ) → Option (List ℕ) → List ℕ
+judged_ending_text passed row place reason = result_ending_text row.ending row.steps place reason
+judged_ending_text failed row place reason = result_ending_text row.ending row.steps place reason
+judged_ending_text (known why) row place reason =
+    result_ending_text row.ending row.steps place reason ++ known_reason_text why
+judged_ending_text (now_passes path) row place reason = now_passes_text path
 
 -- the line of a row
-unfoldable pub result_line : Rule → Row → Option (List ℕ × ℕ) → Option (List ℕ) → List ℕ
-result_line rule row place reason =
-    line (pass_or_fail_word (has_passed rule row) ++ row.name ++ codes ": "
-    ++ result_ending_text row.ending row.steps place reason)
+unfoldable pub result_line : Judged → Row → Option (List ℕ × ℕ) → Option (List ℕ) → List ℕ
+result_line judged row place reason =
+    line (judged_word judged ++ row.name ++ codes ": " ++ judged_ending_text judged row place reason)

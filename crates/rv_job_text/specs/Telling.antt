@@ -7,9 +7,8 @@ use Rattle.rv_expect.specs.UnmetInPlan.{sides_in, unmet_in}
 use Rattle.rv_files.specs.declared.noting_store.Unread.{Unread}
 use Rattle.rv_jobs.specs.declared_job.Job.{Job}
 use Rattle.rv_jobs.specs.Plans.{Planned, kept_for}
-use Rattle.rv_expect.specs.declared.passing.Rule.{Rule}
+use Rattle.rv_expect.specs.Judgement.{Judging, fails, is_unknown_failure, judgement, judging_of}
 use Rattle.rv_job_text.specs.ConsoleTail.{console_tail}
-use Rattle.rv_expect.specs.Passing.{has_passed}
 use Rattle.rv_job_text.specs.ResultLine.{result_line}
 use Rattle.rv_job_text.specs.MetLines.{met_lines}
 use Rattle.rv_job_text.specs.UnmetLines.{unmet_lines}
@@ -28,12 +27,12 @@ use Rattle.rv_job_text.specs.WayToEnd.{optional_trace_text}
 use Rattle.rv_job_text.specs.declared.way_to_end.WayToEnd.{WayToEnd}
 use Rattle.rv_trace.specs.Trace.{trace_in}
 
--- the rows of which plan are told, with what was noted of its paths, by which rule, how much of them,
+-- the rows of which plan are told, with what was noted of its paths, how they are counted, how much of them,
 -- and how many of the last instructions of a job that failed, where they are
 pub record Telling : Type 0 where
   pub plan : Planned
   pub unread : List Unread
-  pub rule : Rule
+  pub judging : Judging
   pub verbosity : Verbosity
   pub last : Option ℕ
 
@@ -41,7 +40,7 @@ abbrev pub telling_of : RowTelling → Telling
 telling_of telling = record {
   plan = telling.plan.now;
   unread = telling.unread.now;
-  rule = telling.rule;
+  judging = judging_of telling.judge;
   verbosity = telling.verbosity;
   last = telling.last;
 }
@@ -55,9 +54,9 @@ abbrev pub signature_address : Planned → Job → Option ℕ
 signature_address plan job = signature_begin job.isa (image_bytes plan job) job.signature
 
 -- the line of a row: a fault's place by its symbol too, a refusal with its reason
-unfoldable pub row_line : Planned → List Unread → Rule → Job → Row → List ℕ
-row_line plan unread rule job row =
-    result_line rule row (fault_symbol job.isa (image_bytes plan job) row.ending)
+unfoldable pub row_line : Planned → List Unread → Judging → Job → Row → List ℕ
+row_line plan unread judging job row =
+    result_line (judgement judging row) row (fault_symbol job.isa (image_bytes plan job) row.ending)
     (ending_reason plan.answers unread job row.ending)
 
 -- how a run came to its end, with so many of its last instructions
@@ -87,22 +86,22 @@ run_lines plan job row last =
     expectation_lines detail.Unmet plan job row ++ (console_tail row.console
     ++ way_to_end_if_asked plan job row last)
 
--- what stands behind the line of a row that fails: nothing where the job did not run
+-- what stands behind the line of a row that failed, and is not known to: nothing where the job did not run
 abbrev pub lines_below_failure : Planned → Job → Row → Option ℕ → List ℕ
 lines_below_failure plan job row last = if did_run row.ending then run_lines plan job row last else []
 
--- whether anything is told of a row that passed, or failed
+-- whether anything is told of a row that counts as a failure, or does not
 abbrev pub shows_row : Verbosity → Bool → Bool
-shows_row Quiet passed = false
-shows_row Failures passed = if passed then false else true
-shows_row All passed = true
+shows_row Quiet is_failing = false
+shows_row Failures is_failing = is_failing
+shows_row All is_failing = true
 
 unfoldable pub row_lines : Telling → Job → Row → List ℕ
 row_lines telling job row =
-    if shows_row telling.verbosity (has_passed telling.rule row)
-    then row_line telling.plan telling.unread telling.rule job row
-    ++ (if has_passed telling.rule row then []
-    else lines_below_failure telling.plan job row telling.last)
+    if shows_row telling.verbosity (fails telling.judging row)
+    then row_line telling.plan telling.unread telling.judging job row
+    ++ (if is_unknown_failure (judgement telling.judging row)
+    then lines_below_failure telling.plan job row telling.last else [])
     else []
 
 -- of the row of the job at a place; nothing where there is no job
@@ -125,6 +124,6 @@ abbrev pub explanation_if_run : Planned → Job → Row → WayToEnd → List �
 explanation_if_run plan job row way =
     if did_run row.ending then run_explanation plan job row way else []
 
-unfoldable pub explanation_text : Planned → List Unread → Rule → Job → Row → WayToEnd → List ℕ
-explanation_text plan unread rule job row way =
-    row_line plan unread rule job row ++ explanation_if_run plan job row way
+unfoldable pub explanation_text : Planned → List Unread → Judging → Job → Row → WayToEnd → List ℕ
+explanation_text plan unread judging job row way =
+    row_line plan unread judging job row ++ explanation_if_run plan job row way

@@ -1,13 +1,13 @@
--- The last line: how many jobs there were, how many of them passed, and how the others ended.
-use Rattle.std.specs.Prelude.{◌==◌, ◌-◌, ℕ, zero, suc, List, [], ◌∷◌, ◌++◌}
+-- The last line: how many jobs there were, how many of them passed, how those that failed ended, and how many
+-- failures are known.
+use Rattle.std.specs.Prelude.{◌==◌, ℕ, zero, suc, List, [], ◌∷◌, ◌++◌}
 use Rattle.std.specs.Prelude.{codes, if◌then◌else◌, length, sum_by, count_by}
 use Rattle.std.specs.List.{flat_map}
 use Rattle.std.specs.Fmt.{decimal}
 use Rattle.rv_machine.specs.Faults.{fault_name}
 use Rattle.rv_rows.specs.declared_row.Row.{Row}
 use Rattle.rv_rows.specs.Report.{line}
-use Rattle.rv_expect.specs.declared.passing.Rule.{Rule}
-use Rattle.rv_expect.specs.Passing.{has_passed}
+use Rattle.rv_expect.specs.Judgement.{Judging, fails, is_known_failure, is_passed, judgement}
 use Rattle.rv_expect.specs.declared.end_kind.EndKind.{EndKind}
 use Rattle.rv_expect.specs.declared.end_kind.EndKind.TheVariants as end_kind
 use Rattle.rv_expect.specs.EndKinds.{fails_with_end_kind, end_kind_at, end_kind_count}
@@ -23,11 +23,17 @@ end_kind_name end_kind.Refused = codes "refused"
 
 -- ---- counts
 
-abbrev pub passed_count : Rule → List Row → ℕ
-passed_count rule rows = count_by (has_passed rule) rows
+abbrev pub passed_count : Judging → List Row → ℕ
+passed_count judging rows = count_by (λ row. is_passed (judgement judging row)) rows
 
-abbrev pub failure_count_of_end_kind : Rule → List Row → EndKind → ℕ
-failure_count_of_end_kind rule rows kind = count_by (fails_with_end_kind rule kind) rows
+abbrev pub failed_count : Judging → List Row → ℕ
+failed_count judging rows = count_by (fails judging) rows
+
+abbrev pub known_count : Judging → List Row → ℕ
+known_count judging rows = count_by (λ row. is_known_failure (judgement judging row)) rows
+
+abbrev pub failure_count_of_end_kind : Judging → List Row → EndKind → ℕ
+failure_count_of_end_kind judging rows kind = count_by (fails_with_end_kind judging kind) rows
 
 abbrev pub total_steps : List Row → ℕ
 total_steps rows = sum_by (λ row. row.steps) rows
@@ -56,13 +62,17 @@ bracket_text texts = if length texts == 0 then [] else open_bracket_text texts +
 abbrev pub job_word : ℕ → List ℕ
 job_word count = if count == 1 then codes " job" else codes " jobs"
 
--- so many jobs, of which so many passed, and the others failed
-abbrev pub passed_counts_text : ℕ → ℕ → List ℕ
-passed_counts_text jobs passed = decimal jobs ++ job_word jobs ++ codes ": " ++ decimal passed ++ codes " passed, "
-    ++ decimal (jobs - passed) ++ codes " failed"
+-- so many jobs, of which so many passed and so many failed
+abbrev pub passed_counts_text : ℕ → ℕ → ℕ → List ℕ
+passed_counts_text jobs passed failed = decimal jobs ++ job_word jobs ++ codes ": " ++ decimal passed
+    ++ codes " passed, " ++ decimal failed ++ codes " failed"
+
+-- how many failures are known: told where there are any
+abbrev pub known_count_text : ℕ → List ℕ
+known_count_text count = if count == 0 then [] else codes ", " ++ decimal count ++ codes " known"
 
 -- the last line of what a person sees of rows
-unfoldable pub totals_line : Rule → List Row → List ℕ
-totals_line rule rows = line (passed_counts_text (length rows) (passed_count rule rows)
-    ++ bracket_text (failure_texts_below (failure_count_of_end_kind rule rows) end_kind_count)
-    ++ codes ", " ++ decimal (total_steps rows) ++ codes " steps")
+unfoldable pub totals_line : Judging → List Row → List ℕ
+totals_line judging rows = line (passed_counts_text (length rows) (passed_count judging rows) (failed_count judging rows)
+    ++ bracket_text (failure_texts_below (failure_count_of_end_kind judging rows) end_kind_count)
+    ++ known_count_text (known_count judging rows) ++ codes ", " ++ decimal (total_steps rows) ++ codes " steps")

@@ -3,9 +3,10 @@
 ghost use Rattle.std.specs.Prelude.{◌≡◌, ◌++◌, OnOk, codes, if◌then◌else◌};
 ghost use Rattle.std.specs.Fmt.{decimal};
 ghost use Rattle.rv_expect.specs.EndKinds.{end_kind_count};
+ghost use Rattle.rv_expect.specs.Judgement.{judging_of};
 ghost use Rattle.rv_job_text.specs.TotalsLine.{bracket_text, failure_count_of_end_kind, failure_texts_below, end_kind_name};
 
-use rv_expect::{EndKind, Rule, fails_with_end_kind};
+use rv_expect::{EndKind, Judge, fails_with_end_kind};
 use rv_rows::Row;
 use rv_text::{Span, push_spans};
 use std::alloc::AllocError;
@@ -13,16 +14,16 @@ use std::alloc::AllocError;
 /// Appends in brackets how many jobs failed with each kind of end; nothing where none did.
 pub(crate) fn push_failures_by_end_kind(
     bytes: &mut Vec<u8>,
-    rule: Rule,
+    judge: &Judge<'_>,
     rows: &[Row],
 ) -> Result<(), AllocError>
     ensures { OnOk result (bytes.new.items ≡ bytes.old.items
-        ++ bracket_text (failure_texts_below (failure_count_of_end_kind rule rows.now) end_kind_count)) }
+        ++ bracket_text (failure_texts_below (failure_count_of_end_kind (judging_of judge.now) rows.now) end_kind_count)) }
 {
     let mut is_open = false;
     for place in 0..EndKind::COUNT {
         let kind = EndKind::from_place(place);
-        let count = failure_count_of_end_kind(rule, rows, kind);
+        let count = failure_count_of_end_kind(judge, rows, kind);
         if count > 0 {
             push_failure_count(bytes, is_open, count, kind)?;
             is_open = true;
@@ -34,12 +35,12 @@ pub(crate) fn push_failures_by_end_kind(
     Ok(())
 }
 
-fn failure_count_of_end_kind(rule: Rule, rows: &[Row], kind: EndKind) -> usize
-    ensures { result ≡ failure_count_of_end_kind rule rows.now kind }
+fn failure_count_of_end_kind(judge: &Judge<'_>, rows: &[Row], kind: EndKind) -> usize
+    ensures { result ≡ failure_count_of_end_kind (judging_of judge.now) rows.now kind }
 {
     let mut count = 0;
     for row in rows {
-        if fails_with_end_kind(rule, kind, row) {
+        if fails_with_end_kind(judge, kind, row) {
             count += 1;
         }
     }

@@ -41,7 +41,7 @@ pub use paths::{console_path, reference_path};
 pub use refusal_reasons::ending_reason;
 pub use result_line::{EndDetail, push_result_line};
 pub use row_telling::RowTelling;
-pub use totals_line::{job_word, push_totals_line};
+pub use totals_line::{job_word, known_count, push_totals_line};
 pub use unread_files::{too_long_file_text, unread_file_text};
 pub use verbosity::Verbosity;
 pub use way_to_end::{WayToEnd, budget_use_at};

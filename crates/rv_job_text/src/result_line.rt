@@ -2,17 +2,17 @@
 
 ghost use Rattle.std.specs.Prelude.{◌≡◌, ◌++◌, OnOk, codes, option_map};
 ghost use Rattle.std.specs.Fmt.{decimal};
-ghost use Rattle.rv_expect.specs.Passing.{has_passed};
+ghost use Rattle.rv_expect.specs.Judgement.{judged_of};
 ghost use Rattle.rv_machine.specs.Faults.{fault_name};
 ghost use Rattle.rv_rows.specs.Report.{refusal_name};
 ghost use Rattle.rv_text.specs.Words.{word_digits};
-ghost use Rattle.rv_job_text.specs.ResultLine.{result_ending_text, pass_or_fail_word, optional_reason_text};
+ghost use Rattle.rv_job_text.specs.ResultLine.{judged_ending_text, judged_word, known_reason_text, now_passes_text, optional_reason_text, result_ending_text};
 ghost use Rattle.rv_text.specs.Symbol.{symbol_in_brackets};
 ghost use Rattle.rv_job_text.specs.ResultLine.{result_line, after_steps_text};
 ghost use Rattle.rv_text.specs.Symbol.{symbol_text};
 
 use rv_elf::SymbolAt;
-use rv_expect::{Rule, has_passed};
+use rv_expect::Judgement;
 use rv_machine::FaultKind;
 use rv_rows::{Refusal, Row, RowEnd};
 use rv_text::{Span, push_spans, push_symbol_in_brackets, push_text};
@@ -27,43 +27,91 @@ pub struct EndDetail<'a, 'b> {
     pub reason: Option<&'b [u8]>,
 }
 
-/// Appends the line of a row: `PASS` or `FAIL`, the job's name, and how it ended. A fault's address is told by a symbol
+/// Appends the line of a row: `PASS`, `FAIL` or `known`, the job's name, and how it ended. Of a failure that is known the
+/// reason stands behind it, in brackets; of a row that passed, though it is known to fail, which file says so. A fault's address is told by a symbol
 /// too where one is given, and a refusal by its reason where that is given. The symbol's name and the reason are shown as
 /// [`push_printable_text`](rv_text::push_printable_text) does.
 #[tactic(auto, unfolding(crate::specs::ResultLine::result_line))]
 pub fn push_result_line(
     alloc: Global,
     bytes: &mut Vec<u8>,
-    rule: Rule,
+    judgement: Judgement<'_>,
     row: &Row,
     detail: &EndDetail<'_, '_>,
 ) -> Result<(), AllocError>
     ensures { OnOk result (bytes.new.items ≡ bytes.old.items
-        ++ result_line rule row.now
+        ++ result_line (judged_of judgement) row.now
         (option_map (λ s. (s.name.now, s.offset)) detail.now.symbol)
         (option_map (λ text. text.now) detail.now.reason)) }
 {
-    let word = pass_or_fail_word(rule, row);
     push_spans(
         bytes,
         &[
-            Span::Text(word),
+            Span::Text(judged_word(judgement)),
             Span::Text(row.name.as_str()),
             Span::Text(": "),
         ],
     )?;
-    push_result_ending(alloc, bytes, row, detail.symbol, detail.reason)?;
+    push_judged_ending(alloc, bytes, judgement, row, detail)?;
     push_text(bytes, "\n")
 }
 
-fn pass_or_fail_word(rule: Rule, row: &Row) -> &'static str
-    ensures { result.now ≡ pass_or_fail_word (has_passed rule row.now) }
+fn judged_word(judgement: Judgement<'_>) -> &'static str
+    ensures { result.now ≡ judged_word (judged_of judgement) }
 {
-    if has_passed(rule, row) {
-        "PASS "
-    } else {
-        "FAIL "
+    match judgement {
+        Judgement::Passed => "PASS ",
+        Judgement::Failed | Judgement::NowPasses(_) => "FAIL ",
+        Judgement::Known(_) => "known ",
     }
+}
+
+fn push_judged_ending(
+    alloc: Global,
+    bytes: &mut Vec<u8>,
+    judgement: Judgement<'_>,
+    row: &Row,
+    detail: &EndDetail<'_, '_>,
+) -> Result<(), AllocError>
+    ensures { OnOk result (bytes.new.items ≡ bytes.old.items
+        ++ judged_ending_text (judged_of judgement) row.now
+        (option_map (λ s. (s.name.now, s.offset)) detail.now.symbol)
+        (option_map (λ text. text.now) detail.now.reason)) }
+{
+    match judgement {
+        Judgement::Passed | Judgement::Failed => {
+            push_result_ending(alloc, bytes, row, detail.symbol, detail.reason)
+        }
+        Judgement::Known(why) => {
+            push_result_ending(alloc, bytes, row, detail.symbol, detail.reason)?;
+            push_known_reason(bytes, why)
+        }
+        Judgement::NowPasses(path) => push_now_passes(bytes, path),
+    }
+}
+
+fn push_known_reason(bytes: &mut Vec<u8>, why: &[u8]) -> Result<(), AllocError>
+    ensures { OnOk result (bytes.new.items ≡ bytes.old.items ++ known_reason_text why.now) }
+{
+    if why.is_empty() {
+        return Ok(());
+    }
+    push_spans(
+        bytes,
+        &[Span::Text(" ("), Span::Shown(why), Span::Text(")")],
+    )
+}
+
+fn push_now_passes(bytes: &mut Vec<u8>, path: &str) -> Result<(), AllocError>
+    ensures { OnOk result (bytes.new.items ≡ bytes.old.items ++ now_passes_text path.now) }
+{
+    push_spans(
+        bytes,
+        &[
+            Span::Text("passes, and is known to fail: take it out of "),
+            Span::Shown(path.as_bytes()),
+        ],
+    )
 }
 
 #[tactic(auto, unfolding(crate::specs::ResultLine::result_ending_text))]

@@ -2,6 +2,7 @@
 
 ghost use Rattle.std.specs.Prelude.{◌≡◌, ◌<◌, ◌++◌, OnOk, length, option_map};
 ghost use Rattle.rv_expect.specs.Comparisons.{sides_of};
+ghost use Rattle.rv_expect.specs.Judgement.{judging_of};
 ghost use Rattle.rv_expect.specs.UnmetInPlan.{row_of_same_as_job};
 ghost use Rattle.rv_jobs.specs.declared_job.Job.{Job as AJob};
 ghost use Rattle.rv_trace.specs.Trace.{job_at};
@@ -20,7 +21,7 @@ use crate::unmet_line::push_unmet_lines;
 use crate::verbosity::{Detail, Verbosity};
 use crate::way_to_end::WayToEnd;
 use rv_elf::SymbolAt;
-use rv_expect::{Comparison, Rule, Unmet, has_passed, row_of_same_as_job, unmet_expectations};
+use rv_expect::{Comparison, Judge, Unmet, row_of_same_as_job, unmet_expectations};
 use rv_files::Unread;
 use rv_jobs::Plan;
 use rv_rows::{Row, RowEnd, Telling, did_run, expected_console_bytes, signature_reference_bytes};
@@ -32,7 +33,8 @@ pub struct RowTelling<'a> {
     pub plan: &'a Plan,
     /// What a store noted of the paths that it could not read.
     pub unread: &'a [Unread],
-    pub rule: Rule,
+    /// How rows are counted.
+    pub judge: Judge<'a>,
     pub verbosity: Verbosity,
     /// How many of the last instructions of a job that failed are told, where they are.
     pub last: Option<u32>,
@@ -71,11 +73,11 @@ impl<'a> RowTelling<'a> {
         ensures { OnOk result ((d : AJob) → text.new.items ≡ text.old.items
             ++ row_lines (telling_of self.now) (job_at self.now.plan.now place d) row.now) }
     {
-        let passed = has_passed(self.rule, row);
-        if !self.verbosity.shows_row(self.rule, row) {
+        let judgement = self.judge.judgement(row);
+        if !self.verbosity.shows_row(judgement) {
             return Ok(());
         }
-        if passed || !did_run(row.ending) {
+        if !judgement.is_unknown_failure() || !did_run(row.ending) {
             return self.push_lone_row_line(alloc, place, row, text);
         }
         let plan = self.plan;
@@ -104,7 +106,7 @@ impl<'a> RowTelling<'a> {
     ) -> Result<(), AllocError>
         requires { place < length self.now.plan.now.jobs }
         ensures { OnOk result ((d : AJob) → text.new.items ≡ text.old.items
-            ++ explanation_text self.now.plan.now self.now.unread.now self.now.rule
+            ++ explanation_text self.now.plan.now self.now.unread.now (judging_of self.now.judge)
             (job_at self.now.plan.now place d) row.now way.now) }
     {
         if !did_run(row.ending) {
@@ -134,7 +136,7 @@ impl<'a> RowTelling<'a> {
     ) -> Result<(), AllocError>
         requires { place < length self.now.plan.now.jobs }
         ensures { OnOk result ((d : AJob) → text.new.items ≡ text.old.items
-            ++ row_line self.now.plan.now self.now.unread.now self.now.rule
+            ++ row_line self.now.plan.now self.now.unread.now (judging_of self.now.judge)
             (job_at self.now.plan.now place d) row.now) }
     {
         match row.ending {
@@ -163,16 +165,15 @@ impl<'a> RowTelling<'a> {
             ≡ fault_symbol (job_at self.now.plan.now place d).isa
             (image_bytes self.now.plan.now (job_at self.now.plan.now place d)) row.now.ending }
         ensures { OnOk result ((d : AJob) → text.new.items ≡ text.old.items
-            ++ row_line self.now.plan.now self.now.unread.now self.now.rule
+            ++ row_line self.now.plan.now self.now.unread.now (judging_of self.now.judge)
             (job_at self.now.plan.now place d) row.now) }
     {
-        let (plan, rule) = (self.plan, self.rule);
-        let reason = ending_reason(alloc, plan, self.unread, place, row.ending)?;
+        let reason = ending_reason(alloc, self.plan, self.unread, place, row.ending)?;
         let detail = EndDetail {
             symbol,
             reason: reason_bytes(&reason),
         };
-        push_result_line(alloc, text, rule, row, &detail)
+        push_result_line(alloc, text, self.judge.judgement(row), row, &detail)
     }
 }
 

@@ -1,18 +1,17 @@
 //! How much is told of rows.
 
 ghost use Rattle.std.specs.Prelude.{◌≡◌};
-ghost use Rattle.rv_expect.specs.Passing.{has_passed};
+ghost use Rattle.rv_expect.specs.Judgement.{is_failing, judged_of};
 ghost use Rattle.rv_job_text.specs.Telling.{shows_row};
 
-use rv_expect::{Rule, has_passed};
-use rv_rows::Row;
+use rv_expect::Judgement;
 
 /// How much is told.
 #[derive(Clone, Copy)]
 pub enum Verbosity {
     /// Nothing.
     Quiet,
-    /// The jobs that fail.
+    /// The jobs that count as failures: a failure that is known does not.
     Failures,
     /// All jobs; of those that pass the line alone.
     All,
@@ -28,13 +27,13 @@ pub(crate) enum Detail {
 }
 
 impl Verbosity {
-    /// Whether anything is told of a row, by whether the rule lets it pass.
-    pub(crate) fn shows_row(self, rule: Rule, row: &Row) -> bool
-        ensures { result ≡ shows_row self (has_passed rule row.now) }
+    /// Whether anything is told of a row, by what it counts as.
+    pub(crate) fn shows_row(self, judgement: Judgement<'_>) -> bool
+        ensures { result ≡ shows_row self (is_failing (judged_of judgement)) }
     {
         match self {
             Verbosity::Quiet => false,
-            Verbosity::Failures => !has_passed(rule, row),
+            Verbosity::Failures => judgement.is_failing(),
             Verbosity::All => true,
         }
     }

@@ -1,14 +1,14 @@
 -- Rows as JUnit's XML: one suite, and one case a row, in order.
-use Rattle.std.specs.Prelude.{◌^◌, ◌<◌, ℕ, List, [], ◌∷◌, ◌++◌, Option, Some, None, codes}
+use Rattle.std.specs.Prelude.{◌==◌, ◌^◌, ◌<◌, ℕ, List, [], ◌∷◌, ◌++◌, Option, Some, None, codes}
 use Rattle.std.specs.Prelude.{count_by, if◌then◌else◌, length, position, take}
 use Rattle.std.specs.Fmt.{decimal}
 use Rattle.std.specs.List.{flat_map}
 use Rattle.hex.specs.Hex.{IsBytes}
 use Rattle.rv_rows.specs.declared_row.Row.{Row}
 use Rattle.rv_rows.specs.Verdict.{did_run}
-use Rattle.rv_expect.specs.declared.passing.Rule.{Rule}
 use Rattle.rv_job_text.specs.ConsoleTail.{is_feed}
-use Rattle.rv_expect.specs.Passing.{has_passed}
+use Rattle.rv_expect.specs.Judgement.{Judged, Judging, failed, judgement, known, now_passes, passed}
+use Rattle.rv_job_text.specs.TotalsLine.{known_count}
 use Rattle.rv_expect.specs.Problem.{is_error, is_failure}
 use Rattle.rv_text.specs.declared.xml.Within.TheVariants.{Element}
 use Rattle.rv_text.specs.Xml.{xml_text}
@@ -33,8 +33,19 @@ problem_text row lines =
     codes "<" ++ problem_element_name row ++ attribute (codes "message") (first_line lines) ++ codes ">"
     ++ xml_text Element lines ++ codes "</" ++ problem_element_name row ++ codes ">\n"
 
-abbrev pub problem_or_none : Rule → Row → List ℕ → List ℕ
-problem_or_none rule row lines = if has_passed rule row then [] else problem_text row lines
+-- a failure that is known is skipped, for its reason where one is said
+abbrev pub reason_attribute : List ℕ → List ℕ
+reason_attribute why = if length why == 0 then [] else attribute (codes "message") why
+
+unfoldable pub skipped_text : List ℕ → List ℕ
+skipped_text why = codes "<skipped" ++ reason_attribute why ++ codes "/>\n"
+
+-- what stands in the case of a row, by what it counts as
+abbrev pub judged_text : Judged → Row → List ℕ → List ℕ
+judged_text passed row lines = []
+judged_text failed row lines = problem_text row lines
+judged_text (known why) row lines = skipped_text why
+judged_text (now_passes path) row lines = problem_text row lines
 
 -- the steps, and then the console
 unfoldable pub output_text : Row → List ℕ
@@ -43,10 +54,10 @@ output_text row =
     ++ codes "</system-out>\n"
 
 -- a row, under the name of its class, with the lines that it is given
-unfoldable pub test_case_text : List ℕ → Rule → Row → List ℕ → List ℕ
-test_case_text class rule row lines =
+unfoldable pub test_case_text : List ℕ → Judging → Row → List ℕ → List ℕ
+test_case_text class judging row lines =
     codes "<testcase" ++ attribute (codes "classname") class ++ attribute (codes "name") row.name
-    ++ codes ">\n" ++ problem_or_none rule row lines ++ output_text row ++ codes "</testcase>\n"
+    ++ codes ">\n" ++ judged_text (judgement judging row) row lines ++ output_text row ++ codes "</testcase>\n"
 
 -- ---- the document
 
@@ -60,27 +71,32 @@ steps_property row =
 unfoldable pub steps_properties : List Row → List ℕ
 steps_properties rows = codes "<properties>\n" ++ flat_map steps_property rows ++ codes "</properties>\n"
 
+-- how many cases are skipped, where some are
+abbrev pub skipped_attribute : ℕ → List ℕ
+skipped_attribute count = if count == 0 then [] else number_attribute (codes "skipped") count
+
 -- the name and the counts of the one suite, and the steps of its jobs
-unfoldable pub suite_begin_text : List ℕ → Rule → List Row → List ℕ
-suite_begin_text class rule rows =
+unfoldable pub suite_begin_text : List ℕ → Judging → List Row → List ℕ
+suite_begin_text class judging rows =
     codes "<?xml version=\"1.0\" encoding=\"UTF-8\"?>\n<testsuites>\n<testsuite"
     ++ attribute (codes "name") class ++ number_attribute (codes "tests") (length rows)
-    ++ number_attribute (codes "failures") (count_by (is_failure rule) rows)
-    ++ number_attribute (codes "errors") (count_by (is_error rule) rows) ++ codes ">\n" ++ steps_properties rows
+    ++ number_attribute (codes "failures") (count_by (is_failure judging) rows)
+    ++ number_attribute (codes "errors") (count_by (is_error judging) rows)
+    ++ skipped_attribute (known_count judging rows) ++ codes ">\n" ++ steps_properties rows
 
 -- one case a row, with the text of lines at its place
-unfoldable pub test_cases_text : List ℕ → Rule → List (List ℕ) → List Row → List ℕ
-test_cases_text class rule [] rows = []
-test_cases_text class rule (lines ∷ texts) [] = []
-test_cases_text class rule (lines ∷ texts) (row ∷ rows) =
-    test_case_text class rule row lines ++ test_cases_text class rule texts rows
+unfoldable pub test_cases_text : List ℕ → Judging → List (List ℕ) → List Row → List ℕ
+test_cases_text class judging [] rows = []
+test_cases_text class judging (lines ∷ texts) [] = []
+test_cases_text class judging (lines ∷ texts) (row ∷ rows) =
+    test_case_text class judging row lines ++ test_cases_text class judging texts rows
 
 abbrev pub suite_end_text : List ℕ
 suite_end_text = codes "</testsuite>\n</testsuites>\n"
 
-unfoldable pub junit_text : List ℕ → Rule → List (List ℕ) → List Row → List ℕ
-junit_text class rule texts rows =
-    suite_begin_text class rule rows ++ test_cases_text class rule texts rows ++ suite_end_text
+unfoldable pub junit_text : List ℕ → Judging → List (List ℕ) → List Row → List ℕ
+junit_text class judging texts rows =
+    suite_begin_text class judging rows ++ test_cases_text class judging texts rows ++ suite_end_text
 
 -- ---- what rows are
 

@@ -5,11 +5,13 @@ ghost use Rattle.std.specs.List.{flat_map};
 ghost use Rattle.rv_job_text.specs.ConsoleTail.{is_feed};
 ghost use Rattle.rv_expect.specs.Problem.{is_error, is_failure};
 ghost use Rattle.rv_junit.specs.Junit.{suite_begin_text, test_case_text, first_line, steps_properties, steps_property};
-ghost use Rattle.rv_junit.specs.Junit.{problem_element_name, problem_or_none};
+ghost use Rattle.rv_junit.specs.Junit.{judged_text, problem_element_name, problem_text, reason_attribute, skipped_attribute, skipped_text};
+ghost use Rattle.rv_expect.specs.Judgement.{judged_of, judging_of};
 
-use crate::pieces::{Piece, push_pieces};
+use crate::pieces::{Piece, push_attribute, push_number_attribute, push_pieces};
 use crate::suite::Suite;
-use rv_expect::{Rule, has_passed, is_error, is_failure};
+use rv_expect::{Judge, Judgement, is_error, is_failure};
+use rv_job_text::known_count;
 use rv_rows::{Row, did_run};
 use rv_text::push_text;
 use std::alloc::{AllocError, Global};
@@ -22,10 +24,10 @@ pub(crate) fn push_suite_begin(
     rows: &[Row],
 ) -> Result<(), AllocError>
     ensures { OnOk result (string_bytes text.new
-        ≡ string_bytes text.old ++ suite_begin_text suite.now.name.now suite.now.rule rows.now) }
+        ≡ string_bytes text.old ++ suite_begin_text suite.now.name.now (judging_of suite.now.judge) rows.now) }
 {
-    let failures = failure_count(suite.rule, rows);
-    let errors = error_count(suite.rule, rows);
+    let failures = failure_count(&suite.judge, rows);
+    let errors = error_count(&suite.judge, rows);
     push_pieces(
         alloc,
         text,
@@ -35,10 +37,21 @@ pub(crate) fn push_suite_begin(
             Piece::NumberAttribute("tests", rows.len() as u64),
             Piece::NumberAttribute("failures", failures as u64),
             Piece::NumberAttribute("errors", errors as u64),
-            Piece::Text(">\n"),
         ],
     )?;
+    push_skipped_attribute(text, known_count(&suite.judge, rows))?;
+    text.push_str(">\n")?;
     push_steps_properties(alloc, text, rows)
+}
+
+// Appends how many cases are skipped, where some are.
+fn push_skipped_attribute(text: &mut String, count: usize) -> Result<(), AllocError>
+    ensures { OnOk result (string_bytes text.new ≡ string_bytes text.old ++ skipped_attribute count) }
+{
+    if count == 0 {
+        return Ok(());
+    }
+    push_number_attribute(text, "skipped", count as u64)
 }
 
 // Appends the steps of rows as properties.
@@ -90,16 +103,16 @@ fn steps_name(alloc: Global, row: &Row) -> Result<Vec<u8>, AllocError>
     Ok(name)
 }
 
-fn failure_count(rule: Rule, rows: &[Row]) -> usize
-    ensures { result ≡ count_by (is_failure rule) rows.now }
+fn failure_count(judge: &Judge<'_>, rows: &[Row]) -> usize
+    ensures { result ≡ count_by (is_failure (judging_of judge.now)) rows.now }
 {
-    rows.iter().filter(|row| is_failure(rule, row)).count()
+    rows.iter().filter(|row| is_failure(judge, row)).count()
 }
 
-fn error_count(rule: Rule, rows: &[Row]) -> usize
-    ensures { result ≡ count_by (is_error rule) rows.now }
+fn error_count(judge: &Judge<'_>, rows: &[Row]) -> usize
+    ensures { result ≡ count_by (is_error (judging_of judge.now)) rows.now }
 {
-    rows.iter().filter(|row| is_error(rule, row)).count()
+    rows.iter().filter(|row| is_error(judge, row)).count()
 }
 
 /// Appends the case of a row, with the lines that the row is given.
@@ -111,7 +124,7 @@ pub(crate) fn push_test_case<'a>(
     lines: &[u8],
 ) -> Result<(), AllocError>
     ensures { OnOk result (string_bytes text.new
-        ≡ string_bytes text.old ++ test_case_text suite.now.name.now suite.now.rule row.now lines.now) }
+        ≡ string_bytes text.old ++ test_case_text suite.now.name.now (judging_of suite.now.judge) row.now lines.now) }
 {
     push_pieces(
         alloc,
@@ -123,7 +136,7 @@ pub(crate) fn push_test_case<'a>(
             Piece::Text(">\n"),
         ],
     )?;
-    push_problem_or_none(alloc, text, suite.rule, row, lines)?;
+    push_judged(alloc, text, suite.judge.judgement(row), row, lines)?;
     let steps = row.steps;
     push_pieces(
         alloc,
@@ -138,20 +151,52 @@ pub(crate) fn push_test_case<'a>(
     )
 }
 
-#[tactic(auto, unfolding(crate::specs::Junit::problem_text))]
-fn push_problem_or_none(
+// Appends what stands in the case of a row, by what it counts as.
+fn push_judged(
     alloc: Global,
     text: &mut String,
-    rule: Rule,
+    judgement: Judgement<'_>,
     row: &Row,
     lines: &[u8],
 ) -> Result<(), AllocError>
     ensures { OnOk result (string_bytes text.new
-        ≡ string_bytes text.old ++ problem_or_none rule row.now lines.now) }
+        ≡ string_bytes text.old ++ judged_text (judged_of judgement) row.now lines.now) }
 {
-    if has_passed(rule, row) {
+    match judgement {
+        Judgement::Passed => Ok(()),
+        Judgement::Failed | Judgement::NowPasses(_) => push_problem(alloc, text, row, lines),
+        Judgement::Known(why) => push_skipped(alloc, text, why),
+    }
+}
+
+#[tactic(auto, unfolding(crate::specs::Junit::skipped_text))]
+fn push_skipped(alloc: Global, text: &mut String, why: &[u8]) -> Result<(), AllocError>
+    ensures { OnOk result (string_bytes text.new ≡ string_bytes text.old ++ skipped_text why.now) }
+{
+    text.push_str("<skipped")?;
+    push_reason_attribute(alloc, text, why)?;
+    text.push_str("/>\n")
+}
+
+fn push_reason_attribute(alloc: Global, text: &mut String, why: &[u8]) -> Result<(), AllocError>
+    ensures { OnOk result (string_bytes text.new ≡ string_bytes text.old ++ reason_attribute why.now) }
+{
+    if why.is_empty() {
         return Ok(());
     }
+    push_attribute(alloc, text, "message", why)
+}
+
+#[tactic(auto, unfolding(crate::specs::Junit::problem_text))]
+fn push_problem(
+    alloc: Global,
+    text: &mut String,
+    row: &Row,
+    lines: &[u8],
+) -> Result<(), AllocError>
+    ensures { OnOk result (string_bytes text.new
+        ≡ string_bytes text.old ++ problem_text row.now lines.now) }
+{
     let name = problem_element_name(row);
     push_pieces(
         alloc,

@@ -5,6 +5,7 @@ ghost use Rattle.std.specs.Io.KnownBytes.{Appends};
 ghost use Rattle.rv_rows.specs.Sinks.{AppendsBeginning};
 ghost use Rattle.rv_rows.specs.Counts.{HasRisen};
 ghost use Rattle.rv_stream.specs.Streams.{row_text_list};
+ghost use Rattle.rv_expect.specs.Judgement.{judging_of};
 ghost use Rattle.rv_junit.specs.Junit.{junit_text};
 
 use crate::junit::{push_suite_begin, push_test_case};
@@ -15,7 +16,8 @@ use rv_text::push_text;
 use std::alloc::{AllocError, Global};
 
 /// Writes rows as JUnit's XML: one suite, and in order one case a row, with its steps and its console. A failed
-/// row is a failure, or an error where the job was refused, with the lines that are told of the job at its place. After an
+/// row is a failure, or an error where the job was refused, with the lines that are told of the job at its place. A failure
+/// that is known is skipped, with its reason. After an
 /// error a beginning of the text is out.
 pub fn write_junit<T: Telling, W: Sink>(
     alloc: Global,
@@ -25,11 +27,11 @@ pub fn write_junit<T: Telling, W: Sink>(
     out: &mut W,
 ) -> Result<(), WriteError>
     ensures appended { OnOk result (Appends (W.taken out.old) (W.taken out.new)
-        (junit_text suite.now.name.now suite.now.rule
+        (junit_text suite.now.name.now (judging_of suite.now.judge)
         (row_text_list (T.line telling.now) rows.now.places.now rows.now.rows.now) rows.now.rows.now)) }
     ensures counted { OnOk result (W.failed out.new ≡ W.failed out.old) }
     ensures part { OnErr result (AppendsBeginning (W.taken out.old) (W.taken out.new)
-        (junit_text suite.now.name.now suite.now.rule
+        (junit_text suite.now.name.now (judging_of suite.now.judge)
         (row_text_list (T.line telling.now) rows.now.places.now rows.now.rows.now) rows.now.rows.now)) }
     ensures failed { IfErr result (λ error. error ≡ WriteError.Failed
         → HasRisen (W.failed out.old) (W.failed out.new)) }
@@ -55,9 +57,10 @@ struct Cases<'a, 'b, T: Telling> {
 }
 
 impl<'a, 'b, T: Telling> Telling for Cases<'a, 'b, T> {
+    ghost use Rattle.rv_expect.specs.Judgement.{judging_of};
     ghost use Rattle.rv_junit.specs.Junit.{test_case_text};
 
-    ghost line = { λ cases place row. test_case_text cases.suite.name.now cases.suite.rule row
+    ghost line = { λ cases place row. test_case_text cases.suite.name.now (judging_of cases.suite.judge) row
         (T.line cases.telling.now place row) };
 
     fn push_row_text(

@@ -4,22 +4,23 @@ ghost use Rattle.std.specs.Prelude.{◌≡◌, ◌+◌, ◌<◌, ◌^◌, ℕ, L
 ghost use Rattle.std.specs.List.{AllByRecursion};
 ghost use Rattle.hex.specs.Hex.{IsBytes};
 ghost use Rattle.rv_rows.specs.declared_row.Row.{Row};
-ghost use Rattle.rv_expect.specs.declared.passing.Rule.{Rule};
-ghost use Rattle.rv_job_text.specs.TotalsLine.{passed_count};
+ghost use Rattle.rv_expect.specs.Judgement.{Judging};
+ghost use Rattle.rv_job_text.specs.TotalsLine.{known_count, passed_count};
 ghost use Rattle.rv_expect.specs.Problem.{is_error, is_failure};
 ghost use Rattle.rv_junit.specs.Junit.{IsWrittenRow, junit_text};
 ghost use Rattle.rv_text.specs.Xml.{IsXmlCharacters};
 
 /// A whole document is the UTF-8 of characters of XML 1.0, whatever bytes stand in names, lines and consoles.
 pub fn documents_are_xml_characters()
-    ensures { (class : List ℕ) (rule : Rule) (texts : List (List ℕ)) (rows : List Row)
+    ensures { (class : List ℕ) (judging : Judging) (texts : List (List ℕ)) (rows : List Row)
         → IsBytes class → AllByRecursion IsBytes texts → AllByRecursion IsWrittenRow rows
-        → length rows < 2 ^ 64 → IsXmlCharacters (junit_text class rule texts rows) }
+        → length rows < 2 ^ 64 → IsXmlCharacters (junit_text class judging texts rows) }
 {}
 
-/// The failures and the errors of rows are together those that did not pass.
-pub fn failures_and_errors_are_what_did_not_pass()
-    ensures { (rule : Rule) (rows : List Row)
-        → count_by (is_failure rule) rows + count_by (is_error rule) rows + passed_count rule rows
+/// Each row is a failure, an error, skipped since its failure is known, or passed.
+pub fn each_row_is_counted_once()
+    ensures { (judging : Judging) (rows : List Row)
+        → count_by (is_failure judging) rows + count_by (is_error judging) rows + known_count judging rows
+        + passed_count judging rows
         ≡ length rows }
 {}

@@ -11,6 +11,6 @@ mod pieces;
 mod suite;
 
 pub use junit_writer::write_junit;
-pub use law::{documents_are_xml_characters, failures_and_errors_are_what_did_not_pass};
+pub use law::{documents_are_xml_characters, each_row_is_counted_once};
 pub use rv_stream::PlacedRows;
 pub use suite::Suite;

@@ -52,7 +52,7 @@ fn push_piece(alloc: Global, text: &mut String, piece: Piece<'_>) -> Result<(), 
 }
 
 #[tactic(auto, unfolding(crate::specs::Pieces::attribute))]
-fn push_attribute(
+pub(crate) fn push_attribute(
     alloc: Global,
     text: &mut String,
     name: &str,
@@ -67,7 +67,7 @@ fn push_attribute(
 }
 
 #[tactic(auto, unfolding(crate::specs::Pieces::number_attribute))]
-fn push_number_attribute(text: &mut String, name: &str, number: u64) -> Result<(), AllocError>
+pub(crate) fn push_number_attribute(text: &mut String, name: &str, number: u64) -> Result<(), AllocError>
     ensures { OnOk result (string_bytes text.new
         ≡ string_bytes text.old ++ number_attribute name.now number) }
 {

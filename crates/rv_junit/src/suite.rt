@@ -1,12 +1,12 @@
 //! The suite of a document.
 
-use rv_expect::Rule;
+use rv_expect::Judge;
 
 /// The one suite of a document.
 #[derive(Clone, Copy)]
 pub struct Suite<'a> {
     /// Its name, and that of the class of its cases.
     pub name: &'a [u8],
-    /// By which rows fail.
-    pub rule: Rule,
+    /// How its rows are counted.
+    pub judge: Judge<'a>,
 }

@@ -1,25 +1,25 @@
-//! A telling that keeps the lines of rows that failed.
+//! A telling that keeps the lines of rows that count as failures.
 
-ghost use Rattle.std.specs.Prelude.{◌≡◌, ◌++◌, ℕ, OnOk, false};
+ghost use Rattle.std.specs.Prelude.{◌≡◌, ◌++◌, ℕ, OnOk, true};
 ghost use Rattle.std.specs.Option.{ForSome};
-ghost use Rattle.rv_expect.specs.Passing.{has_passed};
+ghost use Rattle.rv_expect.specs.Judgement.{fails, judging_of};
 ghost use Rattle.rv_rows.specs.declared_row.Row.{Row as ARow};
 
 use crate::kept_lines::{KeptLines, KeptRow, RowLines};
-use rv_expect::{Rule, has_passed};
+use rv_expect::Judge;
 use rv_rows::{Row, Telling};
 use std::alloc::{AllocError, Global};
 use std::sync::{Mutex, Wait};
 
-/// Tells what another telling tells, and keeps the lines of rows that failed. Workers share what is kept.
+/// Tells what another telling tells, and keeps the lines of rows that count as failures. Workers share what is kept.
 #[derive(Drop)]
 pub struct KeepingTelling<'r, 't, 'k, J: RowLines, R: Wait, T: Telling> {
     rt: &'r R,
     telling: &'t T,
-    rule: Rule,
+    judge: Judge<'k>,
     // None where nothing is kept.
     kept: Option<&'k Mutex<KeptLines<J>>>,
-    ghost told: { ForSome kept (λ _. (place : ℕ) (row : ARow) → has_passed rule row ≡ false
+    ghost told: { ForSome kept (λ _. (place : ℕ) (row : ARow) → fails (judging_of judge) row ≡ true
         → T.line telling.now place row ≡ J.lines place row) },
 }
 
@@ -27,17 +27,17 @@ impl<'r, 't, 'k, J: RowLines, R: Wait, T: Telling> KeepingTelling<'r, 't, 'k, J,
     pub fn new(
         rt: &'r R,
         telling: &'t T,
-        rule: Rule,
+        judge: Judge<'k>,
         kept: Option<&'k Mutex<KeptLines<J>>>,
     ) -> KeepingTelling<'r, 't, 'k, J, R, T>
-        requires { ForSome kept (λ _. (place : ℕ) (row : ARow) → has_passed rule row ≡ false
+        requires { ForSome kept (λ _. (place : ℕ) (row : ARow) → fails (judging_of judge) row ≡ true
             → T.line telling.now place row ≡ J.lines place row) }
         ensures { result.telling.now ≡ telling.now }
     {
         KeepingTelling {
             rt,
             telling,
-            rule,
+            judge,
             kept,
         }
     }
@@ -74,7 +74,7 @@ impl<'r, 't, 'k, J: RowLines, R: Wait, T: Telling> Telling for KeepingTelling<'r
         text: &mut Vec<u8>,
     ) -> Result<(), AllocError> {
         match self.kept {
-            Some(kept) if !has_passed(self.rule, row) => {
+            Some(kept) if self.judge.fails(row) => {
                 self.push_and_keep(alloc, kept, place, row, text)
             }
             _ => self.telling.push_row_text(alloc, place, row, text),

@@ -11,16 +11,17 @@ use std::time::Clock;
 
 /// Tells what another telling tells, and counts each row that is told.
 #[derive(Drop)]
-pub struct CountingTelling<'r, 't, 'p, R: Clock + Wait, T: Telling, W: Drop> {
+pub struct CountingTelling<'r, 't, 'p, 'k, R: Clock + Wait, T: Telling, W: Drop> {
     rt: &'r R,
     telling: &'t T,
-    progress: &'p Progress<W>,
+    progress: &'p Progress<'k, W>,
 }
 
-impl<'r, 't, 'p, R: Clock + Wait, T: Telling, W: Write + Drop> CountingTelling<
+impl<'r, 't, 'p, 'k, R: Clock + Wait, T: Telling, W: Write + Drop> CountingTelling<
     'r,
     't,
     'p,
+    'k,
     R,
     T,
     W,
@@ -28,8 +29,8 @@ impl<'r, 't, 'p, R: Clock + Wait, T: Telling, W: Write + Drop> CountingTelling<
     pub fn new(
         rt: &'r R,
         telling: &'t T,
-        progress: &'p Progress<W>,
-    ) -> CountingTelling<'r, 't, 'p, R, T, W>
+        progress: &'p Progress<'k, W>,
+    ) -> CountingTelling<'r, 't, 'p, 'k, R, T, W>
         ensures { result.telling.now ≡ telling.now }
     {
         CountingTelling {
@@ -40,8 +41,8 @@ impl<'r, 't, 'p, R: Clock + Wait, T: Telling, W: Write + Drop> CountingTelling<
     }
 }
 
-impl<'r, 't, 'p, R: Clock + Wait, T: Telling, W: Write + Drop> Telling
-    for CountingTelling<'r, 't, 'p, R, T, W> {
+impl<'r, 't, 'p, 'k, R: Clock + Wait, T: Telling, W: Write + Drop> Telling
+    for CountingTelling<'r, 't, 'p, 'k, R, T, W> {
     ghost line = { λ counting place row. T.line counting.telling.now place row };
 
     fn push_row_text(

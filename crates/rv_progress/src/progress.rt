@@ -2,11 +2,12 @@
 
 ghost use Rattle.std.specs.Prelude.{◌≡◌, ◌++◌, ◌+◌, ◌-◌, ◌∷◌, ◌^◌, ◌<◌, [], List, length};
 ghost use Rattle.rv_progress.specs.Tallies.{IsTallyOf};
+ghost use Rattle.rv_expect.specs.Judgement.{judging_of};
 ghost use Rattle.rv_rows.specs.declared_row.Row.{Row as ARow};
 
 use crate::tally::Tally;
 use crate::terminal_line::{Counts, Line};
-use rv_expect::Rule;
+use rv_expect::Judge;
 use rv_rows::Row;
 use std::alloc::Global;
 use std::io::Write;
@@ -16,9 +17,9 @@ use std::time::Clock;
 
 /// How many jobs of a run are done and failed, and a terminal that shows it in one line. Workers share it.
 #[derive(Drop)]
-pub struct Progress<W: Drop> {
+pub struct Progress<'k, W: Drop> {
     jobs: u64,
-    rule: Rule,
+    judge: Judge<'k>,
     is_terminal: bool,
     // A lock of its own: to count waits for no terminal.
     tally: Mutex<Tally>,
@@ -29,34 +30,40 @@ pub struct Progress<W: Drop> {
     line: Mutex<Line<W>>,
 }
 
-impl<W: Write + Drop> Progress<W> {
-    /// Of a run of so many jobs, which fail by a rule. The line is shown on `out`, where that is a terminal, and from
+impl<'k, W: Write + Drop> Progress<'k, W> {
+    /// Of a run of so many jobs, whose rows a judge counts. The line is shown on `out`, where that is a terminal, and from
     /// the next tenth of a second of the clock on: a run that is done before has none.
     pub fn new<C: Clock>(
         clock: &C,
         jobs: usize,
-        rule: Rule,
+        judge: Judge<'k>,
         out: W,
         is_terminal: bool,
-    ) -> Progress<W>
+    ) -> Progress<'k, W>
         ensures jobs { result.jobs ≡ jobs }
-        ensures rule { result.rule ≡ rule }
+        ensures judge { judging_of result.judge ≡ judging_of judge }
         ensures terminal { result.is_terminal ≡ is_terminal }
     {
         let start = clock_tenths(clock).unwrap_or(0);
-        Progress::from_start(start, jobs, rule, out, is_terminal)
+        Progress::from_start(start, jobs, judge, out, is_terminal)
     }
 
     // Of a run that begins in a tenth of a second of the clock.
-    fn from_start(start: u64, jobs: usize, rule: Rule, out: W, is_terminal: bool) -> Progress<W>
+    fn from_start(
+        start: u64,
+        jobs: usize,
+        judge: Judge<'k>,
+        out: W,
+        is_terminal: bool,
+    ) -> Progress<'k, W>
         ensures start { result.start ≡ start }
         ensures jobs { result.jobs ≡ jobs }
-        ensures rule { result.rule ≡ rule }
+        ensures judge { judging_of result.judge ≡ judging_of judge }
         ensures terminal { result.is_terminal ≡ is_terminal }
     {
         Progress {
             jobs: jobs as u64,
-            rule,
+            judge,
             is_terminal,
             tally: Mutex::new(Tally::new()),
             start,
@@ -69,7 +76,7 @@ impl<W: Write + Drop> Progress<W> {
     pub fn finish(self) -> W {
         let Progress {
             jobs: _,
-            rule: _,
+            judge: _,
             is_terminal: _,
             tally: _,
             start: _,
@@ -98,12 +105,12 @@ impl<W: Write + Drop> Progress<W> {
         }
     }
 
-    // Counts one more row, by the rule of the run.
+    // Counts one more row, by the judge of the run.
     fn count_in_tally(&self, tally: &mut Tally, row: &Row)
-        ensures { (rows : List ARow) → length rows + 1 < 2 ^ 64 → IsTallyOf self.now.rule rows tally.old
-            → IsTallyOf self.now.rule (rows ++ row.now ∷ []) tally.new }
+        ensures { (rows : List ARow) → length rows + 1 < 2 ^ 64 → IsTallyOf (judging_of self.now.judge) rows tally.old
+            → IsTallyOf (judging_of self.now.judge) (rows ++ row.now ∷ []) tally.new }
     {
-        tally.count_row(self.rule, row);
+        tally.count_row(&self.judge, row);
     }
 
     // Whether no line was shown in this tenth of a second. Of the threads that ask in one, one is answered so.

@@ -2,13 +2,13 @@
 
 ghost use Rattle.std.specs.Prelude.{◌++◌, ◌+◌, ◌∷◌, ◌^◌, ◌<◌, [], List, length};
 ghost use Rattle.rv_progress.specs.Tallies.{IsTallyOf};
-ghost use Rattle.rv_expect.specs.declared.passing.Rule.{Rule as ARule};
+ghost use Rattle.rv_expect.specs.Judgement.{Judging, judging_of};
 ghost use Rattle.rv_rows.specs.declared_row.Row.{Row as ARow};
 
-use rv_expect::{Rule, has_passed};
+use rv_expect::Judge;
 use rv_rows::Row;
 
-/// A count of rows, and of those among them that failed by a rule.
+/// A count of rows, and of those among them that count as failures.
 #[derive(Clone, Copy)]
 pub(crate) struct Tally {
     pub(crate) done: u64,
@@ -17,18 +17,18 @@ pub(crate) struct Tally {
 
 impl Tally {
     pub(crate) fn new() -> Tally
-        ensures { (rule : ARule) → IsTallyOf rule [] result }
+        ensures { (judging : Judging) → IsTallyOf judging [] result }
     {
         Tally { done: 0, failed: 0 }
     }
 
     /// Counts one more row.
-    pub(crate) fn count_row(&mut self, rule: Rule, row: &Row)
-        ensures { (rows : List ARow) → length rows + 1 < 2 ^ 64 → IsTallyOf rule rows self.old
-            → IsTallyOf rule (rows ++ row.now ∷ []) self.new }
+    pub(crate) fn count_row(&mut self, judge: &Judge<'_>, row: &Row)
+        ensures { (rows : List ARow) → length rows + 1 < 2 ^ 64 → IsTallyOf (judging_of judge.now) rows self.old
+            → IsTallyOf (judging_of judge.now) (rows ++ row.now ∷ []) self.new }
     {
         self.done = self.done.saturating_add(1);
-        if !has_passed(rule, row) {
+        if judge.fails(row) {
             self.failed = self.failed.saturating_add(1);
         }
     }

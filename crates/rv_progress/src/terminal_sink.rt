@@ -15,23 +15,23 @@ use std::sync::Wait;
 /// A sink whose puts go to the terminal on which the line of a [`Progress`] stands: the line is taken away before each,
 /// and shown again behind what ends with a line feed.
 #[derive(Drop)]
-pub struct TerminalSink<'a, R: Wait, S: Sink + Drop, W: Drop> {
+pub struct TerminalSink<'a, 'k, R: Wait, S: Sink + Drop, W: Drop> {
     rt: &'a R,
     alloc: Global,
     sink: S,
     // None where nothing has to be taken away.
-    progress: Option<&'a Progress<W>>,
+    progress: Option<&'a Progress<'k, W>>,
 }
 
-impl<'a, R: Wait, S: Sink + Drop, W: Write + Drop> TerminalSink<'a, R, S, W> {
+impl<'a, 'k, R: Wait, S: Sink + Drop, W: Write + Drop> TerminalSink<'a, 'k, R, S, W> {
     /// A sink that goes to a terminal, or doesn't: then the line stays.
     pub fn new(
         rt: &'a R,
         alloc: Global,
         sink: S,
         is_terminal: bool,
-        progress: &'a Progress<W>,
-    ) -> TerminalSink<'a, R, S, W>
+        progress: &'a Progress<'k, W>,
+    ) -> TerminalSink<'a, 'k, R, S, W>
         ensures sink { result.sink ≡ sink }
         ensures beside { IsSome result.progress ↔ IsTrue (is_terminal && progress.now.is_terminal) }
         ensures line { IfSome result.progress (λ beside. beside.now ≡ progress.now) }
@@ -52,7 +52,7 @@ impl<'a, R: Wait, S: Sink + Drop, W: Write + Drop> TerminalSink<'a, R, S, W> {
     }
 }
 
-impl<'a, R: Wait, S: Sink + Drop, W: Write + Drop> Sink for TerminalSink<'a, R, S, W> {
+impl<'a, 'k, R: Wait, S: Sink + Drop, W: Write + Drop> Sink for TerminalSink<'a, 'k, R, S, W> {
     ghost taken = { λ terminal. S.taken terminal.sink };
 
     ghost failed = { λ terminal. S.failed terminal.sink };

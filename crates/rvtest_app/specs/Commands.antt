@@ -4,6 +4,7 @@ use Rattle.std.specs.Prelude.{if◌then◌else◌, is_some}
 use Rattle.std.specs.List.{filter}
 use Rattle.rv_expect.specs.declared.passing.Rule.{Rule}
 use Rattle.rv_expect.specs.declared.passing.Rule.TheVariants.{Strict, Lenient}
+use Rattle.rv_expect.specs.Judgement.{Judging, judging_by_rule}
 use Rattle.rv_expect.specs.TwoEnds.{expects_two_ends}
 use Rattle.rv_jobs.specs.Plans.{Planned}
 use Rattle.rv_lists.specs.declared.job.Job.{Job}
@@ -22,6 +23,10 @@ use Rattle.rv_diff.specs.declared.diff.Differing.{Differing}
 abbrev pub failure_rule : Bool → Rule
 failure_rule true = Lenient
 failure_rule false = Strict
+
+-- how the rows of a report are counted: no job is known to fail
+abbrev pub report_judging : Bool → Judging
+report_judging is_lenient = judging_by_rule (failure_rule is_lenient)
 
 -- what is shown of jobs, with --verbose or without, and with --quiet or without
 abbrev pub requested_verbosity : Bool → Bool → Verbosity

@@ -3,6 +3,7 @@ use Rattle.std.specs.Prelude.{◌≡◌, ℕ, List, [], ◌∷◌, Option, Ok, s
 use Rattle.rv_base.specs.Files.{FileContents}
 use Rattle.rv_cli.specs.declared.rvtest.console.ConsoleAsked.{ConsoleAsked}
 use Rattle.rv_command.specs.Texts.{IsTextAt, optional_text}
+use Rattle.rv_expect.specs.Judgement.{judging_by_rule}
 use Rattle.rv_expect.specs.Passing.{has_passed}
 use Rattle.rv_expect.specs.declared.passing.Rule.TheVariants.{Strict}
 use Rattle.rv_files.specs.UnreadPaths.{contents_below}
@@ -27,7 +28,7 @@ pub record IsJobConsole (known : Option FileContents) (jobs : List Job) (place :
   pub unread : List Unread
   pub noted : AreNotesOf plan.answers unread
   pub written : (d : Job) → console ≡ (row_of plan (slice_index_or plan.jobs place d)).console
-  pub told : (d : Job) → line ≡ row_line plan unread Strict (slice_index_or plan.jobs place d)
+  pub told : (d : Job) → line ≡ row_line plan unread (judging_by_rule Strict) (slice_index_or plan.jobs place d)
       (row_of plan (slice_index_or plan.jobs place d))
   pub judged : (d : Job) → status ≡ passing_status
       (has_passed Strict (row_of plan (slice_index_or plan.jobs place d)))

@@ -1,7 +1,7 @@
 -- What a JUnit document has of the rows of a report.
 use Rattle.std.specs.Prelude.{ℕ, List, Option, Some, None, map, unwrap_or}
 use Rattle.std.specs.Path.{path_file_stem}
-use Rattle.rv_expect.specs.declared.passing.Rule.{Rule}
+use Rattle.rv_expect.specs.Judgement.{Judging}
 use Rattle.rv_junit.specs.Junit.{junit_text}
 use Rattle.rv_report.specs.declared.row.Row.{Row}
 use Rattle.rvtest_app.specs.ReportSummary.{failed_line}
@@ -16,6 +16,6 @@ suite_name (Some name) path = name
 suite_name None path = junit_class path
 
 -- the document of the rows of a report, of which no more is known: each with the line of a row that failed
-abbrev pub failures_junit : List ℕ → Rule → List Row → List ℕ
-failures_junit class rule rows = junit_text class rule
-    (map (failed_line rule) rows) rows
+abbrev pub failures_junit : List ℕ → Judging → List Row → List ℕ
+failures_junit class judging rows = junit_text class judging
+    (map (failed_line judging) rows) rows

@@ -8,7 +8,7 @@ use Rattle.rv_job_text.specs.TotalsLine.{totals_line}
 use Rattle.rv_merge.specs.Parts.{AreParts}
 use Rattle.rv_report.specs.Report.{report_text}
 use Rattle.rv_report.specs.declared.row.Row.{Row}
-use Rattle.rvtest_app.specs.Commands.{failure_rule}
+use Rattle.rvtest_app.specs.Commands.{report_judging}
 use Rattle.rvtest_app.specs.Outlets.{is_stdout}
 use Rattle.rvtest_app.specs.Puts.{WentOut}
 use Rattle.rvtest_app.specs.RunOutput.{rows_status}
@@ -40,8 +40,8 @@ pub record IsMergedAt (known : Option FileContents) (words : MergeAsked) (status
   pub read : AreTextsAt known words.parts.items texts
   pub rows : List Row
   pub parts : AreParts rows texts
-  pub judged : status ≡ rows_status (failure_rule words.lenient) rows
+  pub judged : status ≡ rows_status (report_judging words.lenient) rows
   pub put : WentOut (merged_report_path (optional_text words.report) (optional_text words.junit))
-      (optional_text words.junit) (totals_line (failure_rule words.lenient) rows) (report_text rows)
-      (failures_junit (merged_suite (optional_text words.suite) (optional_text words.report)) (failure_rule words.lenient) rows)
+      (optional_text words.junit) (totals_line (report_judging words.lenient) rows) (report_text rows)
+      (failures_junit (merged_suite (optional_text words.suite) (optional_text words.report)) (report_judging words.lenient) rows)
       before after

@@ -1,6 +1,7 @@
 -- What a command puts.
 use Rattle.std.specs.Prelude.{◌≡◌, ◌||◌, ◌++◌, ℕ, Bool, true, false, List, Option, Some}
 use Rattle.std.specs.Io.KnownBytes.{Appends}
+use Rattle.rv_expect.specs.Judgement.{judging_of}
 use Rattle.rv_junit.specs.Junit.{junit_text}
 use Rattle.rv_report.specs.declared.row.Row.{Row}
 use Rattle.rv_stream.specs.Streams.{row_text_list}
@@ -16,7 +17,7 @@ IsShown false text before after = IsOnlyPut text before after
 
 -- the document of the rows of a report, with the lines that are told of them
 abbrev pub junit_of : {T : Type 0} → (T → ℕ → Row → List ℕ) → FileTexts T → List ℕ
-junit_of line texts = junit_text texts.suite.name.now texts.suite.rule
+junit_of line texts = junit_text texts.suite.name.now (judging_of texts.suite.judge)
     (row_text_list (line texts.telling.now) texts.places.now (report_rows texts.report)) (report_rows texts.report)
 
 -- what a command shows and the files that it makes at two paths went out: what it shows to standard error where one of the paths

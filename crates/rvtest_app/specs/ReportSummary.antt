@@ -5,14 +5,13 @@ use Rattle.std.specs.List.{AllPairs, flat_map}
 use Rattle.std.specs.List.Sorted.{IsPermutation}
 use Rattle.rv_report.specs.declared.row.Row.{Row}
 use Rattle.rv_report.specs.Report.{line}
-use Rattle.rv_expect.specs.declared.passing.Rule.{Rule}
 use Rattle.rv_job_text.specs.TotalsLine.{totals_line}
-use Rattle.rv_expect.specs.Passing.{has_passed}
+use Rattle.rv_expect.specs.Judgement.{Judging, fails, judgement}
 use Rattle.rv_job_text.specs.ResultLine.{result_line}
 
--- the line of a row that failed, as far as a report knows it
-abbrev pub failed_line : Rule → Row → List ℕ
-failed_line rule row = if has_passed rule row then [] else result_line rule row None None
+-- the line of a row that counts as a failure, as far as a report knows it
+abbrev pub failed_line : Judging → Row → List ℕ
+failed_line judging row = if fails judging row then result_line (judgement judging row) row None None else []
 
 -- ---- the most steps
 
@@ -49,6 +48,6 @@ steps_line row = line (codes "  " ++ decimal row.steps ++ codes " " ++ row.name)
 abbrev pub most_steps_text : List Row → List ℕ
 most_steps_text rows = line (codes "most steps:") ++ flat_map steps_line (rows_with_most_steps rows)
 
-unfoldable pub summary_text : Rule → List Row → List ℕ
-summary_text rule rows =
-    flat_map (failed_line rule) rows ++ totals_line rule rows ++ most_steps_text rows
+unfoldable pub summary_text : Judging → List Row → List ℕ
+summary_text judging rows =
+    flat_map (failed_line judging) rows ++ totals_line judging rows ++ most_steps_text rows

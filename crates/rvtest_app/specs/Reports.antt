@@ -10,6 +10,7 @@ use Rattle.rv_command.specs.Texts.{IsReportText, IsTextAt, optional_text}
 use Rattle.rv_diff.specs.Diff.{counts_of_differing, diff_text, rows_beside}
 use Rattle.rv_diff.specs.declared.change.Compare.{Compare}
 use Rattle.rv_diff.specs.declared.change.Compare.TheVariants.{Outcomes, Slower, Steps}
+use Rattle.rv_expect.specs.Judgement.{judging_by_rule}
 use Rattle.rv_expect.specs.Passing.{has_passed}
 use Rattle.rv_expect.specs.declared.passing.Rule.TheVariants.{Strict}
 use Rattle.rv_files.specs.UnreadPaths.{contents_below}
@@ -118,7 +119,7 @@ pub record IsTextExplaining (plan : Planned) (unread : List Unread) (place last 
   pub budget_use : Option BudgetUse
   pub found : (d : Job) → IsUseOfRow plan (slice_index_or plan.jobs place d)
       (row_of plan (slice_index_or plan.jobs place d)) budget_use
-  pub told : (d : Job) → text ≡ explanation_text plan unread Strict (slice_index_or plan.jobs place d)
+  pub told : (d : Job) → text ≡ explanation_text plan unread (judging_by_rule Strict) (slice_index_or plan.jobs place d)
       (row_of plan (slice_index_or plan.jobs place d)) (record { last = last; budget_use = budget_use })
 
 -- the output and the status are those of the explanation of the job at a place, over answers for the

@@ -1,10 +1,9 @@
 -- What a run of chosen jobs shows, its report and its status.
 use Rattle.std.specs.Prelude.{ℕ, List, ◌++◌, ◌+◌, ◌==◌, if◌then◌else◌, length, map}
 use Rattle.std.specs.Prelude.{Option, Some, None}
-use Rattle.std.specs.List.{list_all}
-use Rattle.rv_expect.specs.declared.passing.Rule.{Rule}
+use Rattle.std.specs.List.{list_any}
 use Rattle.rv_job_text.specs.TotalsLine.{totals_line}
-use Rattle.rv_expect.specs.Passing.{has_passed}
+use Rattle.rv_expect.specs.Judgement.{Judging, fails}
 use Rattle.rv_report.specs.declared.saved.Extent.{Extent}
 use Rattle.rv_report.specs.declared.saved.Extent.TheVariants as extent
 use Rattle.rv_report.specs.declared.saved.Shard.{Shard}
@@ -14,12 +13,12 @@ use Rattle.rv_report.specs.Report.{report_text}
 use Rattle.rv_stream.specs.Streams.{joined_row_texts}
 
 -- what is told of the rows of the jobs at some places, and the line that counts them
-abbrev pub run_output_text : (ℕ → Row → List ℕ) → Rule → List ℕ → List Row → List ℕ
-run_output_text line rule places rows = joined_row_texts line places rows ++ totals_line rule rows
+abbrev pub run_output_text : (ℕ → Row → List ℕ) → Judging → List ℕ → List Row → List ℕ
+run_output_text line judging places rows = joined_row_texts line places rows ++ totals_line judging rows
 
--- 1 where some job failed, else 0
-abbrev pub rows_status : Rule → List Row → ℕ
-rows_status rule rows = if list_all (has_passed rule) rows then 0 else 1
+-- 1 where some row counts as a failure, else 0
+abbrev pub rows_status : Judging → List Row → ℕ
+rows_status judging rows = if list_any (fails judging) rows then 1 else 0
 
 -- the numbers of the jobs at some places, from 1
 abbrev pub job_numbers : List ℕ → List ℕ

@@ -21,7 +21,10 @@ use Rattle.rv_report.specs.declared.saved.Shard.{Shard}
 use Rattle.rv_report.specs.declared.row.Row.{Row}
 use Rattle.rv_rows.specs.Rows.{rows_at}
 use Rattle.rv_stream.specs.Streams.{row_text_list}
+use Rattle.rv_expect.specs.Judgement.{Judging}
+use Rattle.rv_known.specs.declared.known_jobs.KnownJobs.{KnownJobs}
 use Rattle.rvtest_app.specs.Commands.{failure_rule, requested_verbosity}
+use Rattle.rvtest_app.specs.KnownFiles.{IsKnownAt}
 use Rattle.rvtest_app.specs.MissingImages.{missing_images_note}
 use Rattle.rvtest_app.specs.Outlets.{AreFilesPlaced, file_at}
 use Rattle.rvtest_app.specs.Puts.{WentOut}
@@ -66,15 +69,19 @@ pub record IsPlanFor (known : Option FileContents) (jobs : List Job) (places : L
 
 -- the document of the rows of the jobs at some places, with the lines that are told of those that failed
 abbrev pub run_junit : RunAsked → Telling → List ℕ → List Row → List ℕ
-run_junit words telling places rows = junit_text (suite_name (optional_text words.suite) words.list.now) telling.rule
+run_junit words telling places rows = junit_text (suite_name (optional_text words.suite) words.list.now) telling.judging
     (row_text_list (row_lines_at (record telling { verbosity = Failures })) places rows) rows
 
--- how the rows of a run are told
-abbrev pub run_telling : RunAsked → Planned → List Unread → Telling
-run_telling words plan unread = record {
+-- how the rows of a run are counted, with the known failures, where there are any
+abbrev pub run_judging : RunAsked → Option KnownJobs → Judging
+run_judging words failures = record { rule = failure_rule words.lenient; known = failures }
+
+-- how they are told
+abbrev pub run_telling : RunAsked → Option KnownJobs → Planned → List Unread → Telling
+run_telling words failures plan unread = record {
   plan = plan;
   unread = unread;
-  rule = failure_rule words.lenient;
+  judging = run_judging words failures;
   verbosity = requested_verbosity words.verbose words.quiet;
   last = words.last;
 }
@@ -82,30 +89,30 @@ run_telling words plan unread = record {
 -- over such a plan of the jobs, all with the budget that words ask for, it is said where paths are taken from, if every image
 -- is missing; and the rows of the jobs at some places went out as words ask for them: their lines with the totals, the report,
 -- and JUnit's document; the status is by these rows
-pub record IsRunOfPlaces (known : Option FileContents) (words : RunAsked) (jobs : List Job) (places : List ℕ)
+pub record IsRunOfPlaces (known : Option FileContents) (words : RunAsked) (failures : Option KnownJobs) (jobs : List Job) (places : List ℕ)
     (shard : Option Shard) (old : Option (List Row)) (status : ℕ) (before after : Said) : Type 0 where
   pub plan : Planned
   pub unread : List Unread
   pub planned : IsPlanFor (contents_below (optional_text words.root) known) (with_budget words.budget jobs) places plan
       unread
-  pub judged : status ≡ rows_status (failure_rule words.lenient) (rows_at plan places)
+  pub judged : status ≡ rows_status (run_judging words failures) (rows_at plan places)
   pub middle : Said
   pub noted : IsOnlyTold (missing_images_note plan.jobs unread (length places) (optional_text words.root)) before middle
   pub put : WentOut (run_report_path words) (optional_text words.junit)
-      (run_output_text (row_lines_at (run_telling words plan unread)) (failure_rule words.lenient) places
+      (run_output_text (row_lines_at (run_telling words failures plan unread)) (run_judging words failures) places
       (rows_at plan places))
       (run_report_text old (length plan.jobs) places shard (rows_at plan places))
-      (run_junit words (run_telling words plan unread) places (rows_at plan places))
+      (run_junit words (run_telling words failures plan unread) places (rows_at plan places))
       middle after
 
 -- the same of the jobs that are marked; where none are to run, the status is 0 and nothing more is said
-abbrev pub IsRunOfMarked : Option FileContents → RunAsked → List Job → Option (List Bool) → Option Shard
+abbrev pub IsRunOfMarked : Option FileContents → RunAsked → Option KnownJobs → List Job → Option (List Bool) → Option Shard
     → Option (List Row) → ℕ → Said → Said → Type 0
-IsRunOfMarked known words jobs None shard old status before after = (status ≡ 0) × (after ≡ before)
-IsRunOfMarked known words jobs (Some marks) shard old status before after =
-    IsRunOfPlaces known words jobs (places_of_marks marks) shard old status before after
+IsRunOfMarked known words failures jobs None shard old status before after = (status ≡ 0) × (after ≡ before)
+IsRunOfMarked known words failures jobs (Some marks) shard old status before after =
+    IsRunOfPlaces known words failures jobs (places_of_marks marks) shard old status before after
 
--- a run of what words ask for: what is said of the choice goes to standard error, and then the jobs run
+-- a run of what words ask for, with the failures that their file knows: what is said of the choice goes to standard error, and then the jobs run
 pub record IsRunAt (known : Option FileContents) (words : RunAsked) (status : ℕ) (before after : Said) : Type 0 where
   pub jobs : List Job
   pub marks : Option (List Bool)
@@ -113,27 +120,29 @@ pub record IsRunAt (known : Option FileContents) (words : RunAsked) (status : �
   pub old : Option (List Row)
   pub notes : List ℕ
   pub asked : AreRequestedJobs known words jobs marks shard old notes
+  pub failures : Option KnownJobs
+  pub known_to_fail : IsKnownAt known (optional_text words.known) jobs failures
   pub middle : Said
   pub told : IsOnlyTold notes before middle
-  pub ran : IsRunOfMarked known words jobs marks shard old status middle after
+  pub ran : IsRunOfMarked known words failures jobs marks shard old status middle after
 
 -- ---- runs that an error ended
 
 -- over a plan of the jobs, all with the budget that words ask for, JUnit's document of those at some places alone was put in its place
-pub record IsJunitAlone (known : Option FileContents) (words : RunAsked) (jobs : List Job) (places : List ℕ)
+pub record IsJunitAlone (known : Option FileContents) (words : RunAsked) (failures : Option KnownJobs) (jobs : List Job) (places : List ℕ)
     (before after : Option (List PlacedFile)) : Type 0 where
   pub plan : Planned
   pub unread : List Unread
   pub planned : IsPlanFor (contents_below (optional_text words.root) known) (with_budget words.budget jobs) places plan
       unread
   pub placed : AreFilesPlaced before after (Some (file_at (optional_text words.junit)
-      (run_junit words (run_telling words plan unread) places (rows_at plan places))))
+      (run_junit words (run_telling words failures plan unread) places (rows_at plan places))))
 
 -- no file was put in its place, or that document alone
-abbrev pub IsUndoneRunOfPlaces : Option FileContents → RunAsked → List Job → List ℕ
+abbrev pub IsUndoneRunOfPlaces : Option FileContents → RunAsked → Option KnownJobs → List Job → List ℕ
     → Option (List PlacedFile) → Option (List PlacedFile) → Type 0
-IsUndoneRunOfPlaces known words jobs places before after =
-    (after ≡ before) ⊎ IsJunitAlone known words jobs places before after
+IsUndoneRunOfPlaces known words failures jobs places before after =
+    (after ≡ before) ⊎ IsJunitAlone known words failures jobs places before after
 
 -- of the jobs that words ask for, that document alone was put in its place
 pub record IsJunitAloneAt (known : Option FileContents) (words : RunAsked) (before after : Option (List PlacedFile))
@@ -144,7 +153,9 @@ pub record IsJunitAloneAt (known : Option FileContents) (words : RunAsked) (befo
   pub old : Option (List Row)
   pub notes : List ℕ
   pub asked : AreRequestedJobs known words jobs (Some marks) shard old notes
-  pub alone : IsJunitAlone known words jobs (places_of_marks marks) before after
+  pub failures : Option KnownJobs
+  pub known_to_fail : IsKnownAt known (optional_text words.known) jobs failures
+  pub alone : IsJunitAlone known words failures jobs (places_of_marks marks) before after
 
 -- a run that an error ended put no file in its place, or JUnit's document alone
 abbrev pub IsUndoneRunAt : Option FileContents → RunAsked → Option (List PlacedFile) → Option (List PlacedFile) → Type 0

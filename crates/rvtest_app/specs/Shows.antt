@@ -5,7 +5,7 @@ use Rattle.rv_cli.specs.declared.rvtest.show.ShowAsked.{ShowAsked}
 use Rattle.rv_command.specs.Texts.{IsReportAt, optional_text}
 use Rattle.rv_report.specs.Report.{report_text}
 use Rattle.rv_report.specs.declared.saved.SavedReport.{SavedReport}
-use Rattle.rvtest_app.specs.Commands.{failure_rule}
+use Rattle.rvtest_app.specs.Commands.{report_judging}
 use Rattle.rvtest_app.specs.Puts.{WentOut}
 use Rattle.rvtest_app.specs.ReportSummary.{summary_text}
 use Rattle.rvtest_app.specs.RunOutput.{rows_status}
@@ -18,8 +18,8 @@ pub record IsShownAt (known : Option FileContents) (words : ShowAsked) (status :
     : Type 0 where
   pub report : SavedReport
   pub read : IsReportAt known words.report.now report
-  pub judged : status ≡ rows_status (failure_rule words.lenient) report.rows
-  pub put : WentOut None (optional_text words.junit) (summary_text (failure_rule words.lenient) report.rows)
+  pub judged : status ≡ rows_status (report_judging words.lenient) report.rows
+  pub put : WentOut None (optional_text words.junit) (summary_text (report_judging words.lenient) report.rows)
       (report_text report.rows) (failures_junit (suite_name (optional_text words.suite) words.report.now)
-      (failure_rule words.lenient) report.rows)
+      (report_judging words.lenient) report.rows)
       before after

@@ -1,6 +1,7 @@
 //! The command `console`.
 
 ghost use Rattle.std.specs.Prelude.{◌≡◌, ◌⊎◌, ◌≤◌, ◌<◌, IfErr, IfOk, length, slice_index_or};
+ghost use Rattle.rv_expect.specs.Judgement.{judging_by_rule};
 ghost use Rattle.rv_lists.specs.declared.job.Job.{Job as AJob};
 ghost use Rattle.rv_command.specs.Texts.{optional_text};
 ghost use Rattle.rv_expect.specs.Passing.{has_passed};
@@ -18,7 +19,7 @@ use crate::named_job::{NamedJob, find_named_job};
 use crate::rules::passing_status;
 use rv_cli::rvtest::ConsoleAsked;
 use rv_command::{Stop, put_message, put_results, read_list_text};
-use rv_expect::{Rule, has_passed};
+use rv_expect::{Judge, Rule, has_passed};
 use rv_files::{Inputs, NotingStore, Outputs, Unread};
 use rv_job_text::{RowTelling, Verbosity};
 use rv_jobs::{JobList, Plan, gather_places};
@@ -115,7 +116,7 @@ fn run_planned_job(
     requires { place < length plan.now.jobs }
     ensures row { IfOk result (λ told. (d : AJob) → told.row ≡ row_of plan.now (slice_index_or plan.now.jobs place d)) }
     ensures line { IfOk result (λ told. (d : AJob) → told.line.items
-        ≡ row_line plan.now unread.now Strict (slice_index_or plan.now.jobs place d)
+        ≡ row_line plan.now unread.now (judging_by_rule Strict) (slice_index_or plan.now.jobs place d)
         (row_of plan.now (slice_index_or plan.now.jobs place d))) }
     ensures status { IfOk result (λ told. (d : AJob) → told.status
         ≡ passing_status (has_passed Strict (row_of plan.now (slice_index_or plan.now.jobs place d)))) }
@@ -126,7 +127,7 @@ fn run_planned_job(
     let telling = RowTelling {
         plan,
         unread,
-        rule: Rule::Strict,
+        judge: Judge::by_rule(Rule::Strict),
         verbosity: Verbosity::All,
         last: None,
     };

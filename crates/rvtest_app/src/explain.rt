@@ -17,7 +17,7 @@ use crate::named_job::{NamedJob, find_named_job};
 use crate::rules::passing_status;
 use rv_cli::rvtest::ExplainAsked;
 use rv_command::{Stop, read_list_text};
-use rv_expect::{Rule, has_passed};
+use rv_expect::{Judge, Rule, has_passed};
 use rv_files::{Inputs, NotingStore, Unread};
 use rv_job_text::{RowTelling, Verbosity, WayToEnd, budget_use_at};
 use rv_jobs::{JobList, Plan, gather_places};
@@ -97,7 +97,7 @@ fn explain_planned_job(
     let telling = RowTelling {
         plan,
         unread,
-        rule: Rule::Strict,
+        judge: Judge::by_rule(Rule::Strict),
         verbosity: Verbosity::All,
         last: None,
     };

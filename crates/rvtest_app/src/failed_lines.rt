@@ -1,24 +1,26 @@
 //! The lines of failed rows, as far as a report knows them.
 
 ghost use Rattle.std.specs.Prelude.{◌≡◌, ◌++◌, OnOk};
+ghost use Rattle.rv_expect.specs.Judgement.{judging_of};
 ghost use Rattle.rvtest_app.specs.ReportSummary.{failed_line};
 
-use rv_expect::{Rule, has_passed};
+use rv_expect::Judge;
 use rv_job_text::{EndDetail, push_result_line};
 use rv_rows::Row;
 use rv_stream::Telling;
 use std::alloc::{AllocError, Global};
 
-/// Tells of a row that failed its line, with no symbol and no reason, and of any other nothing.
+/// Tells of a row that counts as a failure its line, with no symbol and no reason, and of any other nothing.
 #[derive(Clone, Copy)]
-pub struct FailedLines {
-    pub rule: Rule,
+pub struct FailedLines<'a> {
+    pub judge: Judge<'a>,
 }
 
-impl Telling for FailedLines {
+impl<'a> Telling for FailedLines<'a> {
+    ghost use Rattle.rv_expect.specs.Judgement.{judging_of};
     ghost use Rattle.rvtest_app.specs.ReportSummary.{failed_line};
 
-    ghost line = { λ told _ row. failed_line told.rule row };
+    ghost line = { λ told _ row. failed_line (judging_of told.judge) row };
 
     fn push_row_text(
         &self,
@@ -27,25 +29,26 @@ impl Telling for FailedLines {
         row: &Row,
         text: &mut Vec<u8>,
     ) -> Result<(), AllocError> {
-        push_failed_line(alloc, text, self.rule, row)
+        push_failed_line(alloc, text, &self.judge, row)
     }
 }
 
-/// Appends the line of a row that failed, and of any other nothing.
+/// Appends the line of a row that counts as a failure, and of any other nothing.
 pub(crate) fn push_failed_line(
     alloc: Global,
     text: &mut Vec<u8>,
-    rule: Rule,
+    judge: &Judge<'_>,
     row: &Row,
 ) -> Result<(), AllocError>
-    ensures { OnOk result (text.new.items ≡ text.old.items ++ failed_line rule row.now) }
+    ensures { OnOk result (text.new.items ≡ text.old.items ++ failed_line (judging_of judge.now) row.now) }
 {
-    if has_passed(rule, row) {
+    let judgement = judge.judgement(row);
+    if !judgement.is_failing() {
         return Ok(());
     }
     let detail = EndDetail {
         symbol: None,
         reason: None,
     };
-    push_result_line(alloc, text, rule, row, &detail)
+    push_result_line(alloc, text, judgement, row, &detail)
 }

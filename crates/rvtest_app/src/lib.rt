@@ -23,6 +23,7 @@ mod help_topic;
 mod host;
 mod into_report;
 mod junit_class;
+mod known_file;
 mod law;
 mod list;
 mod list_keys;

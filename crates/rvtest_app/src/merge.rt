@@ -5,7 +5,7 @@ ghost use Rattle.std.specs.Fmt.{decimal};
 ghost use Rattle.rv_job_text.specs.TotalsLine.{totals_line};
 ghost use Rattle.rv_lists.specs.Limits.{most_jobs};
 ghost use Rattle.rv_merge.specs.Parts.{AreParts, bytes_of_texts, nth_text};
-ghost use Rattle.rvtest_app.specs.Commands.{failure_rule};
+ghost use Rattle.rvtest_app.specs.Commands.{report_judging};
 ghost use Rattle.rv_report.specs.Report.{report_text};
 ghost use Rattle.rvtest_app.specs.MergeRefusals.{ArePartsRefused, IsMergeErrorStop, flaw_message, other_run_message};
 ghost use Rattle.rvtest_app.specs.MergeRefusals.{part_path, two_parts_message};
@@ -21,7 +21,7 @@ use crate::destinations::Destinations;
 use crate::junit_class::suite_name;
 use crate::outlets::{abandon_outlets, open_outlets};
 use crate::puts::put_shown;
-use crate::rules::{failure_rule, rows_status};
+use crate::rules::{report_judge, rows_status};
 use crate::whole_files::put_whole_files;
 use rv_cli::rvtest::MergeAsked;
 use rv_command::{Stop, path_message, path_number_message, read_file, refused_line_message};
@@ -82,17 +82,17 @@ fn merge_part_texts(
     ensures parts { IfOk result
         (λ merged. AreParts merged.rows (map (λ text. text.items) texts.now)) }
     ensures line { IfOk result (λ merged. merged.line.items
-        ≡ totals_line (failure_rule asked.now.lenient) merged.rows) }
+        ≡ totals_line (report_judging asked.now.lenient) merged.rows) }
     ensures judged { IfOk result (λ merged. merged.status
-        ≡ rows_status (failure_rule asked.now.lenient) merged.rows) }
+        ≡ rows_status (report_judging asked.now.lenient) merged.rows) }
     ensures low { IfOk result (λ merged. merged.status ≤ 1) }
     ensures blamed { IfErr result (ArePartsRefused asked.now.parts.items (map (λ text. text.items) texts.now)) }
 {
-    let rule = failure_rule(asked.lenient);
+    let judge = report_judge(asked.lenient);
     let rows = rows_of_part_texts(alloc, asked, texts)?;
     let mut line = Vec::new(alloc);
-    push_totals_line(&mut line, rule, rows.as_slice())?;
-    let status = rows_status(rule, rows.as_slice());
+    push_totals_line(&mut line, &judge, rows.as_slice())?;
+    let status = rows_status(&judge, rows.as_slice());
     Ok(Merged { rows, line, status })
 }
 
@@ -160,7 +160,7 @@ fn put_merged<F: Outputs + Drop, O: Sink + Drop, E: Sink + Drop>(
         (merged_report_path (optional_text asked.now.report) (optional_text asked.now.junit))
         (optional_text asked.now.junit) merged.line.items (report_text merged.rows)
         (failures_junit (merged_suite (optional_text asked.now.suite) (optional_text asked.now.report))
-        (failure_rule asked.now.lenient) merged.rows)
+        (report_judging asked.now.lenient) merged.rows)
         (said F.placed O.taken E.taken E.failed to.old) (said F.placed O.taken E.taken E.failed to.new)) }
     ensures stopped { IfErr result (IsMergedPutStop asked.now) }
 {
@@ -168,7 +168,7 @@ fn put_merged<F: Outputs + Drop, O: Sink + Drop, E: Sink + Drop>(
     let outlets = open_outlets(&mut to.files, alloc, merged_report_path(asked), asked.junit)?;
     let suite = Suite {
         name: merged_suite(asked).as_bytes(),
-        rule: failure_rule(asked.lenient),
+        judge: report_judge(asked.lenient),
     };
     match put_shown(to, line.as_slice(), outlets.use_stdout()) {
         Ok(()) => put_whole_files(alloc, to, outlets, suite, rows),

@@ -10,6 +10,7 @@ ghost use Rattle.rvtest_app.specs.FailureLines.{failure_lines};
 use crate::into_report::ReportFrame;
 use rv_job_text::RowTelling;
 use rv_jobs::JobList;
+use rv_known::KnownJobs;
 use rv_kept_lines::{KeptLines, RowLines};
 use std::sync::Mutex;
 
@@ -32,6 +33,8 @@ pub(crate) struct MarkedJobs {
     pub(crate) jobs: JobList,
     pub(crate) marks: Vec<bool>,
     pub(crate) frame: ReportFrame,
+    /// The jobs that are known to fail, where words name a file of them.
+    pub(crate) known: Option<KnownJobs>,
     ghost counted: { length marks.items ≡ length jobs },
     ghost whole: { ForSome frame.old (λ rows. length rows ≡ length jobs) },
 }

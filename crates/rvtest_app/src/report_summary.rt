@@ -2,11 +2,12 @@
 
 ghost use Rattle.std.specs.Prelude.{◌≡◌, ◌++◌, ◌<◌, ◌^◌, OnOk, length};
 ghost use Rattle.std.specs.List.{flat_map};
+ghost use Rattle.rv_expect.specs.Judgement.{judging_of};
 ghost use Rattle.rvtest_app.specs.ReportSummary.{failed_line, most_steps_text, summary_text, steps_line};
 
 use crate::failed_lines::push_failed_line;
 use crate::rows_with_most_steps::rows_with_most_steps;
-use rv_expect::Rule;
+use rv_expect::Judge;
 use rv_job_text::push_totals_line;
 use rv_rows::Row;
 use rv_text::{Span, push_spans, push_text};
@@ -18,28 +19,28 @@ use std::alloc::{AllocError, Global};
 pub fn push_summary(
     alloc: Global,
     text: &mut Vec<u8>,
-    rule: Rule,
+    judge: &Judge<'_>,
     rows: &[Row],
 ) -> Result<(), AllocError>
     requires { length rows.now < 2 ^ 32 }
-    ensures { OnOk result (text.new.items ≡ text.old.items ++ summary_text rule rows.now) }
+    ensures { OnOk result (text.new.items ≡ text.old.items ++ summary_text (judging_of judge.now) rows.now) }
 {
-    push_failed_lines(alloc, text, rule, rows)?;
-    push_totals_line(text, rule, rows)?;
+    push_failed_lines(alloc, text, judge, rows)?;
+    push_totals_line(text, judge, rows)?;
     push_most_steps(alloc, text, rows)
 }
 
 fn push_failed_lines(
     alloc: Global,
     text: &mut Vec<u8>,
-    rule: Rule,
+    judge: &Judge<'_>,
     rows: &[Row],
 ) -> Result<(), AllocError>
     ensures { OnOk result
-        (text.new.items ≡ text.old.items ++ flat_map (failed_line rule) rows.now) }
+        (text.new.items ≡ text.old.items ++ flat_map (failed_line (judging_of judge.now)) rows.now) }
 {
     for row in rows {
-        push_failed_line(alloc, text, rule, row)?;
+        push_failed_line(alloc, text, judge, row)?;
     }
     Ok(())
 }

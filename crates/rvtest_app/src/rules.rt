@@ -1,11 +1,12 @@
 //! Which rows are failures, and the status of rows.
 
 ghost use Rattle.std.specs.Prelude.{◌≡◌, ◌≤◌};
-ghost use Rattle.rvtest_app.specs.Commands.{failure_rule, passing_status};
+ghost use Rattle.rv_expect.specs.Judgement.{judging_of};
+ghost use Rattle.rvtest_app.specs.Commands.{failure_rule, passing_status, report_judging};
 ghost use Rattle.rvtest_app.specs.RunOutput.{rows_status};
 
 use rv_command::{DONE, SOME_FAIL};
-use rv_expect::{Rule, have_passed};
+use rv_expect::{Judge, Rule};
 use rv_rows::Row;
 
 /// The rule that words ask for.
@@ -19,6 +20,13 @@ pub(crate) fn failure_rule(is_lenient: bool) -> Rule
     }
 }
 
+/// How the rows of a report are counted, by the rule that words ask for: no job is known to fail.
+pub(crate) fn report_judge<'a>(is_lenient: bool) -> Judge<'a>
+    ensures { judging_of result ≡ report_judging is_lenient }
+{
+    Judge::by_rule(failure_rule(is_lenient))
+}
+
 /// [`DONE`] where a job passed, else [`SOME_FAIL`].
 pub(crate) fn passing_status(passed: bool) -> u8
     ensures value { result ≡ passing_status passed }
@@ -27,14 +35,14 @@ pub(crate) fn passing_status(passed: bool) -> u8
     if passed { DONE } else { SOME_FAIL }
 }
 
-/// [`SOME_FAIL`] where some job failed, else [`DONE`].
-pub(crate) fn rows_status(rule: Rule, rows: &[Row]) -> u8
-    ensures value { result ≡ rows_status rule rows.now }
+/// [`SOME_FAIL`] where some row counts as a failure, else [`DONE`].
+pub(crate) fn rows_status(judge: &Judge<'_>, rows: &[Row]) -> u8
+    ensures value { result ≡ rows_status (judging_of judge.now) rows.now }
     ensures low { result ≤ 1 }
 {
-    if have_passed(rule, rows) {
-        DONE
-    } else {
+    if judge.fail_some(rows) {
         SOME_FAIL
+    } else {
+        DONE
     }
 }

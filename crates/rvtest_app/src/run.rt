@@ -9,7 +9,7 @@ ghost use Rattle.rv_choice.specs.ChoiceStops.{IsChoiceStop};
 ghost use Rattle.rv_choice.specs.Chosen.{IsChoice};
 ghost use Rattle.rv_command.specs.Texts.{optional_text};
 ghost use Rattle.rv_files.specs.UnreadPaths.{contents_below};
-ghost use Rattle.rv_expect.specs.Passing.{has_passed};
+ghost use Rattle.rv_expect.specs.Judgement.{fails, judging_of};
 ghost use Rattle.rv_fleet.specs.Choices.{AreJobPlaces};
 ghost use Rattle.rv_jobs.specs.Plans.{AreKept, jobs_needed_for, one_more_times, paths_of, paths_used, unreadable_count};
 ghost use Rattle.rv_job_text.specs.Telling.{row_lines_at, telling_of};
@@ -37,6 +37,7 @@ use crate::file_texts::FileTexts;
 use crate::host::Host;
 use crate::into_report::{ReportFrame, run_report_path};
 use crate::junit_class::suite_name;
+use crate::known_file::requested_known_jobs;
 use crate::missing_images::missing_images_note;
 use crate::outlets::{Outlets, abandon_outlets, open_outlets};
 use crate::planned_run::{MarkedJobs, PlannedRun, RequestedJobs};
@@ -49,7 +50,7 @@ use crate::whole_report::read_whole_report;
 use rv_choice::{Choice, Chooser, requested_shard};
 use rv_cli::rvtest::{ChoosingCommand, RunAsked};
 use rv_command::{DONE, Stop, parse_list, put_message, read_list_text};
-use rv_expect::Rule;
+use rv_expect::{Judge, Rule};
 use rv_files::{Inputs, NotingStore, Outputs};
 use rv_fleet::{Batch, Rows};
 use rv_job_text::{RowTelling, Verbosity};
@@ -113,9 +114,16 @@ pub(crate) fn run_requested_jobs<
         Ok(requested) => requested,
         Err(stop) => return (to, Err(stop)),
     };
+    let known = match requested_known_jobs(host.inputs, host.alloc, asked, jobs.as_slice()) {
+        Ok(known) => known,
+        Err(stop) => return (to, Err(stop)),
+    };
     put_message(&mut to.errors, notes.as_slice());
     match marks {
-        Some(marks) => run.run_marked_jobs(MarkedJobs { jobs, marks, frame }, to, terminals),
+        Some(marks) => {
+            let marked = MarkedJobs { jobs, marks, frame, known };
+            run.run_marked_jobs(marked, to, terminals)
+        }
         None => (to, Ok(DONE)),
     }
 }
@@ -222,16 +230,17 @@ impl<'x, R: Threads + Wait + Sync + Clock, D: Inputs> ListRun<'x, R, D> {
     ) -> (Destinations<F, O, E>, Result<u8, Stop>)
         requires { self.now.rule ≡ failure_rule self.now.asked.now.lenient }
         ensures run { IfOk result.1 (λ status. IsRunOfMarked (D.contents self.now.host.now.inputs.now) self.now.asked.now
-            marked.jobs (Some marked.marks.items) marked.frame.shard marked.frame.old status
+            marked.known marked.jobs (Some marked.marks.items) marked.frame.shard marked.frame.old status
             (said F.placed O.taken E.taken E.failed to) (said F.placed O.taken E.taken E.failed result.0)) }
         ensures undone { OnErr result.1 (IsUndoneRunOfPlaces (D.contents self.now.host.now.inputs.now) self.now.asked.now
-            marked.jobs (places_of_marks marked.marks.items) (F.placed to.files) (F.placed result.0.files)) }
+            marked.known marked.jobs (places_of_marks marked.marks.items) (F.placed to.files) (F.placed result.0.files)) }
         ensures stopped { IfErr result.1 (IsRunPutStop self.now.asked.now) }
     {
         let MarkedJobs {
             jobs,
             marks,
             frame,
+            known,
             ..
         } = marked;
         let (alloc, asked) = (self.host.alloc, self.asked);
@@ -256,7 +265,10 @@ impl<'x, R: Threads + Wait + Sync + Clock, D: Inputs> ListRun<'x, R, D> {
         let telling = RowTelling {
             plan: &plan,
             unread,
-            rule: self.rule,
+            judge: Judge {
+                rule: self.rule,
+                known: known.as_ref(),
+            },
             verbosity: requested_verbosity(asked),
             last: asked.last,
         };
@@ -288,11 +300,11 @@ impl<'x, R: Threads + Wait + Sync + Clock, D: Inputs> ListRun<'x, R, D> {
         requires rising { IsStrictlyIncreasing places.now }
         requires lines { J.lines ≡ failure_lines (telling_of telling.now) }
         requires whole { ForSome frame.old (λ rows. length rows ≡ length telling.now.plan.now.jobs) }
-        ensures status { IfOk result.1 (λ status. status ≡ rows_status telling.now.rule
+        ensures status { IfOk result.1 (λ status. status ≡ rows_status (judging_of telling.now.judge)
             (rows_at telling.now.plan.now places.now)) }
         ensures said { OnOk result.1 (WentOut (run_report_path self.now.asked.now)
             (optional_text self.now.asked.now.junit)
-            (run_output_text (row_lines_at (telling_of telling.now)) telling.now.rule places.now
+            (run_output_text (row_lines_at (telling_of telling.now)) (judging_of telling.now.judge) places.now
             (rows_at telling.now.plan.now places.now))
             (run_report_text frame.old (length telling.now.plan.now.jobs) places.now frame.shard
             (rows_at telling.now.plan.now places.now))
@@ -348,7 +360,7 @@ impl<'x, R: Threads + Wait + Sync + Clock, D: Inputs> ListRun<'x, R, D> {
             ≡ rows_at planned.now.telling.now.plan.now planned.now.places.now) }
         ensures files { result.0.files ≡ to.files }
         ensures shown { OnOk result.1 (IsShown is_beside (run_output_text
-            (row_lines_at (telling_of planned.now.telling.now)) planned.now.telling.now.rule
+            (row_lines_at (telling_of planned.now.telling.now)) (judging_of planned.now.telling.now.judge)
             planned.now.places.now (rows_at planned.now.telling.now.plan.now planned.now.places.now))
             (said F.placed O.taken E.taken E.failed to) (said F.placed O.taken E.taken E.failed result.0)) }
         ensures stopped { IfErr result.1 IsStreamStop }
@@ -377,7 +389,7 @@ impl<'x, R: Threads + Wait + Sync + Clock, D: Inputs> ListRun<'x, R, D> {
             ≡ rows_at planned.now.telling.now.plan.now planned.now.places.now) }
         ensures shown { OnOk result.1 (Appends (W.taken out) (W.taken result.0)
             (run_output_text (row_lines_at (telling_of planned.now.telling.now))
-            planned.now.telling.now.rule planned.now.places.now
+            (judging_of planned.now.telling.now.judge) planned.now.places.now
             (rows_at planned.now.telling.now.plan.now planned.now.places.now))) }
         ensures counted { OnOk result.1 (W.failed result.0 ≡ W.failed out) }
         ensures stopped { IfErr result.1 IsStreamStop }
@@ -386,12 +398,12 @@ impl<'x, R: Threads + Wait + Sync + Clock, D: Inputs> ListRun<'x, R, D> {
         let (telling, places) = (planned.telling, planned.places);
         let progress = self.run_progress(planned, terminals);
         let kept = self.lines_to_keep(planned);
-        let keeping = KeepingTelling::new(rt, telling, telling.rule, kept);
+        let keeping = KeepingTelling::new(rt, telling, telling.judge, kept);
         let counting = CountingTelling::new(rt, &keeping, &progress);
         let sink = TerminalSink::new(rt, alloc, out, is_terminal, &progress);
         let crew = requested_crew(rt, alloc, self.asked);
         let batch = Batch::new(telling.plan, places);
-        let (sink, ran) = put_run_output(&crew, &batch, telling.rule, &counting, sink);
+        let (sink, ran) = put_run_output(&crew, &batch, &telling.judge, &counting, sink);
         let out = sink.into_inner();
         progress.finish();
         match ran {
@@ -401,13 +413,13 @@ impl<'x, R: Threads + Wait + Sync + Clock, D: Inputs> ListRun<'x, R, D> {
     }
 
     // The line that counts the jobs at some places.
-    fn run_progress<J: RowLines, P: Write + Drop>(
+    fn run_progress<'m, J: RowLines, P: Write + Drop>(
         &self,
-        planned: &PlannedRun<'_, J>,
+        planned: &PlannedRun<'m, J>,
         terminals: Terminals<P>,
-    ) -> Progress<P>
+    ) -> Progress<'m, P>
         ensures jobs { result.jobs ≡ length planned.now.places.now }
-        ensures rule { result.rule ≡ planned.now.telling.now.rule }
+        ensures judge { judging_of result.judge ≡ (judging_of planned.now.telling.now.judge) }
     {
         let Terminals {
             is_errors_terminal,
@@ -417,7 +429,7 @@ impl<'x, R: Threads + Wait + Sync + Clock, D: Inputs> ListRun<'x, R, D> {
         Progress::new(
             self.host.rt,
             planned.places.len(),
-            planned.telling.rule,
+            planned.telling.judge,
             progress,
             is_errors_terminal,
         )
@@ -429,7 +441,7 @@ impl<'x, R: Threads + Wait + Sync + Clock, D: Inputs> ListRun<'x, R, D> {
         planned: &PlannedRun<'m, J>,
     ) -> Option<&'m Mutex<KeptLines<J>>>
         ensures { ForSome result (λ _. (place : ℕ) (row : ARow)
-            → has_passed planned.now.telling.now.rule row ≡ false
+            → fails (judging_of planned.now.telling.now.judge) row ≡ true
             → row_lines_at (telling_of planned.now.telling.now) place row ≡ J.lines place row) }
     {
         if self.asked.junit.is_none() {
@@ -454,7 +466,7 @@ impl<'x, R: Threads + Wait + Sync + Clock, D: Inputs> ListRun<'x, R, D> {
         requires whole { ForSome frame.old (λ rows. length rows ≡ length planned.now.telling.now.plan.now.jobs) }
         requires report { has_no_failure F.File.failed outlets.report }
         requires junit { has_no_failure F.File.failed outlets.junit }
-        ensures status { IfOk result (λ status. status ≡ rows_status planned.now.telling.now.rule rows) }
+        ensures status { IfOk result (λ status. status ≡ rows_status (judging_of planned.now.telling.now.judge) rows) }
         ensures errors { to.new.errors ≡ to.old.errors }
         ensures put { (report_path junit_path : Option (List ℕ))
             → HasTaken F.place_path F.File.taken F.File.failed (F.placed to.old.files) report_path [] outlets.entry.report
@@ -478,8 +490,8 @@ impl<'x, R: Threads + Wait + Sync + Clock, D: Inputs> ListRun<'x, R, D> {
         ensures stopped { IfErr result
             (IsPutStop (outlet_path outlets.entry.report) (outlet_path outlets.entry.junit)) }
     {
-        let (telling, places, rule) = (planned.telling, planned.places, planned.telling.rule);
-        let status = rows_status(rule, rows.as_slice());
+        let (telling, places) = (planned.telling, planned.places);
+        let status = rows_status(&telling.judge, rows.as_slice());
         let told = RowTelling {
             verbosity: Verbosity::Failures,
             ..*telling
@@ -494,7 +506,7 @@ impl<'x, R: Threads + Wait + Sync + Clock, D: Inputs> ListRun<'x, R, D> {
         let texts = FileTexts {
             suite: Suite {
                 name: suite_name(self.asked.suite, self.asked.list).as_bytes(),
-                rule,
+                judge: telling.judge,
             },
             telling: &recalling,
             places,

@@ -1,13 +1,14 @@
 //! The command `show`.
 
 ghost use Rattle.std.specs.Prelude.{◌≡◌, ◌≤◌, ◌<◌, ◌^◌, None, IfErr, IfOk, OnOk, length};
+ghost use Rattle.rv_expect.specs.Judgement.{judging_of};
 ghost use Rattle.rv_command.specs.Texts.{optional_text};
 ghost use Rattle.rv_report.specs.Report.{report_text};
 ghost use Rattle.rvtest_app.specs.CommandStops.{IsShowStop};
 ghost use Rattle.rvtest_app.specs.Puts.{WentOut};
 ghost use Rattle.rvtest_app.specs.PutStops.{IsOutputStop};
 ghost use Rattle.rvtest_app.specs.JunitTexts.{failures_junit, suite_name};
-ghost use Rattle.rvtest_app.specs.Commands.{failure_rule};
+ghost use Rattle.rvtest_app.specs.Commands.{report_judging};
 ghost use Rattle.rvtest_app.specs.RunOutput.{rows_status};
 ghost use Rattle.rvtest_app.specs.ReportSummary.{summary_text};
 ghost use Rattle.rvtest_app.specs.Shows.{IsShownAt};
@@ -18,11 +19,11 @@ use crate::junit_class::suite_name;
 use crate::outlets::{abandon_outlets, open_outlets};
 use crate::puts::put_shown;
 use crate::report_summary::push_summary;
-use crate::rules::{failure_rule, rows_status};
+use crate::rules::{report_judge, rows_status};
 use crate::whole_files::put_whole_files;
 use rv_cli::rvtest::ShowAsked;
 use rv_command::{Stop, read_report_file};
-use rv_expect::Rule;
+use rv_expect::Judge;
 use rv_files::{Inputs, Outputs};
 use rv_junit::Suite;
 use rv_report::SavedReport;
@@ -65,14 +66,14 @@ fn summarize_report(
     requires { length report.rows < 2 ^ 32 }
     ensures report { IfOk result (λ summarized. summarized.report ≡ report) }
     ensures summary { IfOk result (λ summarized. summarized.summary.items
-        ≡ summary_text (failure_rule asked.entry.lenient) report.rows) }
+        ≡ summary_text (report_judging asked.entry.lenient) report.rows) }
     ensures judged { IfOk result (λ summarized. summarized.status
-        ≡ rows_status (failure_rule asked.entry.lenient) report.rows) }
+        ≡ rows_status (report_judging asked.entry.lenient) report.rows) }
     ensures low { IfOk result (λ summarized. summarized.status ≤ 1) }
 {
-    let rule = failure_rule(asked.lenient);
-    let summary = summary_text(alloc, rule, report.rows.as_slice())?;
-    let status = rows_status(rule, report.rows.as_slice());
+    let judge = report_judge(asked.lenient);
+    let summary = summary_text(alloc, &judge, report.rows.as_slice())?;
+    let status = rows_status(&judge, report.rows.as_slice());
     Ok(SummarizedReport {
         report,
         summary,
@@ -90,7 +91,7 @@ fn put_summarized_report<F: Outputs + Drop, O: Sink + Drop, E: Sink + Drop>(
     ensures put { OnOk result (WentOut None (optional_text asked.entry.junit) summarized.summary.items
         (report_text summarized.report.rows)
         (failures_junit (suite_name (optional_text asked.entry.suite) asked.entry.report.now)
-        (failure_rule asked.entry.lenient) summarized.report.rows)
+        (report_judging asked.entry.lenient) summarized.report.rows)
         (said F.placed O.taken E.taken E.failed to.old) (said F.placed O.taken E.taken E.failed to.new)) }
     ensures stopped { IfErr result (IsOutputStop None (optional_text asked.entry.junit)) }
 {
@@ -102,7 +103,7 @@ fn put_summarized_report<F: Outputs + Drop, O: Sink + Drop, E: Sink + Drop>(
     let outlets = open_outlets(&mut to.files, alloc, None, asked.junit)?;
     let suite = Suite {
         name: suite_name(asked.suite, asked.report).as_bytes(),
-        rule: failure_rule(asked.lenient),
+        judge: report_judge(asked.lenient),
     };
     match put_shown(to, summary.as_slice(), outlets.use_stdout()) {
         Ok(()) => put_whole_files(alloc, to, outlets, suite, report.rows),
@@ -113,11 +114,15 @@ fn put_summarized_report<F: Outputs + Drop, O: Sink + Drop, E: Sink + Drop>(
     }
 }
 
-fn summary_text(alloc: Global, rule: Rule, rows: &[Row]) -> Result<Vec<u8>, AllocError>
+fn summary_text(
+    alloc: Global,
+    judge: &Judge<'_>,
+    rows: &[Row],
+) -> Result<Vec<u8>, AllocError>
     requires { length rows.now < 2 ^ 32 }
-    ensures { IfOk result (λ text. text.items ≡ summary_text rule rows.now) }
+    ensures { IfOk result (λ text. text.items ≡ summary_text (judging_of judge.now) rows.now) }
 {
     let mut text = Vec::new(alloc);
-    push_summary(alloc, &mut text, rule, rows)?;
+    push_summary(alloc, &mut text, judge, rows)?;
     Ok(text)
 }

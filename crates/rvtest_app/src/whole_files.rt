@@ -2,6 +2,7 @@
 
 ghost use Rattle.std.specs.Prelude.{◌≡◌, ◌++◌, [], ℕ, List, Option, IfErr, OnOk, Some};
 ghost use Rattle.std.specs.Io.KnownBytes.{Appends};
+ghost use Rattle.rv_expect.specs.Judgement.{judging_of};
 ghost use Rattle.rv_report.specs.Report.{report_text};
 ghost use Rattle.rvtest_app.specs.Outlets.{AreFilesPlaced, HasTaken, file_at, has_no_failure, outlet_path, stdout_at};
 ghost use Rattle.rvtest_app.specs.PutStops.{IsPutStop};
@@ -35,13 +36,13 @@ pub(crate) fn put_whole_files<F: Outputs + Drop, O: Sink + Drop, E: Sink + Drop>
         → HasTaken F.place_path F.File.taken F.File.failed (F.placed to.old.files) report_path [] outlets.entry.report
         → HasTaken F.place_path F.File.taken F.File.failed (F.placed to.old.files) junit_path [] outlets.entry.junit
         → OnOk result (Appends (O.taken to.old.out) (O.taken to.new.out)
-        (stdout_at junit_path (failures_junit suite.entry.name.now suite.entry.rule rows)
+        (stdout_at junit_path (failures_junit suite.entry.name.now (judging_of suite.entry.judge) rows)
         ++ stdout_at report_path (report_text rows))) }
     ensures placed { (report_path junit_path : Option (List ℕ))
         → HasTaken F.place_path F.File.taken F.File.failed (F.placed to.old.files) report_path [] outlets.entry.report
         → HasTaken F.place_path F.File.taken F.File.failed (F.placed to.old.files) junit_path [] outlets.entry.junit
         → OnOk result (AreFilesPlaced (F.placed to.old.files) (F.placed to.new.files)
-        (Some (file_at junit_path (failures_junit suite.entry.name.now suite.entry.rule rows)
+        (Some (file_at junit_path (failures_junit suite.entry.name.now (judging_of suite.entry.judge) rows)
         ++ file_at report_path (report_text rows)))) }
     ensures stopped { IfErr result
         (IsPutStop (outlet_path outlets.entry.report) (outlet_path outlets.entry.junit)) }
@@ -53,7 +54,7 @@ pub(crate) fn put_whole_files<F: Outputs + Drop, O: Sink + Drop, E: Sink + Drop>
             return Err(Stop::from(error));
         }
     };
-    let lines = FailedLines { rule: suite.rule };
+    let lines = FailedLines { judge: suite.judge };
     let texts = FileTexts {
         suite,
         telling: &lines,

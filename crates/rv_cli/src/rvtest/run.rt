@@ -49,6 +49,8 @@ pub struct RunAsked<'a> {
     pub suite: Option<&'a str>,
     /// Whether a failed verdict alone is a failure.
     pub lenient: bool,
+    /// Path of a file with the names of jobs that are known to fail.
+    pub known: Option<&'a str>,
     /// Whether jobs that pass have a line too.
     pub verbose: bool,
     /// Whether the last line alone is shown.
@@ -113,6 +115,7 @@ pub(crate) fn run_asked<'a>(
         junit: text_value(values, "junit"),
         suite: text_value(values, "suite"),
         lenient: is_flag_set(values, "lenient"),
+        known: text_value(values, "known"),
         verbose: is_flag_set(values, "verbose"),
         quiet: is_flag_set(values, "quiet"),
         last: number_value(values, "last", 0, 100_000),

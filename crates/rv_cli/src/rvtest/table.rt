@@ -42,6 +42,7 @@ pub(crate) const RUN: Subcommand<'static> = Subcommand {
         Argument::File("junit", JUNIT),
         Argument::Option("suite", "NAME", SUITE),
         Argument::Flag("lenient", None, LENIENT),
+        Argument::File("known", KNOWN),
         Argument::Flag(
             "verbose",
             Some('v'),
@@ -193,6 +194,8 @@ const JUNIT: &str = "Writes JUnit XML to this file; - is standard output";
 const SUITE: &str = "Names the suite in JUnit XML, in place of the file";
 
 const COLOR: &str = "Colors: always, never, or auto, which is on a terminal";
+
+const KNOWN: &str = "Names jobs that are known to fail, one a line, # REASON behind";
 
 const LENIENT: &str = "Counts as failed only what misses an expectation";
 

@@ -1,5 +1,5 @@
 use Rattle.std.proofs.Common.{rules}
 use Rattle.rv_expect.proofs.problem.is_failure.Goals as goal
 
-pub returns-then-not-has_passed : goal.returns-then-not-has_passed
-returns-then-not-has_passed c = search rules
+pub returns-then-fails : goal.returns-then-not-has_passed
+returns-then-fails c = search rules

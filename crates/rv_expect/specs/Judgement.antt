@@ -1,0 +1,76 @@
+-- What a run counts a row as: by a rule, and by a list of jobs that are known to fail.
+use Rattle.std.specs.Prelude.{ℕ, Bool, true, false, List, Option, Some, None, option_map}
+use Rattle.rv_known.specs.declared.known_jobs.KnownJobs.{KnownJobs}
+use Rattle.rv_known.specs.KnownJobs.{reason_of}
+use Rattle.rv_rows.specs.declared_row.Row.{Row}
+use Rattle.rv_expect.specs.Passing.{has_passed}
+use Rattle.rv_expect.specs.declared.judgement.Judge.{Judge}
+use Rattle.rv_expect.specs.declared.judgement.Judgement.{Judgement}
+use Rattle.rv_expect.specs.declared.judgement.Judgement.TheVariants as counted
+use Rattle.rv_expect.specs.declared.passing.Rule.{Rule}
+
+-- a rule, and the known failures, where there are any
+pub record Judging : Type 0 where
+  pub rule : Rule
+  pub known : Option KnownJobs
+
+abbrev pub judging_of : Judge → Judging
+judging_of judge = record { rule = judge.rule; known = option_map (λ known. known.now) judge.known }
+
+abbrev pub judging_by_rule : Rule → Judging
+judging_by_rule rule = record { rule = rule; known = None }
+
+-- a row passed or failed; or it failed as it is known to, for a reason; or it passed, and the file at a path names it
+pub data Judged : Type 0 where
+  passed : Judged
+  failed : Judged
+  known : List ℕ → Judged
+  now_passes : List ℕ → Judged
+
+abbrev pub judged_of : Judgement → Judged
+judged_of counted.Passed = passed
+judged_of counted.Failed = failed
+judged_of (counted.Known reason) = known reason.now
+judged_of (counted.NowPasses path) = now_passes path.now
+
+-- by whether the row passed
+abbrev pub judged_unknown : Bool → Judged
+judged_unknown true = passed
+judged_unknown false = failed
+
+-- by whether it passed, and the reason for which it is known to fail in the file at a path, if it is
+abbrev pub judged_in_file : List ℕ → Bool → Option (List ℕ) → Judged
+judged_in_file path has_passed None = judged_unknown has_passed
+judged_in_file path true (Some reason) = now_passes path
+judged_in_file path false (Some reason) = known reason
+
+abbrev pub judged_by_known : Option KnownJobs → Bool → List ℕ → Judged
+judged_by_known None has_passed name = judged_unknown has_passed
+judged_by_known (Some file) has_passed name = judged_in_file file.path has_passed (reason_of file.jobs name)
+
+abbrev pub judgement : Judging → Row → Judged
+judgement judging row = judged_by_known judging.known (has_passed judging.rule row) row.name
+
+-- what counts as a failure, as passed, and as known
+abbrev pub is_failing : Judged → Bool
+is_failing passed = false
+is_failing failed = true
+is_failing (known reason) = false
+is_failing (now_passes path) = true
+
+abbrev pub is_passed : Judged → Bool
+is_passed passed = true
+is_passed _ = false
+
+abbrev pub is_known_failure : Judged → Bool
+is_known_failure (known reason) = true
+is_known_failure _ = false
+
+-- it failed, and is not known to
+abbrev pub is_unknown_failure : Judged → Bool
+is_unknown_failure failed = true
+is_unknown_failure _ = false
+
+-- a row counts as a failure
+abbrev pub fails : Judging → Row → Bool
+fails judging row = is_failing (judgement judging row)

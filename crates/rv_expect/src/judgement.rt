@@ -1,0 +1,126 @@
+//! What a run counts a row as.
+
+ghost use Rattle.std.specs.Prelude.{◌≡◌};
+ghost use Rattle.std.specs.List.{list_any};
+ghost use Rattle.rv_expect.specs.Judgement.{fails, is_failing, is_known_failure, is_passed, is_unknown_failure, judged_in_file, judged_of, judged_unknown};
+ghost use Rattle.rv_expect.specs.Judgement.{judgement, judging_by_rule, judging_of};
+ghost use Rattle.rv_known.specs.KnownJobs.{reason_of};
+
+use crate::passing::{Rule, has_passed};
+use rv_known::KnownJobs;
+use rv_rows::Row;
+
+/// How the rows of a run are counted.
+#[derive(Clone, Copy)]
+pub struct Judge<'k> {
+    pub rule: Rule,
+    /// The jobs that are known to fail, where a file names them.
+    pub known: Option<&'k KnownJobs>,
+}
+
+/// What a row counts as.
+#[derive(Clone, Copy)]
+pub enum Judgement<'k> {
+    Passed,
+    Failed,
+    /// It failed, as it is known to, for this reason, which may be empty.
+    Known(&'k [u8]),
+    /// It passed, and the file at this path says that it is known to fail: a failure.
+    NowPasses(&'k str),
+}
+
+impl<'k> Judge<'k> {
+    /// By a rule alone: no job is known to fail.
+    pub fn by_rule(rule: Rule) -> Judge<'k>
+        ensures { judging_of result ≡ judging_by_rule rule }
+    {
+        Judge { rule, known: None }
+    }
+
+    /// What a row counts as.
+    pub fn judgement(&self, row: &Row) -> Judgement<'k>
+        ensures { judged_of result ≡ judgement (judging_of self.now) row.now }
+    {
+        let passed = has_passed(self.rule, row);
+        match self.known {
+            None => judgement_of_unknown(passed),
+            Some(known) => judgement_in_file(known, passed, row),
+        }
+    }
+
+    /// Whether a row counts as a failure.
+    pub fn fails(&self, row: &Row) -> bool
+        ensures { result ≡ fails (judging_of self.now) row.now }
+    {
+        self.judgement(row).is_failing()
+    }
+
+    /// Whether some row counts as a failure.
+    pub fn fail_some(&self, rows: &[Row]) -> bool
+        ensures { result ≡ list_any (fails (judging_of self.now)) rows.now }
+    {
+        rows.iter().any(|row| self.fails(row))
+    }
+}
+
+impl<'k> Judgement<'k> {
+    /// Whether it is a failure.
+    pub fn is_failing(self) -> bool
+        ensures { result ≡ is_failing (judged_of self) }
+    {
+        match self {
+            Judgement::Failed | Judgement::NowPasses(_) => true,
+            Judgement::Passed | Judgement::Known(_) => false,
+        }
+    }
+
+    /// Whether it is a row that passed, and is not known to fail.
+    pub fn is_passed(self) -> bool
+        ensures { result ≡ is_passed (judged_of self) }
+    {
+        match self {
+            Judgement::Passed => true,
+            Judgement::Failed | Judgement::Known(_) | Judgement::NowPasses(_) => false,
+        }
+    }
+
+    /// Whether it is a failure that is not known.
+    pub fn is_unknown_failure(self) -> bool
+        ensures { result ≡ is_unknown_failure (judged_of self) }
+    {
+        match self {
+            Judgement::Failed => true,
+            Judgement::Passed | Judgement::Known(_) | Judgement::NowPasses(_) => false,
+        }
+    }
+
+    /// Whether it is a failure that is known.
+    pub fn is_known(self) -> bool
+        ensures { result ≡ is_known_failure (judged_of self) }
+    {
+        match self {
+            Judgement::Known(_) => true,
+            Judgement::Passed | Judgement::Failed | Judgement::NowPasses(_) => false,
+        }
+    }
+}
+
+fn judgement_of_unknown<'k>(passed: bool) -> Judgement<'k>
+    ensures { judged_of result ≡ judged_unknown passed }
+{
+    if passed {
+        Judgement::Passed
+    } else {
+        Judgement::Failed
+    }
+}
+
+fn judgement_in_file<'k>(known: &'k KnownJobs, passed: bool, row: &Row) -> Judgement<'k>
+    ensures { judged_of result ≡ judged_in_file known.now.path passed (reason_of known.now.jobs row.now.name) }
+{
+    match (passed, known.reason_of(row.name.as_str().as_bytes())) {
+        (_, None) => judgement_of_unknown(passed),
+        (true, Some(_)) => Judgement::NowPasses(known.path.as_str()),
+        (false, Some(reason)) => Judgement::Known(reason),
+    }
+}

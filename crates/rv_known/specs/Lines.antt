@@ -1,0 +1,40 @@
+-- The lines of a list of known failures: a name, and behind a `#` the reason.
+use Rattle.std.specs.Prelude.{◌==◌, ◌-◌, ℕ, Bool, List, drop, length, map, not, take}
+use Rattle.std.specs.Borrow.{Bor}
+use Rattle.std.specs.Char.{is_ascii_whitespace}
+use Rattle.std.specs.List.{after_first, before_first, prefix_len, slice_split, suffix_len}
+
+abbrev pub is_line_feed : ℕ → Bool
+is_line_feed byte = byte == 10
+
+abbrev pub is_hash : ℕ → Bool
+is_hash byte = byte == 35
+
+-- the lines of a text, without their line feeds
+abbrev pub lines_of : List ℕ → List (List ℕ)
+lines_of text = slice_split is_line_feed text
+
+-- lines as they are handed over
+abbrev pub borrowed_lines : List (Bor (List ℕ)) → List (List ℕ)
+borrowed_lines lines = map (λ line. line.now) lines
+
+-- a text without the white space at its start, and without that at its end
+abbrev pub without_space_before : List ℕ → List ℕ
+without_space_before text = drop (prefix_len is_ascii_whitespace text) text
+
+abbrev pub without_space_behind : List ℕ → List ℕ
+without_space_behind text = take (length text - suffix_len is_ascii_whitespace text) text
+
+abbrev pub trimmed : List ℕ → List ℕ
+trimmed text = without_space_behind (without_space_before text)
+
+-- what stands in a line before its first `#`, and what stands behind it
+unfoldable pub name_text : List ℕ → List ℕ
+name_text line = trimmed (before_first is_hash line)
+
+unfoldable pub reason_text : List ℕ → List ℕ
+reason_text line = trimmed (after_first is_hash line)
+
+-- a line names a job
+abbrev pub has_name : List ℕ → Bool
+has_name line = not (length (name_text line) == 0)

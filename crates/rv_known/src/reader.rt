@@ -1,0 +1,88 @@
+//! How a text is read as known jobs.
+
+ghost use Rattle.std.specs.Prelude.{◌≡◌, IfOk, is_some};
+ghost use Rattle.std.specs.List.{list_any};
+ghost use Rattle.rv_known.specs.KnownJobs.{fault_kind, has_job_named, job_names, is_known, known_job_of_line, known_jobs_in, known_jobs_of};
+ghost use Rattle.rv_known.specs.Lines.{borrowed_lines};
+
+use crate::known_jobs::{KnownFault, KnownFaultKind, KnownJob, known_job_of};
+use crate::lines::{lines_of, name_text, reason_text};
+use rv_base::{Bytes, Sequence, is_name};
+use std::alloc::{AllocError, Global};
+
+/// Reads a text as the jobs that are known to fail, among the jobs of these names: a name in a line, and behind a `#` the reason. A line
+/// with no name says nothing. The inner error is the first fault of the text.
+pub fn read_known_jobs(
+    alloc: Global,
+    jobs: &[&str],
+    text: &[u8],
+) -> Result<Result<Sequence<KnownJob>, KnownFault>, AllocError>
+    ensures { IfOk result (λ read. read ≡ known_jobs_of (job_names jobs.now) text.now) }
+{
+    let lines = lines_of(alloc, text)?;
+    read_lines(alloc, jobs, lines.as_slice())
+}
+
+fn read_lines(
+    alloc: Global,
+    jobs: &[&str],
+    lines: &[&[u8]],
+) -> Result<Result<Sequence<KnownJob>, KnownFault>, AllocError>
+    ensures { IfOk result (λ read. read ≡ known_jobs_in (job_names jobs.now) (borrowed_lines lines.now)) }
+{
+    let mut known = Vec::new(alloc);
+    for place in 0..lines.len() {
+        let name = name_text(lines[place]);
+        if name.is_empty() {
+            continue;
+        }
+        if let Some(kind) = fault_kind(jobs, known.as_slice(), name) {
+            let name = copied(alloc, name)?;
+            let line = place + 1;
+            return Ok(Err(KnownFault { line, name, kind }));
+        }
+        known.push(known_job_of_line(alloc, lines[place])?)?;
+    }
+    Ok(Ok(Sequence::new(known)))
+}
+
+// What is wrong with a name behind these known jobs, if anything is.
+fn fault_kind(jobs: &[&str], known: &[KnownJob], name: &[u8]) -> Option<KnownFaultKind>
+    ensures { result ≡ fault_kind (job_names jobs.now) known.now name.now }
+{
+    if !is_name(name) {
+        Some(KnownFaultKind::NoName)
+    } else if is_known(known, name) {
+        Some(KnownFaultKind::Twice)
+    } else if !has_job_named(jobs, name) {
+        Some(KnownFaultKind::NoJob)
+    } else {
+        None
+    }
+}
+
+fn is_known(known: &[KnownJob], name: &[u8]) -> bool
+    ensures { result ≡ is_known known.now name.now }
+{
+    known_job_of(known, name).is_some()
+}
+
+fn has_job_named(jobs: &[&str], name: &[u8]) -> bool
+    ensures { result ≡ has_job_named (job_names jobs.now) name.now }
+{
+    jobs.iter().any(|job| job.as_bytes() == name)
+}
+
+fn known_job_of_line(alloc: Global, line: &[u8]) -> Result<KnownJob, AllocError>
+    ensures { IfOk result (λ job. job ≡ known_job_of_line line.now) }
+{
+    let name = copied(alloc, name_text(line))?;
+    let reason = copied(alloc, reason_text(line))?;
+    Ok(KnownJob { name, reason })
+}
+
+fn copied(alloc: Global, bytes: &[u8]) -> Result<Bytes, AllocError>
+    ensures { IfOk result (λ copy. copy ≡ bytes.now) }
+{
+    Ok(Bytes::new(Vec::from_slice(alloc, bytes)?))
+}

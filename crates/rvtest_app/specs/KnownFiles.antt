@@ -1,0 +1,41 @@
+-- The jobs that the file at a path names as known to fail.
+use Rattle.std.specs.Prelude.{◌≡◌, ◌++◌, ℕ, List, Ok, Option, Some, None, codes, map}
+use Rattle.std.specs.Fmt.{decimal}
+use Rattle.rv_base.specs.Files.{FileContents}
+use Rattle.rv_command.specs.Texts.{IsTextAt}
+use Rattle.rv_known.specs.declared.known_jobs.KnownFault.{KnownFault}
+use Rattle.rv_known.specs.declared.known_jobs.KnownFaultKind.{KnownFaultKind}
+use Rattle.rv_known.specs.declared.known_jobs.KnownFaultKind.TheVariants as kind
+use Rattle.rv_known.specs.declared.known_jobs.KnownJobs.{KnownJobs}
+use Rattle.rv_known.specs.KnownJobs.{known_jobs_of}
+use Rattle.rv_lists.specs.declared.job.Job.{Job}
+use Rattle.rv_text.specs.Printable.{printable_text, printable_value}
+
+abbrev pub names_of_jobs : List Job → List (List ℕ)
+names_of_jobs jobs = map (λ (job : Job). job.name) jobs
+
+-- what the text at a path names, among the jobs of a list
+pub record IsKnownFile (files : Option FileContents) (path : List ℕ) (jobs : List Job) (known : KnownJobs) : Type 0 where
+  pub bytes : List ℕ
+  pub read : IsTextAt files path bytes
+  pub named : known_jobs_of (names_of_jobs jobs) bytes ≡ Ok known.jobs
+  pub path : known.path ≡ path
+
+-- where words name a file, and else nothing
+abbrev pub IsKnownAt : Option FileContents → Option (List ℕ) → List Job → Option KnownJobs → Type 0
+IsKnownAt files None jobs known = known ≡ None
+IsKnownAt files (Some path) jobs known = (file : KnownJobs) × IsKnownFile files path jobs file × (known ≡ Some file)
+
+-- ---- a file that is refused
+
+-- what is wrong with a line, over the path of the list
+abbrev pub known_fault_text : List ℕ → List ℕ → KnownFaultKind → List ℕ
+known_fault_text list name kind.NoName =
+    codes "'" ++ printable_value name ++ codes "' is no job's name; a name stands alone, and a reason behind '#'"
+known_fault_text list name kind.Twice = printable_value name ++ codes " stands in a line before it, too"
+known_fault_text list name kind.NoJob =
+    codes "no job of " ++ printable_text list ++ codes " is called " ++ printable_value name
+
+abbrev pub known_fault_message : List ℕ → List ℕ → KnownFault → List ℕ
+known_fault_message path list fault = codes "rvtest: " ++ printable_text path ++ codes ": line " ++ decimal fault.line
+    ++ codes ": " ++ known_fault_text list fault.name fault.kind ++ codes "\n"

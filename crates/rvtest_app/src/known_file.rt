@@ -1,0 +1,118 @@
+//! The file with the names of jobs that are known to fail.
+
+ghost use Rattle.std.specs.Prelude.{◌≡◌, ◌++◌, IfOk, OnOk, map, option_map};
+ghost use Rattle.rv_command.specs.Texts.{optional_text};
+ghost use Rattle.rvtest_app.specs.KnownFiles.{IsKnownAt, IsKnownFile, known_fault_message, known_fault_text, names_of_jobs};
+
+use rv_cli::rvtest::RunAsked;
+use rv_command::{Stop, read_file};
+use rv_files::Inputs;
+use rv_jobs::{Job, Text};
+use rv_known::{KnownFault, KnownFaultKind, KnownJobs, read_known_jobs};
+use rv_text::{Span, push_spans, push_text};
+use std::alloc::{AllocError, Global};
+
+/// The known failures among the jobs of a list, where words name a file.
+pub(crate) fn requested_known_jobs<D: Inputs>(
+    inputs: &D,
+    alloc: Global,
+    asked: &RunAsked<'_>,
+    jobs: &[Job],
+) -> Result<Option<KnownJobs>, Stop>
+    ensures { IfOk result (IsKnownAt (D.contents inputs.now) (optional_text asked.now.known) jobs.now) }
+{
+    match asked.known {
+        Some(path) => Ok(Some(read_known_file(inputs, alloc, path, asked.list, jobs)?)),
+        None => Ok(None),
+    }
+}
+
+fn read_known_file<D: Inputs>(
+    inputs: &D,
+    alloc: Global,
+    path: &str,
+    list: &str,
+    jobs: &[Job],
+) -> Result<KnownJobs, Stop>
+    ensures { IfOk result (IsKnownFile (D.contents inputs.now) path.now jobs.now) }
+{
+    let text = read_file(inputs, alloc, path)?;
+    let names = job_names(alloc, jobs)?;
+    match read_known_jobs(alloc, names.as_slice(), text.as_slice())? {
+        Ok(jobs) => {
+            let path = Text::copy(alloc, path)?;
+            Ok(KnownJobs { path, jobs })
+        }
+        Err(fault) => Err(Stop::of_refusal(known_fault_message(alloc, path, list, &fault))),
+    }
+}
+
+fn job_names(alloc: Global, jobs: &[Job]) -> Result<Vec<&str>, AllocError>
+    ensures { IfOk result (λ names. map (λ name. name.now) names.items ≡ names_of_jobs jobs.now) }
+{
+    let mut names = Vec::new(alloc);
+    for job in jobs {
+        names.push(job.name.as_str())?;
+    }
+    Ok(names)
+}
+
+fn known_fault_message(
+    alloc: Global,
+    path: &str,
+    list: &str,
+    fault: &KnownFault,
+) -> Result<Vec<u8>, AllocError>
+    ensures { IfOk result (λ message. message.items ≡ known_fault_message path.now list.now fault.now) }
+{
+    let mut message = Vec::new(alloc);
+    push_spans(
+        &mut message,
+        &[
+            Span::Text("rvtest: "),
+            Span::Shown(path.as_bytes()),
+            Span::Text(": line "),
+            Span::Number(fault.line as u64),
+            Span::Text(": "),
+        ],
+    )?;
+    push_known_fault(&mut message, list, fault.name.as_slice(), fault.kind)?;
+    push_text(&mut message, "\n")?;
+    Ok(message)
+}
+
+fn push_known_fault(
+    message: &mut Vec<u8>,
+    list: &str,
+    name: &[u8],
+    kind: KnownFaultKind,
+) -> Result<(), AllocError>
+    ensures { OnOk result (message.new.items ≡ message.old.items ++ known_fault_text list.now name.now kind) }
+{
+    match kind {
+        KnownFaultKind::NoName => push_spans(
+            message,
+            &[
+                Span::Text("'"),
+                Span::Value(name),
+                Span::Text("' is no job's name; a name stands alone, and a reason behind '#'"),
+            ],
+        ),
+        KnownFaultKind::Twice => push_spans(
+            message,
+            &[
+                Span::Value(name),
+                Span::Text(" stands in a line before it, too"),
+            ],
+        ),
+        KnownFaultKind::NoJob => push_spans(
+            message,
+            &[
+                Span::Text("no job of "),
+                Span::Shown(list.as_bytes()),
+                Span::Text(" is called "),
+                Span::Value(name),
+            ],
+        ),
+    }
+}
