@@ -79,6 +79,7 @@ IsCommandStop known (asked.Check words) why = (why ≡ stop.WriteFailed) ⊎ IsC
 IsCommandStop known (asked.Diff words) why = (why ≡ stop.WriteFailed) ⊎ IsDiffAtStop known words why
 IsCommandStop known (asked.Help words) why = (why ≡ stop.WriteFailed) ⊎ IsNoTopicStop words.topic.now why
 IsCommandStop known (asked.Run words) why = IsRunStop known words why
+IsCommandStop known (asked.Accept words) why = ⊤
 IsCommandStop known (asked.Merge words) why = IsMergeStop known words why
 IsCommandStop known (asked.Show words) why = IsShowStop known words why
 

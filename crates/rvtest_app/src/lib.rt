@@ -6,6 +6,8 @@
 //! What goes to each and to which file is said by definitions (`specs/`), of the words and of what stands at the paths that are read.
 #![tactic(auto)]
 
+mod accept;
+mod accepted_files;
 mod check;
 mod check_text;
 mod chosen_rows;

@@ -1,0 +1,4 @@
+pub mod Meeting
+pub mod Editing
+mod MarkCounts
+pub mod Public
