@@ -25,7 +25,6 @@ use crate::crew::requested_crew;
 use crate::destinations::Destinations;
 use crate::host::Host;
 use crate::missing_images::missing_images_note;
-use crate::planned_run::MarkedJobs;
 use crate::rules::failure_rule;
 use crate::run::gather_jobs_at;
 use rv_accept::{
@@ -53,6 +52,14 @@ struct ChosenList {
     // What is said of the choice.
     notes: Vec<u8>,
     ghost counted: { ForSome chosen (λ marks. length marks.items ≡ length jobs) },
+}
+
+// Jobs that expect nothing, with a mark for each that runs.
+#[derive(Drop)]
+struct BareJobs {
+    jobs: JobList,
+    marks: Vec<bool>,
+    ghost counted: { length marks.items ≡ length jobs },
 }
 
 // What the jobs came to that were run.
@@ -171,7 +178,7 @@ fn marked_jobs(
     asked: &AcceptAsked<'_>,
     list: &ChosenList,
     chosen: &[bool],
-) -> Result<MarkedJobs, Stop>
+) -> Result<BareJobs, Stop>
     requires counted { length chosen.now ≡ length list.now.jobs }
     requires listed { job_list_of list.now.text.items ≡ Ok list.now.jobs }
     ensures jobs { IfOk result (λ marked. marked.jobs ≡ map without_expectations list.now.jobs) }
@@ -180,11 +187,7 @@ fn marked_jobs(
 {
     let jobs = parse_list(alloc, asked.run.list, list.text.as_slice())?.without_expectations();
     let marks = marks_to_run(alloc, list.jobs.as_slice(), chosen)?;
-    Ok(MarkedJobs {
-        jobs,
-        marks,
-        shard: None,
-    })
+    Ok(BareJobs { jobs, marks })
 }
 
 // The rows of the jobs that are marked, each at the place of its job.
@@ -197,7 +200,7 @@ fn run_marked<
 >(
     host: &Host<'_, R, D>,
     asked: &AcceptAsked<'_>,
-    marked: MarkedJobs,
+    marked: BareJobs,
     to: &mut Destinations<F, O, E>,
 ) -> Result<Vec<Option<Row>>, Stop>
     ensures files { to.new.files ≡ to.old.files }
@@ -205,7 +208,7 @@ fn run_marked<
         (optional_text asked.now.run.root) marked.jobs marked.marks.items rows.items
         (said F.placed O.taken E.taken E.failed to.old) (said F.placed O.taken E.taken E.failed to.new)) }
 {
-    let MarkedJobs { jobs, marks, .. } = marked;
+    let BareJobs { jobs, marks, .. } = marked;
     let (alloc, root) = (host.alloc, asked.run.root);
     let places = marked_places(alloc, marks.as_slice())?;
     let mut store = NotingStore::new(host.inputs, alloc, root);
