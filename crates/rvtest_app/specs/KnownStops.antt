@@ -8,8 +8,9 @@ use Rattle.rv_command.specs.declared.stop.Stop.{Stop}
 use Rattle.rv_command.specs.declared.stop.Stop.TheVariants as stop
 use Rattle.rv_known.specs.KnownJobs.{known_jobs_of}
 use Rattle.rv_known.specs.declared.known_jobs.KnownFault.{KnownFault}
+use Rattle.rv_lists.specs.JobList.{names_of_jobs}
 use Rattle.rv_lists.specs.declared.job.Job.{Job}
-use Rattle.rvtest_app.specs.KnownFiles.{known_fault_message, names_of_jobs}
+use Rattle.rvtest_app.specs.KnownFiles.{known_fault_message}
 
 -- memory was wanting; or the text at a path has a fault among the jobs of the list at another, and its first one is told
 abbrev pub IsKnownFaultStop : List ℕ → List ℕ → List Job → List ℕ → Stop → Type 0
