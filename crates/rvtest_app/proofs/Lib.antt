@@ -10,5 +10,6 @@ mod Requested
 mod PartTexts
 mod JobTexts
 mod FailedRows
+mod RunTellings
 mod UnreadableWords
 mod WordsStops
