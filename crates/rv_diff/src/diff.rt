@@ -82,11 +82,7 @@ pub fn push_diff(
 }
 
 /// The rows of whose jobs others have some, too, in their order.
-pub fn rows_beside(
-    alloc: Global,
-    rows: Vec<Row>,
-    others: &[Row],
-) -> Result<Vec<Row>, AllocError>
+pub fn rows_beside(alloc: Global, rows: Vec<Row>, others: &[Row]) -> Result<Vec<Row>, AllocError>
     ensures { IfOk result (λ kept. kept.items ≡ rows_beside others.now rows.items) }
 {
     let others = ByName::new(alloc, others)?;
