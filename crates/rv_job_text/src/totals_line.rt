@@ -22,7 +22,12 @@ pub fn push_totals_line(
     requires { length rows.now < 2 ^ 32 }
     ensures { OnOk result (bytes.new.items ≡ bytes.old.items ++ totals_line (judging_of judge.now) rows.now) }
 {
-    push_passed_counts(bytes, rows.len(), passed_count(judge, rows), failed_count(judge, rows))?;
+    push_passed_counts(
+        bytes,
+        rows.len(),
+        passed_count(judge, rows),
+        failed_count(judge, rows),
+    )?;
     push_failures_by_end_kind(bytes, judge, rows)?;
     push_known_count(bytes, known_count(judge, rows))?;
     push_total_steps(bytes, total_steps(rows))

@@ -188,12 +188,7 @@ fn push_reason_attribute(alloc: Global, text: &mut String, why: &[u8]) -> Result
 }
 
 #[tactic(auto, unfolding(crate::specs::Junit::problem_text))]
-fn push_problem(
-    alloc: Global,
-    text: &mut String,
-    row: &Row,
-    lines: &[u8],
-) -> Result<(), AllocError>
+fn push_problem(alloc: Global, text: &mut String, row: &Row, lines: &[u8]) -> Result<(), AllocError>
     ensures { OnOk result (string_bytes text.new
         ≡ string_bytes text.old ++ problem_text row.now lines.now) }
 {

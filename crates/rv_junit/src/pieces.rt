@@ -67,7 +67,11 @@ pub(crate) fn push_attribute(
 }
 
 #[tactic(auto, unfolding(crate::specs::Pieces::number_attribute))]
-pub(crate) fn push_number_attribute(text: &mut String, name: &str, number: u64) -> Result<(), AllocError>
+pub(crate) fn push_number_attribute(
+    text: &mut String,
+    name: &str,
+    number: u64,
+) -> Result<(), AllocError>
     ensures { OnOk result (string_bytes text.new
         ≡ string_bytes text.old ++ number_attribute name.now number) }
 {

@@ -6,9 +6,9 @@ mod Results
 mod StopLemmas
 mod PutTexts
 mod PutStops
-mod Requested
 mod PartTexts
 mod JobTexts
 mod FailedRows
+mod RunTellings
 mod UnreadableWords
 mod WordsStops

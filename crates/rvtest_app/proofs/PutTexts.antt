@@ -8,7 +8,7 @@ use Rattle.rv_files.specs.Placed.{PlacedFile}
 use Rattle.rvtest_app.specs.Outlets.{AreFilesPlaced, AreFilesPlacedInPart, HasTaken, IsPutInto, both_files, file_at, files_of, has_no_failure, is_out, is_stdout_at}
 use Rattle.rvtest_app.specs.Outlets.{file_path_at, outlet_path, stdout_at, stdout_part}
 use Rattle.rv_report.specs.declared.row.Row.{Row}
-use Rattle.rv_expect.specs.declared.passing.Rule.{Rule}
+use Rattle.rv_expect.specs.Judgement.{Judging}
 use Rattle.rv_junit.specs.Junit.{junit_text}
 use Rattle.rv_stream.specs.Streams.{row_text_list}
 use Rattle.rvtest_app.specs.declared.outlets.Outlet.{Outlet}
@@ -114,10 +114,10 @@ pub part_same : (before after : Option (List PlacedFile)) (path : Option (List �
 part_same before after path text other are e = rw e at are
 
 -- JUnit's documents of one suite, with lines that are equal
-pub same_junit : (name other : List ℕ) (rule : Rule) (line told : ℕ → Row → List ℕ) (places : List ℕ) (rows : List Row)
+pub same_junit : (name other : List ℕ) (judging : Judging) (line told : ℕ → Row → List ℕ) (places : List ℕ) (rows : List Row)
     → name ≡ other → line ≡ told
-    → junit_text name rule (row_text_list line places rows) rows ≡ junit_text other rule (row_text_list told places rows) rows
-same_junit name other rule line told places rows e f = rw (e, f) refl
+    → junit_text name judging (row_text_list line places rows) rows ≡ junit_text other judging (row_text_list told places rows) rows
+same_junit name other judging line told places rows e f = rw (e, f) refl
 
 -- nothing went out
 pub appends_nothing : (known : Option (List ℕ)) → Appends known known []

@@ -1,5 +1,5 @@
 -- The jobs that the file at a path names as known to fail.
-use Rattle.std.specs.Prelude.{◌≡◌, ◌++◌, ℕ, List, Ok, Option, Some, None, codes, map}
+use Rattle.std.specs.Prelude.{◌≡◌, ◌++◌, ℕ, List, Ok, Option, Some, None, codes}
 use Rattle.std.specs.Fmt.{decimal}
 use Rattle.rv_base.specs.Files.{FileContents}
 use Rattle.rv_command.specs.Texts.{IsTextAt}
@@ -8,11 +8,9 @@ use Rattle.rv_known.specs.declared.known_jobs.KnownFaultKind.{KnownFaultKind}
 use Rattle.rv_known.specs.declared.known_jobs.KnownFaultKind.TheVariants as kind
 use Rattle.rv_known.specs.declared.known_jobs.KnownJobs.{KnownJobs}
 use Rattle.rv_known.specs.KnownJobs.{known_jobs_of}
+use Rattle.rv_lists.specs.JobList.{names_of_jobs}
 use Rattle.rv_lists.specs.declared.job.Job.{Job}
 use Rattle.rv_text.specs.Printable.{printable_text, printable_value}
-
-abbrev pub names_of_jobs : List Job → List (List ℕ)
-names_of_jobs jobs = map (λ (job : Job). job.name) jobs
 
 -- what the text at a path names, among the jobs of a list
 pub record IsKnownFile (files : Option FileContents) (path : List ℕ) (jobs : List Job) (known : KnownJobs) : Type 0 where

@@ -8,6 +8,7 @@ use Rattle.rv_command.specs.Stops.{IsListFaultStop, IsListUnreadStop}
 use Rattle.rv_command.specs.Texts.{IsTextAt, optional_text}
 use Rattle.rv_command.specs.declared.stop.Stop.{Stop}
 use Rattle.rv_command.specs.declared.stop.Stop.TheVariants as stop
+use Rattle.rv_known.specs.declared.known_jobs.KnownJobs.{KnownJobs}
 use Rattle.rv_lists.specs.JobList.{job_list_of}
 use Rattle.rv_lists.specs.declared.job.Job.{Job}
 use Rattle.rv_report.specs.declared.row.Row.{Row}
@@ -16,6 +17,8 @@ use Rattle.rv_stream.specs.declared.error.StreamError.{StreamError}
 use Rattle.rvtest_app.specs.Commands.{failure_rule, stop_of_stream}
 use Rattle.rvtest_app.specs.IntoReports.{run_report_path}
 use Rattle.rvtest_app.specs.IntoStops.{IsIntoStop}
+use Rattle.rvtest_app.specs.KnownFiles.{IsKnownAt}
+use Rattle.rvtest_app.specs.KnownStops.{IsKnownStop}
 use Rattle.rvtest_app.specs.PutStops.{IsOutputStop}
 use Rattle.rvtest_app.specs.Runs.{AreRequestedJobs}
 
@@ -35,6 +38,16 @@ abbrev pub IsUnrequestedStop : Option FileContents → RunAsked → Stop → Typ
 IsUnrequestedStop known words why = IsListUnreadStop known words.list.now why
     ⊎ ((text : List ℕ) × (IsTextAt known words.list.now text × IsUnlistedStop known words text why))
 
+-- the jobs of the list that words ask for were found, and the file that they name has not the known failures among them
+pub record IsUnknownStop (known : Option FileContents) (words : RunAsked) (why : Stop) : Type 0 where
+  pub jobs : List Job
+  pub marks : Option (List Bool)
+  pub shard : Option Shard
+  pub old : Option (List Row)
+  pub notes : List ℕ
+  pub asked : AreRequestedJobs known words jobs marks shard old notes
+  pub unknown : IsKnownStop known words jobs why
+
 -- the run of the jobs ended on its way
 abbrev pub IsStreamStop : Stop → Type 0
 IsStreamStop why = (error : StreamError) × (why ≡ stop_of_stream error)
@@ -44,7 +57,7 @@ abbrev pub IsRunPutStop : RunAsked → Stop → Type 0
 IsRunPutStop words why = (why ≡ stop.NoWorker)
     ⊎ IsOutputStop (run_report_path words) (optional_text words.junit) why
 
--- the jobs of the list that words ask for were found, and that happened
+-- the jobs of the list that words ask for were found, and the known failures among them, and that happened
 pub record IsUnfinishedStop (known : Option FileContents) (words : RunAsked) (why : Stop) : Type 0 where
   pub jobs : List Job
   pub marks : List Bool
@@ -52,8 +65,12 @@ pub record IsUnfinishedStop (known : Option FileContents) (words : RunAsked) (wh
   pub old : Option (List Row)
   pub notes : List ℕ
   pub asked : AreRequestedJobs known words jobs (Some marks) shard old notes
+  pub failures : Option KnownJobs
+  pub known_to_fail : IsKnownAt known (optional_text words.known) jobs failures
   pub put : IsRunPutStop words why
 
--- `run`: no jobs were found that words ask for, or they were, and the run was not finished
+-- `run`: no jobs were found that words ask for; or they were, and the known failures among them were not; or both were, and the run
+-- was not finished
 abbrev pub IsRunStop : Option FileContents → RunAsked → Stop → Type 0
-IsRunStop known words why = IsUnrequestedStop known words why ⊎ IsUnfinishedStop known words why
+IsRunStop known words why = IsUnrequestedStop known words why
+    ⊎ (IsUnknownStop known words why ⊎ IsUnfinishedStop known words why)

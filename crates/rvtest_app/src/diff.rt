@@ -92,12 +92,14 @@ fn compared_rows(
         leaves_out(&old.extent, &new.extent),
         leaves_out(&new.extent, &old.extent),
     );
-    let (mut old, mut new) = (old.rows.into_vec(), new.rows.into_vec());
+    let (old, new) = (old.rows.into_vec(), new.rows.into_vec());
     if is_new_part {
-        old = rows_beside(alloc, old, new.as_slice())?;
+        let old = rows_beside(alloc, old, new.as_slice())?;
+        return Ok((old, new));
     }
     if is_old_part {
-        new = rows_beside(alloc, new, old.as_slice())?;
+        let new = rows_beside(alloc, new, old.as_slice())?;
+        return Ok((old, new));
     }
     Ok((old, new))
 }

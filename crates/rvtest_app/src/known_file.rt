@@ -1,8 +1,10 @@
 //! The file with the names of jobs that are known to fail.
 
-ghost use Rattle.std.specs.Prelude.{◌≡◌, ◌++◌, IfOk, OnOk, map, option_map};
+ghost use Rattle.std.specs.Prelude.{◌≡◌, ◌++◌, IfErr, IfOk, OnOk, map, option_map};
 ghost use Rattle.rv_command.specs.Texts.{optional_text};
-ghost use Rattle.rvtest_app.specs.KnownFiles.{IsKnownAt, IsKnownFile, known_fault_message, known_fault_text, names_of_jobs};
+ghost use Rattle.rv_lists.specs.JobList.{names_of_jobs};
+ghost use Rattle.rvtest_app.specs.KnownFiles.{IsKnownAt, IsKnownFile, known_fault_message, known_fault_text};
+ghost use Rattle.rvtest_app.specs.KnownStops.{IsKnownStop, IsNoKnownFileStop};
 
 use rv_cli::rvtest::RunAsked;
 use rv_command::{Stop, read_file};
@@ -19,7 +21,8 @@ pub(crate) fn requested_known_jobs<D: Inputs>(
     asked: &RunAsked<'_>,
     jobs: &[Job],
 ) -> Result<Option<KnownJobs>, Stop>
-    ensures { IfOk result (IsKnownAt (D.contents inputs.now) (optional_text asked.now.known) jobs.now) }
+    ensures known { IfOk result (IsKnownAt (D.contents inputs.now) (optional_text asked.now.known) jobs.now) }
+    ensures stopped { IfErr result (IsKnownStop (D.contents inputs.now) asked.now jobs.now) }
 {
     match asked.known {
         Some(path) => Ok(Some(read_known_file(inputs, alloc, path, asked.list, jobs)?)),
@@ -34,7 +37,8 @@ fn read_known_file<D: Inputs>(
     list: &str,
     jobs: &[Job],
 ) -> Result<KnownJobs, Stop>
-    ensures { IfOk result (IsKnownFile (D.contents inputs.now) path.now jobs.now) }
+    ensures known { IfOk result (IsKnownFile (D.contents inputs.now) path.now jobs.now) }
+    ensures stopped { IfErr result (IsNoKnownFileStop (D.contents inputs.now) path.now list.now jobs.now) }
 {
     let text = read_file(inputs, alloc, path)?;
     let names = job_names(alloc, jobs)?;

@@ -4,6 +4,7 @@ ghost use Rattle.std.specs.Prelude.{◌≡◌, [], Some, false, IfErr, IfOk, IsE
 ghost use Rattle.std.specs.Io.KnownBytes.{Appends};
 ghost use Rattle.rv_base.specs.Sinks.{AppendsBeginning};
 ghost use Rattle.rv_command.specs.Texts.{optional_text};
+ghost use Rattle.rv_expect.specs.Judgement.{judging_of};
 ghost use Rattle.rvtest_app.specs.Outlets.{HasTaken, IsPutInto, file_path_at, has_no_failure, is_out, is_stdout};
 ghost use Rattle.rvtest_app.specs.Outlets.{outlet_path, stdout_part, uses_stdout};
 ghost use Rattle.rvtest_app.specs.PutStops.{IsEitherFileStop, IsTextStop, IsUnopenedStop, IsWriteErrorStop, stop_of_write_error};
@@ -166,10 +167,10 @@ impl<'a, P: Drop, W: Sink + Drop> Outlet<'a, P, W> {
         rows: &PlacedRows<'_>,
     ) -> Result<(), Stop>
         ensures put { OnOk result (IsPutInto W.taken W.failed self.old self.new
-            (junit_text suite.now.name.now suite.now.rule
+            (junit_text suite.now.name.now (judging_of suite.now.judge)
             (row_text_list (T.line telling.now) rows.now.places.now rows.now.rows.now) rows.now.rows.now)) }
         ensures out { OnOk result (Appends (O.taken out.old) (O.taken out.new) (stdout_part self.old
-            (junit_text suite.now.name.now suite.now.rule
+            (junit_text suite.now.name.now (judging_of suite.now.judge)
             (row_text_list (T.line telling.now) rows.now.places.now rows.now.rows.now) rows.now.rows.now))) }
         ensures counted { OnOk result (O.failed out.new ≡ O.failed out.old) }
         ensures path { outlet_path self.new ≡ outlet_path self.old }

@@ -10,8 +10,8 @@ ghost use Rattle.rvtest_app.specs.FailureLines.{failure_lines};
 use crate::into_report::ReportFrame;
 use rv_job_text::RowTelling;
 use rv_jobs::JobList;
-use rv_known::KnownJobs;
 use rv_kept_lines::{KeptLines, RowLines};
+use rv_known::KnownJobs;
 use std::sync::Mutex;
 
 /// The jobs of a list, with a mark for each that words ask for.

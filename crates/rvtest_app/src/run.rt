@@ -121,7 +121,12 @@ pub(crate) fn run_requested_jobs<
     put_message(&mut to.errors, notes.as_slice());
     match marks {
         Some(marks) => {
-            let marked = MarkedJobs { jobs, marks, frame, known };
+            let marked = MarkedJobs {
+                jobs,
+                marks,
+                frame,
+                known,
+            };
             run.run_marked_jobs(marked, to, terminals)
         }
         None => (to, Ok(DONE)),

@@ -1,4 +1,5 @@
 use Rattle.std.proofs.Common.{◌∙◌, ap, arith, length}
+use Rattle.rv_expect.specs.Judgement.{judging_of}
 use Rattle.rv_fleet.proofs.Public.{rows_count}
 use Rattle.rv_fleet.specs.Batches.{batch_rows}
 use Rattle.rv_job_text.specs.TotalsLine.{totals_line}
@@ -18,15 +19,15 @@ put_totals_line-requires g c =
 pub returns-in-Err-put_totals_line-clause-part : goal.returns-in-Err-put_totals_line-clause-part
 returns-in-Err-put_totals_line-clause-part g c =
     let rows = c.as_slice.ensures ∙ rw c.in-Ok.is at c.stream_places-out.ensures.rows in
-    told_behind _ _ _ _ (totals_line c.args.rule) _ (batch_rows c.args.batch.now) rows (rw c.in-Ok.is at c.stream_places-out.ensures.all)
+    told_behind _ _ _ _ (totals_line (judging_of c.args.judge.now)) _ (batch_rows c.args.batch.now) rows (rw c.in-Ok.is at c.stream_places-out.ensures.all)
     c.in-Err-put_totals_line.ensures.part
 
 pub returns-in-Err-clause-part : goal.returns-in-Err-clause-part
 returns-in-Err-clause-part g c =
-    begun_before _ _ _ (totals_line c.args.rule _) (rw c.in-Err.is at c.stream_places-out.ensures.part)
+    begun_before _ _ _ (totals_line (judging_of c.args.judge.now) _) (rw c.in-Err.is at c.stream_places-out.ensures.part)
 
 pub returns-in-Ok-put_totals_line-clause-all : goal.returns-in-Ok-put_totals_line-clause-all
 returns-in-Ok-put_totals_line-clause-all g c =
     let rows = c.as_slice.ensures ∙ rw c.in-Ok.is at c.stream_places-out.ensures.rows in
-    told_whole _ _ _ _ (totals_line c.args.rule) _ (batch_rows c.args.batch.now) rows (rw c.in-Ok.is at c.stream_places-out.ensures.all)
+    told_whole _ _ _ _ (totals_line (judging_of c.args.judge.now)) _ (batch_rows c.args.batch.now) rows (rw c.in-Ok.is at c.stream_places-out.ensures.all)
     (rw c.in-Ok-put_totals_line.is at c.put_totals_line.ensures.all)

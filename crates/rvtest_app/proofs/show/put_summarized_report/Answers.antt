@@ -24,9 +24,9 @@ returns-in-Ok-clause-put g c =
       c.as_slice.ensures.value,
       c.in_ok-outlets.ensures.same,
     ) at c.in-Ok.ensures.shown in
-    let out = rw (c.as_bytes.ensures.value, c.suite_name.ensures, c.failure_rule.ensures)
+    let out = rw (c.as_bytes.ensures.value, c.suite_name.ensures, c.report_judge.ensures)
     at (c.put_whole_files.ensures.put report_path junit_path (rw same report) (rw same junit)) in
-    let placed = rw (c.as_bytes.ensures.value, c.suite_name.ensures, c.failure_rule.ensures)
+    let placed = rw (c.as_bytes.ensures.value, c.suite_name.ensures, c.report_judge.ensures)
     at (c.put_whole_files.ensures.placed report_path junit_path (rw same report) (rw same junit)) in
     let errors = c.put_whole_files.ensures.errors in
     OnOk-both c.put_whole_files.result _ _ _

@@ -1,4 +1,5 @@
 use Rattle.std.proofs.Common.{◌∙◌, ap}
+use Rattle.rv_expect.specs.Judgement.{judging_of}
 use Rattle.rv_job_text.specs.Telling.{row_lines_at, telling_of}
 use Rattle.rvtest_app.specs.IntoReports.{run_report_text}
 use Rattle.rvtest_app.proofs.PutTexts.{part_same, placed_same, same_junit}
@@ -9,8 +10,8 @@ pub returns-clause-placed : goal.returns-clause-placed
 returns-clause-placed g c = λ report_path junit_path report junit.
     let planned = c.args.planned.now in
     placed_same _ _ junit_path report_path _ _ _ _
-    (c.in_ok-put_files.ensures.placed report_path junit_path report junit)
-    (same_junit _ _ planned.telling.now.rule _ _ planned.places.now c.args.rows
+    (rw c.framed_report.ensures.rows at (c.in_ok-put_files.ensures.placed report_path junit_path report junit))
+    (same_junit _ _ (judging_of planned.telling.now.judge) _ _ planned.places.now c.args.rows
     (c.as_bytes.ensures.value ∙ c.suite_name.ensures)
     (ap (λ telling. row_lines_at (telling_of telling)) c.new-recalling.ensures))
     (c.framed_report.ensures.text
@@ -20,7 +21,7 @@ pub returns-in_err-put_files-clause-part : goal.returns-in_err-put_files-clause-
 returns-in_err-put_files-clause-part g c = λ junit_path junit.
     let planned = c.args.planned.now in
     OnErr-from c.from_residual.result _
-    (part_same _ _ junit_path _ _ (c.in_err-put_files.ensures.part junit_path junit)
-    (same_junit _ _ planned.telling.now.rule _ _ planned.places.now c.args.rows
+    (part_same _ _ junit_path _ _ (rw c.framed_report.ensures.rows at (c.in_err-put_files.ensures.part junit_path junit))
+    (same_junit _ _ (judging_of planned.telling.now.judge) _ _ planned.places.now c.args.rows
     (c.as_bytes.ensures.value ∙ c.suite_name.ensures)
     (ap (λ telling. row_lines_at (telling_of telling)) c.new-recalling.ensures)))

@@ -1,10 +1,12 @@
 use Rattle.std.proofs.Common.{◌∙◌, ap, inl, inr, length, refl, ⊎_elim}
 use Rattle.rvtest_app.specs.Said.{said}
+use Rattle.rvtest_app.proofs.RunTellings.{known_behind}
 use Rattle.rvtest_app.proofs.Results.{IfOk-beside, OnErr-map}
 use Rattle.rvtest_app.proofs.run.ListRun.run_marked_jobs.Goals as goal
 
 pub returns-clause-run : goal.returns-clause-run
 returns-clause-run g c =
+    let known = known_behind c.as_ref.result ∙ c.as_ref.ensures.value in
     let found = c.in-Ok-gather_jobs_at.ensures in
     let noted = rw (
       c.as_slice-3.ensures.value,
@@ -34,18 +36,20 @@ returns-clause-run g c =
       noted = (refl, noted, refl);
       put = put;
     })
-    (rw (c.as_slice-4.ensures.value, c.in-Ok.ensures.value, c.as_slice.ensures.value, c.requires)
+    (rw (c.as_slice-4.ensures.value, c.in-Ok.ensures.value, c.as_slice.ensures.value, c.requires, known)
     at c.run_planned_jobs.ensures.status)
     (rw (
       c.as_slice-4.ensures.value,
       c.in-Ok.ensures.value,
       c.as_slice.ensures.value,
       c.requires,
+      known,
       c.requested_verbosity.ensures,
     ) at c.run_planned_jobs.ensures.said)
 
 pub returns-clause-undone : goal.returns-clause-undone
 returns-clause-undone g c =
+    let known = known_behind c.as_ref.result ∙ c.as_ref.ensures.value in
     let found = c.in-Ok-gather_jobs_at.ensures in
     OnErr-map c.run_planned_jobs.result.1 _ _
     (⊎_elim inl (λ placed. inr (record {
@@ -69,4 +73,5 @@ returns-clause-undone g c =
       c.in-Ok.ensures.value,
       c.as_slice.ensures.value,
       c.requires,
+      known,
     ) at c.run_planned_jobs.ensures.part)

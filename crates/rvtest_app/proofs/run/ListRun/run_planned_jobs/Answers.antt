@@ -1,8 +1,10 @@
-use Rattle.std.proofs.Common.{◌∙◌, ap, length}
+use Rattle.std.proofs.Common.{◌∙◌, ap, inr, length}
 use Rattle.rv_command.specs.Texts.{optional_text}
 use Rattle.rv_fleet.proofs.Public.{rows_count}
+use Rattle.rvtest_app.proofs.PutStops.{output_of_put, put_of_stream}
 use Rattle.rvtest_app.proofs.PutTexts.{out_told}
 use Rattle.rvtest_app.proofs.Results.{OnOk-both}
+use Rattle.rvtest_app.proofs.StopLemmas.{IfErr-map}
 use Rattle.rvtest_app.specs.IntoReports.{run_report_path}
 use Rattle.rvtest_app.specs.Said.{said}
 use Rattle.rvtest_app.proofs.run.ListRun.run_planned_jobs.Goals as goal
@@ -49,3 +51,16 @@ returns-in-Ok-ran-clause-part g c =
     let same = ap g.F.Outputs.placed c.run_and_show-to.ensures.files ∙ c.in-Ok.ensures.same in
     let rows = rw c.in-Ok-ran.is at c.run_and_show-to.ensures.rows in
     rw same at (rw rows at (c.put_run_files-put.ensures.part (optional_text c.args.self.now.asked.now.junit) (rw same junit)))
+
+pub returns-in-Err-clause-stopped : goal.returns-in-Err-clause-stopped
+returns-in-Err-clause-stopped g c =
+    inr (inr (inr (rw c.run_report_path-report.ensures at c.in-Err.ensures.stopped)))
+
+pub returns-in-Ok-ran-clause-stopped : goal.returns-in-Ok-ran-clause-stopped
+returns-in-Ok-ran-clause-stopped g c =
+    let report_path = run_report_path c.args.self.now.asked.now in
+    let junit_path = optional_text c.args.self.now.asked.now.junit in
+    let report = rw c.run_report_path-report.ensures at c.in-Ok.ensures.report in
+    IfErr-map c.put_run_files-put.result _ _ (λ why is. inr is)
+    (output_of_put g.F.Outputs.place_path g.F.File.Sink.taken g.F.File.Sink.failed _ report_path junit_path _ _
+    c.put_run_files-put.result report c.in-Ok.ensures.junit c.put_run_files-put.ensures.stopped)

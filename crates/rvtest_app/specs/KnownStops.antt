@@ -1,0 +1,29 @@
+-- Why the jobs that are known to fail were not had.
+use Rattle.std.specs.Prelude.{◌≡◌, ◌⊎◌, ℕ, List, IsSomeAnd, Option, Err}
+use Rattle.rv_base.specs.Files.{FileContents}
+use Rattle.rv_cli.specs.declared.rvtest.run.RunAsked.{RunAsked}
+use Rattle.rv_command.specs.Stops.{IsStop, IsUnreadStop}
+use Rattle.rv_command.specs.Texts.{IsTextAt}
+use Rattle.rv_command.specs.declared.stop.Stop.{Stop}
+use Rattle.rv_command.specs.declared.stop.Stop.TheVariants as stop
+use Rattle.rv_known.specs.KnownJobs.{known_jobs_of}
+use Rattle.rv_known.specs.declared.known_jobs.KnownFault.{KnownFault}
+use Rattle.rv_lists.specs.JobList.{names_of_jobs}
+use Rattle.rv_lists.specs.declared.job.Job.{Job}
+use Rattle.rvtest_app.specs.KnownFiles.{known_fault_message}
+
+-- memory was wanting; or the text at a path has a fault among the jobs of the list at another, and its first one is told
+abbrev pub IsKnownFaultStop : List ℕ → List ℕ → List Job → List ℕ → Stop → Type 0
+IsKnownFaultStop path list jobs bytes why = (why ≡ stop.OutOfMemory)
+    ⊎ ((fault : KnownFault) × ((known_jobs_of (names_of_jobs jobs) bytes ≡ Err fault)
+    × IsStop 2 (known_fault_message path list fault) why))
+
+-- the path was not read, or what stands there has a fault
+abbrev pub IsNoKnownFileStop : Option FileContents → List ℕ → List ℕ → List Job → Stop → Type 0
+IsNoKnownFileStop known path list jobs why = IsUnreadStop known path why
+    ⊎ ((bytes : List ℕ) × (IsTextAt known path bytes × IsKnownFaultStop path list jobs bytes why))
+
+-- words name such a path for the jobs that are known to fail
+abbrev pub IsKnownStop : Option FileContents → RunAsked → List Job → Stop → Type 0
+IsKnownStop known words jobs why =
+    IsSomeAnd words.known (λ path. IsNoKnownFileStop known path.now words.list.now jobs why)
