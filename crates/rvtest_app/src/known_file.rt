@@ -86,10 +86,10 @@ fn known_fault_message(
     Ok(message)
 }
 
-fn push_known_fault(
+fn push_known_fault<'a>(
     message: &mut Vec<u8>,
-    list: &str,
-    name: &[u8],
+    list: &'a str,
+    name: &'a [u8],
     kind: KnownFaultKind,
 ) -> Result<(), AllocError>
     ensures { OnOk result (message.new.items ≡ message.old.items ++ known_fault_text list.now name.now kind) }
