@@ -267,13 +267,14 @@ impl<'x, R: Threads + Wait + Sync + Clock, D: Inputs> ListRun<'x, R, D> {
         };
         let mut to = to;
         put_message(&mut to.errors, note.as_slice());
+        let judge = Judge {
+            rule: self.rule,
+            known: known.as_ref(),
+        };
         let telling = RowTelling {
             plan: &plan,
             unread,
-            judge: Judge {
-                rule: self.rule,
-                known: known.as_ref(),
-            },
+            judge,
             verbosity: requested_verbosity(asked),
             last: asked.last,
         };
