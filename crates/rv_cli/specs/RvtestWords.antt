@@ -256,6 +256,10 @@ abbrev pub are_rows_put_twice : List Row → Bool
 are_rows_put_twice rows = is_option_given (codes "into") rows
     && (is_option_given (codes "report") rows || is_option_given (codes "shard") rows)
 
+-- rows are put into standard output, from which no report is read
+abbrev pub is_stdout_put_into : List Row → Bool
+is_stdout_put_into rows = is_into_path (codes "-") rows
+
 -- the report that chooses the jobs would be written over by theirs alone
 abbrev pub is_choice_overwritten : List Row → Bool
 is_choice_overwritten rows = option_map_or (λ path. is_report_path path rows) (first_of (codes "failed") rows) false
@@ -280,8 +284,8 @@ files_misuse rows =
 
 -- the first of the rules that options of `run` break: --verbose and --quiet do not stand beside
 -- one another, nor a shard beside a choice, nor a budget beside what makes rows that a list is known by, nor a report of the rows
--- beside one that they are put into; a stamp is a shard's; a report that chooses jobs keeps its other rows; the two files are not
--- one, and a suite is one of them
+-- beside one that they are put into, which is a file; a stamp is a shard's; a report that chooses jobs keeps its other rows; the
+-- two files are not one, and a suite is one of them
 abbrev pub run_misuse : List Row → Option Misuse
 run_misuse rows = if is_flag_set (codes "verbose") rows && is_flag_set (codes "quiet") rows
     then Some misuse.VerboseAndQuiet
@@ -290,6 +294,7 @@ run_misuse rows = if is_flag_set (codes "verbose") rows && is_flag_set (codes "q
     then Some misuse.StampAlone
     else if is_option_given (codes "budget") rows && are_rows_kept rows then Some misuse.BudgetAndRows
     else if are_rows_put_twice rows then Some misuse.IntoAndReport
+    else if is_stdout_put_into rows then Some misuse.IntoStdout
     else if is_choice_overwritten rows then Some misuse.FailedIsReport
     else if is_color_unknown rows then Some misuse.UnknownColor
     else files_misuse rows
@@ -309,6 +314,7 @@ misuse_kinds (Some misuse.StampAlone) = kind.MissingRequiredArgument ∷ []
 misuse_kinds (Some misuse.SuiteAlone) = kind.MissingRequiredArgument ∷ []
 misuse_kinds (Some misuse.NamelessSuite) = kind.InvalidValue ∷ []
 misuse_kinds (Some misuse.UnknownColor) = kind.InvalidValue ∷ []
+misuse_kinds (Some misuse.IntoStdout) = kind.InvalidValue ∷ []
 misuse_kinds (Some _) = kind.ArgumentConflict ∷ []
 
 -- what is said of options that do not go together: which two, as the help writes them
@@ -321,6 +327,8 @@ misuse_text misuse.BudgetAndRows =
     codes "the argument '--budget <N>' cannot be used with '--into <FILE>', '--report <FILE>', '--junit <FILE>' or '--shard <K/N>': such rows are not the list's"
 misuse_text misuse.IntoAndReport =
     codes "the argument '--into <FILE>' cannot be used with '--report <FILE>' or '--shard <K/N>': it is the report that is written"
+misuse_text misuse.IntoStdout =
+    codes "the value of '--into <FILE>' is a file, and not '-': the report is read there before it is written"
 misuse_text misuse.FailedIsReport =
     codes "the argument '--report <FILE>' cannot be used with '--failed <REPORT>' of the same name: the rows of the other jobs would be lost; '--into <FILE>' keeps them"
 misuse_text misuse.StepsAndSlower = codes "the argument '--steps' cannot be used with '--slower <N>'"

@@ -53,7 +53,8 @@ pub struct StepSums {
 
 /// Appends in what the rows of two reports differ: `- NAME` for a job that only the old one has, in its order, then in the
 /// order of the new one `+ NAME` for a job that only that has, and `! NAME: ` and what changed for one whose rows do not
-/// agree; and last how many jobs differ, and how many are left out. Of rows of one name the first counts; the reports that can be read have none.
+/// agree; and last how many jobs differ, and how many are left out. Of rows of one name the first counts; the reports that can be
+/// read have none.
 #[tactic(auto, unfolding(crate::specs::Diff::diff_text))]
 pub fn push_diff(
     alloc: Global,
@@ -61,8 +62,8 @@ pub fn push_diff(
     compare: Compare,
     compared: Compared<'_>,
 ) -> Result<Differing, AllocError>
-    requires old { length compared.entry.old.now < 2 ^ 32 }
-    requires new { length compared.entry.new.now < 2 ^ 32 }
+    requires old { length compared.old.now < 2 ^ 32 }
+    requires new { length compared.new.now < 2 ^ 32 }
     ensures text { OnOk result (text.new.items ≡ text.old.items
         ++ diff_text compare compared.entry.old.now compared.entry.new.now compared.entry.left_out) }
     ensures counts { IfOk result (λ counts. counts
@@ -82,21 +83,13 @@ pub fn push_diff(
 }
 
 /// The rows of whose jobs others have some, too, in their order.
-pub fn rows_beside(
-    alloc: Global,
-    rows: Vec<Row>,
-    others: &[Row],
-) -> Result<Vec<Row>, AllocError>
+pub fn rows_beside(alloc: Global, rows: Vec<Row>, others: &[Row]) -> Result<Vec<Row>, AllocError>
     ensures { IfOk result (λ kept. kept.items ≡ rows_beside others.now rows.items) }
 {
     let others = ByName::new(alloc, others)?;
-    let mut kept = Vec::new(alloc);
-    for row in rows {
-        if others.find(row.name.as_str()).is_some() {
-            kept.push(row)?;
-        }
-    }
-    Ok(kept)
+    let mut rows = rows;
+    rows.retain(|row| others.find(row.name.as_str()).is_some());
+    Ok(rows)
 }
 
 // The steps of all rows, where it is asked which jobs are slower.

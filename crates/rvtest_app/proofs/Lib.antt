@@ -6,7 +6,6 @@ mod Results
 mod StopLemmas
 mod PutTexts
 mod PutStops
-mod Requested
 mod PartTexts
 mod JobTexts
 mod FailedRows

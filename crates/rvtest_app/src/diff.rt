@@ -92,12 +92,14 @@ fn compared_rows(
         leaves_out(&old.extent, &new.extent),
         leaves_out(&new.extent, &old.extent),
     );
-    let (mut old, mut new) = (old.rows.into_vec(), new.rows.into_vec());
+    let (old, new) = (old.rows.into_vec(), new.rows.into_vec());
     if is_new_part {
-        old = rows_beside(alloc, old, new.as_slice())?;
+        let old = rows_beside(alloc, old, new.as_slice())?;
+        return Ok((old, new));
     }
     if is_old_part {
-        new = rows_beside(alloc, new, old.as_slice())?;
+        let new = rows_beside(alloc, new, old.as_slice())?;
+        return Ok((old, new));
     }
     Ok((old, new))
 }
@@ -125,8 +127,8 @@ fn requested_comparison(steps: bool, slower: Option<u32>) -> Compare
 
 // The same of the rows that are compared.
 fn diff_rows(alloc: Global, compare: Compare, compared: Compared<'_>) -> Result<Found, Stop>
-    requires old { length compared.entry.old.now < 2 ^ 32 }
-    requires new { length compared.entry.new.now < 2 ^ 32 }
+    requires old { length compared.old.now < 2 ^ 32 }
+    requires new { length compared.new.now < 2 ^ 32 }
     ensures low { IfOk result (λ found. found.status ≤ 1) }
     ensures text { IfOk result (λ found. found.text.items
         ≡ diff_text compare compared.entry.old.now compared.entry.new.now compared.entry.left_out) }

@@ -23,6 +23,8 @@ pub(crate) enum Misuse {
     BudgetAndRows,
     /// Rows that are put into a report, beside a report of their own or a shard's.
     IntoAndReport,
+    /// Rows that are put into standard output.
+    IntoStdout,
     /// A report of the rows at the path of the one that chooses them.
     FailedIsReport,
     /// Steps compared exactly, and by which jobs are slower.
@@ -52,7 +54,9 @@ impl Misuse {
     {
         match self {
             Misuse::StampAlone | Misuse::SuiteAlone => ErrorKind::MissingRequiredArgument,
-            Misuse::NamelessSuite | Misuse::UnknownColor => ErrorKind::InvalidValue,
+            Misuse::NamelessSuite | Misuse::UnknownColor | Misuse::IntoStdout => {
+                ErrorKind::InvalidValue
+            }
             Misuse::VerboseAndQuiet
             | Misuse::ShardAndChoice
             | Misuse::BudgetAndRows
@@ -80,6 +84,9 @@ impl Misuse {
             }
             Misuse::IntoAndReport => {
                 "the argument '--into <FILE>' cannot be used with '--report <FILE>' or '--shard <K/N>': it is the report that is written"
+            }
+            Misuse::IntoStdout => {
+                "the value of '--into <FILE>' is a file, and not '-': the report is read there before it is written"
             }
             Misuse::FailedIsReport => {
                 "the argument '--report <FILE>' cannot be used with '--failed <REPORT>' of the same name: the rows of the other jobs would be lost; '--into <FILE>' keeps them"
@@ -184,8 +191,8 @@ pub(crate) fn is_report_path(values: &ArgMatches<'_>, path: &str) -> bool
     }
 }
 
-// Whether the rows go into the report at a path.
-fn is_into_path(values: &ArgMatches<'_>, path: &str) -> bool
+/// Whether the rows go into the report at a path.
+pub(crate) fn is_into_path(values: &ArgMatches<'_>, path: &str) -> bool
     ensures { result ≡ is_into_path path.now (rows_of (found_of values.now)) }
 {
     match text_value(values, "into") {

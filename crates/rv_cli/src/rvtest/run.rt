@@ -3,11 +3,13 @@
 ghost use Rattle.std.specs.Prelude.{◌≡◌, ◌≤◌, [], IfOk};
 ghost use Rattle.clap.specs.Words.{found_of, rows_of};
 ghost use Rattle.rv_base.specs.Limits.{most_group};
-ghost use Rattle.rv_cli.specs.RvtestWords.{IsRunAskedInRange, ReadsRequest, are_rows_kept, are_rows_put_twice, is_choice_given, is_choice_overwritten, is_report_given, misuse_kinds, run_asked_words};
+ghost use Rattle.rv_cli.specs.RvtestWords.{IsRunAskedInRange, ReadsRequest, are_rows_kept, are_rows_put_twice, is_choice_given, is_choice_overwritten, is_report_given, is_stdout_put_into, misuse_kinds, run_asked_words};
 ghost use Rattle.rv_cli.specs.RvtestWords.{run_misuse, test_run_request, run_words};
 
 use crate::rvtest::command::run_command;
-use crate::rvtest::refusals::{Misuse, files_misuse, is_color_unknown, is_report_path};
+use crate::rvtest::refusals::{
+    Misuse, files_misuse, is_color_unknown, is_into_path, is_report_path,
+};
 use crate::rvtest::requests::Asked;
 use crate::values::{argument_values, is_flag_set, is_option_given, number_value, text_value};
 use clap::{ArgMatches, Error};
@@ -138,6 +140,8 @@ fn run_misuse(values: &ArgMatches<'_>) -> Option<Misuse>
         Some(Misuse::BudgetAndRows)
     } else if are_rows_put_twice(values) {
         Some(Misuse::IntoAndReport)
+    } else if is_stdout_put_into(values) {
+        Some(Misuse::IntoStdout)
     } else if is_choice_overwritten(values) {
         Some(Misuse::FailedIsReport)
     } else if is_color_unknown(values) {
@@ -167,6 +171,13 @@ fn are_rows_put_twice(values: &ArgMatches<'_>) -> bool
 {
     is_option_given(values, "into")
         && (is_option_given(values, "report") || is_option_given(values, "shard"))
+}
+
+// Whether rows are put into standard output, from which no report is read.
+fn is_stdout_put_into(values: &ArgMatches<'_>) -> bool
+    ensures { result ≡ is_stdout_put_into (rows_of (found_of values.now)) }
+{
+    is_into_path(values, "-")
 }
 
 // Whether the report that chooses the jobs would be written over by theirs alone.

@@ -1,4 +1,4 @@
-use Rattle.rvtest_app.proofs.StopLemmas.{nothing_said, put_or_found}
+use Rattle.rvtest_app.proofs.StopLemmas.{put_or_found}
 use Rattle.rvtest_app.proofs.program.run_subcommand.Goals as goal
 use Rattle.rvtest_app.proofs.program.run_subcommand.Goals.{in-Explain, in-List, in-Console, in-Check, in-Merge, in-Diff, in-Show, in-Help}
 
@@ -14,12 +14,12 @@ returns-clause-stopped g c = elim c.match-asked.branch [
       w.put_findings-answer-in-Check.ensures.stopped)
   | in-List w ↦ rw (w.answer-is, w.in-List.is) w.list_chosen_jobs-answer.ensures.stopped
   | in-Console w ↦ rw (w.answer-is, w.in-Console.is) w.put_job_console-answer.ensures.stopped
-  | in-Merge w ↦ rw w.in-Merge.is (nothing_said c.match-asked.answer)
+  | in-Merge w ↦ rw (w.answer-is, w.in-Merge.is) w.merge_reports-answer.ensures.stopped
   | in-Diff w ↦
       rw (w.answer-is, w.in-Diff.is)
       (put_or_found w.diff_reports.result _ _ w.diff_reports.ensures.stopped
       w.put_findings-answer-in-Diff.ensures.stopped)
-  | in-Show w ↦ rw w.in-Show.is (nothing_said c.match-asked.answer)
+  | in-Show w ↦ rw (w.answer-is, w.in-Show.is) w.show_report-answer.ensures.stopped
   | in-Help w ↦
       rw (w.answer-is, w.in-Help.is)
       (put_or_found w.tell_topic.result _ _ w.tell_topic.ensures.stopped
