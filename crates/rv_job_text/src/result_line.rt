@@ -27,10 +27,10 @@ pub struct EndDetail<'a, 'b> {
     pub reason: Option<&'b [u8]>,
 }
 
-/// Appends the line of a row: `PASS`, `FAIL` or `known`, the job's name, and how it ended. Of a failure that is known the
-/// reason stands behind it, in brackets; of a row that passed, though it is known to fail, which file says so. A fault's address is told by a symbol
-/// too where one is given, and a refusal by its reason where that is given. The symbol's name and the reason are shown as
-/// [`push_printable_text`](rv_text::push_printable_text) does.
+/// Appends the line of a row: `PASS`, `FAIL` or `known`, the job's name, and how it ended. Behind a failure that is known its
+/// reason stands in brackets; of a row that passed, though it is known to fail, it is told which file says so. A fault's
+/// address is told by a symbol too where one is given, and a refusal by its reason where that is given. The symbol's name and
+/// the reasons are shown as [`push_printable_text`](rv_text::push_printable_text) does.
 #[tactic(auto, unfolding(crate::specs::ResultLine::result_line))]
 pub fn push_result_line(
     alloc: Global,
