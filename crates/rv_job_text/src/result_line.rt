@@ -40,7 +40,7 @@ pub fn push_result_line(
     detail: &EndDetail<'_, '_>,
 ) -> Result<(), AllocError>
     ensures { OnOk result (bytes.new.items ≡ bytes.old.items
-        ++ result_line (judged_of judgement) row.now
+        ++ result_line (judged_of judgement.entry) row.now
         (option_map (λ s. (s.name.now, s.offset)) detail.now.symbol)
         (option_map (λ text. text.now) detail.now.reason)) }
 {
@@ -57,7 +57,7 @@ pub fn push_result_line(
 }
 
 fn judged_word(judgement: Judgement<'_>) -> &'static str
-    ensures { result.now ≡ judged_word (judged_of judgement) }
+    ensures { result.now ≡ judged_word (judged_of judgement.entry) }
 {
     match judgement {
         Judgement::Passed => "PASS ",
@@ -74,7 +74,7 @@ fn push_judged_ending(
     detail: &EndDetail<'_, '_>,
 ) -> Result<(), AllocError>
     ensures { OnOk result (bytes.new.items ≡ bytes.old.items
-        ++ judged_ending_text (judged_of judgement) row.now
+        ++ judged_ending_text (judged_of judgement.entry) row.now
         (option_map (λ s. (s.name.now, s.offset)) detail.now.symbol)
         (option_map (λ text. text.now) detail.now.reason)) }
 {

@@ -1,4 +1,4 @@
-use Rattle.std.proofs.Common.{◌≡◌, ◌∙◌, ap, true, false, sym}
+use Rattle.std.proofs.Common.{◌≡◌, ◌∙◌, ap, true, sym}
 use Rattle.rv_expect.specs.Judgement.{fails, is_failing, is_unknown_failure, judgement, judging_of}
 use Rattle.rv_rows.specs.Verdict.{did_run}
 use Rattle.rv_job_text.specs.Telling.{shows_row, row_lines}
