@@ -6,7 +6,7 @@ use Rattle.std.specs.Fmt.{decimal}
 use Rattle.std.proofs.KnownBytes.{Appends-nil}
 use Rattle.rv_rows.specs.declared_row.Row.{Row}
 use Rattle.rv_rows.specs.Sinks.{AppendsBeginning}
-use Rattle.rv_expect.specs.Judgement.{Judged, Judging, judgement}
+use Rattle.rv_expect.specs.Judgement.{Judging, judgement}
 use Rattle.rv_stream.specs.Streams.{row_text_list, joined_row_texts}
 use Rattle.rv_text.specs.declared.xml.Within.TheVariants.{Element}
 use Rattle.rv_text.specs.Xml.{xml_text}

@@ -18,7 +18,7 @@ use Rattle.rv_text.specs.declared.xml.Within.TheVariants.{Attribute, Element}
 use Rattle.rv_junit.specs.Pieces.{attribute, number_attribute}
 use Rattle.rv_junit.specs.Junit.{IsWrittenRow, suite_begin_text, test_case_text, test_cases_text, suite_end_text, first_line}
 use Rattle.rv_expect.specs.Problem.{is_error, is_failure}
-use Rattle.rv_junit.specs.Junit.{AreReasonsBytes, HasBytesAsReason, judged_text, junit_text, output_text, problem_element_name, reason_attribute, skipped_attribute, skipped_text}
+use Rattle.rv_junit.specs.Junit.{AreReasonsBytes, HasBytesAsReason, judged_text, junit_text, output_text, problem_element_name, skipped_text}
 use Rattle.rv_junit.specs.Junit.{problem_text, steps_properties, steps_property, text_up_to}
 use Rattle.rv_text.specs.Xml.{IsXmlCharacters}
 use Rattle.rv_junit.proofs.Laws.{all_are_counted}
