@@ -17,7 +17,7 @@ pub record IsKnownFile (files : Option FileContents) (path : List ℕ) (jobs : L
   pub bytes : List ℕ
   pub read : IsTextAt files path bytes
   pub named : known_jobs_of (names_of_jobs jobs) bytes ≡ Ok known.jobs
-  pub path : known.path ≡ path
+  pub named_by : known.path ≡ path
 
 -- where words name a file, and else nothing
 abbrev pub IsKnownAt : Option FileContents → Option (List ℕ) → List Job → Option KnownJobs → Type 0
