@@ -9,7 +9,9 @@ returns-in_err-put_merged-clause-stopped g c =
     rw (error.1, error.2)
     (inr (
       map (λ text. text.items) c.in_ok-texts.texts.items,
-      c.in_ok-texts.ensures.read,
-      inr
-          (c.in_ok-merged.merged.rows, parts, c.in_err-put_merged.ensures.stopped),
+      (
+        c.in_ok-texts.ensures.read,
+        inr
+            (c.in_ok-merged.merged.rows, (parts, c.in_err-put_merged.ensures.stopped)),
+      ),
     ))
