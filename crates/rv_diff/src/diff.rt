@@ -62,8 +62,8 @@ pub fn push_diff(
     compare: Compare,
     compared: Compared<'_>,
 ) -> Result<Differing, AllocError>
-    requires old { length compared.entry.old.now < 2 ^ 32 }
-    requires new { length compared.entry.new.now < 2 ^ 32 }
+    requires old { length compared.old.now < 2 ^ 32 }
+    requires new { length compared.new.now < 2 ^ 32 }
     ensures text { OnOk result (text.new.items ≡ text.old.items
         ++ diff_text compare compared.entry.old.now compared.entry.new.now compared.entry.left_out) }
     ensures counts { IfOk result (λ counts. counts

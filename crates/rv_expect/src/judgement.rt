@@ -66,7 +66,7 @@ impl<'k> Judge<'k> {
 impl<'k> Judgement<'k> {
     /// Whether it is a failure.
     pub fn is_failing(self) -> bool
-        ensures { result ≡ is_failing (judged_of self) }
+        ensures { result ≡ is_failing (judged_of self.entry) }
     {
         match self {
             Judgement::Failed | Judgement::NowPasses(_) => true,
@@ -76,7 +76,7 @@ impl<'k> Judgement<'k> {
 
     /// Whether it is a row that passed, and is not known to fail.
     pub fn is_passed(self) -> bool
-        ensures { result ≡ is_passed (judged_of self) }
+        ensures { result ≡ is_passed (judged_of self.entry) }
     {
         match self {
             Judgement::Passed => true,
@@ -86,7 +86,7 @@ impl<'k> Judgement<'k> {
 
     /// Whether it is a failure that is not known.
     pub fn is_unknown_failure(self) -> bool
-        ensures { result ≡ is_unknown_failure (judged_of self) }
+        ensures { result ≡ is_unknown_failure (judged_of self.entry) }
     {
         match self {
             Judgement::Failed => true,
@@ -96,7 +96,7 @@ impl<'k> Judgement<'k> {
 
     /// Whether it is a failure that is known.
     pub fn is_known(self) -> bool
-        ensures { result ≡ is_known_failure (judged_of self) }
+        ensures { result ≡ is_known_failure (judged_of self.entry) }
     {
         match self {
             Judgement::Known(_) => true,

@@ -31,7 +31,7 @@ pub use law::{
     unmet_is_what_does_not_hold, unmet_of_a_plan_is_what_does_not_hold,
 };
 pub use met_expectations::{Expectation, is_expectation_met};
-pub use passing::{Rule, has_passed, have_passed};
+pub use passing::{Rule, has_passed};
 pub use problem::{is_error, is_failure};
 pub use reference::signature_words_or_empty;
 pub use same_as_job::row_of_same_as_job;

@@ -1,7 +1,6 @@
 //! Whether a job passed.
 
 ghost use Rattle.std.specs.Prelude.{◌≡◌};
-ghost use Rattle.std.specs.List.{list_all};
 ghost use Rattle.rv_expect.specs.Passing.{has_passed};
 
 use rv_rows::{Row, Verdict, has_expected_exit};
@@ -26,11 +25,4 @@ pub fn has_passed(rule: Rule, row: &Row) -> bool
         (Rule::Strict, Verdict::Unasked) => has_expected_exit(Some(0), row.ending),
         (Rule::Lenient, Verdict::Unasked) => true,
     }
-}
-
-/// Whether each job passed, by their rows.
-pub fn have_passed(rule: Rule, rows: &[Row]) -> bool
-    ensures { result ≡ list_all (has_passed rule) rows.now }
-{
-    rows.iter().all(|row| has_passed(rule, row))
 }

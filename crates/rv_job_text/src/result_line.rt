@@ -27,10 +27,10 @@ pub struct EndDetail<'a, 'b> {
     pub reason: Option<&'b [u8]>,
 }
 
-/// Appends the line of a row: `PASS`, `FAIL` or `known`, the job's name, and how it ended. Of a failure that is known the
-/// reason stands behind it, in brackets; of a row that passed, though it is known to fail, which file says so. A fault's address is told by a symbol
-/// too where one is given, and a refusal by its reason where that is given. The symbol's name and the reason are shown as
-/// [`push_printable_text`](rv_text::push_printable_text) does.
+/// Appends the line of a row: `PASS`, `FAIL` or `known`, the job's name, and how it ended. Behind a failure that is known its
+/// reason stands in brackets; of a row that passed, though it is known to fail, it is told which file says so. A fault's
+/// address is told by a symbol too where one is given, and a refusal by its reason where that is given. The symbol's name and
+/// the reasons are shown as [`push_printable_text`](rv_text::push_printable_text) does.
 #[tactic(auto, unfolding(crate::specs::ResultLine::result_line))]
 pub fn push_result_line(
     alloc: Global,
@@ -40,7 +40,7 @@ pub fn push_result_line(
     detail: &EndDetail<'_, '_>,
 ) -> Result<(), AllocError>
     ensures { OnOk result (bytes.new.items ≡ bytes.old.items
-        ++ result_line (judged_of judgement) row.now
+        ++ result_line (judged_of judgement.entry) row.now
         (option_map (λ s. (s.name.now, s.offset)) detail.now.symbol)
         (option_map (λ text. text.now) detail.now.reason)) }
 {
@@ -57,7 +57,7 @@ pub fn push_result_line(
 }
 
 fn judged_word(judgement: Judgement<'_>) -> &'static str
-    ensures { result.now ≡ judged_word (judged_of judgement) }
+    ensures { result.now ≡ judged_word (judged_of judgement.entry) }
 {
     match judgement {
         Judgement::Passed => "PASS ",
@@ -74,7 +74,7 @@ fn push_judged_ending(
     detail: &EndDetail<'_, '_>,
 ) -> Result<(), AllocError>
     ensures { OnOk result (bytes.new.items ≡ bytes.old.items
-        ++ judged_ending_text (judged_of judgement) row.now
+        ++ judged_ending_text (judged_of judgement.entry) row.now
         (option_map (λ s. (s.name.now, s.offset)) detail.now.symbol)
         (option_map (λ text. text.now) detail.now.reason)) }
 {

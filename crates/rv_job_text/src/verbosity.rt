@@ -29,7 +29,7 @@ pub(crate) enum Detail {
 impl Verbosity {
     /// Whether anything is told of a row, by what it counts as.
     pub(crate) fn shows_row(self, judgement: Judgement<'_>) -> bool
-        ensures { result ≡ shows_row self (is_failing (judged_of judgement)) }
+        ensures { result ≡ shows_row self (is_failing (judged_of judgement.entry)) }
     {
         match self {
             Verbosity::Quiet => false,

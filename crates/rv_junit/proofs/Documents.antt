@@ -1,19 +1,24 @@
 -- Documents are characters of XML.
 use Rattle.std.proofs.Common.{refl, ℕ, zero, suc, ◌^◌, ◌<◌, List, [], ◌∷◌, ◌++◌, Bool, true, false}
 use Rattle.std.proofs.Common.{cond, Option, Some, None, arith, get_or, length, take}
-use Rattle.std.specs.Prelude.{codes, count_by, position}
+use Rattle.std.specs.Prelude.{◌==◌, IfSome, codes, count_by, option_map, position, ⊤}
+use Rattle.std.specs.Str.{bytes_eq}
 use Rattle.std.specs.List.{AllByRecursion, flat_map}
 use Rattle.hex.specs.Hex.{IsBytes}
 use Rattle.rv_rows.specs.declared_row.Row.{Row}
 use Rattle.rv_rows.specs.Verdict.{did_run}
-use Rattle.rv_expect.specs.declared.passing.Rule.{Rule}
-use Rattle.rv_job_text.specs.ConsoleTail.{is_feed}
+use Rattle.rv_expect.specs.Judgement.{Judged, Judging, failed, judged_by_known, judged_in_file, judged_unknown, judgement, known, now_passes, passed}
 use Rattle.rv_expect.specs.Passing.{has_passed}
+use Rattle.rv_known.specs.KnownJobs.{known_job_of, reason_of}
+use Rattle.rv_known.specs.declared.known_jobs.KnownJob.{KnownJob}
+use Rattle.rv_known.specs.declared.known_jobs.KnownJobs.{KnownJobs}
+use Rattle.rv_job_text.specs.ConsoleTail.{is_feed}
+use Rattle.rv_job_text.specs.TotalsLine.{known_count}
 use Rattle.rv_text.specs.declared.xml.Within.TheVariants.{Attribute, Element}
 use Rattle.rv_junit.specs.Pieces.{attribute, number_attribute}
 use Rattle.rv_junit.specs.Junit.{IsWrittenRow, suite_begin_text, test_case_text, test_cases_text, suite_end_text, first_line}
 use Rattle.rv_expect.specs.Problem.{is_error, is_failure}
-use Rattle.rv_junit.specs.Junit.{junit_text, output_text, problem_element_name}
+use Rattle.rv_junit.specs.Junit.{AreReasonsBytes, HasBytesAsReason, judged_text, junit_text, output_text, problem_element_name, skipped_text}
 use Rattle.rv_junit.specs.Junit.{problem_text, steps_properties, steps_property, text_up_to}
 use Rattle.rv_text.specs.Xml.{IsXmlCharacters}
 use Rattle.rv_junit.proofs.Laws.{all_are_counted}
@@ -66,6 +71,58 @@ xml_problem row lines are =
     (xml_plain (codes ">") refl)) (xml_escaped Element lines are)) (xml_plain (codes "</") refl))
     (xml_problem_name row)) (xml_plain (codes ">\n") refl)
 
+xml_skipped : (why : List ℕ) → IsBytes why → IsXmlCharacters (skipped_text why)
+unfolding skipped_text
+xml_skipped why are =
+    xml_append _ _ (xml_append _ _ (xml_plain (codes "<skipped") refl)
+    (xml_either (length why == 0) [] (attribute (codes "message") why) xml_nil
+    (xml_attribute (codes "message") why (xml_plain (codes "message") refl) are))) (xml_plain (codes "/>\n") refl)
+
+-- ---- what a row counts as, of which the reason is bytes
+
+abbrev pub IsForBytes : Judged → Type 0
+IsForBytes (known why) = IsBytes why
+IsForBytes _ = ⊤
+
+reason_here : (test : Bool) (job : KnownJob) (rest : Option KnownJob) → IsBytes job.reason
+    → IfSome (option_map (λ (one : KnownJob). one.reason) rest) IsBytes
+    → IfSome (option_map (λ (one : KnownJob). one.reason) (cond test (Some job) rest)) IsBytes
+reason_here true job rest one other = one
+reason_here false job rest one other = other
+
+reason_found : (jobs : List KnownJob) (name : List ℕ) → AllByRecursion HasBytesAsReason jobs
+    → IfSome (reason_of jobs name) IsBytes
+reason_found [] name are = tt
+reason_found (job ∷ jobs) name are =
+    reason_here (bytes_eq job.name name) job (known_job_of jobs name) are.0 (reason_found jobs name are.1)
+
+unknown_for_bytes : (has_passed : Bool) → IsForBytes (judged_unknown has_passed)
+unknown_for_bytes true = tt
+unknown_for_bytes false = tt
+
+in_file_for_bytes : (path : List ℕ) (has_passed : Bool) (reason : Option (List ℕ)) → IfSome reason IsBytes
+    → IsForBytes (judged_in_file path has_passed reason)
+in_file_for_bytes path has_passed None are = unknown_for_bytes has_passed
+in_file_for_bytes path true (Some reason) are = tt
+in_file_for_bytes path false (Some reason) are = are
+
+known_for_bytes : (known : Option KnownJobs) (has_passed : Bool) (name : List ℕ)
+    → IfSome known (λ file. AllByRecursion HasBytesAsReason file.jobs)
+    → IsForBytes (judged_by_known known has_passed name)
+known_for_bytes None has_passed name are = unknown_for_bytes has_passed
+known_for_bytes (Some file) has_passed name are =
+    in_file_for_bytes file.path has_passed (reason_of file.jobs name) (reason_found file.jobs name are)
+
+judgement_for_bytes : (judging : Judging) (row : Row) → AreReasonsBytes judging → IsForBytes (judgement judging row)
+judgement_for_bytes judging row are = known_for_bytes judging.known (has_passed judging.rule row) row.name are
+
+xml_judged : (judged : Judged) (row : Row) (lines : List ℕ) → IsForBytes judged → IsBytes lines
+    → IsXmlCharacters (judged_text judged row lines)
+xml_judged passed row lines reason are = xml_nil
+xml_judged failed row lines reason are = xml_problem row lines are
+xml_judged (known why) row lines reason are = xml_skipped why reason
+xml_judged (now_passes path) row lines reason are = xml_problem row lines are
+
 xml_output : (row : Row) → IsWrittenRow row → IsXmlCharacters (output_text row)
 unfolding output_text
 xml_output row is =
@@ -74,26 +131,27 @@ xml_output row is =
     (xml_plain (codes " steps\n") refl)) (xml_escaped Element row.console is.console))
     (xml_plain (codes "</system-out>\n") refl)
 
-xml_case : (class : List ℕ) (rule : Rule) (row : Row) (lines : List ℕ) → IsBytes class → IsWrittenRow row →
-    IsBytes lines → IsXmlCharacters (test_case_text class rule row lines)
+xml_case : (class : List ℕ) (judging : Judging) (row : Row) (lines : List ℕ) → IsBytes class → AreReasonsBytes judging →
+    IsWrittenRow row → IsBytes lines → IsXmlCharacters (test_case_text class judging row lines)
 unfolding test_case_text
-xml_case class rule row lines classed is are =
+xml_case class judging row lines classed reasons is are =
     xml_append _ _ (xml_append _ _ (xml_append _ _ (xml_append _ _ (xml_append _ _ (xml_append _ _
     (xml_plain (codes "<testcase") refl)
     (xml_attribute (codes "classname") class (xml_plain (codes "classname") refl) classed))
     (xml_attribute (codes "name") row.name (xml_plain (codes "name") refl) is.name))
     (xml_plain (codes ">\n") refl))
-    (xml_either (has_passed rule row) [] (problem_text row lines) xml_nil (xml_problem row lines are)))
+    (xml_judged (judgement judging row) row lines (judgement_for_bytes judging row reasons) are))
     (xml_output row is)) (xml_plain (codes "</testcase>\n") refl)
 
-xml_cases : (class : List ℕ) (rule : Rule) (texts : List (List ℕ)) (rows : List Row) → IsBytes class →
-    AllByRecursion IsBytes texts → AllByRecursion IsWrittenRow rows → IsXmlCharacters (test_cases_text class rule texts rows)
+xml_cases : (class : List ℕ) (judging : Judging) (texts : List (List ℕ)) (rows : List Row) → IsBytes class →
+    AreReasonsBytes judging → AllByRecursion IsBytes texts → AllByRecursion IsWrittenRow rows →
+    IsXmlCharacters (test_cases_text class judging texts rows)
 unfolding test_cases_text
-xml_cases class rule [] rows classed lines are = xml_nil
-xml_cases class rule (text ∷ texts) [] classed lines are = xml_nil
-xml_cases class rule (text ∷ texts) (row ∷ rows) classed lines are =
-    xml_append _ _ (xml_case class rule row text classed are.0 lines.0)
-    (xml_cases class rule texts rows classed lines.1 are.1)
+xml_cases class judging [] rows classed reasons lines are = xml_nil
+xml_cases class judging (text ∷ texts) [] classed reasons lines are = xml_nil
+xml_cases class judging (text ∷ texts) (row ∷ rows) classed reasons lines are =
+    xml_append _ _ (xml_case class judging row text classed reasons are.0 lines.0)
+    (xml_cases class judging texts rows classed reasons lines.1 are.1)
 
 bytes_append : (xs ys : List ℕ) → IsBytes xs → IsBytes ys → IsBytes (xs ++ ys)
 bytes_append [] ys one other = other
@@ -135,24 +193,27 @@ xml_steps rows are =
     xml_append _ _ (xml_append _ _ (xml_plain (codes "<properties>\n") refl) (xml_each_steps rows are))
     (xml_plain (codes "</properties>\n") refl)
 
-xml_begin : (class : List ℕ) (rule : Rule) (rows : List Row) → IsBytes class → AllByRecursion IsWrittenRow rows →
-    length rows < 2 ^ 64 → IsXmlCharacters (suite_begin_text class rule rows)
+xml_begin : (class : List ℕ) (judging : Judging) (rows : List Row) → IsBytes class → AllByRecursion IsWrittenRow rows →
+    length rows < 2 ^ 64 → IsXmlCharacters (suite_begin_text class judging rows)
 unfolding suite_begin_text
-xml_begin class rule rows classed are few =
-    let failures : count_by (is_failure rule) rows < 2 ^ 64 = omega (arith, all_are_counted rule rows) in
-    let errors : count_by (is_error rule) rows < 2 ^ 64 = omega (arith, all_are_counted rule rows) in
-    xml_append _ _ (xml_append _ _ (xml_append _ _ (xml_append _ _ (xml_append _ _ (xml_append _ _
+xml_begin class judging rows classed are few =
+    let failures : count_by (is_failure judging) rows < 2 ^ 64 = omega (arith, all_are_counted judging rows) in
+    let errors : count_by (is_error judging) rows < 2 ^ 64 = omega (arith, all_are_counted judging rows) in
+    let skips : known_count judging rows < 2 ^ 64 = omega (arith, all_are_counted judging rows) in
+    xml_append _ _ (xml_append _ _ (xml_append _ _ (xml_append _ _ (xml_append _ _ (xml_append _ _ (xml_append _ _
     (xml_plain (codes "<?xml version=\"1.0\" encoding=\"UTF-8\"?>\n<testsuites>\n<testsuite") refl)
     (xml_attribute (codes "name") class (xml_plain (codes "name") refl) classed))
     (xml_number (codes "tests") (length rows) (xml_plain (codes "tests") refl) few))
-    (xml_number (codes "failures") (count_by (is_failure rule) rows) (xml_plain (codes "failures") refl) failures))
-    (xml_number (codes "errors") (count_by (is_error rule) rows) (xml_plain (codes "errors") refl) errors))
+    (xml_number (codes "failures") (count_by (is_failure judging) rows) (xml_plain (codes "failures") refl) failures))
+    (xml_number (codes "errors") (count_by (is_error judging) rows) (xml_plain (codes "errors") refl) errors))
+    (xml_either (known_count judging rows == 0) [] (number_attribute (codes "skipped") (known_count judging rows)) xml_nil
+    (xml_number (codes "skipped") (known_count judging rows) (xml_plain (codes "skipped") refl) skips)))
     (xml_plain (codes ">\n") refl)) (xml_steps rows are)
 
-pub xml_junit : (class : List ℕ) (rule : Rule) (texts : List (List ℕ)) (rows : List Row) → IsBytes class →
-    AllByRecursion IsBytes texts → AllByRecursion IsWrittenRow rows → length rows < 2 ^ 64 →
-    IsXmlCharacters (junit_text class rule texts rows)
+pub xml_junit : (class : List ℕ) (judging : Judging) (texts : List (List ℕ)) (rows : List Row) → IsBytes class →
+    AreReasonsBytes judging → AllByRecursion IsBytes texts → AllByRecursion IsWrittenRow rows → length rows < 2 ^ 64 →
+    IsXmlCharacters (junit_text class judging texts rows)
 unfolding junit_text
-xml_junit class rule texts rows classed lines are few =
-    xml_append _ _ (xml_append _ _ (xml_begin class rule rows classed are few)
-    (xml_cases class rule texts rows classed lines are)) (xml_plain suite_end_text refl)
+xml_junit class judging texts rows classed reasons lines are few =
+    xml_append _ _ (xml_append _ _ (xml_begin class judging rows classed are few)
+    (xml_cases class judging texts rows classed reasons lines are)) (xml_plain suite_end_text refl)

@@ -1,9 +1,10 @@
 -- Rows as JUnit's XML: one suite, and one case a row, in order.
 use Rattle.std.specs.Prelude.{◌==◌, ◌^◌, ◌<◌, ℕ, List, [], ◌∷◌, ◌++◌, Option, Some, None, codes}
-use Rattle.std.specs.Prelude.{count_by, if◌then◌else◌, length, position, take}
+use Rattle.std.specs.Prelude.{IfSome, count_by, if◌then◌else◌, length, position, take}
 use Rattle.std.specs.Fmt.{decimal}
-use Rattle.std.specs.List.{flat_map}
+use Rattle.std.specs.List.{AllByRecursion, flat_map}
 use Rattle.hex.specs.Hex.{IsBytes}
+use Rattle.rv_known.specs.declared.known_jobs.KnownJob.{KnownJob}
 use Rattle.rv_rows.specs.declared_row.Row.{Row}
 use Rattle.rv_rows.specs.Verdict.{did_run}
 use Rattle.rv_job_text.specs.ConsoleTail.{is_feed}
@@ -105,3 +106,10 @@ pub record IsWrittenRow (row : Row) : Type 0 where
   pub name : IsBytes row.name
   pub console : IsBytes row.console
   pub steps : row.steps < 2 ^ 64
+
+-- the reasons for which jobs are known to fail are bytes
+abbrev pub HasBytesAsReason : KnownJob → Type 0
+HasBytesAsReason job = IsBytes job.reason
+
+abbrev pub AreReasonsBytes : Judging → Type 0
+AreReasonsBytes judging = IfSome judging.known (λ file. AllByRecursion HasBytesAsReason file.jobs)

@@ -160,7 +160,7 @@ fn push_judged(
     lines: &[u8],
 ) -> Result<(), AllocError>
     ensures { OnOk result (string_bytes text.new
-        ≡ string_bytes text.old ++ judged_text (judged_of judgement) row.now lines.now) }
+        ≡ string_bytes text.old ++ judged_text (judged_of judgement.entry) row.now lines.now) }
 {
     match judgement {
         Judgement::Passed => Ok(()),

@@ -17,8 +17,8 @@ use std::alloc::{AllocError, Global};
 
 /// Writes rows as JUnit's XML: one suite, and in order one case a row, with its steps and its console. A failed
 /// row is a failure, or an error where the job was refused, with the lines that are told of the job at its place. A failure
-/// that is known is skipped, with its reason. After an
-/// error a beginning of the text is out.
+/// that is known is skipped, with its reason.
+/// After an error a beginning of the text is out.
 pub fn write_junit<T: Telling, W: Sink>(
     alloc: Global,
     suite: &Suite<'_>,

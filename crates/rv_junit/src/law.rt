@@ -7,13 +7,13 @@ ghost use Rattle.rv_rows.specs.declared_row.Row.{Row};
 ghost use Rattle.rv_expect.specs.Judgement.{Judging};
 ghost use Rattle.rv_job_text.specs.TotalsLine.{known_count, passed_count};
 ghost use Rattle.rv_expect.specs.Problem.{is_error, is_failure};
-ghost use Rattle.rv_junit.specs.Junit.{IsWrittenRow, junit_text};
+ghost use Rattle.rv_junit.specs.Junit.{AreReasonsBytes, IsWrittenRow, junit_text};
 ghost use Rattle.rv_text.specs.Xml.{IsXmlCharacters};
 
-/// A whole document is the UTF-8 of characters of XML 1.0, whatever bytes stand in names, lines and consoles.
+/// A whole document is the UTF-8 of characters of XML 1.0, whatever bytes stand in names, lines, reasons and consoles.
 pub fn documents_are_xml_characters()
     ensures { (class : List ℕ) (judging : Judging) (texts : List (List ℕ)) (rows : List Row)
-        → IsBytes class → AllByRecursion IsBytes texts → AllByRecursion IsWrittenRow rows
+        → IsBytes class → AreReasonsBytes judging → AllByRecursion IsBytes texts → AllByRecursion IsWrittenRow rows
         → length rows < 2 ^ 64 → IsXmlCharacters (junit_text class judging texts rows) }
 {}
 

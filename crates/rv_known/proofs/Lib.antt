@@ -1,0 +1,2 @@
+mod KnownLines
+mod Places

@@ -1,8 +1,8 @@
 //! The parts of a line.
 
-ghost use Rattle.std.specs.Prelude.{◌≡◌, ◌≤◌, IfOk, length, map};
+ghost use Rattle.std.specs.Prelude.{◌≡◌, ◌≤◌, IfOk, length, position};
 ghost use Rattle.std.specs.List.{position_or_len};
-ghost use Rattle.rv_known.specs.Lines.{borrowed_lines, has_name, is_hash, lines_of, name_text, reason_text, trimmed};
+ghost use Rattle.rv_known.specs.Lines.{borrowed_lines, is_hash, lines_of, name_text, reason_text, trimmed};
 
 use std::alloc::{AllocError, Global};
 
@@ -39,9 +39,16 @@ fn hash_place(line: &[u8]) -> usize
     ensures place { result ≡ position_or_len is_hash line.now }
     ensures within { result ≤ length line.now }
 {
-    line.iter()
-        .position(|byte| *byte == b'#')
-        .unwrap_or(line.len())
+    match first_hash(line) {
+        Some(place) => place,
+        None => line.len(),
+    }
+}
+
+fn first_hash(line: &[u8]) -> Option<usize>
+    ensures { result ≡ position is_hash line.now }
+{
+    line.iter().position(|byte| *byte == b'#')
 }
 
 fn trimmed(text: &[u8]) -> &[u8]

@@ -1,8 +1,10 @@
 //! How a text is read as known jobs.
 
-ghost use Rattle.std.specs.Prelude.{◌≡◌, IfOk, is_some};
+ghost use Rattle.std.specs.Prelude.{◌≡◌, ◌+◌, ℕ, IfOk, List, length};
 ghost use Rattle.std.specs.List.{list_any};
-ghost use Rattle.rv_known.specs.KnownJobs.{fault_kind, has_job_named, job_names, is_known, known_job_of_line, known_jobs_in, known_jobs_of};
+ghost use Rattle.rv_known.specs.KnownJobs.{fault_kind, fault_of_line, has_job_named, is_known, job_names, known_in, known_job_of_line};
+ghost use Rattle.rv_known.specs.KnownJobs.{known_jobs_in, known_jobs_of};
+ghost use Rattle.std.specs.Str.{bytes_eq};
 ghost use Rattle.rv_known.specs.Lines.{borrowed_lines};
 
 use crate::known_jobs::{KnownFault, KnownFaultKind, KnownJob, known_job_of};
@@ -31,19 +33,41 @@ fn read_lines(
     ensures { IfOk result (λ read. read ≡ known_jobs_in (job_names jobs.now) (borrowed_lines lines.now)) }
 {
     let mut known = Vec::new(alloc);
-    for place in 0..lines.len() {
-        let name = name_text(lines[place]);
-        if name.is_empty() {
-            continue;
+    for (place, line) in lines.iter().enumerate() {
+        if let Some(fault) = fault_of_line(alloc, jobs, known.as_slice(), place + 1, line)? {
+            return Ok(Err(fault));
         }
-        if let Some(kind) = fault_kind(jobs, known.as_slice(), name) {
-            let name = copied(alloc, name)?;
-            let line = place + 1;
-            return Ok(Err(KnownFault { line, name, kind }));
+        if !name_text(line).is_empty() {
+            known.push(known_job_of_line(alloc, line)?)?;
         }
-        known.push(known_job_of_line(alloc, lines[place])?)?;
     }
     Ok(Ok(Sequence::new(known)))
+}
+
+// What is wrong with the line of a number behind these known jobs, if anything is.
+fn fault_of_line(
+    alloc: Global,
+    jobs: &[&str],
+    known: &[KnownJob],
+    number: usize,
+    line: &[u8],
+) -> Result<Option<KnownFault>, AllocError>
+    ensures { IfOk result (λ fault. (earlier : List (List ℕ)) → known.now ≡ known_in earlier
+        → number ≡ length earlier + 1 → fault ≡ fault_of_line (job_names jobs.now) earlier line.now) }
+{
+    let name = name_text(line);
+    if name.is_empty() {
+        return Ok(None);
+    }
+    let Some(kind) = fault_kind(jobs, known, name) else {
+        return Ok(None);
+    };
+    let name = copied(alloc, name)?;
+    Ok(Some(KnownFault {
+        line: number,
+        name,
+        kind,
+    }))
 }
 
 // What is wrong with a name behind these known jobs, if anything is.
@@ -70,7 +94,13 @@ fn is_known(known: &[KnownJob], name: &[u8]) -> bool
 fn has_job_named(jobs: &[&str], name: &[u8]) -> bool
     ensures { result ≡ has_job_named (job_names jobs.now) name.now }
 {
-    jobs.iter().any(|job| job.as_bytes() == name)
+    is_among(jobs, name)
+}
+
+fn is_among(names: &[&str], name: &[u8]) -> bool
+    ensures { result ≡ list_any (λ one. bytes_eq one.now name.now) names.now }
+{
+    names.iter().any(|one| one.as_bytes() == name)
 }
 
 fn known_job_of_line(alloc: Global, line: &[u8]) -> Result<KnownJob, AllocError>

@@ -41,7 +41,7 @@ impl<'k, W: Write + Drop> Progress<'k, W> {
         is_terminal: bool,
     ) -> Progress<'k, W>
         ensures jobs { result.jobs ≡ jobs }
-        ensures judge { judging_of result.judge ≡ judging_of judge }
+        ensures judge { judging_of result.judge ≡ judging_of judge.entry }
         ensures terminal { result.is_terminal ≡ is_terminal }
     {
         let start = clock_tenths(clock).unwrap_or(0);
@@ -58,7 +58,7 @@ impl<'k, W: Write + Drop> Progress<'k, W> {
     ) -> Progress<'k, W>
         ensures start { result.start ≡ start }
         ensures jobs { result.jobs ≡ jobs }
-        ensures judge { judging_of result.judge ≡ judging_of judge }
+        ensures judge { judging_of result.judge ≡ judging_of judge.entry }
         ensures terminal { result.is_terminal ≡ is_terminal }
     {
         Progress {

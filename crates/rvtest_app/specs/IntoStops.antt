@@ -8,7 +8,6 @@ use Rattle.rv_command.specs.Stops.{IsReportUnreadStop, IsStop}
 use Rattle.rv_command.specs.Texts.{IsReportAt}
 use Rattle.rv_command.specs.declared.stop.Stop.{Stop}
 use Rattle.rv_lists.specs.declared.job.Job.{Job}
-use Rattle.rv_report.specs.Report.{line}
 use Rattle.rv_report.specs.Saved.{row_names}
 use Rattle.rv_report.specs.declared.saved.Extent.{Extent}
 use Rattle.rv_report.specs.declared.saved.Extent.TheVariants as extent
@@ -21,26 +20,25 @@ use Rattle.rvtest_app.specs.declared.whole_report.OtherName.{OtherName}
 
 -- ---- the texts
 
--- what is wrong with the report at a path, and what is wanted
-abbrev pub into_refusal : List ℕ → List ℕ → List ℕ
-into_refusal path what = codes "rvtest: " ++ printable_text path ++ codes ": " ++ what
-    ++ line (codes ": --into takes the whole report of the list")
+-- what is wanted in the place of such a report
+abbrev pub whole_wanted : List ℕ
+whole_wanted = codes ": --into takes the whole report of the list\n"
 
--- it has so many rows of a list of so many jobs
+-- the report at a path has so many rows of a list of so many jobs
 abbrev pub part_refusal : List ℕ → ℕ → ℕ → List ℕ
-part_refusal path rows jobs = into_refusal path
-    (codes "rows of " ++ decimal rows ++ codes " of " ++ decimal jobs ++ codes " jobs")
+part_refusal path rows jobs = codes "rvtest: " ++ printable_text path ++ codes ": rows of " ++ decimal rows
+    ++ codes " of " ++ decimal jobs ++ codes " jobs" ++ whole_wanted
 
 -- it has so many rows, and the list at a path so many jobs
 abbrev pub count_refusal : List ℕ → List ℕ → ℕ → ℕ → List ℕ
-count_refusal path list rows jobs = into_refusal path
-    (decimal rows ++ codes " rows, and " ++ printable_text list ++ codes " has " ++ decimal jobs ++ codes " jobs")
+count_refusal path list rows jobs = codes "rvtest: " ++ printable_text path ++ codes ": " ++ decimal rows
+    ++ codes " rows, and " ++ printable_text list ++ codes " has " ++ decimal jobs ++ codes " jobs" ++ whole_wanted
 
 -- the job of a number has one name in it, and another in the list at a path
 abbrev pub name_refusal : List ℕ → List ℕ → ℕ → List ℕ → List ℕ → List ℕ
-name_refusal path list number name wanted = into_refusal path
-    (codes "job " ++ decimal number ++ codes " is \"" ++ name ++ codes "\", and \"" ++ wanted ++ codes "\" in "
-    ++ printable_text list)
+name_refusal path list number name wanted = codes "rvtest: " ++ printable_text path ++ codes ": job "
+    ++ decimal number ++ codes " is \"" ++ name ++ codes "\", and \"" ++ wanted ++ codes "\" in "
+    ++ printable_text list ++ whole_wanted
 
 abbrev pub not_whole_refusal : List ℕ → List ℕ → NotWhole → List ℕ
 not_whole_refusal path list (other.Part rows jobs) = part_refusal path rows jobs

@@ -1,5 +1,5 @@
 -- The jobs that the file at a path names as known to fail.
-use Rattle.std.specs.Prelude.{◌≡◌, ◌++◌, ℕ, List, Ok, Option, Some, None, codes}
+use Rattle.std.specs.Prelude.{◌≡◌, ◌++◌, ℕ, IsSomeAnd, List, Ok, Option, Some, None, codes}
 use Rattle.std.specs.Fmt.{decimal}
 use Rattle.rv_base.specs.Files.{FileContents}
 use Rattle.rv_command.specs.Texts.{IsTextAt}
@@ -17,12 +17,12 @@ pub record IsKnownFile (files : Option FileContents) (path : List ℕ) (jobs : L
   pub bytes : List ℕ
   pub read : IsTextAt files path bytes
   pub named : known_jobs_of (names_of_jobs jobs) bytes ≡ Ok known.jobs
-  pub path : known.path ≡ path
+  pub named_by : known.path ≡ path
 
 -- where words name a file, and else nothing
 abbrev pub IsKnownAt : Option FileContents → Option (List ℕ) → List Job → Option KnownJobs → Type 0
 IsKnownAt files None jobs known = known ≡ None
-IsKnownAt files (Some path) jobs known = (file : KnownJobs) × IsKnownFile files path jobs file × (known ≡ Some file)
+IsKnownAt files (Some path) jobs known = IsSomeAnd known (IsKnownFile files path jobs)
 
 -- ---- a file that is refused
 

@@ -127,8 +127,8 @@ fn requested_comparison(steps: bool, slower: Option<u32>) -> Compare
 
 // The same of the rows that are compared.
 fn diff_rows(alloc: Global, compare: Compare, compared: Compared<'_>) -> Result<Found, Stop>
-    requires old { length compared.entry.old.now < 2 ^ 32 }
-    requires new { length compared.entry.new.now < 2 ^ 32 }
+    requires old { length compared.old.now < 2 ^ 32 }
+    requires new { length compared.new.now < 2 ^ 32 }
     ensures low { IfOk result (λ found. found.status ≤ 1) }
     ensures text { IfOk result (λ found. found.text.items
         ≡ diff_text compare compared.entry.old.now compared.entry.new.now compared.entry.left_out) }

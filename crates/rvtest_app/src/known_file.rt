@@ -1,7 +1,8 @@
 //! The file with the names of jobs that are known to fail.
 
-ghost use Rattle.std.specs.Prelude.{◌≡◌, ◌++◌, IfErr, IfOk, OnOk, map, option_map};
+ghost use Rattle.std.specs.Prelude.{◌≡◌, ◌++◌, IfErr, IfOk, OnOk};
 ghost use Rattle.rv_command.specs.Texts.{optional_text};
+ghost use Rattle.rv_known.specs.KnownJobs.{job_names};
 ghost use Rattle.rv_lists.specs.JobList.{names_of_jobs};
 ghost use Rattle.rvtest_app.specs.KnownFiles.{IsKnownAt, IsKnownFile, known_fault_message, known_fault_text};
 ghost use Rattle.rvtest_app.specs.KnownStops.{IsKnownStop, IsNoKnownFileStop};
@@ -52,7 +53,7 @@ fn read_known_file<D: Inputs>(
 }
 
 fn job_names(alloc: Global, jobs: &[Job]) -> Result<Vec<&str>, AllocError>
-    ensures { IfOk result (λ names. map (λ name. name.now) names.items ≡ names_of_jobs jobs.now) }
+    ensures { IfOk result (λ names. job_names names.items ≡ names_of_jobs jobs.now) }
 {
     let mut names = Vec::new(alloc);
     for job in jobs {
@@ -85,10 +86,10 @@ fn known_fault_message(
     Ok(message)
 }
 
-fn push_known_fault(
+fn push_known_fault<'a>(
     message: &mut Vec<u8>,
-    list: &str,
-    name: &[u8],
+    list: &'a str,
+    name: &'a [u8],
     kind: KnownFaultKind,
 ) -> Result<(), AllocError>
     ensures { OnOk result (message.new.items ≡ message.old.items ++ known_fault_text list.now name.now kind) }

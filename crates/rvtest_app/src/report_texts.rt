@@ -62,7 +62,7 @@ impl<'a> ReportText<'a> {
 
 /// The report of rows: the whole one into which they are put, if there is one, else theirs alone.
 pub(crate) fn framed_report(chosen: ChosenRows<'_>, frame: ReportFrame) -> ReportText<'_>
-    requires { ForSome frame.old (λ rows. length rows ≡ chosen.entry.jobs) }
+    requires { ForSome frame.old (λ rows. length rows ≡ chosen.jobs) }
     ensures text { report_text_of result
         ≡ run_report_text frame.old chosen.entry.jobs chosen.entry.places.now frame.shard chosen.entry.rows }
     ensures rows { report_rows result ≡ chosen.entry.rows }

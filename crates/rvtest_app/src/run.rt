@@ -1,6 +1,6 @@
 //! The command `run`.
 
-ghost use Rattle.std.specs.Prelude.{◌≡◌, ◌≤◌, ◌<◌, ◌++◌, [], ℕ, List, None, Option, Some, IfErr, IfOk, OnErr, OnOk, false, length, option_map};
+ghost use Rattle.std.specs.Prelude.{◌≡◌, ◌≤◌, ◌<◌, ◌++◌, [], ℕ, List, None, Option, Some, IfErr, IfOk, OnErr, OnOk, true, length, option_map};
 ghost use Rattle.std.specs.Io.KnownBytes.{Appends};
 ghost use Rattle.std.specs.List.{All};
 ghost use Rattle.std.specs.List.Sorted.{IsStrictlyIncreasing};
@@ -267,13 +267,14 @@ impl<'x, R: Threads + Wait + Sync + Clock, D: Inputs> ListRun<'x, R, D> {
         };
         let mut to = to;
         put_message(&mut to.errors, note.as_slice());
+        let judge = Judge {
+            rule: self.rule,
+            known: known.as_ref(),
+        };
         let telling = RowTelling {
             plan: &plan,
             unread,
-            judge: Judge {
-                rule: self.rule,
-                known: known.as_ref(),
-            },
+            judge,
             verbosity: requested_verbosity(asked),
             last: asked.last,
         };

@@ -4,7 +4,7 @@ ghost use Rattle.std.specs.Prelude.{◌≡◌, ◌≤◌, IfErr, IfOk, IfSome, N
 ghost use Rattle.rv_lists.specs.Limits.{most_jobs};
 ghost use Rattle.rv_report.specs.Saved.{row_names};
 ghost use Rattle.rvtest_app.specs.IntoReports.{IsWholeReport, IsWholeReportAt, job_names};
-ghost use Rattle.rvtest_app.specs.IntoStops.{IsFirstOtherName, IsNoWholeReportStop, IsNotWhole, count_refusal, into_refusal};
+ghost use Rattle.rvtest_app.specs.IntoStops.{IsFirstOtherName, IsNoWholeReportStop, IsNotWhole, count_refusal};
 ghost use Rattle.rvtest_app.specs.IntoStops.{jobs_beside_part, name_refusal, not_whole_refusal, part_refusal};
 
 use rv_command::{Stop, read_report_file};

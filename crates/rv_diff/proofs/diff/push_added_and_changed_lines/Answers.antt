@@ -1,4 +1,4 @@
-use Rattle.std.proofs.Common.{◌≡◌, ◌∙◌, ◌+◌, ◌++◌, ap, sym, Some}
+use Rattle.std.proofs.Common.{◌≡◌, ◌∙◌, ◌++◌, ap, sym, Some}
 use Rattle.std.specs.Prelude.{is_none}
 use Rattle.rv_diff.specs.Change.{change_of}
 use Rattle.rv_diff.specs.ByName.{row_named}

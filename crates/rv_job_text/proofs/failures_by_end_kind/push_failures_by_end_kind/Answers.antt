@@ -3,6 +3,7 @@ use Rattle.std.proofs.Common.{refl, sym}
 use Rattle.std.specs.Fmt.{decimal}
 use Rattle.std.specs.Prelude.{codes, not}
 use Rattle.rv_expect.specs.declared.end_kind.EndKind.{EndKind}
+use Rattle.rv_expect.specs.Judgement.{judging_of}
 use Rattle.rv_expect.specs.EndKinds.{end_kind_at, end_kind_count}
 use Rattle.rv_job_text.specs.TotalsLine.{failure_count_of_end_kind, failure_texts_below, open_bracket_text, end_kind_name}
 use Rattle.rv_job_text.proofs.Counts.{bracket-closed, bracket-none, failure_texts_below-none, failure_texts_below-some, is_begun, opened-more}
@@ -15,7 +16,7 @@ loop-place-init c = record { begun = refl; text = sym (append-nil c.args.bytes.n
 
 pub loop-place-preserved : goal.loop-place-preserved
 loop-place-preserved c =
-    let count : EndKind → ℕ = failure_count_of_end_kind c.args.rule c.args.rows.now in
+    let count : EndKind → ℕ = failure_count_of_end_kind (judging_of c.args.judge.now) c.args.rows.now in
     let place = c.loop-place.place in
     let how = end_kind_at place in
     let texts = failure_texts_below count place in

@@ -5,10 +5,8 @@ use Rattle.rv_known.proofs.reader.read_lines.Given as goal
 
 -- the known jobs are those of the lines so far, and the first fault is among the lines that are left
 abbrev pub invariant-loop-place : goal.invariant-loop-place
-invariant-loop-place l =
-    let lines = borrowed_lines l.lines in
-    record {
-      known : l.known.items ≡ known_in (take l.place lines);
-      fault : first_fault (job_names l.jobs) (take l.place lines) (drop l.place lines)
-          ≡ first_fault (job_names l.jobs) [] lines;
-    }
+invariant-loop-place l = record {
+  known : l.known.items ≡ known_in (take l.place (borrowed_lines l.lines));
+  fault : first_fault (job_names l.jobs) (take l.place (borrowed_lines l.lines)) (drop l.place (borrowed_lines l.lines))
+      ≡ first_fault (job_names l.jobs) [] (borrowed_lines l.lines);
+}

@@ -3,4 +3,4 @@ use Rattle.rvtest_app.proofs.placing.sync_outlet.Goals as goal
 
 pub returns-in-Err-clause-stopped : goal.returns-in-Err-clause-stopped
 returns-in-Err-clause-stopped g c =
-    unplaced _ c.in-Err.error _ c.in-Err.ensures.another_error c.file_error_stop.ensures
+    rw c.in-File.is (unplaced _ c.in-Err.error _ c.in-Err.ensures.another_error c.file_error_stop.ensures)

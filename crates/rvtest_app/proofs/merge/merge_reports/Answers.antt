@@ -1,0 +1,17 @@
+use Rattle.std.proofs.Common.{inr, map}
+use Rattle.std.proofs.lemmas.Result.{err_from_is_err_and}
+use Rattle.rvtest_app.proofs.merge.merge_reports.Goals as goal
+
+pub returns-in_err-put_merged-clause-stopped : goal.returns-in_err-put_merged-clause-stopped
+returns-in_err-put_merged-clause-stopped g c =
+    let error = err_from_is_err_and c.from_residual-in_err-put_merged.result c.from_residual-in_err-put_merged.ensures.1 in
+    let parts = rw c.as_slice.ensures.value at c.in_ok-merged.ensures.parts in
+    rw (error.1, error.2)
+    (inr (
+      map (λ text. text.items) c.in_ok-texts.texts.items,
+      (
+        c.in_ok-texts.ensures.read,
+        inr
+            (c.in_ok-merged.merged.rows, (parts, c.in_err-put_merged.ensures.stopped)),
+      ),
+    ))
