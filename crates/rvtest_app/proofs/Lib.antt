@@ -1,5 +1,6 @@
 pub mod StepRanks
 mod StepOrder
+mod AcceptStops
 mod Numbers
 mod Sent
 mod Results
@@ -10,5 +11,6 @@ mod PartTexts
 mod JobTexts
 mod FailedRows
 mod RunTellings
+mod Unwritten
 mod UnreadableWords
 mod WordsStops

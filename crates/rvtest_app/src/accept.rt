@@ -1,6 +1,6 @@
 //! The command `accept`.
 
-ghost use Rattle.std.specs.Prelude.{◌≡◌, ◌≤◌, [], IfOk, IfSome, List, Ok, OnOk, fold, length, map, option_map, true};
+ghost use Rattle.std.specs.Prelude.{◌≡◌, ◌≤◌, ◌⊎◌, [], IfErr, IfOk, IfSome, List, Ok, OnOk, fold, length, map, option_map, true};
 ghost use Rattle.std.specs.Io.KnownBytes.{Appends};
 ghost use Rattle.std.specs.Option.{ForSome};
 ghost use Rattle.rv_accept.specs.Claims.{claims_of_runs};
@@ -15,8 +15,10 @@ ghost use Rattle.rv_choice.specs.Chosen.{IsChoice};
 ghost use Rattle.rv_command.specs.Texts.{IsTextAt, optional_text};
 ghost use Rattle.rv_lists.specs.JobList.{job_list_of};
 ghost use Rattle.rv_lists.specs.Jobs.{without_expectations};
+ghost use Rattle.rvtest_app.specs.AcceptStops.{IsAcceptingStop, IsGoldenUnreadStop, IsPutAcceptedStop};
 ghost use Rattle.rvtest_app.specs.Accepts.{AreGoldenFiles, AreRowsPut, IsAcceptedAt, IsAcceptedOfMarks, IsOutcomePut, accept_status};
 ghost use Rattle.rvtest_app.specs.Accepts.{acceptance_of};
+ghost use Rattle.rvtest_app.specs.CommandStops.{IsAcceptStop, IsListStop};
 ghost use Rattle.rvtest_app.specs.Commands.{failure_rule};
 ghost use Rattle.rvtest_app.specs.Said.{said};
 
@@ -88,6 +90,7 @@ pub(crate) fn accept_runs<
         (said F.placed O.taken E.taken E.failed to.old) (said F.placed O.taken E.taken E.failed to.new)) }
     // In a check nothing is opened for writing, whatever comes of it.
     ensures unwritten { asked.now.check ≡ true → to.new.files ≡ to.old.files }
+    ensures stopped { IfErr result (IsAcceptStop (D.contents host.now.inputs.now) asked.now) }
 {
     let list = chosen_list(host, asked)?;
     put_message(&mut to.errors, list.notes.as_slice());
@@ -119,6 +122,8 @@ fn accept_chosen<
         list.now.text.items list.now.jobs chosen.now status
         (said F.placed O.taken E.taken E.failed to.old) (said F.placed O.taken E.taken E.failed to.new)) }
     ensures unwritten { asked.now.check ≡ true → to.new.files ≡ to.old.files }
+    ensures stopped { IfErr result
+        (IsAcceptingStop (D.contents host.now.inputs.now) asked.now list.now.jobs) }
 {
     let marked = marked_jobs(host.alloc, asked, list, chosen)?;
     let rows = run_marked(host, asked, marked, to)?;
@@ -152,6 +157,7 @@ fn chosen_list<R, D: Inputs>(
     ensures listed { IfOk result (λ list. job_list_of list.text.items ≡ Ok list.jobs) }
     ensures chosen { IfOk result (λ list. IsChoice (D.contents host.now.inputs.now) asked.now.run
         (failure_rule asked.now.run.lenient) list.jobs (option_map (λ marks. marks.items) list.chosen) list.notes.items) }
+    ensures stopped { IfErr result (IsListStop (D.contents host.now.inputs.now) asked.now.run) }
 {
     let run = &asked.run;
     let text = read_list_text(host.inputs, host.alloc, run.list)?;
@@ -184,6 +190,7 @@ fn marked_jobs(
     ensures jobs { IfOk result (λ marked. marked.jobs ≡ map without_expectations list.now.jobs) }
     ensures marks { IfOk result (λ marked. marked.marks.items
         ≡ marks_to_run list.now.jobs chosen.now list.now.jobs chosen.now) }
+    ensures memory { IfErr result (λ why. why ≡ Stop.OutOfMemory) }
 {
     let jobs = parse_list(alloc, asked.run.list, list.text.as_slice())?.without_expectations();
     let marks = marks_to_run(alloc, list.jobs.as_slice(), chosen)?;
@@ -207,6 +214,7 @@ fn run_marked<
     ensures rows { IfOk result (λ rows. AreRowsPut (D.contents host.now.inputs.now)
         (optional_text asked.now.run.root) marked.jobs marked.marks.items rows.items
         (said F.placed O.taken E.taken E.failed to.old) (said F.placed O.taken E.taken E.failed to.new)) }
+    ensures stopped { IfErr result (λ why. (why ≡ Stop.OutOfMemory) ⊎ (why ≡ Stop.NoWorker)) }
 {
     let BareJobs { jobs, marks, .. } = marked;
     let (alloc, root) = (host.alloc, asked.run.root);
@@ -224,7 +232,9 @@ fn run_marked<
     }
 }
 
-fn stop_of_places(error: PlacesError) -> Stop {
+fn stop_of_places(error: PlacesError) -> Stop
+    ensures { (result ≡ Stop.OutOfMemory) ⊎ (result ≡ Stop.NoWorker) }
+{
     match error {
         PlacesError::NoWorker => Stop::NoWorker,
         PlacesError::OutOfMemory | PlacesError::Stopped => Stop::OutOfMemory,
@@ -248,6 +258,8 @@ fn outcomes_of_runs<R, D: Inputs>(
         (λ new. (edits : List AnEdit) × (new.items ≡ edited_from 0 list.now.text.now edits))) }
     ensures meant { IfOk result (λ outcomes. IfSome outcomes.new.text
         (λ text. job_list_of text.items ≡ Ok (meant_jobs list.now.jobs.now outcomes.new.runs.items))) }
+    ensures stopped { IfErr result
+        (IsGoldenUnreadStop (D.contents host.now.inputs.now) asked.now list.now.jobs.now) }
 {
     let alloc = host.alloc;
     let new = accept_values(alloc, list.text, list.jobs, runs)?;
@@ -270,6 +282,8 @@ fn put_accepted<'x, R, D: Inputs, F: Outputs + Drop, O: Sink + Drop, E: Sink + D
     ensures put { IfOk result (λ status. IsOutcomePut asked.now.check list.now outcomes.now.new.runs.items
         outcomes.now.claims.items outcomes.now.files.items outcomes.now.new status
         (said F.placed O.taken E.taken E.failed to.old) (said F.placed O.taken E.taken E.failed to.new)) }
+    ensures stopped { IfErr result (IsPutAcceptedStop (D.contents host.now.inputs.now) asked.now.check
+        list.now.path.now outcomes.now.files.items) }
 {
     let accepting = Accepting {
         list: *list,
@@ -290,7 +304,8 @@ fn put_accepted<'x, R, D: Inputs, F: Outputs + Drop, O: Sink + Drop, E: Sink + D
 }
 
 fn put_lines<O: Sink>(alloc: Global, accepting: &Accepting<'_>, out: &mut O) -> Result<(), Stop>
-    ensures { OnOk result (Appends (O.taken out.old) (O.taken out.new) (told_lines accepting.now)) }
+    ensures put { OnOk result (Appends (O.taken out.old) (O.taken out.new) (told_lines accepting.now)) }
+    ensures stopped { IfErr result (λ why. (why ≡ Stop.OutOfMemory) ⊎ (why ≡ Stop.WriteFailed)) }
 {
     let mut lines = Vec::new(alloc);
     accepting.push_lines(alloc, &mut lines)?;
@@ -303,8 +318,9 @@ fn put_count<O: Sink>(
     writing: Writing,
     out: &mut O,
 ) -> Result<(), Stop>
-    ensures { OnOk result (Appends (O.taken out.old) (O.taken out.new)
+    ensures put { OnOk result (Appends (O.taken out.old) (O.taken out.new)
         (count_line writing (changed_count accepting.now) (left_count accepting.now))) }
+    ensures stopped { IfErr result (λ why. (why ≡ Stop.OutOfMemory) ⊎ (why ≡ Stop.WriteFailed)) }
 {
     let mut line = Vec::new(alloc);
     accepting.push_count_line(&mut line, writing)?;

@@ -1,9 +1,11 @@
 //! The files that `accept` reads and writes.
 
-ghost use Rattle.std.specs.Prelude.{◌≡◌, ◌++◌, ◌∷◌, [], IfOk, IfSome, OnErr, OnOk, Some};
+ghost use Rattle.std.specs.Prelude.{◌≡◌, ◌++◌, ◌∷◌, [], IfErr, IfOk, IfSome, OnErr, OnOk, Some};
+ghost use Rattle.rv_command.specs.Stops.{IsListUnreadStop};
 ghost use Rattle.rv_command.specs.Texts.{optional_text};
 ghost use Rattle.rv_files.specs.Placed.{placed_file};
 ghost use Rattle.rv_files.specs.UnreadPaths.{resolved_path};
+ghost use Rattle.rvtest_app.specs.AcceptStops.{AreTargetsUnread, IsStopOfFiles, IsUncheckedStop, IsUnmadeStop};
 ghost use Rattle.rvtest_app.specs.Accepts.{AreGoldenFiles, IsOldAt, file_if, new_list_text, written_files};
 ghost use Rattle.rvtest_app.specs.Outlets.{AreFilesPlaced};
 
@@ -25,7 +27,9 @@ pub(crate) fn read_golden_files<D: Inputs>(
     folder: Option<&str>,
     targets: Vec<Target>,
 ) -> Result<Vec<GoldenFile>, Stop>
-    ensures { IfOk result (λ files. AreGoldenFiles (D.contents inputs.now) (optional_text folder.entry) targets.items files.items) }
+    ensures read { IfOk result (λ files. AreGoldenFiles (D.contents inputs.now) (optional_text folder.entry) targets.items files.items) }
+    ensures stopped { IfErr result
+        (AreTargetsUnread (D.contents inputs.now) (optional_text folder.entry) targets.items) }
 {
     let mut files = Vec::new(alloc);
     for target in targets {
@@ -36,7 +40,9 @@ pub(crate) fn read_golden_files<D: Inputs>(
     Ok(files)
 }
 
-fn add_file(files: &mut Vec<GoldenFile>, file: GoldenFile) -> Result<(), AllocError> {
+fn add_file(files: &mut Vec<GoldenFile>, file: GoldenFile) -> Result<(), AllocError>
+    ensures { OnOk result (files.new.items ≡ files.old.items ++ file ∷ []) }
+{
     files.push(file)?;
     Ok(())
 }
@@ -55,7 +61,8 @@ fn place_of_path(alloc: Global, folder: Option<&str>, path: &str) -> Result<Text
 
 // What stands at a place; nothing where the file is missing.
 fn read_golden_file<D: Inputs>(inputs: &D, alloc: Global, path: &str) -> Result<Option<Bytes>, Stop>
-    ensures { IfOk result (IsOldAt (D.contents inputs.now) path.now) }
+    ensures old { IfOk result (IsOldAt (D.contents inputs.now) path.now) }
+    ensures stopped { IfErr result (IsListUnreadStop (D.contents inputs.now) path.now) }
 {
     match read_whole_up_to(inputs, alloc, path, MOST_BYTES) {
         Ok(Some(bytes)) => Ok(Some(Bytes::new(bytes))),
@@ -80,7 +87,9 @@ pub(crate) fn write_accepted_files<F: Outputs>(
     alloc: Global,
     accepting: &Accepting<'_>,
 ) -> Result<(), Stop>
-    ensures { OnOk result (AreFilesPlaced (F.placed files.old) (F.placed files.new) (Some (written_files accepting.now))) }
+    ensures placed { OnOk result (AreFilesPlaced (F.placed files.old) (F.placed files.new) (Some (written_files accepting.now))) }
+    ensures stopped { IfErr result
+        (IsStopOfFiles IsUnmadeStop accepting.now.list.path.now accepting.now.files.now) }
 {
     for file in accepting.files {
         if let Some(text) = file.new_text(&accepting.list) {
@@ -102,6 +111,7 @@ fn write_file<F: Outputs>(
     ensures placed { OnOk result (AreFilesPlaced (F.placed files.old) (F.placed files.new)
         (Some (placed_file path.now bytes.now ∷ []))) }
     ensures same { OnErr result (F.placed files.new ≡ F.placed files.old) }
+    ensures stopped { IfErr result (IsUnmadeStop path.now) }
 {
     let (place, mut file) = match files.create(alloc, path) {
         Ok(made) => made,
@@ -129,7 +139,10 @@ pub(crate) fn check_written_files<D: Inputs>(
     inputs: &D,
     alloc: Global,
     accepting: &Accepting<'_>,
-) -> Result<(), Stop> {
+) -> Result<(), Stop>
+    ensures { IfErr result (IsStopOfFiles (IsUncheckedStop (D.contents inputs.now))
+        accepting.now.list.path.now accepting.now.files.now) }
+{
     for file in accepting.files {
         if let Some(text) = file.new_text(&accepting.list) {
             check_written(inputs, alloc, file.place.as_str(), text)?;
@@ -146,7 +159,9 @@ fn check_written<D: Inputs>(
     alloc: Global,
     path: &str,
     text: &[u8],
-) -> Result<(), Stop> {
+) -> Result<(), Stop>
+    ensures { IfErr result (IsUncheckedStop (D.contents inputs.now) path.now) }
+{
     let bytes = read_file(inputs, alloc, path)?;
     if bytes.as_slice() == text {
         Ok(())

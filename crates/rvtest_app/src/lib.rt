@@ -51,6 +51,6 @@ mod whole_report;
 
 pub use destinations::Destinations;
 pub use host::Host;
-pub use law::rows_by_steps_are_sorted;
+pub use law::{nothing_is_written_where_nothing_changes, rows_by_steps_are_sorted};
 pub use program::{refuse_unreadable_words, run_rvtest};
 pub use terminals::Terminals;
