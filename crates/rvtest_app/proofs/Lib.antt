@@ -1,6 +1,7 @@
 pub mod StepRanks
 mod StepOrder
 mod AcceptStops
+mod AcceptedFiles
 mod Numbers
 mod Sent
 mod Results
