@@ -1,5 +1,6 @@
 pub mod Meeting
 pub mod Editing
+mod Agreement
 mod GoldenPaths
 mod MarkCounts
 pub mod Public
