@@ -1,5 +1,5 @@
 use Rattle.std.proofs.Common.{◌∙◌, [], ◌++◌, ap, append-nil, sym}
-use Rattle.rv_base.proofs.Outgoing.{failed_under_way}
+use Rattle.rv_base.proofs.Public.{failed_under_way}
 use Rattle.rv_stream.specs.Streams.{joined_row_texts}
 use Rattle.rv_rounds.proofs.Cuts.{of_error}
 use Rattle.rv_rounds.proofs.rounds.Rounds.put_rows.Goals as goal

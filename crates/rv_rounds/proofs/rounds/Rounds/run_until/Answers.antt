@@ -1,7 +1,7 @@
 use Rattle.std.proofs.Common.{rules, ◌≡◌, ◌∙◌, ◌++◌, [], ap, append_assoc, append-nil, arith, subst, sym, take-append-drop}
 use Rattle.std.specs.Io.KnownBytes.{Appends}
 use Rattle.std.proofs.KnownBytes.{Appends-nil}
-use Rattle.rv_base.proofs.Outgoing.{beginning_of_longer}
+use Rattle.rv_base.proofs.Public.{beginning_of_longer}
 use Rattle.rv_expect.specs.Judgement.{fails, judging_of}
 use Rattle.rv_rows.specs.Rows.{rows_at}
 use Rattle.rv_stream.specs.Streams.{joined_row_texts}
