@@ -1,13 +1,15 @@
 """The forms of rows of paths: where a report is put, and where the files of a list are read.
 
-What is there stands in words: `report=old` is a file with a text, `last>report` a link, `far/` a folder, `!report` nothing, and
-`~null` what is neither file nor folder. The text `new` is that of the run's report.
+What is there stands in words: `report=old` is a file with a text, `last>report` a link, `more&report` a hard link, `far/` a folder,
+`!report` nothing, and `~null` what is neither file nor folder. What stands behind `%` nobody may write, behind `^` nobody may read or
+write. The text `new` is that of the run's report.
 """
 import os
 
 import images
 from rows import Form, lines
 from saved import report_bytes
+from tables import raw
 
 REPORT = report_bytes("$1 a, steps 2\ndone 1")
 SHOWN = "1 job: 1 passed, 0 failed, 2 steps"
@@ -15,14 +17,20 @@ SHOWN = "1 job: 1 passed, 0 failed, 2 steps"
 
 def text_of(word):
     """The bytes of a file by their word."""
-    return REPORT if word == "new" else word.encode()
+    return REPORT if word == "new" else raw(word)
 
 
 def put_there(folder, word):
     """Makes what a word says."""
-    if ">" in word:
+    if word[0] in "%^":
+        put_there(folder, word[1:])
+        (folder / word[1:].partition("=")[0]).chmod(0 if word[0] == "^" else 0o555)
+    elif ">" in word:
         link, target = word.split(">")
         (folder / link).symlink_to(target)
+    elif "&" in word:
+        link, target = word.split("&")
+        (folder / link).hardlink_to(folder / target)
     elif "=" in word:
         name, text = word.split("=")
         (folder / name).write_bytes(text_of(text))

@@ -44,7 +44,8 @@ pub fn parse_report(alloc: Global, path: &str, text: &[u8]) -> Result<SavedRepor
     }
 }
 
-fn report_line_stop(alloc: Global, path: &str, text: &[u8], line: usize) -> Stop
+/// No report has the line of a number in the text at a path.
+pub(crate) fn report_line_stop(alloc: Global, path: &str, text: &[u8], line: usize) -> Stop
     ensures { IsLineStop path.now text.now line result }
 {
     Stop::of_refusal(refused_line_message(alloc, "report", path, text, line))

@@ -6,12 +6,13 @@ use Rattle.rv_base.specs.Files.{FileContents}
 use Rattle.rv_cli.specs.RvtestWords.{asked_words, words_fault_kinds, words_request}
 use Rattle.rv_cli.specs.declared.rvtest.requests.Asked.{Asked}
 use Rattle.rv_cli.specs.declared.rvtest.requests.Asked.TheVariants as asked
+use Rattle.rvtest_app.specs.Accepts.{IsAcceptedAt}
 use Rattle.rvtest_app.specs.Colors.{IsSaidInColors, asked_colors}
 use Rattle.rvtest_app.specs.Consoles.{IsConsolePut}
 use Rattle.rvtest_app.specs.HelpTopics.{IsTopicTold}
 use Rattle.rvtest_app.specs.Lists.{IsListPut}
 use Rattle.rvtest_app.specs.Merges.{IsMergedAt}
-use Rattle.rvtest_app.specs.Reports.{IsCheckAt, IsDiffAt, IsExplanationAt}
+use Rattle.rvtest_app.specs.Reports.{IsCheckAt, IsDiffPut, IsExplanationAt}
 use Rattle.rvtest_app.specs.Runs.{IsRunAt}
 use Rattle.rvtest_app.specs.Said.{IsOnlyPut, Said}
 use Rattle.rvtest_app.specs.Shows.{IsShownAt}
@@ -30,11 +31,12 @@ IsDone known (asked.Console words) status before after =
 IsDone known (asked.Check words) status before after =
     (text : List ℕ) × (IsCheckAt known words text status
     × IsOnlyPut text before after)
+IsDone known (asked.Accept words) status before after =
+    IsAcceptedAt known words status before after
 IsDone known (asked.Merge words) status before after =
     IsMergedAt known words status before after
 IsDone known (asked.Diff words) status before after =
-    (text : List ℕ) × (IsDiffAt known words text status
-    × IsOnlyPut text before after)
+    IsDiffPut known words status before after
 IsDone known (asked.Show words) status before after =
     IsShownAt known words status before after
 IsDone known (asked.Help words) status before after =

@@ -55,10 +55,12 @@ unshown known (asked.Explain words) status before after done = inl refl
 unshown known (asked.List words) status before after done = inl refl
 unshown known (asked.Console words) status before after done = inl refl
 unshown known (asked.Check words) status before after done = inl refl
+unshown known (asked.Accept words) status before after done =
+    inr (done.bytes, (done.read, (done.jobs, (done.listed, inr (inr (inl refl))))))
 unshown known (asked.Merge words) status before after done =
     inr (done.texts, (done.read, inr (done.rows, (done.parts, inr (inl refl)))))
 unshown known (asked.Diff words) status before after done = inl refl
-unshown known (asked.Show words) status before after done = inr (done.report, (done.read, inr (inl refl)))
+unshown known (asked.Show words) status before after done = inr (done.found, (done.read, inr (inl refl)))
 unshown known (asked.Help words) status before after done = inl refl
 
 -- an answer that is an error where results went out in part

@@ -1,0 +1,7 @@
+use Rattle.rvtest_app.proofs.diff.diff_read_reports.Goals as goal
+
+pub returns-clause-diff : goal.returns-clause-diff
+returns-clause-diff c = record {
+  text = rw c.requested_comparison-compare.ensures at c.in_ok-found.ensures.text;
+  judged = rw c.requested_comparison-compare.ensures at c.in_ok-found.ensures.judged;
+}
