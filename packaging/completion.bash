@@ -7,6 +7,7 @@ _rvfleet_options() {
         'rvtest explain') echo '--last --budget --root --color --help' ;;
         'rvtest console') echo '--root --help' ;;
         'rvtest check') echo '--root --help' ;;
+        'rvtest accept') echo '--only --match --exclude --failed --ends --check --workers --group --root --help' ;;
         'rvtest merge') echo '--report --junit --suite --lenient --help' ;;
         'rvtest diff') echo '--steps --slower --color --help' ;;
         'rvtest show') echo '--junit --suite --lenient --color --help' ;;
@@ -42,7 +43,7 @@ _rvfleet_choices() {
 }
 
 _rvfleet() {
-    local word=$2 before=$3 commands='run list explain console check merge diff show help --version --help'
+    local word=$2 before=$3 commands='run list explain console check accept merge diff show help --version --help'
     COMPREPLY=()
     [ "${1##*/}" = rvtest ] || commands='raw one run --help'
     if [ "$COMP_CWORD" = 1 ]; then

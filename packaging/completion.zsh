@@ -21,6 +21,7 @@ _rvfleet_behind_rvtest() {
         'explain:Runs one job, and shows how it ended and came there'
         'console:Runs one job, and writes its console'\''s bytes to standard output'
         'check:Says all that is wrong with a list and its files, and runs nothing'
+        'accept:Runs jobs, and makes what they came to what is expected'
         'merge:Makes the whole report of the parts of one run'
         'diff:Says in which jobs two reports differ'
         'show:Shows what failed in a report'
@@ -80,6 +81,18 @@ _rvfleet_behind_rvtest() {
                 ':LIST:_files' \
                 ':NAME:_rvfleet_jobs' ;;
         check) _arguments \
+                '--root[Takes the paths in the list from this folder]:DIR:_directories' \
+                '--help[Print help]' \
+                ':LIST:_files' ;;
+        accept) _arguments \
+                '*--only[Chooses the job of this name; may come again]:NAME:_rvfleet_jobs' \
+                '--match[Chooses the jobs in whose names it is found]:REGEX: ' \
+                '--exclude[Leaves out the jobs in whose names it is found]:REGEX: ' \
+                '--failed[Chooses the jobs that failed in a report]:REPORT:_files' \
+                '--ends[Accepts another exit code too, and another kind of fault]' \
+                '--check[Tells what would change, and writes nothing]' \
+                ''{-j,--workers}'[Threads, from 1 to 64; else one a processor]:N: ' \
+                '--group[Jobs that a thread takes at once, from 1 to 4096 \[default\: 1\]]:N: ' \
                 '--root[Takes the paths in the list from this folder]:DIR:_directories' \
                 '--help[Print help]' \
                 ':LIST:_files' ;;

@@ -1,6 +1,7 @@
 """The forms of all tables, by their files' names, and the rows of a file with a folder of its own for each."""
 import pathlib
 
+import accepted
 import asked
 import codes
 import lists
@@ -14,6 +15,7 @@ from tables import rows_of_file
 
 TABLES = pathlib.Path(__file__).resolve().parents[1] / "tables"
 FORMS = {
+    **accepted.FORMS,
     **told.FORMS,
     **asked.FORMS,
     **saved.FORMS,

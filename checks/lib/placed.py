@@ -8,6 +8,7 @@ import os
 import images
 from rows import Form, lines
 from saved import report_bytes
+from tables import raw
 
 REPORT = report_bytes("$1 a, steps 2\ndone 1")
 SHOWN = "1 job: 1 passed, 0 failed, 2 steps"
@@ -15,7 +16,7 @@ SHOWN = "1 job: 1 passed, 0 failed, 2 steps"
 
 def text_of(word):
     """The bytes of a file by their word."""
-    return REPORT if word == "new" else word.encode()
+    return REPORT if word == "new" else raw(word)
 
 
 def put_there(folder, word):

@@ -2,12 +2,14 @@
    over all threads. Where the process comes to that growth, the file GROWTH_MET is made. A growth is a call of malloc,
    calloc, realloc, memalign, aligned_alloc or posix_memalign. In the end the file THREADS_STARTED has a byte for each
    thread that was started, and the file FILES_CHANGED one for each call that changes what a disk has: s for fsync, r for
-   rename, u for unlink, in their order. */
+   rename, u for unlink, in their order. Before the call with the number KILLED_CHANGE of these, counted from 1, the process is
+   killed. */
 #define _GNU_SOURCE
 #include <dlfcn.h>
 #include <errno.h>
 #include <fcntl.h>
 #include <pthread.h>
+#include <signal.h>
 #include <stdatomic.h>
 #include <stdlib.h>
 #include <unistd.h>
@@ -19,7 +21,9 @@ void *__libc_realloc(void *place, size_t size);
 void *__libc_memalign(size_t alignment, size_t size);
 
 static atomic_ulong growths;
+static atomic_ulong changes;
 static unsigned long refused;
+static unsigned long killed;
 static const char *met;
 static int started = -1;
 static int changed = -1;
@@ -30,7 +34,9 @@ __attribute__((constructor)) static void begin(void) {
     const char *number = getenv("REFUSED_GROWTH");
     const char *threads = getenv("THREADS_STARTED");
     const char *files = getenv("FILES_CHANGED");
+    const char *change = getenv("KILLED_CHANGE");
     met = getenv("GROWTH_MET");
+    killed = change ? strtoul(change, NULL, 10) : 0;
     create = (int (*)(pthread_t *, const pthread_attr_t *, void *(*)(void *), void *))dlsym(RTLD_NEXT, "pthread_create");
     started = threads ? open(threads, O_WRONLY | O_CREAT | O_TRUNC | O_CLOEXEC, 0666) : -1;
     changed = files ? open(files, O_WRONLY | O_CREAT | O_TRUNC | O_CLOEXEC, 0666) : -1;
@@ -75,6 +81,9 @@ int pthread_create(pthread_t *thread, const pthread_attr_t *how, void *(*work)(v
 }
 
 static void note(const char *call) {
+    if (atomic_fetch_add(&changes, 1) + 1 == killed) {
+        raise(SIGKILL);
+    }
     if (changed >= 0 && write(changed, call, 1) != 1) {
         abort();
     }

@@ -29,6 +29,7 @@ SCRIPTS = {
     "runner": ([], True),
     "growths": (["--quick"], True),
     "merge": ([], True),
+    "accepts": (["200"], True),
     "launch": ([], False),
     "streams": ([], True),
     "docs": ([], True),

@@ -170,10 +170,21 @@ test_run_app =
 abbrev pub list_app : App
 list_app = with_rule (with_choice (app_of_list (codes "list"))) (flag_rule (codes "lenient"))
 
+-- [--workers <N>] [--group <N>] [--root <DIR>]
+abbrev pub with_threads : App → App
+with_threads app = with_rule (with_rule (with_rule app test_workers_rule) group_rule) (option_rule (codes "root"))
+
+-- accept <LIST> [--only <NAME>].. [--match <REGEX>] [--exclude <REGEX>] [--failed <REPORT>] [--ends] [--check]
+-- [--workers <N>] [--group <N>] [--root <DIR>]
+abbrev pub accept_app : App
+accept_app = with_threads (with_rule (with_rule (with_choice (app_of_list (codes "accept"))) (flag_rule (codes "ends")))
+    (flag_rule (codes "check")))
+
 -- the commands whose words choose jobs
 abbrev pub choosing_app : ChoosingCommand → App
 choosing_app choosing.Run = test_run_app
 choosing_app choosing.List = list_app
+choosing_app choosing.Accept = accept_app
 
 -- explain <LIST> <NAME> [--last <N>] [--budget <N>] [--root <DIR>] [--color <WHEN>]
 abbrev pub explain_app : App
@@ -221,7 +232,7 @@ abbrev pub with_runs : App → App
 with_runs app = with_subcommand (with_subcommand (with_subcommand app test_run_app.top) list_app.top) explain_app.top
 
 abbrev pub with_lists : App → App
-with_lists app = with_subcommand (with_subcommand (with_runs app) console_app.top) check_app.top
+with_lists app = with_subcommand (with_subcommand (with_subcommand (with_runs app) console_app.top) check_app.top) accept_app.top
 
 abbrev pub with_reports : App → App
 with_reports app = with_subcommand (with_subcommand (with_subcommand app merge_app.top)

@@ -17,6 +17,7 @@ use Rattle.clap.specs.declared.error.Error.{Error}
 use Rattle.rv_cli.specs.declared.rvtest.requests.Asked.{Asked}
 use Rattle.rv_cli.specs.declared.rvtest.requests.Asked.TheVariants as asked
 use Rattle.rv_cli.specs.declared.rvtest.run.RunAsked.{RunAsked}
+use Rattle.rv_cli.specs.declared.rvtest.accept.AcceptAsked.{AcceptAsked}
 use Rattle.rv_cli.specs.declared.rvtest.explain.ExplainAsked.{ExplainAsked}
 use Rattle.rv_cli.specs.declared.rvtest.merge.MergeAsked.{MergeAsked}
 use Rattle.rv_cli.specs.declared.rvtest.show.ShowAsked.{ShowAsked}
@@ -83,9 +84,16 @@ pub record DiffWords : Type 0 where
   pub slower : Option ℕ
   pub color : Option Text
 
+-- jobs of a list whose runs are accepted: those of which another exit code is accepted too, or another kind of fault, where words ask
+-- for that; what changes is told alone where words ask for that
+pub record AcceptWords : Type 0 where
+  pub run : RunWords
+  pub ends : Bool
+  pub check : Bool
+
 -- to run jobs; to say which jobs a run of these words would run; to explain one; to write the console of one, whose paths are taken
 -- from a folder; to say all that is wrong with a list, whose paths are taken from a
--- folder; to merge parts; to compare two reports, with their steps or without, or by which jobs are slower; to show one; to tell of
+-- folder; to accept what runs came to; to merge parts; to compare two reports, with their steps or without, or by which jobs are slower; to show one; to tell of
 -- something that is no command
 pub data Words : Type 0 where
   run : RunWords → Words
@@ -93,6 +101,7 @@ pub data Words : Type 0 where
   explain : ExplainWords → Words
   console : Text → Text → Option Text → Words
   check : Text → Option Text → Words
+  accept : AcceptWords → Words
   merge : MergeWords → Words
   diff : DiffWords → Words
   show : ShowWords → Words
@@ -102,7 +111,7 @@ pub data Words : Type 0 where
 abbrev pub requested_budget : List Row → Option ℕ
 requested_budget rows = number_value (codes "budget") 1 most_budget rows
 
--- what the values of `run` ask for, of a list, in pieces of so many jobs; those of `list` are without the values that it has no
+-- what the values of `run` ask for, of a list, in pieces of so many jobs; those of `list` and of `accept` are without the values that it has no
 -- option for
 unfoldable pub run_words : Text → ℕ → List Row → RunWords
 run_words list group rows = record {
@@ -160,6 +169,17 @@ abbrev pub check_request : List Row → Option Words
 check_request rows = option_map (λ list. check list (first_of (codes "root") rows))
     (first_of (codes "list") rows)
 
+abbrev pub accept_words : Text → List Row → ℕ → Words
+accept_words list rows group = accept (record {
+  run = run_words list group rows;
+  ends = is_flag_set (codes "ends") rows;
+  check = is_flag_set (codes "check") rows;
+})
+
+abbrev pub accept_request : List Row → Option Words
+accept_request rows = option_and_then (λ list. option_map (accept_words list rows)
+    (number_value (codes "group") 1 most_group rows)) (first_of (codes "list") rows)
+
 abbrev pub merge_request : List Row → Words
 merge_request rows = merge (record {
   parts = argument_values (codes "part") rows;
@@ -204,6 +224,7 @@ subcommand_words name rows = if bytes_eq name (codes "run") then test_run_reques
     else if bytes_eq name (codes "explain") then explain_request rows
     else if bytes_eq name (codes "console") then console_request rows
     else if bytes_eq name (codes "check") then check_request rows
+    else if bytes_eq name (codes "accept") then accept_request rows
     else if bytes_eq name (codes "merge") then Some (merge_request rows)
     else if bytes_eq name (codes "diff") then diff_request rows
     else if bytes_eq name (codes "show") then show_request rows
@@ -432,12 +453,20 @@ diff_asked_words value = record {
   color = borrowed_text value.color;
 }
 
+abbrev pub accept_asked_words : AcceptAsked → AcceptWords
+accept_asked_words value = record {
+  run = run_asked_words value.run;
+  ends = value.ends;
+  check = value.check;
+}
+
 abbrev pub asked_words : Asked → Words
 asked_words (asked.Run value) = run (run_asked_words value)
 asked_words (asked.List value) = names (run_asked_words value)
 asked_words (asked.Explain value) = explain (explain_asked_words value)
 asked_words (asked.Console value) = console value.list.now value.name.now (borrowed_text value.root)
 asked_words (asked.Check value) = check value.list.now (borrowed_text value.root)
+asked_words (asked.Accept value) = accept (accept_asked_words value)
 asked_words (asked.Merge value) = merge (merge_asked_words value)
 asked_words (asked.Diff value) = diff (diff_asked_words value)
 asked_words (asked.Show value) = show (show_asked_words value)
@@ -456,6 +485,7 @@ IsRunAskedInRange value = IfSome value.workers (λ number. (1 ≤ number) × (nu
 abbrev pub IsAskedInRange : Asked → Type 0
 IsAskedInRange (asked.Run value) = IsRunAskedInRange value
 IsAskedInRange (asked.List value) = IsRunAskedInRange value
+IsAskedInRange (asked.Accept value) = IsRunAskedInRange value.run
 IsAskedInRange (asked.Explain value) = (value.last ≤ most_last_instructions) × IsBudgetInRange value.budget
 IsAskedInRange (asked.Diff value) = IfSome value.slower (λ percent. percent ≤ most_slower)
 IsAskedInRange _ = Unit {0}

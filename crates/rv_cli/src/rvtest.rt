@@ -3,6 +3,7 @@
 //! [`read_words`] reads them. [`usage_error`] makes an error of that form for what `clap` does not find, as a bad regular
 //! expression.
 
+mod accept;
 mod arguments;
 mod check;
 mod command;
@@ -20,6 +21,7 @@ mod show;
 mod table;
 mod tips;
 
+pub use accept::AcceptAsked;
 pub use check::CheckAsked;
 pub use command::{ChoosingCommand, merge_command};
 pub use console::ConsoleAsked;

@@ -27,7 +27,7 @@ struct Parting<'a> {
 /// Appends where a console differs first from the text that is expected, which has a name: the last equal lines, and the first
 /// that differ.
 #[tactic(auto, unfolding(crate::specs::ConsoleLines::console_lines))]
-pub(crate) fn push_console_lines(
+pub fn push_console_lines(
     bytes: &mut Vec<u8>,
     source: Span<'_>,
     met: &[u8],

@@ -6,7 +6,7 @@
 //! could not read. How much is told is a [`Verbosity`], and which rows pass a [`Rule`](rv_expect::Rule).
 //!
 //! [`push_result_line`] appends the line of a row alone, [`push_console_tail`] the end of its console, and [`push_totals_line`] the
-//! counts of all rows.
+//! counts of all rows, [`push_console_lines`] where a console differs from a text.
 #![tactic(auto)]
 
 mod budget_use_line;
@@ -35,6 +35,7 @@ mod wanted_text;
 mod way_to_end;
 mod whole_lines;
 
+pub use console_lines::push_console_lines;
 pub use console_tail::{TAIL_BYTES, TAIL_LINES, push_console_tail};
 pub use law::{lines_are_the_text, told_line_differs_first};
 pub use paths::{console_path, reference_path};

@@ -3,6 +3,7 @@ pub mod JobPlaces
 pub mod JobBegins
 pub mod JobKeys
 pub mod NamedKeys
+pub mod ValueSpans
 pub mod Steps
 pub mod FaultHeads
 pub mod Lines

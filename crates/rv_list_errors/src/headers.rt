@@ -8,6 +8,7 @@ mod job_keys;
 mod lines;
 mod repeated_key;
 mod scan;
+mod spans;
 mod values;
 
 pub(crate) use cursor::Cursor;
@@ -16,3 +17,4 @@ pub use lines::{Place, line_and_column};
 pub(crate) use repeated_key::{RepeatedKey, repeated_key};
 pub use scan::job_line_numbers;
 pub(crate) use scan::job_texts;
+pub use spans::{ValueSpan, value_spans};

@@ -1,5 +1,7 @@
 pub mod StepRanks
 mod StepOrder
+mod AcceptStops
+mod AcceptedFiles
 mod Numbers
 mod Sent
 mod Results
@@ -10,5 +12,6 @@ mod PartTexts
 mod JobTexts
 mod FailedRows
 mod RunTellings
+mod Unwritten
 mod UnreadableWords
 mod WordsStops

@@ -6,6 +6,7 @@ use Rattle.rv_base.specs.Files.{FileContents}
 use Rattle.rv_cli.specs.RvtestWords.{asked_words, words_fault_kinds, words_request}
 use Rattle.rv_cli.specs.declared.rvtest.requests.Asked.{Asked}
 use Rattle.rv_cli.specs.declared.rvtest.requests.Asked.TheVariants as asked
+use Rattle.rvtest_app.specs.Accepts.{IsAcceptedAt}
 use Rattle.rvtest_app.specs.Colors.{IsSaidInColors, asked_colors}
 use Rattle.rvtest_app.specs.Consoles.{IsConsolePut}
 use Rattle.rvtest_app.specs.HelpTopics.{IsTopicTold}
@@ -30,6 +31,8 @@ IsDone known (asked.Console words) status before after =
 IsDone known (asked.Check words) status before after =
     (text : List ℕ) × (IsCheckAt known words text status
     × IsOnlyPut text before after)
+IsDone known (asked.Accept words) status before after =
+    IsAcceptedAt known words status before after
 IsDone known (asked.Merge words) status before after =
     IsMergedAt known words status before after
 IsDone known (asked.Diff words) status before after =

@@ -6,6 +6,7 @@ use Rattle.rv_base.specs.Files.{FileContents}
 use Rattle.rv_choice.specs.ChoiceStops.{IsChoiceStop}
 use Rattle.rv_choice.specs.UnknownName.{IsUnknownNameStop}
 use Rattle.rv_cli.specs.RvtestWords.{asked_words, words_fault_kinds, words_request}
+use Rattle.rv_cli.specs.declared.rvtest.accept.AcceptAsked.{AcceptAsked}
 use Rattle.rv_cli.specs.declared.rvtest.check.CheckAsked.{CheckAsked}
 use Rattle.rv_cli.specs.declared.rvtest.console.ConsoleAsked.{ConsoleAsked}
 use Rattle.rv_cli.specs.declared.rvtest.diff.DiffAsked.{DiffAsked}
@@ -24,6 +25,7 @@ use Rattle.rv_lists.specs.declared.job.Job.{Job}
 use Rattle.rv_report.specs.declared.row.Row.{Row}
 use Rattle.rv_report.specs.declared.saved.SavedReport.{SavedReport}
 use Rattle.rv_report.specs.declared.saved.Shard.{Shard}
+use Rattle.rvtest_app.specs.AcceptStops.{IsUnacceptedStop}
 use Rattle.rvtest_app.specs.Answers.{AskForHelp}
 use Rattle.rvtest_app.specs.Commands.{failure_rule}
 use Rattle.rvtest_app.specs.HelpTopics.{IsNoTopicStop}
@@ -65,6 +67,10 @@ abbrev pub IsListStop : Option FileContents → RunAsked → Stop → Type 0
 IsListStop known words why = IsListUnreadStop known words.list.now why
     ⊎ ((text : List ℕ) × (IsTextAt known words.list.now text × IsNoChoiceStop known words text why))
 
+-- `accept`: no jobs were found that words choose, or the chosen ones were not accepted
+abbrev pub IsAcceptStop : Option FileContents → AcceptAsked → Stop → Type 0
+IsAcceptStop known words why = IsListStop known words.run why ⊎ IsUnacceptedStop known words why
+
 -- `diff`: the old report was not read, or it was, and the new one was not
 abbrev pub IsDiffAtStop : Option FileContents → DiffAsked → Stop → Type 0
 IsDiffAtStop known words why = IsReportUnreadStop known words.old.now why
@@ -96,6 +102,7 @@ IsCommandStop known (asked.Check words) why = (why ≡ stop.WriteFailed) ⊎ IsC
 IsCommandStop known (asked.Diff words) why = (why ≡ stop.WriteFailed) ⊎ IsDiffAtStop known words why
 IsCommandStop known (asked.Help words) why = (why ≡ stop.WriteFailed) ⊎ IsNoTopicStop words.topic.now why
 IsCommandStop known (asked.Run words) why = IsRunStop known words why ⊎ IsIdleRunStop known words why
+IsCommandStop known (asked.Accept words) why = IsAcceptStop known words why
 IsCommandStop known (asked.Merge words) why = IsMergeStop known words why
 IsCommandStop known (asked.Show words) why = IsShowStop known words why
 

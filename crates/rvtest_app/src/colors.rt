@@ -24,8 +24,12 @@ pub(crate) fn asked_colors(asked: &Asked<'_>, is_terminal: bool) -> Colors
         Asked::Show(asked) => {
             file_colors(None, asked.junit, colors_of_word(asked.color, is_terminal))
         }
-        Asked::List(_) | Asked::Console(_) | Asked::Check(_) | Asked::Merge(_) | Asked::Help(_) =>
-            Colors::Without,
+        Asked::List(_)
+        | Asked::Console(_)
+        | Asked::Check(_)
+        | Asked::Accept(_)
+        | Asked::Merge(_)
+        | Asked::Help(_) => Colors::Without,
     }
 }
 

@@ -1,10 +1,18 @@
-//! The law of rows by steps, with nothing to run.
+//! Laws, with nothing to run.
 
-ghost use Rattle.std.specs.Prelude.{List};
+ghost use Rattle.std.specs.Prelude.{◌≡◌, [], List};
+ghost use Rattle.rv_accept_text.specs.Told.{changed_count};
+ghost use Rattle.rv_accept_text.specs.declared.accepting.Accepting.{Accepting};
 ghost use Rattle.rv_report.specs.declared.row.Row.{Row};
+ghost use Rattle.rvtest_app.specs.Accepts.{written_files};
 ghost use Rattle.rvtest_app.specs.ReportSummary.{AreSortedBySteps, rows_by_steps};
 
 /// Of a report's rows those with the most steps stand first, each row once, and rows of equal steps in their order.
 pub fn rows_by_steps_are_sorted()
     ensures { (rows : List Row) → AreSortedBySteps rows (rows_by_steps rows) }
+{}
+
+/// Where `accept` tells no change, it writes no file.
+pub fn nothing_is_written_where_nothing_changes()
+    ensures { (told : Accepting) → changed_count told ≡ 0 → written_files told ≡ [] }
 {}

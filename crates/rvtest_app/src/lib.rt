@@ -6,6 +6,8 @@
 //! What goes to each and to which file is said by definitions (`specs/`), of the words and of what stands at the paths that are read.
 #![tactic(auto)]
 
+mod accept;
+mod accepted_files;
 mod check;
 mod check_text;
 mod chosen_rows;
@@ -49,6 +51,6 @@ mod whole_report;
 
 pub use destinations::Destinations;
 pub use host::Host;
-pub use law::rows_by_steps_are_sorted;
+pub use law::{nothing_is_written_where_nothing_changes, rows_by_steps_are_sorted};
 pub use program::{refuse_unreadable_words, run_rvtest};
 pub use terminals::Terminals;

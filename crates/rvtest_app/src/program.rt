@@ -10,6 +10,7 @@ ghost use Rattle.rvtest_app.specs.CommandStops.{IsCommandStop, IsStopFor};
 ghost use Rattle.rvtest_app.specs.Said.{said};
 ghost use Rattle.rvtest_app.specs.ToldStops.{IsStopTold, unreadable_words_message, unreadable_words_status};
 
+use crate::accept::accept_runs;
 use crate::check::check_list;
 use crate::colors::asked_colors;
 use crate::console::put_job_console;
@@ -187,6 +188,7 @@ fn run_subcommand<
         Asked::List(asked) => list_chosen_jobs(inputs, alloc, &asked, &mut to),
         Asked::Console(asked) => put_job_console(inputs, alloc, asked, &mut to),
         Asked::Check(asked) => put_findings(&mut to.out, check_list(inputs, alloc, asked)),
+        Asked::Accept(asked) => accept_runs(host, &asked, &mut to),
         Asked::Merge(asked) => merge_reports(inputs, alloc, &asked, &mut to),
         Asked::Diff(asked) => put_findings(&mut to.out, diff_reports(inputs, alloc, asked)),
         Asked::Show(asked) => show_report(inputs, alloc, asked, &mut to),

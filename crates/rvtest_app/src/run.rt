@@ -526,8 +526,8 @@ impl<'x, R: Threads + Wait + Sync + Clock, D: Inputs> ListRun<'x, R, D> {
     }
 }
 
-// The plan of the jobs at some places.
-fn gather_jobs_at<S: Store>(
+/// The plan of the jobs at some places.
+pub(crate) fn gather_jobs_at<S: Store>(
     alloc: Global,
     jobs: JobList,
     places: &[usize],

@@ -4,12 +4,12 @@ ghost use Rattle.std.specs.Prelude.{◌≡◌, IfOk, false};
 ghost use Rattle.clap.specs.Words.{App, app_of, new_app};
 ghost use Rattle.clap.specs.declared.builder.command.Command.TheViews.{out-Command};
 ghost use Rattle.rv_cli.specs.CommandBuilder.{HasApp, IsBuilt};
-ghost use Rattle.rv_cli.specs.RvtestCommand.{choosing_app, diff_app, explain_app, list_app, subcommand_app, merge_app, show_app, test_run_app, test_app};
+ghost use Rattle.rv_cli.specs.RvtestCommand.{accept_app, choosing_app, diff_app, explain_app, list_app, subcommand_app, merge_app, show_app, test_run_app, test_app};
 ghost use Rattle.rv_cli.specs.RvtestCommand.{test_top_app, with_subcommands};
 
 use crate::command_builder::{Built, with_subcommand};
 use crate::rvtest::arguments::{Argument, with_arguments};
-use crate::rvtest::table::{COMMANDS, DIFF, EXPLAIN, LIST, MERGE, RUN, SHOW};
+use crate::rvtest::table::{ACCEPT, COMMANDS, DIFF, EXPLAIN, LIST, MERGE, RUN, SHOW};
 use clap::Command;
 use std::alloc::{AllocError, Global};
 
@@ -76,6 +76,7 @@ fn bare_command<'a>(alloc: Global, stated: &Subcommand<'a>) -> Built<'a>
 pub enum ChoosingCommand {
     Run,
     List,
+    Accept,
 }
 
 impl ChoosingCommand {
@@ -87,6 +88,7 @@ impl ChoosingCommand {
         match self {
             ChoosingCommand::Run => run_command(alloc),
             ChoosingCommand::List => list_command(alloc),
+            ChoosingCommand::Accept => accept_command(alloc),
         }
     }
 }
@@ -97,6 +99,14 @@ fn list_command<'a>(alloc: Global) -> Result<Command<'a>, AllocError>
         (app_of command ≡ list_app) × ((out-Command command).has_globals ≡ false)) }
 {
     subcommand_of_table(alloc, &LIST)
+}
+
+/// The command `rvtest accept`, whose usage a refusal of its words shows.
+fn accept_command<'a>(alloc: Global) -> Result<Command<'a>, AllocError>
+    ensures { IfOk result (λ command.
+        (app_of command ≡ accept_app) × ((out-Command command).has_globals ≡ false)) }
+{
+    subcommand_of_table(alloc, &ACCEPT)
 }
 
 /// The command `rvtest run`, whose usage a refusal of its words shows.

@@ -54,6 +54,17 @@ Status:
   2  The words are refused, or the list has a fault, or a job is refused
   3  The system failed: memory or a file";
 
+pub(crate) const ACCEPT: &str = "\
+Examples:
+  rvtest accept tests.toml --check
+  rvtest accept tests.toml --match uart --ends
+
+Status:
+  0  Nothing is left; with --check nothing would change either
+  1  A job or a file is left; with --check a file would change
+  2  The words, the list or a report is refused
+  3  The system failed: memory, a thread or a file";
+
 pub(crate) const MERGE: &str = "\
 Examples:
   rvtest merge part-1.txt part-2.txt --report report.txt

@@ -5,6 +5,7 @@ ghost use Rattle.clap.specs.Words.{FailsBy, found_of, rows_of, subcommand_rows_o
 ghost use Rattle.rv_cli.specs.RvtestWords.{IsAskedInRange, ReadsRequest, words_request, matched_fault_kinds, subcommand_fault_kinds};
 ghost use Rattle.rv_cli.specs.RvtestWords.{words_fault_kinds, asked_words, matched_words, subcommand_words};
 
+use crate::rvtest::accept::{AcceptAsked, accept_request};
 use crate::rvtest::check::{CheckAsked, check_request};
 use crate::rvtest::command::test_command;
 use crate::rvtest::console::{ConsoleAsked, console_request};
@@ -32,6 +33,8 @@ pub enum Asked<'a> {
     Console(ConsoleAsked<'a>),
     /// To say all that is wrong with a list, and to run nothing.
     Check(CheckAsked<'a>),
+    /// To make what runs came to what is expected of them.
+    Accept(AcceptAsked<'a>),
     /// To make the whole report of the parts of one run.
     Merge(MergeAsked<'a>),
     /// To say in which jobs two reports differ.
@@ -82,6 +85,7 @@ fn subcommand_request<'a>(
         "explain" => explain_request(alloc, values),
         "console" => Ok(console_request(values)),
         "check" => Ok(check_request(values)),
+        "accept" => accept_request(alloc, values),
         "merge" => merge_request(alloc, values),
         "diff" => diff_request(alloc, values),
         "show" => show_request(alloc, values),

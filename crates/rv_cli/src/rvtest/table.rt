@@ -6,8 +6,8 @@ use crate::rvtest::examples;
 use rv_base::limits::{MOST_BUDGET, MOST_JOBS, MOST_WORKERS};
 
 /// The commands of `rvtest`, in the order in which help names them.
-pub(crate) const COMMANDS: [Subcommand<'static>; 9] = [
-    RUN, LIST, EXPLAIN, CONSOLE, CHECK, MERGE, DIFF, SHOW, HELP,
+pub(crate) const COMMANDS: [Subcommand<'static>; 10] = [
+    RUN, LIST, EXPLAIN, CONSOLE, CHECK, ACCEPT, MERGE, DIFF, SHOW, HELP,
 ];
 
 pub(crate) const RUN: Subcommand<'static> = Subcommand {
@@ -27,13 +27,7 @@ pub(crate) const RUN: Subcommand<'static> = Subcommand {
             "TEXT",
             "Says which run the part is of; else a digest of the list",
         ),
-        Argument::Number(
-            "workers",
-            Some('j'),
-            "Threads, from 1 to 64; else one a processor",
-            WORKERS,
-            &[],
-        ),
+        Argument::Number("workers", Some('j'), THREADS, WORKERS, &[]),
         Argument::Group,
         Argument::Number("budget", None, BUDGET, BUDGET_BOUNDS, &[]),
         Argument::Option("root", "DIR", ROOT),
@@ -112,6 +106,29 @@ const CHECK: Subcommand<'static> = Subcommand {
     ],
 };
 
+pub(crate) const ACCEPT: Subcommand<'static> = Subcommand {
+    name: "accept",
+    about: "Runs jobs, and makes what they came to what is expected",
+    usage: "rvtest accept",
+    after: examples::ACCEPT,
+    arguments: &[
+        Argument::Word("list", "LIST", LIST_PATH),
+        Argument::Again("only", "NAME", ONLY),
+        Argument::Option("match", "REGEX", MATCH),
+        Argument::Option("exclude", "REGEX", EXCLUDE),
+        Argument::Option("failed", "REPORT", FAILED),
+        Argument::Flag(
+            "ends",
+            None,
+            "Accepts another exit code too, and another kind of fault",
+        ),
+        Argument::Flag("check", None, "Tells what would change, and writes nothing"),
+        Argument::Number("workers", Some('j'), THREADS, WORKERS, &[]),
+        Argument::Group,
+        Argument::Option("root", "DIR", ROOT),
+    ],
+};
+
 pub(crate) const MERGE: Subcommand<'static> = Subcommand {
     name: "merge",
     about: "Makes the whole report of the parts of one run",
@@ -183,6 +200,8 @@ const MATCH: &str = "Chooses the jobs in whose names it is found";
 const EXCLUDE: &str = "Leaves out the jobs in whose names it is found";
 
 const FAILED: &str = "Chooses the jobs that failed in a report";
+
+const THREADS: &str = "Threads, from 1 to 64; else one a processor";
 
 const ROOT: &str = "Takes the paths in the list from this folder";
 

@@ -10,6 +10,9 @@ returns-in-explain c = rw c.in-explain.is c.explain_request.ensures
 pub returns-in-check : goal.returns-in-check
 returns-in-check c = rw c.in-check.is (c.check_request.ensures, refl)
 
+pub returns-in-accept : goal.returns-in-accept
+returns-in-accept c = rw c.in-accept.is c.accept_request.ensures
+
 pub returns-in-merge : goal.returns-in-merge
 returns-in-merge c = rw c.in-merge.is c.merge_request.ensures
 

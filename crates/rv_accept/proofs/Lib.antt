@@ -1,0 +1,5 @@
+pub mod Meeting
+pub mod Editing
+mod GoldenPaths
+mod MarkCounts
+pub mod Public

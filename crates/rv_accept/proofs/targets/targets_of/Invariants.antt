@@ -1,0 +1,6 @@
+use Rattle.std.proofs.Common.{◌≡◌, [], take, fold}
+use Rattle.rv_accept.specs.Targets.{with_target}
+use Rattle.rv_accept.proofs.targets.targets_of.Given as goal
+
+abbrev pub invariant-loop-claim : goal.invariant-loop-claim
+invariant-loop-claim l = l.targets.items ≡ fold (with_target l.runs l.claims) [] (take l.claim-index l.claims)

@@ -1,0 +1,29 @@
+-- A text as a basic string of TOML on one line: in quotes, control characters and the two signs that have a meaning there escaped
+-- (TOML 1.0.0, String).
+use Rattle.std.specs.Prelude.{ℕ, List, [], ◌∷◌, ◌++◌, ◌==◌, ◌||◌, Bool, codes, if◌then◌else◌, Option, Some, None}
+use Rattle.std.specs.Int.{is_in_range}
+use Rattle.std.specs.List.{flat_map}
+use Rattle.hex.specs.Hex.{encode_lower}
+
+-- a character that stands behind a backslash for this byte, if one does
+abbrev pub short_escape : ℕ → Option (List ℕ)
+short_escape byte =
+    if byte == 34 then Some (codes "\\\"") else if byte == 92 then Some (codes "\\\\")
+    else if byte == 8 then Some (codes "\\b") else if byte == 9 then Some (codes "\\t")
+    else if byte == 10 then Some (codes "\\n") else if byte == 12 then Some (codes "\\f")
+    else if byte == 13 then Some (codes "\\r") else None
+
+-- the other control characters of ASCII
+abbrev pub is_other_control : ℕ → Bool
+is_other_control byte = is_in_range 0 31 byte || byte == 127
+
+abbrev pub byte_text_unless_short : Option (List ℕ) → ℕ → List ℕ
+byte_text_unless_short (Some escape) byte = escape
+byte_text_unless_short None byte =
+    if is_other_control byte then codes "\\u00" ++ encode_lower (byte ∷ []) else byte ∷ []
+
+abbrev pub byte_text : ℕ → List ℕ
+byte_text byte = byte_text_unless_short (short_escape byte) byte
+
+unfoldable pub basic_string : List ℕ → List ℕ
+basic_string text = 34 ∷ flat_map byte_text text ++ 34 ∷ []

@@ -1,0 +1,11 @@
+pub mod Ends
+pub mod Accepted
+pub mod Values
+pub mod Runs
+pub mod Claims
+pub mod Fates
+pub mod BasicString
+pub mod Sharing
+pub mod Edits
+pub mod Meant
+pub mod Targets

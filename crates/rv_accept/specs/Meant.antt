@@ -1,0 +1,18 @@
+-- The jobs that those of a list become, once some are accepted.
+use Rattle.std.specs.Prelude.{List, [], ◌∷◌, Option, Some, None}
+use Rattle.rv_jobs.specs.declared_job.Job.{Job}
+use Rattle.rv_rows.specs.declared_row.Row.{Row}
+use Rattle.rv_accept.specs.Accepted.{accepted_job}
+use Rattle.rv_accept.specs.Runs.{accepted_row}
+use Rattle.rv_accept.specs.declared.runs.JobRun.{JobRun}
+
+-- a job that is accepted for its row, and another one as it is
+abbrev pub meant_job : Job → Option Row → Job
+meant_job job None = job
+meant_job job (Some row) = accepted_job job row.ending row.console
+
+-- each job with its run, if it has one
+unfoldable pub meant_jobs : List Job → List (Option JobRun) → List Job
+meant_jobs [] runs = []
+meant_jobs (job ∷ jobs) [] = job ∷ jobs
+meant_jobs (job ∷ jobs) (run ∷ runs) = meant_job job (accepted_row run) ∷ meant_jobs jobs runs

@@ -1,0 +1,81 @@
+-- The jobs of a list that were run, and whether they are left.
+use Rattle.std.specs.Prelude.{◌&&◌, ◌||◌, Bool, not, List, [], ◌∷◌, Option, Some, None, drop, if◌then◌else◌, is_some, option_map, slice_get}
+use Rattle.std.specs.Str.{is_utf8}
+use Rattle.rv_jobs.specs.declared_job.Job.{Job}
+use Rattle.rv_rows.specs.declared_row.Row.{Row}
+use Rattle.rv_rows.specs.declared_row.RowEnd.{RowEnd}
+use Rattle.rv_accept.specs.Ends.{is_accepted_end}
+use Rattle.rv_accept.specs.Values.{is_value_changed}
+use Rattle.rv_accept.specs.declared.ends.Acceptance.{Acceptance}
+use Rattle.rv_accept.specs.declared.ends.Acceptance.TheVariants as acceptance
+use Rattle.rv_accept.specs.declared.runs.JobRun.{JobRun}
+use Rattle.rv_accept.specs.declared.runs.WhyLeft.{WhyLeft}
+use Rattle.rv_accept.specs.declared.runs.WhyLeft.TheVariants as why
+use Rattle.rv_accept.specs.declared.values.ValueKey.TheVariants as key
+
+abbrev pub why_end_is_left : Acceptance → Job → RowEnd → Option WhyLeft
+why_end_is_left asked job end = if is_accepted_end asked job end then None else Some why.End
+
+-- a text of the list is UTF-8
+abbrev pub why_text_is_left : Job → Row → Option WhyLeft
+why_text_is_left job row =
+    if is_value_changed key.Console job row && not (is_utf8 row.console) then Some why.NoText else None
+
+-- why a chosen job is left, if it is
+abbrev pub why_left : Acceptance → Job → Row → Option WhyLeft
+why_left asked job row = if is_accepted_end asked job row.ending then why_text_is_left job row else Some why.End
+
+-- a job expects something that may be taken from its run
+abbrev pub takes_from_run : Job → Bool
+takes_from_run job = is_some job.expect_exit || (is_some job.expect_end || (is_some job.expect_console
+    || is_some job.expect_signature))
+
+-- a job of which nothing is taken is not left
+abbrev pub why_chosen_is_left : Acceptance → Job → Row → Option WhyLeft
+why_chosen_is_left asked job row = if takes_from_run job then why_left asked job row else None
+
+-- a job that was run: one that is not chosen gives its golden files only where it ended exactly as is expected
+abbrev pub judged_run : Acceptance → Job → Bool → Row → JobRun
+judged_run asked job chosen row = record {
+  row = row;
+  is_chosen = chosen;
+  left = if chosen then why_chosen_is_left asked job row else why_end_is_left acceptance.Expected job row.ending;
+}
+
+-- the first of some rows where a job is marked, and those behind it
+abbrev pub row_if : Bool → List Row → Option Row
+row_if marked rows = if marked then slice_get rows 0 else None
+
+abbrev pub rest_if : Bool → List Row → List Row
+rest_if marked rows = if marked then drop 1 rows else rows
+
+-- rows of the jobs that are marked, in their order, each at the place of its job
+unfoldable pub placed_rows : List Bool → List Row → List (Option Row)
+placed_rows [] rows = []
+placed_rows (marked ∷ marks) rows = row_if marked rows ∷ placed_rows marks (rest_if marked rows)
+
+abbrev pub row_or_none : Option (Option Row) → Option Row
+row_or_none None = None
+row_or_none (Some row) = row
+
+abbrev pub first_row : List (Option Row) → Option Row
+first_row rows = row_or_none (slice_get rows 0)
+
+-- the runs of jobs, with the rows of those that were run
+unfoldable pub judged_runs : Acceptance → List Job → List Bool → List (Option Row) → List (Option JobRun)
+judged_runs asked [] chosen rows = []
+judged_runs asked (job ∷ jobs) [] rows = []
+judged_runs asked (job ∷ jobs) (chosen ∷ more) rows =
+    option_map (judged_run asked job chosen) (first_row rows) ∷ judged_runs asked jobs more (drop 1 rows)
+
+-- it is chosen, and accepted
+abbrev pub is_accepted_run : JobRun → Bool
+is_accepted_run run = run.is_chosen && not (is_some run.left)
+
+-- the row for which a job's values are replaced, if they are
+abbrev pub row_if_accepted : JobRun → Option Row
+row_if_accepted run = if is_accepted_run run then Some run.row else None
+
+abbrev pub accepted_row : Option JobRun → Option Row
+accepted_row None = None
+accepted_row (Some run) = row_if_accepted run

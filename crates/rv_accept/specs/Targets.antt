@@ -1,0 +1,32 @@
+-- The golden files that accepted jobs name.
+use Rattle.std.specs.Prelude.{◌&&◌, Bool, false, not, ℕ, List, [], ◌∷◌, ◌++◌, Option, Some, if◌then◌else◌, slice_get}
+use Rattle.std.specs.List.{list_any}
+use Rattle.std.specs.Str.{bytes_eq}
+use Rattle.rv_accept.specs.Fates.{fate_of_file}
+use Rattle.rv_accept.specs.Runs.{is_accepted_run}
+use Rattle.rv_accept.specs.declared.claims.Claim.{Claim}
+use Rattle.rv_accept.specs.declared.runs.JobRun.{JobRun}
+use Rattle.rv_accept.specs.declared.targets.Target.{Target}
+
+-- the job at a place is chosen, and accepted
+abbrev pub is_of_accepted : Option (Option JobRun) → Bool
+is_of_accepted (Some (Some run)) = is_accepted_run run
+is_of_accepted _ = false
+
+abbrev pub is_target : List ℕ → List Target → Bool
+is_target path targets = list_any (λ target. bytes_eq path target.path) targets
+
+-- the file of a claim, and what becomes of it
+abbrev pub target_of : List Claim → Claim → Target
+target_of claims claim = record {
+  path = claim.path;
+  job = claim.job;
+  part = claim.part;
+  fate = fate_of_file claim.path claims;
+}
+
+-- a claim of an accepted job on a file that is none so far makes one
+abbrev pub with_target : List (Option JobRun) → List Claim → List Target → Claim → List Target
+with_target runs claims targets claim =
+    if is_of_accepted (slice_get runs claim.job) && not (is_target claim.path targets)
+    then targets ++ target_of claims claim ∷ [] else targets

@@ -1,0 +1,62 @@
+//! Texts as basic strings of TOML.
+
+ghost use Rattle.std.specs.Prelude.{◌≡◌, ◌++◌, ◌∷◌, [], OnOk, option_map};
+ghost use Rattle.rv_accept.specs.BasicString.{basic_string, byte_text, byte_text_unless_short, is_other_control, short_escape};
+
+use std::alloc::{AllocError, Global};
+
+/// Appends a text as a basic string of TOML, on one line.
+#[tactic(auto, unfolding(crate::specs::BasicString::basic_string))]
+pub fn push_basic_string(alloc: Global, out: &mut Vec<u8>, text: &[u8]) -> Result<(), AllocError>
+    ensures { OnOk result (out.new.items ≡ out.old.items ++ basic_string text.now) }
+{
+    out.push(b'"')?;
+    for byte in text {
+        push_byte(alloc, out, *byte)?;
+    }
+    out.push(b'"')?;
+    Ok(())
+}
+
+fn push_byte(alloc: Global, out: &mut Vec<u8>, byte: u8) -> Result<(), AllocError>
+    ensures { OnOk result (out.new.items ≡ out.old.items ++ byte_text byte) }
+{
+    match short_escape(byte) {
+        Some(escape) => out.extend_from_slice(escape.as_bytes()),
+        None => push_unless_short(alloc, out, byte),
+    }
+}
+
+// A character that stands behind a backslash for a byte.
+fn short_escape(byte: u8) -> Option<&'static str>
+    ensures { option_map (λ text. text.now) result ≡ short_escape byte }
+{
+    match byte {
+        b'"' => Some("\\\""),
+        b'\\' => Some("\\\\"),
+        0x08 => Some("\\b"),
+        b'\t' => Some("\\t"),
+        b'\n' => Some("\\n"),
+        0x0c => Some("\\f"),
+        b'\r' => Some("\\r"),
+        _ => None,
+    }
+}
+
+fn push_unless_short(alloc: Global, out: &mut Vec<u8>, byte: u8) -> Result<(), AllocError>
+    ensures { OnOk result (out.new.items ≡ out.old.items ++ byte_text_unless_short None byte) }
+{
+    if !is_other_control(byte) {
+        out.push(byte)?;
+        return Ok(());
+    }
+    let digits = hex::encode(alloc, [byte].as_slice())?;
+    out.extend_from_slice(b"\\u00")?;
+    out.extend_from_slice(digits.as_bytes())
+}
+
+fn is_other_control(byte: u8) -> bool
+    ensures { result ≡ is_other_control byte }
+{
+    byte <= 31 || byte == 127
+}

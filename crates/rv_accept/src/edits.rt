@@ -1,0 +1,44 @@
+//! Texts of which pieces are replaced.
+
+ghost use Rattle.std.specs.Prelude.{◌≡◌, IfOk, drop};
+ghost use Rattle.rv_accept.specs.Edits.{edited_from, piece};
+
+use rv_jobs::Bytes;
+use std::alloc::{AllocError, Global};
+
+/// What stands in place of the bytes of a text from one place to another, the second not with them.
+#[derive(Drop)]
+pub struct Edit {
+    pub begin: usize,
+    pub end: usize,
+    pub text: Bytes,
+}
+
+/// A text with edits, which stand in its order.
+pub fn edited_text(alloc: Global, text: &[u8], edits: &[Edit]) -> Result<Vec<u8>, AllocError>
+    ensures { IfOk result (λ edited. edited.items ≡ edited_from 0 text.now edits.now) }
+{
+    let mut edited = Vec::new(alloc);
+    let mut from = 0;
+    for edit in edits {
+        edited.extend_from_slice(piece(text, from, edit.begin))?;
+        edited.extend_from_slice(edit.text.as_slice())?;
+        from = edit.end;
+    }
+    edited.extend_from_slice(rest_from(text, from))?;
+    Ok(edited)
+}
+
+// The bytes of a text from one place to another.
+fn piece(text: &[u8], from: usize, to: usize) -> &[u8]
+    ensures { result.now ≡ piece from to text.now }
+{
+    let rest = rest_from(text, from);
+    &rest[..to.saturating_sub(from).min(rest.len())]
+}
+
+fn rest_from(text: &[u8], from: usize) -> &[u8]
+    ensures { result.now ≡ drop from text.now }
+{
+    &text[from.min(text.len())..]
+}

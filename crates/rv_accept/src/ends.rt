@@ -1,0 +1,49 @@
+//! Which endings of a run are accepted.
+
+ghost use Rattle.std.specs.Prelude.{◌≡◌};
+ghost use Rattle.rv_accept.specs.Ends.{ended_as_expected, ended_in_expected_way, is_accepted_end};
+
+use rv_jobs::{ExpectedEnd, Job};
+use rv_rows::{RowEnd, did_run, has_expected_end, has_expected_exit};
+
+/// Which endings of a run are accepted.
+#[derive(Clone, Copy, Debug, PartialEq, Eq)]
+pub enum Acceptance {
+    /// The expected ones.
+    Expected,
+    /// Another exit code where one is expected too, and another kind of fault.
+    InExpectedWay,
+}
+
+/// Whether a run ended so that its job is accepted. Exit 0 is expected where the job says nothing of its end.
+pub fn is_accepted_end(acceptance: Acceptance, job: &Job, ending: RowEnd) -> bool
+    ensures { result ≡ is_accepted_end acceptance job.now ending }
+{
+    match acceptance {
+        Acceptance::Expected => ended_as_expected(job, ending),
+        Acceptance::InExpectedWay => ended_as_expected(job, ending)
+            || ended_in_expected_way(job, ending),
+    }
+}
+
+fn ended_as_expected(job: &Job, ending: RowEnd) -> bool
+    ensures { result ≡ ended_as_expected job.now.expect_exit job.now.expect_end ending }
+{
+    did_run(ending)
+        && has_expected_exit(job.expect_exit, ending)
+        && has_expected_end(job.expect_end, ending)
+        && (job.expect_exit.is_some()
+            || job.expect_end.is_some()
+            || has_expected_exit(Some(0), ending))
+}
+
+// Whether a run ended by an exit or by a fault, as is expected of it, whatever the code or the kind.
+fn ended_in_expected_way(job: &Job, ending: RowEnd) -> bool
+    ensures { result ≡ ended_in_expected_way job.now.expect_exit job.now.expect_end ending }
+{
+    match (job.expect_exit, job.expect_end, ending) {
+        (Some(_), None, RowEnd::Exit(_)) => true,
+        (None, Some(ExpectedEnd::Fault(_)), RowEnd::Fault(..)) => true,
+        _ => false,
+    }
+}

@@ -1,0 +1,79 @@
+//! The golden files that chosen jobs name, and what becomes of them.
+
+ghost use Rattle.std.specs.Prelude.{◌≡◌, [], IfOk, OnOk, fold, option_map, slice_get};
+ghost use Rattle.rv_accept.specs.Targets.{is_of_accepted, is_target, target_of, with_target};
+
+use crate::claims::{Claim, Part};
+use crate::fates::{Fate, fate_of_file};
+use crate::runs::JobRun;
+use rv_jobs::Text;
+use std::alloc::{AllocError, Global};
+
+/// A golden file that an accepted job names.
+#[derive(Drop)]
+pub struct Target {
+    pub path: Text,
+    /// The place in the list, counted from 0, of the first accepted job that names it.
+    pub job: usize,
+    /// What it holds of that job.
+    pub part: Part,
+    pub fate: Fate,
+}
+
+/// The golden files that accepted jobs name, each once, in the order in which the list names them.
+pub fn targets_of(
+    alloc: Global,
+    runs: &[Option<JobRun>],
+    claims: &[Claim],
+) -> Result<Vec<Target>, AllocError>
+    ensures { IfOk result (λ targets. targets.items ≡ fold (with_target runs.now claims.now) [] claims.now) }
+{
+    let mut targets = Vec::new(alloc);
+    for claim in claims {
+        add_target(alloc, runs, claims, &mut targets, claim)?;
+    }
+    Ok(targets)
+}
+
+// Adds the file of a claim, if the claim is an accepted job's, and the file is none of the targets so far.
+fn add_target(
+    alloc: Global,
+    runs: &[Option<JobRun>],
+    claims: &[Claim],
+    targets: &mut Vec<Target>,
+    claim: &Claim,
+) -> Result<(), AllocError>
+    ensures { OnOk result (targets.new.items ≡ with_target runs.now claims.now targets.old.items claim.now) }
+{
+    if is_of_accepted(runs.get(claim.job)) && !is_target(claim.path.as_str(), targets.as_slice()) {
+        targets.push(target_of(alloc, claim, claims)?)?;
+    }
+    Ok(())
+}
+
+fn target_of(alloc: Global, claim: &Claim, claims: &[Claim]) -> Result<Target, AllocError>
+    ensures { IfOk result (λ target. target ≡ target_of claims.now claim.now) }
+{
+    Ok(Target {
+        path: Text::copy(alloc, claim.path.as_str())?,
+        job: claim.job,
+        part: claim.part,
+        fate: fate_of_file(alloc, claim.path.as_str(), claims)?,
+    })
+}
+
+// Whether the job of a place is chosen, and accepted.
+fn is_of_accepted(run: Option<&Option<JobRun>>) -> bool
+    ensures { result ≡ is_of_accepted (option_map (λ run. run.now) run.entry) }
+{
+    match run {
+        Some(Some(run)) => run.is_accepted(),
+        Some(None) | None => false,
+    }
+}
+
+fn is_target(path: &str, targets: &[Target]) -> bool
+    ensures { result ≡ is_target path.now targets.now }
+{
+    targets.iter().any(|target| path == target.path.as_str())
+}

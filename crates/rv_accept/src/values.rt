@@ -1,0 +1,77 @@
+//! Values of a list that an accepted run changes.
+
+ghost use Rattle.std.specs.Prelude.{◌≡◌, ◌++◌, OnOk};
+ghost use Rattle.rv_accept.specs.Values.{has_text, is_value_changed, new_value_text, value_key_name};
+
+use crate::basic_string::push_basic_string;
+use rv_jobs::{ExpectedConsole, Job};
+use rv_rows::{Row, RowEnd, has_expected_end, has_expected_exit};
+use rv_text::push_number;
+use std::alloc::{AllocError, Global};
+
+/// A key of a job whose value is taken from its run.
+#[derive(Clone, Copy, Debug, PartialEq, Eq)]
+pub enum ValueKey {
+    Exit,
+    End,
+    Console,
+}
+
+impl ValueKey {
+    /// The keys, in the order in which they are told.
+    pub const ALL: [ValueKey; 3] = [ValueKey::Exit, ValueKey::End, ValueKey::Console];
+
+    /// The key as a list has it.
+    pub fn name(self) -> &'static str
+        ensures { result.now ≡ value_key_name self }
+    {
+        match self {
+            ValueKey::Exit => "expect_exit",
+            ValueKey::End => "expect_end",
+            ValueKey::Console => "expect_console",
+        }
+    }
+}
+
+/// Whether the value of a key is another one where a job is accepted.
+pub fn is_value_changed(key: ValueKey, job: &Job, row: &Row) -> bool
+    ensures { result ≡ is_value_changed key job.now row.now }
+{
+    match key {
+        ValueKey::Exit => !has_expected_exit(job.expect_exit, row.ending),
+        ValueKey::End => !has_expected_end(job.expect_end, row.ending),
+        ValueKey::Console => !has_text(&job.expect_console, row.console.as_slice()),
+    }
+}
+
+// Whether a console is the text that the list has for it, if it has one.
+fn has_text(expected: &Option<ExpectedConsole>, console: &[u8]) -> bool
+    ensures { result ≡ has_text expected.now console.now }
+{
+    match expected {
+        Some(ExpectedConsole::Text(text)) => text.as_slice() == console,
+        Some(ExpectedConsole::File(_)) | None => true,
+    }
+}
+
+/// Appends the value of a key that a run came to, as TOML writes it; nothing where the run has none.
+#[tactic(auto, unfolding(crate::specs::Values::new_value_text))]
+pub fn push_new_value(
+    alloc: Global,
+    out: &mut Vec<u8>,
+    key: ValueKey,
+    row: &Row,
+) -> Result<(), AllocError>
+    ensures { OnOk result (out.new.items ≡ out.old.items ++ new_value_text key row.now.ending row.now.console) }
+{
+    match (key, row.ending) {
+        (ValueKey::Exit, RowEnd::Exit(code)) => push_number(out, code as u64),
+        (ValueKey::End, RowEnd::Fault(kind, ..)) => push_basic_string(
+            alloc,
+            out,
+            kind.name().as_bytes(),
+        ),
+        (ValueKey::Console, _) => push_basic_string(alloc, out, row.console.as_slice()),
+        _ => Ok(()),
+    }
+}

@@ -1,0 +1,13 @@
+use Rattle.rv_accept_text.proofs.LeftRuns.{left_once, left_twice}
+use Rattle.rv_accept_text.proofs.new_list.accept_values.Goals as goal
+
+pub returns-then-is_empty-clause-left : goal.returns-then-is_empty-clause-left
+returns-then-is_empty-clause-left c = left_once c.args.runs.items c.as_slice-2.result.now _ c.in_ok-runs.ensures
+
+pub returns-in-Some-clause-left : goal.returns-in-Some-clause-left
+returns-in-Some-clause-left c = left_once c.args.runs.items c.as_slice-2.result.now _ c.in_ok-runs.ensures
+
+pub returns-clause-left : goal.returns-clause-left
+returns-clause-left c =
+    left_twice c.leave_changed.result c.args.runs.items c.as_slice-2.result.now _ c.in_ok-runs.ensures
+    c.leave_changed.ensures.left

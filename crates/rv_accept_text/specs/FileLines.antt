@@ -1,0 +1,98 @@
+-- The lines of golden files.
+use Rattle.std.specs.Prelude.{◌==◌, ◌++◌, ℕ, List, [], Option, Some, None, codes, if◌then◌else◌, length, option_map, slice_get, unwrap_or}
+use Rattle.std.specs.Fmt.{decimal}
+use Rattle.std.specs.List.{find}
+use Rattle.rv_jobs.specs.declared_job.Job.{Job}
+use Rattle.rv_text.specs.Printable.{printable_text}
+use Rattle.rv_accept.specs.Fates.{gives_another_text, names_file}
+use Rattle.rv_accept.specs.declared.claims.Claim.{Claim}
+use Rattle.rv_accept.specs.declared.claims.Part.{Part}
+use Rattle.rv_accept.specs.declared.claims.Part.TheVariants as part
+use Rattle.rv_accept.specs.declared.fates.Fate.{Fate}
+use Rattle.rv_accept.specs.declared.fates.Fate.TheVariants as fate
+use Rattle.rv_accept.specs.declared.targets.Target.{Target}
+use Rattle.rv_accept_text.specs.ChangedTexts.{byte_change, text_change, word_change}
+use Rattle.rv_accept_text.specs.GoldenFiles.{is_left, new_text}
+use Rattle.rv_accept_text.specs.declared.golden_file.GoldenFile.{GoldenFile}
+use Rattle.rv_accept_text.specs.declared.golden_file.ListFile.{ListFile}
+
+-- the name of the job at a place
+abbrev pub job_name : List Job → ℕ → List ℕ
+job_name jobs place = unwrap_or (option_map (λ job. job.name) (slice_get jobs place)) []
+
+abbrev pub part_text : Part → List ℕ
+part_text part.Console = codes "the console of "
+part_text part.Signature = codes "the signature of "
+
+-- ---- a file that is written
+
+-- which file it is, and what it holds of which job
+abbrev pub file_head : List ℕ → List Job → Target → List ℕ
+file_head sign jobs target = sign ++ printable_text target.path ++ codes ": " ++ part_text target.part
+    ++ printable_text (job_name jobs target.job)
+
+-- what differs between what stands there and what is written
+abbrev pub part_change : Part → List ℕ → List ℕ → List ℕ → List ℕ
+part_change part.Console path old new = text_change (printable_text path) old new
+part_change part.Signature path old new = word_change old new
+
+abbrev pub changed_file_line : List Job → Target → List ℕ → List ℕ → List ℕ
+changed_file_line jobs target old new = file_head (codes "~ ") jobs target ++ part_change target.part target.path old new
+
+abbrev pub bytes_word : ℕ → List ℕ
+bytes_word count = if count == 1 then codes " byte\n" else codes " bytes\n"
+
+abbrev pub made_file_line : List Job → Target → List ℕ → List ℕ
+made_file_line jobs target new = file_head (codes "+ ") jobs target ++ (codes ", " ++ decimal (length new)
+    ++ bytes_word (length new))
+
+abbrev pub written_file_line : List Job → Target → Option (List ℕ) → List ℕ → List ℕ
+written_file_line jobs target None new = made_file_line jobs target new
+written_file_line jobs target (Some old) new = changed_file_line jobs target old new
+
+abbrev pub file_line_of : List Job → GoldenFile → Option (List ℕ) → List ℕ
+file_line_of jobs file None = []
+file_line_of jobs file (Some new) = written_file_line jobs file.target file.old new
+
+-- what changes in a golden file, if it is written
+unfoldable pub file_line : ListFile → GoldenFile → List ℕ
+file_line list file = file_line_of list.jobs.now file (new_text list file)
+
+-- ---- a file that is left
+
+abbrev pub text_or_empty : Option (List ℕ) → List ℕ
+text_or_empty text = unwrap_or text []
+
+-- two jobs that give a file different texts
+abbrev pub two_claims_text : List Job → Claim → Claim → List ℕ
+two_claims_text jobs first other = part_text first.part ++ printable_text (job_name jobs first.job) ++ codes " and "
+    ++ part_text other.part ++ printable_text (job_name jobs other.job) ++ codes " differ"
+    ++ byte_change (text_or_empty first.text) (text_or_empty other.text)
+
+abbrev pub other_claim_text : List Job → Claim → Option Claim → List ℕ
+other_claim_text jobs first None = codes "\n"
+other_claim_text jobs first (Some other) = two_claims_text jobs first other
+
+abbrev pub first_claim_text : List Job → List Claim → List ℕ → Option Claim → List ℕ
+first_claim_text jobs claims path None = codes "\n"
+first_claim_text jobs claims path (Some first) =
+    other_claim_text jobs first (find (gives_another_text path (text_or_empty first.text)) claims)
+
+-- which two jobs do not agree on the file at a path: the first that names it, and the first that gives it another text
+abbrev pub disagreement_text : List Job → List Claim → List ℕ → List ℕ
+disagreement_text jobs claims path = first_claim_text jobs claims path (find (names_file path) claims)
+
+abbrev pub why_file_is_left : List Job → List Claim → List ℕ → Fate → List ℕ
+why_file_is_left jobs claims path (fate.LeftBy job) = printable_text (job_name jobs job) ++ codes " expects it too, and is left\n"
+why_file_is_left jobs claims path (fate.Differ job other) = disagreement_text jobs claims path
+why_file_is_left jobs claims path (fate.Agreed text) = codes "it is the list or an image, which is never written\n"
+why_file_is_left jobs claims path fate.Unclaimed = codes "it is the list or an image, which is never written\n"
+
+abbrev pub left_head : List ℕ → List ℕ
+left_head name = codes "left " ++ printable_text name ++ codes ": "
+
+-- why a golden file is left, if it is
+unfoldable pub left_file_line : ListFile → List Claim → GoldenFile → List ℕ
+left_file_line list claims file = if is_left list file
+    then left_head file.target.path ++ why_file_is_left list.jobs.now claims file.target.path file.target.fate
+    else []

@@ -1,0 +1,49 @@
+-- A golden file, with what stands there now.
+use Rattle.std.specs.Prelude.{◌||◌, Bool, true, false, ℕ, List, [], ◌∷◌, Option, Some, None, if◌then◌else◌, nat_eq}
+use Rattle.std.specs.List.{list_any, starts_with}
+use Rattle.std.specs.Str.{bytes_eq}
+use Rattle.rv_jobs.specs.declared_job.Job.{Job}
+use Rattle.rv_accept.specs.declared.fates.Fate.{Fate}
+use Rattle.rv_accept.specs.declared.fates.Fate.TheVariants as fate
+use Rattle.rv_accept_text.specs.declared.golden_file.GoldenFile.{GoldenFile}
+use Rattle.rv_accept_text.specs.declared.golden_file.ListFile.{ListFile}
+
+-- how an ELF file begins
+abbrev pub elf_magic : List ℕ
+elf_magic = 0x7f ∷ 0x45 ∷ 0x4c ∷ 0x46 ∷ []
+
+abbrev pub is_image_path : List ℕ → List Job → Bool
+is_image_path path jobs = list_any (λ job. bytes_eq path job.image) jobs
+
+-- the bytes are those of the list, or an ELF file's
+abbrev pub is_kept_text : List ℕ → Option (List ℕ) → Bool
+is_kept_text list None = false
+is_kept_text list (Some old) = bytes_eq old list || starts_with nat_eq old elf_magic
+
+-- it is the list or an image, by its path or by its bytes
+abbrev pub is_kept : ListFile → GoldenFile → Bool
+is_kept list file = bytes_eq file.place list.path.now
+    || (is_image_path file.target.path list.jobs.now || is_kept_text list.text.now file.old)
+
+-- a text, where another one stands there or none
+abbrev pub another_text : List ℕ → Option (List ℕ) → Option (List ℕ)
+another_text text None = Some text
+another_text text (Some old) = if bytes_eq text old then None else Some text
+
+abbrev pub new_text_of : Bool → Fate → Option (List ℕ) → Option (List ℕ)
+new_text_of kept (fate.Agreed text) old = if kept then None else another_text text old
+new_text_of kept _ old = None
+
+-- the text that is written, where one is
+abbrev pub new_text : ListFile → GoldenFile → Option (List ℕ)
+new_text list file = new_text_of (is_kept list file) file.target.fate file.old
+
+abbrev pub is_left_of : Bool → Fate → Bool
+is_left_of kept (fate.Agreed text) = kept
+is_left_of kept (fate.LeftBy job) = true
+is_left_of kept (fate.Differ job other) = true
+is_left_of kept fate.Unclaimed = false
+
+-- the file is left
+abbrev pub is_left : ListFile → GoldenFile → Bool
+is_left list file = is_left_of (is_kept list file) file.target.fate

@@ -1,0 +1,108 @@
+-- The lines of jobs: values that are replaced, and why a job is left.
+use Rattle.std.specs.Prelude.{◌&&◌, ◌++◌, ℕ, Bool, List, [], Option, Some, None, codes, if◌then◌else◌, is_some, not, unwrap_or}
+use Rattle.std.specs.Fmt.{decimal}
+use Rattle.rv_jobs.specs.declared_job.ExpectedConsole.{ExpectedConsole}
+use Rattle.rv_jobs.specs.declared_job.ExpectedConsole.TheVariants.{Text, File}
+use Rattle.rv_jobs.specs.declared_job.ExpectedEnd.{ExpectedEnd}
+use Rattle.rv_jobs.specs.declared_job.ExpectedEnd.TheVariants as expected
+use Rattle.rv_jobs.specs.declared_job.Job.{Job}
+use Rattle.rv_machine.specs.Faults.{fault_name}
+use Rattle.rv_rows.specs.Report.{refusal_name}
+use Rattle.rv_rows.specs.Verdict.{has_expected_exit}
+use Rattle.rv_rows.specs.declared_row.Row.{Row}
+use Rattle.rv_rows.specs.declared_row.RowEnd.{RowEnd}
+use Rattle.rv_rows.specs.declared_row.RowEnd.TheVariants as ending
+use Rattle.rv_text.specs.Printable.{printable_text}
+use Rattle.rv_accept.specs.Values.{new_value_text, value_key_name}
+use Rattle.rv_accept.specs.declared.runs.JobRun.{JobRun}
+use Rattle.rv_accept.specs.declared.runs.WhyLeft.{WhyLeft}
+use Rattle.rv_accept.specs.declared.runs.WhyLeft.TheVariants as why
+use Rattle.rv_accept.specs.declared.values.ValueKey.{ValueKey}
+use Rattle.rv_accept.specs.declared.values.ValueKey.TheVariants as key
+use Rattle.rv_accept_text.specs.ChangedTexts.{text_change}
+use Rattle.rv_accept_text.specs.FileLines.{left_head}
+use Rattle.rv_accept_text.specs.declared.new_list.ChangedValue.{ChangedValue}
+
+-- ---- a value that is replaced
+
+-- where it stands, and of which job and key it is
+abbrev pub value_head : List ℕ → ChangedValue → Job → List ℕ
+value_head path value job = codes "~ " ++ printable_text path ++ codes ":" ++ decimal value.line ++ codes ": "
+    ++ printable_text job.name ++ codes ": " ++ value_key_name value.key
+
+abbrev pub exit_code : RowEnd → ℕ
+exit_code (ending.Exit code) = code
+exit_code _ = 0
+
+abbrev pub exit_change : Option ℕ → RowEnd → List ℕ
+exit_change expected end = codes " " ++ decimal (unwrap_or expected 0) ++ codes " -> " ++ decimal (exit_code end) ++ codes "\n"
+
+abbrev pub expected_end_word : Option ExpectedEnd → List ℕ
+expected_end_word (Some (expected.Fault kind)) = fault_name kind
+expected_end_word (Some expected.Budget) = codes "budget"
+expected_end_word None = []
+
+abbrev pub fault_word : RowEnd → List ℕ
+fault_word (ending.Fault kind pc value) = fault_name kind
+fault_word _ = []
+
+abbrev pub end_change : Option ExpectedEnd → RowEnd → List ℕ
+end_change how end = codes " " ++ expected_end_word how ++ codes " -> " ++ fault_word end ++ codes "\n"
+
+abbrev pub text_of_list : Option ExpectedConsole → List ℕ
+text_of_list (Some (Text text)) = text
+text_of_list _ = []
+
+abbrev pub value_change : ValueKey → Job → Row → List ℕ
+value_change key.Exit job row = exit_change job.expect_exit row.ending
+value_change key.End job row = end_change job.expect_end row.ending
+value_change key.Console job row = text_change (codes "the list's text") (text_of_list job.expect_console) row.console
+
+-- which value of a list is replaced, and how it differs
+abbrev pub value_line : List ℕ → ChangedValue → Job → Row → List ℕ
+value_line path value job row = value_head path value job ++ value_change value.key job row
+
+-- ---- a job that is left
+
+-- in which way a run ended, and with what
+abbrev pub met_end_text : RowEnd → List ℕ
+met_end_text (ending.Exit code) = codes "exit " ++ decimal code
+met_end_text (ending.Fault kind pc value) = codes "fault " ++ fault_name kind
+met_end_text ending.Budget = codes "budget"
+met_end_text (ending.Refused refusal) = codes "refused " ++ refusal_name refusal
+
+-- the end that is expected beside an exit code
+abbrev pub wanted_end_text : Option ExpectedEnd → List ℕ
+wanted_end_text (Some expected.Budget) = codes "budget"
+wanted_end_text (Some (expected.Fault kind)) = codes "fault " ++ fault_name kind
+wanted_end_text None = codes "exit 0"
+
+-- the first end that is expected and was not met: exit 0 where a job says nothing of its end
+abbrev pub wanted_text : Option ℕ → Option ExpectedEnd → RowEnd → List ℕ
+wanted_text None how end = wanted_end_text how
+wanted_text (Some code) how end =
+    if has_expected_exit (Some code) end then wanted_end_text how else codes "exit " ++ decimal code
+
+abbrev pub other_end_text : Job → RowEnd → List ℕ
+other_end_text job (ending.Refused refusal) = met_end_text (ending.Refused refusal)
+other_end_text job end = met_end_text end ++ (codes ", expected " ++ wanted_text job.expect_exit job.expect_end end)
+
+-- a key with the value that the run came to
+abbrev pub new_entry_text : ValueKey → Row → List ℕ
+new_entry_text key row = value_key_name key ++ codes " = " ++ new_value_text key row.ending row.console
+
+abbrev pub why_left_text : WhyLeft → Job → Row → List ℕ
+why_left_text why.End job row = other_end_text job row.ending
+why_left_text why.NoText job row = codes "prints bytes that are no UTF-8, so name a file by expect_console_file"
+why_left_text (why.NoPlace key) job row = value_key_name key ++ codes " stands in no table of its own: "
+    ++ new_entry_text key row
+why_left_text (why.Made key) job row = codes "the list is made by mklist, from files beside the test: " ++ new_entry_text key row
+
+abbrev pub left_line_of : Job → Row → Option WhyLeft → List ℕ
+left_line_of job row None = []
+left_line_of job row (Some left) = left_head job.name ++ why_left_text left job row ++ codes "\n"
+
+-- why a chosen job is left, if it is
+abbrev pub left_job_line : Job → Option JobRun → List ℕ
+left_job_line job None = []
+left_job_line job (Some run) = if run.is_chosen then left_line_of job run.row run.left else []

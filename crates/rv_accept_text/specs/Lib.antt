@@ -1,0 +1,6 @@
+pub mod GoldenFiles
+pub mod ChangedTexts
+pub mod FileLines
+pub mod JobLines
+pub mod NewLists
+pub mod Told

@@ -1,0 +1,68 @@
+-- All that a call of `accept` tells.
+use Rattle.std.specs.Prelude.{◌==◌, ◌+◌, ◌&&◌, ◌++◌, ℕ, Bool, true, false, List, [], ◌∷◌, Option, Some, None, codes, if◌then◌else◌, is_some, slice_get}
+use Rattle.std.specs.Fmt.{decimal}
+use Rattle.std.specs.List.{count_by, flat_map}
+use Rattle.rv_jobs.specs.declared_job.Job.{Job}
+use Rattle.rv_accept.specs.declared.runs.JobRun.{JobRun}
+use Rattle.rv_accept_text.specs.FileLines.{file_line, left_file_line}
+use Rattle.rv_accept_text.specs.GoldenFiles.{is_left, new_text}
+use Rattle.rv_accept_text.specs.JobLines.{left_job_line, value_line}
+use Rattle.rv_accept_text.specs.declared.accepting.Accepting.{Accepting}
+use Rattle.rv_accept_text.specs.declared.accepting.Writing.{Writing}
+use Rattle.rv_accept_text.specs.declared.accepting.Writing.TheVariants as writing
+use Rattle.rv_accept_text.specs.declared.golden_file.GoldenFile.{GoldenFile}
+use Rattle.rv_accept_text.specs.declared.golden_file.ListFile.{ListFile}
+use Rattle.rv_accept_text.specs.declared.new_list.ChangedValue.{ChangedValue}
+
+-- ---- the lines
+
+abbrev pub value_line_of : List ℕ → ChangedValue → Option Job → Option (Option JobRun) → List ℕ
+value_line_of path value (Some job) (Some (Some run)) = value_line path value job run.row
+value_line_of path value _ _ = []
+
+abbrev pub value_line_in : Accepting → ChangedValue → List ℕ
+value_line_in told value = value_line_of told.list.path.now value (slice_get told.list.jobs.now value.job)
+    (slice_get told.runs.now value.job)
+
+unfoldable pub left_job_lines : List Job → List (Option JobRun) → List ℕ
+left_job_lines [] runs = []
+left_job_lines (job ∷ jobs) [] = []
+left_job_lines (job ∷ jobs) (run ∷ runs) = left_job_line job run ++ left_job_lines jobs runs
+
+-- changes first, of golden files and then of the list; and then what is left, jobs and then golden files
+abbrev pub told_lines : Accepting → List ℕ
+told_lines told = flat_map (file_line told.list) told.files.now
+    ++ flat_map (value_line_in told) told.new.now.values.items
+    ++ left_job_lines told.list.jobs.now told.runs.now
+    ++ flat_map (left_file_line told.list told.claims.now) told.files.now
+
+-- ---- the last line
+
+abbrev pub is_changed : ListFile → GoldenFile → Bool
+is_changed list file = is_some (new_text list file)
+
+abbrev pub one_if : Bool → ℕ
+one_if true = 1
+one_if false = 0
+
+-- how many files change, the list among them
+abbrev pub changed_count : Accepting → ℕ
+changed_count told = count_by (is_changed told.list) told.files.now + one_if (is_some told.new.now.text)
+
+abbrev pub is_left_job : Option JobRun → Bool
+is_left_job None = false
+is_left_job (Some run) = run.is_chosen && is_some run.left
+
+-- how many chosen jobs are left, and how many golden files
+abbrev pub left_count : Accepting → ℕ
+left_count told = count_by is_left_job told.runs.now + count_by (is_left told.list) told.files.now
+
+abbrev pub files_word : ℕ → List ℕ
+files_word count = if count == 1 then codes " file" else codes " files"
+
+abbrev pub writing_word : Writing → List ℕ
+writing_word writing.Done = codes " written, "
+writing_word writing.Asked = codes " would be written, "
+
+abbrev pub count_line : Writing → ℕ → ℕ → List ℕ
+count_line how changed left = decimal changed ++ files_word changed ++ writing_word how ++ decimal left ++ codes " left\n"

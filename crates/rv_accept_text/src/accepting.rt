@@ -1,0 +1,213 @@
+//! All that a call of `accept` tells.
+
+ghost use Rattle.std.specs.Prelude.{◌≡◌, ◌≤◌, ◌<◌, ◌+◌, ◌^◌, ◌++◌, OnOk, is_some, length, min, option_map};
+ghost use Rattle.std.specs.List.{count_by, flat_map};
+ghost use Rattle.rv_accept_text.specs.FileLines.{file_line, left_file_line};
+ghost use Rattle.rv_accept_text.specs.GoldenFiles.{is_left};
+ghost use Rattle.rv_accept_text.specs.Told.{changed_count, count_line, files_word, is_changed, is_left_job, left_count, left_job_lines};
+ghost use Rattle.rv_accept_text.specs.Told.{one_if, told_lines, value_line_in, value_line_of, writing_word};
+
+use crate::file_lines::{push_file_line, push_left_file_line};
+use crate::golden_file::{GoldenFile, ListFile};
+use crate::job_lines::{push_left_job_line, push_value_line};
+use crate::new_list::{ChangedValue, NewList};
+use rv_accept::{Claim, JobRun};
+use rv_jobs::Job;
+use rv_text::{Span, push_spans};
+use std::alloc::{AllocError, Global};
+
+/// What is accepted, and what is left.
+#[derive(Clone, Copy)]
+pub struct Accepting<'a> {
+    pub list: ListFile<'a>,
+    pub runs: &'a [Option<JobRun>],
+    pub claims: &'a [Claim],
+    pub files: &'a [GoldenFile],
+    pub new: &'a NewList,
+}
+
+/// Whether files are written.
+#[derive(Clone, Copy, Debug, PartialEq, Eq)]
+pub enum Writing {
+    /// Each file that changes is.
+    Done,
+    /// None is.
+    Asked,
+}
+
+impl<'a> Accepting<'a> {
+    /// Appends the lines of all changes, of golden files first, and then of what is left, jobs first.
+    pub fn push_lines(&self, alloc: Global, out: &mut Vec<u8>) -> Result<(), AllocError>
+        ensures { OnOk result (out.new.items ≡ out.old.items ++ told_lines self.now) }
+    {
+        self.push_file_lines(out)?;
+        self.push_value_lines(out)?;
+        push_left_job_lines(alloc, out, self.list.jobs, self.runs)?;
+        self.push_left_file_lines(out)
+    }
+
+    fn push_file_lines(&self, out: &mut Vec<u8>) -> Result<(), AllocError>
+        ensures { OnOk result (out.new.items
+            ≡ out.old.items ++ flat_map (file_line self.now.list) self.now.files.now) }
+    {
+        for file in self.files {
+            push_file_line(out, &self.list, file)?;
+        }
+        Ok(())
+    }
+
+    fn push_value_lines(&self, out: &mut Vec<u8>) -> Result<(), AllocError>
+        ensures { OnOk result (out.new.items
+            ≡ out.old.items ++ flat_map (value_line_in self.now) self.now.new.now.values.items) }
+    {
+        for value in &self.new.values {
+            self.push_value_line(out, value)?;
+        }
+        Ok(())
+    }
+
+    fn push_value_line(&self, out: &mut Vec<u8>, value: &ChangedValue) -> Result<(), AllocError>
+        ensures { OnOk result (out.new.items ≡ out.old.items ++ value_line_in self.now value.now) }
+    {
+        push_value_line_of(
+            out,
+            self.list.path,
+            value,
+            self.list.jobs.get(value.job),
+            self.runs.get(value.job),
+        )
+    }
+
+    fn push_left_file_lines(&self, out: &mut Vec<u8>) -> Result<(), AllocError>
+        ensures { OnOk result (out.new.items ≡ out.old.items
+            ++ flat_map (left_file_line self.now.list self.now.claims.now) self.now.files.now) }
+    {
+        for file in self.files {
+            push_left_file_line(out, &self.list, self.claims, file)?;
+        }
+        Ok(())
+    }
+
+    /// How many files change, the list among them.
+    pub fn changed_count(&self) -> usize
+        ensures { result ≡ changed_count self.now }
+    {
+        let mut count = 0;
+        for file in self.files {
+            if file.new_text(&self.list).is_some() {
+                count += 1;
+            }
+        }
+        count + self.new.text.is_some() as usize
+    }
+
+    /// How many chosen jobs and how many files are left.
+    pub fn left_count(&self) -> usize
+        ensures { result ≡ left_count self.now }
+    {
+        left_job_count(self.runs) + self.left_file_count()
+    }
+
+    fn left_file_count(&self) -> usize
+        ensures value { result ≡ count_by (is_left self.now.list) self.now.files.now }
+        ensures within { result ≤ length self.now.files.now }
+    {
+        let mut count = 0;
+        for file in self.files {
+            if file.is_left(&self.list) {
+                count += 1;
+            }
+        }
+        count
+    }
+
+    /// Appends how many files are written, or would be, and how much is left.
+    pub fn push_count_line(&self, out: &mut Vec<u8>, writing: Writing) -> Result<(), AllocError>
+        ensures { OnOk result (out.new.items
+            ≡ out.old.items ++ count_line writing (changed_count self.now) (left_count self.now)) }
+    {
+        let count = self.changed_count();
+        push_spans(
+            out,
+            &[
+                Span::Number(count as u64),
+                Span::Text(files_word(count)),
+                Span::Text(writing_word(writing)),
+                Span::Number(self.left_count() as u64),
+                Span::Text(" left\n"),
+            ],
+        )
+    }
+}
+
+fn files_word(count: usize) -> &'static str
+    ensures { result.now ≡ files_word count }
+{
+    if count == 1 { " file" } else { " files" }
+}
+
+fn writing_word(writing: Writing) -> &'static str
+    ensures { result.now ≡ writing_word writing }
+{
+    match writing {
+        Writing::Done => " written, ",
+        Writing::Asked => " would be written, ",
+    }
+}
+
+fn push_value_line_of(
+    out: &mut Vec<u8>,
+    path: &str,
+    value: &ChangedValue,
+    job: Option<&Job>,
+    run: Option<&Option<JobRun>>,
+) -> Result<(), AllocError>
+    ensures { OnOk result (out.new.items ≡ out.old.items ++ value_line_of path.now value.now
+        (option_map (λ job. job.now) job.entry) (option_map (λ run. run.now) run.entry)) }
+{
+    match (job, run) {
+        (Some(job), Some(Some(run))) => push_value_line(out, path, value, job, &run.row),
+        _ => Ok(()),
+    }
+}
+
+#[tactic(auto, unfolding(crate::specs::Told::left_job_lines))]
+fn push_left_job_lines(
+    alloc: Global,
+    out: &mut Vec<u8>,
+    jobs: &[Job],
+    runs: &[Option<JobRun>],
+) -> Result<(), AllocError>
+    ensures { OnOk result (out.new.items ≡ out.old.items ++ left_job_lines jobs.now runs.now) }
+{
+    match (jobs, runs) {
+        ([job, jobs @ ..], [run, runs @ ..]) => {
+            push_left_job_line(alloc, out, job, run)?;
+            push_left_job_lines(alloc, out, jobs, runs)
+        }
+        ([], _) => Ok(()),
+        ([_job, _jobs @ ..], []) => Ok(()),
+    }
+}
+
+fn left_job_count(runs: &[Option<JobRun>]) -> usize
+    ensures value { result ≡ count_by is_left_job runs.now }
+    ensures within { result ≤ length runs.now }
+{
+    let mut count = 0;
+    for run in runs {
+        if is_left_job(run) {
+            count += 1;
+        }
+    }
+    count
+}
+
+fn is_left_job(run: &Option<JobRun>) -> bool
+    ensures { result ≡ is_left_job run.now }
+{
+    match run {
+        Some(run) => run.is_chosen && run.left.is_some(),
+        None => false,
+    }
+}

@@ -1,0 +1,123 @@
+//! What differs first between a text and the one that takes its place.
+
+ghost use Rattle.std.specs.Prelude.{◌≡◌, ◌++◌, OnOk, nat_eq};
+ghost use Rattle.std.specs.List.{common_prefix_len};
+ghost use Rattle.std.specs.Str.{is_utf8};
+ghost use Rattle.rv_text.specs.Spans.{span_text};
+ghost use Rattle.rv_accept_text.specs.ChangedTexts.{byte_change, digits_at, text_change, values_from, word_change, word_change_at};
+
+use rv_job_text::push_console_lines;
+use rv_rows::LINE;
+use rv_text::{Span, push_spans, push_text, tail_from};
+use std::alloc::AllocError;
+
+/// Appends what differs first, and ends the line: by lines where both texts are UTF-8, else by bytes. The old text has a name.
+#[tactic(auto, unfolding(crate::specs::ChangedTexts::text_change))]
+pub(crate) fn push_text_change(
+    out: &mut Vec<u8>,
+    source: Span<'_>,
+    old: &[u8],
+    new: &[u8],
+) -> Result<(), AllocError>
+    ensures { OnOk result (out.new.items ≡ out.old.items ++ text_change (span_text source.entry) old.now new.now) }
+{
+    if is_utf8(old) && is_utf8(new) {
+        push_text(out, "\n")?;
+        push_console_lines(out, source, new, old)
+    } else {
+        push_byte_change(out, old, new)
+    }
+}
+
+fn is_utf8(text: &[u8]) -> bool
+    ensures { result ≡ is_utf8 text.now }
+{
+    match str::from_utf8(text) {
+        Ok(_) => true,
+        Err(_) => false,
+    }
+}
+
+/// Appends from where on two texts differ, and ends the line.
+#[tactic(auto, unfolding(crate::specs::ChangedTexts::byte_change))]
+pub(crate) fn push_byte_change(out: &mut Vec<u8>, old: &[u8], new: &[u8]) -> Result<(), AllocError>
+    ensures { OnOk result (out.new.items ≡ out.old.items ++ byte_change old.now new.now) }
+{
+    push_values_from(out, equal_len(old, new), old, new)
+}
+
+fn push_values_from<'x>(
+    out: &mut Vec<u8>,
+    place: usize,
+    old: &'x [u8],
+    new: &'x [u8],
+) -> Result<(), AllocError>
+    ensures { OnOk result (out.new.items ≡ out.old.items ++ values_from place old.now new.now) }
+{
+    push_spans(
+        out,
+        &[
+            Span::Text(": byte "),
+            Span::Number(place as u64),
+            Span::Text(": \""),
+            Span::Value(tail_from(old, place)),
+            Span::Text("\" -> \""),
+            Span::Value(tail_from(new, place)),
+            Span::Text("\"\n"),
+        ],
+    )
+}
+
+/// Appends which word of a signature is another one first, and ends the line.
+#[tactic(auto, unfolding(crate::specs::ChangedTexts::word_change))]
+pub(crate) fn push_word_change(out: &mut Vec<u8>, old: &[u8], new: &[u8]) -> Result<(), AllocError>
+    ensures { OnOk result (out.new.items ≡ out.old.items ++ word_change old.now new.now) }
+{
+    push_word_change_at(out, equal_len(old, new), old, new)
+}
+
+// Appends the words of two signatures whose first bytes are equal, so many.
+fn push_word_change_at<'x>(
+    out: &mut Vec<u8>,
+    len: usize,
+    old: &'x [u8],
+    new: &'x [u8],
+) -> Result<(), AllocError>
+    ensures { OnOk result (out.new.items ≡ out.old.items ++ word_change_at len old.now new.now) }
+{
+    let place = len - len % LINE;
+    push_spans(
+        out,
+        &[
+            Span::Text(": word "),
+            Span::Number((len / LINE) as u64),
+            Span::Text(": "),
+            Span::Shown(digits_at(tail_from(old, place))),
+            Span::Text(" -> "),
+            Span::Shown(digits_at(tail_from(new, place))),
+            Span::Text("\n"),
+        ],
+    )
+}
+
+// The digits of the word that a text begins with, or `none` where it has no more.
+fn digits_at(rest: &[u8]) -> &[u8]
+    ensures { result.now ≡ digits_at rest.now }
+{
+    if rest.is_empty() {
+        b"none"
+    } else {
+        &rest[..rest.len().min(LINE - 1)]
+    }
+}
+
+// How many bytes in front are equal.
+fn equal_len(text: &[u8], other: &[u8]) -> usize
+    ensures { result ≡ common_prefix_len nat_eq text.now other.now }
+{
+    let mut len = 0;
+    while len < text.len() && len < other.len() && text[len] == other[len] {
+        len += 1;
+    }
+    len
+}

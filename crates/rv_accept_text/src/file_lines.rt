@@ -1,0 +1,248 @@
+//! The lines of golden files.
+
+ghost use Rattle.std.specs.Prelude.{◌≡◌, ◌++◌, OnOk, option_map};
+ghost use Rattle.rv_accept_text.specs.FileLines.{bytes_word, changed_file_line, disagreement_text, file_head, file_line, left_file_line, left_head};
+ghost use Rattle.rv_accept_text.specs.FileLines.{made_file_line, other_claim_text, part_change, part_text, text_or_empty, two_claims_text};
+ghost use Rattle.rv_accept_text.specs.FileLines.{why_file_is_left, written_file_line};
+
+use crate::changed_text::{push_byte_change, push_text_change, push_word_change};
+use crate::golden_file::{GoldenFile, ListFile};
+use crate::job_lines::job_name;
+use rv_accept::{Claim, Fate, Part, Target, first_of_another_text, first_on_file};
+use rv_jobs::{Bytes, Job};
+use rv_text::{Span, push_spans, push_text};
+use std::alloc::AllocError;
+
+/// Appends what changes in a golden file, if it is written.
+#[tactic(auto, unfolding(crate::specs::FileLines::file_line))]
+pub(crate) fn push_file_line(
+    out: &mut Vec<u8>,
+    list: &ListFile<'_>,
+    file: &GoldenFile,
+) -> Result<(), AllocError>
+    ensures { OnOk result (out.new.items ≡ out.old.items ++ file_line list.now file.now) }
+{
+    match file.new_text(list) {
+        Some(text) => push_written_file_line(out, list.jobs, file, text),
+        None => Ok(()),
+    }
+}
+
+fn push_written_file_line(
+    out: &mut Vec<u8>,
+    jobs: &[Job],
+    file: &GoldenFile,
+    text: &[u8],
+) -> Result<(), AllocError>
+    ensures { OnOk result (out.new.items ≡ out.old.items ++ written_file_line jobs.now file.now.target file.now.old text.now) }
+{
+    match &file.old {
+        Some(old) => push_changed_file_line(out, jobs, &file.target, old.as_slice(), text),
+        None => push_made_file_line(out, jobs, &file.target, text),
+    }
+}
+
+fn push_changed_file_line(
+    out: &mut Vec<u8>,
+    jobs: &[Job],
+    target: &Target,
+    old: &[u8],
+    text: &[u8],
+) -> Result<(), AllocError>
+    ensures { OnOk result (out.new.items ≡ out.old.items ++ changed_file_line jobs.now target.now old.now text.now) }
+{
+    push_file_head(out, "~ ", jobs, target)?;
+    push_part_change(out, target.part, target.path.as_str(), old, text)
+}
+
+fn push_part_change(
+    out: &mut Vec<u8>,
+    part: Part,
+    path: &str,
+    old: &[u8],
+    text: &[u8],
+) -> Result<(), AllocError>
+    ensures { OnOk result (out.new.items ≡ out.old.items ++ part_change part path.now old.now text.now) }
+{
+    match part {
+        Part::Console => push_text_change(out, Span::Shown(path.as_bytes()), old, text),
+        Part::Signature => push_word_change(out, old, text),
+    }
+}
+
+fn push_made_file_line(
+    out: &mut Vec<u8>,
+    jobs: &[Job],
+    target: &Target,
+    text: &[u8],
+) -> Result<(), AllocError>
+    ensures { OnOk result (out.new.items ≡ out.old.items ++ made_file_line jobs.now target.now text.now) }
+{
+    push_file_head(out, "+ ", jobs, target)?;
+    push_spans(
+        out,
+        &[
+            Span::Text(", "),
+            Span::Number(text.len() as u64),
+            Span::Text(bytes_word(text.len())),
+        ],
+    )
+}
+
+fn bytes_word(count: usize) -> &'static str
+    ensures { result.now ≡ bytes_word count }
+{
+    if count == 1 { " byte\n" } else { " bytes\n" }
+}
+
+// Appends which file it is, and what it holds of which job.
+fn push_file_head<'x>(
+    out: &mut Vec<u8>,
+    sign: &'static str,
+    jobs: &'x [Job],
+    target: &'x Target,
+) -> Result<(), AllocError>
+    ensures { OnOk result (out.new.items ≡ out.old.items ++ file_head sign.now jobs.now target.now) }
+{
+    push_spans(
+        out,
+        &[
+            Span::Text(sign),
+            Span::Shown(target.path.as_str().as_bytes()),
+            Span::Text(": "),
+            Span::Text(part_text(target.part)),
+            Span::Shown(job_name(jobs, target.job).as_bytes()),
+        ],
+    )
+}
+
+fn part_text(part: Part) -> &'static str
+    ensures { result.now ≡ part_text part }
+{
+    match part {
+        Part::Console => "the console of ",
+        Part::Signature => "the signature of ",
+    }
+}
+
+/// Appends why a golden file is left, if it is.
+#[tactic(auto, unfolding(crate::specs::FileLines::left_file_line))]
+pub(crate) fn push_left_file_line(
+    out: &mut Vec<u8>,
+    list: &ListFile<'_>,
+    claims: &[Claim],
+    file: &GoldenFile,
+) -> Result<(), AllocError>
+    ensures { OnOk result (out.new.items ≡ out.old.items ++ left_file_line list.now claims.now file.now) }
+{
+    if !file.is_left(list) {
+        return Ok(());
+    }
+    push_left_head(out, file.target.path.as_str())?;
+    push_why_file_is_left(out, list.jobs, claims, &file.target)
+}
+
+/// Appends what is left.
+pub(crate) fn push_left_head(out: &mut Vec<u8>, name: &str) -> Result<(), AllocError>
+    ensures { OnOk result (out.new.items ≡ out.old.items ++ left_head name.now) }
+{
+    push_spans(
+        out,
+        &[
+            Span::Text("left "),
+            Span::Shown(name.as_bytes()),
+            Span::Text(": "),
+        ],
+    )
+}
+
+fn push_why_file_is_left(
+    out: &mut Vec<u8>,
+    jobs: &[Job],
+    claims: &[Claim],
+    target: &Target,
+) -> Result<(), AllocError>
+    ensures { OnOk result (out.new.items
+        ≡ out.old.items ++ why_file_is_left jobs.now claims.now target.now.path target.now.fate) }
+{
+    match &target.fate {
+        Fate::LeftBy(job) => push_spans(
+            out,
+            &[
+                Span::Shown(job_name(jobs, *job).as_bytes()),
+                Span::Text(" expects it too, and is left\n"),
+            ],
+        ),
+        Fate::Differ(..) => push_disagreement(out, jobs, claims, target.path.as_str()),
+        Fate::Agreed(_) | Fate::Unclaimed => push_text(
+            out,
+            "it is the list or an image, which is never written\n",
+        ),
+    }
+}
+
+// Appends which two jobs do not agree on the file at a path.
+fn push_disagreement(
+    out: &mut Vec<u8>,
+    jobs: &[Job],
+    claims: &[Claim],
+    path: &str,
+) -> Result<(), AllocError>
+    ensures { OnOk result (out.new.items ≡ out.old.items ++ disagreement_text jobs.now claims.now path.now) }
+{
+    match first_on_file(path, claims) {
+        Some(first) => push_other_claim(
+            out,
+            jobs,
+            first,
+            first_of_another_text(path, text_or_empty(&first.text), claims),
+        ),
+        None => push_text(out, "\n"),
+    }
+}
+
+fn push_other_claim(
+    out: &mut Vec<u8>,
+    jobs: &[Job],
+    first: &Claim,
+    other: Option<&Claim>,
+) -> Result<(), AllocError>
+    ensures { OnOk result (out.new.items
+        ≡ out.old.items ++ other_claim_text jobs.now first.now (option_map (λ claim. claim.now) other.entry)) }
+{
+    match other {
+        Some(other) => push_two_claims(out, jobs, first, other),
+        None => push_text(out, "\n"),
+    }
+}
+
+fn push_two_claims(
+    out: &mut Vec<u8>,
+    jobs: &[Job],
+    first: &Claim,
+    other: &Claim,
+) -> Result<(), AllocError>
+    ensures { OnOk result (out.new.items ≡ out.old.items ++ two_claims_text jobs.now first.now other.now) }
+{
+    push_spans(
+        out,
+        &[
+            Span::Text(part_text(first.part)),
+            Span::Shown(job_name(jobs, first.job).as_bytes()),
+            Span::Text(" and "),
+            Span::Text(part_text(other.part)),
+            Span::Shown(job_name(jobs, other.job).as_bytes()),
+            Span::Text(" differ"),
+        ],
+    )?;
+    push_byte_change(out, text_or_empty(&first.text), text_or_empty(&other.text))
+}
+
+fn text_or_empty(text: &Option<Bytes>) -> &[u8]
+    ensures { result.now ≡ text_or_empty text.now }
+{
+    match text {
+        Some(text) => text.as_slice(),
+        None => &[],
+    }
+}

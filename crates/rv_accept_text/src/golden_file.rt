@@ -1,0 +1,82 @@
+//! A golden file, with what stands there now.
+
+ghost use Rattle.std.specs.Prelude.{◌≡◌, option_map};
+ghost use Rattle.rv_accept_text.specs.GoldenFiles.{another_text, is_image_path, is_kept, is_kept_text, is_left, new_text};
+
+use rv_accept::{Fate, Target};
+use rv_jobs::{Bytes, Job, Text};
+
+/// The file of a list, and the jobs that it reads as.
+#[derive(Clone, Copy)]
+pub struct ListFile<'a> {
+    pub path: &'a str,
+    pub text: &'a [u8],
+    pub jobs: &'a [Job],
+}
+
+/// A golden file that an accepted job names.
+#[derive(Drop)]
+pub struct GoldenFile {
+    pub target: Target,
+    /// Where its path leads.
+    pub place: Text,
+    /// What stands there; nothing where the file is missing.
+    pub old: Option<Bytes>,
+}
+
+impl GoldenFile {
+    /// The text that is written, where one is: that of all jobs which name the file, if another one stands there, or none.
+    pub fn new_text(&self, list: &ListFile<'_>) -> Option<&[u8]>
+        ensures { option_map (λ text. text.now) result ≡ new_text list.now self.now }
+    {
+        match &self.target.fate {
+            Fate::Agreed(text) if !self.is_kept(list) => another_text(text.as_slice(), &self.old),
+            _ => None,
+        }
+    }
+
+    /// Whether it is left: it is the list or an image, or jobs that name it are left or do not agree.
+    pub fn is_left(&self, list: &ListFile<'_>) -> bool
+        ensures { result ≡ is_left list.now self.now }
+    {
+        match &self.target.fate {
+            Fate::Agreed(_) => self.is_kept(list),
+            Fate::LeftBy(_) | Fate::Differ(..) => true,
+            Fate::Unclaimed => false,
+        }
+    }
+
+    /// Whether it is the list or an image, by its path or by its bytes.
+    pub fn is_kept(&self, list: &ListFile<'_>) -> bool
+        ensures { result ≡ is_kept list.now self.now }
+    {
+        self.place.as_str() == list.path
+            || is_image_path(self.target.path.as_str(), list.jobs)
+            || is_kept_text(list.text, &self.old)
+    }
+}
+
+fn another_text<'a>(text: &'a [u8], old: &Option<Bytes>) -> Option<&'a [u8]>
+    ensures { option_map (λ text. text.now) result ≡ another_text text.now old.now }
+{
+    match old {
+        Some(old) if text == old.as_slice() => None,
+        _ => Some(text),
+    }
+}
+
+fn is_image_path(path: &str, jobs: &[Job]) -> bool
+    ensures { result ≡ is_image_path path.now jobs.now }
+{
+    jobs.iter().any(|job| path == job.image.as_str())
+}
+
+// Whether the bytes are those of the list, or an ELF file's.
+fn is_kept_text(list: &[u8], old: &Option<Bytes>) -> bool
+    ensures { result ≡ is_kept_text list.now old.now }
+{
+    match old {
+        Some(old) => old.as_slice() == list || old.as_slice().starts_with(b"\x7fELF"),
+        None => false,
+    }
+}

@@ -1,0 +1,297 @@
+//! The lines of jobs: values that are replaced, and why a job is left.
+
+ghost use Rattle.std.specs.Prelude.{◌≡◌, ◌++◌, OnOk, option_map, slice_get, unwrap_or};
+ghost use Rattle.rv_accept_text.specs.FileLines.{job_name};
+ghost use Rattle.rv_accept_text.specs.JobLines.{end_change, exit_change, exit_code, expected_end_word, fault_word, left_job_line, left_line_of};
+ghost use Rattle.rv_accept_text.specs.JobLines.{met_end_text, new_entry_text, other_end_text, text_of_list, value_change, value_head, value_line};
+ghost use Rattle.rv_accept_text.specs.JobLines.{wanted_end_text, wanted_text, why_left_text};
+
+use crate::changed_text::push_text_change;
+use crate::file_lines::push_left_head;
+use crate::new_list::ChangedValue;
+use rv_accept::{JobRun, ValueKey, WhyLeft, push_new_value};
+use rv_jobs::{ExpectedConsole, ExpectedEnd, Job};
+use rv_rows::{Row, RowEnd, has_expected_exit};
+use rv_text::{Span, push_spans, push_text};
+use std::alloc::{AllocError, Global};
+
+/// The name of the job at a place.
+pub(crate) fn job_name(jobs: &[Job], place: usize) -> &str
+    ensures { result.now ≡ job_name jobs.now place }
+{
+    match jobs.get(place) {
+        Some(job) => job.name.as_str(),
+        None => "",
+    }
+}
+
+/// Appends which value of the list at a path is replaced, and how it differs.
+pub(crate) fn push_value_line(
+    out: &mut Vec<u8>,
+    path: &str,
+    value: &ChangedValue,
+    job: &Job,
+    row: &Row,
+) -> Result<(), AllocError>
+    ensures { OnOk result (out.new.items ≡ out.old.items ++ value_line path.now value.now job.now row.now) }
+{
+    push_value_head(out, path, value, job)?;
+    push_value_change(out, value.key, job, row)
+}
+
+fn push_value_head<'x>(
+    out: &mut Vec<u8>,
+    path: &'x str,
+    value: &ChangedValue,
+    job: &'x Job,
+) -> Result<(), AllocError>
+    ensures { OnOk result (out.new.items ≡ out.old.items ++ value_head path.now value.now job.now) }
+{
+    push_spans(
+        out,
+        &[
+            Span::Text("~ "),
+            Span::Shown(path.as_bytes()),
+            Span::Text(":"),
+            Span::Number(value.line as u64),
+            Span::Text(": "),
+            Span::Shown(job.name.as_str().as_bytes()),
+            Span::Text(": "),
+            Span::Text(value.key.name()),
+        ],
+    )
+}
+
+fn push_value_change(
+    out: &mut Vec<u8>,
+    key: ValueKey,
+    job: &Job,
+    row: &Row,
+) -> Result<(), AllocError>
+    ensures { OnOk result (out.new.items ≡ out.old.items ++ value_change key job.now row.now) }
+{
+    match key {
+        ValueKey::Exit => push_exit_change(out, job.expect_exit, row.ending),
+        ValueKey::End => push_end_change(out, job.expect_end, row.ending),
+        ValueKey::Console => push_text_change(
+            out,
+            Span::Text("the list's text"),
+            text_of_list(&job.expect_console),
+            row.console.as_slice(),
+        ),
+    }
+}
+
+fn push_exit_change(
+    out: &mut Vec<u8>,
+    expected: Option<u32>,
+    ending: RowEnd,
+) -> Result<(), AllocError>
+    ensures { OnOk result (out.new.items ≡ out.old.items ++ exit_change expected ending) }
+{
+    push_spans(
+        out,
+        &[
+            Span::Text(" "),
+            Span::Number(expected.unwrap_or(0) as u64),
+            Span::Text(" -> "),
+            Span::Number(exit_code(ending) as u64),
+            Span::Text("\n"),
+        ],
+    )
+}
+
+fn exit_code(ending: RowEnd) -> u32
+    ensures { result ≡ exit_code ending }
+{
+    match ending {
+        RowEnd::Exit(code) => code,
+        RowEnd::Fault(..) | RowEnd::Budget | RowEnd::Refused(_) => 0,
+    }
+}
+
+fn push_end_change(
+    out: &mut Vec<u8>,
+    expected: Option<ExpectedEnd>,
+    ending: RowEnd,
+) -> Result<(), AllocError>
+    ensures { OnOk result (out.new.items ≡ out.old.items ++ end_change expected ending) }
+{
+    push_spans(
+        out,
+        &[
+            Span::Text(" "),
+            Span::Text(expected_end_word(expected)),
+            Span::Text(" -> "),
+            Span::Text(fault_word(ending)),
+            Span::Text("\n"),
+        ],
+    )
+}
+
+// The value of `expect_end`.
+fn expected_end_word(end: Option<ExpectedEnd>) -> &'static str
+    ensures { result.now ≡ expected_end_word end }
+{
+    match end {
+        Some(ExpectedEnd::Fault(kind)) => kind.name(),
+        Some(ExpectedEnd::Budget) => "budget",
+        None => "",
+    }
+}
+
+fn fault_word(ending: RowEnd) -> &'static str
+    ensures { result.now ≡ fault_word ending }
+{
+    match ending {
+        RowEnd::Fault(kind, ..) => kind.name(),
+        RowEnd::Exit(_) | RowEnd::Budget | RowEnd::Refused(_) => "",
+    }
+}
+
+fn text_of_list(expected: &Option<ExpectedConsole>) -> &[u8]
+    ensures { result.now ≡ text_of_list expected.now }
+{
+    match expected {
+        Some(ExpectedConsole::Text(text)) => text.as_slice(),
+        Some(ExpectedConsole::File(_)) | None => &[],
+    }
+}
+
+/// Appends why a chosen job is left, if it is.
+pub(crate) fn push_left_job_line(
+    alloc: Global,
+    out: &mut Vec<u8>,
+    job: &Job,
+    run: &Option<JobRun>,
+) -> Result<(), AllocError>
+    ensures { OnOk result (out.new.items ≡ out.old.items ++ left_job_line job.now run.now) }
+{
+    match run {
+        Some(run) if run.is_chosen => push_left_line(alloc, out, job, &run.row, run.left),
+        _ => Ok(()),
+    }
+}
+
+fn push_left_line(
+    alloc: Global,
+    out: &mut Vec<u8>,
+    job: &Job,
+    row: &Row,
+    left: Option<WhyLeft>,
+) -> Result<(), AllocError>
+    ensures { OnOk result (out.new.items ≡ out.old.items ++ left_line_of job.now row.now left) }
+{
+    let Some(why) = left else {
+        return Ok(());
+    };
+    push_left_head(out, job.name.as_str())?;
+    push_why_left(alloc, out, why, job, row)?;
+    push_text(out, "\n")
+}
+
+fn push_why_left(
+    alloc: Global,
+    out: &mut Vec<u8>,
+    why: WhyLeft,
+    job: &Job,
+    row: &Row,
+) -> Result<(), AllocError>
+    ensures { OnOk result (out.new.items ≡ out.old.items ++ why_left_text why job.now row.now) }
+{
+    match why {
+        WhyLeft::End => push_other_end(out, job, row.ending),
+        WhyLeft::NoText => push_text(
+            out,
+            "prints bytes that are no UTF-8, so name a file by expect_console_file",
+        ),
+        WhyLeft::NoPlace(key) => {
+            push_spans(
+                out,
+                &[
+                    Span::Text(key.name()),
+                    Span::Text(" stands in no table of its own: "),
+                ],
+            )?;
+            push_new_entry(alloc, out, key, row)
+        }
+        WhyLeft::Made(key) => {
+            push_text(
+                out,
+                "the list is made by mklist, from files beside the test: ",
+            )?;
+            push_new_entry(alloc, out, key, row)
+        }
+    }
+}
+
+// Appends a key with the value that a run came to.
+fn push_new_entry(
+    alloc: Global,
+    out: &mut Vec<u8>,
+    key: ValueKey,
+    row: &Row,
+) -> Result<(), AllocError>
+    ensures { OnOk result (out.new.items ≡ out.old.items ++ new_entry_text key row.now) }
+{
+    push_spans(out, &[Span::Text(key.name()), Span::Text(" = ")])?;
+    push_new_value(alloc, out, key, row)
+}
+
+// Appends how a run ended, and how it was expected to.
+fn push_other_end(out: &mut Vec<u8>, job: &Job, ending: RowEnd) -> Result<(), AllocError>
+    ensures { OnOk result (out.new.items ≡ out.old.items ++ other_end_text job.now ending) }
+{
+    match ending {
+        RowEnd::Refused(_) => push_met_end(out, ending),
+        RowEnd::Exit(_) | RowEnd::Fault(..) | RowEnd::Budget => {
+            push_met_end(out, ending)?;
+            push_text(out, ", expected ")?;
+            push_wanted(out, job.expect_exit, job.expect_end, ending)
+        }
+    }
+}
+
+// Appends the first end that is expected and was not met: exit 0 where a job says nothing of its end.
+fn push_wanted(
+    out: &mut Vec<u8>,
+    exit: Option<u32>,
+    end: Option<ExpectedEnd>,
+    ending: RowEnd,
+) -> Result<(), AllocError>
+    ensures { OnOk result (out.new.items ≡ out.old.items ++ wanted_text exit end ending) }
+{
+    match exit {
+        Some(code) if !has_expected_exit(exit, ending) => {
+            push_spans(out, &[Span::Text("exit "), Span::Number(code as u64)])
+        }
+        _ => push_wanted_end(out, end),
+    }
+}
+
+fn push_wanted_end(out: &mut Vec<u8>, end: Option<ExpectedEnd>) -> Result<(), AllocError>
+    ensures { OnOk result (out.new.items ≡ out.old.items ++ wanted_end_text end) }
+{
+    match end {
+        Some(ExpectedEnd::Budget) => push_text(out, "budget"),
+        Some(ExpectedEnd::Fault(kind)) => {
+            push_spans(out, &[Span::Text("fault "), Span::Text(kind.name())])
+        }
+        None => push_text(out, "exit 0"),
+    }
+}
+
+// Appends in which way a run ended, and with what.
+fn push_met_end(out: &mut Vec<u8>, ending: RowEnd) -> Result<(), AllocError>
+    ensures { OnOk result (out.new.items ≡ out.old.items ++ met_end_text ending) }
+{
+    match ending {
+        RowEnd::Exit(code) => push_spans(out, &[Span::Text("exit "), Span::Number(code as u64)]),
+        RowEnd::Fault(kind, ..) => push_spans(
+            out,
+            &[Span::Text("fault "), Span::Text(kind.name())],
+        ),
+        RowEnd::Budget => push_text(out, "budget"),
+        RowEnd::Refused(why) => push_spans(out, &[Span::Text("refused "), Span::Text(why.name())]),
+    }
+}

@@ -1,0 +1,44 @@
+//! The words of `accept`.
+
+ghost use Rattle.std.specs.Prelude.{[]};
+ghost use Rattle.clap.specs.Words.{found_of, rows_of};
+ghost use Rattle.rv_cli.specs.RvtestWords.{ReadsRequest, accept_request};
+
+use crate::rvtest::requests::Asked;
+use crate::rvtest::run::{RunAsked, run_asked};
+use crate::values::{is_flag_set, number_value, text_value};
+use clap::{ArgMatches, Error};
+use rv_base::limits::MOST_GROUP;
+use std::alloc::Global;
+
+/// The jobs of a list whose runs are accepted, and how.
+#[derive(Drop)]
+pub struct AcceptAsked<'a> {
+    /// The jobs, and how they run. What `accept` has no option for is as in a run without options.
+    pub run: RunAsked<'a>,
+    /// Whether another exit code, or another kind of fault, is accepted too.
+    pub ends: bool,
+    /// Whether changes are told alone, and nothing is written.
+    pub check: bool,
+}
+
+/// What the values of `accept` ask for.
+pub(crate) fn accept_request<'a>(
+    alloc: Global,
+    values: &ArgMatches<'a>,
+) -> Result<Option<Asked<'a>>, Error>
+    ensures { ReadsRequest (accept_request (rows_of (found_of values.now))) [] result }
+{
+    let Some(list) = text_value(values, "list") else {
+        return Ok(None);
+    };
+    let Some(group) = number_value(values, "group", 1, MOST_GROUP) else {
+        return Ok(None);
+    };
+    let run = run_asked(alloc, values, list, group)?;
+    Ok(Some(Asked::Accept(AcceptAsked {
+        run,
+        ends: is_flag_set(values, "ends"),
+        check: is_flag_set(values, "check"),
+    })))
+}

@@ -1,0 +1,81 @@
+-- Why `accept` ended before its work was done.
+use Rattle.std.specs.Prelude.{◌≡◌, ◌⊎◌, ℕ, Bool, false, List, IsTrue, Ok, Option, codes}
+use Rattle.std.specs.List.{Any, list_any}
+use Rattle.rv_accept.specs.Sharing.{names_golden_file}
+use Rattle.rv_accept.specs.declared.targets.Target.{Target}
+use Rattle.rv_accept_text.specs.declared.golden_file.GoldenFile.{GoldenFile}
+use Rattle.rv_base.specs.Files.{FileContents}
+use Rattle.rv_cli.specs.declared.rvtest.accept.AcceptAsked.{AcceptAsked}
+use Rattle.rv_command.specs.Messages.{path_message}
+use Rattle.rv_command.specs.Stops.{IsListUnreadStop, IsStop}
+use Rattle.rv_command.specs.Texts.{IsTextAt, optional_text}
+use Rattle.rv_command.specs.declared.stop.Stop.{Stop}
+use Rattle.rv_command.specs.declared.stop.Stop.TheVariants as stop
+use Rattle.rv_files.specs.UnreadPaths.{resolved_path}
+use Rattle.rv_lists.specs.JobList.{job_list_of}
+use Rattle.rv_lists.specs.declared.job.Job.{Job}
+use Rattle.rvtest_app.specs.PutStops.{IsUnopenedStop, IsUnwrittenStop}
+
+-- ---- one file
+
+-- the file for a path was not opened, not written, or not put in its place
+abbrev pub IsUnmadeStop : List ℕ → Stop → Type 0
+IsUnmadeStop path why = IsUnopenedStop path why ⊎ IsUnwrittenStop path why
+
+-- it has other bytes than were written
+abbrev pub IsOtherBytesStop : List ℕ → Stop → Type 0
+IsOtherBytesStop path why = IsStop 3 (path_message path (codes "has other bytes than were written")) why
+
+-- it was not read back, or it was, and has other bytes
+abbrev pub IsUncheckedStop : Option FileContents → List ℕ → Stop → Type 0
+IsUncheckedStop known path why = IsListUnreadStop known path why ⊎ IsOtherBytesStop path why
+
+-- it was not written as it is meant to be
+abbrev pub IsUnputStop : Option FileContents → List ℕ → Stop → Type 0
+IsUnputStop known path why = IsUnmadeStop path why ⊎ IsUncheckedStop known path why
+
+-- ---- the files of what is accepted
+
+-- that happened to the list at a path, or to a golden file
+abbrev pub IsStopOfFiles : (List ℕ → Stop → Type 0) → List ℕ → List GoldenFile → Stop → Type 0
+IsStopOfFiles happened list files why = happened list why ⊎ Any (λ file. happened file.place why) files
+
+-- memory was wanting, or the file of a target was not read
+abbrev pub AreTargetsUnread : Option FileContents → Option (List ℕ) → List Target → Stop → Type 0
+AreTargetsUnread known root targets why = (why ≡ stop.OutOfMemory)
+    ⊎ Any (λ target. IsListUnreadStop known (resolved_path root target.path) why) targets
+
+-- memory was wanting, standard output did not take all, or, where words ask for no check, a file was not written
+abbrev pub IsPutAcceptedStop : Option FileContents → Bool → List ℕ → List GoldenFile → Stop → Type 0
+IsPutAcceptedStop known check list files why = (why ≡ stop.OutOfMemory) ⊎ ((why ≡ stop.WriteFailed)
+    ⊎ ((check ≡ false) × IsStopOfFiles (IsUnputStop known) list files why))
+
+-- ---- the command
+
+-- some job names the file at a path as a golden file
+abbrev pub IsGoldenPath : List Job → List ℕ → Type 0
+IsGoldenPath jobs path = IsTrue (list_any (names_golden_file path) jobs)
+
+-- a file of the list: the list itself, or a golden file of a job
+abbrev pub IsFileOfList : AcceptAsked → List Job → List ℕ → Type 0
+IsFileOfList words jobs place = (place ≡ words.run.list.now)
+    ⊎ ((path : List ℕ) × (IsGoldenPath jobs path × (place ≡ resolved_path (optional_text words.run.root) path)))
+
+-- memory was wanting, or a golden file was not read
+abbrev pub IsGoldenUnreadStop : Option FileContents → AcceptAsked → List Job → Stop → Type 0
+IsGoldenUnreadStop known words jobs why = (why ≡ stop.OutOfMemory)
+    ⊎ ((path : List ℕ) × (IsFileOfList words jobs path × IsListUnreadStop known path why))
+
+-- it was not read; or, where words ask for no check, not written
+abbrev pub IsFileOfListStop : Option FileContents → Bool → List ℕ → Stop → Type 0
+IsFileOfListStop known check path why = IsListUnreadStop known path why ⊎ ((check ≡ false) × IsUnputStop known path why)
+
+-- memory was wanting, no thread was there, standard output did not take all, or a file of the list was not read or not written
+abbrev pub IsAcceptingStop : Option FileContents → AcceptAsked → List Job → Stop → Type 0
+IsAcceptingStop known words jobs why = (why ≡ stop.OutOfMemory) ⊎ ((why ≡ stop.NoWorker) ⊎ ((why ≡ stop.WriteFailed)
+    ⊎ ((path : List ℕ) × (IsFileOfList words jobs path × IsFileOfListStop known words.check path why))))
+
+-- the list was read, and that happened
+abbrev pub IsUnacceptedStop : Option FileContents → AcceptAsked → Stop → Type 0
+IsUnacceptedStop known words why = (text : List ℕ) × (IsTextAt known words.run.list.now text
+    × ((jobs : List Job) × ((job_list_of text ≡ Ok jobs) × IsAcceptingStop known words jobs why)))

@@ -1,0 +1,340 @@
+//! The command `accept`.
+
+ghost use Rattle.std.specs.Prelude.{◌≡◌, ◌≤◌, ◌⊎◌, [], IfErr, IfOk, IfSome, List, Ok, OnOk, fold, length, map, option_map, true};
+ghost use Rattle.std.specs.Io.KnownBytes.{Appends};
+ghost use Rattle.std.specs.Option.{ForSome};
+ghost use Rattle.rv_accept.specs.Claims.{claims_of_runs};
+ghost use Rattle.rv_accept.specs.Edits.{edited_from};
+ghost use Rattle.rv_accept.specs.Meant.{meant_jobs};
+ghost use Rattle.rv_accept.specs.declared.edits.Edit.{Edit as AnEdit};
+ghost use Rattle.rv_accept.specs.Sharing.{marks_to_run};
+ghost use Rattle.rv_accept.specs.Targets.{with_target};
+ghost use Rattle.rv_accept_text.specs.NewLists.{AreLeftFrom};
+ghost use Rattle.rv_accept_text.specs.Told.{changed_count, count_line, left_count, told_lines};
+ghost use Rattle.rv_choice.specs.Chosen.{IsChoice};
+ghost use Rattle.rv_command.specs.Texts.{IsTextAt, optional_text};
+ghost use Rattle.rv_lists.specs.JobList.{job_list_of};
+ghost use Rattle.rv_lists.specs.Jobs.{without_expectations};
+ghost use Rattle.rvtest_app.specs.AcceptStops.{IsAcceptingStop, IsGoldenUnreadStop, IsPutAcceptedStop};
+ghost use Rattle.rvtest_app.specs.Accepts.{AreGoldenFiles, AreRowsPut, IsAcceptedAt, IsAcceptedOfMarks, IsOutcomePut, accept_status};
+ghost use Rattle.rvtest_app.specs.Accepts.{acceptance_of};
+ghost use Rattle.rvtest_app.specs.CommandStops.{IsAcceptStop, IsListStop};
+ghost use Rattle.rvtest_app.specs.Commands.{failure_rule};
+ghost use Rattle.rvtest_app.specs.Said.{said};
+
+use crate::accepted_files::{check_written_files, read_golden_files, write_accepted_files};
+use crate::crew::requested_crew;
+use crate::destinations::Destinations;
+use crate::host::Host;
+use crate::missing_images::missing_images_note;
+use crate::rules::failure_rule;
+use crate::run::gather_jobs_at;
+use rv_accept::{
+    Acceptance, Claim, JobRun, claims_of_runs, judged_runs, marks_to_run, placed_rows, targets_of,
+};
+use rv_accept_text::{Accepting, GoldenFile, ListFile, NewList, Writing, accept_values};
+use rv_choice::{Choice, Chooser};
+use rv_cli::rvtest::{AcceptAsked, ChoosingCommand};
+use rv_command::{DONE, SOME_FAIL, Stop, parse_list, put_message, put_results, read_list_text};
+use rv_files::{Inputs, NotingStore, Outputs};
+use rv_fleet::{Batch, FreeGate, PlacesError, Row, run_places};
+use rv_jobs::{JobList, marked_places};
+use rv_rows::Sink;
+use std::alloc::Global;
+use std::sync::Wait;
+use std::thread::Threads;
+
+// The list that words name, and the jobs that they choose.
+#[derive(Drop)]
+struct ChosenList {
+    text: Vec<u8>,
+    jobs: JobList,
+    // None where no job is chosen.
+    chosen: Option<Vec<bool>>,
+    // What is said of the choice.
+    notes: Vec<u8>,
+    ghost counted: { ForSome chosen (λ marks. length marks.items ≡ length jobs) },
+}
+
+// Jobs that expect nothing, with a mark for each that runs.
+#[derive(Drop)]
+struct BareJobs {
+    jobs: JobList,
+    marks: Vec<bool>,
+    ghost counted: { length marks.items ≡ length jobs },
+}
+
+// What the jobs came to that were run.
+#[derive(Drop)]
+struct Outcomes {
+    claims: Vec<Claim>,
+    files: Vec<GoldenFile>,
+    new: NewList,
+}
+
+/// Runs jobs without their expectations, tells what changes where their runs are what is expected, and writes it, but where words
+/// ask for a check. The status is 1 where a job or a file is left, and in a check also where a file would change.
+pub(crate) fn accept_runs<
+    R: Threads + Wait + Sync,
+    D: Inputs,
+    F: Outputs + Drop,
+    O: Sink + Drop,
+    E: Sink + Drop,
+>(
+    host: &Host<'_, R, D>,
+    asked: &AcceptAsked<'_>,
+    to: &mut Destinations<F, O, E>,
+) -> Result<u8, Stop>
+    ensures low { IfOk result (λ status. status ≤ 1) }
+    ensures accepted { IfOk result (λ status. IsAcceptedAt (D.contents host.now.inputs.now) asked.now status
+        (said F.placed O.taken E.taken E.failed to.old) (said F.placed O.taken E.taken E.failed to.new)) }
+    // In a check nothing is opened for writing, whatever comes of it.
+    ensures unwritten { asked.now.check ≡ true → to.new.files ≡ to.old.files }
+    ensures stopped { IfErr result (IsAcceptStop (D.contents host.now.inputs.now) asked.now) }
+{
+    let list = chosen_list(host, asked)?;
+    put_message(&mut to.errors, list.notes.as_slice());
+    match &list.chosen {
+        Some(chosen) => accept_chosen(host, asked, &list, chosen.as_slice(), to),
+        None => Ok(DONE),
+    }
+}
+
+// The same of the jobs that are chosen.
+fn accept_chosen<
+    'x,
+    R: Threads + Wait + Sync,
+    D: Inputs,
+    F: Outputs + Drop,
+    O: Sink + Drop,
+    E: Sink + Drop,
+>(
+    host: &Host<'_, R, D>,
+    asked: &'x AcceptAsked<'x>,
+    list: &'x ChosenList,
+    chosen: &[bool],
+    to: &mut Destinations<F, O, E>,
+) -> Result<u8, Stop>
+    requires counted { length chosen.now ≡ length list.now.jobs }
+    requires listed { job_list_of list.now.text.items ≡ Ok list.now.jobs }
+    ensures low { IfOk result (λ status. status ≤ 1) }
+    ensures accepted { IfOk result (λ status. IsAcceptedOfMarks (D.contents host.now.inputs.now) asked.now
+        list.now.text.items list.now.jobs chosen.now status
+        (said F.placed O.taken E.taken E.failed to.old) (said F.placed O.taken E.taken E.failed to.new)) }
+    ensures unwritten { asked.now.check ≡ true → to.new.files ≡ to.old.files }
+    ensures stopped { IfErr result
+        (IsAcceptingStop (D.contents host.now.inputs.now) asked.now list.now.jobs) }
+{
+    let marked = marked_jobs(host.alloc, asked, list, chosen)?;
+    let rows = run_marked(host, asked, marked, to)?;
+    let list = ListFile {
+        path: asked.run.list,
+        text: list.text.as_slice(),
+        jobs: list.jobs.as_slice(),
+    };
+    let acceptance = acceptance_of(asked.ends);
+    let runs = judged_runs(host.alloc, acceptance, list.jobs, chosen, rows)?;
+    let outcomes = outcomes_of_runs(host, asked, &list, runs)?;
+    put_accepted(host, asked, &list, &outcomes, to)
+}
+
+fn acceptance_of(ends: bool) -> Acceptance
+    ensures { result ≡ acceptance_of ends }
+{
+    if ends {
+        Acceptance::InExpectedWay
+    } else {
+        Acceptance::Expected
+    }
+}
+
+// The list at the path that words name, and the jobs that they choose.
+fn chosen_list<R, D: Inputs>(
+    host: &Host<'_, R, D>,
+    asked: &AcceptAsked<'_>,
+) -> Result<ChosenList, Stop>
+    ensures read { IfOk result (λ list. IsTextAt (D.contents host.now.inputs.now) asked.now.run.list.now list.text.items) }
+    ensures listed { IfOk result (λ list. job_list_of list.text.items ≡ Ok list.jobs) }
+    ensures chosen { IfOk result (λ list. IsChoice (D.contents host.now.inputs.now) asked.now.run
+        (failure_rule asked.now.run.lenient) list.jobs (option_map (λ marks. marks.items) list.chosen) list.notes.items) }
+    ensures stopped { IfErr result (IsListStop (D.contents host.now.inputs.now) asked.now.run) }
+{
+    let run = &asked.run;
+    let text = read_list_text(host.inputs, host.alloc, run.list)?;
+    let jobs = parse_list(host.alloc, run.list, text.as_slice())?;
+    let chooser = Chooser {
+        inputs: host.inputs,
+        alloc: host.alloc,
+        asked: run,
+        rule: failure_rule(run.lenient),
+        command: ChoosingCommand::Accept,
+    };
+    let Choice { marks, notes } = chooser.choose(jobs.as_slice())?;
+    Ok(ChosenList {
+        text,
+        jobs,
+        chosen: marks,
+        notes,
+    })
+}
+
+// The jobs of a list without their expectations, with marks for those that run where some are chosen.
+fn marked_jobs(
+    alloc: Global,
+    asked: &AcceptAsked<'_>,
+    list: &ChosenList,
+    chosen: &[bool],
+) -> Result<BareJobs, Stop>
+    requires counted { length chosen.now ≡ length list.now.jobs }
+    requires listed { job_list_of list.now.text.items ≡ Ok list.now.jobs }
+    ensures jobs { IfOk result (λ marked. marked.jobs ≡ map without_expectations list.now.jobs) }
+    ensures marks { IfOk result (λ marked. marked.marks.items
+        ≡ marks_to_run list.now.jobs chosen.now list.now.jobs chosen.now) }
+    ensures memory { IfErr result (λ why. why ≡ Stop.OutOfMemory) }
+{
+    let jobs = parse_list(alloc, asked.run.list, list.text.as_slice())?.without_expectations();
+    let marks = marks_to_run(alloc, list.jobs.as_slice(), chosen)?;
+    Ok(BareJobs { jobs, marks })
+}
+
+// The rows of the jobs that are marked, each at the place of its job.
+fn run_marked<
+    R: Threads + Wait + Sync,
+    D: Inputs,
+    F: Outputs + Drop,
+    O: Sink + Drop,
+    E: Sink + Drop,
+>(
+    host: &Host<'_, R, D>,
+    asked: &AcceptAsked<'_>,
+    marked: BareJobs,
+    to: &mut Destinations<F, O, E>,
+) -> Result<Vec<Option<Row>>, Stop>
+    ensures files { to.new.files ≡ to.old.files }
+    ensures rows { IfOk result (λ rows. AreRowsPut (D.contents host.now.inputs.now)
+        (optional_text asked.now.run.root) marked.jobs marked.marks.items rows.items
+        (said F.placed O.taken E.taken E.failed to.old) (said F.placed O.taken E.taken E.failed to.new)) }
+    ensures stopped { IfErr result (λ why. (why ≡ Stop.OutOfMemory) ⊎ (why ≡ Stop.NoWorker)) }
+{
+    let BareJobs { jobs, marks, .. } = marked;
+    let (alloc, root) = (host.alloc, asked.run.root);
+    let places = marked_places(alloc, marks.as_slice())?;
+    let mut store = NotingStore::new(host.inputs, alloc, root);
+    let plan = gather_jobs_at(alloc, jobs, places.as_slice(), &mut store)?;
+    let count = places.as_slice().len();
+    let note = missing_images_note(alloc, &plan, store.unread_paths(), count, root)?;
+    put_message(&mut to.errors, note.as_slice());
+    let crew = requested_crew(host.rt, alloc, &asked.run);
+    let batch = Batch::new(&plan, places.as_slice());
+    match run_places(&crew, &batch, &FreeGate) {
+        Ok(rows) => Ok(placed_rows(alloc, marks.as_slice(), rows.into_vec())?),
+        Err(error) => Err(stop_of_places(error)),
+    }
+}
+
+fn stop_of_places(error: PlacesError) -> Stop
+    ensures { (result ≡ Stop.OutOfMemory) ⊎ (result ≡ Stop.NoWorker) }
+{
+    match error {
+        PlacesError::NoWorker => Stop::NoWorker,
+        PlacesError::OutOfMemory | PlacesError::Stopped => Stop::OutOfMemory,
+    }
+}
+
+// What changes where runs are accepted, and what stands now where it is written.
+fn outcomes_of_runs<R, D: Inputs>(
+    host: &Host<'_, R, D>,
+    asked: &AcceptAsked<'_>,
+    list: &ListFile<'_>,
+    runs: Vec<Option<JobRun>>,
+) -> Result<Outcomes, Stop>
+    ensures runs { IfOk result (λ outcomes. AreLeftFrom runs.items outcomes.new.runs.items) }
+    ensures claims { IfOk result (λ outcomes. outcomes.claims.items
+        ≡ claims_of_runs 0 list.now.jobs.now outcomes.new.runs.items) }
+    ensures files { IfOk result (λ outcomes. AreGoldenFiles (D.contents host.now.inputs.now)
+        (optional_text asked.now.run.root)
+        (fold (with_target outcomes.new.runs.items outcomes.claims.items) [] outcomes.claims.items) outcomes.files.items) }
+    ensures edited { IfOk result (λ outcomes. IfSome outcomes.new.text
+        (λ new. (edits : List AnEdit) × (new.items ≡ edited_from 0 list.now.text.now edits))) }
+    ensures meant { IfOk result (λ outcomes. IfSome outcomes.new.text
+        (λ text. job_list_of text.items ≡ Ok (meant_jobs list.now.jobs.now outcomes.new.runs.items))) }
+    ensures stopped { IfErr result
+        (IsGoldenUnreadStop (D.contents host.now.inputs.now) asked.now list.now.jobs.now) }
+{
+    let alloc = host.alloc;
+    let new = accept_values(alloc, list.text, list.jobs, runs)?;
+    let claims = claims_of_runs(alloc, list.jobs, new.runs.as_slice())?;
+    let targets = targets_of(alloc, new.runs.as_slice(), claims.as_slice())?;
+    let files = read_golden_files(host.inputs, alloc, asked.run.root, targets)?;
+    Ok(Outcomes { claims, files, new })
+}
+
+// Tells what changes, and writes it.
+fn put_accepted<'x, R, D: Inputs, F: Outputs + Drop, O: Sink + Drop, E: Sink + Drop>(
+    host: &Host<'_, R, D>,
+    asked: &AcceptAsked<'_>,
+    list: &ListFile<'x>,
+    outcomes: &'x Outcomes,
+    to: &mut Destinations<F, O, E>,
+) -> Result<u8, Stop>
+    ensures low { IfOk result (λ status. status ≤ 1) }
+    ensures unwritten { asked.now.check ≡ true → to.new.files ≡ to.old.files }
+    ensures put { IfOk result (λ status. IsOutcomePut asked.now.check list.now outcomes.now.new.runs.items
+        outcomes.now.claims.items outcomes.now.files.items outcomes.now.new status
+        (said F.placed O.taken E.taken E.failed to.old) (said F.placed O.taken E.taken E.failed to.new)) }
+    ensures stopped { IfErr result (IsPutAcceptedStop (D.contents host.now.inputs.now) asked.now.check
+        list.now.path.now outcomes.now.files.items) }
+{
+    let accepting = Accepting {
+        list: *list,
+        runs: outcomes.new.runs.as_slice(),
+        claims: outcomes.claims.as_slice(),
+        files: outcomes.files.as_slice(),
+        new: &outcomes.new,
+    };
+    put_lines(host.alloc, &accepting, &mut to.out)?;
+    if asked.check {
+        put_count(host.alloc, &accepting, Writing::Asked, &mut to.out)?;
+        return Ok(accept_status(accepting.left_count(), accepting.changed_count()));
+    }
+    write_accepted_files(&mut to.files, host.alloc, &accepting)?;
+    check_written_files(host.inputs, host.alloc, &accepting)?;
+    put_count(host.alloc, &accepting, Writing::Done, &mut to.out)?;
+    Ok(accept_status(accepting.left_count(), 0))
+}
+
+fn put_lines<O: Sink>(alloc: Global, accepting: &Accepting<'_>, out: &mut O) -> Result<(), Stop>
+    ensures put { OnOk result (Appends (O.taken out.old) (O.taken out.new) (told_lines accepting.now)) }
+    ensures stopped { IfErr result (λ why. (why ≡ Stop.OutOfMemory) ⊎ (why ≡ Stop.WriteFailed)) }
+{
+    let mut lines = Vec::new(alloc);
+    accepting.push_lines(alloc, &mut lines)?;
+    put_results(out, lines.as_slice())
+}
+
+fn put_count<O: Sink>(
+    alloc: Global,
+    accepting: &Accepting<'_>,
+    writing: Writing,
+    out: &mut O,
+) -> Result<(), Stop>
+    ensures put { OnOk result (Appends (O.taken out.old) (O.taken out.new)
+        (count_line writing (changed_count accepting.now) (left_count accepting.now))) }
+    ensures stopped { IfErr result (λ why. (why ≡ Stop.OutOfMemory) ⊎ (why ≡ Stop.WriteFailed)) }
+{
+    let mut line = Vec::new(alloc);
+    accepting.push_count_line(&mut line, writing)?;
+    put_results(out, line.as_slice())
+}
+
+// The status where so many are left, and so many would change.
+fn accept_status(left: usize, changed: usize) -> u8
+    ensures value { result ≡ accept_status left changed }
+    ensures low { result ≤ 1 }
+{
+    if left == 0 && changed == 0 {
+        DONE
+    } else {
+        SOME_FAIL
+    }
+}

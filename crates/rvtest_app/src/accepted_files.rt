@@ -1,0 +1,172 @@
+//! The files that `accept` reads and writes.
+
+ghost use Rattle.std.specs.Prelude.{◌≡◌, ◌++◌, ◌∷◌, [], IfErr, IfOk, IfSome, OnErr, OnOk, Some};
+ghost use Rattle.rv_command.specs.Stops.{IsListUnreadStop};
+ghost use Rattle.rv_command.specs.Texts.{optional_text};
+ghost use Rattle.rv_files.specs.Placed.{placed_file};
+ghost use Rattle.rv_files.specs.UnreadPaths.{resolved_path};
+ghost use Rattle.rvtest_app.specs.AcceptStops.{AreTargetsUnread, IsStopOfFiles, IsUncheckedStop, IsUnmadeStop};
+ghost use Rattle.rvtest_app.specs.Accepts.{AreGoldenFiles, IsOldAt, file_if, new_list_text, written_files};
+ghost use Rattle.rvtest_app.specs.Outlets.{AreFilesPlaced};
+
+use rv_accept::Target;
+use rv_accept_text::{Accepting, GoldenFile};
+use rv_command::{Stop, file_error_stop, path_message, read_file};
+use rv_files::{InputError, Inputs, Outputs, io_error_text, read_whole_up_to};
+use rv_jobs::limits::MOST_BYTES;
+use rv_jobs::{Bytes, Text};
+use rv_rows::put_all;
+use std::alloc::{AllocError, Global};
+use std::io::ErrorKind;
+use std::path::Path;
+
+/// The golden files at the paths of some targets, which are taken from a folder where one is given, with what stands there now.
+pub(crate) fn read_golden_files<D: Inputs>(
+    inputs: &D,
+    alloc: Global,
+    folder: Option<&str>,
+    targets: Vec<Target>,
+) -> Result<Vec<GoldenFile>, Stop>
+    ensures read { IfOk result (λ files. AreGoldenFiles (D.contents inputs.now) (optional_text folder.entry) targets.items files.items) }
+    ensures stopped { IfErr result
+        (AreTargetsUnread (D.contents inputs.now) (optional_text folder.entry) targets.items) }
+{
+    let mut files = Vec::new(alloc);
+    for target in targets {
+        let place = place_of_path(alloc, folder, target.path.as_str())?;
+        let old = read_golden_file(inputs, alloc, place.as_str())?;
+        add_file(&mut files, GoldenFile { target, place, old })?;
+    }
+    Ok(files)
+}
+
+fn add_file(files: &mut Vec<GoldenFile>, file: GoldenFile) -> Result<(), AllocError>
+    ensures { OnOk result (files.new.items ≡ files.old.items ++ file ∷ []) }
+{
+    files.push(file)?;
+    Ok(())
+}
+
+fn place_of_path(alloc: Global, folder: Option<&str>, path: &str) -> Result<Text, AllocError>
+    ensures { IfOk result (λ place. place ≡ resolved_path (optional_text folder.entry) path.now) }
+{
+    match folder {
+        Some(folder) => {
+            let place = Path::new(folder).join(alloc, path)?;
+            Text::copy(alloc, place.as_str())
+        }
+        None => Text::copy(alloc, path),
+    }
+}
+
+// What stands at a place; nothing where the file is missing.
+fn read_golden_file<D: Inputs>(inputs: &D, alloc: Global, path: &str) -> Result<Option<Bytes>, Stop>
+    ensures old { IfOk result (IsOldAt (D.contents inputs.now) path.now) }
+    ensures stopped { IfErr result (IsListUnreadStop (D.contents inputs.now) path.now) }
+{
+    match read_whole_up_to(inputs, alloc, path, MOST_BYTES) {
+        Ok(Some(bytes)) => Ok(Some(Bytes::new(bytes))),
+        Ok(None) => Err(Stop::of_failure(path_message(
+            alloc,
+            path,
+            "the file has more than 16777216 bytes",
+        ))),
+        Err(InputError::OutOfMemory) => Err(Stop::OutOfMemory),
+        Err(InputError::Failed(ErrorKind::NotFound)) => Ok(None),
+        Err(InputError::Failed(reason)) => Err(Stop::of_failure(path_message(
+            alloc,
+            path,
+            io_error_text(reason),
+        ))),
+    }
+}
+
+/// Writes each golden file that changes, in the order of the list, and then the list. Each is there whole or as it was.
+pub(crate) fn write_accepted_files<F: Outputs>(
+    files: &mut F,
+    alloc: Global,
+    accepting: &Accepting<'_>,
+) -> Result<(), Stop>
+    ensures placed { OnOk result (AreFilesPlaced (F.placed files.old) (F.placed files.new) (Some (written_files accepting.now))) }
+    ensures stopped { IfErr result
+        (IsStopOfFiles IsUnmadeStop accepting.now.list.path.now accepting.now.files.now) }
+{
+    for file in accepting.files {
+        if let Some(text) = file.new_text(&accepting.list) {
+            write_file(files, alloc, file.place.as_str(), text)?;
+        }
+    }
+    match &accepting.new.text {
+        Some(text) => write_file(files, alloc, accepting.list.path, text.as_slice()),
+        None => Ok(()),
+    }
+}
+
+fn write_file<F: Outputs>(
+    files: &mut F,
+    alloc: Global,
+    path: &str,
+    bytes: &[u8],
+) -> Result<(), Stop>
+    ensures placed { OnOk result (AreFilesPlaced (F.placed files.old) (F.placed files.new)
+        (Some (placed_file path.now bytes.now ∷ []))) }
+    ensures same { OnErr result (F.placed files.new ≡ F.placed files.old) }
+    ensures stopped { IfErr result (IsUnmadeStop path.now) }
+{
+    let (place, mut file) = match files.create(alloc, path) {
+        Ok(made) => made,
+        Err(error) => return Err(file_error_stop(alloc, path, error)),
+    };
+    if put_all(&mut file, bytes).is_err() {
+        files.abandon(place);
+        return Err(Stop::of_failure(path_message(alloc, path, "write failed")));
+    }
+    let synced = match files.sync(file) {
+        Ok(synced) => synced,
+        Err(error) => {
+            files.abandon(place);
+            return Err(file_error_stop(alloc, path, error));
+        }
+    };
+    match files.place(place, synced) {
+        Ok(()) => Ok(()),
+        Err(error) => Err(file_error_stop(alloc, path, error)),
+    }
+}
+
+/// Reads back each file that was written. One that has other bytes now was written as two paths to one place.
+pub(crate) fn check_written_files<D: Inputs>(
+    inputs: &D,
+    alloc: Global,
+    accepting: &Accepting<'_>,
+) -> Result<(), Stop>
+    ensures { IfErr result (IsStopOfFiles (IsUncheckedStop (D.contents inputs.now))
+        accepting.now.list.path.now accepting.now.files.now) }
+{
+    for file in accepting.files {
+        if let Some(text) = file.new_text(&accepting.list) {
+            check_written(inputs, alloc, file.place.as_str(), text)?;
+        }
+    }
+    match &accepting.new.text {
+        Some(text) => check_written(inputs, alloc, accepting.list.path, text.as_slice()),
+        None => Ok(()),
+    }
+}
+
+fn check_written<D: Inputs>(
+    inputs: &D,
+    alloc: Global,
+    path: &str,
+    text: &[u8],
+) -> Result<(), Stop>
+    ensures { IfErr result (IsUncheckedStop (D.contents inputs.now) path.now) }
+{
+    let bytes = read_file(inputs, alloc, path)?;
+    if bytes.as_slice() == text {
+        Ok(())
+    } else {
+        let what = "has other bytes than were written";
+        Err(Stop::of_failure(path_message(alloc, path, what)))
+    }
+}
