@@ -2,7 +2,7 @@
 use Rattle.std.proofs.Common.{◌≡◌, ◌∙◌, ℕ, zero, suc, ◌∷◌, ◌+◌, ◌*◌, ◌<◌, ◌≤◌, false, get_or, min, List, [], ◌++◌, length, take, drop, Option, Some}
 use Rattle.std.proofs.Common.{◌-◌, None, is_some, length-drop, refl, sym, ap, subst, arith, append_assoc, append-nil, take-append-drop, inl, inr}
 use Rattle.std.specs.Fork.{slice_chunk}
-use Rattle.std.specs.Prelude.{Err, IfErr, IfOk, IfSome, MatchResult, Ok, OnErr, Result, slice_index_or}
+use Rattle.std.specs.Prelude.{Err, IfErr, IfOk, IfSome, MatchResult, Ok, OnErr, OnOk, Result, slice_index_or}
 use Rattle.std.proofs.Math.ListN.{set}
 use Rattle.std.specs.Io.KnownBytes.{Appends}
 use Rattle.std.specs.List.{concat}
@@ -183,6 +183,15 @@ nothing_out before now text same = record {
 pub after_error : {T E : Type 0} {A : Type 0} (r : Result T E) → A → OnErr r A
 after_error (Ok x) so = tt
 after_error (Err e) so = so
+
+-- what is so of a good result, and of an error
+pub on_ok : {T E : Type 0} (r : Result T E) (P Q : Type 0) → (P → Q) → OnOk r P → OnOk r Q
+on_ok (Ok x) P Q f so = f so
+on_ok (Err e) P Q f so = tt
+
+pub on_err : {T E : Type 0} (r : Result T E) (P Q : Type 0) → (P → Q) → OnErr r P → OnErr r Q
+on_err (Ok x) P Q f so = tt
+on_err (Err e) P Q f so = f so
 
 -- what is known of each of two results is known where both are good
 module _ {A E F : Type 0} (rows : Result A F) (sent : Result ℕ E) (P : A → Type 0) (Q : ℕ → Type 0) where
