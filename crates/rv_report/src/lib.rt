@@ -23,9 +23,10 @@ mod signature_lines;
 
 pub use law::{lines_of_a_report_stay, one_text_one_report, whole_text_is_report_text};
 pub use read::{ReadError, read_report};
-pub use report::{Report, Rows, WriteError, write_report};
+pub use report::{Report, Rows, WriteError, push_row, write_report};
 pub use row::{Refusal, Row, RowEnd, Verdict, Words};
 pub use rv_base::is_name;
 pub use saved::{Extent, Numbers, SavedReport, Shard};
+pub use saved_report_text::push_extent_line;
 pub use saved_writer::write_saved_report;
 pub use signature_lines::{LINE, are_word_lines, word_line};

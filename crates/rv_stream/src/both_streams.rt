@@ -97,8 +97,9 @@ fn stream_both_in_order<
         places: batch.places,
         rows: rows.as_slice(),
     };
-    if let Err(error) = send_rest::<J, R, T, W>(crew, tell_first, &all, next.0, &mut out) {
-        return (out, other, Err(BothError::First(error)));
+    match send_rest::<J, R, T, W>(crew, tell_first, &all, next.0, &mut out) {
+        Ok(()) => {}
+        Err(error) => return (out, other, Err(BothError::First(error))),
     }
     match send_rest::<K, R, U, V>(crew, tell_second, &all, next.1, &mut other) {
         Ok(()) => (out, other, Ok(rows)),

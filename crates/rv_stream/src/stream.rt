@@ -1,6 +1,6 @@
 //! Runs whose texts go out as their rows come.
 
-ghost use Rattle.std.specs.Prelude.{◌≡◌, ◌≤◌, ℕ, Err, IfErr, IfOk, MatchResult, OnOk, OnErr, Ok, Some, length, drop};
+ghost use Rattle.std.specs.Prelude.{◌≡◌, ◌≤◌, ◌*◌, ℕ, min, Err, IfErr, IfOk, MatchResult, OnOk, OnErr, Ok, Some, length, drop};
 ghost use Rattle.std.specs.Io.KnownBytes.{Appends};
 ghost use Rattle.std.specs.List.{concat};
 ghost use Rattle.rv_fleet.specs.Batches.{batch_rows};
@@ -232,8 +232,15 @@ pub(crate) fn send_rest<J: Streamed, R, T: Telling, W: Sink>(
         (λ error. IsCounted (W.failed out.old) (W.failed out.new) (Some error)) }
     ensures part { OnErr result (AppendsBeginning J.before (W.taken out.new) (concat J.texts)) }
 {
-    let from = next.saturating_mul(crew.group as usize).min(all.rows.len());
+    let from = first_unsent(next, crew.group, all.rows.len());
     send_rows_from(crew.alloc, telling, all, from, out)
+}
+
+// The row that a piece begins with, or how many rows there are.
+fn first_unsent(piece: usize, group: u32, rows: usize) -> usize
+    ensures { result ≡ min (piece * group) rows }
+{
+    piece.saturating_mul(group as usize).min(rows)
 }
 
 // Sends what is told of the rows from one on.

@@ -5,6 +5,7 @@ ghost use Rattle.std.specs.Option.{ForSome};
 ghost use Rattle.std.specs.Io.KnownBytes.{Appends};
 ghost use Rattle.rv_lists.specs.Counts.{HasRisen};
 ghost use Rattle.rv_lists.specs.Sinks.{AppendsBeginning};
+ghost use Rattle.rv_report.specs.Report.{report_text};
 ghost use Rattle.rvtest_app.specs.IntoReports.{rows_put, run_report_rest, run_report_text};
 ghost use Rattle.rvtest_app.specs.ReportTexts.{report_rest_of, report_rows, report_text_of};
 
@@ -52,10 +53,7 @@ impl<'a> ReportText<'a> {
         match self {
             ReportText::Whole(rows) => write_report(alloc, &Report { rows }, out),
             ReportText::Chosen(chosen, shard) => write_chosen_report(alloc, chosen, shard, out),
-            ReportText::Into(into) => {
-                let rows = into.into_whole_rows();
-                write_report(alloc, &Report { rows }, out)
-            }
+            ReportText::Into(into) => write_whole_report(alloc, into, out),
         }
     }
 
@@ -73,12 +71,27 @@ impl<'a> ReportText<'a> {
         match self {
             ReportText::Whole(rows) => write_report(alloc, &Report { rows }, out),
             ReportText::Chosen(chosen, shard) => write_last_line(alloc, chosen, shard, out),
-            ReportText::Into(into) => {
-                let rows = into.into_whole_rows();
-                write_report(alloc, &Report { rows }, out)
-            }
+            ReportText::Into(into) => write_whole_report(alloc, into, out),
         }
     }
+}
+
+// Writes the whole report into which rows are put.
+fn write_whole_report<W: Sink>(
+    alloc: Global,
+    into: IntoRows<'_>,
+    out: &mut W,
+) -> Result<(), WriteError>
+    ensures all { OnOk result (Appends (W.taken out.old) (W.taken out.new)
+        (report_text (rows_put into.entry.chosen.places.now into.entry.chosen.rows into.entry.old))) }
+    ensures counted { OnOk result (W.failed out.new ≡ W.failed out.old) }
+    ensures part { OnErr result (AppendsBeginning (W.taken out.old) (W.taken out.new)
+        (report_text (rows_put into.entry.chosen.places.now into.entry.chosen.rows into.entry.old))) }
+    ensures failed { IfErr result (λ error. error ≡ WriteError.Failed
+        → HasRisen (W.failed out.old) (W.failed out.new)) }
+{
+    let rows = into.into_whole_rows();
+    write_report(alloc, &Report { rows }, out)
 }
 
 /// The report of rows: the whole one into which they are put, if there is one, else theirs alone.

@@ -1,8 +1,6 @@
-use Rattle.std.proofs.Common.{◌≡◌}
-use Rattle.std.specs.List.{concat}
 use Rattle.rv_fleet.specs.Batches.{batch_rows}
 use Rattle.rv_fleet.proofs.Public.{rows_count}
-use Rattle.rv_stream.proofs.Streaming.{nothing_out}
+use Rattle.rv_stream.proofs.Streaming.{counted_of_pieces}
 use Rattle.rv_stream.proofs.Tellings.{piece_told}
 use Rattle.rv_stream.proofs.both_streams.run_both_in_order.Goals as goal
 
@@ -27,3 +25,10 @@ run_places-rows-requires-after_bounds g c κs within =
           (batch_rows batch) group k c.requires.second.texts_told c.requires.second.size_given count
           c.args.crew.now.group_few.0 low,
     ))
+
+pub returns-clause-counted : goal.returns-clause-counted
+returns-clause-counted g c =
+    counted_of_pieces (λ ran. ran.next.0) (λ ran. ran.next.1) c.finish-out.result.1 c.finish-other.result.1 g.J.Streamed.failures
+    (g.W.Sink.failed c.finish-out.result.0) g.K.Streamed.failures (g.V.Sink.failed c.finish-other.result.0)
+    c.rows_and_next_pieces.result c.rows_and_next_pieces.ensures.first c.rows_and_next_pieces.ensures.second
+    c.finish-out.ensures.counted c.finish-other.ensures.counted c.rows_and_next_pieces.ensures.why

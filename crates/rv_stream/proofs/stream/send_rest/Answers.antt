@@ -1,4 +1,4 @@
-use Rattle.std.proofs.Common.{◌*◌, ◌-◌, ◌^◌, ℕ, List, length, drop, subst, arith, refl, sym}
+use Rattle.std.proofs.Common.{◌∙◌, ◌*◌, ℕ, List, length, drop, subst, sym}
 use Rattle.std.specs.Io.KnownBytes.{Appends}
 use Rattle.std.specs.List.{concat}
 use Rattle.rv_rows.specs.Sinks.{AppendsBeginning}
@@ -15,14 +15,13 @@ returns-clause-all g c =
     let texts = g.J.Streamed.texts in
     let before = g.W.Sink.taken c.args.out.now in
     let after = g.W.Sink.taken c.send_rows_from.new.out in
-    let same = sent_to texts c.args.next g.J.Streamed.group c.args.crew.now.group (2 ^ 64 - 1) c.saturating_mul.result
-    c.min-from.result (length rows) c.requires.size
-    (told_length line places rows texts c.requires.told c.requires.even ∙ sym c.requires.even)
-    (omega (arith, c.args.all.now.rows.type_inv)) c.saturating_mul.ensures c.min-from.ensures in
+    let same = sent_to texts c.args.next g.J.Streamed.group c.args.crew.now.group c.first_unsent-from.result (length rows)
+    c.requires.size (told_length line places rows texts c.requires.told c.requires.even ∙ sym c.requires.even)
+    c.first_unsent-from.ensures in
     on_ok c.send_rows_from.result _ _
-    (λ rest. all_sent g.J.Streamed.before before after texts (c.args.next * g.J.Streamed.group) c.min-from.result same
+    (λ rest. all_sent g.J.Streamed.before before after texts (c.args.next * g.J.Streamed.group) c.first_unsent-from.result same
     c.requires.sent
-    (subst (λ (l : List (List ℕ)). Appends before after (concat (drop c.min-from.result l))) (sym c.requires.told) rest))
+    (subst (λ (l : List (List ℕ)). Appends before after (concat (drop c.first_unsent-from.result l))) (sym c.requires.told) rest))
     c.send_rows_from.ensures.all
 
 pub returns-clause-part : goal.returns-clause-part
@@ -33,12 +32,11 @@ returns-clause-part g c =
     let texts = g.J.Streamed.texts in
     let before = g.W.Sink.taken c.args.out.now in
     let after = g.W.Sink.taken c.send_rows_from.new.out in
-    let same = sent_to texts c.args.next g.J.Streamed.group c.args.crew.now.group (2 ^ 64 - 1) c.saturating_mul.result
-    c.min-from.result (length rows) c.requires.size
-    (told_length line places rows texts c.requires.told c.requires.even ∙ sym c.requires.even)
-    (omega (arith, c.args.all.now.rows.type_inv)) c.saturating_mul.ensures c.min-from.ensures in
+    let same = sent_to texts c.args.next g.J.Streamed.group c.args.crew.now.group c.first_unsent-from.result (length rows)
+    c.requires.size (told_length line places rows texts c.requires.told c.requires.even ∙ sym c.requires.even)
+    c.first_unsent-from.ensures in
     on_err c.send_rows_from.result _ _
-    (λ rest. part_sent g.J.Streamed.before before after texts (c.args.next * g.J.Streamed.group) c.min-from.result same
+    (λ rest. part_sent g.J.Streamed.before before after texts (c.args.next * g.J.Streamed.group) c.first_unsent-from.result same
     c.requires.sent
-    (subst (λ (l : List (List ℕ)). AppendsBeginning before after (concat (drop c.min-from.result l))) (sym c.requires.told) rest))
+    (subst (λ (l : List (List ℕ)). AppendsBeginning before after (concat (drop c.first_unsent-from.result l))) (sym c.requires.told) rest))
     c.send_rows_from.ensures.part
