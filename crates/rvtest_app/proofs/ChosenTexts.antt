@@ -4,7 +4,7 @@ use Rattle.std.proofs.Common.{ap, arith, get_or, length, refl, sym}
 use Rattle.std.proofs.lemmas.Bool.{eqb-true}
 use Rattle.std.specs.List.{All}
 use Rattle.std.specs.List.Sorted.{IsStrictlyIncreasing}
-use Rattle.std.specs.Prelude.{if◌then◌else◌}
+use Rattle.std.specs.Prelude.{if◌then◌else◌, is_some}
 use Rattle.rv_report.specs.Report.{done_line, report_text, row_text, rows_text}
 use Rattle.rv_report.specs.Saved.{extent_line, numbered_text, saved_text}
 use Rattle.rv_report.specs.declared.row.Row.{Row}
@@ -85,3 +85,14 @@ pub run_report_split : (old : Option (List Row)) (jobs : ℕ) (places : List ℕ
     → rows_ahead old places rows ++ run_report_rest old jobs places shard rows ≡ run_report_text old jobs places shard rows
 run_report_split None jobs places shard rows up within even = sym (chosen_split jobs places shard rows up within even)
 run_report_split (Some old) jobs places shard rows up within even = refl
+
+-- nothing goes ahead where the rows are put into another report, and else what a report says of each
+pub none_ahead : (old : Option (List Row)) (places : List ℕ) (rows : List Row) → is_some old ≡ true
+    → rows_ahead old places rows ≡ []
+none_ahead (Some old) places rows is = refl
+none_ahead None places rows is = absurd cc
+
+pub all_ahead : (old : Option (List Row)) (places : List ℕ) (rows : List Row) → is_some old ≡ false
+    → rows_ahead old places rows ≡ joined_row_texts row_text places rows
+all_ahead None places rows is = refl
+all_ahead (Some old) places rows is = absurd cc

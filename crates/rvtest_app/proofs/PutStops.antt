@@ -103,3 +103,7 @@ put_of_rows report junit why = ⊎_elim (put_of_stream report junit why) (of_row
         → (why ≡ stop.NoWorker) ⊎ IsPutStop report junit why
     of_rows (Some path) is = inr (inr (inr (inl (inr is))))
     of_rows None is = elim is [ ]
+
+-- a run whose rows go to no file
+pub rows_stop_nowhere : (report : Option (List ℕ)) (why : Stop) → IsRowsStop None why → IsRowsStop report why
+rows_stop_nowhere report why = ⊎_elim inl (λ is. elim is [ ])

@@ -78,8 +78,17 @@ module _ {P W : Type 0} (place_path : P → List ℕ) (taken : W → Option (Lis
   taken_more None path had text (outlet.File before) (outlet.File after) has put named =
       rw put.0 (has.0, (has.1.0, (tt, put.1.1 ∙ has.1.1.1, same_inside _ _ named ∙ has.1.1.2)))
   taken_more (Some placed) path had text (outlet.File before) (outlet.File after) has put named =
-      rw put.0 (has.0, (has.1.0, (taken_text (taken before.sink) (taken after.sink) had text has.1.1.0 put.1.0,
-      put.1.1 ∙ has.1.1.1, same_inside _ _ named ∙ has.1.1.2)))
+      rw put.0 (
+        has.0,
+        (
+          has.1.0,
+          (
+            taken_text (taken before.sink) (taken after.sink) had text has.1.1.0 put.1.0,
+            put.1.1 ∙ has.1.1.1,
+            same_inside _ _ named ∙ has.1.1.2,
+          ),
+        ),
+      )
   taken_more placed path had text outlet.Nowhere outlet.Out has put named = elim put [ ]
   taken_more placed path had text outlet.Nowhere (outlet.File after) has put named = elim put [ ]
   taken_more placed path had text outlet.Out outlet.Nowhere has put named = elim put [ ]
