@@ -2,15 +2,15 @@
 # What bash offers behind `rvtest` and `rvfleet`: their commands, the options of each, files, and the names of a list's jobs.
 _rvfleet_options() {
     case "$1 $2" in
-        'rvtest run') echo '--only --match --exclude --failed --shard --stamp --workers --group --budget --root --into --report --junit --suite --lenient --known --stop-after --verbose --quiet --last --color --help' ;;
-        'rvtest list') echo '--only --match --exclude --failed --lenient --help' ;;
+        'rvtest run') echo '--only --match --exclude --failed --partial --shard --stamp --workers --group --budget --root --into --report --junit --suite --lenient --known --stop-after --verbose --quiet --last --color --help' ;;
+        'rvtest list') echo '--only --match --exclude --failed --partial --lenient --help' ;;
         'rvtest explain') echo '--last --budget --root --color --help' ;;
         'rvtest console') echo '--root --help' ;;
         'rvtest check') echo '--root --help' ;;
-        'rvtest accept') echo '--only --match --exclude --failed --ends --check --workers --group --root --help' ;;
+        'rvtest accept') echo '--only --match --exclude --failed --partial --ends --check --workers --group --root --help' ;;
         'rvtest merge') echo '--report --junit --suite --lenient --help' ;;
-        'rvtest diff') echo '--steps --slower --color --help' ;;
-        'rvtest show') echo '--junit --suite --lenient --color --help' ;;
+        'rvtest diff') echo '--partial --steps --slower --color --help' ;;
+        'rvtest show') echo '--partial --junit --suite --lenient --color --help' ;;
         'rvtest help') echo ' --help' ;;
         'rvfleet raw') echo '--budget --help' ;;
         'rvfleet one') echo '--budget --input-hex --help' ;;

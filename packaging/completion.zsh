@@ -40,6 +40,7 @@ _rvfleet_behind_rvtest() {
                 '--match[Chooses the jobs in whose names it is found]:REGEX: ' \
                 '--exclude[Leaves out the jobs in whose names it is found]:REGEX: ' \
                 '--failed[Chooses the jobs that failed in a report]:REPORT:_files' \
+                '--partial[Takes a report that is cut off by its whole rows]' \
                 '--shard[Runs the K-th of N parts of the list]:K/N: ' \
                 '--stamp[Says which run the part is of; else a digest of the list]:TEXT: ' \
                 ''{-j,--workers}'[Threads, from 1 to 64; else one a processor]:N: ' \
@@ -64,6 +65,7 @@ _rvfleet_behind_rvtest() {
                 '--match[Chooses the jobs in whose names it is found]:REGEX: ' \
                 '--exclude[Leaves out the jobs in whose names it is found]:REGEX: ' \
                 '--failed[Chooses the jobs that failed in a report]:REPORT:_files' \
+                '--partial[Takes a report that is cut off by its whole rows]' \
                 '--lenient[Counts as failed only what misses an expectation]' \
                 '--help[Print help]' \
                 ':LIST:_files' ;;
@@ -89,6 +91,7 @@ _rvfleet_behind_rvtest() {
                 '--match[Chooses the jobs in whose names it is found]:REGEX: ' \
                 '--exclude[Leaves out the jobs in whose names it is found]:REGEX: ' \
                 '--failed[Chooses the jobs that failed in a report]:REPORT:_files' \
+                '--partial[Takes a report that is cut off by its whole rows]' \
                 '--ends[Accepts another exit code too, and another kind of fault]' \
                 '--check[Tells what would change, and writes nothing]' \
                 ''{-j,--workers}'[Threads, from 1 to 64; else one a processor]:N: ' \
@@ -104,6 +107,7 @@ _rvfleet_behind_rvtest() {
                 '--help[Print help]' \
                 '*:PART:_files' ;;
         diff) _arguments \
+                '--partial[Takes a report that is cut off by its whole rows]' \
                 '--steps[Compares steps too, and where faults were]' \
                 '--slower[Says which jobs take over N percent more steps, from 0 to 1000]:N: ' \
                 '--color[Colors\: always, never, or auto, which is on a terminal]:WHEN:(always never auto)' \
@@ -111,6 +115,7 @@ _rvfleet_behind_rvtest() {
                 ':OLD:_files' \
                 ':NEW:_files' ;;
         show) _arguments \
+                '--partial[Takes a report that is cut off by its whole rows]' \
                 '--junit[Writes JUnit XML to this file; - is standard output]:FILE:_files' \
                 '--suite[Names the suite in JUnit XML, in place of the file]:NAME: ' \
                 '--lenient[Counts as failed only what misses an expectation]' \
