@@ -113,10 +113,14 @@ with_table_command app stated = with_subcommand app (subcommand_app stated).top
 abbrev pub with_subcommands : App → List Subcommand → App
 with_subcommands = fold with_table_command
 
--- [--only <NAME>].. [--match <REGEX>] [--exclude <REGEX>] [--failed <REPORT>]
+-- [--partial]
+abbrev pub with_partial : App → App
+with_partial app = with_rule app (flag_rule (codes "partial"))
+
+-- [--only <NAME>].. [--match <REGEX>] [--exclude <REGEX>] [--failed <REPORT>] [--partial]
 abbrev pub with_choice : App → App
-with_choice app = with_rule (with_rule (with_rule (with_rule app only_rule)
-    (option_rule (codes "match"))) (option_rule (codes "exclude"))) (option_rule (codes "failed"))
+with_choice app = with_partial (with_rule (with_rule (with_rule (with_rule app only_rule)
+    (option_rule (codes "match"))) (option_rule (codes "exclude"))) (option_rule (codes "failed")))
 
 -- [--shard <K/N>] [--stamp <TEXT>]
 abbrev pub with_shard : App → App
@@ -166,7 +170,7 @@ test_run_app =
     with_results (with_stop_after (with_known (with_files (with_into (with_machine (with_shard (with_choice
     (app_of_list (codes "run")))))))))
 
--- list <LIST> [--only <NAME>].. [--match <REGEX>] [--exclude <REGEX>] [--failed <REPORT>] [--lenient]
+-- list <LIST> [--only <NAME>].. [--match <REGEX>] [--exclude <REGEX>] [--failed <REPORT>] [--partial] [--lenient]
 abbrev pub list_app : App
 list_app = with_rule (with_choice (app_of_list (codes "list"))) (flag_rule (codes "lenient"))
 
@@ -174,7 +178,7 @@ list_app = with_rule (with_choice (app_of_list (codes "list"))) (flag_rule (code
 abbrev pub with_threads : App → App
 with_threads app = with_rule (with_rule (with_rule app test_workers_rule) group_rule) (option_rule (codes "root"))
 
--- accept <LIST> [--only <NAME>].. [--match <REGEX>] [--exclude <REGEX>] [--failed <REPORT>] [--ends] [--check]
+-- accept <LIST> [--only <NAME>].. [--match <REGEX>] [--exclude <REGEX>] [--failed <REPORT>] [--partial] [--ends] [--check]
 -- [--workers <N>] [--group <N>] [--root <DIR>]
 abbrev pub accept_app : App
 accept_app = with_threads (with_rule (with_rule (with_choice (app_of_list (codes "accept"))) (flag_rule (codes "ends")))
@@ -207,14 +211,15 @@ merge_app = with_files (with_rule (new_app (codes "merge")) parts_rule)
 abbrev pub most_slower : ℕ
 most_slower = 1000
 
--- diff <OLD> <NEW> [--steps | --slower <N>] [--color <WHEN>]
+-- diff <OLD> <NEW> [--partial] [--steps | --slower <N>] [--color <WHEN>]
 abbrev pub diff_app : App
-diff_app = with_color (with_rule (with_rule (with_rule (with_rule (new_app (codes "diff")) (word_rule (codes "old")))
-    (word_rule (codes "new"))) (flag_rule (codes "steps"))) (number_rule (codes "slower") (pos 0) (pos most_slower) []))
+diff_app = with_color (with_rule (with_rule (with_partial (with_rule (with_rule (new_app (codes "diff"))
+    (word_rule (codes "old"))) (word_rule (codes "new")))) (flag_rule (codes "steps")))
+    (number_rule (codes "slower") (pos 0) (pos most_slower) []))
 
--- show <REPORT> [--junit <FILE>] [--suite <NAME>] [--lenient] [--color <WHEN>]
+-- show <REPORT> [--partial] [--junit <FILE>] [--suite <NAME>] [--lenient] [--color <WHEN>]
 abbrev pub show_app : App
-show_app = with_color (with_junit (with_rule (new_app (codes "show")) (word_rule (codes "report"))))
+show_app = with_color (with_junit (with_partial (with_rule (new_app (codes "show")) (word_rule (codes "report")))))
 
 -- a subcommand is required, the help of `clap` is none of them, and there is a version
 abbrev pub test_top_app : App

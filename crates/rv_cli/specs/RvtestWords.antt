@@ -33,6 +33,7 @@ pub record RunWords : Type 0 where
   pub pattern : Option Text
   pub exclude : Option Text
   pub failed : Option Text
+  pub partial : Bool
   pub shard : Option Text
   pub stamp : Option Text
   pub workers : Option ℕ
@@ -71,6 +72,7 @@ pub record MergeWords : Type 0 where
 -- a report that is to be shown, with the path of a JUnit file, by the lenient rule or the strict one
 pub record ShowWords : Type 0 where
   pub report : Text
+  pub partial : Bool
   pub junit : Option Text
   pub suite : Option Text
   pub lenient : Bool
@@ -80,6 +82,7 @@ pub record ShowWords : Type 0 where
 pub record DiffWords : Type 0 where
   pub old : Text
   pub new : Text
+  pub partial : Bool
   pub steps : Bool
   pub slower : Option ℕ
   pub color : Option Text
@@ -120,6 +123,7 @@ run_words list group rows = record {
   pattern = first_of (codes "match") rows;
   exclude = first_of (codes "exclude") rows;
   failed = first_of (codes "failed") rows;
+  partial = is_flag_set (codes "partial") rows;
   shard = first_of (codes "shard") rows;
   stamp = first_of (codes "stamp") rows;
   workers = number_value (codes "workers") 1 most_workers rows;
@@ -193,6 +197,7 @@ abbrev pub diff_words : List Row → Text → Text → Words
 diff_words rows old new = diff (record {
   old = old;
   new = new;
+  partial = is_flag_set (codes "partial") rows;
   steps = is_flag_set (codes "steps") rows;
   slower = number_value (codes "slower") 0 most_slower rows;
   color = first_of (codes "color") rows;
@@ -205,6 +210,7 @@ diff_request rows = option_and_then (λ old. option_map (diff_words rows old)
 abbrev pub show_words : List Row → Text → Words
 show_words rows report = show (record {
   report = report;
+  partial = is_flag_set (codes "partial") rows;
   junit = first_of (codes "junit") rows;
   suite = first_of (codes "suite") rows;
   lenient = is_flag_set (codes "lenient") rows;
@@ -265,6 +271,10 @@ is_choice_given rows = is_option_given (codes "only") rows
     || (is_option_given (codes "match") rows
     || (is_option_given (codes "exclude") rows || is_option_given (codes "failed") rows))
 
+-- a report that may be cut off is none that chooses jobs
+abbrev pub is_partial_alone : List Row → Bool
+is_partial_alone rows = is_flag_set (codes "partial") rows && not (is_option_given (codes "failed") rows)
+
 -- a report goes out: of the rows of the run alone, or of a whole list, into which they are put
 abbrev pub is_report_given : List Row → Bool
 is_report_given rows = is_option_given (codes "report") rows || is_option_given (codes "into") rows
@@ -305,10 +315,14 @@ files_misuse rows =
     else if option_map_or (λ path. is_into_path path rows) (first_of (codes "junit") rows) false
     then Some misuse.IntoOneFile else suite_misuse rows
 
+-- what is wrong with words that choose jobs
+abbrev pub choice_misuse : List Row → Option Misuse
+choice_misuse rows = if is_partial_alone rows then Some misuse.PartialAlone else None
+
 -- the first of the rules that options of `run` break: --verbose and --quiet do not stand beside
 -- one another, nor a shard beside a choice, nor a budget beside what makes rows that a list is known by, nor an end behind a failure
 -- beside a shard, nor a report of the rows beside one that they are put into, which is a file; a stamp is a shard's; a report that
--- chooses jobs keeps its other rows; the two files are not one, and a suite is one of them
+-- chooses jobs keeps its other rows, and may be cut off; the two files are not one, and a suite is one of them
 abbrev pub run_misuse : List Row → Option Misuse
 run_misuse rows = if is_flag_set (codes "verbose") rows && is_flag_set (codes "quiet") rows
     then Some misuse.VerboseAndQuiet
@@ -321,6 +335,7 @@ run_misuse rows = if is_flag_set (codes "verbose") rows && is_flag_set (codes "q
     else if are_rows_put_twice rows then Some misuse.IntoAndReport
     else if is_stdout_put_into rows then Some misuse.IntoStdout
     else if is_choice_overwritten rows then Some misuse.FailedIsReport
+    else if is_partial_alone rows then Some misuse.PartialAlone
     else if is_color_unknown rows then Some misuse.UnknownColor
     else files_misuse rows
 
@@ -336,6 +351,7 @@ show_misuse rows = if is_color_unknown rows then Some misuse.UnknownColor else s
 abbrev pub misuse_kinds : Option Misuse → Kinds
 misuse_kinds None = []
 misuse_kinds (Some misuse.StampAlone) = kind.MissingRequiredArgument ∷ []
+misuse_kinds (Some misuse.PartialAlone) = kind.MissingRequiredArgument ∷ []
 misuse_kinds (Some misuse.SuiteAlone) = kind.MissingRequiredArgument ∷ []
 misuse_kinds (Some misuse.NamelessSuite) = kind.InvalidValue ∷ []
 misuse_kinds (Some misuse.UnknownColor) = kind.InvalidValue ∷ []
@@ -358,6 +374,7 @@ misuse_text misuse.IntoStdout =
     codes "the value of '--into <FILE>' is a file, and not '-': the report is read there before it is written"
 misuse_text misuse.FailedIsReport =
     codes "the argument '--report <FILE>' cannot be used with '--failed <REPORT>' of the same name: the rows of the other jobs would be lost; '--into <FILE>' keeps them"
+misuse_text misuse.PartialAlone = codes "the argument '--partial' cannot be used without '--failed <REPORT>'"
 misuse_text misuse.StepsAndSlower = codes "the argument '--steps' cannot be used with '--slower <N>'"
 misuse_text misuse.SuiteAlone = codes "the argument '--suite <NAME>' cannot be used without '--junit <FILE>'"
 misuse_text misuse.NamelessSuite = codes "a value is required for '--suite <NAME>' but none was supplied"
@@ -370,6 +387,8 @@ misuse_text misuse.IntoOneFile =
 -- the faults of a subcommand with these values that `clap` does not look for
 abbrev pub subcommand_fault_kinds : Text → List Row → Kinds
 subcommand_fault_kinds name rows = if bytes_eq name (codes "run") then misuse_kinds (run_misuse rows)
+    else if bytes_eq name (codes "list") then misuse_kinds (choice_misuse rows)
+    else if bytes_eq name (codes "accept") then misuse_kinds (choice_misuse rows)
     else if bytes_eq name (codes "merge") then misuse_kinds (files_misuse rows)
     else if bytes_eq name (codes "diff") then misuse_kinds (diff_misuse rows)
     else if bytes_eq name (codes "show") then misuse_kinds (show_misuse rows)
@@ -397,6 +416,7 @@ run_asked_words value = record {
   pattern = borrowed_text value.pattern;
   exclude = borrowed_text value.exclude;
   failed = borrowed_text value.failed;
+  partial = value.partial;
   shard = borrowed_text value.shard;
   stamp = borrowed_text value.stamp;
   workers = value.workers;
@@ -438,6 +458,7 @@ merge_asked_words value = record {
 abbrev pub show_asked_words : ShowAsked → ShowWords
 show_asked_words value = record {
   report = value.report.now;
+  partial = value.partial;
   junit = borrowed_text value.junit;
   suite = borrowed_text value.suite;
   lenient = value.lenient;
@@ -448,6 +469,7 @@ abbrev pub diff_asked_words : DiffAsked → DiffWords
 diff_asked_words value = record {
   old = value.old.now;
   new = value.new.now;
+  partial = value.partial;
   steps = value.steps;
   slower = value.slower;
   color = borrowed_text value.color;

@@ -1,9 +1,10 @@
 -- The messages that go to standard error.
-use Rattle.std.specs.Prelude.{◌≡◌, ◌⊎◌, ◌++◌, ℕ, Bool, true, List, [], Option, codes}
+use Rattle.std.specs.Prelude.{◌≡◌, ◌⊎◌, ◌++◌, if◌then◌else◌, ℕ, Bool, true, List, [], Option, codes, length}
 use Rattle.std.specs.Fmt.{decimal}
 use Rattle.std.specs.Io.KnownBytes.{Appends}
 use Rattle.rv_base.specs.Counts.{one_more}
 use Rattle.rv_base.specs.Sinks.{AppendsBeginning}
+use Rattle.rv_report.specs.declared.partial.PartialReport.{PartialReport}
 use Rattle.rv_text.specs.Printable.{printable_text}
 use Rattle.rv_command.specs.declared.stop.Stop.{Stop}
 use Rattle.rv_command.specs.declared.stop.Stop.TheVariants as stop
@@ -22,6 +23,12 @@ path_message path what = codes "rvtest: " ++ printable_text path ++ codes ": " +
 abbrev pub path_number_message : List ℕ → List ℕ → ℕ → List ℕ → List ℕ
 path_number_message path place number what =
     codes "rvtest: " ++ printable_text path ++ place ++ decimal number ++ what
+
+-- how many whole rows a report has that is cut off, and of another one nothing
+abbrev pub cut_off_note : List ℕ → PartialReport → List ℕ
+cut_off_note path read = if read.is_cut_off
+    then path_number_message path (codes ": the report is cut off; whole rows: ") (length read.report.rows) (codes "\n")
+    else []
 
 -- why a command ended before its work was done
 abbrev pub stop_message : Stop → List ℕ

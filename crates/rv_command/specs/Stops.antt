@@ -1,5 +1,5 @@
 -- The statuses of commands that end before their work is done, and what these commands tell.
-use Rattle.std.specs.Prelude.{◌≡◌, ◌⊎◌, ◌<◌, ◌+◌, ℕ, Bool, true, List, [], ◌∷◌, IfSome, IsSomeAnd, Option, None, Result, Ok, Err, Vec, codes, length}
+use Rattle.std.specs.Prelude.{◌≡◌, ◌⊎◌, ◌<◌, ◌+◌, ℕ, Bool, true, false, List, [], ◌∷◌, IfSome, IsSomeAnd, Option, None, Result, Ok, Err, Vec, codes, length}
 use Rattle.std.specs.declared.alloc.AllocError.{AllocError}
 use Rattle.std.specs.declared.alloc.Global.{Global}
 use Rattle.std.specs.declared.io.ErrorKind.{ErrorKind}
@@ -124,3 +124,21 @@ pub record IsReportFaultStop (path bytes : List ℕ) (stop : Stop) : Type 0 wher
 abbrev pub IsReportUnreadStop : Option FileContents → List ℕ → Stop → Type 0
 IsReportUnreadStop known path stop = IsUnreadStop known path stop
     ⊎ ((bytes : List ℕ) × IsTextAt known path bytes × IsReportFaultStop path bytes stop)
+
+-- ---- reports that may be cut off
+
+-- memory was wanting, or the least line is told that no report begins with; each beginning of a report is taken
+pub record IsPartialFaultStop (path bytes : List ℕ) (stop : Stop) : Type 0 where
+  pub told : (stop ≡ why.OutOfMemory)
+      ⊎ ((line : ℕ) × IsLeastRefusedLine line bytes × IsLineStop path bytes line stop)
+  pub beginning : BeginsReport bytes → stop ≡ why.OutOfMemory
+
+-- a text is no report, or, where one that is cut off is taken, none either
+abbrev pub IsRequestedFaultStop : Bool → List ℕ → List ℕ → Stop → Type 0
+IsRequestedFaultStop false path bytes stop = IsReportFaultStop path bytes stop
+IsRequestedFaultStop true path bytes stop = IsPartialFaultStop path bytes stop
+
+-- the path was not read, or what stands there is none
+abbrev pub IsRequestedUnreadStop : Option FileContents → Bool → List ℕ → Stop → Type 0
+IsRequestedUnreadStop known partial path stop = IsUnreadStop known path stop
+    ⊎ ((bytes : List ℕ) × IsTextAt known path bytes × IsRequestedFaultStop partial path bytes stop)

@@ -1,8 +1,10 @@
 -- The texts that commands read.
-use Rattle.std.specs.Prelude.{◌≡◌, ℕ, List, IfSome, Option, Some, option_map}
+use Rattle.std.specs.Prelude.{◌≡◌, ℕ, Bool, true, List, IfSome, Option, Some, option_map}
 use Rattle.std.specs.Borrow.{Bor}
 use Rattle.rv_base.specs.Files.{FileContents}
+use Rattle.rv_report.specs.Partial.{IsReadAs}
 use Rattle.rv_report.specs.Saved.{IsSaved, saved_text}
+use Rattle.rv_report.specs.declared.partial.PartialReport.{PartialReport}
 use Rattle.rv_report.specs.declared.saved.SavedReport.{SavedReport}
 
 -- the text is what stands at the path, where that is known
@@ -23,3 +25,15 @@ pub record IsReportAt (known : Option FileContents) (path : List ℕ) (report : 
   pub bytes : List ℕ
   pub read : IsTextAt known path bytes
   pub of : IsReportText bytes report
+
+-- a text is read as a report, which may be cut off where that is taken
+pub record IsReportRead (partial : Bool) (bytes : List ℕ) (read : PartialReport) : Type 0 where
+  pub is : IsReadAs bytes read.is_cut_off read.report
+  pub taken : read.is_cut_off ≡ true → partial ≡ true
+
+-- the same of what stands at a path
+pub record IsReportReadAt (known : Option FileContents) (partial : Bool) (path : List ℕ) (read : PartialReport)
+    : Type 0 where
+  pub bytes : List ℕ
+  pub found : IsTextAt known path bytes
+  pub of : IsReportRead partial bytes read

@@ -22,6 +22,7 @@ pub mod KeptRows
 pub mod KeptReport
 pub mod LeastLine
 pub mod LeastTold
+mod PartialReports
 pub mod CutText
 pub mod CutWord
 pub mod NextRow

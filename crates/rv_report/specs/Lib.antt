@@ -4,6 +4,7 @@ pub mod LenientReport
 pub mod View
 pub mod Differences
 pub mod LeastLine
+pub mod Partial
 pub use Rattle.rv_elf.specs.Image
 pub use Rattle.rv_elf.specs.Loading
 pub use Rattle.rv_elf.specs.Rows

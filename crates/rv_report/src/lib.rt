@@ -13,6 +13,7 @@ mod law;
 mod lenient_reader;
 mod lines;
 mod names;
+mod partial;
 mod read;
 mod report;
 mod row;
@@ -22,6 +23,7 @@ mod saved_writer;
 mod signature_lines;
 
 pub use law::{lines_of_a_report_stay, one_text_one_report, whole_text_is_report_text};
+pub use partial::{PartialReport, read_partial_report};
 pub use read::{ReadError, read_report};
 pub use report::{Report, Rows, WriteError, write_report};
 pub use row::{Refusal, Row, RowEnd, Verdict, Words};

@@ -2,8 +2,10 @@
 
 ghost use Rattle.std.specs.Prelude.{[]};
 ghost use Rattle.clap.specs.Words.{found_of, rows_of};
-ghost use Rattle.rv_cli.specs.RvtestWords.{ReadsRequest, accept_request};
+ghost use Rattle.rv_cli.specs.RvtestWords.{ReadsRequest, accept_request, choice_misuse, misuse_kinds};
 
+use crate::rvtest::command::accept_command;
+use crate::rvtest::refusals::choice_misuse;
 use crate::rvtest::requests::Asked;
 use crate::rvtest::run::{RunAsked, run_asked};
 use crate::values::{is_flag_set, number_value, text_value};
@@ -22,8 +24,21 @@ pub struct AcceptAsked<'a> {
     pub check: bool,
 }
 
-/// What the values of `accept` ask for.
+/// What the values of `accept` ask for, or which rule its options break.
 pub(crate) fn accept_request<'a>(
+    alloc: Global,
+    values: &ArgMatches<'a>,
+) -> Result<Option<Asked<'a>>, Error>
+    ensures { ReadsRequest (accept_request (rows_of (found_of values.now)))
+        (misuse_kinds (choice_misuse (rows_of (found_of values.now)))) result }
+{
+    match choice_misuse(values) {
+        Some(misuse) => Err(misuse.misuse_error(accept_command(alloc))),
+        None => valid_accept_request(alloc, values),
+    }
+}
+
+fn valid_accept_request<'a>(
     alloc: Global,
     values: &ArgMatches<'a>,
 ) -> Result<Option<Asked<'a>>, Error>

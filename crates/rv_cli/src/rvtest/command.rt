@@ -94,7 +94,7 @@ impl ChoosingCommand {
 }
 
 /// The command `rvtest list`, whose usage a refusal of its words shows.
-fn list_command<'a>(alloc: Global) -> Result<Command<'a>, AllocError>
+pub(crate) fn list_command<'a>(alloc: Global) -> Result<Command<'a>, AllocError>
     ensures { IfOk result (λ command.
         (app_of command ≡ list_app) × ((out-Command command).has_globals ≡ false)) }
 {
@@ -102,7 +102,7 @@ fn list_command<'a>(alloc: Global) -> Result<Command<'a>, AllocError>
 }
 
 /// The command `rvtest accept`, whose usage a refusal of its words shows.
-fn accept_command<'a>(alloc: Global) -> Result<Command<'a>, AllocError>
+pub(crate) fn accept_command<'a>(alloc: Global) -> Result<Command<'a>, AllocError>
     ensures { IfOk result (λ command.
         (app_of command ≡ accept_app) × ((out-Command command).has_globals ≡ false)) }
 {

@@ -18,6 +18,8 @@ pub struct DiffAsked<'a> {
     pub old: &'a str,
     /// Path of the report that is compared.
     pub new: &'a str,
+    /// Whether a report may be cut off.
+    pub partial: bool,
     /// Whether steps count too, and the places and values of faults.
     pub steps: bool,
     /// Whether a job counts too that takes over so many percent more steps, up to 1,000.
@@ -45,12 +47,14 @@ fn valid_diff_request<'a>(values: &ArgMatches<'a>) -> Option<Asked<'a>>
 {
     let old = text_value(values, "old")?;
     let new = text_value(values, "new")?;
+    let partial = is_flag_set(values, "partial");
     let steps = is_flag_set(values, "steps");
     let slower = number_value(values, "slower", 0, 1_000);
     let color = text_value(values, "color");
     Some(Asked::Diff(DiffAsked {
         old,
         new,
+        partial,
         steps,
         slower,
         color,

@@ -2,16 +2,31 @@
 
 ghost use Rattle.std.specs.Prelude.{[]};
 ghost use Rattle.clap.specs.Words.{found_of, rows_of};
-ghost use Rattle.rv_cli.specs.RvtestWords.{ReadsRequest, list_request};
+ghost use Rattle.rv_cli.specs.RvtestWords.{ReadsRequest, choice_misuse, list_request, misuse_kinds};
 
+use crate::rvtest::command::list_command;
+use crate::rvtest::refusals::choice_misuse;
 use crate::rvtest::requests::Asked;
 use crate::rvtest::run::run_asked;
 use crate::values::text_value;
 use clap::{ArgMatches, Error};
 use std::alloc::Global;
 
-/// What the values of `list` ask for.
+/// What the values of `list` ask for, or which rule its options break.
 pub(crate) fn list_request<'a>(
+    alloc: Global,
+    values: &ArgMatches<'a>,
+) -> Result<Option<Asked<'a>>, Error>
+    ensures { ReadsRequest (list_request (rows_of (found_of values.now)))
+        (misuse_kinds (choice_misuse (rows_of (found_of values.now)))) result }
+{
+    match choice_misuse(values) {
+        Some(misuse) => Err(misuse.misuse_error(list_command(alloc))),
+        None => valid_list_request(alloc, values),
+    }
+}
+
+fn valid_list_request<'a>(
     alloc: Global,
     values: &ArgMatches<'a>,
 ) -> Result<Option<Asked<'a>>, Error>

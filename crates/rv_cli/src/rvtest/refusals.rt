@@ -2,10 +2,11 @@
 
 ghost use Rattle.std.specs.Prelude.{◌≡◌, [], ◌∷◌, Some};
 ghost use Rattle.clap.specs.Words.{HasKind, found_of, rows_of};
-ghost use Rattle.rv_cli.specs.RvtestWords.{color_misuse, files_misuse, is_color_unknown, is_color_word, is_into_path, is_report_path, is_suite_nameless};
+ghost use Rattle.rv_cli.specs.RvtestWords.{choice_misuse, color_misuse, files_misuse, is_color_unknown, is_color_word, is_into_path, is_partial_alone};
+ghost use Rattle.rv_cli.specs.RvtestWords.{is_report_path, is_suite_nameless};
 ghost use Rattle.rv_cli.specs.RvtestWords.{misuse_kinds, misuse_text, show_misuse, suite_misuse};
 
-use crate::values::{is_option_given, text_value};
+use crate::values::{is_flag_set, is_option_given, text_value};
 use clap::error::ErrorKind;
 use clap::{ArgMatches, Command, Error};
 use std::alloc::AllocError;
@@ -29,6 +30,8 @@ pub(crate) enum Misuse {
     IntoStdout,
     /// A report of the rows at the path of the one that chooses them.
     FailedIsReport,
+    /// A report that may be cut off, of which no job is chosen.
+    PartialAlone,
     /// Steps compared exactly, and by which jobs are slower.
     StepsAndSlower,
     /// A suite without JUnit's XML.
@@ -55,7 +58,9 @@ impl Misuse {
         ensures { misuse_kinds (Some self) ≡ result ∷ [] }
     {
         match self {
-            Misuse::StampAlone | Misuse::SuiteAlone => ErrorKind::MissingRequiredArgument,
+            Misuse::StampAlone | Misuse::PartialAlone | Misuse::SuiteAlone => {
+                ErrorKind::MissingRequiredArgument
+            }
             Misuse::NamelessSuite | Misuse::UnknownColor | Misuse::IntoStdout => {
                 ErrorKind::InvalidValue
             }
@@ -97,6 +102,9 @@ impl Misuse {
             Misuse::FailedIsReport => {
                 "the argument '--report <FILE>' cannot be used with '--failed <REPORT>' of the same name: the rows of the other jobs would be lost; '--into <FILE>' keeps them"
             }
+            Misuse::PartialAlone => {
+                "the argument '--partial' cannot be used without '--failed <REPORT>'"
+            }
             Misuse::StepsAndSlower => {
                 "the argument '--steps' cannot be used with '--slower <N>'"
             }
@@ -115,6 +123,24 @@ impl Misuse {
             }
         }
     }
+}
+
+/// What is wrong with words that choose jobs.
+pub(crate) fn choice_misuse(values: &ArgMatches<'_>) -> Option<Misuse>
+    ensures { result ≡ choice_misuse (rows_of (found_of values.now)) }
+{
+    if is_partial_alone(values) {
+        Some(Misuse::PartialAlone)
+    } else {
+        None
+    }
+}
+
+/// Whether a report may be cut off that is none.
+pub(crate) fn is_partial_alone(values: &ArgMatches<'_>) -> bool
+    ensures { result ≡ is_partial_alone (rows_of (found_of values.now)) }
+{
+    is_flag_set(values, "partial") && !is_option_given(values, "failed")
 }
 
 /// A report and JUnit's XML may not go to one file, and a suite is of JUnit's XML.

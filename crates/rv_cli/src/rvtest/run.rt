@@ -8,7 +8,7 @@ ghost use Rattle.rv_cli.specs.RvtestWords.{run_misuse, test_run_request, run_wor
 
 use crate::rvtest::command::run_command;
 use crate::rvtest::refusals::{
-    Misuse, files_misuse, is_color_unknown, is_into_path, is_report_path,
+    Misuse, files_misuse, is_color_unknown, is_into_path, is_partial_alone, is_report_path,
 };
 use crate::rvtest::requests::Asked;
 use crate::values::{argument_values, is_flag_set, is_option_given, number_value, text_value};
@@ -29,6 +29,8 @@ pub struct RunAsked<'a> {
     pub exclude: Option<&'a str>,
     /// Path of a report: jobs that failed in it are chosen.
     pub failed: Option<&'a str>,
+    /// Whether that report may be cut off.
+    pub partial: bool,
     /// Which part of the list is to run, as `K/N`.
     pub shard: Option<&'a str>,
     /// Which run the part is of.
@@ -108,6 +110,7 @@ pub(crate) fn run_asked<'a>(
         pattern: text_value(values, "match"),
         exclude: text_value(values, "exclude"),
         failed: text_value(values, "failed"),
+        partial: is_flag_set(values, "partial"),
         shard: text_value(values, "shard"),
         stamp: text_value(values, "stamp"),
         workers: number_value(values, "workers", 1, MOST_WORKERS),
@@ -149,6 +152,8 @@ fn run_misuse(values: &ArgMatches<'_>) -> Option<Misuse>
         Some(Misuse::IntoStdout)
     } else if is_choice_overwritten(values) {
         Some(Misuse::FailedIsReport)
+    } else if is_partial_alone(values) {
+        Some(Misuse::PartialAlone)
     } else if is_color_unknown(values) {
         Some(Misuse::UnknownColor)
     } else {

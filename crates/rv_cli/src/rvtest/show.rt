@@ -15,6 +15,8 @@ use std::alloc::Global;
 pub struct ShowAsked<'a> {
     /// Path of the report.
     pub report: &'a str,
+    /// Whether the report may be cut off.
+    pub partial: bool,
     /// Path of the JUnit file that is written; `-` is standard output.
     pub junit: Option<&'a str>,
     /// The name of JUnit's suite; absent: by the report's path.
@@ -43,12 +45,14 @@ fn valid_show_request<'a>(values: &ArgMatches<'a>) -> Option<Asked<'a>>
     ensures { AsksFor (show_request (rows_of (found_of values.now))) result }
 {
     let report = text_value(values, "report")?;
+    let partial = is_flag_set(values, "partial");
     let junit = text_value(values, "junit");
     let suite = text_value(values, "suite");
     let lenient = is_flag_set(values, "lenient");
     let color = text_value(values, "color");
     Some(Asked::Show(ShowAsked {
         report,
+        partial,
         junit,
         suite,
         lenient,

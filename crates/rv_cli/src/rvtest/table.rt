@@ -21,6 +21,7 @@ pub(crate) const RUN: Subcommand<'static> = Subcommand {
         Argument::Option("match", "REGEX", MATCH),
         Argument::Option("exclude", "REGEX", EXCLUDE),
         Argument::Option("failed", "REPORT", FAILED),
+        Argument::Flag("partial", None, PARTIAL_CHOICE),
         Argument::Option("shard", "K/N", "Runs the K-th of N parts of the list"),
         Argument::Option(
             "stamp",
@@ -64,6 +65,7 @@ pub(crate) const LIST: Subcommand<'static> = Subcommand {
         Argument::Option("match", "REGEX", MATCH),
         Argument::Option("exclude", "REGEX", EXCLUDE),
         Argument::Option("failed", "REPORT", FAILED),
+        Argument::Flag("partial", None, PARTIAL_CHOICE),
         Argument::Flag("lenient", None, LENIENT),
     ],
 };
@@ -117,6 +119,7 @@ pub(crate) const ACCEPT: Subcommand<'static> = Subcommand {
         Argument::Option("match", "REGEX", MATCH),
         Argument::Option("exclude", "REGEX", EXCLUDE),
         Argument::Option("failed", "REPORT", FAILED),
+        Argument::Flag("partial", None, PARTIAL_CHOICE),
         Argument::Flag(
             "ends",
             None,
@@ -155,6 +158,7 @@ pub(crate) const DIFF: Subcommand<'static> = Subcommand {
     arguments: &[
         Argument::Word("old", "OLD", "Path of the report that is compared with"),
         Argument::Word("new", "NEW", "Path of the report that is compared"),
+        Argument::Flag("partial", None, PARTIAL),
         Argument::Flag("steps", None, "Compares steps too, and where faults were"),
         Argument::Number(
             "slower",
@@ -174,6 +178,7 @@ pub(crate) const SHOW: Subcommand<'static> = Subcommand {
     after: examples::SHOW,
     arguments: &[
         Argument::Word("report", "REPORT", "Path of a report"),
+        Argument::Flag("partial", None, PARTIAL),
         Argument::File("junit", JUNIT),
         Argument::Option("suite", "NAME", SUITE),
         Argument::Flag("lenient", None, LENIENT),
@@ -200,6 +205,10 @@ const MATCH: &str = "Chooses the jobs in whose names it is found";
 const EXCLUDE: &str = "Leaves out the jobs in whose names it is found";
 
 const FAILED: &str = "Chooses the jobs that failed in a report";
+
+const PARTIAL_CHOICE: &str = "Takes the whole rows of that report where it is cut off";
+
+const PARTIAL: &str = "Takes the whole rows of a report that is cut off";
 
 const THREADS: &str = "Threads, from 1 to 64; else one a processor";
 

@@ -1,0 +1,46 @@
+-- The rows that a text has whole which is cut off: it ends before its report does.
+use Rattle.std.specs.Prelude.{◌≡◌, ◌+◌, ◌<◌, ◌≤◌, ℕ, Bool, true, false, List, ◌++◌, length, take}
+use Rattle.rv_base.specs.Limits.{most_jobs}
+use Rattle.rv_report.specs.Differences.{count_of_line_feeds}
+use Rattle.rv_report.specs.LeastLine.{first_lines}
+use Rattle.rv_report.specs.Saved.{IsSaved, numbered_text, saved_text}
+use Rattle.rv_report.specs.declared.saved.Extent.TheVariants as extent
+use Rattle.rv_report.specs.declared.saved.SavedReport.{SavedReport}
+
+-- a text begins with another one
+abbrev pub BeginsWith : List ℕ → List ℕ → Type 0
+BeginsWith text beginning = (rest : List ℕ) × (text ≡ beginning ++ rest)
+
+-- the lines of a text that end with a line feed
+abbrev pub whole_lines : List ℕ → List ℕ
+whole_lines bytes = first_lines (count_of_line_feeds bytes) bytes
+
+-- the first so many rows of a report, as those of a choice
+abbrev pub first_rows : ℕ → SavedReport → SavedReport
+first_rows count report = record {
+  extent = extent.Choice most_jobs;
+  numbers = take count report.numbers;
+  rows = take count report.rows;
+}
+
+-- the text of so many rows
+abbrev pub first_rows_text : ℕ → SavedReport → List ℕ
+first_rows_text count report = numbered_text (take count report.numbers) (take count report.rows)
+
+-- the whole lines of a text begin a report, of which the text has so many rows whole, and not one more
+pub record HasWholeRows (bytes : List ℕ) (report : SavedReport) (count : ℕ) : Type 0 where
+  pub saved : IsSaved report
+  pub begun : BeginsWith (saved_text report) (whole_lines bytes)
+  pub within : count ≤ length report.rows
+  pub there : BeginsWith bytes (first_rows_text count report)
+  pub most : count < length report.rows → BeginsWith bytes (first_rows_text (count + 1) report) → ⊥
+
+-- no report has this text
+abbrev pub IsNoReport : List ℕ → Type 0
+IsNoReport bytes = (report : SavedReport) → IsSaved report → saved_text report ≡ bytes → ⊥
+
+-- a text that may be cut off is read so: it is the report's; or it is no report's, and these are its whole rows
+abbrev pub IsReadAs : List ℕ → Bool → SavedReport → Type 0
+IsReadAs bytes false read = IsSaved read × (saved_text read ≡ bytes)
+IsReadAs bytes true read = IsNoReport bytes
+    × ((report : SavedReport) × (count : ℕ) × HasWholeRows bytes report count × (read ≡ first_rows count report))

@@ -1,0 +1,99 @@
+//! Reports that may be cut off, as a run leaves one that was killed.
+
+ghost use Rattle.std.specs.Prelude.{◌≡◌, ◌⊎◌, ◌<◌, ◌≤◌, ◌+◌, ℕ, IfErr, IfOk, OnErr, length};
+ghost use Rattle.rv_base.specs.Limits.{most_jobs};
+ghost use Rattle.rv_report.specs.LeastLine.{BeginsReport, IsLeastRefusedLine};
+ghost use Rattle.rv_report.specs.LenientReport.{lenient_report};
+ghost use Rattle.rv_report.specs.Partial.{BeginsWith, IsReadAs, first_rows, first_rows_text};
+ghost use Rattle.rv_report.specs.Saved.{IsListed, IsSaved};
+ghost use Rattle.rv_report.specs.declared.read.ReadError.TheVariants.{Line, OutOfMemory};
+
+use crate::lenient_reader::lenient_report;
+use crate::read::{ReadError, read_report};
+use crate::report::{Rows, push_row};
+use crate::saved::{Extent, Numbers, SavedReport};
+use rv_base::limits::MOST_JOBS;
+use std::alloc::{AllocError, Global};
+
+/// A report that was read from a text that may be cut off.
+#[derive(Drop)]
+pub struct PartialReport {
+    /// The report whose text it is; of a text that is cut off, the rows that it has whole, as those of a choice.
+    pub report: SavedReport,
+    /// Whether the text ends before its report does.
+    pub is_cut_off: bool,
+}
+
+/// The report whose text this is; or, of a text that is cut off, its whole rows. Each beginning of a report's text is read.
+pub fn read_partial_report(alloc: Global, bytes: &[u8]) -> Result<PartialReport, ReadError>
+    ensures found { IfOk result (λ read. IsReadAs bytes.now read.is_cut_off read.report) }
+    ensures saved { IfOk result (λ read. IsSaved read.report) }
+    ensures beginning { BeginsReport bytes.now → IfErr result (λ error. error ≡ OutOfMemory) }
+    ensures refused { IfErr result (λ error. (error ≡ OutOfMemory)
+        ⊎ ((line : ℕ) × (error ≡ Line line) × IsLeastRefusedLine line bytes.now)) }
+{
+    match read_report(alloc, bytes) {
+        Ok(report) => Ok(PartialReport {
+            report,
+            is_cut_off: false,
+        }),
+        Err(ReadError::CutOff) => {
+            let report = read_whole_rows(alloc, bytes)?;
+            Ok(PartialReport {
+                report,
+                is_cut_off: true,
+            })
+        }
+        Err(error) => Err(error),
+    }
+}
+
+// The rows that the bytes have whole, of those that their lines say.
+fn read_whole_rows(alloc: Global, bytes: &[u8]) -> Result<SavedReport, AllocError>
+    ensures rows { IfOk result (λ report. (count : ℕ) × (report ≡ first_rows count (lenient_report bytes.now))
+        × (count ≤ length (lenient_report bytes.now).rows)
+        × BeginsWith bytes.now (first_rows_text count (lenient_report bytes.now))
+        × (count < length (lenient_report bytes.now).rows
+        → BeginsWith bytes.now (first_rows_text (count + 1) (lenient_report bytes.now)) → ⊥)) }
+{
+    let said = lenient_report(alloc, bytes)?;
+    let count = whole_row_count(alloc, &said, bytes)?;
+    Ok(first_rows(said, count))
+}
+
+// How many rows of a report the bytes begin with.
+fn whole_row_count(alloc: Global, report: &SavedReport, bytes: &[u8]) -> Result<usize, AllocError>
+    requires { IsListed report.now }
+    ensures within { IfOk result (λ count. count ≤ length report.now.rows) }
+    ensures there { IfOk result (λ count. BeginsWith bytes.now (first_rows_text count report.now)) }
+    ensures most { IfOk result (λ count. count < length report.now.rows
+        → BeginsWith bytes.now (first_rows_text (count + 1) report.now) → ⊥) }
+{
+    let rows = report.rows.as_slice();
+    let numbers = report.numbers.as_slice();
+    let mut rest = bytes;
+    for (at, row) in rows.iter().enumerate() {
+        let mut text = String::new(alloc);
+        push_row(alloc, &mut text, numbers[at] as usize - 1, row)?;
+        match rest.strip_prefix(text.as_bytes()) {
+            Some(behind) => rest = behind,
+            None => return Ok(at),
+        }
+    }
+    Ok(rows.len())
+}
+
+// The first so many rows of a report, as those of a choice.
+fn first_rows(report: SavedReport, count: usize) -> SavedReport
+    ensures { result ≡ first_rows count report }
+{
+    let mut numbers = report.numbers.into_vec();
+    let mut rows = report.rows.into_vec();
+    numbers.truncate(count);
+    rows.truncate(count);
+    SavedReport {
+        extent: Extent::Choice(MOST_JOBS as u32),
+        numbers: Numbers::new(numbers),
+        rows: Rows::new(rows),
+    }
+}
