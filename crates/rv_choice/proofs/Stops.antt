@@ -8,7 +8,7 @@ use Rattle.rv_base.specs.Files.{FileContents}
 use Rattle.rv_cli.specs.RvtestWords.{borrowed_text}
 use Rattle.rv_cli.specs.declared.rvtest.run.RunAsked.{RunAsked}
 use Rattle.rv_command.proofs.Public.{told_stop}
-use Rattle.rv_command.specs.Stops.{IsRefusal, IsReportUnreadStop, stop_of_lines}
+use Rattle.rv_command.specs.Stops.{IsRefusal, IsRequestedUnreadStop, stop_of_lines}
 use Rattle.rv_command.specs.declared.stop.Lines.TheVariants as lines
 use Rattle.rv_command.specs.declared.stop.Stop.{Stop}
 use Rattle.rv_command.specs.declared.stop.Stop.TheVariants as why
@@ -88,11 +88,11 @@ stop_of_emptied known words rule jobs notes stop None excluded (Some regex) are 
 stop_of_emptied known words rule jobs notes stop marks excluded None are source read same (inr is) = absurd is
 
 stop_of_report : (known : Option FileContents) (words : RunAsked) (rule : Rule) (jobs : List Job) (stop : Stop)
-    → (stop ≡ why.OutOfMemory) ⊎ IsSomeAnd (borrowed_text words.failed) (λ path. IsReportUnreadStop known path stop)
+    → (stop ≡ why.OutOfMemory) ⊎ IsSomeAnd (borrowed_text words.failed) (λ path. IsRequestedUnreadStop known words.partial path stop)
     → IsChoiceStop known words rule jobs stop
 stop_of_report known words rule jobs stop (inl is) = memory is
 stop_of_report known words rule jobs stop (inr said) =
-    let Says : List ℕ → Type 0 = λ path. IsReportUnreadStop known path stop in
+    let Says : List ℕ → Type 0 = λ path. IsRequestedUnreadStop known words.partial path stop in
     let some = some_value (borrowed_text words.failed) Says said in
     report some.0 some.1.0 some.1.1
 
@@ -121,7 +121,7 @@ unknown_stop list jobs name (Err error) stop is said = inl is
 
 pub stop_of_choice : (known : Option FileContents) (words : RunAsked) (rule : Rule) (jobs : List Job) (result : Result Choice Stop)
     → IfErr result (λ stop. (stop ≡ why.OutOfMemory)
-    ⊎ IsSomeAnd (borrowed_text words.failed) (λ path. IsReportUnreadStop known path stop))
+    ⊎ IsSomeAnd (borrowed_text words.failed) (λ path. IsRequestedUnreadStop known words.partial path stop))
     → IfErr result (IsChoiceStop known words rule jobs)
 stop_of_choice known words rule jobs (Ok choice) said = said
 stop_of_choice known words rule jobs (Err stop) said = stop_of_report known words rule jobs stop said

@@ -9,7 +9,7 @@ use Rattle.regex.specs.declared.string.regex.Regex.{Regex}
 use Rattle.rv_base.specs.Files.{FileContents}
 use Rattle.rv_cli.specs.RvtestWords.{borrowed_text}
 use Rattle.rv_cli.specs.declared.rvtest.run.RunAsked.{RunAsked}
-use Rattle.rv_command.specs.Stops.{IsRefusal, IsReportUnreadStop, IsStop}
+use Rattle.rv_command.specs.Stops.{IsRefusal, IsRequestedUnreadStop, IsStop}
 use Rattle.rv_command.specs.declared.stop.Stop.{Stop}
 use Rattle.rv_command.specs.declared.stop.Stop.TheVariants as why
 use Rattle.rv_expect.specs.declared.passing.Rule.{Rule}
@@ -71,6 +71,6 @@ pub data IsChoiceStop (known : Option FileContents) (words : RunAsked) (rule : R
   pattern : (text : List ℕ) → borrowed_text words.pattern ≡ Some text
       → IsPatternStop words.list.now text jobs stop → IsChoiceStop known words rule jobs stop
   report : (path : List ℕ) → borrowed_text words.failed ≡ Some path
-      → IsReportUnreadStop known path stop → IsChoiceStop known words rule jobs stop
+      → IsRequestedUnreadStop known words.partial path stop → IsChoiceStop known words rule jobs stop
   exclusion : (text : List ℕ) → borrowed_text words.exclude ≡ Some text
       → IsExclusionStop known words rule jobs text stop → IsChoiceStop known words rule jobs stop

@@ -1,5 +1,5 @@
 -- The marks of the jobs of a list that words choose, and what is said beside that.
-use Rattle.std.specs.Prelude.{◌≡◌, ◌↔◌, ℕ, Bool, IfSome, List, [], Option, Some, None, false, option_map, true}
+use Rattle.std.specs.Prelude.{◌≡◌, ◌↔◌, ◌++◌, ℕ, Bool, IfSome, List, [], Option, Some, None, false, option_map, true}
 use Rattle.regex.specs.Patterns.{Re}
 use Rattle.regex.specs.Strings.{regex_pattern, regex_source}
 use Rattle.regex.specs.declared.string.regex.Regex.{Regex}
@@ -7,10 +7,11 @@ use Rattle.std.specs.Borrow.{Bor}
 use Rattle.rv_base.specs.Files.{FileContents}
 use Rattle.rv_cli.specs.RvtestWords.{borrowed_text}
 use Rattle.rv_cli.specs.declared.rvtest.run.RunAsked.{RunAsked}
-use Rattle.rv_command.specs.Texts.{IsReportAt}
+use Rattle.rv_command.specs.Messages.{cut_off_note}
+use Rattle.rv_command.specs.Texts.{IsReportReadAt}
 use Rattle.rv_expect.specs.declared.passing.Rule.{Rule}
 use Rattle.rv_lists.specs.declared.job.Job.{Job}
-use Rattle.rv_report.specs.declared.saved.SavedReport.{SavedReport}
+use Rattle.rv_report.specs.declared.partial.PartialReport.{PartialReport}
 use Rattle.rv_choice.specs.Choice.{ChosenNames, IsReadByDefault, are_emptied, chosen_marks, failed_job_names, is_found_in_names}
 use Rattle.rv_choice.specs.Choice.{left_marks, requested_names}
 use Rattle.rv_choice.specs.FailedJobNotes.{failed_job_notes}
@@ -25,12 +26,14 @@ pub record AreChosenFrom (path : List ℕ) (failed : ChosenNames) (pattern : Opt
       ≡ chosen_marks (requested_names words.only.items) pattern (Some failed) jobs)
   pub none : (marks ≡ None) ↔ ((failed ≡ []) × (words.only.items ≡ []) × (pattern ≡ None))
 
--- the same of what a report that stands at a path has as failed
+-- the same of what a report that stands at a path has as failed, and behind how many rows it has, where it is cut off
 pub record AreChosenFromReport (known : Option FileContents) (path : List ℕ) (pattern : Option Re) (words : RunAsked)
     (rule : Rule) (jobs : List Job) (marks : Option (List Bool)) (notes : List ℕ) : Type 0 where
-  pub report : SavedReport
-  pub read : IsReportAt known path report
-  pub chosen : AreChosenFrom path (failed_job_names rule report.rows) pattern words jobs marks notes
+  pub found : PartialReport
+  pub read : IsReportReadAt known words.partial path found
+  pub failed : List ℕ
+  pub noted : notes ≡ cut_off_note path found ++ failed
+  pub chosen : AreChosenFrom path (failed_job_names rule found.report.rows) pattern words jobs marks failed
 
 -- beside a pattern: from a report where one is asked, else by exact names alone, with nothing said
 abbrev pub AreChosenBeside : Option FileContents → Option (Bor (List ℕ)) → Option Re → RunAsked → Rule → List Job

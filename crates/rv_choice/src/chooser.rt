@@ -1,6 +1,6 @@
 //! The jobs that words choose.
 
-ghost use Rattle.std.specs.Prelude.{◌≡◌, ◌⊎◌, IfErr, IfOk, IfSome, IsSomeAnd, None, OnOk, true};
+ghost use Rattle.std.specs.Prelude.{◌≡◌, ◌⊎◌, ◌++◌, IfErr, IfOk, IfSome, IsSomeAnd, None, OnOk, true};
 ghost use Rattle.std.specs.Prelude.{false, is_some, length, option_map};
 ghost use Rattle.regex.specs.Strings.{regex_pattern, regex_source};
 ghost use Rattle.rv_choice.specs.Choice.{IsReadByDefault, are_emptied, borrowed_names, chosen_marks, failed_job_names, has_mark};
@@ -11,7 +11,8 @@ ghost use Rattle.rv_choice.specs.Chosen.{AreChosenBy, AreChosenFrom, AreLeft, Ar
 ghost use Rattle.rv_choice.specs.FailedJobNotes.{failed_job_notes};
 ghost use Rattle.rv_choice.specs.UnknownName.{IsUnknownNameStop, unknown_name};
 ghost use Rattle.rv_cli.specs.RvtestWords.{borrowed_text};
-ghost use Rattle.rv_command.specs.Stops.{IsRefusal, IsReportUnreadStop, IsStop};
+ghost use Rattle.rv_command.specs.Messages.{cut_off_note};
+ghost use Rattle.rv_command.specs.Stops.{IsRefusal, IsRequestedUnreadStop, IsStop};
 
 use crate::failed_jobs::{failed_job_names, failed_job_notes};
 use crate::marks::{Wanted, chosen_marks, first_unknown_name, left_marks};
@@ -19,7 +20,7 @@ use crate::shard::bad_value_stop;
 use crate::unknown_name::unknown_name_stop;
 use regex::Regex;
 use rv_cli::rvtest::{ChoosingCommand, RunAsked};
-use rv_command::{Stop, read_report_file};
+use rv_command::{RequestedReport, Stop, cut_off_note, read_requested_report};
 use rv_expect::Rule;
 use rv_files::Inputs;
 use rv_jobs::Job;
@@ -47,6 +48,21 @@ pub struct Choice {
     pub marks: Option<Vec<bool>>,
     /// What is to be said of the jobs that failed in a report: lines, or nothing.
     pub notes: Vec<u8>,
+}
+
+impl Choice {
+    // The same, with a note before the others.
+    fn behind_note(self, note: Vec<u8>) -> Result<Choice, AllocError>
+        ensures marks { IfOk result (λ choice. choice.marks ≡ self.marks) }
+        ensures notes { IfOk result (λ choice. choice.notes.items ≡ note.items ++ self.notes.items) }
+    {
+        let mut notes = note;
+        notes.extend_from_slice(self.notes.as_slice())?;
+        Ok(Choice {
+            marks: self.marks,
+            notes,
+        })
+    }
 }
 
 impl<'x, D: Inputs> Chooser<'x, D> {
@@ -169,7 +185,7 @@ impl<'x, D: Inputs> Chooser<'x, D> {
             (option_map (λ marks. marks.items) choice.marks) choice.notes.items) }
         ensures unread { IfErr result (λ stop. (stop ≡ Stop.OutOfMemory)
             ⊎ IsSomeAnd (borrowed_text self.now.asked.now.failed)
-            (λ path. IsReportUnreadStop (D.contents self.now.inputs.now) path stop)) }
+            (λ path. IsRequestedUnreadStop (D.contents self.now.inputs.now) self.now.asked.now.partial path stop)) }
     {
         let Some(path) = self.asked.failed else {
             let marks = self.combined_marks(pattern, None, jobs)?;
@@ -178,8 +194,15 @@ impl<'x, D: Inputs> Chooser<'x, D> {
                 notes: Vec::new(self.alloc),
             });
         };
-        let report = read_report_file(self.inputs, self.alloc, path)?;
-        self.choose_from_failed_rows(path, report.rows.as_slice(), pattern, jobs)
+        let asked = RequestedReport {
+            path,
+            partial: self.asked.partial,
+        };
+        let found = read_requested_report(self.inputs, self.alloc, asked)?;
+        let note = cut_off_note(self.alloc, path, &found)?;
+        let rows = found.report.rows.as_slice();
+        let choice = self.choose_from_failed_rows(path, rows, pattern, jobs)?;
+        Ok(choice.behind_note(note)?)
     }
 
     // The same among the jobs that failed in the rows of the report at a path.

@@ -7,6 +7,7 @@ mod files;
 mod list;
 mod messages;
 mod refused_line;
+mod requested_report;
 mod saved_report;
 mod status;
 mod stop;
@@ -17,9 +18,9 @@ pub use messages::{
     path_message, path_number_message, put_end_message, put_message, put_results, put_stop_message,
 };
 pub use refused_line::refused_line_message;
-pub use saved_report::{
-    RequestedReport, cut_off_note, parse_report, parse_requested_report, read_report_file,
-    read_requested_report,
+pub use requested_report::{
+    RequestedReport, cut_off_note, parse_requested_report, read_requested_report,
 };
+pub use saved_report::{parse_report, read_report_file};
 pub use status::{BROKEN_PIPE, DONE, FAILED, REFUSED, SOME_FAIL};
 pub use stop::{Lines, Stop};

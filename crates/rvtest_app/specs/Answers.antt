@@ -12,7 +12,7 @@ use Rattle.rvtest_app.specs.Consoles.{IsConsolePut}
 use Rattle.rvtest_app.specs.HelpTopics.{IsTopicTold}
 use Rattle.rvtest_app.specs.Lists.{IsListPut}
 use Rattle.rvtest_app.specs.Merges.{IsMergedAt}
-use Rattle.rvtest_app.specs.Reports.{IsCheckAt, IsDiffAt, IsExplanationAt}
+use Rattle.rvtest_app.specs.Reports.{IsCheckAt, IsDiffPut, IsExplanationAt}
 use Rattle.rvtest_app.specs.Runs.{IsRunAt}
 use Rattle.rvtest_app.specs.Said.{IsOnlyPut, Said}
 use Rattle.rvtest_app.specs.Shows.{IsShownAt}
@@ -36,8 +36,7 @@ IsDone known (asked.Accept words) status before after =
 IsDone known (asked.Merge words) status before after =
     IsMergedAt known words status before after
 IsDone known (asked.Diff words) status before after =
-    (text : List ℕ) × (IsDiffAt known words text status
-    × IsOnlyPut text before after)
+    IsDiffPut known words status before after
 IsDone known (asked.Show words) status before after =
     IsShownAt known words status before after
 IsDone known (asked.Help words) status before after =

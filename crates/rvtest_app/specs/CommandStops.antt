@@ -15,15 +15,15 @@ use Rattle.rv_cli.specs.declared.rvtest.run.RunAsked.{RunAsked}
 use Rattle.rv_cli.specs.declared.rvtest.show.ShowAsked.{ShowAsked}
 use Rattle.rv_cli.specs.declared.rvtest.requests.Asked.{Asked}
 use Rattle.rv_cli.specs.declared.rvtest.requests.Asked.TheVariants as asked
-use Rattle.rv_command.specs.Stops.{IsListFaultStop, IsListUnreadStop, IsRefusal, IsReportUnreadStop}
-use Rattle.rv_command.specs.Texts.{IsReportAt, IsTextAt, optional_text}
+use Rattle.rv_command.specs.Stops.{IsListFaultStop, IsListUnreadStop, IsRefusal, IsRequestedUnreadStop}
+use Rattle.rv_command.specs.Texts.{IsReportReadAt, IsTextAt, optional_text}
 use Rattle.rv_command.specs.declared.stop.Stop.{Stop}
 use Rattle.rv_command.specs.declared.stop.Stop.TheVariants as stop
 use Rattle.rv_known.specs.declared.known_jobs.KnownJobs.{KnownJobs}
 use Rattle.rv_lists.specs.JobList.{job_list_of}
 use Rattle.rv_lists.specs.declared.job.Job.{Job}
 use Rattle.rv_report.specs.declared.row.Row.{Row}
-use Rattle.rv_report.specs.declared.saved.SavedReport.{SavedReport}
+use Rattle.rv_report.specs.declared.partial.PartialReport.{PartialReport}
 use Rattle.rv_report.specs.declared.saved.Shard.{Shard}
 use Rattle.rvtest_app.specs.AcceptStops.{IsUnacceptedStop}
 use Rattle.rvtest_app.specs.Answers.{AskForHelp}
@@ -73,13 +73,14 @@ IsAcceptStop known words why = IsListStop known words.run why ⊎ IsUnacceptedSt
 
 -- `diff`: the old report was not read, or it was, and the new one was not
 abbrev pub IsDiffAtStop : Option FileContents → DiffAsked → Stop → Type 0
-IsDiffAtStop known words why = IsReportUnreadStop known words.old.now why
-    ⊎ ((report : SavedReport) × (IsReportAt known words.old.now report × IsReportUnreadStop known words.new.now why))
+IsDiffAtStop known words why = IsRequestedUnreadStop known words.partial words.old.now why
+    ⊎ ((found : PartialReport) × (IsReportReadAt known words.partial words.old.now found
+    × IsRequestedUnreadStop known words.partial words.new.now why))
 
 -- `show`: the report was not read, or it was, and what is shown of it did not go out
 abbrev pub IsShowStop : Option FileContents → ShowAsked → Stop → Type 0
-IsShowStop known words why = IsReportUnreadStop known words.report.now why
-    ⊎ ((report : SavedReport) × (IsReportAt known words.report.now report
+IsShowStop known words why = IsRequestedUnreadStop known words.partial words.report.now why
+    ⊎ ((found : PartialReport) × (IsReportReadAt known words.partial words.report.now found
     × IsOutputStop None (optional_text words.junit) why))
 
 -- the jobs of the list that words ask for are none, and standard output did not take all

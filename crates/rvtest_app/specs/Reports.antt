@@ -1,12 +1,13 @@
 -- What the commands that run no list find, in what stands at the paths that they read.
-use Rattle.std.specs.Prelude.{◌≡◌, ◌+◌, ◌-◌, if◌then◌else◌, ℕ, Bool, true, false, List, [], ◌∷◌, length, None, Option, Some, Ok, position}
+use Rattle.std.specs.Prelude.{◌≡◌, ◌+◌, ◌++◌, ◌-◌, if◌then◌else◌, ℕ, Bool, true, false, List, [], ◌∷◌, length, None, Option, Some, Ok, position}
 use Rattle.std.specs.Prelude.{slice_index_or}
 use Rattle.std.specs.Str.{bytes_eq}
 use Rattle.rv_base.specs.Files.{FileContents}
 use Rattle.rv_cli.specs.declared.rvtest.check.CheckAsked.{CheckAsked}
 use Rattle.rv_cli.specs.declared.rvtest.diff.DiffAsked.{DiffAsked}
 use Rattle.rv_cli.specs.declared.rvtest.explain.ExplainAsked.{ExplainAsked}
-use Rattle.rv_command.specs.Texts.{IsReportText, IsTextAt, optional_text}
+use Rattle.rv_command.specs.Messages.{cut_off_note}
+use Rattle.rv_command.specs.Texts.{IsReportRead, IsTextAt, optional_text}
 use Rattle.rv_diff.specs.Diff.{counts_of_differing, diff_text, rows_beside}
 use Rattle.rv_diff.specs.declared.change.Compare.{Compare}
 use Rattle.rv_diff.specs.declared.change.Compare.TheVariants.{Outcomes, Slower, Steps}
@@ -27,12 +28,14 @@ use Rattle.rv_lists.specs.Jobs.{with_budget}
 use Rattle.rv_lists.specs.ListFaults.{list_faults}
 use Rattle.rv_lists.specs.declared.error.JobError.{JobError}
 use Rattle.rv_lists.specs.declared.job.Job.{Job}
+use Rattle.rv_report.specs.declared.partial.PartialReport.{PartialReport}
 use Rattle.rv_report.specs.declared.row.Row.{Row}
 use Rattle.rv_report.specs.declared.saved.Extent.{Extent}
 use Rattle.rv_report.specs.declared.saved.Extent.TheVariants as extent
 use Rattle.rv_report.specs.declared.saved.SavedReport.{SavedReport}
 use Rattle.rv_rows.specs.Rows.{row_of}
 use Rattle.rvtest_app.specs.CheckText.{check_text}
+use Rattle.rvtest_app.specs.Said.{IsOnlyPut, IsOnlyTold, Said}
 use Rattle.rvtest_app.specs.Commands.{check_status, diff_status, passing_status, refused_job_count}
 
 -- ---- paths that were not read
@@ -64,23 +67,37 @@ abbrev pub left_out_count : SavedReport → SavedReport → ℕ
 left_out_count old new = (length old.rows - length (compared_rows new old))
     + (length new.rows - length (compared_rows old new))
 
--- the output and the status are those of the rows of the reports that two texts are
-pub record IsDiffOf (compare : Compare) (old new output : List ℕ) (status : ℕ) : Type 0 where
-  pub before : SavedReport
-  pub before_is : IsReportText old before
-  pub after : SavedReport
-  pub after_is : IsReportText new after
+-- the output and the status are those of the rows of two reports
+pub record IsDiffOfReports (compare : Compare) (before after : SavedReport) (output : List ℕ) (status : ℕ) : Type 0 where
   pub text : output ≡ diff_text compare (compared_rows after before) (compared_rows before after)
       (left_out_count before after)
   pub judged : status ≡ diff_status (counts_of_differing compare (compared_rows after before) (compared_rows before after))
 
+-- the same of the reports that two texts are; the notes say how many rows each has that is cut off
+pub record IsDiffOf (words : DiffAsked) (old new output notes : List ℕ) (status : ℕ) : Type 0 where
+  pub before : PartialReport
+  pub before_is : IsReportRead words.partial old before
+  pub after : PartialReport
+  pub after_is : IsReportRead words.partial new after
+  pub diff : IsDiffOfReports (requested_comparison words.steps words.slower) before.report after.report output status
+  pub noted : notes ≡ cut_off_note words.old.now before ++ cut_off_note words.new.now after
+
 -- the same of what stands at the two paths that words name
-pub record IsDiffAt (known : Option FileContents) (words : DiffAsked) (output : List ℕ) (status : ℕ) : Type 0 where
+pub record IsDiffAt (known : Option FileContents) (words : DiffAsked) (output notes : List ℕ) (status : ℕ) : Type 0 where
   pub old : List ℕ
   pub old_read : IsTextAt known words.old.now old
   pub new : List ℕ
   pub new_read : IsTextAt known words.new.now new
-  pub diff : IsDiffOf (requested_comparison words.steps words.slower) old new output status
+  pub diff : IsDiffOf words old new output notes status
+
+-- the notes went to standard error, and then the output to standard output
+pub record IsDiffPut (known : Option FileContents) (words : DiffAsked) (status : ℕ) (before after : Said) : Type 0 where
+  pub text : List ℕ
+  pub notes : List ℕ
+  pub diff : IsDiffAt known words text notes status
+  pub middle : Said
+  pub told : IsOnlyTold notes before middle
+  pub put : IsOnlyPut text middle after
 
 -- ---- check
 

@@ -2,24 +2,27 @@
 use Rattle.std.specs.Prelude.{◌≡◌, ℕ, Option, None}
 use Rattle.rv_base.specs.Files.{FileContents}
 use Rattle.rv_cli.specs.declared.rvtest.show.ShowAsked.{ShowAsked}
-use Rattle.rv_command.specs.Texts.{IsReportAt, optional_text}
+use Rattle.rv_command.specs.Messages.{cut_off_note}
+use Rattle.rv_command.specs.Texts.{IsReportReadAt, optional_text}
 use Rattle.rv_report.specs.Report.{report_text}
-use Rattle.rv_report.specs.declared.saved.SavedReport.{SavedReport}
+use Rattle.rv_report.specs.declared.partial.PartialReport.{PartialReport}
 use Rattle.rvtest_app.specs.Commands.{report_judging}
 use Rattle.rvtest_app.specs.Puts.{WentOut}
 use Rattle.rvtest_app.specs.ReportSummary.{summary_text}
 use Rattle.rvtest_app.specs.RunOutput.{rows_status}
 use Rattle.rvtest_app.specs.JunitTexts.{failures_junit, suite_name}
-use Rattle.rvtest_app.specs.Said.{Said}
+use Rattle.rvtest_app.specs.Said.{IsOnlyTold, Said}
 
--- of the report at the path that words name, the summary went out, and where it is asked for JUnit's document; the status is
--- by its rows
+-- of the report at the path that words name: where it is cut off that went to standard error, with how many rows it has; and then the
+-- summary went out, and where it is asked for JUnit's document; the status is by its rows
 pub record IsShownAt (known : Option FileContents) (words : ShowAsked) (status : ℕ) (before after : Said)
     : Type 0 where
-  pub report : SavedReport
-  pub read : IsReportAt known words.report.now report
-  pub judged : status ≡ rows_status (report_judging words.lenient) report.rows
-  pub put : WentOut None (optional_text words.junit) (summary_text (report_judging words.lenient) report.rows)
-      (report_text report.rows) (failures_junit (suite_name (optional_text words.suite) words.report.now)
-      (report_judging words.lenient) report.rows)
-      before after
+  pub found : PartialReport
+  pub read : IsReportReadAt known words.partial words.report.now found
+  pub middle : Said
+  pub noted : IsOnlyTold (cut_off_note words.report.now found) before middle
+  pub judged : status ≡ rows_status (report_judging words.lenient) found.report.rows
+  pub put : WentOut None (optional_text words.junit) (summary_text (report_judging words.lenient) found.report.rows)
+      (report_text found.report.rows) (failures_junit (suite_name (optional_text words.suite) words.report.now)
+      (report_judging words.lenient) found.report.rows)
+      middle after

@@ -6,12 +6,13 @@ use Rattle.std.specs.declared.io.ErrorKind.TheVariants as io
 use Rattle.clap.specs.declared.error.kind.ErrorKind.{ErrorKind as WordsFault}
 use Rattle.clap.specs.declared.error.kind.ErrorKind.TheVariants as words
 use Rattle.rv_base.specs.Counts.{one_more}
+use Rattle.rv_cli.specs.declared.rvtest.diff.DiffAsked.{DiffAsked}
 use Rattle.rv_command.specs.Messages.{end_message}
-use Rattle.rv_command.specs.Stops.{IsReportFaultStop, end_status}
-use Rattle.rv_command.specs.Texts.{IsReportText}
+use Rattle.rv_command.specs.Stops.{IsRequestedFaultStop, end_status}
+use Rattle.rv_command.specs.Texts.{IsReportRead}
 use Rattle.rv_command.specs.declared.stop.Stop.{Stop}
 use Rattle.rv_command.specs.declared.stop.Stop.TheVariants as stop
-use Rattle.rv_report.specs.declared.saved.SavedReport.{SavedReport}
+use Rattle.rv_report.specs.declared.partial.PartialReport.{PartialReport}
 use Rattle.rvtest_app.specs.Said.{IsOnlyTold, Said}
 
 -- ---- the program
@@ -45,12 +46,12 @@ IsHelpStop failures_before failures_after why = (why ≡ stop.OutOfMemory)
 -- ---- diff
 
 -- what kept the new report from being compared: it was not read, or what was read is no report
-abbrev pub IsNewReportStop : List ℕ → Result (Vec ℕ Global) Stop → Stop → Type 0
-IsNewReportStop path (Ok bytes) why = IsReportFaultStop path bytes.items why
-IsNewReportStop path (Err unread) why = why ≡ unread
+abbrev pub IsNewReportStop : Bool → List ℕ → Result (Vec ℕ Global) Stop → Stop → Type 0
+IsNewReportStop partial path (Ok bytes) why = IsRequestedFaultStop partial path bytes.items why
+IsNewReportStop partial path (Err unread) why = why ≡ unread
 
 -- memory was wanting; or what is wrong with the old report is told; or the old one is a report, and the new one is
 -- blamed
-abbrev pub IsDiffStop : List ℕ → List ℕ → List ℕ → Result (Vec ℕ Global) Stop → Stop → Type 0
-IsDiffStop old_path old new_path new why = (why ≡ stop.OutOfMemory) ⊎ (IsReportFaultStop old_path old why
-    ⊎ ((report : SavedReport) × IsReportText old report × IsNewReportStop new_path new why))
+abbrev pub IsDiffStop : DiffAsked → List ℕ → Result (Vec ℕ Global) Stop → Stop → Type 0
+IsDiffStop words old new why = (why ≡ stop.OutOfMemory) ⊎ (IsRequestedFaultStop words.partial words.old.now old why
+    ⊎ ((found : PartialReport) × IsReportRead words.partial old found × IsNewReportStop words.partial words.new.now new why))

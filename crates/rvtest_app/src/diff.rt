@@ -1,31 +1,65 @@
 //! The command `diff`.
 
-ghost use Rattle.std.specs.Prelude.{◌≡◌, ◌≤◌, ◌<◌, ◌^◌, IfErr, IfOk, MatchResult, length};
+ghost use Rattle.std.specs.Prelude.{◌≡◌, ◌⊎◌, ◌≤◌, ◌<◌, ◌^◌, ◌++◌, IfErr, IfOk, MatchResult, length};
+ghost use Rattle.rv_command.specs.Messages.{cut_off_note};
 ghost use Rattle.rvtest_app.specs.Commands.{diff_status};
-ghost use Rattle.rvtest_app.specs.Reports.{IsDiffAt, IsDiffOf, compared_rows, leaves_out, left_out_count, requested_comparison};
+ghost use Rattle.rvtest_app.specs.Reports.{IsDiffAt, IsDiffOf, IsDiffOfReports, IsDiffPut, compared_rows, leaves_out, left_out_count};
+ghost use Rattle.rvtest_app.specs.Reports.{requested_comparison};
+ghost use Rattle.rvtest_app.specs.Said.{said};
 ghost use Rattle.rvtest_app.specs.CommandStops.{IsDiffAtStop};
 ghost use Rattle.rvtest_app.specs.ToldStops.{IsDiffStop};
-ghost use Rattle.rv_command.specs.declared.stop.Stop.TheVariants.{OutOfMemory};
+ghost use Rattle.rv_command.specs.declared.stop.Stop.TheVariants.{OutOfMemory, WriteFailed};
 ghost use Rattle.rv_diff.specs.Diff.{diff_text, counts_of_differing};
 
+use crate::destinations::Destinations;
 use crate::findings::Found;
 use rv_cli::rvtest::DiffAsked;
-use rv_command::{DONE, SOME_FAIL, Stop, parse_report, read_file};
+use rv_command::{
+    DONE, RequestedReport, SOME_FAIL, Stop, cut_off_note, parse_requested_report, put_message,
+    put_results, read_file,
+};
 use rv_diff::{Compare, Compared, Differing, push_diff, rows_beside};
-use rv_files::Inputs;
-use rv_report::{Extent, SavedReport};
-use rv_rows::Row;
+use rv_files::{Inputs, Outputs};
+use rv_report::{Extent, PartialReport, SavedReport};
+use rv_rows::{Row, Sink};
 use std::alloc::{AllocError, Global};
 
-/// In which jobs two reports differ. The status is 1 where they do in any.
-pub(crate) fn diff_reports<D: Inputs>(
+// In which jobs two reports differ, the status of that, and what is said of reports that are cut off.
+#[derive(Drop)]
+struct NotedDiff {
+    found: Found,
+    notes: Vec<u8>,
+}
+
+/// Puts in which jobs two reports differ, and before that what is said of those that are cut off. The status is 1 where they do in
+/// any.
+pub(crate) fn diff_reports<D: Inputs, F: Outputs + Drop, O: Sink + Drop, E: Sink + Drop>(
     inputs: &D,
     alloc: Global,
     asked: DiffAsked<'_>,
-) -> Result<Found, Stop>
-    ensures diff { IfOk result (λ found. IsDiffAt (D.contents inputs.now) asked.entry
-        found.text.items found.status) }
-    ensures low { IfOk result (λ found. found.status ≤ 1) }
+    to: &mut Destinations<F, O, E>,
+) -> Result<u8, Stop>
+    ensures put { IfOk result (λ status. IsDiffPut (D.contents inputs.now) asked.entry status
+        (said F.placed O.taken E.taken E.failed to.old) (said F.placed O.taken E.taken E.failed to.new)) }
+    ensures low { IfOk result (λ status. status ≤ 1) }
+    ensures stopped { IfErr result (λ why. (why ≡ WriteFailed)
+        ⊎ IsDiffAtStop (D.contents inputs.now) asked.entry why) }
+{
+    let NotedDiff { found, notes } = diff_of_files(inputs, alloc, asked)?;
+    put_message(&mut to.errors, notes.as_slice());
+    put_results(&mut to.out, found.text.as_slice())?;
+    Ok(found.status)
+}
+
+// The same of what stands at the two paths.
+fn diff_of_files<D: Inputs>(
+    inputs: &D,
+    alloc: Global,
+    asked: DiffAsked<'_>,
+) -> Result<NotedDiff, Stop>
+    ensures diff { IfOk result (λ noted. IsDiffAt (D.contents inputs.now) asked.entry
+        noted.found.text.items noted.notes.items noted.found.status) }
+    ensures low { IfOk result (λ noted. noted.found.status ≤ 1) }
     ensures stopped { IfErr result (IsDiffAtStop (D.contents inputs.now) asked.entry) }
 {
     let old = read_file(inputs, alloc, asked.old)?;
@@ -39,18 +73,50 @@ fn diff_report_texts(
     asked: DiffAsked<'_>,
     old: &[u8],
     new: Result<Vec<u8>, Stop>,
-) -> Result<Found, Stop>
-    ensures diff { IfOk result (λ found. MatchResult new
-        (λ new. IsDiffOf (requested_comparison asked.entry.steps asked.entry.slower) old.now new.items
-        found.text.items found.status) (λ stop. ⊥)) }
-    ensures blamed { IfErr result (IsDiffStop asked.entry.old.now old.now asked.entry.new.now new) }
-    ensures low { IfOk result (λ found. found.status ≤ 1) }
+) -> Result<NotedDiff, Stop>
+    ensures diff { IfOk result (λ noted. MatchResult new (λ new. IsDiffOf asked.entry old.now new.items
+        noted.found.text.items noted.notes.items noted.found.status) (λ stop. ⊥)) }
+    ensures blamed { IfErr result (IsDiffStop asked.entry old.now new) }
+    ensures low { IfOk result (λ noted. noted.found.status ≤ 1) }
 {
-    let old = parse_report(alloc, asked.old, old)?;
+    let old = parse_requested_report(alloc, requested(asked.old, asked), old)?;
     let new_text = new?;
-    let new = parse_report(alloc, asked.new, new_text.as_slice())?;
+    let new = parse_requested_report(alloc, requested(asked.new, asked), new_text.as_slice())?;
+    diff_read_reports(alloc, asked, old, new)
+}
+
+// The report at one of the two paths.
+fn requested<'a>(path: &'a str, asked: DiffAsked<'_>) -> RequestedReport<'a>
+    ensures path { result.path.now ≡ path.entry.now }
+    ensures partial { result.partial ≡ asked.entry.partial }
+{
+    RequestedReport {
+        path,
+        partial: asked.partial,
+    }
+}
+
+// The same of the two reports that were read.
+fn diff_read_reports(
+    alloc: Global,
+    asked: DiffAsked<'_>,
+    old: PartialReport,
+    new: PartialReport,
+) -> Result<NotedDiff, Stop>
+    requires old { length old.report.rows < 2 ^ 32 }
+    requires new { length new.report.rows < 2 ^ 32 }
+    ensures diff { IfOk result (λ noted. IsDiffOfReports (requested_comparison asked.entry.steps asked.entry.slower)
+        old.report new.report noted.found.text.items noted.found.status) }
+    ensures noted { IfOk result (λ noted. noted.notes.items
+        ≡ cut_off_note asked.entry.old.now old ++ cut_off_note asked.entry.new.now new) }
+    ensures low { IfOk result (λ noted. noted.found.status ≤ 1) }
+    ensures memory { IfErr result (λ stop. stop ≡ OutOfMemory) }
+{
+    let mut notes = cut_off_note(alloc, asked.old, &old)?;
+    notes.extend_from_slice(cut_off_note(alloc, asked.new, &new)?.as_slice())?;
     let compare = requested_comparison(asked.steps, asked.slower);
-    diff_saved_reports(alloc, compare, old, new)
+    let found = diff_saved_reports(alloc, compare, old.report, new.report)?;
+    Ok(NotedDiff { found, notes })
 }
 
 // The same of the two reports.

@@ -190,7 +190,7 @@ fn run_subcommand<
         Asked::Check(asked) => put_findings(&mut to.out, check_list(inputs, alloc, asked)),
         Asked::Accept(asked) => accept_runs(host, &asked, &mut to),
         Asked::Merge(asked) => merge_reports(inputs, alloc, &asked, &mut to),
-        Asked::Diff(asked) => put_findings(&mut to.out, diff_reports(inputs, alloc, asked)),
+        Asked::Diff(asked) => diff_reports(inputs, alloc, asked, &mut to),
         Asked::Show(asked) => show_report(inputs, alloc, asked, &mut to),
         Asked::Help(asked) => put_findings(&mut to.out, tell_topic(alloc, asked)),
     };

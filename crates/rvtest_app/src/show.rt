@@ -22,7 +22,7 @@ use crate::report_summary::push_summary;
 use crate::rules::{report_judge, rows_status};
 use crate::whole_files::put_whole_files;
 use rv_cli::rvtest::ShowAsked;
-use rv_command::{Stop, read_report_file};
+use rv_command::{RequestedReport, Stop, cut_off_note, put_message, read_requested_report};
 use rv_expect::Judge;
 use rv_files::{Inputs, Outputs};
 use rv_junit::Suite;
@@ -50,8 +50,14 @@ pub(crate) fn show_report<D: Inputs, F: Outputs + Drop, O: Sink + Drop, E: Sink 
         (said F.placed O.taken E.taken E.failed to.old) (said F.placed O.taken E.taken E.failed to.new)) }
     ensures stopped { IfErr result (IsShowStop (D.contents inputs.now) asked.entry) }
 {
-    let report = read_report_file(inputs, alloc, asked.report)?;
-    let summarized = summarize_report(alloc, asked, report)?;
+    let requested = RequestedReport {
+        path: asked.report,
+        partial: asked.partial,
+    };
+    let found = read_requested_report(inputs, alloc, requested)?;
+    let note = cut_off_note(alloc, asked.report, &found)?;
+    let summarized = summarize_report(alloc, asked, found.report)?;
+    put_message(&mut to.errors, note.as_slice());
     let status = summarized.status;
     put_summarized_report(alloc, asked, summarized, to)?;
     Ok(status)

@@ -1,0 +1,82 @@
+//! Reports that words name, and that may be cut off where words take one.
+
+ghost use Rattle.std.specs.Prelude.{◌≡◌, ◌≤◌, IfErr, IfOk, length};
+ghost use Rattle.rv_base.specs.Limits.{most_jobs};
+ghost use Rattle.rv_command.specs.Messages.{cut_off_note};
+ghost use Rattle.rv_command.specs.Stops.{IsPartialFaultStop, IsRequestedFaultStop, IsRequestedUnreadStop};
+ghost use Rattle.rv_command.specs.Texts.{IsReportRead, IsReportReadAt};
+ghost use Rattle.rv_report.specs.Partial.{IsReadAs};
+
+use crate::files::read_file;
+use crate::messages::path_number_message;
+use crate::saved_report::{parse_report, report_line_stop};
+use crate::stop::Stop;
+use rv_files::Inputs;
+use rv_report::{PartialReport, ReadError, read_partial_report};
+use std::alloc::{AllocError, Global};
+
+/// A report that words name, and whether one that is cut off is taken.
+#[derive(Clone, Copy)]
+pub struct RequestedReport<'a> {
+    pub path: &'a str,
+    pub partial: bool,
+}
+
+/// The report at the path that words name; of one that is cut off its whole rows, where that is taken.
+pub fn read_requested_report<D: Inputs>(
+    inputs: &D,
+    alloc: Global,
+    asked: RequestedReport<'_>,
+) -> Result<PartialReport, Stop>
+    ensures read { IfOk result (IsReportReadAt (D.contents inputs.now) asked.entry.partial asked.entry.path.now) }
+    ensures few { IfOk result (λ read. length read.report.rows ≤ most_jobs) }
+    ensures unread { IfErr result
+        (IsRequestedUnreadStop (D.contents inputs.now) asked.entry.partial asked.entry.path.now) }
+{
+    let text = read_file(inputs, alloc, asked.path)?;
+    parse_requested_report(alloc, asked, text.as_slice())
+}
+
+/// The same of the text that stands there.
+pub fn parse_requested_report(
+    alloc: Global,
+    asked: RequestedReport<'_>,
+    text: &[u8],
+) -> Result<PartialReport, Stop>
+    ensures read { IfOk result (IsReportRead asked.entry.partial text.now) }
+    ensures few { IfOk result (λ read. length read.report.rows ≤ most_jobs) }
+    ensures fault { IfErr result (IsRequestedFaultStop asked.entry.partial asked.entry.path.now text.now) }
+{
+    if asked.partial {
+        return parse_partial_report(alloc, asked.path, text);
+    }
+    let report = parse_report(alloc, asked.path, text)?;
+    Ok(PartialReport {
+        report,
+        is_cut_off: false,
+    })
+}
+
+fn parse_partial_report(alloc: Global, path: &str, text: &[u8]) -> Result<PartialReport, Stop>
+    ensures read { IfOk result (λ read. IsReadAs text.now read.is_cut_off read.report) }
+    ensures few { IfOk result (λ read. length read.report.rows ≤ most_jobs) }
+    ensures fault { IfErr result (IsPartialFaultStop path.now text.now) }
+{
+    match read_partial_report(alloc, text) {
+        Ok(read) => Ok(read),
+        Err(ReadError::Line(line)) => Err(report_line_stop(alloc, path, text, line)),
+        // A report that is cut off is read.
+        Err(ReadError::OutOfMemory | ReadError::CutOff) => Err(Stop::OutOfMemory),
+    }
+}
+
+/// A line that says how many whole rows a report has which is cut off; of another one nothing.
+pub fn cut_off_note(alloc: Global, path: &str, read: &PartialReport) -> Result<Vec<u8>, AllocError>
+    ensures { IfOk result (λ note. note.items ≡ cut_off_note path.now read.now) }
+{
+    if !read.is_cut_off {
+        return Ok(Vec::new(alloc));
+    }
+    let what = ": the report is cut off; whole rows: ";
+    path_number_message(alloc, path, what, read.report.rows.as_slice().len(), "\n")
+}
