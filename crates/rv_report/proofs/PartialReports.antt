@@ -1,6 +1,6 @@
 -- The first rows of a report are a report, and rows that a text has whole.
-use Rattle.std.proofs.Common.{◌≡◌, ◌∙◌, ◌+◌, ◌-◌, ◌<◌, ◌≤◌, ℕ, zero, suc, Bool, true, ◌&&◌, not, List, [], ◌∷◌, ◌++◌}
-use Rattle.std.proofs.Common.{length, take, drop, get_or, refl, sym, ap, arith, subst, append-nil, append_assoc}
+use Rattle.std.proofs.Common.{◌≡◌, ◌∙◌, ◌+◌, ◌-◌, ◌<◌, ◌≤◌, ℕ, zero, suc, true, ◌&&◌, not, List, [], ◌∷◌, ◌++◌}
+use Rattle.std.proofs.Common.{length, take, drop, get_or, refl, sym, ap, arith, subst, append_assoc}
 use Rattle.std.specs.Prelude.{nat_le, nat_lt, is_some}
 use Rattle.std.specs.List.{AllByRecursion, list_all}
 use Rattle.std.proofs.lemmas.Bool.{and_parts, and_from}
@@ -12,9 +12,9 @@ use Rattle.rv_report.specs.declared.saved.SavedReport.{SavedReport}
 use Rattle.rv_report.specs.Differences.{count_of_line_feeds}
 use Rattle.rv_report.specs.LeastLine.{BeginsReport}
 use Rattle.rv_report.specs.LenientReport.{lenient_report}
-use Rattle.rv_report.specs.Partial.{BeginsWith, HasWholeRows, IsReadAs, first_rows, first_rows_text, whole_lines}
+use Rattle.rv_report.specs.Partial.{BeginsWith, HasWholeRows, first_rows, first_rows_text, whole_lines}
 use Rattle.rv_report.specs.Report.{row_text}
-use Rattle.rv_report.specs.Saved.{IsRow, IsSaved, are_new, are_rising, matches_job_numbers, numbered_text, row_names, saved_text}
+use Rattle.rv_report.specs.Saved.{IsRow, IsSaved, are_new, are_rising, matches_job_numbers, numbered_text, row_names}
 use Rattle.rv_report.proofs.Cut.{length-taken, said_can_be}
 use Rattle.rv_report.proofs.LeastLine.{lines_stay}
 use Rattle.rv_report.proofs.Loops.{numbered_more}

@@ -44,7 +44,8 @@ pub fn read_partial_report(alloc: Global, bytes: &[u8]) -> Result<PartialReport,
                 is_cut_off: true,
             })
         }
-        Err(error) => Err(error),
+        Err(ReadError::Line(line)) => Err(ReadError::Line(line)),
+        Err(ReadError::OutOfMemory) => Err(ReadError::OutOfMemory),
     }
 }
 

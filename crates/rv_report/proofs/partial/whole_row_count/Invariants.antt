@@ -3,4 +3,4 @@ use Rattle.rv_report.specs.Saved.{numbered_text}
 use Rattle.rv_report.proofs.partial.whole_row_count.Given as goal
 
 abbrev pub invariant-loop-at : goal.invariant-loop-at
-invariant-loop-at l = l.bytes ≡ numbered_text (take l.at l.numbers.now) (take l.at l.rows.now) ++ l.rest.now
+invariant-loop-at l = l.bytes ≡ numbered_text (take l.at l.numbers) (take l.at l.rows) ++ l.rest

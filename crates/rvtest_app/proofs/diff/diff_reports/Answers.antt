@@ -1,10 +1,23 @@
-use Rattle.rvtest_app.proofs.StopLemmas.{IfErr-map, diff_stop_at}
+use Rattle.std.proofs.Common.{inr, refl}
+use Rattle.std.proofs.lemmas.Result.{err_from_is_err_and}
 use Rattle.rvtest_app.proofs.diff.diff_reports.Goals as goal
 
-pub returns-clause-stopped : goal.returns-clause-stopped
-returns-clause-stopped g c =
-    IfErr-map c.diff_report_texts.result _ _
-    (λ why is. diff_stop_at (g.D.Inputs.contents c.args.inputs.now) c.args.asked.old.now c.in_ok-old.old.items
-    c.args.asked.new.now c.read_file-new.result why c.in_ok-old.ensures.read c.read_file-new.ensures.read
-    c.read_file-new.ensures.unread is)
-    (rw c.as_slice.ensures.value at c.diff_report_texts.ensures.blamed)
+pub returns-in_err-found-clause-stopped : goal.returns-in_err-found-clause-stopped
+returns-in_err-found-clause-stopped g c =
+    let is = err_from_is_err_and c.from_residual.result c.from_residual.ensures.1 in
+    rw (is.1, is.2) (inr c.in_err-found.ensures.stopped)
+
+pub returns-clause-put : goal.returns-clause-put
+returns-clause-put g c = record {
+  text = c.as_slice-2.result.now;
+  notes = c.as_slice.result.now;
+  diff = rw (c.as_slice-2.ensures.value, c.as_slice.ensures.value) c.in_ok-found.ensures.diff;
+  middle = record {
+    out = g.O.Sink.taken c.args.to.now.out;
+    errors = g.E.Sink.taken c.put_message.new.errors;
+    failures = g.E.Sink.failed c.put_message.new.errors;
+    placed = g.F.Outputs.placed c.args.to.now.files;
+  };
+  told = (refl, c.put_message.ensures, refl);
+  put = (c.in_ok-put_results.ensures.put, refl, refl, refl);
+}

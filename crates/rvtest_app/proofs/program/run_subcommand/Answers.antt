@@ -22,8 +22,7 @@ returns-clause-stopped g c = elim c.match-asked.branch [
   | in-Merge w ↦ rw (w.answer-is, w.in-Merge.is) w.merge_reports-answer.ensures.stopped
   | in-Diff w ↦
       rw (w.answer-is, w.in-Diff.is)
-      (put_or_found w.diff_reports.result _ _ w.diff_reports.ensures.stopped
-      w.put_findings-answer-in-Diff.ensures.stopped)
+      w.diff_reports-answer.ensures.stopped
   | in-Show w ↦ rw (w.answer-is, w.in-Show.is) w.show_report-answer.ensures.stopped
   | in-Help w ↦
       rw (w.answer-is, w.in-Help.is)

@@ -1,0 +1,30 @@
+use Rattle.std.proofs.Common.{inr, refl}
+use Rattle.rv_report.specs.LenientReport.{lenient_report}
+use Rattle.rv_report.proofs.PartialReports.{saved_read, whole_rows}
+use Rattle.rv_report.proofs.partial.read_partial_report.Goals as goal
+
+pub returns-in_ok-report-in-Err-CutOff-clause-found : goal.returns-in_ok-report-in-Err-CutOff-clause-found
+returns-in_ok-report-in-Err-CutOff-clause-found c =
+    let bytes = c.args.bytes.now in
+    let least = rw c.in-Err-CutOff.field-0-is at c.in-Err-CutOff.ensures.least in
+    let only = rw c.in-Err-CutOff.field-0-is at c.in-Err-CutOff.ensures.only in
+    let rows = c.in_ok-report-in-Err-CutOff.ensures.rows in (
+      λ report is same. let memory = only report is same in cc,
+      (lenient_report bytes, rows.0, whole_rows bytes rows.0 least (rows.2, rows.3, rows.4), rows.1),
+    )
+
+pub returns-in_ok-report-in-Err-CutOff-clause-saved : goal.returns-in_ok-report-in-Err-CutOff-clause-saved
+returns-in_ok-report-in-Err-CutOff-clause-saved c =
+    let rows = c.in_ok-report-in-Err-CutOff.ensures.rows in
+    saved_read c.args.bytes.now rows.0 c.in_ok-report-in-Err-CutOff.report rows.1 rows.2
+
+pub returns-in-Err-Line : goal.returns-in-Err-Line
+returns-in-Err-Line c =
+    let bytes = c.args.bytes.now in
+    let least = rw c.in-Err-Line.field-0-is at c.in-Err-Line.ensures.least in
+    let cut = rw c.in-Err-Line.field-0-is at c.in-Err-Line.ensures.cut in record {
+      found = tt;
+      saved = tt;
+      beginning = λ begins. let other = cut begins in cc;
+      refused = inr (c.in-Err-Line.line, refl, least);
+    }
