@@ -1,3 +1,4 @@
 pub mod Public
+mod PartialFaults
 mod SavedRows
 mod Told
