@@ -1,8 +1,10 @@
 #!/usr/bin/env python3
-"""Accepts lists that are made at random, and a list whose writing is killed at each change of a disk.
+"""Accepts lists that are made at random, a list whose writing is killed at each change of a disk and at each write, and two lists that
+share a golden file.
 
     checks/lib/accepting.py RVTEST SHIM FOLDER LISTS SEED
 """
+import concurrent.futures
 import os
 import pathlib
 import random
@@ -141,14 +143,20 @@ def list_of(chance, folder):
 
 # ---- what is tried
 
-def try_list(rvtest, folder, seed):
-    """A list whose expectations are turned passes behind `accept`, which changes nothing the second time."""
-    chance = random.Random(seed)
-    (folder / "list.toml").write_bytes(list_of(chance, folder))
+def try_check(rvtest, folder):
+    """With --check nothing changes, and the status says whether something would."""
     before = contents(folder)
     status, told, said = run(rvtest, folder, ["accept", "list.toml", "--ends", "--check"])
     if said or contents(folder) != before or status != int(not told.startswith("0 files")):
         raise Failed(f"--check: status {status}, {told}{said}")
+
+
+def try_list(rvtest, folder, seed, is_checked):
+    """A list whose expectations are turned passes behind `accept`, which changes nothing the second time."""
+    chance = random.Random(seed)
+    (folder / "list.toml").write_bytes(list_of(chance, folder))
+    if is_checked:
+        try_check(rvtest, folder)
     status, told, said = run(rvtest, folder, ["accept", "list.toml", "--ends"])
     if status or said:
         raise Failed(f"accept: status {status}, {told}{said}")
@@ -215,26 +223,36 @@ def try_shared(rvtest, folder):
             raise Failed(f"of two lists: {name} is accepted with {accepted}, statuses {passed} and {failed}")
 
 
-def main(rvtest, shim, folder, lists, seed):
-    top = pathlib.Path(folder)
-    for number in range(int(lists)):
+def try_lists(rvtest, top, lists, seed):
+    """Tries lists side by side, and every fourth with --check before; what is wrong with the first that fails."""
+    def one(number):
         place = top / f"list{number}"
         place.mkdir()
         try:
-            try_list(rvtest, place, f"{seed}-{number}")
+            try_list(rvtest, place, f"{seed}-{number}", number % 4 == 0)
         except Failed as why:
-            sys.exit(f"accepts: list {number} of seed {seed}, in {place}: {why}")
+            return f"list {number} of seed {seed}, in {place}: {why}"
         shutil.rmtree(place)
-    print(f"accepts: {lists} lists whose expectations were turned pass behind accept, which then changes nothing")
+        return ""
+    with concurrent.futures.ThreadPoolExecutor(len(os.sched_getaffinity(0))) as pool:
+        for wrong in pool.map(one, range(lists)):
+            if wrong:
+                raise Failed(wrong)
+
+
+def main(rvtest, shim, folder, lists, seed):
+    top = pathlib.Path(folder)
     try:
+        try_lists(rvtest, top, int(lists), seed)
+        print(f"accepts: {lists} lists whose expectations were turned pass behind accept, which then changes nothing")
         changes = try_kills(rvtest, shim, top, "KILLED_CHANGE")
+        print(f"accepts: killed before each of {changes} changes of a disk, files are old or new, and the next call ends the work")
         writes = try_kills(rvtest, shim, top, "KILLED_WRITE")
+        print(f"accepts: killed before each of {writes} writes, the same")
         try_shared(rvtest, top)
+        print("accepts: of two lists that share a golden file each is accepted by itself")
     except Failed as why:
         sys.exit(f"accepts: {why}")
-    print(f"accepts: killed before each of {changes} changes of a disk, files are old or new, and the next call ends the work")
-    print(f"accepts: killed before each of {writes} writes, the same")
-    print("accepts: of two lists that share a golden file each is accepted by itself")
 
 
 if __name__ == "__main__":
