@@ -32,7 +32,7 @@ pub outcome_told : (known : Option FileContents) (words : AcceptAsked) (list : L
 outcome_told known words list judged claims files new told path left are golden edited meant of = record {
   path = rw of.0 path;
   text = rw of.0 refl;
-  jobs = rw of.0 refl;
+  listed = rw of.0 refl;
   runs = rw of.1.0 left;
   claims = rw (of.1.1.0, of.1.0) are;
   files = rw (of.1.1.1.0, of.1.1.0, of.1.0) golden;

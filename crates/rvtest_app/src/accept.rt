@@ -102,7 +102,6 @@ pub(crate) fn accept_runs<
 
 // The same of the jobs that are chosen.
 fn accept_chosen<
-    'x,
     R: Threads + Wait + Sync,
     D: Inputs,
     F: Outputs + Drop,
@@ -110,8 +109,8 @@ fn accept_chosen<
     E: Sink + Drop,
 >(
     host: &Host<'_, R, D>,
-    asked: &'x AcceptAsked<'x>,
-    list: &'x ChosenList,
+    asked: &AcceptAsked<'_>,
+    list: &ChosenList,
     chosen: &[bool],
     to: &mut Destinations<F, O, E>,
 ) -> Result<u8, Stop>
