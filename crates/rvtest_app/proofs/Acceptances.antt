@@ -1,8 +1,11 @@
 -- What is told of accepted runs is so of the jobs of their list.
-use Rattle.std.proofs.Common.{◌≡◌, [], ℕ, List, Option, IfSome, Ok, Vec, Global, fold, refl}
+use Rattle.std.proofs.Common.{◌≡◌, ◌∙◌, [], ℕ, Bool, List, Option, IfSome, Result, Ok, ap, fold, length, map, refl}
+use Rattle.std.proofs.lemmas.List.{length-map}
+use Rattle.rv_accept.proofs.Public.{marks_count}
 use Rattle.rv_accept.specs.Claims.{claims_of_runs}
 use Rattle.rv_accept.specs.Edits.{edited_from}
 use Rattle.rv_accept.specs.Meant.{meant_jobs}
+use Rattle.rv_accept.specs.Sharing.{marks_to_run}
 use Rattle.rv_accept.specs.Targets.{with_target}
 use Rattle.rv_accept.specs.declared.claims.Claim.{Claim}
 use Rattle.rv_accept.specs.declared.edits.Edit.{Edit}
@@ -16,6 +19,7 @@ use Rattle.rv_base.specs.Files.{FileContents}
 use Rattle.rv_cli.specs.declared.rvtest.accept.AcceptAsked.{AcceptAsked}
 use Rattle.rv_command.specs.Texts.{optional_text}
 use Rattle.rv_lists.specs.JobList.{job_list_of}
+use Rattle.rv_lists.specs.Jobs.{without_expectations}
 use Rattle.rv_lists.specs.declared.job.Job.{Job}
 use Rattle.rvtest_app.specs.Accepts.{AreGoldenFiles, IsOutcome, accepting_of}
 
@@ -39,3 +43,12 @@ outcome_told known words list judged claims files new told path left are golden 
   edited = rw of.1.1.1.1 edited;
   meant = rw (of.1.1.1.1, of.1.0) meant;
 }
+
+-- a list that is read twice gives the same jobs, so there is a mark for each that expects nothing
+pub bare_count : {E : Type 0} (read : Result (List Job) E) (jobs again bare : List Job) (chosen marks : List Bool)
+    → read ≡ Ok jobs → read ≡ Ok again → bare ≡ map without_expectations again → length chosen ≡ length jobs
+    → marks ≡ marks_to_run jobs chosen jobs chosen → length marks ≡ length bare
+bare_count read jobs again bare chosen marks listed more are counted marked =
+    let same : jobs ≡ again = cc (listed, more) in
+    ap length marked ∙ marks_count jobs chosen jobs chosen counted
+    ∙ rw (are, length-map again without_expectations, same) refl

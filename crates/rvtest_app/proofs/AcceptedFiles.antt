@@ -50,6 +50,10 @@ pub stops_at_first : (known : Option FileContents) (root : Option (List ℕ)) (a
 stops_at_first known root all before after target why last is stop =
     last why (rw is (0, target, omega arith, refl, stop))
 
+pub none_left : (rest : List Target) (count : ℕ) → count ≡ length rest → count ≡ 0 → rest ≡ []
+none_left [] count counted none = refl
+none_left (target ∷ rest) count counted none = absurd (omega (arith, counted, none))
+
 -- ---- files that are put in their places
 
 pub nothing_placed : (before : Option (List PlacedFile)) → AreFilesPlaced before before (Some [])

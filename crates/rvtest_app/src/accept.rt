@@ -191,7 +191,8 @@ fn marked_jobs(
         ≡ marks_to_run list.now.jobs chosen.now list.now.jobs chosen.now) }
     ensures memory { IfErr result (λ why. why ≡ Stop.OutOfMemory) }
 {
-    let jobs = parse_list(alloc, asked.run.list, list.text.as_slice())?.without_expectations();
+    let listed = parse_list(alloc, asked.run.list, list.text.as_slice())?;
+    let jobs = listed.without_expectations();
     let marks = marks_to_run(alloc, list.jobs.as_slice(), chosen)?;
     Ok(BareJobs { jobs, marks })
 }

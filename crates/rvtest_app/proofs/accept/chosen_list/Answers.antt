@@ -12,6 +12,7 @@ returns-in_err-marks-clause-stopped g c =
     (inr (c.in_ok-text.text.items, (c.in_ok-text.ensures.read, inr (c.in_ok-jobs.jobs, (listed, stop)))))
 
 pub invariant_of-result : goal.invariant_of-result
-invariant_of-result g c =
-    λ marks is. choice_count _ c.args.asked.now.run _ c.as_slice-2.result.now marks.items _
-    (rw is at c.in_ok-marks.ensures.chosen) ∙ ap length c.as_slice-2.ensures.value
+invariant_of-result g c = record {
+  counted = λ marks is. choice_count _ c.args.asked.now.run _ c.as_slice-2.result.now marks.items _
+      (rw is at c.in_ok-marks.ensures.chosen) ∙ ap length c.as_slice-2.ensures.value;
+}

@@ -15,8 +15,17 @@ returns-in-Ok-clause-rows g c =
           kept = rw (c.new-store.ensures.inputs, c.new-store.ensures.folder) at found.kept;
           noted = ap length c.unread_paths.ensures ∙ rw c.new-store.ensures.nothing at found.faults;
         };
-        are = rw (c.into_vec.ensures.value, c.in-Ok.ensures) at c.in_ok-placed_rows.ensures;
-        noted = c.in_ok-note.ensures;
+        are = rw (
+          c.as_slice-in-Ok.ensures.value,
+          c.into_vec.ensures,
+          c.in-Ok.ensures,
+          c.new-batch.ensures.plan,
+          c.new-batch.ensures.places,
+          c.as_slice-4.ensures.value,
+          c.in_ok-places.ensures.value,
+          c.as_slice.ensures.value,
+        ) at c.in_ok-placed_rows-in-Ok.ensures;
+        noted = rw (c.as_slice-count.ensures.value, c.in_ok-places.ensures.value, c.as_slice.ensures.value) at c.in_ok-note.ensures;
       };
-      told = (refl, rw c.as_slice-4.ensures.value at c.put_message.ensures, refl);
+      told = (refl, rw c.as_slice-3.ensures.value at c.put_message.ensures, refl);
     }
