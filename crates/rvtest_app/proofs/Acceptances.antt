@@ -37,11 +37,11 @@ outcome_told known words list judged claims files new told path left are golden 
   path = rw of.0 path;
   text = rw of.0 refl;
   listed = rw of.0 refl;
-  runs = rw of.1.0 left;
-  claims = rw (of.1.1.0, of.1.0) are;
-  files = rw (of.1.1.1.0, of.1.1.0, of.1.0) golden;
-  edited = rw of.1.1.1.1 edited;
-  meant = rw (of.1.1.1.1, of.1.0) meant;
+  runs = rw of.1 left;
+  claims = rw (of.2, of.1) are;
+  files = rw (of.3, of.2, of.1) golden;
+  edited = rw of.4 edited;
+  meant = rw (of.4, of.1) meant;
 }
 
 -- a list that is read twice gives the same jobs, so there is a mark for each that expects nothing
