@@ -2,6 +2,7 @@ pub mod StepRanks
 mod StepOrder
 mod AcceptStops
 mod AcceptedFiles
+mod Acceptances
 mod Numbers
 mod Sent
 mod Results
