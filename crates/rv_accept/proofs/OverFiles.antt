@@ -24,11 +24,11 @@ use Rattle.rv_accept.specs.Runs.{takes_from_run, why_chosen_is_left}
 use Rattle.rv_accept.specs.declared.ends.Acceptance.{Acceptance}
 
 -- the path of a console's file stays
-same_path : (console : Option ExpectedConsole) (bytes : List ℕ)
+pub console_path_stays : (console : Option ExpectedConsole) (bytes : List ℕ)
     → console_path (console_met console bytes) ≡ console_path console
-same_path None bytes = refl
-same_path (Some (Text text)) bytes = refl
-same_path (Some (File path)) bytes = refl
+console_path_stays None bytes = refl
+console_path_stays (Some (Text text)) bytes = refl
+console_path_stays (Some (File path)) bytes = refl
 
 -- a golden file that is named was read
 file_read : (answers : List Answer) (named : Option (List ℕ)) (text : List ℕ)
@@ -53,7 +53,7 @@ outcome_again earlier later job row came ran finds =
     let over : RanOver (without_expectations job) (kept_for earlier job.image) =
         ran_over (without_expectations job) (kept_for earlier job.image)
         (subst (λ (outcome : Outcome). did_run outcome.ending ≡ true) came ran) in
-    let path = same_path job.expect_console row.console in
+    let path = console_path_stays job.expect_console row.console in
     rw (finds.image ran ∙ over.was) (rw path
     (outcome_over (accepted_job job row.ending row.console) over.file (option_map (kept_for later) job.expect_signature)
     (option_map (kept_for later) (console_path job.expect_console))
@@ -81,12 +81,12 @@ passes_again acceptance job earlier later row came kept alone finds = go (takes_
         let accepted = accepted_if_kept acceptance job row is kept in
         let again = outcome_again earlier later.answers job row came
             (ran_if_accepted acceptance job row.ending accepted) finds in
-        rw again (rw (same_path job.expect_console row.console)
+        rw again (rw (console_path_stays job.expect_console row.console)
         (accepted_passes acceptance job (outcome_of_row row) _ _ (named_job_outcome later changed) accepted alone
         (text_read later.answers job.expect_signature (lines_of_signature row.signature) finds.signature)
         (text_read later.answers (console_path job.expect_console) row.console finds.console)))
 
-outcome_of_its_row : (plan : Planned) (job : Job) → outcome_of_row (row_of plan job) ≡ outcome_in plan.answers job
+pub outcome_of_its_row : (plan : Planned) (job : Job) → outcome_of_row (row_of plan job) ≡ outcome_in plan.answers job
 unfolding row_of
 outcome_of_its_row plan job = refl
 

@@ -7,5 +7,5 @@ pub use Rattle.rv_accept.proofs.GoldenPaths.{targets_are_of_jobs}
 pub use Rattle.rv_accept.proofs.MarkCounts.{marks_count}
 pub use Rattle.rv_accept.proofs.ImagesThatRan.{image_that_ran, RanOver, ran_over}
 pub use Rattle.rv_accept.proofs.Meeting.{ran_if_accepted}
-pub use Rattle.rv_accept.proofs.OverFiles.{passes_over_files}
+pub use Rattle.rv_accept.proofs.OverFiles.{console_path_stays, outcome_of_its_row, passes_over_files}
 pub use Rattle.rv_accept.proofs.Passing.{accepted_if_kept}

@@ -1,11 +1,13 @@
 pub mod StepRanks
 mod StepOrder
 mod AcceptStops
+mod AcceptedAgain
 mod AcceptedFiles
 mod Numbers
 mod Sent
 mod Results
 mod StopLemmas
+mod StoreAfter
 mod PutTexts
 mod PutStops
 mod PartTexts

@@ -4,7 +4,7 @@ use Rattle.std.specs.Prelude.{◌⊎◌, if◌then◌else◌}
 use Rattle.std.specs.List.{All, Any, flat_map, starts_with}
 use Rattle.std.specs.Str.{bytes_eq}
 use Rattle.std.proofs.Common.{inl, inr}
-use Rattle.std.proofs.lemmas.List.Elements.{All-append, All-cons, All-head, All-nil}
+use Rattle.std.proofs.lemmas.List.Elements.{All-append, All-cons, All-head, All-nil, All-tail}
 use Rattle.std.proofs.lemmas.Slice.Eq.{bytes_eq-Decides}
 use Rattle.rv_accept.proofs.Public.{all_left, all_right}
 use Rattle.rv_accept.specs.declared.fates.Fate.{Fate}
@@ -57,15 +57,18 @@ to_golden : (P : PlacedFile → Type 0) (list : ListFile) (files : List GoldenFi
     → All P (flat_map (λ (file : GoldenFile). file_if file.place (new_text list file)) files)
 to_golden P list [] each = All-nil P
 to_golden P list (file ∷ files) each = All-append P (file_if file.place (new_text list file)) _
-    (to_file P file.place (new_text list file) (each 0 file (omega arith)))
-    (to_golden P list files (λ k other below. each (suc k) other (omega (arith, below))))
+    (to_file P file.place (new_text list file) (All-head (OfNew P list) file files each))
+    (to_golden P list files (All-tail (OfNew P list) file files each))
+
+-- the golden files that are written
+abbrev golden_written : Accepting → List PlacedFile
+golden_written told = flat_map (λ (file : GoldenFile). file_if file.place (new_text told.list file)) told.files.now
 
 -- what holds of each golden file's new text, and of the list's, holds of each file that is written
 to_written : (P : PlacedFile → Type 0) (told : Accepting) → All (OfNew P told.list) told.files.now
     → ((text : List ℕ) → new_list_text told ≡ Some text → P (placed_file told.list.path.now text))
     → All P (written_files told)
-to_written P told golden list = All-append P
-    (flat_map (λ (file : GoldenFile). file_if file.place (new_text told.list file)) told.files.now)
+to_written P told golden list = All-append P (golden_written told)
     (file_if told.list.path.now (new_list_text told))
     (to_golden P told.list told.files.now golden) (to_file P told.list.path.now (new_list_text told) list)
 
@@ -119,7 +122,7 @@ holds_still told before after path bytes store stood holds keeps list = go (stor
   where
     golden : All (OfNew (λ (file : PlacedFile). store.leads file.path ≡ store.leads path → after path ≡ Some bytes) told.list)
         told.files.now
-    golden k other below text written leads =
+    golden = λ k other below text written leads.
         let file : GoldenFile = get_or told.files.now k other in
         kept_is_not_written told.list file bytes text
         (sym (stood k other below) ∙ store.one_before file.place path leads ∙ holds) keeps written
@@ -177,7 +180,7 @@ pub list_is_there : (told : Accepting) (after : FileContents) (text : List ℕ)
 list_is_there told after text there is =
     of_file (λ (file : PlacedFile). after file.path ≡ Some file.bytes) told.list.path.now (new_list_text told)
     (all_right (λ (file : PlacedFile). after file.path ≡ Some file.bytes)
-    (flat_map (λ (file : GoldenFile). file_if file.place (new_text told.list file)) told.files.now) _ there) text is
+    (golden_written told) (file_if told.list.path.now (new_list_text told)) there) text is
 
 -- ---- golden files
 
@@ -228,7 +231,7 @@ module _ (told : Accepting) (before after : FileContents) (store : IsStoreAfter 
       (get_or told.files.now k d).old ≡ new → after (get_or told.files.now k d).place ≡ Some text
   golden_there k d below text agreed kept (Some written) new =
       let there = of_golden (λ (file : PlacedFile). after file.path ≡ Some file.bytes) told.list told.files.now
-          (all_left (λ (file : PlacedFile). after file.path ≡ Some file.bytes) _ (file_if told.list.path.now (new_list_text told))
+          (all_left (λ (file : PlacedFile). after file.path ≡ Some file.bytes) (golden_written told) (file_if told.list.path.now (new_list_text told))
           store.there) k d below written new in
       let same = agreed_text (is_kept told.list (get_or told.files.now k d)) text written (get_or told.files.now k d).old
           (rw agreed at new) in
@@ -243,10 +246,10 @@ module _ (told : Accepting) (before after : FileContents) (store : IsStoreAfter 
 
       golden : All (OfNew (λ (other : PlacedFile). store.leads other.path ≡ store.leads file.place → after file.place ≡ Some text)
           told.list) told.files.now
-      golden j e within written is leads =
+      golden = λ j e within written is leads.
           let other : GoldenFile = get_or told.files.now j e in
           let there = of_golden (λ (file : PlacedFile). after file.path ≡ Some file.bytes) told.list told.files.now
-              (all_left (λ (file : PlacedFile). after file.path ≡ Some file.bytes) _
+              (all_left (λ (file : PlacedFile). after file.path ≡ Some file.bytes) (golden_written told)
               (file_if told.list.path.now (new_list_text told)) store.there) j e within written is in
           let fate_is : other.target.fate ≡ fate.Agreed text = sym (alike k d below j e within (sym leads)) ∙ agreed in
           let same = agreed_text (is_kept told.list other) text written other.old (rw fate_is at is) in
