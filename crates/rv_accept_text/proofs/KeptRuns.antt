@@ -6,6 +6,9 @@ use Rattle.rv_accept.specs.declared.runs.JobRun.{JobRun}
 use Rattle.rv_accept.specs.declared.runs.WhyLeft.{WhyLeft}
 use Rattle.rv_accept_text.specs.NewLists.{AreLeftFrom, again, left_run, left_runs, once, run_or_none}
 
+no : {A : Type 0} → false ≡ true → A
+no is = cc
+
 -- a run that is accepted though it may be left is the same
 same_run : (why : Option WhyLeft) (run : JobRun) → is_accepted_run (left_run why run) ≡ true → left_run why run ≡ run
 same_run why run accepted = go run.is_chosen run.left refl refl why accepted
@@ -15,10 +18,7 @@ same_run why run accepted = go run.is_chosen run.left refl refl why accepted
     go false left chosen_is left_is why accepted = rw chosen_is refl
     go true (Some other) chosen_is left_is why accepted = rw (chosen_is, left_is) refl
     go true None chosen_is left_is None accepted = rw (chosen_is, left_is) (rw (← left_is) refl)
-    go true None chosen_is left_is (Some other) accepted = absurd_of (rw (chosen_is, left_is) at accepted)
-      where
-        absurd_of : (run.is_chosen && false) ≡ true → left_run (Some other) run ≡ run
-        absurd_of is = cc
+    go true None chosen_is left_is (Some other) accepted = no (rw (chosen_is, left_is) at accepted)
 
 run_behind : (runs : List (Option JobRun)) (place : ℕ) → slice_get (drop 1 runs) place ≡ slice_get runs (suc place)
 run_behind [] place = refl

@@ -1,5 +1,5 @@
 -- The text of a list begins as no ELF file does.
-use Rattle.std.proofs.Common.{◌≡◌, ℕ, Bool, true, false, ◌&&◌, List, [], ◌∷◌, Option, None, Ok, length, nat_eq, refl}
+use Rattle.std.proofs.Common.{◌≡◌, ◌==◌, ℕ, suc, Bool, true, false, arith, ◌&&◌, List, [], ◌∷◌, Option, None, Ok, length, nat_eq, refl}
 use Rattle.std.specs.Prelude.{if◌then◌else◌}
 use Rattle.std.specs.List.{starts_with}
 use Rattle.std.specs.Str.{is_utf8}
@@ -12,17 +12,23 @@ use Rattle.rv_lists.specs.JobList.{document_of, job_list_of, jobs_of_document}
 use Rattle.rv_lists.specs.declared.job.Job.{Job}
 use Rattle.rv_accept_text.specs.GoldenFiles.{elf_magic}
 
+not_empty : (n : ℕ) → (suc n == 0) ≡ false
+not_empty n = go (suc n == 0) refl
+  where
+    go : (is_none : Bool) → (suc n == 0) ≡ is_none → (suc n == 0) ≡ false
+    go false is = is
+    go true is = absurd (omega (arith, eqb-true (suc n) 0 is))
+
 -- no document begins with the control character DEL
 no_document : (rest : List ℕ) → parse_document (0x7f ∷ rest) ≡ None
 unfolding parse_document lines line expression key_equals key_after simple_key skip_bom skip_from
-no_document rest = refl
+no_document rest = rw (not_empty (length rest)) refl
 
 no_list : (rest : List ℕ) (jobs : List Job) → job_list_of (0x7f ∷ rest) ≡ Ok jobs → {A : Type 0} → A
 unfolding job_list_of jobs_of_document
 no_list rest jobs is = go (is_utf8 (0x7f ∷ rest)) (rw (no_document rest) at is)
   where
     go : (utf8 : Bool) → jobs_of_document (if utf8 then None else None) ≡ Ok jobs → {A : Type 0} → A
-    unfolding jobs_of_document
     go true is = cc
     go false is = cc
 

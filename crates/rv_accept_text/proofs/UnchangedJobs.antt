@@ -1,5 +1,5 @@
 -- Where each accepted job with another value is left, the jobs that are meant are those of the list.
-use Rattle.std.proofs.Common.{◌≡◌, ◌∷◌, [], ℕ, Bool, true, false, ◌&&◌, List, Option, Some, None, Ok, Err, is_some, not, option_map, refl, sym}
+use Rattle.std.proofs.Common.{◌≡◌, ◌∷◌, [], ℕ, Bool, true, false, ◌&&◌, List, Option, Some, None, Ok, Err, is_some, not, option_map, refl, rules}
 use Rattle.std.specs.Prelude.{IfOk, Result, if◌then◌else◌}
 use Rattle.std.specs.Str.{bytes_eq}
 use Rattle.std.proofs.lemmas.Slice.Eq.{bytes_eq-Decides}
@@ -77,14 +77,14 @@ meant_if_left job run why is = go run.is_chosen run.left refl refl
   where
     go : (chosen : Bool) (left : Option WhyLeft) → run.is_chosen ≡ chosen → run.left ≡ left
         → meant_job job (row_if_accepted (left_run why run)) ≡ job
-    go false left chosen_is left_is = rw chosen_is (rw chosen_is refl)
-    go true (Some other) chosen_is left_is = rw (chosen_is, left_is) (rw (chosen_is, left_is) refl)
+    go false left chosen_is left_is = rw chosen_is refl
+    go true (Some other) chosen_is left_is = rw (chosen_is, left_is) refl
     go true None chosen_is left_is = at_why why is
       where
         at_why : (why : Option WhyLeft) → why_changed job run.row ≡ why
             → meant_job job (row_if_accepted (left_run why run)) ≡ job
-        at_why None is = rw (chosen_is, left_is) (rw chosen_is (same_job job run.row is))
-        at_why (Some other) is = rw (chosen_is, left_is) (rw chosen_is refl)
+        at_why None is = rw (chosen_is, left_is) (same_job job run.row is)
+        at_why (Some other) is = rw (chosen_is, left_is) refl
 
 meant_of_run : (job : Job) (run : Option JobRun)
     → meant_job job (accepted_row (option_map (left_run (why_changed_if_run job run)) run)) ≡ job
