@@ -1,6 +1,6 @@
 -- A run that is accepted in the end was so from the beginning, with the same row.
-use Rattle.std.proofs.Common.{◌≡◌, ◌∷◌, [], ℕ, zero, suc, Bool, true, false, ◌&&◌, List, Option, Some, None, drop, is_some, not, option_map, refl}
-use Rattle.std.specs.Prelude.{if◌then◌else◌, slice_get}
+use Rattle.std.proofs.Common.{◌≡◌, ◌∷◌, [], ℕ, zero, suc, Bool, true, false, List, Option, Some, None, drop, option_map, refl}
+use Rattle.std.specs.Prelude.{slice_get}
 use Rattle.rv_accept.specs.Runs.{is_accepted_run}
 use Rattle.rv_accept.specs.declared.runs.JobRun.{JobRun}
 use Rattle.rv_accept.specs.declared.runs.WhyLeft.{WhyLeft}

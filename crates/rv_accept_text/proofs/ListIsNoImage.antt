@@ -1,14 +1,13 @@
 -- The text of a list begins as no ELF file does.
-use Rattle.std.proofs.Common.{◌≡◌, ◌==◌, ℕ, suc, Bool, true, false, arith, ◌&&◌, List, [], ◌∷◌, Option, None, Ok, length, nat_eq, refl}
+use Rattle.std.proofs.Common.{◌≡◌, ◌==◌, ℕ, suc, Bool, true, false, arith, ◌&&◌, List, [], ◌∷◌, None, Ok, length, nat_eq, refl}
 use Rattle.std.specs.Prelude.{if◌then◌else◌}
 use Rattle.std.specs.List.{starts_with}
 use Rattle.std.specs.Str.{is_utf8}
 use Rattle.std.proofs.lemmas.Bool.{eqb-true}
-use Rattle.toml.specs.Data.{Members}
 use Rattle.toml.specs.Parse.{expression, key_equals, line, lines, parse_document, skip_bom}
 use Rattle.toml_parser.specs.Lexical.{skip_from}
 use Rattle.toml_parser.specs.Strings.{key_after, simple_key}
-use Rattle.rv_lists.specs.JobList.{document_of, job_list_of, jobs_of_document}
+use Rattle.rv_lists.specs.JobList.{job_list_of, jobs_of_document}
 use Rattle.rv_lists.specs.declared.job.Job.{Job}
 use Rattle.rv_accept_text.specs.GoldenFiles.{elf_magic}
 

@@ -1,7 +1,6 @@
 -- Where each accepted job with another value is left, the jobs that are meant are those of the list.
-use Rattle.std.proofs.Common.{◌≡◌, ◌∷◌, [], ℕ, Bool, true, false, ◌&&◌, List, Option, Some, None, Ok, Err, is_some, not, option_map, refl, rules}
-use Rattle.std.specs.Prelude.{IfOk, Result, if◌then◌else◌}
-use Rattle.std.specs.Str.{bytes_eq}
+use Rattle.std.proofs.Common.{◌≡◌, ◌∷◌, [], ℕ, Bool, true, false, List, Option, Some, None, not, option_map, refl, rules}
+use Rattle.std.specs.Prelude.{if◌then◌else◌}
 use Rattle.std.proofs.lemmas.Slice.Eq.{bytes_eq-Decides}
 use Rattle.std.proofs.lemmas.Bool.{eqb-true}
 use denote.Enum.Bare.{same_true}
@@ -17,13 +16,12 @@ use Rattle.rv_rows.specs.declared_row.RowEnd.{RowEnd}
 use Rattle.rv_rows.specs.declared_row.RowEnd.TheVariants as ending
 use Rattle.rv_accept.specs.Accepted.{accepted_job, console_met, end_met, exit_met}
 use Rattle.rv_accept.specs.Meant.{meant_job, meant_jobs}
-use Rattle.rv_accept.specs.Runs.{accepted_row, is_accepted_run, row_if_accepted}
+use Rattle.rv_accept.specs.Runs.{accepted_row, row_if_accepted}
 use Rattle.rv_accept.specs.Values.{has_text, is_value_changed}
 use Rattle.rv_accept.specs.declared.runs.JobRun.{JobRun}
 use Rattle.rv_accept.specs.declared.runs.WhyLeft.{WhyLeft}
 use Rattle.rv_accept.specs.declared.values.ValueKey.TheVariants as key
 use Rattle.rv_accept_text.specs.NewLists.{left_run, left_runs, why_changed, why_changed_if_run, whys_changed}
-use Rattle.rv_accept_text.specs.declared.new_list.NewList.{NewList}
 
 -- ---- one job
 

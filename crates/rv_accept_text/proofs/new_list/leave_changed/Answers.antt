@@ -1,6 +1,4 @@
 use Rattle.std.proofs.Common.{rules, ◌≡◌}
-use Rattle.rv_accept_text.proofs.KeptRuns.{accepted_from_the_first}
-use Rattle.rv_accept_text.proofs.ListIsNoImage.{list_is_no_image}
 use Rattle.rv_accept_text.proofs.UnchangedJobs.{changed_are_left}
 use Rattle.rv_accept_text.specs.NewLists.{whys_changed}
 use Rattle.rv_accept_text.proofs.new_list.leave_changed.Goals as goal
