@@ -1,8 +1,9 @@
 -- An accepted job passes in a run over the store with the new files, or nothing is expected of it.
 use Rattle.std.proofs.Common.{◌≡◌, ◌∙◌, ◌<◌, ◌∷◌, ◌||◌, [], ℕ, Bool, true, false, List, Option, Some, None, Ok, IfSome, ap, fold, get_or, Global, Vec, length, map, nat_eq, option_map, refl, subst, sym}
-use Rattle.std.specs.Prelude.{if◌then◌else◌, slice_get, slice_index_or}
+use Rattle.std.specs.Prelude.{Result, if◌then◌else◌, slice_get, slice_index_or}
 use Rattle.std.specs.List.{All, list_any, starts_with}
 use Rattle.std.specs.Str.{bytes_eq}
+use Rattle.std.proofs.lemmas.Bool.{false≢true}
 use Rattle.std.proofs.lemmas.List.Elements.{All-cons, All-head, All-nil, All-tail}
 use Rattle.std.proofs.lemmas.List.Folds.{Any-from_list_any}
 use Rattle.std.proofs.lemmas.Option.{get_or_from_slice_get, slice_get-map}
@@ -89,8 +90,8 @@ read_here store root (answer ∷ answers) path are read = go (bytes_eq path answ
 some_same : {X : Type 0} (x y : X) → Some x ≡ Some y → x ≡ y
 some_same x y is = cc
 
-ok_same : {X E : Type 0} (x y : X) → Ok {E = E} x ≡ Ok y → x ≡ y
-ok_same x y is = cc
+ok_same : {X E : Type 0} (x y : X) (read : Result X E) → read ≡ Ok x → read ≡ Ok y → x ≡ y
+ok_same x y read was is = cc
 
 content_same : (bytes others : List ℕ) → kept.Content bytes ≡ kept.Content others → bytes ≡ others
 content_same bytes others is = cc
@@ -140,9 +141,9 @@ is_told before root path (target ∷ targets) (file ∷ files) are is =
     go false is behind = behind is
 
 -- the fate of a file that is not left, and that a job names
-agreed_fate : (text : List ℕ) (fate : Fate) (kept : Bool) → is_left_of kept fate ≡ false
-    → (fate ≡ fate.Unclaimed → fate ≡ fate.Agreed text)
-    → ((other : List ℕ) → fate ≡ fate.Agreed other → other ≡ text) → fate ≡ fate.Agreed text
+agreed_fate : (text : List ℕ) (what : Fate) (kept : Bool) → is_left_of kept what ≡ false
+    → (what ≡ fate.Unclaimed → what ≡ fate.Agreed text)
+    → ((other : List ℕ) → what ≡ fate.Agreed other → other ≡ text) → what ≡ fate.Agreed text
 agreed_fate text fate.Unclaimed kept left none same = none refl
 agreed_fate text (fate.Agreed other) kept left none same = ap fate.Agreed (same other refl)
 agreed_fate text (fate.LeftBy job) kept left none same = cc
@@ -152,8 +153,7 @@ same_bytes : (bytes : List ℕ) → bytes_eq bytes bytes ≡ true
 same_bytes bytes = (bytes_eq-Decides bytes bytes).1 refl
 
 true_or_false : {A : Type 0} (b : Bool) → b ≡ true → b ≡ false → A
-true_or_false true yes no = cc
-true_or_false false yes no = cc
+true_or_false b holds fails = absurd (false≢true (sym fails ∙ holds))
 
 or_left : (a b : Bool) → a ≡ true → (a || b) ≡ true
 or_left a b holds = rw holds refl
@@ -222,12 +222,14 @@ module _ (words : AcceptAsked) (before after : FileContents) (bytes : List ℕ) 
       go None is =
           let held = list_stays told before after store files_stood list_stood (rw is refl) in
           let same : text ≡ bytes = some_same text bytes (sym there ∙ held ∙ ap Some outcome.text) in
-          let reads_jobs : others ≡ jobs = ok_same others jobs (sym reads ∙ ap job_list_of same ∙ listed) in
+          let reads_jobs : others ≡ jobs = ok_same others jobs (job_list_of text) reads
+              (ap job_list_of same ∙ listed) in
           reads_jobs ∙ sym (outcome.unchanged is)
       go (Some new) is =
           let held = list_is_there told after new.items store.there (rw is refl) in
           let same : text ≡ new.items = some_same text new.items (sym there ∙ held) in
-          ok_same others (meant_jobs jobs told.runs.now) (sym reads ∙ ap job_list_of same ∙ (rw is at outcome.meant))
+          ok_same others (meant_jobs jobs told.runs.now) (job_list_of text) reads
+              (ap job_list_of same ∙ (rw is at outcome.meant))
 
   -- a golden file that an accepted job names, and that is not left, holds what the job gives it
   golden_text : (job : Job) (path text : List ℕ) → names_golden_file path job ≡ true → is_target path targets ≡ true
@@ -350,7 +352,7 @@ passes_after words before after bytes jobs chosen status from to place job row r
     let outcome = accepted.outcome in
     let judged = judged_runs (acceptance_of words.ends) jobs chosen accepted.rows in
     let earlier = accepted.ran.are.plan in
-    let at : slice_get jobs place ≡ Some job = rw outcome.jobs at whole.stands in
+    let at : slice_get jobs place ≡ Some job = rw outcome.listed at whole.stands in
     let run : AcceptedRun (slice_get told.runs.now place) = accepted_run (slice_get told.runs.now place) whole.accepted in
     let first = accepted_from_the_first judged told.runs.now place run.of outcome.runs run.is run.accepted in
     let has_row = accepted_run_has_row (acceptance_of words.ends) jobs chosen accepted.rows place job run.of at first

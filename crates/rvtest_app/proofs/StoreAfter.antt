@@ -23,7 +23,7 @@ use Rattle.rvtest_app.specs.Accepts.{AreGoldenFiles, file_if, new_list_text, wri
 -- ---- some of a list
 
 -- what follows from each that passes follows from one that does
-any_elim : {X A : Type 0} (Q : X → Type 0) (xs : List X) → All (λ x. Q x → A) xs → Any Q xs → A
+pub any_elim : {X A : Type 0} (Q : X → Type 0) (xs : List X) → All (λ x. Q x → A) xs → Any Q xs → A
 any_elim {X} {A} Q xs each some =
     subst (λ (x : X). Q x → A) some.3 (each some.0 some.1 some.2) some.4
 
@@ -95,7 +95,7 @@ kept_is_not_written {A} list file old text is keeps written =
     go (bytes_eq file.place list.path.now) (is_image_path file.target.path list.jobs.now)
     (rw (is, keeps) at written)
   where
-    no_text : (fate : Fate) (old : Option (List ℕ)) → new_text_of true fate old ≡ Some text → A
+    no_text : (what : Fate) (old : Option (List ℕ)) → new_text_of true what old ≡ Some text → A
     no_text (fate.Agreed other) old none = cc
     no_text (fate.LeftBy job) old none = cc
     no_text (fate.Differ job other) old none = cc
@@ -216,9 +216,9 @@ is_not_kept {A} list file old is same kept =
     go false false none = cc
 
 -- the fate of a file that is not left, and on which jobs agree
-kept_of : (kept : Bool) (fate : Fate) (text : List ℕ) → fate ≡ fate.Agreed text → is_left_of kept fate ≡ false
+kept_of : (kept : Bool) (what : Fate) (text : List ℕ) → what ≡ fate.Agreed text → is_left_of kept what ≡ false
     → kept ≡ false
-kept_of kept fate text is left = rw is at left
+kept_of kept what text is left = rw is at left
 
 -- a golden file that is not left, of a text on which all jobs agree, holds that text
 module _ (told : Accepting) (before after : FileContents) (store : IsStoreAfter (written_files told) before after)

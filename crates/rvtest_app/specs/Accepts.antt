@@ -107,7 +107,7 @@ pub record IsOutcome (known : Option FileContents) (words : AcceptAsked) (bytes 
     (judged : List (Option JobRun)) (told : Accepting) : Type 0 where
   pub path : told.list.path.now ≡ words.run.list.now
   pub text : told.list.text.now ≡ bytes
-  pub jobs : told.list.jobs.now ≡ jobs
+  pub listed : told.list.jobs.now ≡ jobs
   pub runs : AreLeftFrom judged told.runs.now
   pub claims : told.claims.now ≡ claims_of_runs 0 jobs told.runs.now
   pub files : AreGoldenFiles known (optional_text words.run.root)
