@@ -82,7 +82,7 @@ pub console_claim_among : (P : Claim → Type 0) (place : ℕ) (jobs : List Job)
 console_claim_among P place jobs runs job run path each at ran accepted named =
     let text = text_if (not (is_some run.left)) run.row.console in
     let rest = claims_if_named place part.Signature
-        (text_if (not (is_some run.left)) (lines_of_signature run.row.signature)) job.expect_signature in
+    (text_if (not (is_some run.left)) (lines_of_signature run.row.signature)) job.expect_signature in
     subst (λ text. P (record { job = place; part = part.Console; path = path; text = text }))
     (given run run.row.console accepted)
     (claim_named P place part.Console text (console_path job.expect_console) path named
@@ -97,7 +97,7 @@ signature_claim_among P place jobs runs job run path each at ran accepted named 
     let lines = lines_of_signature run.row.signature in
     let text = text_if (not (is_some run.left)) lines in
     let first = claims_if_named place part.Console (text_if (not (is_some run.left)) run.row.console)
-        (console_path job.expect_console) in
+    (console_path job.expect_console) in
     subst (λ text. P (record { job = place; part = part.Signature; path = path; text = text }))
     (given run lines accepted)
     (claim_named P place part.Signature text job.expect_signature path named

@@ -51,8 +51,8 @@ outcome_again : (earlier later : List Answer) (job : Job) (row : Row)
     → outcome_in later (accepted_job job row.ending row.console) ≡ outcome_of_row row
 outcome_again earlier later job row came ran finds =
     let over : RanOver (without_expectations job) (kept_for earlier job.image) =
-        ran_over (without_expectations job) (kept_for earlier job.image)
-        (subst (λ (outcome : Outcome). did_run outcome.ending ≡ true) came ran) in
+    ran_over (without_expectations job) (kept_for earlier job.image)
+    (subst (λ (outcome : Outcome). did_run outcome.ending ≡ true) came ran) in
     let path = console_path_stays job.expect_console row.console in
     rw (finds.image ran ∙ over.was) (rw path
     (outcome_over (accepted_job job row.ending row.console) over.file (option_map (kept_for later) job.expect_signature)
@@ -80,7 +80,7 @@ passes_again acceptance job earlier later row came kept alone finds = go (takes_
     go true is =
         let accepted = accepted_if_kept acceptance job row is kept in
         let again = outcome_again earlier later.answers job row came
-            (ran_if_accepted acceptance job row.ending accepted) finds in
+        (ran_if_accepted acceptance job row.ending accepted) finds in
         rw again (rw (console_path_stays job.expect_console row.console)
         (accepted_passes acceptance job (outcome_of_row row) _ _ (named_job_outcome later changed) accepted alone
         (text_read later.answers job.expect_signature (lines_of_signature row.signature) finds.signature)

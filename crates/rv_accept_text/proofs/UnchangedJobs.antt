@@ -63,7 +63,7 @@ all_fail false false false x y z none = (refl, refl, refl)
 same_job : (job : Job) (row : Row) → why_changed job row ≡ None → accepted_job job row.ending row.console ≡ job
 same_job job row none =
     let each = all_fail (is_value_changed key.Exit job row) (is_value_changed key.End job row) (is_value_changed key.Console job row)
-        _ _ _ none in
+    _ _ _ none in
     rw (same_exit job.expect_exit row.ending (of_not _ each.0)) (rw (same_end job.expect_end row.ending (of_not _ each.1))
     (rw (same_console job.expect_console row.console (of_not _ each.2)) refl))
 

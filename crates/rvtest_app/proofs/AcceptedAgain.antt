@@ -119,9 +119,11 @@ are_of before root claims [] (file ∷ files) are fates = absurd are
 are_of before root claims (target ∷ targets) [] are fates = absurd are
 are_of before root claims (target ∷ targets) (file ∷ files) are fates =
     let of = are.0.of in
-    All-cons (IsOf root claims) file files
-    (rw of are.0.leads, rw of (All-head (λ (target : Target). target.fate ≡ fate_of_file target.path claims) target targets
-    fates))
+    All-cons (IsOf root claims) file files (
+      rw of are.0.leads,
+      rw of (All-head (λ (target : Target). target.fate ≡ fate_of_file target.path claims) target targets
+          fates),
+    )
     (are_of before root claims targets files are.1
     (All-tail (λ (target : Target). target.fate ≡ fate_of_file target.path claims) target targets fates))
 
@@ -223,13 +225,13 @@ module _ (words : AcceptAsked) (before after : FileContents) (bytes : List ℕ) 
           let held = list_stays told before after store files_stood list_stood (rw is refl) in
           let same : text ≡ bytes = some_same text bytes (sym there ∙ held ∙ ap Some outcome.text) in
           let reads_jobs : others ≡ jobs = ok_same others jobs (job_list_of text) reads
-              (ap job_list_of same ∙ listed) in
+          (ap job_list_of same ∙ listed) in
           reads_jobs ∙ sym (outcome.unchanged is)
       go (Some new) is =
           let held = list_is_there told after new.items store.there (rw is refl) in
           let same : text ≡ new.items = some_same text new.items (sym there ∙ held) in
           ok_same others (meant_jobs jobs told.runs.now) (job_list_of text) reads
-              (ap job_list_of same ∙ (rw is at outcome.meant))
+          (ap job_list_of same ∙ (rw is at outcome.meant))
 
   -- a golden file that an accepted job names, and that is not left, holds what the job gives it
   golden_text : (job : Job) (path text : List ℕ) → names_golden_file path job ≡ true → is_target path targets ≡ true
@@ -248,13 +250,13 @@ module _ (words : AcceptAsked) (before after : FileContents) (bytes : List ℕ) 
           let file : GoldenFile = get_or told.files.now k d in
           let same : path ≡ file.target.path = (bytes_eq-Decides path file.target.path).0 is in
           let of = are_of before root claims targets told.files.now files_are
-              (targets_have_fates told.runs.now claims claims []
-              (All-nil (λ (target : Target). target.fate ≡ fate_of_file target.path claims))) k d below in
+          (targets_have_fates told.runs.now claims claims []
+          (All-nil (λ (target : Target). target.fate ≡ fate_of_file target.path claims))) k d below in
           let kept = left k d below (rw same at names) in
           let fate_is : fate_of_file path claims ≡ file.target.fate =
-              ap (λ path. fate_of_file path claims) same ∙ sym of.1 in
+          ap (λ path. fate_of_file path claims) same ∙ sym of.1 in
           let agrees : file.target.fate ≡ fate.Agreed text = sym fate_is ∙ agreed_fate text (fate_of_file path claims)
-              (is_kept told.list file) (rw fate_is kept) unclaimed_is agreed_is in
+          (is_kept told.list file) (rw fate_is kept) unclaimed_is agreed_is in
           let there = golden_files_there told before after store list_stood files_stood alike k d below text agrees kept in
           rw same (subst (λ place. after place ≡ Some text) of.0 there)
 
@@ -299,9 +301,9 @@ module _ (words : AcceptAsked) (before after : FileContents) (bytes : List ℕ) 
         let same : here.bytes ≡ over.file = content_same here.bytes over.file (sym here.content ∙ over.was) in
         let holds = here.holds ∙ ap Some same in
         let magic = image_that_ran (without_expectations job) over.file
-            (subst (λ (o : Outcome). did_run o.ending ≡ true) over.came ended) in
+        (subst (λ (o : Outcome). did_run o.ending ≡ true) over.came ended) in
         let stays = image_stays told before after (resolved_path root job.image) over.file store files_stood list_stood
-            no_image holds magic in
+        no_image holds magic in
         content_of after root later job.image over.file later_kept is_there stays ∙ sym over.was
 
     finds : (earlier : Planned) (later : List Answer) → AreKept (contents_below root (Some before)) earlier.answers
@@ -356,23 +358,23 @@ passes_after words before after bytes jobs chosen status from to place job row r
     let run : AcceptedRun (slice_get told.runs.now place) = accepted_run (slice_get told.runs.now place) whole.accepted in
     let first = accepted_from_the_first judged told.runs.now place run.of outcome.runs run.is run.accepted in
     let has_row = accepted_run_has_row (acceptance_of words.ends) jobs chosen accepted.rows place job run.of at first
-        run.accepted in
+    run.accepted in
     let kept = accepted_run_is_kept (acceptance_of words.ends) jobs chosen accepted.rows place job run.of at first
-        run.accepted in
+    run.accepted in
     let bare : slice_index_or earlier.jobs place (single_job [] 0 []) ≡ without_expectations job =
-        ap (λ jobs. slice_index_or jobs place (single_job [] 0 [])) accepted.ran.are.planned.listed
-        ∙ get_or_from_slice_get (map without_expectations jobs) place (without_expectations job) (single_job [] 0 [])
-        (slice_get-map without_expectations jobs place ∙ ap (option_map without_expectations) at) in
+    ap (λ jobs. slice_index_or jobs place (single_job [] 0 [])) accepted.ran.are.planned.listed
+    ∙ get_or_from_slice_get (map without_expectations jobs) place (without_expectations job) (single_job [] 0 [])
+    (slice_get-map without_expectations jobs place ∙ ap (option_map without_expectations) at) in
     let row_is : run.of.row ≡ row_of earlier (without_expectations job) =
-        row_at_place earlier (marks_to_run jobs chosen jobs chosen) place run.of.row (rw accepted.ran.are.are at has_row)
-        ∙ ap (row_of earlier) bare in
+    row_at_place earlier (marks_to_run jobs chosen jobs chosen) place run.of.row (rw accepted.ran.are.are at has_row)
+    ∙ ap (row_of earlier) bare in
     let jobs_are = list_reads words before after bytes jobs judged told outcome read listed store alike later.bytes later.jobs
-        later.read later.listed in
+    later.read later.listed in
     let job_is : later.job ≡ accepted_job job run.of.row.ending run.of.row.console =
-        new_job jobs later.jobs told.runs.now place job later.job run.of jobs_are at run.is run.accepted later.stands in
+    new_job jobs later.jobs told.runs.now place job later.job run.of jobs_are at run.is run.accepted later.stands in
     let files = read_of_job later.plan.answers job run.of.row
-        (subst (AreFilesRead later.plan.answers) job_is later.files) in
+    (subst (AreFilesRead later.plan.answers) job_is later.files) in
     let finds_them = finds words before after bytes jobs judged told outcome read listed store alike place job run.of at run.is
-        run.accepted whole.files earlier later.plan.answers accepted.ran.are.planned.kept later.planned.kept files row_is in
+    run.accepted whole.files earlier later.plan.answers accepted.ran.are.planned.kept later.planned.kept files row_is in
     rw later.is (rw job_is (passes_over_files (acceptance_of words.ends) job earlier later.plan run.of.row row_is kept
     whole.alone finds_them))

@@ -231,10 +231,10 @@ module _ (told : Accepting) (before after : FileContents) (store : IsStoreAfter 
       (get_or told.files.now k d).old ≡ new → after (get_or told.files.now k d).place ≡ Some text
   golden_there k d below text agreed kept (Some written) new =
       let there = of_golden (λ (file : PlacedFile). after file.path ≡ Some file.bytes) told.list told.files.now
-          (all_left (λ (file : PlacedFile). after file.path ≡ Some file.bytes) (golden_written told) (file_if told.list.path.now (new_list_text told))
-          store.there) k d below written new in
+      (all_left (λ (file : PlacedFile). after file.path ≡ Some file.bytes) (golden_written told) (file_if told.list.path.now (new_list_text told))
+      store.there) k d below written new in
       let same = agreed_text (is_kept told.list (get_or told.files.now k d)) text written (get_or told.files.now k d).old
-          (rw agreed at new) in
+      (rw agreed at new) in
       there ∙ ap Some (sym same)
   golden_there k d below text agreed kept None new = go (store.others (get_or told.files.now k d).place)
     where
@@ -249,8 +249,8 @@ module _ (told : Accepting) (before after : FileContents) (store : IsStoreAfter 
       golden = λ j e within written is leads.
           let other : GoldenFile = get_or told.files.now j e in
           let there = of_golden (λ (file : PlacedFile). after file.path ≡ Some file.bytes) told.list told.files.now
-              (all_left (λ (file : PlacedFile). after file.path ≡ Some file.bytes) (golden_written told)
-              (file_if told.list.path.now (new_list_text told)) store.there) j e within written is in
+          (all_left (λ (file : PlacedFile). after file.path ≡ Some file.bytes) (golden_written told)
+          (file_if told.list.path.now (new_list_text told)) store.there) j e within written is in
           let fate_is : other.target.fate ≡ fate.Agreed text = sym (alike k d below j e within (sym leads)) ∙ agreed in
           let same = agreed_text (is_kept told.list other) text written other.old (rw fate_is at is) in
           store.one_after file.place other.place (sym leads) ∙ there ∙ ap Some (sym same)
