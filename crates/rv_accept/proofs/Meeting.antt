@@ -1,6 +1,6 @@
 -- An accepted job meets its expectations, once they are what its run came to.
 use Rattle.std.proofs.Common.{◌≡◌, ℕ, Bool, true, false, ◌&&◌, List, Option, Some, None, refl, ◌⊎◌, inl, inr}
-use Rattle.std.specs.Prelude.{◌||◌}
+use Rattle.std.specs.Prelude.{◌||◌, IfSome}
 use Rattle.std.specs.Str.{bytes_eq}
 use Rattle.std.proofs.lemmas.Bool.{eq-eqb}
 use Rattle.std.proofs.lemmas.Slice.Eq.{bytes_eq-Decides}
@@ -8,6 +8,7 @@ use Rattle.rv_jobs.specs.declared_job.ExpectedConsole.{ExpectedConsole}
 use Rattle.rv_jobs.specs.declared_job.ExpectedConsole.TheVariants.{Text, File}
 use Rattle.rv_jobs.specs.declared_job.ExpectedEnd.{ExpectedEnd}
 use Rattle.rv_jobs.specs.declared_job.ExpectedEnd.TheVariants as expected
+use Rattle.rv_jobs.specs.Jobs.{console_path}
 use Rattle.rv_jobs.specs.declared_job.Job.{Job}
 use Rattle.rv_rows.specs.declared.outcome.Outcome.{Outcome}
 use Rattle.rv_rows.specs.declared_row.RowEnd.{RowEnd}
@@ -86,22 +87,42 @@ met acceptance.InExpectedWay exit how end holds = go (either (ended_as_expected 
 same_bytes : (bytes : List ℕ) → bytes_eq bytes bytes ≡ true
 same_bytes bytes = (bytes_eq-Decides bytes bytes).1 refl
 
-console_holds : (expected : Option ExpectedConsole) (outcome : Outcome) → did_run outcome.ending ≡ true
-    → has_expected_console (console_met expected outcome.console) (Some outcome.console) outcome ≡ true
-console_holds None outcome ran = refl
-console_holds (Some (Text bytes)) outcome ran = rw ran (same_bytes outcome.console)
-console_holds (Some (File path)) outcome ran = rw ran (same_bytes outcome.console)
+console_holds : (expected : Option ExpectedConsole) (outcome : Outcome) (console : Option (List ℕ))
+    → did_run outcome.ending ≡ true → IfSome (console_path expected) (λ path. console ≡ Some outcome.console)
+    → has_expected_console (console_met expected outcome.console) console outcome ≡ true
+console_holds None outcome console ran is = refl
+console_holds (Some (Text bytes)) outcome console ran is = rw ran (same_bytes outcome.console)
+console_holds (Some (File path)) outcome console ran is = rw is (rw ran (same_bytes outcome.console))
 
-signature_holds : (path : Option (List ℕ)) (outcome : Outcome) → did_run outcome.ending ≡ true
-    → has_expected_signature path (Some (lines_of_signature outcome.signature)) outcome ≡ true
-signature_holds None outcome ran = refl
-signature_holds (Some path) outcome ran = rw ran (same_bytes (lines_of_signature outcome.signature))
+signature_holds : (path : Option (List ℕ)) (outcome : Outcome) (reference : Option (List ℕ))
+    → did_run outcome.ending ≡ true → IfSome path (λ path. reference ≡ Some (lines_of_signature outcome.signature))
+    → has_expected_signature path reference outcome ≡ true
+signature_holds None outcome reference ran is = refl
+signature_holds (Some path) outcome reference ran is = rw is (rw ran (same_bytes (lines_of_signature outcome.signature)))
+
+-- over golden files that hold what the run gave
+pub meets_over : (acceptance : Acceptance) (job : Job) (outcome : Outcome) (reference console : Option (List ℕ))
+    (other : Option Outcome) → is_accepted_end acceptance job outcome.ending ≡ true → job.same_as ≡ None
+    → IfSome job.expect_signature (λ path. reference ≡ Some (lines_of_signature outcome.signature))
+    → IfSome (console_path job.expect_console) (λ path. console ≡ Some outcome.console)
+    → meets_all_expectations (accepted_job job outcome.ending outcome.console) outcome reference console other ≡ true
+meets_over acceptance job outcome reference console other accepted alone lines bytes =
+    let known = met acceptance job.expect_exit job.expect_end outcome.ending accepted in
+    rw known.code (rw known.way (rw (console_holds job.expect_console outcome console known.ran bytes)
+    (rw (signature_holds job.expect_signature outcome reference known.ran lines) (rw alone refl))))
+
+always : (path : Option (List ℕ)) {P : Type 0} → P → IfSome path (λ path. P)
+always None holds = tt
+always (Some path) holds = holds
 
 pub meets : (acceptance : Acceptance) (job : Job) (outcome : Outcome) (other : Option Outcome)
     → is_accepted_end acceptance job outcome.ending ≡ true → job.same_as ≡ None
     → meets_all_expectations (accepted_job job outcome.ending outcome.console) outcome
     (Some (lines_of_signature outcome.signature)) (Some outcome.console) other ≡ true
-meets acceptance job outcome other accepted alone =
-    let known = met acceptance job.expect_exit job.expect_end outcome.ending accepted in
-    rw known.code (rw known.way (rw (console_holds job.expect_console outcome known.ran)
-    (rw (signature_holds job.expect_signature outcome known.ran) (rw alone refl))))
+meets acceptance job outcome other accepted alone = meets_over acceptance job outcome _ _ other accepted alone
+    (always job.expect_signature refl) (always (console_path job.expect_console) refl)
+
+-- a job that is accepted ran
+pub ran_if_accepted : (acceptance : Acceptance) (job : Job) (end : RowEnd) → is_accepted_end acceptance job end ≡ true
+    → did_run end ≡ true
+ran_if_accepted acceptance job end accepted = (met acceptance job.expect_exit job.expect_end end accepted).ran

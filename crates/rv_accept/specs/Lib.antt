@@ -9,3 +9,4 @@ pub mod Sharing
 pub mod Edits
 pub mod Meant
 pub mod Targets
+pub mod Passing

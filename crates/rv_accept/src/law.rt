@@ -1,12 +1,22 @@
 //! Laws of what is accepted, with nothing to run.
 
-ghost use Rattle.std.specs.Prelude.{◌≡◌, None, Option, Some, IsTrue};
+ghost use Rattle.std.specs.Prelude.{◌≡◌, ℕ, List, None, Option, Some, IsTrue};
+ghost use Rattle.std.specs.List.{All};
+ghost use Rattle.rv_jobs.specs.Jobs.{without_expectations};
+ghost use Rattle.rv_jobs.specs.Plans.{Planned};
 ghost use Rattle.rv_jobs.specs.declared_job.Job.{Job};
 ghost use Rattle.rv_rows.specs.declared.outcome.Outcome.{Outcome};
+ghost use Rattle.rv_rows.specs.declared_row.Row.{Row};
+ghost use Rattle.rv_rows.specs.Rows.{row_of};
 ghost use Rattle.rv_rows.specs.Verdict.{lines_of_signature, meets_all_expectations};
 ghost use Rattle.rv_accept.specs.declared.ends.Acceptance.{Acceptance as AnAcceptance};
+ghost use Rattle.rv_accept.specs.declared.claims.Claim.{Claim as AClaim};
+ghost use Rattle.rv_accept.specs.declared.fates.Fate.TheVariants as fate;
 ghost use Rattle.rv_accept.specs.Accepted.{accepted_job};
 ghost use Rattle.rv_accept.specs.Ends.{is_accepted_end};
+ghost use Rattle.rv_accept.specs.Fates.{fate_of_file, names_file};
+ghost use Rattle.rv_accept.specs.Passing.{FindsItsFiles, is_pass_or_unasked};
+ghost use Rattle.rv_accept.specs.Runs.{why_chosen_is_left};
 
 /// A job that is accepted, and names no other, meets all its expectations once they are what its run gave: its golden files hold the
 /// console's bytes and the signature's lines, and its own values are those that were met.
@@ -16,4 +26,22 @@ pub fn accepted_jobs_meet_their_expectations()
         → job.same_as ≡ None
         → IsTrue (meets_all_expectations (accepted_job job outcome.ending outcome.console) outcome
         (Some (lines_of_signature outcome.signature)) (Some outcome.console) other) }
+{}
+
+/// A golden file is given a text only where every job that names it gives that one, so that none of them is left.
+pub fn an_agreed_text_is_given_by_each_job()
+    ensures { (path text : List ℕ) (claims : List AClaim) → fate_of_file path claims ≡ fate.Agreed text
+        → All (λ claim. IsTrue (names_file path claim) → claim.text ≡ Some text) claims }
+{}
+
+/// A chosen job that ran without its expectations, is not left for its row, and names no other, passes in a later run, or nothing is
+/// expected of it: its own values are those that were met, and the later run finds its image as it was, and in its golden files
+/// what the earlier run gave.
+pub fn accepted_jobs_pass_over_their_files()
+    ensures { (acceptance : AnAcceptance) (job : Job) (earlier later : Planned) (row : Row)
+        → row ≡ row_of earlier (without_expectations job)
+        → why_chosen_is_left acceptance job row ≡ None
+        → job.same_as ≡ None
+        → FindsItsFiles earlier.answers later.answers job row
+        → IsTrue (is_pass_or_unasked (row_of later (accepted_job job row.ending row.console)).verdict) }
 {}

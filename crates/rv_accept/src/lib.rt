@@ -22,7 +22,10 @@ pub use claims::{Claim, Part, claims_of_runs};
 pub use edits::{Edit, edited_text};
 pub use ends::{Acceptance, is_accepted_end};
 pub use fates::{Fate, fate_of_file, first_of_another_text, first_on_file};
-pub use law::accepted_jobs_meet_their_expectations;
+pub use law::{
+    accepted_jobs_meet_their_expectations, accepted_jobs_pass_over_their_files,
+    an_agreed_text_is_given_by_each_job,
+};
 pub use meant::are_meant_jobs;
 pub use runs::{JobRun, WhyLeft, judged_runs, placed_rows};
 pub use sharing::marks_to_run;

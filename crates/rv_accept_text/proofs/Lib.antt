@@ -1,2 +1,6 @@
 mod Appending
+mod KeptRuns
 mod LeftRuns
+mod ListIsNoImage
+pub mod Public
+mod UnchangedJobs

@@ -1,8 +1,8 @@
 -- The lines of jobs: values that are replaced, and why a job is left.
-use Rattle.std.specs.Prelude.{◌&&◌, ◌++◌, ℕ, Bool, List, [], Option, Some, None, codes, if◌then◌else◌, is_some, not, unwrap_or}
+use Rattle.std.specs.Prelude.{◌++◌, ℕ, List, [], Option, Some, None, codes, if◌then◌else◌, unwrap_or}
 use Rattle.std.specs.Fmt.{decimal}
 use Rattle.rv_jobs.specs.declared_job.ExpectedConsole.{ExpectedConsole}
-use Rattle.rv_jobs.specs.declared_job.ExpectedConsole.TheVariants.{Text, File}
+use Rattle.rv_jobs.specs.declared_job.ExpectedConsole.TheVariants.{Text}
 use Rattle.rv_jobs.specs.declared_job.ExpectedEnd.{ExpectedEnd}
 use Rattle.rv_jobs.specs.declared_job.ExpectedEnd.TheVariants as expected
 use Rattle.rv_jobs.specs.declared_job.Job.{Job}

@@ -1,8 +1,13 @@
 -- Runs of which more are left, since a value stands where it is not replaced.
 use Rattle.std.specs.Prelude.{List, [], ◌∷◌, Option, Some, None, drop, if◌then◌else◌, option_map, slice_get}
+use Rattle.rv_jobs.specs.declared_job.Job.{Job}
+use Rattle.rv_rows.specs.declared_row.Row.{Row}
 use Rattle.rv_accept.specs.Runs.{is_accepted_run}
+use Rattle.rv_accept.specs.Values.{is_value_changed}
 use Rattle.rv_accept.specs.declared.runs.JobRun.{JobRun}
 use Rattle.rv_accept.specs.declared.runs.WhyLeft.{WhyLeft}
+use Rattle.rv_accept.specs.declared.runs.WhyLeft.TheVariants as why
+use Rattle.rv_accept.specs.declared.values.ValueKey.TheVariants as key
 
 -- an accepted run is left, if there is a reason
 abbrev pub left_run : Option WhyLeft → JobRun → JobRun
@@ -21,3 +26,22 @@ left_runs (why ∷ whys) runs = option_map (left_run why) (run_or_none (slice_ge
 pub data AreLeftFrom (before : List (Option JobRun)) : List (Option JobRun) → Type 0 where
   once : (whys : List (Option WhyLeft)) → AreLeftFrom before (left_runs whys before)
   again : (whys more : List (Option WhyLeft)) → AreLeftFrom before (left_runs more (left_runs whys before))
+
+-- ---- jobs whose values are others, where none is replaced
+
+-- the first value that is another one
+abbrev pub why_changed : Job → Row → Option WhyLeft
+why_changed job row =
+    if is_value_changed key.Exit job row then Some (why.NoPlace key.Exit)
+    else if is_value_changed key.End job row then Some (why.NoPlace key.End)
+    else if is_value_changed key.Console job row then Some (why.NoPlace key.Console) else None
+
+abbrev pub why_changed_if_run : Job → Option JobRun → Option WhyLeft
+why_changed_if_run job None = None
+why_changed_if_run job (Some run) = why_changed job run.row
+
+-- that of each run
+unfoldable pub whys_changed : List Job → List (Option JobRun) → List (Option WhyLeft)
+whys_changed [] runs = []
+whys_changed (job ∷ jobs) [] = []
+whys_changed (job ∷ jobs) (run ∷ runs) = why_changed_if_run job run ∷ whys_changed jobs runs

@@ -7,13 +7,14 @@ ghost use Rattle.rv_accept.specs.Edits.{edited_from};
 ghost use Rattle.rv_accept.specs.Meant.{meant_jobs};
 ghost use Rattle.rv_accept.specs.declared.edits.Edit.{Edit as AnEdit};
 ghost use Rattle.rv_accept.specs.declared.runs.WhyLeft.{WhyLeft as AWhyLeft};
-ghost use Rattle.rv_accept_text.specs.NewLists.{AreLeftFrom, left_run, left_runs, run_or_none};
+ghost use Rattle.rv_accept_text.specs.NewLists.{AreLeftFrom, left_run, left_runs, run_or_none, why_changed, why_changed_if_run, whys_changed};
 
 use rv_accept::{
     Edit, JobRun, ValueKey, WhyLeft, are_meant_jobs, edited_text, is_value_changed, push_new_value,
 };
 use rv_jobs::{Bytes, Job, What, read_jobs};
 use rv_list_errors::{ValueSpan, line_and_column, value_spans};
+use rv_rows::Row;
 use std::alloc::{AllocError, Global};
 use std::vec::IntoIter;
 
@@ -54,7 +55,7 @@ struct Changes {
 }
 
 /// Replaces the values of accepted jobs in the text of a list. A job whose values stand where they are not replaced is left from
-/// then on, and so is each with another value where the new text does not read as it is meant.
+/// then on, and so is each with another value where the new text does not read as it is meant: where no text is made, no value is another.
 pub fn accept_values(
     alloc: Global,
     text: &[u8],
@@ -65,13 +66,14 @@ pub fn accept_values(
         (λ text. job_list_of text.items ≡ Ok (meant_jobs jobs.now new.runs.items))) }
     ensures edited { IfOk result (λ new. IfSome new.text
         (λ new. (edits : List AnEdit) × (new.items ≡ edited_from 0 text.now edits))) }
+    ensures unchanged { IfOk result (λ new. new.text ≡ None → meant_jobs jobs.now new.runs.items ≡ jobs.now) }
     ensures left { IfOk result (λ new. AreLeftFrom runs.items new.runs.items) }
 {
     let places = places_in(alloc, text)?;
     let whys = whys_unplaced(alloc, jobs, runs.as_slice(), &places)?;
     let runs = left_runs(alloc, whys.as_slice(), runs)?;
     let Changes { edits, values } = changes_at(alloc, text, jobs, runs.as_slice(), &places)?;
-    if edits.is_empty() {
+    if edits.is_empty() && are_meant_jobs(jobs, runs.as_slice(), jobs) {
         return Ok(NewList {
             text: None,
             values,
@@ -95,19 +97,59 @@ fn leave_changed(
     runs: Vec<Option<JobRun>>,
 ) -> Result<NewList, AllocError>
     ensures none { IfOk result (λ new. new.text ≡ None) }
+    ensures unchanged { IfOk result (λ new. meant_jobs jobs.now new.runs.items ≡ jobs.now) }
     ensures left { IfOk result (λ new. (whys : List (Option AWhyLeft)) × (new.runs.items ≡ left_runs whys runs.items)) }
 {
-    let places = Places {
-        spans: Vec::new(alloc),
-        is_made: false,
-    };
-    let whys = whys_unplaced(alloc, jobs, runs.as_slice(), &places)?;
+    let mut whys = Vec::new(alloc);
+    push_whys_changed(&mut whys, jobs, runs.as_slice())?;
     let runs = left_runs(alloc, whys.as_slice(), runs)?;
     Ok(NewList {
         text: None,
         values: Vec::new(alloc),
         runs,
     })
+}
+
+// Appends of each run why its job is left where no value is replaced: one is another.
+#[tactic(auto, unfolding(crate::specs::NewLists::whys_changed))]
+fn push_whys_changed(
+    whys: &mut Vec<Option<WhyLeft>>,
+    jobs: &[Job],
+    runs: &[Option<JobRun>],
+) -> Result<(), AllocError>
+    ensures { OnOk result (whys.new.items ≡ whys.old.items ++ whys_changed jobs.now runs.now) }
+{
+    match (jobs, runs) {
+        ([job, jobs @ ..], [run, runs @ ..]) => {
+            whys.push(why_changed_if_run(job, run))?;
+            push_whys_changed(whys, jobs, runs)
+        }
+        ([], _) => Ok(()),
+        ([_job, _jobs @ ..], []) => Ok(()),
+    }
+}
+
+fn why_changed_if_run(job: &Job, run: &Option<JobRun>) -> Option<WhyLeft>
+    ensures { result ≡ why_changed_if_run job.now run.now }
+{
+    match run {
+        Some(run) => why_changed(job, &run.row),
+        None => None,
+    }
+}
+
+fn why_changed(job: &Job, row: &Row) -> Option<WhyLeft>
+    ensures { result ≡ why_changed job.now row.now }
+{
+    if is_value_changed(ValueKey::Exit, job, row) {
+        Some(WhyLeft::NoPlace(ValueKey::Exit))
+    } else if is_value_changed(ValueKey::End, job, row) {
+        Some(WhyLeft::NoPlace(ValueKey::End))
+    } else if is_value_changed(ValueKey::Console, job, row) {
+        Some(WhyLeft::NoPlace(ValueKey::Console))
+    } else {
+        None
+    }
 }
 
 // The text with these edits, where it reads as the jobs that are meant.

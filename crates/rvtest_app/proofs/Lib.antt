@@ -1,12 +1,14 @@
 pub mod StepRanks
 mod StepOrder
 mod AcceptStops
+mod AcceptedAgain
 mod AcceptedFiles
 mod Acceptances
 mod Numbers
 mod Sent
 mod Results
 mod StopLemmas
+mod StoreAfter
 mod PutTexts
 mod PutStops
 mod PartTexts

@@ -102,7 +102,7 @@ abbrev pub accept_status : ℕ → ℕ → ℕ
 accept_status left changed = if left == 0 && changed == 0 then 0 else 1
 
 -- what is told of golden files and of the list is so of the runs of a list's jobs, of which perhaps more are left: each golden file is
--- what all jobs make of it that name it, and a new list reads as the jobs that are meant
+-- what all jobs make of it that name it, and a new list reads as the jobs that are meant; where there is none, they are those of the list
 pub record IsOutcome (known : Option FileContents) (words : AcceptAsked) (bytes : List ℕ) (jobs : List Job)
     (judged : List (Option JobRun)) (told : Accepting) : Type 0 where
   pub path : told.list.path.now ≡ words.run.list.now
@@ -114,6 +114,7 @@ pub record IsOutcome (known : Option FileContents) (words : AcceptAsked) (bytes 
       (fold (with_target told.runs.now told.claims.now) [] told.claims.now) told.files.now
   pub edited : IfSome told.new.now.text (λ text. (edits : List Edit) × (text.items ≡ edited_from 0 bytes edits))
   pub meant : IfSome told.new.now.text (λ text. job_list_of text.items ≡ Ok (meant_jobs jobs told.runs.now))
+  pub unchanged : told.new.now.text ≡ None → meant_jobs jobs told.runs.now ≡ jobs
 
 -- all of that went to standard output, with the line that counts; the files are in their places, but in a check
 abbrev pub IsAcceptancePut : Bool → Accepting → ℕ → Said → Said → Type 0

@@ -258,6 +258,8 @@ fn outcomes_of_runs<R, D: Inputs>(
         (λ new. (edits : List AnEdit) × (new.items ≡ edited_from 0 list.now.text.now edits))) }
     ensures meant { IfOk result (λ outcomes. IfSome outcomes.new.text
         (λ text. job_list_of text.items ≡ Ok (meant_jobs list.now.jobs.now outcomes.new.runs.items))) }
+    ensures unchanged { IfOk result (λ outcomes. outcomes.new.text ≡ None
+        → meant_jobs list.now.jobs.now outcomes.new.runs.items ≡ list.now.jobs.now) }
     ensures stopped { IfErr result
         (IsGoldenUnreadStop (D.contents host.now.inputs.now) asked.now list.now.jobs.now) }
 {

@@ -7,6 +7,7 @@
 #![tactic(auto)]
 
 mod accept;
+mod accept_law;
 mod accepted_files;
 mod check;
 mod check_text;
@@ -49,6 +50,7 @@ mod terminals;
 mod whole_files;
 mod whole_report;
 
+pub use accept_law::accepted_jobs_pass;
 pub use destinations::Destinations;
 pub use host::Host;
 pub use law::{nothing_is_written_where_nothing_changes, rows_by_steps_are_sorted};

@@ -1,0 +1,99 @@
+-- An accepted job passes over its golden files, or nothing is expected of it.
+use Rattle.std.proofs.Common.{◌≡◌, ◌∙◌, ℕ, Bool, true, false, List, Option, Some, None, IfSome, ap, option_map, refl, subst, sym}
+use Rattle.rv_jobs.specs.Jobs.{console_path, without_expectations}
+use Rattle.rv_jobs.specs.Plans.{Planned, kept_for}
+use Rattle.rv_jobs.specs.declared.answers.Answer.{Answer}
+use Rattle.rv_jobs.specs.declared.kept.Kept.{Kept}
+use Rattle.rv_jobs.specs.declared.kept.Kept.TheVariants as kept
+use Rattle.rv_jobs.specs.declared_job.ExpectedConsole.{ExpectedConsole}
+use Rattle.rv_jobs.specs.declared_job.ExpectedConsole.TheVariants.{Text, File}
+use Rattle.rv_jobs.specs.declared_job.Job.{Job}
+use Rattle.rv_rows.specs.Outcome.{file_outcome_of, outcome_of}
+use Rattle.rv_rows.specs.Rows.{content_if_read, named_job_outcome, outcome_in, row_of}
+use Rattle.rv_rows.specs.Verdict.{did_run, lines_of_signature, verdict_of}
+use Rattle.rv_rows.specs.declared.outcome.Outcome.{Outcome}
+use Rattle.rv_rows.specs.declared_row.Row.{Row}
+use Rattle.rv_rows.specs.declared_row.RowEnd.{RowEnd}
+use Rattle.rv_accept.proofs.ImagesThatRan.{RanOver, outcome_over, ran_over, runs_alike}
+use Rattle.rv_accept.proofs.Meeting.{ran_if_accepted}
+use Rattle.rv_accept.proofs.Passing.{accepted_if_kept, accepted_passes, unasked_passes}
+use Rattle.rv_accept.specs.Accepted.{accepted_job, console_met}
+use Rattle.rv_accept.specs.Ends.{is_accepted_end}
+use Rattle.rv_accept.specs.Passing.{FindsItsFiles, is_pass_or_unasked, outcome_of_row}
+use Rattle.rv_accept.specs.Runs.{takes_from_run, why_chosen_is_left}
+use Rattle.rv_accept.specs.declared.ends.Acceptance.{Acceptance}
+
+-- the path of a console's file stays
+pub console_path_stays : (console : Option ExpectedConsole) (bytes : List ℕ)
+    → console_path (console_met console bytes) ≡ console_path console
+console_path_stays None bytes = refl
+console_path_stays (Some (Text text)) bytes = refl
+console_path_stays (Some (File path)) bytes = refl
+
+-- a golden file that is named was read
+file_read : (answers : List Answer) (named : Option (List ℕ)) (text : List ℕ)
+    → IfSome named (λ path. kept_for answers path ≡ kept.Content text)
+    → IfSome (option_map (kept_for answers) named) (λ k. (bytes : List ℕ) × (k ≡ kept.Content bytes))
+file_read answers None text is = tt
+file_read answers (Some path) text is = (text, is)
+
+-- and has this text
+text_read : (answers : List Answer) (named : Option (List ℕ)) (text : List ℕ)
+    → IfSome named (λ path. kept_for answers path ≡ kept.Content text)
+    → IfSome named (λ path. content_if_read (option_map (kept_for answers) named) ≡ Some text)
+text_read answers None text is = tt
+text_read answers (Some path) text is = rw is refl
+
+-- the job comes to what it came to
+outcome_again : (earlier later : List Answer) (job : Job) (row : Row)
+    → outcome_of_row row ≡ outcome_in earlier (without_expectations job) → did_run row.ending ≡ true
+    → FindsItsFiles earlier later job row
+    → outcome_in later (accepted_job job row.ending row.console) ≡ outcome_of_row row
+outcome_again earlier later job row came ran finds =
+    let over : RanOver (without_expectations job) (kept_for earlier job.image) =
+    ran_over (without_expectations job) (kept_for earlier job.image)
+    (subst (λ (outcome : Outcome). did_run outcome.ending ≡ true) came ran) in
+    let path = console_path_stays job.expect_console row.console in
+    rw (finds.image ran ∙ over.was) (rw path
+    (outcome_over (accepted_job job row.ending row.console) over.file (option_map (kept_for later) job.expect_signature)
+    (option_map (kept_for later) (console_path job.expect_console))
+    (file_read later job.expect_signature (lines_of_signature row.signature) finds.signature)
+    (file_read later (console_path job.expect_console) row.console finds.console)
+    ∙ runs_alike job row.ending row.console over.file ∙ sym over.came ∙ sym came))
+
+passes_again : (acceptance : Acceptance) (job : Job) (earlier : List Answer) (later : Planned) (row : Row)
+    → outcome_of_row row ≡ outcome_in earlier (without_expectations job)
+    → why_chosen_is_left acceptance job row ≡ None → job.same_as ≡ None
+    → FindsItsFiles earlier later.answers job row
+    → is_pass_or_unasked (row_of later (accepted_job job row.ending row.console)).verdict ≡ true
+unfolding row_of
+passes_again acceptance job earlier later row came kept alone finds = go (takes_from_run job) refl
+  where
+    changed : Job
+    changed = accepted_job job row.ending row.console
+
+    go : (takes : Bool) → takes_from_run job ≡ takes → is_pass_or_unasked (verdict_of changed
+        (outcome_in later.answers changed) (content_if_read (option_map (kept_for later.answers) job.expect_signature))
+        (content_if_read (option_map (kept_for later.answers) (console_path (console_met job.expect_console row.console))))
+        (named_job_outcome later changed)) ≡ true
+    go false is = unasked_passes job row.ending row.console _ _ _ _ is alone
+    go true is =
+        let accepted = accepted_if_kept acceptance job row is kept in
+        let again = outcome_again earlier later.answers job row came
+        (ran_if_accepted acceptance job row.ending accepted) finds in
+        rw again (rw (console_path_stays job.expect_console row.console)
+        (accepted_passes acceptance job (outcome_of_row row) _ _ (named_job_outcome later changed) accepted alone
+        (text_read later.answers job.expect_signature (lines_of_signature row.signature) finds.signature)
+        (text_read later.answers (console_path job.expect_console) row.console finds.console)))
+
+pub outcome_of_its_row : (plan : Planned) (job : Job) → outcome_of_row (row_of plan job) ≡ outcome_in plan.answers job
+unfolding row_of
+outcome_of_its_row plan job = refl
+
+pub passes_over_files : (acceptance : Acceptance) (job : Job) (earlier later : Planned) (row : Row)
+    → row ≡ row_of earlier (without_expectations job) → why_chosen_is_left acceptance job row ≡ None
+    → job.same_as ≡ None → FindsItsFiles earlier.answers later.answers job row
+    → is_pass_or_unasked (row_of later (accepted_job job row.ending row.console)).verdict ≡ true
+passes_over_files acceptance job earlier later row is kept alone finds =
+    passes_again acceptance job earlier.answers later row
+    (ap outcome_of_row is ∙ outcome_of_its_row earlier (without_expectations job)) kept alone finds

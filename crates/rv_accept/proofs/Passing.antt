@@ -1,0 +1,102 @@
+-- A chosen job that is not left passes, or nothing is expected of it, once it is what its run gave.
+use Rattle.std.proofs.Common.{◌≡◌, ◌∙◌, sym, ℕ, Bool, true, false, ◌&&◌, ◌||◌, List, Option, Some, None, refl, not, cond, is_some, IfSome}
+use Rattle.std.specs.Prelude.{if◌then◌else◌}
+use Rattle.std.proofs.lemmas.Bool.{false≢true}
+use Rattle.rv_jobs.specs.Jobs.{console_path}
+use Rattle.rv_jobs.specs.declared_job.ExpectedConsole.{ExpectedConsole}
+use Rattle.rv_jobs.specs.declared_job.ExpectedConsole.TheVariants.{Text, File}
+use Rattle.rv_jobs.specs.declared_job.ExpectedEnd.{ExpectedEnd}
+use Rattle.rv_jobs.specs.declared_job.ExpectedEnd.TheVariants as expected
+use Rattle.rv_jobs.specs.declared_job.Job.{Job}
+use Rattle.rv_rows.specs.declared.outcome.Outcome.{Outcome}
+use Rattle.rv_rows.specs.declared_row.Row.{Row}
+use Rattle.rv_rows.specs.declared_row.RowEnd.{RowEnd}
+use Rattle.rv_rows.specs.declared_row.RowEnd.TheVariants as ending
+use Rattle.rv_rows.specs.declared_row.Verdict.TheVariants as verdict
+use Rattle.rv_rows.specs.Verdict.{expects_anything, lines_of_signature, meets_all_expectations, verdict_of}
+use Rattle.rv_accept.proofs.Meeting.{meets_over}
+use Rattle.rv_accept.specs.Accepted.{accepted_job, console_met, end_met, exit_met}
+use Rattle.rv_accept.specs.Ends.{is_accepted_end}
+use Rattle.rv_accept.specs.Passing.{is_pass_or_unasked, outcome_of_row}
+use Rattle.rv_accept.specs.Runs.{takes_from_run, why_chosen_is_left, why_left, why_text_is_left}
+use Rattle.rv_accept.specs.declared.ends.Acceptance.{Acceptance}
+use Rattle.rv_accept.specs.declared.runs.WhyLeft.{WhyLeft}
+use Rattle.rv_accept.specs.declared.runs.WhyLeft.TheVariants as why
+
+-- ---- nothing is expected
+
+both_false : (a b : Bool) → (a || b) ≡ false → (a ≡ false) × (b ≡ false)
+both_false true b is = cc
+both_false false b is = (refl, is)
+
+exit_there : (exit : Option ℕ) (end : RowEnd) → is_some (exit_met exit end) ≡ is_some exit
+exit_there None end = refl
+exit_there (Some code) (ending.Exit met) = refl
+exit_there (Some code) (ending.Fault kind pc value) = refl
+exit_there (Some code) ending.Budget = refl
+exit_there (Some code) (ending.Refused why) = refl
+
+end_there : (how : Option ExpectedEnd) (end : RowEnd) → is_some (end_met how end) ≡ is_some how
+end_there None end = refl
+end_there (Some expected.Budget) end = refl
+end_there (Some (expected.Fault kind)) (ending.Fault met pc value) = refl
+end_there (Some (expected.Fault kind)) (ending.Exit met) = refl
+end_there (Some (expected.Fault kind)) ending.Budget = refl
+end_there (Some (expected.Fault kind)) (ending.Refused why) = refl
+
+console_there : (console : Option ExpectedConsole) (bytes : List ℕ) → is_some (console_met console bytes) ≡ is_some console
+console_there None bytes = refl
+console_there (Some (Text text)) bytes = refl
+console_there (Some (File path)) bytes = refl
+
+-- nothing is expected of a job from whose run nothing is taken, and which names no other
+unasked : (job : Job) (end : RowEnd) (bytes : List ℕ) → takes_from_run job ≡ false → job.same_as ≡ None
+    → expects_anything (accepted_job job end bytes) ≡ false
+unasked job end bytes nothing alone =
+    let first = both_false (is_some job.expect_exit) _ nothing in
+    let second = both_false (is_some job.expect_end) _ first.1 in
+    let third = both_false (is_some job.expect_console) _ second.1 in
+    rw (exit_there job.expect_exit end) (rw first.0 (rw (end_there job.expect_end end) (rw second.0
+    (rw (console_there job.expect_console bytes) (rw third.0 (rw third.1 (rw alone refl)))))))
+
+-- ---- the end is accepted
+
+end_of_why : (accepted : Bool) (text : Option WhyLeft) → (if accepted then text else Some why.End) ≡ None → accepted ≡ true
+end_of_why true text is = refl
+end_of_why false text is = cc
+
+-- ---- the verdict
+
+-- a verdict where all expectations are met, or nothing is expected
+no_failure : (asked meets : Bool) → (asked ≡ true → meets ≡ true)
+    → is_pass_or_unasked (if not asked then verdict.Unasked else (if meets then verdict.Pass else verdict.Fail)) ≡ true
+no_failure false meets all = refl
+no_failure true true all = refl
+no_failure true false all = all refl
+
+-- a job from whose run nothing is taken, and which names no other, is not asked anything
+pub unasked_passes : (job : Job) (end : RowEnd) (bytes : List ℕ) (outcome : Outcome) (reference console : Option (List ℕ))
+    (other : Option Outcome) → takes_from_run job ≡ false → job.same_as ≡ None
+    → is_pass_or_unasked (verdict_of (accepted_job job end bytes) outcome reference console other) ≡ true
+unfolding verdict_of
+unasked_passes job end bytes outcome reference console other nothing alone =
+    no_failure (expects_anything (accepted_job job end bytes)) _
+    (λ asked. absurd (false≢true (sym (unasked job end bytes nothing alone) ∙ asked)))
+
+-- one that is not left ended so that it is accepted
+pub accepted_if_kept : (acceptance : Acceptance) (job : Job) (row : Row) → takes_from_run job ≡ true
+    → why_chosen_is_left acceptance job row ≡ None → is_accepted_end acceptance job row.ending ≡ true
+accepted_if_kept acceptance job row takes kept =
+    end_of_why (is_accepted_end acceptance job row.ending) (why_text_is_left job row) (rw takes at kept)
+
+-- and then it passes, or is not asked anything
+pub accepted_passes : (acceptance : Acceptance) (job : Job) (outcome : Outcome) (reference console : Option (List ℕ))
+    (other : Option Outcome) → is_accepted_end acceptance job outcome.ending ≡ true → job.same_as ≡ None
+    → IfSome job.expect_signature (λ path. reference ≡ Some (lines_of_signature outcome.signature))
+    → IfSome (console_path job.expect_console) (λ path. console ≡ Some outcome.console)
+    → is_pass_or_unasked (verdict_of (accepted_job job outcome.ending outcome.console) outcome reference console other)
+    ≡ true
+unfolding verdict_of
+accepted_passes acceptance job outcome reference console other accepted alone lines bytes =
+    no_failure (expects_anything (accepted_job job outcome.ending outcome.console)) _
+    (λ asked. meets_over acceptance job outcome reference console other accepted alone lines bytes)

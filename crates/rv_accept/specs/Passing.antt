@@ -1,0 +1,31 @@
+-- A run of a job that was accepted, over its files.
+use Rattle.std.specs.Prelude.{◌≡◌, Bool, true, false, IfSome, IsTrue, List}
+use Rattle.rv_jobs.specs.Jobs.{console_path}
+use Rattle.rv_jobs.specs.Plans.{kept_for}
+use Rattle.rv_jobs.specs.declared.answers.Answer.{Answer}
+use Rattle.rv_jobs.specs.declared.kept.Kept.TheVariants as kept
+use Rattle.rv_jobs.specs.declared_job.Job.{Job}
+use Rattle.rv_rows.specs.Verdict.{did_run, lines_of_signature}
+use Rattle.rv_rows.specs.declared.outcome.Outcome.{Outcome}
+use Rattle.rv_rows.specs.declared_row.Row.{Row}
+use Rattle.rv_rows.specs.declared_row.Verdict.{Verdict}
+use Rattle.rv_rows.specs.declared_row.Verdict.TheVariants as verdict
+
+-- the verdict is a pass, or nothing is expected
+abbrev pub is_pass_or_unasked : Verdict → Bool
+is_pass_or_unasked verdict.Fail = false
+is_pass_or_unasked _ = true
+
+abbrev pub outcome_of_row : Row → Outcome
+outcome_of_row row = record {
+  ending = row.ending;
+  steps = row.steps;
+  console = row.console;
+  signature = row.signature;
+}
+
+-- a job that came to this row finds its image as it was, if it ran, and in its golden files what it gave
+pub record FindsItsFiles (earlier later : List Answer) (job : Job) (row : Row) : Type 0 where
+  pub image : IsTrue (did_run row.ending) → kept_for later job.image ≡ kept_for earlier job.image
+  pub signature : IfSome job.expect_signature (λ path. kept_for later path ≡ kept.Content (lines_of_signature row.signature))
+  pub console : IfSome (console_path job.expect_console) (λ path. kept_for later path ≡ kept.Content row.console)

@@ -1,0 +1,380 @@
+-- An accepted job passes in a run over the store with the new files, or nothing is expected of it.
+use Rattle.std.proofs.Common.{◌≡◌, ◌∙◌, ◌<◌, ◌∷◌, ◌||◌, [], ℕ, Bool, true, false, List, Option, Some, None, Ok, IfSome, ap, fold, get_or, Global, Vec, length, map, nat_eq, option_map, refl, subst, sym}
+use Rattle.std.specs.Prelude.{Result, if◌then◌else◌, slice_get, slice_index_or}
+use Rattle.std.specs.List.{All, list_any, starts_with}
+use Rattle.std.specs.Str.{bytes_eq}
+use Rattle.std.proofs.lemmas.Bool.{false≢true}
+use Rattle.std.proofs.lemmas.List.Elements.{All-cons, All-head, All-nil, All-tail}
+use Rattle.std.proofs.lemmas.List.Folds.{Any-from_list_any}
+use Rattle.std.proofs.lemmas.Option.{get_or_from_slice_get, slice_get-map}
+use Rattle.std.proofs.lemmas.Slice.Eq.{bytes_eq-Decides}
+use Rattle.rv_accept.proofs.Public.{accepted_run_has_row, accepted_run_is_kept, agreed, console_claim_among, console_is_target, image_that_ran, meant_at, passes_over_files, ran_over, outcome_of_its_row, console_path_stays, row_at_place, signature_claim_among, signature_is_target, targets_have_fates, unclaimed}
+use Rattle.rv_accept.specs.Accepted.{accepted_job}
+use Rattle.rv_accept.specs.Claims.{claims_of_runs}
+use Rattle.rv_accept.specs.Fates.{fate_of_file, names_file}
+use Rattle.rv_accept.specs.Meant.{meant_job, meant_jobs}
+use Rattle.rv_accept.specs.Passing.{FindsItsFiles, is_pass_or_unasked, outcome_of_row}
+use Rattle.rv_accept.specs.Runs.{accepted_row, is_accepted_run, judged_runs, why_chosen_is_left}
+use Rattle.rv_accept.specs.Sharing.{is_path, marks_to_run, names_golden_file}
+use Rattle.rv_accept.specs.Targets.{is_of_accepted, is_target, with_target}
+use Rattle.rv_accept.specs.declared.claims.Claim.{Claim}
+use Rattle.rv_accept.specs.declared.ends.Acceptance.{Acceptance}
+use Rattle.rv_accept.specs.declared.fates.Fate.{Fate}
+use Rattle.rv_accept.specs.declared.fates.Fate.TheVariants as fate
+use Rattle.rv_accept.specs.declared.runs.JobRun.{JobRun}
+use Rattle.rv_accept.specs.declared.targets.Target.{Target}
+use Rattle.rv_accept_text.proofs.Public.{accepted_from_the_first, list_is_no_image}
+use Rattle.rv_accept_text.specs.GoldenFiles.{elf_magic, is_kept, is_left, is_left_of}
+use Rattle.rv_accept_text.specs.NewLists.{AreLeftFrom}
+use Rattle.rv_accept_text.specs.declared.accepting.Accepting.{Accepting}
+use Rattle.rv_accept_text.specs.declared.golden_file.GoldenFile.{GoldenFile}
+use Rattle.rv_base.specs.Files.{FileContents}
+use Rattle.rv_cli.specs.declared.rvtest.accept.AcceptAsked.{AcceptAsked}
+use Rattle.rv_command.specs.Texts.{IsTextAt, optional_text}
+use Rattle.rv_files.specs.Placed.{PlacedFile}
+use Rattle.rv_files.specs.UnreadPaths.{contents_below, resolved_path}
+use Rattle.rv_jobs.specs.Jobs.{console_path, single_job, without_expectations}
+use Rattle.rv_jobs.specs.Kept.{IsKeptOf}
+use Rattle.rv_jobs.specs.Plans.{AreKept, Planned, kept_for}
+use Rattle.rv_jobs.specs.declared.answers.Answer.{Answer}
+use Rattle.rv_jobs.specs.declared.kept.Kept.{Kept}
+use Rattle.rv_jobs.specs.declared.kept.Kept.TheVariants as kept
+use Rattle.rv_lists.specs.JobList.{job_list_of}
+use Rattle.rv_lists.specs.declared.job.Job.{Job}
+use Rattle.rv_report.specs.declared.row.Row.{Row}
+use Rattle.rv_rows.specs.Outcome.{file_outcome_of, outcome_of}
+use Rattle.rv_rows.specs.Rows.{outcome_in, row_of}
+use Rattle.rv_rows.specs.Verdict.{did_run, lines_of_signature}
+use Rattle.rv_rows.specs.declared.outcome.Outcome.{Outcome}
+use Rattle.rvtest_app.proofs.StoreAfter.{any_elim, golden_files_there, image_stays, list_is_there, list_stays, stood}
+use Rattle.rvtest_app.specs.AcceptLaw.{AreFilesRead, HaveOneTextEach, IsRowIn, IsStoreAfter, IsWhollyAccepted, is_read}
+use Rattle.rvtest_app.specs.Accepts.{AreGoldenFiles, IsAcceptedOfMarks, IsOutcome, acceptance_of, written_files}
+use Rattle.rvtest_app.specs.Said.{Said}
+
+-- ---- what was read
+
+-- a path that was read holds what is kept of it
+record IsRead (store : FileContents) (root : Option (List ℕ)) (answers : List Answer) (path : List ℕ) : Type 0 where
+  bytes : List ℕ
+  content : kept_for answers path ≡ kept.Content bytes
+  holds : store (resolved_path root path) ≡ Some bytes
+
+read_here : (store : FileContents) (root : Option (List ℕ)) (answers : List Answer) (path : List ℕ)
+    → AreKept (contents_below root (Some store)) answers → is_read (kept_for answers path) ≡ true
+    → IsRead store root answers path
+read_here store root [] path are read = cc
+read_here store root (answer ∷ answers) path are read = go (bytes_eq path answer.path) refl
+    (read_here store root answers path (All-tail (λ (a : Answer). IsKeptOf (contents_below root (Some store)) a.path a.kept)
+    answer answers are))
+  where
+    at_first : (k : Kept) → answer.kept ≡ k → IsKeptOf (contents_below root (Some store)) answer.path k → bytes_eq path answer.path ≡ true
+        → is_read k ≡ true → IsRead store root (answer ∷ answers) path
+    at_first (kept.Content bytes) was of same read = record {
+      bytes = bytes;
+      content = rw (same, was) refl;
+      holds = rw ((bytes_eq-Decides path answer.path).0 same) of.1;
+    }
+    at_first kept.Unreadable was of same read = cc
+    at_first kept.TooLong was of same read = cc
+
+    go : (same : Bool) → bytes_eq path answer.path ≡ same
+        → (is_read (kept_for answers path) ≡ true → IsRead store root answers path)
+        → IsRead store root (answer ∷ answers) path
+    go true same behind = at_first answer.kept refl
+        (All-head (λ (a : Answer). IsKeptOf (contents_below root (Some store)) a.path a.kept) answer answers are) same
+        (rw same at read)
+    go false same behind =
+        let there = behind (rw same at read) in
+        record { bytes = there.bytes; content = rw same there.content; holds = there.holds }
+
+some_same : {X : Type 0} (x y : X) → Some x ≡ Some y → x ≡ y
+some_same x y is = cc
+
+ok_same : {X E : Type 0} (x y : X) (read : Result X E) → read ≡ Ok x → read ≡ Ok y → x ≡ y
+ok_same x y read was is = cc
+
+content_same : (bytes others : List ℕ) → kept.Content bytes ≡ kept.Content others → bytes ≡ others
+content_same bytes others is = cc
+
+-- a path that was read, and holds these bytes, is kept with them
+content_of : (store : FileContents) (root : Option (List ℕ)) (answers : List Answer) (path bytes : List ℕ)
+    → AreKept (contents_below root (Some store)) answers → is_read (kept_for answers path) ≡ true
+    → store (resolved_path root path) ≡ Some bytes → kept_for answers path ≡ kept.Content bytes
+content_of store root answers path bytes are read holds =
+    let there = read_here store root answers path are read in
+    there.content ∙ ap kept.Content (some_same there.bytes bytes (sym there.holds ∙ holds))
+
+-- ---- golden files
+
+-- a file of those that are told is that of its target
+abbrev IsOf : Option (List ℕ) → List Claim → GoldenFile → Type 0
+IsOf root claims file = (file.place ≡ resolved_path root file.target.path)
+    × (file.target.fate ≡ fate_of_file file.target.path claims)
+
+are_of : (before : FileContents) (root : Option (List ℕ)) (claims : List Claim) (targets : List Target)
+    (files : List GoldenFile) → AreGoldenFiles (Some before) root targets files
+    → All (λ (target : Target). target.fate ≡ fate_of_file target.path claims) targets → All (IsOf root claims) files
+are_of before root claims [] [] are fates = All-nil (IsOf root claims)
+are_of before root claims [] (file ∷ files) are fates = absurd are
+are_of before root claims (target ∷ targets) [] are fates = absurd are
+are_of before root claims (target ∷ targets) (file ∷ files) are fates =
+    let of = are.0.of in
+    All-cons (IsOf root claims) file files (
+      rw of are.0.leads,
+      rw of (All-head (λ (target : Target). target.fate ≡ fate_of_file target.path claims) target targets
+          fates),
+    )
+    (are_of before root claims targets files are.1
+    (All-tail (λ (target : Target). target.fate ≡ fate_of_file target.path claims) target targets fates))
+
+-- where a file is a target, it is told
+is_told : (before : FileContents) (root : Option (List ℕ)) (path : List ℕ) (targets : List Target)
+    (files : List GoldenFile) → AreGoldenFiles (Some before) root targets files → is_target path targets ≡ true
+    → list_any (λ (file : GoldenFile). bytes_eq path file.target.path) files ≡ true
+is_told before root path [] files are is = cc
+is_told before root path (target ∷ targets) [] are is = absurd are
+is_told before root path (target ∷ targets) (file ∷ files) are is =
+    rw are.0.of (go (bytes_eq path target.path) is (is_told before root path targets files are.1))
+  where
+    go : (same : Bool) → (same || is_target path targets) ≡ true
+        → (is_target path targets ≡ true → list_any (λ (file : GoldenFile). bytes_eq path file.target.path) files ≡ true)
+        → (same || list_any (λ (file : GoldenFile). bytes_eq path file.target.path) files) ≡ true
+    go true is behind = refl
+    go false is behind = behind is
+
+-- the fate of a file that is not left, and that a job names
+agreed_fate : (text : List ℕ) (what : Fate) (kept : Bool) → is_left_of kept what ≡ false
+    → (what ≡ fate.Unclaimed → what ≡ fate.Agreed text)
+    → ((other : List ℕ) → what ≡ fate.Agreed other → other ≡ text) → what ≡ fate.Agreed text
+agreed_fate text fate.Unclaimed kept left none same = none refl
+agreed_fate text (fate.Agreed other) kept left none same = ap fate.Agreed (same other refl)
+agreed_fate text (fate.LeftBy job) kept left none same = cc
+agreed_fate text (fate.Differ job other) kept left none same = cc
+
+same_bytes : (bytes : List ℕ) → bytes_eq bytes bytes ≡ true
+same_bytes bytes = (bytes_eq-Decides bytes bytes).1 refl
+
+true_or_false : {A : Type 0} (b : Bool) → b ≡ true → b ≡ false → A
+true_or_false b holds fails = absurd (false≢true (sym fails ∙ holds))
+
+or_left : (a b : Bool) → a ≡ true → (a || b) ≡ true
+or_left a b holds = rw holds refl
+
+or_right : (a b : Bool) → b ≡ true → (a || b) ≡ true
+or_right true b holds = refl
+or_right false b holds = holds
+
+-- what is so of the path that is named
+for_named : (named : Option (List ℕ)) {P Q : List ℕ → Type 0} → ((path : List ℕ) → named ≡ Some path → P path → Q path)
+    → IfSome named P → IfSome named Q
+for_named None each holds = tt
+for_named (Some path) each holds = each path refl holds
+
+-- ---- the run that is accepted
+
+record AcceptedRun (run : Option (Option JobRun)) : Type 0 where
+  of : JobRun
+  is : run ≡ Some (Some of)
+  accepted : is_accepted_run of ≡ true
+
+accepted_run : (run : Option (Option JobRun)) → is_of_accepted run ≡ true → AcceptedRun run
+accepted_run None is = cc
+accepted_run (Some None) is = cc
+accepted_run (Some (Some run)) is = record { of = run; is = refl; accepted = is }
+
+accepted_row_of : (run : JobRun) → is_accepted_run run ≡ true → accepted_row (Some run) ≡ Some run.row
+accepted_row_of run accepted = rw accepted refl
+
+-- ---- over what `accept` came to
+
+module _ (words : AcceptAsked) (before after : FileContents) (bytes : List ℕ) (jobs : List Job)
+    (judged : List (Option JobRun)) (told : Accepting) (outcome : IsOutcome (Some before) words bytes jobs judged told)
+    (read : IsTextAt (Some before) words.run.list.now bytes) (listed : job_list_of bytes ≡ Ok jobs)
+    (store : IsStoreAfter (written_files told) before after) (alike : HaveOneTextEach store.leads told.files.now) where
+  abbrev root : Option (List ℕ)
+  root = optional_text words.run.root
+
+  abbrev claims : List Claim
+  claims = claims_of_runs 0 jobs told.runs.now
+
+  abbrev targets : List Target
+  targets = fold (with_target told.runs.now claims) [] claims
+
+  files_are : AreGoldenFiles (Some before) root targets told.files.now
+  files_are = rw outcome.claims at outcome.files
+
+  files_stood : All (λ (file : GoldenFile). before file.place ≡ file.old) told.files.now
+  files_stood = stood before root targets told.files.now files_are
+
+  list_stood : before told.list.path.now ≡ Some told.list.text.now
+  list_stood = rw (outcome.path, outcome.text) read
+
+  no_image : starts_with nat_eq told.list.text.now elf_magic ≡ false
+  no_image = rw outcome.text (list_is_no_image bytes jobs listed)
+
+  -- the list reads as the jobs that are meant
+  list_reads : (text : List ℕ) (others : List Job) → after words.run.list.now ≡ Some text → job_list_of text ≡ Ok others
+      → others ≡ meant_jobs jobs told.runs.now
+  list_reads text others stands reads = go told.new.now.text refl
+    where
+      there : after told.list.path.now ≡ Some text
+      there = rw outcome.path stands
+
+      go : (new : Option (Vec ℕ Global)) → told.new.now.text ≡ new → others ≡ meant_jobs jobs told.runs.now
+      go None is =
+          let held = list_stays told before after store files_stood list_stood (rw is refl) in
+          let same : text ≡ bytes = some_same text bytes (sym there ∙ held ∙ ap Some outcome.text) in
+          let reads_jobs : others ≡ jobs = ok_same others jobs (job_list_of text) reads
+          (ap job_list_of same ∙ listed) in
+          reads_jobs ∙ sym (outcome.unchanged is)
+      go (Some new) is =
+          let held = list_is_there told after new.items store.there (rw is refl) in
+          let same : text ≡ new.items = some_same text new.items (sym there ∙ held) in
+          ok_same others (meant_jobs jobs told.runs.now) (job_list_of text) reads
+          (ap job_list_of same ∙ (rw is at outcome.meant))
+
+  -- a golden file that an accepted job names, and that is not left, holds what the job gives it
+  golden_text : (job : Job) (path text : List ℕ) → names_golden_file path job ≡ true → is_target path targets ≡ true
+      → (fate_of_file path claims ≡ fate.Unclaimed → fate_of_file path claims ≡ fate.Agreed text)
+      → ((other : List ℕ) → fate_of_file path claims ≡ fate.Agreed other → other ≡ text)
+      → All (λ (file : GoldenFile). names_golden_file file.target.path job ≡ true → is_left told.list file ≡ false)
+      told.files.now → after (resolved_path root path) ≡ Some text
+  golden_text job path text names target unclaimed_is agreed_is left =
+      any_elim (λ (file : GoldenFile). bytes_eq path file.target.path ≡ true) told.files.now each
+      (Any-from_list_any (λ (file : GoldenFile). bytes_eq path file.target.path) told.files.now
+      (is_told before root path targets told.files.now files_are target))
+    where
+      each : All (λ (file : GoldenFile). bytes_eq path file.target.path ≡ true → after (resolved_path root path) ≡ Some text)
+          told.files.now
+      each = λ k d below is.
+          let file : GoldenFile = get_or told.files.now k d in
+          let same : path ≡ file.target.path = (bytes_eq-Decides path file.target.path).0 is in
+          let of = are_of before root claims targets told.files.now files_are
+          (targets_have_fates told.runs.now claims claims []
+          (All-nil (λ (target : Target). target.fate ≡ fate_of_file target.path claims))) k d below in
+          let kept = left k d below (rw same at names) in
+          let fate_is : fate_of_file path claims ≡ file.target.fate =
+          ap (λ path. fate_of_file path claims) same ∙ sym of.1 in
+          let agrees : file.target.fate ≡ fate.Agreed text = sym fate_is ∙ agreed_fate text (fate_of_file path claims)
+          (is_kept told.list file) (rw fate_is kept) unclaimed_is agreed_is in
+          let there = golden_files_there told before after store list_stood files_stood alike k d below text agrees kept in
+          rw same (subst (λ place. after place ≡ Some text) of.0 there)
+
+  module _ (place : ℕ) (job : Job) (run : JobRun) (at : slice_get jobs place ≡ Some job)
+      (ran : slice_get told.runs.now place ≡ Some (Some run)) (accepted : is_accepted_run run ≡ true)
+      (left : All (λ (file : GoldenFile). names_golden_file file.target.path job ≡ true → is_left told.list file ≡ false)
+      told.files.now) where
+    console_there : (path : List ℕ) → console_path job.expect_console ≡ Some path
+        → after (resolved_path root path) ≡ Some run.row.console
+    console_there path named = golden_text job path run.row.console
+        (or_left (is_path path (console_path job.expect_console)) _ (rw named (same_bytes path)))
+        (console_is_target place jobs told.runs.now job run path at ran accepted named)
+        (λ none. true_or_false (bytes_eq path path) (same_bytes path)
+        (console_claim_among (λ (claim : Claim). names_file path claim ≡ false) place jobs told.runs.now job run path
+        (unclaimed path claims none) at ran accepted named))
+        (λ other is. some_same other run.row.console (sym
+        (console_claim_among (λ (claim : Claim). names_file path claim ≡ true → claim.text ≡ Some other) place jobs told.runs.now
+        job run path (agreed path other claims is) at ran accepted named (same_bytes path))))
+        left
+
+    signature_there : (path : List ℕ) → job.expect_signature ≡ Some path
+        → after (resolved_path root path) ≡ Some (lines_of_signature run.row.signature)
+    signature_there path named = golden_text job path (lines_of_signature run.row.signature)
+        (or_right (is_path path (console_path job.expect_console)) _ (rw named (same_bytes path)))
+        (signature_is_target place jobs told.runs.now job run path at ran accepted named)
+        (λ none. true_or_false (bytes_eq path path) (same_bytes path)
+        (signature_claim_among (λ (claim : Claim). names_file path claim ≡ false) place jobs told.runs.now job run path
+        (unclaimed path claims none) at ran accepted named))
+        (λ other is. some_same other (lines_of_signature run.row.signature) (sym
+        (signature_claim_among (λ (claim : Claim). names_file path claim ≡ true → claim.text ≡ Some other) place jobs
+        told.runs.now job run path (agreed path other claims is) at ran accepted named (same_bytes path))))
+        left
+
+    -- an image that ran is as it was
+    image_again : (earlier later : List Answer) → AreKept (contents_below root (Some before)) earlier
+        → AreKept (contents_below root (Some after)) later → is_read (kept_for later job.image) ≡ true
+        → did_run (outcome_in earlier (without_expectations job)).ending ≡ true
+        → kept_for later job.image ≡ kept_for earlier job.image
+    image_again earlier later earlier_kept later_kept is_there ended =
+        let over = ran_over (without_expectations job) (kept_for earlier job.image) ended in
+        let here = read_here before root earlier job.image earlier_kept (rw over.was refl) in
+        let same : here.bytes ≡ over.file = content_same here.bytes over.file (sym here.content ∙ over.was) in
+        let holds = here.holds ∙ ap Some same in
+        let magic = image_that_ran (without_expectations job) over.file
+        (subst (λ (o : Outcome). did_run o.ending ≡ true) over.came ended) in
+        let stays = image_stays told before after (resolved_path root job.image) over.file store files_stood list_stood
+        no_image holds magic in
+        content_of after root later job.image over.file later_kept is_there stays ∙ sym over.was
+
+    finds : (earlier : Planned) (later : List Answer) → AreKept (contents_below root (Some before)) earlier.answers
+        → AreKept (contents_below root (Some after)) later → AreFilesRead later job
+        → run.row ≡ row_of earlier (without_expectations job) → FindsItsFiles earlier.answers later job run.row
+    finds earlier later earlier_kept later_kept read_now row_is = record {
+      image = λ ended. image_again earlier.answers later earlier_kept later_kept read_now.image
+          (subst (λ (o : Outcome). did_run o.ending ≡ true)
+          (ap outcome_of_row row_is ∙ outcome_of_its_row earlier (without_expectations job)) ended);
+      signature = for_named job.expect_signature (λ path named is. content_of after root later path
+          (lines_of_signature run.row.signature) later_kept is (signature_there path named)) read_now.signature;
+      console = for_named (console_path job.expect_console) (λ path named is. content_of after root later path
+          run.row.console later_kept is (console_there path named)) read_now.console;
+    }
+
+-- ---- the whole
+
+-- the job that the new list has at the place
+new_job : (jobs others : List Job) (runs : List (Option JobRun)) (place : ℕ) (job other : Job) (run : JobRun)
+    → others ≡ meant_jobs jobs runs → slice_get jobs place ≡ Some job → slice_get runs place ≡ Some (Some run)
+    → is_accepted_run run ≡ true → slice_get others place ≡ Some other
+    → other ≡ accepted_job job run.row.ending run.row.console
+new_job jobs others runs place job other run are at ran accepted stands =
+    let meant = meant_at jobs runs place job (Some run) at ran in
+    some_same other (accepted_job job run.row.ending run.row.console)
+    (sym stands ∙ ap (λ jobs. slice_get jobs place) are ∙ meant
+    ∙ ap (λ row. Some (meant_job job row)) (accepted_row_of run accepted))
+
+-- what was read of the accepted job's files was read of the job's
+read_of_job : (answers : List Answer) (job : Job) (row : Row)
+    → AreFilesRead answers (accepted_job job row.ending row.console) → AreFilesRead answers job
+read_of_job answers job row files = record {
+  image = files.image;
+  signature = files.signature;
+  console = subst (λ named. IfSome named (λ path. is_read (kept_for answers path) ≡ true))
+      (console_path_stays job.expect_console row.console) files.console;
+}
+
+pub passes_after : (words : AcceptAsked) (before after : FileContents) (bytes : List ℕ) (jobs : List Job)
+    (chosen : List Bool) (status : ℕ) (from to : Said) (place : ℕ) (job : Job) (row : Row)
+    → IsTextAt (Some before) words.run.list.now bytes → job_list_of bytes ≡ Ok jobs
+    → (accepted : IsAcceptedOfMarks (Some before) words bytes jobs chosen status from to)
+    → (store : IsStoreAfter (written_files accepted.told) before after)
+    → HaveOneTextEach store.leads accepted.told.files.now → IsWhollyAccepted accepted.told place job
+    → IsRowIn after words.run place row → is_pass_or_unasked row.verdict ≡ true
+passes_after words before after bytes jobs chosen status from to place job row read listed accepted store alike whole later =
+    let told = accepted.told in
+    let outcome = accepted.outcome in
+    let judged = judged_runs (acceptance_of words.ends) jobs chosen accepted.rows in
+    let earlier = accepted.ran.are.plan in
+    let at : slice_get jobs place ≡ Some job = rw outcome.listed at whole.stands in
+    let run : AcceptedRun (slice_get told.runs.now place) = accepted_run (slice_get told.runs.now place) whole.accepted in
+    let first = accepted_from_the_first judged told.runs.now place run.of outcome.runs run.is run.accepted in
+    let has_row = accepted_run_has_row (acceptance_of words.ends) jobs chosen accepted.rows place job run.of at first
+    run.accepted in
+    let kept = accepted_run_is_kept (acceptance_of words.ends) jobs chosen accepted.rows place job run.of at first
+    run.accepted in
+    let bare : slice_index_or earlier.jobs place (single_job [] 0 []) ≡ without_expectations job =
+    ap (λ jobs. slice_index_or jobs place (single_job [] 0 [])) accepted.ran.are.planned.listed
+    ∙ get_or_from_slice_get (map without_expectations jobs) place (without_expectations job) (single_job [] 0 [])
+    (slice_get-map without_expectations jobs place ∙ ap (option_map without_expectations) at) in
+    let row_is : run.of.row ≡ row_of earlier (without_expectations job) =
+    row_at_place earlier (marks_to_run jobs chosen jobs chosen) place run.of.row (rw accepted.ran.are.are at has_row)
+    ∙ ap (row_of earlier) bare in
+    let jobs_are = list_reads words before after bytes jobs judged told outcome read listed store alike later.bytes later.jobs
+    later.read later.listed in
+    let job_is : later.job ≡ accepted_job job run.of.row.ending run.of.row.console =
+    new_job jobs later.jobs told.runs.now place job later.job run.of jobs_are at run.is run.accepted later.stands in
+    let files = read_of_job later.plan.answers job run.of.row
+    (subst (AreFilesRead later.plan.answers) job_is later.files) in
+    let finds_them = finds words before after bytes jobs judged told outcome read listed store alike place job run.of at run.is
+    run.accepted whole.files earlier later.plan.answers accepted.ran.are.planned.kept later.planned.kept files row_is in
+    rw later.is (rw job_is (passes_over_files (acceptance_of words.ends) job earlier later.plan run.of.row row_is kept
+    whole.alone finds_them))

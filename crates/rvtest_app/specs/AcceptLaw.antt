@@ -1,0 +1,77 @@
+-- What `run` says of a job that `accept` accepted, over the store with the new files.
+use Rattle.std.specs.Prelude.{◌≡◌, ◌⊎◌, ℕ, Bool, true, false, IfSome, IsFalse, IsTrue, List, Ok, Option, Some, None, slice_get}
+use Rattle.std.specs.List.{All, Any}
+use Rattle.rv_accept.specs.Sharing.{names_golden_file}
+use Rattle.rv_accept.specs.Targets.{is_of_accepted}
+use Rattle.rv_accept_text.specs.GoldenFiles.{is_left}
+use Rattle.rv_accept_text.specs.declared.accepting.Accepting.{Accepting}
+use Rattle.rv_accept_text.specs.declared.golden_file.GoldenFile.{GoldenFile}
+use Rattle.rv_base.specs.Files.{FileContents}
+use Rattle.rv_cli.specs.declared.rvtest.run.RunAsked.{RunAsked}
+use Rattle.rv_command.specs.Texts.{IsTextAt, optional_text}
+use Rattle.rv_files.specs.Placed.{PlacedFile}
+use Rattle.rv_files.specs.UnreadPaths.{contents_below}
+use Rattle.rv_files.specs.declared.noting_store.Unread.{Unread}
+use Rattle.rv_jobs.specs.Jobs.{console_path}
+use Rattle.rv_jobs.specs.Plans.{Planned, kept_for}
+use Rattle.rv_jobs.specs.declared.answers.Answer.{Answer}
+use Rattle.rv_jobs.specs.declared.kept.Kept.{Kept}
+use Rattle.rv_jobs.specs.declared.kept.Kept.TheVariants as kept
+use Rattle.rv_lists.specs.JobList.{job_list_of}
+use Rattle.rv_lists.specs.declared.job.Job.{Job}
+use Rattle.rv_report.specs.declared.row.Row.{Row}
+use Rattle.rv_rows.specs.Rows.{row_of}
+use Rattle.rvtest_app.specs.Runs.{IsPlanFor}
+
+-- ---- the store
+
+-- paths lead to places, perhaps several to one, as links do. Each file that was written is there, and every path that leads to no such file
+-- holds what it held
+pub record IsStoreAfter (written : List PlacedFile) (before after : FileContents) : Type 0 where
+  pub leads : List ℕ → List ℕ
+  pub one_before : (path other : List ℕ) → leads path ≡ leads other → before path ≡ before other
+  pub one_after : (path other : List ℕ) → leads path ≡ leads other → after path ≡ after other
+  pub there : All (λ file. after file.path ≡ Some file.bytes) written
+  pub others : (path : List ℕ) → (after path ≡ before path) ⊎ Any (λ file. leads file.path ≡ leads path) written
+
+-- golden files that lead to one place are given the same text
+abbrev pub HaveOneTextEach : (List ℕ → List ℕ) → List GoldenFile → Type 0
+HaveOneTextEach leads files = All (λ (file : GoldenFile). All (λ (other : GoldenFile).
+    leads file.place ≡ leads other.place → file.target.fate ≡ other.target.fate) files) files
+
+-- ---- the job
+
+-- of the jobs of a list this one is chosen and not left, none of its golden files is left, and it names no other job
+pub record IsWhollyAccepted (told : Accepting) (place : ℕ) (job : Job) : Type 0 where
+  pub stands : slice_get told.list.jobs.now place ≡ Some job
+  pub accepted : IsTrue (is_of_accepted (slice_get told.runs.now place))
+  pub files : All (λ (file : GoldenFile). IsTrue (names_golden_file file.target.path job)
+      → IsFalse (is_left told.list file)) told.files.now
+  pub alone : job.same_as ≡ None
+
+-- ---- the run
+
+abbrev pub is_read : Kept → Bool
+is_read (kept.Content bytes) = true
+is_read _ = false
+
+-- the files of a job were read
+pub record AreFilesRead (answers : List Answer) (job : Job) : Type 0 where
+  pub image : IsTrue (is_read (kept_for answers job.image))
+  pub signature : IfSome job.expect_signature (λ path. IsTrue (is_read (kept_for answers path)))
+  pub console : IfSome (console_path job.expect_console) (λ path. IsTrue (is_read (kept_for answers path)))
+
+-- the row of the job at a place in a run of the list over a store, of which the job's files were read
+pub record IsRowIn (store : FileContents) (words : RunAsked) (place : ℕ) (row : Row) : Type 0 where
+  pub bytes : List ℕ
+  pub read : IsTextAt (Some store) words.list.now bytes
+  pub jobs : List Job
+  pub listed : job_list_of bytes ≡ Ok jobs
+  pub job : Job
+  pub stands : slice_get jobs place ≡ Some job
+  pub places : List ℕ
+  pub plan : Planned
+  pub unread : List Unread
+  pub planned : IsPlanFor (contents_below (optional_text words.root) (Some store)) jobs places plan unread
+  pub files : AreFilesRead plan.answers job
+  pub is : row ≡ row_of plan job
