@@ -21,7 +21,7 @@ pub(crate) const RUN: Subcommand<'static> = Subcommand {
         Argument::Option("match", "REGEX", MATCH),
         Argument::Option("exclude", "REGEX", EXCLUDE),
         Argument::Option("failed", "REPORT", FAILED),
-        Argument::Flag("partial", None, PARTIAL_CHOICE),
+        Argument::Flag("partial", None, PARTIAL),
         Argument::Option("shard", "K/N", "Runs the K-th of N parts of the list"),
         Argument::Option(
             "stamp",
@@ -65,7 +65,7 @@ pub(crate) const LIST: Subcommand<'static> = Subcommand {
         Argument::Option("match", "REGEX", MATCH),
         Argument::Option("exclude", "REGEX", EXCLUDE),
         Argument::Option("failed", "REPORT", FAILED),
-        Argument::Flag("partial", None, PARTIAL_CHOICE),
+        Argument::Flag("partial", None, PARTIAL),
         Argument::Flag("lenient", None, LENIENT),
     ],
 };
@@ -119,7 +119,7 @@ pub(crate) const ACCEPT: Subcommand<'static> = Subcommand {
         Argument::Option("match", "REGEX", MATCH),
         Argument::Option("exclude", "REGEX", EXCLUDE),
         Argument::Option("failed", "REPORT", FAILED),
-        Argument::Flag("partial", None, PARTIAL_CHOICE),
+        Argument::Flag("partial", None, PARTIAL),
         Argument::Flag(
             "ends",
             None,
@@ -206,9 +206,7 @@ const EXCLUDE: &str = "Leaves out the jobs in whose names it is found";
 
 const FAILED: &str = "Chooses the jobs that failed in a report";
 
-const PARTIAL_CHOICE: &str = "Takes the whole rows of that report where it is cut off";
-
-const PARTIAL: &str = "Takes the whole rows of a report that is cut off";
+const PARTIAL: &str = "Takes a report that is cut off by its whole rows";
 
 const THREADS: &str = "Threads, from 1 to 64; else one a processor";
 
