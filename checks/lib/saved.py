@@ -96,6 +96,34 @@ def check_read(row):
     for end in reversed(range(len(report))):
         os.truncate(row.folder / "report", end)
         row.wants(["show", "report"], 2, "", "rvtest: report: the report is cut off\n")
+        wants_whole_rows(row, report[:end])
+
+
+# ---- reports that are cut off
+
+# What stands behind each whole row.
+ROW_END = re.compile(rb"^verdict .*\n", re.MULTILINE)
+
+
+def cut_off_note(path, count):
+    """What is told of a report that is cut off behind so many rows."""
+    return f"rvtest: {path}: the report is cut off; whole rows: {count}\n"
+
+
+def wants_whole_rows(row, beginning):
+    """Of a beginning of a report the whole rows are taken, as those of a choice."""
+    ends = [found.end() for found in ROW_END.finditer(beginning)]
+    row.write("choice", beginning[:ends[-1] if ends else 0] + f"part {len(ends)} of 4096\n".encode())
+    status, shown, _ = row.run(["show", "choice"])
+    row.wants(["show", "report", "--partial"], status, shown, cut_off_note("report", len(ends)))
+
+
+def check_partial(row):
+    """What a command takes of a report that may be cut off. A list of the jobs a, b and c is there, and a whole report of them."""
+    row.write("list.toml", "".join(f'[[job]]\nname = "{name}"\nimage = "none"\nbudget = 9\n' for name in "abc"))
+    row.write("whole", report_bytes("$1 a\n$2 b, verdict fail\n$3 c\ndone 3"))
+    row.write("report", report_bytes(row["report"]))
+    row.wants(row["words"].split(), int(row["status"]), lines(row["shown"]) if row["shown"] else "", lines(row["told"]) if row["told"] else "")
 
 
 # ---- what is shown of rows
@@ -203,6 +231,7 @@ FORMS = {
     "differences": Form(check_difference, "words told old new"),
     "escaped": Form(check_escaped, "written digits"),
     "last": Form(check_last, "told rule rows"),
+    "partial": Form(check_partial, "words status shown told report"),
     "merged": Form(check_merged, "told one two three"),
     "read": Form(check_read, "merged differs report"),
     "saved": Form(check_saved, "told rule row"),
