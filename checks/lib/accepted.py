@@ -5,12 +5,16 @@ the job's other keys between semicolons. In consoles and files `_` is a line fee
 made of them. Each row runs with --check first, which changes no file, and in the end once more, which changes nothing.
 """
 import difflib
+import os
 
+import images
 from placed import is_there, put_there
 from rows import Form, lines, lines_in
 from told import write_run
 
 STEPS = 9999
+# How many a job may take that fills the console.
+MOST_STEPS = 999_999
 
 
 def fed(text):
@@ -27,7 +31,8 @@ def table_of(row, line):
     head, _, keys = line.partition(":")
     name, _, run = head.partition(" ")
     made = write_run(row, f"{name}.elf", fed(run))[0].split(", ", 1)
-    told = [f"name = '{name}'", made[0], f"budget = {STEPS}", *made[1:], *filter(None, keys.strip().split("; "))]
+    steps = STEPS if len(run) < images.LONG else MOST_STEPS
+    told = [f"name = '{name}'", made[0], f"budget = {steps}", *made[1:], *filter(None, keys.strip().split("; "))]
     return lines("[[job]]", *told)
 
 
@@ -36,7 +41,7 @@ def files_in(folder):
     def content(path):
         if path.is_symlink():
             return str(path.readlink())
-        return path.read_bytes() if path.is_file() else None
+        return path.read_bytes() if path.is_file() and os.access(path, os.R_OK) else None
     return {path.relative_to(folder): content(path) for path in folder.rglob("*")}
 
 

@@ -1,8 +1,10 @@
 #!/usr/bin/env python3
-"""Accepts lists that are made at random, and a list whose writing is killed at each change of a disk.
+"""Accepts lists that are made at random, a list whose writing is killed at each change of a disk and at each write, and two lists that
+share a golden file.
 
     checks/lib/accepting.py RVTEST SHIM FOLDER LISTS SEED
 """
+import concurrent.futures
 import os
 import pathlib
 import random
@@ -141,14 +143,20 @@ def list_of(chance, folder):
 
 # ---- what is tried
 
-def try_list(rvtest, folder, seed):
-    """A list whose expectations are turned passes behind `accept`, which changes nothing the second time."""
-    chance = random.Random(seed)
-    (folder / "list.toml").write_bytes(list_of(chance, folder))
+def try_check(rvtest, folder):
+    """With --check nothing changes, and the status says whether something would."""
     before = contents(folder)
     status, told, said = run(rvtest, folder, ["accept", "list.toml", "--ends", "--check"])
     if said or contents(folder) != before or status != int(not told.startswith("0 files")):
         raise Failed(f"--check: status {status}, {told}{said}")
+
+
+def try_list(rvtest, folder, seed, is_checked):
+    """A list whose expectations are turned passes behind `accept`, which changes nothing the second time."""
+    chance = random.Random(seed)
+    (folder / "list.toml").write_bytes(list_of(chance, folder))
+    if is_checked:
+        try_check(rvtest, folder)
     status, told, said = run(rvtest, folder, ["accept", "list.toml", "--ends"])
     if status or said:
         raise Failed(f"accept: status {status}, {told}{said}")
@@ -161,9 +169,8 @@ def try_list(rvtest, folder, seed):
         raise Failed(f"the second accept: status {status}, {told}{said}")
 
 
-def try_kills(rvtest, shim, folder):
-    """Each file is old or new, whichever change of a disk the process is killed before, and the next call ends the work."""
-    made = folder / "made"
+def list_to_kill(made):
+    """A list of three golden files and a value, all of which are wrong, and what the files are once it is accepted."""
     made.mkdir()
     tables = []
     for number in range(3):
@@ -174,41 +181,78 @@ def try_kills(rvtest, shim, folder):
     (made / "text.elf").write_bytes(images.program(images.run_of(b"ab", "0")[0]))
     tables.append(f"[[job]]\nname = 'text'\nimage = 'text.elf'\nbudget = {STEPS}\nexpect_console = 'old'\n")
     (made / "list.toml").write_text("".join(tables))
+    new = {**contents(made), **{f"job{number}.out": b"ab" for number in range(3)}}
+    new["list.toml"] = new["list.toml"].replace(b"'old'", b'"ab"')
+    return new
+
+
+def try_kills(rvtest, shim, folder, variable):
+    """Each file is old or new, whichever of the calls the process is killed before, and the next call ends the work."""
+    made = folder / variable
+    new = list_to_kill(made)
     old = contents(made)
-    new = {**old, **{f"job{number}.out": b"ab" for number in range(3)}}
-    new["list.toml"] = old["list.toml"].replace(b"'old'", b'"ab"')
-    for change in range(1, 99):
-        place = folder / f"killed{change}"
+    for call in range(1, 99):
+        place = folder / f"{variable}{call}"
         shutil.copytree(made, place)
-        status, _, said = run(rvtest, place, ["accept", "list.toml"], LD_PRELOAD=shim, KILLED_CHANGE=str(change))
+        status, _, said = run(rvtest, place, ["accept", "list.toml"], LD_PRELOAD=shim, **{variable: str(call)})
         found = contents(place)
         is_whole = all(found[name] in (old[name], new[name]) for name in old)
         if not is_whole or found["list.toml"] == new["list.toml"] and any(found[name] != new[name] for name in new):
-            raise Failed(f"killed before change {change}: {found}")
+            raise Failed(f"killed before call {call}: {found}")
         if status == 0:
-            return change - 1
+            return call - 1
         ended = run(rvtest, place, ["accept", "list.toml"])
         if ended[0] or ended[2] or contents(place) != new:
-            raise Failed(f"behind a kill before change {change}: {ended}, {contents(place)}, {said}")
+            raise Failed(f"behind a kill before call {call}: {ended}, {contents(place)}, {said}")
     raise Failed("no run was whole")
+
+
+def try_shared(rvtest, folder):
+    """Of two lists that share a golden file each is accepted by itself: the file is then that of the list that was accepted last."""
+    shared = folder / "shared"
+    shared.mkdir()
+    for name, console in (("one", b"ab"), ("two", b"cd")):
+        (shared / f"{name}.elf").write_bytes(images.program(images.run_of(console, "0")[0]))
+        table = f"[[job]]\nname = '{name}'\nimage = '{name}.elf'\nbudget = {STEPS}\nexpect_console_file = 'golden'\n"
+        (shared / f"{name}.toml").write_text(table)
+    for name, other, console in (("one", "two", b"ab"), ("two", "one", b"cd"), ("one", "two", b"ab")):
+        accepted = run(rvtest, shared, ["accept", f"{name}.toml"])
+        passed = run(rvtest, shared, ["run", f"{name}.toml"])[0]
+        failed = run(rvtest, shared, ["run", f"{other}.toml"])[0]
+        if accepted[0] or accepted[2] or (passed, failed) != (0, 1) or (shared / "golden").read_bytes() != console:
+            raise Failed(f"of two lists: {name} is accepted with {accepted}, statuses {passed} and {failed}")
+
+
+def try_lists(rvtest, top, lists, seed):
+    """Tries lists side by side, and every fourth with --check before; what is wrong with the first that fails."""
+    def one(number):
+        place = top / f"list{number}"
+        place.mkdir()
+        try:
+            try_list(rvtest, place, f"{seed}-{number}", number % 4 == 0)
+        except Failed as why:
+            return f"list {number} of seed {seed}, in {place}: {why}"
+        shutil.rmtree(place)
+        return ""
+    with concurrent.futures.ThreadPoolExecutor(len(os.sched_getaffinity(0))) as pool:
+        for wrong in pool.map(one, range(lists)):
+            if wrong:
+                raise Failed(wrong)
 
 
 def main(rvtest, shim, folder, lists, seed):
     top = pathlib.Path(folder)
-    for number in range(int(lists)):
-        place = top / f"list{number}"
-        place.mkdir()
-        try:
-            try_list(rvtest, place, f"{seed}-{number}")
-        except Failed as why:
-            sys.exit(f"accepts: list {number} of seed {seed}, in {place}: {why}")
-        shutil.rmtree(place)
-    print(f"accepts: {lists} lists whose expectations were turned pass behind accept, which then changes nothing")
     try:
-        kills = try_kills(rvtest, shim, top)
+        try_lists(rvtest, top, int(lists), seed)
+        print(f"accepts: {lists} lists whose expectations were turned pass behind accept, which then changes nothing")
+        changes = try_kills(rvtest, shim, top, "KILLED_CHANGE")
+        print(f"accepts: killed before each of {changes} changes of a disk, files are old or new, and the next call ends the work")
+        writes = try_kills(rvtest, shim, top, "KILLED_WRITE")
+        print(f"accepts: killed before each of {writes} writes, the same")
+        try_shared(rvtest, top)
+        print("accepts: of two lists that share a golden file each is accepted by itself")
     except Failed as why:
         sys.exit(f"accepts: {why}")
-    print(f"accepts: killed before each of {kills} changes of a disk, files are old or new, and the next call ends the work")
 
 
 if __name__ == "__main__":

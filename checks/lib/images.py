@@ -32,6 +32,11 @@ EXIT = bytes.fromhex("9308d00573000000")
 # 0x10000000, the console, into t0; and a byte from t1 to it.
 TO_CONSOLE = 0x100002b7
 PUT = 0x0062a023
+# One less in t2; and three instructions back unless it is zero.
+LESS = 0xfff38393
+BACK = 0xfe039ce3
+# From how many bytes on a console of one byte is put by a loop.
+LONG = 1000
 # A jump to itself; no instruction; ebreak; and a load from 0x10.
 ENDS = {"budget": 0x0000006f, "illegal": 0, "breakpoint": 0x00100073, "load-access": 0x01002503}
 VALUES = {"illegal": 0, "load-access": 0x10}
@@ -130,18 +135,27 @@ def image(words):
 
 def run_of(console, end):
     """Code that puts bytes to the console and ends as a word says, and what its run comes to, as a row's line tells it."""
-    code = [TO_CONSOLE] * bool(console)
-    for byte in console:
-        code += [byte << 20 | 0x313, PUT]
+    code, steps = put_of(console)
     if end == "budget":
         return words_of([*code, ENDS[end]]), f"budget used up after {BUDGET} steps"
     if end in ENDS:
-        place, steps = BASE + 4 * len(code), len(code)
+        place = BASE + 4 * len(code)
         told = f"fault {end} at {place:08x}, value {VALUES.get(end, 0):08x}, after {steps} steps"
         return words_of([*code, ENDS[end]]), told
     code.append(int(end) << 20 | 0x513)
     # The instruction of the exit call that ends the run is no step.
-    return words_of(code) + EXIT, f"exit {end} after {len(code) + 1} steps"
+    return words_of(code) + EXIT, f"exit {end} after {steps + 2} steps"
+
+
+def put_of(console):
+    """The instructions that put bytes to the console, and how many steps they take."""
+    if len(console) >= LONG and len({*console}) == 1:
+        code = [TO_CONSOLE, console[0] << 20 | 0x313, *loading(7, len(console)), PUT, LESS, BACK]
+        return code, 4 + 3 * len(console)
+    code = [TO_CONSOLE] * bool(console)
+    for byte in console:
+        code += [byte << 20 | 0x313, PUT]
+    return code, len(code)
 
 
 def words_of(words):

@@ -1,7 +1,8 @@
 """The forms of rows of paths: where a report is put, and where the files of a list are read.
 
-What is there stands in words: `report=old` is a file with a text, `last>report` a link, `far/` a folder, `!report` nothing, and
-`~null` what is neither file nor folder. The text `new` is that of the run's report.
+What is there stands in words: `report=old` is a file with a text, `last>report` a link, `more&report` a hard link, `far/` a folder,
+`!report` nothing, and `~null` what is neither file nor folder. What stands behind `%` nobody may write, behind `^` nobody may read or
+write. The text `new` is that of the run's report.
 """
 import os
 
@@ -21,9 +22,15 @@ def text_of(word):
 
 def put_there(folder, word):
     """Makes what a word says."""
-    if ">" in word:
+    if word[0] in "%^":
+        put_there(folder, word[1:])
+        (folder / word[1:].partition("=")[0]).chmod(0 if word[0] == "^" else 0o555)
+    elif ">" in word:
         link, target = word.split(">")
         (folder / link).symlink_to(target)
+    elif "&" in word:
+        link, target = word.split("&")
+        (folder / link).hardlink_to(folder / target)
     elif "=" in word:
         name, text = word.split("=")
         (folder / name).write_bytes(text_of(text))

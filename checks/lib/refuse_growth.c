@@ -3,7 +3,7 @@
    calloc, realloc, memalign, aligned_alloc or posix_memalign. In the end the file THREADS_STARTED has a byte for each
    thread that was started, and the file FILES_CHANGED one for each call that changes what a disk has: s for fsync, r for
    rename, u for unlink, in their order. Before the call with the number KILLED_CHANGE of these, counted from 1, the process is
-   killed. */
+   killed, and so it is before the call of write with the number KILLED_WRITE. */
 #define _GNU_SOURCE
 #include <dlfcn.h>
 #include <errno.h>
@@ -12,6 +12,7 @@
 #include <signal.h>
 #include <stdatomic.h>
 #include <stdlib.h>
+#include <sys/syscall.h>
 #include <unistd.h>
 
 /* The C library's own names of the four that give memory. */
@@ -22,8 +23,10 @@ void *__libc_memalign(size_t alignment, size_t size);
 
 static atomic_ulong growths;
 static atomic_ulong changes;
+static atomic_ulong writes;
 static unsigned long refused;
 static unsigned long killed;
+static unsigned long killed_write;
 static const char *met;
 static int started = -1;
 static int changed = -1;
@@ -35,8 +38,10 @@ __attribute__((constructor)) static void begin(void) {
     const char *threads = getenv("THREADS_STARTED");
     const char *files = getenv("FILES_CHANGED");
     const char *change = getenv("KILLED_CHANGE");
+    const char *write_call = getenv("KILLED_WRITE");
     met = getenv("GROWTH_MET");
     killed = change ? strtoul(change, NULL, 10) : 0;
+    killed_write = write_call ? strtoul(write_call, NULL, 10) : 0;
     create = (int (*)(pthread_t *, const pthread_attr_t *, void *(*)(void *), void *))dlsym(RTLD_NEXT, "pthread_create");
     started = threads ? open(threads, O_WRONLY | O_CREAT | O_TRUNC | O_CLOEXEC, 0666) : -1;
     changed = files ? open(files, O_WRONLY | O_CREAT | O_TRUNC | O_CLOEXEC, 0666) : -1;
@@ -80,10 +85,14 @@ int pthread_create(pthread_t *thread, const pthread_attr_t *how, void *(*work)(v
     return status;
 }
 
-static void note(const char *call) {
-    if (atomic_fetch_add(&changes, 1) + 1 == killed) {
+static void end_at(unsigned long number, atomic_ulong *calls) {
+    if (atomic_fetch_add(calls, 1) + 1 == number) {
         raise(SIGKILL);
     }
+}
+
+static void note(const char *call) {
+    end_at(killed, &changes);
     if (changed >= 0 && write(changed, call, 1) != 1) {
         abort();
     }
@@ -103,3 +112,11 @@ int unlink(const char *path) {
     note("u");
     return ((int (*)(const char *))dlsym(RTLD_NEXT, "unlink"))(path);
 }
+
+/* The program calls write by two names. */
+ssize_t write(int file, const void *bytes, size_t count) {
+    end_at(killed_write, &writes);
+    return syscall(SYS_write, file, bytes, count);
+}
+
+ssize_t __write(int file, const void *bytes, size_t count) { return write(file, bytes, count); }

@@ -1,8 +1,13 @@
 -- Stops of accepting runs, handed on.
-use Rattle.std.proofs.Common.{◌≡◌, ◌⊎◌, ◌<◌, ◌∷◌, [], ℕ, List, Option, get_or, inl, inr, length, refl, ⊎_elim}
+use Rattle.std.proofs.Common.{◌≡◌, ◌⊎◌, ◌<◌, ◌∷◌, [], ℕ, List, Option, fold, get_or, inl, inr, length, refl, ⊎_elim}
 use Rattle.std.specs.List.{All, Any}
 use Rattle.std.proofs.lemmas.List.{get_or_default}
 use Rattle.std.proofs.lemmas.List.Elements.{All-cons, All-head, All-nil, All-tail}
+use Rattle.rv_accept.proofs.Public.{targets_are_of_jobs}
+use Rattle.rv_accept.specs.Claims.{claims_of_runs}
+use Rattle.rv_accept.specs.Targets.{with_target}
+use Rattle.rv_accept.specs.declared.claims.Claim.{Claim}
+use Rattle.rv_accept.specs.declared.runs.JobRun.{JobRun}
 use Rattle.rv_accept.specs.declared.targets.Target.{Target}
 use Rattle.rv_accept_text.specs.declared.golden_file.GoldenFile.{GoldenFile}
 use Rattle.rv_base.specs.Files.{FileContents}
@@ -72,3 +77,28 @@ pub stop_of_put : (known : Option FileContents) (words : AcceptAsked) (jobs : Li
 stop_of_put known words jobs list files why same each = ⊎_elim inl (⊎_elim (λ failed. inr (inr (inl failed)))
     (λ is. let of = stop_of_files known words jobs list files why same each is.1 in
     inr (inr (inr (of.0, (of.1.0, inr (is.0, of.1.1)))))))
+
+-- ---- by the claims of runs
+
+-- the targets of these claims are golden files of the list
+golden_paths : (jobs : List Job) (runs : List (Option JobRun)) (claims : List Claim) (targets : List Target)
+    → targets ≡ fold (with_target runs claims) [] claims → claims ≡ claims_of_runs 0 jobs runs
+    → All (λ (target : Target). IsGoldenPath jobs target.path) targets
+golden_paths jobs runs claims targets found are = rw (found, are) (targets_are_of_jobs jobs runs)
+
+pub targets_unread : (known : Option FileContents) (words : AcceptAsked) (jobs : List Job) (runs : List (Option JobRun))
+    (claims : List Claim) (targets : List Target) (why : Stop)
+    → targets ≡ fold (with_target runs claims) [] claims → claims ≡ claims_of_runs 0 jobs runs
+    → AreTargetsUnread known (optional_text words.run.root) targets why → IsGoldenUnreadStop known words jobs why
+targets_unread known words jobs runs claims targets why found are =
+    golden_of_targets known words jobs targets why (golden_paths jobs runs claims targets found are)
+
+pub files_unput : (known : Option FileContents) (words : AcceptAsked) (jobs : List Job) (list : List ℕ)
+    (runs : List (Option JobRun)) (claims : List Claim) (files : List GoldenFile) (why : Stop)
+    → list ≡ words.run.list.now → claims ≡ claims_of_runs 0 jobs runs
+    → AreGoldenFiles known (optional_text words.run.root) (fold (with_target runs claims) [] claims) files
+    → IsPutAcceptedStop known words.check list files why → IsAcceptingStop known words jobs why
+files_unput known words jobs list runs claims files why same are golden =
+    stop_of_put known words jobs list files why same
+    (places_of_targets known (optional_text words.run.root) jobs (fold (with_target runs claims) [] claims) files golden
+    (golden_paths jobs runs claims (fold (with_target runs claims) [] claims) refl are))

@@ -1,13 +1,17 @@
--- Golden files that are read, one more at a time.
-use Rattle.std.proofs.Common.{◌≡◌, ◌∙◌, ◌++◌, ◌∷◌, [], ℕ, List, Option, append-nil, append_assoc, arith, length, refl, suc, subst, sym}
-use Rattle.std.specs.List.{Any}
+-- Golden files that are read, and files that are written, one more at a time.
+use Rattle.std.proofs.Common.{◌≡◌, ◌∙◌, ◌++◌, ◌∷◌, [], ◌<◌, ◌+◌, ℕ, List, Option, Some, None, add-one, ap, append-nil, append_assoc, arith, get_or, length, refl, suc, subst, sym, take}
+use Rattle.std.specs.List.{Any, flat_map}
+use Rattle.std.proofs.Math.Seq.{take-suc}
+use Rattle.std.proofs.lemmas.Grind.{flat_map-append}
 use Rattle.rv_accept.specs.declared.targets.Target.{Target}
 use Rattle.rv_accept_text.specs.declared.golden_file.GoldenFile.{GoldenFile}
 use Rattle.rv_base.specs.Files.{FileContents}
 use Rattle.rv_command.specs.Stops.{IsListUnreadStop}
 use Rattle.rv_command.specs.declared.stop.Stop.{Stop}
 use Rattle.rv_files.specs.UnreadPaths.{resolved_path}
+use Rattle.rv_files.specs.Placed.{PlacedFile}
 use Rattle.rvtest_app.specs.Accepts.{AreGoldenFiles, IsGoldenFile}
+use Rattle.rvtest_app.specs.Outlets.{AreFilesPlaced}
 
 -- files of the last targets, behind these, are the files of all
 abbrev pub GoesOn : Option FileContents → Option (List ℕ) → List Target → List Target → List GoldenFile → Type 0
@@ -45,3 +49,36 @@ pub stops_at_first : (known : Option FileContents) (root : Option (List ℕ)) (a
     → Any (λ target. IsListUnreadStop known (resolved_path root target.path) why) all
 stops_at_first known root all before after target why last is stop =
     last why (rw is (0, target, omega arith, refl, stop))
+
+pub none_left : (rest : List Target) (count : ℕ) → count ≡ length rest → count ≡ 0 → rest ≡ []
+none_left [] count counted none = refl
+none_left (target ∷ rest) count counted none = absurd (omega (arith, counted, none))
+
+-- ---- files that are put in their places
+
+pub nothing_placed : (before : Option (List PlacedFile)) → AreFilesPlaced before before (Some [])
+nothing_placed None = tt
+nothing_placed (Some earlier) = sym (ap Some (append-nil earlier))
+
+pub placed_behind : (before middle after : Option (List PlacedFile)) (first second : List PlacedFile)
+    → AreFilesPlaced before middle (Some first) → AreFilesPlaced middle after (Some second)
+    → AreFilesPlaced before after (Some (first ++ second))
+placed_behind None middle after first second placed more = tt
+placed_behind (Some earlier) middle after first second placed more =
+    (rw placed at more) ∙ ap Some (append_assoc earlier first second)
+
+-- of files in their order, those that the first so many make, and the next one
+pub one_more_made : {X : Type 0} (made : X → List PlacedFile) (files : List X) (place : ℕ) (file : X)
+    → place < length files → get_or files place file ≡ file
+    → flat_map made (take (place + 1) files) ≡ flat_map made (take place files) ++ made file
+one_more_made made files place file within is =
+    rw (add-one place, take-suc files place file within, is, flat_map-append made (take place files) (file ∷ []))
+    (ap (λ last. flat_map made (take place files) ++ last) (append-nil (made file)))
+
+pub placed_one_more : {X : Type 0} (made : X → List PlacedFile) (files : List X) (place : ℕ) (file : X)
+    (before middle after : Option (List PlacedFile)) → place < length files → get_or files place file ≡ file
+    → AreFilesPlaced before middle (Some (flat_map made (take place files))) → AreFilesPlaced middle after (Some (made file))
+    → AreFilesPlaced before after (Some (flat_map made (take (place + 1) files)))
+placed_one_more made files place file before middle after within is placed more =
+    subst (λ all. AreFilesPlaced before after (Some all)) (sym (one_more_made made files place file within is))
+    (placed_behind before middle after (flat_map made (take place files)) (made file) placed more)

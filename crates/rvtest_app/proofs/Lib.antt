@@ -3,6 +3,7 @@ mod StepOrder
 mod AcceptStops
 mod AcceptedAgain
 mod AcceptedFiles
+mod Acceptances
 mod Numbers
 mod Sent
 mod Results

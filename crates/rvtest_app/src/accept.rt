@@ -102,7 +102,6 @@ pub(crate) fn accept_runs<
 
 // The same of the jobs that are chosen.
 fn accept_chosen<
-    'x,
     R: Threads + Wait + Sync,
     D: Inputs,
     F: Outputs + Drop,
@@ -110,8 +109,8 @@ fn accept_chosen<
     E: Sink + Drop,
 >(
     host: &Host<'_, R, D>,
-    asked: &'x AcceptAsked<'x>,
-    list: &'x ChosenList,
+    asked: &AcceptAsked<'_>,
+    list: &ChosenList,
     chosen: &[bool],
     to: &mut Destinations<F, O, E>,
 ) -> Result<u8, Stop>
@@ -192,7 +191,8 @@ fn marked_jobs(
         ≡ marks_to_run list.now.jobs chosen.now list.now.jobs chosen.now) }
     ensures memory { IfErr result (λ why. why ≡ Stop.OutOfMemory) }
 {
-    let jobs = parse_list(alloc, asked.run.list, list.text.as_slice())?.without_expectations();
+    let listed = parse_list(alloc, asked.run.list, list.text.as_slice())?;
+    let jobs = listed.without_expectations();
     let marks = marks_to_run(alloc, list.jobs.as_slice(), chosen)?;
     Ok(BareJobs { jobs, marks })
 }

@@ -5,7 +5,7 @@ ghost use Rattle.rv_command.specs.Stops.{IsListUnreadStop};
 ghost use Rattle.rv_command.specs.Texts.{optional_text};
 ghost use Rattle.rv_files.specs.Placed.{placed_file};
 ghost use Rattle.rv_files.specs.UnreadPaths.{resolved_path};
-ghost use Rattle.rvtest_app.specs.AcceptStops.{AreTargetsUnread, IsStopOfFiles, IsUncheckedStop, IsUnmadeStop};
+ghost use Rattle.rvtest_app.specs.AcceptStops.{AreTargetsUnread, IsOtherBytesStop, IsStopOfFiles, IsUncheckedStop, IsUnmadeStop};
 ghost use Rattle.rvtest_app.specs.Accepts.{AreGoldenFiles, IsOldAt, file_if, new_list_text, written_files};
 ghost use Rattle.rvtest_app.specs.Outlets.{AreFilesPlaced};
 
@@ -166,7 +166,13 @@ fn check_written<D: Inputs>(
     if bytes.as_slice() == text {
         Ok(())
     } else {
-        let what = "has other bytes than were written";
-        Err(Stop::of_failure(path_message(alloc, path, what)))
+        Err(other_bytes_stop(alloc, path))
     }
+}
+
+fn other_bytes_stop(alloc: Global, path: &str) -> Stop
+    ensures { IsOtherBytesStop path.now result }
+{
+    let what = "has other bytes than were written";
+    Stop::of_failure(path_message(alloc, path, what))
 }

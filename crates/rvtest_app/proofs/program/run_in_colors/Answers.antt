@@ -55,6 +55,8 @@ unshown known (asked.Explain words) status before after done = inl refl
 unshown known (asked.List words) status before after done = inl refl
 unshown known (asked.Console words) status before after done = inl refl
 unshown known (asked.Check words) status before after done = inl refl
+unshown known (asked.Accept words) status before after done =
+    inr (done.bytes, (done.read, (done.jobs, (done.listed, inr (inr (inl refl))))))
 unshown known (asked.Merge words) status before after done =
     inr (done.texts, (done.read, inr (done.rows, (done.parts, inr (inl refl)))))
 unshown known (asked.Diff words) status before after done = inl refl

@@ -1,7 +1,7 @@
 use Rattle.std.proofs.Common.{inl}
 use Rattle.rvtest_app.proofs.StopLemmas.{IfErr-map, put_or_found}
 use Rattle.rvtest_app.proofs.program.run_subcommand.Goals as goal
-use Rattle.rvtest_app.proofs.program.run_subcommand.Goals.{in-Explain, in-List, in-Console, in-Check, in-Merge, in-Diff, in-Show, in-Help}
+use Rattle.rvtest_app.proofs.program.run_subcommand.Goals.{in-Explain, in-List, in-Console, in-Check, in-Accept, in-Merge, in-Diff, in-Show, in-Help}
 
 pub returns-in-Run-clause-stopped : goal.returns-in-Run-clause-stopped
 returns-in-Run-clause-stopped g c =
@@ -19,6 +19,7 @@ returns-clause-stopped g c = elim c.match-asked.branch [
       w.put_findings-answer-in-Check.ensures.stopped)
   | in-List w ↦ rw (w.answer-is, w.in-List.is) w.list_chosen_jobs-answer.ensures.stopped
   | in-Console w ↦ rw (w.answer-is, w.in-Console.is) w.put_job_console-answer.ensures.stopped
+  | in-Accept w ↦ rw (w.answer-is, w.in-Accept.is) w.accept_runs-answer.ensures.stopped
   | in-Merge w ↦ rw (w.answer-is, w.in-Merge.is) w.merge_reports-answer.ensures.stopped
   | in-Diff w ↦
       rw (w.answer-is, w.in-Diff.is)

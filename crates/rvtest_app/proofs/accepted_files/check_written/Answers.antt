@@ -1,0 +1,5 @@
+use Rattle.std.proofs.Common.{inr}
+use Rattle.rvtest_app.proofs.accepted_files.check_written.Goals as goal
+
+pub returns : goal.returns
+returns g c = inr c.other_bytes_stop.ensures
