@@ -43,6 +43,7 @@ outcome_told known words list judged claims files new told path left are golden 
   files = rw (of.3, of.2, of.1) golden;
   edited = rw of.4 edited;
   meant = rw (of.4, of.1) meant;
+  unchanged = rw (of.4, of.1) unchanged;
 }
 
 -- a list that is read twice gives the same jobs, so there is a mark for each that expects nothing
