@@ -1,5 +1,5 @@
 -- What is told of accepted runs is so of the jobs of their list.
-use Rattle.std.proofs.Common.{◌≡◌, ◌∙◌, [], ℕ, Bool, List, Option, IfSome, Result, Ok, ap, fold, length, map, refl}
+use Rattle.std.proofs.Common.{None, ◌≡◌, ◌∙◌, [], ℕ, Bool, List, Option, IfSome, Result, Ok, ap, fold, length, map, refl}
 use Rattle.std.proofs.lemmas.List.{length-map}
 use Rattle.rv_accept.proofs.Public.{marks_count}
 use Rattle.rv_accept.specs.Claims.{claims_of_runs}
@@ -31,9 +31,10 @@ pub outcome_told : (known : Option FileContents) (words : AcceptAsked) (list : L
     → AreGoldenFiles known (optional_text words.run.root) (fold (with_target new.runs.items claims) [] claims) files
     → IfSome new.text (λ text. (edits : List Edit) × (text.items ≡ edited_from 0 list.text.now edits))
     → IfSome new.text (λ text. job_list_of text.items ≡ Ok (meant_jobs list.jobs.now new.runs.items))
+    → (new.text ≡ None → meant_jobs list.jobs.now new.runs.items ≡ list.jobs.now)
     → accepting_of list new.runs.items claims files new told
     → IsOutcome known words list.text.now list.jobs.now judged told
-outcome_told known words list judged claims files new told path left are golden edited meant of = record {
+outcome_told known words list judged claims files new told path left are golden edited meant unchanged of = record {
   path = rw of.0 path;
   text = rw of.0 refl;
   listed = rw of.0 refl;
@@ -42,6 +43,7 @@ outcome_told known words list judged claims files new told path left are golden 
   files = rw (of.3, of.2, of.1) golden;
   edited = rw of.4 edited;
   meant = rw (of.4, of.1) meant;
+  unchanged = rw (of.4, of.1) unchanged;
 }
 
 -- a list that is read twice gives the same jobs, so there is a mark for each that expects nothing

@@ -26,7 +26,8 @@ returns-clause-accepted g c =
       told = put.told;
       outcome = outcome_told known c.args.asked.now _ _ outcomes.claims.items outcomes.files.items outcomes.new put.told refl
           (rw c.in_ok-runs.ensures at c.in_ok-outcomes.ensures.runs) c.in_ok-outcomes.ensures.claims
-          c.in_ok-outcomes.ensures.files c.in_ok-outcomes.ensures.edited c.in_ok-outcomes.ensures.meant put.of;
+          c.in_ok-outcomes.ensures.files c.in_ok-outcomes.ensures.edited c.in_ok-outcomes.ensures.meant
+          c.in_ok-outcomes.ensures.unchanged put.of;
       put = put.put;
     })
     c.put_accepted.ensures.put
