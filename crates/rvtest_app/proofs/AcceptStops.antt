@@ -104,3 +104,9 @@ files_unput known words jobs list runs claims files why same are golden =
     stop_of_put known words jobs list files why same
     (places_of_targets known (optional_text words.run.root) jobs (fold (with_target runs claims) [] claims) files golden
     (golden_paths jobs runs claims (fold (with_target runs claims) [] claims) refl are))
+
+-- what happened to a file of these happened in another sense
+pub files_stop : (P Q : List ℕ → Stop → Type 0) (list : List ℕ) (files : List GoldenFile) (why : Stop)
+    → ((path : List ℕ) → P path why → Q path why) → IsStopOfFiles P list files why → IsStopOfFiles Q list files why
+files_stop P Q list files why f = ⊎_elim (λ own. inl (f list own))
+    (λ some. inr (some.0, some.1, some.2, some.3, f some.1.place some.4))

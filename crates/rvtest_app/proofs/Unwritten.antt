@@ -1,5 +1,7 @@
 -- Where nothing changes, nothing is written.
-use Rattle.std.proofs.Common.{◌≡◌, ◌+◌, ◌++◌, ◌∷◌, [], ℕ, List, Option, Some, None, Vec, Global, arith, refl, cond}
+use Rattle.std.proofs.Common.{◌≡◌, ◌∙◌, ◌+◌, ◌++◌, ◌∷◌, [], ℕ, List, Option, Some, None, Vec, Global, arith, refl, cond, sym}
+use Rattle.std.proofs.lemmas.List.Concat.{flat_map-cons}
+use Rattle.std.proofs.lemmas.List.Sums.{sum_by-cons}
 use Rattle.std.specs.Prelude.{is_some, option_map}
 use Rattle.std.specs.List.{count_by, flat_map}
 use Rattle.rv_accept_text.specs.GoldenFiles.{new_text}
@@ -12,14 +14,17 @@ use Rattle.rvtest_app.specs.Accepts.{file_if, written_files}
 
 no_file : (text : Option (List ℕ)) (path : List ℕ) (rest : List PlacedFile) (count : ℕ)
     → cond (is_some text) 1 0 + count ≡ 0 → (count ≡ 0 → rest ≡ []) → file_if path text ++ rest ≡ []
-no_file None path rest count none behind = behind none
+no_file None path rest count none behind = behind (omega (arith, none))
 no_file (Some text) path rest count none behind = absurd (omega (arith, none))
 
 no_golden_file : (list : ListFile) (files : List GoldenFile) → count_by (is_changed list) files ≡ 0
     → flat_map (λ file. file_if file.place (new_text list file)) files ≡ []
 no_golden_file list [] none = refl
-no_golden_file list (file ∷ files) none = no_file (new_text list file) file.place _
-    (count_by (is_changed list) files) none (no_golden_file list files)
+no_golden_file list (file ∷ files) none =
+    flat_map-cons (λ (file : GoldenFile). file_if file.place (new_text list file)) file files
+    ∙ no_file (new_text list file) file.place _ (count_by (is_changed list) files)
+    (sym (sum_by-cons (λ (file : GoldenFile). cond (is_changed list file) 1 0) file files) ∙ none)
+    (no_golden_file list files)
 
 no_list : (golden : List PlacedFile) (count : ℕ) (path : List ℕ) (text : Option (Vec ℕ Global))
     → count + one_if (is_some text) ≡ 0 → (count ≡ 0 → golden ≡ [])

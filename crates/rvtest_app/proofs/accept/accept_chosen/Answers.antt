@@ -12,7 +12,7 @@ returns-in_err-outcomes-clause-stopped g c =
     let is = err_from_is_err_and c.from_residual-in_err-outcomes.result c.from_residual-in_err-outcomes.ensures.1 in
     rw (is.1, is.2)
     (stop_of_unread (g.D.Inputs.contents c.args.host.now.inputs.now) c.args.asked.now c.args.list.now.jobs _
-    c.in_err-outcomes.ensures.stopped)
+    (rw c.as_slice-2.ensures.value at c.in_err-outcomes.ensures.stopped))
 
 pub returns-clause-accepted : goal.returns-clause-accepted
 returns-clause-accepted g c =
@@ -24,10 +24,11 @@ returns-clause-accepted g c =
       middle = said g.F.Outputs.placed g.O.Sink.taken g.E.Sink.taken g.E.Sink.failed c.run_marked.new.to;
       ran = rw (c.in_ok-marked.ensures.jobs, c.in_ok-marked.ensures.marks) at c.in_ok-rows.ensures.rows;
       told = put.told;
-      outcome = outcome_told known c.args.asked.now _ _ outcomes.claims.items outcomes.files.items outcomes.new put.told refl
+      outcome = rw (c.as_slice.ensures.value, c.as_slice-2.ensures.value, c.acceptance_of-acceptance.ensures)
+          at (outcome_told known c.args.asked.now _ _ outcomes.claims.items outcomes.files.items outcomes.new put.told refl
           (rw c.in_ok-runs.ensures at c.in_ok-outcomes.ensures.runs) c.in_ok-outcomes.ensures.claims
           c.in_ok-outcomes.ensures.files c.in_ok-outcomes.ensures.edited c.in_ok-outcomes.ensures.meant
-          c.in_ok-outcomes.ensures.unchanged put.of;
+          c.in_ok-outcomes.ensures.unchanged put.of);
       put = put.put;
     })
     c.put_accepted.ensures.put
@@ -37,6 +38,7 @@ returns-clause-stopped g c =
     let outcomes = c.in_ok-outcomes.outcomes in
     IfErr-map c.put_accepted.result _ _
     (λ why is. files_unput (g.D.Inputs.contents c.args.host.now.inputs.now) c.args.asked.now c.args.list.now.jobs _
-    outcomes.new.runs.items outcomes.claims.items outcomes.files.items why refl c.in_ok-outcomes.ensures.claims
+    outcomes.new.runs.items outcomes.claims.items outcomes.files.items why refl
+    (rw c.as_slice-2.ensures.value at c.in_ok-outcomes.ensures.claims)
     c.in_ok-outcomes.ensures.files is)
     c.put_accepted.ensures.stopped
