@@ -25,6 +25,14 @@ abbrev pub is_kept : ListFile → GoldenFile → Bool
 is_kept list file = bytes_eq file.place list.path.now
     || (is_image_path file.target.path list.jobs.now || is_kept_text list.text.now file.old)
 
+-- the text that it is to hold: the one that all jobs give which name it, unless it is the list or an image
+abbrev pub agreed_text_of : Bool → Fate → Option (List ℕ)
+agreed_text_of kept (fate.Agreed text) = if kept then None else Some text
+agreed_text_of kept _ = None
+
+abbrev pub agreed_text : ListFile → GoldenFile → Option (List ℕ)
+agreed_text list file = agreed_text_of (is_kept list file) file.target.fate
+
 -- a text, where another one stands there or none
 abbrev pub another_text : List ℕ → Option (List ℕ) → Option (List ℕ)
 another_text text None = Some text

@@ -1,7 +1,7 @@
 //! A golden file, with what stands there now.
 
 ghost use Rattle.std.specs.Prelude.{◌≡◌, option_map};
-ghost use Rattle.rv_accept_text.specs.GoldenFiles.{another_text, is_image_path, is_kept, is_kept_text, is_left, new_text};
+ghost use Rattle.rv_accept_text.specs.GoldenFiles.{agreed_text, another_text, is_image_path, is_kept, is_kept_text, is_left, new_text};
 
 use rv_accept::{Fate, Target};
 use rv_jobs::{Bytes, Job, Text};
@@ -31,6 +31,16 @@ impl GoldenFile {
     {
         match &self.target.fate {
             Fate::Agreed(text) if !self.is_kept(list) => another_text(text.as_slice(), &self.old),
+            _ => None,
+        }
+    }
+
+    /// The text that it is to hold: that of all jobs which name the file, unless it is the list or an image.
+    pub fn agreed_text(&self, list: &ListFile<'_>) -> Option<&[u8]>
+        ensures { option_map (λ text. text.now) result ≡ agreed_text list.now self.now }
+    {
+        match &self.target.fate {
+            Fate::Agreed(text) if !self.is_kept(list) => Some(text.as_slice()),
             _ => None,
         }
     }

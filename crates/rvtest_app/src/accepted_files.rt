@@ -134,7 +134,8 @@ fn write_file<F: Outputs>(
     }
 }
 
-/// Reads back each file that was written. One that has other bytes now was written as two paths to one place.
+/// Reads back each golden file on whose text the jobs agree, and the list where it was written. One that has other bytes now was written
+/// under another path that leads there.
 pub(crate) fn check_written_files<D: Inputs>(
     inputs: &D,
     alloc: Global,
@@ -144,7 +145,7 @@ pub(crate) fn check_written_files<D: Inputs>(
         accepting.now.list.path.now accepting.now.files.now) }
 {
     for file in accepting.files {
-        if let Some(text) = file.new_text(&accepting.list) {
+        if let Some(text) = file.agreed_text(&accepting.list) {
             check_written(inputs, alloc, file.place.as_str(), text)?;
         }
     }
