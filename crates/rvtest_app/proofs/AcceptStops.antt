@@ -52,8 +52,10 @@ pub golden_of_targets : (known : Option FileContents) (words : AcceptAsked) (job
     (why : Stop) → All (λ (target : Target). IsGoldenPath jobs target.path) targets
     → AreTargetsUnread known (optional_text words.run.root) targets why → IsGoldenUnreadStop known words jobs why
 golden_of_targets known words jobs targets why each = ⊎_elim inl
-    (λ some. inr (resolved_path (optional_text words.run.root) some.1.path,
-    (inr (some.1.path, (rw some.3 at (each some.0 some.1 some.2), refl)), some.4)))
+    (λ some. inr (
+      resolved_path (optional_text words.run.root) some.1.path,
+      (inr (some.1.path, (rw some.3 at (each some.0 some.1 some.2), refl)), some.4),
+    ))
 
 -- a golden file that was not read stops the command
 pub stop_of_unread : (known : Option FileContents) (words : AcceptAsked) (jobs : List Job) (why : Stop)

@@ -154,12 +154,7 @@ pub(crate) fn check_written_files<D: Inputs>(
     }
 }
 
-fn check_written<D: Inputs>(
-    inputs: &D,
-    alloc: Global,
-    path: &str,
-    text: &[u8],
-) -> Result<(), Stop>
+fn check_written<D: Inputs>(inputs: &D, alloc: Global, path: &str, text: &[u8]) -> Result<(), Stop>
     ensures { IfErr result (IsUncheckedStop (D.contents inputs.now) path.now) }
 {
     let bytes = read_file(inputs, alloc, path)?;
