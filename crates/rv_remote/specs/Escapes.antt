@@ -1,0 +1,41 @@
+-- Escapes: how bytes stand in a frame that have a meaning there, and the data of a text with escapes.
+use Rattle.std.specs.Prelude.{ℕ, List, [], ◌∷◌, ◌==◌, ◌||◌, Bool, true, false, bit_xor, if◌then◌else◌, not}
+use Rattle.std.specs.List.{flat_map}
+
+-- `$`, `#`, `}` and `*`
+abbrev pub begin_mark : ℕ
+begin_mark = 36
+
+abbrev pub end_mark : ℕ
+end_mark = 35
+
+abbrev pub escape : ℕ
+escape = 125
+
+abbrev pub repeat_mark : ℕ
+repeat_mark = 42
+
+abbrev pub has_meaning : ℕ → Bool
+has_meaning byte = byte == begin_mark || byte == end_mark || byte == escape || byte == repeat_mark
+
+-- an escaped byte stands behind `}`, and has another third bit
+abbrev pub changed : ℕ → ℕ
+changed byte = bit_xor byte 32
+
+abbrev pub escaped_byte : ℕ → List ℕ
+escaped_byte byte = if has_meaning byte then escape ∷ changed byte ∷ [] else byte ∷ []
+
+abbrev pub escaped : List ℕ → List ℕ
+escaped data = flat_map escaped_byte data
+
+-- the data of a text, which may begin behind an escape
+unfoldable pub data_of : Bool → List ℕ → List ℕ
+data_of behind [] = []
+data_of true (byte ∷ rest) = changed byte ∷ data_of false rest
+data_of false (byte ∷ rest) = if byte == escape then data_of true rest else byte ∷ data_of false rest
+
+-- each escape of a text has a byte behind it
+unfoldable pub is_whole : Bool → List ℕ → Bool
+is_whole behind [] = not behind
+is_whole true (byte ∷ rest) = is_whole false rest
+is_whole false (byte ∷ rest) = is_whole (byte == escape) rest

@@ -1,0 +1,4 @@
+pub mod Escapes
+pub mod Sums
+pub mod Frames
+pub mod Readback
