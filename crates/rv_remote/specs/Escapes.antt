@@ -26,7 +26,7 @@ abbrev pub escaped_byte : ℕ → List ℕ
 escaped_byte byte = if has_meaning byte then escape ∷ changed byte ∷ [] else byte ∷ []
 
 abbrev pub escaped : List ℕ → List ℕ
-escaped data = flat_map escaped_byte data
+escaped body = flat_map escaped_byte body
 
 -- the data of a text, which may begin behind an escape
 unfoldable pub data_of : Bool → List ℕ → List ℕ
