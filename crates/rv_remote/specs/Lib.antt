@@ -2,3 +2,6 @@ pub mod Escapes
 pub mod Sums
 pub mod Frames
 pub mod Readback
+pub mod Numbers
+pub mod Stops
+pub mod Shown
