@@ -42,24 +42,24 @@ abbrev pub longer_body : List ℕ → ℕ → Frame
 longer_body body byte =
     if nat_lt (length body) most_body then record { place = place.Body; body = body ++ byte ∷ [] } else passed_over
 
--- the frame behind a byte that stands at a place
-abbrev pub behind_byte : Place → List ℕ → ℕ → Frame
-behind_byte place.Between body byte = if byte == begin_mark then opened else between
-behind_byte place.Body body byte =
+-- the frame behind a byte that stands at a place; noise between packets leaves it as it is
+abbrev pub behind_byte : Place → Frame → ℕ → Frame
+behind_byte place.Between frame byte = if byte == begin_mark then opened else frame
+behind_byte place.Body frame byte =
     if byte == begin_mark then opened
-    else if byte == end_mark then record { place = place.FirstDigit; body = body }
-    else longer_body body byte
-behind_byte place.FirstDigit body byte = record { place = place.SecondDigit byte; body = body }
-behind_byte (place.SecondDigit high) body byte = between
-behind_byte place.LongBody body byte =
+    else if byte == end_mark then record { place = place.FirstDigit; body = frame.body }
+    else longer_body frame.body byte
+behind_byte place.FirstDigit frame byte = record { place = place.SecondDigit byte; body = frame.body }
+behind_byte (place.SecondDigit high) frame byte = between
+behind_byte place.LongBody frame byte =
     if byte == begin_mark then opened
-    else if byte == end_mark then record { place = place.LongFirstDigit; body = [] }
-    else passed_over
-behind_byte place.LongFirstDigit body byte = record { place = place.LongSecondDigit; body = [] }
-behind_byte place.LongSecondDigit body byte = between
+    else if byte == end_mark then record { place = place.LongFirstDigit; body = frame.body }
+    else frame
+behind_byte place.LongFirstDigit frame byte = record { place = place.LongSecondDigit; body = frame.body }
+behind_byte place.LongSecondDigit frame byte = record { place = place.Between; body = frame.body }
 
 abbrev pub frame_behind : Frame → ℕ → Frame
-frame_behind frame byte = behind_byte frame.place frame.body byte
+frame_behind frame byte = behind_byte frame.place frame byte
 
 -- what a byte says between packets: 0x03 is Ctrl-C, `+` and `-` acknowledge
 abbrev pub signal : ℕ → Option Heard

@@ -1,0 +1,15 @@
+-- What is heard in bytes that are cut.
+use Rattle.std.proofs.Common.{◌≡◌, ◌++◌, ◌∷◌, [], ℕ, List, fold, refl, ap, append_assoc}
+use Rattle.rv_remote.specs.Frames.{Frame, frame_behind, heard_at, heard_in, option_list}
+
+pub heard_in-append : (frame : Frame) (front rest : List ℕ) → heard_in frame (front ++ rest)
+    ≡ heard_in frame front ++ heard_in (fold frame_behind frame front) rest
+unfolding heard_in
+heard_in-append frame [] rest = refl
+heard_in-append frame (byte ∷ front) rest =
+    let next : Frame = frame_behind frame byte in
+    cc (
+      ap (λ more. option_list (heard_at frame byte) ++ more) (heard_in-append next front rest),
+      append_assoc (option_list (heard_at frame byte)) (heard_in next front)
+          (heard_in (fold frame_behind next front) rest),
+    )
