@@ -1,5 +1,5 @@
 -- What is heard in bytes that are cut.
-use Rattle.std.proofs.Common.{◌≡◌, ◌++◌, ◌∷◌, [], ℕ, List, fold, refl, ap, append_assoc}
+use Rattle.std.proofs.Common.{◌≡◌, ◌++◌, ◌∷◌, [], ℕ, List, fold, refl, ap, append-nil, append_assoc}
 use Rattle.rv_remote.specs.Frames.{Frame, frame_behind, heard_at, heard_in, option_list}
 
 pub heard_in-append : (frame : Frame) (front rest : List ℕ) → heard_in frame (front ++ rest)
@@ -13,3 +13,15 @@ heard_in-append frame (byte ∷ front) rest =
       append_assoc (option_list (heard_at frame byte)) (heard_in next front)
           (heard_in (fold frame_behind next front) rest),
     )
+
+pub heard_in-empty : (frame : Frame) → heard_in frame [] ≡ []
+unfolding heard_in
+heard_in-empty frame = refl
+
+-- a byte more
+pub heard_in-one : (frame : Frame) (front : List ℕ) (byte : ℕ) → heard_in frame (front ++ byte ∷ [])
+    ≡ heard_in frame front ++ option_list (heard_at (fold frame_behind frame front) byte)
+unfolding heard_in
+heard_in-one frame front byte =
+    let last : Frame = fold frame_behind frame front in
+    cc (heard_in-append frame front (byte ∷ []), append-nil (option_list (heard_at last byte)))

@@ -1,5 +1,5 @@
 -- Escapes: how bytes stand in a frame that have a meaning there, and the data of a text with escapes.
-use Rattle.std.specs.Prelude.{ℕ, List, [], ◌∷◌, ◌==◌, ◌||◌, Bool, true, false, bit_xor, if◌then◌else◌, not}
+use Rattle.std.specs.Prelude.{ℕ, List, [], ◌∷◌, ◌++◌, ◌==◌, ◌||◌, Bool, true, false, bit_xor, fold, if◌then◌else◌, not}
 use Rattle.std.specs.List.{flat_map}
 
 -- `$`, `#`, `}` and `*`
@@ -28,14 +28,21 @@ escaped_byte byte = if has_meaning byte then escape ∷ changed byte ∷ [] else
 abbrev pub escaped : List ℕ → List ℕ
 escaped body = flat_map escaped_byte body
 
+-- a byte of a text is an escape: `}`, but not behind an escape
+abbrev pub is_escape : Bool → ℕ → Bool
+is_escape true byte = false
+is_escape false byte = byte == escape
+
+-- what a byte of a text gives to the data
+abbrev pub data_byte : Bool → ℕ → List ℕ
+data_byte true byte = changed byte ∷ []
+data_byte false byte = if byte == escape then [] else byte ∷ []
+
 -- the data of a text, which may begin behind an escape
 unfoldable pub data_of : Bool → List ℕ → List ℕ
 data_of behind [] = []
-data_of true (byte ∷ rest) = changed byte ∷ data_of false rest
-data_of false (byte ∷ rest) = if byte == escape then data_of true rest else byte ∷ data_of false rest
+data_of behind (byte ∷ rest) = data_byte behind byte ++ data_of (is_escape behind byte) rest
 
 -- each escape of a text has a byte behind it
-unfoldable pub is_whole : Bool → List ℕ → Bool
-is_whole behind [] = not behind
-is_whole true (byte ∷ rest) = is_whole false rest
-is_whole false (byte ∷ rest) = is_whole (byte == escape) rest
+abbrev pub is_whole : List ℕ → Bool
+is_whole text = not (fold is_escape false text)

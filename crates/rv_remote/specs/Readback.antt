@@ -13,4 +13,4 @@ pub record IsReadBack (body : List ℕ) : Type 0 where
   pub heard : heard_in between (framed body) ≡ Packet (escaped body) Right ∷ []
   pub behind : fold frame_behind between (framed body) ≡ between
   pub data_is : data_of false (escaped body) ≡ body
-  pub whole : is_whole false (escaped body) ≡ true
+  pub whole : is_whole (escaped body) ≡ true

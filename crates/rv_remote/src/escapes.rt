@@ -1,7 +1,7 @@
 //! Escapes: how bytes stand in a frame that have a meaning there.
 
 ghost use Rattle.std.specs.Prelude.{◌≡◌, ◌++◌, IfOk, OnOk, false};
-ghost use Rattle.rv_remote.specs.Escapes.{data_of, escaped, escaped_byte, has_meaning, is_whole};
+ghost use Rattle.rv_remote.specs.Escapes.{data_byte, data_of, escaped, escaped_byte, has_meaning, is_escape, is_whole};
 
 use std::alloc::AllocError;
 
@@ -42,18 +42,27 @@ fn has_meaning(byte: u8) -> bool
 /// Appends the data of a text with escapes, and says whether the text is whole: one whose last escape has no byte behind it is not.
 pub fn push_data(out: &mut Vec<u8>, text: &[u8]) -> Result<bool, AllocError>
     ensures bytes { OnOk result (out.new.items ≡ out.old.items ++ data_of false text.now) }
-    ensures whole { IfOk result (λ whole. whole ≡ is_whole false text.now) }
+    ensures whole { IfOk result (λ whole. whole ≡ is_whole text.now) }
 {
     let mut behind_escape = false;
     for byte in text {
-        if behind_escape {
-            out.push(*byte ^ CHANGE)?;
-            behind_escape = false;
-        } else if *byte == ESCAPE {
-            behind_escape = true;
-        } else {
-            out.push(*byte)?;
-        }
+        behind_escape = push_data_byte(out, behind_escape, *byte)?;
     }
     Ok(!behind_escape)
+}
+
+// Appends what a byte gives to the data, and says whether it is an escape.
+fn push_data_byte(out: &mut Vec<u8>, behind_escape: bool, byte: u8) -> Result<bool, AllocError>
+    ensures bytes { OnOk result (out.new.items ≡ out.old.items ++ data_byte behind_escape byte) }
+    ensures escape { IfOk result (λ is. is ≡ is_escape behind_escape byte) }
+{
+    if behind_escape {
+        out.push(byte ^ CHANGE)?;
+        return Ok(false);
+    }
+    if byte == ESCAPE {
+        return Ok(true);
+    }
+    out.push(byte)?;
+    Ok(false)
 }
