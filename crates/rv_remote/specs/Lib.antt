@@ -1,7 +1,5 @@
 pub mod Escapes
 pub mod Sums
 pub mod Frames
-pub mod Readback
-pub mod Numbers
 pub mod Stops
 pub mod Shown

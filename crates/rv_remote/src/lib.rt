@@ -7,7 +7,6 @@
 mod escapes;
 mod frame;
 mod law;
-mod number;
 mod reader;
 mod registers;
 mod stop;
@@ -15,7 +14,7 @@ mod sum;
 
 pub use escapes::{push_data, push_escaped};
 pub use frame::{Heard, Sum, push_frame};
-pub use law::{cuts_are_not_heard, framed_bodies_are_read_back};
+pub use law::cuts_are_not_heard;
 pub use reader::Reader;
 pub use registers::{push_memory, push_printed, push_register, push_registers};
 pub use stop::{Stop, push_stop};
