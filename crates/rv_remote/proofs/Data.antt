@@ -1,5 +1,5 @@
 -- The data of a text with escapes, byte by byte.
-use Rattle.std.proofs.Common.{◌≡◌, ◌++◌, ◌+◌, ◌<◌, ◌≤◌, [], ℕ, List, Bool, drop, get_or, length, refl, ap, ◌∙◌}
+use Rattle.std.proofs.Common.{◌≡◌, ◌++◌, ◌+◌, ◌<◌, [], ℕ, List, Bool, drop, get_or, length, refl}
 use Rattle.std.proofs.lemmas.List.{at_drop_more}
 use Rattle.rv_remote.specs.Escapes.{data_byte, data_of, is_escape}
 

@@ -1,5 +1,5 @@
 -- What is heard in bytes that come: where the next byte stands, and what each byte ends.
-use Rattle.std.specs.Prelude.{ℕ, List, [], ◌∷◌, ◌++◌, ◌==◌, Option, Some, None, codes, if◌then◌else◌, length, nat_lt}
+use Rattle.std.specs.Prelude.{ℕ, List, [], ◌∷◌, ◌++◌, ◌==◌, Option, Some, None, if◌then◌else◌, length, nat_lt}
 use Rattle.hex.specs.Hex.{hex_digit_value}
 use Rattle.rv_remote.specs.Escapes.{begin_mark, end_mark}
 use Rattle.rv_remote.specs.Sums.{judged_sum, sum_of, sum_told}

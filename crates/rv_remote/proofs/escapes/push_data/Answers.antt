@@ -1,4 +1,4 @@
-use Rattle.std.proofs.Common.{◌≡◌, ◌++◌, ◌+◌, ◌<◌, ap, arith, append_assoc, append-nil, drop, false, fold, get_or, length, rules, take}
+use Rattle.std.proofs.Common.{◌+◌, ◌<◌, ap, arith, append_assoc, append-nil, drop, false, get_or, length, rules}
 use Rattle.std.proofs.lemmas.Grind.{common_steps}
 use Rattle.rv_remote.specs.Escapes.{data_byte, data_of, is_escape}
 use Rattle.rv_remote.proofs.Data.{data_of-drop, data_of-empty}
