@@ -76,7 +76,11 @@ fn check_heard(alloc: Global, line: &str) -> Result<(), Fail> {
         bytes.push(if *byte == b'~' { 3 } else { *byte })?;
     }
     for length in [1, 2, 3, 7, 1000] {
-        agree(line, told_in_pieces(alloc, bytes.as_slice(), length)?.as_str(), cell_of(line, 2))?;
+        agree(
+            line,
+            told_in_pieces(alloc, bytes.as_slice(), length)?.as_str(),
+            cell_of(line, 2),
+        )?;
     }
     Ok(())
 }
@@ -96,7 +100,11 @@ fn bodies_are_framed(rt: HostRuntime) -> Result<(), Fail> {
     for line in FRAMED.lines() {
         let mut frame = Vec::new(rt.alloc());
         push_frame(rt.alloc(), &mut frame, cell_of(line, 1).as_bytes())?;
-        agree(line, std::str::from_utf8(frame.as_slice())?, cell_of(line, 2))?;
+        agree(
+            line,
+            std::str::from_utf8(frame.as_slice())?,
+            cell_of(line, 2),
+        )?;
     }
     Ok(())
 }
