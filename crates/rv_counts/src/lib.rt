@@ -6,6 +6,7 @@
 //! A sum does not depend on the order of tables: [`sums_of_counts_commute`] and [`sums_of_counts_associate`].
 #![tactic(auto)]
 
+mod growth;
 mod law;
 mod read;
 mod sum;

@@ -7,6 +7,7 @@ ghost use Rattle.rv_counts.specs.Text.{table_text};
 ghost use Rattle.rv_counts.specs.Read.{AnswersUnlessMemory, BeginsTable, IsLeast};
 ghost use Rattle.rv_counts.specs.declared.read.ReadError.TheVariants.{OutOfMemory, CutOff};
 
+use crate::growth::push_item;
 use crate::sum::is_before;
 use crate::table::{AddressCounts, Addresses, CountTable, Digest, ImageCounts, Images};
 use crate::text::{push_address_line, push_image_line, push_last_line};
@@ -74,7 +75,7 @@ pub fn read_table(alloc: Global, bytes: &[u8]) -> Result<CountTable, ReadError>
     let mut images = Vec::new(alloc);
     while lines.next_begins(b'i') {
         let image = read_image(alloc, &mut lines, images.as_slice())?;
-        images.push(image)?;
+        push_item(&mut images, image)?;
     }
     let runs = read_last_line(alloc, &mut lines, images.len())?;
     if !lines.rest.is_empty() {
@@ -128,7 +129,7 @@ fn read_addresses(alloc: Global, lines: &mut Lines<'_>) -> Result<Addresses, Rea
         }
         lines.pass(line, text.as_bytes(), Wanted::Address)?;
         lowest = u64::from(counts.address) + 1;
-        addresses.push(counts)?;
+        push_item(&mut addresses, counts)?;
     }
     Ok(Addresses::new(addresses))
 }
@@ -183,6 +184,7 @@ fn line_text(line: &[u8]) -> &[u8] {
 }
 
 // The lines of a text that are ahead, and the number of the next one.
+#[derive(Drop)]
 struct Lines<'a> {
     rest: &'a [u8],
     number: usize,

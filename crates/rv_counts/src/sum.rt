@@ -5,6 +5,7 @@ ghost use Rattle.rv_counts.specs.Sum.{IsSum, IsTooGreat};
 ghost use Rattle.rv_counts.specs.Table.{IsTable, IsImage, is_before, least_path};
 ghost use Rattle.rv_counts.specs.declared.sum.SumError.TheVariants.{OutOfMemory};
 
+use crate::growth::push_item;
 use crate::sum_of_counts::sum_of_counts;
 use crate::table::{Addresses, CountTable, Digest, ImageCounts, Images};
 use rv_base::{Bytes, Text};
@@ -52,13 +53,13 @@ fn sum_of_images(alloc: Global, a: &[ImageCounts], b: &[ImageCounts]) -> Result<
     let mut from_b = 0;
     while from_a < a.len() || from_b < b.len() {
         if from_b == b.len() || (from_a < a.len() && is_earlier(&a[from_a], &b[from_b])) {
-            sums.push(copy_of_image(alloc, &a[from_a])?)?;
+            push_item(&mut sums, copy_of_image(alloc, &a[from_a])?)?;
             from_a += 1;
         } else if from_a == a.len() || is_earlier(&b[from_b], &a[from_a]) {
-            sums.push(copy_of_image(alloc, &b[from_b])?)?;
+            push_item(&mut sums, copy_of_image(alloc, &b[from_b])?)?;
             from_b += 1;
         } else {
-            sums.push(sum_of_image(alloc, &a[from_a], &b[from_b])?)?;
+            push_item(&mut sums, sum_of_image(alloc, &a[from_a], &b[from_b])?)?;
             from_a += 1;
             from_b += 1;
         }

@@ -5,6 +5,7 @@ ghost use Rattle.rv_counts.specs.Sum.{IsSumOfCounts, IsTooGreatAt};
 ghost use Rattle.rv_counts.specs.Table.{AreCounts, IsCounted};
 ghost use Rattle.rv_counts.specs.declared.sum.SumError.TheVariants.{Count};
 
+use crate::growth::push_item;
 use crate::sum::SumError;
 use crate::table::{AddressCounts, Addresses};
 use std::alloc::Global;
@@ -25,13 +26,13 @@ pub(crate) fn sum_of_counts(
     let mut from_b = 0;
     while from_a < a.len() || from_b < b.len() {
         if from_b == b.len() || (from_a < a.len() && a[from_a].address < b[from_b].address) {
-            sums.push(a[from_a])?;
+            push_item(&mut sums, a[from_a])?;
             from_a += 1;
         } else if from_a == a.len() || b[from_b].address < a[from_a].address {
-            sums.push(b[from_b])?;
+            push_item(&mut sums, b[from_b])?;
             from_b += 1;
         } else {
-            sums.push(sum_at_address(a[from_a], b[from_b])?)?;
+            push_item(&mut sums, sum_at_address(a[from_a], b[from_b])?)?;
             from_a += 1;
             from_b += 1;
         }
