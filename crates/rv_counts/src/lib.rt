@@ -12,13 +12,14 @@ mod read;
 mod sum;
 mod sum_of_counts;
 mod table;
-mod text;
-mod values;
 #[cfg(test)]
 mod tests;
+mod text;
+mod values;
 
 pub use law::{
-    empty_table_adds_nothing, one_list_has_these_counts, sums_of_counts_associate, sums_of_counts_commute,
+    empty_table_adds_nothing, one_list_has_these_counts, sums_of_counts_associate,
+    sums_of_counts_commute,
 };
 pub use read::{ReadError, Wanted, read_table};
 pub use sum::{SumError, sum_of_tables};

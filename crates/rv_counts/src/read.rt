@@ -11,7 +11,9 @@ use crate::growth::push_item;
 use crate::sum::is_before;
 use crate::table::{AddressCounts, Addresses, CountTable, Digest, ImageCounts, Images};
 use crate::text::{push_address_line, push_image_line, push_last_line};
-use crate::values::{decimal_number, hex_word, leading_bytes, text_before_space, text_behind_space};
+use crate::values::{
+    decimal_number, hex_word, leading_bytes, text_before_space, text_behind_space,
+};
 use hex::FromHexError;
 use rv_base::Text;
 use rv_text::{byte_at, tail_from};
@@ -93,7 +95,11 @@ fn read_image(
     lines: &mut Lines<'_>,
     earlier: &[ImageCounts],
 ) -> Result<ImageCounts, ReadError> {
-    let wanted = if earlier.is_empty() { Wanted::Image } else { Wanted::Address };
+    let wanted = if earlier.is_empty() {
+        Wanted::Image
+    } else {
+        Wanted::Address
+    };
     let line = lines.next_line()?;
     let mut image = image_of_line(alloc, line)?;
     let mut text = String::new(alloc);
