@@ -22,16 +22,18 @@ behind_end (x ∷ a) [] i h k = absurd (omega arith)
 behind_end (x ∷ a) (y ∷ b) zero h k = absurd (omega arith)
 behind_end (x ∷ a) (y ∷ b) (suc i) h k = behind_end a b i (omega arith) (omega arith)
 
-pub before_none : (a b : List ℕ) (i : ℕ) → length b ≤ i → is_before (drop i a) (drop i b) ≡ false
+none_behind : (b : List ℕ) (i : ℕ) → length b ≤ i → drop i b ≡ []
+none_behind [] zero h = refl
+none_behind [] (suc i) h = refl
+none_behind (y ∷ b) zero h = absurd (omega arith)
+none_behind (y ∷ b) (suc i) h = none_behind b i (omega arith)
+
+none_before_no_bytes : (a : List ℕ) → is_before a [] ≡ false
 unfolding is_before
-before_none a [] i h = nothing a i
-  where
-    nothing : (xs : List ℕ) (k : ℕ) → is_before (drop k xs) (drop k []) ≡ false
-    nothing xs zero = refl
-    nothing xs (suc k) = refl
-before_none a (y ∷ b) zero h = absurd (omega arith)
-before_none [] (y ∷ b) (suc i) h = before_none [] b i (omega arith)
-before_none (x ∷ a) (y ∷ b) (suc i) h = before_none a b i (omega arith)
+none_before_no_bytes a = refl
+
+pub before_none : (a b : List ℕ) (i : ℕ) → length b ≤ i → is_before (drop i a) (drop i b) ≡ false
+before_none a b i h = ap (λ (t : List ℕ). is_before (drop i a) t) (none_behind b i h) ∙ none_before_no_bytes (drop i a)
 
 pub less : (a b : List ℕ) (i : ℕ) → i < length a → i < length b → get_or a i 0 < get_or b i 0
     → is_before (drop i a) (drop i b) ≡ true
