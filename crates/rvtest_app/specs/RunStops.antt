@@ -1,5 +1,5 @@
 -- Why `run` ended before its work was done.
-use Rattle.std.specs.Prelude.{◌≡◌, ◌⊎◌, ℕ, Bool, List, Option, Some, Ok, false, is_some}
+use Rattle.std.specs.Prelude.{◌≡◌, ◌⊎◌, ℕ, Bool, List, IsSomeAnd, Option, Ok, false, is_some}
 use Rattle.rv_base.specs.Files.{FileContents}
 use Rattle.rv_choice.specs.ChoiceStops.{IsChoiceStop}
 use Rattle.rv_choice.specs.Shard.{IsShardStop}
@@ -8,19 +8,20 @@ use Rattle.rv_command.specs.Stops.{IsListFaultStop, IsListUnreadStop}
 use Rattle.rv_command.specs.Texts.{IsTextAt, optional_text}
 use Rattle.rv_command.specs.declared.stop.Stop.{Stop}
 use Rattle.rv_command.specs.declared.stop.Stop.TheVariants as stop
-use Rattle.rv_known.specs.declared.known_jobs.KnownJobs.{KnownJobs}
 use Rattle.rv_lists.specs.JobList.{job_list_of}
 use Rattle.rv_lists.specs.declared.job.Job.{Job}
 use Rattle.rv_report.specs.declared.row.Row.{Row}
 use Rattle.rv_report.specs.declared.saved.Shard.{Shard}
+use Rattle.rv_stream.specs.declared.error.BothError.{BothError}
+use Rattle.rv_stream.specs.declared.error.BothError.TheVariants as both
 use Rattle.rv_stream.specs.declared.error.StreamError.{StreamError}
+use Rattle.rv_stream.specs.declared.error.StreamError.TheVariants as stream
 use Rattle.rvtest_app.specs.Commands.{failure_rule, stop_of_stream}
 use Rattle.rvtest_app.specs.IntoReports.{run_report_path}
 use Rattle.rvtest_app.specs.IntoStops.{IsIntoStop}
-use Rattle.rvtest_app.specs.KnownFiles.{IsKnownAt}
 use Rattle.rvtest_app.specs.KnownStops.{IsKnownStop}
-use Rattle.rvtest_app.specs.PutStops.{IsOutputStop}
-use Rattle.rvtest_app.specs.Runs.{AreRequestedJobs}
+use Rattle.rvtest_app.specs.PutStops.{IsOutputStop, IsUnwrittenStop}
+use Rattle.rvtest_app.specs.Runs.{AreJobsToRun, AreRequestedJobs}
 
 -- the shard is refused; or no shard is asked for, and words choose no jobs
 abbrev pub IsUnmarkedStop : Option FileContents → RunAsked → List Job → Stop → Type 0
@@ -52,22 +53,25 @@ pub record IsUnknownStop (known : Option FileContents) (words : RunAsked) (why :
 abbrev pub IsStreamStop : Stop → Type 0
 IsStreamStop why = (error : StreamError) × (why ≡ stop_of_stream error)
 
+-- or the file for a path, if there is one, did not take the report's rows
+abbrev pub IsRowsStop : Option (List ℕ) → Stop → Type 0
+IsRowsStop report why = IsStreamStop why ⊎ IsSomeAnd report (λ path. IsUnwrittenStop path why)
+
+-- why it ended: the second error is that of the file for a path
+abbrev pub IsBothStop : List ℕ → BothError → Stop → Type 0
+IsBothStop path (both.First error) why = why ≡ stop_of_stream error
+IsBothStop path (both.Second stream.Failed) why = IsUnwrittenStop path why
+IsBothStop path (both.Second stream.OutOfMemory) why = why ≡ stop.OutOfMemory
+IsBothStop path (both.Second stream.NoWorker) why = why ≡ stop.NoWorker
+
 -- jobs that are asked for were not run, or the results or a file did not go out
 abbrev pub IsRunPutStop : RunAsked → Stop → Type 0
 IsRunPutStop words why = (why ≡ stop.NoWorker)
     ⊎ IsOutputStop (run_report_path words) (optional_text words.junit) why
 
--- the jobs of the list that words ask for were found, and the known failures among them, and that happened
-pub record IsUnfinishedStop (known : Option FileContents) (words : RunAsked) (why : Stop) : Type 0 where
-  pub jobs : List Job
-  pub marks : List Bool
-  pub shard : Option Shard
-  pub old : Option (List Row)
-  pub notes : List ℕ
-  pub asked : AreRequestedJobs known words jobs (Some marks) shard old notes
-  pub failures : Option KnownJobs
-  pub known_to_fail : IsKnownAt known (optional_text words.known) jobs failures
-  pub put : IsRunPutStop words why
+-- jobs that are to run were found, and that happened
+abbrev pub IsUnfinishedStop : Option FileContents → RunAsked → Stop → Type 0
+IsUnfinishedStop known words why = AreJobsToRun known words × IsRunPutStop words why
 
 -- `run`: no jobs were found that words ask for; or they were, and the known failures among them were not; or both were, and the run
 -- was not finished

@@ -1,54 +1,124 @@
 //! A run whose results are shown as they come.
 
-ghost use Rattle.std.specs.Prelude.{◌≡◌, ◌<◌, ◌≤◌, ◌^◌, IfOk, OnErr, OnOk, length};
+ghost use Rattle.std.specs.Prelude.{◌≡◌, ◌<◌, ◌≤◌, ◌^◌, IfErr, IfOk, Ok, OnErr, OnOk, Some, length};
 ghost use Rattle.std.specs.Io.KnownBytes.{Appends};
 ghost use Rattle.rv_expect.specs.Judgement.{judging_of};
 ghost use Rattle.rv_fleet.specs.Batches.{batch_rows};
 ghost use Rattle.rv_job_text.specs.TotalsLine.{run_totals_line};
 ghost use Rattle.rv_lists.specs.Sinks.{AppendsBeginning};
-ghost use Rattle.rvtest_app.specs.Commands.{stop_of_stream};
+ghost use Rattle.rv_report.specs.Report.{row_text};
 ghost use Rattle.rv_rounds.specs.Rounds.{rows_within};
+ghost use Rattle.rv_stream.specs.Streams.{joined_row_texts};
+ghost use Rattle.rvtest_app.specs.Commands.{stop_of_stream};
+ghost use Rattle.rvtest_app.specs.RowsFiles.{AreRowsPut, file_name};
 ghost use Rattle.rvtest_app.specs.RunOutput.{run_output_text};
+ghost use Rattle.rvtest_app.specs.RunStops.{IsBothStop, IsRowsStop, IsStreamStop};
 
+use crate::outlets::unwritten_stop;
+use crate::report_telling::ReportTelling;
 use rv_command::Stop;
 use rv_expect::Judge;
 use rv_fleet::{Batch, Crew, Row, Rows, Sink, put_all};
 use rv_job_text::push_run_totals_line;
-use rv_rounds::{FailureLimit, stream_until};
-use rv_stream::{StreamError, Telling};
+use rv_rounds::{FailureLimit, stream_until, stream_until_to_both};
+use rv_stream::{BothError, StreamError, Telling, ToldTo};
 use std::alloc::Global;
 use std::sync::Wait;
 use std::thread::Threads;
 
+/// The file that takes what the report says of each row as the row comes, and what names it.
+#[derive(Drop)]
+pub(crate) struct RowsFile<N: Drop, V: Drop> {
+    pub(crate) name: N,
+    pub(crate) sink: V,
+}
+
 /// Runs a batch up to the failure that ends it, if one does, and sends what is told of each of these jobs in list order; and then the
-/// last line. The sink comes back: with the rows it took all of that and no put failed, and with an error a beginning.
-pub(crate) fn put_run_output<R: Threads + Wait + Sync, T: Telling + Sync, W: Sink + Drop + Send>(
+/// last line. What the report says of each goes to the file, if there is one. Both come back: with the rows they took all of that and no
+/// put failed, and with an error a beginning.
+pub(crate) fn put_run_output<
+    R: Threads + Wait + Sync,
+    T: Telling + Sync,
+    N: Drop,
+    V: Sink + Drop + Send,
+    W: Sink + Drop + Send,
+>(
     crew: &Crew<'_, R>,
     batch: &Batch<'_>,
     limit: &FailureLimit<'_>,
     telling: &T,
     out: W,
-) -> (W, Result<Rows, StreamError>)
-    ensures rows { IfOk result.1 (λ rows. rows ≡ rows_within limit.now (batch_rows batch.now)) }
-    ensures few { IfOk result.1 (λ rows. length rows ≤ length batch.now.places.now) }
-    ensures all { OnOk result.1 (Appends (W.taken out) (W.taken result.0)
+    file: Option<RowsFile<N, V>>,
+) -> (W, Option<RowsFile<N, V>>, Result<Rows, BothError>)
+    ensures rows { IfOk result.2 (λ rows. rows ≡ rows_within limit.now (batch_rows batch.now)) }
+    ensures few { IfOk result.2 (λ rows. length rows ≤ length batch.now.places.now) }
+    ensures all { OnOk result.2 (Appends (W.taken out) (W.taken result.0)
         (run_output_text (T.line telling.now) (judging_of limit.now.judge) batch.now.places.now
         (rows_within limit.now (batch_rows batch.now)))) }
-    ensures counted { OnOk result.1 (W.failed result.0 ≡ W.failed out) }
-    ensures part { OnErr result.1 (AppendsBeginning (W.taken out) (W.taken result.0)
+    ensures counted { OnOk result.2 (W.failed result.0 ≡ W.failed out) }
+    ensures part { OnErr result.2 (AppendsBeginning (W.taken out) (W.taken result.0)
         (run_output_text (T.line telling.now) (judging_of limit.now.judge) batch.now.places.now
         (rows_within limit.now (batch_rows batch.now)))) }
+    ensures report { OnOk result.2 (AreRowsPut V.taken V.failed file result.1
+        (joined_row_texts row_text batch.now.places.now (rows_within limit.now (batch_rows batch.now)))) }
+    ensures name { file_name result.1 ≡ file_name file }
 {
-    let (mut out, ran) = stream_until(crew, batch, limit, telling, out);
+    let (mut out, file, ran) = stream_rows(crew, batch, limit, telling, out, file);
     let rows = match ran {
         Ok(rows) => rows,
-        Err(error) => return (out, Err(error)),
+        Err(error) => return (out, file, Err(error)),
     };
-    let shown = rows.as_slice();
-    let hidden = batch.places.len() - shown.len();
-    match put_totals_line(crew.alloc, &limit.judge, shown, hidden, &mut out) {
-        Ok(()) => (out, Ok(rows)),
-        Err(error) => (out, Err(error)),
+    let done = rows.as_slice();
+    let hidden = batch.places.len() - done.len();
+    match put_totals_line(crew.alloc, &limit.judge, done, hidden, &mut out) {
+        Ok(()) => (out, file, Ok(rows)),
+        Err(error) => (out, file, Err(BothError::First(error))),
+    }
+}
+
+// The same without the last line.
+fn stream_rows<
+    R: Threads + Wait + Sync,
+    T: Telling + Sync,
+    N: Drop,
+    V: Sink + Drop + Send,
+    W: Sink + Drop + Send,
+>(
+    crew: &Crew<'_, R>,
+    batch: &Batch<'_>,
+    limit: &FailureLimit<'_>,
+    telling: &T,
+    out: W,
+    file: Option<RowsFile<N, V>>,
+) -> (W, Option<RowsFile<N, V>>, Result<Rows, BothError>)
+    ensures rows { IfOk result.2 (λ rows. rows ≡ rows_within limit.now (batch_rows batch.now)) }
+    ensures few { IfOk result.2 (λ rows. length rows ≤ length batch.now.places.now) }
+    ensures all { OnOk result.2 (Appends (W.taken out) (W.taken result.0)
+        (joined_row_texts (T.line telling.now) batch.now.places.now (rows_within limit.now (batch_rows batch.now)))) }
+    ensures counted { OnOk result.2 (W.failed result.0 ≡ W.failed out) }
+    ensures part { OnErr result.2 (AppendsBeginning (W.taken out) (W.taken result.0)
+        (joined_row_texts (T.line telling.now) batch.now.places.now (rows_within limit.now (batch_rows batch.now)))) }
+    ensures report { OnOk result.2 (AreRowsPut V.taken V.failed file result.1
+        (joined_row_texts row_text batch.now.places.now (rows_within limit.now (batch_rows batch.now)))) }
+    ensures name { file_name result.1 ≡ file_name file }
+{
+    match file {
+        Some(RowsFile { name, sink }) => {
+            let shown = ToldTo { telling, out };
+            let rows = ToldTo {
+                telling: &ReportTelling,
+                out: sink,
+            };
+            let (out, sink, ran) = stream_until_to_both(crew, batch, limit, shown, rows);
+            (out, Some(RowsFile { name, sink }), ran)
+        }
+        None => {
+            let (out, ran) = stream_until(crew, batch, limit, telling, out);
+            match ran {
+                Ok(rows) => (out, None, Ok(rows)),
+                Err(error) => (out, None, Err(BothError::First(error))),
+            }
+        }
     }
 }
 
@@ -75,8 +145,45 @@ fn put_totals_line<W: Sink>(
     }
 }
 
-/// Why a run ends that stopped on its way.
-pub(crate) fn stop_of_stream(error: StreamError) -> Stop
+/// What a run came to, where the rows of its report go to the file for a path.
+pub(crate) fn rows_beside_file(
+    alloc: Global,
+    path: &str,
+    ran: Result<Rows, BothError>,
+) -> Result<Rows, Stop>
+    ensures rows { IfOk result (λ rows. ran ≡ Ok rows) }
+    ensures stopped { IfErr result (IsRowsStop (Some path.now)) }
+{
+    match ran {
+        Ok(rows) => Ok(rows),
+        Err(error) => Err(stop_of_both(alloc, path, error)),
+    }
+}
+
+/// What a run came to whose report has no file that takes its rows.
+pub(crate) fn rows_without_file(ran: Result<Rows, BothError>) -> Result<Rows, Stop>
+    ensures rows { IfOk result (λ rows. ran ≡ Ok rows) }
+    ensures stopped { IfErr result IsStreamStop }
+{
+    match ran {
+        Ok(rows) => Ok(rows),
+        Err(BothError::First(error) | BothError::Second(error)) => Err(stop_of_stream(error)),
+    }
+}
+
+// Why a run ends that stopped on its way, where the rows of its report go to the file for a path.
+fn stop_of_both(alloc: Global, path: &str, error: BothError) -> Stop
+    ensures { IsBothStop path.now error result }
+{
+    match error {
+        BothError::First(error) => stop_of_stream(error),
+        BothError::Second(StreamError::Failed) => unwritten_stop(alloc, path),
+        BothError::Second(error) => stop_of_stream(error),
+    }
+}
+
+// Why a run ends that stopped on its way.
+fn stop_of_stream(error: StreamError) -> Stop
     ensures { result ≡ stop_of_stream error }
 {
     match error {
