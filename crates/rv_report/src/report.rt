@@ -140,12 +140,7 @@ pub(crate) fn push_done_line(text: &mut String, count: usize) -> Result<(), Allo
 
 /// Appends what a report says of the row at a place, counted from 0.
 #[tactic(auto, unfolding(crate::specs::Report::row_text))]
-pub(crate) fn push_row(
-    alloc: Global,
-    text: &mut String,
-    place: usize,
-    row: &Row,
-) -> Result<(), AllocError>
+pub fn push_row(alloc: Global, text: &mut String, place: usize, row: &Row) -> Result<(), AllocError>
     requires { place < 2 ^ 64 - 1 }
     ensures { OnOk result (string_bytes text.new
         ≡ string_bytes text.old ++ row_text place row.now) }

@@ -41,11 +41,7 @@ fn push_numbered_rows(
 
 /// Appends the line below so many rows.
 #[tactic(auto, unfolding(crate::specs::Saved::extent_line))]
-pub(crate) fn push_extent_line(
-    text: &mut String,
-    extent: &Extent,
-    count: usize,
-) -> Result<(), AllocError>
+pub fn push_extent_line(text: &mut String, extent: &Extent, count: usize) -> Result<(), AllocError>
     ensures { OnOk result (string_bytes text.new
         ≡ string_bytes text.old ++ extent_line extent.now count) }
 {

@@ -3,8 +3,9 @@ use Rattle.std.proofs.Common.{◌≡◌, ◌∙◌, ◌+◌, ◌<◌, ◌≤◌,
 use Rattle.std.specs.Prelude.{Err, IfOk, Ok, OnErr, Result, if◌then◌else◌}
 use Rattle.std.specs.Prelude.{slice_index_or}
 use Rattle.std.specs.Io.KnownBytes.{Appends}
-use Rattle.std.proofs.KnownBytes.{Appends-trans}
+use Rattle.std.proofs.KnownBytes.{Appends-nil, Appends-trans}
 use Rattle.std.proofs.lemmas.List.{map-append}
+use Rattle.rv_base.proofs.Public.{beginning_of_longer}
 use Rattle.rv_fleet.proofs.Public.{rows_count}
 use Rattle.rv_jobs.specs.Jobs.{single_job}
 use Rattle.rv_jobs.specs.Plans.{Planned}
@@ -124,6 +125,19 @@ pub of_error : {A E P : Type 0} → (result : Result A E) → P → OnErr result
 of_error (Ok value) so = tt
 of_error (Err error) so = so
 
+-- a sink that is told of the rows that are left, or of a beginning of them, was told of all, or of a beginning
+pub record IsToldOn (line : ℕ → Row → List ℕ) (rest : List ℕ) (left : List Row) (places : List ℕ) (all : List Row)
+    (before now : Option (List ℕ)) : Type 0 where
+  pub text : (after : Option (List ℕ)) → Appends now after (joined_row_texts line rest left)
+      → Appends before after (joined_row_texts line places all)
+  pub part : (after : Option (List ℕ)) → AppendsBeginning now after (joined_row_texts line rest left)
+      → AppendsBeginning before after (joined_row_texts line places all)
+
+-- nobody was told yet
+pub told_from_here : (line : ℕ → Row → List ℕ) (places : List ℕ) (all : List Row) (now : Option (List ℕ))
+    → IsToldOn line places all places all now now
+told_from_here line places all now = record { text = λ after sent. sent; part = λ after begun. begun }
+
 -- ---- the rows of the jobs at some places
 
 -- of places in two pieces
@@ -205,6 +219,33 @@ module _ (fails : Row → Bool) (plan : Planned) (line : ℕ → Row → List �
       subst (Appends before after)
       (ap (λ n. round ++ joined_row_texts line behind (rows_until fails n (rows_at plan behind))) is ∙ sym told-of-rounds)
       (Appends-trans before now after round rest sent more)
+
+  -- a round was told of, and the others follow
+  pub told-on-behind : (all_places : List ℕ) (all : List Row) (before now after : Option (List ℕ)) (next : ℕ) → next ≡ wanted
+      → Appends now after (joined_row_texts line front (rows_until fails left (rows_at plan front)))
+      → IsToldOn line places (rows_until fails left (rows_at plan places)) all_places all before now
+      → IsToldOn line behind (rows_until fails next (rows_at plan behind)) all_places all before after
+  told-on-behind all_places all before now after next is round told = record {
+    text = λ last sent. told.text last (sent-behind now after last next is round sent);
+    part = λ last begun. told.part last (begun-behind now after last next is round begun);
+  }
+
+  -- a beginning of a round was told of
+  pub told-in-part : (all_places : List ℕ) (all : List Row) (before now after : Option (List ℕ))
+      → AppendsBeginning now after (joined_row_texts line front (rows_until fails left (rows_at plan front)))
+      → IsToldOn line places (rows_until fails left (rows_at plan places)) all_places all before now
+      → AppendsBeginning before after (joined_row_texts line all_places all)
+  told-in-part all_places all before now after begun told = told.part after
+      (beginning_of_longer now after (joined_row_texts line front (rows_until fails left (rows_at plan front)))
+      (joined_row_texts line behind (rows_until fails wanted (rows_at plan behind)))
+      (joined_row_texts line places (rows_until fails left (rows_at plan places))) begun told-of-rounds)
+
+-- nothing is left to tell of
+pub all-told : (fails : Row → Bool) (line : ℕ → Row → List ℕ) (rest : List ℕ) (left : List Row) (places : List ℕ) (all : List Row)
+    (before now : Option (List ℕ)) → left ≡ [] → IsToldOn line rest left places all before now
+    → Appends before now (joined_row_texts line places all)
+all-told fails line rest left places all before now none told = told.text now
+    (subst (Appends now now) (sym (ap (joined_row_texts line rest) none ∙ none_told fails line rest)) (Appends-nil now))
 
 -- they are no more than there are places
 pub few_rows : (fails : Row → Bool) (plan : Planned) (most : ℕ) (places : List ℕ)

@@ -2,7 +2,7 @@
 use Rattle.std.proofs.Common.{◌≡◌, ◌∙◌, ℕ, zero, suc, ◌∷◌, ◌+◌, ◌*◌, ◌<◌, ◌≤◌, false, get_or, min, List, [], ◌++◌, length, take, drop, Option, Some}
 use Rattle.std.proofs.Common.{◌-◌, None, is_some, length-drop, refl, sym, ap, subst, arith, append_assoc, append-nil, take-append-drop, inl, inr}
 use Rattle.std.specs.Fork.{slice_chunk}
-use Rattle.std.specs.Prelude.{Err, IfErr, IfOk, IfSome, MatchResult, Ok, OnErr, Result, slice_index_or}
+use Rattle.std.specs.Prelude.{Err, IfErr, IfOk, IfSome, MatchResult, Ok, OnErr, OnOk, Result, slice_index_or}
 use Rattle.std.proofs.Math.ListN.{set}
 use Rattle.std.specs.Io.KnownBytes.{Appends}
 use Rattle.std.specs.List.{concat}
@@ -12,9 +12,10 @@ use Rattle.std.proofs.lemmas.List.{take_all, take_min}
 use Rattle.std.proofs.lemmas.List.Folds.{concat-append}
 use Rattle.rv_base.specs.Counts.{one_more}
 use Rattle.rv_rows.specs.Sinks.{AppendsBeginning}
+use Rattle.rv_stream.specs.declared.error.BothError.{BothError}
 use Rattle.rv_stream.specs.declared.error.StreamError.{StreamError}
 use Rattle.rv_stream.specs.declared.error.StreamError.TheVariants as stream
-use Rattle.rv_stream.specs.Streams.{IsCounted, IsCountedBy, IsOut, text_before_piece, text_of_piece}
+use Rattle.rv_stream.specs.Streams.{AreCountedOfBoth, IsCounted, IsCountedBy, IsOut, text_before_piece, text_of_piece}
 use Rattle.rv_fleet.proofs.Public.{chunk_more}
 
 -- a slice that goes on to the end
@@ -147,12 +148,11 @@ counted_same before now stream.OutOfMemory same = same
 counted_same before now stream.NoWorker same = same
 
 -- the texts of the pieces before one end where the rest begins, at the end if they are all
-pub sent_to : (texts : List (List ℕ)) (next size group limit product from n : ℕ) → size ≡ group → length texts ≡ n
-    → n ≤ limit → product ≡ min (next * group) limit → from ≡ min product n
-    → take (next * size) texts ≡ take from texts
-sent_to texts next size group limit product from n same count fits multiplied least =
+pub sent_to : (texts : List (List ℕ)) (next size group from n : ℕ) → size ≡ group → length texts ≡ n
+    → from ≡ min (next * group) n → take (next * size) texts ≡ take from texts
+sent_to texts next size group from n same count least =
     let e : next * size ≡ next * group = ap (λ s. next * s) same in
-    let m : from ≡ min (next * size) (length texts) = omega (arith, e, count, fits, multiplied, least) in
+    let m : from ≡ min (next * size) (length texts) = omega (arith, e, count, least) in
     sym (take_min (next * size) texts) ∙ ap (λ k. take k texts) (sym m)
 
 module _ (before now after : Option (List ℕ)) (texts : List (List ℕ)) (count from : ℕ)
@@ -184,6 +184,15 @@ pub after_error : {T E : Type 0} {A : Type 0} (r : Result T E) → A → OnErr r
 after_error (Ok x) so = tt
 after_error (Err e) so = so
 
+-- what is so of a good result, and of an error
+pub on_ok : {T E : Type 0} (r : Result T E) (P Q : Type 0) → (P → Q) → OnOk r P → OnOk r Q
+on_ok (Ok x) P Q f so = f so
+on_ok (Err e) P Q f so = tt
+
+pub on_err : {T E : Type 0} (r : Result T E) (P Q : Type 0) → (P → Q) → OnErr r P → OnErr r Q
+on_err (Ok x) P Q f so = tt
+on_err (Err e) P Q f so = f so
+
 -- what is known of each of two results is known where both are good
 module _ {A E F : Type 0} (rows : Result A F) (sent : Result ℕ E) (P : A → Type 0) (Q : ℕ → Type 0) where
   pub first_of_both : (both : Result (A × ℕ) E) → IfOk both (λ b. (rows ≡ Ok b.0) × (sent ≡ Ok b.1)) → IfOk rows P
@@ -206,3 +215,24 @@ pub counted_of_both : {A F : Type 0} (rows : Result A F) (sent : Result ℕ Stre
 counted_of_both rows (Ok next) before now (Ok b) are so why = so
 counted_of_both rows (Err error) before now (Ok b) are so why = cc (are.1)
 counted_of_both rows sent before now (Err error) are so why = why before now so
+
+-- the same of two streams
+pub counted_of_pieces : {A : Type 0} (next other : A → ℕ) (sent sent_other : Result ℕ StreamError)
+    (before now before_second now_second : ℕ) (ran : Result A BothError) → IfOk ran (λ r. sent ≡ Ok (next r))
+    → IfOk ran (λ r. sent_other ≡ Ok (other r))
+    → MatchResult sent (λ _. now ≡ before) (λ error. IsCounted before now (Some error))
+    → MatchResult sent_other (λ _. now_second ≡ before_second) (λ error. IsCounted before_second now_second (Some error))
+    → ((old new old_second new_second : ℕ) → MatchResult sent (λ _. new ≡ old) (λ error. IsCounted old new (Some error))
+    → MatchResult sent_other (λ _. new_second ≡ old_second) (λ error. IsCounted old_second new_second (Some error))
+    → IfErr ran (AreCountedOfBoth old new old_second new_second))
+    → MatchResult ran (λ _. (now ≡ before) × (now_second ≡ before_second))
+    (AreCountedOfBoth before now before_second now_second)
+counted_of_pieces next other sent sent_other before now before_second now_second (Ok r) is is_other so so_other why =
+    (rw is at so, rw is_other at so_other)
+counted_of_pieces next other sent sent_other before now before_second now_second (Err error) is is_other so so_other why =
+    why before now before_second now_second so so_other
+
+-- what went out is a beginning of itself
+pub whole_begun : (before after : Option (List ℕ)) (text : List ℕ) → Appends before after text
+    → AppendsBeginning before after text
+whole_begun before after text sent = record { part = text; rest = []; whole = sym (append-nil text); appended = sent }

@@ -10,6 +10,8 @@ use Rattle.rv_base.specs.Counts.{one_more}
 use Rattle.rv_rows.specs.Sinks.{AppendsBeginning}
 use Rattle.rv_fleet.specs.Batches.{batch_rows}
 use Rattle.rv_fleet.specs.declared.batch.Batch.{Batch}
+use Rattle.rv_stream.specs.declared.error.BothError.{BothError}
+use Rattle.rv_stream.specs.declared.error.BothError.TheVariants as both
 use Rattle.rv_stream.specs.declared.error.StreamError.{StreamError}
 use Rattle.rv_stream.specs.declared.error.StreamError.TheVariants as stream
 
@@ -50,6 +52,12 @@ abbrev pub IsCountedBy : ℕ → ℕ → StreamError → Type 0
 IsCountedBy before now stream.Failed = (now ≡ one_more before) ⊎ (now ≡ before)
 IsCountedBy before now stream.OutOfMemory = now ≡ before
 IsCountedBy before now stream.NoWorker = now ≡ before
+
+-- the same of two sinks: the first failed, or the run ended, or the second failed where the first did not
+abbrev pub AreCountedOfBoth : ℕ → ℕ → ℕ → ℕ → BothError → Type 0
+AreCountedOfBoth before now before_second now_second (both.First error) = IsCountedBy before now error
+AreCountedOfBoth before now before_second now_second (both.Second error) =
+    (now ≡ before) × IsCounted before_second now_second (Some error)
 
 -- the texts that came early, each at its piece's place
 abbrev pub AreTexts : List (List ℕ) → ℕ → List (Option (Vec ℕ Global)) → Type 0

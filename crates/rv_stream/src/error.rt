@@ -2,6 +2,7 @@
 
 ghost use Rattle.std.specs.Prelude.{◌≡◌};
 ghost use Rattle.rv_stream.specs.Errors.{stream_error_of_places};
+ghost use Rattle.rv_stream.specs.declared.error.BothError.TheVariants.{First};
 ghost use Rattle.rv_stream.specs.declared.error.StreamError.TheVariants.{OutOfMemory};
 
 use rv_fleet::PlacesError;
@@ -22,6 +23,15 @@ pub enum StreamError {
     NoWorker,
 }
 
+/// Why not all texts of the rows went out to both of two sinks.
+#[derive(Clone, Copy, Debug)]
+pub enum BothError {
+    /// Those of the first did not, or the run ended on its way.
+    First(StreamError),
+    /// Those of the second did not.
+    Second(StreamError),
+}
+
 impl From<AllocError> for StreamError {
     ghost from_gives = { λ _ error. error ≡ OutOfMemory };
 
@@ -40,5 +50,21 @@ impl From<PlacesError> for StreamError {
             PlacesError::NoWorker => StreamError::NoWorker,
             PlacesError::Stopped => StreamError::Failed,
         }
+    }
+}
+
+impl From<AllocError> for BothError {
+    ghost from_gives = { λ _ error. error ≡ First OutOfMemory };
+
+    fn from(error: AllocError) -> BothError {
+        BothError::First(StreamError::from(error))
+    }
+}
+
+impl From<PlacesError> for BothError {
+    ghost from_gives = { λ error given. given ≡ First (stream_error_of_places error) };
+
+    fn from(error: PlacesError) -> BothError {
+        BothError::First(StreamError::from(error))
     }
 }

@@ -6,6 +6,8 @@
 //! [`PlacedRows`] that are there already, in few large puts.
 #![tactic(auto)]
 
+mod both_gates;
+mod both_streams;
 mod error;
 mod ordered_texts;
 mod placed_rows;
@@ -13,7 +15,8 @@ mod row_text_puts;
 mod row_texts;
 mod stream;
 
-pub use error::StreamError;
+pub use both_streams::{ToldTo, stream_places_to_both};
+pub use error::{BothError, StreamError};
 pub use ordered_texts::Streamed;
 pub use placed_rows::PlacedRows;
 pub use row_text_puts::put_row_texts;

@@ -1,6 +1,6 @@
 //! Runs whose texts go out as their rows come.
 
-ghost use Rattle.std.specs.Prelude.{◌≡◌, ◌≤◌, ℕ, Err, IfErr, IfOk, MatchResult, OnOk, OnErr, Ok, Some, length, drop};
+ghost use Rattle.std.specs.Prelude.{◌≡◌, ◌≤◌, ◌*◌, ℕ, min, Err, IfErr, IfOk, MatchResult, OnOk, OnErr, Ok, Some, length, drop};
 ghost use Rattle.std.specs.Io.KnownBytes.{Appends};
 ghost use Rattle.std.specs.List.{concat};
 ghost use Rattle.rv_fleet.specs.Batches.{batch_rows};
@@ -22,17 +22,17 @@ use std::thread::Threads;
 /// A gate that sends the text of each row as soon as those of all rows before it are out. A worker makes the text of
 /// its piece before it takes the lock.
 #[derive(Drop)]
-struct Stream<'a, J: Streamed, R: Wait, T: Telling, W: Sink + Drop> {
+pub(crate) struct Stream<'a, 't, J: Streamed, R: Wait, T: Telling, W: Sink + Drop> {
     rt: &'a R,
     alloc: Global,
-    telling: &'a T,
+    telling: &'t T,
     places: &'a [usize],
     group: usize,
     texts: Mutex<InOrder<J, W>>,
 }
 
-impl<'a, J: Streamed + Send, R: Wait + Sync, T: Telling + Sync, W: Sink + Drop + Send> Gate
-    for Stream<'a, J, R, T, W> {
+impl<'a, 't, J: Streamed + Send, R: Wait + Sync, T: Telling + Sync, W: Sink + Drop + Send> Gate
+    for Stream<'a, 't, J, R, T, W> {
     ghost use Rattle.rv_stream.specs.Streams.{CanBeTold};
 
     ghost awaits = { λ s k rows. CanBeTold
@@ -60,9 +60,29 @@ impl<'a, J: Streamed + Send, R: Wait + Sync, T: Telling + Sync, W: Sink + Drop +
     }
 }
 
-impl<'a, J: Streamed, R: Wait, T: Telling, W: Sink + Drop> Stream<'a, J, R, T, W> {
-    // The sink, and the piece whose text goes out next, or why no more went out.
-    fn finish(self) -> (W, Result<usize, StreamError>)
+impl<'a, 't, J: Streamed, R: Wait, T: Telling, W: Sink + Drop> Stream<'a, 't, J, R, T, W> {
+    pub(crate) fn new(
+        crew: &Crew<'a, R>,
+        batch: &Batch<'a>,
+        telling: &'t T,
+        texts: InOrder<J, W>,
+    ) -> Stream<'a, 't, J, R, T, W>
+        ensures telling { result.telling.now ≡ telling.now }
+        ensures places { result.places.now ≡ batch.now.places.now }
+        ensures group { result.group ≡ crew.now.group }
+    {
+        Stream {
+            rt: crew.rt,
+            alloc: crew.alloc,
+            telling,
+            places: batch.places,
+            group: crew.group as usize,
+            texts: Mutex::new(texts),
+        }
+    }
+
+    /// The sink, and the piece whose text goes out next, or why no more went out.
+    pub(crate) fn finish(self) -> (W, Result<usize, StreamError>)
         ensures sent { IfOk result.1
             (λ next. Appends J.before (W.taken result.0) (text_before_piece J.texts J.group next)) }
         ensures counted { MatchResult result.1 (λ _. W.failed result.0 ≡ J.failures)
@@ -122,14 +142,11 @@ fn stream_in_order<
         Ok(ran) => ran,
         Err(error) => return (out, Err(error)),
     };
-    let from = next
-        .saturating_mul(crew.group as usize)
-        .min(batch.places.len());
     let all = PlacedRows {
         places: batch.places,
         rows: rows.as_slice(),
     };
-    match send_rows_from(crew.alloc, telling, &all, from, &mut out) {
+    match send_rest::<J, R, T, W>(crew, telling, &all, next, &mut out) {
         Ok(()) => (out, Ok(rows)),
         Err(error) => (out, Err(error)),
     }
@@ -157,23 +174,20 @@ fn run_in_order<
         (IsCountedBy J.failures (W.failed result.0)) }
     ensures part { AppendsBeginning J.before (W.taken result.0) (concat J.texts) }
 {
-    let alloc = crew.alloc;
-    let group = crew.group as usize;
-    let early = match empty_text_slots(alloc, batch.places.len().div_ceil(group)) {
+    let early = match empty_text_slots(crew.alloc, piece_count(crew, batch)) {
         Ok(early) => early,
         Err(error) => return (out, without_memory(error)),
     };
-    let stream: Stream<'_, J, R, T, W> = Stream {
-        rt: crew.rt,
-        alloc,
-        telling,
-        places: batch.places,
-        group,
-        texts: Mutex::new(InOrder::new(out, early)),
-    };
+    let texts = InOrder::<J, W>::new(out, early);
+    let stream = Stream::new(crew, batch, telling, texts);
     let rows = run_places(crew, batch, &stream);
     let (out, sent) = stream.finish();
     (out, rows_and_next_piece(rows, sent))
+}
+
+/// How many pieces the jobs of a batch are run in.
+pub(crate) fn piece_count<R>(crew: &Crew<'_, R>, batch: &Batch<'_>) -> usize {
+    batch.places.len().div_ceil(crew.group as usize)
 }
 
 // What is told of a growth that was refused before anything ran.
@@ -200,7 +214,36 @@ fn rows_and_next_piece(
     Ok((rows, next))
 }
 
-// Sends what is told of the rows from one on. A run that ends well has told of all of them, and then this is nothing.
+/// Sends what is told of the rows from a piece on, where what is told of those before it is out. A run that ends well has told of all of
+/// them, and then this is nothing.
+pub(crate) fn send_rest<J: Streamed, R, T: Telling, W: Sink>(
+    crew: &Crew<'_, R>,
+    telling: &T,
+    all: &PlacedRows<'_>,
+    next: usize,
+    out: &mut W,
+) -> Result<(), StreamError>
+    requires told { J.texts ≡ row_text_list (T.line telling.now) all.now.places.now all.now.rows.now }
+    requires even { length all.now.rows.now ≡ length all.now.places.now }
+    requires size { J.group ≡ crew.now.group }
+    requires sent { Appends J.before (W.taken out.old) (text_before_piece J.texts J.group next) }
+    ensures all { OnOk result (Appends J.before (W.taken out.new) (concat J.texts)) }
+    ensures counted { MatchResult result (λ _. W.failed out.new ≡ W.failed out.old)
+        (λ error. IsCounted (W.failed out.old) (W.failed out.new) (Some error)) }
+    ensures part { OnErr result (AppendsBeginning J.before (W.taken out.new) (concat J.texts)) }
+{
+    let from = first_unsent(next, crew.group, all.rows.len());
+    send_rows_from(crew.alloc, telling, all, from, out)
+}
+
+// The row that a piece begins with, or how many rows there are.
+fn first_unsent(piece: usize, group: u32, rows: usize) -> usize
+    ensures { result ≡ min (piece * group) rows }
+{
+    piece.saturating_mul(group as usize).min(rows)
+}
+
+// Sends what is told of the rows from one on.
 fn send_rows_from<T: Telling, W: Sink>(
     alloc: Global,
     telling: &T,

@@ -9,12 +9,12 @@ use Rattle.rv_lists.specs.Limits.{most_jobs}
 use Rattle.rv_report.specs.Saved.{are_rising}
 use Rattle.rvtest_app.specs.RunOutput.{job_numbers}
 
-behind : (p : ℕ) (ps : List ℕ) → IsStrictlyIncreasing (p ∷ ps) → IsStrictlyIncreasing ps
+pub behind : (p : ℕ) (ps : List ℕ) → IsStrictlyIncreasing (p ∷ ps) → IsStrictlyIncreasing ps
 behind p ps up k inside =
     let at : suc k + 1 ≡ suc (k + 1) = omega arith in
     subst (λ n. get_or ps k 0 < get_or (p ∷ ps) n 0) at (up (suc k) (omega arith))
 
-next : (p : ℕ) (ps : List ℕ) → IsStrictlyIncreasing (p ∷ ps) → 0 < length ps → p < get_or ps 0 0
+pub next : (p : ℕ) (ps : List ℕ) → IsStrictlyIncreasing (p ∷ ps) → 0 < length ps → p < get_or ps 0 0
 next p ps up some =
     let at : zero + 1 ≡ suc zero = omega arith in
     subst (λ n. p < get_or (p ∷ ps) n 0) at (up zero (omega arith))
@@ -31,6 +31,18 @@ rising_behind before last (p ∷ ps) up within low =
     let b : nat_le (p + 1) last ≡ true = grind (arith, nat_tests) in
     and_from _ _ a (and_from _ _ b (rising_behind (p + 1) last ps (behind p ps up)
     (λ k d inside. within (suc k) d (omega arith)) (λ some. let n = next p ps up some in omega arith)))
+
+-- rising places from one on, below the last, are no more than are left
+pub fit_behind : (place last : ℕ) (places : List ℕ) → IsStrictlyIncreasing places → All (λ place. place < last) places
+    → place ≤ last → (0 < length places → place ≤ get_or places 0 0) → place + length places ≤ last
+fit_behind place last [] up within room low = omega (arith, room)
+fit_behind place last (p ∷ ps) up within room low =
+    let first : place ≤ p = low (omega arith) in
+    let below : p < last = within 0 0 (omega arith) in
+    let rest : (p + 1) + length ps ≤ last = fit_behind (p + 1) last ps (behind p ps up)
+    (λ k d inside. within (suc k) d (omega arith)) (omega (arith, below))
+    (λ some. let n = next p ps up some in omega arith) in
+    omega (arith, first, rest)
 
 -- places of so many jobs that rise have numbers that rise, up to the greatest of a list
 pub rising_numbers : (places : List ℕ) (jobs : ℕ) → jobs ≤ most_jobs → IsStrictlyIncreasing places

@@ -12,8 +12,8 @@ use Rattle.rv_report.specs.declared.report.WriteError.{WriteError}
 use Rattle.rv_report.specs.declared.report.WriteError.TheVariants as write
 use Rattle.rv_stream.specs.declared.error.StreamError.TheVariants as stream
 use Rattle.rvtest_app.specs.Outlets.{HasTaken, outlet_path}
-use Rattle.rvtest_app.specs.PutStops.{IsFileStop, IsOutputStop, IsPutStop, IsTextStop, IsUnopenedStop, IsUnplacedStop, IsWriteErrorStop, stop_of_write_error}
-use Rattle.rvtest_app.specs.RunStops.{IsStreamStop}
+use Rattle.rvtest_app.specs.PutStops.{IsFileStop, IsOutputStop, IsPutStop, IsTextStop, IsUnopenedStop, IsUnplacedStop, IsUnwrittenStop, IsWriteErrorStop, stop_of_write_error}
+use Rattle.rvtest_app.specs.RunStops.{IsRowsStop, IsStreamStop}
 use Rattle.rvtest_app.specs.declared.outlets.Outlet.{Outlet}
 use Rattle.rvtest_app.proofs.PutTexts.{path_told}
 use Rattle.rvtest_app.proofs.StopLemmas.{IfErr-map}
@@ -93,3 +93,17 @@ pub put_of_stream : (report junit : Option (List ℕ)) (why : Stop) → IsStream
 put_of_stream report junit why (stream.OutOfMemory, is) = inr (inl is)
 put_of_stream report junit why (stream.NoWorker, is) = inl is
 put_of_stream report junit why (stream.Failed, is) = inr (inr (inl is))
+
+-- a run whose rows did not all go out
+pub put_of_rows : (report junit : Option (List ℕ)) (why : Stop) → IsRowsStop report why
+    → (why ≡ stop.NoWorker) ⊎ IsPutStop report junit why
+put_of_rows report junit why = ⊎_elim (put_of_stream report junit why) (of_rows report)
+  where
+    of_rows : (report : Option (List ℕ)) → IsSomeAnd report (λ path. IsUnwrittenStop path why)
+        → (why ≡ stop.NoWorker) ⊎ IsPutStop report junit why
+    of_rows (Some path) is = inr (inr (inr (inl (inr is))))
+    of_rows None is = elim is [ ]
+
+-- a run whose rows go to no file
+pub rows_stop_nowhere : (report : Option (List ℕ)) (why : Stop) → IsRowsStop None why → IsRowsStop report why
+rows_stop_nowhere report why = ⊎_elim inl (λ is. elim is [ ])

@@ -14,6 +14,14 @@ use Rattle.rv_stream.specs.Streams.{row_text_list}
 use Rattle.rvtest_app.specs.declared.outlets.Outlet.{Outlet}
 use Rattle.rvtest_app.specs.declared.outlets.Outlet.TheVariants as outlet
 
+-- nothing went out
+pub appends_nothing : (known : Option (List ℕ)) → Appends known known []
+appends_nothing None = tt
+appends_nothing (Some bytes) = sym (append-nil bytes)
+
+same_inside : (a b : List ℕ) → Some a ≡ Some b → a ≡ b
+same_inside a b same = cc
+
 module _ {P W : Type 0} (place_path : P → List ℕ) (taken : W → Option (List ℕ)) (failed : W → ℕ) where
   -- no put failed after a text was put, where none had failed before
   pub unfailed_after : (before after : Outlet P W) (text : List ℕ) → IsPutInto taken failed before after text
@@ -35,11 +43,11 @@ module _ {P W : Type 0} (place_path : P → List ℕ) (taken : W → Option (Lis
   unfailed placed path text (outlet.File file) has = has.1.1.1
 
   -- what goes to standard output is told by the path
-  pub stdout_told : (placed : Option (List PlacedFile)) (path : Option (List ℕ)) (o : Outlet P W) (text : List ℕ)
-      → HasTaken place_path taken failed placed path [] o → stdout_part o text ≡ stdout_at path text
-  stdout_told placed path outlet.Nowhere text has = rw has refl
-  stdout_told placed path outlet.Out text has = rw has refl
-  stdout_told placed path (outlet.File file) text has = rw (has.0, has.1.0) refl
+  pub stdout_told : (placed : Option (List PlacedFile)) (path : Option (List ℕ)) (had : List ℕ) (o : Outlet P W) (text : List ℕ)
+      → HasTaken place_path taken failed placed path had o → stdout_part o text ≡ stdout_at path text
+  stdout_told placed path had outlet.Nowhere text has = rw has refl
+  stdout_told placed path had outlet.Out text has = rw has refl
+  stdout_told placed path had (outlet.File file) text has = rw (has.0, has.1.0) refl
 
   -- an outlet is standard output where its path stands for that
   pub out_told : (placed : Option (List PlacedFile)) (path : Option (List ℕ)) (o : Outlet P W) (text : List ℕ)
@@ -55,40 +63,73 @@ module _ {P W : Type 0} (place_path : P → List ℕ) (taken : W → Option (Lis
   path_told placed path outlet.Out text has = rw has refl
   path_told placed path (outlet.File file) text has = rw (has.0, has.1.0, has.1.1.2) refl
 
-  taken_text : (before after : Option (List ℕ)) (text : List ℕ) → before ≡ Some [] → Appends before after text
-      → after ≡ Some text
-  taken_text None after text is more = absurd cc
-  taken_text (Some bytes) None text is more = absurd more
-  taken_text (Some bytes) (Some now) text is more = grind (arith, common_steps)
+  taken_text : (before after : Option (List ℕ)) (had text : List ℕ) → before ≡ Some had → Appends before after text
+      → after ≡ Some (had ++ text)
+  taken_text None after had text is more = absurd cc
+  taken_text (Some bytes) None had text is more = absurd more
+  taken_text (Some bytes) (Some now) had text is more = grind (arith, common_steps)
+
+  -- an outlet that took a text took another behind it
+  pub taken_more : (placed : Option (List PlacedFile)) (path : Option (List ℕ)) (had text : List ℕ) (before after : Outlet P W)
+      → HasTaken place_path taken failed placed path had before → IsPutInto taken failed before after text
+      → outlet_path after ≡ outlet_path before → HasTaken place_path taken failed placed path (had ++ text) after
+  taken_more placed path had text outlet.Nowhere outlet.Nowhere has put named = has
+  taken_more placed path had text outlet.Out outlet.Out has put named = has
+  taken_more None path had text (outlet.File before) (outlet.File after) has put named =
+      rw put.0 (has.0, (has.1.0, (tt, put.1.1 ∙ has.1.1.1, same_inside _ _ named ∙ has.1.1.2)))
+  taken_more (Some placed) path had text (outlet.File before) (outlet.File after) has put named =
+      rw put.0 (
+        has.0,
+        (
+          has.1.0,
+          (
+            taken_text (taken before.sink) (taken after.sink) had text has.1.1.0 put.1.0,
+            put.1.1 ∙ has.1.1.1,
+            same_inside _ _ named ∙ has.1.1.2,
+          ),
+        ),
+      )
+  taken_more placed path had text outlet.Nowhere outlet.Out has put named = elim put [ ]
+  taken_more placed path had text outlet.Nowhere (outlet.File after) has put named = elim put [ ]
+  taken_more placed path had text outlet.Out outlet.Nowhere has put named = elim put [ ]
+  taken_more placed path had text outlet.Out (outlet.File after) has put named = elim put [ ]
+  taken_more placed path had text (outlet.File before) outlet.Nowhere has put named = elim put [ ]
+  taken_more placed path had text (outlet.File before) outlet.Out has put named = elim put [ ]
+
+  -- nothing is put into an outlet that stays as it is
+  pub put_nothing : (o : Outlet P W) → IsPutInto taken failed o o []
+  put_nothing outlet.Nowhere = tt
+  put_nothing outlet.Out = tt
+  put_nothing (outlet.File file) = (refl, (appends_nothing (taken file.sink), refl))
 
   -- the file that an outlet makes is told by the path
-  pub file_told : (placed : List PlacedFile) (path : Option (List ℕ)) (before after : Outlet P W) (text : List ℕ)
-      → HasTaken place_path taken failed (Some placed) path [] before → IsPutInto taken failed before after text
-      → files_of place_path taken after ≡ Some (file_at path text)
-  file_told placed path outlet.Nowhere outlet.Nowhere text has put = rw has refl
-  file_told placed path outlet.Out outlet.Out text has put = rw has refl
-  file_told placed path (outlet.File before) (outlet.File after) text has put =
-      rw (taken_text (taken before.sink) (taken after.sink) text has.1.1.0 put.1.0, put.0, has.0, has.1.0) refl
-  file_told placed path outlet.Nowhere outlet.Out text has put = elim put [ ]
-  file_told placed path outlet.Nowhere (outlet.File after) text has put = elim put [ ]
-  file_told placed path outlet.Out outlet.Nowhere text has put = elim put [ ]
-  file_told placed path outlet.Out (outlet.File after) text has put = elim put [ ]
-  file_told placed path (outlet.File before) outlet.Nowhere text has put = elim put [ ]
-  file_told placed path (outlet.File before) outlet.Out text has put = elim put [ ]
+  pub file_told : (placed : List PlacedFile) (path : Option (List ℕ)) (had : List ℕ) (before after : Outlet P W) (text : List ℕ)
+      → HasTaken place_path taken failed (Some placed) path had before → IsPutInto taken failed before after text
+      → files_of place_path taken after ≡ Some (file_at path (had ++ text))
+  file_told placed path had outlet.Nowhere outlet.Nowhere text has put = rw has refl
+  file_told placed path had outlet.Out outlet.Out text has put = rw has refl
+  file_told placed path had (outlet.File before) (outlet.File after) text has put =
+      rw (taken_text (taken before.sink) (taken after.sink) had text has.1.1.0 put.1.0, put.0, has.0, has.1.0) refl
+  file_told placed path had outlet.Nowhere outlet.Out text has put = elim put [ ]
+  file_told placed path had outlet.Nowhere (outlet.File after) text has put = elim put [ ]
+  file_told placed path had outlet.Out outlet.Nowhere text has put = elim put [ ]
+  file_told placed path had outlet.Out (outlet.File after) text has put = elim put [ ]
+  file_told placed path had (outlet.File before) outlet.Nowhere text has put = elim put [ ]
+  file_told placed path had (outlet.File before) outlet.Out text has put = elim put [ ]
 
   -- both files stand in their places, where it is told which do
-  pub both_placed : (before after : Option (List PlacedFile)) (junit_path report_path : Option (List ℕ))
+  pub both_placed : (before after : Option (List PlacedFile)) (had : List ℕ) (junit_path report_path : Option (List ℕ))
       (junit junit_after report report_after : Outlet P W) (junit_text report_text : List ℕ)
       → HasTaken place_path taken failed before junit_path [] junit
-      → HasTaken place_path taken failed before report_path [] report
+      → HasTaken place_path taken failed before report_path had report
       → IsPutInto taken failed junit junit_after junit_text → IsPutInto taken failed report report_after report_text
       → AreFilesPlaced before after (both_files (files_of place_path taken junit_after) (files_of place_path taken report_after))
-      → AreFilesPlaced before after (Some (file_at junit_path junit_text ++ file_at report_path report_text))
-  both_placed None after junit_path report_path junit junit_after report report_after jt rt hj hr pj pr are = tt
-  both_placed (Some placed) after junit_path report_path junit junit_after report report_after jt rt hj hr pj pr are =
+      → AreFilesPlaced before after (Some (file_at junit_path junit_text ++ file_at report_path (had ++ report_text)))
+  both_placed None after had junit_path report_path junit junit_after report report_after jt rt hj hr pj pr are = tt
+  both_placed (Some placed) after had junit_path report_path junit junit_after report report_after jt rt hj hr pj pr are =
       rw (
-        file_told placed junit_path junit junit_after jt hj pj,
-        file_told placed report_path report report_after rt hr pr,
+        file_told placed junit_path [] junit junit_after jt hj pj,
+        file_told placed report_path had report report_after rt hr pr,
       ) at are
 
   -- the first file stands in its place alone, where it is told which do
@@ -98,7 +139,7 @@ module _ {P W : Type 0} (place_path : P → List ℕ) (taken : W → Option (Lis
       → AreFilesPlacedInPart before after (Some (file_at path text))
   first_placed None after path o o_after text has put are = inr tt
   first_placed (Some placed) after path o o_after text has put are =
-      rw (file_told placed path o o_after text has put) at are
+      rw (file_told placed path [] o o_after text has put) at are
 
 -- files of equal texts
 pub placed_same : (before after : Option (List PlacedFile)) (junit_path report_path : Option (List ℕ))
@@ -118,11 +159,6 @@ pub same_junit : (name other : List ℕ) (judging : Judging) (line told : ℕ �
     → name ≡ other → line ≡ told
     → junit_text name judging (row_text_list line places rows) rows ≡ junit_text other judging (row_text_list told places rows) rows
 same_junit name other judging line told places rows e f = rw (e, f) refl
-
--- nothing went out
-pub appends_nothing : (known : Option (List ℕ)) → Appends known known []
-appends_nothing None = tt
-appends_nothing (Some bytes) = sym (append-nil bytes)
 
 pub begins_nothing : (known : Option (List ℕ)) → AppendsBeginning known known []
 begins_nothing known = record { part = []; rest = []; whole = refl; appended = appends_nothing known }

@@ -5,13 +5,14 @@ use Rattle.rv_base.specs.Files.{FileContents}
 use Rattle.rv_cli.specs.declared.rvtest.run.RunAsked.{RunAsked}
 use Rattle.rv_command.specs.Texts.{IsReportAt, optional_text}
 use Rattle.rv_lists.specs.declared.job.Job.{Job}
-use Rattle.rv_report.specs.Report.{report_text}
+use Rattle.rv_report.specs.Report.{report_text, row_text}
 use Rattle.rv_report.specs.Saved.{row_names}
 use Rattle.rv_report.specs.declared.row.Row.{Row}
 use Rattle.rv_report.specs.declared.saved.Extent.TheVariants as extent
 use Rattle.rv_report.specs.declared.saved.SavedReport.{SavedReport}
 use Rattle.rv_report.specs.declared.saved.Shard.{Shard}
-use Rattle.rvtest_app.specs.RunOutput.{chosen_report_text}
+use Rattle.rv_stream.specs.Streams.{joined_row_texts}
+use Rattle.rvtest_app.specs.RunOutput.{chosen_last_line, chosen_report_text}
 
 -- ---- the whole report
 
@@ -45,6 +46,16 @@ rows_put (place ∷ places) (row ∷ rows) old = rows_put places rows (slice_set
 abbrev pub run_report_text : Option (List Row) → ℕ → List ℕ → Option Shard → List Row → List ℕ
 run_report_text (Some old) jobs places shard rows = report_text (rows_put places rows old)
 run_report_text None jobs places shard rows = chosen_report_text jobs places shard rows
+
+-- what of it goes to a file as the rows come: none where they are put into another report
+abbrev pub rows_ahead : Option (List Row) → List ℕ → List Row → List ℕ
+rows_ahead (Some old) places rows = []
+rows_ahead None places rows = joined_row_texts row_text places rows
+
+-- what of it goes there behind that
+abbrev pub run_report_rest : Option (List Row) → ℕ → List ℕ → Option Shard → List Row → List ℕ
+run_report_rest (Some old) jobs places shard rows = report_text (rows_put places rows old)
+run_report_rest None jobs places shard rows = chosen_last_line jobs places shard rows
 
 -- the path at which it is put
 abbrev pub run_report_path : RunAsked → Option (List ℕ)

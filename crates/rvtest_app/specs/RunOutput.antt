@@ -7,7 +7,7 @@ use Rattle.rv_expect.specs.Judgement.{Judging, fails}
 use Rattle.rv_report.specs.declared.saved.Extent.{Extent}
 use Rattle.rv_report.specs.declared.saved.Extent.TheVariants as extent
 use Rattle.rv_report.specs.declared.saved.Shard.{Shard}
-use Rattle.rv_report.specs.Saved.{saved_text}
+use Rattle.rv_report.specs.Saved.{extent_line, saved_text}
 use Rattle.rv_report.specs.declared.row.Row.{Row}
 use Rattle.rv_report.specs.Report.{report_text}
 use Rattle.rv_stream.specs.Streams.{joined_row_texts}
@@ -40,3 +40,12 @@ chosen_report_text jobs places (Some shard) rows = part_text (extent.Shard shard
 chosen_report_text jobs places None rows =
     if length places == jobs then report_text rows
     else part_text (extent.Choice jobs) places rows
+
+-- which jobs of a list these are: those of a shard, all, or some
+abbrev pub chosen_extent : ℕ → List ℕ → Option Shard → Extent
+chosen_extent jobs places (Some shard) = extent.Shard shard
+chosen_extent jobs places None = if length places == jobs then extent.Whole else extent.Choice jobs
+
+-- the line below their rows
+abbrev pub chosen_last_line : ℕ → List ℕ → Option Shard → List Row → List ℕ
+chosen_last_line jobs places shard rows = extent_line (chosen_extent jobs places shard) (length rows)

@@ -1,5 +1,5 @@
 -- Why `run` ended before its work was done.
-use Rattle.std.specs.Prelude.{◌≡◌, ◌⊎◌, ℕ, Bool, List, Option, Some, Ok, false, is_some}
+use Rattle.std.specs.Prelude.{◌≡◌, ◌⊎◌, ℕ, Bool, List, IsSomeAnd, Option, Some, Ok, false, is_some}
 use Rattle.rv_base.specs.Files.{FileContents}
 use Rattle.rv_choice.specs.ChoiceStops.{IsChoiceStop}
 use Rattle.rv_choice.specs.Shard.{IsShardStop}
@@ -13,13 +13,16 @@ use Rattle.rv_lists.specs.JobList.{job_list_of}
 use Rattle.rv_lists.specs.declared.job.Job.{Job}
 use Rattle.rv_report.specs.declared.row.Row.{Row}
 use Rattle.rv_report.specs.declared.saved.Shard.{Shard}
+use Rattle.rv_stream.specs.declared.error.BothError.{BothError}
+use Rattle.rv_stream.specs.declared.error.BothError.TheVariants as both
 use Rattle.rv_stream.specs.declared.error.StreamError.{StreamError}
+use Rattle.rv_stream.specs.declared.error.StreamError.TheVariants as stream
 use Rattle.rvtest_app.specs.Commands.{failure_rule, stop_of_stream}
 use Rattle.rvtest_app.specs.IntoReports.{run_report_path}
 use Rattle.rvtest_app.specs.IntoStops.{IsIntoStop}
 use Rattle.rvtest_app.specs.KnownFiles.{IsKnownAt}
 use Rattle.rvtest_app.specs.KnownStops.{IsKnownStop}
-use Rattle.rvtest_app.specs.PutStops.{IsOutputStop}
+use Rattle.rvtest_app.specs.PutStops.{IsOutputStop, IsUnwrittenStop}
 use Rattle.rvtest_app.specs.Runs.{AreRequestedJobs}
 
 -- the shard is refused; or no shard is asked for, and words choose no jobs
@@ -51,6 +54,17 @@ pub record IsUnknownStop (known : Option FileContents) (words : RunAsked) (why :
 -- the run of the jobs ended on its way
 abbrev pub IsStreamStop : Stop → Type 0
 IsStreamStop why = (error : StreamError) × (why ≡ stop_of_stream error)
+
+-- or the file for a path, if there is one, did not take the report's rows
+abbrev pub IsRowsStop : Option (List ℕ) → Stop → Type 0
+IsRowsStop report why = IsStreamStop why ⊎ IsSomeAnd report (λ path. IsUnwrittenStop path why)
+
+-- why it ended: the second error is that of the file for a path
+abbrev pub IsBothStop : List ℕ → BothError → Stop → Type 0
+IsBothStop path (both.First error) why = why ≡ stop_of_stream error
+IsBothStop path (both.Second stream.Failed) why = IsUnwrittenStop path why
+IsBothStop path (both.Second stream.OutOfMemory) why = why ≡ stop.OutOfMemory
+IsBothStop path (both.Second stream.NoWorker) why = why ≡ stop.NoWorker
 
 -- jobs that are asked for were not run, or the results or a file did not go out
 abbrev pub IsRunPutStop : RunAsked → Stop → Type 0

@@ -39,6 +39,7 @@ mod planned_run;
 mod program;
 mod puts;
 mod report_summary;
+mod report_telling;
 mod report_texts;
 mod rows_report;
 mod rows_with_most_steps;

@@ -7,10 +7,10 @@ ghost use Rattle.rv_command.specs.Texts.{optional_text};
 ghost use Rattle.rv_expect.specs.Judgement.{judging_of};
 ghost use Rattle.rvtest_app.specs.Outlets.{HasTaken, IsPutInto, file_path_at, has_no_failure, is_out, is_stdout};
 ghost use Rattle.rvtest_app.specs.Outlets.{outlet_path, stdout_part, uses_stdout};
-ghost use Rattle.rvtest_app.specs.PutStops.{IsEitherFileStop, IsTextStop, IsUnopenedStop, IsWriteErrorStop, stop_of_write_error};
+ghost use Rattle.rvtest_app.specs.PutStops.{IsEitherFileStop, IsTextStop, IsUnopenedStop, IsUnwrittenStop, IsWriteErrorStop, stop_of_write_error};
 ghost use Rattle.rv_junit.specs.Junit.{junit_text};
 ghost use Rattle.rv_stream.specs.Streams.{row_text_list};
-ghost use Rattle.rvtest_app.specs.ReportTexts.{report_text_of};
+ghost use Rattle.rvtest_app.specs.ReportTexts.{report_rest_of, report_text_of};
 
 use crate::report_texts::ReportText;
 use rv_command::{Stop, file_error_stop, path_message};
@@ -129,7 +129,7 @@ impl<'a, P: Drop, W: Sink + Drop> Outlet<'a, P, W> {
         matches!(self, Outlet::Out)
     }
 
-    /// Puts a report.
+    /// Puts a report. A file that took the rows as they came takes the rest alone.
     pub(crate) fn put_report<O: Sink>(
         &mut self,
         alloc: Global,
@@ -137,7 +137,7 @@ impl<'a, P: Drop, W: Sink + Drop> Outlet<'a, P, W> {
         report: ReportText<'_>,
     ) -> Result<(), Stop>
         ensures put { OnOk result
-            (IsPutInto W.taken W.failed self.old self.new (report_text_of report.entry)) }
+            (IsPutInto W.taken W.failed self.old self.new (report_rest_of report.entry)) }
         ensures out { OnOk result (Appends (O.taken out.old) (O.taken out.new)
             (stdout_part self.old (report_text_of report.entry))) }
         ensures counted { OnOk result (O.failed out.new ≡ O.failed out.old) }
@@ -152,7 +152,7 @@ impl<'a, P: Drop, W: Sink + Drop> Outlet<'a, P, W> {
             Outlet::File(file) => file_result(
                 alloc,
                 file.path,
-                report.write(alloc, &mut file.sink),
+                report.write_rest(alloc, &mut file.sink),
             ),
         }
     }
@@ -208,8 +208,15 @@ fn file_result(alloc: Global, path: &str, written: Result<(), WriteError>) -> Re
     match written {
         Ok(()) => Ok(()),
         Err(WriteError::OutOfMemory) => Err(Stop::OutOfMemory),
-        Err(WriteError::Failed) => Err(Stop::of_failure(path_message(alloc, path, "write failed"))),
+        Err(WriteError::Failed) => Err(unwritten_stop(alloc, path)),
     }
+}
+
+/// The system did not take all that was written to the file for a path.
+pub(crate) fn unwritten_stop(alloc: Global, path: &str) -> Stop
+    ensures { IsUnwrittenStop path.now result }
+{
+    Stop::of_failure(path_message(alloc, path, "write failed"))
 }
 
 /// Neither file is to be there.

@@ -54,6 +54,8 @@ pub fn run_rvtest<
     to: Destinations<F, O, E>,
     terminals: Terminals<P>,
 ) -> (Destinations<F, O, E>, u8)
+where
+    F::File: Send,
     ensures low { O.closed result.0.out ≡ false → result.1 ≤ 3 }
     // A status of 0 or 1 says that all went out, to standard output in the colours that are asked for.
     ensures answered { result.1 ≤ 1 → IsAnswered (D.contents host.now.inputs.now) (map T.text words.entry.now)
@@ -93,6 +95,8 @@ fn answer_words<
     to: Destinations<F, O, E>,
     terminals: Terminals<P>,
 ) -> (Destinations<F, O, E>, Result<u8, Stop>)
+where
+    F::File: Send,
     ensures low { IfOk result.1 (λ status. status ≤ 2) }
     ensures answered { IfOk result.1 (λ status. IsAnswered (D.contents host.now.inputs.now)
         (map T.text words.entry.now) terminals.is_out_colored status
@@ -125,6 +129,8 @@ fn run_in_colors<
     to: Destinations<F, O, E>,
     terminals: Terminals<P>,
 ) -> (Destinations<F, O, E>, Result<u8, Stop>)
+where
+    F::File: Send,
     requires colors { asked_colors asked terminals.is_out_colored ≡ J.colors }
     requires before { O.taken to.out ≡ J.before }
     ensures low { IfOk result.1 (λ status. status ≤ 2) }
@@ -173,6 +179,8 @@ fn run_subcommand<
     to: Destinations<F, O, E>,
     terminals: Terminals<P>,
 ) -> (Destinations<F, O, E>, Result<u8, Stop>)
+where
+    F::File: Send,
     ensures low { IfOk result.1 (λ status. status ≤ 2) }
     ensures done { IfOk result.1 (λ status. IsDone (D.contents host.now.inputs.now) asked.entry status
         (said F.placed O.taken E.taken E.failed to) (said F.placed O.taken E.taken E.failed result.0)) }

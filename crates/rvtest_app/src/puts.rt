@@ -6,7 +6,7 @@ ghost use Rattle.rvtest_app.specs.Outlets.{AreFilesPlaced, AreFilesPlacedInPart,
 ghost use Rattle.rvtest_app.specs.Outlets.{outlet_path, stdout_at, stdout_part};
 ghost use Rattle.rvtest_app.specs.Puts.{IsShown, junit_of};
 ghost use Rattle.rvtest_app.specs.PutStops.{IsPutStop};
-ghost use Rattle.rvtest_app.specs.ReportTexts.{report_text_of};
+ghost use Rattle.rvtest_app.specs.ReportTexts.{report_rest_of, report_text_of};
 ghost use Rattle.rvtest_app.specs.Said.{said};
 
 use crate::destinations::Destinations;
@@ -37,7 +37,7 @@ pub(crate) fn put_shown<F: Outputs + Drop, O: Sink + Drop, E: Sink + Drop>(
     put_results(&mut to.out, text)
 }
 
-/// Puts both files and then puts them in their places, JUnit's first. After an error neither is there, but where the second could
+/// Puts both files, or of the report the rest, and then puts them in their places, JUnit's first. After an error neither is there, but where the second could
 /// not be put in its place.
 pub(crate) fn put_files<F: Outputs + Drop, O: Sink + Drop, E: Sink + Drop, T: Telling>(
     alloc: Global,
@@ -48,16 +48,17 @@ pub(crate) fn put_files<F: Outputs + Drop, O: Sink + Drop, E: Sink + Drop, T: Te
     requires report { has_no_failure F.File.failed outlets.report }
     requires junit { has_no_failure F.File.failed outlets.junit }
     ensures errors { to.new.errors ≡ to.old.errors }
-    ensures put { (report_path junit_path : Option (List ℕ))
-        → HasTaken F.place_path F.File.taken F.File.failed (F.placed to.old.files) report_path [] outlets.entry.report
+    ensures put { (had : List ℕ) (report_path junit_path : Option (List ℕ))
+        → HasTaken F.place_path F.File.taken F.File.failed (F.placed to.old.files) report_path had outlets.entry.report
         → HasTaken F.place_path F.File.taken F.File.failed (F.placed to.old.files) junit_path [] outlets.entry.junit
         → OnOk result (Appends (O.taken to.old.out) (O.taken to.new.out)
         (stdout_at junit_path (junit_of T.line texts.entry) ++ stdout_at report_path (report_text_of texts.entry.report))) }
-    ensures placed { (report_path junit_path : Option (List ℕ))
-        → HasTaken F.place_path F.File.taken F.File.failed (F.placed to.old.files) report_path [] outlets.entry.report
+    ensures placed { (had : List ℕ) (report_path junit_path : Option (List ℕ))
+        → HasTaken F.place_path F.File.taken F.File.failed (F.placed to.old.files) report_path had outlets.entry.report
         → HasTaken F.place_path F.File.taken F.File.failed (F.placed to.old.files) junit_path [] outlets.entry.junit
         → OnOk result (AreFilesPlaced (F.placed to.old.files) (F.placed to.new.files)
-        (Some (file_at junit_path (junit_of T.line texts.entry) ++ file_at report_path (report_text_of texts.entry.report)))) }
+        (Some (file_at junit_path (junit_of T.line texts.entry)
+        ++ file_at report_path (had ++ report_rest_of texts.entry.report)))) }
     ensures part { (junit_path : Option (List ℕ))
         → HasTaken F.place_path F.File.taken F.File.failed (F.placed to.old.files) junit_path [] outlets.entry.junit
         → OnErr result (AreFilesPlacedInPart (F.placed to.old.files) (F.placed to.new.files)
@@ -84,7 +85,7 @@ fn put_texts<P: Drop, W: Sink + Drop, O: Sink, T: Telling>(
     ensures junit { OnOk result
         (IsPutInto W.taken W.failed outlets.old.junit outlets.new.junit (junit_of T.line texts.entry)) }
     ensures report { OnOk result (IsPutInto W.taken W.failed outlets.old.report outlets.new.report
-        (report_text_of texts.entry.report)) }
+        (report_rest_of texts.entry.report)) }
     ensures out { OnOk result (Appends (O.taken out.old) (O.taken out.new)
         (stdout_part outlets.old.junit (junit_of T.line texts.entry)
         ++ stdout_part outlets.old.report (report_text_of texts.entry.report))) }

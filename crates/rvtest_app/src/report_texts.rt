@@ -5,12 +5,13 @@ ghost use Rattle.std.specs.Option.{ForSome};
 ghost use Rattle.std.specs.Io.KnownBytes.{Appends};
 ghost use Rattle.rv_lists.specs.Counts.{HasRisen};
 ghost use Rattle.rv_lists.specs.Sinks.{AppendsBeginning};
-ghost use Rattle.rvtest_app.specs.IntoReports.{rows_put, run_report_text};
-ghost use Rattle.rvtest_app.specs.ReportTexts.{report_rows, report_text_of};
+ghost use Rattle.rv_report.specs.Report.{report_text};
+ghost use Rattle.rvtest_app.specs.IntoReports.{rows_put, run_report_rest, run_report_text};
+ghost use Rattle.rvtest_app.specs.ReportTexts.{report_rest_of, report_rows, report_text_of};
 
 use crate::chosen_rows::ChosenRows;
 use crate::into_report::{IntoRows, ReportFrame};
-use crate::rows_report::write_chosen_report;
+use crate::rows_report::{write_chosen_report, write_last_line};
 use rv_fleet::{Report, Rows, write_report};
 use rv_report::Shard;
 use rv_rows::{Row, Sink, WriteError};
@@ -21,7 +22,7 @@ use std::alloc::Global;
 pub(crate) enum ReportText<'a> {
     /// All rows of a list.
     Whole(Rows),
-    /// The rows of chosen jobs, those of a shard where they were chosen by one.
+    /// The rows of chosen jobs, those of a shard where they were chosen by one. To a file they go as they come.
     Chosen(ChosenRows<'a>, Option<Shard>),
     /// The rows of chosen jobs, among those of a whole report.
     Into(IntoRows<'a>),
@@ -52,12 +53,45 @@ impl<'a> ReportText<'a> {
         match self {
             ReportText::Whole(rows) => write_report(alloc, &Report { rows }, out),
             ReportText::Chosen(chosen, shard) => write_chosen_report(alloc, chosen, shard, out),
-            ReportText::Into(into) => {
-                let rows = into.into_whole_rows();
-                write_report(alloc, &Report { rows }, out)
-            }
+            ReportText::Into(into) => write_whole_report(alloc, into, out),
         }
     }
+
+    /// Writes what is left of the report where those of its rows that go out as they come are out. After an error a beginning
+    /// of that is out.
+    pub(crate) fn write_rest<W: Sink>(self, alloc: Global, out: &mut W) -> Result<(), WriteError>
+        ensures all { OnOk result
+            (Appends (W.taken out.old) (W.taken out.new) (report_rest_of self.entry)) }
+        ensures counted { OnOk result (W.failed out.new ≡ W.failed out.old) }
+        ensures part { OnErr result
+            (AppendsBeginning (W.taken out.old) (W.taken out.new) (report_rest_of self.entry)) }
+        ensures failed { IfErr result (λ error. error ≡ WriteError.Failed
+            → HasRisen (W.failed out.old) (W.failed out.new)) }
+    {
+        match self {
+            ReportText::Whole(rows) => write_report(alloc, &Report { rows }, out),
+            ReportText::Chosen(chosen, shard) => write_last_line(alloc, chosen, shard, out),
+            ReportText::Into(into) => write_whole_report(alloc, into, out),
+        }
+    }
+}
+
+// Writes the whole report into which rows are put.
+fn write_whole_report<W: Sink>(
+    alloc: Global,
+    into: IntoRows<'_>,
+    out: &mut W,
+) -> Result<(), WriteError>
+    ensures all { OnOk result (Appends (W.taken out.old) (W.taken out.new)
+        (report_text (rows_put into.entry.chosen.places.now into.entry.chosen.rows into.entry.old))) }
+    ensures counted { OnOk result (W.failed out.new ≡ W.failed out.old) }
+    ensures part { OnErr result (AppendsBeginning (W.taken out.old) (W.taken out.new)
+        (report_text (rows_put into.entry.chosen.places.now into.entry.chosen.rows into.entry.old))) }
+    ensures failed { IfErr result (λ error. error ≡ WriteError.Failed
+        → HasRisen (W.failed out.old) (W.failed out.new)) }
+{
+    let rows = into.into_whole_rows();
+    write_report(alloc, &Report { rows }, out)
 }
 
 /// The report of rows: the whole one into which they are put, if there is one, else theirs alone.
@@ -65,6 +99,8 @@ pub(crate) fn framed_report(chosen: ChosenRows<'_>, frame: ReportFrame) -> Repor
     requires { ForSome frame.old (λ rows. length rows ≡ chosen.jobs) }
     ensures text { report_text_of result
         ≡ run_report_text frame.old chosen.entry.jobs chosen.entry.places.now frame.shard chosen.entry.rows }
+    ensures rest { report_rest_of result
+        ≡ run_report_rest frame.old chosen.entry.jobs chosen.entry.places.now frame.shard chosen.entry.rows }
     ensures rows { report_rows result ≡ chosen.entry.rows }
 {
     let ReportFrame { shard, old } = frame;

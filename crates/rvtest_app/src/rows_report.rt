@@ -6,11 +6,11 @@ ghost use Rattle.std.specs.List.{All};
 ghost use Rattle.rv_lists.specs.Limits.{most_jobs};
 ghost use Rattle.rv_lists.specs.Sinks.{AppendsBeginning};
 ghost use Rattle.rv_lists.specs.Counts.{HasRisen};
-ghost use Rattle.rvtest_app.specs.RunOutput.{job_numbers, part_text, chosen_report_text};
+ghost use Rattle.rvtest_app.specs.RunOutput.{chosen_last_line, chosen_report_text, job_numbers, part_text};
 
 use crate::chosen_rows::ChosenRows;
-use rv_fleet::{Report, Sink, WriteError, write_report};
-use rv_report::{Extent, Numbers, SavedReport, Shard, write_saved_report};
+use rv_fleet::{Report, Sink, WriteError, put_all, write_report};
+use rv_report::{Extent, Numbers, SavedReport, Shard, push_extent_line, write_saved_report};
 use std::alloc::{AllocError, Global};
 
 /// Appends the report of the rows of chosen jobs: that of a shard, where these are its jobs; else the whole report where they
@@ -37,6 +37,32 @@ pub(crate) fn write_chosen_report<W: Sink>(
         None => Extent::Choice(chosen.jobs as u32),
     };
     write_part_report(alloc, extent, chosen, out)
+}
+
+/// Appends the last line of that report. After an error a beginning of it is out.
+pub(crate) fn write_last_line<W: Sink>(
+    alloc: Global,
+    chosen: ChosenRows<'_>,
+    shard: Option<Shard>,
+    out: &mut W,
+) -> Result<(), WriteError>
+    ensures all { OnOk result (Appends (W.taken out.old) (W.taken out.new)
+        (chosen_last_line chosen.entry.jobs chosen.entry.places.now shard chosen.entry.rows)) }
+    ensures counted { OnOk result (W.failed out.new ≡ W.failed out.old) }
+    ensures part { OnErr result (AppendsBeginning (W.taken out.old) (W.taken out.new)
+        (chosen_last_line chosen.entry.jobs chosen.entry.places.now shard chosen.entry.rows)) }
+    ensures failed { IfErr result (λ error. error ≡ WriteError.Failed
+        → HasRisen (W.failed out.old) (W.failed out.new)) }
+{
+    let extent = match shard {
+        Some(shard) => Extent::Shard(shard),
+        None if chosen.places.len() == chosen.jobs => Extent::Whole,
+        None => Extent::Choice(chosen.jobs as u32),
+    };
+    let mut line = String::new(alloc);
+    push_extent_line(&mut line, &extent, chosen.rows.as_slice().len())?;
+    put_all(out, line.as_bytes())?;
+    Ok(())
 }
 
 // The report of a part of a list.

@@ -15,16 +15,19 @@ ghost use Rattle.rv_jobs.specs.Plans.{AreKept, jobs_needed_for, one_more_times, 
 ghost use Rattle.rv_job_text.specs.Telling.{row_lines_at, telling_of};
 ghost use Rattle.rv_lists.specs.declared.job.Job.{Job as AJob};
 ghost use Rattle.rv_merge.specs.Shards.{shard_marks};
+ghost use Rattle.rv_report.specs.Report.{row_text};
 ghost use Rattle.rv_rows.specs.declared_row.Row.{Row as ARow};
+ghost use Rattle.rv_stream.specs.Streams.{joined_row_texts};
 ghost use Rattle.rvtest_app.specs.Commands.{failure_rule, requested_verbosity};
 ghost use Rattle.rvtest_app.specs.FailureLines.{failure_lines};
-ghost use Rattle.rvtest_app.specs.IntoReports.{AreOldRows, run_report_path, run_report_text};
+ghost use Rattle.rvtest_app.specs.IntoReports.{AreOldRows, rows_ahead, run_report_path, run_report_text};
 ghost use Rattle.rvtest_app.specs.IntoStops.{IsIntoStop};
-ghost use Rattle.rvtest_app.specs.Outlets.{AreFilesPlaced, AreFilesPlacedInPart, HasTaken, file_at, has_no_failure, outlet_path, stdout_at};
+ghost use Rattle.rvtest_app.specs.Outlets.{AreFilesPlaced, AreFilesPlacedInPart, HasTaken, IsPutInto, file_at, has_no_failure};
+ghost use Rattle.rvtest_app.specs.Outlets.{outlet_path, stdout_at, uses_stdout};
 ghost use Rattle.rvtest_app.specs.Puts.{IsShown};
 ghost use Rattle.rvtest_app.specs.PutStops.{IsPutStop};
 ghost use Rattle.rvtest_app.specs.RunOutput.{rows_status, run_output_text};
-ghost use Rattle.rvtest_app.specs.RunStops.{IsRunPutStop, IsRunStop, IsStreamStop, IsUnrequestedStop};
+ghost use Rattle.rvtest_app.specs.RunStops.{IsRowsStop, IsRunPutStop, IsRunStop, IsUnrequestedStop};
 ghost use Rattle.rvtest_app.specs.Runs.{AreRequestedJobs, IsRunAt, IsRunOfMarked, IsUndoneRunAt, IsUndoneRunOfPlaces};
 ghost use Rattle.rvtest_app.specs.Runs.{IsRunPut, places_of_marks, run_junit, run_rows, shown_places};
 ghost use Rattle.rvtest_app.specs.Said.{said};
@@ -38,12 +41,12 @@ use crate::into_report::{ReportFrame, run_report_path};
 use crate::junit_class::suite_name;
 use crate::known_file::requested_known_jobs;
 use crate::missing_images::missing_images_note;
-use crate::outlets::{Outlets, abandon_outlets, open_outlets};
+use crate::outlets::{Outlet, Outlets, abandon_outlets, open_outlets};
 use crate::planned_run::{MarkedJobs, PlannedRun, RequestedJobs};
 use crate::puts::put_files;
 use crate::report_texts::framed_report;
 use crate::rules::{failure_rule, rows_status};
-use crate::run_output::{put_run_output, stop_of_stream};
+use crate::run_output::{RunSinks, put_run_output};
 use crate::terminals::Terminals;
 use crate::whole_report::read_whole_report;
 use rv_choice::{Choice, Chooser, requested_shard};
@@ -91,6 +94,8 @@ pub(crate) fn run_requested_jobs<
     to: Destinations<F, O, E>,
     terminals: Terminals<P>,
 ) -> (Destinations<F, O, E>, Result<u8, Stop>)
+where
+    F::File: Send,
     ensures run { IfOk result.1 (λ status. IsRunAt (D.contents host.now.inputs.now) asked.now status
         (said F.placed O.taken E.taken E.failed to) (said F.placed O.taken E.taken E.failed result.0)) }
     ensures undone { OnErr result.1 (IsUndoneRunAt (D.contents host.now.inputs.now) asked.now
@@ -233,6 +238,8 @@ impl<'x, R: Threads + Wait + Sync + Clock, D: Inputs> ListRun<'x, R, D> {
         to: Destinations<F, O, E>,
         terminals: Terminals<P>,
     ) -> (Destinations<F, O, E>, Result<u8, Stop>)
+    where
+        F::File: Send,
         requires { self.now.rule ≡ failure_rule self.now.asked.now.lenient }
         ensures run { IfOk result.1 (λ status. IsRunOfMarked (D.contents self.now.host.now.inputs.now) self.now.asked.now
             marked.known marked.jobs (Some marked.marks.items) marked.frame.shard marked.frame.old status
@@ -302,6 +309,8 @@ impl<'x, R: Threads + Wait + Sync + Clock, D: Inputs> ListRun<'x, R, D> {
         to: Destinations<F, O, E>,
         terminals: Terminals<P>,
     ) -> (Destinations<F, O, E>, Result<u8, Stop>)
+    where
+        F::File: Send,
         requires within { AreJobPlaces telling.now.plan.now places.now }
         requires rising { IsStrictlyIncreasing places.now }
         requires lines { J.lines ≡ failure_lines (telling_of telling.now) }
@@ -330,7 +339,9 @@ impl<'x, R: Threads + Wait + Sync + Clock, D: Inputs> ListRun<'x, R, D> {
             places,
             kept: &kept,
         };
-        let (mut to, ran) = self.run_and_show(&planned, outlets.use_stdout(), to, terminals);
+        let (mut to, outlets, ran) = self.run_into_outlets(
+            &planned, &frame, outlets, to, terminals,
+        );
         match ran {
             Ok(rows) => {
                 let shown = planned.first_jobs(rows.as_slice().len());
@@ -344,8 +355,64 @@ impl<'x, R: Threads + Wait + Sync + Clock, D: Inputs> ListRun<'x, R, D> {
         }
     }
 
+    // Runs the jobs at some places, and shows them. What the report says of each goes to the report's file as it comes, but
+    // where their rows are put into another report.
+    fn run_into_outlets<
+        'o,
+        J: RowLines + Send + Sync,
+        F: Outputs + Drop,
+        O: Sink + Drop + Send,
+        E: Sink + Drop + Send,
+        P: Write + Drop + Send,
+    >(
+        &self,
+        planned: &PlannedRun<'_, J>,
+        frame: &ReportFrame,
+        outlets: Outlets<'o, F::Place, F::File>,
+        to: Destinations<F, O, E>,
+        terminals: Terminals<P>,
+    ) -> (
+        Destinations<F, O, E>,
+        Outlets<'o, F::Place, F::File>,
+        Result<Rows, Stop>,
+    )
+    where
+        F::File: Send,
+        ensures rows { IfOk result.2 (λ rows. rows ≡ run_rows self.now.asked.now.stop_after
+            (judging_of planned.now.telling.now.judge) planned.now.telling.now.plan.now planned.now.places.now) }
+        ensures few { IfOk result.2 (λ rows. length rows ≤ length planned.now.places.now) }
+        ensures files { result.0.files ≡ to.files }
+        ensures shown { OnOk result.2 (IsShown (uses_stdout outlets.entry) (run_output_text
+            (row_lines_at (telling_of planned.now.telling.now)) (judging_of planned.now.telling.now.judge)
+            planned.now.places.now (run_rows self.now.asked.now.stop_after
+            (judging_of planned.now.telling.now.judge) planned.now.telling.now.plan.now planned.now.places.now))
+            (said F.placed O.taken E.taken E.failed to) (said F.placed O.taken E.taken E.failed result.0)) }
+        ensures report { OnOk result.2 (IsPutInto F.File.taken F.File.failed outlets.entry.report result.1.report
+            (rows_ahead frame.now.old planned.now.places.now (run_rows self.now.asked.now.stop_after
+            (judging_of planned.now.telling.now.judge) planned.now.telling.now.plan.now planned.now.places.now))) }
+        ensures report_path { outlet_path result.1.report ≡ outlet_path outlets.entry.report }
+        ensures junit { result.1.junit ≡ outlets.entry.junit }
+        ensures stopped { IfErr result.2 (IsRowsStop (outlet_path outlets.entry.report)) }
+    {
+        let is_beside = outlets.use_stdout();
+        let Outlets { report, junit } = outlets;
+        if frame.old.is_some() {
+            let (to, _, ran) = self.run_and_show(
+                planned,
+                is_beside,
+                Outlet::Nowhere,
+                to,
+                terminals,
+            );
+            return (to, Outlets { report, junit }, ran);
+        }
+        let (to, report, ran) = self.run_and_show(planned, is_beside, report, to, terminals);
+        (to, Outlets { report, junit }, ran)
+    }
+
     // Runs the jobs at some places, and shows them: on standard error where a file goes to standard output.
     fn run_and_show<
+        'o,
         J: RowLines + Send + Sync,
         F: Outputs + Drop,
         O: Sink + Drop + Send,
@@ -355,49 +422,81 @@ impl<'x, R: Threads + Wait + Sync + Clock, D: Inputs> ListRun<'x, R, D> {
         &self,
         planned: &PlannedRun<'_, J>,
         is_beside: bool,
+        report: Outlet<'o, F::Place, F::File>,
         to: Destinations<F, O, E>,
         terminals: Terminals<P>,
-    ) -> (Destinations<F, O, E>, Result<Rows, Stop>)
-        ensures rows { IfOk result.1 (λ rows. rows ≡ run_rows self.now.asked.now.stop_after
+    ) -> (
+        Destinations<F, O, E>,
+        Outlet<'o, F::Place, F::File>,
+        Result<Rows, Stop>,
+    )
+    where
+        F::File: Send,
+        ensures rows { IfOk result.2 (λ rows. rows ≡ run_rows self.now.asked.now.stop_after
             (judging_of planned.now.telling.now.judge) planned.now.telling.now.plan.now planned.now.places.now) }
-        ensures few { IfOk result.1 (λ rows. length rows ≤ length planned.now.places.now) }
+        ensures few { IfOk result.2 (λ rows. length rows ≤ length planned.now.places.now) }
         ensures files { result.0.files ≡ to.files }
-        ensures shown { OnOk result.1 (IsShown is_beside (run_output_text
+        ensures shown { OnOk result.2 (IsShown is_beside (run_output_text
             (row_lines_at (telling_of planned.now.telling.now)) (judging_of planned.now.telling.now.judge)
-            planned.now.places.now (run_rows self.now.asked.now.stop_after (judging_of planned.now.telling.now.judge)
-            planned.now.telling.now.plan.now planned.now.places.now))
+            planned.now.places.now (run_rows self.now.asked.now.stop_after
+            (judging_of planned.now.telling.now.judge) planned.now.telling.now.plan.now planned.now.places.now))
             (said F.placed O.taken E.taken E.failed to) (said F.placed O.taken E.taken E.failed result.0)) }
-        ensures stopped { IfErr result.1 IsStreamStop }
+        ensures report { OnOk result.2 (IsPutInto F.File.taken F.File.failed report.entry result.1
+            (joined_row_texts row_text planned.now.places.now (run_rows self.now.asked.now.stop_after
+            (judging_of planned.now.telling.now.judge) planned.now.telling.now.plan.now planned.now.places.now))) }
+        ensures report_path { outlet_path result.1 ≡ outlet_path report.entry }
+        ensures stopped { IfErr result.2 (IsRowsStop (outlet_path report.entry)) }
     {
         let Destinations { files, out, errors } = to;
         if is_beside {
             let is_terminal = terminals.is_errors_terminal;
-            let (errors, ran) = self.run_and_show_on(planned, errors, is_terminal, terminals);
-            (Destinations { files, out, errors }, ran)
+            let sinks = RunSinks {
+                shown: errors,
+                report,
+            };
+            let (sinks, ran) = self.run_and_show_on(planned, sinks, is_terminal, terminals);
+            let RunSinks {
+                shown: errors,
+                report,
+            } = sinks;
+            (Destinations { files, out, errors }, report, ran)
         } else {
             let is_terminal = terminals.is_out_terminal;
-            let (out, ran) = self.run_and_show_on(planned, out, is_terminal, terminals);
-            (Destinations { files, out, errors }, ran)
+            let sinks = RunSinks { shown: out, report };
+            let (sinks, ran) = self.run_and_show_on(planned, sinks, is_terminal, terminals);
+            let RunSinks { shown: out, report } = sinks;
+            (Destinations { files, out, errors }, report, ran)
         }
     }
 
     // The same on one of the streams, and how far the run is on standard error.
-    fn run_and_show_on<J: RowLines + Send + Sync, W: Sink + Drop + Send, P: Write + Drop + Send>(
+    fn run_and_show_on<
+        'o,
+        J: RowLines + Send + Sync,
+        Q: Drop,
+        V: Sink + Drop + Send,
+        W: Sink + Drop + Send,
+        P: Write + Drop + Send,
+    >(
         &self,
         planned: &PlannedRun<'_, J>,
-        out: W,
+        sinks: RunSinks<'o, Q, V, W>,
         is_terminal: bool,
         terminals: Terminals<P>,
-    ) -> (W, Result<Rows, Stop>)
+    ) -> (RunSinks<'o, Q, V, W>, Result<Rows, Stop>)
         ensures rows { IfOk result.1 (λ rows. rows ≡ run_rows self.now.asked.now.stop_after
             (judging_of planned.now.telling.now.judge) planned.now.telling.now.plan.now planned.now.places.now) }
         ensures few { IfOk result.1 (λ rows. length rows ≤ length planned.now.places.now) }
-        ensures shown { OnOk result.1 (Appends (W.taken out) (W.taken result.0)
+        ensures shown { OnOk result.1 (Appends (W.taken sinks.entry.shown) (W.taken result.0.shown)
             (run_output_text (row_lines_at (telling_of planned.now.telling.now))
             (judging_of planned.now.telling.now.judge) planned.now.places.now (run_rows self.now.asked.now.stop_after
             (judging_of planned.now.telling.now.judge) planned.now.telling.now.plan.now planned.now.places.now))) }
-        ensures counted { OnOk result.1 (W.failed result.0 ≡ W.failed out) }
-        ensures stopped { IfErr result.1 IsStreamStop }
+        ensures counted { OnOk result.1 (W.failed result.0.shown ≡ W.failed sinks.entry.shown) }
+        ensures report { OnOk result.1 (IsPutInto V.taken V.failed sinks.entry.report result.0.report
+            (joined_row_texts row_text planned.now.places.now (run_rows self.now.asked.now.stop_after
+            (judging_of planned.now.telling.now.judge) planned.now.telling.now.plan.now planned.now.places.now))) }
+        ensures report_path { outlet_path result.0.report ≡ outlet_path sinks.entry.report }
+        ensures stopped { IfErr result.1 (IsRowsStop (outlet_path sinks.entry.report)) }
     {
         let (rt, alloc) = (self.host.rt, self.host.alloc);
         let (telling, places) = (planned.telling, planned.places);
@@ -405,20 +504,20 @@ impl<'x, R: Threads + Wait + Sync + Clock, D: Inputs> ListRun<'x, R, D> {
         let kept = self.lines_to_keep(planned);
         let keeping = KeepingTelling::new(rt, telling, telling.judge, kept);
         let counting = CountingTelling::new(rt, &keeping, &progress);
-        let sink = TerminalSink::new(rt, alloc, out, is_terminal, &progress);
+        let RunSinks { shown, report } = sinks;
+        let shown = TerminalSink::new(rt, alloc, shown, is_terminal, &progress);
         let crew = requested_crew(rt, alloc, self.asked);
         let batch = Batch::new(telling.plan, places);
         let limit = FailureLimit {
             judge: telling.judge,
             failures: self.asked.stop_after,
         };
-        let (sink, ran) = put_run_output(&crew, &batch, &limit, &counting, sink);
-        let out = sink.into_inner();
+        let sinks = RunSinks { shown, report };
+        let (sinks, ran) = put_run_output(&crew, &batch, &limit, &counting, sinks);
+        let RunSinks { shown, report } = sinks;
+        let shown = shown.into_inner();
         progress.finish();
-        match ran {
-            Ok(rows) => (out, Ok(rows)),
-            Err(error) => (out, Err(stop_of_stream(error))),
-        }
+        (RunSinks { shown, report }, ran)
     }
 
     // The line that counts the jobs at some places.
@@ -478,14 +577,16 @@ impl<'x, R: Threads + Wait + Sync + Clock, D: Inputs> ListRun<'x, R, D> {
         ensures status { IfOk result (λ status. status ≡ rows_status (judging_of planned.now.telling.now.judge) rows) }
         ensures errors { to.new.errors ≡ to.old.errors }
         ensures put { (report_path junit_path : Option (List ℕ))
-            → HasTaken F.place_path F.File.taken F.File.failed (F.placed to.old.files) report_path [] outlets.entry.report
+            → HasTaken F.place_path F.File.taken F.File.failed (F.placed to.old.files) report_path
+            (rows_ahead frame.old planned.now.places.now rows) outlets.entry.report
             → HasTaken F.place_path F.File.taken F.File.failed (F.placed to.old.files) junit_path [] outlets.entry.junit
             → OnOk result (Appends (O.taken to.old.out) (O.taken to.new.out)
             (stdout_at junit_path (run_junit self.now.asked.now (telling_of planned.now.telling.now)
             planned.now.places.now rows) ++ stdout_at report_path (run_report_text frame.old
             (length planned.now.telling.now.plan.now.jobs) planned.now.places.now frame.shard rows))) }
         ensures placed { (report_path junit_path : Option (List ℕ))
-            → HasTaken F.place_path F.File.taken F.File.failed (F.placed to.old.files) report_path [] outlets.entry.report
+            → HasTaken F.place_path F.File.taken F.File.failed (F.placed to.old.files) report_path
+            (rows_ahead frame.old planned.now.places.now rows) outlets.entry.report
             → HasTaken F.place_path F.File.taken F.File.failed (F.placed to.old.files) junit_path [] outlets.entry.junit
             → OnOk result (AreFilesPlaced (F.placed to.old.files) (F.placed to.new.files)
             (Some (file_at junit_path (run_junit self.now.asked.now (telling_of planned.now.telling.now)

@@ -10,10 +10,11 @@ use Rattle.rv_stream.proofs.stream.run_in_order.Goals as goal
 
 pub run_places-rows-requires-after_bounds : goal.run_places-rows-requires-after_bounds
 run_places-rows-requires-after_bounds g c κs within =
-    λ k low. piece_told (g.T.Telling.line c.args.telling.now) g.J.Streamed.texts g.J.Streamed.group
+    rw (c.new-stream.ensures.telling, c.new-stream.ensures.places, c.new-stream.ensures.group)
+    (λ k low. piece_told (g.T.Telling.line c.args.telling.now) g.J.Streamed.texts g.J.Streamed.group
     c.args.batch.now.places.now (batch_rows c.args.batch.now) c.args.crew.now.group k c.requires.run.texts_told
     c.requires.run.size_given (rows_count c.args.batch.now.plan.now c.args.batch.now.places.now)
-    c.args.crew.now.group_few.0 low
+    c.args.crew.now.group_few.0 low)
 
 pub returns-clause-rows : goal.returns-clause-rows
 returns-clause-rows g c =

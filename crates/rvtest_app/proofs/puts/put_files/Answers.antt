@@ -4,9 +4,9 @@ use Rattle.rvtest_app.proofs.Results.{OnErr-map, OnOk-map}
 use Rattle.rvtest_app.proofs.puts.put_files.Goals as goal
 
 pub returns-in-Ok-clause-placed : goal.returns-in-Ok-clause-placed
-returns-in-Ok-clause-placed g c = λ report_path junit_path report junit.
+returns-in-Ok-clause-placed g c = λ had report_path junit_path report junit.
     OnOk-map c.place_outlets.result _ _
-    (both_placed g.F.Outputs.place_path g.F.File.Sink.taken g.F.File.Sink.failed _ _ junit_path report_path
+    (both_placed g.F.Outputs.place_path g.F.File.Sink.taken g.F.File.Sink.failed _ _ had junit_path report_path
     c.args.outlets.junit _ c.args.outlets.report _ _ _ junit report c.in-Ok.ensures.junit c.in-Ok.ensures.report)
     c.place_outlets.ensures.placed
 

@@ -3,8 +3,8 @@ use Rattle.std.proofs.lemmas.List.{length-take}
 use Rattle.rv_fleet.proofs.Public.{rows_count}
 use Rattle.rv_rounds.proofs.rounds.Rounds.run_round.Goals as goal
 
-pub put_rows-requires : goal.put_rows-requires
-put_rows-requires g c =
+pub invariant_of-placed : goal.invariant_of-placed
+invariant_of-placed g c =
     let made : length c.into_vec-made.result.items ≡ length c.new-batch.result.places.now =
     ap length (c.into_vec-made.ensures ∙ c.in_ok-run_places.ensures)
     ∙ rows_count c.new-batch.result.plan.now c.new-batch.result.places.now in

@@ -1,9 +1,9 @@
-use Rattle.std.proofs.Common.{◌∙◌, List, ap, arith, inr, length, sym, take}
+use Rattle.std.proofs.Common.{◌∙◌, List, [], ap, arith, inr, length, sym, take}
 use Rattle.std.proofs.lemmas.List.{length-take}
 use Rattle.rv_rows.specs.declared_row.Row.{Row}
 use Rattle.rv_command.specs.Texts.{optional_text}
 use Rattle.rvtest_app.proofs.PutStops.{output_of_put}
-use Rattle.rvtest_app.proofs.PutTexts.{out_told}
+use Rattle.rvtest_app.proofs.PutTexts.{out_told, taken_more}
 use Rattle.rvtest_app.proofs.Results.{OnOk-both}
 use Rattle.rvtest_app.proofs.StopLemmas.{IfErr-map}
 use Rattle.rvtest_app.specs.IntoReports.{run_report_path}
@@ -12,7 +12,7 @@ use Rattle.rvtest_app.proofs.run.ListRun.run_planned_jobs.Goals as goal
 
 pub put_run_files-put-requires-clause-counted : goal.put_run_files-put-requires-clause-counted
 put_run_files-put-requires-clause-counted g c κs within =
-    let few = rw c.in-Ok-ran.is at c.run_and_show-to.ensures.few in
+    let few = rw c.in-Ok-ran.is at c.run_into_outlets-to.ensures.few in
     omega (
       arith,
       few,
@@ -27,28 +27,29 @@ returns-in-Ok-ran-clause-said g c =
     let taken = g.F.File.Sink.taken in
     let failed = g.F.File.Sink.failed in
     let outlets = c.in-Ok.outlets in
+    let ran = c.run_into_outlets-to.ensures in
     let report_path = run_report_path c.args.self.now.asked.now in
     let junit_path = optional_text c.args.self.now.asked.now.junit in
+    let same = ap g.F.Outputs.placed ran.files ∙ c.in-Ok.ensures.same in
+    let rows = rw c.in-Ok-ran.is at ran.rows in
     let report = rw c.run_report_path-report.ensures at c.in-Ok.ensures.report in
-    let junit = c.in-Ok.ensures.junit in
-    let same = ap g.F.Outputs.placed c.run_and_show-to.ensures.files ∙ c.in-Ok.ensures.same in
-    let rows = rw c.in-Ok-ran.is at c.run_and_show-to.ensures.rows in
+    let more = taken_more path taken failed _ _ [] _ outlets.report _ report (rw c.in-Ok-ran.is at ran.report) ran.report_path in
+    let junit = rw (sym ran.junit) at c.in-Ok.ensures.junit in
     let places = c.first_jobs-shown.ensures.places
     ∙ ap (λ (r : List Row). take (length r) c.args.places.now) (c.as_slice.ensures ∙ rows) in
     let telling = c.first_jobs-shown.ensures.telling in
     let seen = rw (
-      c.use_stdout.ensures,
       out_told path taken failed _ _ outlets.report _ report,
-      out_told path taken failed _ _ outlets.junit _ junit,
+      out_told path taken failed _ _ outlets.junit _ c.in-Ok.ensures.junit,
       c.in-Ok.ensures.same,
-    ) at (rw c.in-Ok-ran.is at c.run_and_show-to.ensures.shown) in
-    let out = rw (telling, places, rows) at (c.put_run_files-put.ensures.put report_path junit_path (rw same report) (rw same junit)) in
+    ) at (rw c.in-Ok-ran.is at ran.shown) in
+    let out = rw (telling, places, rows) at (c.put_run_files-put.ensures.put report_path junit_path (rw same more) (rw same junit)) in
     let placed = rw (telling, places, rows)
-    at (c.put_run_files-put.ensures.placed report_path junit_path (rw same report) (rw same junit)) in
+    at (c.put_run_files-put.ensures.placed report_path junit_path (rw same more) (rw same junit)) in
     let errors = c.put_run_files-put.ensures.errors in
     OnOk-both c.put_run_files-put.result _ _ _
     (λ p q. record {
-      middle = said g.F.Outputs.placed g.O.Sink.taken g.E.Sink.taken g.E.Sink.failed (c.run_and_show-to.result.0);
+      middle = said g.F.Outputs.placed g.O.Sink.taken g.E.Sink.taken g.E.Sink.failed (c.run_into_outlets-to.result.0);
       seen = seen;
       out = p;
       quiet = (ap g.E.Sink.taken errors, ap g.E.Sink.failed errors);
@@ -59,9 +60,9 @@ returns-in-Ok-ran-clause-said g c =
 pub returns-in-Ok-ran-clause-part : goal.returns-in-Ok-ran-clause-part
 returns-in-Ok-ran-clause-part g c =
     let junit = c.in-Ok.ensures.junit in
-    let same = ap g.F.Outputs.placed c.run_and_show-to.ensures.files ∙ c.in-Ok.ensures.same in
+    let same = ap g.F.Outputs.placed c.run_into_outlets-to.ensures.files ∙ c.in-Ok.ensures.same in
     λ rows is.
-    let are = (rw c.in-Ok-ran.is at c.run_and_show-to.ensures.rows) ∙ sym is in
+    let are = (rw c.in-Ok-ran.is at c.run_into_outlets-to.ensures.rows) ∙ sym is in
     let places = c.first_jobs-shown.ensures.places
     ∙ ap (λ (r : List Row). take (length r) c.args.places.now) (c.as_slice.ensures ∙ are) in
     rw same at (rw (c.first_jobs-shown.ensures.telling, places, are)

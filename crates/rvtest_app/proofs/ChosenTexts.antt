@@ -1,0 +1,98 @@
+-- The report of chosen rows: what goes to a file as they come, and its last line.
+use Rattle.std.proofs.Common.{◌≡◌, ◌∙◌, ◌==◌, ◌+◌, ◌-◌, ◌<◌, ◌≤◌, ◌++◌, ◌∷◌, ℕ, suc, Bool, true, false, List, [], Option, Some, None, Bor}
+use Rattle.std.proofs.Common.{ap, arith, get_or, length, refl, sym}
+use Rattle.std.proofs.lemmas.Bool.{eqb-true}
+use Rattle.std.specs.List.{All}
+use Rattle.std.specs.List.Sorted.{IsStrictlyIncreasing}
+use Rattle.std.specs.Prelude.{if◌then◌else◌, is_some}
+use Rattle.rv_report.specs.Report.{done_line, report_text, row_text, rows_text}
+use Rattle.rv_report.specs.Saved.{extent_line, numbered_text, saved_text}
+use Rattle.rv_report.specs.declared.row.Row.{Row}
+use Rattle.rv_report.specs.declared.saved.Extent.{Extent}
+use Rattle.rv_report.specs.declared.saved.Extent.TheVariants as extent
+use Rattle.rv_report.specs.declared.saved.Shard.{Shard}
+use Rattle.rv_stream.specs.Streams.{joined_row_texts}
+use Rattle.rvtest_app.specs.IntoReports.{rows_ahead, run_report_rest, run_report_text}
+use Rattle.rvtest_app.specs.RunOutput.{chosen_last_line, chosen_report_text, job_numbers, part_text}
+use Rattle.rvtest_app.proofs.Numbers.{behind, fit_behind, next}
+
+-- rows under the numbers of jobs are told at the jobs' places
+numbered_joined : (places : List ℕ) (rows : List Row) → numbered_text (job_numbers places) rows ≡ joined_row_texts row_text places rows
+unfolding numbered_text
+numbered_joined [] rows = refl
+numbered_joined (p ∷ ps) [] = refl
+numbered_joined (p ∷ ps) (row ∷ rows) =
+    let is : p + 1 - 1 ≡ p = omega arith in
+    ap (λ (k : ℕ). row_text k row ++ numbered_text (job_numbers ps) rows) is
+    ∙ ap (λ (t : List ℕ). row_text p row ++ t) (numbered_joined ps rows)
+
+-- rows of all jobs from one on
+rows_joined : (place last : ℕ) (places : List ℕ) (rows : List Row) → IsStrictlyIncreasing places
+    → All (λ place. place < last) places → (0 < length places → place ≤ get_or places 0 0)
+    → place + length places ≡ last → length rows ≡ length places
+    → rows_text place rows ≡ joined_row_texts row_text places rows
+unfolding rows_text
+rows_joined place last [] [] up within low all even = refl
+rows_joined place last [] (row ∷ rows) up within low all even = absurd (omega (arith, even))
+rows_joined place last (p ∷ ps) [] up within low all even = absurd (omega (arith, even))
+rows_joined place last (p ∷ ps) (row ∷ rows) up within low all even =
+    let first : place ≤ p = low (omega arith) in
+    let below : p < last = within 0 0 (omega arith) in
+    let rest : (p + 1) + length ps ≤ last = fit_behind (p + 1) last ps (behind p ps up)
+    (λ k d inside. within (suc k) d (omega arith)) (omega (arith, below))
+    (λ some. let n = next p ps up some in omega arith) in
+    let is : place ≡ p = omega (arith, first, rest, all) in
+    ap (λ (k : ℕ). row_text k row ++ rows_text (place + 1) rows) is
+    ∙ ap (λ (t : List ℕ). row_text p row ++ t)
+    (rows_joined (place + 1) last ps rows (behind p ps up) (λ k d inside. within (suc k) d (omega arith))
+    (λ some. let n = next p ps up some in omega (arith, n, is)) (omega (arith, all)) (omega (arith, even)))
+
+part_split : (jobs : Extent) (places : List ℕ) (rows : List Row)
+    → part_text jobs places rows ≡ joined_row_texts row_text places rows ++ extent_line jobs (length rows)
+unfolding saved_text
+part_split jobs places rows = ap (λ (t : List ℕ). t ++ extent_line jobs (length rows)) (numbered_joined places rows)
+
+whole_split : (places : List ℕ) (rows : List Row) → IsStrictlyIncreasing places → All (λ place. place < length places) places
+    → length rows ≡ length places
+    → report_text rows ≡ joined_row_texts row_text places rows ++ extent_line extent.Whole (length rows)
+unfolding report_text extent_line
+whole_split places rows up within even =
+    ap (λ (t : List ℕ). t ++ done_line (length rows))
+    (rows_joined 0 (length places) places rows up within (λ some. omega arith) (omega arith) even)
+
+choice_split : (jobs : ℕ) (places : List ℕ) (rows : List Row) (all : Bool) → (length places == jobs) ≡ all
+    → IsStrictlyIncreasing places → All (λ place. place < jobs) places → length rows ≡ length places
+    → (if all then report_text rows else part_text (extent.Choice jobs) places rows)
+    ≡ joined_row_texts row_text places rows
+    ++ extent_line (if all then extent.Whole else extent.Choice jobs) (length rows)
+choice_split jobs places rows true is up within even =
+    let same : length places ≡ jobs = eqb-true (length places) jobs is in
+    whole_split places rows up (λ k d inside. let low = within k d inside in omega (arith, low, same)) even
+choice_split jobs places rows false is up within even = part_split (extent.Choice jobs) places rows
+
+-- the report of chosen rows in two
+chosen_split : (jobs : ℕ) (places : List ℕ) (shard : Option Shard) (rows : List Row) → IsStrictlyIncreasing places
+    → All (λ place. place < jobs) places → length rows ≡ length places
+    → chosen_report_text jobs places shard rows
+    ≡ joined_row_texts row_text places rows ++ chosen_last_line jobs places shard rows
+chosen_split jobs places (Some shard) rows up within even = part_split (extent.Shard shard) places rows
+chosen_split jobs places None rows up within even =
+    choice_split jobs places rows (length places == jobs) refl up within even
+
+-- the report of a run in two: what goes to a file as the rows come, and the rest
+pub run_report_split : (old : Option (List Row)) (jobs : ℕ) (places : List ℕ) (shard : Option Shard) (rows : List Row)
+    → IsStrictlyIncreasing places → All (λ place. place < jobs) places → length rows ≡ length places
+    → rows_ahead old places rows ++ run_report_rest old jobs places shard rows ≡ run_report_text old jobs places shard rows
+run_report_split None jobs places shard rows up within even = sym (chosen_split jobs places shard rows up within even)
+run_report_split (Some old) jobs places shard rows up within even = refl
+
+-- nothing goes ahead where the rows are put into another report, and else what a report says of each
+pub none_ahead : (old : Option (List Row)) (places : List ℕ) (rows : List Row) → is_some old ≡ true
+    → rows_ahead old places rows ≡ []
+none_ahead (Some old) places rows is = refl
+none_ahead None places rows is = absurd cc
+
+pub all_ahead : (old : Option (List Row)) (places : List ℕ) (rows : List Row) → is_some old ≡ false
+    → rows_ahead old places rows ≡ joined_row_texts row_text places rows
+all_ahead None places rows is = refl
+all_ahead (Some old) places rows is = absurd cc

@@ -1,0 +1,31 @@
+//! What a report says of a row, told as the row comes.
+
+ghost use Rattle.rv_report.specs.Report.{row_text};
+
+use rv_report::push_row;
+use rv_rows::{Row, Telling};
+use std::alloc::{AllocError, Global};
+
+/// Tells of a row what a report says of it.
+#[derive(Clone, Copy)]
+pub(crate) struct ReportTelling;
+
+impl Telling for ReportTelling {
+    ghost line = { λ _ place row. row_text place row };
+
+    fn push_row_text(
+        &self,
+        alloc: Global,
+        place: usize,
+        row: &Row,
+        text: &mut Vec<u8>,
+    ) -> Result<(), AllocError> {
+        // No memory has so many jobs.
+        if place == usize::MAX {
+            return Err(AllocError);
+        }
+        let mut said = String::new(alloc);
+        push_row(alloc, &mut said, place, row)?;
+        text.extend_from_slice(said.as_bytes())
+    }
+}
