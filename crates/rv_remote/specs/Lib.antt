@@ -1,0 +1,5 @@
+pub mod Escapes
+pub mod Sums
+pub mod Frames
+pub mod Stops
+pub mod Shown

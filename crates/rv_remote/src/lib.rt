@@ -1,0 +1,20 @@
+//! gdb's remote protocol, as bytes that come and bytes that go. Nothing here runs, reads a file or waits.
+//!
+//! A [`Reader`] takes bytes in any cuts and says what it heard ([`Heard`]): bodies with their sums, acknowledgements, Ctrl-C.
+//! [`push_frame`] frames a body. The other functions `push_..` append the bodies of replies.
+#![tactic(auto)]
+
+mod escapes;
+mod frame;
+mod law;
+mod reader;
+mod registers;
+mod stop;
+mod sum;
+
+pub use escapes::{push_data, push_escaped};
+pub use frame::{Heard, Sum, push_frame};
+pub use law::cuts_are_not_heard;
+pub use reader::Reader;
+pub use registers::{push_memory, push_printed, push_register, push_registers};
+pub use stop::{Stop, push_stop};

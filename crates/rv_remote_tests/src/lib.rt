@@ -1,0 +1,5 @@
+//! Tests of `rv_remote` by packets that gdb and LLDB sent, and by bad input.
+#![tactic(auto)]
+
+#[cfg(test)]
+mod frames;
