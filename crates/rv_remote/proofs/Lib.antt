@@ -1,3 +1,5 @@
 pub mod Hearing
 pub mod Data
 pub mod Folds
+mod Reading
+mod Sent

@@ -1,5 +1,6 @@
 pub mod Escapes
 pub mod Sums
 pub mod Frames
+pub mod Readback
 pub mod Stops
 pub mod Shown

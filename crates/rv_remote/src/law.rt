@@ -1,10 +1,32 @@
-//! A law of frames, with nothing to run.
+//! Laws of frames, with nothing to run.
 
-ghost use Rattle.std.specs.Prelude.{◌≡◌, ◌++◌, ℕ, List, fold};
-ghost use Rattle.rv_remote.specs.Frames.{Frame, frame_behind, heard_in};
+ghost use Rattle.std.specs.Prelude.{◌≡◌, ◌≤◌, ◌++◌, ◌∷◌, [], ℕ, List, fold, length};
+ghost use Rattle.rv_remote.specs.Escapes.{escaped};
+ghost use Rattle.rv_remote.specs.Frames.{Frame, between, frame_behind, heard_at, heard_in, most_body};
+ghost use Rattle.rv_remote.specs.Readback.{CanBeSent, EndsWithSent, IsHeardAlone, IsReadBack, sent, verdict_of};
+ghost use Rattle.rv_remote.specs.declared.frame.Sum.{Sum};
+ghost use Rattle.rv_remote.specs.declared.frame.Heard.TheVariants.{Packet};
 
 /// What is heard in bytes does not depend on how they are cut.
 pub fn cuts_are_not_heard()
     ensures { (frame : Frame) (front rest : List ℕ) → heard_in frame (front ++ rest)
         ≡ heard_in frame front ++ heard_in (fold frame_behind frame front) rest }
+{}
+
+/// A framed body is heard alone and with its sum, and the data of what is heard is the body.
+pub fn framed_bodies_are_read_back()
+    ensures { (body : List ℕ) → length (escaped body) ≤ most_body → IsReadBack body }
+{}
+
+/// A text with neither `$` nor `#`, in a frame with any two digits, is heard alone.
+pub fn sent_texts_are_heard()
+    ensures { (text : List ℕ) (high low : ℕ) → CanBeSent text
+        → IsHeardAlone (sent text high low) text (verdict_of text high low) }
+{}
+
+/// A packet that is heard was sent: the bytes so far end with its text in a frame.
+pub fn heard_texts_were_sent()
+    ensures { (bytes text : List ℕ) (byte : ℕ) (sum : Sum)
+        → heard_at (fold frame_behind between bytes) byte ≡ Some (Packet text sum)
+        → EndsWithSent (bytes ++ byte ∷ []) text sum }
 {}

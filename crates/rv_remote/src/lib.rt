@@ -14,7 +14,9 @@ mod sum;
 
 pub use escapes::{push_data, push_escaped};
 pub use frame::{Heard, Sum, push_frame};
-pub use law::cuts_are_not_heard;
+pub use law::{
+    cuts_are_not_heard, framed_bodies_are_read_back, heard_texts_were_sent, sent_texts_are_heard,
+};
 pub use reader::Reader;
 pub use registers::{push_memory, push_printed, push_register, push_registers};
 pub use stop::{Stop, push_stop};
