@@ -1,5 +1,6 @@
 pub mod Hearing
 pub mod Data
 pub mod Folds
+mod Digits
 mod Reading
 mod Sent

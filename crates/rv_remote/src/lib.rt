@@ -7,6 +7,7 @@
 mod escapes;
 mod frame;
 mod law;
+mod number;
 mod reader;
 mod registers;
 mod stop;
