@@ -2,6 +2,8 @@ pub mod Escapes
 pub mod Sums
 pub mod Frames
 pub mod Numbers
+pub mod Requests
+pub mod Packets
 pub mod Readback
 pub mod Stops
 pub mod Shown

@@ -4,12 +4,16 @@
 //! [`push_frame`] frames a body. The other functions `push_..` append the bodies of replies.
 #![tactic(auto)]
 
+mod arguments;
 mod escapes;
 mod frame;
 mod law;
 mod number;
+mod packets;
+mod parse;
 mod reader;
 mod registers;
+mod request;
 mod stop;
 mod sum;
 
@@ -18,6 +22,8 @@ pub use frame::{Heard, Sum, push_frame};
 pub use law::{
     cuts_are_not_heard, framed_bodies_are_read_back, heard_texts_were_sent, sent_texts_are_heard,
 };
+pub use parse::parse_request;
 pub use reader::Reader;
 pub use registers::{push_memory, push_printed, push_register, push_registers};
+pub use request::{Move, Part, Range, Refusal, Register, Request, Trap};
 pub use stop::{Stop, push_stop};
