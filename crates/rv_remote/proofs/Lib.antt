@@ -2,5 +2,7 @@ pub mod Hearing
 pub mod Data
 pub mod Folds
 mod Digits
+mod Endings
+mod Parts
 mod Reading
 mod Sent

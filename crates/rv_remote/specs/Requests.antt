@@ -1,8 +1,8 @@
 -- What the arguments of gdb's packets ask, packet by packet.
-use Rattle.std.specs.Prelude.{ℕ, List, [], ◌∷◌, ◌+◌, ◌*◌, ◌^◌, ◌==◌, ◌&&◌, Bool, true, false, Option, Some, None, codes, if◌then◌else◌, length, nat_le, take, drop, option_map, unwrap_or, is_some}
+use Rattle.std.specs.Prelude.{ℕ, List, ◌+◌, ◌==◌, ◌&&◌, Bool, false, Option, Some, None, codes, if◌then◌else◌, length, nat_le, take, drop, option_map, unwrap_or, is_some}
 use Rattle.std.specs.Option.{option_or}
 use Rattle.rv_remote.specs.Escapes.{data_of, is_whole}
-use Rattle.rv_remote.specs.Numbers.{behind, bytes_of, number_of, numbers_at, place_of, until, value_of, ◌>>=◌}
+use Rattle.rv_remote.specs.Numbers.{behind, bytes_of, number_of, numbers_at, place_of, value_of, ◌>>=◌}
 use Rattle.rv_remote.specs.declared.request.Move.{Move}
 use Rattle.rv_remote.specs.declared.request.Move.TheVariants as move
 use Rattle.rv_remote.specs.declared.request.Part.{Part}

@@ -30,3 +30,37 @@ stop_text stop.Beginning = codes "T05replaylog:begin;"
 stop_text stop.Exit = codes "T05replaylog:end;"
 stop_text stop.Budget = codes "T18"
 stop_text (stop.Fault kind) = fault_text kind
+
+-- what a stop tells of the run's ending, as gdb says it
+pub data Told : Type 0 where
+  NoEnding : Told
+  Exited : Told
+  UsedUp : Told
+  SegmentFault : Told
+  BusError : Told
+  IllegalInstruction : Told
+  Aborted : Told
+  BadCall : Told
+  FileTooLarge : Told
+
+abbrev pub told_by_fault : FaultKind → Told
+told_by_fault fault.FetchAccess = SegmentFault
+told_by_fault fault.LoadAccess = SegmentFault
+told_by_fault fault.StoreAccess = SegmentFault
+told_by_fault fault.FetchMisaligned = BusError
+told_by_fault fault.LoadMisaligned = BusError
+told_by_fault fault.StoreMisaligned = BusError
+told_by_fault fault.Illegal = IllegalInstruction
+told_by_fault fault.StaleCode = IllegalInstruction
+told_by_fault fault.Breakpoint = Aborted
+told_by_fault fault.UnknownCall = BadCall
+told_by_fault fault.ConsoleFull = FileTooLarge
+
+abbrev pub told_by : Stop → Told
+told_by stop.Exit = Exited
+told_by stop.Budget = UsedUp
+told_by (stop.Fault kind) = told_by_fault kind
+told_by stop.Here = NoEnding
+told_by (stop.Watch address) = NoEnding
+told_by stop.Interrupt = NoEnding
+told_by stop.Beginning = NoEnding

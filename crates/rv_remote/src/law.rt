@@ -1,10 +1,14 @@
-//! Laws of frames, with nothing to run.
+//! Laws of frames and replies, with nothing to run.
 
 ghost use Rattle.std.specs.Prelude.{◌≡◌, ◌≤◌, ◌++◌, ◌∷◌, [], ℕ, List, fold, length};
 ghost use Rattle.rv_remote.specs.Escapes.{escaped};
 ghost use Rattle.rv_remote.specs.Frames.{Frame, between, frame_behind, heard_at, heard_in, most_body};
 ghost use Rattle.rv_remote.specs.Readback.{CanBeSent, EndsWithSent, IsHeardAlone, IsReadBack, sent, verdict_of};
+ghost use Rattle.rv_remote.specs.Replies.{part_text};
+ghost use Rattle.rv_remote.specs.Stops.{stop_text, told_by};
 ghost use Rattle.rv_remote.specs.declared.frame.Sum.{Sum};
+ghost use Rattle.rv_remote.specs.declared.request.Part.{Part};
+ghost use Rattle.rv_remote.specs.declared.stop.Stop.{Stop};
 ghost use Rattle.rv_remote.specs.declared.frame.Heard.TheVariants.{Packet};
 
 /// What is heard in bytes does not depend on how they are cut.
@@ -29,4 +33,15 @@ pub fn heard_texts_were_sent()
     ensures { (bytes text : List ℕ) (byte : ℕ) (sum : Sum)
         → heard_at (fold frame_behind between bytes) byte ≡ Some (Packet text sum)
         → EndsWithSent (bytes ++ byte ∷ []) text sum }
+{}
+
+/// The reply to a stop tells how the run ended, if it did: stops with one reply tell the same, and none that is no ending has the
+/// reply of an ending.
+pub fn stops_tell_the_ending()
+    ensures { (one other : Stop) → stop_text one ≡ stop_text other → told_by one ≡ told_by other }
+{}
+
+/// The reply with a part of a text fits a packet, whatever has to be escaped.
+pub fn parts_fit()
+    ensures { (text : List ℕ) (part : Part) → length (escaped (part_text text part)) ≤ most_body }
 {}

@@ -131,4 +131,10 @@ pub enum Refusal {
     Malformed,
     /// What would change the run: `E.the run is what it is: the debugger does not change it`.
     WouldChange,
+    /// A seek to where the run does not come: `E.the run does not come there`.
+    NotReached,
+    /// More places to stop at than are kept: `E.too many breakpoints`.
+    TooManyTraps,
+    /// A packet that is not kept: `E.packet too long`.
+    TooLong,
 }

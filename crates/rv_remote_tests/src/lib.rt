@@ -3,3 +3,5 @@
 
 #[cfg(test)]
 mod frames;
+#[cfg(test)]
+mod requests;
