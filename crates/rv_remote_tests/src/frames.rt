@@ -55,10 +55,10 @@ fn told_in_pieces(alloc: Global, bytes: &[u8], length: usize) -> Result<String, 
     let mut reader = Reader::new(alloc);
     let mut text = String::new(alloc);
     for piece in bytes.chunks(length.max(1)) {
-        let mut at = 0;
+        let mut rest = piece;
         for _ in 0..piece.len() {
-            let (taken, heard) = reader.hear(alloc, &piece[at..])?;
-            at += taken;
+            let (taken, heard) = reader.hear(alloc, rest)?;
+            rest = &rest[taken..];
             if let Some(heard) = heard {
                 if !text.as_str().is_empty() {
                     text.push_str(" ")?;

@@ -187,7 +187,7 @@ fn parts_are_the_whole(rt: HostRuntime) -> Result<(), Fail> {
     let mut ended = false;
     for _ in 0..100 {
         let mut reply = Vec::new(rt.alloc());
-        let offset = whole.len() as u32;
+        let offset = u32::try_from(whole.len())?;
         let count = 100;
         push_part(&mut reply, TARGET.as_bytes(), Part { offset, count })?;
         whole.extend_from_slice(reply.as_slice().get(1..).unwrap_or(&[]))?;

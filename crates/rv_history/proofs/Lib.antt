@@ -1,0 +1,5 @@
+mod Bytes
+mod Reaching
+mod Forward
+mod Backward
+mod Arriving
