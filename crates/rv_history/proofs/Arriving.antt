@@ -1,5 +1,5 @@
 -- What holds of where a search ended holds of where a move ends.
-use Rattle.std.proofs.Common.{◌≡◌, ◌∙◌, ℕ, Result, Ok, Err, ap, subst, sym}
+use Rattle.std.proofs.Common.{◌≡◌, ℕ, Result, Ok, Err, ap, subst, sym}
 use Rattle.std.specs.Result.{IfOk}
 use Rattle.rv_history.specs.Inside.{Stand}
 use Rattle.rv_history.specs.declared.found.Found.{Found}

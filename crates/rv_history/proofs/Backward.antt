@@ -1,8 +1,7 @@
 -- Searches backward.
-use Rattle.std.proofs.Common.{◌≡◌, ◌∙◌, ◌+◌, ◌-◌, ◌<◌, ◌≤◌, ℕ, Bool, true, false, Ok, Err, ap, sym, refl, subst, arith, ◌⊎◌, inl, inr}
+use Rattle.std.proofs.Common.{◌≡◌, ◌∙◌, ◌+◌, ◌<◌, ◌≤◌, ℕ, Bool, true, false, Ok, ap, sym, refl, subst, arith, inl, inr}
 use Rattle.std.specs.Prelude.{◌≢◌}
 use Rattle.std.proofs.lemmas.Bool.{both_ways, cases_eq}
-use Rattle.rv_machine.specs.declared.ending.Ending.{Ending}
 use Rattle.rv_machine.specs.Run.{run_of, step_of}
 use Rattle.rv_machine.specs.State.{State}
 use Rattle.rv_trace.specs.Trace.{state_after}
@@ -18,7 +17,7 @@ use Rattle.rv_history.specs.Moves.{GoesOnBack, IsChangeBefore, IsStepBefore, IsS
 use Rattle.rv_history.specs.Places.{IsBreakAt, IsChangeAt, IsReached, last_place}
 use Rattle.rv_history.specs.Stepping.{IsStepped}
 use Rattle.rv_history.specs.Stops.{is_break, watched_bytes}
-use Rattle.rv_history.proofs.Reaching.{comes_within, next_place}
+use Rattle.rv_history.proofs.Reaching.{next_place}
 use Rattle.rv_history.proofs.Forward.{change_at, no_change_at}
 
 -- the stop before, as it is kept

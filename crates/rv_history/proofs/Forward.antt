@@ -1,16 +1,14 @@
 -- Searches forward.
-use Rattle.std.proofs.Common.{◌≡◌, ◌∙◌, ◌+◌, ◌<◌, ◌≤◌, ℕ, Bool, true, false, ◌&&◌, Ok, Err, ap, sym, refl, subst, arith, ltb, ◌⊎◌, inl, inr}
+use Rattle.std.proofs.Common.{◌≡◌, ◌∙◌, ◌+◌, ◌<◌, ◌≤◌, ℕ, true, false, ◌&&◌, Ok, Err, ap, sym, refl, subst, arith, ltb, inl, inr}
 use Rattle.std.specs.Prelude.{◌≢◌}
 use Rattle.std.proofs.lemmas.Bool.{and_from, and_parts, both_ways, cases_eq, lt-ltb, ltb-true}
 use Rattle.rv_machine.specs.declared.ending.Ending.{Ending}
 use Rattle.rv_machine.specs.declared.ending.Ending.TheVariants.{Budget}
 use Rattle.rv_machine.specs.Run.{run_of, step_of}
 use Rattle.rv_machine.specs.State.{State}
-use Rattle.rv_trace.specs.Trace.{state_after}
-use Rattle.rv_history.specs.declared.found.Found.{Found}
 use Rattle.rv_history.specs.declared.found.Found.TheVariants as found
 use Rattle.rv_history.specs.declared.stops.Stops.{Stops}
-use Rattle.rv_history.specs.Moves.{GoesOnAhead, IsEndAt, IsNextStep, IsNextStop, MeetsAhead}
+use Rattle.rv_history.specs.Moves.{GoesOnAhead, IsNextStep, IsNextStop}
 use Rattle.rv_history.specs.Places.{IsBreakAt, IsChangeAt, IsReached, last_place}
 use Rattle.rv_history.specs.Stops.{is_break, watched_bytes}
 use Rattle.rv_history.proofs.Reaching.{comes_within, ends_by_budget, ends_here, goes_on, next_place}

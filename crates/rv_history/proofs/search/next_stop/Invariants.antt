@@ -1,4 +1,3 @@
-use Rattle.std.proofs.Common.{ℕ}
 use Rattle.rv_machine.specs.Machine.{state_of}
 use Rattle.rv_history.specs.Places.{IsReached}
 use Rattle.rv_history.specs.Starts.{start_of}
