@@ -6,3 +6,5 @@ mod Endings
 mod Parts
 mod Reading
 mod Sent
+mod Marks
+mod Rows

@@ -4,6 +4,7 @@ pub mod Frames
 pub mod Numbers
 pub mod Requests
 pub mod Packets
+pub mod Grammar
 pub mod Replies
 pub mod Readback
 pub mod Stops

@@ -1,13 +1,16 @@
-//! Laws of frames and replies, with nothing to run.
+//! Laws of frames, requests and replies, with nothing to run.
 
 ghost use Rattle.std.specs.Prelude.{◌≡◌, ◌≤◌, ◌++◌, ◌∷◌, [], ℕ, List, fold, length};
 ghost use Rattle.rv_remote.specs.Escapes.{escaped};
 ghost use Rattle.rv_remote.specs.Frames.{Frame, between, frame_behind, heard_at, heard_in, most_body};
 ghost use Rattle.rv_remote.specs.Readback.{CanBeSent, EndsWithSent, IsHeardAlone, IsReadBack, sent, verdict_of};
+ghost use Rattle.rv_remote.specs.Grammar.{IsRequest};
+ghost use Rattle.rv_remote.specs.Packets.{request_of};
 ghost use Rattle.rv_remote.specs.Replies.{part_text};
 ghost use Rattle.rv_remote.specs.Stops.{stop_text, told_by};
 ghost use Rattle.rv_remote.specs.declared.frame.Sum.{Sum};
 ghost use Rattle.rv_remote.specs.declared.request.Part.{Part};
+ghost use Rattle.rv_remote.specs.declared.request.Request.{Request};
 ghost use Rattle.rv_remote.specs.declared.stop.Stop.{Stop};
 ghost use Rattle.rv_remote.specs.declared.frame.Heard.TheVariants.{Packet};
 
@@ -44,4 +47,9 @@ pub fn stops_tell_the_ending()
 /// The reply with a part of a text fits a packet, whatever has to be escaped.
 pub fn parts_fit()
     ensures { (text : List ℕ) (part : Part) → length (escaped (part_text text part)) ≤ most_body }
+{}
+
+/// A packet of the protocol is read as what it asks.
+pub fn packets_are_read()
+    ensures { (body : List ℕ) (request : Request) → IsRequest body request → request_of body ≡ request }
 {}
