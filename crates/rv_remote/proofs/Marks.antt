@@ -1,9 +1,9 @@
 -- Texts with a mark between them, and the places of marks.
-use Rattle.std.proofs.Common.{◌≡◌, ◌++◌, ◌∷◌, ◌+◌, ◌<◌, ◌==◌, ◌∙◌, inl, inr, [], ℕ, zero, suc, List, Bool, true, false, not, Option, Some, None, cond, ltb, fold, take, drop, length, refl, ap, sym, arith, add-one, length-append}
+use Rattle.std.proofs.Common.{◌≡◌, ◌∷◌, ◌+◌, ◌==◌, ◌∙◌, inl, inr, [], ℕ, suc, List, Bool, true, not, Option, Some, None, ltb, fold, take, drop, length, refl, ap, sym, arith, length-append}
 use Rattle.std.proofs.Math.Seq.{drop-append-add, take-append_seam}
 use Rattle.std.proofs.lemmas.Bool.{and_from, and_parts, cases_eq, cond-false, cond-true, eq-eqb, le-ltb, lt-ltb, ne_eqb, not_from_false}
 use Rattle.std.proofs.lemmas.List.Folds.{list_all-append}
-use Rattle.std.specs.List.{list_all, position, position_or_len, prefix_len}
+use Rattle.std.specs.List.{list_all, prefix_len}
 use Rattle.hex.specs.Hex.{hex_digit_value}
 use Rattle.rv_remote.specs.Grammar.{TellsTwo, parted}
 use Rattle.rv_remote.specs.Numbers.{digit_on, number_of, numbers_at, place_of, until, with_digit}

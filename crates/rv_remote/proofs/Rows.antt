@@ -1,13 +1,11 @@
 -- Each packet of the protocol is read as what it asks.
-use Rattle.std.proofs.Common.{◌≡◌, ◌++◌, ◌∷◌, ◌+◌, ◌≤◌, ◌==◌, ◌∙◌, [], ℕ, List, Bool, true, Option, Some, None, ap, arith, codes, length, nat_le, refl}
-use Rattle.std.proofs.lemmas.Bool.{and_from, cond-true, eq-eqb, le-leb}
-use Rattle.std.specs.List.{list_all}
-use Rattle.rv_remote.specs.Grammar.{IsMove, IsRequest, IsTrap, TellsTwo, actions, clear_trap, command, description, detach, features, first_action, goes_back, goes_on, hardware, kill, last_stop, moves, no_acknowledgements, parted, range_step, read_memory, register, registers, set_trap, software, steps, steps_back, write_data, write_digits, write_register, write_registers, writes}
-use Rattle.rv_remote.specs.Numbers.{behind, bytes_of, number_of, numbers_at, place_of, until, value_of}
+use Rattle.std.proofs.Common.{◌≡◌, ◌∷◌, ◌+◌, ◌≤◌, ℕ, List, Option, Some, ap, length, refl}
+use Rattle.std.proofs.lemmas.Bool.{eq-eqb, le-leb}
+use Rattle.rv_remote.specs.Grammar.{IsRequest, IsTrap, actions, clear_trap, command, description, detach, features, first_action, goes_back, goes_on, hardware, kill, last_stop, moves, no_acknowledgements, range_step, read_memory, register, registers, set_trap, software, steps, steps_back, write_data, write_digits, write_register, write_registers, writes}
+use Rattle.rv_remote.specs.Numbers.{behind, until}
 use Rattle.rv_remote.specs.Packets as packet
 use Rattle.rv_remote.specs.Requests as args
 use Rattle.rv_remote.specs.Requests.{colon, comma, equals, register_of, semicolon, trap_at, trap_of, watch_at, watched, whole_data, written}
-use Rattle.rv_remote.specs.declared.request.Move.{Move}
 use Rattle.rv_remote.specs.declared.request.Range.{Range}
 use Rattle.rv_remote.specs.declared.request.Request.{Request}
 use Rattle.rv_remote.specs.declared.request.Request.TheVariants as ask

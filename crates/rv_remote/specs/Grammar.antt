@@ -1,7 +1,7 @@
 -- Which packets ask what: a row for each packet of the protocol, in its order of fields. Other texts ask nothing, and are refused.
-use Rattle.std.specs.Prelude.{ℕ, List, [], ◌∷◌, ◌++◌, ◌≡◌, ◌≤◌, ◌+◌, ◌^◌, Some, codes, length}
+use Rattle.std.specs.Prelude.{ℕ, List, ◌∷◌, ◌++◌, ◌≡◌, ◌≤◌, ◌+◌, Some, codes, length}
 use Rattle.rv_remote.specs.Numbers.{bytes_of, number_of, value_of}
-use Rattle.rv_remote.specs.Requests.{colon, comma, equals, register_of, semicolon, whole_data}
+use Rattle.rv_remote.specs.Requests.{colon, comma, equals, register_of, whole_data}
 use Rattle.rv_remote.specs.declared.request.Move.{Move}
 use Rattle.rv_remote.specs.declared.request.Move.TheVariants as move
 use Rattle.rv_remote.specs.declared.request.Register.{Register}
