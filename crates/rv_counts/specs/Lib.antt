@@ -1,0 +1,5 @@
+pub mod Table
+pub mod Text
+pub mod Sum
+pub mod Read
+pub use Rattle.rv_text.specs.Words

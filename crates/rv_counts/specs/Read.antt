@@ -1,0 +1,39 @@
+-- Which line of a text is the first that no table has there.
+use Rattle.std.specs.Prelude.{◌≡◌, ◌==◌, ◌+◌, ◌-◌, ℕ, if◌then◌else◌, List, [], ◌∷◌, ◌++◌, Result, Ok, Err}
+use Rattle.rv_counts.specs.declared.table.CountTable.{CountTable}
+use Rattle.rv_counts.specs.declared.read.ReadError.{ReadError}
+use Rattle.rv_counts.specs.declared.read.ReadError.TheVariants.{OutOfMemory, Line, CutOff}
+use Rattle.rv_counts.specs.Table.{IsTable}
+use Rattle.rv_counts.specs.Text.{table_text}
+
+-- how many line feeds a text has
+abbrev pub count_of_line_feeds : List ℕ → ℕ
+count_of_line_feeds [] = 0
+count_of_line_feeds (b ∷ bs) = if b == 10 then count_of_line_feeds bs + 1 else count_of_line_feeds bs
+
+-- the first so many lines of a text, each with its line feed if it has one
+unfoldable pub first_lines : ℕ → List ℕ → List ℕ
+first_lines count [] = []
+first_lines count (b ∷ bs) =
+    if count == 0 then [] else b ∷ first_lines (if b == 10 then count - 1 else count) bs
+
+-- some table's text begins with these bytes
+abbrev pub BeginsTable : List ℕ → Type 0
+BeginsTable bytes = (table : CountTable) × (rest : List ℕ) × IsTable table × (table_text table ≡ bytes ++ rest)
+
+-- a table begins with the lines before this one, and none with those and this one
+pub record IsLeastRefusedLine (line : ℕ) (bytes : List ℕ) : Type 0 where
+  pub before : BeginsTable (first_lines (line - 1) bytes)
+  pub refused : BeginsTable (first_lines line bytes) → ⊥
+
+-- the line that is told is the least that is refused; of a text that is cut off, the lines that end
+-- with a line feed begin a table, and the text is none
+abbrev pub IsLeast : ReadError → List ℕ → Type 0
+IsLeast OutOfMemory bytes = Unit {0}
+IsLeast (Line line wanted) bytes = IsLeastRefusedLine line bytes
+IsLeast CutOff bytes = BeginsTable (first_lines (count_of_line_feeds bytes) bytes)
+
+-- the answer is this, unless memory ran out
+abbrev pub AnswersUnlessMemory : {X : Type 0} → X → Result X ReadError → Type 0
+AnswersUnlessMemory x (Ok y) = y ≡ x
+AnswersUnlessMemory x (Err e) = e ≡ OutOfMemory
