@@ -1,2 +1,4 @@
 pub mod Told
 pub mod Order
+pub mod Adding
+pub mod Paths

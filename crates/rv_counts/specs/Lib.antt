@@ -1,5 +1,6 @@
 pub mod Table
 pub mod Text
 pub mod Sum
+pub mod SumSteps
 pub mod Read
 pub use Rattle.rv_text.specs.Words

@@ -1,7 +1,9 @@
 //! The sum of the counts of one image.
 
-ghost use Rattle.std.specs.Prelude.{◌≡◌, ◌+◌, ◌^◌, ◌≤◌, ◌<◌, IfOk, IfErr};
+ghost use Rattle.std.specs.Prelude.{◌≡◌, ◌+◌, ◌^◌, ◌≤◌, ◌<◌, IfOk, IfErr, length};
+ghost use Rattle.std.specs.List.{AllByRecursion};
 ghost use Rattle.rv_counts.specs.Sum.{IsSumOfCounts, IsTooGreatAt};
+ghost use Rattle.rv_counts.specs.SumSteps.{IsNextCount};
 ghost use Rattle.rv_counts.specs.Table.{AreCounts, IsCounted};
 ghost use Rattle.rv_counts.specs.declared.sum.SumError.TheVariants.{Count};
 
@@ -25,19 +27,68 @@ pub(crate) fn sum_of_counts(
     let mut from_a = 0;
     let mut from_b = 0;
     while from_a < a.len() || from_b < b.len() {
-        if from_b == b.len() || (from_a < a.len() && a[from_a].address < b[from_b].address) {
-            push_item(&mut sums, a[from_a])?;
-            from_a += 1;
-        } else if from_a == a.len() || b[from_b].address < a[from_a].address {
-            push_item(&mut sums, b[from_b])?;
-            from_b += 1;
-        } else {
-            push_item(&mut sums, sum_at_address(a[from_a], b[from_b])?)?;
-            from_a += 1;
-            from_b += 1;
-        }
+        let next = next_count(&a[from_a..], &b[from_b..])?;
+        push_item(&mut sums, next.sum)?;
+        from_a += next.of_a;
+        from_b += next.of_b;
     }
     Ok(Addresses::new(sums))
+}
+
+/// The first entry of a sum, and of how many entries of each list it is the sum.
+#[derive(Clone, Copy)]
+pub(crate) struct NextCount {
+    pub(crate) sum: AddressCounts,
+    pub(crate) of_a: usize,
+    pub(crate) of_b: usize,
+}
+
+// The entry of the lowest address in both lists.
+fn next_count(a: &[AddressCounts], b: &[AddressCounts]) -> Result<NextCount, SumError>
+    requires a { AllByRecursion IsCounted a.now }
+    requires b { AllByRecursion IsCounted b.now }
+    requires some { 0 < length a.now + length b.now }
+    ensures value { IfOk result (λ next. IsNextCount a.now b.now next) }
+    ensures refused { IfErr result (λ error. IsTooGreatAt error a.now b.now) }
+{
+    if b.is_empty() {
+        return Ok(count_of_first(a[0]));
+    }
+    if a.is_empty() {
+        return Ok(count_of_second(b[0]));
+    }
+    if a[0].address < b[0].address {
+        return Ok(count_of_first(a[0]));
+    }
+    if b[0].address < a[0].address {
+        return Ok(count_of_second(b[0]));
+    }
+    let sum = sum_at_address(a[0], b[0])?;
+    Ok(NextCount {
+        sum,
+        of_a: 1,
+        of_b: 1,
+    })
+}
+
+fn count_of_first(sum: AddressCounts) -> NextCount
+    ensures { result ≡ record { sum = sum; of_a = 1; of_b = 0 } }
+{
+    NextCount {
+        sum,
+        of_a: 1,
+        of_b: 0,
+    }
+}
+
+fn count_of_second(sum: AddressCounts) -> NextCount
+    ensures { result ≡ record { sum = sum; of_a = 0; of_b = 1 } }
+{
+    NextCount {
+        sum,
+        of_a: 0,
+        of_b: 1,
+    }
 }
 
 // The sum of two counts of one address.
@@ -49,6 +100,7 @@ fn sum_at_address(a: AddressCounts, b: AddressCounts) -> Result<AddressCounts, S
     ensures taken { IfOk result (λ sum. sum.taken ≡ a.taken + b.taken) }
     ensures error { IfErr result (λ error. error ≡ Count a.address) }
     ensures too_great { IfErr result (λ error. 2 ^ 64 ≤ a.begun + b.begun) }
+    ensures fits { IfOk result (λ sum. sum.begun < 2 ^ 64) }
 {
     match a.begun.checked_add(b.begun) {
         // It was taken as often as it began, or less often: so this sum fits too.
