@@ -57,7 +57,7 @@ second_ahead c a cs others counted above h = record {
 }
 
 -- the sum at one address is the sum of two parts
-parts : (s t : Bool) (x y z p q r : ℕ) → s ≡ t → z ≡ x + y → r ≡ p + q
+pub parts : (s t : Bool) (x y z p q r : ℕ) → s ≡ t → z ≡ x + y → r ≡ p + q
     → cond s z 0 + r ≡ (cond s x 0 + p) + (cond t y 0 + q)
 parts s true x y z p q r e f g = (ap (λ (u : Bool). cond u z 0 + r) e) ∙ (let k : z + r ≡ (x + p) + (y + q) = omega arith in k)
     ∙ sym (ap (λ (u : Bool). (cond u x 0 + p) + (y + q)) e)

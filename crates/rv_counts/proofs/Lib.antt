@@ -1,4 +1,5 @@
 pub mod Told
-pub mod Order
+pub mod ByteOrder
 pub mod Adding
 pub mod Paths
+pub mod AddingImages

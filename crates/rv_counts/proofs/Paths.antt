@@ -3,7 +3,7 @@ use Rattle.std.proofs.Common.{◌≡◌, ◌∙◌, ◌==◌, ◌<◌, ◌⊎◌
 use Rattle.std.proofs.lemmas.Bool.{and_parts, and_cases, or_cases, or_parts, cases_Bool, cases_order, cond-true, cond-false, ltb-true, eqb-true, lt-ltb, eq-eqb, both_ways}
 use Rattle.std.specs.Prelude.{◌&&◌, ◌||◌, nat_lt}
 use Rattle.rv_counts.specs.Table.{is_before, least_path, least_path_of}
-use Rattle.rv_counts.proofs.Order.{less, more, same}
+use Rattle.rv_counts.proofs.ByteOrder.{less, more, same}
 
 -- ---- two texts, by their first bytes
 

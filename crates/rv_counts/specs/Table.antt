@@ -2,7 +2,7 @@
 use Rattle.std.specs.Prelude.{◌≡◌, ◌==◌, ◌+◌, ◌%◌, ◌^◌, ◌<◌, ◌≤◌, ℕ, if◌then◌else◌, List, [], ◌∷◌, length}
 use Rattle.std.specs.Prelude.{Option, Some, None, Bool, true, false, ◌&&◌, ◌||◌, not, nat_le, nat_lt}
 use Rattle.std.specs.List.{AllByRecursion}
-use Rattle.std.specs.Str.{bytes_eq}
+use Rattle.std.specs.Str.{bytes_eq, IsUtf8}
 use Rattle.rv_counts.specs.declared.table.AddressCounts.{AddressCounts}
 use Rattle.rv_counts.specs.declared.table.ImageCounts.{ImageCounts}
 use Rattle.rv_counts.specs.declared.table.CountTable.{CountTable}
@@ -80,21 +80,22 @@ pub record IsImage (i : ImageCounts) : Type 0 where
   pub digest : length i.digest ≡ 32
   pub bytes : AllByRecursion (λ b. b < 256) i.digest
   pub path : has_line_feed i.path ≡ false
+  pub text : IsUtf8 i.path
   pub counts : AreCounts i.addresses
 
--- digests rise, each behind the one before
-unfoldable pub digests_rise_behind : List ℕ → List ImageCounts → Bool
-digests_rise_behind digest [] = true
-digests_rise_behind digest (i ∷ is) = is_before digest i.digest && digests_rise_behind i.digest is
+-- a digest stands behind the last one, if there is one
+abbrev pub is_behind : Option (List ℕ) → List ℕ → Bool
+is_behind None digest = true
+is_behind (Some last) digest = is_before last digest
 
--- each digest stands once, in order
-unfoldable pub digests_rise : List ImageCounts → Bool
-digests_rise [] = true
-digests_rise (i ∷ is) = digests_rise_behind i.digest is
+-- each digest stands once, in order, behind the last one
+unfoldable pub digests_rise : Option (List ℕ) → List ImageCounts → Bool
+digests_rise last [] = true
+digests_rise last (i ∷ is) = is_behind last i.digest && digests_rise (Some i.digest) is
 
 -- a table that can be
 pub record IsTable (t : CountTable) : Type 0 where
   pub images : AllByRecursion IsImage t.images
-  pub rising : digests_rise t.images ≡ true
+  pub rising : digests_rise None t.images ≡ true
   pub few : length t.images < 2 ^ 64
   pub runs : t.runs < 2 ^ 64

@@ -8,9 +8,11 @@
 
 mod growth;
 mod law;
+mod order;
 mod read;
 mod sum;
 mod sum_of_counts;
+mod sum_of_images;
 mod table;
 #[cfg(test)]
 mod tests;

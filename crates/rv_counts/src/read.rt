@@ -8,7 +8,7 @@ ghost use Rattle.rv_counts.specs.Read.{AnswersUnlessMemory, BeginsTable, IsLeast
 ghost use Rattle.rv_counts.specs.declared.read.ReadError.TheVariants.{OutOfMemory, CutOff};
 
 use crate::growth::push_item;
-use crate::sum::is_before;
+use crate::order::is_before;
 use crate::table::{AddressCounts, Addresses, CountTable, Digest, ImageCounts, Images};
 use crate::text::{push_address_line, push_image_line, push_last_line};
 use crate::values::{

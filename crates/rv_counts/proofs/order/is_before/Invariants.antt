@@ -1,7 +1,7 @@
 -- What is ahead decides, for all before is the same.
 use Rattle.std.proofs.Common.{◌≡◌, ◌≤◌, length, drop}
 use Rattle.rv_counts.specs.Table.{is_before}
-use Rattle.rv_counts.proofs.sum.is_before.Given as goal
+use Rattle.rv_counts.proofs.order.is_before.Given as goal
 
 abbrev pub invariant-loop-at : goal.invariant-loop-at
 invariant-loop-at l = record {
