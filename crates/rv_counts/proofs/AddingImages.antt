@@ -10,8 +10,9 @@ use Rattle.rv_counts.specs.declared.table.ImageCounts.{ImageCounts}
 use Rattle.rv_counts.specs.declared.sum.SumError.{SumError}
 use Rattle.rv_counts.specs.declared.sum.SumError.TheVariants.{OutOfMemory, Count, Runs}
 use Rattle.rv_counts.specs.declared.sum_of_images.NextImage.{NextImage}
+use Rattle.rv_counts.specs.Lines.{lacks}
 use Rattle.rv_counts.specs.Table.{begun_at, taken_at, begun_in, taken_in, path_in, least_path, least_path_of}
-use Rattle.rv_counts.specs.Table.{is_before, is_behind, digests_rise, has_line_feed, IsImage}
+use Rattle.rv_counts.specs.Table.{is_before, is_behind, digests_rise, IsImage}
 use Rattle.rv_counts.specs.Sum.{IsSumOfCounts, IsTooGreatAt}
 use Rattle.rv_counts.specs.SumSteps.{ImagesAddUp, IsNextImage, IsTooGreatIn}
 use Rattle.rv_counts.proofs.Adding.{parts}
@@ -96,7 +97,7 @@ both_images_ahead x y sum xs ys others image also one at path counts h = record 
   each = ((record {
     digest = ap length at ∙ image.digest;
     bytes = subst (λ (s : List ℕ). AllByRecursion (λ b. b < 256) s) (sym at) image.bytes;
-    path = ap has_line_feed path ∙ least_is (λ s. has_line_feed s ≡ false) x.path y.path image.path also.path;
+    path = ap (lacks 10) path ∙ least_is (λ s. lacks 10 s ≡ true) x.path y.path image.path also.path;
     text = subst (λ (s : List ℕ). IsUtf8 s) (sym path) (least_is IsUtf8 x.path y.path image.text also.text);
     counts = counts.counts;
   }), h.each);

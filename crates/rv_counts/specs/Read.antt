@@ -1,21 +1,11 @@
 -- Which line of a text is the first that no table has there.
-use Rattle.std.specs.Prelude.{◌≡◌, ◌==◌, ◌+◌, ◌-◌, ℕ, if◌then◌else◌, List, [], ◌∷◌, ◌++◌, Result, Ok, Err}
+use Rattle.std.specs.Prelude.{◌≡◌, ◌==◌, ◌+◌, ◌-◌, if◌then◌else◌, ℕ, List, ◌++◌, length, take, drop, Result, Ok, Err}
 use Rattle.rv_counts.specs.declared.table.CountTable.{CountTable}
 use Rattle.rv_counts.specs.declared.read.ReadError.{ReadError}
 use Rattle.rv_counts.specs.declared.read.ReadError.TheVariants.{OutOfMemory, Line, CutOff}
+use Rattle.rv_counts.specs.Lines.{count_of_line_feeds, first_lines, whole_line}
 use Rattle.rv_counts.specs.Table.{IsTable}
 use Rattle.rv_counts.specs.Text.{table_text}
-
--- how many line feeds a text has
-abbrev pub count_of_line_feeds : List ℕ → ℕ
-count_of_line_feeds [] = 0
-count_of_line_feeds (b ∷ bs) = if b == 10 then count_of_line_feeds bs + 1 else count_of_line_feeds bs
-
--- the first so many lines of a text, each with its line feed if it has one
-unfoldable pub first_lines : ℕ → List ℕ → List ℕ
-first_lines count [] = []
-first_lines count (b ∷ bs) =
-    if count == 0 then [] else b ∷ first_lines (if b == 10 then count - 1 else count) bs
 
 -- some table's text begins with these bytes
 abbrev pub BeginsTable : List ℕ → Type 0
@@ -30,10 +20,15 @@ pub record IsLeastRefusedLine (line : ℕ) (bytes : List ℕ) : Type 0 where
 -- with a line feed begin a table, and the text is none
 abbrev pub IsLeast : ReadError → List ℕ → Type 0
 IsLeast OutOfMemory bytes = Unit {0}
-IsLeast (Line line wanted) bytes = IsLeastRefusedLine line bytes
+IsLeast (Line line) bytes = IsLeastRefusedLine line bytes
 IsLeast CutOff bytes = BeginsTable (first_lines (count_of_line_feeds bytes) bytes)
 
 -- the answer is this, unless memory ran out
 abbrev pub AnswersUnlessMemory : {X : Type 0} → X → Result X ReadError → Type 0
 AnswersUnlessMemory x (Ok y) = y ≡ x
 AnswersUnlessMemory x (Err e) = e ≡ OutOfMemory
+
+-- what is told of the line at a place: the text is cut off, or the line's number from 1
+abbrev pub read_error_at : ℕ → List ℕ → ReadError
+read_error_at place bytes =
+    if length (whole_line (drop place bytes)) == 0 then CutOff else Line (count_of_line_feeds (take place bytes) + 1)

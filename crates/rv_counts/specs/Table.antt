@@ -3,6 +3,7 @@ use Rattle.std.specs.Prelude.{◌≡◌, ◌==◌, ◌+◌, ◌%◌, ◌^◌, �
 use Rattle.std.specs.Prelude.{Option, Some, None, Bool, true, false, ◌&&◌, ◌||◌, not, nat_le, nat_lt}
 use Rattle.std.specs.List.{AllByRecursion}
 use Rattle.std.specs.Str.{bytes_eq, IsUtf8}
+use Rattle.rv_counts.specs.Lines.{lacks}
 use Rattle.rv_counts.specs.declared.table.AddressCounts.{AddressCounts}
 use Rattle.rv_counts.specs.declared.table.ImageCounts.{ImageCounts}
 use Rattle.rv_counts.specs.declared.table.CountTable.{CountTable}
@@ -71,15 +72,11 @@ pub record AreCounts (cs : List AddressCounts) : Type 0 where
   pub each : AllByRecursion IsCounted cs
   pub rising : rise_from 0 cs ≡ true
 
--- a path ends where its line does
-abbrev pub has_line_feed : List ℕ → Bool
-has_line_feed [] = false
-has_line_feed (b ∷ bs) = (b == 10) || has_line_feed bs
-
+-- a path has no line feed, for it ends where its line does
 pub record IsImage (i : ImageCounts) : Type 0 where
   pub digest : length i.digest ≡ 32
   pub bytes : AllByRecursion (λ b. b < 256) i.digest
-  pub path : has_line_feed i.path ≡ false
+  pub path : lacks 10 i.path ≡ true
   pub text : IsUtf8 i.path
   pub counts : AreCounts i.addresses
 

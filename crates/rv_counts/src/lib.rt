@@ -8,8 +8,10 @@
 
 mod growth;
 mod law;
+mod line_parts;
 mod order;
 mod read;
+mod read_lines;
 mod sum;
 mod sum_of_counts;
 mod sum_of_images;
@@ -17,13 +19,12 @@ mod table;
 #[cfg(test)]
 mod tests;
 mod text;
-mod values;
 
 pub use law::{
     empty_table_adds_nothing, one_list_has_these_counts, sums_of_counts_associate,
     sums_of_counts_commute,
 };
-pub use read::{ReadError, Wanted, read_table};
+pub use read::{ReadError, read_table};
 pub use sum::{SumError, sum_of_tables};
 pub use table::{AddressCounts, Addresses, CountTable, Digest, ImageCounts, Images};
 pub use text::table_text;

@@ -97,7 +97,7 @@ const REFUSED: [(&str, usize); 16] = [
 fn refuses_texts(rt: HostRuntime) -> Result<(), Fail> {
     for (text, expected) in REFUSED {
         let line = match read_table(rt.alloc(), text.as_bytes()) {
-            Err(ReadError::Line(line, _)) => line,
+            Err(ReadError::Line(line)) => line,
             Err(ReadError::CutOff) => 0,
             _ => return Err(text.into()),
         };
