@@ -39,7 +39,7 @@ pub no_images_rise : (last : Option (List ℕ)) → digests_rise last [] ≡ tru
 unfolding digests_rise
 no_images_rise last = refl
 
-images_raised : (last : Option (List ℕ)) (digest : List ℕ) (i : ImageCounts) (is : List ImageCounts)
+pub images_raised : (last : Option (List ℕ)) (digest : List ℕ) (i : ImageCounts) (is : List ImageCounts)
     → digests_rise last (i ∷ is) ≡ true → is_before digest i.digest ≡ true → digests_rise (Some digest) (i ∷ is) ≡ true
 images_raised last digest i is h before = images_rise (Some digest) i is before (images_behind last i is h)
 

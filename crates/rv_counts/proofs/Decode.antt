@@ -45,7 +45,7 @@ pub record IsRest (n : ℕ) (last : Option (List ℕ)) (lowest : Option ℕ) (te
 
 -- ---- which line stands first
 
-first_address : (c : AddressCounts) (cs : List AddressCounts) (t : List ℕ)
+pub first_address : (c : AddressCounts) (cs : List AddressCounts) (t : List ℕ)
     → flat_map address_line (c ∷ cs) ++ t ≡ address_line c ++ (flat_map address_line cs ++ t)
 first_address c cs t = append_assoc (address_line c) (flat_map address_line cs) t
 

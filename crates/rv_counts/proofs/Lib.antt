@@ -12,3 +12,4 @@ pub mod Reading
 pub mod Refusing
 pub mod ReadingLines
 pub mod ReadTable
+pub mod ToldImages

@@ -1,7 +1,9 @@
 -- From the images that were read to the table, or to the line that is refused.
 use Rattle.std.proofs.Common.{◌≡◌, ◌∙◌, ◌==◌, ◌+◌, ◌-◌, ◌<◌, ◌≤◌, ◌^◌, ℕ, zero, suc, Bool, true, false, not, cond, List, [], ◌∷◌, ◌++◌, Option, Some, None, length, drop, take, get_or, refl, sym, ap, subst, append_assoc, append-nil, length-append, length-drop, arith, inl, inr}
 use Rattle.std.proofs.lemmas.List.{drop-drop, take_at, take_more, drop_all}
-use Rattle.std.specs.Prelude.{codes}
+use Rattle.std.proofs.lemmas.Bool.{not-false, not-true, both_ways}
+use Rattle.std.specs.Cmp.Lexicographic.{bytes_decides}
+use Rattle.std.specs.Str.{bytes_eq}
 use Rattle.std.specs.List.{AllByRecursion, flat_map}
 use Rattle.rv_counts.specs.declared.table.ImageCounts.{ImageCounts}
 use Rattle.rv_counts.specs.declared.table.CountTable.{CountTable}
@@ -14,7 +16,7 @@ use Rattle.rv_counts.specs.Text.{line, first_line, image_text, last_line, table_
 use Rattle.rv_counts.specs.ReadSteps.{lowest_in, last_digest, IsNoAddress, IsNoImage, AreImageLines}
 use Rattle.rv_counts.specs.Read.{IsLeast, IsLeastRefusedLine, read_error_at}
 use Rattle.rv_counts.proofs.Pieces.{cases_line, line_at, no_line}
-use Rattle.rv_counts.proofs.Reading.{feeds-append, no_feeds}
+use Rattle.rv_counts.proofs.Reading.{feeds-append}
 use Rattle.rv_counts.proofs.ReadingLines.{whole_split, whole_within}
 use Rattle.rv_counts.proofs.Refusing.{AreImages, text_so_far, is_table, text_of, refused_line, refused_first, refused_end, cut_first, cut_behind}
 use Rattle.rv_counts.proofs.Refusing.{no_table_refused, no_table_cut, no_table_cut_first}
@@ -70,6 +72,24 @@ behind_images bytes read place first h few e =
       address = subst (λ (s : List ℕ). IsNoAddress (lowest_in None read.images) (whole_line s)) rest h.address;
       image = subst (λ (s : List ℕ). IsNoImage (last_digest None read.images) (whole_line s)) rest h.image;
     }
+
+pub end_within : (bytes : List ℕ) (images : List ImageCounts) (place : ℕ) → IsBehind bytes images place
+    → place + length (whole_line (drop place bytes)) ≤ length bytes
+end_within bytes images place h =
+    let k = h.within in
+    let w = whole_within (drop place bytes) in
+    let l = length-drop place bytes in
+    omega (arith, k, w, l)
+
+pub same_first : (a b bytes : List ℕ) (t : Bool) → t ≡ not (bytes_eq a b) → t ≡ false → a ≡ whole_line bytes
+    → b ≡ first_line → whole_line bytes ≡ first_line
+same_first a b bytes t is equal w f =
+    sym w ∙ (bytes_decides a b).0 (not-false (bytes_eq a b) (sym is ∙ equal)) ∙ f
+
+pub other_first : (a b bytes : List ℕ) (t : Bool) → t ≡ not (bytes_eq a b) → t ≡ true → a ≡ whole_line bytes
+    → b ≡ first_line → whole_line bytes ≡ first_line → ⊥
+other_first a b bytes t is differs w f e =
+    both_ways _ (not-true (bytes_eq a b) (sym is ∙ differs)) ((bytes_decides a b).1 (w ∙ e ∙ sym f))
 
 -- ---- what is told at a place
 

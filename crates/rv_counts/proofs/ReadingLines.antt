@@ -132,7 +132,7 @@ pub none_so_far : (text : List ℕ) → AreSoFar text [] 0 0
 unfolding rise_from
 none_so_far text = record { within = omega arith; lines = refl; each = tt; rising = refl; lowest = refl }
 
-further_within : (text : List ℕ) (n : ℕ) → n ≤ length text → n + length (whole_line (drop n text)) ≤ length text
+pub further_within : (text : List ℕ) (n : ℕ) → n ≤ length text → n + length (whole_line (drop n text)) ≤ length text
 further_within text n h =
     let w = whole_within (drop n text) in
     let l = length-drop n text in

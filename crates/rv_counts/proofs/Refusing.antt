@@ -11,7 +11,7 @@ use Rattle.rv_counts.specs.Table.{digests_rise, IsCounted, IsImage, IsTable}
 use Rattle.rv_counts.specs.Text.{line, first_line, address_line, image_line, image_text, last_line, table_text}
 use Rattle.rv_counts.specs.ReadSteps.{lowest_in, last_digest, IsNoAddress, IsNoImage}
 use Rattle.rv_counts.specs.Read.{BeginsTable, IsLeastRefusedLine}
-use Rattle.rv_counts.proofs.LineTexts.{last_words, address_is_line, image_is_line, last_is_line, lacks-last, same_runs}
+use Rattle.rv_counts.proofs.LineTexts.{address_words, image_words, last_words, address_is_line, image_is_line, last_is_line, lacks-last, same_runs}
 use Rattle.rv_counts.proofs.LineTexts.{address_is_not_last, image_is_not_last}
 use Rattle.rv_counts.proofs.Decode.{same_line, first_address, first_image, IsRest, behind_images, rest_of_table, no_rest}
 use Rattle.rv_counts.proofs.Reading.{no_lines, lines_up_to, lines_past, lines_begin, feeds-append, no_feeds}
@@ -34,11 +34,11 @@ ends_addresses : (a : List ℕ) (cs : List AddressCounts) → EndsLine a → End
 ends_addresses a [] h = ends_front a h
 ends_addresses a (c ∷ cs) h =
     subst (λ (s : List ℕ). EndsLine s) (append_assoc a (address_line c) (flat_map address_line cs))
-    (ends_addresses (a ++ address_line c) cs (ends-append a (address_line c) (record { front = _; all = address_is_line c })))
+    (ends_addresses (a ++ address_line c) cs (ends-append a (address_line c) (record { front = address_words c; all = address_is_line c })))
 
 image_ends : (i : ImageCounts) → EndsLine (image_text i)
 unfolding image_text
-image_ends i = ends_addresses (image_line i) i.addresses (record { front = _; all = image_is_line i })
+image_ends i = ends_addresses (image_line i) i.addresses (record { front = image_words i; all = image_is_line i })
 
 ends_images : (a : List ℕ) (is : List ImageCounts) → EndsLine a → EndsLine (a ++ flat_map image_text is)
 ends_images a [] h = ends_front a h
@@ -192,8 +192,8 @@ pub refused_end : (images : List ImageCounts) (runs b : ℕ) (rest bytes : List 
     → n ≡ count_of_line_feeds (text_so_far images ++ last_line (length images) runs) + 1 → IsLeastRefusedLine n bytes
 refused_end images runs b rest bytes n h fits is number =
     let text = text_so_far images ++ last_line (length images) runs in
-    let ends = ends-append (text_so_far images) (last_line (length images) runs)
-        (record { front = _; all = last_is_line (length images) runs }) in
+    let ends : EndsLine text = ends-append (text_so_far images) (last_line (length images) runs)
+        (record { front = last_words (length images) runs; all = last_is_line (length images) runs }) in
     let before : first_lines (n - 1) bytes ≡ text =
         (let m : n - 1 ≡ count_of_line_feeds text = omega arith in
         ap (λ (k : ℕ). first_lines k bytes) m ∙ ap (first_lines (count_of_line_feeds text)) is

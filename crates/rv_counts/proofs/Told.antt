@@ -129,10 +129,10 @@ pub one_of : (xs ys : List AddressCounts) → AreCounts xs → AreCounts ys
     → ((address : ℕ) → taken_at address xs ≡ taken_at address ys) → xs ≡ ys
 one_of xs ys x y begun taken = one_list xs ys 0 0 x.each y.each x.rising y.rising begun taken
 
-either_order : (x y a b : ℕ) → x ≡ a + b → y ≡ b + a → x ≡ y
+pub either_order : (x y a b : ℕ) → x ≡ a + b → y ≡ b + a → x ≡ y
 either_order x y a b p q = omega arith
 
-either_first : (ab bc x y a b c : ℕ) → ab ≡ a + b → x ≡ ab + c → bc ≡ b + c → y ≡ a + bc → x ≡ y
+pub either_first : (ab bc x y a b c : ℕ) → ab ≡ a + b → x ≡ ab + c → bc ≡ b + c → y ≡ a + bc → x ≡ y
 either_first ab bc x y a b c p q r s = omega arith
 
 pub commute : (a b ab ba : List AddressCounts) → IsSumOfCounts a b ab → IsSumOfCounts b a ba → ab ≡ ba

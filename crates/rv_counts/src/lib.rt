@@ -21,8 +21,9 @@ mod tests;
 mod text;
 
 pub use law::{
-    empty_table_adds_nothing, one_list_has_these_counts, sums_of_counts_associate,
-    sums_of_counts_commute,
+    empty_table_adds_nothing, one_list_has_these_counts, one_table_has_these_counts,
+    one_table_has_this_text, sums_of_counts_associate, sums_of_counts_commute,
+    sums_of_tables_are_sums,
 };
 pub use read::{ReadError, read_table};
 pub use sum::{SumError, sum_of_tables};

@@ -57,13 +57,14 @@ pub fn read_table(alloc: Global, bytes: &[u8]) -> Result<CountTable, ReadError>
     match runs_of_last_line(alloc, line, read.images.as_slice().len())? {
         None => Err(refused_at(bytes, place)),
         Some(runs) => {
-            if place + line.len() == bytes.len() {
+            let end = place + line.len();
+            if end == bytes.len() {
                 Ok(CountTable {
                     images: read.images,
                     runs,
                 })
             } else {
-                Err(ReadError::Line(number_of_line(bytes, place + line.len())))
+                Err(ReadError::Line(number_of_line(bytes, end)))
             }
         }
     }

@@ -206,6 +206,8 @@ pub(crate) fn runs_of_last_line(
     line: &[u8],
     images: usize,
 ) -> Result<Option<u64>, AllocError>
+    ensures few { images < 2 ^ 64 }
+    ensures fits { IfOk result (λ read. IfSome read (λ runs. runs < 2 ^ 64)) }
     ensures line { IfOk result (λ read. IfSome read (λ runs. line.now ≡ last_line images runs)) }
     ensures none { IfOk result (λ read. IfNone read ((runs : ℕ) → runs < 2 ^ 64 → line.now ≡ last_line images runs → ⊥)) }
 {
