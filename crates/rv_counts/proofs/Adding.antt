@@ -70,13 +70,16 @@ pub both_ahead : (c d sum : AddressCounts) (cs ds others : List AddressCounts) �
     → sum.taken ≡ c.taken + d.taken → sum.begun < 2 ^ 64
     → AddsUp cs ds others → AddsUp (c ∷ cs) (d ∷ ds) (sum ∷ others)
 both_ahead c d sum cs ds others counted also one at begun taken fits h = record {
-  each = ((record {
-    address = let k = counted.address in omega arith;
-    even = ap (λ (n : ℕ). n % 2) at ∙ counted.even;
-    begun = let k = counted.begun in omega arith;
-    fits = fits;
-    taken = let k = counted.taken in let m = also.taken in omega arith;
-  }), h.each);
+  each = (
+    (record {
+      address = let k = counted.address in omega arith;
+      even = ap (λ (n : ℕ). n % 2) at ∙ counted.even;
+      begun = let k = counted.begun in omega arith;
+      fits = fits;
+      taken = let k = counted.taken in let m = also.taken in omega arith;
+    }),
+    h.each,
+  );
   rising = λ lowest p q.
       rises lowest sum others (let k = low lowest c cs p in omega arith)
       (h.rising (sum.address + 1) (ap (λ (n : ℕ). rise_from (n + 1) cs) at ∙ behind lowest c cs p)
@@ -188,8 +191,8 @@ summed a b sums n m x y p q ahead =
     let e = drop_all n a p in
     let f = drop_all m b q in
     let none : AddsUp (drop n a) (drop m b) [] =
-        subst (λ (s : List AddressCounts). AddsUp s (drop m b) []) (sym e)
-        (subst (λ (s : List AddressCounts). AddsUp [] s []) (sym f) none_adds_up) in
+    subst (λ (s : List AddressCounts). AddsUp s (drop m b) []) (sym e)
+    (subst (λ (s : List AddressCounts). AddsUp [] s []) (sym f) none_adds_up) in
     let all : AddsUp a b sums = subst (λ (s : List AddressCounts). AddsUp a b s) (append-nil sums) (ahead [] none) in record {
       counts = record { each = all.each; rising = all.rising 0 x.rising y.rising };
       begun = all.begun;

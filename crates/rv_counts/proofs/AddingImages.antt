@@ -94,13 +94,16 @@ both_images_ahead : (x y sum : ImageCounts) (xs ys others : List ImageCounts) �
     → IsSumOfCounts x.addresses y.addresses sum.addresses
     → ImagesAddUp xs ys others → ImagesAddUp (x ∷ xs) (y ∷ ys) (sum ∷ others)
 both_images_ahead x y sum xs ys others image also one at path counts h = record {
-  each = ((record {
-    digest = ap length at ∙ image.digest;
-    bytes = subst (λ (s : List ℕ). AllByRecursion (λ b. b < 256) s) (sym at) image.bytes;
-    path = ap (lacks 10) path ∙ least_is (λ s. lacks 10 s ≡ true) x.path y.path image.path also.path;
-    text = subst (λ (s : List ℕ). IsUtf8 s) (sym path) (least_is IsUtf8 x.path y.path image.text also.text);
-    counts = counts.counts;
-  }), h.each);
+  each = (
+    (record {
+      digest = ap length at ∙ image.digest;
+      bytes = subst (λ (s : List ℕ). AllByRecursion (λ b. b < 256) s) (sym at) image.bytes;
+      path = ap (lacks 10) path ∙ least_is (λ s. lacks 10 s ≡ true) x.path y.path image.path also.path;
+      text = subst (λ (s : List ℕ). IsUtf8 s) (sym path) (least_is IsUtf8 x.path y.path image.text also.text);
+      counts = counts.counts;
+    }),
+    h.each,
+  );
   rising = λ last p q. images_rise last sum others (ap (is_behind last) at ∙ image_low last x xs p)
       (h.rising (Some sum.digest) (ap (λ (s : List ℕ). digests_rise (Some s) xs) at ∙ images_behind last x xs p)
       (ap (λ (s : List ℕ). digests_rise (Some s) ys) (at ∙ one) ∙ images_behind last y ys q));

@@ -85,19 +85,21 @@ address_step n last lowest c s (d ∷ ds) more runs h all counted rising images 
     (ap (λ (x : List ℕ). x ++ s) (sym (address_is_line c)) ∙ all ∙ first_address d ds t
     ∙ ap (λ (x : List ℕ). x ++ (flat_map address_line ds ++ t)) (address_is_line d)) in
     let one : d ≡ c = same_address d c counted.0 h (address_is_line d ∙ sym same.0 ∙ sym (address_is_line c)) in
-    let r = rises lowest d ds rising in
-    (ap (λ (x : AddressCounts). is_from lowest x.address) (sym one) ∙ r.0, record {
-      cs = ds;
-      more = more;
-      runs = runs;
-      all = same.1;
-      counted = counted.1;
-      rising = ap (λ (x : AddressCounts). rise_from (x.address + 1) ds) (sym one) ∙ r.1;
-      images = images;
-      digests = digests;
-      few = few;
-      fits = fits;
-    })
+    let r = rises lowest d ds rising in (
+      ap (λ (x : AddressCounts). is_from lowest x.address) (sym one) ∙ r.0,
+      record {
+        cs = ds;
+        more = more;
+        runs = runs;
+        all = same.1;
+        counted = counted.1;
+        rising = ap (λ (x : AddressCounts). rise_from (x.address + 1) ds) (sym one) ∙ r.1;
+        images = images;
+        digests = digests;
+        few = few;
+        fits = fits;
+      },
+    )
 
 one_behind : (n m : ℕ) → n + suc m ≡ n + 1 + m
 one_behind n m = omega arith
@@ -119,20 +121,22 @@ image_step n last lowest i s [] (j ∷ js) runs h all counted images digests few
     let same = same_line (image_words i) (image_words j) s t (lacks-image i h) (lacks-image j images.0)
     (ap (λ (x : List ℕ). x ++ s) (sym (image_is_line i)) ∙ all ∙ first_image j js end
     ∙ ap (λ (x : List ℕ). x ++ t) (image_is_line j)) in
-    let one : j.digest ≡ i.digest = same_digest j i images.0 h (image_is_line j ∙ sym same.0 ∙ sym (image_is_line i)) in
-    (ap (is_behind last) (sym one) ∙ image_low last j js digests, record {
-      cs = j.addresses;
-      more = js;
-      runs = runs;
-      all = same.1 ∙ ap (λ (m : ℕ). flat_map address_line j.addresses ++ (flat_map image_text js ++ last_line m runs))
-          (one_behind n (length js));
-      counted = images.0.counts.each;
-      rising = images.0.counts.rising;
-      images = images.1;
-      digests = ap (λ (d : List ℕ). digests_rise (Some d) js) (sym one) ∙ images_behind last j js digests;
-      few = omega arith;
-      fits = fits;
-    })
+    let one : j.digest ≡ i.digest = same_digest j i images.0 h (image_is_line j ∙ sym same.0 ∙ sym (image_is_line i)) in (
+      ap (is_behind last) (sym one) ∙ image_low last j js digests,
+      record {
+        cs = j.addresses;
+        more = js;
+        runs = runs;
+        all = same.1 ∙ ap (λ (m : ℕ). flat_map address_line j.addresses ++ (flat_map image_text js ++ last_line m runs))
+            (one_behind n (length js));
+        counted = images.0.counts.each;
+        rising = images.0.counts.rising;
+        images = images.1;
+        digests = ap (λ (d : List ℕ). digests_rise (Some d) js) (sym one) ∙ images_behind last j js digests;
+        few = omega arith;
+        fits = fits;
+      },
+    )
 
 pub behind_address : (n : ℕ) (last : Option (List ℕ)) (lowest : Option ℕ) (c : AddressCounts) (s : List ℕ)
     → IsCounted c → IsRest n last lowest (address_line c ++ s)

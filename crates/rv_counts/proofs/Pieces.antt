@@ -41,9 +41,10 @@ after_at byte xs rest h =
 
 pub same_cut : (byte : ℕ) (xs ys s t : List ℕ) → lacks byte xs ≡ true → lacks byte ys ≡ true
     → xs ++ byte ∷ s ≡ ys ++ byte ∷ t → (xs ≡ ys) × (s ≡ t)
-same_cut byte xs ys s t h k e =
-    (sym (before_at byte xs s h) ∙ ap (text_before_byte byte) e ∙ before_at byte ys t k,
-      sym (after_at byte xs s h) ∙ ap (text_after_byte byte) e ∙ after_at byte ys t k)
+same_cut byte xs ys s t h k e = (
+  sym (before_at byte xs s h) ∙ ap (text_before_byte byte) e ∙ before_at byte ys t k,
+  sym (after_at byte xs s h) ∙ ap (text_after_byte byte) e ∙ after_at byte ys t k,
+)
 
 -- ---- lines
 
@@ -56,7 +57,7 @@ line_at xs rest h =
     let at = place_of_at 10 xs rest h in
     let long : length (xs ++ 10 ∷ rest) ≡ length xs + suc (length rest) = length-append xs (10 ∷ rest) in
     let t : (place_of_byte 10 (xs ++ 10 ∷ rest) == length (xs ++ 10 ∷ rest)) ≡ false =
-        (λ i. at i == long i) ∙ not_length (length xs) (length rest) in
+    (λ i. at i == long i) ∙ not_length (length xs) (length rest) in
     ap (λ (b : Bool). cond b [] (take (place_of_byte 10 (xs ++ 10 ∷ rest) + 1) (xs ++ 10 ∷ rest))) t
     ∙ ap (λ (n : ℕ). take (n + 1) (xs ++ 10 ∷ rest)) at
     ∙ ap (λ (s : List ℕ). take (length xs + 1) s) (sym (append_assoc xs (10 ∷ []) rest))
@@ -84,21 +85,21 @@ pub record IsLineAhead (text : List ℕ) : Type 0 where
 pub cases_line : (text : List ℕ) → (lacks 10 text ≡ true) ⊎ IsLineAhead text
 cases_line [] = inl refl
 cases_line (b ∷ bs) = elim (cases_Bool (b == 10)) [
-      | inl e ↦ inr (record { front = []; rest = bs; plain = refl; all = ap (λ (n : ℕ). n ∷ bs) (eqb-true b 10 e) })
-      | inr e ↦ elim (cases_line bs) [
-        | inl h ↦ inl (and_from (not (b == 10)) (lacks 10 bs) (ap not e) h)
-        | inr h ↦ inr (record {
-          front = b ∷ h.front;
-          rest = h.rest;
-          plain = and_from (not (b == 10)) (lacks 10 h.front) (ap not e) h.plain;
-          all = ap (λ (s : List ℕ). b ∷ s) h.all;
-        })
-      ]
-    ]
+  | inl e ↦ inr (record { front = []; rest = bs; plain = refl; all = ap (λ (n : ℕ). n ∷ bs) (eqb-true b 10 e) })
+  | inr e ↦ elim (cases_line bs) [
+    | inl h ↦ inl (and_from (not (b == 10)) (lacks 10 bs) (ap not e) h)
+    | inr h ↦ inr (record {
+      front = b ∷ h.front;
+      rest = h.rest;
+      plain = and_from (not (b == 10)) (lacks 10 h.front) (ap not e) h.plain;
+      all = ap (λ (s : List ℕ). b ∷ s) h.all;
+    })
+  ]
+]
 
 pub no_line : (text : List ℕ) → lacks 10 text ≡ true → whole_line text ≡ []
 unfolding whole_line
 no_line text h =
     let t : (place_of_byte 10 text == length text) ≡ true =
-        ap (λ (n : ℕ). n == length text) (lacking_place 10 text h) ∙ same_number (length text) in
+    ap (λ (n : ℕ). n == length text) (lacking_place 10 text h) ∙ same_number (length text) in
     ap (λ (b : Bool). cond b [] (take (place_of_byte 10 text + 1) text)) t

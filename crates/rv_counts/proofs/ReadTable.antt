@@ -48,23 +48,23 @@ pub behind_images : (bytes : List ℕ) (read : ImageLines) (place : ℕ) → who
     → IsBehind bytes read.images place
 behind_images bytes read place first h few e =
     let rest : drop read.length (drop 11 bytes) ≡ drop place bytes =
-        drop-drop read.length 11 bytes ∙ ap (λ (n : ℕ). drop n bytes) (sym e) in
+    drop-drop read.length 11 bytes ∙ ap (λ (n : ℕ). drop n bytes) (sym e) in
     let head : bytes ≡ first_line ++ drop 11 bytes =
-        whole_split bytes ∙ ap (λ (s : List ℕ). s ++ drop (length s) bytes) first in
+    whole_split bytes ∙ ap (λ (s : List ℕ). s ++ drop (length s) bytes) first in
     let all : bytes ≡ text_so_far read.images ++ drop place bytes =
-        head ∙ ap (λ (s : List ℕ). first_line ++ s) (h.lines ∙ ap (λ (s : List ℕ). flat_map image_text read.images ++ s) rest)
-        ∙ sym (append_assoc first_line (flat_map image_text read.images) (drop place bytes)) in
+    head ∙ ap (λ (s : List ℕ). first_line ++ s) (h.lines ∙ ap (λ (s : List ℕ). flat_map image_text read.images ++ s) rest)
+    ∙ sym (append_assoc first_line (flat_map image_text read.images) (drop place bytes)) in
     let within : place ≤ length bytes =
-        (let l = length-drop 11 bytes in
-        let t = ap (λ (s : List ℕ). length s) head in
-        let p = length-append first_line (drop 11 bytes) in
-        let w = h.within in
-        omega (arith, l, t, p, w, e)) in
+    (let l = length-drop 11 bytes in
+    let t = ap (λ (s : List ℕ). length s) head in
+    let p = length-append first_line (drop 11 bytes) in
+    let w = h.within in
+    omega (arith, l, t, p, w, e)) in
     let long : length (text_so_far read.images) ≡ place =
-        (let t = ap (λ (s : List ℕ). length s) all in
-        let p = length-append (text_so_far read.images) (drop place bytes) in
-        let l = length-drop place bytes in
-        omega (arith, t, p, l, within)) in record {
+    (let t = ap (λ (s : List ℕ). length s) all in
+    let p = length-append (text_so_far read.images) (drop place bytes) in
+    let l = length-drop place bytes in
+    omega (arith, t, p, l, within)) in record {
       within = within;
       all = all;
       front = ap (take place) all ∙ take_at (text_so_far read.images) (drop place bytes) place long;
@@ -127,20 +127,20 @@ pub least_behind : (bytes : List ℕ) (images : List ImageCounts) (place : ℕ) 
     → ((r : ℕ) → r < 2 ^ 64 → whole_line (drop place bytes) ≡ last_line (length images) r → ⊥)
     → IsLeast (read_error_at place bytes) bytes
 least_behind bytes images place h no_last = elim (cases_line (drop place bytes)) [
-      | inl cut ↦ subst (λ (e : ReadError). IsLeast e bytes) (sym (told_cut place bytes cut))
-          (cut_behind images (drop place bytes) bytes h.are cut h.all)
-      | inr l ↦ subst (λ (e : ReadError). IsLeast e bytes) (sym (told_line place bytes l.front l.rest l.plain l.all))
-          (told_refused bytes images place l.front l.rest h no_last l.plain l.all)
-    ]
+  | inl cut ↦ subst (λ (e : ReadError). IsLeast e bytes) (sym (told_cut place bytes cut))
+      (cut_behind images (drop place bytes) bytes h.are cut h.all)
+  | inr l ↦ subst (λ (e : ReadError). IsLeast e bytes) (sym (told_line place bytes l.front l.rest l.plain l.all))
+      (told_refused bytes images place l.front l.rest h no_last l.plain l.all)
+]
 
 pub no_table_behind : (bytes : List ℕ) (images : List ImageCounts) (place : ℕ) → IsBehind bytes images place
     → ((r : ℕ) → r < 2 ^ 64 → whole_line (drop place bytes) ≡ last_line (length images) r → ⊥)
     → (t : CountTable) → IsTable t → table_text t ≡ bytes → ⊥
 no_table_behind bytes images place h no_last t is e = elim (cases_line (drop place bytes)) [
-      | inl cut ↦ no_table_cut images (drop place bytes) bytes h.are cut h.all t is e
-      | inr l ↦ no_table_refused (count_of_line_feeds (take place bytes) + 1) bytes
-          (told_refused bytes images place l.front l.rest h no_last l.plain l.all) t is e
-    ]
+  | inl cut ↦ no_table_cut images (drop place bytes) bytes h.are cut h.all t is e
+  | inr l ↦ no_table_refused (count_of_line_feeds (take place bytes) + 1) bytes
+      (told_refused bytes images place l.front l.rest h no_last l.plain l.all) t is e
+]
 
 -- ---- the first line
 
@@ -151,17 +151,17 @@ first_told bytes front rest other plain e =
 
 pub least_first : (bytes : List ℕ) → (whole_line bytes ≡ first_line → ⊥) → IsLeast (read_error_at 0 bytes) bytes
 least_first bytes other = elim (cases_line bytes) [
-      | inl cut ↦ subst (λ (e : ReadError). IsLeast e bytes) (sym (told_cut 0 bytes cut)) (cut_first bytes cut)
-      | inr l ↦ subst (λ (e : ReadError). IsLeast e bytes) (sym (told_line 0 bytes l.front l.rest l.plain l.all))
-          (first_told bytes l.front l.rest other l.plain l.all)
-    ]
+  | inl cut ↦ subst (λ (e : ReadError). IsLeast e bytes) (sym (told_cut 0 bytes cut)) (cut_first bytes cut)
+  | inr l ↦ subst (λ (e : ReadError). IsLeast e bytes) (sym (told_line 0 bytes l.front l.rest l.plain l.all))
+      (first_told bytes l.front l.rest other l.plain l.all)
+]
 
 pub no_table_first : (bytes : List ℕ) → (whole_line bytes ≡ first_line → ⊥) → (t : CountTable) → IsTable t
     → table_text t ≡ bytes → ⊥
 no_table_first bytes other t is e = elim (cases_line bytes) [
-      | inl cut ↦ no_table_cut_first bytes cut t e
-      | inr l ↦ no_table_refused 1 bytes (first_told bytes l.front l.rest other l.plain l.all) t is e
-    ]
+  | inl cut ↦ no_table_cut_first bytes cut t e
+  | inr l ↦ no_table_refused 1 bytes (first_told bytes l.front l.rest other l.plain l.all) t is e
+]
 
 -- ---- behind the last line
 
@@ -177,18 +177,18 @@ last_told bytes images place runs end h is e =
     let text = text_so_far images ++ last_line (length images) runs in
     let w = whole_line (drop place bytes) in
     let rest : drop (length w) (drop place bytes) ≡ drop end bytes =
-        drop-drop (length w) place bytes ∙ ap (λ (n : ℕ). drop n bytes) (sym e) in
+    drop-drop (length w) place bytes ∙ ap (λ (n : ℕ). drop n bytes) (sym e) in
     let all : bytes ≡ text ++ drop end bytes =
-        h.all ∙ ap (λ (s : List ℕ). text_so_far images ++ s) (whole_split (drop place bytes) ∙ (λ i. is i ++ rest i))
-        ∙ sym (append_assoc (text_so_far images) (last_line (length images) runs) (drop end bytes)) in
+    h.all ∙ ap (λ (s : List ℕ). text_so_far images ++ s) (whole_split (drop place bytes) ∙ (λ i. is i ++ rest i))
+    ∙ sym (append_assoc (text_so_far images) (last_line (length images) runs) (drop end bytes)) in
     let long : length text ≡ end =
-        (let t = ap (λ (s : List ℕ). length s) all in
-        let p = length-append text (drop end bytes) in
-        let l = length-drop end bytes in
-        let q = length-drop place bytes in
-        let s = whole_within (drop place bytes) in
-        let k = h.within in
-        omega (arith, t, p, l, q, s, k, e)) in record {
+    (let t = ap (λ (s : List ℕ). length s) all in
+    let p = length-append text (drop end bytes) in
+    let l = length-drop end bytes in
+    let q = length-drop place bytes in
+    let s = whole_within (drop place bytes) in
+    let k = h.within in
+    omega (arith, t, p, l, q, s, k, e)) in record {
       all = all;
       front = ap (take end) all ∙ take_at text (drop end bytes) end long;
     }

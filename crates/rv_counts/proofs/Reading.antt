@@ -35,48 +35,53 @@ lines_up_to [] rest n is =
     let e : suc n - 1 ≡ 0 = omega arith in
     first_step n 10 rest ∙ ap (λ (k : ℕ). 10 ∷ first_lines k rest) e ∙ ap (λ (s : List ℕ). 10 ∷ s) (no_lines rest)
 lines_up_to (b ∷ bs) rest n is = elim (cases_Bool (b == 10)) [
-      | inl t ↦
-          let f : count_of_line_feeds (b ∷ bs) ≡ count_of_line_feeds bs + 1 =
-          ap (λ (s : Bool). cond s (count_of_line_feeds bs + 1) (count_of_line_feeds bs)) t in
-          let e : suc n - 1 ≡ suc (count_of_line_feeds bs) = omega arith in
-          first_step n b (bs ++ 10 ∷ rest)
-          ∙ ap (λ (s : Bool). b ∷ first_lines (cond s (suc n - 1) (suc n)) (bs ++ 10 ∷ rest)) t
-          ∙ ap (λ (k : ℕ). b ∷ first_lines k (bs ++ 10 ∷ rest)) e
-          ∙ ap (λ (s : List ℕ). b ∷ s) (lines_up_to bs rest (count_of_line_feeds bs) refl)
-      | inr t ↦
-          let f : count_of_line_feeds (b ∷ bs) ≡ count_of_line_feeds bs =
-          ap (λ (s : Bool). cond s (count_of_line_feeds bs + 1) (count_of_line_feeds bs)) t in
-          first_step n b (bs ++ 10 ∷ rest)
-          ∙ ap (λ (s : Bool). b ∷ first_lines (cond s (suc n - 1) (suc n)) (bs ++ 10 ∷ rest)) t
-          ∙ ap (λ (s : List ℕ). b ∷ s) (lines_up_to bs rest n (is ∙ f))
-    ]
+  | inl t ↦
+      let f : count_of_line_feeds (b ∷ bs) ≡ count_of_line_feeds bs + 1 =
+      ap (λ (s : Bool). cond s (count_of_line_feeds bs + 1) (count_of_line_feeds bs)) t in
+      let e : suc n - 1 ≡ suc (count_of_line_feeds bs) = omega arith in
+      first_step n b (bs ++ 10 ∷ rest)
+      ∙ ap (λ (s : Bool). b ∷ first_lines (cond s (suc n - 1) (suc n)) (bs ++ 10 ∷ rest)) t
+      ∙ ap (λ (k : ℕ). b ∷ first_lines k (bs ++ 10 ∷ rest)) e
+      ∙ ap (λ (s : List ℕ). b ∷ s) (lines_up_to bs rest (count_of_line_feeds bs) refl)
+  | inr t ↦
+      let f : count_of_line_feeds (b ∷ bs) ≡ count_of_line_feeds bs =
+      ap (λ (s : Bool). cond s (count_of_line_feeds bs + 1) (count_of_line_feeds bs)) t in
+      first_step n b (bs ++ 10 ∷ rest)
+      ∙ ap (λ (s : Bool). b ∷ first_lines (cond s (suc n - 1) (suc n)) (bs ++ 10 ∷ rest)) t
+      ∙ ap (λ (s : List ℕ). b ∷ s) (lines_up_to bs rest n (is ∙ f))
+]
 
 -- one line further there is some byte, if there is one
 pub lines_past : (xs rest : List ℕ) (b : ℕ) (n : ℕ) → n ≡ count_of_line_feeds xs
     → (more : List ℕ) × (first_lines (suc (suc n)) (xs ++ 10 ∷ (b ∷ rest)) ≡ xs ++ 10 ∷ (b ∷ more))
 lines_past [] rest b n is =
-    let e : suc (suc n) - 1 ≡ 1 = omega arith in
-    (first_lines (cond (b == 10) (suc 0 - 1) (suc 0)) rest,
+    let e : suc (suc n) - 1 ≡ 1 = omega arith in (
+      first_lines (cond (b == 10) (suc 0 - 1) (suc 0)) rest,
       first_step (suc n) 10 (b ∷ rest) ∙ ap (λ (k : ℕ). 10 ∷ first_lines k (b ∷ rest)) e
-      ∙ ap (λ (s : List ℕ). 10 ∷ s) (first_step 0 b rest))
+          ∙ ap (λ (s : List ℕ). 10 ∷ s) (first_step 0 b rest),
+    )
 lines_past (x ∷ xs) rest b n is = elim (cases_Bool (x == 10)) [
-      | inl t ↦
-          let f : count_of_line_feeds (x ∷ xs) ≡ count_of_line_feeds xs + 1 =
-          ap (λ (s : Bool). cond s (count_of_line_feeds xs + 1) (count_of_line_feeds xs)) t in
-          let e : suc (suc n) - 1 ≡ suc (suc (count_of_line_feeds xs)) = omega arith in
-          let k = lines_past xs rest b (count_of_line_feeds xs) refl in
-          (k.0, first_step (suc n) x (xs ++ 10 ∷ (b ∷ rest))
+  | inl t ↦
+      let f : count_of_line_feeds (x ∷ xs) ≡ count_of_line_feeds xs + 1 =
+      ap (λ (s : Bool). cond s (count_of_line_feeds xs + 1) (count_of_line_feeds xs)) t in
+      let e : suc (suc n) - 1 ≡ suc (suc (count_of_line_feeds xs)) = omega arith in
+      let k = lines_past xs rest b (count_of_line_feeds xs) refl in (
+        k.0,
+        first_step (suc n) x (xs ++ 10 ∷ (b ∷ rest))
             ∙ ap (λ (s : Bool). x ∷ first_lines (cond s (suc (suc n) - 1) (suc (suc n))) (xs ++ 10 ∷ (b ∷ rest))) t
             ∙ ap (λ (k : ℕ). x ∷ first_lines k (xs ++ 10 ∷ (b ∷ rest))) e
-            ∙ ap (λ (s : List ℕ). x ∷ s) k.1)
-      | inr t ↦
-          let f : count_of_line_feeds (x ∷ xs) ≡ count_of_line_feeds xs =
-          ap (λ (s : Bool). cond s (count_of_line_feeds xs + 1) (count_of_line_feeds xs)) t in
-          let k = lines_past xs rest b n (is ∙ f) in
-          (k.0, first_step (suc n) x (xs ++ 10 ∷ (b ∷ rest))
+            ∙ ap (λ (s : List ℕ). x ∷ s) k.1,
+      )
+  | inr t ↦
+      let f : count_of_line_feeds (x ∷ xs) ≡ count_of_line_feeds xs =
+      ap (λ (s : Bool). cond s (count_of_line_feeds xs + 1) (count_of_line_feeds xs)) t in
+      let k = lines_past xs rest b n (is ∙ f) in (
+        k.0,
+        first_step (suc n) x (xs ++ 10 ∷ (b ∷ rest))
             ∙ ap (λ (s : Bool). x ∷ first_lines (cond s (suc (suc n) - 1) (suc (suc n))) (xs ++ 10 ∷ (b ∷ rest))) t
-            ∙ ap (λ (s : List ℕ). x ∷ s) k.1)
-    ]
+            ∙ ap (λ (s : List ℕ). x ∷ s) k.1,
+      )
+]
 
 none_first : (n : ℕ) → first_lines n [] ≡ []
 unfolding first_lines
@@ -93,15 +98,15 @@ lines_begin (b ∷ bs) (suc n) =
 pub feeds-append : (xs ys : List ℕ) → count_of_line_feeds (xs ++ ys) ≡ count_of_line_feeds xs + count_of_line_feeds ys
 feeds-append [] ys = omega arith
 feeds-append (b ∷ bs) ys = let h = feeds-append bs ys in elim (cases_Bool (b == 10)) [
-      | inl t ↦
-          let p = ap (λ (s : Bool). cond s (count_of_line_feeds (bs ++ ys) + 1) (count_of_line_feeds (bs ++ ys))) t in
-          let q = ap (λ (s : Bool). cond s (count_of_line_feeds bs + 1) (count_of_line_feeds bs)) t in
-          omega (arith, p, q, h)
-      | inr t ↦
-          let p = ap (λ (s : Bool). cond s (count_of_line_feeds (bs ++ ys) + 1) (count_of_line_feeds (bs ++ ys))) t in
-          let q = ap (λ (s : Bool). cond s (count_of_line_feeds bs + 1) (count_of_line_feeds bs)) t in
-          omega (arith, p, q, h)
-    ]
+  | inl t ↦
+      let p = ap (λ (s : Bool). cond s (count_of_line_feeds (bs ++ ys) + 1) (count_of_line_feeds (bs ++ ys))) t in
+      let q = ap (λ (s : Bool). cond s (count_of_line_feeds bs + 1) (count_of_line_feeds bs)) t in
+      omega (arith, p, q, h)
+  | inr t ↦
+      let p = ap (λ (s : Bool). cond s (count_of_line_feeds (bs ++ ys) + 1) (count_of_line_feeds (bs ++ ys))) t in
+      let q = ap (λ (s : Bool). cond s (count_of_line_feeds bs + 1) (count_of_line_feeds bs)) t in
+      omega (arith, p, q, h)
+]
 
 pub no_feeds : (xs : List ℕ) → lacks 10 xs ≡ true → count_of_line_feeds xs ≡ 0
 no_feeds [] h = refl

@@ -27,15 +27,15 @@ use Rattle.rv_counts.proofs.LineTexts.{address_is_line, image_is_line, address_w
 
 pub whole_split : (text : List ℕ) → text ≡ whole_line text ++ drop (length (whole_line text)) text
 whole_split text = elim (cases_line text) [
-      | inl h ↦ sym (ap (λ (s : List ℕ). s ++ drop (length s) text) (no_line text h))
-      | inr h ↦
-          let w : whole_line text ≡ h.front ++ 10 ∷ [] = ap whole_line h.all ∙ line_at h.front h.rest h.plain in
-          let t : text ≡ (h.front ++ 10 ∷ []) ++ h.rest = h.all ∙ sym (append_assoc h.front (10 ∷ []) h.rest) in
-          let d : drop (length (h.front ++ 10 ∷ [])) text ≡ h.rest =
-          ap (drop (length (h.front ++ 10 ∷ []))) t ∙ drop_at (h.front ++ 10 ∷ []) h.rest (length (h.front ++ 10 ∷ [])) refl in
-          t ∙ ap (λ (s : List ℕ). (h.front ++ 10 ∷ []) ++ s) (sym d)
-          ∙ sym (ap (λ (s : List ℕ). s ++ drop (length s) text) w)
-    ]
+  | inl h ↦ sym (ap (λ (s : List ℕ). s ++ drop (length s) text) (no_line text h))
+  | inr h ↦
+      let w : whole_line text ≡ h.front ++ 10 ∷ [] = ap whole_line h.all ∙ line_at h.front h.rest h.plain in
+      let t : text ≡ (h.front ++ 10 ∷ []) ++ h.rest = h.all ∙ sym (append_assoc h.front (10 ∷ []) h.rest) in
+      let d : drop (length (h.front ++ 10 ∷ [])) text ≡ h.rest =
+      ap (drop (length (h.front ++ 10 ∷ []))) t ∙ drop_at (h.front ++ 10 ∷ []) h.rest (length (h.front ++ 10 ∷ [])) refl in
+      t ∙ ap (λ (s : List ℕ). (h.front ++ 10 ∷ []) ++ s) (sym d)
+      ∙ sym (ap (λ (s : List ℕ). s ++ drop (length s) text) w)
+]
 
 pub whole_within : (text : List ℕ) → length (whole_line text) ≤ length text
 whole_within text =
@@ -144,7 +144,7 @@ pub one_so_far : (text : List ℕ) (cs : List AddressCounts) (lowest n m : ℕ) 
 one_so_far text cs lowest n m c h counted under is e =
     let low = h.lowest in
     let rest : drop (length (whole_line (drop n text))) (drop n text) ≡ drop m text =
-        drop-drop (length (whole_line (drop n text))) n text ∙ ap (λ (k : ℕ). drop k text) (sym e) in
+    drop-drop (length (whole_line (drop n text))) n text ∙ ap (λ (k : ℕ). drop k text) (sym e) in
     let within = further_within text n h.within in record {
       within = omega (arith, within, e);
       lines = lines_push address_line cs c text (drop n text) (drop m text) h.lines
@@ -177,11 +177,11 @@ lacks_path (b ∷ bs) ys h = lacks_path bs ys (and_parts (not (b == 10)) (lacks 
 
 plain_line : (text : List ℕ) (xs : List ℕ) → whole_line text ≡ line xs → (front : List ℕ) × (lacks 10 front ≡ true) × (line front ≡ line xs)
 plain_line text xs e = elim (cases_line text) [
-      | inl h ↦
-          let n : length (line xs) ≡ 0 = ap (λ (s : List ℕ). length s) (sym e ∙ no_line text h) in
-          let k = line_is_long xs in absurd (omega (arith, n, k))
-      | inr h ↦ (h.front, h.plain, sym (ap whole_line h.all ∙ line_at h.front h.rest h.plain) ∙ e)
-    ]
+  | inl h ↦
+      let n : length (line xs) ≡ 0 = ap (λ (s : List ℕ). length s) (sym e ∙ no_line text h) in
+      let k = line_is_long xs in absurd (omega (arith, n, k))
+  | inr h ↦ (h.front, h.plain, sym (ap whole_line h.all ∙ line_at h.front h.rest h.plain) ∙ e)
+]
 
 same_words : (xs ys : List ℕ) → line xs ≡ line ys → xs ≡ ys
 same_words xs ys e = append_cancel_right xs ys (10 ∷ []) e
@@ -200,7 +200,7 @@ pub one_image : (last : Option (List ℕ)) (text tail : List ℕ) (image : Image
 one_image last text tail image lines n t is long rising bytes utf h e =
     let w = whole_line text in
     let d : drop lines.length tail ≡ drop n text =
-        ap (drop lines.length) t ∙ drop-drop lines.length (length w) text ∙ ap (λ (k : ℕ). drop k text) (sym e) in
+    ap (drop lines.length) t ∙ drop-drop lines.length (length w) text ∙ ap (λ (k : ℕ). drop k text) (sym e) in
     let split = whole_split text in
     let long_enough : 0 < length w = subst (λ (s : List ℕ). 0 < length s) (sym is) (image_is_long image) in
     let total = ap (λ (s : List ℕ). length s) split in
@@ -267,7 +267,7 @@ pub image_so_far : (text : List ℕ) (is : List ImageCounts) (n m : ℕ) (read :
     → ImagesSoFar text (is ++ read.image ∷ []) m
 image_so_far text is n m read h one e =
     let d : drop read.length (drop n text) ≡ drop m text =
-        drop-drop read.length n text ∙ ap (λ (k : ℕ). drop k text) (sym e) in
+    drop-drop read.length n text ∙ ap (λ (k : ℕ). drop k text) (sym e) in
     let within = one.within in
     let before = h.within in
     let l = length-drop n text in record {

@@ -81,12 +81,13 @@ lines_of_next text xs rest h =
 pub lines_of_more : (text rest : List ℕ) (b : ℕ) → EndsLine text
     → (more : List ℕ) × (first_lines (count_of_line_feeds text + 1) (text ++ b ∷ rest) ≡ text ++ b ∷ more)
 lines_of_more text rest b h =
-    let k = lines_past h.front rest b (count_of_line_feeds h.front) refl in
-    (k.0,
+    let k = lines_past h.front rest b (count_of_line_feeds h.front) refl in (
+      k.0,
       ap (λ (n : ℕ). first_lines n (text ++ b ∷ rest)) (add-one (count_of_line_feeds text) ∙ ap suc (feeds_of_front text h))
-      ∙ ap (λ (s : List ℕ). first_lines (suc (suc (count_of_line_feeds h.front))) s)
-      (ap (λ (s : List ℕ). s ++ b ∷ rest) h.all ∙ append_assoc h.front (10 ∷ []) (b ∷ rest))
-      ∙ k.1 ∙ sym (append_assoc h.front (10 ∷ []) (b ∷ k.0)) ∙ ap (λ (s : List ℕ). s ++ b ∷ k.0) (sym h.all))
+          ∙ ap (λ (s : List ℕ). first_lines (suc (suc (count_of_line_feeds h.front))) s)
+          (ap (λ (s : List ℕ). s ++ b ∷ rest) h.all ∙ append_assoc h.front (10 ∷ []) (b ∷ rest))
+          ∙ k.1 ∙ sym (append_assoc h.front (10 ∷ []) (b ∷ k.0)) ∙ ap (λ (s : List ℕ). s ++ b ∷ k.0) (sym h.all),
+    )
 
 -- ---- what a table begins with
 
@@ -113,9 +114,12 @@ unfolding digests_rise
 none_rise = refl
 
 begins_nothing : BeginsTable []
-begins_nothing =
-    (record { images = []; runs = 0 }, text_so_far [] ++ last_line 0 0,
-      is_table [] 0 (record { each = tt; rising = none_rise; few = omega arith }) (omega arith), text_of [] 0)
+begins_nothing = (
+  record { images = []; runs = 0 },
+  text_so_far [] ++ last_line 0 0,
+  is_table [] 0 (record { each = tt; rising = none_rise; few = omega arith }) (omega arith),
+  text_of [] 0,
+)
 
 -- what a table has behind these images
 behind_so_far : (t : CountTable) (images : List ImageCounts) (s : List ℕ) → IsTable t → AreImages images
@@ -136,12 +140,12 @@ pub refused_line : (images : List ImageCounts) (xs rest bytes : List ℕ) (n : �
 refused_line images xs rest bytes n h plain no_address no_image no_last is number =
     let text = text_so_far images in
     let before : first_lines (n - 1) bytes ≡ text =
-        (let m : n - 1 ≡ count_of_line_feeds text = omega arith in
-        ap (λ (k : ℕ). first_lines k bytes) m ∙ ap (first_lines (count_of_line_feeds text)) is
-        ∙ lines_of_front text (xs ++ 10 ∷ rest) (so_far_ends images)) in
+    (let m : n - 1 ≡ count_of_line_feeds text = omega arith in
+    ap (λ (k : ℕ). first_lines k bytes) m ∙ ap (first_lines (count_of_line_feeds text)) is
+    ∙ lines_of_front text (xs ++ 10 ∷ rest) (so_far_ends images)) in
     let here : first_lines n bytes ≡ text ++ line xs =
-        ap (λ (k : ℕ). first_lines k bytes) number ∙ ap (first_lines (count_of_line_feeds text + 1)) is
-        ∙ lines_of_next text xs rest plain in
+    ap (λ (k : ℕ). first_lines k bytes) number ∙ ap (first_lines (count_of_line_feeds text + 1)) is
+    ∙ lines_of_next text xs rest plain in
     record {
       before = subst (λ (s : List ℕ). BeginsTable s) (sym before) (begins_so_far images h);
       refused = λ b.
@@ -193,21 +197,24 @@ pub refused_end : (images : List ImageCounts) (runs b : ℕ) (rest bytes : List 
 refused_end images runs b rest bytes n h fits is number =
     let text = text_so_far images ++ last_line (length images) runs in
     let ends : EndsLine text = ends-append (text_so_far images) (last_line (length images) runs)
-        (record { front = last_words (length images) runs; all = last_is_line (length images) runs }) in
+    (record { front = last_words (length images) runs; all = last_is_line (length images) runs }) in
     let before : first_lines (n - 1) bytes ≡ text =
-        (let m : n - 1 ≡ count_of_line_feeds text = omega arith in
-        ap (λ (k : ℕ). first_lines k bytes) m ∙ ap (first_lines (count_of_line_feeds text)) is
-        ∙ lines_of_front text (b ∷ rest) ends) in
+    (let m : n - 1 ≡ count_of_line_feeds text = omega arith in
+    ap (λ (k : ℕ). first_lines k bytes) m ∙ ap (first_lines (count_of_line_feeds text)) is
+    ∙ lines_of_front text (b ∷ rest) ends) in
     let more = lines_of_more text rest b ends in
     let here : first_lines n bytes ≡ text ++ b ∷ more.0 =
-        ap (λ (k : ℕ). first_lines k bytes) number ∙ ap (first_lines (count_of_line_feeds text + 1)) is ∙ more.1 in
+    ap (λ (k : ℕ). first_lines k bytes) number ∙ ap (first_lines (count_of_line_feeds text + 1)) is ∙ more.1 in
     record {
-      before = subst (λ (s : List ℕ). BeginsTable s) (sym before)
-          (record { images = images; runs = runs }, [], is_table images runs h fits,
-            text_of images runs ∙ sym (append-nil text));
+      before = subst (λ (s : List ℕ). BeginsTable s) (sym before) (
+        record { images = images; runs = runs },
+        [],
+        is_table images runs h fits,
+        text_of images runs ∙ sym (append-nil text),
+      );
       refused = λ begun.
           let e = begun.3 ∙ ap (λ (s : List ℕ). s ++ begun.1) here ∙ append_assoc text (b ∷ more.0) begun.1
-              ∙ append_assoc (text_so_far images) (last_line (length images) runs) (b ∷ (more.0 ++ begun.1)) in
+          ∙ append_assoc (text_so_far images) (last_line (length images) runs) (b ∷ (more.0 ++ begun.1)) in
           let r = behind_so_far begun.0 images (last_line (length images) runs ++ b ∷ (more.0 ++ begun.1)) begun.2 h e in
           let m : 0 + length images ≡ length images = omega arith in
           let few = h.few in
@@ -228,8 +235,8 @@ pub cut_behind : (images : List ImageCounts) (rest bytes : List ℕ) → AreImag
 cut_behind images rest bytes h plain is =
     let text = text_so_far images in
     let feeds : count_of_line_feeds bytes ≡ count_of_line_feeds text =
-        (let e = ap count_of_line_feeds is in let f = feeds-append text rest in let g = no_feeds rest plain in
-        omega (arith, e, f, g)) in
+    (let e = ap count_of_line_feeds is in let f = feeds-append text rest in let g = no_feeds rest plain in
+    omega (arith, e, f, g)) in
     subst (λ (s : List ℕ). BeginsTable s)
     (sym (ap (λ (n : ℕ). first_lines n bytes) feeds ∙ ap (first_lines (count_of_line_feeds text)) is
     ∙ lines_of_front text rest (so_far_ends images))) (begins_so_far images h)

@@ -17,9 +17,9 @@ use Rattle.rv_counts.proofs.Paths.{none_before_itself, before_both, same_place, 
 
 differ : (a b : List ℕ) → (a ≡ b → ⊥) → bytes_eq a b ≡ false
 differ a b h = elim (cases_Bool (bytes_eq a b)) [
-      | inl t ↦ absurd (h ((bytes_decides a b).0 t))
-      | inr f ↦ f
-    ]
+  | inl t ↦ absurd (h ((bytes_decides a b).0 t))
+  | inr f ↦ f
+]
 
 -- each digest of a list that rises behind one is another than those up to it
 head_differs : (last digest : List ℕ) (i : ImageCounts) (is : List ImageCounts) → digests_rise (Some last) (i ∷ is) ≡ true
@@ -30,9 +30,9 @@ head_differs last digest i is h up = differ i.digest digest
 still_up : (last digest : List ℕ) (i : ImageCounts) (is : List ImageCounts) → digests_rise (Some last) (i ∷ is) ≡ true
     → is_before last digest ≡ false → is_before i.digest digest ≡ false
 still_up last digest i is h up = elim (cases_Bool (is_before i.digest digest)) [
-      | inl t ↦ absurd (both_ways _ up (before_both last i.digest digest (image_low (Some last) i is h) t))
-      | inr f ↦ f
-    ]
+  | inl t ↦ absurd (both_ways _ up (before_both last i.digest digest (image_low (Some last) i is h) t))
+  | inr f ↦ f
+]
 
 no_path : (is : List ImageCounts) (last digest : List ℕ) → digests_rise (Some last) is ≡ true
     → is_before last digest ≡ false → path_in digest is ≡ None
@@ -87,12 +87,12 @@ not_earlier : (l m : Option (List ℕ)) (i j : ImageCounts) (is js : List ImageC
     → digests_rise m (j ∷ js) ≡ true → path_in i.digest (i ∷ is) ≡ path_in i.digest (j ∷ js)
     → is_before i.digest j.digest ≡ false
 not_earlier l m i j is js h k e = elim (cases_Bool (is_before i.digest j.digest)) [
-      | inl t ↦
-          let none = no_path (j ∷ js) i.digest i.digest (images_raised m i.digest j js k t) (none_before_itself i.digest) in
-          let some = path_of_first l i is h in
-          let c : Some i.path ≡ None = sym some ∙ e ∙ none in absurd (cc)
-      | inr f ↦ f
-    ]
+  | inl t ↦
+      let none = no_path (j ∷ js) i.digest i.digest (images_raised m i.digest j js k t) (none_before_itself i.digest) in
+      let some = path_of_first l i is h in
+      let c : Some i.path ≡ None = sym some ∙ e ∙ none in absurd (cc)
+  | inr f ↦ f
+]
 
 some_is : (p q : List ℕ) → Some p ≡ Some q → p ≡ q
 some_is p q e = cc
@@ -105,16 +105,16 @@ other_paths : (l m : Option (List ℕ)) (i j : ImageCounts) (is js : List ImageC
     → digests_rise l (i ∷ is) ≡ true → digests_rise m (j ∷ js) ≡ true
     → path_in digest (i ∷ is) ≡ path_in digest (j ∷ js) → path_in digest is ≡ path_in digest js
 other_paths l m i j is js digest same h k e = elim (cases_Bool (bytes_eq i.digest digest)) [
-      | inl t ↦
-          let d : i.digest ≡ digest = (bytes_decides i.digest digest).0 t in
-          let d' : j.digest ≡ digest = ap (λ (x : ImageCounts). x.digest) (sym same) ∙ d in
-          no_path is i.digest digest (images_behind l i is h) (ap (is_before i.digest) (sym d) ∙ none_before_itself i.digest)
-          ∙ sym (no_path js j.digest digest (images_behind m j js k) (ap (is_before j.digest) (sym d') ∙ none_before_itself j.digest))
-      | inr f ↦
-          let g : bytes_eq j.digest digest ≡ false = ap (λ (x : ImageCounts). bytes_eq x.digest digest) (sym same) ∙ f in
-          sym (ap (λ (t : Bool). least_path_of (cond t (Some i.path) None) (path_in digest is)) f) ∙ e
-          ∙ ap (λ (t : Bool). least_path_of (cond t (Some j.path) None) (path_in digest js)) g
-    ]
+  | inl t ↦
+      let d : i.digest ≡ digest = (bytes_decides i.digest digest).0 t in
+      let d' : j.digest ≡ digest = ap (λ (x : ImageCounts). x.digest) (sym same) ∙ d in
+      no_path is i.digest digest (images_behind l i is h) (ap (is_before i.digest) (sym d) ∙ none_before_itself i.digest)
+      ∙ sym (no_path js j.digest digest (images_behind m j js k) (ap (is_before j.digest) (sym d') ∙ none_before_itself j.digest))
+  | inr f ↦
+      let g : bytes_eq j.digest digest ≡ false = ap (λ (x : ImageCounts). bytes_eq x.digest digest) (sym same) ∙ f in
+      sym (ap (λ (t : Bool). least_path_of (cond t (Some i.path) None) (path_in digest is)) f) ∙ e
+      ∙ ap (λ (t : Bool). least_path_of (cond t (Some j.path) None) (path_in digest js)) g
+]
 
 -- lists of images with the same numbers and paths are one
 one_list : (is js : List ImageCounts) (l m : Option (List ℕ)) → AllByRecursion IsImage is → AllByRecursion IsImage js
