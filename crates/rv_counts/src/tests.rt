@@ -136,3 +136,18 @@ fn refuses_sums(rt: HostRuntime) -> Result<(), Fail> {
         _ => Err("runs that do not fit".into()),
     }
 }
+
+const HIGH: &str = "\
+rvcounts 1
+image 428abbe1347171d7e00df3badf31776c1ef4445e0516044cf7a638356db5f470 donne.elf
+00000000 1 0
+d0000000 2 1
+fffffffe 18446744073709551615 18446744073709551615
+done 1 1
+";
+
+// A digit may be the first letter of the last line.
+#[test]
+fn reads_addresses_from_end_to_end(rt: HostRuntime) -> Result<(), Fail> {
+    sum_is(rt.alloc(), HIGH, "rvcounts 1\ndone 0 0\n", HIGH)
+}
