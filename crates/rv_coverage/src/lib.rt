@@ -11,4 +11,4 @@ mod step;
 mod tally;
 
 pub use count::{count_job, count_run};
-pub use law::run_begins_its_steps;
+pub use law::{counts_sum_to_the_steps, run_begins_its_steps};
