@@ -19,21 +19,16 @@ use Rattle.rv_command.specs.Stops.{IsListFaultStop, IsListUnreadStop, IsRefusal,
 use Rattle.rv_command.specs.Texts.{IsReportReadAt, IsTextAt, optional_text}
 use Rattle.rv_command.specs.declared.stop.Stop.{Stop}
 use Rattle.rv_command.specs.declared.stop.Stop.TheVariants as stop
-use Rattle.rv_known.specs.declared.known_jobs.KnownJobs.{KnownJobs}
 use Rattle.rv_lists.specs.JobList.{job_list_of}
 use Rattle.rv_lists.specs.declared.job.Job.{Job}
-use Rattle.rv_report.specs.declared.row.Row.{Row}
 use Rattle.rv_report.specs.declared.partial.PartialReport.{PartialReport}
-use Rattle.rv_report.specs.declared.saved.Shard.{Shard}
 use Rattle.rvtest_app.specs.AcceptStops.{IsUnacceptedStop}
 use Rattle.rvtest_app.specs.Answers.{AskForHelp}
 use Rattle.rvtest_app.specs.Commands.{failure_rule}
 use Rattle.rvtest_app.specs.HelpTopics.{IsNoTopicStop}
-use Rattle.rvtest_app.specs.KnownFiles.{IsKnownAt}
 use Rattle.rvtest_app.specs.MergeStops.{IsMergeStop}
 use Rattle.rvtest_app.specs.PutStops.{IsOutputStop}
 use Rattle.rvtest_app.specs.RunStops.{IsRunStop}
-use Rattle.rvtest_app.specs.Runs.{AreRequestedJobs}
 use Rattle.rvtest_app.specs.ToldStops.{IsHelpAsked}
 
 -- `check`: the list was not read; or memory was wanting, or the list has a fault
@@ -83,17 +78,6 @@ IsShowStop known words why = IsRequestedUnreadStop known words.partial words.rep
     ⊎ ((found : PartialReport) × (IsReportReadAt known words.partial words.report.now found
     × IsOutputStop None (optional_text words.junit) why))
 
--- the jobs of the list that words ask for are none, and standard output did not take all
-pub record IsIdleRunStop (known : Option FileContents) (words : RunAsked) (why : Stop) : Type 0 where
-  pub jobs : List Job
-  pub shard : Option Shard
-  pub old : Option (List Row)
-  pub notes : List ℕ
-  pub asked : AreRequestedJobs known words jobs None shard old notes
-  pub failures : Option KnownJobs
-  pub known_to_fail : IsKnownAt known (optional_text words.known) jobs failures
-  pub failed : why ≡ stop.WriteFailed
-
 -- what stopped a command; one that puts a text alone was stopped before, or the text was not put
 abbrev pub IsCommandStop : Option FileContents → Asked → Stop → Type 0
 IsCommandStop known (asked.Explain words) why = (why ≡ stop.WriteFailed) ⊎ IsExplainStop known words why
@@ -102,7 +86,7 @@ IsCommandStop known (asked.Console words) why = (why ≡ stop.WriteFailed) ⊎ I
 IsCommandStop known (asked.Check words) why = (why ≡ stop.WriteFailed) ⊎ IsCheckStop known words why
 IsCommandStop known (asked.Diff words) why = (why ≡ stop.WriteFailed) ⊎ IsDiffAtStop known words why
 IsCommandStop known (asked.Help words) why = (why ≡ stop.WriteFailed) ⊎ IsNoTopicStop words.topic.now why
-IsCommandStop known (asked.Run words) why = IsRunStop known words why ⊎ IsIdleRunStop known words why
+IsCommandStop known (asked.Run words) why = IsRunStop known words why
 IsCommandStop known (asked.Accept words) why = IsAcceptStop known words why
 IsCommandStop known (asked.Merge words) why = IsMergeStop known words why
 IsCommandStop known (asked.Show words) why = IsShowStop known words why

@@ -8,7 +8,6 @@ use Rattle.rv_command.specs.Stops.{IsListFaultStop, IsListUnreadStop}
 use Rattle.rv_command.specs.Texts.{IsTextAt, optional_text}
 use Rattle.rv_command.specs.declared.stop.Stop.{Stop}
 use Rattle.rv_command.specs.declared.stop.Stop.TheVariants as stop
-use Rattle.rv_known.specs.declared.known_jobs.KnownJobs.{KnownJobs}
 use Rattle.rv_lists.specs.JobList.{job_list_of}
 use Rattle.rv_lists.specs.declared.job.Job.{Job}
 use Rattle.rv_report.specs.declared.row.Row.{Row}
@@ -20,10 +19,9 @@ use Rattle.rv_stream.specs.declared.error.StreamError.TheVariants as stream
 use Rattle.rvtest_app.specs.Commands.{failure_rule, stop_of_stream}
 use Rattle.rvtest_app.specs.IntoReports.{run_report_path}
 use Rattle.rvtest_app.specs.IntoStops.{IsIntoStop}
-use Rattle.rvtest_app.specs.KnownFiles.{IsKnownAt}
 use Rattle.rvtest_app.specs.KnownStops.{IsKnownStop}
 use Rattle.rvtest_app.specs.PutStops.{IsOutputStop, IsUnwrittenStop}
-use Rattle.rvtest_app.specs.Runs.{AreRequestedJobs}
+use Rattle.rvtest_app.specs.Runs.{AreJobsToRun, AreRequestedJobs}
 
 -- the shard is refused; or no shard is asked for, and words choose no jobs
 abbrev pub IsUnmarkedStop : Option FileContents → RunAsked → List Job → Stop → Type 0
@@ -71,17 +69,9 @@ abbrev pub IsRunPutStop : RunAsked → Stop → Type 0
 IsRunPutStop words why = (why ≡ stop.NoWorker)
     ⊎ IsOutputStop (run_report_path words) (optional_text words.junit) why
 
--- the jobs of the list that words ask for were found, and the known failures among them, and that happened
-pub record IsUnfinishedStop (known : Option FileContents) (words : RunAsked) (why : Stop) : Type 0 where
-  pub jobs : List Job
-  pub marks : List Bool
-  pub shard : Option Shard
-  pub old : Option (List Row)
-  pub notes : List ℕ
-  pub asked : AreRequestedJobs known words jobs (Some marks) shard old notes
-  pub failures : Option KnownJobs
-  pub known_to_fail : IsKnownAt known (optional_text words.known) jobs failures
-  pub put : IsRunPutStop words why
+-- jobs that are to run were found, and that happened
+abbrev pub IsUnfinishedStop : Option FileContents → RunAsked → Stop → Type 0
+IsUnfinishedStop known words why = AreJobsToRun known words × IsRunPutStop words why
 
 -- `run`: no jobs were found that words ask for; or they were, and the known failures among them were not; or both were, and the run
 -- was not finished

@@ -59,6 +59,17 @@ pub record AreRequestedJobs (known : Option FileContents) (words : RunAsked) (jo
   pub marked : AreRequestedMarks known shard words jobs marks notes
   pub into : AreOldRows known words jobs old
 
+-- the jobs of the list that words ask for were found, with the known failures among them, and some are to run
+pub record AreJobsToRun (known : Option FileContents) (words : RunAsked) : Type 0 where
+  pub jobs : List Job
+  pub marks : List Bool
+  pub shard : Option Shard
+  pub old : Option (List Row)
+  pub notes : List ℕ
+  pub asked : AreRequestedJobs known words jobs (Some marks) shard old notes
+  pub failures : Option KnownJobs
+  pub known_to_fail : IsKnownAt known (optional_text words.known) jobs failures
+
 -- a plan of the jobs has answers for the paths that the rows at some places need, which agree with what stands there; why paths
 -- were not read is noted as often as answers are unreadable
 pub record IsPlanFor (known : Option FileContents) (jobs : List Job) (places : List ℕ) (plan : Planned)
@@ -163,15 +174,8 @@ IsUndoneRunOfPlaces known words failures jobs places before after =
 -- of the jobs that words ask for, that document alone was put in its place
 pub record IsJunitAloneAt (known : Option FileContents) (words : RunAsked) (before after : Option (List PlacedFile))
     : Type 0 where
-  pub jobs : List Job
-  pub marks : List Bool
-  pub shard : Option Shard
-  pub old : Option (List Row)
-  pub notes : List ℕ
-  pub asked : AreRequestedJobs known words jobs (Some marks) shard old notes
-  pub failures : Option KnownJobs
-  pub known_to_fail : IsKnownAt known (optional_text words.known) jobs failures
-  pub alone : IsJunitAlone known words failures jobs (places_of_marks marks) before after
+  pub found : AreJobsToRun known words
+  pub alone : IsJunitAlone known words found.failures found.jobs (places_of_marks found.marks) before after
 
 -- a run that an error ended put no file in its place, or JUnit's document alone
 abbrev pub IsUndoneRunAt : Option FileContents → RunAsked → Option (List PlacedFile) → Option (List PlacedFile) → Type 0

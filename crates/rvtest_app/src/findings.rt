@@ -2,6 +2,7 @@
 
 ghost use Rattle.std.specs.Prelude.{◌≡◌, IfErr, IfOk, MatchResult, OnErr, OnOk};
 ghost use Rattle.std.specs.Io.KnownBytes.{Appends};
+ghost use Rattle.rv_base.specs.Counts.{one_more};
 ghost use Rattle.rv_base.specs.Sinks.{AppendsBeginning};
 
 use rv_command::{Stop, put_results};
@@ -22,6 +23,8 @@ pub(crate) fn put_findings<O: Sink>(out: &mut O, found: Result<Found, Stop>) -> 
     ensures part { OnErr result (MatchResult found
         (λ found. AppendsBeginning (O.taken out.old) (O.taken out.new) found.text.items)
         (λ stop. O.taken out.new ≡ O.taken out.old)) }
+    ensures failed { IfErr result (λ _. MatchResult found
+        (λ _. O.failed out.new ≡ one_more (O.failed out.old)) (λ _. O.failed out.new ≡ O.failed out.old)) }
     ensures stopped { IfErr result (λ why. MatchResult found (λ _. why ≡ Stop.WriteFailed) (λ stop. why ≡ stop)) }
 {
     let Found { text, status } = found?;

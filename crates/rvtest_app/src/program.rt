@@ -184,6 +184,9 @@ where
     ensures low { IfOk result.1 (λ status. status ≤ 2) }
     ensures done { IfOk result.1 (λ status. IsDone (D.contents host.now.inputs.now) asked.entry status
         (said F.placed O.taken E.taken E.failed to) (said F.placed O.taken E.taken E.failed result.0)) }
+    // A command that could not have been stopped by a failed put put nothing.
+    ensures untouched { IfOk result.1 (λ _. IsCommandStop (D.contents host.now.inputs.now) asked.entry Stop.WriteFailed
+        ⊎ (result.0.out ≡ to.out)) }
     ensures stopped { IfErr result.1 (IsCommandStop (D.contents host.now.inputs.now) asked.entry) }
 {
     let (inputs, alloc) = (host.inputs, host.alloc);

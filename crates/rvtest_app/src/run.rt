@@ -1,6 +1,6 @@
 //! The command `run`.
 
-ghost use Rattle.std.specs.Prelude.{◌≡◌, ◌≤◌, ◌<◌, ◌++◌, [], ℕ, List, None, Option, Some, IfErr, IfOk, OnErr, OnOk, true, length, option_map};
+ghost use Rattle.std.specs.Prelude.{◌≡◌, ◌⊎◌, ◌≤◌, ◌<◌, ◌++◌, [], ℕ, List, None, Option, Some, IfErr, IfOk, OnErr, OnOk, true, length, option_map};
 ghost use Rattle.std.specs.Io.KnownBytes.{Appends};
 ghost use Rattle.std.specs.List.{All};
 ghost use Rattle.std.specs.List.Sorted.{IsStrictlyIncreasing};
@@ -28,7 +28,7 @@ ghost use Rattle.rvtest_app.specs.Puts.{IsShown};
 ghost use Rattle.rvtest_app.specs.PutStops.{IsPutStop};
 ghost use Rattle.rvtest_app.specs.RunOutput.{rows_status, run_output_text};
 ghost use Rattle.rvtest_app.specs.RunStops.{IsRowsStop, IsRunPutStop, IsRunStop, IsUnrequestedStop};
-ghost use Rattle.rvtest_app.specs.Runs.{AreRequestedJobs, IsRunAt, IsRunOfMarked, IsUndoneRunAt, IsUndoneRunOfPlaces};
+ghost use Rattle.rvtest_app.specs.Runs.{AreJobsToRun, AreRequestedJobs, IsRunAt, IsRunOfMarked, IsUndoneRunAt, IsUndoneRunOfPlaces};
 ghost use Rattle.rvtest_app.specs.Runs.{IsRunPut, places_of_marks, run_junit, run_rows, shown_places};
 ghost use Rattle.rvtest_app.specs.Said.{said};
 
@@ -101,6 +101,8 @@ where
     ensures undone { OnErr result.1 (IsUndoneRunAt (D.contents host.now.inputs.now) asked.now
         (F.placed to.files) (F.placed result.0.files)) }
     ensures low { IfOk result.1 (λ status. status ≤ 1) }
+    ensures untouched { IfOk result.1 (λ _. AreJobsToRun (D.contents host.now.inputs.now) asked.now
+        ⊎ (result.0.out ≡ to.out)) }
     ensures stopped { IfErr result.1 (IsRunStop (D.contents host.now.inputs.now) asked.now) }
 {
     let run = ListRun {
@@ -480,10 +482,10 @@ impl<'x, R: Threads + Wait + Sync + Clock, D: Inputs> ListRun<'x, R, D> {
     >(
         &self,
         planned: &PlannedRun<'_, J>,
-        sinks: RunSinks<'o, Q, V, W>,
+        sinks: RunSinks<W, Outlet<'o, Q, V>>,
         is_terminal: bool,
         terminals: Terminals<P>,
-    ) -> (RunSinks<'o, Q, V, W>, Result<Rows, Stop>)
+    ) -> (RunSinks<W, Outlet<'o, Q, V>>, Result<Rows, Stop>)
         ensures rows { IfOk result.1 (λ rows. rows ≡ run_rows self.now.asked.now.stop_after
             (judging_of planned.now.telling.now.judge) planned.now.telling.now.plan.now planned.now.places.now) }
         ensures few { IfOk result.1 (λ rows. length rows ≤ length planned.now.places.now) }

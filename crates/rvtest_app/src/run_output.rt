@@ -28,9 +28,9 @@ use std::thread::Threads;
 
 /// Where what a run shows goes, and its report, whose rows go to a file as they come.
 #[derive(Drop)]
-pub(crate) struct RunSinks<'o, P: Drop, V: Drop, W: Drop> {
+pub(crate) struct RunSinks<W: Drop, U: Drop> {
     pub(crate) shown: W,
-    pub(crate) report: Outlet<'o, P, V>,
+    pub(crate) report: U,
 }
 
 /// Runs a batch up to the failure that ends it, if one does, and sends what is told of each of these jobs in list order; and then the
@@ -48,8 +48,8 @@ pub(crate) fn put_run_output<
     batch: &Batch<'_>,
     limit: &FailureLimit<'_>,
     telling: &T,
-    sinks: RunSinks<'o, P, V, W>,
-) -> (RunSinks<'o, P, V, W>, Result<Rows, Stop>)
+    sinks: RunSinks<W, Outlet<'o, P, V>>,
+) -> (RunSinks<W, Outlet<'o, P, V>>, Result<Rows, Stop>)
     ensures rows { IfOk result.1 (λ rows. rows ≡ rows_within limit.now (batch_rows batch.now)) }
     ensures few { IfOk result.1 (λ rows. length rows ≤ length batch.now.places.now) }
     ensures all { OnOk result.1 (Appends (W.taken sinks.entry.shown) (W.taken result.0.shown)
@@ -90,8 +90,8 @@ fn stream_rows<
     batch: &Batch<'_>,
     limit: &FailureLimit<'_>,
     telling: &T,
-    sinks: RunSinks<'o, P, V, W>,
-) -> (RunSinks<'o, P, V, W>, Result<Rows, Stop>)
+    sinks: RunSinks<W, Outlet<'o, P, V>>,
+) -> (RunSinks<W, Outlet<'o, P, V>>, Result<Rows, Stop>)
     ensures rows { IfOk result.1 (λ rows. rows ≡ rows_within limit.now (batch_rows batch.now)) }
     ensures few { IfOk result.1 (λ rows. length rows ≤ length batch.now.places.now) }
     ensures all { OnOk result.1 (Appends (W.taken sinks.entry.shown) (W.taken result.0.shown)
