@@ -1,5 +1,5 @@
 -- What `merge` reads, and what it puts where.
-use Rattle.std.specs.Prelude.{◌≡◌, ℕ, List, [], ◌∷◌, Option, Some, None, codes, if◌then◌else◌, unwrap_or, ⊤}
+use Rattle.std.specs.Prelude.{◌≡◌, ◌⊎◌, ℕ, List, [], ◌∷◌, Option, Some, None, codes, if◌then◌else◌, unwrap_or, ⊤}
 use Rattle.std.specs.Borrow.{Bor}
 use Rattle.rv_base.specs.Files.{FileContents}
 use Rattle.rv_cli.specs.declared.rvtest.merge.MergeAsked.{MergeAsked}
@@ -9,7 +9,8 @@ use Rattle.rv_merge.specs.Parts.{AreParts}
 use Rattle.rv_report.specs.Report.{report_text}
 use Rattle.rv_report.specs.declared.row.Row.{Row}
 use Rattle.rvtest_app.specs.Commands.{report_judging}
-use Rattle.rvtest_app.specs.Outlets.{is_stdout}
+use Rattle.rv_files.specs.Placed.{PlacedFile}
+use Rattle.rvtest_app.specs.Outlets.{AreFilesPlaced, file_at, is_stdout}
 use Rattle.rvtest_app.specs.Puts.{WentOut}
 use Rattle.rvtest_app.specs.RunOutput.{rows_status}
 use Rattle.rvtest_app.specs.JunitTexts.{failures_junit, suite_name}
@@ -32,6 +33,11 @@ abbrev pub merged_suite : Option (List ℕ) → Option (List ℕ) → List ℕ
 merged_suite suite (Some path) = suite_name suite path
 merged_suite suite None = unwrap_or suite (codes "merged")
 
+-- JUnit's document of merged rows
+abbrev pub merged_junit : MergeAsked → List Row → List ℕ
+merged_junit words rows = failures_junit (merged_suite (optional_text words.suite) (optional_text words.report))
+    (report_judging words.lenient) rows
+
 -- of the rows of the list whose parts stand at the paths that words name, the line that counts them went out, the report, and
 -- where it is asked for JUnit's document; the status is by these rows
 pub record IsMergedAt (known : Option FileContents) (words : MergeAsked) (status : ℕ) (before after : Said)
@@ -43,5 +49,17 @@ pub record IsMergedAt (known : Option FileContents) (words : MergeAsked) (status
   pub judged : status ≡ rows_status (report_judging words.lenient) rows
   pub put : WentOut (merged_report_path (optional_text words.report) (optional_text words.junit))
       (optional_text words.junit) (totals_line (report_judging words.lenient) rows) (report_text rows)
-      (failures_junit (merged_suite (optional_text words.suite) (optional_text words.report)) (report_judging words.lenient) rows)
-      before after
+      (merged_junit words rows) before after
+
+-- of these rows that document alone was put in its place
+pub record IsMergedJunitAlone (known : Option FileContents) (words : MergeAsked) (before after : Option (List PlacedFile))
+    : Type 0 where
+  pub texts : List (List ℕ)
+  pub read : AreTextsAt known words.parts.items texts
+  pub rows : List Row
+  pub parts : AreParts rows texts
+  pub placed : AreFilesPlaced before after (Some (file_at (optional_text words.junit) (merged_junit words rows)))
+
+-- a merge that an error ended put no file in its place, or that document alone
+abbrev pub IsUndoneMergeAt : Option FileContents → MergeAsked → Option (List PlacedFile) → Option (List PlacedFile) → Type 0
+IsUndoneMergeAt known words before after = (after ≡ before) ⊎ IsMergedJunitAlone known words before after

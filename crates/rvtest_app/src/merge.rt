@@ -1,6 +1,6 @@
 //! The command `merge`.
 
-ghost use Rattle.std.specs.Prelude.{◌≡◌, ◌≤◌, ◌++◌, ◌∷◌, [], IfErr, IfOk, OnOk, codes, length, map};
+ghost use Rattle.std.specs.Prelude.{◌≡◌, ◌≤◌, ◌++◌, ◌∷◌, [], IfErr, IfOk, OnErr, OnOk, Some, codes, length, map};
 ghost use Rattle.std.specs.Fmt.{decimal};
 ghost use Rattle.rv_job_text.specs.TotalsLine.{totals_line};
 ghost use Rattle.rv_lists.specs.Limits.{most_jobs};
@@ -10,9 +10,9 @@ ghost use Rattle.rv_report.specs.Report.{report_text};
 ghost use Rattle.rvtest_app.specs.MergeRefusals.{ArePartsRefused, IsMergeErrorStop, flaw_message, other_run_message};
 ghost use Rattle.rvtest_app.specs.MergeRefusals.{part_path, two_parts_message};
 ghost use Rattle.rvtest_app.specs.MergeStops.{ArePartsUnread, IsMergeStop, IsMergedPutStop};
-ghost use Rattle.rvtest_app.specs.Merges.{AreTextsAt, IsMergedAt, merged_report_path, merged_suite};
+ghost use Rattle.rvtest_app.specs.Merges.{AreTextsAt, IsMergedAt, IsUndoneMergeAt, merged_junit, merged_report_path, merged_suite};
+ghost use Rattle.rvtest_app.specs.Outlets.{AreFilesPlacedInPart, file_at};
 ghost use Rattle.rvtest_app.specs.Puts.{WentOut};
-ghost use Rattle.rvtest_app.specs.JunitTexts.{failures_junit};
 ghost use Rattle.rvtest_app.specs.RunOutput.{rows_status};
 ghost use Rattle.rvtest_app.specs.Said.{said};
 ghost use Rattle.rv_command.specs.Texts.{optional_text};
@@ -52,6 +52,8 @@ pub(crate) fn merge_reports<D: Inputs, F: Outputs + Drop, O: Sink + Drop, E: Sin
     ensures low { IfOk result (λ status. status ≤ 1) }
     ensures merged { IfOk result (λ status. IsMergedAt (D.contents inputs.now) asked.now status
         (said F.placed O.taken E.taken E.failed to.old) (said F.placed O.taken E.taken E.failed to.new)) }
+    ensures undone { OnErr result (IsUndoneMergeAt (D.contents inputs.now) asked.now
+        (F.placed to.old.files) (F.placed to.new.files)) }
     ensures stopped { IfErr result (IsMergeStop (D.contents inputs.now) asked.now) }
 {
     let texts = read_part_texts(inputs, alloc, asked)?;
@@ -159,9 +161,10 @@ fn put_merged<F: Outputs + Drop, O: Sink + Drop, E: Sink + Drop>(
     ensures put { OnOk result (WentOut
         (merged_report_path (optional_text asked.now.report) (optional_text asked.now.junit))
         (optional_text asked.now.junit) merged.line.items (report_text merged.rows)
-        (failures_junit (merged_suite (optional_text asked.now.suite) (optional_text asked.now.report))
-        (report_judging asked.now.lenient) merged.rows)
+        (merged_junit asked.now merged.rows)
         (said F.placed O.taken E.taken E.failed to.old) (said F.placed O.taken E.taken E.failed to.new)) }
+    ensures part { OnErr result (AreFilesPlacedInPart (F.placed to.old.files) (F.placed to.new.files)
+        (Some (file_at (optional_text asked.now.junit) (merged_junit asked.now merged.rows)))) }
     ensures stopped { IfErr result (IsMergedPutStop asked.now) }
 {
     let Merged { rows, line, .. } = merged;

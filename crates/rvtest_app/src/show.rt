@@ -1,17 +1,17 @@
 //! The command `show`.
 
-ghost use Rattle.std.specs.Prelude.{◌≡◌, ◌≤◌, ◌<◌, ◌^◌, None, IfErr, IfOk, OnOk, length};
+ghost use Rattle.std.specs.Prelude.{◌≡◌, ◌≤◌, ◌<◌, ◌^◌, None, IfErr, IfOk, OnErr, OnOk, Some, length};
 ghost use Rattle.rv_expect.specs.Judgement.{judging_of};
 ghost use Rattle.rv_command.specs.Texts.{optional_text};
 ghost use Rattle.rv_report.specs.Report.{report_text};
 ghost use Rattle.rvtest_app.specs.CommandStops.{IsShowStop};
 ghost use Rattle.rvtest_app.specs.Puts.{WentOut};
 ghost use Rattle.rvtest_app.specs.PutStops.{IsOutputStop};
-ghost use Rattle.rvtest_app.specs.JunitTexts.{failures_junit, suite_name};
 ghost use Rattle.rvtest_app.specs.Commands.{report_judging};
 ghost use Rattle.rvtest_app.specs.RunOutput.{rows_status};
 ghost use Rattle.rvtest_app.specs.ReportSummary.{summary_text};
-ghost use Rattle.rvtest_app.specs.Shows.{IsShownAt};
+ghost use Rattle.rvtest_app.specs.Outlets.{AreFilesPlacedInPart, file_at};
+ghost use Rattle.rvtest_app.specs.Shows.{IsShownAt, IsUndoneShowAt, shown_junit};
 ghost use Rattle.rvtest_app.specs.Said.{said};
 
 use crate::destinations::Destinations;
@@ -48,6 +48,8 @@ pub(crate) fn show_report<D: Inputs, F: Outputs + Drop, O: Sink + Drop, E: Sink 
     ensures low { IfOk result (λ status. status ≤ 1) }
     ensures shown { IfOk result (λ status. IsShownAt (D.contents inputs.now) asked.entry status
         (said F.placed O.taken E.taken E.failed to.old) (said F.placed O.taken E.taken E.failed to.new)) }
+    ensures undone { OnErr result (IsUndoneShowAt (D.contents inputs.now) asked.entry
+        (F.placed to.old.files) (F.placed to.new.files)) }
     ensures stopped { IfErr result (IsShowStop (D.contents inputs.now) asked.entry) }
 {
     let requested = RequestedReport {
@@ -96,9 +98,10 @@ fn put_summarized_report<F: Outputs + Drop, O: Sink + Drop, E: Sink + Drop>(
 ) -> Result<(), Stop>
     ensures put { OnOk result (WentOut None (optional_text asked.entry.junit) summarized.summary.items
         (report_text summarized.report.rows)
-        (failures_junit (suite_name (optional_text asked.entry.suite) asked.entry.report.now)
-        (report_judging asked.entry.lenient) summarized.report.rows)
+        (shown_junit asked.entry summarized.report.rows)
         (said F.placed O.taken E.taken E.failed to.old) (said F.placed O.taken E.taken E.failed to.new)) }
+    ensures part { OnErr result (AreFilesPlacedInPart (F.placed to.old.files) (F.placed to.new.files)
+        (Some (file_at (optional_text asked.entry.junit) (shown_junit asked.entry summarized.report.rows)))) }
     ensures stopped { IfErr result (IsOutputStop None (optional_text asked.entry.junit)) }
 {
     let SummarizedReport {

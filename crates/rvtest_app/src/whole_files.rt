@@ -1,10 +1,10 @@
 //! The files of all rows of a report, of which no more is known than their text.
 
-ghost use Rattle.std.specs.Prelude.{◌≡◌, ◌++◌, [], ℕ, List, Option, IfErr, OnOk, Some};
+ghost use Rattle.std.specs.Prelude.{◌≡◌, ◌++◌, [], ℕ, List, Option, IfErr, OnErr, OnOk, Some};
 ghost use Rattle.std.specs.Io.KnownBytes.{Appends};
 ghost use Rattle.rv_expect.specs.Judgement.{judging_of};
 ghost use Rattle.rv_report.specs.Report.{report_text};
-ghost use Rattle.rvtest_app.specs.Outlets.{AreFilesPlaced, HasTaken, file_at, has_no_failure, outlet_path, stdout_at};
+ghost use Rattle.rvtest_app.specs.Outlets.{AreFilesPlaced, AreFilesPlacedInPart, HasTaken, file_at, has_no_failure, outlet_path, stdout_at};
 ghost use Rattle.rvtest_app.specs.PutStops.{IsPutStop};
 ghost use Rattle.rvtest_app.specs.JunitTexts.{failures_junit};
 
@@ -44,6 +44,10 @@ pub(crate) fn put_whole_files<F: Outputs + Drop, O: Sink + Drop, E: Sink + Drop>
         → OnOk result (AreFilesPlaced (F.placed to.old.files) (F.placed to.new.files)
         (Some (file_at junit_path (failures_junit suite.entry.name.now (judging_of suite.entry.judge) rows)
         ++ file_at report_path (report_text rows)))) }
+    ensures part { (junit_path : Option (List ℕ))
+        → HasTaken F.place_path F.File.taken F.File.failed (F.placed to.old.files) junit_path [] outlets.entry.junit
+        → OnErr result (AreFilesPlacedInPart (F.placed to.old.files) (F.placed to.new.files)
+        (Some (file_at junit_path (failures_junit suite.entry.name.now (judging_of suite.entry.judge) rows)))) }
     ensures stopped { IfErr result
         (IsPutStop (outlet_path outlets.entry.report) (outlet_path outlets.entry.junit)) }
 {

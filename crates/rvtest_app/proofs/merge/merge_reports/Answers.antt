@@ -1,5 +1,6 @@
-use Rattle.std.proofs.Common.{inr, map}
+use Rattle.std.proofs.Common.{inl, inr, map, ⊎_elim}
 use Rattle.std.proofs.lemmas.Result.{err_from_is_err_and}
+use Rattle.rvtest_app.proofs.Results.{OnErr-from}
 use Rattle.rvtest_app.proofs.merge.merge_reports.Goals as goal
 
 pub returns-in_err-put_merged-clause-stopped : goal.returns-in_err-put_merged-clause-stopped
@@ -15,3 +16,16 @@ returns-in_err-put_merged-clause-stopped g c =
             (c.in_ok-merged.merged.rows, (parts, c.in_err-put_merged.ensures.stopped)),
       ),
     ))
+
+pub returns-in_err-put_merged-clause-undone : goal.returns-in_err-put_merged-clause-undone
+returns-in_err-put_merged-clause-undone g c =
+    let parts = rw c.as_slice.ensures.value at c.in_ok-merged.ensures.parts in
+    OnErr-from c.from_residual-in_err-put_merged.result _
+    (⊎_elim inl (λ placed. inr (record {
+      texts = map (λ text. text.items) c.in_ok-texts.texts.items;
+      read = c.in_ok-texts.ensures.read;
+      rows = c.in_ok-merged.merged.rows;
+      parts = parts;
+      placed = placed;
+    }))
+    c.in_err-put_merged.ensures.part)

@@ -40,6 +40,12 @@ returns-in-Ok-clause-put g c =
     })
     out placed
 
+pub returns-in-Ok-clause-part : goal.returns-in-Ok-clause-part
+returns-in-Ok-clause-part g c =
+    let same = ap g.F.Outputs.placed c.in-Ok.ensures.files ∙ c.in_ok-outlets.ensures.same in
+    rw same at (rw (c.as_bytes.ensures.value, c.merged_suite.ensures, c.report_judge.ensures)
+    at (c.put_whole_files.ensures.part (optional_text c.args.asked.now.junit) (rw same c.in_ok-outlets.ensures.junit)))
+
 pub returns-in-Ok-clause-stopped : goal.returns-in-Ok-clause-stopped
 returns-in-Ok-clause-stopped g c =
     let junit_path = optional_text c.args.asked.now.junit in

@@ -1,8 +1,19 @@
-use Rattle.std.proofs.Common.{inl}
+use Rattle.std.proofs.Common.{inl, inr, ⊎_elim}
 use Rattle.std.proofs.lemmas.Result.{err_from_is_err_and}
+use Rattle.rvtest_app.proofs.Results.{OnErr-from}
 use Rattle.rvtest_app.proofs.show.show_report.Goals as goal
 
 pub returns-in_err-found-clause-stopped : goal.returns-in_err-found-clause-stopped
 returns-in_err-found-clause-stopped g c =
     let error = err_from_is_err_and c.from_residual.result c.from_residual.ensures.1 in
     rw (error.1, error.2) (inl c.in_err-found.ensures.unread)
+
+pub returns-in_err-put_summarized_report-clause-undone : goal.returns-in_err-put_summarized_report-clause-undone
+returns-in_err-put_summarized_report-clause-undone g c =
+    OnErr-from c.from_residual-in_err-put_summarized_report.result _
+    (⊎_elim inl (λ placed. inr (record {
+      found = c.in_ok-found.found;
+      read = c.in_ok-found.ensures.read;
+      placed = placed;
+    }))
+    c.in_err-put_summarized_report.ensures.part)

@@ -15,3 +15,9 @@ returns-clause-placed g c = λ report_path junit_path report junit.
     let told = texts_of_rows (failed_line (judging_of c.args.suite.judge)) c.as_slice-2.result.now c.args.rows
     (c.as_slice-2.ensures.len ∙ c.in-Ok.ensures.len ∙ ap length c.as_slice.ensures) in
     rw told at (c.put_files.ensures.placed [] report_path junit_path report junit)
+
+pub returns-clause-part : goal.returns-clause-part
+returns-clause-part g c = λ junit_path junit.
+    let told = texts_of_rows (failed_line (judging_of c.args.suite.judge)) c.as_slice-2.result.now c.args.rows
+    (c.as_slice-2.ensures.len ∙ c.in-Ok.ensures.len ∙ ap length c.as_slice.ensures) in
+    rw told at (c.put_files.ensures.part junit_path junit)
