@@ -26,6 +26,7 @@ ghost use Rattle.rvtest_app.specs.Outlets.{AreFilesPlaced, AreFilesPlacedInPart,
 ghost use Rattle.rvtest_app.specs.Outlets.{outlet_path, stdout_at, uses_stdout};
 ghost use Rattle.rvtest_app.specs.Puts.{IsShown};
 ghost use Rattle.rvtest_app.specs.PutStops.{IsPutStop};
+ghost use Rattle.rvtest_app.specs.RowsFiles.{AreRowsPut, IsOutletOfRows, file_name};
 ghost use Rattle.rvtest_app.specs.RunOutput.{rows_status, run_output_text};
 ghost use Rattle.rvtest_app.specs.RunStops.{IsRowsStop, IsRunPutStop, IsRunStop, IsUnrequestedStop};
 ghost use Rattle.rvtest_app.specs.Runs.{AreJobsToRun, AreRequestedJobs, IsRunAt, IsRunOfMarked, IsUndoneRunAt, IsUndoneRunOfPlaces};
@@ -41,12 +42,12 @@ use crate::into_report::{ReportFrame, run_report_path};
 use crate::junit_class::suite_name;
 use crate::known_file::requested_known_jobs;
 use crate::missing_images::missing_images_note;
-use crate::outlets::{Outlet, Outlets, abandon_outlets, open_outlets};
+use crate::outlets::{OpenFile, Outlet, Outlets, abandon_outlets, open_outlets};
 use crate::planned_run::{MarkedJobs, PlannedRun, RequestedJobs};
 use crate::puts::put_files;
 use crate::report_texts::framed_report;
 use crate::rules::{failure_rule, rows_status};
-use crate::run_output::{RunSinks, put_run_output};
+use crate::run_output::{RowsFile, put_run_output, stop_of_both, stop_of_stream};
 use crate::terminals::Terminals;
 use crate::whole_report::read_whole_report;
 use rv_choice::{Choice, Chooser, requested_shard};
@@ -64,6 +65,7 @@ use rv_progress::{CountingTelling, Progress, TerminalSink};
 use rv_report::Shard;
 use rv_rounds::FailureLimit;
 use rv_rows::Sink;
+use rv_stream::BothError;
 use std::alloc::{AllocError, Global};
 use std::io::Write;
 use std::marker::Brand;
@@ -78,6 +80,13 @@ struct ListRun<'x, R, D> {
     asked: &'x RunAsked<'x>,
     // Which rows are failures.
     rule: Rule,
+}
+
+// The stream on which a run is shown.
+#[derive(Drop)]
+struct ShownOn<W: Drop> {
+    stream: W,
+    is_terminal: bool,
 }
 
 /// Runs the jobs that are asked for, shows them, and writes their report. The status is 1 where one of them failed.
@@ -398,24 +407,44 @@ impl<'x, R: Threads + Wait + Sync + Clock, D: Inputs> ListRun<'x, R, D> {
     {
         let is_beside = outlets.use_stdout();
         let Outlets { report, junit } = outlets;
-        if frame.old.is_some() {
-            let (to, _, ran) = self.run_and_show(
-                planned,
-                is_beside,
-                Outlet::Nowhere,
-                to,
-                terminals,
-            );
-            return (to, Outlets { report, junit }, ran);
+        match report {
+            Outlet::File(OpenFile { path, place, sink }) if frame.old.is_none() => {
+                let file = RowsFile {
+                    name: (path, place),
+                    sink,
+                };
+                let (to, file, ran) = self.run_and_show(
+                    planned,
+                    is_beside,
+                    Some(file),
+                    to,
+                    terminals,
+                );
+                let report = outlet_of_rows(file);
+                let ran = match ran {
+                    Ok(rows) => Ok(rows),
+                    Err(error) => Err(stop_of_both(self.host.alloc, path, error)),
+                };
+                (to, Outlets { report, junit }, ran)
+            }
+            report => {
+                let file: Option<RowsFile<(), F::File>> = None;
+                let (to, _, ran) = self.run_and_show(planned, is_beside, file, to, terminals);
+                let ran = match ran {
+                    Ok(rows) => Ok(rows),
+                    Err(BothError::First(error) | BothError::Second(error)) => {
+                        Err(stop_of_stream(error))
+                    }
+                };
+                (to, Outlets { report, junit }, ran)
+            }
         }
-        let (to, report, ran) = self.run_and_show(planned, is_beside, report, to, terminals);
-        (to, Outlets { report, junit }, ran)
     }
 
     // Runs the jobs at some places, and shows them: on standard error where a file goes to standard output.
     fn run_and_show<
-        'o,
         J: RowLines + Send + Sync,
+        N: Drop,
         F: Outputs + Drop,
         O: Sink + Drop + Send,
         E: Sink + Drop + Send,
@@ -424,13 +453,13 @@ impl<'x, R: Threads + Wait + Sync + Clock, D: Inputs> ListRun<'x, R, D> {
         &self,
         planned: &PlannedRun<'_, J>,
         is_beside: bool,
-        report: Outlet<'o, F::Place, F::File>,
+        file: Option<RowsFile<N, F::File>>,
         to: Destinations<F, O, E>,
         terminals: Terminals<P>,
     ) -> (
         Destinations<F, O, E>,
-        Outlet<'o, F::Place, F::File>,
-        Result<Rows, Stop>,
+        Option<RowsFile<N, F::File>>,
+        Result<Rows, BothError>,
     )
     where
         F::File: Send,
@@ -443,62 +472,55 @@ impl<'x, R: Threads + Wait + Sync + Clock, D: Inputs> ListRun<'x, R, D> {
             planned.now.places.now (run_rows self.now.asked.now.stop_after
             (judging_of planned.now.telling.now.judge) planned.now.telling.now.plan.now planned.now.places.now))
             (said F.placed O.taken E.taken E.failed to) (said F.placed O.taken E.taken E.failed result.0)) }
-        ensures report { OnOk result.2 (IsPutInto F.File.taken F.File.failed report.entry result.1
+        ensures report { OnOk result.2 (AreRowsPut F.File.taken F.File.failed file result.1
             (joined_row_texts row_text planned.now.places.now (run_rows self.now.asked.now.stop_after
             (judging_of planned.now.telling.now.judge) planned.now.telling.now.plan.now planned.now.places.now))) }
-        ensures report_path { outlet_path result.1 ≡ outlet_path report.entry }
-        ensures stopped { IfErr result.2 (IsRowsStop (outlet_path report.entry)) }
+        ensures name { file_name result.1 ≡ file_name file }
     {
         let Destinations { files, out, errors } = to;
         if is_beside {
-            let is_terminal = terminals.is_errors_terminal;
-            let sinks = RunSinks {
-                shown: errors,
-                report,
+            let shown = ShownOn {
+                stream: errors,
+                is_terminal: terminals.is_errors_terminal,
             };
-            let (sinks, ran) = self.run_and_show_on(planned, sinks, is_terminal, terminals);
-            let RunSinks {
-                shown: errors,
-                report,
-            } = sinks;
-            (Destinations { files, out, errors }, report, ran)
+            let (errors, file, ran) = self.run_and_show_on(planned, shown, file, terminals);
+            (Destinations { files, out, errors }, file, ran)
         } else {
-            let is_terminal = terminals.is_out_terminal;
-            let sinks = RunSinks { shown: out, report };
-            let (sinks, ran) = self.run_and_show_on(planned, sinks, is_terminal, terminals);
-            let RunSinks { shown: out, report } = sinks;
-            (Destinations { files, out, errors }, report, ran)
+            let shown = ShownOn {
+                stream: out,
+                is_terminal: terminals.is_out_terminal,
+            };
+            let (out, file, ran) = self.run_and_show_on(planned, shown, file, terminals);
+            (Destinations { files, out, errors }, file, ran)
         }
     }
 
     // The same on one of the streams, and how far the run is on standard error.
     fn run_and_show_on<
-        'o,
         J: RowLines + Send + Sync,
-        Q: Drop,
+        N: Drop,
         V: Sink + Drop + Send,
         W: Sink + Drop + Send,
         P: Write + Drop + Send,
     >(
         &self,
         planned: &PlannedRun<'_, J>,
-        sinks: RunSinks<W, Outlet<'o, Q, V>>,
-        is_terminal: bool,
+        shown: ShownOn<W>,
+        file: Option<RowsFile<N, V>>,
         terminals: Terminals<P>,
-    ) -> (RunSinks<W, Outlet<'o, Q, V>>, Result<Rows, Stop>)
-        ensures rows { IfOk result.1 (λ rows. rows ≡ run_rows self.now.asked.now.stop_after
+    ) -> (W, Option<RowsFile<N, V>>, Result<Rows, BothError>)
+        ensures rows { IfOk result.2 (λ rows. rows ≡ run_rows self.now.asked.now.stop_after
             (judging_of planned.now.telling.now.judge) planned.now.telling.now.plan.now planned.now.places.now) }
-        ensures few { IfOk result.1 (λ rows. length rows ≤ length planned.now.places.now) }
-        ensures shown { OnOk result.1 (Appends (W.taken sinks.entry.shown) (W.taken result.0.shown)
+        ensures few { IfOk result.2 (λ rows. length rows ≤ length planned.now.places.now) }
+        ensures shown { OnOk result.2 (Appends (W.taken shown.stream) (W.taken result.0)
             (run_output_text (row_lines_at (telling_of planned.now.telling.now))
             (judging_of planned.now.telling.now.judge) planned.now.places.now (run_rows self.now.asked.now.stop_after
             (judging_of planned.now.telling.now.judge) planned.now.telling.now.plan.now planned.now.places.now))) }
-        ensures counted { OnOk result.1 (W.failed result.0.shown ≡ W.failed sinks.entry.shown) }
-        ensures report { OnOk result.1 (IsPutInto V.taken V.failed sinks.entry.report result.0.report
+        ensures counted { OnOk result.2 (W.failed result.0 ≡ W.failed shown.stream) }
+        ensures report { OnOk result.2 (AreRowsPut V.taken V.failed file result.1
             (joined_row_texts row_text planned.now.places.now (run_rows self.now.asked.now.stop_after
             (judging_of planned.now.telling.now.judge) planned.now.telling.now.plan.now planned.now.places.now))) }
-        ensures report_path { outlet_path result.0.report ≡ outlet_path sinks.entry.report }
-        ensures stopped { IfErr result.1 (IsRowsStop (outlet_path sinks.entry.report)) }
+        ensures name { file_name result.1 ≡ file_name file }
     {
         let (rt, alloc) = (self.host.rt, self.host.alloc);
         let (telling, places) = (planned.telling, planned.places);
@@ -506,20 +528,22 @@ impl<'x, R: Threads + Wait + Sync + Clock, D: Inputs> ListRun<'x, R, D> {
         let kept = self.lines_to_keep(planned);
         let keeping = KeepingTelling::new(rt, telling, telling.judge, kept);
         let counting = CountingTelling::new(rt, &keeping, &progress);
-        let RunSinks { shown, report } = sinks;
-        let shown = TerminalSink::new(rt, alloc, shown, is_terminal, &progress);
+        let ShownOn {
+            stream,
+            is_terminal,
+        } = shown;
+        let stream = TerminalSink::new(rt, alloc, stream, is_terminal, &progress);
         let crew = requested_crew(rt, alloc, self.asked);
         let batch = Batch::new(telling.plan, places);
         let limit = FailureLimit {
             judge: telling.judge,
             failures: self.asked.stop_after,
         };
-        let sinks = RunSinks { shown, report };
-        let (sinks, ran) = put_run_output(&crew, &batch, &limit, &counting, sinks);
-        let RunSinks { shown, report } = sinks;
-        let shown = shown.into_inner();
+        let (stream, file, ran) =
+            put_run_output(&crew, &batch, &limit, &counting, stream, file);
+        let stream = stream.into_inner();
         progress.finish();
-        (RunSinks { shown, report }, ran)
+        (stream, file, ran)
     }
 
     // The line that counts the jobs at some places.
@@ -626,6 +650,21 @@ impl<'x, R: Threads + Wait + Sync + Clock, D: Inputs> ListRun<'x, R, D> {
         };
         put_files(self.host.alloc, to, outlets, texts)?;
         Ok(status)
+    }
+}
+
+// The outlet of the file that took the rows.
+fn outlet_of_rows<'o, P: Drop, V: Drop>(file: Option<RowsFile<(&'o str, P), V>>) -> Outlet<'o, P, V>
+    ensures { IsOutletOfRows file.entry result }
+{
+    match file {
+        Some(
+            RowsFile {
+                name: (path, place),
+                sink,
+            },
+        ) => Outlet::File(OpenFile { path, place, sink }),
+        None => Outlet::Nowhere,
     }
 }
 

@@ -10,11 +10,11 @@ ghost use Rattle.rv_report.specs.Report.{row_text};
 ghost use Rattle.rv_rounds.specs.Rounds.{rows_within};
 ghost use Rattle.rv_stream.specs.Streams.{joined_row_texts};
 ghost use Rattle.rvtest_app.specs.Commands.{stop_of_stream};
-ghost use Rattle.rvtest_app.specs.Outlets.{IsPutInto, outlet_path};
+ghost use Rattle.rvtest_app.specs.RowsFiles.{AreRowsPut, file_name};
 ghost use Rattle.rvtest_app.specs.RunOutput.{run_output_text};
-ghost use Rattle.rvtest_app.specs.RunStops.{IsBothStop, IsRowsStop};
+ghost use Rattle.rvtest_app.specs.RunStops.{IsBothStop};
 
-use crate::outlets::{OpenFile, Outlet, unwritten_stop};
+use crate::outlets::unwritten_stop;
 use crate::report_telling::ReportTelling;
 use rv_command::Stop;
 use rv_expect::Judge;
@@ -26,21 +26,20 @@ use std::alloc::Global;
 use std::sync::Wait;
 use std::thread::Threads;
 
-/// Where what a run shows goes, and its report, whose rows go to a file as they come.
+/// The file that takes what the report says of each row as the row comes, and what names it.
 #[derive(Drop)]
-pub(crate) struct RunSinks<W: Drop, U: Drop> {
-    pub(crate) shown: W,
-    pub(crate) report: U,
+pub(crate) struct RowsFile<N: Drop, V: Drop> {
+    pub(crate) name: N,
+    pub(crate) sink: V,
 }
 
 /// Runs a batch up to the failure that ends it, if one does, and sends what is told of each of these jobs in list order; and then the
-/// last line. What the report says of each goes to the report's file, if it goes to one. The sinks come back: with the rows they
-/// took all of that and no put failed, and with an error a beginning.
+/// last line. What the report says of each goes to the file, if there is one. Both come back: with the rows they took all of that and no
+/// put failed, and with an error a beginning.
 pub(crate) fn put_run_output<
-    'o,
     R: Threads + Wait + Sync,
     T: Telling + Sync,
-    P: Drop,
+    N: Drop,
     V: Sink + Drop + Send,
     W: Sink + Drop + Send,
 >(
@@ -48,41 +47,40 @@ pub(crate) fn put_run_output<
     batch: &Batch<'_>,
     limit: &FailureLimit<'_>,
     telling: &T,
-    sinks: RunSinks<W, Outlet<'o, P, V>>,
-) -> (RunSinks<W, Outlet<'o, P, V>>, Result<Rows, Stop>)
-    ensures rows { IfOk result.1 (λ rows. rows ≡ rows_within limit.now (batch_rows batch.now)) }
-    ensures few { IfOk result.1 (λ rows. length rows ≤ length batch.now.places.now) }
-    ensures all { OnOk result.1 (Appends (W.taken sinks.entry.shown) (W.taken result.0.shown)
+    out: W,
+    file: Option<RowsFile<N, V>>,
+) -> (W, Option<RowsFile<N, V>>, Result<Rows, BothError>)
+    ensures rows { IfOk result.2 (λ rows. rows ≡ rows_within limit.now (batch_rows batch.now)) }
+    ensures few { IfOk result.2 (λ rows. length rows ≤ length batch.now.places.now) }
+    ensures all { OnOk result.2 (Appends (W.taken out) (W.taken result.0)
         (run_output_text (T.line telling.now) (judging_of limit.now.judge) batch.now.places.now
         (rows_within limit.now (batch_rows batch.now)))) }
-    ensures counted { OnOk result.1 (W.failed result.0.shown ≡ W.failed sinks.entry.shown) }
-    ensures part { OnErr result.1 (AppendsBeginning (W.taken sinks.entry.shown) (W.taken result.0.shown)
+    ensures counted { OnOk result.2 (W.failed result.0 ≡ W.failed out) }
+    ensures part { OnErr result.2 (AppendsBeginning (W.taken out) (W.taken result.0)
         (run_output_text (T.line telling.now) (judging_of limit.now.judge) batch.now.places.now
         (rows_within limit.now (batch_rows batch.now)))) }
-    ensures report { OnOk result.1 (IsPutInto V.taken V.failed sinks.entry.report result.0.report
+    ensures report { OnOk result.2 (AreRowsPut V.taken V.failed file result.1
         (joined_row_texts row_text batch.now.places.now (rows_within limit.now (batch_rows batch.now)))) }
-    ensures path { outlet_path result.0.report ≡ outlet_path sinks.entry.report }
-    ensures stopped { IfErr result.1 (IsRowsStop (outlet_path sinks.entry.report)) }
+    ensures name { file_name result.1 ≡ file_name file }
 {
-    let (mut sinks, ran) = stream_rows(crew, batch, limit, telling, sinks);
+    let (mut out, file, ran) = stream_rows(crew, batch, limit, telling, out, file);
     let rows = match ran {
         Ok(rows) => rows,
-        Err(stop) => return (sinks, Err(stop)),
+        Err(error) => return (out, file, Err(error)),
     };
-    let shown = rows.as_slice();
-    let hidden = batch.places.len() - shown.len();
-    match put_totals_line(crew.alloc, &limit.judge, shown, hidden, &mut sinks.shown) {
-        Ok(()) => (sinks, Ok(rows)),
-        Err(error) => (sinks, Err(stop_of_stream(error))),
+    let done = rows.as_slice();
+    let hidden = batch.places.len() - done.len();
+    match put_totals_line(crew.alloc, &limit.judge, done, hidden, &mut out) {
+        Ok(()) => (out, file, Ok(rows)),
+        Err(error) => (out, file, Err(BothError::First(error))),
     }
 }
 
 // The same without the last line.
 fn stream_rows<
-    'o,
     R: Threads + Wait + Sync,
     T: Telling + Sync,
-    P: Drop,
+    N: Drop,
     V: Sink + Drop + Send,
     W: Sink + Drop + Send,
 >(
@@ -90,46 +88,35 @@ fn stream_rows<
     batch: &Batch<'_>,
     limit: &FailureLimit<'_>,
     telling: &T,
-    sinks: RunSinks<W, Outlet<'o, P, V>>,
-) -> (RunSinks<W, Outlet<'o, P, V>>, Result<Rows, Stop>)
-    ensures rows { IfOk result.1 (λ rows. rows ≡ rows_within limit.now (batch_rows batch.now)) }
-    ensures few { IfOk result.1 (λ rows. length rows ≤ length batch.now.places.now) }
-    ensures all { OnOk result.1 (Appends (W.taken sinks.entry.shown) (W.taken result.0.shown)
+    out: W,
+    file: Option<RowsFile<N, V>>,
+) -> (W, Option<RowsFile<N, V>>, Result<Rows, BothError>)
+    ensures rows { IfOk result.2 (λ rows. rows ≡ rows_within limit.now (batch_rows batch.now)) }
+    ensures few { IfOk result.2 (λ rows. length rows ≤ length batch.now.places.now) }
+    ensures all { OnOk result.2 (Appends (W.taken out) (W.taken result.0)
         (joined_row_texts (T.line telling.now) batch.now.places.now (rows_within limit.now (batch_rows batch.now)))) }
-    ensures counted { OnOk result.1 (W.failed result.0.shown ≡ W.failed sinks.entry.shown) }
-    ensures part { OnErr result.1 (AppendsBeginning (W.taken sinks.entry.shown) (W.taken result.0.shown)
+    ensures counted { OnOk result.2 (W.failed result.0 ≡ W.failed out) }
+    ensures part { OnErr result.2 (AppendsBeginning (W.taken out) (W.taken result.0)
         (joined_row_texts (T.line telling.now) batch.now.places.now (rows_within limit.now (batch_rows batch.now)))) }
-    ensures report { OnOk result.1 (IsPutInto V.taken V.failed sinks.entry.report result.0.report
+    ensures report { OnOk result.2 (AreRowsPut V.taken V.failed file result.1
         (joined_row_texts row_text batch.now.places.now (rows_within limit.now (batch_rows batch.now)))) }
-    ensures path { outlet_path result.0.report ≡ outlet_path sinks.entry.report }
-    ensures stopped { IfErr result.1 (IsRowsStop (outlet_path sinks.entry.report)) }
+    ensures name { file_name result.1 ≡ file_name file }
 {
-    let RunSinks { shown, report } = sinks;
-    match report {
-        Outlet::File(OpenFile { path, place, sink }) => {
-            let shown = ToldTo {
-                telling,
-                out: shown,
-            };
+    match file {
+        Some(RowsFile { name, sink }) => {
+            let shown = ToldTo { telling, out };
             let rows = ToldTo {
                 telling: &ReportTelling,
                 out: sink,
             };
-            let (shown, sink, ran) = stream_until_to_both(crew, batch, limit, shown, rows);
-            let report = Outlet::File(OpenFile { path, place, sink });
-            match ran {
-                Ok(rows) => (RunSinks { shown, report }, Ok(rows)),
-                Err(error) => {
-                    let stop = stop_of_both(crew.alloc, path, error);
-                    (RunSinks { shown, report }, Err(stop))
-                }
-            }
+            let (out, sink, ran) = stream_until_to_both(crew, batch, limit, shown, rows);
+            (out, Some(RowsFile { name, sink }), ran)
         }
-        report => {
-            let (shown, ran) = stream_until(crew, batch, limit, telling, shown);
+        None => {
+            let (out, ran) = stream_until(crew, batch, limit, telling, out);
             match ran {
-                Ok(rows) => (RunSinks { shown, report }, Ok(rows)),
-                Err(error) => (RunSinks { shown, report }, Err(stop_of_stream(error))),
+                Ok(rows) => (out, None, Ok(rows)),
+                Err(error) => (out, None, Err(BothError::First(error))),
             }
         }
     }
@@ -158,8 +145,8 @@ fn put_totals_line<W: Sink>(
     }
 }
 
-// Why a run ends that stopped on its way, where the rows of its report go to the file for a path.
-fn stop_of_both(alloc: Global, path: &str, error: BothError) -> Stop
+/// Why a run ends that stopped on its way, where the rows of its report go to the file for a path.
+pub(crate) fn stop_of_both(alloc: Global, path: &str, error: BothError) -> Stop
     ensures { IsBothStop path.now error result }
 {
     match error {
@@ -169,8 +156,8 @@ fn stop_of_both(alloc: Global, path: &str, error: BothError) -> Stop
     }
 }
 
-// Why a run ends that stopped on its way.
-fn stop_of_stream(error: StreamError) -> Stop
+/// Why a run ends that stopped on its way.
+pub(crate) fn stop_of_stream(error: StreamError) -> Stop
     ensures { result ≡ stop_of_stream error }
 {
     match error {
