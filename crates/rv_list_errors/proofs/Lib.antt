@@ -12,3 +12,4 @@ pub mod NamesTold
 pub mod ElementNames
 pub mod UnknownKeys
 pub mod Messages
+pub mod NamesFound

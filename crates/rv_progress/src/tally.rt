@@ -1,6 +1,6 @@
 //! How many rows of a run are done, and how many of them failed.
 
-ghost use Rattle.std.specs.Prelude.{◌++◌, ◌+◌, ◌∷◌, ◌^◌, ◌<◌, [], List, length};
+ghost use Rattle.std.specs.Prelude.{◌++◌, ◌+◌, ◌∷◌, ◌^◌, ◌<◌, ◌≤◌, [], List, length};
 ghost use Rattle.rv_progress.specs.Tallies.{IsTallyOf};
 ghost use Rattle.rv_expect.specs.Judgement.{Judging, judging_of};
 ghost use Rattle.rv_rows.specs.declared_row.Row.{Row as ARow};
@@ -13,6 +13,7 @@ use rv_rows::Row;
 pub(crate) struct Tally {
     pub(crate) done: u64,
     pub(crate) failed: u64,
+    ghost within: { failed ≤ done },
 }
 
 impl Tally {
