@@ -193,12 +193,12 @@ kinds_of_keys =
 abbrev pub is_of_other_kind : Members → List ℕ × Kind → Bool
 is_of_other_kind ms known = not (absent_or (is_value_of_kind known.1) known.0 ms)
 
+-- the same as the program has the key
 abbrev pub key_and_kind : Bor (List ℕ) × Kind → List ℕ × Kind
 key_and_kind known = (known.0.now, known.1)
 
--- the first of some keys whose value is of another kind
-abbrev pub wrong_key : Members → List (List ℕ × Kind) → Option (List ℕ × Kind)
-wrong_key ms keys = find (is_of_other_kind ms) keys
+abbrev pub is_known_of_other_kind : Members → Bor (List ℕ) × Kind → Bool
+is_known_of_other_kind ms known = is_of_other_kind ms (key_and_kind known)
 
 abbrev pub TellsWrongKey : Members → Option (List ℕ × Kind) → List ℕ → Type 0
 TellsWrongKey ms None told = told ≡ codes "a value of another kind"
@@ -206,7 +206,7 @@ TellsWrongKey ms (Some known) told = TellsOtherKind known.0 known.1 ms told
 
 -- of a job, the first key in the order of the format whose value is of another kind
 abbrev pub TellsWrongKind : Members → List ℕ → Type 0
-TellsWrongKind ms told = TellsWrongKey ms (wrong_key ms kinds_of_keys) told
+TellsWrongKind ms told = TellsWrongKey ms (find (is_of_other_kind ms) kinds_of_keys) told
 
 -- ---- faults of a job
 

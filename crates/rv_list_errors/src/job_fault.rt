@@ -71,7 +71,7 @@ fn push_no_table(message: &mut Message, element: &Value)
 // Appends a fault of a job that is a table.
 fn push_fault_of_table(message: &mut Message, job: FaultyJob<'_>, what: What)
     ensures { IsPinned what → AddsSome message.old message.new (TellsFaultOfTable
-        (borrowed_names job.list.now.names.items) (table_view job.table.now) what) }
+        (borrowed_names job.entry.list.now.names.items) (table_view job.entry.table.now) what) }
 {
     match what {
         What::Duplicate => push_taken_name(message, job.list, job.table),

@@ -1,13 +1,14 @@
 //! Values of another TOML kind than their key has.
 
 ghost use Rattle.std.specs.Prelude.{◌≡◌, ◌+◌, ◌^◌, ◌<◌, IfSome, codes, is_some, length, map, not, option_map, true};
-ghost use Rattle.std.specs.List.{list_all, position};
+ghost use Rattle.std.specs.List.{find, list_all, position};
 ghost use Rattle.std.specs.Option.{option_map_or};
 ghost use Rattle.toml.specs.View.{table_view, view};
 ghost use Rattle.rv_lists.specs.Keys.{absent_or, has_kinds_of_keys, is_boolean, is_number, is_region, is_region_array, is_text};
 ghost use Rattle.rv_lists.specs.Keys.{is_text_array, region_keys};
 ghost use Rattle.rv_lists.specs.KeysInside.{is_value_of_kind};
-ghost use Rattle.rv_list_errors.specs.JobFaults.{BeginsWithRegion, BeginsWithValue, TellsOtherKind, TellsWrongKind, key_and_kind, wrong_key};
+ghost use Rattle.rv_list_errors.specs.JobFaults.{BeginsWithRegion, BeginsWithValue, TellsOtherKind, TellsWrongKind, is_known_of_other_kind};
+ghost use Rattle.rv_list_errors.specs.JobFaults.{is_of_other_kind, key_and_kind};
 ghost use Rattle.rv_list_errors.specs.Lines.{BeginsWith};
 ghost use Rattle.rv_list_errors.specs.Told.{AddsSome, region_number_text};
 
@@ -22,10 +23,21 @@ use toml::{Table, Value};
 pub(crate) fn push_wrong_kind(message: &mut Message, table: &Table)
     ensures { AddsSome message.old message.new (TellsWrongKind (table_view table.now)) }
 {
-    match first_key_of_other_kind(table, &JOB_KEYS) {
+    match wrong_key(table, &JOB_KEYS) {
         Some(known) => push_value_of_wrong_kind(message, table, known.0, known.1),
         None => message.push("a value of another kind"),
     }
+}
+
+// The first of these keys whose value is of another kind, by the names of the keys.
+fn wrong_key<'k>(
+    table: &Table,
+    keys: &'k [(&'static str, Kind)],
+) -> Option<&'k (&'static str, Kind)>
+    ensures { option_map (λ known. key_and_kind known.now) result
+        ≡ find (is_of_other_kind (table_view table.now)) (map key_and_kind keys.now) }
+{
+    first_key_of_other_kind(table, keys)
 }
 
 // The first of these keys whose value is of another kind.
@@ -33,8 +45,7 @@ fn first_key_of_other_kind<'k>(
     table: &Table,
     keys: &'k [(&'static str, Kind)],
 ) -> Option<&'k (&'static str, Kind)>
-    ensures { option_map (λ known. key_and_kind known.now) result
-        ≡ wrong_key (table_view table.now) (map key_and_kind keys.now) }
+    ensures { option_map (λ known. known.now) result ≡ find (is_known_of_other_kind (table_view table.now)) keys.now }
 {
     keys.iter()
         .find(|known| is_value_of_other_kind(table, known.0, known.1))
