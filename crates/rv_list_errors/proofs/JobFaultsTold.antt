@@ -1,5 +1,5 @@
 -- What is told of a job, by what is wrong.
-use Rattle.std.proofs.Common.{◌≡◌, ◌∙◌, ℕ, List, Option, Some, None, ap, refl, subst, sym}
+use Rattle.std.proofs.Common.{◌≡◌, ℕ, List, Option, Some, None, refl, subst, sym}
 use Rattle.toml.specs.Data.{Data, Members, array, as_table, string, integer, float, boolean, datetime, table}
 use Rattle.rv_lists.specs.declared.error.What.{What}
 use Rattle.rv_lists.specs.declared.error.What.TheVariants as what

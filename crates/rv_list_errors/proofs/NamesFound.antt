@@ -1,5 +1,5 @@
 -- Places in a list and in the list of what its elements stand for.
-use Rattle.std.proofs.Common.{◌≡◌, ◌∙◌, ◌+◌, ◌<◌, ◌≤◌, arith, inl, inr, subst, ℕ, Bool, true, false, not, List, [], ◌∷◌, cond, length, Option, Some, None, ap, refl, sym}
+use Rattle.std.proofs.Common.{◌≡◌, ◌∙◌, ◌+◌, ◌<◌, arith, inl, inr, subst, ℕ, Bool, true, false, not, List, [], ◌∷◌, cond, length, Option, Some, None, ap, refl, sym}
 use Rattle.std.specs.Prelude.{map, nat_lt, option_map}
 use Rattle.std.specs.List.{find, position, prefix_len}
 use Rattle.std.proofs.lemmas.Bool.{cases_lt}
@@ -42,6 +42,6 @@ one_more_so P n before here place low =
     elim (cases_lt place n) [
       | inl less ↦ before place less
       | inr more ↦
-        let last : n ≡ place = omega arith in
-        subst P last here
+          let last : n ≡ place = omega arith in
+          subst P last here
     ]

@@ -1,5 +1,5 @@
 -- The items of an array and the elements that they are of, one by one.
-use Rattle.std.proofs.Common.{◌≡◌, ◌+◌, ◌<◌, ◌≤◌, arith, get_or, length, IfSome, Bool, ℕ, zero, suc, List, [], ◌∷◌, Option, Some, None, ap, refl, ◌&&◌}
+use Rattle.std.proofs.Common.{◌≡◌, ◌<◌, ◌≤◌, arith, get_or, length, IfSome, Bool, ℕ, zero, suc, List, [], ◌∷◌, Option, Some, None, ap, refl, ◌&&◌}
 use Rattle.std.specs.Prelude.{MatchOption, option_map, ⊤}
 use Rattle.std.specs.Borrow.{Bor}
 use Rattle.std.specs.List.{list_all}

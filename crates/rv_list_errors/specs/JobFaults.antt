@@ -1,5 +1,5 @@
 -- What is told of a job whose values are bad: by the values at its keys, in the terms of the list's format.
-use Rattle.std.specs.Prelude.{◌≡◌, ◌⊎◌, ◌+◌, ◌<◌, ◌≤◌, ◌%◌, ◌/◌, ◌==◌, ◌&&◌, ◌++◌, ℕ, Bool, true, false, not, List, [], ◌∷◌, Option, Some, None}
+use Rattle.std.specs.Prelude.{◌≡◌, ◌⊎◌, ◌+◌, ◌<◌, ◌≤◌, ◌%◌, ◌/◌, ◌==◌, ◌&&◌, ◌++◌, ℕ, Bool, false, not, List, [], ◌∷◌, Option, Some, None}
 use Rattle.std.specs.Prelude.{◌-◌, IfSome, zero, suc, ⊤, codes, if◌then◌else◌, length, nat_lt, option_map, slice_index_or}
 use Rattle.std.specs.Fmt.{decimal}
 use Rattle.std.specs.Char.{is_ascii_hexdigit}
@@ -102,8 +102,10 @@ most_script_words = codes "at most " ++ (decimal most_script ++ codes " bytes ar
 abbrev pub script_told : Option (List ℕ) → Option (List ℕ) → Option (List ℕ) × List ℕ
 script_told (Some text) (Some digits) = (None, codes "input and input_hex both stand: one of them is taken")
 script_told (Some text) None = (Some (codes "input"), most_script_words)
-script_told None (Some digits) = (Some (codes "input_hex"),
-    if are_digit_pairs digits then most_script_words else codes "pairs of hexadecimal digits are wanted")
+script_told None (Some digits) = (
+  Some (codes "input_hex"),
+  if are_digit_pairs digits then most_script_words else codes "pairs of hexadecimal digits are wanted",
+)
 script_told None None = (None, codes "input")
 
 abbrev pub script_told_of : Members → Option (List ℕ) × List ℕ

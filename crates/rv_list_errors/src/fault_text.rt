@@ -163,11 +163,7 @@ fn fault_explanation(
     }
 }
 
-fn not_toml_explanation(
-    alloc: Global,
-    text: &[u8],
-    error: &Error,
-) -> Result<Vec<u8>, AllocError> {
+fn not_toml_explanation(alloc: Global, text: &[u8], error: &Error) -> Result<Vec<u8>, AllocError> {
     let mut message = Message::new(alloc);
     push_not_toml(&mut message, text, error);
     if let Some(repeated) = repeated_key_of_error(alloc, text, error)? {

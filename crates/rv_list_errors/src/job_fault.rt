@@ -168,10 +168,7 @@ fn is_unsimulated(letter: u8) -> bool
 fn input_explanation(table: &Table) -> Told
     ensures { (told_key result, told_words result) ≡ script_told_of (table_view table.now) }
 {
-    script_explanation(
-        text_at_key(table, "input"),
-        text_at_key(table, "input_hex"),
-    )
+    script_explanation(text_at_key(table, "input"), text_at_key(table, "input_hex"))
 }
 
 fn script_explanation(text: Option<&str>, digits: Option<&str>) -> Told

@@ -148,12 +148,7 @@ fn is_other_than_boolean(value: Option<&Value>) -> bool
 const NUMBER: &str = "a whole number is wanted";
 
 /// Appends the value of a key, which is of another kind than this.
-pub(crate) fn push_value_of_wrong_kind(
-    message: &mut Message,
-    table: &Table,
-    key: &str,
-    kind: Kind,
-)
+pub(crate) fn push_value_of_wrong_kind(message: &mut Message, table: &Table, key: &str, kind: Kind)
     ensures { AddsSome message.old message.new (TellsOtherKind key.now kind (table_view table.now)) }
 {
     match kind {

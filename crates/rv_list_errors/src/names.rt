@@ -31,10 +31,7 @@ pub(crate) fn push_name_fault(
 {
     push_key_and_value(message, table, key);
     message.push(": ");
-    push_job_of_name(
-        message,
-        list.job_number_of_name(text_at_key(table, key)),
-    );
+    push_job_of_name(message, list.job_number_of_name(text_at_key(table, key)));
     message.push(wanted);
 }
 

@@ -1,4 +1,3 @@
-use Rattle.std.proofs.Common.{length}
 use Rattle.rv_list_errors.specs.Told.{first_kinds_text}
 use Rattle.rv_list_errors.proofs.FaultKinds.{one_kind_more}
 use Rattle.rv_list_errors.proofs.NamesTold.{adds_nothing}

@@ -24,5 +24,5 @@ returns c =
       met,
       is,
       ap (λ number. met ++ (codes ": " ++ (job_of_name_text number ++ wanted)))
-      (c.job_number_of_name.ensures ∙ ap (number_of_name names) c.text_at_key.ensures),
+          (c.job_number_of_name.ensures ∙ ap (number_of_name names) c.text_at_key.ensures),
     ))
