@@ -1,10 +1,12 @@
 //! Where a file stands while it is written, and in the end.
 
-ghost use Rattle.std.specs.Prelude.{◌≡◌, ◌≢◌, ◌++◌, IfErr, IfOk, codes};
+ghost use Rattle.std.specs.Prelude.{◌≡◌, ◌≢◌, ◌↔◌, ◌++◌, IfErr, IfOk, IsTrue, codes};
+ghost use Rattle.std.specs.Fs.{IsFile, file_type};
 ghost use Rattle.std.specs.Path.{path_buf_bytes};
 
 use crate::file_error::FileError;
 use std::alloc::{AllocError, Global};
+use std::fs::Metadata;
 use std::io::{self, ErrorKind};
 use std::path::{Path, PathBuf};
 use std::rt::Files;
@@ -35,10 +37,17 @@ pub(crate) fn temporary_and_final_path<R: Files>(
 // Whether nothing is at the path, or a regular file; of a link the place that it leads to is asked.
 fn is_replaceable<R: Files>(files: &R, path: &str) -> io::Result<bool> {
     match files.metadata(path) {
-        Ok(met) => Ok(met.is_file()),
+        Ok(met) => Ok(gives_way(&met)),
         Err(error) if error.kind() == ErrorKind::NotFound && !path.is_empty() => Ok(true),
         Err(error) => Err(error),
     }
+}
+
+// Whether what is at a path gives way to another file: a regular file does, and nothing else.
+fn gives_way(met: &Metadata) -> bool
+    ensures { IsTrue result ↔ IsFile (file_type met.now) }
+{
+    met.is_file()
 }
 
 // Links that are followed, one behind the other: as many as Linux follows.

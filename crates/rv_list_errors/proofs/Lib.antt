@@ -12,3 +12,8 @@ pub mod NamesTold
 pub mod ElementNames
 pub mod UnknownKeys
 pub mod Messages
+pub mod NamesFound
+pub mod FaultKinds
+pub mod TomlElements
+pub mod JobFaultsTold
+pub mod WrongKinds

@@ -11,3 +11,4 @@ pub mod PlacedFaults
 pub mod NearestJob
 pub mod NearNames
 pub mod Told
+pub mod JobFaults

@@ -1,6 +1,6 @@
 -- What is told of a fault behind the place where it stands.
 use Rattle.std.specs.Prelude.{◌≡◌, ◌+◌, ◌++◌, ℕ, Bool, List, [], Option, Some, None, IsOk, MatchOption, OnOk, codes, if◌then◌else◌}
-use Rattle.std.specs.Prelude.{◌==◌, ◌||◌, false, not}
+use Rattle.std.specs.Prelude.{◌==◌, ◌||◌, zero, suc, false, length, not, slice_index_or}
 use Rattle.std.specs.Fmt.{decimal}
 use Rattle.std.specs.List.{find}
 use Rattle.toml.specs.Data.{Data, Members, no_members, member, as_str}
@@ -9,6 +9,8 @@ use Rattle.rv_lists.specs.Keys.{is_job_key, is_list_key, is_region_key}
 use Rattle.rv_lists.specs.Limits.{most_budget, most_jobs, most_name, most_path, most_symbol}
 use Rattle.rv_lists.specs.declared.error.What.{What}
 use Rattle.rv_lists.specs.declared.error.What.TheVariants as what
+use Rattle.rv_machine.specs.Faults.{fault_kinds, fault_name}
+use Rattle.rv_machine.specs.declared.ending.FaultKind.TheVariants as fault
 use Rattle.rv_text.specs.Printable.{printable_value}
 use Rattle.rv_list_errors.specs.NearNames.{IsNearName, names_text, present, quoted}
 use Rattle.rv_list_errors.specs.Places.{column_at, line_at}
@@ -89,11 +91,22 @@ IsNearestJob names wanted told =
 
 -- ---- what is wanted
 
--- the most that is taken
+-- the name of the kind of faults at a place, in quotes, behind what parts it from the kind before
+abbrev pub kind_text : ℕ → List ℕ
+kind_text place =
+    (if place == 0 then [] else if place + 1 == length fault_kinds then codes " or " else codes ", ")
+    ++ quoted (fault_name (slice_index_or fault_kinds place fault.FetchAccess))
+
+-- the first so many kinds of faults, as a sentence lists them
+unfoldable pub first_kinds_text : ℕ → List ℕ
+first_kinds_text zero = []
+first_kinds_text (suc count) = first_kinds_text count ++ kind_text count
+
+-- the most that is taken, or all kinds of faults
 abbrev pub rest_words : Rest → List ℕ
 rest_words rest.Nothing = []
 rest_words (rest.Most most) = decimal most
-rest_words rest.FaultKinds = []
+rest_words rest.FaultKinds = first_kinds_text (length fault_kinds)
 
 abbrev pub told_words : Told → List ℕ
 told_words (told.Text text) = text.now

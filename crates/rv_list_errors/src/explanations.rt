@@ -1,5 +1,14 @@
 //! What is wanted of the values of keys.
 
+ghost use Rattle.std.specs.Prelude.{◌≡◌, ◌++◌, ◌<◌, IfSome, codes, length};
+ghost use Rattle.toml.specs.View.{table_view};
+ghost use Rattle.rv_lists.specs.Keys.{text_at_key};
+ghost use Rattle.rv_machine.specs.Faults.{fault_kinds};
+ghost use Rattle.rv_list_errors.specs.FaultHeads.{borrowed_name};
+ghost use Rattle.rv_list_errors.specs.JobFaults.{TellsExplanation, TellsWanted, bytes_text, text_length, told_bytes, wanted_words};
+ghost use Rattle.rv_list_errors.specs.NearNames.{Adds};
+ghost use Rattle.rv_list_errors.specs.Told.{AddsSome, first_kinds_text, kind_text, rest_words};
+
 use crate::message::Message;
 use crate::values::{push_key_and_value, text_at_key};
 use rv_lists::limits::{MOST_BUDGET, MOST_CONSOLE, MOST_NAME, MOST_PATH, MOST_SCRIPT, MOST_SYMBOL};
@@ -194,7 +203,9 @@ pub(crate) const MISALIGNED: Wanted = Wanted {
 };
 
 /// What is wanted of the value of a key that takes a few texts alone.
-pub(crate) fn taken_texts(key: &str) -> Option<&'static Wanted> {
+pub(crate) fn taken_texts(key: &str) -> Option<&'static Wanted>
+    ensures { IfSome result (λ wanted. wanted.now.key.now ≡ key.now) }
+{
     match key {
         "load" => Some(&LOAD),
         "isa" => Some(&ISA),
@@ -205,54 +216,90 @@ pub(crate) fn taken_texts(key: &str) -> Option<&'static Wanted> {
 }
 
 /// Appends what is told.
-pub(crate) fn push_explanation(message: &mut Message, table: &Table, told: Told) {
+pub(crate) fn push_explanation(message: &mut Message, table: &Table, told: Told)
+    ensures { AddsSome message.old message.new (TellsExplanation told (table_view table.now)) }
+{
     match told {
         Told::Text(text) => message.push(text),
-        Told::Wanted(wanted) => {
-            push_key_and_value(message, table, wanted.key);
-            push_wanted_words(message, reported_byte_count(table, wanted), wanted);
-        }
+        Told::Wanted(wanted) => push_wanted(message, table, wanted),
     }
 }
 
+// Appends a key, its value, and what is wanted of it.
+fn push_wanted(message: &mut Message, table: &Table, wanted: &Wanted)
+    ensures { AddsSome message.old message.new (TellsWanted wanted.now (table_view table.now)) }
+{
+    push_key_and_value(message, table, wanted.key);
+    push_wanted_words(message, reported_byte_count(table, wanted), wanted);
+}
+
 // Appends what is wanted, behind the bytes that there are where they are too many.
-fn push_wanted_words(message: &mut Message, bytes: u64, wanted: &Wanted) {
-    if let Rest::Most(most) = wanted.rest
-        && most < bytes
-    {
-        message.push_number_between(" (", bytes, " bytes)");
-    }
+fn push_wanted_words(message: &mut Message, bytes: u64, wanted: &Wanted)
+    ensures { Adds message.old message.new (bytes_text wanted.now.rest bytes ++ (codes ": " ++ wanted_words wanted.now)) }
+{
+    push_byte_count(message, bytes, wanted.rest);
     message.push(": ");
     message.push(wanted.before);
-    match wanted.rest {
+    push_rest(message, wanted.rest);
+    message.push(wanted.behind);
+}
+
+// Appends how many bytes there are, where they are more than the most that is taken.
+fn push_byte_count(message: &mut Message, bytes: u64, rest: Rest)
+    ensures { Adds message.old message.new (bytes_text rest bytes) }
+{
+    match rest {
+        Rest::Most(most) if most < bytes => message.push_number_between(" (", bytes, " bytes)"),
+        _ => {}
+    }
+}
+
+fn push_rest(message: &mut Message, rest: Rest)
+    ensures { Adds message.old message.new (rest_words rest) }
+{
+    match rest {
         Rest::Nothing => {}
         Rest::Most(most) => message.push_number(most),
         Rest::FaultKinds => push_fault_kinds(message),
     }
-    message.push(wanted.behind);
 }
 
 // Appends the names of all kinds of faults in quotes, as a sentence lists them.
-fn push_fault_kinds(message: &mut Message) {
-    let kinds = &FaultKind::ALL;
-    let last = kinds.len() - 1;
-    for (place, kind) in kinds.iter().enumerate() {
-        if place == last {
-            message.push(" or ");
-        } else if place > 0 {
-            message.push(", ");
-        }
-        message.push_quoted(kind.name());
+fn push_fault_kinds(message: &mut Message)
+    ensures { Adds message.old message.new (first_kinds_text (length fault_kinds)) }
+{
+    for place in 0..FaultKind::ALL.len() {
+        push_fault_kind(message, place);
     }
 }
 
+fn push_fault_kind(message: &mut Message, place: usize)
+    requires { place < length fault_kinds }
+    ensures { Adds message.old message.new (kind_text place) }
+{
+    message.push(match place {
+        0 => "",
+        _ if place + 1 == FaultKind::ALL.len() => " or ",
+        _ => ", ",
+    });
+    message.push_quoted(FaultKind::ALL[place].name());
+}
+
 // The bytes of the text at a key, where they are told.
-fn reported_byte_count(table: &Table, wanted: &Wanted) -> u64 {
-    let len = match text_at_key(table, wanted.key) {
+fn reported_byte_count(table: &Table, wanted: &Wanted) -> u64
+    ensures { result ≡ told_bytes wanted.now.bytes (text_length (text_at_key wanted.now.key.now (table_view table.now))) }
+{
+    told_byte_count(wanted.bytes, text_at_key(table, wanted.key))
+}
+
+fn told_byte_count(bytes: Bytes, text: Option<&str>) -> u64
+    ensures { result ≡ told_bytes bytes (text_length (borrowed_name text.entry)) }
+{
+    let len = match text {
         Some(text) => text.len() as u64,
         None => 0,
     };
-    match wanted.bytes {
+    match bytes {
         Bytes::Untold => 0,
         Bytes::Each => len,
         Bytes::Pairs => len / 2,

@@ -3,6 +3,7 @@
 ghost use Rattle.std.specs.Prelude.{◌≡◌, ◌++◌, ◌<◌, IfOk, None, OnOk, codes, slice_get, slice_index_or};
 ghost use Rattle.rv_list_errors.specs.FaultHeads.{borrowed_name, borrowed_names, fault_place, job_heading, line_text, look_place};
 ghost use Rattle.rv_list_errors.specs.FaultHeads.{job_number_and_name, name_text};
+ghost use Rattle.rv_list_errors.specs.JobFaults.{EndsSo, TellsFaultOfList, TellsFoundFault};
 ghost use Rattle.rv_list_errors.specs.Lines.{BeginsWith};
 
 use crate::job_fault::push_job_fault;
@@ -33,7 +34,9 @@ pub(crate) fn message_of_fault(
     fault: JobError,
     suggestion: Suggestion,
 ) -> Result<Vec<u8>, AllocError>
-    ensures { IfOk result (λ message. BeginsWith (file.now ++ look_place look.now fault.job) message.items) }
+    ensures head { IfOk result (λ message. BeginsWith (file.now ++ look_place look.now fault.job) message.items) }
+    ensures told { IfOk result (λ message. EndsSo (TellsFoundFault look.now fault)
+        (file.now ++ look_place look.now fault.job) message.items) }
 {
     let mut message = Vec::new(alloc);
     push_text(&mut message, file)?;
@@ -151,20 +154,38 @@ fn fault_explanation(
     look: &Look<'_>,
     fault: JobError,
     suggestion: Suggestion,
-) -> Result<Vec<u8>, AllocError> {
-    let mut message = Message::new(alloc);
+) -> Result<Vec<u8>, AllocError>
+    ensures { IfOk result (λ told. TellsFoundFault look.now fault told.items) }
+{
     match look {
-        Look::NoToml(text, error) => {
-            push_not_toml(&mut message, text, error);
-            if let Some(repeated) = repeated_key_of_error(alloc, text, error)? {
-                push_repeated_key(&mut message, text, &repeated);
-            }
-        }
-        Look::List(list) if fault.job == 0 => push_list_fault(&mut message, list, fault.what),
-        Look::List(list) => {
-            let place = fault.job as usize - 1;
-            push_job_fault(&mut message, list, place, fault.what, suggestion);
-        }
+        Look::NoToml(text, error) => not_toml_explanation(alloc, text, error),
+        Look::List(list) => explanation_in_list(alloc, list, fault, suggestion),
+    }
+}
+
+fn not_toml_explanation(alloc: Global, text: &[u8], error: &Error) -> Result<Vec<u8>, AllocError> {
+    let mut message = Message::new(alloc);
+    push_not_toml(&mut message, text, error);
+    if let Some(repeated) = repeated_key_of_error(alloc, text, error)? {
+        push_repeated_key(&mut message, text, &repeated);
+    }
+    message.finish()
+}
+
+fn explanation_in_list(
+    alloc: Global,
+    list: &List<'_>,
+    fault: JobError,
+    suggestion: Suggestion,
+) -> Result<Vec<u8>, AllocError>
+    ensures { IfOk result (λ told. TellsFaultOfList list.now fault told.items) }
+{
+    let mut message = Message::new(alloc);
+    if fault.job == 0 {
+        push_list_fault(&mut message, list, fault.what);
+    } else {
+        let place = fault.job as usize - 1;
+        push_job_fault(&mut message, list, place, fault.what, suggestion);
     }
     message.finish()
 }

@@ -1,14 +1,21 @@
 //! Faults of a job.
 
-ghost use Rattle.std.specs.Prelude.{◌≡◌, IfSome, option_map};
-ghost use Rattle.std.specs.List.{find};
-ghost use Rattle.rv_list_errors.specs.Told.{is_unsimulated, key_words, letters_words, told_words};
+ghost use Rattle.std.specs.Prelude.{◌≡◌, IfSome, None, Some, codes, option_map};
+ghost use Rattle.std.specs.Char.{is_ascii_hexdigit};
+ghost use Rattle.std.specs.List.{find, list_all};
+ghost use Rattle.toml.specs.View.{items_view, table_view, view};
+ghost use Rattle.rv_lists.specs.declared.error.What.TheVariants.{Input};
+ghost use Rattle.rv_list_errors.specs.FaultHeads.{borrowed_name, borrowed_names};
+ghost use Rattle.rv_list_errors.specs.JobFaults.{IsPinned, TellsFaultOfTable, TellsJobFault, TellsNoTable, TellsName, TellsOwnFault, element_at, free_words};
+ghost use Rattle.rv_list_errors.specs.JobFaults.{are_digit_pairs, key_of, script_told, script_told_of, told_key};
+ghost use Rattle.rv_list_errors.specs.Told.{AddsSome, is_unsimulated, key_words, letters_words, told_words};
 
 use crate::expectation_fault::expectation_explanation;
 use crate::explanations::{
     BUDGET, IMAGE, INPUT, INPUT_HEX, ISA, ISA_OF_64_BITS, ISA_WITH_A, ISA_WITH_FLOATS, LOAD,
     MISALIGNED, NAME, PAIRS, SIGNATURE, Told, push_explanation,
 };
+use crate::key_faults::FaultyJob;
 use crate::keys::push_unknown_job_key;
 use crate::kinds::push_wrong_kind;
 use crate::list::List;
@@ -26,30 +33,73 @@ pub(crate) fn push_job_fault(
     place: usize,
     what: What,
     suggestion: Suggestion,
-) {
-    match list.jobs.get(place) {
-        Some(Value::Table(table)) => match what {
-            What::Duplicate => push_taken_name(message, list, table),
-            What::SameAs => push_unknown_same_as(message, list, table, place, suggestion),
-            _ => push_fault_within_job(message, table, what),
+)
+    ensures { IsPinned what → AddsSome message.old message.new (TellsJobFault
+        (borrowed_names list.now.names.items) (element_at (items_view list.now.jobs.now) place) what) }
+{
+    match element_at(list.jobs, place) {
+        Some(element) => match element.as_table() {
+            Some(table) => {
+                let job = FaultyJob {
+                    list,
+                    place,
+                    table,
+                    suggestion,
+                };
+                push_fault_of_table(message, job, what)
+            }
+            None => push_no_table(message, element),
         },
-        Some(job) => {
-            message.push_value(job);
-            message.push(": a table is wanted");
-        }
         None => message.push(what.name()),
     }
 }
 
+fn element_at(elements: &[Value], place: usize) -> Option<&Value>
+    ensures { option_map (λ element. view element.now) result ≡ element_at (items_view elements.now) place }
+{
+    elements.get(place)
+}
+
+// Appends that an element is no table.
+fn push_no_table(message: &mut Message, element: &Value)
+    ensures { AddsSome message.old message.new (TellsNoTable (view element.now)) }
+{
+    message.push_value(element);
+    message.push(": a table is wanted");
+}
+
+// Appends a fault of a job that is a table.
+fn push_fault_of_table(message: &mut Message, job: FaultyJob<'_>, what: What)
+    ensures { IsPinned what → AddsSome message.old message.new (TellsFaultOfTable
+        (borrowed_names job.entry.list.now.names.items) (table_view job.entry.table.now) what) }
+{
+    match what {
+        What::Duplicate => push_taken_name(message, job.list, job.table),
+        What::SameAs => push_unknown_same_as(
+            message,
+            job.list,
+            job.table,
+            job.place,
+            job.suggestion,
+        ),
+        _ => push_fault_within_job(message, job.table, what),
+    }
+}
+
 /// Appends that an earlier job has the name of a job.
-pub(crate) fn push_taken_name(message: &mut Message, list: &List<'_>, table: &Table) {
+pub(crate) fn push_taken_name(message: &mut Message, list: &List<'_>, table: &Table)
+    ensures { AddsSome message.old message.new
+        (TellsName (borrowed_names list.now.names.items) (codes "name") free_words (table_view table.now)) }
+{
     push_name_fault(message, list, table, "name", FREE)
 }
 
 const FREE: &str = "a name that no earlier job has is wanted";
 
 // Appends a fault that a job has whatever the other jobs are.
-fn push_fault_within_job(message: &mut Message, table: &Table, what: What) {
+fn push_fault_within_job(message: &mut Message, table: &Table, what: What)
+    ensures { IsPinned what → AddsSome message.old message.new (TellsOwnFault what (table_view table.now)) }
+{
     match what {
         What::UnknownKey => push_unknown_job_key(message, table),
         What::WrongType => push_wrong_kind(message, table),
@@ -60,7 +110,9 @@ fn push_fault_within_job(message: &mut Message, table: &Table, what: What) {
 
 // What is told of a fault that one value has.
 fn key_explanation(table: &Table, what: What) -> Told
-    ensures { IfSome (key_words what) (λ words. told_words result ≡ words) }
+    ensures words { IfSome (key_words what) (λ words. told_words result ≡ words) }
+    ensures key { IfSome (key_of what) (λ key. told_key result ≡ Some key) }
+    ensures script { what ≡ Input → (told_key result, told_words result) ≡ script_told_of (table_view table.now) }
 {
     match what {
         What::Name => Told::Wanted(&NAME),
@@ -112,13 +164,31 @@ fn is_unsimulated(letter: u8) -> bool
     !(letter == b'i' || letter == b'm' || letter == b'c')
 }
 
-fn input_explanation(table: &Table) -> Told {
-    match (text_at_key(table, "input"), text_at_key(table, "input_hex")) {
+// Of a script, by the texts of both of its keys.
+fn input_explanation(table: &Table) -> Told
+    ensures { (told_key result, told_words result) ≡ script_told_of (table_view table.now) }
+{
+    script_explanation(text_at_key(table, "input"), text_at_key(table, "input_hex"))
+}
+
+fn script_explanation(text: Option<&str>, digits: Option<&str>) -> Told
+    ensures { (told_key result, told_words result) ≡ script_told (borrowed_name text.entry) (borrowed_name digits.entry) }
+{
+    match (text, digits) {
         (Some(_), Some(_)) => Told::Text(BOTH_INPUTS),
         (Some(_), None) => Told::Wanted(&INPUT),
-        (None, Some(digits)) if are_hex_digit_pairs(digits) => Told::Wanted(&INPUT_HEX),
-        (None, Some(_)) => Told::Wanted(&PAIRS),
+        (None, Some(digits)) => digits_explanation(digits),
         (None, None) => Told::Text(What::Input.name()),
+    }
+}
+
+fn digits_explanation(digits: &str) -> Told
+    ensures { (told_key result, told_words result) ≡ script_told None (Some digits.now) }
+{
+    if are_hex_digit_pairs(digits) {
+        Told::Wanted(&INPUT_HEX)
+    } else {
+        Told::Wanted(&PAIRS)
     }
 }
 
@@ -126,11 +196,14 @@ fn input_explanation(table: &Table) -> Told {
 pub(crate) const BOTH_INPUTS: &str = "input and input_hex both stand: one of them is taken";
 
 /// Whether digits stand for bytes.
-pub(crate) fn are_hex_digit_pairs(digits: &str) -> bool {
-    for digit in digits.as_bytes() {
-        if !digit.is_ascii_hexdigit() {
-            return false;
-        }
-    }
-    digits.len() % 2 == 0
+pub(crate) fn are_hex_digit_pairs(digits: &str) -> bool
+    ensures { result ≡ are_digit_pairs digits.now }
+{
+    are_hex_digits(digits.as_bytes()) && digits.len() % 2 == 0
+}
+
+fn are_hex_digits(digits: &[u8]) -> bool
+    ensures { result ≡ list_all is_ascii_hexdigit digits.now }
+{
+    digits.iter().all(|digit| digit.is_ascii_hexdigit())
 }

@@ -1,5 +1,17 @@
 //! Values of another TOML kind than their key has.
 
+ghost use Rattle.std.specs.Prelude.{◌≡◌, ◌+◌, ◌^◌, ◌<◌, IfSome, codes, is_some, length, map, not, option_map, true};
+ghost use Rattle.std.specs.List.{find, list_all, position};
+ghost use Rattle.std.specs.Option.{option_map_or};
+ghost use Rattle.toml.specs.View.{table_view, view};
+ghost use Rattle.rv_lists.specs.Keys.{absent_or, has_kinds_of_keys, is_boolean, is_number, is_region, is_region_array, is_text};
+ghost use Rattle.rv_lists.specs.Keys.{is_text_array, region_keys};
+ghost use Rattle.rv_lists.specs.KeysInside.{is_value_of_kind};
+ghost use Rattle.rv_list_errors.specs.JobFaults.{BeginsWithRegion, BeginsWithValue, TellsOtherKind, TellsWrongKind, is_known_of_other_kind};
+ghost use Rattle.rv_list_errors.specs.JobFaults.{is_of_other_kind, key_and_kind};
+ghost use Rattle.rv_list_errors.specs.Lines.{BeginsWith};
+ghost use Rattle.rv_list_errors.specs.Told.{AddsSome, region_number_text};
+
 use crate::explanations::{Told, push_explanation, taken_texts};
 use crate::message::Message;
 use crate::regions::push_region_number;
@@ -8,18 +20,41 @@ use rv_lists::{JOB_KEYS, Kind};
 use toml::{Table, Value};
 
 /// Appends the first key of a job, in the order of the format, whose value is of another kind, and the kind that is wanted.
-pub(crate) fn push_wrong_kind(message: &mut Message, table: &Table) {
-    for known in &JOB_KEYS {
-        let (key, kind) = *known;
-        if is_value_of_other_kind(table, key, kind) {
-            return push_value_of_wrong_kind(message, table, key, kind);
-        }
+pub(crate) fn push_wrong_kind(message: &mut Message, table: &Table)
+    ensures { AddsSome message.old message.new (TellsWrongKind (table_view table.now)) }
+{
+    match wrong_key(table, &JOB_KEYS) {
+        Some(known) => push_value_of_wrong_kind(message, table, known.0, known.1),
+        None => message.push("a value of another kind"),
     }
-    message.push("a value of another kind");
+}
+
+// The first of these keys whose value is of another kind, by the names of the keys.
+fn wrong_key<'k>(
+    table: &Table,
+    keys: &'k [(&'static str, Kind)],
+) -> Option<&'k (&'static str, Kind)>
+    ensures { option_map (λ known. key_and_kind known.now) result
+        ≡ find (is_of_other_kind (table_view table.now)) (map key_and_kind keys.now) }
+{
+    first_key_of_other_kind(table, keys)
+}
+
+// The first of these keys whose value is of another kind.
+fn first_key_of_other_kind<'k>(
+    table: &Table,
+    keys: &'k [(&'static str, Kind)],
+) -> Option<&'k (&'static str, Kind)>
+    ensures { option_map (λ known. known.now) result ≡ find (is_known_of_other_kind (table_view table.now)) keys.now }
+{
+    keys.iter()
+        .find(|known| is_value_of_other_kind(table, known.0, known.1))
 }
 
 // Whether the value at a key is of another kind.
-fn is_value_of_other_kind(table: &Table, key: &str, kind: Kind) -> bool {
+fn is_value_of_other_kind(table: &Table, key: &str, kind: Kind) -> bool
+    ensures { result ≡ not (absent_or (is_value_of_kind kind) key.now (table_view table.now)) }
+{
     match value_at_key(table, key) {
         Some(value) => !is_of_toml_kind(kind, value),
         None => false,
@@ -27,7 +62,9 @@ fn is_value_of_other_kind(table: &Table, key: &str, kind: Kind) -> bool {
 }
 
 /// Whether a value is of a kind.
-pub(crate) fn is_of_toml_kind(kind: Kind, value: &Value) -> bool {
+pub(crate) fn is_of_toml_kind(kind: Kind, value: &Value) -> bool
+    ensures { result ≡ is_value_of_kind kind (view value.now) }
+{
     match kind {
         Kind::Text => value.is_str(),
         Kind::Number => value.is_integer(),
@@ -36,39 +73,49 @@ pub(crate) fn is_of_toml_kind(kind: Kind, value: &Value) -> bool {
     }
 }
 
-fn is_array_of_texts(value: &Value) -> bool {
-    let Value::Array(texts) = value else {
-        return false;
-    };
-    for text in texts {
-        if !text.is_str() {
-            return false;
-        }
+fn is_array_of_texts(value: &Value) -> bool
+    ensures { result ≡ is_text_array (view value.now) }
+{
+    match value.as_array() {
+        Some(texts) => are_all_texts(texts.as_slice()),
+        None => false,
     }
-    true
 }
 
-fn is_array_of_regions(value: &Value) -> bool {
-    let Value::Array(regions) = value else {
-        return false;
-    };
-    for region in regions {
-        if !is_region(region) {
-            return false;
-        }
-    }
-    true
+fn are_all_texts(texts: &[Value]) -> bool
+    ensures { result ≡ list_all (λ v. is_text (view v)) texts.now }
+{
+    texts.iter().all(|text| text.is_str())
 }
 
-fn is_region(value: &Value) -> bool {
-    match value {
-        Value::Table(table) => region_key_of_wrong_kind(table).is_none(),
-        _ => false,
+fn is_array_of_regions(value: &Value) -> bool
+    ensures { result ≡ is_region_array (view value.now) }
+{
+    match value.as_array() {
+        Some(regions) => are_all_regions(regions.as_slice()),
+        None => false,
+    }
+}
+
+fn are_all_regions(regions: &[Value]) -> bool
+    ensures { result ≡ list_all (λ v. is_region (view v)) regions.now }
+{
+    regions.iter().all(|region| is_region(region))
+}
+
+fn is_region(value: &Value) -> bool
+    ensures { result ≡ is_region (view value.now) }
+{
+    match value.as_table() {
+        Some(table) => region_key_of_wrong_kind(table).is_none(),
+        None => false,
     }
 }
 
 // The first key of a region whose value is of another kind, and what is wanted of it.
-fn region_key_of_wrong_kind(table: &Table) -> Option<(&'static str, &'static str)> {
+fn region_key_of_wrong_kind(table: &Table) -> Option<(&'static str, &'static str)>
+    ensures { is_some result ≡ not (has_kinds_of_keys region_keys (table_view table.now)) }
+{
     if is_other_than_number(value_at_key(table, "base")) {
         Some(("base", NUMBER))
     } else if is_other_than_number(value_at_key(table, "size")) {
@@ -80,14 +127,18 @@ fn region_key_of_wrong_kind(table: &Table) -> Option<(&'static str, &'static str
     }
 }
 
-fn is_other_than_number(value: Option<&Value>) -> bool {
+fn is_other_than_number(value: Option<&Value>) -> bool
+    ensures { result ≡ not (option_map_or is_number (option_map (λ v. view v.now) value.entry) true) }
+{
     match value {
         Some(value) => !value.is_integer(),
         None => false,
     }
 }
 
-fn is_other_than_boolean(value: Option<&Value>) -> bool {
+fn is_other_than_boolean(value: Option<&Value>) -> bool
+    ensures { result ≡ not (option_map_or is_boolean (option_map (λ v. view v.now) value.entry) true) }
+{
     match value {
         Some(value) => !value.is_bool(),
         None => false,
@@ -97,12 +148,9 @@ fn is_other_than_boolean(value: Option<&Value>) -> bool {
 const NUMBER: &str = "a whole number is wanted";
 
 /// Appends the value of a key, which is of another kind than this.
-pub(crate) fn push_value_of_wrong_kind(
-    message: &mut Message,
-    table: &Table,
-    key: &str,
-    kind: Kind,
-) {
+pub(crate) fn push_value_of_wrong_kind(message: &mut Message, table: &Table, key: &str, kind: Kind)
+    ensures { AddsSome message.old message.new (TellsOtherKind key.now kind (table_view table.now)) }
+{
     match kind {
         Kind::Text => push_text_of_wrong_kind(message, table, key),
         Kind::Number => push_wanted_value(message, table, key, NUMBER),
@@ -112,29 +160,51 @@ pub(crate) fn push_value_of_wrong_kind(
 }
 
 // Appends the value of a key that wants a text, and which texts it takes, where these are few.
-fn push_text_of_wrong_kind(message: &mut Message, table: &Table, key: &str) {
+fn push_text_of_wrong_kind(message: &mut Message, table: &Table, key: &str)
+    ensures { AddsSome message.old message.new (BeginsWithValue key.now (table_view table.now)) }
+{
     match taken_texts(key) {
         Some(wanted) => push_explanation(message, table, Told::Wanted(wanted)),
         None => push_wanted_value(message, table, key, "a text is wanted"),
     }
 }
 
-fn push_regions_of_wrong_kind(message: &mut Message, table: &Table, key: &str) {
-    for (at, region) in elements_at_key(table, key).iter().enumerate() {
-        if !is_region(region) {
-            push_region_number(message, at);
-            return push_region_of_wrong_kind(message, region);
-        }
+fn push_regions_of_wrong_kind(message: &mut Message, table: &Table, key: &str)
+    ensures { AddsSome message.old message.new (BeginsWithRegion key.now (table_view table.now)) }
+{
+    let regions = elements_at_key(table, key);
+    match place_of_no_region(regions) {
+        Some(place) => push_region_of_wrong_kind(message, place, &regions[place]),
+        None => push_wanted_value(message, table, key, "an array of tables is wanted"),
     }
-    push_wanted_value(message, table, key, "an array of tables is wanted");
 }
 
-fn push_region_of_wrong_kind(message: &mut Message, region: &Value) {
-    let Value::Table(table) = region else {
-        message.push(" = ");
-        message.push_value(region);
-        return message.push(": a table is wanted");
-    };
+// The place of the first element that is no region.
+fn place_of_no_region(elements: &[Value]) -> Option<usize>
+    ensures within { IfSome result (λ place. place < length elements.now) }
+    ensures first { result ≡ position (λ v. not (is_region (view v))) elements.now }
+{
+    elements.iter().position(|element| !is_region(element))
+}
+
+// Appends a region at a place that is of another kind.
+fn push_region_of_wrong_kind(message: &mut Message, place: usize, region: &Value)
+    ensures { place + 1 < 2 ^ 64 → AddsSome message.old message.new (BeginsWith (region_number_text place)) }
+{
+    push_region_number(message, place);
+    match region {
+        Value::Table(table) => push_region_table_of_wrong_kind(message, table),
+        _ => {
+            message.push(" = ");
+            message.push_value(region);
+            message.push(": a table is wanted");
+        }
+    }
+}
+
+fn push_region_table_of_wrong_kind(message: &mut Message, table: &Table)
+    ensures { AddsSome message.old message.new (BeginsWith (codes ": ")) }
+{
     message.push(": ");
     match region_key_of_wrong_kind(table) {
         Some((key, wanted)) => push_wanted_value(message, table, key, wanted),

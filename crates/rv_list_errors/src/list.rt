@@ -1,9 +1,11 @@
 //! A list whose faults are told, as a look at its text finds it.
 
-ghost use Rattle.std.specs.Prelude.{◌≡◌, IfOk};
+ghost use Rattle.std.specs.Prelude.{◌≡◌, ◌<◌, IfOk, IfSome, Some, length};
+ghost use Rattle.std.specs.List.{position};
 ghost use Rattle.std.specs.Str.{IsUtf8};
 ghost use Rattle.toml.specs.View.{items_view, table_view, view};
 ghost use Rattle.rv_list_errors.specs.FaultHeads.{borrowed_name, borrowed_names, element_name, element_names, job_names};
+ghost use Rattle.rv_list_errors.specs.JobFaults.{is_name_of, number_of_name};
 ghost use Rattle.rv_list_errors.specs.JobPlaces.{job_lines};
 
 use crate::headers::job_line_numbers;
@@ -52,13 +54,38 @@ impl<'a> List<'a> {
     }
 
     /// The number, counted from 1, of the first job that has a name.
-    pub(crate) fn job_number_of_name(&self, name: Option<&str>) -> Option<u64> {
-        for (place, other) in self.names.iter().enumerate() {
-            if other.is_some() && *other == name {
-                return Some(place as u64 + 1);
-            }
+    pub(crate) fn job_number_of_name(&self, name: Option<&str>) -> Option<u64>
+        ensures { result ≡ number_of_name (borrowed_names self.now.names.items) (borrowed_name name.entry) }
+    {
+        match name {
+            Some(name) => number_of_present_name(self.names.as_slice(), name),
+            None => None,
         }
-        None
+    }
+}
+
+fn number_of_present_name(names: &[Option<&str>], name: &str) -> Option<u64>
+    ensures { result ≡ number_of_name (borrowed_names names.now) (Some name.now) }
+{
+    match place_of_name(names, name) {
+        Some(place) => Some(place as u64 + 1),
+        None => None,
+    }
+}
+
+fn place_of_name(names: &[Option<&str>], name: &str) -> Option<usize>
+    ensures within { IfSome result (λ place. place < length names.now) }
+    ensures named { result ≡ position (λ other. is_name_of name.now (borrowed_name other)) names.now }
+{
+    names.iter().position(|other| is_name_of(name, *other))
+}
+
+fn is_name_of(name: &str, other: Option<&str>) -> bool
+    ensures { result ≡ is_name_of name.now (borrowed_name other.entry) }
+{
+    match other {
+        Some(other) => other == name,
+        None => false,
     }
 }
 

@@ -5,6 +5,9 @@ ghost use Rattle.std.specs.List.{count_by};
 ghost use Rattle.rv_list_errors.specs.FaultHeads.{borrowed_name, borrowed_names};
 ghost use Rattle.rv_list_errors.specs.NearNames.{Adds, IsNearName, most_told, name_distance, names_from, names_text, present};
 ghost use Rattle.rv_list_errors.specs.NearestJob.{IsNear};
+ghost use Rattle.toml.specs.View.{table_view};
+ghost use Rattle.rv_list_errors.specs.JobFaults.{TellsName, TellsSameAs, job_of_name_text};
+ghost use Rattle.rv_list_errors.specs.Lines.{BeginsWith};
 ghost use Rattle.rv_list_errors.specs.NearNames.{quoted, separator};
 ghost use Rattle.rv_list_errors.specs.Told.{AddsSome, IsNearestJob};
 
@@ -22,13 +25,23 @@ pub(crate) fn push_name_fault(
     table: &Table,
     key: &str,
     wanted: &str,
-) {
+)
+    ensures { AddsSome message.old message.new
+        (TellsName (borrowed_names list.now.names.items) key.now wanted.now (table_view table.now)) }
+{
     push_key_and_value(message, table, key);
     message.push(": ");
-    if let Some(number) = list.job_number_of_name(text_at_key(table, key)) {
+    push_job_of_name(message, list.job_number_of_name(text_at_key(table, key)));
+    message.push(wanted);
+}
+
+// Appends which job has a name, if one does.
+fn push_job_of_name(message: &mut Message, number: Option<u64>)
+    ensures { Adds message.old message.new (job_of_name_text number) }
+{
+    if let Some(number) = number {
         message.push_number_between("job ", number, " has this name, and ");
     }
-    message.push(wanted);
 }
 
 /// What is told beside a name that no job has.
@@ -46,7 +59,10 @@ pub(crate) fn push_unknown_same_as(
     table: &Table,
     place: usize,
     suggestion: Suggestion,
-) {
+)
+    ensures { AddsSome message.old message.new
+        (TellsSameAs (borrowed_names list.now.names.items) (table_view table.now)) }
+{
     push_name_fault(
         message,
         list,
@@ -66,7 +82,9 @@ pub(crate) fn push_unknown_same_as(
 }
 
 // Appends which of the jobs before a place has the name that is nearest to one that no job has, or which names they have.
-fn push_nearest_job(message: &mut Message, list: &List<'_>, wanted: Option<&str>, place: usize) {
+fn push_nearest_job(message: &mut Message, list: &List<'_>, wanted: Option<&str>, place: usize)
+    ensures { AddsSome message.old message.new (BeginsWith []) }
+{
     if list.job_number_of_name(wanted).is_some() {
         return;
     }

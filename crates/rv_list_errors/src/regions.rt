@@ -1,8 +1,10 @@
 //! Regions that are no map.
 
-ghost use Rattle.std.specs.Prelude.{◌≡◌, ◌+◌, ◌^◌, ◌<◌};
+ghost use Rattle.std.specs.Prelude.{◌≡◌, ◌+◌, ◌^◌, ◌<◌, MatchOption, length};
+ghost use Rattle.rv_list_errors.specs.JobFaults.{AreAllApart, AreApart, IsApartBehind, IsFirstShared, IsOverlap, TellsOverlap};
+ghost use Rattle.rv_list_errors.specs.JobFaults.{overlap_text};
 ghost use Rattle.rv_list_errors.specs.NearNames.{Adds};
-ghost use Rattle.rv_list_errors.specs.Told.{region_number_text};
+ghost use Rattle.rv_list_errors.specs.Told.{AddsSome, region_number_text};
 
 use crate::message::Message;
 use crate::values::{elements_at_key, push_wanted_value, word_at_key};
@@ -174,12 +176,16 @@ fn push_wrong_region_size(message: &mut Message, at: usize, size: u32) {
 }
 
 // The address past the last byte of a region.
-fn region_end(region: &Region) -> u64 {
+fn region_end(region: &Region) -> u64
+    ensures { result ≡ region.now.base + region.now.size }
+{
     u64::from(region.base) + u64::from(region.size)
 }
 
 // The first address that two regions share.
-fn shared_address(region: &Region, other: &Region) -> Option<u32> {
+fn shared_address(region: &Region, other: &Region) -> Option<u32>
+    ensures { MatchOption result (AreApart region.now other.now) (λ address. IsFirstShared region.now other.now address) }
+{
     let first = region.base.max(other.base);
     if u64::from(first) < region_end(region).min(region_end(other)) {
         Some(first)
@@ -188,20 +194,61 @@ fn shared_address(region: &Region, other: &Region) -> Option<u32> {
     }
 }
 
+// Two regions of a list that share an address, the first of which they have.
+#[derive(Clone, Copy)]
+struct Overlap {
+    at: usize,
+    later: usize,
+    address: u32,
+}
+
 // Appends the first two regions that share an address.
-fn push_region_overlap(message: &mut Message, regions: &[Region]) {
+fn push_region_overlap(message: &mut Message, regions: &[Region])
+    ensures { length regions.now < 2 ^ 64 → (AreAllApart regions.now → ⊥)
+        → AddsSome message.old message.new (TellsOverlap regions.now) }
+{
+    if let Some(overlap) = first_overlap(regions) {
+        push_overlap(message, overlap);
+    }
+}
+
+fn push_overlap(message: &mut Message, overlap: Overlap)
+    ensures { overlap.at + 1 < 2 ^ 64 → overlap.later + 1 < 2 ^ 64
+        → Adds message.old message.new (overlap_text overlap.at overlap.later overlap.address) }
+{
+    push_region_number(message, overlap.at);
+    message.push(" and ");
+    push_region_number(message, overlap.later);
+    message.push(" both have 0x");
+    message.push_hex_word(overlap.address);
+    message.push(": regions that share no address are wanted");
+}
+
+// The first two regions of a list that share an address.
+fn first_overlap(regions: &[Region]) -> Option<Overlap>
+    ensures { MatchOption result (AreAllApart regions.now)
+        (λ overlap. IsOverlap regions.now overlap.at overlap.later overlap.address) }
+{
     for at in 0..regions.len() {
-        for later in at + 1..regions.len() {
-            if let Some(address) = shared_address(&regions[at], &regions[later]) {
-                push_region_number(message, at);
-                message.push(" and ");
-                push_region_number(message, later);
-                message.push(" both have 0x");
-                message.push_hex_word(address);
-                return message.push(": regions that share no address are wanted");
-            }
+        if let Some(overlap) = overlap_behind(regions, at) {
+            return Some(overlap);
         }
     }
+    None
+}
+
+// The first region behind one that shares an address with it.
+fn overlap_behind(regions: &[Region], at: usize) -> Option<Overlap>
+    requires { at < length regions.now }
+    ensures { MatchOption result (IsApartBehind regions.now at)
+        (λ overlap. IsOverlap regions.now overlap.at overlap.later overlap.address) }
+{
+    for later in at + 1..regions.len() {
+        if let Some(address) = shared_address(&regions[at], &regions[later]) {
+            return Some(Overlap { at, later, address });
+        }
+    }
+    None
 }
 
 // Appends the first region that has an address of the console.

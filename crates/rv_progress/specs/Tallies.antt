@@ -1,7 +1,7 @@
 -- How many rows of a run are done, and how many of them failed.
 use Rattle.std.specs.Prelude.{◌≡◌, List, count_by, length}
 use Rattle.rv_expect.specs.Judgement.{Judging, fails}
-use Rattle.rv_progress.specs.declared.tally.Tally.{Tally}
+use Rattle.rv_progress.specs.declared.counted.Tally.{Tally}
 use Rattle.rv_rows.specs.declared_row.Row.{Row}
 
 -- it counts these rows: all, and those that count as failures

@@ -4,6 +4,7 @@
 //! it tells. A [`TerminalSink`] takes the line away before other text goes to the same terminal, and shows it again behind it.
 #![tactic(auto)]
 
+mod counted;
 mod counting_telling;
 mod progress;
 mod tally;

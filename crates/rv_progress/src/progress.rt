@@ -1,11 +1,11 @@
 //! How many jobs are done and failed, and the line that says so.
 
-ghost use Rattle.std.specs.Prelude.{◌≡◌, ◌++◌, ◌+◌, ◌-◌, ◌∷◌, ◌^◌, ◌<◌, [], List, length};
+ghost use Rattle.std.specs.Prelude.{◌≡◌, ◌++◌, ◌+◌, ◌-◌, ◌∷◌, ◌^◌, ◌<◌, ◌≤◌, [], List, length};
 ghost use Rattle.rv_progress.specs.Tallies.{IsTallyOf};
 ghost use Rattle.rv_expect.specs.Judgement.{judging_of};
 ghost use Rattle.rv_rows.specs.declared_row.Row.{Row as ARow};
 
-use crate::tally::Tally;
+use crate::counted::Tally;
 use crate::terminal_line::{Counts, Line};
 use rv_expect::Judge;
 use rv_rows::Row;
@@ -101,7 +101,7 @@ impl<'k, W: Write + Drop> Progress<'k, W> {
         }
         if let Some(mut line) = self.line.try_lock() {
             // What the terminal does not take is passed over.
-            let _shown = line.show_counts(alloc, self.counts(rt));
+            let _shown = line.show_counts(alloc, self.counts_of(self.tally_so_far(rt)));
         }
     }
 
@@ -131,11 +131,18 @@ impl<'k, W: Write + Drop> Progress<'k, W> {
         now.saturating_sub(self.start)
     }
 
-    /// The counts of the rows so far.
-    pub(crate) fn counts<R: Wait>(&self, rt: &R) -> Counts
-        ensures { result.jobs ≡ self.now.jobs }
+    /// The count of the rows so far. What a lock holds is in no contract, but that no more failed than are done.
+    pub(crate) fn tally_so_far<R: Wait>(&self, rt: &R) -> Tally
+        ensures { result.failed ≤ result.done }
     {
-        let tally = *self.tally.lock(rt);
+        *self.tally.lock(rt)
+    }
+
+    /// The counts of rows, and of the jobs of the run.
+    pub(crate) fn counts_of(&self, tally: Tally) -> Counts
+        ensures tally { result.tally ≡ tally }
+        ensures jobs { result.jobs ≡ self.now.jobs }
+    {
         Counts {
             tally,
             jobs: self.jobs,

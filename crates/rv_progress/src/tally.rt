@@ -1,19 +1,13 @@
-//! How many rows of a run are done, and how many of them failed.
+//! Counting of rows.
 
 ghost use Rattle.std.specs.Prelude.{◌++◌, ◌+◌, ◌∷◌, ◌^◌, ◌<◌, [], List, length};
 ghost use Rattle.rv_progress.specs.Tallies.{IsTallyOf};
 ghost use Rattle.rv_expect.specs.Judgement.{Judging, judging_of};
 ghost use Rattle.rv_rows.specs.declared_row.Row.{Row as ARow};
 
+use crate::counted::Tally;
 use rv_expect::Judge;
 use rv_rows::Row;
-
-/// A count of rows, and of those among them that count as failures.
-#[derive(Clone, Copy)]
-pub(crate) struct Tally {
-    pub(crate) done: u64,
-    pub(crate) failed: u64,
-}
 
 impl Tally {
     pub(crate) fn new() -> Tally

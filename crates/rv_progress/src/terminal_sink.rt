@@ -5,6 +5,7 @@ ghost use Rattle.std.specs.Io.KnownBytes.{Appends, Keeps};
 ghost use Rattle.rv_progress.specs.ProgressLine.{counts_text, is_mid_line, last_byte, text_around_put};
 ghost use Rattle.rv_rows.specs.Counts.{one_more};
 
+use crate::counted::Tally;
 use crate::progress::Progress;
 use crate::terminal_line::{Counts, Line};
 use rv_rows::{Sink, SinkFailed, WriteError};
@@ -62,13 +63,43 @@ impl<'a, 'k, R: Wait, S: Sink + Drop, W: Write + Drop> Sink for TerminalSink<'a,
             return self.sink.put(bytes);
         };
         let mut line = progress.lock_line(self.rt);
-        let counts = progress.counts(self.rt);
+        let tally = progress.tally_so_far(self.rt);
         // What the terminal does not take of the line is passed over.
-        put_beside_line(&mut line, &mut self.sink, bytes, self.alloc, counts).put
+        self.put_beside_counts(progress, &mut line, bytes, tally)
+            .put
     }
 
     fn failures(&self) -> u64 {
         self.sink.failures()
+    }
+}
+
+impl<'a, 'k, R: Wait, S: Sink + Drop, W: Write + Drop> TerminalSink<'a, 'k, R, S, W> {
+    // Puts bytes to the sink: the line of a progress is taken away first, and shown again with a count of its jobs.
+    fn put_beside_counts(
+        &mut self,
+        progress: &Progress<'k, W>,
+        line: &mut Line<W>,
+        bytes: &[u8],
+        tally: Tally,
+    ) -> PutBesideLine
+        requires { 0 < length bytes.now }
+        ensures within { IfOk result.put (λ count. (1 ≤ count) × (count ≤ length bytes.now)) }
+        ensures taken { IfOk result.put
+            (λ count. Appends (S.taken self.old.sink) (S.taken self.new.sink) (take count bytes.now)) }
+        ensures counted { IfOk result.put (λ _. S.failed self.new.sink ≡ S.failed self.old.sink) }
+        ensures kept { IfErr result.put (λ _. Keeps (S.taken self.old.sink) (S.taken self.new.sink)) }
+        ensures failure { IfErr result.put (λ _. S.failed self.new.sink ≡ one_more (S.failed self.old.sink)) }
+        ensures held { MatchResult result.put
+            (λ count. line.new.is_held ≡ is_mid_line line.old.is_held (last_byte (take count bytes.now)))
+            (λ _. line.new.is_held ≡ line.old.is_held) }
+        ensures shown { OnOk result.line (line.new.is_shown ≡ (line.old.is_shown && not line.new.is_held)) }
+        ensures written { OnOk result.line (Appends (W.contents line.old.out) (W.contents line.new.out)
+            (text_around_put line.old.is_shown line.new.is_held
+            (counts_text tally.done progress.now.jobs tally.failed))) }
+    {
+        let counts = progress.counts_of(tally);
+        put_beside_line(line, &mut self.sink, bytes, self.alloc, counts)
     }
 }
 

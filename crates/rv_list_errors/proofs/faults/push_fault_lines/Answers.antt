@@ -12,5 +12,5 @@ pub loop-at-preserved : goal.loop-at-preserved
 loop-at-preserved c =
     one_line_more (λ fault. c.args.file.now ++ look_place c.args.look.now fault.job) c.args.faults.now c.loop-at.at _
     c.args.bytes.now.items c.loop-at.bytes.items c.push_spans.new.bytes.items c.as_slice.result.now c.loop-at-test.true
-    c.loop-at.invariant (subst (BeginsWith _) (sym c.as_slice.ensures.value) c.in_ok-message.ensures)
+    c.loop-at.invariant (subst (BeginsWith _) (sym c.as_slice.ensures.value) c.in_ok-message.ensures.head)
     c.in_ok-push_spans.ensures

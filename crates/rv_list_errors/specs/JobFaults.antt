@@ -1,0 +1,279 @@
+-- What is told of a job whose values are bad: by the values at its keys, in the terms of the list's format.
+use Rattle.std.specs.Prelude.{◌≡◌, ◌⊎◌, ◌+◌, ◌<◌, ◌≤◌, ◌%◌, ◌/◌, ◌==◌, ◌&&◌, ◌++◌, ℕ, Bool, false, not, List, [], ◌∷◌, Option, Some, None}
+use Rattle.std.specs.Prelude.{◌-◌, IfSome, zero, suc, ⊤, codes, if◌then◌else◌, length, nat_lt, option_map, slice_index_or}
+use Rattle.std.specs.Fmt.{decimal}
+use Rattle.std.specs.Char.{is_ascii_hexdigit}
+use Rattle.std.specs.List.{find, list_all, position}
+use Rattle.std.specs.Str.{bytes_eq}
+use Rattle.std.specs.Borrow.{Bor}
+use Rattle.toml.specs.Data.{Data, Items, Members, get_member, item, no_items, table}
+use Rattle.toml.specs.View.{items_view}
+use Rattle.rv_lists.specs.Keys.{absent_or, text_at_key}
+use Rattle.rv_lists.specs.KeysInside.{is_value_of_kind}
+use Rattle.rv_lists.specs.declared.keys.Kind.{Kind}
+use Rattle.rv_lists.specs.declared.keys.Kind.TheVariants as kind
+use Rattle.rv_lists.specs.Limits.{most_script}
+use Rattle.rv_lists.specs.Faults.{what_name}
+use Rattle.rv_lists.specs.declared.error.JobError.{JobError}
+use Rattle.rv_lists.specs.declared.error.What.{What}
+use Rattle.rv_lists.specs.declared.error.What.TheVariants as what
+use Rattle.rv_memory.specs.declared.map.Region.{Region}
+use Rattle.rv_text.specs.Words.{word_digits}
+use Rattle.rv_list_errors.specs.Lines.{BeginsWith}
+use Rattle.rv_list_errors.specs.FaultHeads.{borrowed_names}
+use Rattle.rv_list_errors.specs.Told.{IsKeyAndValue, IsShownValue, key_words, region_number_text, rest_words, told_words}
+use Rattle.rv_list_errors.specs.declared.fault_text.Look.{Look}
+use Rattle.rv_list_errors.specs.declared.fault_text.Look.TheVariants as look
+use Rattle.rv_list_errors.specs.declared.list.List as listed
+use Rattle.rv_list_errors.specs.declared.explanations.Bytes.{Bytes}
+use Rattle.rv_list_errors.specs.declared.explanations.Bytes.TheVariants as bytes
+use Rattle.rv_list_errors.specs.declared.explanations.Rest.{Rest}
+use Rattle.rv_list_errors.specs.declared.explanations.Rest.TheVariants as rest
+use Rattle.rv_list_errors.specs.declared.explanations.Wanted.{Wanted}
+use Rattle.rv_list_errors.specs.declared.explanations.Told.{Told}
+use Rattle.rv_list_errors.specs.declared.explanations.Told.TheVariants as told
+
+-- ---- names of jobs
+
+abbrev pub is_name_of : List ℕ → Option (List ℕ) → Bool
+is_name_of name None = false
+is_name_of name (Some other) = bytes_eq other name
+
+-- the number, counted from 1, of the first of these jobs that has a name
+abbrev pub number_of_name : List (Option (List ℕ)) → Option (List ℕ) → Option ℕ
+number_of_name names None = None
+number_of_name names (Some name) = option_map (λ place. place + 1) (position (is_name_of name) names)
+
+-- ---- regions
+
+abbrev pub HasAddress : Region → ℕ → Type 0
+HasAddress region address = (region.base ≤ address) × (address < region.base + region.size)
+
+-- two regions have no address in common
+abbrev pub AreApart : Region → Region → Type 0
+AreApart one other = (address : ℕ) → HasAddress one address → HasAddress other address → ⊥
+
+-- the first address that both have
+pub record IsFirstShared (one other : Region) (address : ℕ) : Type 0 where
+  pub of_one : HasAddress one address
+  pub of_other : HasAddress other address
+  pub first : (earlier : ℕ) → HasAddress one earlier → HasAddress other earlier → address ≤ earlier
+
+-- past the end of a list stands a region that has no address
+abbrev pub no_region : Region
+no_region = record { base = 0; size = 0; writable = false }
+
+abbrev pub region_at : List Region → ℕ → Region
+region_at regions place = slice_index_or regions place no_region
+
+-- of two regions, each told by its place in the list, and the first address that they share
+pub record IsOverlap (regions : List Region) (place later address : ℕ) : Type 0 where
+  pub before : place < later
+  pub within : later < length regions
+  pub shared : IsFirstShared (region_at regions place) (region_at regions later) address
+
+-- no region behind that at the place shares an address with it
+abbrev pub IsApartBehind : List Region → ℕ → Type 0
+IsApartBehind regions place = (later : ℕ) → place < later → later < length regions
+    → AreApart (region_at regions place) (region_at regions later)
+
+-- no two regions of a list share an address
+abbrev pub AreAllApart : List Region → Type 0
+AreAllApart regions = (place : ℕ) → IsApartBehind regions place
+
+abbrev pub overlap_text : ℕ → ℕ → ℕ → List ℕ
+overlap_text place later address = region_number_text place ++ (codes " and " ++ (region_number_text later
+    ++ (codes " both have 0x" ++ (word_digits address ++ codes ": regions that share no address are wanted"))))
+
+abbrev pub TellsOverlap : List Region → List ℕ → Type 0
+TellsOverlap regions told = (place later address : ℕ) × IsOverlap regions place later address
+    × (told ≡ overlap_text place later address)
+
+-- ---- the script
+
+-- pairs of digits, each of which is a byte
+abbrev pub are_digit_pairs : List ℕ → Bool
+are_digit_pairs digits = list_all is_ascii_hexdigit digits && length digits % 2 == 0
+
+abbrev pub most_script_words : List ℕ
+most_script_words = codes "at most " ++ (decimal most_script ++ codes " bytes are taken")
+
+-- of a script that is bad: the key of the value that is told, and the words; by the texts of `input` and of `input_hex`
+abbrev pub script_told : Option (List ℕ) → Option (List ℕ) → Option (List ℕ) × List ℕ
+script_told (Some text) (Some digits) = (None, codes "input and input_hex both stand: one of them is taken")
+script_told (Some text) None = (Some (codes "input"), most_script_words)
+script_told None (Some digits) = (
+  Some (codes "input_hex"),
+  if are_digit_pairs digits then most_script_words else codes "pairs of hexadecimal digits are wanted",
+)
+script_told None None = (None, codes "input")
+
+abbrev pub script_told_of : Members → Option (List ℕ) × List ℕ
+script_told_of ms = script_told (text_at_key (codes "input") ms) (text_at_key (codes "input_hex") ms)
+
+-- ---- what is told of one key
+
+-- the key whose value is told, if one is
+abbrev pub told_key : Told → Option (List ℕ)
+told_key (told.Text text) = None
+told_key (told.Wanted wanted) = Some wanted.now.key.now
+
+-- how many bytes a text of some length stands for, where they are told
+abbrev pub told_bytes : Bytes → ℕ → ℕ
+told_bytes bytes.Untold length = 0
+told_bytes bytes.Each length = length
+told_bytes bytes.Pairs length = length / 2
+
+-- how many bytes there are, where these are more than the most that is taken
+abbrev pub bytes_text : Rest → ℕ → List ℕ
+bytes_text (rest.Most most) count = if nat_lt most count then codes " (" ++ (decimal count ++ codes " bytes)") else []
+bytes_text _ count = []
+
+abbrev pub text_length : Option (List ℕ) → ℕ
+text_length None = 0
+text_length (Some text) = length text
+
+abbrev pub wanted_words : Wanted → List ℕ
+wanted_words wanted = wanted.before.now ++ (rest_words wanted.rest ++ wanted.behind.now)
+
+-- the key, its value, how many bytes that is where it is too many, and what is wanted
+abbrev pub TellsWanted : Wanted → Members → List ℕ → Type 0
+TellsWanted wanted ms told = (met : List ℕ) × IsKeyAndValue wanted.key.now (get_member wanted.key.now ms) met
+    × (told ≡ met ++ (bytes_text wanted.rest (told_bytes wanted.bytes (text_length (text_at_key wanted.key.now ms)))
+    ++ (codes ": " ++ wanted_words wanted)))
+
+abbrev pub TellsExplanation : Told → Members → List ℕ → Type 0
+TellsExplanation (told.Text text) ms told = told ≡ text.now
+TellsExplanation (told.Wanted wanted) ms told = TellsWanted wanted.now ms told
+
+-- the key of a value that is bad, by what is wrong
+abbrev pub key_of : What → Option (List ℕ)
+key_of what.Name = Some (codes "name")
+key_of what.Image = Some (codes "image")
+key_of what.Budget = Some (codes "budget")
+key_of what.Load = Some (codes "load")
+key_of what.Signature = Some (codes "signature")
+key_of what.Misaligned = Some (codes "misaligned")
+key_of _ = None
+
+-- ---- values of another kind than their key has
+
+-- a key and its value, and more
+abbrev pub BeginsWithValue : List ℕ → Members → List ℕ → Type 0
+BeginsWithValue key ms told = (met : List ℕ) × IsKeyAndValue key (get_member key ms) met × BeginsWith met told
+
+-- the same, or which region it is
+abbrev pub BeginsWithRegion : List ℕ → Members → List ℕ → Type 0
+BeginsWithRegion key ms told = BeginsWithValue key ms told ⊎ BeginsWith (codes "region ") told
+
+abbrev pub TellsOtherKind : List ℕ → Kind → Members → List ℕ → Type 0
+TellsOtherKind key kind.Regions ms told = BeginsWithRegion key ms told
+TellsOtherKind key _ ms told = BeginsWithValue key ms told
+
+-- the keys of a job, in the order of the format, each with the kind of its value
+abbrev pub kinds_of_keys : List (List ℕ × Kind)
+kinds_of_keys =
+    (codes "name", kind.Text)
+    ∷ (codes "image", kind.Text)
+    ∷ (codes "budget", kind.Number)
+    ∷ (codes "input", kind.Text)
+    ∷ (codes "input_hex", kind.Text)
+    ∷ (codes "region", kind.Regions)
+    ∷ (codes "load", kind.Text)
+    ∷ (codes "signature", kind.Texts)
+    ∷ (codes "expect_exit", kind.Number)
+    ∷ (codes "expect_signature", kind.Text)
+    ∷ (codes "expect_console", kind.Text)
+    ∷ (codes "expect_console_file", kind.Text)
+    ∷ (codes "expect_end", kind.Text)
+    ∷ (codes "same_as", kind.Text)
+    ∷ (codes "isa", kind.Text)
+    ∷ (codes "misaligned", kind.Text)
+    ∷ []
+
+-- the value at a key is of another kind
+abbrev pub is_of_other_kind : Members → List ℕ × Kind → Bool
+is_of_other_kind ms known = not (absent_or (is_value_of_kind known.1) known.0 ms)
+
+-- the same as the program has the key
+abbrev pub key_and_kind : Bor (List ℕ) × Kind → List ℕ × Kind
+key_and_kind known = (known.0.now, known.1)
+
+abbrev pub is_known_of_other_kind : Members → Bor (List ℕ) × Kind → Bool
+is_known_of_other_kind ms known = is_of_other_kind ms (key_and_kind known)
+
+abbrev pub TellsWrongKey : Members → Option (List ℕ × Kind) → List ℕ → Type 0
+TellsWrongKey ms None told = told ≡ codes "a value of another kind"
+TellsWrongKey ms (Some known) told = TellsOtherKind known.0 known.1 ms told
+
+-- of a job, the first key in the order of the format whose value is of another kind
+abbrev pub TellsWrongKind : Members → List ℕ → Type 0
+TellsWrongKind ms told = TellsWrongKey ms (find (is_of_other_kind ms) kinds_of_keys) told
+
+-- ---- faults of a job
+
+abbrev pub job_of_name_text : Option ℕ → List ℕ
+job_of_name_text None = []
+job_of_name_text (Some number) = codes "job " ++ (decimal number ++ codes " has this name, and ")
+
+-- the key of a name, its value, which job has that name, if one does, and what is wanted
+abbrev pub TellsName : List (Option (List ℕ)) → List ℕ → List ℕ → Members → List ℕ → Type 0
+TellsName names key wanted ms told = (met : List ℕ) × IsKeyAndValue key (get_member key ms) met
+    × (told ≡ met ++ (codes ": " ++ (job_of_name_text (number_of_name names (text_at_key key ms)) ++ wanted)))
+
+abbrev pub free_words : List ℕ
+free_words = codes "a name that no earlier job has is wanted"
+
+-- the same of the name of an earlier job, and more
+abbrev pub TellsSameAs : List (Option (List ℕ)) → Members → List ℕ → Type 0
+TellsSameAs names ms told = (head : List ℕ)
+    × TellsName names (codes "same_as") (codes "the name of an earlier job is wanted") ms head × BeginsWith head told
+
+-- what is told of a key is by what is wrong with its value
+pub record IsToldOf (wrong : What) (ms : Members) (explained : Told) : Type 0 where
+  pub words : IfSome (key_words wrong) (λ words. told_words explained ≡ words)
+  pub key : IfSome (key_of wrong) (λ key. told_key explained ≡ Some key)
+  pub script : wrong ≡ what.Input → (told_key explained, told_words explained) ≡ script_told_of ms
+
+-- of what is wrong, whatever the other jobs are
+abbrev pub TellsOwnFault : What → Members → List ℕ → Type 0
+TellsOwnFault what.WrongType ms told = TellsWrongKind ms told
+TellsOwnFault wrong ms told = (explained : Told) × IsToldOf wrong ms explained × TellsExplanation explained ms told
+
+-- keys that are not known and regions that are no map are told by words of their own
+abbrev pub IsPinned : What → Type 0
+IsPinned wrong = (wrong ≡ what.UnknownKey → ⊥) × (wrong ≡ what.Region → ⊥)
+
+abbrev pub TellsFaultOfTable : List (Option (List ℕ)) → Members → What → List ℕ → Type 0
+TellsFaultOfTable names ms what.Duplicate told = TellsName names (codes "name") free_words ms told
+TellsFaultOfTable names ms what.SameAs told = TellsSameAs names ms told
+TellsFaultOfTable names ms wrong told = TellsOwnFault wrong ms told
+
+-- of an element that is no table
+abbrev pub TellsNoTable : Data → List ℕ → Type 0
+TellsNoTable value told = (shown : List ℕ) × IsShownValue value shown × (told ≡ shown ++ codes ": a table is wanted")
+
+-- of an element of a list whose jobs have these names
+abbrev pub TellsJobFault : List (Option (List ℕ)) → Option Data → What → List ℕ → Type 0
+TellsJobFault names None wrong told = told ≡ what_name wrong
+TellsJobFault names (Some (table ms)) wrong told = TellsFaultOfTable names ms wrong told
+TellsJobFault names (Some value) wrong told = TellsNoTable value told
+
+-- the element at a place
+abbrev pub element_at : Items → ℕ → Option Data
+element_at no_items place = None
+element_at (item d ds) zero = Some d
+element_at (item d ds) (suc place) = element_at ds place
+
+-- a fault of the job of a number is told by the job's own values
+abbrev pub TellsFaultOfList : listed.List → JobError → List ℕ → Type 0
+TellsFaultOfList list fault told = 0 < fault.job → IsPinned fault.what → TellsJobFault
+    (borrowed_names list.names.items) (element_at (items_view list.jobs.now) (fault.job - 1)) fault.what told
+
+abbrev pub TellsFoundFault : Look → JobError → List ℕ → Type 0
+TellsFoundFault (look.NoToml text error) fault told = ⊤
+TellsFoundFault (look.List list) fault told = TellsFaultOfList list fault told
+
+-- behind its head a message has a text of which this is so
+abbrev pub EndsSo : (List ℕ → Type 0) → List ℕ → List ℕ → Type 0
+EndsSo IsSo head message = (told : List ℕ) × IsSo told × (message ≡ head ++ told)

@@ -1,0 +1,12 @@
+//! How many rows of a run are done, and how many of them failed.
+
+ghost use Rattle.std.specs.Prelude.{◌≤◌};
+
+/// A count of rows, and of those among them that count as failures.
+#[derive(Clone, Copy)]
+pub(crate) struct Tally {
+    pub(crate) done: u64,
+    pub(crate) failed: u64,
+    // It holds whenever the lock of a progress is taken.
+    ghost within: { failed ≤ done },
+}
