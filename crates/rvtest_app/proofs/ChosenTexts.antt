@@ -1,17 +1,17 @@
 -- The report of chosen rows: what goes to a file as they come, and its last line.
 use Rattle.std.proofs.Common.{◌≡◌, ◌∙◌, ◌==◌, ◌+◌, ◌-◌, ◌<◌, ◌≤◌, ◌++◌, ◌∷◌, ℕ, suc, Bool, true, false, List, [], Option, Some, None, Bor}
-use Rattle.std.proofs.Common.{ap, arith, get_or, length, refl, sym}
+use Rattle.std.proofs.Common.{ap, arith, get_or, length, refl, sym, take}
 use Rattle.std.proofs.lemmas.Bool.{eqb-true}
-use Rattle.std.specs.List.{All}
+use Rattle.std.specs.List.{All, concat}
 use Rattle.std.specs.List.Sorted.{IsStrictlyIncreasing}
-use Rattle.std.specs.Prelude.{if◌then◌else◌, is_some}
+use Rattle.std.specs.Prelude.{if◌then◌else◌}
 use Rattle.rv_report.specs.Report.{done_line, report_text, row_text, rows_text}
 use Rattle.rv_report.specs.Saved.{extent_line, numbered_text, saved_text}
 use Rattle.rv_report.specs.declared.row.Row.{Row}
 use Rattle.rv_report.specs.declared.saved.Extent.{Extent}
 use Rattle.rv_report.specs.declared.saved.Extent.TheVariants as extent
 use Rattle.rv_report.specs.declared.saved.Shard.{Shard}
-use Rattle.rv_stream.specs.Streams.{joined_row_texts}
+use Rattle.rv_stream.specs.Streams.{joined_row_texts, row_text_list}
 use Rattle.rvtest_app.specs.IntoReports.{rows_ahead, run_report_rest, run_report_text}
 use Rattle.rvtest_app.specs.RunOutput.{chosen_last_line, chosen_report_text, job_numbers, part_text}
 use Rattle.rvtest_app.proofs.Numbers.{behind, fit_behind, next}
@@ -86,13 +86,15 @@ pub run_report_split : (old : Option (List Row)) (jobs : ℕ) (places : List ℕ
 run_report_split None jobs places shard rows up within even = sym (chosen_split jobs places shard rows up within even)
 run_report_split (Some old) jobs places shard rows up within even = refl
 
--- nothing goes ahead where the rows are put into another report, and else what a report says of each
-pub none_ahead : (old : Option (List Row)) (places : List ℕ) (rows : List Row) → is_some old ≡ true
-    → rows_ahead old places rows ≡ []
-none_ahead (Some old) places rows is = refl
-none_ahead None places rows is = absurd cc
+-- rows are told at their own places, whatever places come behind these
+texts_of_shown : (line : ℕ → Row → List ℕ) (places : List ℕ) (rows : List Row)
+    → row_text_list line (take (length rows) places) rows ≡ row_text_list line places rows
+texts_of_shown line [] [] = refl
+texts_of_shown line [] (row ∷ rows) = refl
+texts_of_shown line (place ∷ places) [] = refl
+texts_of_shown line (place ∷ places) (row ∷ rows) = ap (λ texts. line place row ∷ texts) (texts_of_shown line places rows)
 
-pub all_ahead : (old : Option (List Row)) (places : List ℕ) (rows : List Row) → is_some old ≡ false
-    → rows_ahead old places rows ≡ joined_row_texts row_text places rows
-all_ahead None places rows is = refl
-all_ahead (Some old) places rows is = absurd cc
+pub ahead_of_shown : (old : Option (List Row)) (places : List ℕ) (rows : List Row)
+    → rows_ahead old (take (length rows) places) rows ≡ rows_ahead old places rows
+ahead_of_shown (Some old) places rows = refl
+ahead_of_shown None places rows = ap concat (texts_of_shown row_text places rows)

@@ -10,10 +10,12 @@ use Rattle.rv_files.specs.declared.file_error.FileError.TheVariants as file
 use Rattle.rv_files.specs.Placed.{PlacedFile}
 use Rattle.rv_report.specs.declared.report.WriteError.{WriteError}
 use Rattle.rv_report.specs.declared.report.WriteError.TheVariants as write
+use Rattle.rv_stream.specs.declared.error.BothError.{BothError}
+use Rattle.rv_stream.specs.declared.error.BothError.TheVariants as both
 use Rattle.rv_stream.specs.declared.error.StreamError.TheVariants as stream
 use Rattle.rvtest_app.specs.Outlets.{HasTaken, outlet_path}
 use Rattle.rvtest_app.specs.PutStops.{IsFileStop, IsOutputStop, IsPutStop, IsTextStop, IsUnopenedStop, IsUnplacedStop, IsUnwrittenStop, IsWriteErrorStop, stop_of_write_error}
-use Rattle.rvtest_app.specs.RunStops.{IsRowsStop, IsStreamStop}
+use Rattle.rvtest_app.specs.RunStops.{IsBothStop, IsRowsStop, IsStreamStop}
 use Rattle.rvtest_app.specs.declared.outlets.Outlet.{Outlet}
 use Rattle.rvtest_app.proofs.PutTexts.{path_told}
 use Rattle.rvtest_app.proofs.StopLemmas.{IfErr-map}
@@ -104,6 +106,9 @@ put_of_rows report junit why = ⊎_elim (put_of_stream report junit why) (of_row
     of_rows (Some path) is = inr (inr (inr (inl (inr is))))
     of_rows None is = elim is [ ]
 
--- a run whose rows go to no file
-pub rows_stop_nowhere : (report : Option (List ℕ)) (why : Stop) → IsRowsStop None why → IsRowsStop report why
-rows_stop_nowhere report why = ⊎_elim inl (λ is. elim is [ ])
+-- a run that stopped beside the file for a path
+pub rows_of_both : (path : List ℕ) (error : BothError) (why : Stop) → IsBothStop path error why → IsRowsStop (Some path) why
+rows_of_both path (both.First error) why is = inl (error, is)
+rows_of_both path (both.Second stream.Failed) why is = inr is
+rows_of_both path (both.Second stream.OutOfMemory) why is = inl (stream.OutOfMemory, is)
+rows_of_both path (both.Second stream.NoWorker) why is = inl (stream.NoWorker, is)

@@ -96,12 +96,6 @@ module _ {P W : Type 0} (place_path : P → List ℕ) (taken : W → Option (Lis
   taken_more placed path had text (outlet.File before) outlet.Nowhere has put named = elim put [ ]
   taken_more placed path had text (outlet.File before) outlet.Out has put named = elim put [ ]
 
-  -- nothing is put into an outlet that stays as it is
-  pub put_nothing : (o : Outlet P W) → IsPutInto taken failed o o []
-  put_nothing outlet.Nowhere = tt
-  put_nothing outlet.Out = tt
-  put_nothing (outlet.File file) = (refl, (appends_nothing (taken file.sink), refl))
-
   -- the file that an outlet makes is told by the path
   pub file_told : (placed : List PlacedFile) (path : Option (List ℕ)) (had : List ℕ) (before after : Outlet P W) (text : List ℕ)
       → HasTaken place_path taken failed (Some placed) path had before → IsPutInto taken failed before after text
@@ -148,6 +142,14 @@ pub placed_same : (before after : Option (List PlacedFile)) (junit_path report_p
     → junit ≡ other_junit → report ≡ other_report
     → AreFilesPlaced before after (Some (file_at junit_path other_junit ++ file_at report_path other_report))
 placed_same before after junit_path report_path junit other_junit report other_report are e f = rw (e, f) at are
+
+-- equal texts on standard output
+pub out_same : (before after : Option (List ℕ)) (junit_path report_path : Option (List ℕ))
+    (junit other_junit report other_report : List ℕ)
+    → Appends before after (stdout_at junit_path junit ++ stdout_at report_path report)
+    → junit ≡ other_junit → report ≡ other_report
+    → Appends before after (stdout_at junit_path other_junit ++ stdout_at report_path other_report)
+out_same before after junit_path report_path junit other_junit report other_report are e f = rw (e, f) at are
 
 pub part_same : (before after : Option (List PlacedFile)) (path : Option (List ℕ)) (text other : List ℕ)
     → AreFilesPlacedInPart before after (Some (file_at path text)) → text ≡ other

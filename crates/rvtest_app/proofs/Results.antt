@@ -17,6 +17,10 @@ pub OnOk-from : {X Y : Type 0} (r : Result X Y) (P : Type 0) → P → OnOk r P
 OnOk-from (Ok x) P p = p
 OnOk-from (Err e) P p = tt
 
+pub IfOk-from : {X Y : Type 0} (r : Result X Y) (P : Type 0) → P → IfOk r (λ _. P)
+IfOk-from (Ok x) P p = p
+IfOk-from (Err e) P p = tt
+
 pub OnOk-map : {X Y : Type 0} (r : Result X Y) (P Q : Type 0) → (P → Q) → OnOk r P → OnOk r Q
 OnOk-map (Ok x) P Q f p = f p
 OnOk-map (Err e) P Q f p = tt

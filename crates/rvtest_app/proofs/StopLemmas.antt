@@ -1,13 +1,23 @@
 -- Stops that are handed on.
-use Rattle.std.proofs.Common.{◌≡◌, ◌⊎◌, ℕ, List, Option, Result, Ok, Err, Vec, Global, IfOk, IfErr, inl, inr, ⊎_elim}
+use Rattle.std.proofs.Common.{◌≡◌, ◌⊎◌, ℕ, List, Option, Result, Ok, Err, Vec, Global, IfOk, IfErr, inl, inr, refl, ⊎_elim}
 use Rattle.std.specs.Prelude.{MatchResult, ⊤}
 use Rattle.rv_base.specs.Files.{FileContents}
+use Rattle.rv_cli.specs.declared.rvtest.accept.AcceptAsked.{AcceptAsked}
 use Rattle.rv_cli.specs.declared.rvtest.diff.DiffAsked.{DiffAsked}
+use Rattle.rv_cli.specs.declared.rvtest.merge.MergeAsked.{MergeAsked}
+use Rattle.rv_cli.specs.declared.rvtest.requests.Asked.TheVariants as asked
+use Rattle.rv_cli.specs.declared.rvtest.run.RunAsked.{RunAsked}
+use Rattle.rv_cli.specs.declared.rvtest.show.ShowAsked.{ShowAsked}
 use Rattle.rv_command.specs.Stops.{IsUnreadStop}
 use Rattle.rv_command.specs.Texts.{IsTextAt}
 use Rattle.rv_command.specs.declared.stop.Stop.{Stop}
 use Rattle.rv_command.specs.declared.stop.Stop.TheVariants as stop
-use Rattle.rvtest_app.specs.CommandStops.{IsDiffAtStop}
+use Rattle.rvtest_app.specs.Accepts.{IsAcceptedAt}
+use Rattle.rvtest_app.specs.CommandStops.{IsCommandStop, IsDiffAtStop}
+use Rattle.rvtest_app.specs.Merges.{IsMergedAt}
+use Rattle.rvtest_app.specs.Runs.{AreJobsToRun}
+use Rattle.rvtest_app.specs.Said.{Said}
+use Rattle.rvtest_app.specs.Shows.{IsShownAt}
 use Rattle.rvtest_app.specs.ToldStops.{IsDiffStop}
 
 pub IfErr-map : {X Y : Type 0} (r : Result X Y) (P Q : Y → Type 0) → ((y : Y) → P y → Q y) → IfErr r P → IfErr r Q
@@ -39,3 +49,24 @@ diff_stop_at known words old (Err failed) why read found unread =
     ⊎_elim (λ memory. inl (inl (inl memory)))
     (⊎_elim (λ fault. inl (inr (old, read, fault)))
     (λ is. inr (is.0, (record { bytes = old; found = read; of = is.1 }, inl (rw is.2 unread)))))
+
+-- a run that had jobs to run may be stopped by a failed write, and one that had none put nothing
+pub unshown_run : (known : Option FileContents) (words : RunAsked) (Untouched : Type 0)
+    → AreJobsToRun known words ⊎ Untouched → IsCommandStop known (asked.Run words) stop.WriteFailed ⊎ Untouched
+unshown_run known words Untouched =
+    ⊎_elim (λ found. inl (inr (inr (found, inr (inr (inl refl)))))) inr
+
+-- so may an acceptance, a merge and what is shown of a report
+pub unshown_accept : (known : Option FileContents) (words : AcceptAsked) (status : ℕ) (before after : Said)
+    → IsAcceptedAt known words status before after → IsCommandStop known (asked.Accept words) stop.WriteFailed
+unshown_accept known words status before after done =
+    inr (done.bytes, (done.read, (done.jobs, (done.listed, inr (inr (inl refl))))))
+
+pub unshown_merge : (known : Option FileContents) (words : MergeAsked) (status : ℕ) (before after : Said)
+    → IsMergedAt known words status before after → IsCommandStop known (asked.Merge words) stop.WriteFailed
+unshown_merge known words status before after done =
+    inr (done.texts, (done.read, inr (done.rows, (done.parts, inr (inl refl)))))
+
+pub unshown_report : (known : Option FileContents) (words : ShowAsked) (status : ℕ) (before after : Said)
+    → IsShownAt known words status before after → IsCommandStop known (asked.Show words) stop.WriteFailed
+unshown_report known words status before after done = inr (done.found, (done.read, inr (inl refl)))

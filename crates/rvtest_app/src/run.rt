@@ -47,7 +47,7 @@ use crate::planned_run::{MarkedJobs, PlannedRun, RequestedJobs};
 use crate::puts::put_files;
 use crate::report_texts::framed_report;
 use crate::rules::{failure_rule, rows_status};
-use crate::run_output::{RowsFile, put_run_output, stop_of_both, stop_of_stream};
+use crate::run_output::{RowsFile, put_run_output, rows_beside_file, rows_without_file};
 use crate::terminals::Terminals;
 use crate::whole_report::read_whole_report;
 use rv_choice::{Choice, Chooser, requested_shard};
@@ -421,22 +421,13 @@ impl<'x, R: Threads + Wait + Sync + Clock, D: Inputs> ListRun<'x, R, D> {
                     terminals,
                 );
                 let report = outlet_of_rows(file);
-                let ran = match ran {
-                    Ok(rows) => Ok(rows),
-                    Err(error) => Err(stop_of_both(self.host.alloc, path, error)),
-                };
+                let ran = rows_beside_file(self.host.alloc, path, ran);
                 (to, Outlets { report, junit }, ran)
             }
             report => {
                 let file: Option<RowsFile<(), F::File>> = None;
                 let (to, _, ran) = self.run_and_show(planned, is_beside, file, to, terminals);
-                let ran = match ran {
-                    Ok(rows) => Ok(rows),
-                    Err(BothError::First(error) | BothError::Second(error)) => {
-                        Err(stop_of_stream(error))
-                    }
-                };
-                (to, Outlets { report, junit }, ran)
+                (to, Outlets { report, junit }, rows_without_file(ran))
             }
         }
     }

@@ -1,6 +1,6 @@
 //! A run whose results are shown as they come.
 
-ghost use Rattle.std.specs.Prelude.{◌≡◌, ◌<◌, ◌≤◌, ◌^◌, IfErr, IfOk, OnErr, OnOk, length};
+ghost use Rattle.std.specs.Prelude.{◌≡◌, ◌<◌, ◌≤◌, ◌^◌, IfErr, IfOk, Ok, OnErr, OnOk, Some, length};
 ghost use Rattle.std.specs.Io.KnownBytes.{Appends};
 ghost use Rattle.rv_expect.specs.Judgement.{judging_of};
 ghost use Rattle.rv_fleet.specs.Batches.{batch_rows};
@@ -12,7 +12,7 @@ ghost use Rattle.rv_stream.specs.Streams.{joined_row_texts};
 ghost use Rattle.rvtest_app.specs.Commands.{stop_of_stream};
 ghost use Rattle.rvtest_app.specs.RowsFiles.{AreRowsPut, file_name};
 ghost use Rattle.rvtest_app.specs.RunOutput.{run_output_text};
-ghost use Rattle.rvtest_app.specs.RunStops.{IsBothStop};
+ghost use Rattle.rvtest_app.specs.RunStops.{IsBothStop, IsRowsStop, IsStreamStop};
 
 use crate::outlets::unwritten_stop;
 use crate::report_telling::ReportTelling;
@@ -145,8 +145,34 @@ fn put_totals_line<W: Sink>(
     }
 }
 
-/// Why a run ends that stopped on its way, where the rows of its report go to the file for a path.
-pub(crate) fn stop_of_both(alloc: Global, path: &str, error: BothError) -> Stop
+/// What a run came to, where the rows of its report go to the file for a path.
+pub(crate) fn rows_beside_file(
+    alloc: Global,
+    path: &str,
+    ran: Result<Rows, BothError>,
+) -> Result<Rows, Stop>
+    ensures rows { IfOk result (λ rows. ran ≡ Ok rows) }
+    ensures stopped { IfErr result (IsRowsStop (Some path.now)) }
+{
+    match ran {
+        Ok(rows) => Ok(rows),
+        Err(error) => Err(stop_of_both(alloc, path, error)),
+    }
+}
+
+/// What a run came to whose report has no file that takes its rows.
+pub(crate) fn rows_without_file(ran: Result<Rows, BothError>) -> Result<Rows, Stop>
+    ensures rows { IfOk result (λ rows. ran ≡ Ok rows) }
+    ensures stopped { IfErr result IsStreamStop }
+{
+    match ran {
+        Ok(rows) => Ok(rows),
+        Err(BothError::First(error) | BothError::Second(error)) => Err(stop_of_stream(error)),
+    }
+}
+
+// Why a run ends that stopped on its way, where the rows of its report go to the file for a path.
+fn stop_of_both(alloc: Global, path: &str, error: BothError) -> Stop
     ensures { IsBothStop path.now error result }
 {
     match error {
@@ -156,8 +182,8 @@ pub(crate) fn stop_of_both(alloc: Global, path: &str, error: BothError) -> Stop
     }
 }
 
-/// Why a run ends that stopped on its way.
-pub(crate) fn stop_of_stream(error: StreamError) -> Stop
+// Why a run ends that stopped on its way.
+fn stop_of_stream(error: StreamError) -> Stop
     ensures { result ≡ stop_of_stream error }
 {
     match error {

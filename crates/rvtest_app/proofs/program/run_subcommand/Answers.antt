@@ -1,11 +1,18 @@
-use Rattle.std.proofs.Common.{inl}
-use Rattle.rvtest_app.proofs.StopLemmas.{IfErr-map, put_or_found}
+use Rattle.std.proofs.Common.{inl, refl}
+use Rattle.rvtest_app.proofs.Results.{IfOk-from, IfOk-map}
+use Rattle.rvtest_app.proofs.StopLemmas.{put_or_found, unshown_accept, unshown_merge, unshown_report, unshown_run}
 use Rattle.rvtest_app.proofs.program.run_subcommand.Goals as goal
 use Rattle.rvtest_app.proofs.program.run_subcommand.Goals.{in-Explain, in-List, in-Console, in-Check, in-Accept, in-Merge, in-Diff, in-Show, in-Help}
 
 pub returns-in-Run-clause-stopped : goal.returns-in-Run-clause-stopped
 returns-in-Run-clause-stopped g c =
-    rw c.in-Run.is (IfErr-map c.run_requested_jobs.result.1 _ _ (λ why is. inl is) c.run_requested_jobs.ensures.stopped)
+    rw c.in-Run.is c.run_requested_jobs.ensures.stopped
+
+pub returns-in-Run-clause-untouched : goal.returns-in-Run-clause-untouched
+returns-in-Run-clause-untouched g c =
+    rw c.in-Run.is
+    (IfOk-map c.run_requested_jobs.result.1 _ _
+    (λ status was. unshown_run (g.D.Inputs.contents c.args.host.now.inputs.now) _ _ was) c.run_requested_jobs.ensures.untouched)
 
 pub returns-clause-stopped : goal.returns-clause-stopped
 returns-clause-stopped g c = elim c.match-asked.branch [
@@ -29,4 +36,26 @@ returns-clause-stopped g c = elim c.match-asked.branch [
       rw (w.answer-is, w.in-Help.is)
       (put_or_found w.tell_topic.result _ _ w.tell_topic.ensures.stopped
       w.put_findings-answer-in-Help.ensures.stopped)
+]
+
+pub returns-clause-untouched : goal.returns-clause-untouched
+returns-clause-untouched g c = elim c.match-asked.branch [
+  | in-Explain w ↦ rw (w.answer-is, w.in-Explain.is) (IfOk-from w.put_findings-answer.result _ (inl (inl refl)))
+  | in-Check w ↦ rw (w.answer-is, w.in-Check.is) (IfOk-from w.put_findings-answer-in-Check.result _ (inl (inl refl)))
+  | in-List w ↦ rw (w.answer-is, w.in-List.is) (IfOk-from w.list_chosen_jobs-answer.result _ (inl (inl refl)))
+  | in-Console w ↦ rw (w.answer-is, w.in-Console.is) (IfOk-from w.put_job_console-answer.result _ (inl (inl refl)))
+  | in-Accept w ↦
+      rw (w.answer-is, w.in-Accept.is)
+      (IfOk-map w.accept_runs-answer.result _ _ (λ status done. inl (unshown_accept _ _ status _ _ done))
+      w.accept_runs-answer.ensures.accepted)
+  | in-Merge w ↦
+      rw (w.answer-is, w.in-Merge.is)
+      (IfOk-map w.merge_reports-answer.result _ _ (λ status done. inl (unshown_merge _ _ status _ _ done))
+      w.merge_reports-answer.ensures.merged)
+  | in-Diff w ↦ rw (w.answer-is, w.in-Diff.is) (IfOk-from w.diff_reports-answer.result _ (inl (inl refl)))
+  | in-Show w ↦
+      rw (w.answer-is, w.in-Show.is)
+      (IfOk-map w.show_report-answer.result _ _ (λ status done. inl (unshown_report _ _ status _ _ done))
+      w.show_report-answer.ensures.shown)
+  | in-Help w ↦ rw (w.answer-is, w.in-Help.is) (IfOk-from w.put_findings-answer-in-Help.result _ (inl (inl refl)))
 ]

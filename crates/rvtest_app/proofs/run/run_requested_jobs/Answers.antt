@@ -1,5 +1,37 @@
-use Rattle.std.proofs.Common.{inl}
+use Rattle.std.proofs.Common.{inl, inr, ⊎_elim}
+use Rattle.rvtest_app.proofs.Results.{OnErr-map}
+use Rattle.rvtest_app.proofs.StopLemmas.{IfErr-map}
+use Rattle.rvtest_app.specs.Runs.{AreJobsToRun}
 use Rattle.rvtest_app.proofs.run.run_requested_jobs.Goals as goal
 
 pub returns-in-Err-clause-stopped : goal.returns-in-Err-clause-stopped
 returns-in-Err-clause-stopped g c = inl c.in-Err.ensures.stopped
+
+pub returns-in-Some-clause-undone : goal.returns-in-Some-clause-undone
+returns-in-Some-clause-undone g c =
+    let found : AreJobsToRun (g.D.Inputs.contents c.args.host.now.inputs.now) c.args.asked.now = record {
+      jobs = c.in-Ok.requested.jobs;
+      marks = c.in-Some.marks.items;
+      shard = c.in-Ok.requested.frame.shard;
+      old = c.in-Ok.requested.frame.old;
+      notes = c.in-Ok.requested.notes.items;
+      asked = rw c.in-Some.is at c.in-Ok.ensures.asked;
+      failures = c.in-Ok-requested_known_jobs.known;
+      known_to_fail = rw c.as_slice.ensures.value at c.in-Ok-requested_known_jobs.ensures.known;
+    } in
+    OnErr-map c.run_marked_jobs.result.1 _ _ (⊎_elim inl (λ alone. inr (record { found = found; alone = alone })))
+    c.run_marked_jobs.ensures.undone
+
+pub returns-in-Some-clause-stopped : goal.returns-in-Some-clause-stopped
+returns-in-Some-clause-stopped g c =
+    let found : AreJobsToRun (g.D.Inputs.contents c.args.host.now.inputs.now) c.args.asked.now = record {
+      jobs = c.in-Ok.requested.jobs;
+      marks = c.in-Some.marks.items;
+      shard = c.in-Ok.requested.frame.shard;
+      old = c.in-Ok.requested.frame.old;
+      notes = c.in-Ok.requested.notes.items;
+      asked = rw c.in-Some.is at c.in-Ok.ensures.asked;
+      failures = c.in-Ok-requested_known_jobs.known;
+      known_to_fail = rw c.as_slice.ensures.value at c.in-Ok-requested_known_jobs.ensures.known;
+    } in
+    IfErr-map c.run_marked_jobs.result.1 _ _ (λ why put. inr (inr (found, put))) c.run_marked_jobs.ensures.stopped

@@ -16,4 +16,4 @@ returns-in_err-put_summarized_report-clause-undone g c =
       read = c.in_ok-found.ensures.read;
       placed = placed;
     }))
-    c.in_err-put_summarized_report.ensures.part)
+    (rw c.in_ok-summarized.ensures.report at c.in_err-put_summarized_report.ensures.part))

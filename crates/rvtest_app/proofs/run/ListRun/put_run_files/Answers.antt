@@ -1,11 +1,23 @@
 use Rattle.std.proofs.Common.{◌∙◌, ◌++◌, ap, sym}
 use Rattle.rv_expect.specs.Judgement.{judging_of}
 use Rattle.rv_job_text.specs.Telling.{row_lines_at, telling_of}
-use Rattle.rvtest_app.specs.IntoReports.{rows_ahead, run_report_rest}
+use Rattle.rvtest_app.specs.IntoReports.{rows_ahead, run_report_rest, run_report_text}
 use Rattle.rvtest_app.proofs.ChosenTexts.{run_report_split}
-use Rattle.rvtest_app.proofs.PutTexts.{part_same, placed_same, same_junit}
+use Rattle.rvtest_app.proofs.PutTexts.{out_same, part_same, placed_same, same_junit}
 use Rattle.rvtest_app.proofs.Results.{OnErr-from}
 use Rattle.rvtest_app.proofs.run.ListRun.put_run_files.Goals as goal
+
+pub returns-clause-put : goal.returns-clause-put
+returns-clause-put g c = λ report_path junit_path report junit.
+    let planned = c.args.planned.now in
+    let ahead = rows_ahead c.args.frame.old planned.places.now c.args.rows in
+    out_same _ _ junit_path report_path _ _ _ _
+    (rw c.framed_report.ensures.rows at (c.in_ok-put_files.ensures.put ahead report_path junit_path report junit))
+    (same_junit _ _ (judging_of planned.telling.now.judge) _ _ planned.places.now c.args.rows
+    (c.as_bytes.ensures.value ∙ c.suite_name.ensures)
+    (ap (λ telling. row_lines_at (telling_of telling)) c.new-recalling.ensures))
+    (c.framed_report.ensures.text
+    ∙ ap (λ jobs. run_report_text c.args.frame.old jobs planned.places.now c.args.frame.shard c.args.rows) c.jobs.ensures.value)
 
 pub returns-clause-placed : goal.returns-clause-placed
 returns-clause-placed g c = λ report_path junit_path report junit.

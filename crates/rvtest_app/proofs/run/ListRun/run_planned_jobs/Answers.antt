@@ -2,11 +2,14 @@ use Rattle.std.proofs.Common.{◌∙◌, List, [], ap, arith, inr, length, sym, 
 use Rattle.std.proofs.lemmas.List.{length-take}
 use Rattle.rv_rows.specs.declared_row.Row.{Row}
 use Rattle.rv_command.specs.Texts.{optional_text}
+use Rattle.rv_expect.specs.Judgement.{judging_of}
+use Rattle.rvtest_app.proofs.ChosenTexts.{ahead_of_shown}
 use Rattle.rvtest_app.proofs.PutStops.{output_of_put}
 use Rattle.rvtest_app.proofs.PutTexts.{out_told, taken_more}
 use Rattle.rvtest_app.proofs.Results.{OnOk-both}
 use Rattle.rvtest_app.proofs.StopLemmas.{IfErr-map}
 use Rattle.rvtest_app.specs.IntoReports.{run_report_path}
+use Rattle.rvtest_app.specs.Runs.{run_rows}
 use Rattle.rvtest_app.specs.Said.{said}
 use Rattle.rvtest_app.proofs.run.ListRun.run_planned_jobs.Goals as goal
 
@@ -38,14 +41,16 @@ returns-in-Ok-ran-clause-said g c =
     let places = c.first_jobs-shown.ensures.places
     ∙ ap (λ (r : List Row). take (length r) c.args.places.now) (c.as_slice.ensures ∙ rows) in
     let telling = c.first_jobs-shown.ensures.telling in
+    let ahead = ahead_of_shown c.args.frame.old c.args.places.now
+    (run_rows c.args.self.now.asked.now.stop_after (judging_of c.args.telling.now.judge) c.args.telling.now.plan.now c.args.places.now) in
     let seen = rw (
       out_told path taken failed _ _ outlets.report _ report,
       out_told path taken failed _ _ outlets.junit _ c.in-Ok.ensures.junit,
       c.in-Ok.ensures.same,
     ) at (rw c.in-Ok-ran.is at ran.shown) in
-    let out = rw (telling, places, rows) at (c.put_run_files-put.ensures.put report_path junit_path (rw same more) (rw same junit)) in
+    let out = rw (telling, places, rows) at (c.put_run_files-put.ensures.put report_path junit_path (rw (same, places, rows, ahead) more) (rw same junit)) in
     let placed = rw (telling, places, rows)
-    at (c.put_run_files-put.ensures.placed report_path junit_path (rw same more) (rw same junit)) in
+    at (c.put_run_files-put.ensures.placed report_path junit_path (rw (same, places, rows, ahead) more) (rw same junit)) in
     let errors = c.put_run_files-put.ensures.errors in
     OnOk-both c.put_run_files-put.result _ _ _
     (λ p q. record {
@@ -59,7 +64,7 @@ returns-in-Ok-ran-clause-said g c =
 
 pub returns-in-Ok-ran-clause-part : goal.returns-in-Ok-ran-clause-part
 returns-in-Ok-ran-clause-part g c =
-    let junit = c.in-Ok.ensures.junit in
+    let junit = rw (sym c.run_into_outlets-to.ensures.junit) at c.in-Ok.ensures.junit in
     let same = ap g.F.Outputs.placed c.run_into_outlets-to.ensures.files ∙ c.in-Ok.ensures.same in
     λ rows is.
     let are = (rw c.in-Ok-ran.is at c.run_into_outlets-to.ensures.rows) ∙ sym is in
@@ -79,4 +84,5 @@ returns-in-Ok-ran-clause-stopped g c =
     let report = rw c.run_report_path-report.ensures at c.in-Ok.ensures.report in
     IfErr-map c.put_run_files-put.result _ _ (λ why is. inr is)
     (output_of_put g.F.Outputs.place_path g.F.File.Sink.taken g.F.File.Sink.failed _ report_path junit_path _ _
-    c.put_run_files-put.result report c.in-Ok.ensures.junit c.put_run_files-put.ensures.stopped)
+    c.put_run_files-put.result report c.in-Ok.ensures.junit
+    (rw (c.run_into_outlets-to.ensures.report_path, c.run_into_outlets-to.ensures.junit) at c.put_run_files-put.ensures.stopped))
