@@ -1,5 +1,5 @@
 -- Why `run` ended before its work was done.
-use Rattle.std.specs.Prelude.{◌≡◌, ◌⊎◌, ℕ, Bool, List, IsSomeAnd, Option, Some, Ok, false, is_some}
+use Rattle.std.specs.Prelude.{◌≡◌, ◌⊎◌, ℕ, Bool, List, IsSomeAnd, Option, Ok, false, is_some}
 use Rattle.rv_base.specs.Files.{FileContents}
 use Rattle.rv_choice.specs.ChoiceStops.{IsChoiceStop}
 use Rattle.rv_choice.specs.Shard.{IsShardStop}

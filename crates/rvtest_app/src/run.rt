@@ -530,8 +530,7 @@ impl<'x, R: Threads + Wait + Sync + Clock, D: Inputs> ListRun<'x, R, D> {
             judge: telling.judge,
             failures: self.asked.stop_after,
         };
-        let (stream, file, ran) =
-            put_run_output(&crew, &batch, &limit, &counting, stream, file);
+        let (stream, file, ran) = put_run_output(&crew, &batch, &limit, &counting, stream, file);
         let stream = stream.into_inner();
         progress.finish();
         (stream, file, ran)
