@@ -8,8 +8,7 @@ use Rattle.std.specs.Str.{bytes_eq}
 use Rattle.std.specs.Borrow.{Bor}
 use Rattle.toml.specs.Data.{Data, Items, Members, get_member, item, no_items, table}
 use Rattle.toml.specs.View.{items_view}
-use Rattle.rv_lists.specs.Keys.{absent_or, text_at_key}
-use Rattle.rv_lists.specs.KeysInside.{is_value_of_kind}
+use Rattle.rv_lists.specs.Keys.{absent_or, is_number, is_region_array, is_text, is_text_array, text_at_key}
 use Rattle.rv_lists.specs.declared.keys.Kind.{Kind}
 use Rattle.rv_lists.specs.declared.keys.Kind.TheVariants as kind
 use Rattle.rv_lists.specs.Limits.{most_script}
@@ -191,9 +190,16 @@ kinds_of_keys =
     ∷ (codes "misaligned", kind.Text)
     ∷ []
 
+-- a value is of the kind
+abbrev pub is_of_kind : Kind → Data → Bool
+is_of_kind kind.Text = is_text
+is_of_kind kind.Number = is_number
+is_of_kind kind.Texts = is_text_array
+is_of_kind kind.Regions = is_region_array
+
 -- the value at a key is of another kind
 abbrev pub is_of_other_kind : Members → List ℕ × Kind → Bool
-is_of_other_kind ms known = not (absent_or (is_value_of_kind known.1) known.0 ms)
+is_of_other_kind ms known = not (absent_or (is_of_kind known.1) known.0 ms)
 
 -- the same as the program has the key
 abbrev pub key_and_kind : Bor (List ℕ) × Kind → List ℕ × Kind

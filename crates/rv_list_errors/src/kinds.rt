@@ -6,9 +6,8 @@ ghost use Rattle.std.specs.Option.{option_map_or};
 ghost use Rattle.toml.specs.View.{table_view, view};
 ghost use Rattle.rv_lists.specs.Keys.{absent_or, has_kinds_of_keys, is_boolean, is_number, is_region, is_region_array, is_text};
 ghost use Rattle.rv_lists.specs.Keys.{is_text_array, region_keys};
-ghost use Rattle.rv_lists.specs.KeysInside.{is_value_of_kind};
 ghost use Rattle.rv_list_errors.specs.JobFaults.{BeginsWithRegion, BeginsWithValue, TellsOtherKind, TellsWrongKind, is_known_of_other_kind};
-ghost use Rattle.rv_list_errors.specs.JobFaults.{is_of_other_kind, key_and_kind};
+ghost use Rattle.rv_list_errors.specs.JobFaults.{is_of_kind, is_of_other_kind, key_and_kind};
 ghost use Rattle.rv_list_errors.specs.Lines.{BeginsWith};
 ghost use Rattle.rv_list_errors.specs.Told.{AddsSome, region_number_text};
 
@@ -53,7 +52,7 @@ fn first_key_of_other_kind<'k>(
 
 // Whether the value at a key is of another kind.
 fn is_value_of_other_kind(table: &Table, key: &str, kind: Kind) -> bool
-    ensures { result ≡ not (absent_or (is_value_of_kind kind) key.now (table_view table.now)) }
+    ensures { result ≡ not (absent_or (is_of_kind kind) key.now (table_view table.now)) }
 {
     match value_at_key(table, key) {
         Some(value) => !is_of_toml_kind(kind, value),
@@ -63,7 +62,7 @@ fn is_value_of_other_kind(table: &Table, key: &str, kind: Kind) -> bool
 
 /// Whether a value is of a kind.
 pub(crate) fn is_of_toml_kind(kind: Kind, value: &Value) -> bool
-    ensures { result ≡ is_value_of_kind kind (view value.now) }
+    ensures { result ≡ is_of_kind kind (view value.now) }
 {
     match kind {
         Kind::Text => value.is_str(),
