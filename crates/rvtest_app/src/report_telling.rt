@@ -20,8 +20,8 @@ impl Telling for ReportTelling {
         row: &Row,
         text: &mut Vec<u8>,
     ) -> Result<(), AllocError> {
-        // No memory has so many jobs.
         if place == usize::MAX {
+            // Out of memory: no memory has so many jobs.
             return Err(AllocError);
         }
         let mut said = String::new(alloc);
