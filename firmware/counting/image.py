@@ -24,17 +24,22 @@ def output_of(words, given=None):
     return done.stdout
 
 
+def lines_of(image):
+    """The lines of an image, whose file must have the digest of the counts."""
+    data = content_of(image.path)
+    if data is None:
+        raise Refused(f"{image.path}: there is no such image")
+    if hashlib.sha256(data).hexdigest() != image.digest:
+        raise Refused(f"{image.path}: another image than that of the counts")
+    return Lines(image.path, data)
+
+
 class File:
-    """The file of an image, which must have the digest of the counts."""
+    """The file of an image."""
 
     def __init__(self, image, prefix):
         self.path, self.prefix = image.path, prefix
-        data = content_of(image.path)
-        if data is None:
-            raise Refused(f"{image.path}: there is no such image")
-        if hashlib.sha256(data).hexdigest() != image.digest:
-            raise Refused(f"{image.path}: another image than that of the counts")
-        self.lines = Lines(image.path, data)
+        self.lines = lines_of(image)
 
     def tool(self, name, *words, given=None):
         return output_of([self.prefix + name, *words, self.path], given).splitlines()

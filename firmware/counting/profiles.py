@@ -5,7 +5,7 @@ import os
 
 from listing.files import Refused
 
-from .image import File
+from .image import lines_of
 
 
 def check(image):
@@ -60,9 +60,9 @@ def edges_of(image):
     return found
 
 
-def callgrind(image, prefix):
+def callgrind(image):
     """The lines of one image in callgrind's format: of each function the cost of each instruction, and its calls."""
-    places = File(image, prefix).lines
+    places = lines_of(image)
     starts = sorted(image.names)
     own, edges = collections.defaultdict(list), collections.defaultdict(list)
     for address in image.counts:
@@ -94,10 +94,10 @@ def costs(image, places, addresses, home):
         yield f"fe={home}"
 
 
-def whole_callgrind(images, prefix):
+def whole_callgrind(images):
     """The file of all images."""
     total = sum(begun for image in images for begun, _ in image.counts.values())
     yield from ("# callgrind format", "version: 1", "creator: rvtest", "positions: instr line", "events: Steps", f"summary: {total}")
     for image in images:
-        yield from callgrind(image, prefix)
+        yield from callgrind(image)
     yield from ("", f"totals: {total}")
