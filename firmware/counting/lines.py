@@ -107,8 +107,10 @@ class Table:
     def entries(self):
         """The entries of one kind: the forms of an entry's parts, and then the entries, each a path and the number of its folder."""
         forms = [(self.data.leb(), self.data.leb()) for _ in range(self.data.take("B"))]
-        found = []
-        for _ in range(self.data.leb()):
+        count, found = self.data.leb(), []
+        if count and not forms:
+            raise ValueError("entries without parts")
+        for _ in range(count):
             parts = {kind: self.value(form) for kind, form in forms}
             found.append((parts.get(1, ""), parts.get(2, 0)))
         return found
@@ -215,7 +217,7 @@ class Lines:
     def __init__(self, path, data):
         try:
             self.sequences = list(sequences_in(data))
-        except (ValueError, KeyError, IndexError, TypeError, struct.error, zlib.error) as error:
+        except (ArithmeticError, LookupError, TypeError, ValueError, struct.error, zlib.error) as error:
             raise Refused(f"{path}: its lines cannot be read: {error}") from None
         # Of one address the last row holds; where code ends and other code begins, that which begins.
         held = [row for rows in self.sequences for row in {row.address: row for row in rows}.values()]

@@ -71,21 +71,27 @@ def callgrind(image):
         edges[caller].append((callee, *edge))
     yield from ("", f"ob={image.path}")
     for function in starts:
-        file, line = places.at(function)
+        file, line = place_of(places, function)
         yield from ("", f"fl={file}", f"fn={image.names[function]}")
         yield from costs(image, places, own[function], file)
         for callee, came, steps in edges[function]:
-            home, first = places.at(callee)
+            home, first = place_of(places, callee)
             # A call that nobody made has no cost: callgrind's readers take it for the caller's own.
             if came:
                 yield from (f"cfi={home}", f"cfn={image.names[callee]}", f"calls={came} {callee:#x} {first}", f"{function:#x} {line} {steps}")
+
+
+def place_of(places, address):
+    """The file and the line of an address; without a line, the file has the name by which callgrind's readers know that."""
+    file, line = places.at(address)
+    return (file, line) if line else ("???", 0)
 
 
 def costs(image, places, addresses, home):
     """The cost of each instruction of a function, whose file is given; code of other files is told as such."""
     now = home
     for address in addresses:
-        file, line = places.at(address)
+        file, line = place_of(places, address)
         if file != now:
             yield f"{'fe' if file == home else 'fi'}={file}"
             now = file
