@@ -7,7 +7,7 @@ from listing.files import Refused, content_of
 HEAD = "rvcounts 1"
 NUMBER = "(0|[1-9][0-9]{0,19})"
 ADDRESS = "([0-9a-f]{8})"
-IMAGE = re.compile("image ([0-9a-f]{64}) (.+)")
+IMAGE = re.compile("image ([0-9a-f]{64}) (.*)")
 COUNT = re.compile(f"{ADDRESS} {NUMBER} {NUMBER}")
 SPOT = re.compile(f"spot {NUMBER} {ADDRESS} {NUMBER} {NUMBER} (.+)")
 DONE = re.compile(f"done {NUMBER} {NUMBER}")
@@ -94,9 +94,7 @@ def images_in(path):
         wrong = reader.take(line.decode(errors="replace")) if line.isascii() or is_text(line) else WRONG
         if wrong:
             raise Refused(f"{path}:{number}: {wrong}")
-    if reader.done and rest:
-        raise Refused(f"{path}:{len(lines) + 1}: {WRONG}")
-    if not reader.done:
+    if rest or not reader.done:
         raise Refused(f"{path}: the table is cut off")
     return reader.images
 
