@@ -148,8 +148,18 @@ fn note_text<J: Streamed>(early: &mut Vec<Option<Vec<u8>>>, piece: usize, text: 
     ensures noted { piece < length early.old.items → slice_index_or early.new.items piece None ≡ Some text }
 {
     if piece < early.len() {
-        early[piece] = Some(text);
+        put_in_place::<J>(early, piece, text);
     }
+}
+
+fn put_in_place<J: Streamed>(early: &mut Vec<Option<Vec<u8>>>, piece: usize, text: Vec<u8>)
+    requires within { piece < length early.old.items }
+    requires texts { AreTexts J.texts J.group early.old.items }
+    requires text { text.items ≡ text_of_piece J.texts J.group piece }
+    ensures early { AreTexts J.texts J.group early.new.items }
+    ensures noted { slice_index_or early.new.items piece None ≡ Some text }
+{
+    early[piece] = Some(text);
 }
 
 // A text that goes out at once, and the piece after it.
