@@ -3,3 +3,4 @@ mod Reaching
 mod Forward
 mod Backward
 mod Arriving
+mod Counting

@@ -4,4 +4,5 @@ pub mod Stepping
 pub mod LastStop
 pub mod Places
 pub mod Moves
+pub mod Counts
 pub mod Inside

@@ -1,9 +1,10 @@
 //! A place in a run, and the moves from it.
 
-ghost use Rattle.std.specs.Prelude.{◌≡◌, ◌≤◌, ◌↔◌, IfOk, IsTrue, OnErr, if◌then◌else◌};
+ghost use Rattle.std.specs.Prelude.{◌≡◌, ◌≤◌, ◌↔◌, IfOk, IsTrue, MatchBool, OnErr, if◌then◌else◌};
 ghost use Rattle.rv_machine.specs.Machine.{state_of};
 ghost use Rattle.rv_trace.specs.Trace.{state_after};
 
+use crate::counts::{Count, first_with};
 use crate::found::{Arrival, Found};
 use crate::search::{next_step, next_stop};
 use crate::search_back::{step_before, stop_before};
@@ -40,6 +41,7 @@ impl Model for History {
 }
 
 impl History {
+    ghost use Rattle.rv_history.specs.Counts.{IsFirstWith, IsFound};
     ghost use Rattle.rv_history.specs.Moves.{IsNextStep, IsNextStop, IsStepBefore, IsStopBefore};
     ghost use Rattle.rv_history.specs.Places.{IsReached, last_place};
     ghost use Rattle.rv_history.specs.Starts.{start_of};
@@ -127,6 +129,24 @@ impl History {
             Some(machine) => {
                 self.machine = machine;
                 self.place = place;
+                Ok(true)
+            }
+            None => Ok(false),
+        }
+    }
+
+    /// Goes to the first place with a count, where the run comes to one, and says whether it does.
+    pub fn seek_count(&mut self, alloc: Global, count: Count, value: u32) -> Result<bool, AllocError>
+        ensures granted { IfOk result (λ granted. MatchBool granted
+            (IsFirstWith count value self.old.budget self.old.start self.new.place)
+            (IsFound count value self.old.budget self.old.start None × (self.new ≡ self.old))) }
+        ensures run { self.new ≡ record self.old { place = self.new.place } }
+        ensures same { OnErr result (self.new ≡ self.old) }
+    {
+        match first_with(alloc, &self.start, self.budget, count, value)? {
+            Some(place) => {
+                let found = Found::Done;
+                let _ = self.arrive(alloc, Arrival { place, found })?;
                 Ok(true)
             }
             None => Ok(false),

@@ -5,6 +5,7 @@
 //! changes a watched byte ([`Stops`]), or an end of the run. No move changes the run.
 #![tactic(auto)]
 
+mod counts;
 mod found;
 mod history;
 mod search;
@@ -13,6 +14,7 @@ mod start;
 mod stepping;
 mod stops;
 
+pub use counts::Count;
 pub use found::Found;
 pub use history::History;
 pub use start::Start;
