@@ -136,7 +136,12 @@ impl History {
     }
 
     /// Goes to the first place with a count, where the run comes to one, and says whether it does.
-    pub fn seek_count(&mut self, alloc: Global, count: Count, value: u32) -> Result<bool, AllocError>
+    pub fn seek_count(
+        &mut self,
+        alloc: Global,
+        count: Count,
+        value: u32,
+    ) -> Result<bool, AllocError>
         ensures granted { IfOk result (λ granted. MatchBool granted
             (IsFirstWith count value self.old.budget self.old.start self.new.place)
             (IsFound count value self.old.budget self.old.start None × (self.new ≡ self.old))) }
