@@ -1,7 +1,9 @@
 //! gdb's remote protocol, as bytes that come and bytes that go. Nothing here runs, reads a file or waits.
 //!
 //! A [`Reader`] takes bytes in any cuts and says what it heard ([`Heard`]): bodies with their sums, acknowledgements, Ctrl-C.
-//! [`push_frame`] frames a body. The other functions `push_..` append the bodies of replies.
+//! [`parse_request`] says what a body asks ([`Request`]): what is malformed or not known is a [`Refusal`], by the answer that it gets.
+//! [`push_frame`] frames a body. The other functions `push_..` append the bodies of replies, [`fixed_reply`] has those that are the
+//! same in every session, and [`TARGET`] describes the target.
 #![tactic(auto)]
 
 mod arguments;
