@@ -1,5 +1,6 @@
 -- Breakpoints, and bytes whose changes are watched.
-use Rattle.std.specs.Prelude.{ℕ, List, ◌==◌, Bool}
+use Rattle.std.specs.Prelude.{ℕ, List, [], ◌∷◌, ◌==◌, Bool, Option, Some, None, if◌then◌else◌}
+use Rattle.std.specs.Str.{bytes_eq}
 use Rattle.std.specs.FinMap as fin
 use Rattle.std.specs.List.{filter_map, flat_map, list_any, range_with_len}
 use Rattle.rv_memory.specs.Bus.{Contents}
@@ -15,3 +16,9 @@ watch_bytes bus watch = filter_map (fin.get bus.memory) (range_with_len watch.ad
 
 unfoldable pub watched_bytes : Stops → Contents → List ℕ
 watched_bytes stops bus = flat_map (watch_bytes bus) stops.watches
+
+-- the address of the first watch whose bytes differ between two buses
+unfoldable pub first_differing : List Watch → Contents → Contents → Option ℕ
+first_differing [] one other = None
+first_differing (watch ∷ rest) one other =
+    if bytes_eq (watch_bytes one watch) (watch_bytes other watch) then first_differing rest one other else Some watch.address

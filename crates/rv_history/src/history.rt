@@ -45,6 +45,7 @@ impl History {
     ghost use Rattle.rv_history.specs.Moves.{IsNextStep, IsNextStop, IsStepBefore, IsStopBefore};
     ghost use Rattle.rv_history.specs.Places.{IsReached, last_place};
     ghost use Rattle.rv_history.specs.Starts.{start_of};
+    ghost use Rattle.rv_history.specs.Stops.{first_differing};
 
     /// At the start of a run.
     pub fn new(alloc: Global, start: Start, budget: u32) -> Result<History, AllocError>
@@ -156,6 +157,22 @@ impl History {
             }
             None => Ok(false),
         }
+    }
+
+    /// The address of the first watch whose bytes differ between the states behind two numbers of steps.
+    pub fn differing_watch(
+        &self,
+        alloc: Global,
+        one: u32,
+        other: u32,
+        stops: &Stops,
+    ) -> Result<Option<u32>, AllocError>
+        ensures { IfOk result (λ found. found ≡ first_differing stops.now.watches
+            (state_after one self.now.start).bus (state_after other self.now.start).bus) }
+    {
+        let here = self.start.machine_after(alloc, one)?;
+        let there = self.start.machine_after(alloc, other)?;
+        stops.differing_watch(alloc, here.bus(), there.bus())
     }
 
     // Goes to where a search ended.

@@ -4,6 +4,7 @@ ghost use Rattle.std.specs.Prelude.{◌≡◌, ◌%◌, IfOk, MatchOption, false
 ghost use Rattle.rv_machine.specs.Machine.{state_of};
 ghost use Rattle.rv_machine.specs.Run.{run_of};
 ghost use Rattle.rv_machine.specs.State.{is_misaligned};
+ghost use Rattle.rv_trace.specs.Trace.{state_after};
 
 use rv_isa::Isa;
 use rv_machine::Machine;
@@ -31,6 +32,15 @@ impl Start {
     {
         let bus = self.bus.copied(alloc)?;
         Machine::new(alloc, bus, self.entry, self.isa)
+    }
+
+    /// The machine behind a number of steps, or at the end of the run if that comes before.
+    pub(crate) fn machine_after(&self, alloc: Global, steps: u32) -> Result<Machine, AllocError>
+        ensures { IfOk result (λ machine. state_of machine ≡ state_after steps (start_of self.now)) }
+    {
+        let mut machine = self.machine(alloc)?;
+        let _ = machine.run(steps);
+        Ok(machine)
     }
 
     /// The machine at a place that the run comes to.

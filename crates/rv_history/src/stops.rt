@@ -23,7 +23,7 @@ pub struct Stops {
 }
 
 impl Stops {
-    ghost use Rattle.rv_history.specs.Stops.{is_break, watched_bytes};
+    ghost use Rattle.rv_history.specs.Stops.{first_differing, is_break, watched_bytes};
 
     /// Whether an address is a breakpoint.
     pub(crate) fn has_break(&self, pc: u32) -> bool
@@ -42,6 +42,27 @@ impl Stops {
             watch.push_bytes(&mut bytes, bus)?;
         }
         Ok(bytes)
+    }
+
+    /// The address of the first watch whose bytes differ between two buses.
+    pub(crate) fn differing_watch(
+        &self,
+        alloc: Global,
+        one: &Bus,
+        other: &Bus,
+    ) -> Result<Option<u32>, AllocError>
+        ensures { IfOk result (λ found. found ≡ first_differing self.now.watches one.now other.now) }
+    {
+        for watch in self.watches.as_slice() {
+            let mut here = Vec::new(alloc);
+            watch.push_bytes(&mut here, one)?;
+            let mut there = Vec::new(alloc);
+            watch.push_bytes(&mut there, other)?;
+            if here.as_slice() != there.as_slice() {
+                return Ok(Some(watch.address));
+            }
+        }
+        Ok(None)
     }
 }
 
