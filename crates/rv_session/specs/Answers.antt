@@ -1,5 +1,5 @@
 -- What a session answers to each request, and how it stands behind it.
-use Rattle.std.specs.Prelude.{ℕ, List, [], ◌∷◌, ◌++◌, ◌≡◌, ◌⊎◌, ◌-◌, ◌==◌, ◌||◌, ⊥, Bool, true, false, Option, Some, None, codes, if◌then◌else◌, drop, length, min, nat_le, nat_lt, take}
+use Rattle.std.specs.Prelude.{ℕ, List, [], ◌∷◌, ◌++◌, ◌≡◌, ◌⊎◌, ◌-◌, ◌==◌, ◌||◌, ⊥, Bool, true, false, Option, Some, None, Result, Ok, Err, codes, if◌then◌else◌, drop, length, min, nat_le, nat_lt, take}
 use Rattle.std.specs.Int.{w32, to_be_bytes}
 use Rattle.std.specs.List.{flat_map}
 use Rattle.std.specs.Str.{bytes_eq}
@@ -9,7 +9,6 @@ use Rattle.rv_history.specs.Places.{last_place}
 use Rattle.rv_history.specs.declared.counts.Count.{Count}
 use Rattle.rv_history.specs.declared.counts.Count.TheVariants as count
 use Rattle.rv_history.specs.declared.stops.Stops.{Stops}
-use Rattle.rv_history.specs.declared.stops.Watch.{Watch}
 use Rattle.rv_machine.specs.State.{register}
 use Rattle.rv_remote.specs.Replies.{fixed_reply, part_text, refusal_text}
 use Rattle.rv_remote.specs.Shown.{register_text, registers_text}
@@ -23,14 +22,13 @@ use Rattle.rv_remote.specs.declared.request.Register.TheVariants as reg
 use Rattle.rv_remote.specs.declared.request.Request.{Request}
 use Rattle.rv_remote.specs.declared.request.Request.TheVariants as ask
 use Rattle.rv_remote.specs.declared.request.Trap.{Trap}
-use Rattle.rv_remote.specs.declared.request.Trap.TheVariants as trap
 use Rattle.rv_remote.specs.declared.stop.Stop.TheVariants as stop
 use Rattle.rv_remote.specs.declared.target.TheConstants.{TARGET}
 use Rattle.rv_session.specs.Memory.{bytes_from, stand_at}
 use Rattle.rv_session.specs.Moved.{IsMoved}
 use Rattle.rv_session.specs.Replies.{granted, granted_if, printing, refused, saying}
 use Rattle.rv_session.specs.Sessions.{at_place, here}
-use Rattle.rv_session.specs.Traps.{is_on, is_set, trap_refusal, without_trap}
+use Rattle.rv_session.specs.Traps.{IsTrapped, without_trap}
 use Rattle.rv_session.specs.declared.reply.Reply.{Reply}
 use Rattle.rv_session.specs.declared.session.Session.{Session}
 
@@ -102,38 +100,39 @@ IsSought session count value reply next =
     ⊎ ((reply ≡ refused refusal.NotReached)
         × (IsFound count value session.history.budget session.history.start None) × (next ≡ session))
 
+-- the places that the run comes to are granted
+abbrev pub IsPlaceSought : Session → ℕ → Reply → Session → Type 0
+IsPlaceSought session place reply next =
+    (reply ≡ granted_if (nat_le place (last_place session.history.budget session.history.start)) refusal.NotReached)
+    × (next ≡ (if nat_le place (last_place session.history.budget session.history.start) then at_place session place else session))
+
 abbrev pub IsWritten : Session → Register → ℕ → Reply → Session → Type 0
 IsWritten session (reg.Hart number) value reply next =
     (reply ≡ granted_if (value_of session (reg.Hart number) == value) refusal.WouldChange) × (next ≡ session)
-IsWritten session reg.Steps value reply next =
-    let comes = nat_le value (last_place session.history.budget session.history.start) in
-    (reply ≡ granted_if comes refusal.NotReached) × (next ≡ (if comes then at_place session value else session))
+IsWritten session reg.Steps value reply next = IsPlaceSought session value reply next
 IsWritten session reg.Printed value reply next = IsSought session count.Printed value reply next
 IsWritten session reg.Taken value reply next = IsSought session count.Taken value reply next
 
--- one more watch
-pub record IsWatchAdded (watches : List Watch) (range : Range) (next : List Watch) : Type 0 where
-  pub watch : Watch
-  pub next_is : next ≡ watches ++ watch ∷ []
-  pub on : is_on range watch ≡ true
-
--- the stops have one more at their end
-abbrev pub IsAdded : Stops → Trap → Stops → Type 0
-IsAdded stops (trap.Break address) next = (next.breaks ≡ stops.breaks ++ address ∷ []) × (next.watches ≡ stops.watches)
-IsAdded stops (trap.Watch range) next = (next.breaks ≡ stops.breaks) × IsWatchAdded stops.watches range next.watches
-
 -- set, which it may be already, or refused
-abbrev pub IsSet : Session → Trap → Option Refusal → Reply → Session → Type 0
-IsSet session place (Some refusal) reply next = (reply ≡ refused refusal) × (next ≡ session)
-IsSet session place None reply next = (reply ≡ granted) × (next ≡ record session { stops = next.stops })
-    × (if is_set session.stops place then next.stops ≡ session.stops else IsAdded session.stops place next.stops)
+abbrev pub IsSet : Session → Result Stops Refusal → Reply → Session → Type 0
+IsSet session (Ok stops) reply next = (reply ≡ granted) × (next ≡ record session { stops = stops })
+IsSet session (Err refusal) reply next = (reply ≡ refused refusal) × (next ≡ session)
+
+-- what trapping gives, and the session behind it
+pub record IsTrapAsked (session : Session) (place : Trap) (reply : Reply) (next : Session) : Type 0 where
+  pub outcome : Result Stops Refusal
+  pub trapped : IsTrapped session.stops (here session).bus place outcome
+  pub set : IsSet session outcome reply next
+
+-- some text is shown, and granted
+abbrev pub IsPrinting : Reply → Type 0
+IsPrinting reply = reply ≡ printing reply.printed (codes "OK")
 
 -- the commands of `monitor`, whose texts are not said here: they are printed, and change nothing but that a reset goes to the start
 pub record IsCommanded (session : Session) (text : List ℕ) (reply : Reply) (next : Session) : Type 0 where
-  pub printed : List ℕ
-  pub reply_is : reply ≡ printing printed (codes "OK")
+  pub granted : IsPrinting reply
   pub next_is : next ≡ (if bytes_eq text (codes "reset") || bytes_eq text (codes "reset halt") then at_place session 0 else session)
-  pub console : bytes_eq text (codes "console") ≡ true → printed ≡ (here session).bus.output
+  pub console : bytes_eq text (codes "console") ≡ true → reply.printed ≡ (here session).bus.output
 
 -- what changes nothing has its one reply
 abbrev pub IsShown : Session → Option Reply → Reply → Session → Type 0

@@ -1,6 +1,6 @@
 -- What goes out for the bytes that come.
-use Rattle.std.specs.Prelude.{ℕ, List, [], ◌∷◌, ◌++◌, ◌≡◌, ◌&&◌, Bool, true, false, Option, Some, None, if◌then◌else◌}
-use Rattle.std.specs.List.{chunks, flat_map}
+use Rattle.std.specs.Prelude.{ℕ, List, [], ◌∷◌, ◌++◌, ◌≡◌, ◌&&◌, ◌+◌, ◌*◌, ◌-◌, ◌/◌, Bool, true, false, Option, Some, None, drop, if◌then◌else◌, length, take}
+use Rattle.std.specs.List.{flat_map, range_with_len}
 use Rattle.hex.specs.Hex.{encode_lower}
 use Rattle.rv_remote.specs.Frames.{frame_behind, heard_at}
 use Rattle.rv_remote.specs.Packets.{request_of}
@@ -21,8 +21,12 @@ use Rattle.rv_session.specs.declared.session.Session.{Session}
 abbrev pub most_printed : ℕ
 most_printed = 8184
 
-abbrev pub printed_packet : List ℕ → List ℕ
-printed_packet bytes = framed (79 ∷ encode_lower bytes)
+abbrev pub printed_packet : List ℕ → ℕ → List ℕ
+printed_packet printed number = framed (79 ∷ encode_lower (take most_printed (drop (number * most_printed) printed)))
+
+abbrev pub printed_packets : List ℕ → List ℕ
+printed_packets printed =
+    flat_map (printed_packet printed) (range_with_len 0 ((length printed + (most_printed - 1)) / most_printed))
 
 abbrev pub body_packet : Option (List ℕ) → List ℕ
 body_packet (Some body) = framed body
@@ -30,7 +34,7 @@ body_packet None = []
 
 -- the packets of a reply
 abbrev pub packets_of : Reply → List ℕ
-packets_of reply = flat_map printed_packet (chunks most_printed reply.printed) ++ body_packet reply.body
+packets_of reply = printed_packets reply.printed ++ body_packet reply.body
 
 -- the last packet is kept, to be sent again
 abbrev pub sent_behind : List ℕ → Option (List ℕ) → List ℕ
@@ -43,6 +47,10 @@ with_sent session reply = record session { sent = sent_behind session.sent reply
 -- `+` in front of a reply, while packets are acknowledged
 abbrev pub acknowledgement : Session → List ℕ
 acknowledgement session = if session.acknowledges then 43 ∷ [] else []
+
+-- the last packet goes out again, while packets are acknowledged
+abbrev pub sent_again : Session → List ℕ
+sent_again session = if session.acknowledges then session.sent else []
 
 -- ---- what is heard
 
@@ -67,7 +75,7 @@ is_wrong verdict.Right = false
 abbrev pub IsResponse : Session → Heard → List ℕ → Session → Type 0
 IsResponse session heard.Interrupt out next = (out ≡ []) × (next ≡ session)
 IsResponse session heard.Arrived out next = (out ≡ []) × (next ≡ session)
-IsResponse session heard.Again out next = (out ≡ (if session.acknowledges then session.sent else [])) × (next ≡ session)
+IsResponse session heard.Again out next = (out ≡ sent_again session) × (next ≡ session)
 IsResponse session heard.TooLong out next =
     (out ≡ acknowledgement session ++ packets_of (refused refusal.TooLong)) × (next ≡ with_sent session (refused refusal.TooLong))
 IsResponse session (heard.Packet body sum) out next =
@@ -78,6 +86,17 @@ abbrev pub IsRespondedTo : Session → Option Heard → List ℕ → Session →
 IsRespondedTo session None out next = (out ≡ []) × (next ≡ session)
 IsRespondedTo session (Some heard) out next =
     if session.is_over then (out ≡ []) × (next ≡ session) else IsResponse session heard out next
+
+-- the same, behind what goes out already
+pub record IsHeardOut (session : Session) (heard : Heard) (old new : List ℕ) (next : Session) : Type 0 where
+  pub out : List ℕ
+  pub new_is : new ≡ old ++ out
+  pub response : IsRespondedTo session (Some heard) out next
+
+pub record IsTakenOut (session : Session) (body : List ℕ) (sum : Sum) (old new : List ℕ) (next : Session) : Type 0 where
+  pub out : List ℕ
+  pub new_is : new ≡ old ++ out
+  pub judged : IsJudged session (session.acknowledges && is_wrong sum) body out next
 
 -- a byte is heard
 abbrev pub IsByteFed : Session → ℕ → List ℕ → Session → Type 0

@@ -1,5 +1,15 @@
 //! What a session answers to each request.
 
+ghost use Rattle.std.specs.Prelude.{◌≡◌, ◌×◌, [], IfOk, None, Some, false, true};
+ghost use Rattle.rv_remote.specs.Replies.{part_text};
+ghost use Rattle.rv_remote.specs.Stops.{stop_text};
+ghost use Rattle.rv_remote.specs.declared.stop.Stop.TheVariants as stop;
+ghost use Rattle.rv_session.specs.Answers.{IsAnswered, IsTrapAsked, shown_reply};
+ghost use Rattle.rv_session.specs.Replies.{granted, saying};
+ghost use Rattle.rv_session.specs.Sessions.{at_place};
+ghost use Rattle.rv_session.specs.Traps.{without_trap};
+ghost use Rattle.rv_session.specs.declared.reply.Reply.{Reply};
+
 use crate::reply::Reply;
 use crate::session::Session;
 use crate::traps::{with_trap, without_trap};
@@ -13,7 +23,9 @@ impl Session {
         &mut self,
         alloc: Global,
         request: &Request,
-    ) -> Result<Reply, AllocError> {
+    ) -> Result<Reply, AllocError>
+        ensures { IfOk result (λ reply. IsAnswered self.old request.now reply self.new) }
+    {
         match request {
             Request::LastStop => self.last_stop(alloc),
             Request::Registers => self.registers(alloc),
@@ -39,7 +51,9 @@ impl Session {
     }
 
     // What changes nothing of the session, and does not look at the machine.
-    fn other(&self, alloc: Global, request: &Request) -> Result<Reply, AllocError> {
+    fn other(&self, alloc: Global, request: &Request) -> Result<Reply, AllocError>
+        ensures { IfOk result (λ reply. (shown : Reply) → shown_reply self.now request.now ≡ Some shown → reply ≡ shown) }
+    {
         match request {
             Request::Description(part) => part_of(alloc, TARGET.as_bytes(), *part),
             Request::ImagePath(part) => part_of(alloc, self.program.path.as_slice(), *part),
@@ -51,14 +65,18 @@ impl Session {
     }
 
     // `?`
-    fn last_stop(&self, alloc: Global) -> Result<Reply, AllocError> {
+    fn last_stop(&self, alloc: Global) -> Result<Reply, AllocError>
+        ensures { IfOk result (λ reply. reply ≡ saying (stop_text self.now.last)) }
+    {
         let mut body = Vec::new(alloc);
         push_stop(&mut body, self.last)?;
         Ok(Reply::saying(alloc, body))
     }
 
     // `Z`
-    fn set(&mut self, alloc: Global, trap: Trap) -> Result<Reply, AllocError> {
+    fn set(&mut self, alloc: Global, trap: Trap) -> Result<Reply, AllocError>
+        ensures { IfOk result (λ reply. IsTrapAsked self.old trap reply self.new) }
+    {
         match with_trap(alloc, &self.stops, self.history.machine().bus(), trap)? {
             Ok(stops) => {
                 let reply = Reply::granted(alloc)?;
@@ -70,35 +88,48 @@ impl Session {
     }
 
     // `z`
-    fn clear(&mut self, alloc: Global, trap: Trap) -> Result<Reply, AllocError> {
+    fn clear(&mut self, alloc: Global, trap: Trap) -> Result<Reply, AllocError>
+        ensures { IfOk result (λ reply. (reply ≡ granted)
+            × (self.new ≡ record self.old { stops = without_trap self.old.stops trap })) }
+    {
         let reply = Reply::granted(alloc)?;
         self.stops = without_trap(alloc, &self.stops, trap)?;
         Ok(reply)
     }
 
     // `vRun`: from the start of the run again.
-    fn restart(&mut self, alloc: Global) -> Result<Reply, AllocError> {
+    fn restart(&mut self, alloc: Global) -> Result<Reply, AllocError>
+        ensures { IfOk result (λ reply. (reply ≡ saying (stop_text stop.Here))
+            × (self.new ≡ record (at_place self.old 0) { last = stop.Here })) }
+    {
         let _ = self.history.seek(alloc, 0)?;
         self.last = Stop::Here;
         self.last_stop(alloc)
     }
 
     // `QStartNoAckMode`: its own packet was acknowledged.
-    fn end_acknowledgements(&mut self, alloc: Global) -> Result<Reply, AllocError> {
+    fn end_acknowledgements(&mut self, alloc: Global) -> Result<Reply, AllocError>
+        ensures { IfOk result (λ reply. (reply ≡ granted) × (self.new ≡ record self.old { acknowledges = false })) }
+    {
         let reply = Reply::granted(alloc)?;
         self.acknowledges = false;
         Ok(reply)
     }
 
     // `D`
-    fn detach(&mut self, alloc: Global) -> Result<Reply, AllocError> {
+    fn detach(&mut self, alloc: Global) -> Result<Reply, AllocError>
+        ensures { IfOk result (λ reply. (reply ≡ granted) × (self.new ≡ record self.old { is_over = true })) }
+    {
         let reply = Reply::granted(alloc)?;
         self.is_over = true;
         Ok(reply)
     }
 
     // `k`
-    fn end(&mut self, alloc: Global) -> Reply {
+    fn end(&mut self, alloc: Global) -> Reply
+        ensures reply { result ≡ record { printed = []; body = None } }
+        ensures next { self.new ≡ record self.old { is_over = true } }
+    {
         self.is_over = true;
         Reply {
             printed: Bytes::new(Vec::new(alloc)),
@@ -115,7 +146,9 @@ fn fixed(alloc: Global, request: &Request) -> Result<Reply, AllocError> {
     }
 }
 
-fn part_of(alloc: Global, text: &[u8], part: Part) -> Result<Reply, AllocError> {
+fn part_of(alloc: Global, text: &[u8], part: Part) -> Result<Reply, AllocError>
+    ensures { IfOk result (λ reply. reply ≡ saying (part_text text.now part)) }
+{
     let mut body = Vec::new(alloc);
     push_part(&mut body, text, part)?;
     Ok(Reply::saying(alloc, body))

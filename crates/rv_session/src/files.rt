@@ -1,5 +1,13 @@
 //! The image, as gdb asks for it: a file of one path, which is open as 5.
 
+ghost use Rattle.std.specs.Prelude.{◌≡◌, ◌++◌, IfOk, OnOk, codes, if◌then◌else◌, length};
+ghost use Rattle.std.specs.Int.{w32, to_be_bytes};
+ghost use Rattle.std.specs.List.{flat_map};
+ghost use Rattle.std.specs.Str.{bytes_eq};
+ghost use Rattle.rv_remote.specs.declared.request.Refusal.TheVariants as refusal;
+ghost use Rattle.rv_session.specs.Answers.{counted, file_part, file_reply, stat_words};
+ghost use Rattle.rv_session.specs.Replies.{refused, saying};
+
 use crate::reply::Reply;
 use crate::session::Session;
 use rv_remote::{Part, Refusal};
@@ -16,7 +24,10 @@ const READABLE_FILE: u32 = 0x8124;
 
 impl Session {
     // `vFile:open:`
-    pub(crate) fn open_file(&self, alloc: Global, path: &[u8]) -> Result<Reply, AllocError> {
+    pub(crate) fn open_file(&self, alloc: Global, path: &[u8]) -> Result<Reply, AllocError>
+        ensures { IfOk result (λ reply. reply
+            ≡ (if bytes_eq self.now.program.path path.now then saying (codes "F5") else refused refusal.OtherFile)) }
+    {
         if self.program.path.as_slice() == path {
             Reply::telling(alloc, "F5")
         } else {
@@ -25,7 +36,10 @@ impl Session {
     }
 
     // `vFile:fstat:5`: words of four bytes, the high one first; the size stands at 28 to 35, and all but it and the mode is 0.
-    pub(crate) fn file_size(&self, alloc: Global) -> Result<Reply, AllocError> {
+    pub(crate) fn file_size(&self, alloc: Global) -> Result<Reply, AllocError>
+        ensures { IfOk result (λ reply. reply
+            ≡ saying (counted 64 ++ flat_map (to_be_bytes w32) (stat_words (length self.now.program.image)))) }
+    {
         let size = self.program.image.as_slice().len() as u32;
         let mut body = Vec::new(alloc);
         push_count(&mut body, STAT_BYTES)?;
@@ -41,7 +55,9 @@ impl Session {
     }
 
     // `vFile:pread:5,`
-    pub(crate) fn read_file(&self, alloc: Global, part: Part) -> Result<Reply, AllocError> {
+    pub(crate) fn read_file(&self, alloc: Global, part: Part) -> Result<Reply, AllocError>
+        ensures { IfOk result (λ reply. reply ≡ file_reply (file_part self.now.program.image part)) }
+    {
         let image = self.program.image.as_slice();
         let rest = &image[image.len().min(part.offset as usize)..];
         let count = rest.len().min(part.count as usize).min(MOST_PART);
@@ -53,7 +69,9 @@ impl Session {
 }
 
 // `F`, a count and `;`
-fn push_count(body: &mut Vec<u8>, count: u32) -> Result<(), AllocError> {
+fn push_count(body: &mut Vec<u8>, count: u32) -> Result<(), AllocError>
+    ensures { OnOk result (body.new.items ≡ body.old.items ++ counted count) }
+{
     let mut digits = [0u8; 8];
     hex::encode_to_slice(count.to_be_bytes().as_slice(), &mut digits).unwrap();
     body.push(b'F')?;

@@ -1,5 +1,10 @@
 //! What is heard from gdb, and the packets that go out.
 
+ghost use Rattle.std.specs.Prelude.{◌≡◌, ◌++◌, IfOk, OnOk};
+ghost use Rattle.rv_session.specs.Heard.{IsFed, IsHeardOut, IsTakenOut, acknowledgement, packets_of, sent_again, with_sent};
+ghost use Rattle.rv_session.specs.Replies.{refused};
+ghost use Rattle.rv_remote.specs.declared.request.Refusal.TheVariants as refusal;
+
 use crate::reply::Reply;
 use crate::session::Session;
 use rv_base::Bytes;
@@ -12,7 +17,9 @@ const MOST_PRINTED: usize = 8184;
 impl Session {
     /// Hears bytes of gdb, in any cuts, and gives the bytes that go out. A move runs to its end within the call. After an error the
     /// session is to be given up.
-    pub fn feed(&mut self, alloc: Global, bytes: &[u8]) -> Result<Vec<u8>, AllocError> {
+    pub fn feed(&mut self, alloc: Global, bytes: &[u8]) -> Result<Vec<u8>, AllocError>
+        ensures { IfOk result (λ out. IsFed self.old bytes.now out.items self.new) }
+    {
         let mut out = Vec::new(alloc);
         for byte in bytes {
             if let Some(heard) = self.reader.take(alloc, *byte)? {
@@ -28,7 +35,9 @@ impl Session {
         alloc: Global,
         out: &mut Vec<u8>,
         heard: &Heard,
-    ) -> Result<(), AllocError> {
+    ) -> Result<(), AllocError>
+        ensures { OnOk result (IsHeardOut self.old heard.now out.old.items out.new.items self.new) }
+    {
         if self.is_over {
             return Ok(());
         }
@@ -41,14 +50,20 @@ impl Session {
     }
 
     // Sends the last packet again.
-    fn send_again(&self, out: &mut Vec<u8>) -> Result<(), AllocError> {
+    fn send_again(&self, out: &mut Vec<u8>) -> Result<(), AllocError>
+        ensures { OnOk result (out.new.items ≡ out.old.items ++ sent_again self.now) }
+    {
         if self.acknowledges {
             out.extend_from_slice(self.sent.as_slice())?;
         }
         Ok(())
     }
 
-    fn refuse_long(&mut self, alloc: Global, out: &mut Vec<u8>) -> Result<(), AllocError> {
+    fn refuse_long(&mut self, alloc: Global, out: &mut Vec<u8>) -> Result<(), AllocError>
+        ensures out { OnOk result (out.new.items
+            ≡ out.old.items ++ (acknowledgement self.old ++ packets_of (refused refusal.TooLong))) }
+        ensures next { OnOk result (self.new ≡ with_sent self.old (refused refusal.TooLong)) }
+    {
         self.acknowledge(out)?;
         let reply = Reply::refusing(alloc, Refusal::TooLong)?;
         self.send(alloc, out, &reply)
@@ -61,7 +76,9 @@ impl Session {
         out: &mut Vec<u8>,
         body: &[u8],
         sum: Sum,
-    ) -> Result<(), AllocError> {
+    ) -> Result<(), AllocError>
+        ensures { OnOk result (IsTakenOut self.old body.now sum out.old.items out.new.items self.new) }
+    {
         if self.acknowledges && sum == Sum::Wrong {
             return out.push(b'-');
         }
@@ -71,7 +88,9 @@ impl Session {
         self.send(alloc, out, &reply)
     }
 
-    fn acknowledge(&self, out: &mut Vec<u8>) -> Result<(), AllocError> {
+    fn acknowledge(&self, out: &mut Vec<u8>) -> Result<(), AllocError>
+        ensures { OnOk result (out.new.items ≡ out.old.items ++ acknowledgement self.now) }
+    {
         if self.acknowledges {
             out.push(b'+')?;
         }
@@ -84,7 +103,10 @@ impl Session {
         alloc: Global,
         out: &mut Vec<u8>,
         reply: &Reply,
-    ) -> Result<(), AllocError> {
+    ) -> Result<(), AllocError>
+        ensures out { OnOk result (out.new.items ≡ out.old.items ++ packets_of reply.now) }
+        ensures next { OnOk result (self.new ≡ with_sent self.old reply.now) }
+    {
         for part in reply.printed.as_slice().chunks(MOST_PRINTED) {
             let mut body = Vec::new(alloc);
             push_printed(alloc, &mut body, part)?;

@@ -1,5 +1,9 @@
 //! The commands behind `monitor`: their texts go out as printed bytes in front of an `OK`.
 
+ghost use Rattle.std.specs.Prelude.{◌≡◌, IfOk, codes};
+ghost use Rattle.rv_session.specs.Answers.{IsCommanded, IsPrinting};
+ghost use Rattle.rv_session.specs.Replies.{printing};
+
 use crate::reply::Reply;
 use crate::session::Session;
 use rv_base::Bytes;
@@ -15,7 +19,9 @@ reset, reset halt: to the start of the run
 
 impl Session {
     // `qRcmd,`
-    pub(crate) fn command(&mut self, alloc: Global, text: &[u8]) -> Result<Reply, AllocError> {
+    pub(crate) fn command(&mut self, alloc: Global, text: &[u8]) -> Result<Reply, AllocError>
+        ensures { IfOk result (λ reply. IsCommanded self.old text.now reply self.new) }
+    {
         if text == b"when" {
             self.tell_when(alloc)
         } else if text == b"console" {
@@ -31,12 +37,16 @@ impl Session {
         }
     }
 
-    fn tell_when(&self, alloc: Global) -> Result<Reply, AllocError> {
+    fn tell_when(&self, alloc: Global) -> Result<Reply, AllocError>
+        ensures { IfOk result (λ reply. IsPrinting reply) }
+    {
         let text = format!(in alloc; "{} steps are done\n", self.history.place())?;
         printing(alloc, Vec::from_slice(alloc, text.as_bytes())?)
     }
 
-    fn tell_input(&self, alloc: Global) -> Result<Reply, AllocError> {
+    fn tell_input(&self, alloc: Global) -> Result<Reply, AllocError>
+        ensures { IfOk result (λ reply. IsPrinting reply) }
+    {
         let taken = self.value(Register::Taken);
         let text = format!(in alloc; "{taken} of {} bytes are taken\n", self.script)?;
         printing(alloc, Vec::from_slice(alloc, text.as_bytes())?)
@@ -44,7 +54,9 @@ impl Session {
 }
 
 // A text to be shown, and `OK` behind it.
-fn printing(alloc: Global, text: Vec<u8>) -> Result<Reply, AllocError> {
+fn printing(alloc: Global, text: Vec<u8>) -> Result<Reply, AllocError>
+    ensures { IfOk result (λ reply. reply ≡ printing text.items (codes "OK")) }
+{
     let granted = Vec::from_slice(alloc, b"OK")?;
     Ok(Reply {
         printed: Bytes::new(text),

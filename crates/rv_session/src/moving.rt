@@ -1,5 +1,9 @@
 //! Moves in the run, and the stops that are told of them.
 
+ghost use Rattle.std.specs.Prelude.{◌≡◌, ◌×◌, IfOk};
+ghost use Rattle.rv_session.specs.Moved.{IsGone, IsMoved, IsStepWithin, end_stop, is_forward, is_left, printed_on, shown_on, stop_of, watch_stop};
+ghost use Rattle.rv_session.specs.Sessions.{at_place, here};
+
 use crate::reply::Reply;
 use crate::session::Session;
 use rv_base::Bytes;
@@ -10,7 +14,9 @@ use std::alloc::{AllocError, Global};
 
 impl Session {
     // `vCont;`, `c`, `s`, `bc`, `bs`: moves, and tells the stop.
-    pub(crate) fn move_as(&mut self, alloc: Global, asked: Move) -> Result<Reply, AllocError> {
+    pub(crate) fn move_as(&mut self, alloc: Global, asked: Move) -> Result<Reply, AllocError>
+        ensures { IfOk result (λ reply. IsMoved self.old asked reply self.new) }
+    {
         let found = self.go(alloc, asked)?;
         let stop = self.stop_of(alloc, asked, found)?;
         let mut body = Vec::new(alloc);
@@ -23,7 +29,11 @@ impl Session {
         })
     }
 
-    fn go(&mut self, alloc: Global, asked: Move) -> Result<Found, AllocError> {
+    fn go(&mut self, alloc: Global, asked: Move) -> Result<Found, AllocError>
+        ensures gone { IfOk result (IsGone asked self.old.stops self.old.history.budget self.old.history.start
+            self.old.history.place self.new.history.place) }
+        ensures same { self.new ≡ at_place self.old self.new.history.place }
+    {
         match asked {
             Move::Continue => self.history.go_on(alloc, &self.stops),
             Move::Step => self.history.step(alloc, &self.stops),
@@ -34,7 +44,11 @@ impl Session {
     }
 
     // Steps until the pc is outside the addresses from `low` on and below `high`, or anything else stops it.
-    fn step_within(&mut self, alloc: Global, low: u32, high: u32) -> Result<Found, AllocError> {
+    fn step_within(&mut self, alloc: Global, low: u32, high: u32) -> Result<Found, AllocError>
+        ensures gone { IfOk result (IsStepWithin self.old.stops self.old.history.budget self.old.history.start low high
+            self.old.history.place self.new.history.place) }
+        ensures same { self.new ≡ at_place self.old self.new.history.place }
+    {
         for _ in 0..u32::MAX {
             let found = self.history.step(alloc, &self.stops)?;
             if !matches!(found, Found::Done) || self.is_left(low, high) {
@@ -45,12 +59,16 @@ impl Session {
     }
 
     // Whether the pc is a breakpoint, or outside a range.
-    fn is_left(&self, low: u32, high: u32) -> bool {
+    fn is_left(&self, low: u32, high: u32) -> bool
+        ensures { result ≡ is_left self.now.stops low high (here self.now) }
+    {
         let pc = self.history.machine().pc();
         pc < low || high <= pc || self.stops.breaks.as_slice().contains(&pc)
     }
 
-    fn stop_of(&self, alloc: Global, asked: Move, found: Found) -> Result<Stop, AllocError> {
+    fn stop_of(&self, alloc: Global, asked: Move, found: Found) -> Result<Stop, AllocError>
+        ensures { IfOk result (λ stop. stop ≡ stop_of self.now asked self.now.history.place found) }
+    {
         match found {
             Found::Done | Found::Break => Ok(Stop::Here),
             Found::Begin => Ok(Stop::Beginning),
@@ -60,7 +78,9 @@ impl Session {
     }
 
     // The first watch that is changed: by the step in front, or on the way back by the step behind.
-    fn watch_stop(&self, alloc: Global, asked: Move) -> Result<Stop, AllocError> {
+    fn watch_stop(&self, alloc: Global, asked: Move) -> Result<Stop, AllocError>
+        ensures { IfOk result (λ stop. stop ≡ watch_stop self.now asked self.now.history.place) }
+    {
         let here = self.history.place();
         let other = if is_forward(asked) {
             here.saturating_add(1)
@@ -74,7 +94,10 @@ impl Session {
     }
 
     // The printed bytes that did not go out yet, once a move forward comes to them.
-    fn show(&mut self, alloc: Global, asked: Move) -> Result<Vec<u8>, AllocError> {
+    fn show(&mut self, alloc: Global, asked: Move) -> Result<Vec<u8>, AllocError>
+        ensures printed { IfOk result (λ printed. printed.items ≡ printed_on self.old asked (here self.old)) }
+        ensures shown { IfOk result (λ printed. self.new ≡ record self.old { shown = shown_on self.old asked (here self.old) }) }
+    {
         if !is_forward(asked) {
             return Ok(Vec::new(alloc));
         }
@@ -85,14 +108,18 @@ impl Session {
     }
 }
 
-fn is_forward(asked: Move) -> bool {
+fn is_forward(asked: Move) -> bool
+    ensures { result ≡ is_forward asked }
+{
     match asked {
         Move::Continue | Move::Step | Move::StepWithin(..) => true,
         Move::ContinueBack | Move::StepBack => false,
     }
 }
 
-fn end_stop(ending: Ending) -> Stop {
+fn end_stop(ending: Ending) -> Stop
+    ensures { result ≡ end_stop ending }
+{
     match ending {
         Ending::Exit(_) => Stop::Exit,
         Ending::Budget => Stop::Budget,

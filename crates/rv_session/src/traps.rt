@@ -1,5 +1,8 @@
 //! Where a run is to stop, as gdb sets and clears it.
 
+ghost use Rattle.std.specs.Prelude.{◌≡◌, ◌≤◌, ◌+◌, ◌^◌, IfOk};
+ghost use Rattle.rv_session.specs.Traps.{IsTrapped, has_byte, is_full, is_on, without_trap};
+
 use rv_base::Sequence;
 use rv_history::{Stops, Watch};
 use rv_memory::Bus;
@@ -15,7 +18,9 @@ pub(crate) fn with_trap(
     stops: &Stops,
     bus: &Bus,
     trap: Trap,
-) -> Result<Result<Stops, Refusal>, AllocError> {
+) -> Result<Result<Stops, Refusal>, AllocError>
+    ensures { IfOk result (IsTrapped stops.now bus.now trap) }
+{
     match trap {
         Trap::Break(address) => with_break(alloc, stops, address),
         Trap::Watch(range) => with_watch(alloc, stops, bus, range),
@@ -23,14 +28,18 @@ pub(crate) fn with_trap(
 }
 
 /// The stops without one, which need not stand there.
-pub(crate) fn without_trap(alloc: Global, stops: &Stops, trap: Trap) -> Result<Stops, AllocError> {
+pub(crate) fn without_trap(alloc: Global, stops: &Stops, trap: Trap) -> Result<Stops, AllocError>
+    ensures { IfOk result (λ next. next ≡ without_trap stops.now trap) }
+{
     match trap {
         Trap::Break(address) => without_break(alloc, stops, address),
         Trap::Watch(range) => without_watch(alloc, stops, range),
     }
 }
 
-fn is_full(stops: &Stops) -> bool {
+fn is_full(stops: &Stops) -> bool
+    ensures { result ≡ is_full stops.now }
+{
     let breaks = stops.breaks.as_slice().len();
     let watches = stops.watches.as_slice().len();
     breaks >= MOST_TRAPS || watches >= MOST_TRAPS - breaks
@@ -99,16 +108,23 @@ fn without_watch(alloc: Global, stops: &Stops, range: Range) -> Result<Stops, Al
 }
 
 // Whether a watch is that of a range.
-fn is_on(watch: &Watch, range: Range) -> bool {
+fn is_on(watch: &Watch, range: Range) -> bool
+    ensures { result ≡ is_on range watch.now }
+{
     watch.address == range.address && watch.count == range.count
 }
 
 // Whether one of the bytes stands in a region.
-fn has_byte(bus: &Bus, range: Range) -> bool {
-    (0..range.count).any(|offset| bus.byte(range.address.wrapping_add(offset)).is_some())
+fn has_byte(bus: &Bus, range: Range) -> bool
+    requires { range.address + range.count ≤ 2 ^ 32 }
+    ensures { result ≡ has_byte bus.now range }
+{
+    (0..range.count).any(|offset| bus.byte(range.address + offset).is_some())
 }
 
-fn stops_of(breaks: Vec<u32>, watches: Vec<Watch>) -> Stops {
+fn stops_of(breaks: Vec<u32>, watches: Vec<Watch>) -> Stops
+    ensures { result ≡ record { breaks = breaks.items; watches = watches.items } }
+{
     Stops {
         breaks: Sequence::new(breaks),
         watches: Sequence::new(watches),
