@@ -76,5 +76,6 @@ fn push_count(body: &mut Vec<u8>, count: u32) -> Result<(), AllocError>
     hex::encode_to_slice(count.to_be_bytes().as_slice(), &mut digits).unwrap();
     body.push(b'F')?;
     body.extend_from_slice(&digits)?;
-    body.push(b';')
+    body.push(b';')?;
+    Ok(())
 }

@@ -3,6 +3,7 @@
 ghost use Rattle.std.specs.Prelude.{◌≡◌, ◌++◌, IfOk, OnOk};
 ghost use Rattle.rv_session.specs.Heard.{IsFed, IsHeardOut, IsTakenOut, acknowledgement, packets_of, sent_again, with_sent};
 ghost use Rattle.rv_session.specs.Replies.{refused};
+ghost use Rattle.rv_session.specs.Sessions.{IsSameRun};
 ghost use Rattle.rv_remote.specs.declared.request.Refusal.TheVariants as refusal;
 
 use crate::reply::Reply;
@@ -18,7 +19,8 @@ impl Session {
     /// Hears bytes of gdb, in any cuts, and gives the bytes that go out. A move runs to its end within the call. After an error the
     /// session is to be given up.
     pub fn feed(&mut self, alloc: Global, bytes: &[u8]) -> Result<Vec<u8>, AllocError>
-        ensures { IfOk result (λ out. IsFed self.old bytes.now out.items self.new) }
+        ensures fed { IfOk result (λ out. IsFed self.old bytes.now out.items self.new) }
+        ensures run { IsSameRun self.old self.new }
     {
         let mut out = Vec::new(alloc);
         for byte in bytes {
@@ -80,7 +82,8 @@ impl Session {
         ensures { OnOk result (IsTakenOut self.old body.now sum out.old.items out.new.items self.new) }
     {
         if self.acknowledges && sum == Sum::Wrong {
-            return out.push(b'-');
+            out.push(b'-')?;
+            return Ok(());
         }
         self.acknowledge(out)?;
         let request = parse_request(alloc, body)?;

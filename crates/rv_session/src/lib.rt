@@ -7,6 +7,7 @@
 mod answer;
 mod files;
 mod hearing;
+mod law;
 mod monitor;
 mod moving;
 mod program;
@@ -17,6 +18,7 @@ mod session;
 mod traps;
 mod writing;
 
+pub use law::{answers_are_determined, cuts_are_not_seen};
 pub use program::Program;
 pub use reply::Reply;
 pub use session::Session;

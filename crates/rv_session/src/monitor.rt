@@ -1,6 +1,7 @@
 //! The commands behind `monitor`: their texts go out as printed bytes in front of an `OK`.
 
 ghost use Rattle.std.specs.Prelude.{◌≡◌, IfOk, codes};
+ghost use Rattle.std.specs.Str.{bytes_eq};
 ghost use Rattle.rv_session.specs.Answers.{IsCommanded, IsPrinting};
 ghost use Rattle.rv_session.specs.Replies.{printing};
 
@@ -22,14 +23,14 @@ impl Session {
     pub(crate) fn command(&mut self, alloc: Global, text: &[u8]) -> Result<Reply, AllocError>
         ensures { IfOk result (λ reply. IsCommanded self.old text.now reply self.new) }
     {
-        if text == b"when" {
+        if is(text, b"when") {
             self.tell_when(alloc)
-        } else if text == b"console" {
+        } else if is(text, b"console") {
             let console = self.history.machine().bus().console();
             printing(alloc, Vec::from_slice(alloc, console)?)
-        } else if text == b"input" {
+        } else if is(text, b"input") {
             self.tell_input(alloc)
-        } else if text == b"reset" || text == b"reset halt" {
+        } else if is(text, b"reset") || is(text, b"reset halt") {
             let _ = self.history.seek(alloc, 0)?;
             Reply::granted(alloc)
         } else {
@@ -51,6 +52,12 @@ impl Session {
         let text = format!(in alloc; "{taken} of {} bytes are taken\n", self.script)?;
         printing(alloc, Vec::from_slice(alloc, text.as_bytes())?)
     }
+}
+
+fn is(text: &[u8], name: &[u8]) -> bool
+    ensures { result ≡ bytes_eq text.now name.now }
+{
+    text == name
 }
 
 // A text to be shown, and `OK` behind it.

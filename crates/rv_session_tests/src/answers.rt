@@ -56,7 +56,7 @@ fn session_of(alloc: Global, budget: u32) -> Result<Session, Fail> {
     };
     let mut session = Session::new(alloc, start, budget, program)?;
     let sent = session.feed(alloc, b"+$QStartNoAckMode#b0")?;
-    if sent.as_slice() != b"+$OK#9a" {
+    if sent.as_slice() != "+$OK#9a".as_bytes() {
         return Err("no acknowledgements".into());
     }
     Ok(session)
