@@ -1,6 +1,6 @@
 //! Moves in the run, and the stops that are told of them.
 
-ghost use Rattle.std.specs.Prelude.{◌≡◌, ◌×◌, IfOk};
+ghost use Rattle.std.specs.Prelude.{◌≡◌, ◌<◌, IfOk, IsTrue};
 ghost use Rattle.rv_session.specs.Moved.{IsGone, IsMoved, IsStepWithin, end_stop, is_forward, is_left, printed_on, shown_on, stop_of, watch_stop};
 ghost use Rattle.rv_session.specs.Sessions.{at_place, here};
 
@@ -49,7 +49,7 @@ impl Session {
             self.old.history.place self.new.history.place) }
         ensures same { self.new ≡ at_place self.old self.new.history.place }
     {
-        for _ in 0..u32::MAX {
+        for _ in 0..0x1_0000_0000u64 {
             let found = self.history.step(alloc, &self.stops)?;
             if !matches!(found, Found::Done) || self.is_left(low, high) {
                 return Ok(found);
@@ -67,6 +67,7 @@ impl Session {
     }
 
     fn stop_of(&self, alloc: Global, asked: Move, found: Found) -> Result<Stop, AllocError>
+        requires { found ≡ Found.Change → IsTrue (is_forward asked) → self.now.history.place < 0xFFFF_FFFF }
         ensures { IfOk result (λ stop. stop ≡ stop_of self.now asked self.now.history.place found) }
     {
         match found {
@@ -79,11 +80,12 @@ impl Session {
 
     // The first watch that is changed: by the step in front, or on the way back by the step behind.
     fn watch_stop(&self, alloc: Global, asked: Move) -> Result<Stop, AllocError>
+        requires { IsTrue (is_forward asked) → self.now.history.place < 0xFFFF_FFFF }
         ensures { IfOk result (λ stop. stop ≡ watch_stop self.now asked self.now.history.place) }
     {
         let here = self.history.place();
         let other = if is_forward(asked) {
-            here.saturating_add(1)
+            here + 1
         } else {
             here.saturating_sub(1)
         };
