@@ -4,3 +4,4 @@ mod Forward
 mod Backward
 mod Arriving
 mod Counting
+mod Differing

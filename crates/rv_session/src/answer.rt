@@ -1,10 +1,10 @@
 //! What a session answers to each request.
 
 ghost use Rattle.std.specs.Prelude.{◌≡◌, ◌×◌, [], IfOk, None, Some, false, true};
-ghost use Rattle.rv_remote.specs.Replies.{part_text};
+ghost use Rattle.rv_remote.specs.Replies.{fixed_reply, part_text};
 ghost use Rattle.rv_remote.specs.Stops.{stop_text};
 ghost use Rattle.rv_remote.specs.declared.stop.Stop.TheVariants as stop;
-ghost use Rattle.rv_session.specs.Answers.{IsAnswered, IsTrapAsked, shown_reply};
+ghost use Rattle.rv_session.specs.Answers.{IsAnswered, IsTrapAsked, fixed_shown, shown_reply};
 ghost use Rattle.rv_session.specs.Replies.{granted, saying};
 ghost use Rattle.rv_session.specs.Sessions.{at_place};
 ghost use Rattle.rv_session.specs.Traps.{without_trap};
@@ -27,16 +27,8 @@ impl Session {
         ensures { IfOk result (λ reply. IsAnswered self.old request.now reply self.new) }
     {
         match request {
-            Request::LastStop => self.last_stop(alloc),
-            Request::Registers => self.registers(alloc),
-            Request::Register(register) => self.register(alloc, *register),
-            Request::ReadMemory(range) => self.memory(alloc, *range),
-            Request::WriteRegisters(bytes) => self.write_registers(alloc, bytes.as_slice()),
             Request::WriteRegister(register, value) => {
                 self.write_register(alloc, *register, *value)
-            }
-            Request::WriteMemory(address, bytes) => {
-                self.write_memory(alloc, *address, bytes.as_slice())
             }
             Request::Set(trap) => self.set(alloc, *trap),
             Request::Clear(trap) => self.clear(alloc, *trap),
@@ -46,15 +38,23 @@ impl Session {
             Request::NoAcknowledgements => self.end_acknowledgements(alloc),
             Request::Detach => self.detach(alloc),
             Request::Kill => Ok(self.end(alloc)),
-            _ => self.other(alloc, request),
+            _ => self.look(alloc, request),
         }
     }
 
-    // What changes nothing of the session, and does not look at the machine.
-    fn other(&self, alloc: Global, request: &Request) -> Result<Reply, AllocError>
+    // The answer to what changes nothing of the session.
+    fn look(&self, alloc: Global, request: &Request) -> Result<Reply, AllocError>
         ensures { IfOk result (λ reply. (shown : Reply) → shown_reply self.now request.now ≡ Some shown → reply ≡ shown) }
     {
         match request {
+            Request::LastStop => self.last_stop(alloc),
+            Request::Registers => self.registers(alloc),
+            Request::Register(register) => self.register(alloc, *register),
+            Request::ReadMemory(range) => self.memory(alloc, *range),
+            Request::WriteRegisters(bytes) => self.write_registers(alloc, bytes.as_slice()),
+            Request::WriteMemory(address, bytes) => {
+                self.write_memory(alloc, *address, bytes.as_slice())
+            }
             Request::Description(part) => part_of(alloc, TARGET.as_bytes(), *part),
             Request::ImagePath(part) => part_of(alloc, self.program.path.as_slice(), *part),
             Request::OpenFile(path) => self.open_file(alloc, path.as_slice()),
@@ -139,7 +139,9 @@ impl Session {
 }
 
 // The reply that is the same in every session.
-fn fixed(alloc: Global, request: &Request) -> Result<Reply, AllocError> {
+fn fixed(alloc: Global, request: &Request) -> Result<Reply, AllocError>
+    ensures { IfOk result (λ reply. (shown : Reply) → fixed_shown (fixed_reply request.now) ≡ Some shown → reply ≡ shown) }
+{
     match fixed_reply(request) {
         Some(text) => Reply::telling(alloc, text),
         None => Reply::refusing(alloc, Refusal::Unknown),
