@@ -45,6 +45,7 @@ impl Stops {
     }
 
     /// The address of the first watch whose bytes differ between two buses.
+    #[tactic(auto, using(crate::proofs::Differing::differing_at), unfolding(crate::specs::Stops::first_differing))]
     pub(crate) fn differing_watch(
         &self,
         alloc: Global,

@@ -1,5 +1,5 @@
 -- What a session answers to each request, and how it stands behind it.
-use Rattle.std.specs.Prelude.{ℕ, List, [], ◌∷◌, ◌++◌, ◌≡◌, ◌⊎◌, ◌-◌, ◌==◌, ◌||◌, ⊥, Bool, true, false, Option, Some, None, Result, Ok, Err, codes, if◌then◌else◌, drop, length, min, nat_le, nat_lt, take}
+use Rattle.std.specs.Prelude.{ℕ, List, [], ◌∷◌, ◌++◌, ◌≡◌, ◌-◌, ◌==◌, ◌||◌, Bool, true, false, Option, Some, None, Result, Ok, Err, codes, if◌then◌else◌, drop, length, min, nat_le, nat_lt, take}
 use Rattle.std.specs.Int.{w32, to_be_bytes}
 use Rattle.std.specs.List.{flat_map}
 use Rattle.std.specs.Str.{bytes_eq}
@@ -92,13 +92,19 @@ shown_reply session request = fixed_shown (fixed_reply request)
 
 -- ---- what changes the session
 
--- a register of the hart is granted its own value alone; a count of the run is a seek to the first place with it
-abbrev pub IsSought : Session → Count → ℕ → Reply → Session → Type 0
-IsSought session count value reply next =
-    ((reply ≡ granted) × (IsFirstWith count value session.history.budget session.history.start next.history.place)
-        × (next ≡ at_place session next.history.place))
-    ⊎ ((reply ≡ refused refusal.NotReached)
-        × (IsFound count value session.history.budget session.history.start None) × (next ≡ session))
+-- the first place with a count, or no place has it
+abbrev pub IsSoughtAs : Bool → Session → Count → ℕ → Session → Type 0
+IsSoughtAs true session count value next =
+    IsFirstWith count value session.history.budget session.history.start next.history.place
+IsSoughtAs false session count value next =
+    IsFound count value session.history.budget session.history.start None × (next ≡ session)
+
+-- a seek of a count: granted where the run comes to it
+pub record IsSought (session : Session) (count : Count) (value : ℕ) (reply : Reply) (next : Session) : Type 0 where
+  pub is_granted : Bool
+  pub reply_is : reply ≡ granted_if is_granted refusal.NotReached
+  pub sought : IsSoughtAs is_granted session count value next
+  pub run : next ≡ at_place session next.history.place
 
 -- the places that the run comes to are granted
 abbrev pub IsPlaceSought : Session → ℕ → Reply → Session → Type 0
@@ -106,6 +112,7 @@ IsPlaceSought session place reply next =
     (reply ≡ granted_if (nat_le place (last_place session.history.budget session.history.start)) refusal.NotReached)
     × (next ≡ (if nat_le place (last_place session.history.budget session.history.start) then at_place session place else session))
 
+-- a register of the hart is granted its own value alone; a count of the run is a seek
 abbrev pub IsWritten : Session → Register → ℕ → Reply → Session → Type 0
 IsWritten session (reg.Hart number) value reply next =
     (reply ≡ granted_if (value_of session (reg.Hart number) == value) refusal.WouldChange) × (next ≡ session)

@@ -82,10 +82,13 @@ IsResponse session (heard.Packet body sum) out next =
     IsJudged session (session.acknowledges && is_wrong sum) body out next
 
 -- what is heard once the session is over is not answered
+abbrev pub IsResponseUnless : Bool → Session → Heard → List ℕ → Session → Type 0
+IsResponseUnless true session heard out next = (out ≡ []) × (next ≡ session)
+IsResponseUnless false session heard out next = IsResponse session heard out next
+
 abbrev pub IsRespondedTo : Session → Option Heard → List ℕ → Session → Type 0
 IsRespondedTo session None out next = (out ≡ []) × (next ≡ session)
-IsRespondedTo session (Some heard) out next =
-    if session.is_over then (out ≡ []) × (next ≡ session) else IsResponse session heard out next
+IsRespondedTo session (Some heard) out next = IsResponseUnless session.is_over session heard out next
 
 -- the same, behind what goes out already
 pub record IsHeardOut (session : Session) (heard : Heard) (old new : List ℕ) (next : Session) : Type 0 where

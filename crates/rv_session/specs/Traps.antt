@@ -1,5 +1,5 @@
 -- Where a run is to stop, as gdb sets and clears it: breakpoints are a set by address, watches a set by address and length.
-use Rattle.std.specs.Prelude.{ℕ, List, [], ◌∷◌, ◌++◌, ◌≡◌, ◌+◌, ◌==◌, ◌&&◌, Bool, true, Option, Some, None, Result, Ok, Err, if◌then◌else◌, is_some, length, nat_le, not}
+use Rattle.std.specs.Prelude.{ℕ, List, [], ◌∷◌, ◌++◌, ◌≡◌, ◌+◌, ◌==◌, ◌&&◌, Bool, true, false, Option, Some, None, Result, Ok, Err, if◌then◌else◌, is_some, length, nat_le, not}
 use Rattle.std.specs.FinMap as fin
 use Rattle.std.specs.List.{filter, list_any, range_with_len}
 use Rattle.rv_history.specs.declared.stops.Stops.{Stops}
@@ -59,8 +59,13 @@ abbrev pub IsAdded : Stops → Trap → Stops → Type 0
 IsAdded stops (trap.Break address) next = (next.breaks ≡ stops.breaks ++ address ∷ []) × (next.watches ≡ stops.watches)
 IsAdded stops (trap.Watch range) next = (next.breaks ≡ stops.breaks) × IsWatchAdded stops.watches range next.watches
 
--- the stops with a trap, which may be set already, or why it is not set
+-- a trap that is set already adds nothing
+abbrev pub IsAddedUnless : Bool → Stops → Trap → Stops → Type 0
+IsAddedUnless true stops place next = next ≡ stops
+IsAddedUnless false stops place next = IsAdded stops place next
+
+-- the stops with a trap, or why it is not set
 abbrev pub IsTrapped : Stops → Contents → Trap → Result Stops Refusal → Type 0
 IsTrapped stops bus place (Ok next) = (trap_refusal stops bus place ≡ None)
-    × (if is_set stops place then next ≡ stops else IsAdded stops place next)
+    × IsAddedUnless (is_set stops place) stops place next
 IsTrapped stops bus place (Err refusal) = trap_refusal stops bus place ≡ Some refusal

@@ -2,7 +2,7 @@
 use rv_base::Bytes;
 use rv_history::Start;
 use rv_isa::Isa;
-use rv_memory::{Bus, Map, Misaligned};
+use rv_memory::{Bus, Map, Misaligned, Region};
 use rv_remote::push_frame;
 use rv_session::{Program, Session};
 use samples::{agree, cell_of, has_lines, numbers};
@@ -20,7 +20,7 @@ threads | 100 | qC > QC1; qfThreadInfo > m1; qsThreadInfo > l; Hg1 > OK; qAttach
 not known | 100 | qHostInfo > ; vMustReplyEmpty > ; Z9,0,4 > ; qC > QC1
 the first stop | 100 | ? > T05
 registers | 100 | p20 > 00000080; p21 > 00000000; p0 > 00000000; s > T05; p20 > 04000080; p5 > 00000080; p21 > 01000000; p24 > E01
-memory | 100 | m80000000,4 > 97020000; m800ffffe,8 > 0000; m0,4 > E01; m10000000,4 > E01; m80000000,0 > E01; mffffffff,9 > E01; m > E01
+memory | 100 | m80000000,4 > 97020000; m80000ffe,8 > 0000; m0,4 > E01; m10000000,4 > E01; m80000000,0 > E01; mffffffff,9 > E01; m > E01
 breakpoints forward | 100 | Z0,8000000c,4 > OK; c > T05; p21 > 03000000; c > T05; p21 > 06000000; z0,8000000c,4 > OK; c > T05replaylog:end;; p21 > 0d000000; s > T05replaylog:end;
 breakpoints backward | 100 | c > T05replaylog:end;; Z1,8000000c,4 > OK; bc > T05; p21 > 09000000; bs > T05; p21 > 08000000; z1,8000000c,4 > OK; bc > T05replaylog:begin;; bs > T05replaylog:begin;; ? > T05replaylog:begin;
 a watch forward | 100 | Z2,80000100,4 > OK; c > T05watch:80000100;; p21 > 03000000; s > T05watch:80000100;; z2,80000100,4 > OK; s > T05; Z2,80000100,4 > OK; c > T05watch:80000100;; p21 > 06000000
@@ -39,7 +39,13 @@ the end | 100 | D > OK; g > nothing; ? > nothing
 ";
 
 fn session_of(alloc: Global, budget: u32) -> Result<Session, Fail> {
-    let mut bus = Bus::new(alloc, Map::default_map(), Vec::new(alloc), Misaligned::Fault)?;
+    let memory = Region {
+        base: 0x8000_0000,
+        size: 0x1000,
+        writable: true,
+    };
+    let map = Map::of(&[memory]).map_err(|_| "a map")?;
+    let mut bus = Bus::new(alloc, map, Vec::new(alloc), Misaligned::Fault)?;
     let code = numbers(alloc, CODE)?;
     if code.len() > 0x100 || !bus.map().in_one(0x8000_0000, code.len() as u32) {
         return Err("a place".into());
