@@ -10,4 +10,4 @@ fed_both session between next front rest out more first (byte_more same middle l
     let begun : IsFed session (front ++ bytes) (out ++ sent) middle =
     fed_both session between middle front bytes out sent first fed in
     rw (← append_assoc front bytes (byte ∷ []), ← append_assoc out sent told)
-        (byte_more session middle next (front ++ bytes) (out ++ sent) told byte begun one)
+    (byte_more session middle next (front ++ bytes) (out ++ sent) told byte begun one)

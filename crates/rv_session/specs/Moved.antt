@@ -93,4 +93,5 @@ pub record IsMoved (session : Session) (asked : Move) (reply : Reply) (next : Se
   pub next_is : next ≡ record session {
     history = record session.history { place = place };
     shown = shown_on session asked (state_at session place);
-    last = stop_of session asked place found }
+    last = stop_of session asked place found;
+  }

@@ -23,7 +23,8 @@ at_first start budget program = record {
   shown = 0;
   last = stop.Here;
   sent = [];
-  is_over = false }
+  is_over = false;
+}
 
 -- the state at a place of the session's run
 abbrev pub state_at : Session → ℕ → State

@@ -19,11 +19,7 @@ use std::alloc::{AllocError, Global};
 
 impl Session {
     /// Answers a request.
-    pub(crate) fn answer(
-        &mut self,
-        alloc: Global,
-        request: &Request,
-    ) -> Result<Reply, AllocError>
+    pub(crate) fn answer(&mut self, alloc: Global, request: &Request) -> Result<Reply, AllocError>
         ensures { IfOk result (λ reply. IsAnswered self.old request.now reply self.new) }
     {
         match request {

@@ -32,12 +32,7 @@ impl Session {
     }
 
     // Appends what goes out for what is heard. Ctrl-C finds no move under way.
-    fn respond(
-        &mut self,
-        alloc: Global,
-        out: &mut Vec<u8>,
-        heard: &Heard,
-    ) -> Result<(), AllocError>
+    fn respond(&mut self, alloc: Global, out: &mut Vec<u8>, heard: &Heard) -> Result<(), AllocError>
         ensures { OnOk result (IsHeardOut self.old heard.now out.old.items out.new.items self.new) }
     {
         if self.is_over {
@@ -101,12 +96,7 @@ impl Session {
     }
 
     // Appends a reply's packets, and keeps the last one.
-    fn send(
-        &mut self,
-        alloc: Global,
-        out: &mut Vec<u8>,
-        reply: &Reply,
-    ) -> Result<(), AllocError>
+    fn send(&mut self, alloc: Global, out: &mut Vec<u8>, reply: &Reply) -> Result<(), AllocError>
         ensures out { OnOk result (out.new.items ≡ out.old.items ++ packets_of reply.now) }
         ensures next { OnOk result (self.new ≡ with_sent self.old reply.now) }
     {

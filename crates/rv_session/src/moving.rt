@@ -89,7 +89,10 @@ impl Session {
         } else {
             here.saturating_sub(1)
         };
-        match self.history.differing_watch(alloc, here, other, &self.stops)? {
+        match self
+            .history
+            .differing_watch(alloc, here, other, &self.stops)?
+        {
             Some(address) => Ok(Stop::Watch(address)),
             None => Ok(Stop::Here),
         }

@@ -28,11 +28,7 @@ impl Session {
     }
 
     // `p`
-    pub(crate) fn register(
-        &self,
-        alloc: Global,
-        register: Register,
-    ) -> Result<Reply, AllocError>
+    pub(crate) fn register(&self, alloc: Global, register: Register) -> Result<Reply, AllocError>
         ensures { IfOk result (λ reply. reply ≡ saying (register_text (value_of self.now register))) }
     {
         let mut body = Vec::new(alloc);

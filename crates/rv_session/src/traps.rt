@@ -72,7 +72,12 @@ fn with_watch(
         return Ok(Err(Refusal::Malformed));
     }
     let mut watches = Vec::from_slice(alloc, stops.watches.as_slice())?;
-    if !stops.watches.as_slice().iter().any(|watch| is_on(watch, range)) {
+    if !stops
+        .watches
+        .as_slice()
+        .iter()
+        .any(|watch| is_on(watch, range))
+    {
         if is_full(stops) {
             return Ok(Err(Refusal::TooManyTraps));
         }

@@ -18,11 +18,7 @@ use std::alloc::{AllocError, Global};
 
 impl Session {
     // `G`
-    pub(crate) fn write_registers(
-        &self,
-        alloc: Global,
-        bytes: &[u8],
-    ) -> Result<Reply, AllocError>
+    pub(crate) fn write_registers(&self, alloc: Global, bytes: &[u8]) -> Result<Reply, AllocError>
         ensures { IfOk result (λ reply. reply
             ≡ granted_if (bytes_eq (registers_here self.now) (encode_lower bytes.now)) refusal.WouldChange) }
     {
