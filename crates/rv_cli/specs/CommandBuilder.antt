@@ -1,5 +1,5 @@
 -- What a call has come to that builds a command, and the rules of arguments that both programs have.
-use Rattle.std.specs.Prelude.{◌≡◌, true, false, IfOk, Result, Some}
+use Rattle.std.specs.Prelude.{◌≡◌, ℕ, List, true, false, IfOk, IsSomeAnd, Result, Some, string_bytes}
 use Rattle.std.specs.declared.alloc.AllocError.{AllocError}
 use Rattle.clap.specs.Words.{App, Rule, Text, app_of, new_rule}
 use Rattle.clap.specs.declared.builder.command.Command.{Command}
@@ -13,6 +13,17 @@ HasApp app built = IfOk built (λ command. app_of command ≡ app)
 abbrev pub IsBuilt : App → Result Command AllocError → Type 0
 IsBuilt app built =
     IfOk built (λ command. (app_of command ≡ app) × ((out-Command command).has_globals ≡ false))
+
+-- the version that such a command shows, how its usage begins, and what its help ends with
+abbrev pub HasVersion : List ℕ → Result Command AllocError → Type 0
+HasVersion text built = IfOk built (λ command. IsSomeAnd (out-Command command).version (λ version. version.now ≡ text))
+
+abbrev pub HasUsageOf : List ℕ → Result Command AllocError → Type 0
+HasUsageOf text built =
+    IfOk built (λ command. IsSomeAnd (out-Command command).bin_name (λ usage. string_bytes usage ≡ text))
+
+abbrev pub HasHelpEnd : List ℕ → Result Command AllocError → Type 0
+HasHelpEnd text built = IfOk built (λ command. IsSomeAnd (out-Command command).after_help (λ after. after.now ≡ text))
 
 -- a word that stands for itself, as <LIST>, required
 abbrev pub word_rule : Text → Rule

@@ -105,6 +105,25 @@ fn a_file_is_abandoned(rt: HostRuntime) -> Result<(), Fail> {
 }
 
 #[test]
+fn a_file_that_cannot_be_placed_is_taken_away(rt: HostRuntime) -> Result<(), Fail> {
+    fs::write(&rt, "turned", "old")?;
+    let mut outputs = SystemOutputs::new(&rt, rt.alloc());
+    let (place, mut file) = outputs.create(rt.alloc(), "turned")?;
+    put_all(&mut file, b"lost")?;
+    let synced = outputs.sync(file)?;
+    // A folder took the place of the file in between.
+    fs::remove_file(&rt, "turned")?;
+    fs::create_dir(&rt, "turned")?;
+    assert!(rt; outputs.place(place, synced).is_err());
+    assert!(rt; fs::read(&rt, "turned.new").is_err());
+    fs::remove_dir(&rt, "turned")?;
+    write_file(&mut outputs, rt.alloc(), "turned", b"new")?;
+    assert_eq!(rt; fs::read(&rt, "turned")?.as_slice(), b"new".as_slice());
+    fs::remove_file(&rt, "turned")?;
+    Ok(())
+}
+
+#[test]
 fn steps_are_refused(rt: HostRuntime) -> Result<(), Fail> {
     for (steps, wanted, count) in [
         (0, "failed", 0),

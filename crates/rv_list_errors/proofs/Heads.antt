@@ -1,12 +1,16 @@
 -- The heads of faults, by what a second look at the text finds.
-use Rattle.std.proofs.Common.{◌≡◌, ◌∙◌, ◌++◌, ℕ, Bool, true, false, List, [], Option, Some, None, ap, cond, refl, sym}
+use Rattle.std.proofs.Common.{◌≡◌, ◌∙◌, ◌-◌, ◌++◌, ◌<◌, ℕ, Bool, true, false, List, [], Option, Some, None, ap, cond, refl, subst, sym}
+use Rattle.std.specs.Prelude.{⊤}
 use Rattle.std.proofs.lemmas.Str.{IsUtf8-from_is_utf8, is_utf8-from_IsUtf8}
 use Rattle.std.specs.Str.{IsUtf8, is_utf8}
-use Rattle.toml.specs.Data.{Members}
+use Rattle.toml.specs.Data.{Items, Members}
 use Rattle.toml.specs.Parse.{parse_document}
 use Rattle.rv_lists.specs.JobList.{document_of}
 use Rattle.rv_lists.specs.declared.error.JobError.{JobError}
-use Rattle.rv_list_errors.specs.FaultHeads.{fault_head, fault_place, job_names, place_in_document}
+use Rattle.rv_list_errors.specs.FaultHeads.{elements_of_job, fault_head, fault_place, job_names, place_in_document}
+use Rattle.rv_list_errors.specs.FaultsTold.{TellsFaultIn, TellsFaultOfText}
+use Rattle.rv_list_errors.specs.JobFaults.{EndsSo, TellsJobFault, element_at}
+use Rattle.rv_list_errors.specs.Lines.{BeginsWith}
 use Rattle.rv_list_errors.specs.JobPlaces.{job_lines}
 
 pub read_document : (text : List ℕ) (ms : Members) → IsUtf8 text → parse_document text ≡ Some ms → document_of text ≡ Some ms
@@ -33,3 +37,33 @@ pub head_without_document : (file text : List ℕ) (fault : JobError) → (IsUtf
     → file ++ [] ≡ fault_head file text fault
 head_without_document file text fault refused =
     ap (λ document. file ++ place_in_document text document fault.job) (sym (refused_document text refused))
+
+-- ---- and what is told behind them
+
+-- a message that ends so begins with its head
+pub begins_of_ends : (IsSo : List ℕ → Type 0) (head other message : List ℕ) → head ≡ other → EndsSo IsSo head message
+    → BeginsWith other message
+begins_of_ends IsSo head other message same (told, is, e) = (told, e ∙ ap (λ h. h ++ told) same)
+
+-- in a document
+pub told_in_list : (file text : List ℕ) (ms : Members) (lines : List ℕ) (names : List (Option (List ℕ))) (jobs : Items)
+    (fault : JobError) (message : List ℕ) → IsUtf8 text → parse_document text ≡ Some ms → lines ≡ job_lines text
+    → names ≡ job_names ms → jobs ≡ elements_of_job ms
+    → EndsSo (λ told. 0 < fault.job → TellsJobFault names (element_at jobs (fault.job - 1)) fault.what told)
+    (file ++ fault_place lines names fault.job) message → TellsFaultOfText file text fault message
+told_in_list file text ms lines names jobs fault message valid parsed these those them (told, is, e) =
+    subst (λ (document : Option Members). EndsSo (TellsFaultIn document fault) (file ++ place_in_document text document fault.job) message)
+    (sym (read_document text ms valid parsed)) (
+      told,
+      λ some. subst (λ (ns : List (Option (List ℕ))). TellsJobFault ns (element_at (elements_of_job ms) (fault.job - 1)) fault.what told)
+          those (subst (λ (js : Items). TellsJobFault names (element_at js (fault.job - 1)) fault.what told) them (is some)),
+      e ∙ (λ i. (file ++ fault_place (these i) (those i) fault.job) ++ told),
+    )
+
+-- where there is none
+pub told_without_document : (file text : List ℕ) (fault : JobError) (message : List ℕ)
+    → (IsUtf8 text → parse_document text ≡ None) → EndsSo (λ told. ⊤) (file ++ []) message
+    → TellsFaultOfText file text fault message
+told_without_document file text fault message refused (told, is, e) =
+    subst (λ (document : Option Members). EndsSo (TellsFaultIn document fault) (file ++ place_in_document text document fault.job) message)
+    (sym (refused_document text refused)) (told, tt, e)

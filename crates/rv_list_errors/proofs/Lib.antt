@@ -17,3 +17,4 @@ pub mod FaultKinds
 pub mod TomlElements
 pub mod JobFaultsTold
 pub mod WrongKinds
+pub mod RegionsTold

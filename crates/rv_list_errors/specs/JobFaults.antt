@@ -19,8 +19,10 @@ use Rattle.rv_lists.specs.declared.error.What.TheVariants as what
 use Rattle.rv_memory.specs.declared.map.Region.{Region}
 use Rattle.rv_text.specs.Words.{word_digits}
 use Rattle.rv_list_errors.specs.Lines.{BeginsWith}
+use Rattle.rv_list_errors.specs.Expectations.{IsExpectationTold, isa_told}
 use Rattle.rv_list_errors.specs.FaultHeads.{borrowed_names}
 use Rattle.rv_list_errors.specs.Told.{IsKeyAndValue, IsShownValue, key_words, region_number_text, rest_words, told_words}
+use Rattle.rv_list_errors.specs.UnknownKeys.{TellsUnknownKey}
 use Rattle.rv_list_errors.specs.declared.fault_text.Look.{Look}
 use Rattle.rv_list_errors.specs.declared.fault_text.Look.TheVariants as look
 use Rattle.rv_list_errors.specs.declared.list.List as listed
@@ -76,6 +78,17 @@ abbrev pub IsApartBehind : List Region → ℕ → Type 0
 IsApartBehind regions place = (later : ℕ) → place < later → later < length regions
     → AreApart (region_at regions place) (region_at regions later)
 
+-- nor does one behind it that stands before another place
+abbrev pub IsApartBefore : List Region → ℕ → ℕ → Type 0
+IsApartBefore regions place later = (between : ℕ) → place < between → between < later
+    → AreApart (region_at regions place) (region_at regions between)
+
+-- the first of all overlaps, in the order of the first region of each, and then of the second
+pub record IsFirstOverlap (regions : List Region) (place later address : ℕ) : Type 0 where
+  pub overlaps : IsOverlap regions place later address
+  pub first : (other : ℕ) → other < place → IsApartBehind regions other
+  pub nearest : IsApartBefore regions place later
+
 -- no two regions of a list share an address
 abbrev pub AreAllApart : List Region → Type 0
 AreAllApart regions = (place : ℕ) → IsApartBehind regions place
@@ -85,8 +98,12 @@ overlap_text place later address = region_number_text place ++ (codes " and " ++
     ++ (codes " both have 0x" ++ (word_digits address ++ codes ": regions that share no address are wanted"))))
 
 abbrev pub TellsOverlap : List Region → List ℕ → Type 0
-TellsOverlap regions told = (place later address : ℕ) × IsOverlap regions place later address
+TellsOverlap regions told = (place later address : ℕ) × IsFirstOverlap regions place later address
     × (told ≡ overlap_text place later address)
+
+-- of regions that are no map: which it is, or how many there are; or what all of them come to
+abbrev pub TellsRegions : List ℕ → Type 0
+TellsRegions told = BeginsWith (codes "region") told ⊎ BeginsWith (codes "the sizes of the regions add up to ") told
 
 -- ---- the script
 
@@ -240,15 +257,15 @@ pub record IsToldOf (wrong : What) (ms : Members) (explained : Told) : Type 0 wh
   pub words : IfSome (key_words wrong) (λ words. told_words explained ≡ words)
   pub key : IfSome (key_of wrong) (λ key. told_key explained ≡ Some key)
   pub script : wrong ≡ what.Input → (told_key explained, told_words explained) ≡ script_told_of ms
+  pub expectation : wrong ≡ what.Expect → IsExpectationTold ms (told_key explained, told_words explained)
+  pub isa : wrong ≡ what.Isa → (told_key explained, told_words explained) ≡ isa_told ms
 
 -- of what is wrong, whatever the other jobs are
 abbrev pub TellsOwnFault : What → Members → List ℕ → Type 0
 TellsOwnFault what.WrongType ms told = TellsWrongKind ms told
+TellsOwnFault what.UnknownKey ms told = TellsUnknownKey ms told
+TellsOwnFault what.Region ms told = TellsRegions told
 TellsOwnFault wrong ms told = (explained : Told) × IsToldOf wrong ms explained × TellsExplanation explained ms told
-
--- keys that are not known and regions that are no map are told by words of their own
-abbrev pub IsPinned : What → Type 0
-IsPinned wrong = (wrong ≡ what.UnknownKey → ⊥) × (wrong ≡ what.Region → ⊥)
 
 abbrev pub TellsFaultOfTable : List (Option (List ℕ)) → Members → What → List ℕ → Type 0
 TellsFaultOfTable names ms what.Duplicate told = TellsName names (codes "name") free_words ms told
@@ -273,7 +290,7 @@ element_at (item d ds) (suc place) = element_at ds place
 
 -- a fault of the job of a number is told by the job's own values
 abbrev pub TellsFaultOfList : listed.List → JobError → List ℕ → Type 0
-TellsFaultOfList list fault told = 0 < fault.job → IsPinned fault.what → TellsJobFault
+TellsFaultOfList list fault told = 0 < fault.job → TellsJobFault
     (borrowed_names list.names.items) (element_at (items_view list.jobs.now) (fault.job - 1)) fault.what told
 
 abbrev pub TellsFoundFault : Look → JobError → List ℕ → Type 0

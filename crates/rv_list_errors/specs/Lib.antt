@@ -11,4 +11,7 @@ pub mod PlacedFaults
 pub mod NearestJob
 pub mod NearNames
 pub mod Told
+pub mod UnknownKeys
+pub mod Expectations
 pub mod JobFaults
+pub mod FaultsTold

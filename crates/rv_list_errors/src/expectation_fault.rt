@@ -1,6 +1,15 @@
 //! Expectations that are none: of the keys `expect_exit`, `expect_signature`, `expect_console`, `expect_console_file` and
 //! `expect_end` the first that is bad.
 
+ghost use Rattle.std.specs.Prelude.{◌≡◌, codes};
+ghost use Rattle.toml.specs.View.{table_view};
+ghost use Rattle.rv_lists.specs.Keys.{text_at_key};
+ghost use Rattle.rv_list_errors.specs.Expectations.{IsExpectationTold, console_told, console_told_of, end_told, is_no_path};
+ghost use Rattle.rv_list_errors.specs.Expectations.{reference_told, reference_told_of};
+ghost use Rattle.rv_list_errors.specs.FaultHeads.{borrowed_name};
+ghost use Rattle.rv_list_errors.specs.JobFaults.{told_key};
+ghost use Rattle.rv_list_errors.specs.Told.{told_words};
+
 use crate::explanations::{
     EXPECT_CONSOLE, EXPECT_CONSOLE_FILE, EXPECT_END, EXPECT_EXIT, EXPECT_SIGNATURE, Told, UNASKED,
 };
@@ -9,39 +18,64 @@ use rv_lists::limits::{MOST_CONSOLE, MOST_PATH};
 use toml::Table;
 
 /// What is told of the expectation of a job that is bad.
-pub(crate) fn expectation_explanation(table: &Table) -> Told {
+pub(crate) fn expectation_explanation(table: &Table) -> Told
+    ensures { IsExpectationTold (table_view table.now) (told_key result, told_words result) }
+{
     if value_at_key(table, "expect_exit").is_some() && word_at_key(table, "expect_exit").is_none() {
         Told::Wanted(&EXPECT_EXIT)
-    } else if has_reference_without_signature(table) {
-        Told::Wanted(&UNASKED)
-    } else if has_bad_path(table, "expect_signature") {
-        Told::Wanted(&EXPECT_SIGNATURE)
     } else {
-        console_or_end_explanation(table)
+        reference_or_console_explanation(table)
     }
 }
 
-// Whether a signature is expected of a job that has none.
-fn has_reference_without_signature(table: &Table) -> bool {
-    text_at_key(table, "expect_signature").is_some() && value_at_key(table, "signature").is_none()
+// Of the expectations beside an exit.
+fn reference_or_console_explanation(table: &Table) -> Told
+    ensures { (told_key result, told_words result) ≡ reference_told_of (table_view table.now) }
+{
+    reference_explanation(
+        value_at_key(table, "signature").is_some(),
+        text_at_key(table, "expect_signature"),
+        console_or_end_explanation(table),
+    )
 }
 
-// Whether the text at a key is no path.
-fn has_bad_path(table: &Table, key: &str) -> bool {
-    match text_at_key(table, key) {
-        Some(path) => path.is_empty() || MOST_PATH < path.len(),
-        None => false,
+// Of a reference, where a signature is asked for or not; else what is told of the rest.
+fn reference_explanation(is_asked: bool, path: Option<&str>, rest: Told) -> Told
+    ensures { (told_key result, told_words result)
+        ≡ reference_told is_asked (borrowed_name path.entry) (told_key rest, told_words rest) }
+{
+    match path {
+        Some(_) if !is_asked => Told::Wanted(&UNASKED),
+        Some(path) if is_no_path(path) => Told::Wanted(&EXPECT_SIGNATURE),
+        _ => rest,
     }
 }
 
-fn console_or_end_explanation(table: &Table) -> Told {
-    let text = text_at_key(table, "expect_console");
-    let is_file = text_at_key(table, "expect_console_file").is_some();
-    match text {
-        Some(_) if is_file => Told::Text(BOTH_CONSOLES),
-        Some(text) if MOST_CONSOLE < text.len() => Told::Wanted(&EXPECT_CONSOLE),
-        None if has_bad_path(table, "expect_console_file") => Told::Wanted(&EXPECT_CONSOLE_FILE),
-        _ => end_explanation(table),
+fn is_no_path(path: &str) -> bool
+    ensures { result ≡ is_no_path path.now }
+{
+    path.is_empty() || MOST_PATH < path.len()
+}
+
+fn console_or_end_explanation(table: &Table) -> Told
+    ensures { (told_key result, told_words result) ≡ console_told_of (table_view table.now) }
+{
+    console_explanation(
+        text_at_key(table, "expect_console"),
+        text_at_key(table, "expect_console_file"),
+        text_at_key(table, "expect_end"),
+    )
+}
+
+fn console_explanation(text: Option<&str>, path: Option<&str>, end: Option<&str>) -> Told
+    ensures { (told_key result, told_words result)
+        ≡ console_told (borrowed_name text.entry) (borrowed_name path.entry) (borrowed_name end.entry) }
+{
+    match (text, path) {
+        (Some(_), Some(_)) => Told::Text(BOTH_CONSOLES),
+        (Some(text), None) if MOST_CONSOLE < text.len() => Told::Wanted(&EXPECT_CONSOLE),
+        (None, Some(path)) if is_no_path(path) => Told::Wanted(&EXPECT_CONSOLE_FILE),
+        _ => end_text_explanation(end),
     }
 }
 
@@ -50,9 +84,17 @@ pub(crate) const BOTH_CONSOLES: &str =
     "expect_console and expect_console_file both stand: one of them is taken";
 
 /// Of an end that is none: an exit is expected by a key of its own.
-pub(crate) fn end_explanation(table: &Table) -> Told {
-    match text_at_key(table, "expect_end") {
-        Some("exit") => Told::Text(EXIT),
+pub(crate) fn end_explanation(table: &Table) -> Told
+    ensures { (told_key result, told_words result) ≡ end_told (text_at_key (codes "expect_end") (table_view table.now)) }
+{
+    end_text_explanation(text_at_key(table, "expect_end"))
+}
+
+fn end_text_explanation(end: Option<&str>) -> Told
+    ensures { (told_key result, told_words result) ≡ end_told (borrowed_name end.entry) }
+{
+    match end {
+        Some(end) if end == "exit" => Told::Text(EXIT),
         _ => Told::Wanted(&EXPECT_END),
     }
 }

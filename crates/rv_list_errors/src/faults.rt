@@ -2,7 +2,9 @@
 
 ghost use Rattle.std.specs.Prelude.{◌++◌, OnOk, length};
 ghost use Rattle.rv_list_errors.specs.FaultHeads.{fault_head, look_place};
-ghost use Rattle.rv_list_errors.specs.Lines.{PutsFaultLines, PutsLines};
+ghost use Rattle.rv_list_errors.specs.FaultsTold.{TellsFaultOfText};
+ghost use Rattle.rv_list_errors.specs.JobFaults.{EndsSo, TellsFoundFault};
+ghost use Rattle.rv_list_errors.specs.Lines.{PutsFaultLines, PutsLineOfEach, PutsLines};
 
 use crate::fault_text::{Look, message_of_fault};
 use crate::list::List;
@@ -27,6 +29,9 @@ pub fn push_faults(
     // Each begins with the path and with the job that the fault is of.
     ensures heads { OnOk result (PutsFaultLines (fault_head file.now text.now) faults.now
         bytes.old.items bytes.new.items) }
+    // Behind that stands what is told of the fault, by the values of that job.
+    ensures told { OnOk result (PutsLineOfEach (TellsFaultOfText file.now text.now) faults.now
+        bytes.old.items bytes.new.items) }
 {
     match toml::table_from_slice(alloc, text) {
         Ok(table) => {
@@ -50,8 +55,9 @@ fn push_fault_lines(
     look: &Look<'_>,
     faults: &[JobError],
 ) -> Result<(), AllocError>
-    ensures { OnOk result (PutsFaultLines (λ fault. file.now ++ look_place look.now fault.job) faults.now
-        bytes.old.items bytes.new.items) }
+    ensures { OnOk result (PutsLineOfEach
+        (λ fault message. EndsSo (TellsFoundFault look.now fault) (file.now ++ look_place look.now fault.job) message)
+        faults.now bytes.old.items bytes.new.items) }
 {
     for (at, fault) in faults.iter().enumerate() {
         let message = message_of_fault(alloc, file, look, *fault, suggestion_for_fault(at))?;

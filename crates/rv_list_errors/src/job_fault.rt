@@ -4,9 +4,10 @@ ghost use Rattle.std.specs.Prelude.{◌≡◌, IfSome, None, Some, codes, option
 ghost use Rattle.std.specs.Char.{is_ascii_hexdigit};
 ghost use Rattle.std.specs.List.{find, list_all};
 ghost use Rattle.toml.specs.View.{items_view, table_view, view};
-ghost use Rattle.rv_lists.specs.declared.error.What.TheVariants.{Input};
+ghost use Rattle.rv_lists.specs.declared.error.What.TheVariants.{Expect, Input, Isa};
+ghost use Rattle.rv_list_errors.specs.Expectations.{IsExpectationTold, isa_told, set_words};
 ghost use Rattle.rv_list_errors.specs.FaultHeads.{borrowed_name, borrowed_names};
-ghost use Rattle.rv_list_errors.specs.JobFaults.{IsPinned, TellsFaultOfTable, TellsJobFault, TellsNoTable, TellsName, TellsOwnFault, element_at, free_words};
+ghost use Rattle.rv_list_errors.specs.JobFaults.{TellsFaultOfTable, TellsJobFault, TellsNoTable, TellsName, TellsOwnFault, element_at, free_words};
 ghost use Rattle.rv_list_errors.specs.JobFaults.{are_digit_pairs, key_of, script_told, script_told_of, told_key};
 ghost use Rattle.rv_list_errors.specs.Told.{AddsSome, is_unsimulated, key_words, letters_words, told_words};
 
@@ -34,7 +35,7 @@ pub(crate) fn push_job_fault(
     what: What,
     suggestion: Suggestion,
 )
-    ensures { IsPinned what → AddsSome message.old message.new (TellsJobFault
+    ensures { AddsSome message.old message.new (TellsJobFault
         (borrowed_names list.now.names.items) (element_at (items_view list.now.jobs.now) place) what) }
 {
     match element_at(list.jobs, place) {
@@ -70,7 +71,7 @@ fn push_no_table(message: &mut Message, element: &Value)
 
 // Appends a fault of a job that is a table.
 fn push_fault_of_table(message: &mut Message, job: FaultyJob<'_>, what: What)
-    ensures { IsPinned what → AddsSome message.old message.new (TellsFaultOfTable
+    ensures { AddsSome message.old message.new (TellsFaultOfTable
         (borrowed_names job.entry.list.now.names.items) (table_view job.entry.table.now) what) }
 {
     match what {
@@ -98,7 +99,7 @@ const FREE: &str = "a name that no earlier job has is wanted";
 
 // Appends a fault that a job has whatever the other jobs are.
 fn push_fault_within_job(message: &mut Message, table: &Table, what: What)
-    ensures { IsPinned what → AddsSome message.old message.new (TellsOwnFault what (table_view table.now)) }
+    ensures { AddsSome message.old message.new (TellsOwnFault what (table_view table.now)) }
 {
     match what {
         What::UnknownKey => push_unknown_job_key(message, table),
@@ -113,6 +114,8 @@ fn key_explanation(table: &Table, what: What) -> Told
     ensures words { IfSome (key_words what) (λ words. told_words result ≡ words) }
     ensures key { IfSome (key_of what) (λ key. told_key result ≡ Some key) }
     ensures script { what ≡ Input → (told_key result, told_words result) ≡ script_told_of (table_view table.now) }
+    ensures expectation { what ≡ Expect → IsExpectationTold (table_view table.now) (told_key result, told_words result) }
+    ensures isa { what ≡ Isa → (told_key result, told_words result) ≡ isa_told (table_view table.now) }
 {
     match what {
         What::Name => Told::Wanted(&NAME),
@@ -129,20 +132,33 @@ fn key_explanation(table: &Table, what: What) -> Told
 }
 
 /// Of the sets that people ask for most, which part is not simulated.
-pub(crate) fn isa_explanation(table: &Table) -> Told {
+pub(crate) fn isa_explanation(table: &Table) -> Told
+    ensures { (told_key result, told_words result) ≡ isa_told (table_view table.now) }
+{
     match text_at_key(table, "isa") {
-        Some(isa) if isa.starts_with("rv64") => Told::Wanted(&ISA_OF_64_BITS),
-        Some(isa) => match isa.strip_prefix("rv32") {
-            Some(letters) => letters_explanation(letters.as_bytes()),
-            None => Told::Wanted(&ISA),
-        },
+        Some(isa) => set_explanation(isa.as_bytes()),
         None => Told::Wanted(&ISA),
+    }
+}
+
+// Of the name of a set.
+fn set_explanation(isa: &[u8]) -> Told
+    ensures key { told_key result ≡ Some (codes "isa") }
+    ensures words { told_words result ≡ set_words isa.now }
+{
+    if isa.starts_with(b"rv64") {
+        Told::Wanted(&ISA_OF_64_BITS)
+    } else if isa.starts_with(b"rv32") {
+        letters_explanation(&isa[4..])
+    } else {
+        Told::Wanted(&ISA)
     }
 }
 
 // Of the letters of a set of 32 bits.
 fn letters_explanation(letters: &[u8]) -> Told
-    ensures { told_words result ≡ letters_words letters.now }
+    ensures key { told_key result ≡ Some (codes "isa") }
+    ensures words { told_words result ≡ letters_words letters.now }
 {
     match unsimulated_letter(letters) {
         Some(b'a') => Told::Wanted(&ISA_WITH_A),

@@ -1,12 +1,14 @@
 //! Keys that the format does not have.
 
-ghost use Rattle.std.specs.Prelude.{◌≡◌, option_map, string_bytes};
+ghost use Rattle.std.specs.Prelude.{◌≡◌, ◌+◌, ◌++◌, ◌^◌, ◌<◌, [], IfSome, codes, length, option_map, string_bytes};
 ghost use Rattle.std.specs.List.{list_any};
 ghost use Rattle.std.specs.Str.{bytes_eq};
 ghost use Rattle.toml.specs.View.{table_view};
 ghost use Rattle.rv_lists.specs.Keys.{is_job_key, is_region_key};
+ghost use Rattle.rv_list_errors.specs.Lines.{BeginsWith};
 ghost use Rattle.rv_list_errors.specs.NearNames.{Adds};
-ghost use Rattle.rv_list_errors.specs.Told.{first_unknown_key, is_key_of_owner, unknown_key_text};
+ghost use Rattle.rv_list_errors.specs.Told.{AddsSome, first_unknown_key, is_key_of_owner, region_number_text, unknown_key_text};
+ghost use Rattle.rv_list_errors.specs.UnknownKeys.{TellsUnknownKey, TellsUnknownRegionKey};
 
 use crate::message::Message;
 use crate::names::{near_name, push_names};
@@ -87,7 +89,9 @@ pub(crate) fn push_unknown_key(message: &mut Message, key: &str)
 
 /// Appends the first key of a job, or of one of its regions, that the format does not have, and those that it has: of the
 /// keys of a job the nearest, where one is near.
-pub(crate) fn push_unknown_job_key(message: &mut Message, table: &Table) {
+pub(crate) fn push_unknown_job_key(message: &mut Message, table: &Table)
+    ensures { AddsSome message.old message.new (TellsUnknownKey (table_view table.now)) }
+{
     match unknown_key(table, Owner::Job) {
         Some(key) => push_unknown_job_key_of(message, key),
         None => push_unknown_region_key(message, table),
@@ -95,13 +99,17 @@ pub(crate) fn push_unknown_job_key(message: &mut Message, table: &Table) {
 }
 
 /// Appends a key that no job has, and the nearest that jobs have, or all of them.
-pub(crate) fn push_unknown_job_key_of(message: &mut Message, key: &str) {
+pub(crate) fn push_unknown_job_key_of(message: &mut Message, key: &str)
+    ensures { AddsSome message.old message.new (BeginsWith (unknown_key_text key.now)) }
+{
     push_unknown_key(message, key);
     push_nearest_key(message, key);
 }
 
 // Appends the key of a job that is nearest to a text, or all keys where none is near.
-fn push_nearest_key(message: &mut Message, text: &str) {
+fn push_nearest_key(message: &mut Message, text: &str)
+    ensures { AddsSome message.old message.new (BeginsWith []) }
+{
     let mut names = [None; 16];
     for at in 0..names.len() {
         names[at] = Some(JOB_KEYS[at].0);
@@ -119,16 +127,36 @@ fn push_nearest_key(message: &mut Message, text: &str) {
 }
 
 /// Appends the first key of a region that no region has, and those that regions have.
-pub(crate) fn push_unknown_region_key(message: &mut Message, table: &Table) {
-    for (at, region) in elements_at_key(table, "region").iter().enumerate() {
+pub(crate) fn push_unknown_region_key(message: &mut Message, table: &Table)
+    ensures { AddsSome message.old message.new TellsUnknownRegionKey }
+{
+    let regions = elements_at_key(table, "region");
+    match first_unknown_region_key(regions) {
+        Some((place, key)) => push_unknown_key_of_region(message, place, key),
+        None => message.push("unknown key"),
+    }
+}
+
+// The place of the first region with a key that no region has, and that key.
+fn first_unknown_region_key(regions: &[Value]) -> Option<(usize, &str)>
+    ensures { IfSome result (λ unknown. unknown.0 < length regions.now) }
+{
+    for (at, region) in regions.iter().enumerate() {
         if let Some(key) = unknown_region_key(region) {
-            push_region_number(message, at);
-            message.push(": ");
-            push_unknown_key(message, key);
-            return message.push(": the keys of a region are base, size and write");
+            return Some((at, key));
         }
     }
-    message.push("unknown key");
+    None
+}
+
+fn push_unknown_key_of_region(message: &mut Message, at: usize, key: &str)
+    ensures { at + 1 < 2 ^ 64 → Adds message.old message.new (region_number_text at ++ (codes ": "
+        ++ (unknown_key_text key.now ++ codes ": the keys of a region are base, size and write"))) }
+{
+    push_region_number(message, at);
+    message.push(": ");
+    push_unknown_key(message, key);
+    message.push(": the keys of a region are base, size and write");
 }
 
 /// Whether a region of a job has a key that no region has.

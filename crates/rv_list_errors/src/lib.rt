@@ -23,6 +23,7 @@ mod list_fault;
 mod message;
 mod name_search;
 mod names;
+mod overlaps;
 mod regions;
 mod values;
 

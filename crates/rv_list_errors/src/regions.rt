@@ -1,12 +1,12 @@
 //! Regions that are no map.
 
-ghost use Rattle.std.specs.Prelude.{◌≡◌, ◌+◌, ◌^◌, ◌<◌, MatchOption, length};
-ghost use Rattle.rv_list_errors.specs.JobFaults.{AreAllApart, AreApart, IsApartBehind, IsFirstShared, IsOverlap, TellsOverlap};
-ghost use Rattle.rv_list_errors.specs.JobFaults.{overlap_text};
+ghost use Rattle.std.specs.Prelude.{◌+◌, ◌^◌, ◌<◌, IfSome, length};
+ghost use Rattle.rv_list_errors.specs.JobFaults.{TellsRegions};
 ghost use Rattle.rv_list_errors.specs.NearNames.{Adds};
 ghost use Rattle.rv_list_errors.specs.Told.{AddsSome, region_number_text};
 
 use crate::message::Message;
+use crate::overlaps::{push_console_overlap, push_region_overlap, region_end};
 use crate::values::{elements_at_key, push_wanted_value, word_at_key};
 use rv_lists::What;
 use rv_memory::{Map, MapError, Region};
@@ -15,13 +15,6 @@ use toml::{Table, Value};
 const BASE: &str = "a multiple of 4 from 0 to 0xfffffffc is wanted";
 
 const SIZE: &str = "a multiple of 4 from 4 to 16777216 is wanted";
-
-// The console's 16 bytes.
-const CONSOLE: Region = Region {
-    base: 0x1000_0000,
-    size: 0x10,
-    writable: true,
-};
 
 /// Appends which region it is, counted from 1.
 pub(crate) fn push_region_number(message: &mut Message, at: usize)
@@ -52,13 +45,29 @@ fn first_regions(elements: &[Value]) -> [Region; 4] {
 }
 
 /// Appends why the regions of a job are no map.
-pub(crate) fn push_region_fault(message: &mut Message, table: &Table) {
+pub(crate) fn push_region_fault(message: &mut Message, table: &Table)
+    ensures { AddsSome message.old message.new TellsRegions }
+{
     let elements = elements_at_key(table, "region");
-    for (at, element) in elements.iter().enumerate() {
-        if region_of_element(element).is_none() {
-            return push_bad_base_or_size(message, at, element);
-        }
+    match place_of_unreadable_region(elements) {
+        Some(place) => push_bad_base_or_size(message, place, &elements[place]),
+        None => push_fault_of_regions(message, elements),
     }
+}
+
+// The place of the first element whose base and size are not both 32-bit numbers.
+fn place_of_unreadable_region(elements: &[Value]) -> Option<usize>
+    ensures { IfSome result (λ place. place < length elements.now) }
+{
+    elements
+        .iter()
+        .position(|element| region_of_element(element).is_none())
+}
+
+// Appends why elements that are regions are no map.
+fn push_fault_of_regions(message: &mut Message, elements: &[Value])
+    ensures { AddsSome message.old message.new TellsRegions }
+{
     let regions = first_regions(elements);
     if elements.len() <= regions.len() {
         push_map_error(message, &regions[..elements.len()]);
@@ -96,7 +105,9 @@ fn region_of_element(element: &Value) -> Option<Region> {
 }
 
 // Appends the base or the size of a region that is no 32-bit number.
-fn push_bad_base_or_size(message: &mut Message, at: usize, element: &Value) {
+fn push_bad_base_or_size(message: &mut Message, at: usize, element: &Value)
+    ensures { at + 1 < 2 ^ 64 → AddsSome message.old message.new TellsRegions }
+{
     push_region_number(message, at);
     message.push(": ");
     match element {
@@ -109,7 +120,9 @@ fn push_bad_base_or_size(message: &mut Message, at: usize, element: &Value) {
 }
 
 // Appends why regions are no map.
-fn push_map_error(message: &mut Message, regions: &[Region]) {
+fn push_map_error(message: &mut Message, regions: &[Region])
+    ensures { AddsSome message.old message.new TellsRegions }
+{
     match Map::of(regions) {
         Ok(_) => message.push(What::Region.name()),
         Err(MapError::Count) => push_region_count(message, regions.len()),
@@ -120,36 +133,84 @@ fn push_map_error(message: &mut Message, regions: &[Region]) {
     }
 }
 
-fn push_region_count(message: &mut Message, count: usize) {
+fn push_region_count(message: &mut Message, count: usize)
+    ensures { AddsSome message.old message.new TellsRegions }
+{
     message.push_number_between("region has ", count as u64, " tables: 1 to 4 are wanted");
 }
 
 // Appends the first base or size that is no multiple of 4.
-fn push_unaligned_region(message: &mut Message, regions: &[Region]) {
-    for (at, region) in regions.iter().enumerate() {
-        if region.base % 4 != 0 {
-            push_region_base(message, at, region.base);
-            message.push(": ");
-            return message.push(BASE);
-        }
-        if region.size % 4 != 0 {
-            return push_wrong_region_size(message, at, region.size);
-        }
+fn push_unaligned_region(message: &mut Message, regions: &[Region])
+    ensures { AddsSome message.old message.new TellsRegions }
+{
+    match place_of_unaligned_region(regions) {
+        Some(place) => push_unaligned(message, place, &regions[place]),
+        None => message.push(What::Region.name()),
+    }
+}
+
+fn place_of_unaligned_region(regions: &[Region]) -> Option<usize>
+    ensures { IfSome result (λ place. place < length regions.now) }
+{
+    regions
+        .iter()
+        .position(|region| region.base % 4 != 0 || region.size % 4 != 0)
+}
+
+fn push_unaligned(message: &mut Message, at: usize, region: &Region)
+    ensures { at + 1 < 2 ^ 64 → AddsSome message.old message.new TellsRegions }
+{
+    if region.base % 4 != 0 {
+        push_region_base(message, at, region.base);
+        message.push(": ");
+        message.push(BASE);
+    } else {
+        push_wrong_region_size(message, at, region.size);
     }
 }
 
 // Appends the first region that is too small or goes past the address space, or that all of them are too much.
-fn push_region_size_fault(message: &mut Message, regions: &[Region]) {
+fn push_region_size_fault(message: &mut Message, regions: &[Region])
+    ensures { AddsSome message.old message.new TellsRegions }
+{
+    match place_of_region_without_room(regions) {
+        Some(place) => push_region_without_room(message, place, &regions[place]),
+        None => push_total_size(message, total_size(regions)),
+    }
+}
+
+fn place_of_region_without_room(regions: &[Region]) -> Option<usize>
+    ensures { IfSome result (λ place. place < length regions.now) }
+{
+    regions
+        .iter()
+        .position(|region| region.size < 4 || region_end(region) > ADDRESSES)
+}
+
+// How many addresses there are.
+const ADDRESSES: u64 = 0x1_0000_0000;
+
+fn push_region_without_room(message: &mut Message, at: usize, region: &Region)
+    ensures { at + 1 < 2 ^ 64 → AddsSome message.old message.new TellsRegions }
+{
+    if region.size < 4 {
+        push_wrong_region_size(message, at, region.size);
+    } else {
+        push_region_past_end(message, at, region);
+    }
+}
+
+fn total_size(regions: &[Region]) -> u64 {
     let mut total = 0u64;
-    for (at, region) in regions.iter().enumerate() {
-        if region.size < 4 {
-            return push_wrong_region_size(message, at, region.size);
-        }
-        if region_end(region) > 0x1_0000_0000 {
-            return push_region_past_end(message, at, region);
-        }
+    for region in regions {
         total = total.saturating_add(u64::from(region.size));
     }
+    total
+}
+
+fn push_total_size(message: &mut Message, total: u64)
+    ensures { AddsSome message.old message.new TellsRegions }
+{
     message.push_number_between(
         "the sizes of the regions add up to ",
         total,
@@ -157,108 +218,26 @@ fn push_region_size_fault(message: &mut Message, regions: &[Region]) {
     );
 }
 
-fn push_region_past_end(message: &mut Message, at: usize, region: &Region) {
+fn push_region_past_end(message: &mut Message, at: usize, region: &Region)
+    ensures { at + 1 < 2 ^ 64 → AddsSome message.old message.new TellsRegions }
+{
     push_region_base(message, at, region.base);
     let wanted = ": a region that ends at 0xffffffff at most is wanted";
     message.push_number_between(", size = ", u64::from(region.size), wanted);
 }
 
-fn push_region_base(message: &mut Message, at: usize, base: u32) {
+fn push_region_base(message: &mut Message, at: usize, base: u32)
+    ensures { at + 1 < 2 ^ 64 → AddsSome message.old message.new TellsRegions }
+{
     push_region_number(message, at);
     message.push(": base = 0x");
     message.push_hex_word(base);
 }
 
-fn push_wrong_region_size(message: &mut Message, at: usize, size: u32) {
+fn push_wrong_region_size(message: &mut Message, at: usize, size: u32)
+    ensures { at + 1 < 2 ^ 64 → AddsSome message.old message.new TellsRegions }
+{
     push_region_number(message, at);
     message.push_number_between(": size = ", u64::from(size), ": ");
     message.push(SIZE);
-}
-
-// The address past the last byte of a region.
-fn region_end(region: &Region) -> u64
-    ensures { result ≡ region.now.base + region.now.size }
-{
-    u64::from(region.base) + u64::from(region.size)
-}
-
-// The first address that two regions share.
-fn shared_address(region: &Region, other: &Region) -> Option<u32>
-    ensures { MatchOption result (AreApart region.now other.now) (λ address. IsFirstShared region.now other.now address) }
-{
-    let first = region.base.max(other.base);
-    if u64::from(first) < region_end(region).min(region_end(other)) {
-        Some(first)
-    } else {
-        None
-    }
-}
-
-// Two regions of a list that share an address, the first of which they have.
-#[derive(Clone, Copy)]
-struct Overlap {
-    at: usize,
-    later: usize,
-    address: u32,
-}
-
-// Appends the first two regions that share an address.
-fn push_region_overlap(message: &mut Message, regions: &[Region])
-    ensures { length regions.now < 2 ^ 64 → (AreAllApart regions.now → ⊥)
-        → AddsSome message.old message.new (TellsOverlap regions.now) }
-{
-    if let Some(overlap) = first_overlap(regions) {
-        push_overlap(message, overlap);
-    }
-}
-
-fn push_overlap(message: &mut Message, overlap: Overlap)
-    ensures { overlap.at + 1 < 2 ^ 64 → overlap.later + 1 < 2 ^ 64
-        → Adds message.old message.new (overlap_text overlap.at overlap.later overlap.address) }
-{
-    push_region_number(message, overlap.at);
-    message.push(" and ");
-    push_region_number(message, overlap.later);
-    message.push(" both have 0x");
-    message.push_hex_word(overlap.address);
-    message.push(": regions that share no address are wanted");
-}
-
-// The first two regions of a list that share an address.
-fn first_overlap(regions: &[Region]) -> Option<Overlap>
-    ensures { MatchOption result (AreAllApart regions.now)
-        (λ overlap. IsOverlap regions.now overlap.at overlap.later overlap.address) }
-{
-    for at in 0..regions.len() {
-        if let Some(overlap) = overlap_behind(regions, at) {
-            return Some(overlap);
-        }
-    }
-    None
-}
-
-// The first region behind one that shares an address with it.
-fn overlap_behind(regions: &[Region], at: usize) -> Option<Overlap>
-    requires { at < length regions.now }
-    ensures { MatchOption result (IsApartBehind regions.now at)
-        (λ overlap. IsOverlap regions.now overlap.at overlap.later overlap.address) }
-{
-    for later in at + 1..regions.len() {
-        if let Some(address) = shared_address(&regions[at], &regions[later]) {
-            return Some(Overlap { at, later, address });
-        }
-    }
-    None
-}
-
-// Appends the first region that has an address of the console.
-fn push_console_overlap(message: &mut Message, regions: &[Region]) {
-    for (at, region) in regions.iter().enumerate() {
-        if let Some(address) = shared_address(region, &CONSOLE) {
-            push_region_number(message, at);
-            message.push(" has 0x");
-            message.push_hex_word(address);
-            return message.push(": 0x10000000 to 0x1000000f are the console's");
-        }
-    }
 }

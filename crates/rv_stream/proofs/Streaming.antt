@@ -123,6 +123,12 @@ pub counted_on : (before now after : ℕ) (failed : Option StreamError) → is_s
 counted_on before now after None is so same = same ∙ so
 counted_on before now after (Some error) is so same = cc
 
+-- where nothing failed, no put did
+pub counted_none : (before now : ℕ) (failed : Option StreamError) → is_some failed ≡ false → IsCounted before now failed
+    → now ≡ before
+counted_none before now None is so = so
+counted_none before now (Some error) is so = cc
+
 -- the first put that fails is counted
 pub counted_failure : (before now after : ℕ) (failed : Option StreamError) → is_some failed ≡ false
     → IsCounted before now failed → after ≡ one_more now → after ≡ one_more before

@@ -14,6 +14,7 @@ use Rattle.rv_stream.specs.declared.error.BothError.{BothError}
 use Rattle.rv_stream.specs.declared.error.BothError.TheVariants as both
 use Rattle.rv_stream.specs.declared.error.StreamError.{StreamError}
 use Rattle.rv_stream.specs.declared.error.StreamError.TheVariants as stream
+use Rattle.rv_stream.specs.declared.ordered_texts.Due.{Due}
 
 -- a text for each row, told of the job at its place
 abbrev pub row_text_list : (ℕ → Row → List ℕ) → List ℕ → List Row → List (List ℕ)
@@ -63,6 +64,11 @@ AreCountedOfBoth before now before_second now_second (both.Second error) =
 abbrev pub AreTexts : List (List ℕ) → ℕ → List (Option (Vec ℕ Global)) → Type 0
 AreTexts texts group early = (k : ℕ)
     → IfSome (slice_index_or early k None) (λ text. text.items ≡ text_of_piece texts group k)
+
+-- the piece that is next behind what is due, where something is
+abbrev pub piece_behind : ℕ → Option Due → ℕ
+piece_behind from None = from
+piece_behind from (Some due) = due.next
 
 -- what is known of a stream: what went out, how often a put failed, and what waits
 pub record IsInOrder (texts : List (List ℕ)) (group : ℕ) (before now : Option (List ℕ))

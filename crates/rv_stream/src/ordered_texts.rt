@@ -1,10 +1,10 @@
 //! Texts that wait for their turn, and the sink that takes them.
 
-ghost use Rattle.std.specs.Prelude.{◌≡◌, ◌<◌, ◌++◌, ℕ, IfOk, IfSome, MatchResult, None, Some, length, slice_index_or};
+ghost use Rattle.std.specs.Prelude.{◌≡◌, ◌<◌, ◌++◌, ℕ, IfOk, IfSome, IsTrue, MatchResult, None, Some, length, slice_index_or};
 ghost use Rattle.std.specs.Io.KnownBytes.{Appends};
 ghost use Rattle.std.specs.List.{concat};
 ghost use Rattle.rv_rows.specs.Sinks.{AppendsBeginning};
-ghost use Rattle.rv_stream.specs.Streams.{AreTexts, IsCounted, text_before_piece, text_of_piece};
+ghost use Rattle.rv_stream.specs.Streams.{AreTexts, IsCounted, piece_behind, text_before_piece, text_of_piece};
 
 use crate::error::StreamError;
 use rv_fleet::{Sink, put_all};
@@ -77,16 +77,17 @@ impl<J: Streamed, W: Sink + Drop> InOrder<J, W> {
     /// Takes the text of a piece, and sends all texts whose turn has come. Answers whether to go on.
     pub(crate) fn put_piece_text(&mut self, piece: u64, text: Vec<u8>) -> bool
         requires { text.items ≡ text_of_piece J.texts J.group piece }
+        // Where it goes on no put failed.
+        ensures { IsTrue result → W.failed self.new ≡ J.failures }
     {
-        let piece = piece as usize;
-        if piece < self.early.len() {
-            self.early[piece] = Some(text);
-        }
+        note_text::<J>(&mut self.early, piece as usize, text);
         self.send_due_texts()
     }
 
     // Sends what is due at once. Answers whether to go on.
-    fn send_due_texts(&mut self) -> bool {
+    fn send_due_texts(&mut self) -> bool
+        ensures { IsTrue result → W.failed self.new ≡ J.failures }
+    {
         if self.failed.is_some() {
             return false;
         }
@@ -139,6 +140,28 @@ impl<J: Streamed, W: Sink + Drop> InOrder<J, W> {
     }
 }
 
+// Notes the text of a piece, for when its turn comes.
+fn note_text<J: Streamed>(early: &mut Vec<Option<Vec<u8>>>, piece: usize, text: Vec<u8>)
+    requires texts { AreTexts J.texts J.group early.old.items }
+    requires text { text.items ≡ text_of_piece J.texts J.group piece }
+    ensures early { AreTexts J.texts J.group early.new.items }
+    ensures noted { piece < length early.old.items → slice_index_or early.new.items piece None ≡ Some text }
+{
+    if piece < early.len() {
+        put_in_place::<J>(early, piece, text);
+    }
+}
+
+fn put_in_place<J: Streamed>(early: &mut Vec<Option<Vec<u8>>>, piece: usize, text: Vec<u8>)
+    requires within { piece < length early.old.items }
+    requires texts { AreTexts J.texts J.group early.old.items }
+    requires text { text.items ≡ text_of_piece J.texts J.group piece }
+    ensures early { AreTexts J.texts J.group early.new.items }
+    ensures noted { slice_index_or early.new.items piece None ≡ Some text }
+{
+    early[piece] = Some(text);
+}
+
 // A text that goes out at once, and the piece after it.
 #[derive(Drop)]
 struct Due {
@@ -155,6 +178,8 @@ fn take_due_texts<J: Streamed>(
     ensures early { AreTexts J.texts J.group early.new.items }
     ensures due { IfOk result (λ due. IfSome due (λ d. text_before_piece J.texts J.group d.next
         ≡ text_before_piece J.texts J.group from ++ d.text.items)) }
+    // The text of the piece that is next has not come.
+    ensures next { IfOk result (λ due. slice_index_or early.new.items (piece_behind from due) None ≡ None) }
 {
     let Some(mut text) = take_piece_text::<J>(early, from) else {
         return Ok(None);
@@ -175,6 +200,7 @@ fn take_piece_text<J: Streamed>(early: &mut Vec<Option<Vec<u8>>>, piece: usize) 
     ensures len { length early.new.items ≡ length early.old.items }
     ensures inside { IfSome result (λ _. piece < length early.old.items) }
     ensures text { IfSome result (λ text. text.items ≡ text_of_piece J.texts J.group piece) }
+    ensures taken { slice_index_or early.new.items piece None ≡ None }
 {
     if piece >= early.len() {
         return None;

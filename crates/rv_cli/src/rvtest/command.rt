@@ -1,9 +1,9 @@
 //! The command line of `rvtest`, for `clap`.
 
-ghost use Rattle.std.specs.Prelude.{◌≡◌, IfOk, false};
+ghost use Rattle.std.specs.Prelude.{◌≡◌, ◌++◌, IfOk, codes, false, string_bytes};
 ghost use Rattle.clap.specs.Words.{App, app_of, new_app};
 ghost use Rattle.clap.specs.declared.builder.command.Command.TheViews.{out-Command};
-ghost use Rattle.rv_cli.specs.CommandBuilder.{HasApp, IsBuilt};
+ghost use Rattle.rv_cli.specs.CommandBuilder.{HasApp, HasHelpEnd, HasUsageOf, HasVersion, IsBuilt};
 ghost use Rattle.rv_cli.specs.RvtestCommand.{accept_app, choosing_app, diff_app, explain_app, list_app, subcommand_app, merge_app, show_app, test_run_app, test_app};
 ghost use Rattle.rv_cli.specs.RvtestCommand.{test_top_app, with_subcommands};
 
@@ -18,8 +18,6 @@ use std::alloc::{AllocError, Global};
 pub(crate) struct Subcommand<'a> {
     pub(crate) name: &'a str,
     pub(crate) about: &'a str,
-    /// The words that its usage begins with.
-    pub(crate) usage: &'a str,
     /// What its help ends with: examples and statuses.
     pub(crate) after: &'a str,
     pub(crate) arguments: &'a [Argument<'a>],
@@ -33,7 +31,8 @@ pub(crate) fn test_command<'a>(alloc: Global) -> Result<Command<'a>, AllocError>
 }
 
 fn top_command<'a>(alloc: Global) -> Built<'a>
-    ensures { IsBuilt test_top_app result }
+    ensures app { IsBuilt test_top_app result }
+    ensures version { HasVersion (codes "1.0.0") result }
 {
     Command::new(alloc, "rvtest")
         .subcommand_required(true)
@@ -62,13 +61,27 @@ fn subcommand_of_table<'a>(alloc: Global, stated: &Subcommand<'a>) -> Built<'a>
     with_arguments(alloc, command, stated.arguments)
 }
 
+// Its usage begins with the program's name and its own.
 fn bare_command<'a>(alloc: Global, stated: &Subcommand<'a>) -> Built<'a>
-    ensures { IsBuilt (new_app stated.now.name.now) result }
+    ensures app { IsBuilt (new_app stated.now.name.now) result }
+    ensures usage { HasUsageOf (codes "rvtest " ++ stated.now.name.now) result }
+    ensures after { HasHelpEnd stated.now.after.now result }
 {
-    Command::new(alloc, stated.name)
-        .about(stated.about)
-        .after_help(stated.after)
-        .bin_name(stated.usage)
+    match usage_text(alloc, stated.name) {
+        Ok(usage) => Command::new(alloc, stated.name)
+            .about(stated.about)
+            .after_help(stated.after)
+            .bin_name(usage.as_str()),
+        Err(error) => Err(error),
+    }
+}
+
+fn usage_text(alloc: Global, name: &str) -> Result<String, AllocError>
+    ensures { IfOk result (λ usage. string_bytes usage ≡ codes "rvtest " ++ name.now) }
+{
+    let mut usage = String::from_str(alloc, "rvtest ")?;
+    usage.push_str(name)?;
+    Ok(usage)
 }
 
 /// A command whose words choose jobs of a list.

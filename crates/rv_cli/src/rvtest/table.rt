@@ -13,7 +13,6 @@ pub(crate) const COMMANDS: [Subcommand<'static>; 10] = [
 pub(crate) const RUN: Subcommand<'static> = Subcommand {
     name: "run",
     about: "Runs the jobs of a list, and shows each that fails",
-    usage: "rvtest run",
     after: examples::RUN,
     arguments: &[
         Argument::Word("list", "LIST", LIST_PATH),
@@ -57,7 +56,6 @@ pub(crate) const RUN: Subcommand<'static> = Subcommand {
 pub(crate) const LIST: Subcommand<'static> = Subcommand {
     name: "list",
     about: "Prints the names of the jobs that a run would run, one a line",
-    usage: "rvtest list",
     after: examples::LIST,
     arguments: &[
         Argument::Word("list", "LIST", LIST_PATH),
@@ -73,7 +71,6 @@ pub(crate) const LIST: Subcommand<'static> = Subcommand {
 pub(crate) const EXPLAIN: Subcommand<'static> = Subcommand {
     name: "explain",
     about: "Runs one job, and shows how it ended and came there",
-    usage: "rvtest explain",
     after: examples::EXPLAIN,
     arguments: &[
         Argument::Word("list", "LIST", LIST_PATH),
@@ -88,7 +85,6 @@ pub(crate) const EXPLAIN: Subcommand<'static> = Subcommand {
 const CONSOLE: Subcommand<'static> = Subcommand {
     name: "console",
     about: "Runs one job, and writes its console's bytes to standard output",
-    usage: "rvtest console",
     after: examples::CONSOLE,
     arguments: &[
         Argument::Word("list", "LIST", LIST_PATH),
@@ -100,7 +96,6 @@ const CONSOLE: Subcommand<'static> = Subcommand {
 const CHECK: Subcommand<'static> = Subcommand {
     name: "check",
     about: "Says all that is wrong with a list and its files, and runs nothing",
-    usage: "rvtest check",
     after: examples::CHECK,
     arguments: &[
         Argument::Word("list", "LIST", LIST_PATH),
@@ -111,7 +106,6 @@ const CHECK: Subcommand<'static> = Subcommand {
 pub(crate) const ACCEPT: Subcommand<'static> = Subcommand {
     name: "accept",
     about: "Runs jobs, and makes what they came to what is expected",
-    usage: "rvtest accept",
     after: examples::ACCEPT,
     arguments: &[
         Argument::Word("list", "LIST", LIST_PATH),
@@ -135,7 +129,6 @@ pub(crate) const ACCEPT: Subcommand<'static> = Subcommand {
 pub(crate) const MERGE: Subcommand<'static> = Subcommand {
     name: "merge",
     about: "Makes the whole report of the parts of one run",
-    usage: "rvtest merge",
     after: examples::MERGE,
     arguments: &[
         Argument::Words(
@@ -153,7 +146,6 @@ pub(crate) const MERGE: Subcommand<'static> = Subcommand {
 pub(crate) const DIFF: Subcommand<'static> = Subcommand {
     name: "diff",
     about: "Says in which jobs two reports differ",
-    usage: "rvtest diff",
     after: examples::DIFF,
     arguments: &[
         Argument::Word("old", "OLD", "Path of the report that is compared with"),
@@ -174,7 +166,6 @@ pub(crate) const DIFF: Subcommand<'static> = Subcommand {
 pub(crate) const SHOW: Subcommand<'static> = Subcommand {
     name: "show",
     about: "Shows what failed in a report",
-    usage: "rvtest show",
     after: examples::SHOW,
     arguments: &[
         Argument::Word("report", "REPORT", "Path of a report"),
@@ -189,7 +180,6 @@ pub(crate) const SHOW: Subcommand<'static> = Subcommand {
 const HELP: Subcommand<'static> = Subcommand {
     name: "help",
     about: "Tells the keys of a list",
-    usage: "rvtest help",
     after: examples::HELP,
     arguments: &[Argument::Word("topic", "TOPIC", "What is told of: list")],
 };

@@ -5,7 +5,7 @@ use Rattle.rv_list_errors.proofs.Messages.{some_so}
 use Rattle.rv_list_errors.proofs.job_fault.push_job_fault.Goals as goal
 
 pub returns-in-Some-as_table : goal.returns-in-Some-as_table
-returns-in-Some-as_table c pinned =
-    some_so c.args.message.now c.push_fault_of_table.new.message _ _ (c.push_fault_of_table.ensures pinned)
+returns-in-Some-as_table c =
+    some_so c.args.message.now c.push_fault_of_table.new.message _ _ c.push_fault_of_table.ensures
     (λ told is. told_of_table (borrowed_names c.args.list.now.names.items) _ (view c.in-Some.element.now)
     (table_view c.in-Some-as_table.table.now) c.args.what told c.in-Some.ensures c.in-Some-as_table.ensures is)

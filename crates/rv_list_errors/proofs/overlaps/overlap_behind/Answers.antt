@@ -1,7 +1,7 @@
 use Rattle.std.proofs.Common.{◌<◌, arith}
 use Rattle.rv_list_errors.specs.JobFaults.{AreApart, region_at}
 use Rattle.rv_list_errors.proofs.NamesFound.{one_more_so}
-use Rattle.rv_list_errors.proofs.regions.overlap_behind.Goals as goal
+use Rattle.rv_list_errors.proofs.overlaps.overlap_behind.Goals as goal
 
 pub loop-later-preserved : goal.loop-later-preserved
 loop-later-preserved c other above low =

@@ -1,7 +1,7 @@
 use Rattle.std.proofs.Common.{arith}
 use Rattle.rv_list_errors.specs.JobFaults.{IsApartBehind}
 use Rattle.rv_list_errors.proofs.NamesFound.{one_more_so}
-use Rattle.rv_list_errors.proofs.regions.first_overlap.Goals as goal
+use Rattle.rv_list_errors.proofs.overlaps.first_overlap.Goals as goal
 
 pub loop-at-preserved : goal.loop-at-preserved
 loop-at-preserved c =
@@ -10,3 +10,10 @@ loop-at-preserved c =
 pub returns : goal.returns
 returns c place later above low =
     c.loop-at.invariant place (omega (arith, c.loop-at-test.false)) later above low
+
+pub returns-in-Some : goal.returns-in-Some
+returns-in-Some c = record {
+  overlaps = c.in-Some.ensures.1;
+  first = λ other low. c.loop-at.invariant other (omega (arith, low, c.in-Some.ensures.0));
+  nearest = c.in-Some.ensures.2;
+}

@@ -1,0 +1,85 @@
+-- What is told of an expectation that is bad, and of a set of instructions that is none: the key whose value is told, if one is, and
+-- the words.
+use Rattle.std.specs.Prelude.{◌≡◌, ◌⊎◌, ◌==◌, ◌||◌, ◌++◌, ℕ, Bool, true, List, Option, Some, None, codes, drop, if◌then◌else◌, is_some, length}
+use Rattle.std.specs.Prelude.{nat_eq, nat_lt}
+use Rattle.std.specs.Fmt.{decimal}
+use Rattle.std.specs.List.{starts_with}
+use Rattle.std.specs.Str.{bytes_eq}
+use Rattle.toml.specs.Data.{Members, get_member}
+use Rattle.rv_lists.specs.Keys.{text_at_key}
+use Rattle.rv_lists.specs.Limits.{most_console, most_path}
+use Rattle.rv_machine.specs.Faults.{fault_kinds}
+use Rattle.rv_list_errors.specs.Told.{first_kinds_text, letters_words, sets_words}
+
+-- ---- expectations
+
+abbrev pub path_words : List ℕ
+path_words = codes "a path of 1 to " ++ (decimal most_path ++ codes " bytes is wanted")
+
+abbrev pub is_no_path : List ℕ → Bool
+is_no_path path = (length path == 0) || nat_lt most_path (length path)
+
+abbrev pub exit_told : Option (List ℕ) × List ℕ
+exit_told = (Some (codes "expect_exit"), codes "a whole number from 0 to " ++ (decimal 0xffff_ffff ++ codes " is wanted"))
+
+abbrev pub kinds_told : Option (List ℕ) × List ℕ
+kinds_told = (
+  Some (codes "expect_end"),
+  codes "\"budget\" or the kind of a fault is wanted: " ++ first_kinds_text (length fault_kinds),
+)
+
+-- an exit is expected by a key of its own
+abbrev pub end_told : Option (List ℕ) → Option (List ℕ) × List ℕ
+end_told None = kinds_told
+end_told (Some end) =
+    if bytes_eq end (codes "exit")
+    then (None, codes "expect_end = \"exit\": an exit is expected by its code: use expect_exit") else kinds_told
+
+-- by the texts of `expect_console`, `expect_console_file` and `expect_end`
+abbrev pub console_told : Option (List ℕ) → Option (List ℕ) → Option (List ℕ) → Option (List ℕ) × List ℕ
+console_told (Some text) (Some path) end =
+    (None, codes "expect_console and expect_console_file both stand: one of them is taken")
+console_told (Some text) None end =
+    if nat_lt most_console (length text)
+    then (Some (codes "expect_console"), codes "at most " ++ (decimal most_console ++ codes " bytes are taken")) else end_told end
+console_told None (Some path) end =
+    if is_no_path path then (Some (codes "expect_console_file"), path_words) else end_told end
+console_told None None end = end_told end
+
+-- by whether a signature is asked for, and by the text of `expect_signature`; else as the rest is told
+abbrev pub reference_told : Bool → Option (List ℕ) → Option (List ℕ) × List ℕ → Option (List ℕ) × List ℕ
+reference_told asked None rest = rest
+reference_told asked (Some path) rest =
+    if asked then if is_no_path path then (Some (codes "expect_signature"), path_words) else rest
+    else (
+      Some (codes "expect_signature"),
+      codes "a signature is expected only where the key signature names its two symbols",
+    )
+
+abbrev pub console_told_of : Members → Option (List ℕ) × List ℕ
+console_told_of ms = console_told (text_at_key (codes "expect_console") ms)
+    (text_at_key (codes "expect_console_file") ms) (text_at_key (codes "expect_end") ms)
+
+abbrev pub reference_told_of : Members → Option (List ℕ) × List ℕ
+reference_told_of ms = reference_told (is_some (get_member (codes "signature") ms))
+    (text_at_key (codes "expect_signature") ms) (console_told_of ms)
+
+-- of a job's expectations the first that is bad: of its exit, if it has one, or of another
+abbrev pub IsExpectationTold : Members → Option (List ℕ) × List ℕ → Type 0
+IsExpectationTold ms told =
+    ((is_some (get_member (codes "expect_exit") ms) ≡ true) × (told ≡ exit_told)) ⊎ (told ≡ reference_told_of ms)
+
+-- ---- sets of instructions
+
+-- which part of a set is not simulated, of those that people ask for most
+abbrev pub set_words : List ℕ → List ℕ
+set_words isa =
+    if starts_with nat_eq isa (codes "rv64") then codes "RV64 is not simulated: " ++ sets_words
+    else if starts_with nat_eq isa (codes "rv32") then letters_words (drop 4 isa) else sets_words
+
+abbrev pub isa_words : Option (List ℕ) → List ℕ
+isa_words None = sets_words
+isa_words (Some isa) = set_words isa
+
+abbrev pub isa_told : Members → Option (List ℕ) × List ℕ
+isa_told ms = (Some (codes "isa"), isa_words (text_at_key (codes "isa") ms))

@@ -1,0 +1,129 @@
+//! Regions that share addresses, with one another or with the console.
+
+ghost use Rattle.std.specs.Prelude.{◌≡◌, ◌+◌, ◌^◌, ◌<◌, IfSome, MatchOption, length};
+ghost use Rattle.rv_list_errors.specs.JobFaults.{AreAllApart, AreApart, IsApartBefore, IsApartBehind, IsFirstOverlap, IsFirstShared};
+ghost use Rattle.rv_list_errors.specs.JobFaults.{IsOverlap, TellsOverlap, TellsRegions, overlap_text};
+ghost use Rattle.rv_list_errors.specs.NearNames.{Adds};
+ghost use Rattle.rv_list_errors.specs.Told.{AddsSome};
+
+use crate::message::Message;
+use crate::regions::push_region_number;
+use rv_lists::What;
+use rv_memory::Region;
+
+// The console's 16 bytes.
+const CONSOLE: Region = Region {
+    base: 0x1000_0000,
+    size: 0x10,
+    writable: true,
+};
+
+/// The address past the last byte of a region.
+pub(crate) fn region_end(region: &Region) -> u64
+    ensures { result ≡ region.now.base + region.now.size }
+{
+    u64::from(region.base) + u64::from(region.size)
+}
+
+// The first address that two regions share.
+fn shared_address(region: &Region, other: &Region) -> Option<u32>
+    ensures { MatchOption result (AreApart region.now other.now) (λ address. IsFirstShared region.now other.now address) }
+{
+    let first = region.base.max(other.base);
+    if u64::from(first) < region_end(region).min(region_end(other)) {
+        Some(first)
+    } else {
+        None
+    }
+}
+
+// Two regions of a list that share an address, the first of which they have.
+#[derive(Clone, Copy)]
+struct Overlap {
+    at: usize,
+    later: usize,
+    address: u32,
+}
+
+/// Appends the first two regions that share an address.
+pub(crate) fn push_region_overlap(message: &mut Message, regions: &[Region])
+    ensures overlap { length regions.now < 2 ^ 64 → (AreAllApart regions.now → ⊥)
+        → AddsSome message.old message.new (TellsOverlap regions.now) }
+    ensures regions { length regions.now < 2 ^ 64 → AddsSome message.old message.new TellsRegions }
+{
+    match first_overlap(regions) {
+        Some(overlap) => push_overlap(message, overlap),
+        None => message.push(What::Region.name()),
+    }
+}
+
+fn push_overlap(message: &mut Message, overlap: Overlap)
+    ensures { overlap.at + 1 < 2 ^ 64 → overlap.later + 1 < 2 ^ 64
+        → Adds message.old message.new (overlap_text overlap.at overlap.later overlap.address) }
+{
+    push_region_number(message, overlap.at);
+    message.push(" and ");
+    push_region_number(message, overlap.later);
+    message.push(" both have 0x");
+    message.push_hex_word(overlap.address);
+    message.push(": regions that share no address are wanted");
+}
+
+// The first two regions of a list that share an address.
+fn first_overlap(regions: &[Region]) -> Option<Overlap>
+    ensures { MatchOption result (AreAllApart regions.now)
+        (λ overlap. IsFirstOverlap regions.now overlap.at overlap.later overlap.address) }
+{
+    for at in 0..regions.len() {
+        if let Some(overlap) = overlap_behind(regions, at) {
+            return Some(overlap);
+        }
+    }
+    None
+}
+
+// The first region behind one that shares an address with it.
+fn overlap_behind(regions: &[Region], at: usize) -> Option<Overlap>
+    requires { at < length regions.now }
+    ensures { MatchOption result (IsApartBehind regions.now at)
+        (λ overlap. (overlap.at ≡ at) × IsOverlap regions.now overlap.at overlap.later overlap.address
+        × IsApartBefore regions.now overlap.at overlap.later) }
+{
+    for later in at + 1..regions.len() {
+        if let Some(address) = shared_address(&regions[at], &regions[later]) {
+            return Some(Overlap { at, later, address });
+        }
+    }
+    None
+}
+
+/// Appends the first region that has an address of the console.
+pub(crate) fn push_console_overlap(message: &mut Message, regions: &[Region])
+    ensures { length regions.now < 2 ^ 64 → AddsSome message.old message.new TellsRegions }
+{
+    match first_shared_with_console(regions) {
+        Some((place, address)) => push_shared_with_console(message, place, address),
+        None => message.push(What::Region.name()),
+    }
+}
+
+// The place of the first region that has an address of the console, and the first such address.
+fn first_shared_with_console(regions: &[Region]) -> Option<(usize, u32)>
+    ensures { IfSome result (λ shared. shared.0 < length regions.now) }
+{
+    for (at, region) in regions.iter().enumerate() {
+        if let Some(address) = shared_address(region, &CONSOLE) {
+            return Some((at, address));
+        }
+    }
+    None
+}
+
+fn push_shared_with_console(message: &mut Message, at: usize, address: u32)
+    ensures { at + 1 < 2 ^ 64 → AddsSome message.old message.new TellsRegions }
+{
+    push_region_number(message, at);
+    message.push(" has 0x");
+    message.push_hex_word(address);
+    message.push(": 0x10000000 to 0x1000000f are the console's");
+}
