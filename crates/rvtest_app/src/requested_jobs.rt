@@ -1,0 +1,113 @@
+//! The jobs that a run is asked for, and the rows that its report has already.
+
+ghost use Rattle.std.specs.Prelude.{◌≡◌, ◌≤◌, ◌<◌, [], None, Option, Some, IfErr, IfOk, length, option_map};
+ghost use Rattle.std.specs.Option.{ForSome};
+ghost use Rattle.rv_choice.specs.ChoiceStops.{IsChoiceStop};
+ghost use Rattle.rv_choice.specs.Chosen.{IsChoice};
+ghost use Rattle.rv_merge.specs.Shards.{shard_marks};
+ghost use Rattle.rvtest_app.specs.Commands.{failure_rule};
+ghost use Rattle.rvtest_app.specs.IntoReports.{AreOldRows};
+ghost use Rattle.rvtest_app.specs.IntoStops.{IsIntoStop};
+ghost use Rattle.rvtest_app.specs.RunStops.{IsUnrequestedStop};
+ghost use Rattle.rvtest_app.specs.Runs.{AreRequestedJobs};
+
+use crate::into_report::ReportFrame;
+use crate::planned_run::RequestedJobs;
+use crate::rules::failure_rule;
+use crate::run::ListRun;
+use crate::whole_report::read_whole_report;
+use rv_choice::{Choice, Chooser, requested_shard};
+use rv_cli::rvtest::ChoosingCommand;
+use rv_command::{Stop, parse_list, read_list_text};
+use rv_files::Inputs;
+use rv_fleet::Rows;
+use rv_jobs::{Job, JobList};
+use rv_merge::shard_marks;
+use rv_report::Shard;
+
+impl<'x, R, D: Inputs> ListRun<'x, R, D> {
+    /// The jobs of the list, with marks for those that are to run.
+    pub(crate) fn requested_jobs(&self) -> Result<RequestedJobs, Stop>
+        requires { self.now.rule ≡ failure_rule self.now.asked.now.lenient }
+        ensures asked { IfOk result (λ requested. AreRequestedJobs (D.contents self.now.host.now.inputs.now)
+            self.now.asked.now requested.jobs (option_map (λ marks. marks.items) requested.marks)
+            requested.frame.shard requested.frame.old requested.notes.items) }
+        ensures stopped { IfErr result
+            (IsUnrequestedStop (D.contents self.now.host.now.inputs.now) self.now.asked.now) }
+    {
+        let (alloc, asked) = (self.host.alloc, self.asked);
+        let text = read_list_text(self.host.inputs, alloc, asked.list)?;
+        let jobs = parse_list(alloc, asked.list, text.as_slice())?;
+        let old = self.old_rows(jobs.as_slice())?;
+        match requested_shard(alloc, asked, text.as_slice(), jobs.as_slice().len())? {
+            Some(shard) => self.jobs_of_shard(jobs, shard, old),
+            None => self.jobs_of_choice(jobs, old),
+        }
+    }
+
+    // The rows of the whole report of the jobs into which those of the run are put, if one is named.
+    fn old_rows(&self, jobs: &[Job]) -> Result<Option<Rows>, Stop>
+        ensures old { IfOk result (AreOldRows (D.contents self.now.host.now.inputs.now) self.now.asked.now jobs.now) }
+        ensures counted { IfOk result (λ old. ForSome old (λ rows. length rows ≡ length jobs.now)) }
+        ensures stopped { IfErr result (IsIntoStop (D.contents self.now.host.now.inputs.now) self.now.asked.now jobs.now) }
+    {
+        let (inputs, alloc) = (self.host.inputs, self.host.alloc);
+        let Some(path) = self.asked.into else {
+            return Ok(None);
+        };
+        let rows = read_whole_report(inputs, alloc, path, self.asked.list, jobs)?;
+        Ok(Some(rows))
+    }
+
+    fn jobs_of_shard(
+        &self,
+        jobs: JobList,
+        shard: Shard,
+        old: Option<Rows>,
+    ) -> Result<RequestedJobs, Stop>
+        requires shard { (0 < shard.number) × (shard.number ≤ shard.shards) }
+        requires counted { ForSome old (λ rows. length rows ≡ length jobs) }
+        ensures old { IfOk result (λ requested. requested.frame.old ≡ old) }
+        ensures marked { IfOk result (λ requested. (requested.jobs ≡ jobs) × (requested.frame.shard ≡ Some shard)
+            × (option_map (λ marks. marks.items) requested.marks
+            ≡ Some (shard_marks shard.shards shard.number (length jobs))) × (requested.notes.items ≡ [])) }
+        ensures memory { IfErr result (λ stop. stop ≡ Stop.OutOfMemory) }
+    {
+        let alloc = self.host.alloc;
+        let marks = shard_marks(alloc, jobs.as_slice().len(), shard.number, shard.shards)?;
+        Ok(RequestedJobs {
+            jobs,
+            marks: Some(marks),
+            frame: ReportFrame {
+                shard: Some(shard),
+                old,
+            },
+            notes: Vec::new(alloc),
+        })
+    }
+
+    fn jobs_of_choice(&self, jobs: JobList, old: Option<Rows>) -> Result<RequestedJobs, Stop>
+        requires { ForSome old (λ rows. length rows ≡ length jobs) }
+        ensures old { IfOk result (λ requested. requested.frame.old ≡ old) }
+        ensures chosen { IfOk result (λ requested. (requested.jobs ≡ jobs) × (requested.frame.shard ≡ None)
+            × IsChoice (D.contents self.now.host.now.inputs.now) self.now.asked.now self.now.rule jobs
+            (option_map (λ marks. marks.items) requested.marks) requested.notes.items) }
+        ensures stopped { IfErr result
+            (IsChoiceStop (D.contents self.now.host.now.inputs.now) self.now.asked.now self.now.rule jobs) }
+    {
+        let chooser = Chooser {
+            inputs: self.host.inputs,
+            alloc: self.host.alloc,
+            asked: self.asked,
+            rule: self.rule,
+            command: ChoosingCommand::Run,
+        };
+        let Choice { marks, notes } = chooser.choose(jobs.as_slice())?;
+        Ok(RequestedJobs {
+            jobs,
+            marks,
+            frame: ReportFrame { shard: None, old },
+            notes,
+        })
+    }
+}

@@ -1,0 +1,256 @@
+//! A run into the files that are asked for.
+
+ghost use Rattle.std.specs.Prelude.{◌≡◌, ◌≤◌, ◌++◌, [], ℕ, List, None, Option, Some, IfErr, IfOk, OnErr, OnOk, length};
+ghost use Rattle.std.specs.Io.KnownBytes.{Appends};
+ghost use Rattle.std.specs.List.Sorted.{IsStrictlyIncreasing};
+ghost use Rattle.std.specs.Option.{ForSome};
+ghost use Rattle.rv_command.specs.Texts.{optional_text};
+ghost use Rattle.rv_expect.specs.Judgement.{judging_of};
+ghost use Rattle.rv_fleet.specs.Choices.{AreJobPlaces};
+ghost use Rattle.rv_job_text.specs.Telling.{row_lines_at, telling_of};
+ghost use Rattle.rv_rows.specs.declared_row.Row.{Row as ARow};
+ghost use Rattle.rvtest_app.specs.FailureLines.{failure_lines};
+ghost use Rattle.rvtest_app.specs.IntoReports.{rows_ahead, run_report_path, run_report_text};
+ghost use Rattle.rvtest_app.specs.Outlets.{AreFilesPlaced, AreFilesPlacedInPart, HasTaken, IsPutInto, file_at, has_no_failure};
+ghost use Rattle.rvtest_app.specs.Outlets.{outlet_path, stdout_at, uses_stdout};
+ghost use Rattle.rvtest_app.specs.Puts.{IsShown};
+ghost use Rattle.rvtest_app.specs.PutStops.{IsPutStop};
+ghost use Rattle.rvtest_app.specs.RowsFiles.{IsOutletOfRows};
+ghost use Rattle.rvtest_app.specs.RunOutput.{rows_status, run_output_text};
+ghost use Rattle.rvtest_app.specs.RunStops.{IsRowsStop, IsRunPutStop};
+ghost use Rattle.rvtest_app.specs.Runs.{IsRunPut, run_junit, run_rows, shown_places};
+ghost use Rattle.rvtest_app.specs.Said.{said};
+
+use crate::chosen_rows::ChosenRows;
+use crate::destinations::Destinations;
+use crate::file_texts::FileTexts;
+use crate::into_report::{ReportFrame, run_report_path};
+use crate::junit_class::suite_name;
+use crate::outlets::{OpenFile, Outlet, Outlets, abandon_outlets, open_outlets};
+use crate::planned_run::PlannedRun;
+use crate::puts::put_files;
+use crate::report_texts::framed_report;
+use crate::rules::rows_status;
+use crate::run::ListRun;
+use crate::run_output::{RowsFile, rows_beside_file, rows_without_file};
+use crate::terminals::Terminals;
+use rv_command::Stop;
+use rv_files::{Inputs, Outputs};
+use rv_fleet::Rows;
+use rv_job_text::{RowTelling, Verbosity};
+use rv_junit::Suite;
+use rv_kept_lines::{KeptLines, RecallingTelling, RowLines};
+use rv_rows::Sink;
+use std::io::Write;
+use std::sync::{Mutex, Wait};
+use std::thread::Threads;
+use std::time::Clock;
+
+impl<'x, R: Threads + Wait + Sync + Clock, D: Inputs> ListRun<'x, R, D> {
+    /// Runs the jobs at some places of a plan. Both files are opened before the first of them runs.
+    pub(crate) fn run_planned_jobs<
+        J: RowLines + Send + Sync,
+        F: Outputs + Drop,
+        O: Sink + Drop + Send,
+        E: Sink + Drop + Send,
+        P: Write + Drop + Send,
+    >(
+        &self,
+        telling: &RowTelling<'_>,
+        places: &[usize],
+        frame: ReportFrame,
+        to: Destinations<F, O, E>,
+        terminals: Terminals<P>,
+    ) -> (Destinations<F, O, E>, Result<u8, Stop>)
+    where
+        F::File: Send,
+        requires within { AreJobPlaces telling.now.plan.now places.now }
+        requires rising { IsStrictlyIncreasing places.now }
+        requires lines { J.lines ≡ failure_lines (telling_of telling.now) }
+        requires whole { ForSome frame.old (λ rows. length rows ≡ length telling.now.plan.now.jobs) }
+        ensures status { IfOk result.1 (λ status. status ≡ rows_status (judging_of telling.now.judge) (run_rows
+            self.now.asked.now.stop_after (judging_of telling.now.judge) telling.now.plan.now places.now)) }
+        ensures said { OnOk result.1 (IsRunPut self.now.asked.now (telling_of telling.now) places.now frame.shard frame.old
+            (run_rows self.now.asked.now.stop_after (judging_of telling.now.judge) telling.now.plan.now places.now)
+            (said F.placed O.taken E.taken E.failed to) (said F.placed O.taken E.taken E.failed result.0)) }
+        ensures part { (rows : List ARow) → rows ≡ run_rows self.now.asked.now.stop_after (judging_of telling.now.judge)
+            telling.now.plan.now places.now → OnErr result.1 (AreFilesPlacedInPart (F.placed to.files) (F.placed result.0.files)
+            (Some (file_at (optional_text self.now.asked.now.junit) (run_junit self.now.asked.now
+            (telling_of telling.now) (shown_places places.now rows) rows)))) }
+        ensures stopped { IfErr result.1 (IsRunPutStop self.now.asked.now) }
+    {
+        let (alloc, asked) = (self.host.alloc, self.asked);
+        let mut to = to;
+        let report = run_report_path(asked);
+        let outlets = match open_outlets(&mut to.files, alloc, report, asked.junit) {
+            Ok(outlets) => outlets,
+            Err(stop) => return (to, Err(stop)),
+        };
+        let kept = Mutex::new(KeptLines::<J>::new(alloc));
+        let planned = PlannedRun {
+            telling,
+            places,
+            kept: &kept,
+        };
+        let (mut to, outlets, ran) = self.run_into_outlets(
+            &planned, &frame, outlets, to, terminals,
+        );
+        match ran {
+            Ok(rows) => {
+                let shown = planned.first_jobs(rows.as_slice().len());
+                let put = self.put_run_files(&shown, frame, rows, outlets, &mut to);
+                (to, put)
+            }
+            Err(stop) => {
+                abandon_outlets(&mut to.files, outlets);
+                (to, Err(stop))
+            }
+        }
+    }
+
+    // Runs the jobs at some places, and shows them. What the report says of each goes to the report's file as it comes, but
+    // where their rows are put into another report.
+    fn run_into_outlets<
+        'o,
+        J: RowLines + Send + Sync,
+        F: Outputs + Drop,
+        O: Sink + Drop + Send,
+        E: Sink + Drop + Send,
+        P: Write + Drop + Send,
+    >(
+        &self,
+        planned: &PlannedRun<'_, J>,
+        frame: &ReportFrame,
+        outlets: Outlets<'o, F::Place, F::File>,
+        to: Destinations<F, O, E>,
+        terminals: Terminals<P>,
+    ) -> (
+        Destinations<F, O, E>,
+        Outlets<'o, F::Place, F::File>,
+        Result<Rows, Stop>,
+    )
+    where
+        F::File: Send,
+        ensures rows { IfOk result.2 (λ rows. rows ≡ run_rows self.now.asked.now.stop_after
+            (judging_of planned.now.telling.now.judge) planned.now.telling.now.plan.now planned.now.places.now) }
+        ensures few { IfOk result.2 (λ rows. length rows ≤ length planned.now.places.now) }
+        ensures files { result.0.files ≡ to.files }
+        ensures shown { OnOk result.2 (IsShown (uses_stdout outlets.entry) (run_output_text
+            (row_lines_at (telling_of planned.now.telling.now)) (judging_of planned.now.telling.now.judge)
+            planned.now.places.now (run_rows self.now.asked.now.stop_after
+            (judging_of planned.now.telling.now.judge) planned.now.telling.now.plan.now planned.now.places.now))
+            (said F.placed O.taken E.taken E.failed to) (said F.placed O.taken E.taken E.failed result.0)) }
+        ensures report { OnOk result.2 (IsPutInto F.File.taken F.File.failed outlets.entry.report result.1.report
+            (rows_ahead frame.now.old planned.now.places.now (run_rows self.now.asked.now.stop_after
+            (judging_of planned.now.telling.now.judge) planned.now.telling.now.plan.now planned.now.places.now))) }
+        ensures report_path { outlet_path result.1.report ≡ outlet_path outlets.entry.report }
+        ensures junit { result.1.junit ≡ outlets.entry.junit }
+        ensures stopped { IfErr result.2 (IsRowsStop (outlet_path outlets.entry.report)) }
+    {
+        let is_beside = outlets.use_stdout();
+        let Outlets { report, junit } = outlets;
+        match report {
+            Outlet::File(OpenFile { path, place, sink }) if frame.old.is_none() => {
+                let file = RowsFile {
+                    name: (path, place),
+                    sink,
+                };
+                let (to, file, ran) = self.run_and_show(
+                    planned,
+                    is_beside,
+                    Some(file),
+                    to,
+                    terminals,
+                );
+                let report = outlet_of_rows(file);
+                let ran = rows_beside_file(self.host.alloc, path, ran);
+                (to, Outlets { report, junit }, ran)
+            }
+            report => {
+                let file: Option<RowsFile<(), F::File>> = None;
+                let (to, _, ran) = self.run_and_show(planned, is_beside, file, to, terminals);
+                (to, Outlets { report, junit }, rows_without_file(ran))
+            }
+        }
+    }
+
+    // Puts the two files of the rows of the jobs at some places, and gives the status of the rows.
+    fn put_run_files<J: RowLines, F: Outputs + Drop, O: Sink + Drop, E: Sink + Drop>(
+        &self,
+        planned: &PlannedRun<'_, J>,
+        frame: ReportFrame,
+        rows: Rows,
+        outlets: Outlets<'_, F::Place, F::File>,
+        to: &mut Destinations<F, O, E>,
+    ) -> Result<u8, Stop>
+        requires counted { length rows ≡ length planned.now.places.now }
+        requires whole { ForSome frame.old (λ rows. length rows ≡ length planned.now.telling.now.plan.now.jobs) }
+        requires report { has_no_failure F.File.failed outlets.report }
+        requires junit { has_no_failure F.File.failed outlets.junit }
+        ensures status { IfOk result (λ status. status ≡ rows_status (judging_of planned.now.telling.now.judge) rows) }
+        ensures errors { to.new.errors ≡ to.old.errors }
+        ensures put { (report_path junit_path : Option (List ℕ))
+            → HasTaken F.place_path F.File.taken F.File.failed (F.placed to.old.files) report_path
+            (rows_ahead frame.old planned.now.places.now rows) outlets.entry.report
+            → HasTaken F.place_path F.File.taken F.File.failed (F.placed to.old.files) junit_path [] outlets.entry.junit
+            → OnOk result (Appends (O.taken to.old.out) (O.taken to.new.out)
+            (stdout_at junit_path (run_junit self.now.asked.now (telling_of planned.now.telling.now)
+            planned.now.places.now rows) ++ stdout_at report_path (run_report_text frame.old
+            (length planned.now.telling.now.plan.now.jobs) planned.now.places.now frame.shard rows))) }
+        ensures placed { (report_path junit_path : Option (List ℕ))
+            → HasTaken F.place_path F.File.taken F.File.failed (F.placed to.old.files) report_path
+            (rows_ahead frame.old planned.now.places.now rows) outlets.entry.report
+            → HasTaken F.place_path F.File.taken F.File.failed (F.placed to.old.files) junit_path [] outlets.entry.junit
+            → OnOk result (AreFilesPlaced (F.placed to.old.files) (F.placed to.new.files)
+            (Some (file_at junit_path (run_junit self.now.asked.now (telling_of planned.now.telling.now)
+            planned.now.places.now rows) ++ file_at report_path (run_report_text frame.old
+            (length planned.now.telling.now.plan.now.jobs) planned.now.places.now frame.shard rows)))) }
+        ensures part { (junit_path : Option (List ℕ))
+            → HasTaken F.place_path F.File.taken F.File.failed (F.placed to.old.files) junit_path [] outlets.entry.junit
+            → OnErr result (AreFilesPlacedInPart (F.placed to.old.files) (F.placed to.new.files)
+            (Some (file_at junit_path (run_junit self.now.asked.now (telling_of planned.now.telling.now)
+            planned.now.places.now rows)))) }
+        ensures stopped { IfErr result
+            (IsPutStop (outlet_path outlets.entry.report) (outlet_path outlets.entry.junit)) }
+    {
+        let (telling, places) = (planned.telling, planned.places);
+        let status = rows_status(&telling.judge, rows.as_slice());
+        let told = RowTelling {
+            verbosity: Verbosity::Failures,
+            ..*telling
+        };
+        let kept = planned.kept.lock(self.host.rt);
+        let recalling = RecallingTelling::new(&told, &kept);
+        let chosen = ChosenRows {
+            jobs: telling.plan.jobs(),
+            places,
+            rows,
+        };
+        let texts = FileTexts {
+            suite: Suite {
+                name: suite_name(self.asked.suite, self.asked.list).as_bytes(),
+                judge: telling.judge,
+            },
+            telling: &recalling,
+            places,
+            report: framed_report(chosen, frame),
+        };
+        put_files(self.host.alloc, to, outlets, texts)?;
+        Ok(status)
+    }
+}
+
+// The outlet of the file that took the rows.
+fn outlet_of_rows<'o, P: Drop, V: Drop>(file: Option<RowsFile<(&'o str, P), V>>) -> Outlet<'o, P, V>
+    ensures { IsOutletOfRows file.entry result }
+{
+    match file {
+        Some(
+            RowsFile {
+                name: (path, place),
+                sink,
+            },
+        ) => Outlet::File(OpenFile { path, place, sink }),
+        None => Outlet::Nowhere,
+    }
+}
