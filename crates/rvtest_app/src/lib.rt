@@ -14,6 +14,8 @@ mod check_text;
 mod chosen_rows;
 mod colors;
 mod console;
+mod counts;
+mod counts_note;
 mod crew;
 mod destinations;
 mod diff;
@@ -53,6 +55,7 @@ mod shown_run;
 mod terminals;
 mod whole_files;
 mod whole_report;
+mod written_text;
 
 pub use accept_law::accepted_jobs_pass;
 pub use destinations::Destinations;
