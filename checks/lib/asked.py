@@ -171,6 +171,20 @@ def check_stopped(row):
             raise ValueError(f"{' '.join(crew)}: the report ends with {last}, and not with {row['last']}")
 
 
+# ---- sums of counts
+
+def check_added(row):
+    """The status of words over tables of counts, what goes out and is said, and what stands in the file out."""
+    row.write("list.toml", jobs(["a"]))
+    for name in "abc":
+        row.write(name, row[name])
+    row.wants(row["words"].split(), int(row["status"]), row["shown"], lines(*lines_in(row["told"])))
+    out = row.folder / "out"
+    found = out.read_text(encoding="utf-8") if out.exists() else ""
+    if found != row["out"]:
+        raise ValueError(f"out has {found!r}, and not {row['out']!r}")
+
+
 # ---- lines
 
 def check_lines(row):
@@ -189,6 +203,7 @@ def fronts(out):
 
 
 FORMS = {
+    "added": Form(check_added, "words status shown told out a b c"),
     "choices": Form(check_choice, "jobs words failed status chosen said"),
     "full": Form(check_full_disk, "words said not_there"),
     "help": Form(check_help, "words shown"),
