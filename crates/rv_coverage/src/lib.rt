@@ -7,8 +7,11 @@
 
 mod count;
 mod law;
+mod places;
 mod step;
+mod table_of_job;
 mod tally;
 
 pub use count::{count_job, count_run};
 pub use law::{counts_sum_to_the_steps, run_begins_its_steps};
+pub use places::count_places;

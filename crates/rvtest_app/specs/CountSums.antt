@@ -12,7 +12,7 @@ use Rattle.rv_counts.specs.declared.table.AddressCounts.{AddressCounts}
 use Rattle.rv_counts.specs.declared.table.CountTable.{CountTable}
 use Rattle.rv_counts.specs.declared.table.ImageCounts.{ImageCounts}
 use Rattle.rvtest_app.specs.Said.{IsOnlyTold, Said}
-use Rattle.rvtest_app.specs.WrittenTexts.{IsWritten}
+use Rattle.rvtest_app.specs.WrittenTexts.{IsWrittenAt, written_path}
 
 -- the table whose text stands at a path
 abbrev pub IsTableAt : Option FileContents → List ℕ → CountTable → Type 0
@@ -69,6 +69,6 @@ pub record IsSumPut (known : Option FileContents) (words : CountsAsked) (status 
   pub sum : CountTable
   pub added : AreAdded known words.tables.items no_counts sum
   pub middle : Said
-  pub put : IsWritten (optional_text words.out) (table_text sum) before middle
+  pub put : IsWrittenAt (Some (written_path (optional_text words.out))) (table_text sum) before middle
   pub told : IsOnlyTold (sum_note sum) middle after
   pub done : status ≡ 0

@@ -12,15 +12,12 @@ abbrev pub written_path : Option (List ℕ) → List ℕ
 written_path (Some path) = path
 written_path None = codes "-"
 
--- a text went to the file at the path, or to standard output, and nothing else was said
-pub record IsWrittenAt (path text : List ℕ) (before after : Said) : Type 0 where
-  pub out : Appends before.out after.out (stdout_at (Some path) text)
+-- a text went to the file at the path, or to standard output, and nothing else was said; without a path it went nowhere
+pub record IsWrittenAt (path : Option (List ℕ)) (text : List ℕ) (before after : Said) : Type 0 where
+  pub out : Appends before.out after.out (stdout_at path text)
   pub errors : after.errors ≡ before.errors
   pub failures : after.failures ≡ before.failures
-  pub placed : AreFilesPlaced before.placed after.placed (Some (file_at (Some path) text))
-
-abbrev pub IsWritten : Option (List ℕ) → List ℕ → Said → Said → Type 0
-IsWritten path text before after = IsWrittenAt (written_path path) text before after
+  pub placed : AreFilesPlaced before.placed after.placed (Some (file_at path text))
 
 -- why a text was not written there
 abbrev pub IsUnwrittenBy : Bool → List ℕ → Stop → Type 0

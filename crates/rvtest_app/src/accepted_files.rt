@@ -1,12 +1,11 @@
 //! The files that `accept` reads and writes.
 
-ghost use Rattle.std.specs.Prelude.{◌≡◌, ◌++◌, ◌∷◌, [], IfErr, IfOk, IfSome, OnErr, OnOk, Some};
+ghost use Rattle.std.specs.Prelude.{◌≡◌, ◌++◌, ◌∷◌, [], IfErr, IfOk, OnOk, Some};
 ghost use Rattle.rv_command.specs.Stops.{IsListUnreadStop};
 ghost use Rattle.rv_command.specs.Texts.{optional_text};
-ghost use Rattle.rv_files.specs.Placed.{placed_file};
 ghost use Rattle.rv_files.specs.UnreadPaths.{resolved_path};
 ghost use Rattle.rvtest_app.specs.AcceptStops.{AreTargetsUnread, IsOtherBytesStop, IsStopOfFiles, IsUncheckedStop, IsUnmadeStop};
-ghost use Rattle.rvtest_app.specs.Accepts.{AreGoldenFiles, IsOldAt, file_if, new_list_text, written_files};
+ghost use Rattle.rvtest_app.specs.Accepts.{AreGoldenFiles, IsOldAt, written_files};
 ghost use Rattle.rvtest_app.specs.Outlets.{AreFilesPlaced};
 
 use crate::written_text::write_file;

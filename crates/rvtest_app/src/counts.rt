@@ -1,6 +1,6 @@
 //! The command `counts`.
 
-ghost use Rattle.std.specs.Prelude.{◌≡◌, ◌⊎◌, ◌≤◌, IfErr, IfOk, OnErr};
+ghost use Rattle.std.specs.Prelude.{◌≡◌, ◌≤◌, IfErr, IfOk, OnErr};
 ghost use Rattle.rv_counts.specs.Sum.{no_counts};
 ghost use Rattle.rv_counts.specs.Table.{IsTable};
 ghost use Rattle.rv_counts.specs.Text.{table_text};
@@ -96,9 +96,7 @@ fn read_error_stop(alloc: Global, path: &str, error: ReadError) -> Stop
             let what = ": no table of counts has this line here\n";
             Stop::of_refusal(path_number_message(alloc, path, ":", line, what))
         }
-        ReadError::CutOff => {
-            Stop::of_refusal(path_message(alloc, path, "the table is cut off"))
-        }
+        ReadError::CutOff => { Stop::of_refusal(path_message(alloc, path, "the table is cut off")) }
     }
 }
 

@@ -48,6 +48,7 @@ mod rows_report;
 mod rows_with_most_steps;
 mod rules;
 mod run;
+mod run_counts;
 mod run_into_files;
 mod run_output;
 mod show;
