@@ -4,6 +4,7 @@ mod AcceptStops
 mod AcceptedAgain
 mod AcceptedFiles
 mod Acceptances
+mod AddedTables
 mod ChosenTexts
 mod Numbers
 mod Sent

@@ -226,8 +226,7 @@ const SUITE: &str = "Names the suite in JUnit XML, in place of the file";
 
 const COLOR: &str = "Colors: always, never, or auto, which is on a terminal";
 
-const COUNTS_FILE: &str =
-    "Writes how often each instruction ran to this file; - is standard output";
+const COUNTS_FILE: &str = "Writes counts of instructions to this file; - is standard output";
 
 const KNOWN: &str = "Names jobs that are known to fail, one a line, # REASON behind";
 
