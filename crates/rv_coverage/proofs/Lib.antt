@@ -1,0 +1,3 @@
+pub mod Ends
+pub mod Tallies
+pub mod Counted
