@@ -13,3 +13,4 @@ pub mod Refusing
 pub mod ReadingLines
 pub mod ReadTable
 pub mod ToldImages
+pub mod Public
