@@ -8,3 +8,5 @@ pub mod OfJobs
 pub mod Orders
 pub mod Kept
 pub mod Shares
+pub mod Parted
+pub mod OfShards
