@@ -95,7 +95,7 @@ either_path p q = elim (cases_Bool (is_before q p)) [
 ]
 
 -- nothing before the second is before the first, where the second isn't
-not_before_less : (p q r : List ℕ) → is_before q p ≡ false → is_before r q ≡ false → is_before r p ≡ false
+pub not_before_less : (p q r : List ℕ) → is_before q p ≡ false → is_before r q ≡ false → is_before r p ≡ false
 not_before_less p q r h k = elim (cases_Bool (is_before r p)) [
   | inr n ↦ n
   | inl t ↦ elim (cases_Bool (is_before p q)) [

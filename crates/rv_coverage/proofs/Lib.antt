@@ -5,3 +5,8 @@ pub mod Evens
 pub mod Starts
 pub mod Lines
 pub mod OfJobs
+pub mod Orders
+pub mod Kept
+pub mod Shares
+pub mod Parted
+pub mod OfShards

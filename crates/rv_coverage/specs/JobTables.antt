@@ -1,7 +1,7 @@
 -- The table of the jobs of a plan: how often each instruction of their images began, and was taken.
-use Rattle.std.specs.Prelude.{◌≡◌, ◌*◌, ◌^◌, ◌≤◌, ℕ, Bool, false, if◌then◌else◌, is_ok, List, [], ◌∷◌}
-use Rattle.std.specs.Prelude.{Option, Some, None, option_map, map, slice_index_or, Result, Ok}
-use Rattle.std.specs.List.{sum_by}
+use Rattle.std.specs.Prelude.{◌≡◌, ◌==◌, ◌*◌, ◌%◌, ◌^◌, ◌<◌, ◌≤◌, ℕ, Bool, false, if◌then◌else◌, is_ok, List, [], ◌∷◌}
+use Rattle.std.specs.Prelude.{Option, Some, None, option_map, map, length, slice_index_or, Result, Ok}
+use Rattle.std.specs.List.{filter, sum_by}
 use Rattle.std.specs.Result.{result_ok}
 use Rattle.std.specs.Str.{bytes_eq}
 use Rattle.std.specs.declared.alloc.AllocError.{AllocError}
@@ -126,3 +126,9 @@ SumsTo sum (u ∷ us) t = (next : CountTable) × IsSum sum u next × SumsTo next
 -- all tables are there, and this is their sum
 abbrev pub AllSumTo : List (Result CountTable AllocError) → CountTable → Type 0
 AllSumTo results t = (us : List CountTable) × (results ≡ map (λ (u : CountTable). Ok u) us) × SumsTo no_counts us t
+
+-- a table for each of so many shards: a shard has every so-many-th place
+pub record AreTablesOfShards (plan : Planned) (shards : ℕ) (places : List ℕ) (ts : List CountTable) : Type 0 where
+  pub count : length ts ≡ shards
+  pub each : (k : ℕ) (d : CountTable) → k < shards
+      → IsTableOfPlaces plan (filter (λ place. place % shards == k) places) (slice_index_or ts k d)
