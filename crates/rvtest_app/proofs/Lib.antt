@@ -20,3 +20,4 @@ mod RunTellings
 mod Unwritten
 mod UnreadableWords
 mod WordsStops
+mod WrittenTexts
