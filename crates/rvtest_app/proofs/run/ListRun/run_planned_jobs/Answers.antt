@@ -11,7 +11,7 @@ use Rattle.rvtest_app.proofs.StopLemmas.{IfErr-map}
 use Rattle.rvtest_app.specs.IntoReports.{run_report_path}
 use Rattle.rvtest_app.specs.Runs.{run_rows}
 use Rattle.rvtest_app.specs.Said.{said}
-use Rattle.rvtest_app.proofs.run_into_files.ListRun.run_planned_jobs.Goals as goal
+use Rattle.rvtest_app.proofs.run.ListRun.run_planned_jobs.Goals as goal
 
 pub put_run_files-put-requires-clause-counted : goal.put_run_files-put-requires-clause-counted
 put_run_files-put-requires-clause-counted g c κs within =

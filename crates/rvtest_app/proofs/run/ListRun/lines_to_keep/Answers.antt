@@ -1,7 +1,7 @@
 use Rattle.std.proofs.Common.{◌∙◌, ap, sym}
 use Rattle.rv_job_text.specs.Telling.{telling_of}
 use Rattle.rvtest_app.proofs.FailedRows.{lines_of_failed_row, shows_failures}
-use Rattle.rvtest_app.proofs.shown_run.ListRun.lines_to_keep.Goals as goal
+use Rattle.rvtest_app.proofs.run.ListRun.lines_to_keep.Goals as goal
 
 pub returns-in-Failures : goal.returns-in-Failures
 returns-in-Failures g c = λ kept is place row failed.

@@ -1,7 +1,7 @@
 use Rattle.std.proofs.Common.{inl, inr, sym}
 use Rattle.std.proofs.lemmas.Result.{err_from_is_err_and}
 use Rattle.rvtest_app.proofs.StopLemmas.{IfErr-map}
-use Rattle.rvtest_app.proofs.requested_jobs.ListRun.requested_jobs.Goals as goal
+use Rattle.rvtest_app.proofs.run.ListRun.requested_jobs.Goals as goal
 
 pub returns-in_err-shard-clause-stopped : goal.returns-in_err-shard-clause-stopped
 returns-in_err-shard-clause-stopped g c =

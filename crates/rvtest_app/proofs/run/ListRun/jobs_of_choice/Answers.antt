@@ -1,6 +1,6 @@
 use Rattle.std.proofs.Common.{◌∙◌, ap, length}
 use Rattle.rv_choice.proofs.Public.{choice_count}
-use Rattle.rvtest_app.proofs.requested_jobs.ListRun.jobs_of_choice.Goals as goal
+use Rattle.rvtest_app.proofs.run.ListRun.jobs_of_choice.Goals as goal
 
 pub invariant_of-result : goal.invariant_of-result
 invariant_of-result g c = record {

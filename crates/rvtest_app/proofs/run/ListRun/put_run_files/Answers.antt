@@ -5,7 +5,7 @@ use Rattle.rvtest_app.specs.IntoReports.{rows_ahead, run_report_rest, run_report
 use Rattle.rvtest_app.proofs.ChosenTexts.{run_report_split}
 use Rattle.rvtest_app.proofs.PutTexts.{out_same, part_same, placed_same, same_junit}
 use Rattle.rvtest_app.proofs.Results.{OnErr-from}
-use Rattle.rvtest_app.proofs.run_into_files.ListRun.put_run_files.Goals as goal
+use Rattle.rvtest_app.proofs.run.ListRun.put_run_files.Goals as goal
 
 pub returns-clause-put : goal.returns-clause-put
 returns-clause-put g c = λ report_path junit_path report junit.
