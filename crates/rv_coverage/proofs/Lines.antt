@@ -42,12 +42,12 @@ character_line c other =
     either_line _ (c ∷ []) _ (above c [] other refl)
     (either_line _ ((192 + c / 64) ∷ (128 + c % 64) ∷ []) _
     (above (192 + c / 64) _ (λ e. omega arith) (above (128 + c % 64) [] (λ e. omega arith) refl))
-    (either_line _ ((224 + c / 4096) ∷ (128 + c / 64 % 64) ∷ (128 + c % 64) ∷ []) _
+    (either_line _ ((224 + c / 4096) ∷ (128 + (c / 64) % 64) ∷ (128 + c % 64) ∷ []) _
     (above (224 + c / 4096) _ (λ e. omega arith)
-    (above (128 + c / 64 % 64) _ (λ e. omega arith) (above (128 + c % 64) [] (λ e. omega arith) refl)))
+    (above (128 + (c / 64) % 64) _ (λ e. omega arith) (above (128 + c % 64) [] (λ e. omega arith) refl)))
     (above (240 + c / 262144) _ (λ e. omega arith)
-    (above (128 + c / 4096 % 64) _ (λ e. omega arith)
-    (above (128 + c / 64 % 64) _ (λ e. omega arith) (above (128 + c % 64) [] (λ e. omega arith) refl))))))
+    (above (128 + (c / 4096) % 64) _ (λ e. omega arith)
+    (above (128 + (c / 64) % 64) _ (λ e. omega arith) (above (128 + c % 64) [] (λ e. omega arith) refl))))))
 
 no_feed : (c : ℕ) → is_control c ≡ false → c ≡ 10 → ⊥
 no_feed c h e = false≢true (sym h ∙ ap is_control e)
@@ -55,8 +55,8 @@ no_feed c h e = false≢true (sym h ∙ ap is_control e)
 characters_line : (cs : List ℕ) → All (λ c. is_control c ≡ false) cs → IsLine (encode_utf8_all cs)
 characters_line [] h = refl
 characters_line (c ∷ cs) h =
-    both_lines (encode_utf8 c) (encode_utf8_all cs) (character_line c (no_feed c (All-head _ c cs h)))
-    (characters_line cs (All-tail _ c cs h))
+    both_lines (encode_utf8 c) (encode_utf8_all cs) (character_line c (no_feed c (All-head (λ (k : ℕ). is_control k ≡ false) c cs h)))
+    (characters_line cs (All-tail (λ (k : ℕ). is_control k ≡ false) c cs h))
 
 pub one_line : (text : List ℕ) → IsUtf8WithoutControls text → lacks 10 text ≡ true
 one_line text h = subst IsLine (encodes-chars text h.utf8) (characters_line (chars text) h.without_controls)

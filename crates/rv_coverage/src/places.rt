@@ -30,7 +30,7 @@ pub fn count_places<R: Threads + Sync>(
     let share = share_of(places.len(), crew.workers);
     let tables = thread::map_chunks(crew.rt, alloc, places, share, &|_, part: &[usize]|
         -> Result<CountTable, AllocError>
-        requires { AreJobPlaces plan.entry.now part.now × (length part.now ≤ most_jobs) }
+        requires { AreJobPlaces plan.now part.now × (length part.now ≤ most_jobs) }
         ensures { IfOk result (IsTableOfShare plan.entry.now part.entry.now) }
     {
         count_one_by_one(alloc, plan, part)
