@@ -1,5 +1,5 @@
 -- A text without control characters is one line.
-use Rattle.std.proofs.Common.{◌≡◌, ◌∙◌, ◌==◌, ◌+◌, ◌/◌, ◌%◌, ◌<◌, ◌&&◌, not, ℕ, Bool, true, false, cond, List, [], ◌∷◌, ◌++◌, refl, sym, ap, subst, arith}
+use Rattle.std.proofs.Common.{◌≡◌, ◌∙◌, ◌==◌, ◌+◌, ◌/◌, ◌%◌, ◌<◌, ◌&&◌, not, ℕ, Bool, true, false, cond, ltb, List, [], ◌∷◌, ◌++◌, refl, sym, ap, subst, arith, inl, inr}
 use Rattle.std.proofs.lemmas.Bool.{and_from, false≢true}
 use Rattle.std.proofs.lemmas.Bool.Decides.{eqb_tells}
 use Rattle.std.proofs.lemmas.List.Elements.{All-head, All-tail}
@@ -36,18 +36,28 @@ both_lines (x ∷ xs) ys h k = above x (xs ++ ys) (λ e. first_is x xs e h) (bot
         by true t h = h
         by false t h = absurd (false≢true h)
 
+big : (b : ℕ) (bs : List ℕ) → 10 < b → IsLine bs → IsLine (b ∷ bs)
+big b bs lt h = above b bs (λ e. omega (arith, e, lt)) h
+
 character_line : (c : ℕ) → (c ≡ 10 → ⊥) → IsLine (encode_utf8 c)
 unfolding encode_utf8
 character_line c other =
-    either_line _ (c ∷ []) _ (above c [] other refl)
-    (either_line _ ((192 + c / 64) ∷ (128 + c % 64) ∷ []) _
-    (above (192 + c / 64) _ (λ e. omega arith) (above (128 + c % 64) [] (λ e. omega arith) refl))
-    (either_line _ ((224 + c / 4096) ∷ (128 + (c / 64) % 64) ∷ (128 + c % 64) ∷ []) _
-    (above (224 + c / 4096) _ (λ e. omega arith)
-    (above (128 + (c / 64) % 64) _ (λ e. omega arith) (above (128 + c % 64) [] (λ e. omega arith) refl)))
-    (above (240 + c / 262144) _ (λ e. omega arith)
-    (above (128 + (c / 4096) % 64) _ (λ e. omega arith)
-    (above (128 + (c / 64) % 64) _ (λ e. omega arith) (above (128 + c % 64) [] (λ e. omega arith) refl))))))
+    let last = 128 + c % 64 in
+    let middle = 128 + (c / 64) % 64 in
+    let high = 128 + (c / 4096) % 64 in
+    let one = big last [] (omega arith) refl in
+    let two = big middle (last ∷ []) (omega arith) one in
+    let three = big high (middle ∷ last ∷ []) (omega arith) two in
+    let of_two = (192 + c / 64) ∷ last ∷ [] in
+    let of_three = (224 + c / 4096) ∷ middle ∷ last ∷ [] in
+    let of_four = (240 + c / 262144) ∷ high ∷ middle ∷ last ∷ [] in
+    either_line (ltb c 128) (c ∷ []) (cond (ltb c 2048) of_two (cond (ltb c 65536) of_three of_four))
+    (above c [] other refl)
+    (either_line (ltb c 2048) of_two (cond (ltb c 65536) of_three of_four)
+    (big (192 + c / 64) (last ∷ []) (omega arith) one)
+    (either_line (ltb c 65536) of_three of_four
+    (big (224 + c / 4096) (middle ∷ last ∷ []) (omega arith) two)
+    (big (240 + c / 262144) (high ∷ middle ∷ last ∷ []) (omega arith) three)))
 
 no_feed : (c : ℕ) → is_control c ≡ false → c ≡ 10 → ⊥
 no_feed c h e = false≢true (sym h ∙ ap is_control e)

@@ -1,8 +1,10 @@
 -- Tables of jobs: of one, of some more, and of the same in another order.
-use Rattle.std.proofs.Common.{◌≡◌, ◌∙◌, ◌==◌, ◌+◌, ◌*◌, ◌^◌, ◌<◌, ◌≤◌, ℕ, zero, suc, Bool, true, false, cond, List, [], ◌∷◌, ◌++◌, Option, Some, None, Result, Ok, Err, option_map, map, length, refl, sym, ap, subst, arith}
+use Rattle.std.proofs.Common.{Fits, w8, ◌≡◌, ◌∙◌, ◌==◌, ◌+◌, ◌*◌, ◌^◌, ◌<◌, ◌≤◌, ℕ, zero, suc, Bool, true, false, cond, List, [], ◌∷◌, ◌++◌, Option, Some, None, Result, Ok, Err, option_map, map, length, get_or, refl, sym, ap, subst, arith}
 use Rattle.std.proofs.lemmas.List.Sums.{sum_by-append}
 use Rattle.std.specs.Prelude.{is_ok}
-use Rattle.std.specs.List.{sum_by}
+use Rattle.std.specs.Prelude.{IfOk, IfSome}
+use Rattle.std.specs.List.{AllByRecursion, sum_by}
+use Rattle.std.specs.declared.alloc.AllocError.{AllocError}
 use Rattle.std.specs.Result.{result_ok}
 use Rattle.std.specs.Str.{bytes_eq}
 use Rattle.sha2.specs.Sha256.{sha256}
@@ -54,6 +56,21 @@ none_of_none answers = record {
   paths = λ digest. refl;
   runs = refl;
 }
+
+-- ---- what callees promise
+
+pub bytes_fit : (xs : List ℕ) → ((i : ℕ) → Fits w8 (get_or xs i 0)) → AllByRecursion (λ b. b < 256) xs
+bytes_fit [] h = tt
+bytes_fit (x ∷ xs) h = (let k = (h 0).fits in omega (arith, k), bytes_fit xs (λ i. h (suc i)))
+
+pub both_ok : (r : Result CountTable AllocError) (P Q R : CountTable → Type 0) → ((t : CountTable) → P t → Q t → R t)
+    → IfOk r P → IfOk r Q → IfOk r R
+both_ok (Ok t) P Q R f p q = f t p q
+both_ok (Err why) P Q R f p q = tt
+
+pub none_if_uncounted : (n : ℕ) (r : Result State Refusal) (s : State) → AreCountsOfJob n r None → r ≡ Ok s → ⊥
+none_if_uncounted n (Ok t) s h e = h
+none_if_uncounted n (Err why) s h e = cc
 
 -- ---- one job
 

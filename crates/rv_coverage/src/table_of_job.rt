@@ -120,8 +120,15 @@ fn digest_of(alloc: Global, bytes: &[u8]) -> Result<Bytes, AllocError>
     ensures bytes { IfOk result (λ digest. AllByRecursion (λ b. b < 256) digest) }
 {
     let digest = Sha256::digest(bytes);
-    let mut copy = Vec::with_capacity(alloc, 32)?;
-    copy.extend_from_slice(&digest)?;
+    copy_of(alloc, &digest)
+}
+
+fn copy_of(alloc: Global, bytes: &[u8]) -> Result<Bytes, AllocError>
+    ensures value { IfOk result (λ copy. copy ≡ bytes.now) }
+    ensures bytes { IfOk result (λ copy. AllByRecursion (λ b. b < 256) copy) }
+{
+    let mut copy = Vec::with_capacity(alloc, bytes.len())?;
+    copy.extend_from_slice(bytes)?;
     Ok(Bytes::new(copy))
 }
 
