@@ -1,5 +1,6 @@
 -- One place more is counted.
-use Rattle.std.proofs.Common.{◌≡◌, ◌∙◌, [], sym, subst}
+use Rattle.std.proofs.Common.{[], get_or, sym, subst}
+use Rattle.std.proofs.lemmas.List.{get_or_default}
 use Rattle.rv_counts.specs.declared.table.CountTable.{CountTable}
 use Rattle.rv_jobs.specs.Jobs.{single_job}
 use Rattle.rv_trace.specs.Trace.{job_at}
@@ -18,12 +19,16 @@ add_table-requires-clause-table c = (c.in_ok-table.ensures (single_job [] 0 []))
 pub add_table-requires-clause-few : goal.add_table-requires-clause-few
 add_table-requires-clause-few c =
     let plan = c.args.plan.now in
+    let place = get_or c.args.places.now c.loop-place.place-index 0 in
     counted_fit plan c.args.places.now c.loop-place.place-index c.loop-place.sum c.loop-place.invariant c.requires.few
-    plan.answers (job_at plan c.place-item.result (single_job [] 0 [])) c.in_ok-table.table
+    plan.answers (job_at plan place (single_job [] 0 [])) c.in_ok-table.table
     (c.in_ok-table.ensures (single_job [] 0 [])) c.loop-place-test.true
 
 pub loop-place-preserved : goal.loop-place-preserved
 loop-place-preserved c =
-    one_counted c.args.plan.now c.args.places.now c.loop-place.place-index c.place-item.result c.loop-place.sum
-    c.in_ok-table.table c.in_ok-sum.sum c.loop-place.invariant c.loop-place-test.true c.place-item.is
+    let places = c.args.places.now in
+    let i = c.loop-place.place-index in
+    let place = get_or places i 0 in
+    one_counted c.args.plan.now places i place c.loop-place.sum c.in_ok-table.table c.in_ok-sum.sum c.loop-place.invariant
+    c.loop-place-test.true (get_or_default places i 0 place c.loop-place-test.true)
     (c.in_ok-table.ensures (single_job [] 0 [])) c.in_ok-sum.ensures
