@@ -29,6 +29,7 @@ both_lines (x ∷ xs) ys h k = above x (xs ++ ys) (λ e. first_is x xs e h) (bot
   where
     first_is : (x : ℕ) (xs : List ℕ) → x ≡ 10 → IsLine (x ∷ xs) → ⊥
     first_is x xs e h = false≢true (sym (ap (λ (n : ℕ). not (n == 10) && lacks 10 xs) e) ∙ h)
+
     rest : (x : ℕ) (xs : List ℕ) → IsLine (x ∷ xs) → IsLine xs
     rest x xs h = by (not (x == 10)) (lacks 10 xs) h
       where

@@ -37,13 +37,13 @@ no_counts_is_table = record { images = tt; rising = none_rise; few = omega arith
 -- the table of one image, in one run
 pub one_image_is_table : (i : ImageCounts) (t : CountTable) → t ≡ record { images = i ∷ []; runs = 1 } → IsImage i → IsTable t
 one_image_is_table i t is h = subst IsTable (sym is) (
-  record {
-    images = (h, tt);
-    rising = one_rises i;
-    few = omega arith;
-    runs = omega arith;
-  }
-)
+    record {
+      images = (h, tt);
+      rising = one_rises i;
+      few = omega arith;
+      runs = omega arith;
+    }
+    )
 
 pub no_counts_are_few : (n : ℕ) → IsTableOfFew n no_counts
 no_counts_are_few n = record { begun = λ digest address. omega arith; runs = omega arith }
@@ -178,11 +178,11 @@ module _ (answers : List Answer) (job : Job) where
       by : (r : Result State Refusal) → start_in answers job ≡ r → AreCountsOfJob job.budget r (Some cs)
           → IsTableOfOne answers job t
       by (Ok s) start counts = subst (IsTableOfOne answers job) (sym is) (
-        record {
-          table = counted file s cs bytes start counts (subst IsTable is table);
-          few = run_is_few job.image file cs few;
-        }
-      )
+          record {
+            table = counted file s cs bytes start counts (subst IsTable is table);
+            few = run_is_few job.image file cs few;
+          }
+          )
       by (Err why) start counts = absurd counts
 
 -- ---- jobs of both

@@ -58,7 +58,7 @@ of_two q p os true before h = (
 of_two q p os false before h = (
   here (Some q) os,
   All-cons (λ o. is_earlier q o ≡ false) (Some q) os (none_before_itself q)
-  (All-weaker (λ o. is_earlier p o ≡ false) (λ o. is_earlier q o ≡ false) (earlier_still p q before) os h.1),
+      (All-weaker (λ o. is_earlier p o ≡ false) (λ o. is_earlier q o ≡ false) (earlier_still p q before) os h.1),
 )
 
 one_path_more : (o r : Option (List ℕ)) (os : Paths) → IsLeast os r → IsLeast (o ∷ os) (least_path_of o r)
@@ -70,7 +70,7 @@ one_path_more None (Some p) os h = (
 one_path_more (Some q) None os h = (
   here (Some q) os,
   All-cons (λ o. is_earlier q o ≡ false) (Some q) os (none_before_itself q)
-  (All-weaker (λ o. o ≡ None) (λ o. is_earlier q o ≡ false) (none_earlier q) os h),
+      (All-weaker (λ o. o ≡ None) (λ o. is_earlier q o ≡ false) (none_earlier q) os h),
 )
 one_path_more (Some q) (Some p) os h = of_two q p os (is_before p q) refl h
 

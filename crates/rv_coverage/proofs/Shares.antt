@@ -101,12 +101,12 @@ shares_from plan places share k (u ∷ us) start sum h each sums =
     let here : k + 0 ≡ k = omega arith in
     let one = subst (λ n. IsTableOfPlaces plan (slice_chunk places share n) u) here (each 0 u (omega arith)) in
     let next = subst (λ js. IsTableOfJobs plan.answers js sums.0) (sym (jobs_of_share plan places share k))
-        (joined plan.answers (jobs_at plan (take (k * share) places)) (jobs_at plan (slice_chunk places share k)) start u
-        sums.0 h one sums.1) in
+    (joined plan.answers (jobs_at plan (take (k * share) places)) (jobs_at plan (slice_chunk places share k)) start u
+    sums.0 h one sums.1) in
     let all = shares_from plan places share (k + 1) us sums.0 sum next
-        (λ n d lt. let e : k + suc n ≡ k + 1 + n = omega arith in
-            subst (λ m. IsTableOfPlaces plan (slice_chunk places share m) (get_or us n d)) e (each (suc n) d (omega arith)))
-        sums.2 in
+    (λ n d lt. let e : k + suc n ≡ k + 1 + n = omega arith in
+    subst (λ m. IsTableOfPlaces plan (slice_chunk places share m) (get_or us n d)) e (each (suc n) d (omega arith)))
+    sums.2 in
     let e : k + 1 + length us ≡ k + suc (length us) = omega arith in
     subst (λ n. IsTableOfPlaces plan (take (n * share) places) sum) e all
 
@@ -124,16 +124,16 @@ all_shares plan places share results sum some long each added =
     let us = added.0 in
     let same = same_length results us added.1 in
     let all = shares_from plan places share 0 us no_counts sum
-        (subst (λ n. IsTableOfPlaces plan (take n places) no_counts) (let e : 0 ≡ 0 * share = omega arith in e)
-        (none_of_none plan.answers))
-        (λ n d lt. let e : n ≡ 0 + n = omega arith in
-            let there = ap (λ (rs : List (Result CountTable AllocError)). get_or rs n (Ok (get_or us n d))) added.1
-                ∙ get_or-map (λ (t : CountTable). Ok t) us n (get_or us n d) (Ok (get_or us n d)) lt ∙ ap (λ (t : CountTable). Ok t) (get_or_default us n (get_or us n d) d lt) in
-            subst (λ m. IsTableOfPlaces plan (slice_chunk places share m) (get_or us n d)) e
-            (each n (get_or us n d) (omega (arith, same, lt)) there))
-        added.2 in
+    (subst (λ n. IsTableOfPlaces plan (take n places) no_counts) (let e : 0 ≡ 0 * share = omega arith in e)
+    (none_of_none plan.answers))
+    (λ n d lt. let e : n ≡ 0 + n = omega arith in
+    let there = ap (λ (rs : List (Result CountTable AllocError)). get_or rs n (Ok (get_or us n d))) added.1
+    ∙ get_or-map (λ (t : CountTable). Ok t) us n (get_or us n d) (Ok (get_or us n d)) lt ∙ ap (λ (t : CountTable). Ok t) (get_or_default us n (get_or us n d) d lt) in
+    subst (λ m. IsTableOfPlaces plan (slice_chunk places share m) (get_or us n d)) e
+    (each n (get_or us n d) (omega (arith, same, lt)) there))
+    added.2 in
     let covers : length places ≤ (0 + length us) * share =
-        (let c = (div_ceil_times (length places) share some).0 in
-        let e = ap (λ (n : ℕ). n * share) (sym same ∙ long) in
-        omega (arith, c, e)) in
+    (let c = (div_ceil_times (length places) share some).0 in
+    let e = ap (λ (n : ℕ). n * share) (sym same ∙ long) in
+    omega (arith, c, e)) in
     subst (λ ps. IsTableOfPlaces plan ps sum) (take_all ((0 + length us) * share) places covers) all

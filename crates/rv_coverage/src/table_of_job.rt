@@ -26,7 +26,11 @@ use std::alloc::{AllocError, Global};
 
 /// The table of the job at a place, which has the counts of its run, or that of no run where the job is refused. It takes
 /// the time of one more run and more, and memory for each address where an instruction began.
-pub(crate) fn count_place(alloc: Global, plan: &Plan, place: usize) -> Result<CountTable, AllocError>
+pub(crate) fn count_place(
+    alloc: Global,
+    plan: &Plan,
+    place: usize,
+) -> Result<CountTable, AllocError>
     requires { place < length plan.now.jobs }
     ensures { IfOk result (λ table. (d : AJob) → IsTableOfOne plan.now.answers (job_at plan.now place d) table) }
 {

@@ -18,9 +18,9 @@ returns g c =
     IfOk-weaker c.sum_of_all.result (AllSumTo results) (IsTableOfPlaces plan places)
     (λ t added. all_shares plan places c.share_of-share.result results t c.share_of-share.ensures long
     (λ n u lt is.
-        let k = (c.in_ok-tables.ensures.each n (Ok u) (let e = ap length same in omega (arith, lt, e))).1 in
-        let there = ap (λ (rs : List (Result CountTable AllocError)). get_or rs n (Ok u)) (sym same) ∙ is in
-        let told = subst (λ (r : Result CountTable AllocError). IfOk r (IsTableOfShare plan k.argument.now)) there k.call in
-        subst (λ (ps : List ℕ). IsTableOfPlaces plan ps u) k.argument_is.value told.table)
+    let k = (c.in_ok-tables.ensures.each n (Ok u) (let e = ap length same in omega (arith, lt, e))).1 in
+    let there = ap (λ (rs : List (Result CountTable AllocError)). get_or rs n (Ok u)) (sym same) ∙ is in
+    let told = subst (λ (r : Result CountTable AllocError). IfOk r (IsTableOfShare plan k.argument.now)) there k.call in
+    subst (λ (ps : List ℕ). IsTableOfPlaces plan ps u) k.argument_is.value told.table)
     added)
     c.sum_of_all.ensures

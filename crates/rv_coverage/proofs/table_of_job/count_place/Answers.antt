@@ -29,7 +29,7 @@ returns-in_default-2 c = λ d.
     let job = job_at plan c.args.place d in
     let same = get_or_read plan.jobs c.args.place c.job-job.result.now c.requires c.job-job.ensures.value d in
     let none = ap (λ (j : Job). result_ok (image_of j.isa c.in-Some.bytes.now)) (sym same)
-        ∙ sym c.in_ok-image.ensures ∙ c.in_default-2.is in
+    ∙ sym c.in_ok-image.ensures ∙ c.in_default-2.is in
     refused plan.answers job c.empty_table-in_default-2.result c.empty_table-in_default-2.ensures
     (λ s start. no_image job s plan.answers c.in-Some.bytes.now (sym (c.in-Some.ensures d)) none start)
 
@@ -41,15 +41,15 @@ returns-in-Some-3 c =
     both_ok c.table_of_run.result (λ t. t ≡ table_of_run c.as_str.result.now file cs) IsTable
     (λ t. (d : Job) → IsTableOfOne plan.answers (job_at plan c.args.place d) t)
     (λ t is table d.
-        let job = job_at plan c.args.place d in
-        let same = get_or_read plan.jobs c.args.place c.job-job.result.now c.requires c.job-job.ensures.value d in
-        let path = c.as_str.ensures ∙ ap (λ (j : Job). j.image) same in
-        let counts = subst (λ (o : Option (List AddressCounts)). AreCountsOfJob job.budget (start_in plan.answers job) o)
-            c.in-Some-3.is (c.in_ok-addresses.ensures.counts d) in
-        let few = subst (λ (o : Option (List AddressCounts)). IfSome o (λ counts. (address : ℕ) → begun_at address counts < 2 ^ 32))
-            c.in-Some-3.is c.in_ok-addresses.ensures.few in
-        ran plan.answers job file cs t (sym (c.in-Some.ensures d)) (is ∙ ap (λ (p : List ℕ). table_of_run p file cs) path)
-        table counts few)
+    let job = job_at plan c.args.place d in
+    let same = get_or_read plan.jobs c.args.place c.job-job.result.now c.requires c.job-job.ensures.value d in
+    let path = c.as_str.ensures ∙ ap (λ (j : Job). j.image) same in
+    let counts = subst (λ (o : Option (List AddressCounts)). AreCountsOfJob job.budget (start_in plan.answers job) o)
+    c.in-Some-3.is (c.in_ok-addresses.ensures.counts d) in
+    let few = subst (λ (o : Option (List AddressCounts)). IfSome o (λ counts. (address : ℕ) → begun_at address counts < 2 ^ 32))
+    c.in-Some-3.is c.in_ok-addresses.ensures.few in
+    ran plan.answers job file cs t (sym (c.in-Some.ensures d)) (is ∙ ap (λ (p : List ℕ). table_of_run p file cs) path)
+    table counts few)
     c.table_of_run.ensures.value c.table_of_run.ensures.table
 
 pub returns : goal.returns
@@ -57,6 +57,6 @@ returns c = λ d.
     let plan = c.args.plan.now in
     let job = job_at plan c.args.place d in
     let counts = subst (λ (o : Option (List AddressCounts)). AreCountsOfJob job.budget (start_in plan.answers job) o)
-        c.in-None.is (c.in_ok-addresses.ensures.counts d) in
+    c.in-None.is (c.in_ok-addresses.ensures.counts d) in
     refused plan.answers job c.empty_table-in-None.result c.empty_table-in-None.ensures
     (λ s start. none_if_uncounted job.budget (start_in plan.answers job) s counts start)
