@@ -10,3 +10,4 @@ pub mod Kept
 pub mod Shares
 pub mod Parted
 pub mod OfShards
+pub mod Bounds

@@ -30,10 +30,10 @@ module _ (plan : Planned) (part : ℕ → ℕ) (places : List ℕ) where
       let one = subst (λ n. IsTableOfPlaces plan (filter (λ place. part place == n) places) t) here (each 0 t (omega arith)) in
       let next = joined plan.answers js (jobs_at plan shard) start t sums.0 h one sums.1 in
       let all = shards_from (from + 1) (js ++ jobs_at plan shard) ts sums.0 sum next
-          (λ k d lt. let e : from + suc k ≡ from + 1 + k = omega arith in
-              subst (λ n. IsTableOfPlaces plan (filter (λ place. part place == n) places) (get_or ts k d)) e
-              (each (suc k) d (omega arith)))
-          sums.2 in
+      (λ k d lt. let e : from + suc k ≡ from + 1 + k = omega arith in
+      subst (λ n. IsTableOfPlaces plan (filter (λ place. part place == n) places) (get_or ts k d)) e
+      (each (suc k) d (omega arith)))
+      sums.2 in
       subst (λ ks. IsTableOfJobs plan.answers ks sum)
       (append_assoc js (jobs_at plan shard) (jobs_at plan rest) ∙ ap (λ ks. js ++ ks) (sym (map-append _ shard rest))) all
 
@@ -44,10 +44,10 @@ of_shards plan shards places ts sum whole some tables sums h =
     let part = λ (place : ℕ). place % shards in
     let count = tables.count in
     let all = shards_from plan part places 0 [] ts no_counts sum (none_of_none plan.answers)
-        (λ k d lt. let e : k ≡ 0 + k = omega arith in
-            subst (λ n. IsTableOfPlaces plan (filter (λ place. part place == n) places) (get_or ts k d)) e
-            (tables.each k d (omega (arith, count, lt))))
-        sums in
+    (λ k d lt. let e : k ≡ 0 + k = omega arith in
+    subst (λ n. IsTableOfPlaces plan (filter (λ place. part place == n) places) (get_or ts k d)) e
+    (tables.each k d (omega (arith, count, lt))))
+    sums in
     let parts = subst (λ n. IsTableOfJobs plan.answers (jobs_at plan (joined_parts part 0 n places)) sum) count all in
     let order = all_parts part shards places (λ place. omega (arith, some)) in
     ap table_text

@@ -1,5 +1,5 @@
 -- Tables of the same jobs in another order, and of jobs in parts.
-use Rattle.std.proofs.Common.{◌≡◌, ◌∙◌, ◌+◌, ◌<◌, ◌≤◌, ◌×◌, ℕ, zero, suc, Bool, true, false, cond, List, [], ◌∷◌, ◌++◌, Option, Some, None, Result, Ok, Err, option_map, map, length, append-nil, append_assoc, refl, sym, ap, subst, arith}
+use Rattle.std.proofs.Common.{◌≡◌, ◌∙◌, ◌+◌, ◌<◌, ◌≤◌, ℕ, zero, suc, Bool, true, false, cond, List, [], ◌∷◌, ◌++◌, Option, Some, None, Result, Ok, Err, option_map, map, length, append-nil, append_assoc, refl, sym, ap, subst, arith}
 use Rattle.std.proofs.lemmas.Bool.{cases_Bool}
 use Rattle.std.proofs.lemmas.List.Elements.{All-cons, All-contains, All-head, All-nil, All-tail, All-weaker}
 use Rattle.std.proofs.lemmas.List.Sorted.{All-permutation, Contains-permutation, IsPermutation-map, sum_by-IsPermutation}
@@ -35,10 +35,10 @@ IsLeast os None = All (λ o. o ≡ None) os
 IsLeast os (Some p) = Contains os (Some p) × All (λ o. is_earlier p o ≡ false) os
 
 here : (o : Option (List ℕ)) (os : Paths) → Contains (o ∷ os) o
-here o os = (0, (omega arith, refl))
+here o os = (0, omega arith, refl)
 
 later : (o p : Option (List ℕ)) (os : Paths) → Contains os p → Contains (o ∷ os) p
-later o p os h = (suc h.0, ((let k = h.1 in omega arith), h.2))
+later o p os h = (suc h.0, (let k = h.1 in omega (arith, k)), h.2)
 
 none_earlier : (p : List ℕ) (o : Option (List ℕ)) → o ≡ None → is_earlier p o ≡ false
 none_earlier p o h = ap (is_earlier p) h
@@ -58,7 +58,7 @@ of_two q p os true before h = (
 of_two q p os false before h = (
   here (Some q) os,
   All-cons (λ o. is_earlier q o ≡ false) (Some q) os (none_before_itself q)
-  (All-weaker (λ o. is_earlier p o ≡ false) (λ o. is_earlier q o ≡ false) (earlier_still p q before) os h.1),
+      (All-weaker (λ o. is_earlier p o ≡ false) (λ o. is_earlier q o ≡ false) (earlier_still p q before) os h.1),
 )
 
 one_path_more : (o r : Option (List ℕ)) (os : Paths) → IsLeast os r → IsLeast (o ∷ os) (least_path_of o r)
@@ -70,7 +70,7 @@ one_path_more None (Some p) os h = (
 one_path_more (Some q) None os h = (
   here (Some q) os,
   All-cons (λ o. is_earlier q o ≡ false) (Some q) os (none_before_itself q)
-  (All-weaker (λ o. o ≡ None) (λ o. is_earlier q o ≡ false) (none_earlier q) os h),
+      (All-weaker (λ o. o ≡ None) (λ o. is_earlier q o ≡ false) (none_earlier q) os h),
 )
 one_path_more (Some q) (Some p) os h = of_two q p os (is_before p q) refl h
 

@@ -12,7 +12,7 @@ use Rattle.rv_counts.specs.Table.{IsTable}
 use Rattle.rv_jobs.specs.Jobs.{single_job}
 use Rattle.rv_jobs.specs.Plans.{Planned}
 use Rattle.rv_trace.specs.Trace.{job_at}
-use Rattle.rv_coverage.specs.JobTables.{jobs_at, AllSumTo, IsTableOfFew, IsTableOfJobs, IsTableOfPlaces, SumsTo}
+use Rattle.rv_coverage.specs.JobTables.{jobs_at, AllSumTo, IsTableOfFew, IsTableOfJobs, IsTableOfOne, IsTableOfPlaces, SumsTo}
 use Rattle.rv_coverage.proofs.OfJobs.{few_more, joined, no_counts_are_few, no_counts_is_table, none_of_none}
 
 -- ---- one after another
@@ -33,21 +33,21 @@ none_counted plan places = record { table = none_of_none plan.answers; few = no_
 
 pub one_counted : (plan : Planned) (places : List ℕ) (i place : ℕ) (sum table next : CountTable)
     → AreCounted plan places i sum → i < length places → place ≡ get_or places i place
-    → IsTableOfJobs plan.answers (job_at plan place (single_job [] 0 []) ∷ []) table → IsTableOfFew 1 table
-    → IsSum sum table next → AreCounted plan places (i + 1) next
-one_counted plan places i place sum table next h lt is one few sums = record {
+    → IsTableOfOne plan.answers (job_at plan place (single_job [] 0 [])) table → IsSum sum table next
+    → AreCounted plan places (i + 1) next
+one_counted plan places i place sum table next h lt is one sums = record {
   table = subst (λ js. IsTableOfJobs plan.answers js next) (sym (jobs_more plan places i place lt is))
       (joined plan.answers (jobs_at plan (take i places)) (job_at plan place (single_job [] 0 []) ∷ []) sum table next
-      h.table one sums);
-  few = few_more i 1 sum table next h.few few sums;
+      h.table one.table sums);
+  few = few_more i 1 sum table next h.few one.few sums;
 }
 
 -- ---- tables that are added
 
 sums_more : (start sum u next : CountTable) (us : List CountTable) → SumsTo start us sum → IsSum sum u next
     → SumsTo start (us ++ u ∷ []) next
-sums_more start sum u next [] sums is = (next, (subst (λ t. IsSum t u next) (sym sums) is, refl))
-sums_more start sum u next (v ∷ us) sums is = (sums.0, (sums.1, sums_more sums.0 sum u next us sums.2 is))
+sums_more start sum u next [] sums is = (next, subst (λ t. IsSum t u next) (sym sums) is, refl)
+sums_more start sum u next (v ∷ us) sums is = (sums.0, sums.1, sums_more sums.0 sum u next us sums.2 is)
 
 pub record AreAdded (results : List (Result CountTable AllocError)) (i : ℕ) (sum : CountTable) : Type 0 where
   pub tables : List CountTable
@@ -101,14 +101,14 @@ shares_from plan places share k (u ∷ us) start sum h each sums =
     let here : k + 0 ≡ k = omega arith in
     let one = subst (λ n. IsTableOfPlaces plan (slice_chunk places share n) u) here (each 0 u (omega arith)) in
     let next = subst (λ js. IsTableOfJobs plan.answers js sums.0) (sym (jobs_of_share plan places share k))
-        (joined plan.answers (jobs_at plan (take (k * share) places)) (jobs_at plan (slice_chunk places share k)) start u
-        sums.0 h one sums.1) in
+    (joined plan.answers (jobs_at plan (take (k * share) places)) (jobs_at plan (slice_chunk places share k)) start u
+    sums.0 h one sums.1) in
     let all = shares_from plan places share (k + 1) us sums.0 sum next
-        (λ n d lt. let e : k + suc n ≡ k + 1 + n = omega arith in
-            subst (λ m. IsTableOfPlaces plan (slice_chunk places share m) (get_or us n d)) e (each (suc n) d (omega arith)))
-        sums.2 in
-    let e : (k + 1 + length us) * share ≡ (k + suc (length us)) * share = ap (λ (m : ℕ). m * share) (omega arith) in
-    subst (λ n. IsTableOfPlaces plan (take n places) sum) e all
+    (λ n d lt. let e : k + suc n ≡ k + 1 + n = omega arith in
+    subst (λ m. IsTableOfPlaces plan (slice_chunk places share m) (get_or us n d)) e (each (suc n) d (omega arith)))
+    sums.2 in
+    let e : k + 1 + length us ≡ k + suc (length us) = omega arith in
+    subst (λ n. IsTableOfPlaces plan (take (n * share) places) sum) e all
 
 same_length : (results : List (Result CountTable AllocError)) (us : List CountTable)
     → results ≡ map (λ (t : CountTable). Ok t) us → length results ≡ length us
@@ -124,16 +124,16 @@ all_shares plan places share results sum some long each added =
     let us = added.0 in
     let same = same_length results us added.1 in
     let all = shares_from plan places share 0 us no_counts sum
-        (subst (λ n. IsTableOfPlaces plan (take n places) no_counts) (let e : 0 ≡ 0 * share = omega arith in e)
-        (none_of_none plan.answers))
-        (λ n d lt. let e : n ≡ 0 + n = omega arith in
-            let there = ap (λ (rs : List (Result CountTable AllocError)). get_or rs n (Ok (get_or us n d))) added.1
-                ∙ get_or-map (λ (t : CountTable). Ok t) us n (get_or us n d) (Ok (get_or us n d)) lt ∙ ap (λ (t : CountTable). Ok t) (get_or_default us n (get_or us n d) d lt) in
-            subst (λ m. IsTableOfPlaces plan (slice_chunk places share m) (get_or us n d)) e
-            (each n (get_or us n d) (omega (arith, same, lt)) there))
-        added.2 in
+    (subst (λ n. IsTableOfPlaces plan (take n places) no_counts) (let e : 0 ≡ 0 * share = omega arith in e)
+    (none_of_none plan.answers))
+    (λ n d lt. let e : n ≡ 0 + n = omega arith in
+    let there = ap (λ (rs : List (Result CountTable AllocError)). get_or rs n (Ok (get_or us n d))) added.1
+    ∙ get_or-map (λ (t : CountTable). Ok t) us n (get_or us n d) (Ok (get_or us n d)) lt ∙ ap (λ (t : CountTable). Ok t) (get_or_default us n (get_or us n d) d lt) in
+    subst (λ m. IsTableOfPlaces plan (slice_chunk places share m) (get_or us n d)) e
+    (each n (get_or us n d) (omega (arith, same, lt)) there))
+    added.2 in
     let covers : length places ≤ (0 + length us) * share =
-        (let c = (div_ceil_times (length places) share some).0 in
-        let e = ap (λ (n : ℕ). n * share) (sym same ∙ long) in
-        omega (arith, c, e)) in
+    (let c = (div_ceil_times (length places) share some).0 in
+    let e = ap (λ (n : ℕ). n * share) (sym same ∙ long) in
+    omega (arith, c, e)) in
     subst (λ ps. IsTableOfPlaces plan ps sum) (take_all ((0 + length us) * share) places covers) all

@@ -16,7 +16,7 @@ use Rattle.rv_jobs.specs.declared_job.Job.{Job}
 use Rattle.rv_machine.specs.State.{State}
 use Rattle.rv_rows.specs.declared.outcome.Loadable.{Loadable}
 use Rattle.rv_rows.specs.declared_row.Refusal.{Refusal}
-use Rattle.rv_rows.specs.Outcome.{image_file_or_refusal, loadable_image, range_if_asked, reference_or_refusal, start_if_loadable, start_if_readable, start_of}
+use Rattle.rv_rows.specs.Outcome.{image_file_or_refusal, loadable_image, loaded_state, range_if_asked, reference_or_refusal, start_if_loadable, start_if_readable, start_of}
 use Rattle.rv_rows.specs.Rows.{content_if_read, image_if_read, start_in}
 use Rattle.rv_coverage.specs.JobTables.{image_bytes}
 
@@ -37,7 +37,8 @@ stepped (Err why) f y e = cc
 module _ (job : Job) (s : State) where
   loaded : (file : List ℕ) (r : Result Loadable ImageError) → start_if_loadable job file r ≡ Ok s
       → (l : Loadable) × (r ≡ Ok l) × (s.pc ≡ l.image.entry)
-  loaded file (Ok l) e = (l, refl, (let same : s ≡ _ = cc in ap (λ (t : State). t.pc) same))
+  loaded file (Ok l) e =
+      let same : loaded_state job file l.image ≡ s = cc in (l, refl, sym (ap (λ (t : State). t.pc) same))
   loaded file (Err why) e = cc
 
   image_read : (file : List ℕ) (l : Loadable) → loadable_image job file ≡ Ok l → image_of job.isa file ≡ Ok l.image
@@ -46,8 +47,9 @@ module _ (job : Job) (s : State) where
       let image = stepped (image_of job.isa file) _ l e in
       let fits = stepped (map_check image.0.segments job.regions job.load) _ l image.2 in
       let range = stepped (range_if_asked file job.regions job.signature) _ l fits.2 in
-      let same : image.0 ≡ l.image = cc in
-      image.1 ∙ ap (λ (i : Image). Ok i) same
+      let made : Loadable = record { image = image.0; range = range.0 } in
+      let same : made ≡ l = cc (range.2) in
+      image.1 ∙ ap (λ (x : Loadable). Ok x.image) same
 
   begun_in_file : (file : List ℕ) → start_if_loadable job file (loadable_image job file) ≡ Ok s
       → IsStart job (Some file) s

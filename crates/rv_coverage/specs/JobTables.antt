@@ -100,6 +100,11 @@ pub record IsTableOfFew (jobs : ℕ) (t : CountTable) : Type 0 where
   pub begun : (digest : List ℕ) (address : ℕ) → begun_in digest address t.images ≤ jobs * 2 ^ 32
   pub runs : t.runs ≤ jobs
 
+-- the table of one job
+pub record IsTableOfOne (answers : List Answer) (job : Job) (t : CountTable) : Type 0 where
+  pub table : IsTableOfJobs answers (job ∷ []) t
+  pub few : IsTableOfFew 1 t
+
 -- a table that as many jobs can have as a list has
 pub record IsSmallTable (t : CountTable) : Type 0 where
   pub table : IsTable t

@@ -28,13 +28,16 @@ pub fn count_places<R: Threads + Sync>(
 {
     let (plan, places, alloc) = (batch.plan, batch.places, crew.alloc);
     let share = share_of(places.len(), crew.workers);
-    let tables = thread::map_chunks(crew.rt, alloc, places, share, &|_, part: &[usize]|
-        -> Result<CountTable, AllocError>
-        requires { AreJobPlaces plan.entry.now part.now × (length part.now ≤ most_jobs) }
-        ensures { IfOk result (IsTableOfShare plan.entry.now part.entry.now) }
-    {
-        count_one_by_one(alloc, plan, part)
-    })?;
+    let tables = thread::map_chunks(
+        crew.rt,
+        alloc,
+        places,
+        share,
+        &|_, part: &[usize]| -> Result<CountTable, AllocError>
+            requires { AreJobPlaces plan.now part.now × (length part.now ≤ most_jobs) }
+            ensures { IfOk result (IsTableOfShare plan.entry.now part.entry.now) }
+        { count_one_by_one(alloc, plan, part) },
+    )?;
     sum_of_all(alloc, tables.as_slice())
 }
 
@@ -47,11 +50,7 @@ fn share_of(places: usize, workers: u32) -> usize
 }
 
 // The table of the jobs at some places, one after another.
-fn count_one_by_one(
-    alloc: Global,
-    plan: &Plan,
-    places: &[usize],
-) -> Result<CountTable, AllocError>
+fn count_one_by_one(alloc: Global, plan: &Plan, places: &[usize]) -> Result<CountTable, AllocError>
     requires within { AreJobPlaces plan.now places.now }
     requires few { length places.now ≤ most_jobs }
     ensures { IfOk result (IsTableOfShare plan.now places.now) }

@@ -1,18 +1,18 @@
 //! The table of one job of a plan.
 
-ghost use Rattle.std.specs.Prelude.{◌≡◌, ◌<◌, ◌^◌, ◌∷◌, [], ℕ, IfOk, Some, true, length, option_map};
+ghost use Rattle.std.specs.Prelude.{◌≡◌, ◌<◌, ◌∷◌, [], IfOk, Some, true, length, option_map};
 ghost use Rattle.std.specs.List.{AllByRecursion};
 ghost use Rattle.std.specs.Str.{IsUtf8};
 ghost use Rattle.sha2.specs.Sha256.{sha256};
 ghost use Rattle.rv_counts.specs.Lines.{lacks};
 ghost use Rattle.rv_counts.specs.Sum.{no_counts};
-ghost use Rattle.rv_counts.specs.Table.{AreCounts, IsTable, begun_at};
+ghost use Rattle.rv_counts.specs.Table.{AreCounts, IsTable};
 ghost use Rattle.rv_jobs.specs.declared_job.Job.{Job as AJob};
 ghost use Rattle.rv_jobs.specs.Plans.{kept_for};
 ghost use Rattle.rv_rows.specs.Rows.{image_if_read};
 ghost use Rattle.rv_text.specs.Printable.{printable_text};
 ghost use Rattle.rv_trace.specs.Trace.{job_at};
-ghost use Rattle.rv_coverage.specs.JobTables.{IsTableOfFew, IsTableOfJobs, image_bytes, table_of_run};
+ghost use Rattle.rv_coverage.specs.JobTables.{IsTableOfOne, image_bytes, table_of_run};
 
 use crate::count::count_job;
 use rv_counts::{Addresses, CountTable, ImageCounts, Images};
@@ -26,11 +26,13 @@ use std::alloc::{AllocError, Global};
 
 /// The table of the job at a place, which has the counts of its run, or that of no run where the job is refused. It takes
 /// the time of one more run and more, and memory for each address where an instruction began.
-pub(crate) fn count_place(alloc: Global, plan: &Plan, place: usize) -> Result<CountTable, AllocError>
+pub(crate) fn count_place(
+    alloc: Global,
+    plan: &Plan,
+    place: usize,
+) -> Result<CountTable, AllocError>
     requires { place < length plan.now.jobs }
-    ensures table { IfOk result (λ table. (d : AJob) → IsTableOfJobs plan.now.answers
-        (job_at plan.now place d ∷ []) table) }
-    ensures few { IfOk result (IsTableOfFew 1) }
+    ensures { IfOk result (λ table. (d : AJob) → IsTableOfOne plan.now.answers (job_at plan.now place d) table) }
 {
     let job = plan.job(place);
     let Some(bytes) = image_bytes(plan, place) else {
@@ -91,24 +93,29 @@ fn table_of_run(
     bytes: &[u8],
     addresses: Addresses,
 ) -> Result<CountTable, AllocError>
-    requires counts { AreCounts addresses }
-    requires few { (address : ℕ) → begun_at address addresses < 2 ^ 32 }
+    requires { AreCounts addresses }
     ensures value { IfOk result (λ table. table ≡ table_of_run path.now bytes.now addresses) }
     ensures table { IfOk result IsTable }
-    ensures few { IfOk result (IsTableOfFew 1) }
 {
     let digest = digest_of(alloc, bytes)?;
     let path = shown_path(alloc, path)?;
+    let images = images_of_one(
+        alloc,
+        ImageCounts {
+            digest,
+            path,
+            addresses,
+        },
+    )?;
+    Ok(CountTable { images, runs: 1 })
+}
+
+fn images_of_one(alloc: Global, image: ImageCounts) -> Result<Images, AllocError>
+    ensures { IfOk result (λ images. images ≡ image ∷ []) }
+{
     let mut images = Vec::with_capacity(alloc, 1)?;
-    images.push(ImageCounts {
-        digest,
-        path,
-        addresses,
-    })?;
-    Ok(CountTable {
-        images: Images::new(images),
-        runs: 1,
-    })
+    images.push(image)?;
+    Ok(Images::new(images))
 }
 
 fn digest_of(alloc: Global, bytes: &[u8]) -> Result<Bytes, AllocError>
@@ -117,15 +124,22 @@ fn digest_of(alloc: Global, bytes: &[u8]) -> Result<Bytes, AllocError>
     ensures bytes { IfOk result (λ digest. AllByRecursion (λ b. b < 256) digest) }
 {
     let digest = Sha256::digest(bytes);
-    let mut copy = Vec::with_capacity(alloc, 32)?;
-    copy.extend_from_slice(&digest)?;
+    copy_of(alloc, &digest)
+}
+
+fn copy_of(alloc: Global, bytes: &[u8]) -> Result<Bytes, AllocError>
+    ensures value { IfOk result (λ copy. copy ≡ bytes.now) }
+    ensures bytes { IfOk result (λ copy. AllByRecursion (λ b. b < 256) copy) }
+{
+    let mut copy = Vec::with_capacity(alloc, bytes.len())?;
+    copy.extend_from_slice(bytes)?;
     Ok(Bytes::new(copy))
 }
 
 // A path as a table has it: text without line feeds.
 fn shown_path(alloc: Global, path: &str) -> Result<Text, AllocError>
     ensures value { IfOk result (λ text. text ≡ printable_text path.now) }
-    ensures text { IfOk result (λ text. IsUtf8 text) }
+    ensures text { IfOk result IsUtf8 }
     ensures line { IfOk result (λ text. lacks 10 text ≡ true) }
 {
     let mut bytes = Vec::new(alloc);
