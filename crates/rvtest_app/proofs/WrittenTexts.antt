@@ -1,5 +1,5 @@
 -- Texts that were written.
-use Rattle.std.proofs.Common.{◌≡◌, ◌∙◌, ◌++◌, ◌∷◌, ℕ, List, [], Option, Some, None, false, ap, append-nil, codes, refl, sym}
+use Rattle.std.proofs.Common.{◌≡◌, ◌∙◌, ◌++◌, ◌∷◌, ℕ, List, [], Option, Some, None, false, ap, append-nil, codes, refl, subst, sym}
 use Rattle.std.specs.Io.KnownBytes.{Appends}
 use Rattle.rv_files.specs.Placed.{PlacedFile, placed_file}
 use Rattle.rvtest_app.proofs.PutTexts.{appends_nothing}
@@ -37,7 +37,7 @@ pub written_file : (path : Option (List ℕ)) (name text : List ℕ) (before aft
     → is_stdout name ≡ false → after.out ≡ before.out → after.errors ≡ before.errors → after.failures ≡ before.failures
     → AreFilesPlaced before.placed after.placed (Some (placed_file name text ∷ [])) → IsWrittenAt path text before after
 written_file path name text before after is file out errors failures placed = rw (is, file) (record {
-  out = rw out (appends_nothing before.out);
+  out = subst (λ (o : Option (List ℕ)). Appends before.out o []) (sym out) (appends_nothing before.out);
   errors = errors;
   failures = failures;
   placed = placed;

@@ -4,7 +4,7 @@ ghost use Rattle.std.specs.Prelude.{◌≡◌, ◌≤◌, IfErr, IfOk, OnErr};
 ghost use Rattle.rv_counts.specs.Sum.{no_counts};
 ghost use Rattle.rv_counts.specs.Table.{IsTable};
 ghost use Rattle.rv_counts.specs.Text.{table_text};
-ghost use Rattle.rvtest_app.specs.CountStops.{IsCountsStop, IsReadErrorStop, IsSumErrorStop, IsSumStop, IsTableFaultStop, IsUnaddedStop};
+ghost use Rattle.rvtest_app.specs.CountStops.{IsCountsStop, IsReadErrorStop, IsSumErrorStop, IsSumStop, IsTableFaultStop, IsUnaddedStop, great_count_message};
 ghost use Rattle.rvtest_app.specs.CountSums.{AreAdded, IsAdded, IsSumPut};
 ghost use Rattle.rvtest_app.specs.Said.{said};
 
@@ -17,7 +17,7 @@ use rv_counts::{CountTable, Images, ReadError, SumError, read_table, sum_of_tabl
 use rv_files::{Inputs, Outputs};
 use rv_rows::Sink;
 use rv_text::{Span, text_of_spans};
-use std::alloc::Global;
+use std::alloc::{AllocError, Global};
 
 /// Adds up the tables of counts at some paths, and writes the sum. The status is 0.
 pub(crate) fn put_sum_of_tables<D: Inputs, F: Outputs + Drop, O: Sink + Drop, E: Sink + Drop>(
@@ -105,19 +105,28 @@ fn sum_error_stop(alloc: Global, path: &str, error: SumError) -> Stop
 {
     match error {
         SumError::OutOfMemory => Stop::OutOfMemory,
-        SumError::Count(address) => Stop::of_refusal(text_of_spans(
-            alloc,
-            &[
-                Span::Text("rvtest: "),
-                Span::Shown(path.as_bytes()),
-                Span::Text(": a count of "),
-                Span::Word(address),
-                Span::Text(" does not fit in 64 bits\n"),
-            ],
-        )),
+        SumError::Count(address) => {
+            Stop::of_refusal(great_count_message(alloc, path, address))
+        }
         SumError::Runs => {
             let what = "the number of runs does not fit in 64 bits";
             Stop::of_refusal(path_message(alloc, path, what))
         }
     }
+}
+
+#[tactic(auto, unfolding(rv_text::specs::Words::word_digits))]
+fn great_count_message(alloc: Global, path: &str, address: u32) -> Result<Vec<u8>, AllocError>
+    ensures { IfOk result (λ text. text.items ≡ great_count_message path.now address) }
+{
+    text_of_spans(
+        alloc,
+        &[
+            Span::Text("rvtest: "),
+            Span::Shown(path.as_bytes()),
+            Span::Text(": a count of "),
+            Span::Word(address),
+            Span::Text(" does not fit in 64 bits\n"),
+        ],
+    )
 }

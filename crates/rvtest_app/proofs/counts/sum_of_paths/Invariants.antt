@@ -6,4 +6,4 @@ use Rattle.rvtest_app.proofs.counts.sum_of_paths.Given as goal
 
 abbrev pub invariant-loop-path : goal.invariant-loop-path
 invariant-loop-path g l =
-    AreAdded (g.D.Inputs.contents l.inputs.now) (take l.path-index l.paths.now) no_counts l.sum × IsTable l.sum
+    AreAdded (g.D.Inputs.contents l.inputs) (take l.path-index l.paths) no_counts l.sum × IsTable l.sum
