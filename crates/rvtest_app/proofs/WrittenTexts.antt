@@ -36,9 +36,9 @@ written_out path text before after is out errors failures placed = rw is (record
 pub written_file : (path : Option (List ℕ)) (name text : List ℕ) (before after : Said) → path ≡ Some name
     → is_stdout name ≡ false → after.out ≡ before.out → after.errors ≡ before.errors → after.failures ≡ before.failures
     → AreFilesPlaced before.placed after.placed (Some (placed_file name text ∷ [])) → IsWrittenAt path text before after
-written_file path name text before after is file out errors failures placed = rw (is, file) (record {
-  out = subst (λ (o : Option (List ℕ)). Appends before.out o []) (sym out) (appends_nothing before.out);
+written_file path name text before after is file out errors failures placed = rw is (record {
+  out = rw file (subst (λ (o : Option (List ℕ)). Appends before.out o []) (sym out) (appends_nothing before.out));
   errors = errors;
   failures = failures;
-  placed = placed;
+  placed = rw file placed;
 })

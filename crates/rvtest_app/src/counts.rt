@@ -115,7 +115,6 @@ fn sum_error_stop(alloc: Global, path: &str, error: SumError) -> Stop
     }
 }
 
-#[tactic(auto, unfolding(rv_text::specs::Words::word_digits))]
 fn great_count_message(alloc: Global, path: &str, address: u32) -> Result<Vec<u8>, AllocError>
     ensures { IfOk result (λ text. text.items ≡ great_count_message path.now address) }
 {
