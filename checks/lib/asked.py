@@ -1,4 +1,5 @@
 """The forms of rows of words: what they ask for, how they are refused, which jobs they choose; and where jobs of lists begin."""
+import hashlib
 import re
 
 import images
@@ -171,6 +172,63 @@ def check_stopped(row):
             raise ValueError(f"{' '.join(crew)}: the report ends with {last}, and not with {row['last']}")
 
 
+# ---- sums of counts
+
+def check_added(row):
+    """The status of words over tables of counts, what goes out and is said, and what stands in the file out."""
+    row.write("list.toml", jobs(["a"]))
+    for name in "abc":
+        row.write(name, row[name])
+    row.wants(row["words"].split(), int(row["status"]), row["shown"], lines(*lines_in(row["told"])))
+    out = row.folder / "out"
+    found = out.read_text(encoding="utf-8") if out.exists() else ""
+    if found != row["out"]:
+        raise ValueError(f"out has {found!r}, and not {row['out']!r}")
+
+
+# ---- counts
+
+def check_counted(row):
+    """The status of a run that counts, and its table; the report and what is shown are as without it."""
+    made = {}
+    for line in lines_in(row["jobs"]):
+        name, *words = line.split()
+        if words[0] == "=":
+            made[name] = words[1]
+        elif words[0] != "gone":
+            row.write(f"{name}.elf", images.image(" ".join(words)))
+    keys = "\n".join(lines_of_keys(row["keys"]))
+    row.write("list.toml", "".join(f"[[job]]\nname = '{line.split()[0]}'\nimage = '{made.get(line.split()[0], line.split()[0])}.elf'\n{keys}\n"
+                                   for line in lines_in(row["jobs"])))
+    words = ["run", "list.toml", *row["words"].split()]
+    plain, report = ([], []) if "--budget" in words else (["--report", "plain"], ["--report", "report"])
+    status, shown, told = row.run([*words, *plain])
+    row.wants([*words, *report, "--counts", "counts"], int(row["status"]), shown, told)
+    if report and (row.folder / "report").read_bytes() != (row.folder / "plain").read_bytes():
+        raise ValueError("the report is another one than without --counts")
+    found = (row.folder / "counts").read_text(encoding="utf-8")
+    if found != (wanted := table_of_counts(row, lines_in(row["counts"]))):
+        raise ValueError(f"the table is {found!r}, and not {wanted!r}")
+    row.wants([*words, "--counts", "-"], int(row["status"]), found, told + shown)
+
+
+def lines_of_keys(keys):
+    return [key.strip() for key in keys.split(",")]
+
+
+def table_of_counts(row, stated):
+    """The table that lines state, with its images in the order of their digests."""
+    parts = []
+    for line in stated[:-1]:
+        if line.startswith("image "):
+            name = line.split()[1]
+            digest = hashlib.sha256((row.folder / f"{name}.elf").read_bytes()).hexdigest()
+            parts.append([f"image {digest} {name}.elf"])
+        else:
+            parts[-1].append(line)
+    return "\n".join(["rvcounts 1", *(line for part in sorted(parts) for line in part), stated[-1]]) + "\n"
+
+
 # ---- lines
 
 def check_lines(row):
@@ -189,7 +247,9 @@ def fronts(out):
 
 
 FORMS = {
+    "added": Form(check_added, "words status shown told out a b c"),
     "choices": Form(check_choice, "jobs words failed status chosen said"),
+    "counted": Form(check_counted, "jobs keys words status counts"),
     "full": Form(check_full_disk, "words said not_there"),
     "help": Form(check_help, "words shown"),
     "into": Form(check_into, "jobs words old status shown said then whole junit"),

@@ -38,6 +38,7 @@ SCRIPTS = {
     "grammar": ([], False),
     "memory": ([], False),
     "doors": ([], False),
+    "kit_counts": ([], False),
     "samples": ([], False),
     "version": ([], False),
     "pages": ([], True),

@@ -141,6 +141,10 @@ with_junit app = with_rule (with_rule (with_rule app (file_rule (codes "junit"))
 abbrev pub with_files : App → App
 with_files app = with_junit (with_rule app (file_rule (codes "report")))
 
+-- [--counts <FILE>]
+abbrev pub with_counts : App → App
+with_counts app = with_rule app (file_rule (codes "counts"))
+
 -- [--known <FILE>]
 abbrev pub with_known : App → App
 with_known app = with_rule app (file_rule (codes "known"))
@@ -167,8 +171,8 @@ app_of_list name = with_rule (new_app name) (word_rule (codes "list"))
 
 abbrev pub test_run_app : App
 test_run_app =
-    with_results (with_stop_after (with_known (with_files (with_into (with_machine (with_shard (with_choice
-    (app_of_list (codes "run")))))))))
+    with_results (with_stop_after (with_known (with_counts (with_files (with_into (with_machine (with_shard (with_choice
+    (app_of_list (codes "run"))))))))))
 
 -- list <LIST> [--only <NAME>].. [--match <REGEX>] [--exclude <REGEX>] [--failed <REPORT>] [--partial] [--lenient]
 abbrev pub list_app : App
@@ -221,6 +225,10 @@ diff_app = with_color (with_rule (with_rule (with_partial (with_rule (with_rule 
 abbrev pub show_app : App
 show_app = with_color (with_junit (with_partial (with_rule (new_app (codes "show")) (word_rule (codes "report")))))
 
+-- counts <TABLE>.. [--out <FILE>]
+abbrev pub counts_app : App
+counts_app = with_rule (with_rule (new_app (codes "counts")) (repeated_rule (word_rule (codes "table")))) (file_rule (codes "out"))
+
 -- a subcommand is required, the help of `clap` is none of them, and there is a version
 abbrev pub test_top_app : App
 test_top_app = let app = new_app (codes "rvtest") in
@@ -249,4 +257,4 @@ help_app = with_rule (new_app (codes "help")) (word_rule (codes "topic"))
 
 -- the whole command
 abbrev pub test_app : App
-test_app = with_subcommand (with_reports (with_lists test_top_app)) help_app.top
+test_app = with_subcommand (with_subcommand (with_reports (with_lists test_top_app)) counts_app.top) help_app.top

@@ -18,6 +18,7 @@ use Rattle.rv_cli.specs.declared.rvtest.requests.Asked.{Asked}
 use Rattle.rv_cli.specs.declared.rvtest.requests.Asked.TheVariants as asked
 use Rattle.rv_cli.specs.declared.rvtest.run.RunAsked.{RunAsked}
 use Rattle.rv_cli.specs.declared.rvtest.accept.AcceptAsked.{AcceptAsked}
+use Rattle.rv_cli.specs.declared.rvtest.counts.CountsAsked.{CountsAsked}
 use Rattle.rv_cli.specs.declared.rvtest.explain.ExplainAsked.{ExplainAsked}
 use Rattle.rv_cli.specs.declared.rvtest.merge.MergeAsked.{MergeAsked}
 use Rattle.rv_cli.specs.declared.rvtest.show.ShowAsked.{ShowAsked}
@@ -45,6 +46,7 @@ pub record RunWords : Type 0 where
   pub junit : Option Text
   pub suite : Option Text
   pub lenient : Bool
+  pub counts : Option Text
   pub known : Option Text
   pub stop_after : Option ℕ
   pub verbose : Bool
@@ -94,10 +96,15 @@ pub record AcceptWords : Type 0 where
   pub ends : Bool
   pub check : Bool
 
+-- tables of counts that are to be added up, with the path of the sum
+pub record CountsWords : Type 0 where
+  pub tables : List Text
+  pub out : Option Text
+
 -- to run jobs; to say which jobs a run of these words would run; to explain one; to write the console of one, whose paths are taken
 -- from a folder; to say all that is wrong with a list, whose paths are taken from a
--- folder; to accept what runs came to; to merge parts; to compare two reports, with their steps or without, or by which jobs are slower; to show one; to tell of
--- something that is no command
+-- folder; to accept what runs came to; to merge parts; to compare two reports, with their steps or without, or by which jobs are slower; to show one; to add up tables of counts; to
+-- tell of something that is no command
 pub data Words : Type 0 where
   run : RunWords → Words
   names : RunWords → Words
@@ -108,6 +115,7 @@ pub data Words : Type 0 where
   merge : MergeWords → Words
   diff : DiffWords → Words
   show : ShowWords → Words
+  counts : CountsWords → Words
   help : Text → Words
 
 -- the budget that each job takes in place of its own
@@ -135,6 +143,7 @@ run_words list group rows = record {
   junit = first_of (codes "junit") rows;
   suite = first_of (codes "suite") rows;
   lenient = is_flag_set (codes "lenient") rows;
+  counts = first_of (codes "counts") rows;
   known = first_of (codes "known") rows;
   stop_after = number_value (codes "stop-after") 1 most_jobs rows;
   verbose = is_flag_set (codes "verbose") rows;
@@ -220,6 +229,12 @@ show_words rows report = show (record {
 abbrev pub show_request : List Row → Option Words
 show_request rows = option_map (show_words rows) (first_of (codes "report") rows)
 
+abbrev pub counts_request : List Row → Words
+counts_request rows = counts (record {
+  tables = argument_values (codes "table") rows;
+  out = first_of (codes "out") rows;
+})
+
 abbrev pub help_request : List Row → Option Words
 help_request rows = option_map help (first_of (codes "topic") rows)
 
@@ -234,6 +249,7 @@ subcommand_words name rows = if bytes_eq name (codes "run") then test_run_reques
     else if bytes_eq name (codes "merge") then Some (merge_request rows)
     else if bytes_eq name (codes "diff") then diff_request rows
     else if bytes_eq name (codes "show") then show_request rows
+    else if bytes_eq name (codes "counts") then Some (counts_request rows)
     else if bytes_eq name (codes "help") then help_request rows
     else None
 
@@ -264,6 +280,15 @@ is_report_path path rows = option_map_or (bytes_eq path) (first_of (codes "repor
 -- the rows go into the report at the path
 abbrev pub is_into_path : Text → List Row → Bool
 is_into_path path rows = option_map_or (bytes_eq path) (first_of (codes "into") rows) false
+
+-- JUnit's XML goes to a path
+abbrev pub is_junit_path : Text → List Row → Bool
+is_junit_path path rows = option_map_or (bytes_eq path) (first_of (codes "junit") rows) false
+
+-- the table of counts goes where a report or JUnit's XML goes, be that a file or standard output
+abbrev pub are_counts_put_over : List Row → Bool
+are_counts_put_over rows = option_map_or (λ path. is_report_path path rows || (is_into_path path rows || is_junit_path path rows))
+    (first_of (codes "counts") rows) false
 
 -- jobs are chosen by their names or by a report, or left out
 abbrev pub is_choice_given : List Row → Bool
@@ -322,7 +347,7 @@ choice_misuse rows = if is_partial_alone rows then Some misuse.PartialAlone else
 -- the first of the rules that options of `run` break: --verbose and --quiet do not stand beside
 -- one another, nor a shard beside a choice, nor a budget beside what makes rows that a list is known by, nor an end behind a failure
 -- beside a shard, nor a report of the rows beside one that they are put into, which is a file; a stamp is a shard's; a report that
--- chooses jobs keeps its other rows, and may be cut off; the two files are not one, and a suite is one of them
+-- chooses jobs keeps its other rows, and may be cut off; the files are not one, and a suite is JUnit's
 abbrev pub run_misuse : List Row → Option Misuse
 run_misuse rows = if is_flag_set (codes "verbose") rows && is_flag_set (codes "quiet") rows
     then Some misuse.VerboseAndQuiet
@@ -337,6 +362,7 @@ run_misuse rows = if is_flag_set (codes "verbose") rows && is_flag_set (codes "q
     else if is_choice_overwritten rows then Some misuse.FailedIsReport
     else if is_partial_alone rows then Some misuse.PartialAlone
     else if is_color_unknown rows then Some misuse.UnknownColor
+    else if are_counts_put_over rows then Some misuse.CountsOneFile
     else files_misuse rows
 
 -- steps are compared exactly, or by which jobs are slower
@@ -383,6 +409,8 @@ misuse_text misuse.OneFile =
     codes "the argument '--report <FILE>' cannot be used with '--junit <FILE>' of the same name: it is one file"
 misuse_text misuse.IntoOneFile =
     codes "the argument '--into <FILE>' cannot be used with '--junit <FILE>' of the same name: it is one file"
+misuse_text misuse.CountsOneFile =
+    codes "the argument '--counts <FILE>' cannot be used with '--report <FILE>', '--into <FILE>' or '--junit <FILE>' of the same name: it is one file"
 
 -- the faults of a subcommand with these values that `clap` does not look for
 abbrev pub subcommand_fault_kinds : Text → List Row → Kinds
@@ -428,6 +456,7 @@ run_asked_words value = record {
   junit = borrowed_text value.junit;
   suite = borrowed_text value.suite;
   lenient = value.lenient;
+  counts = borrowed_text value.counts;
   known = borrowed_text value.known;
   stop_after = value.stop_after;
   verbose = value.verbose;
@@ -475,6 +504,12 @@ diff_asked_words value = record {
   color = borrowed_text value.color;
 }
 
+abbrev pub counts_asked_words : CountsAsked → CountsWords
+counts_asked_words value = record {
+  tables = map (λ path. path.now) value.tables.items;
+  out = borrowed_text value.out;
+}
+
 abbrev pub accept_asked_words : AcceptAsked → AcceptWords
 accept_asked_words value = record {
   run = run_asked_words value.run;
@@ -492,6 +527,7 @@ asked_words (asked.Accept value) = accept (accept_asked_words value)
 asked_words (asked.Merge value) = merge (merge_asked_words value)
 asked_words (asked.Diff value) = diff (diff_asked_words value)
 asked_words (asked.Show value) = show (show_asked_words value)
+asked_words (asked.Counts value) = counts (counts_asked_words value)
 asked_words (asked.Help value) = help value.topic.now
 
 -- a job of a list may have this budget

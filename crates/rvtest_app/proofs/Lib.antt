@@ -4,6 +4,7 @@ mod AcceptStops
 mod AcceptedAgain
 mod AcceptedFiles
 mod Acceptances
+mod AddedTables
 mod ChosenTexts
 mod Numbers
 mod Sent
@@ -19,3 +20,4 @@ mod RunTellings
 mod Unwritten
 mod UnreadableWords
 mod WordsStops
+mod WrittenTexts

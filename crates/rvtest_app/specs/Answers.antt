@@ -9,6 +9,7 @@ use Rattle.rv_cli.specs.declared.rvtest.requests.Asked.TheVariants as asked
 use Rattle.rvtest_app.specs.Accepts.{IsAcceptedAt}
 use Rattle.rvtest_app.specs.Colors.{IsSaidInColors, asked_colors}
 use Rattle.rvtest_app.specs.Consoles.{IsConsolePut}
+use Rattle.rvtest_app.specs.CountSums.{IsSumPut}
 use Rattle.rvtest_app.specs.HelpTopics.{IsTopicTold}
 use Rattle.rvtest_app.specs.Lists.{IsListPut}
 use Rattle.rvtest_app.specs.Merges.{IsMergedAt}
@@ -39,6 +40,8 @@ IsDone known (asked.Diff words) status before after =
     IsDiffPut known words status before after
 IsDone known (asked.Show words) status before after =
     IsShownAt known words status before after
+IsDone known (asked.Counts words) status before after =
+    IsSumPut known words status before after
 IsDone known (asked.Help words) status before after =
     (text : List ℕ) × (IsTopicTold words.topic.now text status
     × IsOnlyPut text before after)

@@ -1,5 +1,5 @@
 -- Whether results have colours, and what is said where they have.
-use Rattle.std.specs.Prelude.{◌≡◌, ◌||◌, ℕ, Bool, List, Option, Some, None, codes, if◌then◌else◌}
+use Rattle.std.specs.Prelude.{◌≡◌, ℕ, Bool, List, Option, Some, None, codes, if◌then◌else◌}
 use Rattle.std.specs.Str.{bytes_eq}
 use Rattle.rv_cli.specs.declared.rvtest.requests.Asked.{Asked}
 use Rattle.rv_cli.specs.declared.rvtest.requests.Asked.TheVariants as asked
@@ -7,7 +7,7 @@ use Rattle.rv_colors.specs.ColorSinks.{IsOut}
 use Rattle.rv_colors.specs.declared.colors.Colors.{Colors}
 use Rattle.rv_colors.specs.declared.colors.Colors.TheVariants as colors
 use Rattle.rv_command.specs.Texts.{optional_text}
-use Rattle.rvtest_app.specs.IntoReports.{run_report_path}
+use Rattle.rvtest_app.specs.IntoReports.{uses_run_stdout}
 use Rattle.rvtest_app.specs.Outlets.{is_stdout_at}
 use Rattle.rvtest_app.specs.Said.{Said}
 
@@ -21,17 +21,17 @@ colors_of_word (Some word) is_terminal = if bytes_eq word (codes "always") then 
 colors_of_word None is_terminal = terminal_colors is_terminal
 
 -- a file that goes to standard output has none
-abbrev pub file_colors : Option (List ℕ) → Option (List ℕ) → Colors → Colors
-file_colors report junit asked = if is_stdout_at report || is_stdout_at junit then colors.Without else asked
+abbrev pub beside_file : Bool → Colors → Colors
+beside_file uses_stdout asked = if uses_stdout then colors.Without else asked
 
 -- what words ask for, where standard output is a terminal for colours, or is none; names, consoles, faults and reports have none
 abbrev pub asked_colors : Asked → Bool → Colors
-asked_colors (asked.Run words) is_terminal = file_colors (run_report_path words) (optional_text words.junit)
-    (colors_of_word (optional_text words.color) is_terminal)
+asked_colors (asked.Run words) is_terminal =
+    beside_file (uses_run_stdout words) (colors_of_word (optional_text words.color) is_terminal)
 asked_colors (asked.Explain words) is_terminal = colors_of_word (optional_text words.color) is_terminal
 asked_colors (asked.Diff words) is_terminal = colors_of_word (optional_text words.color) is_terminal
 asked_colors (asked.Show words) is_terminal =
-    file_colors None (optional_text words.junit) (colors_of_word (optional_text words.color) is_terminal)
+    beside_file (is_stdout_at (optional_text words.junit)) (colors_of_word (optional_text words.color) is_terminal)
 asked_colors _ is_terminal = colors.Without
 
 -- what is said, and the same with the results on standard output in their colours: nothing else has any

@@ -25,6 +25,7 @@ use Rattle.rv_report.specs.declared.partial.PartialReport.{PartialReport}
 use Rattle.rvtest_app.specs.AcceptStops.{IsUnacceptedStop}
 use Rattle.rvtest_app.specs.Answers.{AskForHelp}
 use Rattle.rvtest_app.specs.Commands.{failure_rule}
+use Rattle.rvtest_app.specs.CountStops.{IsCountsStop}
 use Rattle.rvtest_app.specs.HelpTopics.{IsNoTopicStop}
 use Rattle.rvtest_app.specs.MergeStops.{IsMergeStop}
 use Rattle.rvtest_app.specs.PutStops.{IsOutputStop}
@@ -90,6 +91,7 @@ IsCommandStop known (asked.Run words) why = IsRunStop known words why
 IsCommandStop known (asked.Accept words) why = IsAcceptStop known words why
 IsCommandStop known (asked.Merge words) why = IsMergeStop known words why
 IsCommandStop known (asked.Show words) why = IsShowStop known words why
+IsCommandStop known (asked.Counts words) why = IsCountsStop known words why
 
 -- words have a fault of some kind, which is not that they ask for help
 abbrev pub AreFaulty : List (List ℕ) → Type 0

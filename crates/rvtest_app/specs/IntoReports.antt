@@ -1,5 +1,5 @@
 -- The rows of a run that are put into the whole report of their list.
-use Rattle.std.specs.Prelude.{◌≡◌, ℕ, List, [], ◌∷◌, IsSomeAnd, MatchOption, Option, Some, None, map, slice_set}
+use Rattle.std.specs.Prelude.{◌≡◌, ◌||◌, ℕ, Bool, List, [], ◌∷◌, IsSomeAnd, MatchOption, Option, Some, None, map, slice_set}
 use Rattle.std.specs.Option.{option_or}
 use Rattle.rv_base.specs.Files.{FileContents}
 use Rattle.rv_cli.specs.declared.rvtest.run.RunAsked.{RunAsked}
@@ -12,6 +12,7 @@ use Rattle.rv_report.specs.declared.saved.Extent.TheVariants as extent
 use Rattle.rv_report.specs.declared.saved.SavedReport.{SavedReport}
 use Rattle.rv_report.specs.declared.saved.Shard.{Shard}
 use Rattle.rv_stream.specs.Streams.{joined_row_texts}
+use Rattle.rvtest_app.specs.Outlets.{is_stdout_at}
 use Rattle.rvtest_app.specs.RunOutput.{chosen_last_line, chosen_report_text}
 
 -- ---- the whole report
@@ -60,3 +61,8 @@ run_report_rest None jobs places shard rows = chosen_last_line jobs places shard
 -- the path at which it is put
 abbrev pub run_report_path : RunAsked → Option (List ℕ)
 run_report_path words = option_or (optional_text words.into) (optional_text words.report)
+
+-- whether one of the files that words ask for goes to standard output
+abbrev pub uses_run_stdout : RunAsked → Bool
+uses_run_stdout words = (is_stdout_at (run_report_path words) || is_stdout_at (optional_text words.junit))
+    || is_stdout_at (optional_text words.counts)

@@ -20,12 +20,16 @@ abbrev pub junit_of : {T : Type 0} → (T → ℕ → Row → List ℕ) → File
 junit_of line texts = junit_text texts.suite.name.now (judging_of texts.suite.judge)
     (row_text_list (line texts.telling.now) texts.places.now (report_rows texts.report)) (report_rows texts.report)
 
--- what a command shows and the files that it makes at two paths went out: what it shows to standard error where one of the paths
--- stands for standard output
-pub record WentOut (report_path junit_path : Option (List ℕ)) (shown report junit : List ℕ) (before after : Said)
-    : Type 0 where
+-- what a command shows and the files that it makes at two paths went out: what it shows to standard error, or to standard output
+pub record WentOutBeside (is_beside : Bool) (report_path junit_path : Option (List ℕ)) (shown report junit : List ℕ)
+    (before after : Said) : Type 0 where
   pub middle : Said
-  pub seen : IsShown (is_stdout_at report_path || is_stdout_at junit_path) shown before middle
+  pub seen : IsShown is_beside shown before middle
   pub out : Appends middle.out after.out (stdout_at junit_path junit ++ stdout_at report_path report)
   pub quiet : (after.errors ≡ middle.errors) × (after.failures ≡ middle.failures)
   pub placed : AreFilesPlaced middle.placed after.placed (Some (file_at junit_path junit ++ file_at report_path report))
+
+-- what it shows goes to standard error where one of the paths stands for standard output
+abbrev pub WentOut : Option (List ℕ) → Option (List ℕ) → List ℕ → List ℕ → List ℕ → Said → Said → Type 0
+WentOut report_path junit_path shown report junit before after =
+    WentOutBeside (is_stdout_at report_path || is_stdout_at junit_path) report_path junit_path shown report junit before after

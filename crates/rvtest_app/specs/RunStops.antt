@@ -20,7 +20,8 @@ use Rattle.rvtest_app.specs.Commands.{failure_rule, stop_of_stream}
 use Rattle.rvtest_app.specs.IntoReports.{run_report_path}
 use Rattle.rvtest_app.specs.IntoStops.{IsIntoStop}
 use Rattle.rvtest_app.specs.KnownStops.{IsKnownStop}
-use Rattle.rvtest_app.specs.PutStops.{IsOutputStop, IsUnwrittenStop}
+use Rattle.rvtest_app.specs.Outlets.{file_path_at}
+use Rattle.rvtest_app.specs.PutStops.{IsFileStop, IsOutputStop, IsUnwrittenStop}
 use Rattle.rvtest_app.specs.Runs.{AreJobsToRun, AreRequestedJobs}
 
 -- the shard is refused; or no shard is asked for, and words choose no jobs
@@ -64,10 +65,14 @@ IsBothStop path (both.Second stream.Failed) why = IsUnwrittenStop path why
 IsBothStop path (both.Second stream.OutOfMemory) why = why ≡ stop.OutOfMemory
 IsBothStop path (both.Second stream.NoWorker) why = why ≡ stop.NoWorker
 
--- jobs that are asked for were not run, or the results or a file did not go out
-abbrev pub IsRunPutStop : RunAsked → Stop → Type 0
-IsRunPutStop words why = (why ≡ stop.NoWorker)
+-- jobs that are asked for were not run, or the results, the report or JUnit's file did not go out
+abbrev pub IsRowsPutStop : RunAsked → Stop → Type 0
+IsRowsPutStop words why = (why ≡ stop.NoWorker)
     ⊎ IsOutputStop (run_report_path words) (optional_text words.junit) why
+
+-- or the table of counts did not
+abbrev pub IsRunPutStop : RunAsked → Stop → Type 0
+IsRunPutStop words why = IsRowsPutStop words why ⊎ IsFileStop (file_path_at (optional_text words.counts)) why
 
 -- jobs that are to run were found, and that happened
 abbrev pub IsUnfinishedStop : Option FileContents → RunAsked → Stop → Type 0

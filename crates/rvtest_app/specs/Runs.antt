@@ -1,5 +1,5 @@
 -- The rows of a run of some jobs of a list, and its status.
-use Rattle.std.specs.Prelude.{◌≡◌, ◌⊎◌, ℕ, Bool, List, [], Ok, Option, Some, None, IfSome, length, take}
+use Rattle.std.specs.Prelude.{◌≡◌, ◌⊎◌, ◌++◌, ℕ, Bool, true, List, [], Ok, Option, Some, None, IfSome, is_some, length, take}
 use Rattle.rv_base.specs.Files.{FileContents}
 use Rattle.rv_choice.specs.Chosen.{IsChoice}
 use Rattle.rv_choice.specs.Shard.{IsShardOf, stamp_for}
@@ -21,6 +21,9 @@ use Rattle.rv_report.specs.declared.saved.Shard.{Shard}
 use Rattle.rv_report.specs.declared.row.Row.{Row}
 use Rattle.rv_rows.specs.Rows.{rows_at}
 use Rattle.rv_stream.specs.Streams.{row_text_list}
+use Rattle.rv_counts.specs.Text.{table_text}
+use Rattle.rv_counts.specs.declared.table.CountTable.{CountTable}
+use Rattle.rv_coverage.specs.JobTables.{IsTableOfPlaces}
 use Rattle.rv_expect.specs.Judgement.{Judging, fails}
 use Rattle.rv_rounds.specs.Rounds.{rows_up_to}
 use Rattle.rv_known.specs.declared.known_jobs.KnownJobs.{KnownJobs}
@@ -28,11 +31,12 @@ use Rattle.rvtest_app.specs.Commands.{failure_rule, requested_verbosity}
 use Rattle.rvtest_app.specs.KnownFiles.{IsKnownAt}
 use Rattle.rvtest_app.specs.MissingImages.{missing_images_note}
 use Rattle.rvtest_app.specs.Outlets.{AreFilesPlaced, file_at}
-use Rattle.rvtest_app.specs.Puts.{WentOut}
+use Rattle.rvtest_app.specs.Puts.{WentOutBeside}
 use Rattle.rvtest_app.specs.RunOutput.{rows_status, run_output_text}
-use Rattle.rvtest_app.specs.IntoReports.{AreOldRows, run_report_path, run_report_text}
+use Rattle.rvtest_app.specs.IntoReports.{AreOldRows, run_report_path, run_report_text, uses_run_stdout}
 use Rattle.rvtest_app.specs.JunitTexts.{suite_name}
 use Rattle.rvtest_app.specs.Said.{IsOnlyTold, Said}
+use Rattle.rvtest_app.specs.WrittenTexts.{IsWrittenAt}
 
 -- the places of the jobs that are marked
 abbrev pub places_of_marks : List Bool → List ℕ
@@ -106,13 +110,40 @@ run_rows stop_after judging plan places = rows_up_to stop_after (fails judging) 
 abbrev pub shown_places : List ℕ → List Row → List ℕ
 shown_places places rows = take (length rows) places
 
+-- the two files of these rows, where words ask for them
+abbrev pub junit_file : RunAsked → Telling → List ℕ → List Row → List PlacedFile
+junit_file words telling places rows =
+    file_at (optional_text words.junit) (run_junit words telling (shown_places places rows) rows)
+
+abbrev pub report_file : RunAsked → Telling → List ℕ → Option Shard → Option (List Row) → List Row → List PlacedFile
+report_file words telling places shard old rows = file_at (run_report_path words)
+    (run_report_text old (length telling.plan.jobs) (shown_places places rows) shard rows)
+
 -- a run that words ask for put these rows, of the first of the jobs at some places: their lines with the totals, the report, and
 -- JUnit's document
 abbrev pub IsRunPut : RunAsked → Telling → List ℕ → Option Shard → Option (List Row) → List Row → Said → Said → Type 0
-IsRunPut words telling places shard old rows before after = WentOut (run_report_path words) (optional_text words.junit)
+IsRunPut words telling places shard old rows before after =
+    WentOutBeside (uses_run_stdout words) (run_report_path words) (optional_text words.junit)
     (run_output_text (row_lines_at telling) telling.judging places rows)
     (run_report_text old (length telling.plan.jobs) (shown_places places rows) shard rows)
     (run_junit words telling (shown_places places rows) rows) before after
+
+-- the text of the table of counts of the runs of the jobs at some places
+abbrev pub IsCountsText : Planned → List ℕ → List ℕ → Type 0
+IsCountsText plan places text = (table : CountTable) × (IsTableOfPlaces plan places table × (text ≡ table_text table))
+
+-- it went to a path, if one is given
+abbrev pub AreCountsPut : Option (List ℕ) → Planned → List ℕ → Said → Said → Type 0
+AreCountsPut None plan places before after = IsWrittenAt None [] before after
+AreCountsPut (Some path) plan places before after =
+    (text : List ℕ) × (IsCountsText plan places text × IsWrittenAt (Some path) text before after)
+
+-- that run put these rows, and then the table of its counts
+pub record IsCountedRunPut (words : RunAsked) (telling : Telling) (places : List ℕ) (shard : Option Shard) (old : Option (List Row))
+    (rows : List Row) (before after : Said) : Type 0 where
+  pub middle : Said
+  pub put : IsRunPut words telling places shard old rows before middle
+  pub counted : AreCountsPut (optional_text words.counts) telling.plan (shown_places places rows) middle after
 
 -- over such a plan of the jobs, all with the budget that words ask for, it is said where paths are taken from, if every image
 -- is missing; and the rows of the jobs at some places went out as words ask for them: their lines with the totals, the report,
@@ -128,7 +159,7 @@ pub record IsRunOfPlaces (known : Option FileContents) (words : RunAsked) (failu
   pub judged : status ≡ rows_status (run_judging words failures) rows
   pub middle : Said
   pub noted : IsOnlyTold (missing_images_note plan.jobs unread (length places) (optional_text words.root)) before middle
-  pub put : IsRunPut words (run_telling words failures plan unread) places shard old rows middle after
+  pub put : IsCountedRunPut words (run_telling words failures plan unread) places shard old rows middle after
 
 -- the same of the jobs that are marked; where none are to run, the status is 0 and nothing more is said
 abbrev pub IsRunOfMarked : Option FileContents → RunAsked → Option KnownJobs → List Job → Option (List Bool) → Option Shard
@@ -153,30 +184,38 @@ pub record IsRunAt (known : Option FileContents) (words : RunAsked) (status : �
 
 -- ---- runs that an error ended
 
--- over a plan of the jobs, all with the budget that words ask for, JUnit's document of those at some places alone was put in its place
-pub record IsJunitAlone (known : Option FileContents) (words : RunAsked) (failures : Option KnownJobs) (jobs : List Job) (places : List ℕ)
-    (before after : Option (List PlacedFile)) : Type 0 where
+-- the files of the rows of a run that were put in their places where one behind them was not: JUnit's document alone, or, where counts are
+-- asked for, the report too
+abbrev pub AreRunFilesPlacedInPart : RunAsked → Telling → List ℕ → Option Shard → Option (List Row) → List Row
+    → Option (List PlacedFile) → Option (List PlacedFile) → Type 0
+AreRunFilesPlacedInPart words telling places shard old rows before after =
+    AreFilesPlaced before after (Some (junit_file words telling places rows))
+    ⊎ ((is_some words.counts ≡ true) × AreFilesPlaced before after
+    (Some (junit_file words telling places rows ++ report_file words telling places shard old rows)))
+
+-- over a plan of the jobs, all with the budget that words ask for, these files of those at some places alone were put in their places
+pub record IsRunInPart (known : Option FileContents) (words : RunAsked) (failures : Option KnownJobs) (jobs : List Job) (places : List ℕ)
+    (shard : Option Shard) (old : Option (List Row)) (before after : Option (List PlacedFile)) : Type 0 where
   pub plan : Planned
   pub unread : List Unread
   pub planned : IsPlanFor (contents_below (optional_text words.root) known) (with_budget words.budget jobs) places plan
       unread
   pub rows : List Row
   pub shown : rows ≡ run_rows words.stop_after (run_judging words failures) plan places
-  pub placed : AreFilesPlaced before after (Some (file_at (optional_text words.junit)
-      (run_junit words (run_telling words failures plan unread) (shown_places places rows) rows)))
+  pub placed : AreRunFilesPlacedInPart words (run_telling words failures plan unread) places shard old rows before after
 
--- no file was put in its place, or that document alone
-abbrev pub IsUndoneRunOfPlaces : Option FileContents → RunAsked → Option KnownJobs → List Job → List ℕ
-    → Option (List PlacedFile) → Option (List PlacedFile) → Type 0
-IsUndoneRunOfPlaces known words failures jobs places before after =
-    (after ≡ before) ⊎ IsJunitAlone known words failures jobs places before after
+-- no file was put in its place, or these alone
+abbrev pub IsUndoneRunOfPlaces : Option FileContents → RunAsked → Option KnownJobs → List Job → List ℕ → Option Shard
+    → Option (List Row) → Option (List PlacedFile) → Option (List PlacedFile) → Type 0
+IsUndoneRunOfPlaces known words failures jobs places shard old before after =
+    (after ≡ before) ⊎ IsRunInPart known words failures jobs places shard old before after
 
--- of the jobs that words ask for, that document alone was put in its place
-pub record IsJunitAloneAt (known : Option FileContents) (words : RunAsked) (before after : Option (List PlacedFile))
+-- of the jobs that words ask for, these files alone were put in their places
+pub record IsRunInPartAt (known : Option FileContents) (words : RunAsked) (before after : Option (List PlacedFile))
     : Type 0 where
   pub found : AreJobsToRun known words
-  pub alone : IsJunitAlone known words found.failures found.jobs (places_of_marks found.marks) before after
+  pub alone : IsRunInPart known words found.failures found.jobs (places_of_marks found.marks) found.shard found.old before after
 
--- a run that an error ended put no file in its place, or JUnit's document alone
+-- a run that an error ended put no file in its place, or these alone
 abbrev pub IsUndoneRunAt : Option FileContents → RunAsked → Option (List PlacedFile) → Option (List PlacedFile) → Type 0
-IsUndoneRunAt known words before after = (after ≡ before) ⊎ IsJunitAloneAt known words before after
+IsUndoneRunAt known words before after = (after ≡ before) ⊎ IsRunInPartAt known words before after

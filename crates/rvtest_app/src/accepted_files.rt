@@ -1,21 +1,20 @@
 //! The files that `accept` reads and writes.
 
-ghost use Rattle.std.specs.Prelude.{◌≡◌, ◌++◌, ◌∷◌, [], IfErr, IfOk, IfSome, OnErr, OnOk, Some};
+ghost use Rattle.std.specs.Prelude.{◌≡◌, ◌++◌, ◌∷◌, [], IfErr, IfOk, OnOk, Some};
 ghost use Rattle.rv_command.specs.Stops.{IsListUnreadStop};
 ghost use Rattle.rv_command.specs.Texts.{optional_text};
-ghost use Rattle.rv_files.specs.Placed.{placed_file};
 ghost use Rattle.rv_files.specs.UnreadPaths.{resolved_path};
 ghost use Rattle.rvtest_app.specs.AcceptStops.{AreTargetsUnread, IsOtherBytesStop, IsStopOfFiles, IsUncheckedStop, IsUnmadeStop};
-ghost use Rattle.rvtest_app.specs.Accepts.{AreGoldenFiles, IsOldAt, file_if, new_list_text, written_files};
+ghost use Rattle.rvtest_app.specs.Accepts.{AreGoldenFiles, IsOldAt, written_files};
 ghost use Rattle.rvtest_app.specs.Outlets.{AreFilesPlaced};
 
+use crate::written_text::write_file;
 use rv_accept::Target;
 use rv_accept_text::{Accepting, GoldenFile};
-use rv_command::{Stop, file_error_stop, path_message, read_file};
+use rv_command::{Stop, path_message, read_file};
 use rv_files::{InputError, Inputs, Outputs, io_error_text, read_whole_up_to};
 use rv_jobs::limits::MOST_BYTES;
 use rv_jobs::{Bytes, Text};
-use rv_rows::put_all;
 use std::alloc::{AllocError, Global};
 use std::io::ErrorKind;
 use std::path::Path;
@@ -99,38 +98,6 @@ pub(crate) fn write_accepted_files<F: Outputs>(
     match &accepting.new.text {
         Some(text) => write_file(files, alloc, accepting.list.path, text.as_slice()),
         None => Ok(()),
-    }
-}
-
-fn write_file<F: Outputs>(
-    files: &mut F,
-    alloc: Global,
-    path: &str,
-    bytes: &[u8],
-) -> Result<(), Stop>
-    ensures placed { OnOk result (AreFilesPlaced (F.placed files.old) (F.placed files.new)
-        (Some (placed_file path.now bytes.now ∷ []))) }
-    ensures same { OnErr result (F.placed files.new ≡ F.placed files.old) }
-    ensures stopped { IfErr result (IsUnmadeStop path.now) }
-{
-    let (place, mut file) = match files.create(alloc, path) {
-        Ok(made) => made,
-        Err(error) => return Err(file_error_stop(alloc, path, error)),
-    };
-    if put_all(&mut file, bytes).is_err() {
-        files.abandon(place);
-        return Err(Stop::of_failure(path_message(alloc, path, "write failed")));
-    }
-    let synced = match files.sync(file) {
-        Ok(synced) => synced,
-        Err(error) => {
-            files.abandon(place);
-            return Err(file_error_stop(alloc, path, error));
-        }
-    };
-    match files.place(place, synced) {
-        Ok(()) => Ok(()),
-        Err(error) => Err(file_error_stop(alloc, path, error)),
     }
 }
 

@@ -2,10 +2,10 @@
 
 ghost use Rattle.std.specs.Prelude.{◌≡◌};
 ghost use Rattle.rv_command.specs.Texts.{optional_text};
-ghost use Rattle.rvtest_app.specs.Colors.{asked_colors, colors_of_word, file_colors, terminal_colors};
+ghost use Rattle.rvtest_app.specs.Colors.{asked_colors, beside_file, colors_of_word, terminal_colors};
 
-use crate::into_report::run_report_path;
-use crate::outlets::is_stdout;
+use crate::into_report::uses_run_stdout;
+use crate::outlets::is_stdout_at;
 use rv_cli::rvtest::Asked;
 use rv_colors::Colors;
 
@@ -14,34 +14,33 @@ pub(crate) fn asked_colors(asked: &Asked<'_>, is_terminal: bool) -> Colors
     ensures { result ≡ asked_colors asked.now is_terminal }
 {
     match asked {
-        Asked::Run(asked) => file_colors(
-            run_report_path(asked),
-            asked.junit,
+        Asked::Run(asked) => beside_file(
+            uses_run_stdout(asked),
             colors_of_word(asked.color, is_terminal),
         ),
         Asked::Explain(asked) => colors_of_word(asked.color, is_terminal),
         Asked::Diff(asked) => colors_of_word(asked.color, is_terminal),
         Asked::Show(asked) => {
-            file_colors(None, asked.junit, colors_of_word(asked.color, is_terminal))
+            beside_file(
+                is_stdout_at(asked.junit),
+                colors_of_word(asked.color, is_terminal),
+            )
         }
         Asked::List(_)
         | Asked::Console(_)
         | Asked::Check(_)
         | Asked::Accept(_)
         | Asked::Merge(_)
+        | Asked::Counts(_)
         | Asked::Help(_) => Colors::Without,
     }
 }
 
 // A file that goes to standard output has no colours.
-fn file_colors(report: Option<&str>, junit: Option<&str>, colors: Colors) -> Colors
-    ensures { result ≡ file_colors (optional_text report.entry) (optional_text junit.entry) colors }
+fn beside_file(uses_stdout: bool, colors: Colors) -> Colors
+    ensures { result ≡ beside_file uses_stdout colors }
 {
-    match (report, junit) {
-        (Some(path), _) if is_stdout(path) => Colors::Without,
-        (_, Some(path)) if is_stdout(path) => Colors::Without,
-        _ => colors,
-    }
+    if uses_stdout { Colors::Without } else { colors }
 }
 
 fn colors_of_word(word: Option<&str>, is_terminal: bool) -> Colors

@@ -3,9 +3,10 @@
 ghost use Rattle.std.specs.Prelude.{◌≡◌, ◌<◌, length, vec_len};
 ghost use Rattle.std.specs.List.{All};
 ghost use Rattle.rv_command.specs.Texts.{optional_text};
-ghost use Rattle.rvtest_app.specs.IntoReports.{rows_put, run_report_path};
+ghost use Rattle.rvtest_app.specs.IntoReports.{rows_put, run_report_path, uses_run_stdout};
 
 use crate::chosen_rows::ChosenRows;
+use crate::outlets::is_stdout_at;
 use rv_cli::rvtest::RunAsked;
 use rv_fleet::Rows;
 use rv_report::Shard;
@@ -59,4 +60,11 @@ pub(crate) fn run_report_path<'a>(asked: &RunAsked<'a>) -> Option<&'a str>
     ensures { optional_text result ≡ run_report_path asked.now }
 {
     asked.into.or(asked.report)
+}
+
+/// Whether one of the files of a run goes to standard output.
+pub(crate) fn uses_run_stdout(asked: &RunAsked<'_>) -> bool
+    ensures { result ≡ uses_run_stdout asked.now }
+{
+    is_stdout_at(run_report_path(asked)) || is_stdout_at(asked.junit) || is_stdout_at(asked.counts)
 }

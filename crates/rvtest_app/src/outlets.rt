@@ -5,7 +5,7 @@ ghost use Rattle.std.specs.Io.KnownBytes.{Appends};
 ghost use Rattle.rv_base.specs.Sinks.{AppendsBeginning};
 ghost use Rattle.rv_command.specs.Texts.{optional_text};
 ghost use Rattle.rv_expect.specs.Judgement.{judging_of};
-ghost use Rattle.rvtest_app.specs.Outlets.{HasTaken, IsPutInto, file_path_at, has_no_failure, is_out, is_stdout};
+ghost use Rattle.rvtest_app.specs.Outlets.{HasTaken, IsPutInto, file_path_at, has_no_failure, is_out, is_stdout, is_stdout_at};
 ghost use Rattle.rvtest_app.specs.Outlets.{outlet_path, stdout_part, uses_stdout};
 ghost use Rattle.rvtest_app.specs.PutStops.{IsEitherFileStop, IsTextStop, IsUnopenedStop, IsUnwrittenStop, IsWriteErrorStop, stop_of_write_error};
 ghost use Rattle.rv_junit.specs.Junit.{junit_text};
@@ -70,8 +70,8 @@ pub(crate) fn open_outlets<'a, F: Outputs>(
     }
 }
 
-// A new file for the path, but where there is none; `-` is standard output.
-fn open_outlet<'a, F: Outputs>(
+/// A new file for the path, but where there is none; `-` is standard output.
+pub(crate) fn open_outlet<'a, F: Outputs>(
     files: &mut F,
     alloc: Global,
     path: Option<&'a str>,
@@ -94,6 +94,16 @@ pub(crate) fn is_stdout(path: &str) -> bool
     ensures { result ≡ is_stdout path.now }
 {
     path == "-"
+}
+
+/// Whether a path is given that stands for standard output.
+pub(crate) fn is_stdout_at(path: Option<&str>) -> bool
+    ensures { result ≡ is_stdout_at (optional_text path.entry) }
+{
+    match path {
+        Some(path) => is_stdout(path),
+        None => false,
+    }
 }
 
 fn open_file<'a, F: Outputs>(

@@ -1,32 +1,33 @@
 //! A run into the files that are asked for.
 
-ghost use Rattle.std.specs.Prelude.{◌≡◌, ◌≤◌, ◌++◌, [], ℕ, List, None, Option, Some, IfErr, IfOk, OnErr, OnOk, length};
+ghost use Rattle.std.specs.Prelude.{◌≡◌, ◌⊎◌, ◌≤◌, ◌++◌, [], ℕ, List, None, Option, Some, IfErr, IfOk, OnErr, OnOk, length};
 ghost use Rattle.std.specs.Io.KnownBytes.{Appends};
 ghost use Rattle.std.specs.List.Sorted.{IsStrictlyIncreasing};
 ghost use Rattle.std.specs.Option.{ForSome};
-ghost use Rattle.rv_command.specs.Texts.{optional_text};
 ghost use Rattle.rv_expect.specs.Judgement.{judging_of};
 ghost use Rattle.rv_fleet.specs.Choices.{AreJobPlaces};
 ghost use Rattle.rv_job_text.specs.Telling.{row_lines_at, telling_of};
 ghost use Rattle.rv_rows.specs.declared_row.Row.{Row as ARow};
 ghost use Rattle.rvtest_app.specs.FailureLines.{failure_lines};
-ghost use Rattle.rvtest_app.specs.IntoReports.{rows_ahead, run_report_path, run_report_text};
+ghost use Rattle.rvtest_app.specs.IntoReports.{rows_ahead, run_report_text, uses_run_stdout};
 ghost use Rattle.rvtest_app.specs.Outlets.{AreFilesPlaced, AreFilesPlacedInPart, HasTaken, IsPutInto, file_at, has_no_failure};
-ghost use Rattle.rvtest_app.specs.Outlets.{outlet_path, stdout_at, uses_stdout};
+ghost use Rattle.rvtest_app.specs.Outlets.{outlet_path, stdout_at};
 ghost use Rattle.rvtest_app.specs.Puts.{IsShown};
 ghost use Rattle.rvtest_app.specs.PutStops.{IsPutStop};
 ghost use Rattle.rvtest_app.specs.RowsFiles.{IsOutletOfRows};
 ghost use Rattle.rvtest_app.specs.RunOutput.{rows_status, run_output_text};
-ghost use Rattle.rvtest_app.specs.RunStops.{IsRowsStop, IsRunPutStop};
-ghost use Rattle.rvtest_app.specs.Runs.{IsRunPut, run_junit, run_rows, shown_places};
+ghost use Rattle.rvtest_app.specs.RunStops.{IsRowsPutStop, IsRowsStop, IsRunPutStop};
+ghost use Rattle.rvtest_app.specs.Runs.{AreRunFilesPlacedInPart, IsCountedRunPut, IsRunPut, junit_file, run_junit, run_rows};
 ghost use Rattle.rvtest_app.specs.Said.{said};
 
 use crate::chosen_rows::ChosenRows;
 use crate::destinations::Destinations;
 use crate::file_texts::FileTexts;
-use crate::into_report::{ReportFrame, run_report_path};
+use crate::into_report::{ReportFrame, run_report_path, uses_run_stdout};
 use crate::junit_class::suite_name;
-use crate::outlets::{OpenFile, Outlet, Outlets, abandon_outlets, open_outlets};
+use crate::outlets::{
+    OpenFile, Outlet, Outlets, abandon_outlet, abandon_outlets, open_outlet, open_outlets,
+};
 use crate::planned_run::PlannedRun;
 use crate::puts::put_files;
 use crate::report_texts::framed_report;
@@ -47,7 +48,7 @@ use std::thread::Threads;
 use std::time::Clock;
 
 impl<'x, R: Threads + Wait + Sync + Clock, D: Inputs> ListRun<'x, R, D> {
-    /// Runs the jobs at some places of a plan. Both files are opened before the first of them runs.
+    /// Runs the jobs at some places of a plan. All files are opened before the first of them runs.
     pub(crate) fn run_planned_jobs<
         J: RowLines + Send + Sync,
         F: Outputs + Drop,
@@ -70,21 +71,76 @@ impl<'x, R: Threads + Wait + Sync + Clock, D: Inputs> ListRun<'x, R, D> {
         requires whole { ForSome frame.old (λ rows. length rows ≡ length telling.now.plan.now.jobs) }
         ensures status { IfOk result.1 (λ status. status ≡ rows_status (judging_of telling.now.judge) (run_rows
             self.now.asked.now.stop_after (judging_of telling.now.judge) telling.now.plan.now places.now)) }
-        ensures said { OnOk result.1 (IsRunPut self.now.asked.now (telling_of telling.now) places.now frame.shard frame.old
+        ensures said { OnOk result.1 (IsCountedRunPut self.now.asked.now (telling_of telling.now) places.now frame.shard frame.old
             (run_rows self.now.asked.now.stop_after (judging_of telling.now.judge) telling.now.plan.now places.now)
             (said F.placed O.taken E.taken E.failed to) (said F.placed O.taken E.taken E.failed result.0)) }
         ensures part { (rows : List ARow) → rows ≡ run_rows self.now.asked.now.stop_after (judging_of telling.now.judge)
-            telling.now.plan.now places.now → OnErr result.1 (AreFilesPlacedInPart (F.placed to.files) (F.placed result.0.files)
-            (Some (file_at (optional_text self.now.asked.now.junit) (run_junit self.now.asked.now
-            (telling_of telling.now) (shown_places places.now rows) rows)))) }
+            telling.now.plan.now places.now → OnErr result.1 ((F.placed result.0.files ≡ F.placed to.files)
+            ⊎ AreRunFilesPlacedInPart self.now.asked.now (telling_of telling.now) places.now frame.shard frame.old rows
+            (F.placed to.files) (F.placed result.0.files)) }
         ensures stopped { IfErr result.1 (IsRunPutStop self.now.asked.now) }
+    {
+        let mut to = to;
+        let counts = match open_outlet(&mut to.files, self.host.alloc, self.asked.counts) {
+            Ok(counts) => counts,
+            Err(stop) => return (to, Err(stop)),
+        };
+        let (mut to, shown, put) = self.run_into_files::<J, F, O, E, P>(
+            telling, places, frame, to, terminals,
+        );
+        let status = match put {
+            Ok(status) => status,
+            Err(stop) => {
+                abandon_outlet(&mut to.files, counts);
+                return (to, Err(stop));
+            }
+        };
+        match self.put_counts(telling.plan, &places[..shown], counts, &mut to) {
+            Ok(()) => (to, Ok(status)),
+            Err(stop) => (to, Err(stop)),
+        }
+    }
+
+    // Runs them, and puts what is shown of them, their report and JUnit's file; and says how many of them were run.
+    fn run_into_files<
+        J: RowLines + Send + Sync,
+        F: Outputs + Drop,
+        O: Sink + Drop + Send,
+        E: Sink + Drop + Send,
+        P: Write + Drop + Send,
+    >(
+        &self,
+        telling: &RowTelling<'_>,
+        places: &[usize],
+        frame: ReportFrame,
+        to: Destinations<F, O, E>,
+        terminals: Terminals<P>,
+    ) -> (Destinations<F, O, E>, usize, Result<u8, Stop>)
+    where
+        F::File: Send,
+        requires within { AreJobPlaces telling.now.plan.now places.now }
+        requires rising { IsStrictlyIncreasing places.now }
+        requires lines { J.lines ≡ failure_lines (telling_of telling.now) }
+        requires whole { ForSome frame.old (λ rows. length rows ≡ length telling.now.plan.now.jobs) }
+        ensures shown { OnOk result.2 (result.1 ≡ length (run_rows
+            self.now.asked.now.stop_after (judging_of telling.now.judge) telling.now.plan.now places.now)) }
+        ensures few { OnOk result.2 (result.1 ≤ length places.now) }
+        ensures status { IfOk result.2 (λ status. status ≡ rows_status (judging_of telling.now.judge) (run_rows
+            self.now.asked.now.stop_after (judging_of telling.now.judge) telling.now.plan.now places.now)) }
+        ensures said { OnOk result.2 (IsRunPut self.now.asked.now (telling_of telling.now) places.now frame.shard frame.old
+            (run_rows self.now.asked.now.stop_after (judging_of telling.now.judge) telling.now.plan.now places.now)
+            (said F.placed O.taken E.taken E.failed to) (said F.placed O.taken E.taken E.failed result.0)) }
+        ensures part { (rows : List ARow) → rows ≡ run_rows self.now.asked.now.stop_after (judging_of telling.now.judge)
+            telling.now.plan.now places.now → OnErr result.2 (AreFilesPlacedInPart (F.placed to.files) (F.placed result.0.files)
+            (Some (junit_file self.now.asked.now (telling_of telling.now) places.now rows))) }
+        ensures stopped { IfErr result.2 (IsRowsPutStop self.now.asked.now) }
     {
         let (alloc, asked) = (self.host.alloc, self.asked);
         let mut to = to;
         let report = run_report_path(asked);
         let outlets = match open_outlets(&mut to.files, alloc, report, asked.junit) {
             Ok(outlets) => outlets,
-            Err(stop) => return (to, Err(stop)),
+            Err(stop) => return (to, 0, Err(stop)),
         };
         let kept = Mutex::new(KeptLines::<J>::new(alloc));
         let planned = PlannedRun {
@@ -97,13 +153,14 @@ impl<'x, R: Threads + Wait + Sync + Clock, D: Inputs> ListRun<'x, R, D> {
         );
         match ran {
             Ok(rows) => {
-                let shown = planned.first_jobs(rows.as_slice().len());
-                let put = self.put_run_files(&shown, frame, rows, outlets, &mut to);
-                (to, put)
+                let shown = rows.as_slice().len();
+                let first = planned.first_jobs(shown);
+                let put = self.put_run_files(&first, frame, rows, outlets, &mut to);
+                (to, shown, put)
             }
             Err(stop) => {
                 abandon_outlets(&mut to.files, outlets);
-                (to, Err(stop))
+                (to, 0, Err(stop))
             }
         }
     }
@@ -135,7 +192,7 @@ impl<'x, R: Threads + Wait + Sync + Clock, D: Inputs> ListRun<'x, R, D> {
             (judging_of planned.now.telling.now.judge) planned.now.telling.now.plan.now planned.now.places.now) }
         ensures few { IfOk result.2 (λ rows. length rows ≤ length planned.now.places.now) }
         ensures files { result.0.files ≡ to.files }
-        ensures shown { OnOk result.2 (IsShown (uses_stdout outlets.entry) (run_output_text
+        ensures shown { OnOk result.2 (IsShown (uses_run_stdout self.now.asked.now) (run_output_text
             (row_lines_at (telling_of planned.now.telling.now)) (judging_of planned.now.telling.now.judge)
             planned.now.places.now (run_rows self.now.asked.now.stop_after
             (judging_of planned.now.telling.now.judge) planned.now.telling.now.plan.now planned.now.places.now))
@@ -147,7 +204,7 @@ impl<'x, R: Threads + Wait + Sync + Clock, D: Inputs> ListRun<'x, R, D> {
         ensures junit { result.1.junit ≡ outlets.entry.junit }
         ensures stopped { IfErr result.2 (IsRowsStop (outlet_path outlets.entry.report)) }
     {
-        let is_beside = outlets.use_stdout();
+        let is_beside = uses_run_stdout(self.asked);
         let Outlets { report, junit } = outlets;
         match report {
             Outlet::File(OpenFile { path, place, sink }) if frame.old.is_none() => {

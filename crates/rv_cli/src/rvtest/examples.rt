@@ -98,6 +98,16 @@ Status:
   2  The words or the report is refused
   3  The system failed: memory or a file";
 
+pub(crate) const COUNTS: &str = "\
+Examples:
+  rvtest counts part-1.counts part-2.counts --out whole.counts
+  rvtest counts nightly-*.counts >week.counts
+
+Status:
+  0  The sum was written
+  2  The words or a table is refused, or a sum is 2^64 or more
+  3  The system failed: memory or a file";
+
 pub(crate) const HELP: &str = "\
 Examples:
   rvtest help list

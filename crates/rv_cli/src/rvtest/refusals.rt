@@ -3,7 +3,7 @@
 ghost use Rattle.std.specs.Prelude.{◌≡◌, [], ◌∷◌, Some};
 ghost use Rattle.clap.specs.Words.{HasKind, found_of, rows_of};
 ghost use Rattle.rv_cli.specs.RvtestWords.{choice_misuse, color_misuse, files_misuse, is_color_unknown, is_color_word, is_into_path, is_partial_alone};
-ghost use Rattle.rv_cli.specs.RvtestWords.{is_report_path, is_suite_nameless};
+ghost use Rattle.rv_cli.specs.RvtestWords.{is_junit_path, is_report_path, is_suite_nameless};
 ghost use Rattle.rv_cli.specs.RvtestWords.{misuse_kinds, misuse_text, show_misuse, suite_misuse};
 
 use crate::values::{is_flag_set, is_option_given, text_value};
@@ -44,6 +44,8 @@ pub(crate) enum Misuse {
     OneFile,
     /// Rows that are put into a report, and JUnit's XML, that go to one file.
     IntoOneFile,
+    /// Counts and a report or JUnit's XML that go to one file.
+    CountsOneFile,
 }
 
 impl Misuse {
@@ -72,7 +74,8 @@ impl Misuse {
             | Misuse::FailedIsReport
             | Misuse::StepsAndSlower
             | Misuse::OneFile
-            | Misuse::IntoOneFile => ErrorKind::ArgumentConflict,
+            | Misuse::IntoOneFile
+            | Misuse::CountsOneFile => ErrorKind::ArgumentConflict,
         }
     }
 
@@ -120,6 +123,9 @@ impl Misuse {
             }
             Misuse::IntoOneFile => {
                 "the argument '--into <FILE>' cannot be used with '--junit <FILE>' of the same name: it is one file"
+            }
+            Misuse::CountsOneFile => {
+                "the argument '--counts <FILE>' cannot be used with '--report <FILE>', '--into <FILE>' or '--junit <FILE>' of the same name: it is one file"
             }
         }
     }
@@ -229,6 +235,16 @@ pub(crate) fn is_into_path(values: &ArgMatches<'_>, path: &str) -> bool
 {
     match text_value(values, "into") {
         Some(report) => path == report,
+        None => false,
+    }
+}
+
+/// Whether JUnit's XML goes to a path.
+pub(crate) fn is_junit_path(values: &ArgMatches<'_>, path: &str) -> bool
+    ensures { result ≡ is_junit_path path.now (rows_of (found_of values.now)) }
+{
+    match text_value(values, "junit") {
+        Some(junit) => path == junit,
         None => false,
     }
 }

@@ -9,6 +9,7 @@ use crate::rvtest::accept::{AcceptAsked, accept_request};
 use crate::rvtest::check::{CheckAsked, check_request};
 use crate::rvtest::command::test_command;
 use crate::rvtest::console::{ConsoleAsked, console_request};
+use crate::rvtest::counts::{CountsAsked, counts_request};
 use crate::rvtest::diff::{DiffAsked, diff_request};
 use crate::rvtest::explain::{ExplainAsked, explain_request};
 use crate::rvtest::help::{HelpAsked, help_request};
@@ -41,6 +42,8 @@ pub enum Asked<'a> {
     Diff(DiffAsked<'a>),
     /// To show what failed in a report.
     Show(ShowAsked<'a>),
+    /// To add up tables of counts.
+    Counts(CountsAsked<'a>),
     /// To tell of something that is no command.
     Help(HelpAsked<'a>),
 }
@@ -89,6 +92,7 @@ fn subcommand_request<'a>(
         "merge" => merge_request(alloc, values),
         "diff" => diff_request(alloc, values),
         "show" => show_request(alloc, values),
+        "counts" => counts_request(alloc, values),
         "help" => Ok(help_request(values)),
         _ => Ok(None),
     }

@@ -3,12 +3,13 @@
 ghost use Rattle.std.specs.Prelude.{◌≡◌, ◌≤◌, [], IfOk};
 ghost use Rattle.clap.specs.Words.{found_of, rows_of};
 ghost use Rattle.rv_base.specs.Limits.{most_group};
-ghost use Rattle.rv_cli.specs.RvtestWords.{IsRunAskedInRange, ReadsRequest, are_rows_kept, are_rows_put_twice, is_choice_given, is_choice_overwritten, is_report_given, is_stdout_put_into, misuse_kinds, run_asked_words};
+ghost use Rattle.rv_cli.specs.RvtestWords.{IsRunAskedInRange, ReadsRequest, are_counts_put_over, are_rows_kept, are_rows_put_twice, is_choice_given, is_choice_overwritten, is_report_given, is_stdout_put_into, misuse_kinds, run_asked_words};
 ghost use Rattle.rv_cli.specs.RvtestWords.{run_misuse, test_run_request, run_words};
 
 use crate::rvtest::command::run_command;
 use crate::rvtest::refusals::{
-    Misuse, files_misuse, is_color_unknown, is_into_path, is_partial_alone, is_report_path,
+    Misuse, files_misuse, is_color_unknown, is_into_path, is_junit_path, is_partial_alone,
+    is_report_path,
 };
 use crate::rvtest::requests::Asked;
 use crate::values::{argument_values, is_flag_set, is_option_given, number_value, text_value};
@@ -53,6 +54,8 @@ pub struct RunAsked<'a> {
     pub suite: Option<&'a str>,
     /// Whether a failed verdict alone is a failure.
     pub lenient: bool,
+    /// Path of the table of counts that is written; `-` is standard output.
+    pub counts: Option<&'a str>,
     /// Path of a file with the names of jobs that are known to fail.
     pub known: Option<&'a str>,
     /// The number of the failure that ends the run, from 1 to 4,096.
@@ -122,6 +125,7 @@ pub(crate) fn run_asked<'a>(
         junit: text_value(values, "junit"),
         suite: text_value(values, "suite"),
         lenient: is_flag_set(values, "lenient"),
+        counts: text_value(values, "counts"),
         known: text_value(values, "known"),
         stop_after: number_value(values, "stop-after", 1, MOST_JOBS as u32),
         verbose: is_flag_set(values, "verbose"),
@@ -156,6 +160,8 @@ fn run_misuse(values: &ArgMatches<'_>) -> Option<Misuse>
         Some(Misuse::PartialAlone)
     } else if is_color_unknown(values) {
         Some(Misuse::UnknownColor)
+    } else if are_counts_put_over(values) {
+        Some(Misuse::CountsOneFile)
     } else {
         files_misuse(values)
     }
@@ -196,6 +202,20 @@ fn is_choice_overwritten(values: &ArgMatches<'_>) -> bool
 {
     match text_value(values, "failed") {
         Some(path) => is_report_path(values, path),
+        None => false,
+    }
+}
+
+// Whether the table of counts goes where a report or JUnit's XML goes.
+fn are_counts_put_over(values: &ArgMatches<'_>) -> bool
+    ensures { result ≡ are_counts_put_over (rows_of (found_of values.now)) }
+{
+    match text_value(values, "counts") {
+        Some(path) => {
+            is_report_path(values, path)
+                || is_into_path(values, path)
+                || is_junit_path(values, path)
+        }
         None => false,
     }
 }

@@ -6,8 +6,8 @@ use crate::rvtest::examples;
 use rv_base::limits::{MOST_BUDGET, MOST_JOBS, MOST_WORKERS};
 
 /// The commands of `rvtest`, in the order in which help names them.
-pub(crate) const COMMANDS: [Subcommand<'static>; 10] = [
-    RUN, LIST, EXPLAIN, CONSOLE, CHECK, ACCEPT, MERGE, DIFF, SHOW, HELP,
+pub(crate) const COMMANDS: [Subcommand<'static>; 11] = [
+    RUN, LIST, EXPLAIN, CONSOLE, CHECK, ACCEPT, MERGE, DIFF, SHOW, COUNTS, HELP,
 ];
 
 pub(crate) const RUN: Subcommand<'static> = Subcommand {
@@ -36,6 +36,7 @@ pub(crate) const RUN: Subcommand<'static> = Subcommand {
         Argument::File("junit", JUNIT),
         Argument::Option("suite", "NAME", SUITE),
         Argument::Flag("lenient", None, LENIENT),
+        Argument::File("counts", COUNTS_FILE),
         Argument::File("known", KNOWN),
         Argument::Number("stop-after", None, STOP_AFTER, STOP_AFTER_BOUNDS, &[]),
         Argument::Flag(
@@ -177,6 +178,19 @@ pub(crate) const SHOW: Subcommand<'static> = Subcommand {
     ],
 };
 
+const COUNTS: Subcommand<'static> = Subcommand {
+    name: "counts",
+    about: "Adds up tables of counts, as run --counts writes them",
+    after: examples::COUNTS,
+    arguments: &[
+        Argument::Words("table", "TABLE", "Paths of the tables, in any order"),
+        Argument::File(
+            "out",
+            "Writes the sum to this file; else to standard output",
+        ),
+    ],
+};
+
 const HELP: Subcommand<'static> = Subcommand {
     name: "help",
     about: "Tells the keys of a list",
@@ -211,6 +225,8 @@ const JUNIT: &str = "Writes JUnit XML to this file; - is standard output";
 const SUITE: &str = "Names the suite in JUnit XML, in place of the file";
 
 const COLOR: &str = "Colors: always, never, or auto, which is on a terminal";
+
+const COUNTS_FILE: &str = "Writes counts of instructions to this file; - is standard output";
 
 const KNOWN: &str = "Names jobs that are known to fail, one a line, # REASON behind";
 

@@ -22,6 +22,9 @@ returns-in-diff c = rw c.in-diff.is c.diff_request.ensures
 pub returns-in-show : goal.returns-in-show
 returns-in-show c = rw c.in-show.is c.show_request.ensures
 
+pub returns-in-counts : goal.returns-in-counts
+returns-in-counts c = rw c.in-counts.is c.counts_request.ensures
+
 pub returns-in-help : goal.returns-in-help
 returns-in-help c = rw c.in-help.is (c.help_request.ensures, refl)
 

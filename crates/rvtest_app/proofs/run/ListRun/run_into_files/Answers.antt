@@ -11,7 +11,7 @@ use Rattle.rvtest_app.proofs.StopLemmas.{IfErr-map}
 use Rattle.rvtest_app.specs.IntoReports.{run_report_path}
 use Rattle.rvtest_app.specs.Runs.{run_rows}
 use Rattle.rvtest_app.specs.Said.{said}
-use Rattle.rvtest_app.proofs.run.ListRun.run_planned_jobs.Goals as goal
+use Rattle.rvtest_app.proofs.run.ListRun.run_into_files.Goals as goal
 
 pub put_run_files-put-requires-clause-counted : goal.put_run_files-put-requires-clause-counted
 put_run_files-put-requires-clause-counted g c κs within =
@@ -19,7 +19,7 @@ put_run_files-put-requires-clause-counted g c κs within =
     omega (
       arith,
       few,
-      ap length c.first_jobs-shown.ensures.places,
+      ap length c.first_jobs-first.ensures.places,
       ap length c.as_slice.ensures,
       length-take (length c.as_slice.result.now) c.args.places.now,
     )
@@ -38,9 +38,9 @@ returns-in-Ok-ran-clause-said g c =
     let report = rw c.run_report_path-report.ensures at c.in-Ok.ensures.report in
     let more = taken_more path taken failed _ _ [] _ outlets.report _ report (rw c.in-Ok-ran.is at ran.report) ran.report_path in
     let junit = rw (sym ran.junit) at c.in-Ok.ensures.junit in
-    let places = c.first_jobs-shown.ensures.places
+    let places = c.first_jobs-first.ensures.places
     ∙ ap (λ (r : List Row). take (length r) c.args.places.now) (c.as_slice.ensures ∙ rows) in
-    let telling = c.first_jobs-shown.ensures.telling in
+    let telling = c.first_jobs-first.ensures.telling in
     let ahead = ahead_of_shown c.args.frame.old c.args.places.now
     (run_rows c.args.self.now.asked.now.stop_after (judging_of c.args.telling.now.judge) c.args.telling.now.plan.now c.args.places.now) in
     let seen = rw (
@@ -68,9 +68,9 @@ returns-in-Ok-ran-clause-part g c =
     let same = ap g.F.Outputs.placed c.run_into_outlets-to.ensures.files ∙ c.in-Ok.ensures.same in
     λ rows is.
     let are = (rw c.in-Ok-ran.is at c.run_into_outlets-to.ensures.rows) ∙ sym is in
-    let places = c.first_jobs-shown.ensures.places
+    let places = c.first_jobs-first.ensures.places
     ∙ ap (λ (r : List Row). take (length r) c.args.places.now) (c.as_slice.ensures ∙ are) in
-    rw same at (rw (c.first_jobs-shown.ensures.telling, places, are)
+    rw same at (rw (c.first_jobs-first.ensures.telling, places, are)
     at (c.put_run_files-put.ensures.part (optional_text c.args.self.now.asked.now.junit) (rw same junit)))
 
 pub returns-in-Err-clause-stopped : goal.returns-in-Err-clause-stopped

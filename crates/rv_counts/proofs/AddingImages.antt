@@ -1,0 +1,267 @@
+-- The first of a sum of images, in each of the cases.
+use Rattle.std.proofs.Common.{◌≡◌, ◌∙◌, ◌==◌, ◌+◌, ◌^◌, ◌<◌, ◌≤◌, ℕ, zero, suc, Bool, true, false, cond, List, [], ◌∷◌, ◌++◌, Option, Some, None, length, drop, get_or, refl, sym, ap, subst, append-nil, arith}
+use Rattle.std.proofs.lemmas.Bool.{and_parts, and_from, cond_both}
+use Rattle.std.proofs.lemmas.List.{drop_all}
+use Rattle.std.specs.Prelude.{◌&&◌}
+use Rattle.std.specs.Cmp.Lexicographic.{bytes_decides}
+use Rattle.std.specs.List.{AllByRecursion}
+use Rattle.std.specs.Str.{bytes_eq, IsUtf8}
+use Rattle.rv_counts.specs.declared.table.ImageCounts.{ImageCounts}
+use Rattle.rv_counts.specs.declared.sum.SumError.{SumError}
+use Rattle.rv_counts.specs.declared.sum.SumError.TheVariants.{OutOfMemory, Count, Runs}
+use Rattle.rv_counts.specs.declared.sum_of_images.NextImage.{NextImage}
+use Rattle.rv_counts.specs.Lines.{lacks}
+use Rattle.rv_counts.specs.Table.{begun_at, taken_at, begun_in, taken_in, path_in, least_path, least_path_of}
+use Rattle.rv_counts.specs.Table.{is_before, is_behind, digests_rise, IsImage}
+use Rattle.rv_counts.specs.Sum.{IsSumOfCounts, IsTooGreatAt}
+use Rattle.rv_counts.specs.SumSteps.{ImagesAddUp, IsNextImage, IsTooGreatIn}
+use Rattle.rv_counts.proofs.Adding.{parts}
+use Rattle.rv_counts.proofs.Paths.{any_first, second_first, by_two, same_place}
+
+-- ---- digests in their order
+
+pub image_low : (last : Option (List ℕ)) (i : ImageCounts) (is : List ImageCounts) → digests_rise last (i ∷ is) ≡ true
+    → is_behind last i.digest ≡ true
+unfolding digests_rise
+image_low last i is h = (and_parts (is_behind last i.digest) (digests_rise (Some i.digest) is) h).0
+
+pub images_behind : (last : Option (List ℕ)) (i : ImageCounts) (is : List ImageCounts) → digests_rise last (i ∷ is) ≡ true
+    → digests_rise (Some i.digest) is ≡ true
+unfolding digests_rise
+images_behind last i is h = (and_parts (is_behind last i.digest) (digests_rise (Some i.digest) is) h).1
+
+pub images_rise : (last : Option (List ℕ)) (i : ImageCounts) (is : List ImageCounts) → is_behind last i.digest ≡ true
+    → digests_rise (Some i.digest) is ≡ true → digests_rise last (i ∷ is) ≡ true
+unfolding digests_rise
+images_rise last i is h k = and_from (is_behind last i.digest) (digests_rise (Some i.digest) is) h k
+
+pub no_images_rise : (last : Option (List ℕ)) → digests_rise last [] ≡ true
+unfolding digests_rise
+no_images_rise last = refl
+
+pub images_raised : (last : Option (List ℕ)) (digest : List ℕ) (i : ImageCounts) (is : List ImageCounts)
+    → digests_rise last (i ∷ is) ≡ true → is_before digest i.digest ≡ true → digests_rise (Some digest) (i ∷ is) ≡ true
+images_raised last digest i is h before = images_rise (Some digest) i is before (images_behind last i is h)
+
+-- ---- an image ahead of the others
+
+-- an image of the first list alone
+first_image_ahead : (x : ImageCounts) (xs b others : List ImageCounts) → IsImage x
+    → ((last : Option (List ℕ)) → digests_rise last b ≡ true → digests_rise (Some x.digest) b ≡ true)
+    → ImagesAddUp xs b others → ImagesAddUp (x ∷ xs) b (x ∷ others)
+first_image_ahead x xs b others image above h = record {
+  each = (image, h.each);
+  rising = λ last p q. images_rise last x others (image_low last x xs p)
+      (h.rising (Some x.digest) (images_behind last x xs p) (above last q));
+  begun = λ d n. let e = h.begun d n in omega (arith, e);
+  taken = λ d n. let e = h.taken d n in omega (arith, e);
+  paths = λ d. ap (least_path_of (cond (bytes_eq x.digest d) (Some x.path) None)) (h.paths d)
+      ∙ sym (any_first (cond (bytes_eq x.digest d) (Some x.path) None) (path_in d xs) (path_in d b));
+}
+
+-- an image of the second list alone
+second_image_ahead : (y : ImageCounts) (a ys others : List ImageCounts) → IsImage y
+    → ((last : Option (List ℕ)) → digests_rise last a ≡ true → digests_rise (Some y.digest) a ≡ true)
+    → ImagesAddUp a ys others → ImagesAddUp a (y ∷ ys) (y ∷ others)
+second_image_ahead y a ys others image above h = record {
+  each = (image, h.each);
+  rising = λ last p q. images_rise last y others (image_low last y ys q)
+      (h.rising (Some y.digest) (above last p) (images_behind last y ys q));
+  begun = λ d n. let e = h.begun d n in omega (arith, e);
+  taken = λ d n. let e = h.taken d n in omega (arith, e);
+  paths = λ d. ap (least_path_of (cond (bytes_eq y.digest d) (Some y.path) None)) (h.paths d)
+      ∙ second_first (path_in d a) (cond (bytes_eq y.digest d) (Some y.path) None) (path_in d ys);
+}
+
+-- the path of a digest that both lists have
+path_parts : (s t : Bool) (p q : List ℕ) (r u v : Option (List ℕ)) → s ≡ t → r ≡ least_path_of u v
+    → least_path_of (cond s (Some (least_path p q)) None) r
+    ≡ least_path_of (least_path_of (cond s (Some p) None) u) (least_path_of (cond t (Some q) None) v)
+path_parts s true p q r u v e f =
+    ap (λ (k : Bool). least_path_of (cond k (Some (least_path p q)) None) r) e
+    ∙ ap (least_path_of (Some (least_path p q))) f ∙ by_two (Some p) (Some q) u v
+    ∙ sym (ap (λ (k : Bool). least_path_of (least_path_of (cond k (Some p) None) u) (least_path_of (Some q) v)) e)
+path_parts s false p q r u v e f =
+    ap (λ (k : Bool). least_path_of (cond k (Some (least_path p q)) None) r) e ∙ f
+    ∙ sym (ap (λ (k : Bool). least_path_of (least_path_of (cond k (Some p) None) u) v) e)
+
+least_is : (P : List ℕ → Type 0) (p q : List ℕ) → P p → P q → P (least_path p q)
+least_is P p q h k = cond_both (is_before q p) q p P (λ _. k) (λ _. h)
+
+-- an image of both lists
+both_images_ahead : (x y sum : ImageCounts) (xs ys others : List ImageCounts) → IsImage x → IsImage y
+    → x.digest ≡ y.digest → sum.digest ≡ x.digest → sum.path ≡ least_path x.path y.path
+    → IsSumOfCounts x.addresses y.addresses sum.addresses
+    → ImagesAddUp xs ys others → ImagesAddUp (x ∷ xs) (y ∷ ys) (sum ∷ others)
+both_images_ahead x y sum xs ys others image also one at path counts h = record {
+  each = (
+    (record {
+      digest = ap length at ∙ image.digest;
+      bytes = subst (λ (s : List ℕ). AllByRecursion (λ b. b < 256) s) (sym at) image.bytes;
+      path = ap (lacks 10) path ∙ least_is (λ s. lacks 10 s ≡ true) x.path y.path image.path also.path;
+      text = subst (λ (s : List ℕ). IsUtf8 s) (sym path) (least_is IsUtf8 x.path y.path image.text also.text);
+      counts = counts.counts;
+    }),
+    h.each,
+  );
+  rising = λ last p q. images_rise last sum others (ap (is_behind last) at ∙ image_low last x xs p)
+      (h.rising (Some sum.digest) (ap (λ (s : List ℕ). digests_rise (Some s) xs) at ∙ images_behind last x xs p)
+      (ap (λ (s : List ℕ). digests_rise (Some s) ys) (at ∙ one) ∙ images_behind last y ys q));
+  begun = λ d n. ap (λ (s : List ℕ). cond (bytes_eq s d) (begun_at n sum.addresses) 0 + begun_in d n others) at
+      ∙ parts (bytes_eq x.digest d) (bytes_eq y.digest d) (begun_at n x.addresses) (begun_at n y.addresses)
+      (begun_at n sum.addresses) _ _ _ (ap (λ (s : List ℕ). bytes_eq s d) one) (counts.begun n) (h.begun d n);
+  taken = λ d n. ap (λ (s : List ℕ). cond (bytes_eq s d) (taken_at n sum.addresses) 0 + taken_in d n others) at
+      ∙ parts (bytes_eq x.digest d) (bytes_eq y.digest d) (taken_at n x.addresses) (taken_at n y.addresses)
+      (taken_at n sum.addresses) _ _ _ (ap (λ (s : List ℕ). bytes_eq s d) one) (counts.taken n) (h.taken d n);
+  paths = λ d. (λ i. least_path_of (cond (bytes_eq (at i) d) (Some (path i)) None) (path_in d others))
+      ∙ path_parts (bytes_eq x.digest d) (bytes_eq y.digest d) x.path y.path _ (path_in d xs) (path_in d ys)
+      (ap (λ (s : List ℕ). bytes_eq s d) one) (h.paths d);
+}
+
+-- ---- the first of a sum in each case of `next_image`
+
+pub image_of_first_alone : (a b : List ImageCounts) (x : ImageCounts) → AllByRecursion IsImage a → 0 < length a
+    → length b ≡ 0 → x ≡ get_or a 0 x → (next : NextImage) → next ≡ record { image = x; of_a = 1; of_b = 0 }
+    → IsNextImage a b next
+image_of_first_alone [] b x each some none is next e = absurd (omega arith)
+image_of_first_alone (x ∷ xs) (y ∷ ys) z each some none is next e = absurd (omega arith)
+image_of_first_alone (x ∷ xs) [] z each some none is next e =
+    let e' : next ≡ record { image = x; of_a = 1; of_b = 0 } = e ∙ (λ i. record { image = is i; of_a = 1; of_b = 0 }) in
+    subst (λ (n : NextImage). IsNextImage (x ∷ xs) [] n) (sym e') (record {
+      of_a = omega arith;
+      of_b = omega arith;
+      some = omega arith;
+      ahead = λ others h. first_image_ahead x xs [] others each.0 (λ n p. no_images_rise (Some x.digest)) h;
+    })
+
+pub image_of_second_alone : (a b : List ImageCounts) (y : ImageCounts) → AllByRecursion IsImage b → 0 < length b
+    → length a ≡ 0 → y ≡ get_or b 0 y → (next : NextImage) → next ≡ record { image = y; of_a = 0; of_b = 1 }
+    → IsNextImage a b next
+image_of_second_alone a [] y each some none is next e = absurd (omega arith)
+image_of_second_alone (x ∷ xs) (y ∷ ys) z each some none is next e = absurd (omega arith)
+image_of_second_alone [] (y ∷ ys) z each some none is next e =
+    let e' : next ≡ record { image = y; of_a = 0; of_b = 1 } = e ∙ (λ i. record { image = is i; of_a = 0; of_b = 1 }) in
+    subst (λ (n : NextImage). IsNextImage [] (y ∷ ys) n) (sym e') (record {
+      of_a = omega arith;
+      of_b = omega arith;
+      some = omega arith;
+      ahead = λ others h. second_image_ahead y [] ys others each.0 (λ n p. no_images_rise (Some y.digest)) h;
+    })
+
+pub image_of_first : (a b : List ImageCounts) (x y : ImageCounts) → AllByRecursion IsImage a → 0 < length a
+    → 0 < length b → x ≡ get_or a 0 x → y ≡ get_or b 0 y → is_before x.digest y.digest ≡ true
+    → (next : NextImage) → next ≡ record { image = x; of_a = 1; of_b = 0 } → IsNextImage a b next
+image_of_first [] b x y each some other is at less next e = absurd (omega arith)
+image_of_first (x ∷ xs) [] z w each some other is at less next e = absurd (omega arith)
+image_of_first (x ∷ xs) (y ∷ ys) z w each some other is at less next e =
+    let e' : next ≡ record { image = x; of_a = 1; of_b = 0 } = e ∙ (λ i. record { image = is i; of_a = 1; of_b = 0 }) in
+    let before : is_before x.digest y.digest ≡ true = (λ i. is_before ((sym is) i).digest ((sym at) i).digest) ∙ less in
+    subst (λ (n : NextImage). IsNextImage (x ∷ xs) (y ∷ ys) n) (sym e') (record {
+      of_a = omega arith;
+      of_b = omega arith;
+      some = omega arith;
+      ahead = λ others h. first_image_ahead x xs (y ∷ ys) others each.0 (λ n p. images_raised n x.digest y ys p before) h;
+    })
+
+pub image_of_second : (a b : List ImageCounts) (x y : ImageCounts) → AllByRecursion IsImage b → 0 < length a
+    → 0 < length b → x ≡ get_or a 0 x → y ≡ get_or b 0 y → is_before y.digest x.digest ≡ true
+    → (next : NextImage) → next ≡ record { image = y; of_a = 0; of_b = 1 } → IsNextImage a b next
+image_of_second [] b x y each some other is at less next e = absurd (omega arith)
+image_of_second (x ∷ xs) [] z w each some other is at less next e = absurd (omega arith)
+image_of_second (x ∷ xs) (y ∷ ys) z w each some other is at less next e =
+    let e' : next ≡ record { image = y; of_a = 0; of_b = 1 } = e ∙ (λ i. record { image = at i; of_a = 0; of_b = 1 }) in
+    let before : is_before y.digest x.digest ≡ true = (λ i. is_before ((sym at) i).digest ((sym is) i).digest) ∙ less in
+    subst (λ (n : NextImage). IsNextImage (x ∷ xs) (y ∷ ys) n) (sym e') (record {
+      of_a = omega arith;
+      of_b = omega arith;
+      some = omega arith;
+      ahead = λ others h. second_image_ahead y (x ∷ xs) ys others each.0 (λ n p. images_raised n y.digest x xs p before) h;
+    })
+
+pub image_of_both : (a b : List ImageCounts) (x y sum : ImageCounts) → AllByRecursion IsImage a → AllByRecursion IsImage b
+    → 0 < length a → 0 < length b → x ≡ get_or a 0 x → y ≡ get_or b 0 y → is_before x.digest y.digest ≡ false
+    → is_before y.digest x.digest ≡ false → sum.digest ≡ x.digest → sum.path ≡ least_path x.path y.path
+    → IsSumOfCounts x.addresses y.addresses sum.addresses
+    → IsNextImage a b (record { image = sum; of_a = 1; of_b = 1 })
+image_of_both [] b x y sum each also some other is at first second digest path counts = absurd (omega arith)
+image_of_both (x ∷ xs) [] z w sum each also some other is at first second digest path counts = absurd (omega arith)
+image_of_both (x ∷ xs) (y ∷ ys) z w sum each also some other is at first second digest path counts = record {
+  of_a = omega arith;
+  of_b = omega arith;
+  some = omega arith;
+  ahead = λ others h. both_images_ahead x y sum xs ys others each.0 also.0
+      (ap (λ (i : ImageCounts). i.digest) (sym is) ∙ same_place z.digest w.digest first second
+      ∙ ap (λ (i : ImageCounts). i.digest) at)
+      (digest ∙ ap (λ (i : ImageCounts). i.digest) is)
+      (path ∙ (λ i. least_path (is i).path (at i).path))
+      (subst (λ (i : ImageCounts). IsSumOfCounts x.addresses i.addresses sum.addresses) at
+      (subst (λ (i : ImageCounts). IsSumOfCounts i.addresses w.addresses sum.addresses) is counts)) h;
+}
+
+-- ---- what is refused
+
+text_is_itself : (s : List ℕ) → bytes_eq s s ≡ true
+text_is_itself s = (bytes_decides s s).1 refl
+
+-- a count of two images that stand first is one of both lists
+pub too_great_first : (a b : List ImageCounts) (x y : ImageCounts) (error : SumError) → 0 < length a → 0 < length b
+    → x ≡ get_or a 0 x → y ≡ get_or b 0 y → is_before x.digest y.digest ≡ false → is_before y.digest x.digest ≡ false
+    → IsTooGreatAt error x.addresses y.addresses → IsTooGreatIn error a b
+too_great_first [] b x y error some other is at first second h = absurd (omega arith)
+too_great_first (x ∷ xs) [] z w error some other is at first second h = absurd (omega arith)
+too_great_first (x ∷ xs) (y ∷ ys) z w OutOfMemory some other is at first second h = tt
+too_great_first (x ∷ xs) (y ∷ ys) z w Runs some other is at first second h = h
+too_great_first (x ∷ xs) (y ∷ ys) z w (Count n) some other is at first second h =
+    let one : x.digest ≡ y.digest = ap (λ (i : ImageCounts). i.digest) (sym is)
+    ∙ same_place z.digest w.digest first second ∙ ap (λ (i : ImageCounts). i.digest) at in
+    let p : cond (bytes_eq x.digest x.digest) (begun_at n x.addresses) 0 ≡ begun_at n x.addresses =
+    ap (λ (t : Bool). cond t (begun_at n x.addresses) 0) (text_is_itself x.digest) in
+    let q : cond (bytes_eq y.digest x.digest) (begun_at n y.addresses) 0 ≡ begun_at n y.addresses =
+    ap (λ (t : Bool). cond t (begun_at n y.addresses) 0) (ap (bytes_eq y.digest) one ∙ text_is_itself y.digest) in
+    let r : begun_at n x.addresses ≡ begun_at n z.addresses = ap (λ (i : ImageCounts). begun_at n i.addresses) (sym is) in
+    let s : begun_at n y.addresses ≡ begun_at n w.addresses = ap (λ (i : ImageCounts). begun_at n i.addresses) (sym at) in
+    (x.digest, omega (arith, p, q, r, s, h))
+
+-- ---- the loop: what both lists have ahead
+
+pub all_images_behind : (n : ℕ) (is : List ImageCounts) → AllByRecursion IsImage is → AllByRecursion IsImage (drop n is)
+all_images_behind zero is h = h
+all_images_behind (suc n) [] h = h
+all_images_behind (suc n) (i ∷ is) h = all_images_behind n is h.1
+
+some_images_left : (n : ℕ) (digest : List ℕ) (address : ℕ) (is : List ImageCounts)
+    → begun_in digest address (drop n is) ≤ begun_in digest address is
+some_images_left zero digest address is = omega arith
+some_images_left (suc n) digest address [] = omega arith
+some_images_left (suc n) digest address (i ∷ is) = let h = some_images_left n digest address is in omega (arith, h)
+
+pub too_great_in_rest : (n m : ℕ) (a b : List ImageCounts) (error : SumError)
+    → IsTooGreatIn error (drop n a) (drop m b) → IsTooGreatIn error a b
+too_great_in_rest n m a b OutOfMemory h = tt
+too_great_in_rest n m a b (Count address) h =
+    let k = h.1 in
+    let p = some_images_left n h.0 address a in
+    let q = some_images_left m h.0 address b in
+    (h.0, omega (arith, k, p, q))
+too_great_in_rest n m a b Runs h = h
+
+none_add_up : ImagesAddUp [] [] []
+none_add_up = record {
+  each = tt;
+  rising = λ last p q. p;
+  begun = λ digest address. refl;
+  taken = λ digest address. refl;
+  paths = λ digest. refl;
+}
+
+-- at the end what stands there is the sum
+pub images_summed : (a b sums : List ImageCounts) (n m : ℕ) → length a ≤ n → length b ≤ m
+    → ((others : List ImageCounts) → ImagesAddUp (drop n a) (drop m b) others → ImagesAddUp a b (sums ++ others))
+    → ImagesAddUp a b sums
+images_summed a b sums n m p q ahead =
+    let e = drop_all n a p in
+    let f = drop_all m b q in
+    let none : ImagesAddUp (drop n a) (drop m b) [] =
+    subst (λ (s : List ImageCounts). ImagesAddUp s (drop m b) []) (sym e)
+    (subst (λ (s : List ImageCounts). ImagesAddUp [] s []) (sym f) none_add_up) in
+    subst (λ (s : List ImageCounts). ImagesAddUp a b s) (append-nil sums) (ahead [] none)

@@ -1,0 +1,16 @@
+pub mod Told
+pub mod ByteOrder
+pub mod Adding
+pub mod Paths
+pub mod AddingImages
+pub mod Pieces
+pub mod Words
+pub mod LineLoops
+pub mod LineTexts
+pub mod Decode
+pub mod Reading
+pub mod Refusing
+pub mod ReadingLines
+pub mod ReadTable
+pub mod ToldImages
+pub mod Public

@@ -1,0 +1,227 @@
+-- The lines of a table: what their parts say, and that no two are alike.
+use Rattle.std.proofs.Common.{◌≡◌, ◌∙◌, ◌==◌, ◌+◌, ◌/◌, ◌%◌, ◌<◌, ◌≤◌, ◌^◌, ℕ, zero, suc, Bool, true, false, not, List, [], ◌∷◌, ◌++◌, length, take, drop, get_or, slice_index, refl, sym, ap, subst, append_assoc, length-append, arith}
+use Rattle.std.proofs.lemmas.Bool.{false≢true}
+use Rattle.std.proofs.lemmas.List.{take_at, drop_at}
+use Rattle.std.specs.Prelude.{codes}
+use Rattle.std.specs.List.{AllByRecursion, flat_map}
+use Rattle.std.specs.Fmt.{decimal}
+use Rattle.hex.specs.Hex.{IsBytes, encode_lower, encode_with, lower_digits}
+use Rattle.rv_text.specs.Words.{word_digits}
+use Rattle.rv_counts.specs.declared.table.AddressCounts.{AddressCounts}
+use Rattle.rv_counts.specs.declared.table.ImageCounts.{ImageCounts}
+use Rattle.rv_counts.specs.Lines.{lacks, text_before_byte, text_after_byte, hex_bytes}
+use Rattle.rv_counts.specs.Table.{IsCounted, IsImage}
+use Rattle.rv_counts.specs.Text.{line, address_line, image_line, image_text, last_line}
+use Rattle.rv_counts.proofs.Pieces.{lacks-append, before_at, after_at, same_cut}
+use Rattle.rv_counts.proofs.Words.{lacks-decimal, lacks-digits, lacks-encode, decimal_number_on, number_of-decimal, hex_number, word_of-digits, bytes_of-encode, eight_digits, digit_is_other, is_no_digit}
+use Rattle.rv_counts.proofs.Told.{same_entry}
+
+regroup : (x y z : List ℕ) → line (((x ++ y) ++ codes " ") ++ z) ≡ x ++ (y ++ 32 ∷ (z ++ 10 ∷ []))
+regroup x y z = simp append_assoc
+
+-- ---- the line of an address
+
+abbrev pub address_words : AddressCounts → List ℕ
+address_words c = word_digits c.address ++ codes " " ++ decimal c.begun ++ codes " " ++ decimal c.taken
+
+pub address_is_line : (c : AddressCounts) → address_line c ≡ line (address_words c)
+unfolding address_line
+address_is_line c = refl
+
+pub lacks-address : (c : AddressCounts) → IsCounted c → lacks 10 (address_words c) ≡ true
+lacks-address c h =
+    let taken = h.taken in
+    let fits = h.fits in
+    lacks-append 10 (word_digits c.address ++ codes " " ++ decimal c.begun ++ codes " ") (decimal c.taken)
+    (lacks-append 10 (word_digits c.address ++ codes " " ++ decimal c.begun) (codes " ")
+    (lacks-append 10 (word_digits c.address ++ codes " ") (decimal c.begun)
+    (lacks-append 10 (word_digits c.address) (codes " ") (lacks-digits c.address) refl)
+    (lacks-decimal 10 c.begun (omega arith) h.fits)) refl) (lacks-decimal 10 c.taken (omega arith) (omega (arith, taken, fits)))
+
+-- what stands behind the address
+abbrev pub numbers_of : AddressCounts → List ℕ
+numbers_of c = decimal c.begun ++ 32 ∷ (decimal c.taken ++ 10 ∷ [])
+
+address_parts : (c : AddressCounts) → address_line c ≡ (word_digits c.address ++ codes " ") ++ numbers_of c
+address_parts c = address_is_line c ∙ regroup (word_digits c.address ++ codes " ") (decimal c.begun) (decimal c.taken)
+
+pub address_digits : (c : AddressCounts) → take 8 (address_line c) ≡ word_digits c.address
+address_digits c =
+    ap (take 8) (address_parts c ∙ append_assoc (word_digits c.address) (codes " ") (numbers_of c))
+    ∙ take_at (word_digits c.address) (codes " " ++ numbers_of c) 8 (eight_digits c.address)
+
+pub address_numbers : (c : AddressCounts) → drop 9 (address_line c) ≡ numbers_of c
+address_numbers c =
+    let n = eight_digits c.address in
+    let m = length-append (word_digits c.address) (codes " ") in
+    ap (drop 9) (address_parts c)
+    ∙ drop_at (word_digits c.address ++ codes " ") (numbers_of c) 9 (m ∙ ap (λ (k : ℕ). k + 1) n)
+
+pub begun_digits : (c : AddressCounts) → IsCounted c → text_before_byte 32 (drop 9 (address_line c)) ≡ decimal c.begun
+begun_digits c h = ap (text_before_byte 32) (address_numbers c)
+    ∙ before_at 32 (decimal c.begun) (decimal c.taken ++ 10 ∷ []) (lacks-decimal 32 c.begun (omega arith) h.fits)
+
+pub taken_digits : (c : AddressCounts) → IsCounted c
+    → text_before_byte 10 (text_after_byte 32 (drop 9 (address_line c))) ≡ decimal c.taken
+taken_digits c h =
+    let taken = h.taken in
+    let fits = h.fits in
+    ap (λ (s : List ℕ). text_before_byte 10 (text_after_byte 32 s)) (address_numbers c)
+    ∙ ap (text_before_byte 10) (after_at 32 (decimal c.begun) (decimal c.taken ++ 10 ∷ [])
+    (lacks-decimal 32 c.begun (omega arith) h.fits))
+    ∙ before_at 10 (decimal c.taken) [] (lacks-decimal 10 c.taken (omega arith) (omega (arith, taken, fits)))
+
+-- the counts that a line says
+counts_in : List ℕ → AddressCounts
+counts_in text = record {
+  address = hex_number 0 (take 8 text);
+  begun = decimal_number_on 0 (text_before_byte 32 (drop 9 text));
+  taken = decimal_number_on 0 (text_before_byte 10 (text_after_byte 32 (drop 9 text)));
+}
+
+counts_in_line : (c : AddressCounts) → IsCounted c → counts_in (address_line c) ≡ c
+unfolding counts_in
+counts_in_line c h =
+    let taken = h.taken in
+    let fits = h.fits in
+    same_entry (counts_in (address_line c)) c (ap (hex_number 0) (address_digits c) ∙ word_of-digits c.address h.address)
+    (ap (decimal_number_on 0) (begun_digits c h) ∙ number_of-decimal c.begun h.fits)
+    (ap (decimal_number_on 0) (taken_digits c h) ∙ number_of-decimal c.taken (omega (arith, taken, fits)))
+
+pub same_address : (c d : AddressCounts) → IsCounted c → IsCounted d → address_line c ≡ address_line d → c ≡ d
+same_address c d h k e = sym (counts_in_line c h) ∙ ap counts_in e ∙ counts_in_line d k
+
+-- ---- the line of an image
+
+abbrev pub image_words : ImageCounts → List ℕ
+image_words i = codes "image " ++ encode_lower i.digest ++ codes " " ++ i.path
+
+pub image_is_line : (i : ImageCounts) → image_line i ≡ line (image_words i)
+unfolding image_line
+image_is_line i = refl
+
+pub are_bytes : (bs : List ℕ) → AllByRecursion (λ b. b < 256) bs → IsBytes bs
+are_bytes [] h k = omega arith
+are_bytes (b ∷ bs) h zero = h.0
+are_bytes (b ∷ bs) h (suc k) = are_bytes bs h.1 k
+
+pub lacks-image : (i : ImageCounts) → IsImage i → lacks 10 (image_words i) ≡ true
+lacks-image i h =
+    lacks-append 10 (codes "image " ++ encode_lower i.digest ++ codes " ") i.path
+    (lacks-append 10 (codes "image " ++ encode_lower i.digest) (codes " ")
+    (lacks-append 10 (codes "image ") (encode_lower i.digest) refl
+    (lacks-encode 10 i.digest refl (are_bytes i.digest h.bytes))) refl) h.path
+
+-- what stands behind the word
+abbrev pub digest_and_path : ImageCounts → List ℕ
+digest_and_path i = encode_lower i.digest ++ 32 ∷ (i.path ++ 10 ∷ [])
+
+pub image_parts : (i : ImageCounts) → drop 6 (image_line i) ≡ digest_and_path i
+image_parts i = ap (drop 6) (image_is_line i ∙ regroup (codes "image ") (encode_lower i.digest) i.path)
+
+pub digest_digits : (i : ImageCounts) → IsImage i → text_before_byte 32 (drop 6 (image_line i)) ≡ encode_lower i.digest
+digest_digits i h = ap (text_before_byte 32) (image_parts i)
+    ∙ before_at 32 (encode_lower i.digest) (i.path ++ 10 ∷ []) (lacks-encode 32 i.digest refl (are_bytes i.digest h.bytes))
+
+pub path_text : (i : ImageCounts) → IsImage i → text_before_byte 10 (text_after_byte 32 (drop 6 (image_line i))) ≡ i.path
+path_text i h =
+    ap (λ (s : List ℕ). text_before_byte 10 (text_after_byte 32 s)) (image_parts i)
+    ∙ ap (text_before_byte 10) (after_at 32 (encode_lower i.digest) (i.path ++ 10 ∷ [])
+    (lacks-encode 32 i.digest refl (are_bytes i.digest h.bytes)))
+    ∙ before_at 10 i.path [] h.path
+
+pub digest_in_line : (i : ImageCounts) → IsImage i → hex_bytes (text_before_byte 32 (drop 6 (image_line i))) ≡ i.digest
+digest_in_line i h = ap hex_bytes (digest_digits i h) ∙ bytes_of-encode i.digest (are_bytes i.digest h.bytes)
+
+pub same_digest : (i j : ImageCounts) → IsImage i → IsImage j → image_line i ≡ image_line j → i.digest ≡ j.digest
+same_digest i j h k e = sym (digest_in_line i h)
+    ∙ ap (λ (s : List ℕ). hex_bytes (text_before_byte 32 (drop 6 s))) e ∙ digest_in_line j k
+
+pub same_path : (i j : ImageCounts) → IsImage i → IsImage j → image_line i ≡ image_line j → i.path ≡ j.path
+same_path i j h k e = sym (path_text i h)
+    ∙ ap (λ (s : List ℕ). text_before_byte 10 (text_after_byte 32 (drop 6 s))) e ∙ path_text j k
+
+-- ---- the last line
+
+abbrev pub last_words : ℕ → ℕ → List ℕ
+last_words images runs = codes "done " ++ decimal images ++ codes " " ++ decimal runs
+
+pub last_is_line : (images runs : ℕ) → last_line images runs ≡ line (last_words images runs)
+unfolding last_line
+last_is_line images runs = refl
+
+pub lacks-last : (images runs : ℕ) → images < 2 ^ 64 → runs < 2 ^ 64 → lacks 10 (last_words images runs) ≡ true
+lacks-last images runs h k =
+    lacks-append 10 (codes "done " ++ decimal images ++ codes " ") (decimal runs)
+    (lacks-append 10 (codes "done " ++ decimal images) (codes " ")
+    (lacks-append 10 (codes "done ") (decimal images) refl (lacks-decimal 10 images (omega arith) h)) refl)
+    (lacks-decimal 10 runs (omega arith) k)
+
+last_parts : (images runs : ℕ) → drop 5 (last_line images runs) ≡ decimal images ++ 32 ∷ (decimal runs ++ 10 ∷ [])
+last_parts images runs = ap (drop 5) (last_is_line images runs ∙ regroup (codes "done ") (decimal images) (decimal runs))
+
+pub runs_digits : (images runs : ℕ) → images < 2 ^ 64 → runs < 2 ^ 64
+    → text_before_byte 10 (text_after_byte 32 (drop 5 (last_line images runs))) ≡ decimal runs
+runs_digits images runs h k =
+    ap (λ (s : List ℕ). text_before_byte 10 (text_after_byte 32 s)) (last_parts images runs)
+    ∙ ap (text_before_byte 10) (after_at 32 (decimal images) (decimal runs ++ 10 ∷ [])
+    (lacks-decimal 32 images (omega arith) h))
+    ∙ before_at 10 (decimal runs) [] (lacks-decimal 10 runs (omega arith) k)
+
+pub same_runs : (n m r q : ℕ) → n < 2 ^ 64 → m < 2 ^ 64 → r < 2 ^ 64 → q < 2 ^ 64 → last_line n r ≡ last_line m q → r ≡ q
+same_runs n m r q hn hm hr hq e =
+    sym (number_of-decimal r hr) ∙ sym (ap (decimal_number_on 0) (runs_digits n r hn hr))
+    ∙ ap (λ (s : List ℕ). decimal_number_on 0 (text_before_byte 10 (text_after_byte 32 (drop 5 s)))) e
+    ∙ ap (decimal_number_on 0) (runs_digits m q hm hq) ∙ number_of-decimal q hq
+
+-- ---- lines of two kinds differ in their first bytes
+
+same : (k : ℕ) → (k == k) ≡ true
+same k = grind arith
+
+other_byte : (byte d n : ℕ) → is_no_digit byte ≡ true → d < 16 → n ≡ slice_index lower_digits d → n ≡ byte → ⊥
+other_byte byte d n other h is e =
+    let one : (slice_index lower_digits d == byte) ≡ true = ap (λ (k : ℕ). k == byte) (sym is ∙ e) ∙ same byte in
+    false≢true (sym (ap not one) ∙ digit_is_other byte d other h)
+
+first_of_address : (c : AddressCounts) (s : List ℕ)
+    → get_or (address_line c ++ s) 0 0 ≡ slice_index lower_digits (c.address / 2 ^ 24 % 256 / 16)
+unfolding address_line word_digits encode_with
+first_of_address c s = refl
+
+second_of_address : (c : AddressCounts) (s : List ℕ)
+    → get_or (address_line c ++ s) 1 0 ≡ slice_index lower_digits (c.address / 2 ^ 24 % 256 % 16)
+unfolding address_line word_digits encode_with
+second_of_address c s = refl
+
+first_of_image : (i : ImageCounts) (s : List ℕ) → get_or (image_line i ++ s) 0 0 ≡ 105
+unfolding image_line
+first_of_image i s = refl
+
+first_of_last : (n r : ℕ) (s : List ℕ) → get_or (last_line n r ++ s) 0 0 ≡ 100
+unfolding last_line
+first_of_last n r s = refl
+
+second_of_last : (n r : ℕ) (s : List ℕ) → get_or (last_line n r ++ s) 1 0 ≡ 111
+unfolding last_line
+second_of_last n r s = refl
+
+pub address_is_no_image : (c : AddressCounts) (i : ImageCounts) (s t : List ℕ)
+    → address_line c ++ s ≡ image_line i ++ t → ⊥
+address_is_no_image c i s t e =
+    other_byte 105 (c.address / 2 ^ 24 % 256 / 16) (get_or (address_line c ++ s) 0 0) refl (omega arith)
+    (first_of_address c s) (ap (λ (x : List ℕ). get_or x 0 0) e ∙ first_of_image i t)
+
+pub address_is_not_last : (c : AddressCounts) (n r : ℕ) (s t : List ℕ)
+    → address_line c ++ s ≡ last_line n r ++ t → ⊥
+address_is_not_last c n r s t e =
+    other_byte 111 (c.address / 2 ^ 24 % 256 % 16) (get_or (address_line c ++ s) 1 0) refl (omega arith)
+    (second_of_address c s) (ap (λ (x : List ℕ). get_or x 1 0) e ∙ second_of_last n r t)
+
+two_firsts : (n : ℕ) → n ≡ 105 → n ≡ 100 → ⊥
+two_firsts n h k = omega arith
+
+pub image_is_not_last : (i : ImageCounts) (n r : ℕ) (s t : List ℕ) → image_line i ++ s ≡ last_line n r ++ t → ⊥
+image_is_not_last i n r s t e =
+    two_firsts (get_or (image_line i ++ s) 0 0) (first_of_image i s)
+    (ap (λ (x : List ℕ). get_or x 0 0) e ∙ first_of_last n r t)

@@ -1,0 +1,4 @@
+-- The lemmas that proofs of other crates may cite.
+pub use Rattle.rv_counts.proofs.Paths.{any_first, either, none_behind, none_before_itself, not_before_back, not_before_less, same_place}
+pub use Rattle.rv_counts.proofs.AddingImages.{no_images_rise}
+pub use Rattle.rv_counts.proofs.ToldImages.{one_table_of}

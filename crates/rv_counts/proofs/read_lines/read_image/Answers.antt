@@ -1,0 +1,39 @@
+-- The line is compared with the one that is written of what it says.
+use Rattle.std.proofs.Common.{◌≡◌, ◌∙◌, ◌==◌, ◌+◌, ◌<◌, ℕ, Bool, true, false, None, List, length, drop, ap, sym, subst, refl}
+use Rattle.std.proofs.lemmas.Bool.{and_parts, eqb-true}
+use Rattle.std.specs.Cmp.Lexicographic.{bytes_decides}
+use Rattle.std.specs.List.{AllByRecursion}
+use Rattle.std.specs.Str.{bytes_eq}
+use Rattle.rv_counts.specs.Lines.{whole_line}
+use Rattle.rv_counts.specs.Table.{is_behind}
+use Rattle.rv_counts.specs.Text.{image_line}
+use Rattle.rv_counts.specs.ReadSteps.{last_digest}
+use Rattle.rv_counts.proofs.ReadingLines.{one_image, no_image_line}
+use Rattle.rv_counts.proofs.read_lines.read_image.Goals as goal
+
+pub returns-then-not-branch-clause-none : goal.returns-then-not-branch-clause-none
+returns-then-not-branch-clause-none c =
+    let w = c.whole_line-line.ensures in
+    let t = c.if-not-branch.true in
+    no_image_line (last_digest None c.args.earlier.now) (whole_line c.args.text.now) c.in_ok-image.image
+    (λ i h e. c.in_ok-image.ensures.digest i h (w ∙ e)) (λ i h e. c.in_ok-image.ensures.path i h (w ∙ e))
+    (ap (λ (s : List ℕ). bytes_eq s (image_line c.in_ok-image.image)) (sym w) ∙ sym c.in_ok-has_image_line.ensures ∙ t)
+
+pub returns-clause-found : goal.returns-clause-found
+returns-clause-found c =
+    let text = c.args.text.now in
+    let image = c.in_ok-image.image in
+    let w = c.whole_line-line.ensures in
+    let line = c.whole_line-line.result.now in
+    let same : line ≡ image_line image = (bytes_decides line (image_line image)).0
+    (sym c.in_ok-has_image_line.ensures ∙ c.if-not-branch.false) in
+    let d = c.as_slice.ensures in
+    let both = and_parts (length c.as_slice.result.now == 32) (is_behind (last_digest None c.args.earlier.now) c.as_slice.result.now)
+    (sym c.can_follow.ensures.value ∙ c.if-not-can_follow.false) in
+    one_image (last_digest None c.args.earlier.now) text c.tail_from.result.now image c.in_ok-lines.lines
+    (length line + c.in_ok-lines.lines.length)
+    (c.tail_from.ensures ∙ ap (λ (s : List ℕ). drop (length s) text) w) (sym w ∙ same)
+    (ap (λ (s : List ℕ). length s) (sym d) ∙ eqb-true (length c.as_slice.result.now) 32 both.0)
+    (ap (is_behind (last_digest None c.args.earlier.now)) (sym d) ∙ both.1)
+    (subst (λ (s : List ℕ). AllByRecursion (λ b. b < 256) s) d c.can_follow.ensures.bytes) c.in_ok-image.ensures.text
+    c.in_ok-lines.ensures (ap (λ (s : List ℕ). length s + c.in_ok-lines.lines.length) w)

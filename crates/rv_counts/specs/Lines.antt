@@ -1,0 +1,47 @@
+-- Lines of a text, and where a line is cut.
+use Rattle.std.specs.Prelude.{◌==◌, ◌+◌, ◌-◌, ℕ, Bool, true, not, nat_lt, ◌&&◌, if◌then◌else◌, List, [], ◌∷◌, length, take, drop, Result, Ok, Err}
+use Rattle.hex.specs.Hex.{decode_of}
+use Rattle.hex.specs.declared.error.FromHexError.{FromHexError}
+
+-- whether a byte isn't in a text
+abbrev pub lacks : ℕ → List ℕ → Bool
+lacks byte [] = true
+lacks byte (b ∷ bs) = not (b == byte) && lacks byte bs
+
+-- the place of a byte, or the length where it isn't there
+unfoldable pub place_of_byte : ℕ → List ℕ → ℕ
+place_of_byte byte [] = 0
+place_of_byte byte (b ∷ bs) = if b == byte then 0 else place_of_byte byte bs + 1
+
+abbrev pub text_before_byte : ℕ → List ℕ → List ℕ
+text_before_byte byte text = take (place_of_byte byte text) text
+
+abbrev pub text_after_byte : ℕ → List ℕ → List ℕ
+text_after_byte byte text = drop (place_of_byte byte text + 1) text
+
+-- the first line with its line feed, or nothing where there is no line feed
+unfoldable pub whole_line : List ℕ → List ℕ
+whole_line text = if place_of_byte 10 text == length text then [] else take (place_of_byte 10 text + 1) text
+
+-- how many line feeds a text has
+abbrev pub count_of_line_feeds : List ℕ → ℕ
+count_of_line_feeds [] = 0
+count_of_line_feeds (b ∷ bs) = if b == 10 then count_of_line_feeds bs + 1 else count_of_line_feeds bs
+
+-- the first so many lines of a text, each with its line feed if it has one
+unfoldable pub first_lines : ℕ → List ℕ → List ℕ
+first_lines count [] = []
+first_lines count (b ∷ bs) =
+    if count == 0 then [] else b ∷ first_lines (if b == 10 then count - 1 else count) bs
+
+-- the value of a lower-case hexadecimal digit
+abbrev pub hex_digit_value : ℕ → ℕ
+hex_digit_value b = if nat_lt b 97 then b - 48 else b - 87
+
+abbrev pub bytes_if_decoded : Result (List ℕ) FromHexError → List ℕ
+bytes_if_decoded (Ok bytes) = bytes
+bytes_if_decoded (Err error) = []
+
+-- the bytes that hexadecimal digits write; none where a text has other bytes
+unfoldable pub hex_bytes : List ℕ → List ℕ
+hex_bytes text = bytes_if_decoded (decode_of text)

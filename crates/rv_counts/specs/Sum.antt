@@ -1,0 +1,43 @@
+-- The sum of two tables of counts: each count of each image is the sum of both.
+use Rattle.std.specs.Prelude.{◌≡◌, ◌+◌, ◌^◌, ◌≤◌, ℕ, List, [], Result, Ok, Err}
+use Rattle.rv_counts.specs.declared.table.AddressCounts.{AddressCounts}
+use Rattle.rv_counts.specs.declared.table.ImageCounts.{ImageCounts}
+use Rattle.rv_counts.specs.declared.table.CountTable.{CountTable}
+use Rattle.rv_counts.specs.declared.sum.SumError.{SumError}
+use Rattle.rv_counts.specs.declared.sum.SumError.TheVariants.{OutOfMemory, Count, Runs}
+use Rattle.rv_counts.specs.Table.{begun_at, taken_at, begun_in, taken_in, path_in, least_path_of, AreCounts, IsImage, IsTable}
+
+-- at each address the sum of both counts
+pub record IsSumOfCounts (a b sum : List AddressCounts) : Type 0 where
+  pub counts : AreCounts sum
+  pub begun : (address : ℕ) → begun_at address sum ≡ begun_at address a + begun_at address b
+  pub taken : (address : ℕ) → taken_at address sum ≡ taken_at address a + taken_at address b
+
+-- in the image of each digest the sum of both counts at each address; of two paths the first in
+-- the order of bytes; and the runs of both
+pub record IsSum (a b sum : CountTable) : Type 0 where
+  pub table : IsTable sum
+  pub begun : (digest : List ℕ) → (address : ℕ)
+      → begun_in digest address sum.images ≡ begun_in digest address a.images + begun_in digest address b.images
+  pub taken : (digest : List ℕ) → (address : ℕ)
+      → taken_in digest address sum.images ≡ taken_in digest address a.images + taken_in digest address b.images
+  pub paths : (digest : List ℕ)
+      → path_in digest sum.images ≡ least_path_of (path_in digest a.images) (path_in digest b.images)
+  pub runs : sum.runs ≡ a.runs + b.runs
+
+-- the number that is told is of 2^64 or more
+abbrev pub IsTooGreat : SumError → CountTable → CountTable → Type 0
+IsTooGreat OutOfMemory a b = Unit {0}
+IsTooGreat (Count address) a b = (digest : List ℕ)
+    × (2 ^ 64 ≤ begun_in digest address a.images + begun_in digest address b.images)
+IsTooGreat Runs a b = 2 ^ 64 ≤ a.runs + b.runs
+
+-- the same of one image's addresses
+abbrev pub IsTooGreatAt : SumError → List AddressCounts → List AddressCounts → Type 0
+IsTooGreatAt OutOfMemory a b = Unit {0}
+IsTooGreatAt (Count address) a b = 2 ^ 64 ≤ begun_at address a + begun_at address b
+IsTooGreatAt Runs a b = ⊥
+
+-- the table of no run
+abbrev pub no_counts : CountTable
+no_counts = record { images = []; runs = 0 }

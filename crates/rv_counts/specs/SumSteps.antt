@@ -1,0 +1,53 @@
+-- Sums from the front: the first of a sum, ahead of the sum of what both lists have behind it.
+use Rattle.std.specs.Prelude.{◌≡◌, ◌+◌, ◌≤◌, ◌<◌, ◌^◌, ℕ, Bool, true, List, ◌∷◌, Option, length, drop}
+use Rattle.std.specs.List.{AllByRecursion}
+use Rattle.rv_counts.specs.declared.table.AddressCounts.{AddressCounts}
+use Rattle.rv_counts.specs.declared.table.ImageCounts.{ImageCounts}
+use Rattle.rv_counts.specs.declared.sum.SumError.{SumError}
+use Rattle.rv_counts.specs.declared.sum.SumError.TheVariants.{OutOfMemory, Count, Runs}
+use Rattle.rv_counts.specs.declared.sum_of_counts.NextCount.{NextCount}
+use Rattle.rv_counts.specs.declared.sum_of_images.NextImage.{NextImage}
+use Rattle.rv_counts.specs.Table.{begun_at, taken_at, begun_in, taken_in, path_in, least_path_of}
+use Rattle.rv_counts.specs.Table.{rise_from, digests_rise, IsCounted, IsImage}
+
+-- at each address the sum of both counts; it rises from where both lists do
+pub record AddsUp (a b sum : List AddressCounts) : Type 0 where
+  pub each : AllByRecursion IsCounted sum
+  pub rising : (lowest : ℕ) → rise_from lowest a ≡ true → rise_from lowest b ≡ true → rise_from lowest sum ≡ true
+  pub begun : (address : ℕ) → begun_at address sum ≡ begun_at address a + begun_at address b
+  pub taken : (address : ℕ) → taken_at address sum ≡ taken_at address a + taken_at address b
+
+-- an entry, and of how many of each list it is the sum: ahead of the sum of the others it makes the
+-- sum of both lists
+pub record IsNextCount (a b : List AddressCounts) (next : NextCount) : Type 0 where
+  pub of_a : next.of_a ≤ length a
+  pub of_b : next.of_b ≤ length b
+  pub some : 0 < next.of_a + next.of_b
+  pub ahead : (others : List AddressCounts) → AddsUp (drop next.of_a a) (drop next.of_b b) others
+      → AddsUp a b (next.sum ∷ others)
+
+-- the same of images: in the image of each digest the sum of both counts at each address; of two
+-- paths the first
+pub record ImagesAddUp (a b sum : List ImageCounts) : Type 0 where
+  pub each : AllByRecursion IsImage sum
+  pub rising : (last : Option (List ℕ)) → digests_rise last a ≡ true → digests_rise last b ≡ true
+      → digests_rise last sum ≡ true
+  pub begun : (digest : List ℕ) (address : ℕ)
+      → begun_in digest address sum ≡ begun_in digest address a + begun_in digest address b
+  pub taken : (digest : List ℕ) (address : ℕ)
+      → taken_in digest address sum ≡ taken_in digest address a + taken_in digest address b
+  pub paths : (digest : List ℕ) → path_in digest sum ≡ least_path_of (path_in digest a) (path_in digest b)
+
+pub record IsNextImage (a b : List ImageCounts) (next : NextImage) : Type 0 where
+  pub of_a : next.of_a ≤ length a
+  pub of_b : next.of_b ≤ length b
+  pub some : 0 < next.of_a + next.of_b
+  pub ahead : (others : List ImageCounts) → ImagesAddUp (drop next.of_a a) (drop next.of_b b) others
+      → ImagesAddUp a b (next.image ∷ others)
+
+-- the count of an address is of 2^64 or more in the sum of some image
+abbrev pub IsTooGreatIn : SumError → List ImageCounts → List ImageCounts → Type 0
+IsTooGreatIn OutOfMemory a b = Unit {0}
+IsTooGreatIn (Count address) a b = (digest : List ℕ)
+    × (2 ^ 64 ≤ begun_in digest address a + begun_in digest address b)
+IsTooGreatIn Runs a b = ⊥

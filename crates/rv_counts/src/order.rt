@@ -1,0 +1,19 @@
+//! The order of bytes.
+
+ghost use Rattle.std.specs.Prelude.{◌≡◌};
+ghost use Rattle.rv_counts.specs.Table.{is_before};
+
+/// Whether bytes come before others, as words do in a dictionary.
+pub(crate) fn is_before(a: &[u8], b: &[u8]) -> bool
+    ensures { result ≡ is_before a.now b.now }
+{
+    for (at, other) in b.iter().enumerate() {
+        if at == a.len() || a[at] < *other {
+            return true;
+        }
+        if *other < a[at] {
+            return false;
+        }
+    }
+    false
+}

@@ -1,0 +1,46 @@
+//! The sum of two tables.
+
+ghost use Rattle.std.specs.Prelude.{◌≡◌, IfOk, IfErr};
+ghost use Rattle.rv_counts.specs.Sum.{IsSum, IsTooGreat};
+ghost use Rattle.rv_counts.specs.Table.{IsTable};
+ghost use Rattle.rv_counts.specs.declared.sum.SumError.TheVariants.{OutOfMemory};
+
+use crate::sum_of_images::sum_of_images;
+use crate::table::CountTable;
+use std::alloc::{AllocError, Global};
+use thiserror::Error;
+
+/// Why two tables have no sum.
+#[derive(Clone, Copy, Debug, Error, PartialEq, Eq)]
+pub enum SumError {
+    /// A growth was refused.
+    #[error("out of memory")]
+    OutOfMemory,
+    /// The instruction at the address began 2^64 times or more, in one image.
+    #[error("a count of {0:08x} does not fit in 64 bits")]
+    Count(u32),
+    /// There are 2^64 runs or more.
+    #[error("the number of runs does not fit in 64 bits")]
+    Runs,
+}
+
+impl From<AllocError> for SumError {
+    ghost from_gives = { λ _ error. error ≡ OutOfMemory };
+
+    fn from(_: AllocError) -> SumError {
+        SumError::OutOfMemory
+    }
+}
+
+/// The sum of two tables: an image is known by its digest, and each of its counts is the sum of both. Takes memory for
+/// the sum alone.
+pub fn sum_of_tables(alloc: Global, a: &CountTable, b: &CountTable) -> Result<CountTable, SumError>
+    requires a { IsTable a.now }
+    requires b { IsTable b.now }
+    ensures value { IfOk result (λ sum. IsSum a.now b.now sum) }
+    ensures refused { IfErr result (λ error. IsTooGreat error a.now b.now) }
+{
+    let runs = a.runs.checked_add(b.runs).ok_or(SumError::Runs)?;
+    let images = sum_of_images(alloc, a.images.as_slice(), b.images.as_slice())?;
+    Ok(CountTable { images, runs })
+}

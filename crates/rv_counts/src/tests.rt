@@ -1,0 +1,153 @@
+//! Texts of tables, read, written and added.
+
+use crate::{ReadError, SumError, read_table, sum_of_tables, table_text};
+use std::alloc::Global;
+use std::rt::HostRuntime;
+use std::test::Fail;
+
+const A: &str = "\
+rvcounts 1
+image 428abbe1347171d7e00df3badf31776c1ef4445e0516044cf7a638356db5f470 build/tail2.elf
+80000000 1 0
+800000aa 89 34
+done 1 1
+";
+
+const B: &str = "\
+rvcounts 1
+image 428abbe1347171d7e00df3badf31776c1ef4445e0516044cf7a638356db5f470 build/a.elf
+80000004 7 7
+800000aa 11 6
+image fa5d878384b4165ad613c93c06d8e251eb3c2c4230c67ce1306aa610ced287b5 build/hand.elf
+80000074 5 1
+done 2 5
+";
+
+const BOTH: &str = "\
+rvcounts 1
+image 428abbe1347171d7e00df3badf31776c1ef4445e0516044cf7a638356db5f470 build/a.elf
+80000000 1 0
+80000004 7 7
+800000aa 100 40
+image fa5d878384b4165ad613c93c06d8e251eb3c2c4230c67ce1306aa610ced287b5 build/hand.elf
+80000074 5 1
+done 2 6
+";
+
+// What comes of the sum of two texts.
+fn sum_is(alloc: Global, a: &str, b: &str, expected: &str) -> Result<(), Fail> {
+    let first = read_table(alloc, a.as_bytes())?;
+    let second = read_table(alloc, b.as_bytes())?;
+    let sum = sum_of_tables(alloc, &first, &second)?;
+    let text = table_text(alloc, &sum)?;
+    if text.as_str() == expected {
+        Ok(())
+    } else {
+        Err(expected.into())
+    }
+}
+
+#[test]
+fn adds_tables(rt: HostRuntime) -> Result<(), Fail> {
+    let alloc = rt.alloc();
+    sum_is(alloc, A, B, BOTH)?;
+    sum_is(alloc, B, A, BOTH)?;
+    sum_is(alloc, "rvcounts 1\ndone 0 0\n", A, A)
+}
+
+// A text that is no table, and the line that is refused, or 0 where it is cut off.
+const REFUSED: [(&str, usize); 16] = [
+    ("", 0),
+    ("rvcounts 1", 0),
+    ("rvcounts 2\n", 1),
+    ("rvcounts 1\n", 0),
+    ("rvcounts 1\ndone 1 0\n", 2),
+    ("rvcounts 1\ndone 0 00\n", 2),
+    ("rvcounts 1\ndone 0 0\ndone 0 0\n", 3),
+    ("rvcounts 1\ndone 0 18446744073709551616\n", 2),
+    ("rvcounts 1\n80000000 1 0\n", 2),
+    ("rvcounts 1\nimage 00 a\n", 2),
+    (
+        "rvcounts 1\nimage 428abbe1347171d7e00df3badf31776c1ef4445e0516044cf7a638356db5f47Z a\n",
+        2,
+    ),
+    (
+        "rvcounts 1\nimage 428abbe1347171d7e00df3badf31776c1ef4445e0516044cf7a638356db5f470 a\n80000001 1 0\n",
+        3,
+    ),
+    (
+        "rvcounts 1\nimage 428abbe1347171d7e00df3badf31776c1ef4445e0516044cf7a638356db5f470 a\n80000000 0 0\n",
+        3,
+    ),
+    (
+        "rvcounts 1\nimage 428abbe1347171d7e00df3badf31776c1ef4445e0516044cf7a638356db5f470 a\n80000000 1 2\n",
+        3,
+    ),
+    (
+        "rvcounts 1\nimage 428abbe1347171d7e00df3badf31776c1ef4445e0516044cf7a638356db5f470 a\n80000002 1 0\n80000002 1 0\n",
+        4,
+    ),
+    (
+        "rvcounts 1\nimage 428abbe1347171d7e00df3badf31776c1ef4445e0516044cf7a638356db5f470 a\n80000002 1 0\ndone 2 1\n",
+        4,
+    ),
+];
+
+#[test]
+fn refuses_texts(rt: HostRuntime) -> Result<(), Fail> {
+    for (text, expected) in REFUSED {
+        let line = match read_table(rt.alloc(), text.as_bytes()) {
+            Err(ReadError::Line(line)) => line,
+            Err(ReadError::CutOff) => 0,
+            _ => return Err(text.into()),
+        };
+        if line != expected {
+            return Err(text.into());
+        }
+    }
+    Ok(())
+}
+
+const FULL: &str = "\
+rvcounts 1
+image 428abbe1347171d7e00df3badf31776c1ef4445e0516044cf7a638356db5f470 a.elf
+80000000 18446744073709551615 0
+done 1 18446744073709551615
+";
+
+const ONE: &str = "\
+rvcounts 1
+image 428abbe1347171d7e00df3badf31776c1ef4445e0516044cf7a638356db5f470 a.elf
+80000000 1 0
+done 1 0
+";
+
+#[test]
+fn refuses_sums(rt: HostRuntime) -> Result<(), Fail> {
+    let full = read_table(rt.alloc(), FULL.as_bytes())?;
+    let one = read_table(rt.alloc(), ONE.as_bytes())?;
+    let run = read_table(rt.alloc(), b"rvcounts 1\ndone 0 1\n")?;
+    match sum_of_tables(rt.alloc(), &full, &one) {
+        Err(SumError::Count(0x8000_0000)) => {}
+        _ => return Err("a count that does not fit".into()),
+    }
+    match sum_of_tables(rt.alloc(), &full, &run) {
+        Err(SumError::Runs) => Ok(()),
+        _ => Err("runs that do not fit".into()),
+    }
+}
+
+const HIGH: &str = "\
+rvcounts 1
+image 428abbe1347171d7e00df3badf31776c1ef4445e0516044cf7a638356db5f470 donne.elf
+00000000 1 0
+d0000000 2 1
+fffffffe 18446744073709551615 18446744073709551615
+done 1 1
+";
+
+// A digit may be the first letter of the last line.
+#[test]
+fn reads_addresses_from_end_to_end(rt: HostRuntime) -> Result<(), Fail> {
+    sum_is(rt.alloc(), HIGH, "rvcounts 1\ndone 0 0\n", HIGH)
+}

@@ -1,0 +1,13 @@
+pub mod Ends
+pub mod Tallies
+pub mod Counted
+pub mod Evens
+pub mod Starts
+pub mod Lines
+pub mod OfJobs
+pub mod Orders
+pub mod Kept
+pub mod Shares
+pub mod Parted
+pub mod OfShards
+pub mod Bounds

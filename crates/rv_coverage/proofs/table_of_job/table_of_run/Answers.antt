@@ -1,0 +1,20 @@
+-- The one image can stand in a table.
+use Rattle.rv_coverage.proofs.OfJobs.{one_image_is_table}
+use Rattle.rv_coverage.proofs.table_of_job.table_of_run.Goals as goal
+
+pub returns-clause-table : goal.returns-clause-table
+returns-clause-table c =
+    one_image_is_table (record {
+      digest = c.in_ok-digest.digest;
+      path = c.in_ok-path.path;
+      addresses = c.args.addresses;
+    })
+    (record { images = c.in_ok-images.images; runs = 1 })
+    (λ i. record { images = c.in_ok-images.ensures i; runs = 1 })
+    (record {
+      digest = c.in_ok-digest.ensures.long;
+      bytes = c.in_ok-digest.ensures.bytes;
+      path = c.in_ok-path.ensures.line;
+      text = c.in_ok-path.ensures.text;
+      counts = c.requires;
+    })

@@ -1,0 +1,22 @@
+//! How often each instruction of a run began, and how often it was a branch that was taken.
+//!
+//! [`count_run`] runs a machine within a budget, one instruction at a time, and answers its counts: for each address exactly how
+//! often an instruction began there, and how often it was a conditional branch that was taken. [`count_job`] does so of
+//! a job of a plan, by a run beside its own. [`count_places`] answers the table of the jobs of a batch, which is the sum of theirs:
+//! [`jobs_have_one_table`] whatever their order, and [`tables_of_shards_sum_to_that_of_all`].
+#![tactic(auto)]
+
+mod count;
+mod law;
+mod places;
+mod step;
+mod table_of_job;
+mod tally;
+
+pub use count::{count_job, count_run};
+pub use law::{
+    counts_stand_at_even_addresses, counts_sum_to_the_steps, jobs_have_one_table,
+    jobs_have_one_table_over_the_same_files, run_begins_its_steps,
+    tables_of_parts_sum_to_that_of_the_list, tables_of_shards_sum_to_that_of_all,
+};
+pub use places::count_places;

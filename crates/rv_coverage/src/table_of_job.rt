@@ -1,0 +1,152 @@
+//! The table of one job of a plan.
+
+ghost use Rattle.std.specs.Prelude.{◌≡◌, ◌<◌, ◌∷◌, [], IfOk, Some, true, length, option_map};
+ghost use Rattle.std.specs.List.{AllByRecursion};
+ghost use Rattle.std.specs.Str.{IsUtf8};
+ghost use Rattle.sha2.specs.Sha256.{sha256};
+ghost use Rattle.rv_counts.specs.Lines.{lacks};
+ghost use Rattle.rv_counts.specs.Sum.{no_counts};
+ghost use Rattle.rv_counts.specs.Table.{AreCounts, IsTable};
+ghost use Rattle.rv_jobs.specs.declared_job.Job.{Job as AJob};
+ghost use Rattle.rv_jobs.specs.Plans.{kept_for};
+ghost use Rattle.rv_rows.specs.Rows.{image_if_read};
+ghost use Rattle.rv_text.specs.Printable.{printable_text};
+ghost use Rattle.rv_trace.specs.Trace.{job_at};
+ghost use Rattle.rv_coverage.specs.JobTables.{IsTableOfOne, image_bytes, table_of_run};
+
+use crate::count::count_job;
+use rv_counts::{Addresses, CountTable, ImageCounts, Images};
+use rv_elf::{Image, ImageError, read_image};
+use rv_isa::Isa;
+use rv_jobs::{Bytes, Kept, Plan, Text};
+use rv_text::{printable_text_is_utf8_without_controls, push_printable_text};
+use rv_trace::JobImage;
+use sha2::{Digest, Sha256};
+use std::alloc::{AllocError, Global};
+
+/// The table of the job at a place, which has the counts of its run, or that of no run where the job is refused. It takes
+/// the time of one more run and more, and memory for each address where an instruction began.
+pub(crate) fn count_place(
+    alloc: Global,
+    plan: &Plan,
+    place: usize,
+) -> Result<CountTable, AllocError>
+    requires { place < length plan.now.jobs }
+    ensures { IfOk result (λ table. (d : AJob) → IsTableOfOne plan.now.answers (job_at plan.now place d) table) }
+{
+    let job = plan.job(place);
+    let Some(bytes) = image_bytes(plan, place) else {
+        return Ok(empty_table(alloc));
+    };
+    let Some(image) = image_of_bytes(alloc, job.isa, bytes)? else {
+        return Ok(empty_table(alloc));
+    };
+    let job_image = JobImage {
+        plan,
+        place,
+        image: &image,
+    };
+    match count_job(alloc, &job_image)? {
+        Some(addresses) => table_of_run(alloc, job.image.as_str(), bytes, addresses),
+        None => Ok(empty_table(alloc)),
+    }
+}
+
+/// The table of no run. Takes no memory.
+pub(crate) fn empty_table(alloc: Global) -> CountTable
+    ensures { result ≡ no_counts }
+{
+    CountTable {
+        images: Images::new(Vec::new(alloc)),
+        runs: 0,
+    }
+}
+
+// The bytes of a job's image, where they were read.
+fn image_bytes(plan: &Plan, place: usize) -> Option<&[u8]>
+    requires { place < length plan.now.jobs }
+    ensures { (d : AJob) → option_map (λ bytes. bytes.now) result
+        ≡ image_bytes plan.now.answers (job_at plan.now place d) }
+{
+    match plan.image(place) {
+        Kept::Content(bytes) => Some(bytes.as_slice()),
+        Kept::Unreadable | Kept::TooLong => None,
+    }
+}
+
+// The image that bytes are read as, where they are one.
+fn image_of_bytes(alloc: Global, isa: Isa, bytes: &[u8]) -> Result<Option<Image>, AllocError>
+    ensures { IfOk result (λ image. image ≡ image_if_read isa (Some bytes.now)) }
+{
+    match read_image(alloc, bytes, isa) {
+        Ok(image) => Ok(Some(image)),
+        // Out of memory: the image takes some.
+        Err(ImageError::OutOfMemory) => Err(AllocError),
+        Err(_) => Ok(None),
+    }
+}
+
+// The table of one run over the image of some bytes.
+fn table_of_run(
+    alloc: Global,
+    path: &str,
+    bytes: &[u8],
+    addresses: Addresses,
+) -> Result<CountTable, AllocError>
+    requires { AreCounts addresses }
+    ensures value { IfOk result (λ table. table ≡ table_of_run path.now bytes.now addresses) }
+    ensures table { IfOk result IsTable }
+{
+    let digest = digest_of(alloc, bytes)?;
+    let path = shown_path(alloc, path)?;
+    let images = images_of_one(
+        alloc,
+        ImageCounts {
+            digest,
+            path,
+            addresses,
+        },
+    )?;
+    Ok(CountTable { images, runs: 1 })
+}
+
+fn images_of_one(alloc: Global, image: ImageCounts) -> Result<Images, AllocError>
+    ensures { IfOk result (λ images. images ≡ image ∷ []) }
+{
+    let mut images = Vec::with_capacity(alloc, 1)?;
+    images.push(image)?;
+    Ok(Images::new(images))
+}
+
+fn digest_of(alloc: Global, bytes: &[u8]) -> Result<Bytes, AllocError>
+    ensures value { IfOk result (λ digest. digest ≡ sha256 bytes.now) }
+    ensures long { IfOk result (λ digest. length digest ≡ 32) }
+    ensures bytes { IfOk result (λ digest. AllByRecursion (λ b. b < 256) digest) }
+{
+    let digest = Sha256::digest(bytes);
+    copy_of(alloc, &digest)
+}
+
+fn copy_of(alloc: Global, bytes: &[u8]) -> Result<Bytes, AllocError>
+    ensures value { IfOk result (λ copy. copy ≡ bytes.now) }
+    ensures bytes { IfOk result (λ copy. AllByRecursion (λ b. b < 256) copy) }
+{
+    let mut copy = Vec::with_capacity(alloc, bytes.len())?;
+    copy.extend_from_slice(bytes)?;
+    Ok(Bytes::new(copy))
+}
+
+// A path as a table has it: text without line feeds.
+fn shown_path(alloc: Global, path: &str) -> Result<Text, AllocError>
+    ensures value { IfOk result (λ text. text ≡ printable_text path.now) }
+    ensures text { IfOk result IsUtf8 }
+    ensures line { IfOk result (λ text. lacks 10 text ≡ true) }
+{
+    let mut bytes = Vec::new(alloc);
+    push_printable_text(&mut bytes, path.as_bytes())?;
+    printable_text_is_utf8_without_controls();
+    match String::from_utf8(bytes) {
+        Ok(text) => Ok(Text::new(text)),
+        Err(_) => unreachable!(),
+    }
+}

@@ -1,0 +1,70 @@
+-- Why `counts` ended before its work was done.
+use Rattle.std.specs.Prelude.{◌≡◌, ◌⊎◌, ◌++◌, ◌∷◌, ℕ, List, Option, codes}
+use Rattle.std.specs.Borrow.{Bor}
+use Rattle.rv_base.specs.Files.{FileContents}
+use Rattle.rv_cli.specs.declared.rvtest.counts.CountsAsked.{CountsAsked}
+use Rattle.rv_command.specs.Messages.{path_message, path_number_message}
+use Rattle.rv_command.specs.Stops.{IsStop, IsUnreadStop}
+use Rattle.rv_command.specs.Texts.{IsTextAt, optional_text}
+use Rattle.rv_command.specs.declared.stop.Stop.{Stop}
+use Rattle.rv_command.specs.declared.stop.Stop.TheVariants as stop
+use Rattle.rv_counts.specs.Read.{IsLeast}
+use Rattle.rv_counts.specs.Sum.{IsTooGreat, no_counts}
+use Rattle.rv_counts.specs.declared.read.ReadError.{ReadError}
+use Rattle.rv_counts.specs.declared.read.ReadError.TheVariants as read
+use Rattle.rv_counts.specs.declared.sum.SumError.{SumError}
+use Rattle.rv_counts.specs.declared.sum.SumError.TheVariants as sum
+use Rattle.rv_counts.specs.declared.table.CountTable.{CountTable}
+use Rattle.rv_text.specs.Printable.{printable_text}
+use Rattle.rv_text.specs.Words.{word_digits}
+use Rattle.rvtest_app.specs.CountSums.{AreAdded, IsTableAt}
+use Rattle.rvtest_app.specs.WrittenTexts.{IsUnwrittenAtStop, written_path}
+
+-- a text at a path is refused as a table of counts
+abbrev pub IsReadErrorStop : List ℕ → ReadError → Stop → Type 0
+IsReadErrorStop path read.OutOfMemory why = why ≡ stop.OutOfMemory
+IsReadErrorStop path (read.Line line) why =
+    IsStop 2 (path_number_message path (codes ":") line (codes ": no table of counts has this line here\n")) why
+IsReadErrorStop path read.CutOff why = IsStop 2 (path_message path (codes "the table is cut off")) why
+
+-- a count of an address would be 2^64 or more with the table at a path
+abbrev pub great_count_message : List ℕ → ℕ → List ℕ
+great_count_message path address = codes "rvtest: " ++ printable_text path ++ codes ": a count of " ++ word_digits address
+    ++ codes " does not fit in 64 bits\n"
+
+-- a table is not added to others
+abbrev pub IsSumErrorStop : List ℕ → SumError → Stop → Type 0
+IsSumErrorStop path sum.OutOfMemory why = why ≡ stop.OutOfMemory
+IsSumErrorStop path (sum.Count address) why = IsStop 2 (great_count_message path address) why
+IsSumErrorStop path sum.Runs why = IsStop 2 (path_message path (codes "the number of runs does not fit in 64 bits")) why
+
+-- memory was wanting; or the text at a path is no table: the least line is told that no table has there, or that it is cut off
+abbrev pub IsTableFaultStop : List ℕ → List ℕ → Stop → Type 0
+IsTableFaultStop path text why = (error : ReadError) × (IsLeast error text × IsReadErrorStop path error why)
+
+-- the table at a path has no sum with what was added before it
+abbrev pub IsGreatSumStop : Option FileContents → List ℕ → CountTable → Stop → Type 0
+IsGreatSumStop known path before why = (table : CountTable) × (IsTableAt known path table
+    × ((error : SumError) × (IsTooGreat error before table × IsSumErrorStop path error why)))
+
+-- the path was not read; or its text is no table; or it has no sum with what was added before
+abbrev pub IsUnaddedStop : Option FileContents → List ℕ → CountTable → Stop → Type 0
+IsUnaddedStop known path before why = IsUnreadStop known path why
+    ⊎ (((text : List ℕ) × (IsTextAt known path text × IsTableFaultStop path text why))
+    ⊎ IsGreatSumStop known path before why)
+
+-- that happened to one of the paths, and the tables at those before it were added
+pub record IsSumStop (known : Option FileContents) (paths : List (Bor (List ℕ))) (why : Stop) : Type 0 where
+  pub before : List (Bor (List ℕ))
+  pub path : Bor (List ℕ)
+  pub behind : List (Bor (List ℕ))
+  pub sum : CountTable
+  pub listed : paths ≡ before ++ path ∷ behind
+  pub added : AreAdded known before no_counts sum
+  pub stopped : IsUnaddedStop known path.now sum why
+
+-- `counts`: memory was wanting, or one of the tables was not added, or all were, and their sum was not written
+abbrev pub IsCountsStop : Option FileContents → CountsAsked → Stop → Type 0
+IsCountsStop known words why = (why ≡ stop.OutOfMemory) ⊎ (IsSumStop known words.tables.items why
+    ⊎ ((sum : CountTable) × (AreAdded known words.tables.items no_counts sum
+    × IsUnwrittenAtStop (written_path (optional_text words.out)) why)))

@@ -1,0 +1,74 @@
+-- The sum of the tables of counts at some paths, and what `counts` puts.
+use Rattle.std.specs.Prelude.{◌≡◌, ◌++◌, ◌==◌, ◌+◌, ◌-◌, ◌^◌, if◌then◌else◌, ℕ, List, [], ◌∷◌, Option, Some, None, codes, length, min}
+use Rattle.std.specs.Borrow.{Bor}
+use Rattle.std.specs.Fmt.{decimal}
+use Rattle.rv_base.specs.Files.{FileContents}
+use Rattle.rv_cli.specs.declared.rvtest.counts.CountsAsked.{CountsAsked}
+use Rattle.rv_command.specs.Texts.{IsTextAt, optional_text}
+use Rattle.rv_counts.specs.Sum.{IsSum, no_counts}
+use Rattle.rv_counts.specs.Table.{IsTable}
+use Rattle.rv_counts.specs.Text.{table_text}
+use Rattle.rv_counts.specs.declared.table.AddressCounts.{AddressCounts}
+use Rattle.rv_counts.specs.declared.table.CountTable.{CountTable}
+use Rattle.rv_counts.specs.declared.table.ImageCounts.{ImageCounts}
+use Rattle.rvtest_app.specs.Said.{IsOnlyTold, Said}
+use Rattle.rvtest_app.specs.WrittenTexts.{IsWrittenAt, written_path}
+
+-- the table whose text stands at a path
+abbrev pub IsTableAt : Option FileContents → List ℕ → CountTable → Type 0
+IsTableAt known path table = IsTable table × IsTextAt known path (table_text table)
+
+-- a table with the one at a path added to it
+abbrev pub IsAdded : Option FileContents → List ℕ → CountTable → CountTable → Type 0
+IsAdded known path before after = (table : CountTable) × (IsTableAt known path table × IsSum before table after)
+
+-- a table with those at the paths added to it, one after the other
+abbrev pub AreAdded : Option FileContents → List (Bor (List ℕ)) → CountTable → CountTable → Type 0
+AreAdded known [] before after = after ≡ before
+AreAdded known (path ∷ paths) before after =
+    (next : CountTable) × (IsAdded known path.now before next × AreAdded known paths next after)
+
+-- how many instructions began in all, or the greatest number of 64 bits where they are more
+abbrev pub begun_of_addresses : List AddressCounts → ℕ
+begun_of_addresses [] = 0
+begun_of_addresses (c ∷ cs) = c.begun + begun_of_addresses cs
+
+abbrev pub begun_of_images : List ImageCounts → ℕ
+begun_of_images [] = 0
+begun_of_images (image ∷ images) = begun_of_addresses image.addresses + begun_of_images images
+
+abbrev pub most_number : ℕ
+most_number = 2 ^ 64 - 1
+
+abbrev pub shown_number : ℕ → ℕ
+shown_number number = min number most_number
+
+-- what is said of a sum: how many runs it is of, of how many images, and how many instructions began
+abbrev pub run_word : ℕ → List ℕ
+run_word count = if count == 1 then codes " run of " else codes " runs of "
+
+abbrev pub image_word : ℕ → List ℕ
+image_word count = if count == 1 then codes " image, " else codes " images, "
+
+abbrev pub number_head : ℕ → List ℕ
+number_head number = if number == most_number then codes "at least " else []
+
+abbrev pub instruction_word : ℕ → List ℕ
+instruction_word count = if count == 1 then codes " instruction\n" else codes " instructions\n"
+
+abbrev pub instructions_text : ℕ → List ℕ
+instructions_text number = number_head number ++ decimal number ++ instruction_word number
+
+abbrev pub sum_note : CountTable → List ℕ
+sum_note table = decimal table.runs ++ run_word table.runs ++ decimal (length table.images) ++ image_word (length table.images)
+    ++ instructions_text (shown_number (begun_of_images table.images))
+
+-- the text of the sum of the tables at the paths went to the path that is given, or to standard output, and what is said of it to standard
+-- error; the status is 0
+pub record IsSumPut (known : Option FileContents) (words : CountsAsked) (status : ℕ) (before after : Said) : Type 0 where
+  pub sum : CountTable
+  pub added : AreAdded known words.tables.items no_counts sum
+  pub middle : Said
+  pub put : IsWrittenAt (Some (written_path (optional_text words.out))) (table_text sum) before middle
+  pub told : IsOnlyTold (sum_note sum) middle after
+  pub done : status ≡ 0

@@ -1,0 +1,28 @@
+-- A text that a command writes to a file, or to standard output where no file is named.
+use Rattle.std.specs.Prelude.{◌≡◌, ℕ, Bool, true, false, List, Option, Some, None, codes}
+use Rattle.std.specs.Io.KnownBytes.{Appends}
+use Rattle.rv_command.specs.declared.stop.Stop.{Stop}
+use Rattle.rv_command.specs.declared.stop.Stop.TheVariants as stop
+use Rattle.rvtest_app.specs.AcceptStops.{IsUnmadeStop}
+use Rattle.rvtest_app.specs.Outlets.{AreFilesPlaced, file_at, is_stdout, stdout_at}
+use Rattle.rvtest_app.specs.Said.{Said}
+
+-- the path that is given, or the one that stands for standard output
+abbrev pub written_path : Option (List ℕ) → List ℕ
+written_path (Some path) = path
+written_path None = codes "-"
+
+-- a text went to the file at the path, or to standard output, and nothing else was said; without a path it went nowhere
+pub record IsWrittenAt (path : Option (List ℕ)) (text : List ℕ) (before after : Said) : Type 0 where
+  pub out : Appends before.out after.out (stdout_at path text)
+  pub errors : after.errors ≡ before.errors
+  pub failures : after.failures ≡ before.failures
+  pub placed : AreFilesPlaced before.placed after.placed (Some (file_at path text))
+
+-- why a text was not written there
+abbrev pub IsUnwrittenBy : Bool → List ℕ → Stop → Type 0
+IsUnwrittenBy true path why = why ≡ stop.WriteFailed
+IsUnwrittenBy false path why = IsUnmadeStop path why
+
+abbrev pub IsUnwrittenAtStop : List ℕ → Stop → Type 0
+IsUnwrittenAtStop path why = IsUnwrittenBy (is_stdout path) path why

@@ -1,0 +1,131 @@
+//! The command `counts`.
+
+ghost use Rattle.std.specs.Prelude.{◌≡◌, ◌≤◌, IfErr, IfOk, OnErr};
+ghost use Rattle.rv_counts.specs.Sum.{no_counts};
+ghost use Rattle.rv_counts.specs.Table.{IsTable};
+ghost use Rattle.rv_counts.specs.Text.{table_text};
+ghost use Rattle.rvtest_app.specs.CountStops.{IsCountsStop, IsReadErrorStop, IsSumErrorStop, IsSumStop, IsTableFaultStop, IsUnaddedStop, great_count_message};
+ghost use Rattle.rvtest_app.specs.CountSums.{AreAdded, IsAdded, IsSumPut};
+ghost use Rattle.rvtest_app.specs.Said.{said};
+
+use crate::counts_note::sum_note;
+use crate::destinations::Destinations;
+use crate::written_text::write_text;
+use rv_cli::rvtest::CountsAsked;
+use rv_command::{DONE, Stop, path_message, path_number_message, put_message, read_file};
+use rv_counts::{CountTable, Images, ReadError, SumError, read_table, sum_of_tables, table_text};
+use rv_files::{Inputs, Outputs};
+use rv_rows::Sink;
+use rv_text::{Span, text_of_spans};
+use std::alloc::{AllocError, Global};
+
+/// Adds up the tables of counts at some paths, and writes the sum. The status is 0.
+pub(crate) fn put_sum_of_tables<D: Inputs, F: Outputs + Drop, O: Sink + Drop, E: Sink + Drop>(
+    inputs: &D,
+    alloc: Global,
+    asked: &CountsAsked<'_>,
+    to: &mut Destinations<F, O, E>,
+) -> Result<u8, Stop>
+    ensures put { IfOk result (λ status. IsSumPut (D.contents inputs.now) asked.now status
+        (said F.placed O.taken E.taken E.failed to.old) (said F.placed O.taken E.taken E.failed to.new)) }
+    ensures low { IfOk result (λ status. status ≤ 1) }
+    ensures undone { OnErr result (F.placed to.new.files ≡ F.placed to.old.files) }
+    ensures stopped { IfErr result (IsCountsStop (D.contents inputs.now) asked.now) }
+{
+    let sum = sum_of_paths(inputs, alloc, asked.tables.as_slice())?;
+    let text = table_text(alloc, &sum)?;
+    let note = sum_note(alloc, &sum)?;
+    write_text(alloc, to, asked.out, text.as_bytes())?;
+    put_message(&mut to.errors, note.as_slice());
+    Ok(DONE)
+}
+
+// The sum of the tables at some paths.
+fn sum_of_paths<D: Inputs>(inputs: &D, alloc: Global, paths: &[&str]) -> Result<CountTable, Stop>
+    ensures added { IfOk result (AreAdded (D.contents inputs.now) paths.now no_counts) }
+    ensures table { IfOk result IsTable }
+    ensures stopped { IfErr result (IsSumStop (D.contents inputs.now) paths.now) }
+{
+    let mut sum = CountTable {
+        images: Images::new(Vec::new(alloc)),
+        runs: 0,
+    };
+    for path in paths {
+        sum = sum_with_path(inputs, alloc, path, &sum)?;
+    }
+    Ok(sum)
+}
+
+// A table with the one at a path added to it.
+fn sum_with_path<D: Inputs>(
+    inputs: &D,
+    alloc: Global,
+    path: &str,
+    before: &CountTable,
+) -> Result<CountTable, Stop>
+    requires { IsTable before.now }
+    ensures added { IfOk result (IsAdded (D.contents inputs.now) path.now before.now) }
+    ensures table { IfOk result IsTable }
+    ensures stopped { IfErr result (IsUnaddedStop (D.contents inputs.now) path.now before.now) }
+{
+    let text = read_file(inputs, alloc, path)?;
+    let table = table_of_text(alloc, path, text.as_slice())?;
+    match sum_of_tables(alloc, before, &table) {
+        Ok(sum) => Ok(sum),
+        Err(error) => Err(sum_error_stop(alloc, path, error)),
+    }
+}
+
+// The table that the text at a path is.
+fn table_of_text(alloc: Global, path: &str, text: &[u8]) -> Result<CountTable, Stop>
+    ensures table { IfOk result (λ table. IsTable table × (table_text table ≡ text.now)) }
+    ensures stopped { IfErr result (IsTableFaultStop path.now text.now) }
+{
+    match read_table(alloc, text) {
+        Ok(table) => Ok(table),
+        Err(error) => Err(read_error_stop(alloc, path, error)),
+    }
+}
+
+fn read_error_stop(alloc: Global, path: &str, error: ReadError) -> Stop
+    ensures { IsReadErrorStop path.now error result }
+{
+    match error {
+        ReadError::OutOfMemory => Stop::OutOfMemory,
+        ReadError::Line(line) => {
+            let what = ": no table of counts has this line here\n";
+            Stop::of_refusal(path_number_message(alloc, path, ":", line, what))
+        }
+        ReadError::CutOff => { Stop::of_refusal(path_message(alloc, path, "the table is cut off")) }
+    }
+}
+
+fn sum_error_stop(alloc: Global, path: &str, error: SumError) -> Stop
+    ensures { IsSumErrorStop path.now error result }
+{
+    match error {
+        SumError::OutOfMemory => Stop::OutOfMemory,
+        SumError::Count(address) => {
+            Stop::of_refusal(great_count_message(alloc, path, address))
+        }
+        SumError::Runs => {
+            let what = "the number of runs does not fit in 64 bits";
+            Stop::of_refusal(path_message(alloc, path, what))
+        }
+    }
+}
+
+fn great_count_message(alloc: Global, path: &str, address: u32) -> Result<Vec<u8>, AllocError>
+    ensures { IfOk result (λ text. text.items ≡ great_count_message path.now address) }
+{
+    text_of_spans(
+        alloc,
+        &[
+            Span::Text("rvtest: "),
+            Span::Shown(path.as_bytes()),
+            Span::Text(": a count of "),
+            Span::Word(address),
+            Span::Text(" does not fit in 64 bits\n"),
+        ],
+    )
+}

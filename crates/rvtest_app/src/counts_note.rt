@@ -1,0 +1,79 @@
+//! What is said of a sum of tables of counts.
+
+ghost use Rattle.std.specs.Prelude.{◌≡◌, ◌+◌, IfOk};
+ghost use Rattle.rvtest_app.specs.CountSums.{begun_of_addresses, begun_of_images, image_word, instruction_word, number_head, run_word, shown_number, sum_note};
+
+use rv_counts::{AddressCounts, CountTable, ImageCounts};
+use rv_text::{Span, text_of_spans};
+use std::alloc::{AllocError, Global};
+
+/// How many runs a table is of, of how many images, and how many instructions began.
+pub(crate) fn sum_note(alloc: Global, table: &CountTable) -> Result<Vec<u8>, AllocError>
+    ensures { IfOk result (λ note. note.items ≡ sum_note table.now) }
+{
+    let images = table.images.as_slice();
+    let count = images.len() as u64;
+    let begun = begun_of_images(images);
+    text_of_spans(
+        alloc,
+        &[
+            Span::Number(table.runs),
+            Span::Text(run_word(table.runs)),
+            Span::Number(count),
+            Span::Text(image_word(count)),
+            Span::Text(number_head(begun)),
+            Span::Number(begun),
+            Span::Text(instruction_word(begun)),
+        ],
+    )
+}
+
+fn run_word(count: u64) -> &'static str
+    ensures { result.now ≡ run_word count }
+{
+    if count == 1 { " run of " } else { " runs of " }
+}
+
+fn image_word(count: u64) -> &'static str
+    ensures { result.now ≡ image_word count }
+{
+    if count == 1 { " image, " } else { " images, " }
+}
+
+fn instruction_word(count: u64) -> &'static str
+    ensures { result.now ≡ instruction_word count }
+{
+    if count == 1 {
+        " instruction\n"
+    } else {
+        " instructions\n"
+    }
+}
+
+fn number_head(number: u64) -> &'static str
+    ensures { result.now ≡ number_head number }
+{
+    if number == u64::MAX { "at least " } else { "" }
+}
+
+// How often an instruction began in some images, or the greatest number of 64 bits where that is more.
+fn begun_of_images(images: &[ImageCounts]) -> u64
+    ensures { result ≡ shown_number (begun_of_images images.now) }
+{
+    let mut total = 0;
+    for image in images {
+        total = begun_behind(total, image.addresses.as_slice());
+    }
+    total
+}
+
+// The same of addresses, added to a number.
+fn begun_behind(before: u64, addresses: &[AddressCounts]) -> u64
+    ensures { result ≡ shown_number (before + begun_of_addresses addresses.now) }
+{
+    let mut total = before;
+    for counts in addresses {
+        total = total.saturating_add(counts.begun);
+    }
+    total
+}

@@ -1,0 +1,129 @@
+//! A text that a command writes to a file, or to standard output.
+
+ghost use Rattle.std.specs.Prelude.{◌≡◌, ◌⊎◌, ◌∷◌, [], ℕ, List, Option, IfErr, IfSome, OnErr, OnOk, Some};
+ghost use Rattle.rv_command.specs.Texts.{optional_text};
+ghost use Rattle.rv_files.specs.Placed.{placed_file};
+ghost use Rattle.rvtest_app.specs.AcceptStops.{IsUnmadeStop};
+ghost use Rattle.rvtest_app.specs.Outlets.{AreFilesPlaced, HasTaken, outlet_path};
+ghost use Rattle.rvtest_app.specs.PutStops.{IsFileStop};
+ghost use Rattle.rvtest_app.specs.Said.{said};
+ghost use Rattle.rvtest_app.specs.WrittenTexts.{IsUnwrittenAtStop, IsWrittenAt, written_path};
+
+use crate::destinations::Destinations;
+use crate::outlets::{OpenFile, Outlet, is_stdout, unwritten_stop};
+use rv_command::{Stop, file_error_stop, put_results};
+use rv_files::Outputs;
+use rv_rows::{Sink, put_all};
+use std::alloc::Global;
+
+/// Writes a text to the file at a path; to standard output where there is none, or where it is `-`.
+pub(crate) fn write_text<F: Outputs + Drop, O: Sink + Drop, E: Sink + Drop>(
+    alloc: Global,
+    to: &mut Destinations<F, O, E>,
+    path: Option<&str>,
+    bytes: &[u8],
+) -> Result<(), Stop>
+    ensures written { OnOk result (IsWrittenAt (Some (written_path (optional_text path.entry))) bytes.now
+        (said F.placed O.taken E.taken E.failed to.old) (said F.placed O.taken E.taken E.failed to.new)) }
+    ensures errors { to.new.errors ≡ to.old.errors }
+    ensures same { OnErr result (F.placed to.new.files ≡ F.placed to.old.files) }
+    ensures stopped { IfErr result (IsUnwrittenAtStop (written_path (optional_text path.entry))) }
+{
+    write_text_at(alloc, to, path.unwrap_or("-"), bytes)
+}
+
+fn write_text_at<F: Outputs + Drop, O: Sink + Drop, E: Sink + Drop>(
+    alloc: Global,
+    to: &mut Destinations<F, O, E>,
+    path: &str,
+    bytes: &[u8],
+) -> Result<(), Stop>
+    ensures written { OnOk result (IsWrittenAt (Some path.now) bytes.now
+        (said F.placed O.taken E.taken E.failed to.old) (said F.placed O.taken E.taken E.failed to.new)) }
+    ensures errors { to.new.errors ≡ to.old.errors }
+    ensures same { OnErr result (F.placed to.new.files ≡ F.placed to.old.files) }
+    ensures stopped { IfErr result (IsUnwrittenAtStop path.now) }
+{
+    if is_stdout(path) {
+        put_results(&mut to.out, bytes)
+    } else {
+        write_file(&mut to.files, alloc, path, bytes)
+    }
+}
+
+/// Writes a whole file, which is there when all its bytes are, and is as it was after an error.
+pub(crate) fn write_file<F: Outputs>(
+    files: &mut F,
+    alloc: Global,
+    path: &str,
+    bytes: &[u8],
+) -> Result<(), Stop>
+    ensures placed { OnOk result (AreFilesPlaced (F.placed files.old) (F.placed files.new)
+        (Some (placed_file path.now bytes.now ∷ []))) }
+    ensures same { OnErr result (F.placed files.new ≡ F.placed files.old) }
+    ensures stopped { IfErr result (IsUnmadeStop path.now) }
+{
+    match files.create(alloc, path) {
+        Ok((place, sink)) => finish_file(files, alloc, OpenFile { path, place, sink }, bytes),
+        Err(error) => Err(file_error_stop(alloc, path, error)),
+    }
+}
+
+/// Writes all bytes of an open file, and puts it in its place; after an error it is not there.
+pub(crate) fn finish_file<F: Outputs>(
+    files: &mut F,
+    alloc: Global,
+    file: OpenFile<'_, F::Place, F::File>,
+    bytes: &[u8],
+) -> Result<(), Stop>
+    requires empty { IfSome (F.placed files.old) (λ _. F.File.taken file.sink ≡ Some []) }
+    requires unfailed { F.File.failed file.sink ≡ 0 }
+    requires named { file.path.now ≡ F.place_path file.place }
+    ensures placed { OnOk result (AreFilesPlaced (F.placed files.old) (F.placed files.new)
+        (Some (placed_file file.entry.path.now bytes.now ∷ []))) }
+    ensures same { OnErr result (F.placed files.new ≡ F.placed files.old) }
+    ensures stopped { IfErr result (IsUnmadeStop file.entry.path.now) }
+{
+    let OpenFile {
+        path,
+        place,
+        mut sink,
+    } = file;
+    if put_all(&mut sink, bytes).is_err() {
+        files.abandon(place);
+        return Err(unwritten_stop(alloc, path));
+    }
+    let synced = match files.sync(sink) {
+        Ok(synced) => synced,
+        Err(error) => {
+            files.abandon(place);
+            return Err(file_error_stop(alloc, path, error));
+        }
+    };
+    match files.place(place, synced) {
+        Ok(()) => Ok(()),
+        Err(error) => Err(file_error_stop(alloc, path, error)),
+    }
+}
+
+/// Puts a text into an outlet that is open and took none, and its file in its place; after an error it is not there.
+pub(crate) fn put_into_outlet<F: Outputs + Drop, O: Sink + Drop, E: Sink + Drop>(
+    alloc: Global,
+    to: &mut Destinations<F, O, E>,
+    outlet: Outlet<'_, F::Place, F::File>,
+    bytes: &[u8],
+) -> Result<(), Stop>
+    requires { (path : Option (List ℕ)) × HasTaken F.place_path F.File.taken F.File.failed (F.placed to.old.files) path [] outlet }
+    ensures written { (path : Option (List ℕ)) → HasTaken F.place_path F.File.taken F.File.failed (F.placed to.old.files) path
+        [] outlet.entry → OnOk result (IsWrittenAt path bytes.now
+        (said F.placed O.taken E.taken E.failed to.old) (said F.placed O.taken E.taken E.failed to.new)) }
+    ensures errors { to.new.errors ≡ to.old.errors }
+    ensures same { OnErr result (F.placed to.new.files ≡ F.placed to.old.files) }
+    ensures stopped { IfErr result (λ why. (why ≡ Stop.WriteFailed) ⊎ IsFileStop (outlet_path outlet.entry) why) }
+{
+    match outlet {
+        Outlet::Nowhere => Ok(()),
+        Outlet::Out => put_results(&mut to.out, bytes),
+        Outlet::File(file) => finish_file(&mut to.files, alloc, file, bytes),
+    }
+}
