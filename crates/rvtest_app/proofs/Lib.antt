@@ -5,6 +5,7 @@ mod AcceptedAgain
 mod AcceptedFiles
 mod Acceptances
 mod AddedTables
+mod BegunSums
 mod ChosenTexts
 mod Numbers
 mod Sent

@@ -1,5 +1,5 @@
 -- The sum of the tables of counts at some paths, and what `counts` puts.
-use Rattle.std.specs.Prelude.{◌≡◌, ◌++◌, ◌==◌, ◌+◌, ◌-◌, ◌^◌, if◌then◌else◌, ℕ, List, [], ◌∷◌, Option, Some, None, codes, length, min}
+use Rattle.std.specs.Prelude.{◌≡◌, ◌++◌, ◌==◌, ◌+◌, ◌-◌, ◌^◌, if◌then◌else◌, ℕ, List, [], ◌∷◌, Option, Some, codes, length, min}
 use Rattle.std.specs.Borrow.{Bor}
 use Rattle.std.specs.Fmt.{decimal}
 use Rattle.rv_base.specs.Files.{FileContents}
