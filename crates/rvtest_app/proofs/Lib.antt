@@ -6,6 +6,7 @@ mod AcceptedFiles
 mod Acceptances
 mod AddedTables
 mod ChosenTexts
+mod CountedRuns
 mod Numbers
 mod Sent
 mod Results
