@@ -110,9 +110,7 @@ fn sum_error_stop(alloc: Global, path: &str, error: SumError) -> Stop
 {
     match error {
         SumError::OutOfMemory => Stop::OutOfMemory,
-        SumError::Count(address) => {
-            Stop::of_refusal(great_count_message(alloc, path, address))
-        }
+        SumError::Count(address) => { Stop::of_refusal(great_count_message(alloc, path, address)) }
         SumError::Runs => {
             let what = "the number of runs does not fit in 64 bits";
             Stop::of_refusal(path_message(alloc, path, what))

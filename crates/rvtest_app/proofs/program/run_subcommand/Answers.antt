@@ -59,7 +59,7 @@ returns-clause-untouched g c = elim c.match-asked.branch [
       (IfOk-map w.show_report-answer.result _ _ (λ status done. inl (unshown_report _ _ status _ _ done))
       w.show_report-answer.ensures.shown)
   | in-Counts w ↦
-      rw (w.answer-is, w.in-Counts.is)
+      rw (w.answer-is, w.to-is, w.in-Counts.is)
       (IfOk-map w.put_sum_of_tables-answer.result _ _
       (λ status put. unshown_sum _ _ status _ _ _ put w.put_sum_of_tables-answer.ensures.untouched)
       w.put_sum_of_tables-answer.ensures.put)

@@ -1,9 +1,8 @@
-use Rattle.std.proofs.Common.{◌∙◌, List, [], ap, inl, length, sym, take}
+use Rattle.std.proofs.Common.{[]}
 use Rattle.rv_command.specs.Texts.{optional_text}
 use Rattle.rv_expect.specs.Judgement.{judging_of}
 use Rattle.rv_job_text.specs.Telling.{telling_of}
-use Rattle.rvtest_app.proofs.CountedRuns.{part_of_counts, part_of_rows, run_put_where_told, unopened_counts, unput_counts, untold}
-use Rattle.rvtest_app.proofs.PutTexts.{path_told}
+use Rattle.rvtest_app.proofs.CountedRuns.{part_of_counts, part_of_rows, run_put_where_told, unopened_counts, untold}
 use Rattle.rvtest_app.specs.Runs.{run_rows}
 use Rattle.rvtest_app.specs.Said.{said, where_told}
 use Rattle.rvtest_app.proofs.run.ListRun.run_planned_jobs.Goals as goal
@@ -17,6 +16,14 @@ returns-in-Err-put-clause-part g c = λ rows is.
     (part_of_rows c.args.self.now.asked.now (telling_of c.args.telling.now) c.args.places.now c.args.frame.shard c.args.frame.old rows
     (g.F.Outputs.placed c.args.to.files) (g.F.Outputs.placed c.run_into_files-to.result.0.files)
     (rw (c.in-Err-put.is, c.in-Ok.ensures.same) at (c.run_into_files-to.ensures.part rows is)))
+
+pub put_counts-requires-clause-open : goal.put_counts-requires-clause-open
+put_counts-requires-clause-open g c κs within =
+    let path = optional_text c.args.self.now.asked.now.counts in (
+      path,
+      untold g.F.Outputs.place_path g.F.File.Sink.taken g.F.File.Sink.failed (g.F.Outputs.placed c.args.to.files) path c.in-Ok.counts []
+          c.in-Ok.ensures.open,
+    )
 
 pub returns-in-Ok-put_counts-clause-said : goal.returns-in-Ok-put_counts-clause-said
 returns-in-Ok-put_counts-clause-said g c =
@@ -46,11 +53,3 @@ returns-in-Err-put_counts-clause-part g c = λ rows is.
     (g.F.Outputs.placed c.put_counts.new.to.files)
     (c.in-Err-put_counts.ensures.asked (optional_text asked.counts) before.placed c.in-Ok.ensures.open)
     put c.in-Err-put_counts.ensures.same)
-
-pub returns-in-Err-put_counts-clause-stopped : goal.returns-in-Err-put_counts-clause-stopped
-returns-in-Err-put_counts-clause-stopped g c =
-    let asked = c.args.self.now.asked.now in
-    unput_counts asked _
-    (rw (path_told g.F.Outputs.place_path g.F.File.Sink.taken g.F.File.Sink.failed _ (optional_text asked.counts) c.in-Ok.counts []
-    c.in-Ok.ensures.open)
-    at c.in-Err-put_counts.ensures.stopped)
