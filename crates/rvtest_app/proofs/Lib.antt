@@ -7,6 +7,7 @@ mod Acceptances
 mod AddedTables
 mod BegunSums
 mod ChosenTexts
+mod CountedRuns
 mod Numbers
 mod Sent
 mod Results

@@ -1,24 +1,28 @@
 -- Stops that are handed on.
-use Rattle.std.proofs.Common.{◌≡◌, ◌⊎◌, ℕ, List, Option, Result, Ok, Err, Vec, Global, IfOk, IfErr, inl, inr, refl, ⊎_elim}
+use Rattle.std.proofs.Common.{◌≡◌, ◌⊎◌, ℕ, Bool, true, List, Option, Result, Ok, Err, Vec, Global, IfOk, IfErr, inl, inr, refl, subst, sym, ⊎_elim}
 use Rattle.std.specs.Prelude.{MatchResult, ⊤}
 use Rattle.rv_base.specs.Files.{FileContents}
 use Rattle.rv_cli.specs.declared.rvtest.accept.AcceptAsked.{AcceptAsked}
+use Rattle.rv_cli.specs.declared.rvtest.counts.CountsAsked.{CountsAsked}
 use Rattle.rv_cli.specs.declared.rvtest.diff.DiffAsked.{DiffAsked}
 use Rattle.rv_cli.specs.declared.rvtest.merge.MergeAsked.{MergeAsked}
 use Rattle.rv_cli.specs.declared.rvtest.requests.Asked.TheVariants as asked
 use Rattle.rv_cli.specs.declared.rvtest.run.RunAsked.{RunAsked}
 use Rattle.rv_cli.specs.declared.rvtest.show.ShowAsked.{ShowAsked}
 use Rattle.rv_command.specs.Stops.{IsUnreadStop}
-use Rattle.rv_command.specs.Texts.{IsTextAt}
+use Rattle.rv_command.specs.Texts.{IsTextAt, optional_text}
 use Rattle.rv_command.specs.declared.stop.Stop.{Stop}
 use Rattle.rv_command.specs.declared.stop.Stop.TheVariants as stop
 use Rattle.rvtest_app.specs.Accepts.{IsAcceptedAt}
 use Rattle.rvtest_app.specs.CommandStops.{IsCommandStop, IsDiffAtStop}
+use Rattle.rvtest_app.specs.CountSums.{IsSumPut}
 use Rattle.rvtest_app.specs.Merges.{IsMergedAt}
+use Rattle.rvtest_app.specs.Outlets.{is_stdout}
 use Rattle.rvtest_app.specs.Runs.{AreJobsToRun}
 use Rattle.rvtest_app.specs.Said.{Said}
 use Rattle.rvtest_app.specs.Shows.{IsShownAt}
 use Rattle.rvtest_app.specs.ToldStops.{IsDiffStop}
+use Rattle.rvtest_app.specs.WrittenTexts.{IsUnwrittenBy, written_path}
 
 pub IfErr-map : {X Y : Type 0} (r : Result X Y) (P Q : Y → Type 0) → ((y : Y) → P y → Q y) → IfErr r P → IfErr r Q
 IfErr-map (Ok x) P Q f p = tt
@@ -54,7 +58,7 @@ diff_stop_at known words old (Err failed) why read found unread =
 pub unshown_run : (known : Option FileContents) (words : RunAsked) (Untouched : Type 0)
     → AreJobsToRun known words ⊎ Untouched → IsCommandStop known (asked.Run words) stop.WriteFailed ⊎ Untouched
 unshown_run known words Untouched =
-    ⊎_elim (λ found. inl (inr (inr (found, inr (inr (inl refl)))))) inr
+    ⊎_elim (λ found. inl (inr (inr (found, inl (inr (inr (inl refl))))))) inr
 
 -- so may an acceptance, a merge and what is shown of a report
 pub unshown_accept : (known : Option FileContents) (words : AcceptAsked) (status : ℕ) (before after : Said)
@@ -70,3 +74,17 @@ unshown_merge known words status before after done =
 pub unshown_report : (known : Option FileContents) (words : ShowAsked) (status : ℕ) (before after : Said)
     → IsShownAt known words status before after → IsCommandStop known (asked.Show words) stop.WriteFailed
 unshown_report known words status before after done = inr (done.found, (done.read, inr (inl refl)))
+
+-- a sum of tables that goes to standard output may be stopped there, and one that goes to a file put nothing there
+pub unshown_sum : (known : Option FileContents) (words : CountsAsked) (status : ℕ) (before after : Said) (Untouched : Type 0)
+    → IsSumPut known words status before after
+    → (is_stdout (written_path (optional_text words.out)) ≡ true) ⊎ Untouched
+    → IsCommandStop known (asked.Counts words) stop.WriteFailed ⊎ Untouched
+unshown_sum known words status before after Untouched put =
+    ⊎_elim (λ out. inl (inr (inr (
+      put.sum,
+      (
+        put.added,
+        subst (λ (b : Bool). IsUnwrittenBy b (written_path (optional_text words.out)) stop.WriteFailed) (sym out) refl,
+      ),
+    )))) inr

@@ -1,10 +1,12 @@
 -- Texts that were written.
-use Rattle.std.proofs.Common.{◌≡◌, ◌∙◌, ◌∷◌, ℕ, List, [], Option, Some, None, false, ap, append-nil, codes, refl, subst, sym}
+use Rattle.std.proofs.Common.{◌≡◌, ◌∙◌, ◌++◌, ◌∷◌, ℕ, List, [], Option, Some, None, false, ap, append-nil, codes, refl, subst, sym}
+use Rattle.std.specs.Prelude.{IfSome, OnOk, Result}
 use Rattle.std.specs.Io.KnownBytes.{Appends}
 use Rattle.rv_files.specs.Placed.{PlacedFile, placed_file}
 use Rattle.rvtest_app.proofs.PutTexts.{appends_nothing}
-use Rattle.rvtest_app.specs.Outlets.{AreFilesPlaced, is_stdout}
-use Rattle.rvtest_app.specs.Said.{Said}
+use Rattle.rvtest_app.proofs.Results.{OnOk-from, OnOk-map}
+use Rattle.rvtest_app.specs.Outlets.{AreFilesPlaced, file_at, is_stdout}
+use Rattle.rvtest_app.specs.Said.{Said, placed_behind, where_told}
 use Rattle.rvtest_app.specs.WrittenTexts.{IsWrittenAt}
 
 -- no file was placed
@@ -42,3 +44,39 @@ written_file path name text before after is file out errors failures placed = rw
   failures = failures;
   placed = rw file placed;
 })
+
+-- ---- where it was told which files stood in their places before
+
+placed_where_told : (earlier before after files : Option (List PlacedFile)) → AreFilesPlaced before after files
+    → AreFilesPlaced (placed_behind earlier before) after files
+placed_where_told None before after files are = tt
+placed_where_told (Some placed) before after files are = are
+
+-- a text that was written there
+pub written_where_told : (earlier : Option (List PlacedFile)) (path : Option (List ℕ)) (text : List ℕ) (before after : Said)
+    → IsWrittenAt path text before after → IsWrittenAt path text (where_told earlier before) after
+written_where_told earlier path text before after written = record {
+  out = written.out;
+  errors = written.errors;
+  failures = written.failures;
+  placed = placed_where_told earlier before.placed after.placed (Some (file_at path text)) written.placed;
+}
+
+-- a file that took no bytes, where it is told what it took
+pub untold_or_empty : (placed : Option (List PlacedFile)) (P : Type 0) → P → IfSome placed (λ _. P)
+untold_or_empty None P p = tt
+untold_or_empty (Some files) P p = p
+
+-- a text that went to a file which took none before, where that is told
+pub written_file_where_told : {X Y : Type 0} (r : Result X Y) (earlier : Option (List PlacedFile)) (path : Option (List ℕ))
+    (name text : List ℕ) (before after : Said) (Empty : Type 0) → path ≡ Some name → is_stdout name ≡ false
+    → after.out ≡ before.out → after.errors ≡ before.errors → after.failures ≡ before.failures
+    → IfSome earlier (λ _. Empty)
+    → (IfSome before.placed (λ _. Empty)
+    → OnOk r (AreFilesPlaced before.placed after.placed (Some (placed_file name text ∷ []))))
+    → OnOk r (IsWrittenAt path text (where_told earlier before) after)
+written_file_where_told r None path name text before after Empty is file out errors failures empty placed =
+    OnOk-from r _ (written_file path name text (where_told None before) after is file out errors failures tt)
+written_file_where_told r (Some files) path name text before after Empty is file out errors failures empty placed =
+    OnOk-map r _ _ (λ p. written_file path name text before after is file out errors failures p)
+    (placed (untold_or_empty before.placed Empty empty))

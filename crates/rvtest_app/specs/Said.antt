@@ -1,5 +1,5 @@
 -- What a command said so far, and the files that it put in their places.
-use Rattle.std.specs.Prelude.{◌≡◌, ℕ, List, Option}
+use Rattle.std.specs.Prelude.{◌≡◌, ℕ, List, None, Option, Some}
 use Rattle.std.specs.Io.KnownBytes.{Appends}
 use Rattle.rv_command.specs.Messages.{IsMessagePut}
 use Rattle.rv_files.specs.Placed.{PlacedFile}
@@ -22,6 +22,15 @@ said placed taken told failed to = record {
   failures = failed to.errors;
   placed = placed to.files;
 }
+
+-- the files that stand in their places, where it was told which of them did before
+abbrev pub placed_behind : Option (List PlacedFile) → Option (List PlacedFile) → Option (List PlacedFile)
+placed_behind None placed = None
+placed_behind (Some earlier) placed = placed
+
+-- what was said, and of the files what is told where it was told of those before
+abbrev pub where_told : Option (List PlacedFile) → Said → Said
+where_told earlier now = record now { placed = placed_behind earlier now.placed }
 
 -- a text went to standard output, and nothing else was said
 abbrev pub IsOnlyPut : List ℕ → Said → Said → Type 0

@@ -1,12 +1,15 @@
 //! The command `counts`.
 
-ghost use Rattle.std.specs.Prelude.{◌≡◌, ◌≤◌, IfErr, IfOk, OnErr};
+ghost use Rattle.std.specs.Prelude.{◌≡◌, ◌⊎◌, ◌≤◌, IfErr, IfOk, OnErr, true};
+ghost use Rattle.rv_command.specs.Texts.{optional_text};
 ghost use Rattle.rv_counts.specs.Sum.{no_counts};
 ghost use Rattle.rv_counts.specs.Table.{IsTable};
 ghost use Rattle.rv_counts.specs.Text.{table_text};
 ghost use Rattle.rvtest_app.specs.CountStops.{IsCountsStop, IsReadErrorStop, IsSumErrorStop, IsSumStop, IsTableFaultStop, IsUnaddedStop, great_count_message};
 ghost use Rattle.rvtest_app.specs.CountSums.{AreAdded, IsAdded, IsSumPut};
+ghost use Rattle.rvtest_app.specs.Outlets.{is_stdout};
 ghost use Rattle.rvtest_app.specs.Said.{said};
+ghost use Rattle.rvtest_app.specs.WrittenTexts.{written_path};
 
 use crate::counts_note::sum_note;
 use crate::destinations::Destinations;
@@ -30,6 +33,8 @@ pub(crate) fn put_sum_of_tables<D: Inputs, F: Outputs + Drop, O: Sink + Drop, E:
         (said F.placed O.taken E.taken E.failed to.old) (said F.placed O.taken E.taken E.failed to.new)) }
     ensures low { IfOk result (λ status. status ≤ 1) }
     ensures undone { OnErr result (F.placed to.new.files ≡ F.placed to.old.files) }
+    // The sum goes to standard output, or nothing does.
+    ensures untouched { (is_stdout (written_path (optional_text asked.now.out)) ≡ true) ⊎ (to.new.out ≡ to.old.out) }
     ensures stopped { IfErr result (IsCountsStop (D.contents inputs.now) asked.now) }
 {
     let sum = sum_of_paths(inputs, alloc, asked.tables.as_slice())?;

@@ -119,7 +119,8 @@ impl<'x, R: Threads + Wait + Sync + Clock, D: Inputs> ListRun<'x, R, D> {
             marked.known marked.jobs (Some marked.marks.items) marked.frame.shard marked.frame.old status
             (said F.placed O.taken E.taken E.failed to) (said F.placed O.taken E.taken E.failed result.0)) }
         ensures undone { OnErr result.1 (IsUndoneRunOfPlaces (D.contents self.now.host.now.inputs.now) self.now.asked.now
-            marked.known marked.jobs (places_of_marks marked.marks.items) marked.frame.shard marked.frame.old (F.placed to.files) (F.placed result.0.files)) }
+            marked.known marked.jobs (places_of_marks marked.marks.items) marked.frame.shard marked.frame.old
+            (F.placed to.files) (F.placed result.0.files)) }
         ensures stopped { IfErr result.1 (IsRunPutStop self.now.asked.now) }
     {
         let MarkedJobs {

@@ -1,12 +1,13 @@
 //! The counts of a run.
 
-ghost use Rattle.std.specs.Prelude.{◌≡◌, [], ℕ, List, Option, IfErr, IfOk, OnErr, OnOk, string_bytes};
+ghost use Rattle.std.specs.Prelude.{◌≡◌, [], ℕ, List, None, Option, IfErr, IfOk, OnErr, OnOk, is_some, string_bytes, true};
 ghost use Rattle.std.specs.List.Sorted.{IsStrictlyIncreasing};
+ghost use Rattle.rv_files.specs.Placed.{PlacedFile};
 ghost use Rattle.rv_fleet.specs.Choices.{AreJobPlaces};
 ghost use Rattle.rvtest_app.specs.Outlets.{HasTaken, outlet_path};
 ghost use Rattle.rvtest_app.specs.PutStops.{IsCountsPutStop};
 ghost use Rattle.rvtest_app.specs.Runs.{AreCountsPut, IsCountsText};
-ghost use Rattle.rvtest_app.specs.Said.{said};
+ghost use Rattle.rvtest_app.specs.Said.{said, where_told};
 
 use crate::crew::requested_crew;
 use crate::destinations::Destinations;
@@ -37,11 +38,15 @@ impl<'x, R: Threads + Wait + Sync + Clock, D: Inputs> ListRun<'x, R, D> {
         requires within { AreJobPlaces plan.now places.now }
         requires rising { IsStrictlyIncreasing places.now }
         requires open { (path : Option (List ℕ))
-            × HasTaken F.place_path F.File.taken F.File.failed (F.placed to.old.files) path [] outlet }
-        ensures counted { (path : Option (List ℕ))
-            → HasTaken F.place_path F.File.taken F.File.failed (F.placed to.old.files) path [] outlet.entry
+            × HasTaken F.place_path F.File.taken F.File.failed None path [] outlet }
+        ensures counted { (path : Option (List ℕ)) (earlier : Option (List PlacedFile))
+            → HasTaken F.place_path F.File.taken F.File.failed earlier path [] outlet.entry
             → OnOk result (AreCountsPut path plan.now places.now
-            (said F.placed O.taken E.taken E.failed to.old) (said F.placed O.taken E.taken E.failed to.new)) }
+            (where_told earlier (said F.placed O.taken E.taken E.failed to.old))
+            (said F.placed O.taken E.taken E.failed to.new)) }
+        ensures asked { (path : Option (List ℕ)) (earlier : Option (List PlacedFile))
+            → HasTaken F.place_path F.File.taken F.File.failed earlier path [] outlet.entry
+            → OnErr result (is_some path ≡ true) }
         ensures same { OnErr result (F.placed to.new.files ≡ F.placed to.old.files) }
         ensures stopped { IfErr result (IsCountsPutStop (outlet_path outlet.entry)) }
     {

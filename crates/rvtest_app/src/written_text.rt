@@ -1,12 +1,12 @@
 //! A text that a command writes to a file, or to standard output.
 
-ghost use Rattle.std.specs.Prelude.{◌≡◌, ◌⊎◌, ◌∷◌, [], ℕ, List, Option, IfErr, IfSome, OnErr, OnOk, Some};
+ghost use Rattle.std.specs.Prelude.{◌≡◌, ◌⊎◌, ◌∷◌, [], ℕ, List, None, Option, IfErr, IfSome, OnErr, OnOk, Some, true};
 ghost use Rattle.rv_command.specs.Texts.{optional_text};
-ghost use Rattle.rv_files.specs.Placed.{placed_file};
+ghost use Rattle.rv_files.specs.Placed.{PlacedFile, placed_file};
 ghost use Rattle.rvtest_app.specs.AcceptStops.{IsUnmadeStop};
-ghost use Rattle.rvtest_app.specs.Outlets.{AreFilesPlaced, HasTaken, outlet_path};
+ghost use Rattle.rvtest_app.specs.Outlets.{AreFilesPlaced, HasTaken, is_stdout, outlet_path};
 ghost use Rattle.rvtest_app.specs.PutStops.{IsFileStop};
-ghost use Rattle.rvtest_app.specs.Said.{said};
+ghost use Rattle.rvtest_app.specs.Said.{said, where_told};
 ghost use Rattle.rvtest_app.specs.WrittenTexts.{IsUnwrittenAtStop, IsWrittenAt, written_path};
 
 use crate::destinations::Destinations;
@@ -26,6 +26,7 @@ pub(crate) fn write_text<F: Outputs + Drop, O: Sink + Drop, E: Sink + Drop>(
     ensures written { OnOk result (IsWrittenAt (Some (written_path (optional_text path.entry))) bytes.now
         (said F.placed O.taken E.taken E.failed to.old) (said F.placed O.taken E.taken E.failed to.new)) }
     ensures errors { to.new.errors ≡ to.old.errors }
+    ensures untouched { (is_stdout (written_path (optional_text path.entry)) ≡ true) ⊎ (to.new.out ≡ to.old.out) }
     ensures same { OnErr result (F.placed to.new.files ≡ F.placed to.old.files) }
     ensures stopped { IfErr result (IsUnwrittenAtStop (written_path (optional_text path.entry))) }
 {
@@ -41,6 +42,7 @@ fn write_text_at<F: Outputs + Drop, O: Sink + Drop, E: Sink + Drop>(
     ensures written { OnOk result (IsWrittenAt (Some path.now) bytes.now
         (said F.placed O.taken E.taken E.failed to.old) (said F.placed O.taken E.taken E.failed to.new)) }
     ensures errors { to.new.errors ≡ to.old.errors }
+    ensures untouched { (is_stdout path.now ≡ true) ⊎ (to.new.out ≡ to.old.out) }
     ensures same { OnErr result (F.placed to.new.files ≡ F.placed to.old.files) }
     ensures stopped { IfErr result (IsUnwrittenAtStop path.now) }
 {
@@ -76,10 +78,10 @@ pub(crate) fn finish_file<F: Outputs>(
     file: OpenFile<'_, F::Place, F::File>,
     bytes: &[u8],
 ) -> Result<(), Stop>
-    requires empty { IfSome (F.placed files.old) (λ _. F.File.taken file.sink ≡ Some []) }
     requires unfailed { F.File.failed file.sink ≡ 0 }
     requires named { file.path.now ≡ F.place_path file.place }
-    ensures placed { OnOk result (AreFilesPlaced (F.placed files.old) (F.placed files.new)
+    ensures placed { IfSome (F.placed files.old) (λ _. F.File.taken file.entry.sink ≡ Some [])
+        → OnOk result (AreFilesPlaced (F.placed files.old) (F.placed files.new)
         (Some (placed_file file.entry.path.now bytes.now ∷ []))) }
     ensures same { OnErr result (F.placed files.new ≡ F.placed files.old) }
     ensures stopped { IfErr result (IsUnmadeStop file.entry.path.now) }
@@ -113,10 +115,11 @@ pub(crate) fn put_into_outlet<F: Outputs + Drop, O: Sink + Drop, E: Sink + Drop>
     outlet: Outlet<'_, F::Place, F::File>,
     bytes: &[u8],
 ) -> Result<(), Stop>
-    requires { (path : Option (List ℕ)) × HasTaken F.place_path F.File.taken F.File.failed (F.placed to.old.files) path [] outlet }
-    ensures written { (path : Option (List ℕ)) → HasTaken F.place_path F.File.taken F.File.failed (F.placed to.old.files) path
-        [] outlet.entry → OnOk result (IsWrittenAt path bytes.now
-        (said F.placed O.taken E.taken E.failed to.old) (said F.placed O.taken E.taken E.failed to.new)) }
+    requires { (path : Option (List ℕ)) × HasTaken F.place_path F.File.taken F.File.failed None path [] outlet }
+    ensures written { (path : Option (List ℕ)) (earlier : Option (List PlacedFile))
+        → HasTaken F.place_path F.File.taken F.File.failed earlier path [] outlet.entry → OnOk result (IsWrittenAt path bytes.now
+        (where_told earlier (said F.placed O.taken E.taken E.failed to.old))
+        (said F.placed O.taken E.taken E.failed to.new)) }
     ensures errors { to.new.errors ≡ to.old.errors }
     ensures same { OnErr result (F.placed to.new.files ≡ F.placed to.old.files) }
     ensures stopped { IfErr result (λ why. (why ≡ Stop.WriteFailed) ⊎ IsFileStop (outlet_path outlet.entry) why) }

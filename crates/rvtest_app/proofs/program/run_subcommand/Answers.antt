@@ -1,8 +1,8 @@
 use Rattle.std.proofs.Common.{inl, refl}
 use Rattle.rvtest_app.proofs.Results.{IfOk-from, IfOk-map}
-use Rattle.rvtest_app.proofs.StopLemmas.{put_or_found, unshown_accept, unshown_merge, unshown_report, unshown_run}
+use Rattle.rvtest_app.proofs.StopLemmas.{put_or_found, unshown_accept, unshown_merge, unshown_report, unshown_run, unshown_sum}
 use Rattle.rvtest_app.proofs.program.run_subcommand.Goals as goal
-use Rattle.rvtest_app.proofs.program.run_subcommand.Goals.{in-Explain, in-List, in-Console, in-Check, in-Accept, in-Merge, in-Diff, in-Show, in-Help}
+use Rattle.rvtest_app.proofs.program.run_subcommand.Goals.{in-Explain, in-List, in-Console, in-Check, in-Accept, in-Merge, in-Diff, in-Show, in-Counts, in-Help}
 
 pub returns-in-Run-clause-stopped : goal.returns-in-Run-clause-stopped
 returns-in-Run-clause-stopped g c =
@@ -32,6 +32,7 @@ returns-clause-stopped g c = elim c.match-asked.branch [
       rw (w.answer-is, w.in-Diff.is)
       w.diff_reports-answer.ensures.stopped
   | in-Show w ↦ rw (w.answer-is, w.in-Show.is) w.show_report-answer.ensures.stopped
+  | in-Counts w ↦ rw (w.answer-is, w.in-Counts.is) w.put_sum_of_tables-answer.ensures.stopped
   | in-Help w ↦
       rw (w.answer-is, w.in-Help.is)
       (put_or_found w.tell_topic.result _ _ w.tell_topic.ensures.stopped
@@ -57,5 +58,10 @@ returns-clause-untouched g c = elim c.match-asked.branch [
       rw (w.answer-is, w.in-Show.is)
       (IfOk-map w.show_report-answer.result _ _ (λ status done. inl (unshown_report _ _ status _ _ done))
       w.show_report-answer.ensures.shown)
+  | in-Counts w ↦
+      rw (w.answer-is, w.to-is, w.in-Counts.is)
+      (IfOk-map w.put_sum_of_tables-answer.result _ _
+      (λ status put. unshown_sum _ _ status _ _ _ put w.put_sum_of_tables-answer.ensures.untouched)
+      w.put_sum_of_tables-answer.ensures.put)
   | in-Help w ↦ rw (w.answer-is, w.in-Help.is) (IfOk-from w.put_findings-answer-in-Help.result _ (inl (inl refl)))
 ]

@@ -5,8 +5,8 @@ use Rattle.rv_command.specs.Texts.{optional_text}
 use Rattle.rv_expect.specs.Judgement.{judging_of}
 use Rattle.rvtest_app.proofs.ChosenTexts.{ahead_of_shown}
 use Rattle.rvtest_app.proofs.PutStops.{output_of_put}
-use Rattle.rvtest_app.proofs.PutTexts.{out_told, taken_more}
-use Rattle.rvtest_app.proofs.Results.{OnOk-both}
+use Rattle.rvtest_app.proofs.PutTexts.{taken_more}
+use Rattle.rvtest_app.proofs.Results.{OnOk-both, OnOk-from}
 use Rattle.rvtest_app.proofs.StopLemmas.{IfErr-map}
 use Rattle.rvtest_app.specs.IntoReports.{run_report_path}
 use Rattle.rvtest_app.specs.Runs.{run_rows}
@@ -20,8 +20,8 @@ put_run_files-put-requires-clause-counted g c κs within =
       arith,
       few,
       ap length c.first_jobs-first.ensures.places,
-      ap length c.as_slice.ensures,
-      length-take (length c.as_slice.result.now) c.args.places.now,
+      ap length c.as_slice-shown.ensures,
+      length-take (length c.as_slice-shown.result.now) c.args.places.now,
     )
 
 pub returns-in-Ok-ran-clause-said : goal.returns-in-Ok-ran-clause-said
@@ -39,15 +39,11 @@ returns-in-Ok-ran-clause-said g c =
     let more = taken_more path taken failed _ _ [] _ outlets.report _ report (rw c.in-Ok-ran.is at ran.report) ran.report_path in
     let junit = rw (sym ran.junit) at c.in-Ok.ensures.junit in
     let places = c.first_jobs-first.ensures.places
-    ∙ ap (λ (r : List Row). take (length r) c.args.places.now) (c.as_slice.ensures ∙ rows) in
+    ∙ ap (λ (r : List Row). take (length r) c.args.places.now) (c.as_slice-shown.ensures ∙ rows) in
     let telling = c.first_jobs-first.ensures.telling in
     let ahead = ahead_of_shown c.args.frame.old c.args.places.now
     (run_rows c.args.self.now.asked.now.stop_after (judging_of c.args.telling.now.judge) c.args.telling.now.plan.now c.args.places.now) in
-    let seen = rw (
-      out_told path taken failed _ _ outlets.report _ report,
-      out_told path taken failed _ _ outlets.junit _ c.in-Ok.ensures.junit,
-      c.in-Ok.ensures.same,
-    ) at (rw c.in-Ok-ran.is at ran.shown) in
+    let seen = rw c.in-Ok.ensures.same at (rw c.in-Ok-ran.is at ran.shown) in
     let out = rw (telling, places, rows) at (c.put_run_files-put.ensures.put report_path junit_path (rw (same, places, rows, ahead) more) (rw same junit)) in
     let placed = rw (telling, places, rows)
     at (c.put_run_files-put.ensures.placed report_path junit_path (rw (same, places, rows, ahead) more) (rw same junit)) in
@@ -69,7 +65,7 @@ returns-in-Ok-ran-clause-part g c =
     λ rows is.
     let are = (rw c.in-Ok-ran.is at c.run_into_outlets-to.ensures.rows) ∙ sym is in
     let places = c.first_jobs-first.ensures.places
-    ∙ ap (λ (r : List Row). take (length r) c.args.places.now) (c.as_slice.ensures ∙ are) in
+    ∙ ap (λ (r : List Row). take (length r) c.args.places.now) (c.as_slice-shown.ensures ∙ are) in
     rw same at (rw (c.first_jobs-first.ensures.telling, places, are)
     at (c.put_run_files-put.ensures.part (optional_text c.args.self.now.asked.now.junit) (rw same junit)))
 
@@ -86,3 +82,13 @@ returns-in-Ok-ran-clause-stopped g c =
     (output_of_put g.F.Outputs.place_path g.F.File.Sink.taken g.F.File.Sink.failed _ report_path junit_path _ _
     c.put_run_files-put.result report c.in-Ok.ensures.junit
     (rw (c.run_into_outlets-to.ensures.report_path, c.run_into_outlets-to.ensures.junit) at c.put_run_files-put.ensures.stopped))
+
+pub returns-in-Ok-ran-clause-shown : goal.returns-in-Ok-ran-clause-shown
+returns-in-Ok-ran-clause-shown g c =
+    OnOk-from c.put_run_files-put.result _
+    (ap length (c.as_slice-shown.ensures ∙ rw c.in-Ok-ran.is at c.run_into_outlets-to.ensures.rows))
+
+pub returns-in-Ok-ran-clause-few : goal.returns-in-Ok-ran-clause-few
+returns-in-Ok-ran-clause-few g c =
+    let few = rw c.in-Ok-ran.is at c.run_into_outlets-to.ensures.few in
+    OnOk-from c.put_run_files-put.result _ (omega (arith, few, ap length c.as_slice-shown.ensures))

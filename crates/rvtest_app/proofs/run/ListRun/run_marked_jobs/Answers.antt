@@ -1,6 +1,11 @@
-use Rattle.std.proofs.Common.{◌∙◌, ap, inl, inr, length, refl, ⊎_elim}
+use Rattle.std.proofs.Common.{◌≡◌, ◌∙◌, ap, inl, inr, length, refl, ⊎_elim}
+use Rattle.std.specs.Borrow.{Bor}
+use Rattle.std.specs.Prelude.{option_map}
+use Rattle.rv_job_text.specs.Telling.{Telling}
+use Rattle.rv_known.specs.declared.known_jobs.KnownJobs.{KnownJobs}
+use Rattle.rvtest_app.specs.Runs.{places_of_marks, run_judging, run_rows, run_telling}
 use Rattle.rvtest_app.specs.Said.{said}
-use Rattle.rvtest_app.proofs.RunTellings.{known_behind}
+use Rattle.rvtest_app.proofs.RunTellings.{known_behind, same_part, same_rows, told_as_asked, told_by}
 use Rattle.rvtest_app.proofs.Results.{IfOk-beside, OnErr-map}
 use Rattle.rvtest_app.proofs.run.ListRun.run_marked_jobs.Goals as goal
 
@@ -51,12 +56,27 @@ returns-clause-run g c =
 
 pub returns-clause-undone : goal.returns-clause-undone
 returns-clause-undone g c =
-    let known = known_behind c.as_ref.result ∙ c.as_ref.ensures.value in
+    let asked = c.args.self.now.asked.now in
+    let plan = c.in-Ok-gather_jobs_at.plan in
+    let unread = c.unread_paths-unread.result.now in
+    let failures = c.args.marked.known in
+    let places = places_of_marks c.args.marked.marks.items in
     let found = c.in-Ok-gather_jobs_at.ensures in
+    let behind = option_map (λ (jobs : Bor KnownJobs). jobs.now) c.as_ref.result in
+    let known : behind ≡ failures = known_behind c.as_ref.result ∙ c.as_ref.ensures.value in
+    let told = told_by asked behind plan unread c.args.self.now.rule c.requested_verbosity.result in
+    let told_is : told ≡ run_telling asked failures plan unread =
+    told_as_asked asked failures behind plan unread c.args.self.now.rule c.requested_verbosity.result c.requires known
+    c.requested_verbosity.ensures in
+    let places_are : c.as_slice-4.result.now ≡ places =
+    rw (c.as_slice-4.ensures.value, c.in-Ok.ensures.value, c.as_slice.ensures.value) refl in
+    let rows = run_rows asked.stop_after (run_judging asked failures) plan places in
+    let rows_are = same_rows asked.stop_after told.judging (run_judging asked failures) plan c.as_slice-4.result.now places
+    (ap (λ (t : Telling). t.judging) told_is) places_are in
     OnErr-map c.run_planned_jobs.result.1 _ _
-    (⊎_elim inl (λ placed. inr (record {
-      plan = c.in-Ok-gather_jobs_at.plan;
-      unread = c.unread_paths-unread.result.now;
+    (⊎_elim inl (λ part. inr (record {
+      plan = plan;
+      unread = unread;
       planned = record {
         listed = found.jobs ∙ c.with_budget-jobs.ensures.jobs;
         paths = rw (
@@ -68,14 +88,10 @@ returns-clause-undone g c =
         kept = rw (c.new-store.ensures.inputs, c.new-store.ensures.folder) at found.kept;
         noted = ap length c.unread_paths-unread.ensures ∙ rw c.new-store.ensures.nothing at found.faults;
       };
-      rows = _;
+      rows = rows;
       shown = refl;
-      placed = placed;
+      placed = same_part asked told (run_telling asked failures plan unread) c.as_slice-4.result.now places
+          c.args.marked.frame.shard c.args.marked.frame.old rows (g.F.Outputs.placed c.args.to.files)
+          (g.F.Outputs.placed c.run_planned_jobs.result.0.files) told_is places_are part;
     })))
-    (rw (
-      c.as_slice-4.ensures.value,
-      c.in-Ok.ensures.value,
-      c.as_slice.ensures.value,
-      c.requires,
-      known,
-    ) at (c.run_planned_jobs.ensures.part _ refl))
+    (c.run_planned_jobs.ensures.part rows rows_are)

@@ -1,0 +1,34 @@
+use Rattle.std.proofs.Common.{[], None, inr, refl}
+use Rattle.rvtest_app.proofs.CountedRuns.{counts_put, no_counts_put, path_given}
+use Rattle.rvtest_app.proofs.Results.{OnErr-from, OnOk-map}
+use Rattle.rvtest_app.proofs.StopLemmas.{IfErr-map}
+use Rattle.rvtest_app.proofs.WrittenTexts.{written_nowhere, written_where_told}
+use Rattle.rvtest_app.proofs.run.ListRun.put_counts.Goals as goal
+
+pub returns-in-Nowhere-clause-counted : goal.returns-in-Nowhere-clause-counted
+returns-in-Nowhere-clause-counted g c = λ path earlier has.
+    no_counts_put path _ _ _ _ (rw c.in-Nowhere.is at has)
+    (written_where_told earlier None [] _ _ (written_nowhere None [] _ refl))
+
+pub returns-in-Ok-clause-counted : goal.returns-in-Ok-clause-counted
+returns-in-Ok-clause-counted g c = λ path earlier has.
+    let given = path_given g.F.Outputs.place_path g.F.File.Sink.taken g.F.File.Sink.failed earlier path c.args.outlet [] has
+    c.in_default.not-Nowhere in
+    OnOk-map c.put_into_outlet.result _ _
+    (counts_put path _ _ _ _ _ given (rw c.as_bytes.ensures.value c.in-Ok.ensures))
+    (c.put_into_outlet.ensures.written path earlier has)
+
+pub returns-in-Ok-clause-asked : goal.returns-in-Ok-clause-asked
+returns-in-Ok-clause-asked g c = λ path earlier has.
+    OnErr-from c.put_into_outlet.result _
+    (path_given g.F.Outputs.place_path g.F.File.Sink.taken g.F.File.Sink.failed earlier path c.args.outlet [] has
+    c.in_default.not-Nowhere)
+
+pub returns-in-Err-clause-asked : goal.returns-in-Err-clause-asked
+returns-in-Err-clause-asked g c = λ path earlier has.
+    path_given g.F.Outputs.place_path g.F.File.Sink.taken g.F.File.Sink.failed earlier path c.args.outlet [] has
+    c.in_default.not-Nowhere
+
+pub returns-in-Ok-clause-stopped : goal.returns-in-Ok-clause-stopped
+returns-in-Ok-clause-stopped g c =
+    IfErr-map c.put_into_outlet.result _ _ (λ why is. inr is) c.put_into_outlet.ensures.stopped
