@@ -4,3 +4,4 @@ pub mod CommandBuilder
 pub mod RvfleetCommand
 pub mod RvfleetRequests
 pub mod Values
+pub mod WordsErrors

@@ -1,19 +1,21 @@
 -- What words ask rvtest for, and of which kinds their faults are.
 use Rattle.std.specs.Prelude.{◌≡◌, ◌≤◌, ◌&&◌, ◌||◌, ℕ, Bool, not, List, [], ◌∷◌, Option}
-use Rattle.std.specs.Prelude.{Some, None, IfOk, IfSome, Result, map, false}
+use Rattle.std.specs.Prelude.{Some, None, IfOk, IfSome, MatchResult, Result, map, false, string_bytes}
 use Rattle.std.specs.Prelude.{codes, option_map, option_and_then}
 use Rattle.std.specs.Prelude.{if◌then◌else◌}
 use Rattle.std.specs.Option.{option_map_or}
 use Rattle.std.specs.Str.{bytes_eq}
 use Rattle.clap.specs.Kinds.{or_else}
-use Rattle.clap.specs.Words.{FailsBy, Kinds, Row, Text, fault_of, first_of, subcommand_of}
+use Rattle.clap.specs.Words.{Kinds, Row, Text, fault_of, first_of, subcommand_of}
 use Rattle.clap.specs.declared.error.kind.ErrorKind.TheVariants as kind
 use Rattle.rv_base.specs.Limits.{most_budget, most_group, most_jobs, most_workers}
 use Rattle.rv_cli.specs.RvtestCommand.{most_last_instructions, most_slower, test_app}
 use Rattle.rv_cli.specs.declared.rvtest.refusals.Misuse.{Misuse}
 use Rattle.rv_cli.specs.declared.rvtest.refusals.Misuse.TheVariants as misuse
+use Rattle.rv_cli.specs.WordsErrors.{IsUsageText}
+use Rattle.rv_cli.specs.declared.rvtest.words_error.WordsError.{WordsError}
+use Rattle.rv_cli.specs.declared.rvtest.words_error.WordsError.TheVariants as error
 use Rattle.rv_cli.specs.Values.{argument_values, is_flag_set, is_option_given, number_value}
-use Rattle.clap.specs.declared.error.Error.{Error}
 use Rattle.rv_cli.specs.declared.rvtest.requests.Asked.{Asked}
 use Rattle.rv_cli.specs.declared.rvtest.requests.Asked.TheVariants as asked
 use Rattle.rv_cli.specs.declared.rvtest.run.RunAsked.{RunAsked}
@@ -412,24 +414,39 @@ misuse_text misuse.IntoOneFile =
 misuse_text misuse.CountsOneFile =
     codes "the argument '--counts <FILE>' cannot be used with '--report <FILE>', '--into <FILE>' or '--junit <FILE>' of the same name: it is one file"
 
--- the faults of a subcommand with these values that `clap` does not look for
-abbrev pub subcommand_fault_kinds : Text → List Row → Kinds
-subcommand_fault_kinds name rows = if bytes_eq name (codes "run") then misuse_kinds (run_misuse rows)
-    else if bytes_eq name (codes "list") then misuse_kinds (choice_misuse rows)
-    else if bytes_eq name (codes "accept") then misuse_kinds (choice_misuse rows)
-    else if bytes_eq name (codes "merge") then misuse_kinds (files_misuse rows)
-    else if bytes_eq name (codes "diff") then misuse_kinds (diff_misuse rows)
-    else if bytes_eq name (codes "show") then misuse_kinds (show_misuse rows)
-    else if bytes_eq name (codes "explain") then misuse_kinds (color_misuse rows)
-    else []
+-- which options of a subcommand with these values do not go together, if any
+abbrev pub subcommand_misuse : Text → List Row → Option Misuse
+subcommand_misuse name rows = if bytes_eq name (codes "run") then run_misuse rows
+    else if bytes_eq name (codes "list") then choice_misuse rows
+    else if bytes_eq name (codes "accept") then choice_misuse rows
+    else if bytes_eq name (codes "merge") then files_misuse rows
+    else if bytes_eq name (codes "diff") then diff_misuse rows
+    else if bytes_eq name (codes "show") then show_misuse rows
+    else if bytes_eq name (codes "explain") then color_misuse rows
+    else None
 
--- those of the subcommand that was met
-abbrev pub matched_fault_kinds : Option (Text × List Row) → Kinds
-matched_fault_kinds found = option_map_or (λ met. subcommand_fault_kinds met.0 met.1) found []
+-- of the subcommand that was met
+abbrev pub matched_misuse : Option (Text × List Row) → Option Misuse
+matched_misuse = option_and_then (λ met. subcommand_misuse met.0 met.1)
+
+-- of words in which `clap` finds no fault
+abbrev pub words_misuse : List Text → Option Misuse
+words_misuse words = matched_misuse (subcommand_of test_app words)
 
 -- the faults of words: those that `clap` finds, else options that do not go together
 abbrev pub words_fault_kinds : List Text → Kinds
-words_fault_kinds words = or_else (fault_of test_app words) (matched_fault_kinds (subcommand_of test_app words))
+words_fault_kinds words = or_else (fault_of test_app words) (misuse_kinds (words_misuse words))
+
+-- memory was wanting, or it is told which options do not go together
+abbrev pub IsMisuseTold : Option Misuse → WordsError → Type 0
+IsMisuseTold misuse error.OutOfMemory = Unit {0}
+IsMisuseTold None (error.Told fault text) = ⊥
+IsMisuseTold (Some misuse) (error.Told fault text) =
+    (misuse_kinds (Some misuse) ≡ fault ∷ []) × IsUsageText (misuse_text misuse) (string_bytes text)
+
+-- words fail by that, or for want of memory, and else there is nothing of the kind
+abbrev pub FailsByMisuse : {T : Type 0} → Option Misuse → Result T WordsError → Type 0
+FailsByMisuse misuse result = MatchResult result (λ _. misuse ≡ None) (IsMisuseTold misuse)
 
 -- ---- the program's own value of what is asked for
 
@@ -552,6 +569,6 @@ IsAskedInRange _ = Unit {0}
 abbrev pub AsksFor : Option Words → Option Asked → Type 0
 AsksFor words asked = (option_map asked_words asked ≡ words) × IfSome asked IsAskedInRange
 
--- and else an error is of one of these kinds, or of want of memory
-abbrev pub ReadsRequest : Option Words → Kinds → Result (Option Asked) Error → Type 0
-ReadsRequest words kinds result = IfOk result (AsksFor words) × FailsBy kinds result
+-- and else it is told which options do not go together, or memory was wanting
+abbrev pub ReadsRequest : Option Words → Option Misuse → Result (Option Asked) WordsError → Type 0
+ReadsRequest words misuse result = IfOk result (AsksFor words) × FailsByMisuse misuse result

@@ -1,7 +1,6 @@
 //! The words of `rvtest`.
 //!
-//! [`read_words`] reads them. [`usage_error`] makes an error of that form for what `clap` does not find, as a bad regular
-//! expression.
+//! [`read_words`] reads them. [`usage_error`] makes an error for a fault that `clap` does not find, as a bad regular expression.
 
 mod accept;
 mod arguments;
@@ -21,6 +20,7 @@ mod run;
 mod show;
 mod table;
 mod tips;
+mod words_error;
 
 pub use accept::AcceptAsked;
 pub use check::CheckAsked;
@@ -31,8 +31,7 @@ pub use diff::DiffAsked;
 pub use explain::ExplainAsked;
 pub use help::HelpAsked;
 pub use merge::MergeAsked;
-pub use refusals::usage_error;
 pub use requests::{Asked, read_words};
 pub use run::RunAsked;
 pub use show::ShowAsked;
-pub use tips::error_text;
+pub use words_error::{WordsError, usage_error};

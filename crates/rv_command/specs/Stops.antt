@@ -1,10 +1,13 @@
 -- The statuses of commands that end before their work is done, and what these commands tell.
-use Rattle.std.specs.Prelude.{◌≡◌, ◌⊎◌, ◌<◌, ◌+◌, ℕ, Bool, true, false, List, [], ◌∷◌, IfSome, IsSomeAnd, Option, None, Result, Ok, Err, Vec, codes, length}
+use Rattle.std.specs.Prelude.{◌≡◌, ◌⊎◌, ◌<◌, ◌+◌, ℕ, Bool, true, false, List, [], ◌∷◌, IfSome, IsSomeAnd, Option, None, Result, Ok, Err, Vec, codes, length, string_bytes}
 use Rattle.std.specs.declared.alloc.AllocError.{AllocError}
 use Rattle.std.specs.declared.alloc.Global.{Global}
 use Rattle.std.specs.declared.io.ErrorKind.{ErrorKind}
 use Rattle.rv_base.specs.Files.{FileContents}
 use Rattle.rv_base.specs.Limits.{most_bytes}
+use Rattle.rv_cli.specs.WordsErrors.{IsUsageText}
+use Rattle.rv_cli.specs.declared.rvtest.words_error.WordsError.{WordsError}
+use Rattle.rv_cli.specs.declared.rvtest.words_error.WordsError.TheVariants as error
 use Rattle.rv_files.specs.IoErrors.{io_error_text}
 use Rattle.rv_files.specs.declared.file_error.FileError.{FileError}
 use Rattle.rv_files.specs.declared.file_error.FileError.TheVariants as file
@@ -57,6 +60,19 @@ IsStop status text stop =
 -- memory was wanting, or what is asked for is refused, with some text
 abbrev pub IsRefusal : Stop → Type 0
 IsRefusal stop = (stop ≡ why.OutOfMemory) ⊎ (stop_status stop ≡ 2)
+
+-- what is asked for is refused, with this text
+abbrev pub IsRefusedAs : List ℕ → Stop → Type 0
+IsRefusedAs text stop = (stop_status stop ≡ 2) × (stop_message stop ≡ text)
+
+-- words are refused, as their error says
+abbrev pub IsWordsRefusal : WordsError → Stop → Type 0
+IsWordsRefusal error.OutOfMemory stop = stop ≡ why.OutOfMemory
+IsWordsRefusal (error.Told fault text) stop = IsRefusedAs (string_bytes text) stop
+
+-- memory was wanting, or it is told what is wrong with words, with the usage of a command
+abbrev pub IsUsageStop : List ℕ → Stop → Type 0
+IsUsageStop what stop = (stop ≡ why.OutOfMemory) ⊎ ((stop_status stop ≡ 2) × IsUsageText what (stop_message stop))
 
 -- ---- what stands at a path
 

@@ -1,14 +1,10 @@
 //! Why a command ends before its work is done.
 
 ghost use Rattle.std.specs.Prelude.{◌≡◌};
-ghost use Rattle.clap.specs.Values.{kind_of};
-ghost use Rattle.clap.specs.declared.error.kind.ErrorKind.TheVariants as kind;
-ghost use Rattle.rv_command.specs.Stops.{IsRefusal, stop_of_lines};
+ghost use Rattle.rv_command.specs.Stops.{IsWordsRefusal, stop_of_lines};
 
-use clap::Error;
-use clap::error::ErrorKind;
-use rv_cli::rvtest::error_text;
-use std::alloc::{AllocError, Global};
+use rv_cli::rvtest::WordsError;
+use std::alloc::AllocError;
 
 /// Why a command ends before its work is done.
 #[derive(Drop)]
@@ -33,18 +29,13 @@ pub enum Lines {
 }
 
 impl Stop {
-    /// What an error of `clap`, or of its form, comes to, but help and the version: it refuses the words. The text is the error's
-    /// without tips that lead astray, and no contract of `clap` knows it.
-    pub fn of_clap_error(alloc: Global, error: &Error) -> Stop
-        ensures memory { kind_of error.now ≡ kind.OutOfMemory → result ≡ Stop.OutOfMemory }
-        ensures refused { IsRefusal result }
+    /// Words are refused, as their error says. Help and the version are no stop.
+    pub fn of_words_error(error: WordsError) -> Stop
+        ensures { IsWordsRefusal error.entry result }
     {
-        match error.kind() {
-            ErrorKind::OutOfMemory => Stop::OutOfMemory,
-            _ => match error_text(alloc, error) {
-                Ok(text) => Stop::Told(Lines::Refusal, text.into_bytes()),
-                Err(error) => Stop::from(error),
-            },
+        match error {
+            WordsError::OutOfMemory => Stop::OutOfMemory,
+            WordsError::Told(_, text) => Stop::Told(Lines::Refusal, text.into_bytes()),
         }
     }
 

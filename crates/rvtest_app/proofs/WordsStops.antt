@@ -1,38 +1,58 @@
 -- What stops the program for its words.
-use Rattle.std.proofs.Common.{◌≡◌, ◌⊎◌, ℕ, List, Option, Result, Ok, Err, IfErr, inl, inr, refl, subst, ⊎_elim}
+use Rattle.std.proofs.Common.{◌≡◌, ◌⊎◌, ◌∙◌, ℕ, List, [], Option, Some, None, Result, Ok, Err, IfErr, inl, inr, refl, subst, string_bytes, ⊎_elim}
 use Rattle.clap.specs.Kinds.{IsAmong}
+use Rattle.clap.specs.Words.{fault_of}
 use Rattle.clap.specs.declared.error.kind.ErrorKind.{ErrorKind}
 use Rattle.clap.specs.declared.error.kind.ErrorKind.TheVariants as kind
 use Rattle.rv_base.specs.Files.{FileContents}
-use Rattle.rv_cli.specs.RvtestWords.{words_fault_kinds}
-use Rattle.rv_command.specs.Stops.{IsRefusal}
+use Rattle.rv_cli.specs.RvtestCommand.{test_app}
+use Rattle.rv_cli.specs.RvtestWords.{IsMisuseTold, words_fault_kinds, words_misuse}
+use Rattle.rv_cli.specs.WordsErrors.{IsToldOf}
+use Rattle.rv_cli.specs.declared.rvtest.refusals.Misuse.{Misuse}
+use Rattle.rv_cli.specs.declared.rvtest.words_error.WordsError.{WordsError}
+use Rattle.rv_cli.specs.declared.rvtest.words_error.WordsError.TheVariants as error
+use Rattle.rv_command.specs.Stops.{IsRefusedAs}
 use Rattle.rv_command.specs.declared.stop.Stop.{Stop}
 use Rattle.rv_command.specs.declared.stop.Stop.TheVariants as stop
 use Rattle.rvtest_app.specs.Answers.{AskForHelp}
-use Rattle.rvtest_app.specs.CommandStops.{IsStopFor}
-use Rattle.rvtest_app.specs.ToldStops.{IsHelpAsked, IsHelpStop}
+use Rattle.rvtest_app.specs.CommandStops.{IsMisuseStop, IsStopFor}
+use Rattle.rvtest_app.specs.ToldStops.{IsHelpAsked, IsHelpStop, IsWordsErrorStop}
 
-help_or_not : (fault : ErrorKind) → IsHelpAsked fault ⊎ (IsHelpAsked fault → ⊥)
-help_or_not kind.DisplayHelp = inl (inl refl)
-help_or_not kind.DisplayVersion = inl (inr refl)
-help_or_not _ = inr (⊎_elim (λ is. cc) (λ is. cc))
-
-ask_for_help : (words : List (List ℕ)) (fault : ErrorKind) → IsAmong fault (words_fault_kinds words)
+pub ask_for_help : (words : List (List ℕ)) (fault : ErrorKind) → IsAmong fault (words_fault_kinds words)
     → IsHelpAsked fault → AskForHelp words
 ask_for_help words fault among =
     let Among : ErrorKind → Type 0 = λ k. IsAmong k (words_fault_kinds words) in
     ⊎_elim (λ help. inl (subst Among help among)) (λ version. inr (subst Among version among))
 
+-- options that do not go together are told as they are
+misuse_stop : (misuse : Option Misuse) (fault : ErrorKind) (text : _) (why : Stop)
+    → IsMisuseTold misuse (error.Told fault text) → IsRefusedAs (string_bytes text) why → IsMisuseStop misuse why
+misuse_stop None fault text why told is = absurd told
+misuse_stop (Some misuse) fault text why told is = inr (is.0, (told.1.0, is.1 ∙ told.1.1))
+
+help_stop : (known : Option FileContents) (words : List (List ℕ)) (before after : ℕ) (why : Stop) → AskForHelp words
+    → IsHelpStop before after why → IsStopFor known words why
+help_stop known words before after why asked is =
+    ⊎_elim (λ memory. inr (inl memory)) (λ failed. inr (inr (inl (asked, failed.0)))) is
+
 -- a fault of words stops the program by its kind
-pub words_stop : (known : Option FileContents) (words : List (List ℕ)) (fault : ErrorKind) (answer : Result ℕ Stop)
-    (before after : ℕ) → (fault ≡ kind.OutOfMemory) ⊎ IsAmong fault (words_fault_kinds words)
-    → (fault ≡ kind.OutOfMemory → IfErr answer (λ why. why ≡ stop.OutOfMemory))
-    → (IsHelpAsked fault → IfErr answer (IsHelpStop before after))
-    → ((IsHelpAsked fault → ⊥) → IfErr answer IsRefusal) → IfErr answer (IsStopFor known words)
-words_stop known words fault (Ok status) before after has memory help refused = tt
-words_stop known words fault (Err why) before after has memory help refused =
-    ⊎_elim (λ is. inr (inl (memory is)))
-    (λ among. ⊎_elim
-    (λ asked. ⊎_elim (λ is. inr (inl is)) (λ is. inr (inr (inl (ask_for_help words fault among asked, is.0))))
-    (help asked))
-    (λ other. inr (inr (inr ((fault, (among, other)), refused other)))) (help_or_not fault)) has
+stop_of_error : (known : Option FileContents) (words : List (List ℕ)) (told : WordsError) (before after : ℕ) (why : Stop)
+    → IsToldOf (words_fault_kinds words) told
+    → (fault_of test_app words ≡ [] → IsMisuseTold (words_misuse words) told)
+    → IsWordsErrorStop told before after why → IsStopFor known words why
+stop_of_error known words error.OutOfMemory before after why among misused is = inr (inl is)
+stop_of_error known words (error.Told fault text) before after why among misused is =
+    ⊎_elim (λ help. help_stop known words before after why (ask_for_help words fault among help.0) help.1)
+    (λ other. inr (inr (inr (record {
+      faulty = (fault, (among, other.0));
+      refused = inr other.1.0;
+      misused = λ none. misuse_stop (words_misuse words) fault text why (misused none) other.1;
+    })))) is
+
+pub words_stop : (known : Option FileContents) (words : List (List ℕ)) (told : WordsError) (answer : Result ℕ Stop)
+    (before after : ℕ) → IsToldOf (words_fault_kinds words) told
+    → (fault_of test_app words ≡ [] → IsMisuseTold (words_misuse words) told)
+    → IfErr answer (IsWordsErrorStop told before after) → IfErr answer (IsStopFor known words)
+words_stop known words told (Ok status) before after among misused is = tt
+words_stop known words told (Err why) before after among misused is =
+    stop_of_error known words told before after why among misused is

@@ -1,5 +1,6 @@
 -- How a command ends before its work is done.
-use Rattle.std.specs.Prelude.{◌≡◌, ◌⊎◌, ℕ, Bool, List, Result, Ok, Err, Vec, codes}
+use Rattle.std.specs.Prelude.{◌≡◌, ◌⊎◌, ℕ, Bool, List, Option, Result, Ok, Err, Vec, codes, string_bytes}
+use Rattle.std.specs.Io.KnownBytes.{Appends}
 use Rattle.std.specs.declared.alloc.Global.{Global}
 use Rattle.std.specs.declared.io.ErrorKind.{ErrorKind}
 use Rattle.std.specs.declared.io.ErrorKind.TheVariants as io
@@ -8,7 +9,9 @@ use Rattle.clap.specs.declared.error.kind.ErrorKind.TheVariants as words
 use Rattle.rv_base.specs.Counts.{one_more}
 use Rattle.rv_cli.specs.declared.rvtest.diff.DiffAsked.{DiffAsked}
 use Rattle.rv_command.specs.Messages.{end_message}
-use Rattle.rv_command.specs.Stops.{IsRequestedFaultStop, end_status}
+use Rattle.rv_cli.specs.declared.rvtest.words_error.WordsError.{WordsError}
+use Rattle.rv_cli.specs.declared.rvtest.words_error.WordsError.TheVariants as error
+use Rattle.rv_command.specs.Stops.{IsRefusedAs, IsRequestedFaultStop, end_status}
 use Rattle.rv_command.specs.Texts.{IsReportRead}
 use Rattle.rv_command.specs.declared.stop.Stop.{Stop}
 use Rattle.rv_command.specs.declared.stop.Stop.TheVariants as stop
@@ -42,6 +45,18 @@ IsHelpAsked fault = (fault ≡ words.DisplayHelp) ⊎ (fault ≡ words.DisplayVe
 abbrev pub IsHelpStop : ℕ → ℕ → Stop → Type 0
 IsHelpStop failures_before failures_after why = (why ≡ stop.OutOfMemory)
     ⊎ ((why ≡ stop.WriteFailed) × (failures_after ≡ one_more failures_before))
+
+-- the help or the version was asked for, and its text was put
+abbrev pub IsHelpPut : WordsError → Option (List ℕ) → Option (List ℕ) → Type 0
+IsHelpPut error.OutOfMemory before after = ⊥
+IsHelpPut (error.Told fault text) before after = IsHelpAsked fault × Appends before after (string_bytes text)
+
+-- words stopped the program: the help that they ask for was not put; or they are refused, as their error says
+abbrev pub IsWordsErrorStop : WordsError → ℕ → ℕ → Stop → Type 0
+IsWordsErrorStop error.OutOfMemory failures_before failures_after why = why ≡ stop.OutOfMemory
+IsWordsErrorStop (error.Told fault text) failures_before failures_after why =
+    (IsHelpAsked fault × IsHelpStop failures_before failures_after why)
+    ⊎ ((IsHelpAsked fault → ⊥) × IsRefusedAs (string_bytes text) why)
 
 -- ---- diff
 

@@ -19,7 +19,7 @@ use crate::destinations::Destinations;
 use crate::diff::diff_reports;
 use crate::explain::explain_named_job;
 use crate::findings::put_findings;
-use crate::help::answer_clap_error;
+use crate::help::answer_words_error;
 use crate::help_topic::tell_topic;
 use crate::host::Host;
 use crate::list::list_chosen_jobs;
@@ -109,7 +109,7 @@ where
         Ok(None) => (to, Ok(REFUSED)),
         Err(error) => {
             let mut to = to;
-            let answer = answer_clap_error(host.alloc, &mut to.out, &error);
+            let answer = answer_words_error(&mut to.out, error);
             (to, answer)
         }
     }

@@ -1,15 +1,16 @@
 //! The words of `accept`.
 
-ghost use Rattle.std.specs.Prelude.{[]};
+ghost use Rattle.std.specs.Prelude.{None};
 ghost use Rattle.clap.specs.Words.{found_of, rows_of};
-ghost use Rattle.rv_cli.specs.RvtestWords.{ReadsRequest, accept_request, choice_misuse, misuse_kinds};
+ghost use Rattle.rv_cli.specs.RvtestWords.{ReadsRequest, accept_request, choice_misuse};
 
 use crate::rvtest::command::accept_command;
 use crate::rvtest::refusals::choice_misuse;
 use crate::rvtest::requests::Asked;
 use crate::rvtest::run::{RunAsked, run_asked};
+use crate::rvtest::words_error::WordsError;
 use crate::values::{is_flag_set, number_value, text_value};
-use clap::{ArgMatches, Error};
+use clap::ArgMatches;
 use rv_base::limits::MOST_GROUP;
 use std::alloc::Global;
 
@@ -28,12 +29,12 @@ pub struct AcceptAsked<'a> {
 pub(crate) fn accept_request<'a>(
     alloc: Global,
     values: &ArgMatches<'a>,
-) -> Result<Option<Asked<'a>>, Error>
+) -> Result<Option<Asked<'a>>, WordsError>
     ensures { ReadsRequest (accept_request (rows_of (found_of values.now)))
-        (misuse_kinds (choice_misuse (rows_of (found_of values.now)))) result }
+        (choice_misuse (rows_of (found_of values.now))) result }
 {
     match choice_misuse(values) {
-        Some(misuse) => Err(misuse.misuse_error(accept_command(alloc))),
+        Some(misuse) => Err(misuse.misuse_error(alloc, accept_command(alloc))),
         None => valid_accept_request(alloc, values),
     }
 }
@@ -41,8 +42,8 @@ pub(crate) fn accept_request<'a>(
 fn valid_accept_request<'a>(
     alloc: Global,
     values: &ArgMatches<'a>,
-) -> Result<Option<Asked<'a>>, Error>
-    ensures { ReadsRequest (accept_request (rows_of (found_of values.now))) [] result }
+) -> Result<Option<Asked<'a>>, WordsError>
+    ensures { ReadsRequest (accept_request (rows_of (found_of values.now))) None result }
 {
     let Some(list) = text_value(values, "list") else {
         return Ok(None);

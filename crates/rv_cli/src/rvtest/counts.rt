@@ -1,12 +1,13 @@
 //! The words of `counts`.
 
-ghost use Rattle.std.specs.Prelude.{[], Some};
+ghost use Rattle.std.specs.Prelude.{None, Some};
 ghost use Rattle.clap.specs.Words.{found_of, rows_of};
 ghost use Rattle.rv_cli.specs.RvtestWords.{ReadsRequest, counts_request};
 
 use crate::rvtest::requests::Asked;
+use crate::rvtest::words_error::WordsError;
 use crate::values::{argument_values, text_value};
-use clap::{ArgMatches, Error};
+use clap::ArgMatches;
 use std::alloc::Global;
 
 /// The tables of counts that are to be added up.
@@ -22,8 +23,8 @@ pub struct CountsAsked<'a> {
 pub(crate) fn counts_request<'a>(
     alloc: Global,
     values: &ArgMatches<'a>,
-) -> Result<Option<Asked<'a>>, Error>
-    ensures { ReadsRequest (Some (counts_request (rows_of (found_of values.now)))) [] result }
+) -> Result<Option<Asked<'a>>, WordsError>
+    ensures { ReadsRequest (Some (counts_request (rows_of (found_of values.now)))) None result }
 {
     let out = text_value(values, "out");
     let tables = argument_values(alloc, values, "table")?;

@@ -1,14 +1,15 @@
 //! The words of `diff`.
 
-ghost use Rattle.std.specs.Prelude.{◌≡◌, []};
+ghost use Rattle.std.specs.Prelude.{◌≡◌};
 ghost use Rattle.clap.specs.Words.{found_of, rows_of};
-ghost use Rattle.rv_cli.specs.RvtestWords.{AsksFor, ReadsRequest, diff_misuse, diff_request, misuse_kinds};
+ghost use Rattle.rv_cli.specs.RvtestWords.{AsksFor, ReadsRequest, diff_misuse, diff_request};
 
 use crate::rvtest::command::diff_command;
 use crate::rvtest::refusals::{Misuse, color_misuse};
 use crate::rvtest::requests::Asked;
+use crate::rvtest::words_error::WordsError;
 use crate::values::{is_flag_set, is_option_given, number_value, text_value};
-use clap::{ArgMatches, Error};
+use clap::ArgMatches;
 use std::alloc::Global;
 
 /// Two reports that are to be compared.
@@ -32,12 +33,12 @@ pub struct DiffAsked<'a> {
 pub(crate) fn diff_request<'a>(
     alloc: Global,
     values: &ArgMatches<'a>,
-) -> Result<Option<Asked<'a>>, Error>
+) -> Result<Option<Asked<'a>>, WordsError>
     ensures { ReadsRequest (diff_request (rows_of (found_of values.now)))
-        (misuse_kinds (diff_misuse (rows_of (found_of values.now)))) result }
+        (diff_misuse (rows_of (found_of values.now))) result }
 {
     match diff_misuse(values) {
-        Some(misuse) => Err(misuse.misuse_error(diff_command(alloc))),
+        Some(misuse) => Err(misuse.misuse_error(alloc, diff_command(alloc))),
         None => Ok(valid_diff_request(values)),
     }
 }

@@ -1,13 +1,14 @@
 //! The words of `explain`.
 
 ghost use Rattle.clap.specs.Words.{found_of, rows_of};
-ghost use Rattle.rv_cli.specs.RvtestWords.{AsksFor, ReadsRequest, color_misuse, explain_request, misuse_kinds};
+ghost use Rattle.rv_cli.specs.RvtestWords.{AsksFor, ReadsRequest, color_misuse, explain_request};
 
 use crate::rvtest::command::explain_command;
 use crate::rvtest::refusals::color_misuse;
 use crate::rvtest::requests::Asked;
+use crate::rvtest::words_error::WordsError;
 use crate::values::{number_value, text_value};
-use clap::{ArgMatches, Error};
+use clap::ArgMatches;
 use rv_base::limits::MOST_BUDGET;
 use std::alloc::Global;
 
@@ -32,12 +33,12 @@ pub struct ExplainAsked<'a> {
 pub(crate) fn explain_request<'a>(
     alloc: Global,
     values: &ArgMatches<'a>,
-) -> Result<Option<Asked<'a>>, Error>
+) -> Result<Option<Asked<'a>>, WordsError>
     ensures { ReadsRequest (explain_request (rows_of (found_of values.now)))
-        (misuse_kinds (color_misuse (rows_of (found_of values.now)))) result }
+        (color_misuse (rows_of (found_of values.now))) result }
 {
     match color_misuse(values) {
-        Some(misuse) => Err(misuse.misuse_error(explain_command(alloc))),
+        Some(misuse) => Err(misuse.misuse_error(alloc, explain_command(alloc))),
         None => Ok(valid_explain_request(values)),
     }
 }

@@ -1,27 +1,28 @@
 //! The words of `list`.
 
-ghost use Rattle.std.specs.Prelude.{[]};
+ghost use Rattle.std.specs.Prelude.{None};
 ghost use Rattle.clap.specs.Words.{found_of, rows_of};
-ghost use Rattle.rv_cli.specs.RvtestWords.{ReadsRequest, choice_misuse, list_request, misuse_kinds};
+ghost use Rattle.rv_cli.specs.RvtestWords.{ReadsRequest, choice_misuse, list_request};
 
 use crate::rvtest::command::list_command;
 use crate::rvtest::refusals::choice_misuse;
 use crate::rvtest::requests::Asked;
 use crate::rvtest::run::run_asked;
+use crate::rvtest::words_error::WordsError;
 use crate::values::text_value;
-use clap::{ArgMatches, Error};
+use clap::ArgMatches;
 use std::alloc::Global;
 
 /// What the values of `list` ask for, or which rule its options break.
 pub(crate) fn list_request<'a>(
     alloc: Global,
     values: &ArgMatches<'a>,
-) -> Result<Option<Asked<'a>>, Error>
+) -> Result<Option<Asked<'a>>, WordsError>
     ensures { ReadsRequest (list_request (rows_of (found_of values.now)))
-        (misuse_kinds (choice_misuse (rows_of (found_of values.now)))) result }
+        (choice_misuse (rows_of (found_of values.now))) result }
 {
     match choice_misuse(values) {
-        Some(misuse) => Err(misuse.misuse_error(list_command(alloc))),
+        Some(misuse) => Err(misuse.misuse_error(alloc, list_command(alloc))),
         None => valid_list_request(alloc, values),
     }
 }
@@ -29,8 +30,8 @@ pub(crate) fn list_request<'a>(
 fn valid_list_request<'a>(
     alloc: Global,
     values: &ArgMatches<'a>,
-) -> Result<Option<Asked<'a>>, Error>
-    ensures { ReadsRequest (list_request (rows_of (found_of values.now))) [] result }
+) -> Result<Option<Asked<'a>>, WordsError>
+    ensures { ReadsRequest (list_request (rows_of (found_of values.now))) None result }
 {
     let Some(list) = text_value(values, "list") else {
         return Ok(None);

@@ -1,14 +1,15 @@
 //! The words of `merge`.
 
-ghost use Rattle.std.specs.Prelude.{[], Some};
+ghost use Rattle.std.specs.Prelude.{None, Some};
 ghost use Rattle.clap.specs.Words.{found_of, rows_of};
-ghost use Rattle.rv_cli.specs.RvtestWords.{ReadsRequest, misuse_kinds, merge_request, files_misuse};
+ghost use Rattle.rv_cli.specs.RvtestWords.{ReadsRequest, merge_request, files_misuse};
 
 use crate::rvtest::command::merge_command;
 use crate::rvtest::refusals::files_misuse;
 use crate::rvtest::requests::Asked;
+use crate::rvtest::words_error::WordsError;
 use crate::values::{argument_values, is_flag_set, text_value};
-use clap::{ArgMatches, Error};
+use clap::ArgMatches;
 use std::alloc::Global;
 
 /// The parts of one run whose whole report is to be made.
@@ -30,12 +31,12 @@ pub struct MergeAsked<'a> {
 pub(crate) fn merge_request<'a>(
     alloc: Global,
     values: &ArgMatches<'a>,
-) -> Result<Option<Asked<'a>>, Error>
+) -> Result<Option<Asked<'a>>, WordsError>
     ensures { ReadsRequest (Some (merge_request (rows_of (found_of values.now))))
-        (misuse_kinds (files_misuse (rows_of (found_of values.now)))) result }
+        (files_misuse (rows_of (found_of values.now))) result }
 {
     match files_misuse(values) {
-        Some(misuse) => Err(misuse.misuse_error(merge_command(alloc))),
+        Some(misuse) => Err(misuse.misuse_error(alloc, merge_command(alloc))),
         None => valid_merge_request(alloc, values),
     }
 }
@@ -43,8 +44,8 @@ pub(crate) fn merge_request<'a>(
 fn valid_merge_request<'a>(
     alloc: Global,
     values: &ArgMatches<'a>,
-) -> Result<Option<Asked<'a>>, Error>
-    ensures { ReadsRequest (Some (merge_request (rows_of (found_of values.now)))) [] result }
+) -> Result<Option<Asked<'a>>, WordsError>
+    ensures { ReadsRequest (Some (merge_request (rows_of (found_of values.now)))) None result }
 {
     let report = text_value(values, "report");
     let junit = text_value(values, "junit");

@@ -1,15 +1,16 @@
 //! Refusals of words in which `clap` finds no fault.
 
 ghost use Rattle.std.specs.Prelude.{◌≡◌, [], ◌∷◌, Some};
-ghost use Rattle.clap.specs.Words.{HasKind, found_of, rows_of};
-ghost use Rattle.rv_cli.specs.RvtestWords.{choice_misuse, color_misuse, files_misuse, is_color_unknown, is_color_word, is_into_path, is_partial_alone};
+ghost use Rattle.clap.specs.Words.{found_of, rows_of};
+ghost use Rattle.rv_cli.specs.RvtestWords.{IsMisuseTold, choice_misuse, color_misuse, files_misuse, is_color_unknown, is_color_word, is_into_path, is_partial_alone};
 ghost use Rattle.rv_cli.specs.RvtestWords.{is_junit_path, is_report_path, is_suite_nameless};
 ghost use Rattle.rv_cli.specs.RvtestWords.{misuse_kinds, misuse_text, show_misuse, suite_misuse};
 
+use crate::rvtest::words_error::{WordsError, usage_error};
 use crate::values::{is_flag_set, is_option_given, text_value};
 use clap::error::ErrorKind;
-use clap::{ArgMatches, Command, Error};
-use std::alloc::AllocError;
+use clap::{ArgMatches, Command};
+use std::alloc::{AllocError, Global};
 
 /// Options that do not go together.
 #[derive(Clone, Copy)]
@@ -50,10 +51,14 @@ pub(crate) enum Misuse {
 
 impl Misuse {
     /// The error that says so, with the usage of the command.
-    pub(crate) fn misuse_error(self, command: Result<Command<'_>, AllocError>) -> Error
-        ensures { HasKind (misuse_kinds (Some self)) result }
+    pub(crate) fn misuse_error(
+        self,
+        alloc: Global,
+        command: Result<Command<'_>, AllocError>,
+    ) -> WordsError
+        ensures { IsMisuseTold (Some self) result }
     {
-        usage_error(command, self.misuse_error_kind(), self.misuse_text())
+        usage_error(alloc, command, self.misuse_error_kind(), self.misuse_text())
     }
 
     fn misuse_error_kind(self) -> ErrorKind
@@ -246,25 +251,5 @@ pub(crate) fn is_junit_path(values: &ArgMatches<'_>, path: &str) -> bool
     match text_value(values, "junit") {
         Some(junit) => path == junit,
         None => false,
-    }
-}
-
-/// An error in the form of `clap`'s own: `error: ` and the text, the usage of the command, and where help is; or want of memory,
-/// where there is no command for that. The text has no line feed at its end.
-pub fn usage_error(command: Result<Command<'_>, AllocError>, kind: ErrorKind, text: &str) -> Error
-    // It is of that kind, or memory ran out while it was made.
-    ensures { HasKind (kind ∷ []) result }
-{
-    match command {
-        Ok(mut command) => {
-            let error = command.error(kind, text);
-            // At the end of the block each of its fields would be dropped, which is proved in twice the time.
-            drop(command);
-            match error {
-                Ok(error) => error,
-                Err(error) => Error::from(error),
-            }
-        }
-        Err(error) => Error::from(error),
     }
 }

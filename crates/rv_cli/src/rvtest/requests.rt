@@ -1,9 +1,11 @@
 //! What words ask `rvtest` for: a command with its values.
 
-ghost use Rattle.std.specs.Prelude.{◌≡◌, IfOk, IfSome, map, option_map};
-ghost use Rattle.clap.specs.Words.{FailsBy, found_of, rows_of, subcommand_rows_of};
-ghost use Rattle.rv_cli.specs.RvtestWords.{IsAskedInRange, ReadsRequest, words_request, matched_fault_kinds, subcommand_fault_kinds};
-ghost use Rattle.rv_cli.specs.RvtestWords.{words_fault_kinds, asked_words, matched_words, subcommand_words};
+ghost use Rattle.std.specs.Prelude.{◌≡◌, [], IfErr, IfOk, IfSome, map, option_map};
+ghost use Rattle.clap.specs.Words.{fault_of, found_of, rows_of, subcommand_rows_of};
+ghost use Rattle.rv_cli.specs.RvtestCommand.{test_app};
+ghost use Rattle.rv_cli.specs.RvtestWords.{IsAskedInRange, IsMisuseTold, ReadsRequest, matched_misuse, subcommand_misuse};
+ghost use Rattle.rv_cli.specs.RvtestWords.{asked_words, matched_words, subcommand_words, words_fault_kinds, words_misuse, words_request};
+ghost use Rattle.rv_cli.specs.WordsErrors.{FailsByKinds};
 
 use crate::rvtest::accept::{AcceptAsked, accept_request};
 use crate::rvtest::check::{CheckAsked, check_request};
@@ -17,7 +19,8 @@ use crate::rvtest::list::list_request;
 use crate::rvtest::merge::{MergeAsked, merge_request};
 use crate::rvtest::run::{RunAsked, test_run_request};
 use crate::rvtest::show::{ShowAsked, show_request};
-use clap::{ArgMatches, Error};
+use crate::rvtest::words_error::WordsError;
+use clap::ArgMatches;
 use std::alloc::Global;
 use std::convert::AsStr;
 
@@ -49,24 +52,32 @@ pub enum Asked<'a> {
 }
 
 /// Reads words, the first of which is the program's name. `None` stands where words ask for nothing. An error is `clap`'s
-/// own, but for options that do not go together. Help and the version are errors, too: DisplayHelp and DisplayVersion.
-pub fn read_words<'a, T: AsStr>(alloc: Global, words: &'a [T]) -> Result<Option<Asked<'a>>, Error>
+/// own, but for options that do not go together. Help and the version are errors, too: of the kinds DisplayHelp and DisplayVersion.
+pub fn read_words<'a, T: AsStr>(
+    alloc: Global,
+    words: &'a [T],
+) -> Result<Option<Asked<'a>>, WordsError>
     // What is read is what the words ask for.
     ensures value { IfOk result
         (λ asked. option_map asked_words asked ≡ words_request (map T.text words.entry.now)) }
     // Each number is within the range of its argument.
     ensures within { IfOk result (λ asked. IfSome asked IsAskedInRange) }
     // Any words fail by a fault that is found in them, or for want of memory, and else have none.
-    ensures kinds { FailsBy (words_fault_kinds (map T.text words.entry.now)) result }
+    ensures kinds { FailsByKinds (words_fault_kinds (map T.text words.entry.now)) result }
+    // Where `clap` finds none, it is told which options do not go together.
+    ensures misused { fault_of test_app (map T.text words.entry.now) ≡ []
+        → IfErr result (IsMisuseTold (words_misuse (map T.text words.entry.now))) }
 {
     let command = test_command(alloc)?;
-    let matches = command.try_get_matches_from(words)?;
-    matched_request(alloc, &matches)
+    match command.try_get_matches_from(words) {
+        Ok(matches) => matched_request(alloc, &matches),
+        Err(error) => Err(WordsError::of_clap(alloc, &error)),
+    }
 }
 
-fn matched_request<'a>(alloc: Global, matches: &ArgMatches<'a>) -> Result<Option<Asked<'a>>, Error>
+fn matched_request<'a>(alloc: Global, matches: &ArgMatches<'a>) -> Result<Option<Asked<'a>>, WordsError>
     ensures { ReadsRequest (matched_words (subcommand_rows_of matches.now))
-        (matched_fault_kinds (subcommand_rows_of matches.now)) result }
+        (matched_misuse (subcommand_rows_of matches.now)) result }
 {
     match matches.subcommand() {
         Some((name, values)) => subcommand_request(alloc, name, values),
@@ -78,9 +89,9 @@ fn subcommand_request<'a>(
     alloc: Global,
     name: &str,
     values: &ArgMatches<'a>,
-) -> Result<Option<Asked<'a>>, Error>
+) -> Result<Option<Asked<'a>>, WordsError>
     ensures { ReadsRequest (subcommand_words name.now (rows_of (found_of values.now)))
-        (subcommand_fault_kinds name.now (rows_of (found_of values.now))) result }
+        (subcommand_misuse name.now (rows_of (found_of values.now))) result }
 {
     match name {
         "run" => test_run_request(alloc, values),

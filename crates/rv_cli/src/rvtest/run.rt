@@ -1,9 +1,9 @@
 //! The words of `run`.
 
-ghost use Rattle.std.specs.Prelude.{◌≡◌, ◌≤◌, [], IfOk};
+ghost use Rattle.std.specs.Prelude.{◌≡◌, ◌≤◌, IfOk, None};
 ghost use Rattle.clap.specs.Words.{found_of, rows_of};
 ghost use Rattle.rv_base.specs.Limits.{most_group};
-ghost use Rattle.rv_cli.specs.RvtestWords.{IsRunAskedInRange, ReadsRequest, are_counts_put_over, are_rows_kept, are_rows_put_twice, is_choice_given, is_choice_overwritten, is_report_given, is_stdout_put_into, misuse_kinds, run_asked_words};
+ghost use Rattle.rv_cli.specs.RvtestWords.{IsRunAskedInRange, ReadsRequest, are_counts_put_over, are_rows_kept, are_rows_put_twice, is_choice_given, is_choice_overwritten, is_report_given, is_stdout_put_into, run_asked_words};
 ghost use Rattle.rv_cli.specs.RvtestWords.{run_misuse, test_run_request, run_words};
 
 use crate::rvtest::command::run_command;
@@ -12,8 +12,9 @@ use crate::rvtest::refusals::{
     is_report_path,
 };
 use crate::rvtest::requests::Asked;
+use crate::rvtest::words_error::WordsError;
 use crate::values::{argument_values, is_flag_set, is_option_given, number_value, text_value};
-use clap::{ArgMatches, Error};
+use clap::ArgMatches;
 use rv_base::limits::{MOST_BUDGET, MOST_GROUP, MOST_JOBS, MOST_WORKERS};
 use std::alloc::{AllocError, Global};
 
@@ -74,18 +75,18 @@ pub struct RunAsked<'a> {
 pub(crate) fn test_run_request<'a>(
     alloc: Global,
     values: &ArgMatches<'a>,
-) -> Result<Option<Asked<'a>>, Error>
+) -> Result<Option<Asked<'a>>, WordsError>
     ensures { ReadsRequest (test_run_request (rows_of (found_of values.now)))
-        (misuse_kinds (run_misuse (rows_of (found_of values.now)))) result }
+        (run_misuse (rows_of (found_of values.now))) result }
 {
     match run_misuse(values) {
-        Some(misuse) => Err(misuse.misuse_error(run_command(alloc))),
+        Some(misuse) => Err(misuse.misuse_error(alloc, run_command(alloc))),
         None => valid_run_request(alloc, values),
     }
 }
 
-fn valid_run_request<'a>(alloc: Global, values: &ArgMatches<'a>) -> Result<Option<Asked<'a>>, Error>
-    ensures { ReadsRequest (test_run_request (rows_of (found_of values.now))) [] result }
+fn valid_run_request<'a>(alloc: Global, values: &ArgMatches<'a>) -> Result<Option<Asked<'a>>, WordsError>
+    ensures { ReadsRequest (test_run_request (rows_of (found_of values.now))) None result }
 {
     let Some(list) = text_value(values, "list") else {
         return Ok(None);

@@ -1,13 +1,14 @@
 //! The words of `show`.
 
 ghost use Rattle.clap.specs.Words.{found_of, rows_of};
-ghost use Rattle.rv_cli.specs.RvtestWords.{AsksFor, ReadsRequest, misuse_kinds, show_misuse, show_request};
+ghost use Rattle.rv_cli.specs.RvtestWords.{AsksFor, ReadsRequest, show_misuse, show_request};
 
 use crate::rvtest::command::show_command;
 use crate::rvtest::refusals::show_misuse;
 use crate::rvtest::requests::Asked;
+use crate::rvtest::words_error::WordsError;
 use crate::values::{is_flag_set, text_value};
-use clap::{ArgMatches, Error};
+use clap::ArgMatches;
 use std::alloc::Global;
 
 /// A report that is to be shown.
@@ -31,12 +32,12 @@ pub struct ShowAsked<'a> {
 pub(crate) fn show_request<'a>(
     alloc: Global,
     values: &ArgMatches<'a>,
-) -> Result<Option<Asked<'a>>, Error>
+) -> Result<Option<Asked<'a>>, WordsError>
     ensures { ReadsRequest (show_request (rows_of (found_of values.now)))
-        (misuse_kinds (show_misuse (rows_of (found_of values.now)))) result }
+        (show_misuse (rows_of (found_of values.now))) result }
 {
     match show_misuse(values) {
-        Some(misuse) => Err(misuse.misuse_error(show_command(alloc))),
+        Some(misuse) => Err(misuse.misuse_error(alloc, show_command(alloc))),
         None => Ok(valid_show_request(values)),
     }
 }

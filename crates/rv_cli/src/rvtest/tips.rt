@@ -8,13 +8,22 @@ use std::alloc::{AllocError, Global};
 use strsim::levenshtein;
 
 /// The text of an error. Of its tips only that remains which names an option of which at most a third of the letters differ from
-/// what was written.
-pub fn error_text(alloc: Global, error: &Error) -> Result<String, AllocError> {
+/// what was written. Help and the version are as `clap` writes them.
+pub(crate) fn error_text(alloc: Global, error: &Error) -> Result<String, AllocError> {
     let told = error.to_string(alloc)?;
-    let written = refused_option(told.as_str());
+    if error.use_stderr() {
+        text_without_tips(alloc, told.as_str())
+    } else {
+        Ok(told)
+    }
+}
+
+// A text without the tips that lead astray.
+fn text_without_tips(alloc: Global, told: &str) -> Result<String, AllocError> {
+    let written = refused_option(told);
     let mut text = String::new(alloc);
     let mut is_behind_empty = false;
-    for line in told.as_str().lines() {
+    for line in told.lines() {
         let is_empty = line.is_empty();
         if is_tip_wrong(alloc, written, line)? || is_empty && is_behind_empty {
             continue;

@@ -11,6 +11,5 @@ returns-in-Ok-Some-clause-stopped g c =
 
 pub returns-in-Err-clause-stopped : goal.returns-in-Err-clause-stopped
 returns-in-Err-clause-stopped g c =
-    let answer = c.answer_clap_error-answer.ensures in
     words_stop (g.D.Inputs.contents c.args.host.now.inputs.now) (map g.T.AsStr.text c.args.words.now) _ _ _ _
-    c.in-Err.ensures.kinds answer.memory answer.stopped answer.refused
+    c.in-Err.ensures.kinds c.in-Err.ensures.misused c.answer_words_error-answer.ensures.stopped
