@@ -15,9 +15,9 @@ ghost use Rattle.rv_command.specs.Messages.{cut_off_note};
 ghost use Rattle.rv_choice.specs.BadValues.{IsBadPatternText, IsBadPatternStop};
 ghost use Rattle.rv_command.specs.Stops.{IsRequestedUnreadStop, IsStop};
 
+use crate::bad_value::{bad_value_stop, bad_value_text};
 use crate::failed_jobs::{failed_job_names, failed_job_notes};
 use crate::marks::{Wanted, chosen_marks, first_unknown_name, left_marks};
-use crate::bad_value::{bad_value_stop, bad_value_text};
 use crate::unknown_name::unknown_name_stop;
 use regex::Regex;
 use rv_cli::rvtest::{ChoosingCommand, RunAsked};

@@ -75,7 +75,10 @@ pub fn read_words<'a, T: AsStr>(
     }
 }
 
-fn matched_request<'a>(alloc: Global, matches: &ArgMatches<'a>) -> Result<Option<Asked<'a>>, WordsError>
+fn matched_request<'a>(
+    alloc: Global,
+    matches: &ArgMatches<'a>,
+) -> Result<Option<Asked<'a>>, WordsError>
     ensures { ReadsRequest (matched_words (subcommand_rows_of matches.now))
         (matched_misuse (subcommand_rows_of matches.now)) result }
 {

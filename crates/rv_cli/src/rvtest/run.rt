@@ -85,7 +85,10 @@ pub(crate) fn test_run_request<'a>(
     }
 }
 
-fn valid_run_request<'a>(alloc: Global, values: &ArgMatches<'a>) -> Result<Option<Asked<'a>>, WordsError>
+fn valid_run_request<'a>(
+    alloc: Global,
+    values: &ArgMatches<'a>,
+) -> Result<Option<Asked<'a>>, WordsError>
     ensures { ReadsRequest (test_run_request (rows_of (found_of values.now))) None result }
 {
     let Some(list) = text_value(values, "list") else {
