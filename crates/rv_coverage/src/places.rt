@@ -77,7 +77,6 @@ fn sum_of_all(
     for table in tables {
         match table {
             Ok(table) => sum = add_table(alloc, &sum, table)?,
-            // Out of memory: a thread met it.
             Err(AllocError) => return Err(AllocError),
         }
     }
@@ -95,7 +94,6 @@ fn add_table(alloc: Global, sum: &CountTable, table: &CountTable) -> Result<Coun
 {
     match sum_of_tables(alloc, sum, table) {
         Ok(sum) => Ok(sum),
-        // Out of memory: no number is too great.
         Err(SumError::OutOfMemory) => Err(AllocError),
         Err(SumError::Count(_) | SumError::Runs) => unreachable!(),
     }

@@ -80,7 +80,6 @@ fn image_of_bytes(alloc: Global, isa: Isa, bytes: &[u8]) -> Result<Option<Image>
 {
     match read_image(alloc, bytes, isa) {
         Ok(image) => Ok(Some(image)),
-        // Out of memory: the image takes some.
         Err(ImageError::OutOfMemory) => Err(AllocError),
         Err(_) => Ok(None),
     }
