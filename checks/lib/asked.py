@@ -27,7 +27,7 @@ def jobs(names):
 # of code 5 needs a budget of 3. In same.toml one job names the other.
 LIST = jobs(["uart"]) + job("uart2", "b.elf", 9, "expect_exit = 5") + jobs(["spi", "--x"]) + job("check", "a.elf", 9)
 SAME = job("a", "a.elf", 9, "expect_exit = 5") + job("b", "b.elf", 9, "same_as = 'a'")
-LISTS = {"a.toml": LIST, "run": LIST, "-odd.toml": job("odd", "a.elf", 9), "loop.toml": job("uart", "loop.elf", 20), "same.toml": SAME}
+LISTS = {"a.toml": LIST, "run": LIST, "-odd.toml": job("odd", "a.elf", 9), "loop.toml": job("uart", "loop.elf", 20), "same.toml": SAME, "table": "rvcounts 1\ndone 0 3\n"}
 REPORTS = {
     "old.txt": "$1 spi, end exit 1\ndone 1",
     "one": "$1 a\npart 1 of 1 shard 1/1 stamp r",
