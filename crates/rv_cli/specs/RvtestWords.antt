@@ -287,10 +287,15 @@ is_into_path path rows = option_map_or (bytes_eq path) (first_of (codes "into") 
 abbrev pub is_junit_path : Text → List Row → Bool
 is_junit_path path rows = option_map_or (bytes_eq path) (first_of (codes "junit") rows) false
 
--- the table of counts goes where a report or JUnit's XML goes, be that a file or standard output
+-- the report that chooses the jobs stands at a path
+abbrev pub is_failed_path : Text → List Row → Bool
+is_failed_path path rows = option_map_or (bytes_eq path) (first_of (codes "failed") rows) false
+
+-- the table of counts goes where a report or JUnit's XML goes, be that a file or standard output, or where the report stands that
+-- chooses the jobs
 abbrev pub are_counts_put_over : List Row → Bool
-are_counts_put_over rows = option_map_or (λ path. is_report_path path rows || (is_into_path path rows || is_junit_path path rows))
-    (first_of (codes "counts") rows) false
+are_counts_put_over rows = option_map_or (λ path. is_report_path path rows || (is_into_path path rows
+    || (is_junit_path path rows || is_failed_path path rows))) (first_of (codes "counts") rows) false
 
 -- jobs are chosen by their names or by a report, or left out
 abbrev pub is_choice_given : List Row → Bool
@@ -412,7 +417,7 @@ misuse_text misuse.OneFile =
 misuse_text misuse.IntoOneFile =
     codes "the argument '--into <FILE>' cannot be used with '--junit <FILE>' of the same name: it is one file"
 misuse_text misuse.CountsOneFile =
-    codes "the argument '--counts <FILE>' cannot be used with '--report <FILE>', '--into <FILE>' or '--junit <FILE>' of the same name: it is one file"
+    codes "the argument '--counts <FILE>' cannot be used with '--report <FILE>', '--into <FILE>', '--junit <FILE>' or '--failed <REPORT>' of the same name: it is one file"
 
 -- which options of a subcommand with these values do not go together, if any
 abbrev pub subcommand_misuse : Text → List Row → Option Misuse

@@ -3,7 +3,7 @@
 ghost use Rattle.std.specs.Prelude.{◌≡◌, [], ◌∷◌, Some};
 ghost use Rattle.clap.specs.Words.{found_of, rows_of};
 ghost use Rattle.rv_cli.specs.RvtestWords.{IsMisuseTold, choice_misuse, color_misuse, files_misuse, is_color_unknown, is_color_word, is_into_path, is_partial_alone};
-ghost use Rattle.rv_cli.specs.RvtestWords.{is_junit_path, is_report_path, is_suite_nameless};
+ghost use Rattle.rv_cli.specs.RvtestWords.{is_failed_path, is_junit_path, is_report_path, is_suite_nameless};
 ghost use Rattle.rv_cli.specs.RvtestWords.{misuse_kinds, misuse_text, show_misuse, suite_misuse};
 
 use crate::rvtest::words_error::{WordsError, usage_error};
@@ -45,7 +45,7 @@ pub(crate) enum Misuse {
     OneFile,
     /// Rows that are put into a report, and JUnit's XML, that go to one file.
     IntoOneFile,
-    /// Counts and a report or JUnit's XML that go to one file.
+    /// Counts that go to the file of a report, of JUnit's XML, or of the report that chooses the jobs.
     CountsOneFile,
 }
 
@@ -130,7 +130,7 @@ impl Misuse {
                 "the argument '--into <FILE>' cannot be used with '--junit <FILE>' of the same name: it is one file"
             }
             Misuse::CountsOneFile => {
-                "the argument '--counts <FILE>' cannot be used with '--report <FILE>', '--into <FILE>' or '--junit <FILE>' of the same name: it is one file"
+                "the argument '--counts <FILE>' cannot be used with '--report <FILE>', '--into <FILE>', '--junit <FILE>' or '--failed <REPORT>' of the same name: it is one file"
             }
         }
     }
@@ -239,6 +239,16 @@ pub(crate) fn is_into_path(values: &ArgMatches<'_>, path: &str) -> bool
     ensures { result ≡ is_into_path path.now (rows_of (found_of values.now)) }
 {
     match text_value(values, "into") {
+        Some(report) => path == report,
+        None => false,
+    }
+}
+
+/// Whether the report that chooses the jobs stands at a path.
+pub(crate) fn is_failed_path(values: &ArgMatches<'_>, path: &str) -> bool
+    ensures { result ≡ is_failed_path path.now (rows_of (found_of values.now)) }
+{
+    match text_value(values, "failed") {
         Some(report) => path == report,
         None => false,
     }

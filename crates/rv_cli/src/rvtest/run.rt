@@ -8,8 +8,8 @@ ghost use Rattle.rv_cli.specs.RvtestWords.{run_misuse, test_run_request, run_wor
 
 use crate::rvtest::command::run_command;
 use crate::rvtest::refusals::{
-    Misuse, files_misuse, is_color_unknown, is_into_path, is_junit_path, is_partial_alone,
-    is_report_path,
+    Misuse, files_misuse, is_color_unknown, is_failed_path, is_into_path, is_junit_path,
+    is_partial_alone, is_report_path,
 };
 use crate::rvtest::requests::Asked;
 use crate::rvtest::words_error::WordsError;
@@ -210,7 +210,7 @@ fn is_choice_overwritten(values: &ArgMatches<'_>) -> bool
     }
 }
 
-// Whether the table of counts goes where a report or JUnit's XML goes.
+// Whether the table of counts goes where a report or JUnit's XML goes, or the report stands that chooses the jobs.
 fn are_counts_put_over(values: &ArgMatches<'_>) -> bool
     ensures { result ≡ are_counts_put_over (rows_of (found_of values.now)) }
 {
@@ -219,6 +219,7 @@ fn are_counts_put_over(values: &ArgMatches<'_>) -> bool
             is_report_path(values, path)
                 || is_into_path(values, path)
                 || is_junit_path(values, path)
+                || is_failed_path(values, path)
         }
         None => false,
     }
