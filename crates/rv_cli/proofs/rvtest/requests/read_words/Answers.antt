@@ -1,4 +1,4 @@
-use Rattle.std.proofs.Common.{◌∙◌, ap, map, subst, sym}
+use Rattle.std.proofs.Common.{◌∙◌, [], ap, map, subst, sym}
 use Rattle.std.proofs.lemmas.Result.{IfOk-weaker}
 use Rattle.clap.specs.Words.{HasKind, app_of, fault_of, is_simple_and_free, kind_of}
 use Rattle.rv_cli.specs.RvtestWords.{FailsByMisuse, matched_misuse, misuse_kinds, words_fault_kinds, words_misuse, matched_words}
@@ -24,7 +24,7 @@ returns-in-Err-clause-kinds g c =
 pub returns-in-Err-clause-misused : goal.returns-in-Err-clause-misused
 returns-in-Err-clause-misused g c none =
     let words = map g.T.AsStr.text c.args.words.now in
-    none_told (words_misuse words) _ (told_of _ (kind_of c.in-Err.error) _
+    none_told (words_misuse words) _ (told_of [] (kind_of c.in-Err.error) _
     (subst (λ kinds. HasKind kinds c.in-Err.error) (ap (λ app. fault_of app words) c.in_ok-command.ensures ∙ none)
     (c.in-Err.ensures.kinds (ap is_simple_and_free c.in_ok-command.ensures))) c.of_clap.ensures)
 
