@@ -40,6 +40,10 @@ def coverage():
     expect("what is lost", err, "counts2lcov: hand.elf: 19 counts run, and no code of the file\n")
     functions = sorted(line for line in out.splitlines() if line.startswith(("FN:", "FNDA:")))
     expect("functions", functions, ["FN:11,sum", "FN:19,never", "FN:26,oneway", "FN:37,main", "FNDA:0,never", "FNDA:1,main", "FNDA:1,sum", "FNDA:3,oneway"])
+    ways = [line for line in out.splitlines() if line.startswith("BRDA:")]
+    expect("how often each branch was taken, and was not", ways, [
+        "BRDA:6,0,0,3", "BRDA:6,0,1,2", "BRDA:14,0,0,1", "BRDA:14,0,1,5", "BRDA:21,0,0,-", "BRDA:21,0,1,-", "BRDA:28,0,0,0", "BRDA:28,0,1,3",
+        "BRDA:40,0,0,3", "BRDA:40,0,1,1"])
     both = [counted("alpha", build("codec", 0x8000_00f6)), counted("beta", build("codec", 0x8000_0140))]
     for order in (both, both[::-1]):
         out, _ = call("counts2lcov", *order, "--keep", "*/codec.c")

@@ -26,6 +26,7 @@ def targets():
         expect("what cover calls", "rvtest run t/build/cover/t.toml --counts t/build/cover/counts\n" in out, True)
         expect("whether cover shows pages", shows, status < 2)
         expect("whether they are there", PAGES.exists(), status < 2)
+    expect("whether images are built by -Og", " -Og -g " in pathlib.Path("t/build/cover/.words").read_text(encoding="utf-8"), True)
     sources = [line for line in pathlib.Path("t/build/cover/cover.info").read_text(encoding="utf-8").splitlines() if line[:3] in ("SF:", "DA:")]
     # All three lines have the first address of main: its li is of line 4, and 2 and 3 begin there.
     expect("the sources", sources, [f"SF:{pathlib.Path('t/a.c').resolve()}", "DA:2,1", "DA:3,1", "DA:4,1"])
