@@ -1,1 +1,1 @@
-"""What counts2lcov and counts2 make of tables of counts: their reader, the lines of images, coverage, profiles."""
+"""What counts2lcov makes of tables of counts: their reader, the lines of images, coverage."""

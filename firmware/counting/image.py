@@ -4,9 +4,10 @@ import os
 import re
 import subprocess
 
-from listing.files import Refused, content_of
+from listing.files import Refused
 
 from .lines import Lines
+from .table import file_at
 
 INSTRUCTION = re.compile(r"\s*([0-9a-f]+):\s+([^\s.]\S*)")
 CODE_KINDS = "tTwW"
@@ -26,9 +27,7 @@ def output_of(words, given=None):
 
 def lines_of(image):
     """The lines of an image, whose file must have the digest of the counts."""
-    data = content_of(image.path)
-    if data is None:
-        raise Refused(f"{image.path}: there is no such image")
+    data = file_at(image.path)
     if hashlib.sha256(data).hexdigest() != image.digest:
         raise Refused(f"{image.path}: another image than that of the counts")
     return Lines(image.path, data)

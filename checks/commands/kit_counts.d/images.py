@@ -1,13 +1,11 @@
-"""The cases over images: coverage, callgrind's format, genhtml's page."""
+"""The cases over images: coverage, genhtml's page."""
 import collections
-import hashlib
 import pathlib
 import re
-import shutil
 import subprocess
 
 from making import build, counted
-from shared import SAMPLES, Wrong, call, expect, put
+from shared import SAMPLES, call, expect, put
 
 
 def of_page(name):
@@ -42,6 +40,10 @@ def coverage():
     expect("what is lost", err, "counts2lcov: hand.elf: 19 counts run, and no code of the file\n")
     functions = sorted(line for line in out.splitlines() if line.startswith(("FN:", "FNDA:")))
     expect("functions", functions, ["FN:11,sum", "FN:19,never", "FN:26,oneway", "FN:37,main", "FNDA:0,never", "FNDA:1,main", "FNDA:1,sum", "FNDA:3,oneway"])
+    ways = [line for line in out.splitlines() if line.startswith("BRDA:")]
+    expect("how often each branch was taken, and was not", ways, [
+        "BRDA:6,0,0,3", "BRDA:6,0,1,2", "BRDA:14,0,0,1", "BRDA:14,0,1,5", "BRDA:21,0,0,-", "BRDA:21,0,1,-", "BRDA:28,0,0,0", "BRDA:28,0,1,3",
+        "BRDA:40,0,0,3", "BRDA:40,0,1,1"])
     both = [counted("alpha", build("codec", 0x8000_00f6)), counted("beta", build("codec", 0x8000_0140))]
     for order in (both, both[::-1]):
         out, _ = call("counts2lcov", *order, "--keep", "*/codec.c")
@@ -58,34 +60,6 @@ def without_lines():
     expect("what is told of it", (out, err.splitlines()), ("", [
         "counts2lcov: hand.elf: 19 counts run, and no code of the file", "counts2lcov: hand.elf: 84 counts run, with no line"]))
     return "an image without lines"
-
-
-def callgrind():
-    """Costs and calls in callgrind's format: a recursion's inclusive steps count once."""
-    text = (SAMPLES / "hand.counts").read_text(encoding="utf-8")
-    spots = ["0 80000000 1 19 _start", "1 800000b2 1 27 main", "2 80000060 1 45 sum", "2 8000009a 2 8 oneway", "3 8000009a 1 2 oneway",
-             "4 8000009a 1 2 oneway"]
-    image = build("hand", 0x8000_0060)
-    pathlib.Path("hand.elf").write_bytes(image)
-    text = text.replace("@DIGEST@", hashlib.sha256(image).hexdigest()).replace("done", "".join(f"spot {it}\n" for it in spots) + "done")
-    out, _ = call("counts2", "callgrind", put("spots.counts", text))
-    pathlib.Path("callgrind.out").write_text(out, encoding="utf-8")
-    for lines in (
-        "events: Steps\nsummary: 103\n\nob=hand.elf\n\nfl=???\nfn=_start\n0x80000000 0 1\n", "\ntotals: 103\n",
-        "\ncfi=/s/hand.c\ncfn=main\ncalls=1 0x800000b2 38\n0x80000000 0 84\n",
-        "\nfl=/s/hand.c\nfn=sum\n0x80000060 12 1\n0x80000062 14 1\n", "\n0x80000080 7 2\n", "\n0x8000006c 14 6\n",
-        "\ncfi=/s/hand.c\ncfn=sum\ncalls=1 0x80000060 12\n0x800000b2 38 45\n", "\ncfn=oneway\ncalls=2 0x8000009a 28\n0x800000b2 38 12\n",
-        "\ncfn=oneway\ncalls=2 0x8000009a 28\n0x8000009a 28 4\n",
-    ):
-        if lines not in out:
-            raise Wrong(f"callgrind: {lines!r} is not in {out!r}")
-    if shutil.which("callgrind_annotate"):
-        done = subprocess.run(["callgrind_annotate", "--inclusive=yes", "callgrind.out"], capture_output=True, encoding="utf-8", check=True)
-        rows = re.findall(r"^ *([0-9,]+) \([ 0-9.]+%\) +(\S+)", done.stdout, re.M)
-        for row in (("103", "PROGRAM"), ("103", "???:_start"), ("84", "/s/hand.c:main"), ("45", "/s/hand.c:sum")):
-            if row not in rows:
-                raise Wrong(f"callgrind_annotate: {row} is not in {done.stdout!r}")
-    return "costs and calls of hand.elf"
 
 
 def page():
