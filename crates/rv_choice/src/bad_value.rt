@@ -32,7 +32,7 @@ pub(crate) fn bad_value_stop(
     command: ChoosingCommand,
     what: Result<String, AllocError>,
 ) -> Stop
-    ensures { IsBadValueStop what.entry result }
+    ensures { IsBadValueStop what result }
 {
     match what {
         Ok(what) => {

@@ -31,7 +31,7 @@ pub enum Lines {
 impl Stop {
     /// Words are refused, as their error says. Help and the version are no stop.
     pub fn of_words_error(error: WordsError) -> Stop
-        ensures { IsWordsRefusal error.entry result }
+        ensures { IsWordsRefusal error result }
     {
         match error {
             WordsError::OutOfMemory => Stop::OutOfMemory,

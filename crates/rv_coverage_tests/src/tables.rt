@@ -14,19 +14,24 @@ use std::thread::Threads;
 
 /// Files by their paths: two of one image, which ends by the exit call, one of a loop of three rounds, and one that is no image.
 #[derive(Drop)]
-struct Files;
+struct Files {
+    faults: u64,
+}
 
 impl Store for Files {
     ghost contents = { λ _. None };
 
-    ghost faulted = { λ _. 0 };
+    ghost faulted = { λ s. s.faults };
 
     fn read(&mut self, alloc: Global, path: &str) -> Result<Vec<u8>, ReadError> {
         let text = match path {
             "a" | "b" | "line\nfeed" => "one",
             "loop" => "code 00300293 fff28293 fe029ee3 X",
             "short" => "one 51",
-            _ => return Err(ReadError::Unreadable),
+            _ => {
+                self.faults = self.faults.saturating_add(1);
+                return Err(ReadError::Unreadable);
+            }
         };
         match file(alloc, text) {
             Ok(bytes) if bytes.len() <= 0x100_0000 => Ok(bytes),
@@ -35,7 +40,7 @@ impl Store for Files {
     }
 
     fn faults(&self) -> u64 {
-        0
+        self.faults
     }
 }
 
@@ -112,7 +117,11 @@ fn check<R: Threads + Sync>(rt: &R, alloc: Global, plan: &Plan, row: &str) -> Re
 #[test]
 fn jobs_are_counted(rt: HostRuntime) -> Result<(), Fail> {
     let alloc = rt.alloc();
-    let plan = gather(alloc, read_jobs(alloc, LIST.as_bytes())?, &mut Files)?;
+    let plan = gather(
+        alloc,
+        read_jobs(alloc, LIST.as_bytes())?,
+        &mut Files { faults: 0 },
+    )?;
     has_lines(TABLES, 7)?;
     for row in TABLES.lines() {
         check(&rt, alloc, &plan, row)?;

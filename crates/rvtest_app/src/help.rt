@@ -13,9 +13,9 @@ use rv_rows::Sink;
 /// Help and the version are errors of words, and go to standard output. Any other error refuses the words.
 pub(crate) fn answer_words_error<O: Sink>(out: &mut O, error: WordsError) -> Result<u8, Stop>
     ensures done { IfOk result (λ status. status ≡ 0) }
-    ensures helped { OnOk result (IsHelpPut error.entry (O.taken out.old) (O.taken out.new)) }
+    ensures helped { OnOk result (IsHelpPut error (O.taken out.old) (O.taken out.new)) }
     ensures counted { OnOk result (O.failed out.new ≡ O.failed out.old) }
-    ensures stopped { IfErr result (IsWordsErrorStop error.entry (O.failed out.old) (O.failed out.new)) }
+    ensures stopped { IfErr result (IsWordsErrorStop error (O.failed out.old) (O.failed out.new)) }
 {
     match error {
         WordsError::Told(ErrorKind::DisplayHelp | ErrorKind::DisplayVersion, text) => {
