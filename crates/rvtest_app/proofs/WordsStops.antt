@@ -1,21 +1,20 @@
 -- What stops the program for its words.
-use Rattle.std.proofs.Common.{◌≡◌, ◌⊎◌, ◌∙◌, ℕ, List, [], Option, Some, None, Result, Ok, Err, IfErr, inl, inr, refl, subst, string_bytes, ⊎_elim}
+use Rattle.std.proofs.Common.{◌≡◌, ◌⊎◌, ◌∙◌, ℕ, List, [], MatchOption, Option, Some, None, Result, Ok, Err, IfErr, inl, inr, refl, subst, ⊎_elim}
 use Rattle.clap.specs.Kinds.{IsAmong}
 use Rattle.clap.specs.Words.{fault_of}
 use Rattle.clap.specs.declared.error.kind.ErrorKind.{ErrorKind}
 use Rattle.clap.specs.declared.error.kind.ErrorKind.TheVariants as kind
 use Rattle.rv_base.specs.Files.{FileContents}
 use Rattle.rv_cli.specs.RvtestCommand.{test_app}
-use Rattle.rv_cli.specs.RvtestWords.{IsMisuseTold, words_fault_kinds, words_misuse}
+use Rattle.rv_cli.specs.RvtestWords.{IsMisuseTold, misuse_text, words_fault_kinds, words_misuse}
 use Rattle.rv_cli.specs.WordsErrors.{IsToldOf}
-use Rattle.rv_cli.specs.declared.rvtest.refusals.Misuse.{Misuse}
 use Rattle.rv_cli.specs.declared.rvtest.words_error.WordsError.{WordsError}
 use Rattle.rv_cli.specs.declared.rvtest.words_error.WordsError.TheVariants as error
-use Rattle.rv_command.specs.Stops.{IsRefusedAs}
+use Rattle.rv_command.specs.Stops.{IsUsageStop}
 use Rattle.rv_command.specs.declared.stop.Stop.{Stop}
 use Rattle.rv_command.specs.declared.stop.Stop.TheVariants as stop
 use Rattle.rvtest_app.specs.Answers.{AskForHelp}
-use Rattle.rvtest_app.specs.CommandStops.{IsMisuseStop, IsStopFor}
+use Rattle.rvtest_app.specs.CommandStops.{IsStopFor}
 use Rattle.rvtest_app.specs.ToldStops.{IsHelpAsked, IsHelpStop, IsWordsErrorStop}
 
 pub ask_for_help : (words : List (List ℕ)) (fault : ErrorKind) → IsAmong fault (words_fault_kinds words)
@@ -24,11 +23,10 @@ ask_for_help words fault among =
     let Among : ErrorKind → Type 0 = λ k. IsAmong k (words_fault_kinds words) in
     ⊎_elim (λ help. inl (subst Among help among)) (λ version. inr (subst Among version among))
 
--- options that do not go together are told as they are
-misuse_stop : (misuse : Option Misuse) (fault : ErrorKind) (text : _) (why : Stop)
-    → IsMisuseTold misuse (error.Told fault text) → IsRefusedAs (string_bytes text) why → IsMisuseStop misuse why
-misuse_stop None fault text why told is = absurd told
-misuse_stop (Some misuse) fault text why told is = inr (is.0, (told.1.0, is.1 ∙ told.1.1))
+by_option : {M : Type 0} (P : Option M → Type 0) (A : Type 0) (Q : M → Type 0) → (P None → A) → ((m : M) → P (Some m) → Q m)
+    → (o : Option M) → P o → MatchOption o A Q
+by_option P A Q none some None p = none p
+by_option P A Q none some (Some m) p = some m p
 
 help_stop : (known : Option FileContents) (words : List (List ℕ)) (before after : ℕ) (why : Stop) → AskForHelp words
     → IsHelpStop before after why → IsStopFor known words why
@@ -46,7 +44,9 @@ stop_of_error known words (error.Told fault text) before after why among misused
     (λ other. inr (inr (inr (record {
       faulty = (fault, (among, other.0));
       refused = inr other.1.0;
-      misused = λ none. misuse_stop (words_misuse words) fault text why (misused none) other.1;
+      misused = λ none. by_option (λ o. IsMisuseTold o (error.Told fault text)) (why ≡ stop.OutOfMemory)
+          (λ misuse. IsUsageStop (misuse_text misuse) why) (λ told. absurd told)
+          (λ misuse told. inr (other.1.0, (told.1.0, other.1.1 ∙ told.1.1))) (words_misuse words) (misused none);
     })))) is
 
 pub words_stop : (known : Option FileContents) (words : List (List ℕ)) (told : WordsError) (answer : Result ℕ Stop)

@@ -1,5 +1,5 @@
 -- Why commands ended before their work was done.
-use Rattle.std.specs.Prelude.{◌≡◌, ◌⊎◌, ℕ, List, [], Option, None, Some, Ok}
+use Rattle.std.specs.Prelude.{◌≡◌, ◌⊎◌, ℕ, List, [], MatchOption, Option, None, Some, Ok}
 use Rattle.clap.specs.Kinds.{IsAmong}
 use Rattle.clap.specs.Words.{fault_of}
 use Rattle.clap.specs.declared.error.kind.ErrorKind.{ErrorKind as WordsFault}
@@ -8,7 +8,6 @@ use Rattle.rv_choice.specs.ChoiceStops.{IsChoiceStop}
 use Rattle.rv_choice.specs.UnknownName.{IsUnknownNameStop}
 use Rattle.rv_cli.specs.RvtestCommand.{test_app}
 use Rattle.rv_cli.specs.RvtestWords.{asked_words, misuse_text, words_fault_kinds, words_misuse, words_request}
-use Rattle.rv_cli.specs.declared.rvtest.refusals.Misuse.{Misuse}
 use Rattle.rv_cli.specs.declared.rvtest.accept.AcceptAsked.{AcceptAsked}
 use Rattle.rv_cli.specs.declared.rvtest.check.CheckAsked.{CheckAsked}
 use Rattle.rv_cli.specs.declared.rvtest.console.ConsoleAsked.{ConsoleAsked}
@@ -100,16 +99,16 @@ IsCommandStop known (asked.Counts words) why = IsCountsStop known words why
 abbrev pub AreFaulty : List (List ℕ) → Type 0
 AreFaulty words = (kind : WordsFault) × (IsAmong kind (words_fault_kinds words) × (IsHelpAsked kind → ⊥))
 
--- which options do not go together is told, if that is a fault of the words
-abbrev pub IsMisuseStop : Option Misuse → Stop → Type 0
-IsMisuseStop None why = why ≡ stop.OutOfMemory
-IsMisuseStop (Some misuse) why = IsUsageStop (misuse_text misuse) why
+-- it is told which options do not go together, if that is a fault of the words
+abbrev pub IsMisuseStop : List (List ℕ) → Stop → Type 0
+IsMisuseStop words why =
+    MatchOption (words_misuse words) (why ≡ stop.OutOfMemory) (λ misuse. IsUsageStop (misuse_text misuse) why)
 
 -- faulty words are refused; where `clap` finds no fault, it is told which options do not go together
 pub record IsFaultStop (words : List (List ℕ)) (why : Stop) : Type 0 where
   pub faulty : AreFaulty words
   pub refused : IsRefusal why
-  pub misused : fault_of test_app words ≡ [] → IsMisuseStop (words_misuse words) why
+  pub misused : fault_of test_app words ≡ [] → IsMisuseStop words why
 
 -- words stopped the program: memory was wanting; the help that they ask for was not put; or they are refused
 abbrev pub IsWordsStop : List (List ℕ) → Stop → Type 0
