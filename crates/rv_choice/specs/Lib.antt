@@ -1,4 +1,3 @@
-pub mod BadValues
 pub mod Choice
 pub mod ChoiceStops
 pub mod Chosen
