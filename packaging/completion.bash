@@ -2,7 +2,7 @@
 # What bash offers behind `rvtest` and `rvfleet`: their commands, the options of each, files, and the names of a list's jobs.
 _rvfleet_options() {
     case "$1 $2" in
-        'rvtest run') echo '--only --match --exclude --failed --partial --shard --stamp --workers --group --budget --root --into --report --junit --suite --lenient --known --stop-after --verbose --quiet --last --color --help' ;;
+        'rvtest run') echo '--only --match --exclude --failed --partial --shard --stamp --workers --group --budget --root --into --report --junit --suite --lenient --counts --known --stop-after --verbose --quiet --last --color --help' ;;
         'rvtest list') echo '--only --match --exclude --failed --partial --lenient --help' ;;
         'rvtest explain') echo '--last --budget --root --color --help' ;;
         'rvtest console') echo '--root --help' ;;
@@ -11,6 +11,7 @@ _rvfleet_options() {
         'rvtest merge') echo '--report --junit --suite --lenient --help' ;;
         'rvtest diff') echo '--partial --steps --slower --color --help' ;;
         'rvtest show') echo '--partial --junit --suite --lenient --color --help' ;;
+        'rvtest counts') echo '--out --help' ;;
         'rvtest help') echo ' --help' ;;
         'rvfleet raw') echo '--budget --help' ;;
         'rvfleet one') echo '--budget --input-hex --help' ;;
@@ -43,7 +44,7 @@ _rvfleet_choices() {
 }
 
 _rvfleet() {
-    local word=$2 before=$3 commands='run list explain console check accept merge diff show help --version --help'
+    local word=$2 before=$3 commands='run list explain console check accept merge diff show counts help --version --help'
     COMPREPLY=()
     [ "${1##*/}" = rvtest ] || commands='raw one run --help'
     if [ "$COMP_CWORD" = 1 ]; then

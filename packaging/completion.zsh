@@ -25,6 +25,7 @@ _rvfleet_behind_rvtest() {
         'merge:Makes the whole report of the parts of one run'
         'diff:Says in which jobs two reports differ'
         'show:Shows what failed in a report'
+        'counts:Adds up tables of counts, as run --counts writes them'
         'help:Tells the keys of a list'
     )
     if (( CURRENT == 2 )); then
@@ -52,6 +53,7 @@ _rvfleet_behind_rvtest() {
                 '--junit[Writes JUnit XML to this file; - is standard output]:FILE:_files' \
                 '--suite[Names the suite in JUnit XML, in place of the file]:NAME: ' \
                 '--lenient[Counts as failed only what misses an expectation]' \
+                '--counts[Writes counts of instructions to this file; - is standard output]:FILE:_files' \
                 '--known[Names jobs that are known to fail, one a line, # REASON behind]:FILE:_files' \
                 '--stop-after[Ends behind the N-th failure, from 1 to 4096]:N: ' \
                 ''{-v,--verbose}'[Shows the jobs that pass, too; not beside --quiet]' \
@@ -122,6 +124,10 @@ _rvfleet_behind_rvtest() {
                 '--color[Colors\: always, never, or auto, which is on a terminal]:WHEN:(always never auto)' \
                 '--help[Print help]' \
                 ':REPORT:_files' ;;
+        counts) _arguments \
+                '--out[Writes the sum to this file; else to standard output]:FILE:_files' \
+                '--help[Print help]' \
+                '*:TABLE:_files' ;;
         help) _arguments \
                 '--help[Print help]' \
                 ':TOPIC:(list)' ;;
